@@ -1,0 +1,4 @@
+pub mod Parses
+pub mod Refusals
+pub mod Runs
+pub mod Tracks

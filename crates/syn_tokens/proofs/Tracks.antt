@@ -1,0 +1,49 @@
+-- Streams and what they stand for.
+use Rattle.std.proofs.Common.{◌≡◌, ℕ, zero, suc, ◌+◌, ◌-◌, ◌≤◌, ◌<◌, true, false, List, [], ◌∷◌, length, get_or, set, Some, None, refl, ap, sym, ◌∙◌, arith}
+use Rattle.std.proofs.lemmas.List.{length-map}
+use Rattle.std.proofs.lemmas.Bool.{cond-true, cond-false}
+use Rattle.std.specs.Prelude.{cond}
+use Rattle.syn_tokens.specs.State.{State, stream_at, changed, is_open_content_of, handed_up, contents_closed}
+use Rattle.syn_tokens.specs.State as states
+use Rattle.syn_tokens.specs.Tracks.{stream_of, state_of}
+use Rattle.syn_tokens.specs.declared.stream.Stream.{Stream}
+
+pub stream_there : (xs : List Stream) (n : ℕ) (x : Stream) → x ≡ get_or xs n x → n < length xs → stream_at (state_of xs) n ≡ Some (stream_of x)
+stream_there [] n x e h = absurd (omega arith)
+stream_there (y ∷ ys) zero x e h = ap (λ z. Some (stream_of z)) (sym e)
+stream_there (y ∷ ys) (suc n) x e h = stream_there ys n x e (omega arith)
+
+pub stream_past : (xs : List Stream) (n : ℕ) → length xs ≤ n → stream_at (state_of xs) n ≡ None
+stream_past [] n h = refl
+stream_past (y ∷ ys) zero h = absurd (omega arith)
+stream_past (y ∷ ys) (suc n) h = stream_past ys n (omega arith)
+
+pub changed_there : (xs : List Stream) (n : ℕ) (x y : Stream) (f : states.Stream → states.Stream) → x ≡ get_or xs n x → n < length xs → stream_of y ≡ f (stream_of x) → state_of (set xs n y) ≡ changed (state_of xs) n f
+changed_there [] n x y f e h q = absurd (omega arith)
+changed_there (z ∷ zs) zero x y f e h q = ap (λ s. s ∷ state_of zs) (q ∙ ap (λ w. f (stream_of w)) e)
+changed_there (z ∷ zs) (suc n) x y f e h q = ap (λ s. stream_of z ∷ s) (changed_there zs n x y f e (omega arith) q)
+
+pub changed_past : (xs : List Stream) (n : ℕ) (f : states.Stream → states.Stream) → length xs ≤ n → changed (state_of xs) n f ≡ state_of xs
+changed_past [] n f h = refl
+changed_past (z ∷ zs) zero f h = absurd (omega arith)
+changed_past (z ∷ zs) (suc n) f h = ap (λ s. stream_of z ∷ s) (changed_past zs n f (omega arith))
+
+-- one content more
+pub contents_step : (count i k : ℕ) (st : State) → i < count → contents_closed (count - i) k i st ≡ contents_closed (count - (i + 1)) k (i + 1) (cond (is_open_content_of k (stream_at st i)) (handed_up i (contents_closed (count - (i + 1)) i (i + 1) st)) st)
+contents_step count i k st h =
+    let q : count - i ≡ suc (count - (i + 1)) = omega arith in rw q refl
+
+pub contents_taken : (count i k : ℕ) (st us vs : State) → i < count → is_open_content_of k (stream_at st i) ≡ true → us ≡ contents_closed (count - (i + 1)) i (i + 1) st → vs ≡ handed_up i us → contents_closed (count - (i + 1)) k (i + 1) vs ≡ contents_closed (count - i) k i st
+contents_taken count i k st us vs h a e q =
+    ap (contents_closed (count - (i + 1)) k (i + 1)) (q ∙ ap (handed_up i) e ∙ sym (cond-true _ _ _ a)) ∙ sym (contents_step count i k st h)
+
+pub contents_left : (count i k : ℕ) (st : State) → i < count → is_open_content_of k (stream_at st i) ≡ false → contents_closed (count - (i + 1)) k (i + 1) st ≡ contents_closed (count - i) k i st
+contents_left count i k st h a =
+    ap (contents_closed (count - (i + 1)) k (i + 1)) (sym (cond-false _ _ _ a)) ∙ sym (contents_step count i k st h)
+
+pub contents_done : (count i k : ℕ) (st : State) → count ≤ i → contents_closed (count - i) k i st ≡ st
+contents_done count i k st h =
+    let q : count - i ≡ 0 = omega arith in rw q refl
+
+pub length-state : (xs : List Stream) → length (state_of xs) ≡ length xs
+length-state xs = length-map xs stream_of

@@ -1,0 +1,11 @@
+pub mod Befores
+pub mod Descents
+pub mod Forests
+pub mod Groups
+pub mod InScope
+pub mod Layouts
+pub mod Lefts
+pub mod Owners
+pub mod Rests
+pub mod Scans
+pub mod Stacks

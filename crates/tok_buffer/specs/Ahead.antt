@@ -1,0 +1,36 @@
+-- The visible trees from a place to its scope's end, and the leftover.
+use Rattle.std.specs.Prelude.{Bool, true, false, cond, List, [], ◌∷◌, ◌++◌, Option, Some, None}
+use Rattle.tok_core.specs.declared.group.Delimiter.{Delimiter}
+use Rattle.tok_core.specs.declared.group.Delimiter.TheVariants as delimiter
+use Rattle.tok_core.specs.declared.span.Span.{Span}
+use Rattle.tok_core.specs.Forest.{Tree, leaf, group, Forest, no_trees, tree}
+use Rattle.tok_core.specs.Spans.{tree_span}
+use Rattle.tok_buffer.specs.Place.{Level, level, Place, empty_place, at}
+use Rattle.tok_buffer.specs.Rest.{scope_delimiter}
+
+-- a visible tree, with a mark where it stands in an invisible group that has not been entered
+abbrev pub visible : Bool → Forest → List (Bool × Tree)
+visible mark no_trees = []
+visible mark (tree (leaf l) f) = (mark, leaf l) ∷ visible mark f
+visible mark (tree (group delimiter.None inside span) f) = visible true inside ++ visible mark f
+visible mark (tree (group d inside span) f) = (mark, group d inside span) ∷ visible mark f
+
+-- level by level, from the innermost out
+abbrev pub ahead_in : List Level → List (Bool × Tree)
+ahead_in [] = []
+ahead_in (level o p a ∷ ls) = visible false a ++ ahead_in ls
+
+abbrev pub ahead : Place → List (Bool × Tree)
+ahead empty_place = []
+ahead (at n s c l ls) = ahead_in (l ∷ ls)
+
+pub record Leftover : Type 0 where
+  pub span : Span
+  pub delimiter : Delimiter
+
+abbrev pub first_left : Delimiter → List (Bool × Tree) → Option Leftover
+first_left scope [] = None
+first_left scope (t ∷ ts) = Some (record { span = tree_span t.1; delimiter = cond t.0 delimiter.None scope })
+
+abbrev pub leftover : Place → Option Leftover
+leftover p = first_left (scope_delimiter p) (ahead p)

@@ -1,0 +1,28 @@
+-- Into the invisible groups in front, and past those that hold nothing visible.
+use Rattle.std.specs.Prelude.{ℕ, ◌+◌, List, [], ◌∷◌, Option, Some, None, unwrap_or}
+use Rattle.std.specs.Option.{option_or}
+use Rattle.tok_core.specs.declared.group.Delimiter.TheVariants as delimiter
+use Rattle.tok_core.specs.Forest.{leaf, group, Forest, no_trees, tree, turned_onto}
+use Rattle.tok_core.specs.Weight.{weight}
+use Rattle.tok_buffer.specs.Place.{Owner, group_of, Level, level, Place, empty_place, at, absorb}
+
+-- the place at the first visible tree of these trees, which stand ahead in a level; none where they hold none
+abbrev pub into_front : Forest → (number scope count : ℕ) → Owner → Forest → List Level → Option Place
+into_front no_trees number scope count owner passed ls = None
+into_front (tree (leaf l) f) number scope count owner passed ls = Some (at number scope count (level owner passed (tree (leaf l) f)) ls)
+into_front (tree (group delimiter.None inside span) f) number scope count owner passed ls =
+    option_or (into_front inside number scope (count + 1) (group_of delimiter.None span) no_trees (level owner passed f ∷ ls))
+    (into_front f number scope (count + (2 + weight inside)) owner (tree (group delimiter.None inside span) passed) ls)
+into_front (tree (group d inside span) f) number scope count owner passed ls = Some (at number scope count (level owner passed (tree (group d inside span) f)) ls)
+
+-- the place at the first visible tree, or at the scope's end
+abbrev pub descend_from : (number scope count : ℕ) → Level → List Level → Place
+descend_from number scope count (level owner passed ahead) [] =
+    unwrap_or (into_front ahead number scope count owner passed []) (at number scope (count + weight ahead) (level owner (turned_onto ahead passed) no_trees) [])
+descend_from number scope count (level owner passed ahead) (l ∷ ls) =
+    unwrap_or (into_front ahead number scope count owner passed (l ∷ ls))
+    (descend_from number scope (count + weight ahead + 1) (absorb owner (turned_onto ahead passed) l) ls)
+
+abbrev pub descend : Place → Place
+descend empty_place = empty_place
+descend (at number scope count l ls) = descend_from number scope count l ls

@@ -1,0 +1,14 @@
+pub mod Ahead
+pub mod Buffer
+pub mod Cursors
+pub mod Descent
+pub mod Entry
+pub mod Firsts
+pub mod Layout
+pub mod Moves
+pub mod Place
+pub mod Reads
+pub mod Rest
+pub mod Messages
+pub mod Spans
+pub mod Words

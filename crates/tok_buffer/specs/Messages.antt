@@ -1,0 +1,56 @@
+-- An error as the list of its messages.
+use Rattle.std.specs.Prelude.{◌≡◌, ℕ, List, [], ◌∷◌, map, unwrap_or}
+use Rattle.std.specs.Coded.{Coded, code_by, coded×, coded_ℕ, coded_list}
+use Rattle.std.proofs.Common.{ap, ◌∙◌}
+use Rattle.tok_core.specs.Code.{SpanCode, span_code, span_of, span-back, coded_span}
+use Rattle.tok_core.specs.declared.span.Span.{Span}
+use Rattle.tok_core.specs.Spans.{call_site, join}
+use Rattle.tok_buffer.specs.declared.error.Message.{Message}
+use Rattle.tok_buffer.specs.Words.{Refusal}
+
+-- a message: the spans of the first and the last token that it speaks of, and its text
+abbrev pub message : (start end : Span) → List ℕ → Message
+message start end text = record { start = start; end = end; text = text }
+
+-- an error of one message
+abbrev pub error_of : (start end : Span) → List ℕ → List Message
+error_of start end text = message start end text ∷ []
+
+-- an error in the words of a refusal
+abbrev pub refused : Refusal → List Message
+refused r = error_of r.span r.span r.words
+
+-- the two spans of each message
+abbrev pub spans_of : List Message → List (Span × Span)
+spans_of e = map (λ m. (m.start, m.end)) e
+
+-- the two spans of a message in one
+abbrev pub covered : Message → Span
+covered m = unwrap_or (join m.start m.end) m.start
+
+-- what an error shows: its first message
+abbrev pub first_span : List Message → Span
+first_span [] = call_site
+first_span (m ∷ ms) = covered m
+
+abbrev pub first_text : List Message → List ℕ
+first_text [] = []
+first_text (m ∷ ms) = m.text
+
+-- how an error is stored
+abbrev pub MessageCode : Type 0
+MessageCode = SpanCode × (SpanCode × List ℕ)
+
+abbrev pub message_code : Message → MessageCode
+message_code m = (span_code m.start, (span_code m.end, m.text))
+
+abbrev pub message_of : MessageCode → Message
+message_of c = message (span_of c.0) (span_of c.1.0) c.1.1
+
+pub message-back : (m : Message) → message_of (message_code m) ≡ m
+message-back m =
+    ap (λ s. message s (span_of (span_code m.end)) m.text) (span-back m.start) ∙ ap (λ s. message m.start s m.text) (span-back m.end)
+
+abbrev pub messages_code : Coded (List Message)
+messages_code =
+    coded_list (code_by MessageCode (coded× coded_span (coded× coded_span (coded_list coded_ℕ))) message_code message_of message-back)

@@ -1,0 +1,89 @@
+-- What is read at a place, and the place behind it.
+use Rattle.std.specs.Prelude.{ℕ, ◌==◌, ◌&&◌, not, Bool, true, false, cond, List, [], ◌∷◌, ◌++◌, Option, Some, None}
+use Rattle.tok_core.specs.declared.punct.Spacing.TheVariants.{Joint}
+use Rattle.tok_core.specs.Clear.{is_joint_apostrophe}
+use Rattle.tok_core.specs.Forest.{ident, punct, literal, Tree, leaf, group}
+use Rattle.tok_buffer.specs.Descent.{descend}
+use Rattle.tok_buffer.specs.Place.{Place, front, pass}
+
+-- the front tree, if it is wanted
+abbrev pub take : (Tree → Bool) → Place → Option (List Tree × Place)
+take wanted p =
+    elim (front p) [
+      | Some t ↦ cond (wanted t) (Some (t ∷ [], pass p)) None
+      | None ↦ None
+    ]
+
+-- one read, and then another
+abbrev pub and_then : Option (List Tree × Place) → (Place → Option (List Tree × Place)) → Option (List Tree × Place)
+and_then None g = None
+and_then (Some r) g = elim (g r.1) [ Some q ↦ Some (r.0 ++ q.0, q.1) | None ↦ None ]
+
+abbrev pub is_ident : Tree → Bool
+is_ident (leaf (ident text span)) = true
+is_ident t = false
+
+abbrev pub is_ident_of : (List ℕ → Bool) → Tree → Bool
+is_ident_of wanted (leaf (ident text span)) = wanted text
+is_ident_of wanted t = false
+
+abbrev pub is_literal : Tree → Bool
+is_literal (leaf (literal text span)) = true
+is_literal t = false
+
+-- a punct other than an apostrophe
+abbrev pub is_punct : Tree → Bool
+is_punct (leaf (punct c spacing span)) = not (c == 39)
+is_punct t = false
+
+abbrev pub is_punct_of : ℕ → Tree → Bool
+is_punct_of wanted (leaf (punct c spacing span)) = c == wanted && not (c == 39)
+is_punct_of wanted t = false
+
+abbrev pub is_joint_of : ℕ → Tree → Bool
+is_joint_of wanted (leaf (punct c Joint span)) = c == wanted && not (c == 39)
+is_joint_of wanted t = false
+
+abbrev pub is_group : Tree → Bool
+is_group (group d inside span) = true
+is_group t = false
+
+abbrev pub any_tree : Tree → Bool
+any_tree t = true
+
+abbrev pub read_ident : Place → Option (List Tree × Place)
+read_ident p = take is_ident (descend p)
+
+abbrev pub read_literal : Place → Option (List Tree × Place)
+read_literal p = take is_literal (descend p)
+
+abbrev pub read_punct : Place → Option (List Tree × Place)
+read_punct p = take is_punct (descend p)
+
+-- a keyword, or an identifier of which a test of its text is true
+abbrev pub read_word : (List ℕ → Bool) → Place → Option (List Tree × Place)
+read_word wanted p = take (is_ident_of wanted) (descend p)
+
+abbrev pub read_lifetime : (List ℕ → Bool) → Place → Option (List Tree × Place)
+read_lifetime wanted p = and_then (take is_joint_apostrophe (descend p)) (read_word wanted)
+
+-- the puncts of a punctuation's characters, each but the last joint; the empty text is never read
+abbrev pub read_punctuation : List ℕ → Place → Option (List Tree × Place)
+read_punctuation [] p = None
+read_punctuation (c ∷ []) p = take (is_punct_of c) (descend p)
+read_punctuation (c ∷ (d ∷ cs)) p = and_then (take (is_joint_of c) (descend p)) (read_punctuation (d ∷ cs))
+
+-- without a descent
+abbrev pub read_tree : Place → Option (List Tree × Place)
+read_tree = take any_tree
+
+abbrev pub any_text : List ℕ → Bool
+any_text s = true
+
+abbrev pub behind : Option (List Tree × Place) → Option Place
+behind None = None
+behind (Some r) = Some r.1
+
+-- behind the next token: a lifetime of any text, or else the front tree alone; none at an end
+abbrev pub skip : Place → Option Place
+skip p = elim (read_lifetime any_text p) [ Some r ↦ Some r.1 | None ↦ behind (read_tree (descend p)) ]

@@ -1,0 +1,68 @@
+-- A text of ASCII characters, compared by bytes or by characters.
+use Rattle.std.proofs.Common.{◌≡◌, ◌∙◌, arith, inl, inr, ◌++◌, subst, ℕ, zero, suc, ◌<◌, List, [], ◌∷◌, refl, sym, ap, true, false, Bool}
+use Rattle.std.specs.Prelude.{◌||◌, ◌==◌, length, MatchBool, codes, nat_lt, slice_index}
+use Rattle.std.specs.List.{list_all}
+use Rattle.std.specs.Str.{chars, IsUtf8, bytes_eq}
+use Rattle.std.proofs.lemmas.Str.{encodes-chars, encodes-IsAscii, chars-IsAscii, chars-nil}
+use Rattle.std.proofs.lemmas.Str.Ascii.{IsAscii-nil}
+use Rattle.std.proofs.lemmas.Slice.Eq.{bytes_eq-Decides}
+use Rattle.std.proofs.lemmas.Bool.{ltb-true, false≢true, cases_eq, ne_eqb}
+use Rattle.std.specs.Prelude.{encode_utf8_all}
+use Rattle.tok_core.specs.Lexical.Words.{IsIdentifier, has_no_raw, is_missing}
+use Rattle.tok_core.specs.Lexical.Pieces.{Takes}
+use Rattle.std.proofs.lemmas.List.{append-nil}
+use Rattle.tok_core.proofs.Lexical.Digits.{head_passes, tail_passes, not_true}
+
+ascii_at : (t : List ℕ) (i : ℕ) → list_all (λ c. nat_lt c 128) t ≡ true → slice_index t i < 128
+ascii_at [] i h = IsAscii-nil i
+ascii_at (x ∷ t) zero h = ltb-true x 128 (head_passes (λ c. nat_lt c 128) x t h)
+ascii_at (x ∷ t) (suc i) h = ascii_at t i (tail_passes (λ c. nat_lt c 128) x t h)
+
+same_text : (bytes t : List ℕ) → IsUtf8 bytes → list_all (λ c. nat_lt c 128) t ≡ true → bytes_eq bytes t ≡ bytes_eq (chars bytes) t
+same_text bytes t u h = go (bytes_eq bytes t) refl
+  where
+    go : (b : Bool) → bytes_eq bytes t ≡ b → bytes_eq bytes t ≡ bytes_eq (chars bytes) t
+    go true e =
+        let same : bytes ≡ t = (bytes_eq-Decides bytes t).0 e in
+        e ∙ sym ((bytes_eq-Decides (chars bytes) t).1 (ap chars same ∙ chars-IsAscii t (λ i. ascii_at t i h)))
+    go false e = e ∙ sym (not_true (bytes_eq (chars bytes) t) (λ f.
+        let same : chars bytes ≡ t = (bytes_eq-Decides (chars bytes) t).0 f in
+        let back : bytes ≡ t = sym (encodes-chars bytes u) ∙ ap encode_utf8_all same ∙ encodes-IsAscii t (λ i. ascii_at t i h) in
+        false≢true (sym e ∙ (bytes_eq-Decides bytes t).1 back)))
+
+either : (a b c d : Bool) → a ≡ b → c ≡ d → (a || c) ≡ (b || d)
+either a b c d e f = ap (λ w. w || c) e ∙ ap (λ w. b || w) f
+
+-- the same word, by its bytes and by its characters
+pub no_raw_chars : (bytes : List ℕ) → IsUtf8 bytes → has_no_raw bytes ≡ has_no_raw (chars bytes)
+no_raw_chars bytes u =
+    either _ _ _ _ (same_text bytes (codes "_") u refl)
+    (either _ _ _ _ (same_text bytes (codes "self") u refl)
+    (either _ _ _ _ (same_text bytes (codes "Self") u refl)
+    (either _ _ _ _ (same_text bytes (codes "super") u refl) (same_text bytes (codes "crate") u refl))))
+
+pub is_never_missing : (name : List ℕ) → ((word : List ℕ) → name ≡ 114 ∷ 35 ∷ word → ⊥) → is_missing name ≡ false
+is_never_missing [] misses = refl
+is_never_missing (c ∷ []) misses = refl
+is_never_missing (c ∷ d ∷ word) misses =
+    elim (cases_eq c 114) [
+      | inr other ↦ rw (ne_eqb c 114 other) refl
+      | inl first ↦ elim (cases_eq d 35) [
+        | inr other ↦ rw (first, ne_eqb d 35 other) refl
+        | inl second ↦ absurd (misses word (rw (first, second) refl))
+      ]
+    ]
+
+-- a text of which all is taken, or some is left
+pub is_whole : (text rest : List ℕ) → rest ≡ [] → (piece : List ℕ) × Takes IsIdentifier text piece rest → IsIdentifier text
+is_whole text rest e (piece, t) = subst IsIdentifier (sym (t.cut ∙ ap (λ w. piece ++ w) e ∙ append-nil piece)) t.spelled
+
+pub is_part : (text rest : List ℕ) → (rest ≡ [] → ⊥) → (piece : List ℕ) × Takes IsIdentifier text piece rest → IsIdentifier text → ⊥
+is_part text rest some (piece, t) whole = some (t.longest rest [] (sym (append-nil rest)) (subst IsIdentifier t.cut whole))
+
+-- the same of the answer
+pub whole_identifier : (text rest : List ℕ) (b : Bool) → b ≡ (length rest == 0) → IsUtf8 rest → (piece : List ℕ) × Takes IsIdentifier text piece (chars rest) → MatchBool b (IsIdentifier text) (IsIdentifier text → ⊥)
+whole_identifier text [] true e u t = is_whole text (chars []) chars-nil t
+whole_identifier text [] false e u t = absurd (false≢true e)
+whole_identifier text (x ∷ rest) true e u t = absurd (false≢true (sym (ne_eqb (length (x ∷ rest)) 0 (λ z. absurd (omega arith))) ∙ sym e))
+whole_identifier text (x ∷ rest) false e u t = is_part text (chars (x ∷ rest)) (λ none. let bytes : x ∷ rest ≡ [] = sym (encodes-chars (x ∷ rest) u) ∙ ap encode_utf8_all none in cc) t

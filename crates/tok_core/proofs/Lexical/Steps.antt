@@ -1,0 +1,45 @@
+-- Why a piece is refused, and so the text.
+use Rattle.std.proofs.Common.{◌≡◌, ◌∙◌, ℕ, List, sym, ap, subst, Ok, Err, Result}
+use Rattle.std.specs.Prelude.{Option, Some}
+use Rattle.std.specs.Result.{IfErr}
+use Rattle.tok_core.specs.Lexical.Built.{Halts, by_meaning, unfit, deep, HaltsAt, IsTooDeep, IsUnfit, levels_of}
+use Rattle.tok_core.specs.Lexical.Errors.{OnRefused}
+use Rattle.tok_core.specs.Lexical.Meaning.{refusal}
+use Rattle.tok_core.specs.Lexical.Pieces.{Takes}
+use Rattle.tok_core.specs.Lexical.Reading.{Decides, here, later, Refuses, by_rule, unopened, too_deep}
+use Rattle.tok_core.specs.Lexical.Rules.{Spells}
+use Rattle.tok_core.specs.declared.group.Delimiter.{Delimiter}
+use Rattle.tok_core.specs.declared.lexer.error.LexError.{LexError}
+use Rattle.tok_core.specs.declared.lexer.error.LexFault.{LexFault}
+use Rattle.tok_core.specs.declared.lexer.error.LexFault.TheVariants.{Refused, Memory}
+use Rattle.tok_core.specs.declared.lexer.error.Refusal.{Refusal}
+use Rattle.tok_core.specs.declared.lexer.nest.Nest.{Nest}
+use Rattle.tok_core.specs.declared.lexer.rule.Rule.{Rule}
+use Rattle.tok_core.specs.declared.lexer.rule.Rule.TheVariants.{Opening, Closing}
+
+pub decided : {text : List ℕ} {rules : List Rule} {rule : Rule} {piece rest : List ℕ} → Decides text rules rule piece rest → Takes (Spells rule) text piece rest
+decided (here t) = t
+decided (later misses d) = decided d
+
+module _ (nest : Nest) (rule : Rule) (at : ℕ) (piece after : List ℕ) where
+  halts_at : (error : LexError) (why : Refusal) → error ≡ record { refusal = why; source = nest.source; at = at } → Halts (levels_of nest.«open».items) rule at piece after why → HaltsAt nest rule at piece after error
+  halts_at error why e h = (ap (λ w. w.source) e, ap (λ w. w.at) e, subst (λ w. Halts (levels_of nest.«open».items) rule at piece after w.refusal) (sym e) h)
+
+  pub halts_meaning : (error : LexError) (why : Refusal) (found : Option Refusal) → error ≡ record { refusal = why; source = nest.source; at = at } → found ≡ refusal rule at piece after → found ≡ Some why → HaltsAt nest rule at piece after error
+  halts_meaning error why found e f s = halts_at error why e (by_meaning (sym f ∙ s))
+
+  pub halts_deep : {T : Type 0} (delimiter : Delimiter) (r : Result T LexFault) → rule ≡ Opening delimiter → IfErr r (λ fault. OnRefused fault (IsTooDeep nest at)) → IfErr r (λ fault. OnRefused fault (HaltsAt nest rule at piece after))
+  halts_deep delimiter (Ok x) is h = tt
+  halts_deep delimiter (Err Memory) is h = tt
+  halts_deep delimiter (Err (Refused error)) is (e, l) = halts_at error _ e (deep delimiter is l)
+
+  pub halts_unfit : {T : Type 0} (delimiter : Delimiter) (r : Result T LexFault) → rule ≡ Closing delimiter → IfErr r (λ fault. OnRefused fault (IsUnfit nest delimiter at)) → IfErr r (λ fault. OnRefused fault (HaltsAt nest rule at piece after))
+  halts_unfit delimiter (Ok x) is h = tt
+  halts_unfit delimiter (Err Memory) is h = tt
+  halts_unfit delimiter (Err (Refused error)) is (e, misfit) = halts_at error _ e (unfit delimiter is misfit)
+
+-- a piece that halts refuses the text
+pub refuses : (rules : List Rule) (levels : List (Delimiter × ℕ)) (rule : Rule) (at : ℕ) (why : Refusal) (rest piece after : List ℕ) → Decides rest rules rule piece after → Halts levels rule at piece after why → Refuses rules levels at rest why at
+refuses rules levels rule at why rest piece after d (by_meaning m) = by_rule d m
+refuses rules levels rule at why rest piece after d (unfit delimiter r misfit) = unopened delimiter piece after (subst (λ w. Decides rest rules w piece after) r d) misfit
+refuses rules levels rule at why rest piece after d (deep delimiter r l) = too_deep delimiter piece after (subst (λ w. Decides rest rules w piece after) r d) l

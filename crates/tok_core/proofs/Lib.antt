@@ -1,0 +1,6 @@
+pub mod Clears
+pub mod Comparisons
+pub mod Facts
+pub mod Fronts
+pub mod Lexical
+pub mod Trees

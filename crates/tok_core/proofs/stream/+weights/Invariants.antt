@@ -1,0 +1,10 @@
+use Rattle.std.proofs.Common.{◌≡◌, ◌+◌, ◌≤◌, min, drop}
+use Rattle.tok_core.specs.Weight.{weight}
+use Rattle.tok_core.specs.Seen.{trees_of}
+use Rattle.tok_core.proofs.stream.+weights.Given as goal
+
+abbrev pub invariant-TokenStream::weight-loop-next : goal.invariant-TokenStream::weight-loop-next
+invariant-TokenStream::weight-loop-next l =
+    (min (l.sum + weight (trees_of (drop l.next-index l.next-items))) 0xffff_ffff_ffff_ffff ≡ min (weight l.self) 0xffff_ffff_ffff_ffff)
+    × (trees_of l.next-items ≡ l.self)
+    × (l.sum ≤ 0xffff_ffff_ffff_ffff)

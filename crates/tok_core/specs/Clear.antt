@@ -1,0 +1,32 @@
+-- Forests in which no joint apostrophe stands at the edge of an invisible group.
+use Rattle.std.specs.Prelude.{Bool, true, false, not, ◌&&◌, ◌==◌}
+use Rattle.tok_core.specs.declared.group.Delimiter.TheVariants.{None}
+use Rattle.tok_core.specs.declared.punct.Spacing.TheVariants.{Joint}
+use Rattle.tok_core.specs.Forest.{punct, Tree, leaf, group, Forest, no_trees, tree}
+
+abbrev pub is_joint_apostrophe : Tree → Bool
+is_joint_apostrophe (leaf (punct c Joint span)) = c == 39
+is_joint_apostrophe t = false
+
+abbrev pub is_invisible : Tree → Bool
+is_invisible (group None inside span) = true
+is_invisible t = false
+
+abbrev pub starts_invisible : Forest → Bool
+starts_invisible no_trees = false
+starts_invisible (tree t f) = is_invisible t
+
+-- whether the last tree is a joint apostrophe; with no tree, the answer for what stands before
+abbrev pub ends_joint : Bool → Forest → Bool
+ends_joint before no_trees = before
+ends_joint before (tree t f) = ends_joint (is_joint_apostrophe t) f
+
+abbrev mutual
+  pub clear : Forest → Bool
+  clear no_trees = true
+  clear (tree t f) = tree_clear t && not (is_joint_apostrophe t && starts_invisible f) && clear f
+
+  pub tree_clear : Tree → Bool
+  tree_clear (leaf l) = true
+  tree_clear (group None inside span) = not (ends_joint false inside) && clear inside
+  tree_clear (group delimiter inside span) = clear inside

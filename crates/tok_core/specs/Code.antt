@@ -1,0 +1,137 @@
+-- How a forest is stored: a postfix list.
+use Rattle.std.specs.Prelude.{◌≡◌, ℕ, Bool, true, false, List, [], ◌∷◌, ◌++◌, ◌⊎◌, Option, Some, None, refl}
+use Rattle.std.proofs.Common.{zero, suc, inl, inr, ap, ◌∙◌}
+use Rattle.std.specs.Coded.{Coded, code_by, coded×, coded_ℕ, coded_bool, coded_list, coded_option, coded⊎}
+use base.Stored.{coded_unit}
+use Rattle.tok_core.specs.declared.span.Place.{Place}
+use Rattle.tok_core.specs.declared.span.Place.TheVariants.{CallSite, Source}
+use Rattle.tok_core.specs.declared.span.Span.{Span}
+use Rattle.tok_core.specs.declared.group.Delimiter.{Delimiter}
+use Rattle.tok_core.specs.declared.group.Delimiter.TheVariants as delimiter
+use Rattle.tok_core.specs.declared.punct.Spacing.{Spacing}
+use Rattle.tok_core.specs.declared.punct.Spacing.TheVariants.{Alone, Joint}
+use Rattle.tok_core.specs.Forest.{Leaf, ident, punct, literal, leaf, group, Forest, no_trees, tree}
+
+abbrev pub SpanCode : Type 0
+SpanCode = Option (ℕ × (ℕ × ℕ))
+
+abbrev pub LeafCode : Type 0
+LeafCode = (List ℕ × SpanCode) ⊎ ((ℕ × (Bool × SpanCode)) ⊎ (List ℕ × SpanCode))
+
+abbrev pub ItemCode : Type 0
+ItemCode = Unit {0} ⊎ (LeafCode ⊎ (ℕ × SpanCode))
+
+abbrev pub place_code : Place → SpanCode
+place_code CallSite = None
+place_code (Source n a b) = Some (n, (a, b))
+
+abbrev pub place_of : SpanCode → Place
+place_of None = CallSite
+place_of (Some c) = Source c.0 c.1.0 c.1.1
+
+pub place-back : (p : Place) → place_of (place_code p) ≡ p
+place-back CallSite = refl
+place-back (Source n a b) = refl
+
+abbrev pub span_code : Span → SpanCode
+span_code s = place_code s.place
+
+abbrev pub span_of : SpanCode → Span
+span_of c = record { place = place_of c }
+
+pub span-back : (s : Span) → span_of (span_code s) ≡ s
+span-back s = ap (λ p. record { place = p }) (place-back s.place)
+
+abbrev pub spacing_code : Spacing → Bool
+spacing_code Alone = false
+spacing_code Joint = true
+
+abbrev pub spacing_of : Bool → Spacing
+spacing_of false = Alone
+spacing_of true = Joint
+
+pub spacing-back : (s : Spacing) → spacing_of (spacing_code s) ≡ s
+spacing-back Alone = refl
+spacing-back Joint = refl
+
+abbrev pub delimiter_code : Delimiter → ℕ
+delimiter_code delimiter.Parenthesis = 0
+delimiter_code delimiter.Brace = 1
+delimiter_code delimiter.Bracket = 2
+delimiter_code delimiter.None = 3
+
+abbrev pub delimiter_of : ℕ → Delimiter
+delimiter_of zero = delimiter.Parenthesis
+delimiter_of (suc zero) = delimiter.Brace
+delimiter_of (suc (suc zero)) = delimiter.Bracket
+delimiter_of (suc (suc (suc n))) = delimiter.None
+
+pub delimiter-back : (d : Delimiter) → delimiter_of (delimiter_code d) ≡ d
+delimiter-back delimiter.Parenthesis = refl
+delimiter-back delimiter.Brace = refl
+delimiter-back delimiter.Bracket = refl
+delimiter-back delimiter.None = refl
+
+abbrev pub leaf_code : Leaf → LeafCode
+leaf_code (ident text span) = inl (text, span_code span)
+leaf_code (punct c spacing span) = inr (inl (c, (spacing_code spacing, span_code span)))
+leaf_code (literal text span) = inr (inr (text, span_code span))
+
+abbrev pub leaf_of : LeafCode → Leaf
+leaf_of (inl c) = ident c.0 (span_of c.1)
+leaf_of (inr (inl c)) = punct c.0 (spacing_of c.1.0) (span_of c.1.1)
+leaf_of (inr (inr c)) = literal c.0 (span_of c.1)
+
+pub leaf-back : (l : Leaf) → leaf_of (leaf_code l) ≡ l
+leaf-back (ident text span) = ap (ident text) (span-back span)
+leaf-back (punct c spacing span) = ap (λ s. punct c s (span_of (span_code span))) (spacing-back spacing) ∙ ap (punct c spacing) (span-back span)
+leaf-back (literal text span) = ap (literal text) (span-back span)
+
+abbrev pub encode : Forest → List ItemCode
+encode no_trees = inl tt ∷ []
+encode (tree (leaf l) f) = inr (inl (leaf_code l)) ∷ encode f
+encode (tree (group d inside span) f) = inr (inr (delimiter_code d, span_code span)) ∷ (encode inside ++ encode f)
+
+abbrev pub stack_item : ItemCode → List Forest → List Forest
+stack_item (inl u) s = no_trees ∷ s
+stack_item (inr (inl l)) [] = []
+stack_item (inr (inl l)) (f ∷ s) = tree (leaf (leaf_of l)) f ∷ s
+stack_item (inr (inr g)) [] = []
+stack_item (inr (inr g)) (c ∷ []) = []
+stack_item (inr (inr g)) (c ∷ f ∷ s) = tree (group (delimiter_of g.0) c (span_of g.1)) f ∷ s
+
+abbrev pub stack_items : List ItemCode → List Forest → List Forest
+stack_items [] s = s
+stack_items (x ∷ xs) s = stack_item x (stack_items xs s)
+
+abbrev pub top : List Forest → Forest
+top [] = no_trees
+top (f ∷ s) = f
+
+abbrev pub decode : List ItemCode → Forest
+decode xs = top (stack_items xs [])
+
+pub stack_items-append : (xs ys : List ItemCode) (s : List Forest) → stack_items (xs ++ ys) s ≡ stack_items xs (stack_items ys s)
+stack_items-append [] ys s = refl
+stack_items-append (x ∷ xs) ys s = ap (stack_item x) (stack_items-append xs ys s)
+
+pub stack_items-encode : (f : Forest) (s : List Forest) → stack_items (encode f) s ≡ f ∷ s
+stack_items-encode no_trees s = refl
+stack_items-encode (tree (leaf l) f) s =
+    ap (stack_item (inr (inl (leaf_code l)))) (stack_items-encode f s) ∙ ap (λ k. tree (leaf k) f ∷ s) (leaf-back l)
+stack_items-encode (tree (group d c p) f) s =
+    ap (stack_item (inr (inr (delimiter_code d, span_code p)))) (stack_items-append (encode c) (encode f) s
+    ∙ ap (stack_items (encode c)) (stack_items-encode f s)
+    ∙ stack_items-encode c (f ∷ s))
+    ∙ ap (λ e. tree (group e c (span_of (span_code p))) f ∷ s) (delimiter-back d)
+    ∙ ap (λ q. tree (group d c q) f ∷ s) (span-back p)
+
+pub decode-encode : (f : Forest) → decode (encode f) ≡ f
+decode-encode f = ap top (stack_items-encode f [])
+
+abbrev pub coded_span : Coded SpanCode
+coded_span = coded_option (coded× coded_ℕ (coded× coded_ℕ coded_ℕ))
+
+abbrev pub forest_code : Coded Forest
+forest_code =
+    code_by (List ItemCode) (coded_list (coded⊎ coded_unit (coded⊎ (coded⊎ (coded× (coded_list coded_ℕ) coded_span) (coded⊎ (coded× coded_ℕ (coded× coded_bool coded_span)) (coded× (coded_list coded_ℕ) coded_span))) (coded× coded_ℕ coded_span)))) encode decode decode-encode

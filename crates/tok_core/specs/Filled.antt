@@ -1,0 +1,15 @@
+-- Forests in which each invisible group holds a visible tree.
+use Rattle.std.specs.Prelude.{Bool, true, false, ◌&&◌}
+use Rattle.tok_core.specs.declared.group.Delimiter.TheVariants.{None}
+use Rattle.tok_core.specs.Erase.{erase}
+use Rattle.tok_core.specs.Forest.{leaf, group, Forest, no_trees, tree}
+
+abbrev pub has_trees : Forest → Bool
+has_trees no_trees = false
+has_trees (tree t f) = true
+
+abbrev pub filled : Forest → Bool
+filled no_trees = true
+filled (tree (leaf l) f) = filled f
+filled (tree (group None inside span) f) = has_trees (erase inside) && filled inside && filled f
+filled (tree (group delimiter inside span) f) = filled inside && filled f

@@ -1,0 +1,58 @@
+-- Trees and forests, as contracts see them.
+use Rattle.std.specs.Prelude.{◌≡◌, ℕ, List, [], ◌∷◌}
+use Rattle.tok_core.specs.declared.span.Span.{Span}
+use Rattle.tok_core.specs.declared.group.Delimiter.{Delimiter}
+use Rattle.tok_core.specs.declared.group.Delimiter.TheVariants.{None}
+use Rattle.tok_core.specs.declared.punct.Spacing.{Spacing}
+use Rattle.tok_core.specs.declared.punct.Spacing.TheVariants.{Alone}
+
+-- a leaf: a text is the list of its bytes, a character its code
+pub data Leaf : Type 0 where
+  ident : List ℕ → Span → Leaf
+  punct : ℕ → Spacing → Span → Leaf
+  literal : List ℕ → Span → Leaf
+
+-- a forest is a list of trees
+mutual
+  pub data Tree : Type 0 where
+    leaf : Leaf → Tree
+    group : Delimiter → Forest → Span → Tree
+
+  pub data Forest : Type 0 where
+    no_trees : Forest
+    tree : Tree → Forest → Forest
+
+abbrev pub forest : List Tree → Forest
+forest [] = no_trees
+forest (t ∷ ts) = tree t (forest ts)
+
+-- one forest behind another
+abbrev pub joined : Forest → Forest → Forest
+joined no_trees g = g
+joined (tree t f) g = tree t (joined f g)
+
+-- some of the trees of one forest, from the first on, stand behind another's
+abbrev pub AppendsFront : (old added new : Forest) → Type 0
+AppendsFront old added new = (front : Forest) × (rest : Forest) × (added ≡ joined front rest) × (new ≡ joined old front)
+
+-- parts of a leaf or a group, with a default where it has none
+abbrev pub leaf_char : Leaf → ℕ
+leaf_char (punct c spacing span) = c
+leaf_char l = 0
+
+abbrev pub leaf_spacing : Leaf → Spacing
+leaf_spacing (punct c spacing span) = spacing
+leaf_spacing l = Alone
+
+abbrev pub tree_delimiter : Tree → Delimiter
+tree_delimiter (group delimiter inside span) = delimiter
+tree_delimiter (leaf l) = None
+
+abbrev pub tree_inside : Tree → Forest
+tree_inside (group delimiter inside span) = inside
+tree_inside (leaf l) = no_trees
+
+-- the last tree first, behind what stands there
+abbrev pub turned_onto : Forest → Forest → Forest
+turned_onto no_trees g = g
+turned_onto (tree t f) g = turned_onto f (tree t g)

@@ -1,0 +1,13 @@
+pub mod Alikes
+pub mod Clear
+pub mod Code
+pub mod Erase
+pub mod Filled
+pub mod Forest
+pub mod Lexical
+pub mod Seen
+pub mod Spanless
+pub mod Spans
+pub mod Text
+pub mod TreeFalls
+pub mod Weight

@@ -1,0 +1,32 @@
+-- What the trees of the program stand for. A stream is a forest.
+use Rattle.std.specs.Prelude.{List, [], ◌∷◌}
+use Rattle.tok_core.specs.declared.ident.Ident.{Ident}
+use Rattle.tok_core.specs.declared.punct.Punct.{Punct}
+use Rattle.tok_core.specs.declared.literal.Literal.{Literal}
+use Rattle.tok_core.specs.declared.group.Group.{Group}
+use Rattle.tok_core.specs.declared.stream.TokenTree.{TokenTree}
+use Rattle.tok_core.specs.declared.stream.TokenTree.TheVariants as made
+use Rattle.tok_core.specs.Forest.{Leaf, ident, punct, literal, Tree, leaf, group, Forest, no_trees, tree}
+
+abbrev pub ident_of : Ident → Leaf
+ident_of i = ident i.text i.span
+
+abbrev pub punct_of : Punct → Leaf
+punct_of p = punct p.ch p.spacing p.span
+
+abbrev pub literal_of : Literal → Leaf
+literal_of l = literal l.text l.span
+
+abbrev pub group_of : Group → Tree
+group_of g = group g.delimiter g.stream g.span
+
+abbrev pub tree_of : TokenTree → Tree
+tree_of (made.Group g) = group_of g
+tree_of (made.Ident i) = leaf (ident_of i)
+tree_of (made.Punct p) = leaf (punct_of p)
+tree_of (made.Literal l) = leaf (literal_of l)
+
+-- the same of several trees
+abbrev pub trees_of : List TokenTree → Forest
+trees_of [] = no_trees
+trees_of (t ∷ ts) = tree (tree_of t) (trees_of ts)

@@ -1,0 +1,51 @@
+-- Spans, and the spans of a group's two delimiters.
+use Rattle.std.specs.Prelude.{ℕ, ◌+◌, ◌-◌, min, max, nat_lt, ◌==◌, cond, Option, Some, None}
+use Rattle.tok_core.specs.declared.span.Place.{Place}
+use Rattle.tok_core.specs.declared.span.Place.TheVariants.{CallSite, Source}
+use Rattle.tok_core.specs.declared.span.Span.{Span}
+use Rattle.tok_core.specs.declared.span.DelimSpan.{DelimSpan}
+use Rattle.tok_core.specs.Forest.{Leaf, ident, punct, literal, Tree, leaf, group}
+
+abbrev pub call_site : Span
+call_site = record { place = CallSite }
+
+abbrev pub source : ℕ → ℕ → ℕ → Span
+source number start end = record { place = Source number start end }
+
+-- the first byte, the last byte; an empty range and the call site are themselves
+abbrev pub opening_span : Span → Span
+opening_span span = elim span.place [ CallSite ↦ span | Source n a b ↦ cond (nat_lt a b) (source n a (a + 1)) span ]
+
+abbrev pub closing_span : Span → Span
+closing_span span = elim span.place [ CallSite ↦ span | Source n a b ↦ cond (nat_lt a b) (source n (b - 1) b) span ]
+
+-- one span that covers both, in one source
+abbrev joined_places : Place → Place → Option Span
+joined_places (Source n a b) (Source m c d) = cond (n == m) (Some (source n (min a c) (max b d))) None
+joined_places p q = None
+
+abbrev pub join : Span → Span → Option Span
+join left right = joined_places left.place right.place
+
+abbrev pub leaf_span : Leaf → Span
+leaf_span (ident text span) = span
+leaf_span (punct c spacing span) = span
+leaf_span (literal text span) = span
+
+abbrev pub tree_span : Tree → Span
+tree_span (leaf l) = leaf_span l
+tree_span (group delimiter inside span) = span
+
+-- the same tree, at another span; what stands inside a group stays
+abbrev pub with_span : Span → Tree → Tree
+with_span span (leaf (ident text old)) = leaf (ident text span)
+with_span span (leaf (punct c spacing old)) = leaf (punct c spacing span)
+with_span span (leaf (literal text old)) = leaf (literal text span)
+with_span span (group delimiter inside old) = group delimiter inside span
+
+-- the number of a source and the range in it
+abbrev pub range : Span → Option (ℕ × ℕ × ℕ)
+range span = elim span.place [ CallSite ↦ None | Source n a b ↦ Some (n, a, b) ]
+
+abbrev pub whole_span : DelimSpan → Span
+whole_span s = s.join

@@ -1,0 +1,44 @@
+-- The printed text of a forest.
+use Rattle.std.specs.Prelude.{ℕ, Bool, true, false, cond, List, [], ◌∷◌, ◌++◌, encode_utf8, codes}
+use Rattle.tok_core.specs.declared.group.Delimiter.{Delimiter}
+use Rattle.tok_core.specs.declared.group.Delimiter.TheVariants.{Parenthesis, Brace, Bracket, None}
+use Rattle.tok_core.specs.declared.punct.Spacing.TheVariants.{Joint}
+use Rattle.tok_core.specs.Forest.{Leaf, ident, punct, literal, Tree, leaf, group, Forest, no_trees, tree}
+
+abbrev pub opening : Delimiter → List ℕ
+opening Parenthesis = codes "("
+opening Brace = codes "{"
+opening Bracket = codes "["
+opening None = 0xc2 ∷ 0xab ∷ []
+
+abbrev pub closing : Delimiter → List ℕ
+closing Parenthesis = codes ")"
+closing Brace = codes "}"
+closing Bracket = codes "]"
+closing None = 0xc2 ∷ 0xbb ∷ []
+
+abbrev pub leaf_text : Leaf → List ℕ
+leaf_text (ident text span) = text
+leaf_text (punct c spacing span) = encode_utf8 c
+leaf_text (literal text span) = text
+
+abbrev pub is_joint : Tree → Bool
+is_joint (leaf (punct c Joint span)) = true
+is_joint t = false
+
+-- the space that parts two trees, which none needs where nothing stands before, or a joint punct
+abbrev pub space : Bool → List ℕ
+space glued = cond glued [] (codes " ")
+
+abbrev mutual
+  pub tree_text : Tree → List ℕ
+  tree_text (leaf l) = leaf_text l
+  tree_text (group delimiter inside span) = opening delimiter ++ (text_after true inside ++ closing delimiter)
+
+  -- the text of trees behind something, glued to it or not
+  pub text_after : Bool → Forest → List ℕ
+  text_after glued no_trees = []
+  text_after glued (tree t f) = space glued ++ (tree_text t ++ text_after (is_joint t) f)
+
+abbrev pub text : Forest → List ℕ
+text = text_after true

@@ -1,0 +1,107 @@
+// Groups.
+ghost use Rattle.std.specs.Prelude.{◌≡◌, IfOk};
+ghost use Rattle.tok_core.specs.Forest.{tree_delimiter, tree_inside, group};
+ghost use Rattle.tok_core.specs.Seen.{group_of};
+ghost use Rattle.tok_core.specs.Spans.{tree_span, opening_span, closing_span, whole_span};
+
+use crate::span::{DelimSpan, Span};
+use crate::stream::TokenStream;
+use std::alloc::AllocError;
+
+/// What stands around a group: `( .. )`, `{ .. }`, `[ .. ]`, or nothing that shows.
+#[derive(Clone, Copy, PartialEq, Eq, Debug)]
+pub enum Delimiter {
+    Parenthesis,
+    Brace,
+    Bracket,
+    /// An invisible group, as macros leave round what they put in.
+    None,
+}
+
+/// A delimited stream.
+#[cycle(trees)]
+#[derive(Drop)]
+pub struct Group {
+    delimiter: Delimiter,
+    stream: TokenStream,
+    span: Span,
+}
+
+impl Group {
+    /// A group whose span, delimiters included, is `span`.
+    pub fn new(delimiter: Delimiter, stream: TokenStream, span: Span) -> Group
+        ensures { group_of result ≡ group delimiter stream span }
+    {
+        Group {
+            delimiter,
+            stream,
+            span,
+        }
+    }
+
+    pub fn delimiter(&self) -> Delimiter
+        ensures { result ≡ tree_delimiter (group_of self.now) }
+    {
+        self.delimiter
+    }
+
+    /// What stands inside, without the delimiters.
+    pub fn stream(&self) -> &TokenStream
+        ensures { result.now ≡ tree_inside (group_of self.now) }
+    {
+        &self.stream
+    }
+
+    pub fn into_stream(self) -> TokenStream
+        ensures { result ≡ tree_inside (group_of self) }
+    {
+        self.stream
+    }
+
+    /// The whole group, delimiters included.
+    pub fn span(&self) -> Span
+        ensures { result ≡ tree_span (group_of self.now) }
+    {
+        self.span
+    }
+
+    pub fn delim_span(&self) -> DelimSpan
+        ensures { whole_span result ≡ tree_span (group_of self.now) }
+    {
+        DelimSpan::new(self.span)
+    }
+
+    /// The opening delimiter: the first byte of the group's span.
+    pub fn span_open(&self) -> Span
+        ensures { result ≡ opening_span (tree_span (group_of self.now)) }
+    {
+        self.delim_span().open()
+    }
+
+    /// The closing delimiter: the last byte of the group's span.
+    pub fn span_close(&self) -> Span
+        ensures { result ≡ closing_span (tree_span (group_of self.now)) }
+    {
+        self.delim_span().close()
+    }
+
+    /// Sets the group's own span. The spans inside stay.
+    pub fn set_span(&mut self, span: Span)
+        ensures { group_of self.new ≡ group (tree_delimiter (group_of self.old)) (tree_inside (group_of self.old)) span }
+    {
+        self.span = span;
+    }
+
+    /// A copy in memory of its own.
+    #[cycle(clone)]
+    pub fn clone(&self) -> Result<Group, AllocError>
+        ensures { IfOk result (λ g. g ≡ self.now) }
+    {
+        let stream = self.stream.clone()?;
+        Ok(Group {
+            delimiter: self.delimiter,
+            stream,
+            span: self.span,
+        })
+    }
+}

@@ -1,0 +1,110 @@
+// Identifiers.
+ghost use Rattle.std.specs.Prelude.{◌≡◌, ◌++◌, string_bytes, codes, IfOk, IfErr, Err};
+ghost use Rattle.std.specs.Str.{chars};
+ghost use Rattle.tok_core.specs.Forest.{ident};
+ghost use Rattle.tok_core.specs.Lexical.Words.{IsIdentifier, HasRaw};
+ghost use Rattle.tok_core.specs.Seen.{ident_of};
+ghost use Rattle.tok_core.specs.Spans.{leaf_span};
+ghost use Rattle.tok_core.specs.Text.{leaf_text};
+
+use crate::lexer::{has_no_raw, is_identifier};
+use crate::span::Span;
+use crate::text::Text;
+use std::alloc::{AllocError, Global};
+
+/// An identifier or a keyword. The text of a raw one begins with `r#`. Identifiers are compared, ordered and hashed by
+/// their texts alone.
+#[derive(Drop)]
+#[derive_where(PartialEq, Eq, PartialOrd, Ord, Hash)]
+pub struct Ident {
+    text: Text,
+    #[derive_where(skip(EqHashOrd))]
+    span: Span,
+}
+
+/// Why no identifier is made: the text is none, or memory is refused.
+#[derive(Clone, Copy, PartialEq, Eq, Debug)]
+pub enum MakeFault {
+    Refused,
+    Memory,
+}
+
+impl From<AllocError> for MakeFault {
+    ghost use Rattle.tok_core.specs.declared.ident.MakeFault.TheVariants.{Memory};
+
+    ghost from_gives = { λ _ fault. fault ≡ Memory };
+
+    fn from(_: AllocError) -> Self {
+        MakeFault::Memory
+    }
+}
+
+impl Ident {
+    /// An identifier or a keyword with this text. Refuses what isn't a plain identifier: an XID_Start character or `_`, and
+    /// behind it XID_Continue characters.
+    pub fn new(alloc: Global, text: &str, span: Span) -> Result<Ident, MakeFault>
+        ensures made { IfOk result (λ i. ident_of i ≡ ident text.now span) }
+        ensures takes { IsIdentifier (chars text.now) → IfErr result (λ fault. fault ≡ MakeFault.Memory) }
+        ensures refuses { (IsIdentifier (chars text.now) → ⊥) → result ≡ Err MakeFault.Refused }
+    {
+        if !is_identifier(text) {
+            return Err(MakeFault::Refused);
+        }
+        let text = String::from_str(alloc, text)?;
+        Ok(Ident::unchecked(text, span))
+    }
+
+    /// A raw identifier: its text is `r#` and this one. Refuses what isn't a plain identifier, and `_`, `self`, `Self`, `super`
+    /// and `crate`, which don't exist as raw ones.
+    pub fn new_raw(alloc: Global, text: &str, span: Span) -> Result<Ident, MakeFault>
+        ensures made { IfOk result (λ i. ident_of i ≡ ident (codes "r#" ++ text.now) span) }
+        ensures takes { HasRaw (chars text.now) → IfErr result (λ fault. fault ≡ MakeFault.Memory) }
+        ensures refuses { (HasRaw (chars text.now) → ⊥) → result ≡ Err MakeFault.Refused }
+    {
+        if !is_identifier(text) || has_no_raw(text) {
+            return Err(MakeFault::Refused);
+        }
+        let mut raw = String::with_capacity(alloc, text.len().saturating_add(2))?;
+        raw.push_str("r#")?;
+        raw.push_str(text)?;
+        Ok(Ident::unchecked(raw, span))
+    }
+
+    // Without a test of the text.
+    pub(crate) fn unchecked(text: String, span: Span) -> Ident
+        ensures { ident_of result ≡ ident (string_bytes text) span }
+    {
+        Ident {
+            text: Text::new(text),
+            span,
+        }
+    }
+
+    pub fn as_str(&self) -> &str
+        ensures { result.now ≡ leaf_text (ident_of self.now) }
+    {
+        self.text.as_str()
+    }
+
+    pub fn span(&self) -> Span
+        ensures { result ≡ leaf_span (ident_of self.now) }
+    {
+        self.span
+    }
+
+    pub fn set_span(&mut self, span: Span)
+        ensures { ident_of self.new ≡ ident (leaf_text (ident_of self.old)) span }
+    {
+        self.span = span;
+    }
+
+    /// A copy in memory of its own.
+    pub fn clone(&self) -> Result<Ident, AllocError>
+        ensures { IfOk result (λ i. i ≡ self.now) }
+    {
+        Ok(Ident {
+            text: self.text.clone()?,
+            span: self.span,
+        })
+    }
+}

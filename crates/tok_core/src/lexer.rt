@@ -1,0 +1,95 @@
+// Text to trees.
+ghost use Rattle.std.specs.Prelude.{◌≡◌, List, MatchResult, IfOk, IfErr, IfSome};
+ghost use Rattle.std.specs.Str.{chars};
+ghost use Rattle.tok_core.specs.Forest.{Forest};
+ghost use Rattle.tok_core.specs.Lexical.Built.{EndsInOther};
+ghost use Rattle.tok_core.specs.Lexical.Errors.{OnRefused};
+ghost use Rattle.tok_core.specs.Lexical.Reading.{Reads, IsRefused};
+ghost use Rattle.tok_core.specs.Lexical.Rules.{plain_rules, marked_rules};
+
+mod char_literals;
+mod classes;
+mod comments;
+mod error;
+mod escapes;
+mod joint;
+mod meaning;
+mod nest;
+mod numbers;
+mod prefixes;
+mod rule;
+mod strings;
+mod text;
+mod words;
+
+use crate::stream::TokenStream;
+pub(crate) use classes::is_punct_or_apostrophe;
+use error::Refusal;
+pub use error::{LexError, LexFault};
+use nest::Nest;
+use rule::{MARKED, PLAIN, Rule, first_rule};
+use std::alloc::Global;
+use text::front_of;
+pub(crate) use words::{has_no_raw, is_identifier};
+
+// The forest of a text by these rules, of which the last takes any character.
+fn read(alloc: Global, source: u32, rules: &[Rule], text: &str) -> Result<TokenStream, LexFault>
+    requires all { EndsInOther rules.now }
+    ensures reads { IfOk result (λ stream. Reads rules.now source (chars text.now) stream) }
+    ensures refuses { IfErr result (λ fault. OnRefused fault (IsRefused rules.now source (chars text.now))) }
+{
+    let mut nest = Nest::new(alloc, source);
+    let mut rest = text;
+    let mut at = 0usize;
+    while let Some((rule, after)) = first_rule(rules, rest) {
+        let piece = front_of(rest, after);
+        let end = at + rule.width(piece);
+        match nest.take_in(rule, at, end, piece, after) {
+            Ok(()) => {}
+            Err(fault) => return Err(fault),
+        }
+        at = end;
+        rest = after;
+    }
+    let Nest {
+        mut open,
+        trees,
+        ..
+    } = nest;
+    match open.pop() {
+        Some(group) => {
+            let error = LexError::new(Refusal::UnclosedGroup, source, group.start);
+            Err(LexFault::Refused(error))
+        }
+        None => Ok(trees),
+    }
+}
+
+/// The forest of a text, which is the source of this number.
+pub fn lex(alloc: Global, source: u32, text: &str) -> Result<TokenStream, LexFault>
+    // What is answered is what the grammar reads.
+    ensures reads { IfOk result (λ stream. Reads plain_rules source (chars text.now) stream) }
+    // What the grammar reads is answered, unless memory runs out.
+    ensures only_read { (forest : Forest) → Reads plain_rules source (chars text.now) forest →
+        MatchResult result (λ stream. stream ≡ forest) (λ fault. fault ≡ LexFault.Memory) }
+    // A refusal is the grammar's.
+    ensures refuses { IfErr result (λ fault. OnRefused fault (IsRefused plain_rules source (chars text.now))) }
+    // What the grammar refuses is refused so, unless memory runs out.
+    ensures only_refused { (error : LexError) → IsRefused plain_rules source (chars text.now) error →
+        MatchResult result (λ _. ⊥) (λ fault. OnRefused fault (λ other. other ≡ error)) }
+{
+    read(alloc, source, &PLAIN, text)
+}
+
+/// The forest of a text in which the marks « and » open and close invisible groups. Its bytes are counted as if these
+/// marks weren't there.
+pub fn lex_marked(alloc: Global, source: u32, text: &str) -> Result<TokenStream, LexFault>
+    ensures reads { IfOk result (λ stream. Reads marked_rules source (chars text.now) stream) }
+    ensures only_read { (forest : Forest) → Reads marked_rules source (chars text.now) forest →
+        MatchResult result (λ stream. stream ≡ forest) (λ fault. fault ≡ LexFault.Memory) }
+    ensures refuses { IfErr result (λ fault. OnRefused fault (IsRefused marked_rules source (chars text.now))) }
+    ensures only_refused { (error : LexError) → IsRefused marked_rules source (chars text.now) error →
+        MatchResult result (λ _. ⊥) (λ fault. OnRefused fault (λ other. other ≡ error)) }
+{
+    read(alloc, source, &MARKED, text)
+}

@@ -1,0 +1,59 @@
+// White space, punctuation characters, and the marks of groups.
+ghost use Rattle.std.specs.Prelude.{◌≡◌};
+ghost use Rattle.tok_core.specs.Lexical.Characters.{is_whitespace, is_punct, is_punct_or_apostrophe, opening_mark, closing_mark};
+ghost use Rattle.tok_core.specs.Lexical.Meaning.{is_invisible};
+
+use crate::group::Delimiter;
+
+pub fn is_whitespace(c: char) -> bool
+    ensures { result ≡ is_whitespace c }
+{
+    matches!(
+        c,
+        '\u{9}'..='\u{D}' | ' ' | '\u{85}' | '\u{200E}' | '\u{200F}' | '\u{2028}' | '\u{2029}'
+    )
+}
+
+pub fn is_punct(c: char) -> bool
+    ensures { result ≡ is_punct c }
+{
+    matches!(c, '!' | '#'..='&' | '*'..='/' | ':'..='@' | '^' | '|' | '~')
+}
+
+/// Whether a punct may have this character.
+pub fn is_punct_or_apostrophe(c: char) -> bool
+    ensures { result ≡ is_punct_or_apostrophe c }
+{
+    is_punct(c) || c == '\''
+}
+
+pub fn opening_mark(delimiter: Delimiter) -> char
+    ensures { result ≡ opening_mark delimiter }
+{
+    match delimiter {
+        Delimiter::Parenthesis => '(',
+        Delimiter::Brace => '{',
+        Delimiter::Bracket => '[',
+        Delimiter::None => '\u{AB}',
+    }
+}
+
+pub fn closing_mark(delimiter: Delimiter) -> char
+    ensures { result ≡ closing_mark delimiter }
+{
+    match delimiter {
+        Delimiter::Parenthesis => ')',
+        Delimiter::Brace => '}',
+        Delimiter::Bracket => ']',
+        Delimiter::None => '\u{BB}',
+    }
+}
+
+pub fn is_invisible(delimiter: Delimiter) -> bool
+    ensures { result ≡ is_invisible delimiter }
+{
+    match delimiter {
+        Delimiter::None => true,
+        _ => false,
+    }
+}

@@ -1,0 +1,132 @@
+// Why a text isn't read.
+ghost use Rattle.std.specs.Prelude.{◌≡◌, Some};
+ghost use Rattle.std.specs.Fmt.{WritesOnOk};
+ghost use Rattle.tok_core.specs.Lexical.Errors.{refusal_number, refusal_words, error_number, error_byte, error_span, error_words};
+
+use crate::span::Span;
+use std::alloc::AllocError;
+use std::fmt;
+use std::fmt::{Formatter, Write};
+
+/// What the grammar refuses, in the order of its numbers.
+#[derive(Clone, Copy, PartialEq, Eq, Debug)]
+pub enum Refusal {
+    UnknownCharacter,
+    UnclosedGroup,
+    UnexpectedClosing,
+    UnclosedComment,
+    DocComment,
+    MalformedQuoted,
+    PrefixedString,
+    FloatLiteral,
+    MalformedNumber,
+    MissingRawIdentifier,
+    LoneApostrophe,
+    DeepGroup,
+}
+
+impl Refusal {
+    fn number(self) -> u8
+        ensures { result ≡ refusal_number self }
+    {
+        match self {
+            Refusal::UnknownCharacter => 1,
+            Refusal::UnclosedGroup => 2,
+            Refusal::UnexpectedClosing => 3,
+            Refusal::UnclosedComment => 4,
+            Refusal::DocComment => 5,
+            Refusal::MalformedQuoted => 6,
+            Refusal::PrefixedString => 7,
+            Refusal::FloatLiteral => 8,
+            Refusal::MalformedNumber => 9,
+            Refusal::MissingRawIdentifier => 10,
+            Refusal::LoneApostrophe => 11,
+            Refusal::DeepGroup => 12,
+        }
+    }
+
+    fn words(self) -> &'static str
+        ensures { result.now ≡ refusal_words self }
+    {
+        match self {
+            Refusal::UnknownCharacter => "unknown character",
+            Refusal::UnclosedGroup => "unclosed group",
+            Refusal::UnexpectedClosing => "unexpected closing delimiter",
+            Refusal::UnclosedComment => "unclosed comment",
+            Refusal::DocComment => "doc comment",
+            Refusal::MalformedQuoted => "malformed string or character",
+            Refusal::PrefixedString => "raw, byte or C string",
+            Refusal::FloatLiteral => "float literal",
+            Refusal::MalformedNumber => "malformed number",
+            Refusal::MissingRawIdentifier => "raw identifier that does not exist",
+            Refusal::LoneApostrophe => "lone apostrophe",
+            Refusal::DeepGroup => "groups nested too deep",
+        }
+    }
+}
+
+/// Why a text isn't read, and where: the number of the rule, from L1 to L12, and the byte.
+#[derive(Clone, Copy, PartialEq, Eq, Debug)]
+pub struct LexError {
+    refusal: Refusal,
+    source: u32,
+    at: usize,
+}
+
+impl LexError {
+    pub(crate) fn new(refusal: Refusal, source: u32, at: usize) -> LexError
+        ensures { result ≡ record { refusal = refusal; source = source; at = at } }
+    {
+        LexError {
+            refusal,
+            source,
+            at,
+        }
+    }
+
+    /// The number of the rule: 1 for L1, to 12 for L12.
+    pub fn number(&self) -> u8
+        ensures { result ≡ error_number self.now }
+    {
+        self.refusal.number()
+    }
+
+    /// The byte at which the token, comment or group begins that isn't read.
+    pub fn at(&self) -> usize
+        ensures { result ≡ error_byte self.now }
+    {
+        self.at
+    }
+
+    /// The empty range at that byte, in the source that was read.
+    pub fn span(&self) -> Span
+        ensures { result ≡ error_span self.now }
+    {
+        Span::source(self.source, self.at, self.at)
+    }
+}
+
+impl fmt::Display for LexError {
+    ghost output = { λ error. Some (error_words error) };
+
+    fn fmt<W: Write>(&self, f: &mut Formatter<W>) -> fmt::Result {
+        f.write_str(self.refusal.words())
+    }
+}
+
+/// Why no stream is answered: the text is refused, or memory is.
+#[derive(Clone, Copy, PartialEq, Eq, Debug)]
+pub enum LexFault {
+    Refused(LexError),
+    Memory,
+}
+
+impl From<AllocError> for LexFault {
+    ghost use Rattle.tok_core.specs.declared.lexer.error.LexFault.TheVariants.{Memory};
+
+    ghost from_gives = { λ _ fault. fault ≡ Memory };
+
+    fn from(_: AllocError) -> Self {
+        LexFault::Memory
+    }
+}

@@ -1,0 +1,198 @@
+// The trees so far, with the groups that are open.
+ghost use Rattle.std.specs.Prelude.{◌≡◌, ℕ, ◌+◌, ◌<◌, ◌≤◌, ◌^◌, ◌∷◌, [], List, IfErr, OnOk, None, if◌then◌else◌, true};
+ghost use Rattle.std.specs.Str.{chars};
+ghost use Rattle.tok_core.specs.Forest.{no_trees};
+ghost use Rattle.tok_core.specs.Lexical.Built.{Grows, Reached, HaltsAt, IsTooDeep, IsUnfit};
+ghost use Rattle.tok_core.specs.Lexical.Errors.{OnRefused};
+ghost use Rattle.tok_core.specs.Lexical.Items.{opening, closing};
+ghost use Rattle.tok_core.specs.Lexical.Meaning.{refusal, items, width, ident_item, literal_item, punct_item};
+ghost use Rattle.tok_core.specs.Lexical.Rules.{Spells};
+
+use crate::group::{Delimiter, Group};
+use crate::ident::Ident;
+use crate::lexer::error::{LexError, LexFault, Refusal};
+use crate::lexer::joint::{is_joint, past_marks, starts_name, starts_punct};
+use crate::lexer::meaning::refusal;
+use crate::lexer::rule::Rule;
+use crate::lexer::text::{first_of, past_first};
+use crate::literal::Literal;
+use crate::punct::{Punct, Spacing};
+use crate::span::Span;
+use crate::stream::{TokenStream, TokenTree};
+use std::alloc::{AllocError, Global};
+use std::mem;
+
+/// A group that isn't closed yet, and the trees before it at its level.
+#[derive(Drop)]
+pub struct OpenGroup {
+    pub delimiter: Delimiter,
+    pub start: usize,
+    pub before: TokenStream,
+}
+
+/// The trees so far: those of the innermost level, and the groups that are open, outermost first.
+#[derive(Drop)]
+pub struct Nest {
+    pub alloc: Global,
+    pub source: u32,
+    pub open: Vec<OpenGroup>,
+    pub trees: TokenStream,
+}
+
+fn spacing(is_joint: bool) -> Spacing
+    ensures { result ≡ (if is_joint then Spacing.Joint else Spacing.Alone) }
+{
+    if is_joint {
+        Spacing::Joint
+    } else {
+        Spacing::Alone
+    }
+}
+
+impl Nest {
+    pub fn new(alloc: Global, source: u32) -> Nest
+        ensures source { result.source ≡ source }
+        ensures open { result.«open».items ≡ [] }
+        ensures trees { result.trees ≡ no_trees }
+    {
+        Nest {
+            alloc,
+            source,
+            open: Vec::new(alloc),
+            trees: TokenStream::new(alloc),
+        }
+    }
+
+    fn punct(&mut self, at: usize, ch: char, is_joint: bool) -> Result<(), AllocError>
+        requires fits { at + 1 < 2 ^ 64 }
+        ensures { OnOk result (Grows at self.old self.new (punct_item self.old.source at ch is_joint ∷ [])) }
+    {
+        let span = Span::source(self.source, at, at + 1);
+        let punct = Punct::unchecked(ch, spacing(is_joint), span);
+        self.trees.append(TokenTree::Punct(punct))?;
+        Ok(())
+    }
+
+    fn ident(&mut self, start: usize, end: usize, text: &str) -> Result<(), AllocError>
+        requires order { start ≤ end }
+        ensures { (at : ℕ) → OnOk result (Grows at self.old self.new (ident_item self.old.source start end (chars text.now) ∷ [])) }
+    {
+        let text = String::from_str(self.alloc, text)?;
+        let span = Span::source(self.source, start, end);
+        self.trees
+            .append(TokenTree::Ident(Ident::unchecked(text, span)))?;
+        Ok(())
+    }
+
+    fn literal(&mut self, start: usize, end: usize, text: &str) -> Result<(), AllocError>
+        requires order { start ≤ end }
+        ensures { OnOk result (Grows start self.old self.new (literal_item self.old.source start end (chars text.now) ∷ [])) }
+    {
+        let text = String::from_str(self.alloc, text)?;
+        let span = Span::source(self.source, start, end);
+        self.trees
+            .append(TokenTree::Literal(Literal::unchecked(text, span)))?;
+        Ok(())
+    }
+
+    /// A lifetime's two trees.
+    fn lifetime(&mut self, at: usize, end: usize, name: &str) -> Result<(), AllocError>
+        requires fits { at + 1 < 2 ^ 64 }
+        requires order { at + 1 ≤ end }
+        ensures { OnOk result (Grows at self.old self.new (punct_item self.old.source at 39 true ∷ ident_item self.old.source (at + 1) end (chars name.now) ∷ [])) }
+    {
+        self.punct(at, '\'', true)?;
+        self.ident(at + 1, end, name)?;
+        Ok(())
+    }
+
+    /// A new innermost level, at most the 256th.
+    fn open(&mut self, delimiter: Delimiter, at: usize) -> Result<(), LexFault>
+        ensures ok { OnOk result (Grows at self.old self.new (opening delimiter at ∷ [])) }
+        ensures refused { IfErr result (λ fault. OnRefused fault (IsTooDeep self.old at)) }
+    {
+        if self.open.len() == 256 {
+            let error = LexError::new(Refusal::DeepGroup, self.source, at);
+            return Err(LexFault::Refused(error));
+        }
+        let before = mem::replace(&mut self.trees, TokenStream::new(self.alloc));
+        let group = OpenGroup {
+            delimiter,
+            start: at,
+            before,
+        };
+        match self.open.push(group) {
+            Ok(()) => Ok(()),
+            Err(failed) => Err(AllocError::from(failed).into()),
+        }
+    }
+
+    /// Closes the innermost group, if the delimiter is its own.
+    fn close(&mut self, delimiter: Delimiter, at: usize, end: usize) -> Result<(), LexFault>
+        requires order { at ≤ end }
+        requires reached { Reached self.old.«open».items at }
+        ensures ok { OnOk result (Grows at self.old self.new (closing delimiter end ∷ [])) }
+        ensures refused { IfErr result (λ fault. OnRefused fault (IsUnfit self.old delimiter at)) }
+    {
+        let error = LexError::new(Refusal::UnexpectedClosing, self.source, at);
+        let Some(group) = self.open.pop() else {
+            return Err(LexFault::Refused(error));
+        };
+        if group.delimiter != delimiter {
+            return Err(LexFault::Refused(error));
+        }
+        let OpenGroup {
+            delimiter: _,
+            start,
+            before,
+        } = group;
+        let inside = mem::replace(&mut self.trees, before);
+        let span = Span::source(self.source, start, end);
+        self.trees
+            .append(TokenTree::Group(Group::new(delimiter, inside, span)))?;
+        Ok(())
+    }
+
+    /// Takes in a piece that the rule took from `at` to `end`, with the text after it.
+    pub fn take_in(
+        &mut self,
+        rule: Rule,
+        at: usize,
+        end: usize,
+        piece: &str,
+        after: &str,
+    ) -> Result<(), LexFault>
+        requires spelled { Spells rule (chars piece.now) }
+        requires ends { end ≡ at + width rule (chars piece.now) }
+        requires fits { at + 1 < 2 ^ 64 }
+        requires reached { Reached self.old.«open».items at }
+        ensures meant { OnOk result (refusal rule at (chars piece.now) (chars after.now) ≡ None) }
+        ensures ok { OnOk result (Grows at self.old self.new (items self.old.source rule at (chars piece.now) (chars after.now))) }
+        ensures refused { IfErr result (λ fault. OnRefused fault (HaltsAt self.old rule at (chars piece.now) (chars after.now))) }
+    {
+        if let Some(refusal) = refusal(rule, at, piece, after) {
+            let error = LexError::new(refusal, self.source, at);
+            return Err(LexFault::Refused(error));
+        }
+        match rule {
+            Rule::Opening(delimiter) => return self.open(delimiter, at),
+            Rule::Closing(delimiter) => return self.close(delimiter, at, end),
+            Rule::Lifetime => self.lifetime(at, end, past_first(piece))?,
+            Rule::MarkedApostrophe => {
+                let next = past_marks(after);
+                self.punct(at, '\'', starts_name(next) | starts_punct(next))?
+            }
+            Rule::Punct => self.punct(at, first_of(piece), is_joint(after))?,
+            Rule::MarkedPunct => self.punct(at, first_of(piece), is_joint(past_marks(after)))?,
+            Rule::RawIdentifier | Rule::Identifier => self.ident(at, end, piece)?,
+            Rule::QuotedString
+            | Rule::ByteChar
+            | Rule::EscapedChar
+            | Rule::PlainChar
+            | Rule::Based(_)
+            | Rule::Decimal => self.literal(at, end, piece)?,
+            _ => {}
+        }
+        Ok(())
+    }
+}

@@ -1,0 +1,74 @@
+// A text, read from its front.
+ghost use Rattle.std.specs.Prelude.{◌≡◌, ℕ, ◌<◌, ◌≤◌, ◌+◌, ◌++◌, ◌∷◌, [], length, List, MatchOption, IfSome, encode_utf8, encode_utf8_all};
+ghost use Rattle.std.specs.Str.{chars, IsUtf8};
+ghost use Rattle.tok_core.specs.Lexical.Meaning.{behind_first};
+
+/// The first character of a text, and what follows it.
+pub fn next_char(text: &str) -> Option<(char, &str)>
+    ensures chars { MatchOption result (chars text.now ≡ []) (λ r. chars text.now ≡ r.0 ∷ chars r.1.now) }
+    ensures bytes { IfSome result (λ r. text.now ≡ encode_utf8 r.0 ++ r.1.now) }
+    ensures utf8 { IfSome result (λ r. IsUtf8 r.1.now) }
+    ensures shorter { IfSome result (λ r. length r.1.now < length text.now) }
+{
+    let mut rest = text.chars();
+    let first = rest.next()?;
+    Some((first, rest.as_str()))
+}
+
+/// What follows these two characters, if the text begins with them.
+pub fn past_pair(text: &str, first: char, second: char) -> Option<&str>
+    ensures chars { MatchOption result ((more : List ℕ) → chars text.now ≡ first ∷ second ∷ more → ⊥) (λ rest. chars text.now ≡ first ∷ second ∷ chars rest.now) }
+    ensures utf8 { IfSome result (λ rest. IsUtf8 rest.now) }
+    ensures shorter { IfSome result (λ rest. length rest.now + 1 < length text.now) }
+{
+    let (one, after) = next_char(text)?;
+    let (two, rest) = next_char(after)?;
+    if one == first && two == second {
+        Some(rest)
+    } else {
+        None
+    }
+}
+
+/// What follows this character, if the text begins with it.
+pub fn past_char(text: &str, ch: char) -> Option<&str>
+    ensures chars { MatchOption result ((more : List ℕ) → chars text.now ≡ ch ∷ more → ⊥) (λ rest. chars text.now ≡ ch ∷ chars rest.now) }
+    ensures utf8 { IfSome result (λ rest. IsUtf8 rest.now) }
+    ensures shorter { IfSome result (λ rest. length rest.now < length text.now) }
+{
+    let (first, rest) = next_char(text)?;
+    if first == ch { Some(rest) } else { None }
+}
+
+/// The front of the text that the rest leaves.
+pub fn front_of<'a>(text: &'a str, rest: &str) -> &'a str
+    requires { (front : List ℕ) × (chars text.now ≡ front ++ chars rest.now) }
+    ensures chars { chars text.now ≡ chars result.now ++ chars rest.now }
+    ensures len { length result.now + length rest.now ≡ length text.now }
+    ensures is { (front : List ℕ) → chars text.now ≡ front ++ chars rest.now → chars result.now ≡ front }
+    ensures bytes { (front : List ℕ) → chars text.now ≡ front ++ chars rest.now → result.now ≡ encode_utf8_all front }
+{
+    let (front, _) = text.split_at(text.len() - rest.len());
+    front
+}
+
+/// The first character of a text that isn't empty.
+pub fn first_of(text: &str) -> char
+    requires { (c : ℕ) × (more : List ℕ) × (chars text.now ≡ c ∷ more) }
+    ensures { (c : ℕ) → (more : List ℕ) → chars text.now ≡ c ∷ more → result ≡ c }
+{
+    match next_char(text) {
+        Some((first, _)) => first,
+        None => unreachable!(),
+    }
+}
+
+/// What is behind the first character.
+pub fn past_first(text: &str) -> &str
+    ensures { chars result.now ≡ behind_first (chars text.now) }
+{
+    match next_char(text) {
+        Some((_, rest)) => rest,
+        None => text,
+    }
+}

@@ -1,0 +1,28 @@
+//! Token trees: identifiers, puncts, literals and groups, in streams, each with a span. In contracts a stream is a
+//! forest (`specs/Forest.antt`).
+#![tactic(auto)]
+
+mod erase;
+mod group;
+mod ident;
+mod lexer;
+mod literal;
+mod print;
+mod punct;
+mod span;
+mod stream;
+mod text;
+mod to_tokens;
+mod tt;
+
+pub use erase::{is_clear, is_filled};
+pub use group::{Delimiter, Group};
+pub use ident::{Ident, MakeFault};
+pub use lexer::{LexError, LexFault, lex, lex_marked};
+pub use literal::Literal;
+pub use punct::{Punct, Spacing};
+pub use span::{DelimSpan, Span};
+pub use stream::{TokenStream, TokenTree};
+pub use text::Text;
+pub use to_tokens::ToTokens;
+pub use tt::{TokenStreamHelper, TokenTreeHelper};

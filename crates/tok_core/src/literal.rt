@@ -1,0 +1,98 @@
+// Literals.
+ghost use Rattle.std.specs.Prelude.{◌≡◌, ◌++◌, string_bytes, IfOk, OnOk};
+ghost use Rattle.std.specs.Str.{chars};
+ghost use Rattle.tok_core.specs.Forest.{literal};
+ghost use Rattle.tok_core.specs.Lexical.Quoting.{escaped, quoted};
+ghost use Rattle.tok_core.specs.Seen.{literal_of};
+ghost use Rattle.tok_core.specs.Spans.{call_site, leaf_span};
+ghost use Rattle.tok_core.specs.Text.{leaf_text};
+
+use crate::span::Span;
+use crate::text::Text;
+use std::alloc::{AllocError, Global};
+
+/// A literal: its text as it is written, quotes and suffix included.
+#[derive(Drop)]
+pub struct Literal {
+    text: Text,
+    span: Span,
+}
+
+// How many bytes the text takes between quotes: one more for each escape.
+fn quoted_len(text: &str) -> usize {
+    let mut len = text.len().saturating_add(2);
+    for c in text.chars() {
+        if matches!(c, '"' | '\\' | '\n' | '\r' | '\t' | '\0') {
+            len = len.saturating_add(1);
+        }
+    }
+    len
+}
+
+fn push_escaped(to: &mut String, c: char) -> Result<(), AllocError>
+    ensures { OnOk result (string_bytes to.new ≡ string_bytes to.old ++ escaped c) }
+{
+    match c {
+        '"' => to.push_str("\\\""),
+        '\\' => to.push_str("\\\\"),
+        '\n' => to.push_str("\\n"),
+        '\r' => to.push_str("\\r"),
+        '\t' => to.push_str("\\t"),
+        '\0' => to.push_str("\\0"),
+        _ => to.push(c),
+    }
+}
+
+impl Literal {
+    /// The string literal of this text, at the call site: in quotes, with `"`, `\`, line feed, U+000D, tab and U+0000 as
+    /// `\"`, `\\`, `\n`, `\r`, `\t` and `\0`.
+    pub fn string(alloc: Global, text: &str) -> Result<Literal, AllocError>
+        ensures { IfOk result (λ l. literal_of l ≡ literal (quoted (chars text.now)) call_site) }
+    {
+        let mut out = String::with_capacity(alloc, quoted_len(text))?;
+        out.push('"')?;
+        for c in text.chars() {
+            push_escaped(&mut out, c)?;
+        }
+        out.push('"')?;
+        Ok(Literal::unchecked(out, Span::call_site()))
+    }
+
+    // Without a test of the text.
+    pub(crate) fn unchecked(text: String, span: Span) -> Literal
+        ensures { literal_of result ≡ literal (string_bytes text) span }
+    {
+        Literal {
+            text: Text::new(text),
+            span,
+        }
+    }
+
+    pub fn as_str(&self) -> &str
+        ensures { result.now ≡ leaf_text (literal_of self.now) }
+    {
+        self.text.as_str()
+    }
+
+    pub fn span(&self) -> Span
+        ensures { result ≡ leaf_span (literal_of self.now) }
+    {
+        self.span
+    }
+
+    pub fn set_span(&mut self, span: Span)
+        ensures { literal_of self.new ≡ literal (leaf_text (literal_of self.old)) span }
+    {
+        self.span = span;
+    }
+
+    /// A copy in memory of its own.
+    pub fn clone(&self) -> Result<Literal, AllocError>
+        ensures { IfOk result (λ l. l ≡ self.now) }
+    {
+        Ok(Literal {
+            text: self.text.clone()?,
+            span: self.span,
+        })
+    }
+}

@@ -1,0 +1,88 @@
+// The text of a stream.
+ghost use Rattle.std.specs.Prelude.{◌≡◌, Some};
+ghost use Rattle.std.specs.Fmt.{WritesOnOk};
+ghost use Rattle.tok_core.specs.Seen.{tree_of};
+ghost use Rattle.tok_core.specs.Text as spec;
+
+use crate::group::Delimiter;
+use crate::punct::Spacing;
+use crate::stream::{TokenStream, TokenTree};
+use std::fmt;
+use std::fmt::{Formatter, Write};
+
+impl fmt::Display for TokenStream {
+    ghost output = { λ s. Some (spec.text s) };
+
+    fn fmt<W: Write>(&self, f: &mut Formatter<W>) -> fmt::Result {
+        write_stream(f, self)
+    }
+}
+
+#[cycle(write)]
+fn write_stream<W: Write>(f: &mut Formatter<W>, stream: &TokenStream) -> fmt::Result
+    ensures { WritesOnOk W.write_str_gives f.old result (spec.text stream.now) f.new }
+{
+    let mut is_glued = true;
+    for next in stream.trees() {
+        f.write_str(space(is_glued))?;
+        write_tree(f, next)?;
+        is_glued = is_joint(next);
+    }
+    Ok(())
+}
+
+#[cycle(write)]
+fn write_tree<W: Write>(f: &mut Formatter<W>, next: &TokenTree) -> fmt::Result
+    ensures { WritesOnOk W.write_str_gives f.old result (spec.tree_text (tree_of next.now)) f.new }
+{
+    match next {
+        TokenTree::Group(group) => {
+            f.write_str(opening(group.delimiter()))?;
+            write_stream(f, group.stream())?;
+            f.write_str(closing(group.delimiter()))
+        }
+        TokenTree::Ident(ident) => f.write_str(ident.as_str()),
+        TokenTree::Punct(punct) => f.write_char(punct.as_char()),
+        TokenTree::Literal(literal) => f.write_str(literal.as_str()),
+    }
+}
+
+fn space(is_glued: bool) -> &'static str
+    ensures { result.now ≡ spec.space is_glued }
+{
+    if is_glued { "" } else { " " }
+}
+
+fn is_joint(next: &TokenTree) -> bool
+    ensures { result ≡ spec.is_joint (tree_of next.now) }
+{
+    match next {
+        TokenTree::Punct(punct) => match punct.spacing() {
+            Spacing::Joint => true,
+            Spacing::Alone => false,
+        },
+        _ => false,
+    }
+}
+
+fn opening(delimiter: Delimiter) -> &'static str
+    ensures { result.now ≡ spec.opening delimiter }
+{
+    match delimiter {
+        Delimiter::Parenthesis => "(",
+        Delimiter::Brace => "{",
+        Delimiter::Bracket => "[",
+        Delimiter::None => "«",
+    }
+}
+
+fn closing(delimiter: Delimiter) -> &'static str
+    ensures { result.now ≡ spec.closing delimiter }
+{
+    match delimiter {
+        Delimiter::Parenthesis => ")",
+        Delimiter::Brace => "}",
+        Delimiter::Bracket => "]",
+        Delimiter::None => "»",
+    }
+}

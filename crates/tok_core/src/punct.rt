@@ -1,0 +1,75 @@
+// Puncts.
+ghost use Rattle.std.specs.Prelude.{◌≡◌, MatchOption, true, false};
+ghost use Rattle.tok_core.specs.Forest.{leaf_char, leaf_spacing, punct};
+ghost use Rattle.tok_core.specs.Lexical.Characters.{is_punct_or_apostrophe};
+ghost use Rattle.tok_core.specs.Seen.{punct_of};
+ghost use Rattle.tok_core.specs.Spans.{call_site, leaf_span};
+
+use crate::lexer::is_punct_or_apostrophe;
+use crate::span::Span;
+
+/// Whether another punct follows directly: `+` is joint in `+=`, and alone in `+ =`.
+#[derive(Clone, Copy, PartialEq, Eq, Debug)]
+pub enum Spacing {
+    Alone,
+    Joint,
+}
+
+/// One punctuation character.
+#[derive(Clone, Copy)]
+pub struct Punct {
+    ch: char,
+    spacing: Spacing,
+    span: Span,
+}
+
+impl Punct {
+    /// A punct at the call site; `None` for any character but `!#$%&*+,-./:;<=>?@^|~` and the apostrophe.
+    pub fn new(ch: char, spacing: Spacing) -> Option<Punct>
+        ensures { MatchOption result (is_punct_or_apostrophe ch ≡ false) (λ p. (is_punct_or_apostrophe ch ≡ true) × (punct_of p ≡ punct ch spacing call_site)) }
+    {
+        Punct::new_spanned(ch, spacing, Span::call_site())
+    }
+
+    /// The same at `span`.
+    pub fn new_spanned(ch: char, spacing: Spacing, span: Span) -> Option<Punct>
+        ensures { MatchOption result (is_punct_or_apostrophe ch ≡ false) (λ p. (is_punct_or_apostrophe ch ≡ true) × (punct_of p ≡ punct ch spacing span)) }
+    {
+        if is_punct_or_apostrophe(ch) {
+            Some(Punct::unchecked(ch, spacing, span))
+        } else {
+            None
+        }
+    }
+
+    // Without a test of the character.
+    pub(crate) fn unchecked(ch: char, spacing: Spacing, span: Span) -> Punct
+        ensures { punct_of result ≡ punct ch spacing span }
+    {
+        Punct { ch, spacing, span }
+    }
+
+    pub fn as_char(&self) -> char
+        ensures { result ≡ leaf_char (punct_of self.now) }
+    {
+        self.ch
+    }
+
+    pub fn spacing(&self) -> Spacing
+        ensures { result ≡ leaf_spacing (punct_of self.now) }
+    {
+        self.spacing
+    }
+
+    pub fn span(&self) -> Span
+        ensures { result ≡ leaf_span (punct_of self.now) }
+    {
+        self.span
+    }
+
+    pub fn set_span(&mut self, span: Span)
+        ensures { punct_of self.new ≡ punct (leaf_char (punct_of self.old)) (leaf_spacing (punct_of self.old)) span }
+    {
+        self.span = span;
+    }
+}

@@ -1,0 +1,112 @@
+// Where a token stands.
+ghost use Rattle.std.specs.Prelude.{◌≡◌, ◌≤◌};
+ghost use Rattle.tok_core.specs.Spans as spec;
+
+#[derive(Clone, Copy, PartialEq, Eq, Debug)]
+enum Place {
+    CallSite,
+    // The number of a source, and a range of its bytes.
+    Source(u32, usize, usize),
+}
+
+/// The place of a token: the call site, or a range of bytes of a numbered source. A token made by hand, with no text
+/// behind it, stands at the call site.
+#[derive(Clone, Copy, PartialEq, Eq, Debug)]
+pub struct Span {
+    place: Place,
+}
+
+/// The span of a group: the whole of it, and its two delimiters.
+#[derive(Clone, Copy, PartialEq, Eq, Debug)]
+pub struct DelimSpan {
+    join: Span,
+}
+
+impl Span {
+    /// The call site.
+    pub fn call_site() -> Span
+        ensures { result ≡ spec.call_site }
+    {
+        Span {
+            place: Place::CallSite,
+        }
+    }
+
+    /// The bytes from `start` to `end` of a source, `end` left out.
+    pub fn source(number: u32, start: usize, end: usize) -> Span
+        requires { start ≤ end }
+        ensures { result ≡ spec.source number start end }
+    {
+        Span {
+            place: Place::Source(number, start, end),
+        }
+    }
+
+    /// The number of the source and the range in it, or `None` for the call site.
+    pub fn as_range(&self) -> Option<(u32, usize, usize)>
+        ensures { result ≡ spec.range self.now }
+    {
+        match self.place {
+            Place::CallSite => None,
+            Place::Source(number, start, end) => Some((number, start, end)),
+        }
+    }
+
+    /// The smallest span that covers both, or `None` if they aren't of one source.
+    pub fn join(self, other: Span) -> Option<Span>
+        ensures { result ≡ spec.join self other }
+    {
+        match (self.place, other.place) {
+            (Place::Source(left, a, b), Place::Source(right, c, d)) => {
+                if left == right {
+                    Some(Span {
+                        place: Place::Source(left, a.min(c), b.max(d)),
+                    })
+                } else {
+                    None
+                }
+            }
+            _ => None,
+        }
+    }
+}
+
+impl DelimSpan {
+    /// The span of a group that stands at `span`.
+    pub fn new(span: Span) -> DelimSpan
+        ensures { spec.whole_span result ≡ span }
+    {
+        DelimSpan { join: span }
+    }
+
+    /// The whole group, delimiters included.
+    pub fn join(self) -> Span
+        ensures { result ≡ spec.whole_span self }
+    {
+        self.join
+    }
+
+    /// The opening delimiter: the first byte. An empty range and the call site give themselves.
+    pub fn open(self) -> Span
+        ensures { result ≡ spec.opening_span (spec.whole_span self) }
+    {
+        match self.join.place {
+            Place::Source(number, start, end) if start < end => Span {
+                place: Place::Source(number, start, start + 1),
+            },
+            _ => self.join,
+        }
+    }
+
+    /// The closing delimiter: the last byte. An empty range and the call site give themselves.
+    pub fn close(self) -> Span
+        ensures { result ≡ spec.closing_span (spec.whole_span self) }
+    {
+        match self.join.place {
+            Place::Source(number, start, end) if start < end => Span {
+                place: Place::Source(number, end - 1, end),
+            },
+            _ => self.join,
+        }
+    }
+}

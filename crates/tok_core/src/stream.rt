@@ -1,0 +1,169 @@
+// Streams of trees.
+ghost use Rattle.std.specs.Prelude.{◌≡◌, ◌+◌, not, min, IfOk, OnOk, OnErr};
+ghost use Rattle.tok_core.specs.Filled.{has_trees};
+ghost use Rattle.tok_core.specs.Forest.{joined, no_trees, tree};
+ghost use Rattle.tok_core.specs.Seen.{tree_of, trees_of};
+ghost use Rattle.tok_core.specs.Spans.{tree_span, with_span};
+ghost use Rattle.tok_core.specs.Weight.{weight, tree_weight};
+
+use crate::group::Group;
+use crate::ident::Ident;
+use crate::literal::Literal;
+use crate::punct::Punct;
+use crate::span::Span;
+use std::alloc::{AllocError, Global};
+use std::marker::Model;
+
+/// A list of trees, which grows in memory of its own allocator. In contracts it is a forest.
+#[cycle(trees)]
+#[derive(Drop)]
+pub struct TokenStream {
+    trees: Vec<TokenTree>,
+    alloc: Global,
+}
+
+/// A group, or a leaf: an identifier, a punct or a literal.
+#[cycle(trees)]
+#[derive(Drop)]
+pub enum TokenTree {
+    Group(Group),
+    Ident(Ident),
+    Punct(Punct),
+    Literal(Literal),
+}
+
+impl Model for TokenStream {
+    ghost use Rattle.tok_core.specs.Forest.{Forest};
+    ghost use Rattle.tok_core.specs.Code.{forest_code};
+    ghost use Rattle.tok_core.specs.Weight.{weight};
+
+    ghost Value = { Forest };
+
+    ghost coded = { forest_code };
+
+    ghost use Rattle.tok_core.specs.Seen.{trees_of};
+    ghost use Rattle.std.proofs.Common.{arith};
+
+    ghost view = { λ s. trees_of s.trees.items };
+
+    ghost size = { weight };
+
+    ghost use Rattle.tok_core.specs.TreeFalls.{most_le_weight};
+
+    ghost size_decreases = { λ a h. omega (arith, most_le_weight a.trees.items) };
+}
+
+impl TokenStream {
+    /// No trees. Takes no memory until a tree comes.
+    pub fn new(alloc: Global) -> TokenStream
+        ensures { result ≡ no_trees }
+    {
+        TokenStream {
+            trees: Vec::new(alloc),
+            alloc,
+        }
+    }
+
+    /// Puts a tree behind the others. Where memory is refused all stays as before, and the tree is dropped.
+    pub fn append(&mut self, next: TokenTree) -> Result<(), AllocError>
+        ensures ok { OnOk result (self.new ≡ joined self.old (tree (tree_of next) no_trees)) }
+        ensures err { OnErr result (self.new ≡ self.old) }
+    {
+        self.trees.push(next)?;
+        Ok(())
+    }
+
+    pub fn trees(&self) -> &[TokenTree]
+        ensures { trees_of result.now ≡ self.now }
+    {
+        self.trees.as_slice()
+    }
+
+    pub fn into_trees(self) -> Vec<TokenTree>
+        ensures { trees_of result.items ≡ self }
+    {
+        self.trees
+    }
+
+    pub fn is_empty(&self) -> bool
+        ensures { has_trees self.now ≡ not result }
+    {
+        self.trees.is_empty()
+    }
+
+    /// How many openings, leaves and closings there are, or `usize::MAX` if there are more.
+    #[cycle(weights)]
+    pub fn weight(&self) -> usize
+        ensures { result ≡ min (weight self.now) usize.MAX }
+    {
+        let mut sum: usize = 0;
+        for next in &self.trees {
+            sum = sum.saturating_add(next.weight());
+        }
+        sum
+    }
+
+    /// A copy in memory of its own.
+    #[cycle(clone)]
+    pub fn clone(&self) -> Result<TokenStream, AllocError>
+        ensures { IfOk result (λ s. s ≡ self.now) }
+    {
+        let mut trees = Vec::with_capacity(self.alloc, self.trees.len())?;
+        for next in &self.trees {
+            trees.push(next.clone()?)?;
+        }
+        Ok(TokenStream {
+            trees,
+            alloc: self.alloc,
+        })
+    }
+}
+
+impl TokenTree {
+    #[cycle(weights)]
+    fn weight(&self) -> usize
+        ensures { result ≡ min (tree_weight (tree_of self.now)) usize.MAX }
+    {
+        match self {
+            TokenTree::Group(group) => group.stream().weight().saturating_add(2),
+            _ => 1,
+        }
+    }
+
+    /// The span of a leaf, or of a whole group.
+    pub fn span(&self) -> Span
+        ensures { result ≡ tree_span (tree_of self.now) }
+    {
+        match self {
+            TokenTree::Group(group) => group.span(),
+            TokenTree::Ident(ident) => ident.span(),
+            TokenTree::Punct(punct) => punct.span(),
+            TokenTree::Literal(literal) => literal.span(),
+        }
+    }
+
+    /// Sets a leaf's span, or a group's own span.
+    pub fn set_span(&mut self, span: Span)
+        ensures { tree_of self.new ≡ with_span span (tree_of self.old) }
+    {
+        match self {
+            TokenTree::Group(group) => group.set_span(span),
+            TokenTree::Ident(ident) => ident.set_span(span),
+            TokenTree::Punct(punct) => punct.set_span(span),
+            TokenTree::Literal(literal) => literal.set_span(span),
+        }
+    }
+
+    /// A copy in memory of its own.
+    #[cycle(clone)]
+    pub fn clone(&self) -> Result<TokenTree, AllocError>
+        ensures { IfOk result (λ t. t ≡ self.now) }
+    {
+        match self {
+            TokenTree::Group(group) => Ok(TokenTree::Group(group.clone()?)),
+            TokenTree::Ident(ident) => Ok(TokenTree::Ident(ident.clone()?)),
+            TokenTree::Punct(punct) => Ok(TokenTree::Punct(*punct)),
+            TokenTree::Literal(literal) => Ok(TokenTree::Literal(literal.clone()?)),
+        }
+    }
+}

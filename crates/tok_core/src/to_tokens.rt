@@ -1,0 +1,92 @@
+// Values that are written as tokens.
+ghost use Rattle.std.specs.Prelude.{◌≡◌, IfOk, OnOk, OnErr};
+ghost use Rattle.tok_core.specs.Forest.{AppendsFront, Forest, joined, leaf, no_trees, tree};
+ghost use Rattle.tok_core.specs.Seen.{group_of, ident_of, literal_of, punct_of, tree_of};
+
+use crate::group::Group;
+use crate::ident::Ident;
+use crate::literal::Literal;
+use crate::punct::Punct;
+use crate::stream::{TokenStream, TokenTree};
+use std::alloc::{AllocError, Global};
+
+/// A value that is written as tokens.
+pub trait ToTokens {
+    // The trees that it is written as.
+    ghost printed: { Self → Forest };
+
+    /// Puts the tokens of this value behind the others. Where memory is refused, those that were put there before
+    /// the refusal stay.
+    fn to_tokens(&self, tokens: &mut TokenStream) -> Result<(), AllocError>
+        ensures ok { OnOk result (tokens.new ≡ joined tokens.old (printed self.now)) }
+        ensures err { OnErr result (AppendsFront tokens.old (printed self.now) tokens.new) };
+
+    /// The tokens of this value in a stream of their own.
+    fn to_token_stream(&self, alloc: Global) -> Result<TokenStream, AllocError>
+        ensures { IfOk result (λ tokens. tokens ≡ printed self.now) }
+    {
+        let mut tokens = TokenStream::new(alloc);
+        self.to_tokens(&mut tokens)?;
+        Ok(tokens)
+    }
+
+    /// The same, and the value is let go.
+    fn into_token_stream(self, alloc: Global) -> Result<TokenStream, AllocError>
+    where
+        Self: Sized + Drop,
+        ensures { IfOk result (λ tokens. tokens ≡ printed self) }
+    {
+        self.to_token_stream(alloc)
+    }
+}
+
+impl ToTokens for Ident {
+    ghost printed = { λ i. tree (leaf (ident_of i)) no_trees };
+
+    fn to_tokens(&self, tokens: &mut TokenStream) -> Result<(), AllocError> {
+        tokens.append(TokenTree::Ident(self.clone()?))
+    }
+}
+
+impl ToTokens for Punct {
+    ghost printed = { λ p. tree (leaf (punct_of p)) no_trees };
+
+    fn to_tokens(&self, tokens: &mut TokenStream) -> Result<(), AllocError> {
+        tokens.append(TokenTree::Punct(*self))
+    }
+}
+
+impl ToTokens for Literal {
+    ghost printed = { λ l. tree (leaf (literal_of l)) no_trees };
+
+    fn to_tokens(&self, tokens: &mut TokenStream) -> Result<(), AllocError> {
+        tokens.append(TokenTree::Literal(self.clone()?))
+    }
+}
+
+impl ToTokens for Group {
+    ghost printed = { λ g. tree (group_of g) no_trees };
+
+    fn to_tokens(&self, tokens: &mut TokenStream) -> Result<(), AllocError> {
+        tokens.append(TokenTree::Group(self.clone()?))
+    }
+}
+
+impl ToTokens for TokenTree {
+    ghost printed = { λ t. tree (tree_of t) no_trees };
+
+    fn to_tokens(&self, tokens: &mut TokenStream) -> Result<(), AllocError> {
+        tokens.append(self.clone()?)
+    }
+}
+
+impl ToTokens for TokenStream {
+    ghost printed = { λ s. s };
+
+    fn to_tokens(&self, tokens: &mut TokenStream) -> Result<(), AllocError> {
+        for next in self.trees() {
+            tokens.append(next.clone()?)?;
+        }
+        Ok(())
+    }
+}
