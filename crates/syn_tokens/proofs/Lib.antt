@@ -1,3 +1,6 @@
+pub mod Appended
+pub mod Closing
+pub mod Linked
 pub mod Parses
 pub mod Refusals
 pub mod Runs

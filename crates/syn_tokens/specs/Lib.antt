@@ -1,4 +1,5 @@
 pub mod Commands
+pub mod Links
 pub mod Seen
 pub mod State
 pub mod Step

@@ -5,6 +5,7 @@ use Rattle.syn_tokens.specs.Seen.{left_of}
 use Rattle.syn_tokens.specs.State.{State, StreamKind, outermost, content_of}
 use Rattle.syn_tokens.specs.State as spec
 use Rattle.syn_tokens.specs.declared.stream.Stream.{Stream}
+use Rattle.syn_tokens.specs.declared.streams.Streams.{Streams}
 
 abbrev pub kind_of : Option ℕ → StreamKind
 kind_of None = outermost
@@ -14,10 +15,13 @@ abbrev pub stream_of : Stream → spec.Stream
 stream_of s = record {
   place = place_of s.cursor;
   scope_span = s.scope_span;
-  kind = kind_of s.parent;
+  kind = kind_of s.links.parent;
   is_open = s.is_open;
   note = left_of s.note;
 }
 
-abbrev pub state_of : List Stream → State
-state_of ss = map stream_of ss
+abbrev pub state_of_list : List Stream → State
+state_of_list ss = map stream_of ss
+
+abbrev pub state_of : Streams → State
+state_of s = state_of_list s.list.items

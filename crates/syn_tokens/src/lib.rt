@@ -2,6 +2,7 @@
 #![tactic(auto)]
 
 mod command;
+mod link;
 mod report;
 mod session;
 mod stream;

@@ -1,5 +1,5 @@
 // Commands answered over a stream.
-ghost use Rattle.std.specs.Prelude.{◌≡◌, Some, None, IfOk, map};
+ghost use Rattle.std.specs.Prelude.{◌≡◌, ◌<◌, length, Some, None, IfOk, map};
 ghost use Rattle.tok_core.specs.Seen.{ident_of};
 ghost use Rattle.tok_buffer.specs.Entry.{enter};
 ghost use Rattle.syn_tokens.specs.Commands as spec;
@@ -14,7 +14,7 @@ ghost use Rattle.syn_tokens.specs.Words as words;
 use crate::command::Command;
 use crate::report::{Answer, Line, Piece, Position, Report, Verdict};
 use crate::stream::Stream;
-use crate::streams::{close_contents, get, hand_up, move_stream};
+use crate::streams::Streams;
 use crate::words::{delimiter_words, found_keyword, leftover_words};
 use std::alloc::{AllocError, Global};
 use tok_buffer::{Error, TokenBuffer};
@@ -32,12 +32,13 @@ fn piece(alloc: Global, ident: &Ident) -> Result<Piece, AllocError>
 
 fn parse<'a>(
     alloc: Global,
-    streams: &mut Vec<Stream<'a>>,
+    streams: &mut Streams<'a>,
     n: usize,
     stream: Stream<'a>,
 ) -> Result<Answer, AllocError>
+    requires { n < length (state_of streams.old) }
     ensures { IfOk result
-        (λ a. IsStepped a (state_of streams.new.items) (parsed (state_of streams.old.items) n (stream_of stream.entry) spec.ident)) }
+        (λ a. IsStepped a (state_of streams.new) (parsed (state_of streams.old) n (stream_of stream.entry) spec.ident)) }
 {
     let Stream {
         cursor,
@@ -55,46 +56,39 @@ fn parse<'a>(
     }
     let mut pieces = Vec::new(alloc);
     pieces.push(piece(alloc, ident)?)?;
-    move_stream(streams, n, rest);
+    streams.move_to(n, rest);
     Ok(Answer::Read(pieces))
 }
 
 fn enter<'a>(
     alloc: Global,
-    streams: &mut Vec<Stream<'a>>,
+    streams: &mut Streams<'a>,
     n: usize,
     delimiter: Delimiter,
     stream: Stream<'a>,
 ) -> Result<Answer, AllocError>
+    requires { n < length (state_of streams.old) }
     ensures { IfOk result
-        (λ a. IsStepped a (state_of streams.new.items)
-        (into_group (state_of streams.old.items) n (stream_of stream.entry) (words.delimiter_words delimiter) (enter delimiter (stream_of stream.entry).place))) }
+        (λ a. IsStepped a (state_of streams.new)
+        (into_group (state_of streams.old) n (stream_of stream.entry) (words.delimiter_words delimiter) (enter delimiter (stream_of stream.entry).place))) }
 {
     let Some((content, span, behind)) = stream.cursor.group(delimiter) else {
         let words = delimiter_words(delimiter);
         let error = Error::new_at(alloc, stream.scope_span, stream.cursor, words)?;
         return Ok(Answer::Refused(error));
     };
-    let number = streams.len();
-    move_stream(streams, n, behind);
-    streams.push(Stream {
-        cursor: content,
-        scope_span: span.close(),
-        parent: Some(n),
-        is_open: true,
-        note: None,
-    })?;
+    let number = streams.enter(n, content, span.close(), behind)?;
     Ok(Answer::Entered(number, delimiter, span))
 }
 
-fn close<'a>(streams: &mut Vec<Stream<'a>>, n: usize, stream: Stream<'a>) -> Answer
-    ensures { IsStepped result (state_of streams.new.items) (content_closed (state_of streams.old.items) n (stream_of stream.entry).kind) }
+fn close<'a>(streams: &mut Streams<'a>, n: usize, stream: Stream<'a>) -> Answer
+    requires { n < length (state_of streams.old) }
+    ensures { IsStepped result (state_of streams.new) (content_closed (state_of streams.old) n (stream_of stream.entry).kind) }
 {
-    match stream.parent {
+    match stream.links.parent {
         None => Answer::Unfit(4),
         Some(_) => {
-            close_contents(streams, n, n.saturating_add(1));
-            hand_up(streams, n);
+            streams.close(n);
             Answer::Done
         }
     }
@@ -102,13 +96,14 @@ fn close<'a>(streams: &mut Vec<Stream<'a>>, n: usize, stream: Stream<'a>) -> Ans
 
 fn act<'a>(
     alloc: Global,
-    streams: &mut Vec<Stream<'a>>,
+    streams: &mut Streams<'a>,
     n: usize,
     stream: Stream<'a>,
     command: Command,
 ) -> Result<Answer, AllocError>
+    requires { n < length (state_of streams.old) }
     ensures { IfOk result
-        (λ a. IsStepped a (state_of streams.new.items) (on_stream (command_of command) (state_of streams.old.items) n (stream_of stream.entry))) }
+        (λ a. IsStepped a (state_of streams.new) (on_stream (command_of command) (state_of streams.old) n (stream_of stream.entry))) }
 {
     match command {
         Command::Parse(_, _) => parse(alloc, streams, n, stream),
@@ -134,13 +129,13 @@ impl Command {
 
 fn answer_to<'a>(
     alloc: Global,
-    streams: &mut Vec<Stream<'a>>,
+    streams: &mut Streams<'a>,
     command: Command,
 ) -> Result<Answer, AllocError>
-    ensures { IfOk result (λ a. IsStepped a (state_of streams.new.items) (step (command_of command) (state_of streams.old.items))) }
+    ensures { IfOk result (λ a. IsStepped a (state_of streams.new) (step (command_of command) (state_of streams.old))) }
 {
     let n = command.stream();
-    match get(streams, n) {
+    match streams.get(n) {
         None => Ok(Answer::Unfit(1)),
         Some(stream) => {
             if stream.is_open {
@@ -152,10 +147,10 @@ fn answer_to<'a>(
     }
 }
 
-fn position<'a>(streams: &Vec<Stream<'a>>, n: usize) -> Position
-    ensures { position_of result ≡ position_in (state_of streams.now.items) n }
+fn position<'a>(streams: &Streams<'a>, n: usize) -> Position
+    ensures { position_of result ≡ position_in (state_of streams.now) n }
 {
-    match get(streams, n) {
+    match streams.get(n) {
         None => Position::Missing,
         Some(stream) => match stream.cursor.position() {
             None => Position::Empty,
@@ -164,12 +159,8 @@ fn position<'a>(streams: &Vec<Stream<'a>>, n: usize) -> Position
     }
 }
 
-fn line<'a>(
-    alloc: Global,
-    streams: &mut Vec<Stream<'a>>,
-    command: Command,
-) -> Result<Line, AllocError>
-    ensures { IfOk result (λ l. IsLine l (state_of streams.new.items) (state_of streams.old.items) command) }
+fn line<'a>(alloc: Global, streams: &mut Streams<'a>, command: Command) -> Result<Line, AllocError>
+    ensures { IfOk result (λ l. IsLine l (state_of streams.new) (state_of streams.old) command) }
 {
     let answer = answer_to(alloc, streams, command)?;
     let position = position(streams, command.stream());
@@ -178,10 +169,10 @@ fn line<'a>(
 
 fn run<'a>(
     alloc: Global,
-    streams: &mut Vec<Stream<'a>>,
+    streams: &mut Streams<'a>,
     commands: &[Command],
 ) -> Result<Vec<Line>, AllocError>
-    ensures { IfOk result (λ ls. HasRun ls.items (state_of streams.new.items) (state_of streams.old.items) commands.now) }
+    ensures { IfOk result (λ ls. HasRun ls.items (state_of streams.new) (state_of streams.old) commands.now) }
 {
     let mut lines = Vec::with_capacity(alloc, commands.len())?;
     for command in commands {
@@ -190,13 +181,10 @@ fn run<'a>(
     Ok(lines)
 }
 
-fn verdict<'a>(alloc: Global, streams: &Vec<Stream<'a>>) -> Result<Verdict, AllocError>
-    ensures { IfOk result (λ v. verdict_of v ≡ stream_verdict (stream_at (state_of streams.now.items) 0)) }
+fn verdict<'a>(alloc: Global, streams: &Streams<'a>) -> Result<Verdict, AllocError>
+    ensures { IfOk result (λ v. verdict_of v ≡ stream_verdict (stream_at (state_of streams.now) 0)) }
 {
-    let Some(stream) = get(streams, 0) else {
-        return Ok(Verdict::Accepted);
-    };
-    match stream.handed() {
+    match streams.whole().handed() {
         None => Ok(Verdict::Accepted),
         Some((span, delimiter)) => {
             let error = Error::new(alloc, span, leftover_words(delimiter))?;
@@ -216,16 +204,9 @@ pub fn replay(
     ensures { IfOk result (λ r. report_of r ≡ walk stream (map command_of commands.now)) }
 {
     let buffer = TokenBuffer::new2(alloc, 0, stream)?;
-    let mut streams = Vec::new(alloc);
-    streams.push(Stream {
-        cursor: buffer.begin(),
-        scope_span: Span::call_site(),
-        parent: None,
-        is_open: true,
-        note: None,
-    })?;
+    let mut streams = Streams::new(alloc, buffer.begin())?;
     let lines = run(alloc, &mut streams, commands)?;
-    close_contents(&mut streams, 0, 1);
+    streams.close_contents(0);
     let verdict = verdict(alloc, &streams)?;
     Ok(Report { lines, verdict })
 }

@@ -1,107 +1,154 @@
 // The streams of a replay, by their numbers.
-ghost use Rattle.std.specs.Prelude.{◌≡◌, ◌-◌, Some, None, MatchOption, vec_len};
-ghost use Rattle.tok_buffer.specs.Cursors.{place_of};
-ghost use Rattle.syn_tokens.specs.Seen.{left_of};
-ghost use Rattle.syn_tokens.specs.State.{stream_at, changed, moved_to, spent, noted, noted_on_parent, handed_up, contents_closed, is_open_content_of};
-ghost use Rattle.syn_tokens.specs.Tracks.{kind_of, stream_of, state_of};
+ghost use Rattle.std.specs.Prelude.{◌<◌, length};
+ghost use Rattle.syn_tokens.specs.Links.{links_of, AreLinked};
 
-use crate::stream::Stream;
+use crate::link::link;
+use crate::stream::{Links, Stream};
+use std::alloc::{AllocError, Global};
 use tok_buffer::Cursor;
 use tok_core::{Delimiter, Span};
 
-pub fn get<'a>(streams: &Vec<Stream<'a>>, n: usize) -> Option<Stream<'a>>
-    ensures { MatchOption result
-        (stream_at (state_of streams.now.items) n ≡ None)
-        (λ s. stream_at (state_of streams.now.items) n ≡ Some (stream_of s)) }
-{
-    if n < streams.len() {
-        Some(streams[n])
-    } else {
-        None
-    }
+// Stream 0 is the whole. Each stream leads to its contents, so that closing it visits those alone.
+#[derive(Drop)]
+pub struct Streams<'a> {
+    list: Vec<Stream<'a>>,
+    ghost rooted: { 0 < length list.items },
+    ghost linked: { AreLinked (links_of list.items) },
 }
 
-pub fn move_stream<'a>(streams: &mut Vec<Stream<'a>>, n: usize, cursor: Cursor<'a>)
-    ensures after { state_of streams.new.items ≡ changed (state_of streams.old.items) n (moved_to (place_of cursor.entry)) }
-    ensures len { vec_len streams.new ≡ vec_len streams.old }
-{
-    if n < streams.len() {
-        let stream = streams[n];
-        streams[n] = stream.moved(cursor);
-    }
-}
+impl<'a> Streams<'a> {
+    ghost use Rattle.std.specs.Prelude.{◌≡◌, ◌<◌, ◌∷◌, [], ◌++◌, length, Some, None, MatchOption, IfOk, OnOk, OnErr, true};
+    ghost use Rattle.tok_buffer.specs.Cursors.{place_of};
+    ghost use Rattle.tok_core.specs.Spans.{call_site};
+    ghost use Rattle.syn_tokens.specs.Seen.{left_of};
+    ghost use Rattle.syn_tokens.specs.State.{outermost, stream_at, changed, moved_to, spent, noted, handed_up, closed_inside, closed};
+    ghost use Rattle.syn_tokens.specs.Step.{content as content_at};
+    ghost use Rattle.syn_tokens.specs.Tracks.{stream_of, state_of};
 
-fn note_stream<'a>(streams: &mut Vec<Stream<'a>>, n: usize, note: Option<(Span, Delimiter)>)
-    ensures after { state_of streams.new.items ≡ changed (state_of streams.old.items) n (noted (left_of note)) }
-    ensures len { vec_len streams.new ≡ vec_len streams.old }
-{
-    if n < streams.len() {
-        let stream = streams[n];
-        streams[n] = stream.noted(note);
+    pub fn new(alloc: Global, cursor: Cursor<'a>) -> Result<Self, AllocError>
+        ensures { IfOk result
+            (λ s. state_of s ≡ record { place = place_of cursor.entry; scope_span = call_site; kind = outermost; is_open = true; note = None } ∷ []) }
+    {
+        let mut list = Vec::new(alloc);
+        list.push(Stream {
+            cursor,
+            scope_span: Span::call_site(),
+            links: Links {
+                parent: None,
+                first: None,
+                last: None,
+                next: None,
+            },
+            is_open: true,
+            note: None,
+        })?;
+        Ok(Streams { list })
     }
-}
 
-fn spend_stream<'a>(streams: &mut Vec<Stream<'a>>, n: usize)
-    ensures after { state_of streams.new.items ≡ changed (state_of streams.old.items) n spent }
-    ensures len { vec_len streams.new ≡ vec_len streams.old }
-{
-    if n < streams.len() {
-        let stream = streams[n];
-        streams[n] = stream.spent();
-    }
-}
-
-fn note_parent<'a>(
-    streams: &mut Vec<Stream<'a>>,
-    parent: Option<usize>,
-    note: Option<(Span, Delimiter)>,
-)
-    ensures after { state_of streams.new.items ≡ noted_on_parent (kind_of parent) (left_of note) (state_of streams.old.items) }
-    ensures len { vec_len streams.new ≡ vec_len streams.old }
-{
-    match parent {
-        Some(p) => note_stream(streams, p, note),
-        None => {}
-    }
-}
-
-// Hands a content's leftover to its parent, and spends it.
-pub fn hand_up<'a>(streams: &mut Vec<Stream<'a>>, k: usize)
-    ensures after { state_of streams.new.items ≡ handed_up k (state_of streams.old.items) }
-    ensures len { vec_len streams.new ≡ vec_len streams.old }
-{
-    match get(streams, k) {
-        Some(stream) => {
-            note_parent(streams, stream.parent, stream.handed());
-            spend_stream(streams, k);
+    pub fn get(&self, n: usize) -> Option<Stream<'a>>
+        ensures { MatchOption result
+            (stream_at (state_of self.now) n ≡ None)
+            (λ s. stream_at (state_of self.now) n ≡ Some (stream_of s)) }
+    {
+        if n < self.list.len() {
+            Some(self.list[n])
+        } else {
+            None
         }
-        None => {}
     }
-}
 
-fn is_asked<'a>(streams: &Vec<Stream<'a>>, parent: usize, n: usize) -> bool
-    ensures { result ≡ is_open_content_of parent (stream_at (state_of streams.now.items) n) }
-{
-    match get(streams, n) {
-        None => false,
-        Some(stream) => match stream.parent {
-            None => false,
-            Some(p) => stream.is_open && p == parent,
-        },
+    pub fn whole(&self) -> Stream<'a>
+        ensures { stream_at (state_of self.now) 0 ≡ Some (stream_of result) }
+    {
+        self.list[0]
     }
-}
 
-// Closes the open contents of a stream, from a number on.
-#[cycle(close)]
-pub fn close_contents<'a>(streams: &mut Vec<Stream<'a>>, parent: usize, from: usize)
-    ensures after { state_of streams.new.items ≡ contents_closed (vec_len streams.old - from) parent from (state_of streams.old.items) }
-    ensures len { vec_len streams.new ≡ vec_len streams.old }
-{
-    let count = streams.len();
-    for i in from..count {
-        if is_asked(streams, parent, i) {
-            close_contents(streams, i, i + 1);
-            hand_up(streams, i);
+    pub fn move_to(&mut self, n: usize, cursor: Cursor<'a>)
+        requires { n < length (state_of self.old) }
+        ensures { state_of self.new ≡ changed (state_of self.old) n (moved_to (place_of cursor.entry)) }
+    {
+        self.list[n].cursor = cursor;
+    }
+
+    // Stream `n` moves behind a group, whose content is the next stream. A refused request changes nothing.
+    pub fn enter(
+        &mut self,
+        n: usize,
+        content: Cursor<'a>,
+        scope_span: Span,
+        behind: Cursor<'a>,
+    ) -> Result<usize, AllocError>
+        requires { n < length (state_of self.old) }
+        ensures number { IfOk result (λ i. i ≡ length (state_of self.old)) }
+        ensures ok { OnOk result
+            (state_of self.new ≡ changed (state_of self.old) n (moved_to (place_of behind.entry)) ++ content_at (place_of content.entry) scope_span n ∷ []) }
+        ensures err { OnErr result (state_of self.new ≡ state_of self.old) }
+    {
+        let number = self.list.len();
+        self.list.push(Stream {
+            cursor: content,
+            scope_span,
+            links: Links {
+                parent: Some(n),
+                first: None,
+                last: None,
+                next: None,
+            },
+            is_open: true,
+            note: None,
+        })?;
+        link(&mut self.list, n, number);
+        self.list[n].cursor = behind;
+        Ok(number)
+    }
+
+    // The first note stays.
+    fn note(&mut self, n: usize, note: Option<(Span, Delimiter)>)
+        requires { n < length (state_of self.old) }
+        ensures after { state_of self.new ≡ changed (state_of self.old) n (noted (left_of note)) }
+        ensures links { links_of self.new.list.items ≡ links_of self.old.list.items }
+    {
+        let stream = &mut self.list[n];
+        stream.note = stream.note.or(note);
+    }
+
+    // Hands a content's leftover to its parent, and spends it.
+    fn hand_up(&mut self, k: usize)
+        requires { k < length (state_of self.old) }
+        ensures after { state_of self.new ≡ handed_up k (state_of self.old) }
+        ensures links { links_of self.new.list.items ≡ links_of self.old.list.items }
+    {
+        let stream = self.list[k];
+        if let Some(parent) = stream.links.parent {
+            self.note(parent, stream.handed());
         }
+        self.list[k].is_open = false;
+    }
+
+    // Closes the open contents inside a stream.
+    #[cycle(close)]
+    pub fn close_contents(&mut self, k: usize)
+        requires { k < length (state_of self.old) }
+        ensures after { state_of self.new ≡ closed_inside k (state_of self.old) }
+        ensures links { links_of self.new.list.items ≡ links_of self.old.list.items }
+    {
+        let mut next = self.list[k].links.first;
+        while let Some(i) = next {
+            let stream = self.list[i];
+            if stream.is_open {
+                self.close_contents(i);
+                self.hand_up(i);
+            }
+            next = stream.links.next;
+        }
+    }
+
+    // Closes the open contents inside a stream, and then the stream.
+    pub fn close(&mut self, k: usize)
+        requires { k < length (state_of self.old) }
+        ensures { state_of self.new ≡ closed k (state_of self.old) }
+    {
+        self.close_contents(k);
+        self.hand_up(k);
     }
 }

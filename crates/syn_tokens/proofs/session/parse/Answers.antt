@@ -13,7 +13,7 @@ use Rattle.syn_tokens.proofs.session.parse.Goals as goal
 pub returns-in_default : goal.returns-in_default
 returns-in_default c =
     let s = stream_of c.args.stream in
-    let e = parse_none (state_of c.args.streams.now.items) c.args.n s c.in_default.ensures in
+    let e = parse_none (state_of c.args.streams.now) c.args.n s c.in_default.ensures in
     (ap spec.refused (ap refusal_of (c.in_ok-error.ensures {u = tt}).text ∙ refusal_of-refused (at_stream s.place s.scope_span (codes "expected identifier"))) ∙ ap (λ z. z.answer) (sym e), ap (λ z. z.state) (sym e))
 
 pub returns-then-not-accept_as_ident : goal.returns-then-not-accept_as_ident
@@ -21,7 +21,7 @@ returns-then-not-accept_as_ident c =
     let i = c.in-Some.ident.now in
     let s = stream_of c.args.stream in
     let h : accept_as_ident i.text ≡ false = ap accept_as_ident (sym c.as_str.ensures) ∙ sym c.accept_as_ident.ensures ∙ c.if-not-accept_as_ident.true in
-    let e = parse_keyword (state_of c.args.streams.now.items) c.args.n s i.text i.span (place_of c.in-Some.rest) c.in-Some.ensures h in
+    let e = parse_keyword (state_of c.args.streams.now) c.args.n s i.text i.span (place_of c.in-Some.rest) c.in-Some.ensures h in
     let words = c.as_str-then-not-accept_as_ident-2.ensures.value ∙ c.in_ok-words.ensures {u = tt} ∙ ap (λ name. codes "expected identifier, found keyword " ++ quoted name) c.as_str-then-not-accept_as_ident.ensures in (
       ap spec.refused (ap refusal_of (c.in_ok-error-2.ensures {u = tt}).text ∙ refusal_of-refused (at_stream s.place s.scope_span _) ∙ ap (at_stream s.place s.scope_span) words) ∙ ap (λ z. z.answer) (sym e),
       ap (λ z. z.state) (sym e),
@@ -31,8 +31,8 @@ pub returns : goal.returns
 returns c =
     let i = c.in-Some.ident.now in
     let h : accept_as_ident i.text ≡ true = ap accept_as_ident (sym c.as_str.ensures) ∙ sym c.accept_as_ident.ensures ∙ c.if-not-accept_as_ident.false in
-    let e = parse_some (state_of c.args.streams.now.items) c.args.n (stream_of c.args.stream) i.text i.span (place_of c.in-Some.rest) c.in-Some.ensures h in
+    let e = parse_some (state_of c.args.streams.now) c.args.n (stream_of c.args.stream) i.text i.span (place_of c.in-Some.rest) c.in-Some.ensures h in
     let one : c.push.new.self.items ≡ c.in_ok-piece.field-0 ∷ [] = search rules in (
       ap (λ ps. spec.pieces (map piece_of ps)) one ∙ ap (λ p. spec.pieces (p ∷ [])) (c.in_ok-piece.ensures {u = tt}) ∙ ap (λ z. z.answer) (sym e),
-      c.move_stream.ensures.after ∙ ap (λ z. z.state) (sym e),
+      c.move_to.ensures ∙ ap (λ z. z.state) (sym e),
     )

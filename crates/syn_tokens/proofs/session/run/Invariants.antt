@@ -5,4 +5,4 @@ use Rattle.syn_tokens.proofs.session.run.Given as goal
 
 abbrev pub invariant-loop-command : goal.invariant-loop-command
 invariant-loop-command l =
-    RunsOn l.lines.items (state_of l.streams.items) (drop l.command-index l.commands) (state_of l.fn.streams.items) l.commands
+    RunsOn l.lines.items (state_of l.streams) (drop l.command-index l.commands) (state_of l.fn.streams) l.commands

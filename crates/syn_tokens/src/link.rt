@@ -1,0 +1,19 @@
+// A new content linked to its parent.
+ghost use Rattle.std.specs.Prelude.{◌≡◌, ◌<◌, ◌++◌, ◌∷◌, [], ℕ, length};
+ghost use Rattle.syn_tokens.specs.Links.{links_of, AreLinked, IsNew};
+ghost use Rattle.syn_tokens.specs.Tracks.{state_of_list};
+
+use crate::stream::Stream;
+
+// Links the last stream, a content of `parent`, behind the contents that its parent has.
+pub fn link<'a>(list: &mut Vec<Stream<'a>>, parent: usize, number: usize)
+    requires { IsNew (links_of list.old.items) parent number }
+    ensures linked { AreLinked (links_of list.new.items) }
+    ensures state { state_of_list list.new.items ≡ state_of_list list.old.items }
+{
+    match list[parent].links.last {
+        None => list[parent].links.first = Some(number),
+        Some(last) => list[last].links.next = Some(number),
+    }
+    list[parent].links.last = Some(number);
+}
