@@ -1,7 +1,10 @@
 pub mod Appended
 pub mod Closing
+pub mod CommandLines
+pub mod Lines
 pub mod Linked
 pub mod Parses
 pub mod Refusals
 pub mod Runs
 pub mod Tracks
+pub mod WordCuts

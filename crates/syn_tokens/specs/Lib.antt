@@ -1,5 +1,10 @@
+pub mod CommandText
 pub mod Commands
+pub mod Faults
+pub mod Input
 pub mod Links
+pub mod Printed
+pub mod Program
 pub mod Seen
 pub mod State
 pub mod Step

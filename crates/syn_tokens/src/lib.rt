@@ -2,7 +2,12 @@
 #![tactic(auto)]
 
 mod command;
+mod command_text;
+mod fault;
+mod input;
 mod link;
+mod print;
+mod program;
 mod report;
 mod session;
 mod stream;
@@ -10,5 +15,6 @@ mod streams;
 mod words;
 
 pub use command::{Command, Kind};
+pub use program::serve;
 pub use report::{Answer, Line, Piece, Position, Report, Verdict};
 pub use session::replay;

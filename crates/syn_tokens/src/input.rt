@@ -1,0 +1,86 @@
+// The program's input.
+ghost use Rattle.std.specs.Prelude.{◌≡◌, ◌∷◌, [], ◌++◌, List, ℕ, OnOk, IfOk, IfSome, Some, None, MatchOption};
+ghost use Rattle.std.specs.List.{slice_split};
+ghost use Rattle.std.specs.Str.{IsUtf8};
+ghost use Rattle.syn_tokens.specs.Input as spec;
+ghost use Rattle.syn_tokens.specs.Printed.{ended};
+
+use std::alloc::Global;
+use std::io::Read;
+
+// Why an input could not be read.
+#[derive(Drop)]
+pub enum ReadFault {
+    // A read failed, or the input had no end.
+    Failed,
+    Memory,
+}
+
+// All that a reader gives, in at most 4,294,967,295 reads.
+pub fn read_input<R: Read>(alloc: Global, input: &mut R) -> Result<Vec<u8>, ReadFault>
+    ensures { IfSome (R.remaining input.old) (λ bytes. IfOk result (λ v. v.items ≡ bytes)) }
+{
+    let mut bytes = Vec::new(alloc);
+    let mut chunk = [0u8; 4096];
+    for _i in 0..u32::MAX {
+        match input.read(&mut chunk) {
+            Ok(0) => return Ok(bytes),
+            Ok(n) => {
+                if bytes.extend_from_slice(&chunk[..n]).is_err() {
+                    return Err(ReadFault::Memory);
+                }
+            }
+            Err(_) => return Err(ReadFault::Failed),
+        }
+    }
+    Err(ReadFault::Failed)
+}
+
+// The one text of an input, and what stands behind the line that ends it. There is none where no line ends a text, or
+// two do.
+pub fn parts(input: &str) -> Option<(&str, Option<&str>)>
+    ensures parts { MatchOption result
+        (spec.parts_of input.now ≡ None)
+        (λ p. spec.parts_of input.now ≡ Some (p.0.now, spec.lines_left p.1)) }
+    ensures utf8 { IfSome result (λ p. IsUtf8 p.0.now × IfSome p.1 (λ rest. IsUtf8 rest.now)) }
+{
+    let (text, rest) = cut(input)?;
+    let Some(lines) = rest else {
+        return Some((text, None));
+    };
+    match cut(lines) {
+        Some(_) => None,
+        None => Some((text, rest)),
+    }
+}
+
+// What stands before the first line that ends a text, and what stands behind that line.
+fn cut(input: &str) -> Option<(&str, Option<&str>)>
+    ensures parts { MatchOption result
+        (slice_split spec.is_cut (spec.lines input.now) ≡ spec.lines input.now ∷ [])
+        (λ p. (before : List (List ℕ)) × (p.0.now ≡ spec.text_of before)
+        × (slice_split spec.is_cut (spec.lines input.now) ≡ before ∷ slice_split spec.is_cut (spec.lines_left p.1))) }
+    ensures utf8 { IfSome result (λ p. IsUtf8 p.0.now × IfSome p.1 (λ rest. IsUtf8 rest.now)) }
+{
+    let mut left = Some(input);
+    while let Some(rest) = left {
+        let (line, behind) = first_line(rest);
+        if line == "---" {
+            return Some((&input[..input.len() - rest.len()], behind));
+        }
+        left = behind;
+    }
+    None
+}
+
+// The first line of what is left, and what is left behind its line feed.
+pub fn first_line(rest: &str) -> (&str, Option<&str>)
+    ensures lines { spec.lines rest.now ≡ result.0.now ∷ spec.lines_left result.1 }
+    ensures joined { IfSome result.1 (λ behind. rest.now ≡ ended result.0.now ++ behind.now) }
+    ensures utf8 { IsUtf8 result.0.now × IfSome result.1 (λ behind. IsUtf8 behind.now) }
+{
+    match rest.split_once('\n') {
+        Some((line, behind)) => (line, Some(behind)),
+        None => (rest, None),
+    }
+}

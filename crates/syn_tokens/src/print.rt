@@ -1,0 +1,126 @@
+// The printed text of a report.
+ghost use Rattle.std.specs.Prelude.{◌≡◌, ◌++◌, Some, codes, map};
+ghost use Rattle.std.specs.Fmt.{WritesOnOk};
+ghost use Rattle.std.specs.List.{flat_map};
+ghost use Rattle.tok_core.specs.Text as text;
+ghost use Rattle.syn_tokens.specs.Printed as spec;
+ghost use Rattle.syn_tokens.specs.Seen.{piece_of, refusal_of, answer_of, position_of, line_of, verdict_of, report_of};
+
+use crate::report::{Answer, Line, Piece, Position, Report, Verdict};
+use std::fmt;
+use std::fmt::{Formatter, Write};
+use tok_buffer::Error;
+use tok_core::{Delimiter, Span};
+
+impl fmt::Display for Report {
+    ghost output = { λ r. Some (spec.report_text (report_of r)) };
+
+    fn fmt<W: Write>(&self, f: &mut Formatter<W>) -> fmt::Result {
+        for line in &self.lines {
+            writeln!(f, "{line}")?;
+        }
+        writeln!(f, "{}", self.verdict)
+    }
+}
+
+impl fmt::Display for Line {
+    ghost output = { λ l. Some (spec.line_text (line_of l)) };
+
+    fn fmt<W: Write>(&self, f: &mut Formatter<W>) -> fmt::Result {
+        write!(f, "{} {}", self.answer, self.position)
+    }
+}
+
+impl fmt::Display for Answer {
+    ghost output = { λ a. Some (spec.answer_text (answer_of a)) };
+
+    fn fmt<W: Write>(&self, f: &mut Formatter<W>) -> fmt::Result {
+        match self {
+            Answer::Truth(true) => f.write_str("true"),
+            Answer::Truth(false) => f.write_str("false"),
+            Answer::Read(pieces) => write_pieces(f, pieces),
+            Answer::Entered(number, delimiter, span) => {
+                write!(f, "entered {number} {} ", opening(*delimiter))?;
+                write_span(f, span.join())
+            }
+            Answer::Done => f.write_str("done"),
+            Answer::Refused(error) => write_refusal(f, error),
+            Answer::Unfit(number) => write!(f, "refused C{number}"),
+        }
+    }
+}
+
+impl fmt::Display for Position {
+    ghost output = { λ p. Some (spec.position_text (position_of p)) };
+
+    fn fmt<W: Write>(&self, f: &mut Formatter<W>) -> fmt::Result {
+        match self {
+            Position::At(n) => write!(f, "@{n}"),
+            Position::Empty => f.write_str("@empty"),
+            Position::Missing => f.write_str("@-"),
+        }
+    }
+}
+
+impl fmt::Display for Verdict {
+    ghost output = { λ v. Some (spec.verdict_text (verdict_of v)) };
+
+    fn fmt<W: Write>(&self, f: &mut Formatter<W>) -> fmt::Result {
+        match self {
+            Verdict::Accepted => f.write_str("accepted"),
+            Verdict::Refused(error) => write_refusal(f, error),
+        }
+    }
+}
+
+fn write_pieces<W: Write>(f: &mut Formatter<W>, pieces: &Vec<Piece>) -> fmt::Result
+    ensures { WritesOnOk W.write_str_gives f.old result (codes "read" ++ flat_map spec.piece_text (map piece_of pieces.now.items)) f.new }
+{
+    f.write_str("read")?;
+    for piece in pieces {
+        write_behind(f, piece.text.as_str())?;
+        f.write_char(' ')?;
+        write_span(f, piece.span)?;
+    }
+    Ok(())
+}
+
+// `refused`, the span and the words.
+fn write_refusal<W: Write>(f: &mut Formatter<W>, error: &Error) -> fmt::Result
+    ensures { WritesOnOk W.write_str_gives f.old result (spec.refusal_text (refusal_of error.now)) f.new }
+{
+    f.write_str("refused ")?;
+    write_span(f, error.span())?;
+    write!(f, " {error}")
+}
+
+fn write_span<W: Write>(f: &mut Formatter<W>, span: Span) -> fmt::Result
+    ensures { WritesOnOk W.write_str_gives f.old result (spec.span_text span) f.new }
+{
+    match span.as_range() {
+        None => f.write_str("call"),
+        Some((_, start, end)) => write!(f, "{start}..{end}"),
+    }
+}
+
+// A part behind others: a space parts it from them, and an empty part adds none.
+fn write_behind<W: Write>(f: &mut Formatter<W>, part: &str) -> fmt::Result
+    ensures { WritesOnOk W.write_str_gives f.old result (spec.behind part.now) f.new }
+{
+    if part.is_empty() {
+        Ok(())
+    } else {
+        write!(f, " {part}")
+    }
+}
+
+fn opening(delimiter: Delimiter) -> &'static str
+    ensures { result.now ≡ text.opening delimiter }
+{
+    match delimiter {
+        Delimiter::Parenthesis => "(",
+        Delimiter::Brace => "{",
+        Delimiter::Bracket => "[",
+        Delimiter::None => "«",
+    }
+}

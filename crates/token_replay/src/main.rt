@@ -1,0 +1,11 @@
+// Reads a marked text and commands from standard input, and prints what replaying them answers.
+#![tactic(auto)]
+
+use std::process::ExitCode;
+use syn_tokens::serve;
+
+fn main(rt: HostRuntime) -> ExitCode {
+    let mut input = rt.stdin();
+    let mut output = rt.stdout();
+    ExitCode::from(serve(rt.alloc(), &mut input, &mut output))
+}
