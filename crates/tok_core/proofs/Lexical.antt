@@ -3,9 +3,11 @@ pub mod Takes
 pub mod Texts
 pub mod Escapes
 pub mod Units
-pub mod Digits
+pub mod Numbers
+pub mod Codes
+pub mod Prefixes
+pub mod Words
 pub mod Comments
-pub mod Missing
 pub mod Quoting
 pub mod First
 pub mod Flat

@@ -12,4 +12,5 @@ pub mod Following
 pub mod Items
 pub mod Meaning
 pub mod Reading
+pub mod Laws
 pub mod Built

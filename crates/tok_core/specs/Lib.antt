@@ -5,6 +5,7 @@ pub mod Erase
 pub mod Filled
 pub mod Forest
 pub mod Lexical
+pub mod Pending
 pub mod Seen
 pub mod Spanless
 pub mod Spans

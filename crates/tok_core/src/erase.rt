@@ -1,14 +1,22 @@
 // Streams and their invisible groups.
-ghost use Rattle.std.specs.Prelude.{◌≡◌, false};
+ghost use Rattle.std.specs.Prelude.{◌≡◌, ◌≤◌, ◌+◌, ◌↔◌, false, IsTrue, IfOk, IfSome, MatchOption};
 ghost use Rattle.tok_core.specs.Clear.{clear, tree_clear, ends_joint, is_joint_apostrophe, is_invisible};
 ghost use Rattle.tok_core.specs.Erase.{erase};
 ghost use Rattle.tok_core.specs.Filled.{filled, has_trees};
-ghost use Rattle.tok_core.specs.Forest.{no_trees, tree};
-ghost use Rattle.tok_core.specs.Seen.{tree_of};
+ghost use Rattle.tok_core.specs.Forest.{no_trees, tree, joined, tree_delimiter};
+ghost use Rattle.tok_core.specs.Seen.{group_of, tree_of, ident_of, literal_of, punct_of};
 
-use crate::group::Delimiter;
-use crate::punct::Spacing;
+ghost use Rattle.tok_core.specs.Spans.{tree_span};
+ghost use Rattle.tok_core.specs.Weight.{tree_weight};
+ghost use Rattle.tok_core.specs.Pending.{pending, pending_weight, IsVisible, invisible};
+ghost use Rattle.tok_core.specs.declared.span.Span.{Span};
+
+use crate::group::{Delimiter, Group};
+use crate::ident::Ident;
+use crate::literal::Literal;
+use crate::punct::{Punct, Spacing};
 use crate::stream::{TokenStream, TokenTree};
+use std::alloc::{AllocError, Global};
 
 /// Whether each invisible group of a stream, at any depth, holds a visible tree.
 #[cycle(filled)]
@@ -124,5 +132,132 @@ fn is_invisible(next: &TokenTree) -> bool
             _ => false,
         },
         _ => false,
+    }
+}
+
+/// Whether two streams are equal, spans included, but for their invisible groups. It compares the visible trees one by
+/// one and builds neither stream anew: the memory that it takes is a list entry for each invisible group around the
+/// trees at hand.
+#[cycle(same)]
+pub fn same_visible(
+    alloc: Global,
+    left: &TokenStream,
+    right: &TokenStream,
+) -> Result<bool, AllocError>
+    ensures { IfOk result (λ same. IsTrue same ↔ (erase left.now ≡ erase right.now)) }
+{
+    let mut ours = Vec::new(alloc);
+    let mut theirs = Vec::new(alloc);
+    ours.push(left.trees())?;
+    theirs.push(right.trees())?;
+    loop {
+        match (next_visible(&mut ours)?, next_visible(&mut theirs)?) {
+            (None, None) => return Ok(true),
+            (Some(one), Some(other)) => {
+                if !same_tree(alloc, one, other)? {
+                    return Ok(false);
+                }
+            }
+            _ => return Ok(false),
+        }
+    }
+}
+
+// Whether two visible trees are equal, but for the invisible groups inside.
+#[cycle(same)]
+fn same_tree(alloc: Global, left: &TokenTree, right: &TokenTree) -> Result<bool, AllocError>
+    requires left_visible { IsVisible (tree_of left.now) }
+    requires right_visible { IsVisible (tree_of right.now) }
+    ensures { IfOk result (λ same. IsTrue same ↔ (erase (tree (tree_of left.now) no_trees) ≡ erase (tree (tree_of right.now) no_trees))) }
+{
+    match left {
+        TokenTree::Group(left) => match right {
+            TokenTree::Group(right) => {
+                if same_edges(left, right) {
+                    same_visible(alloc, left.stream(), right.stream())
+                } else {
+                    Ok(false)
+                }
+            }
+            _ => Ok(false),
+        },
+        TokenTree::Ident(left) => match right {
+            TokenTree::Ident(right) => Ok(same_ident(left, right)),
+            _ => Ok(false),
+        },
+        TokenTree::Punct(left) => match right {
+            TokenTree::Punct(right) => Ok(same_punct(*left, *right)),
+            _ => Ok(false),
+        },
+        TokenTree::Literal(left) => match right {
+            TokenTree::Literal(right) => Ok(same_literal(left, right)),
+            _ => Ok(false),
+        },
+    }
+}
+
+// Whether two groups have one delimiter and one span.
+fn same_edges(left: &Group, right: &Group) -> bool
+    ensures { IsTrue result ↔ ((tree_delimiter (group_of left.now) ≡ tree_delimiter (group_of right.now)) × (tree_span (group_of left.now) ≡ tree_span (group_of right.now))) }
+{
+    (left.delimiter() == right.delimiter()) & (left.span() == right.span())
+}
+
+fn same_ident(left: &Ident, right: &Ident) -> bool
+    ensures { IsTrue result ↔ (ident_of left.now ≡ ident_of right.now) }
+{
+    (left.as_str() == right.as_str()) & (left.span() == right.span())
+}
+
+fn same_literal(left: &Literal, right: &Literal) -> bool
+    ensures { IsTrue result ↔ (literal_of left.now ≡ literal_of right.now) }
+{
+    (left.as_str() == right.as_str()) & (left.span() == right.span())
+}
+
+fn same_punct(left: Punct, right: Punct) -> bool
+    ensures { IsTrue result ↔ (punct_of left ≡ punct_of right) }
+{
+    (left.as_char() == right.as_char())
+        & (left.spacing() == right.spacing())
+        & (left.span() == right.span())
+}
+
+// Takes the next visible tree. On top of the stack lie the trees that come first; those of an invisible group come
+// before what follows it.
+fn next_visible<'a>(
+    stack: &mut Vec<&'a [TokenTree]>,
+) -> Result<Option<&'a TokenTree>, AllocError>
+    ensures erased { IfOk result (λ next. MatchOption next
+        (pending stack.old.items ≡ no_trees)
+        (λ t. pending stack.old.items ≡ joined (erase (tree (tree_of t.now) no_trees)) (pending stack.new.items))) }
+    ensures visible { IfOk result (λ next. IfSome next (λ t. IsVisible (tree_of t.now))) }
+    ensures smaller { IfOk result (λ next. IfSome next (λ t. tree_weight (tree_of t.now) + pending_weight stack.new.items ≤ pending_weight stack.old.items)) }
+{
+    while let Some(trees) = stack.pop() {
+        let Some((first, rest)) = trees.split_first() else {
+            continue;
+        };
+        stack.push(rest)?;
+        match invisible_content(first) {
+            Some(content) => stack.push(content.trees())?,
+            None => return Ok(Some(first)),
+        }
+    }
+    Ok(None)
+}
+
+// What stands in an invisible group.
+fn invisible_content(next: &TokenTree) -> Option<&TokenStream>
+    ensures { MatchOption result
+        (IsVisible (tree_of next.now))
+        (λ inside. (span : Span) × (tree_of next.now ≡ invisible inside.now span)) }
+{
+    match next {
+        TokenTree::Group(group) => match group.delimiter() {
+            Delimiter::None => Some(group.stream()),
+            _ => None,
+        },
+        _ => None,
     }
 }

@@ -19,6 +19,8 @@ mod numbers;
 mod prefixes;
 mod rule;
 mod strings;
+#[cfg(test)]
+mod tests;
 mod text;
 mod words;
 
@@ -33,6 +35,10 @@ use text::front_of;
 pub(crate) use words::{has_no_raw, is_identifier};
 
 // The forest of a text by these rules, of which the last takes any character.
+//
+// One piece after the other is taken off the front, so the time is linear in the text: a piece is looked at a fixed number of
+// times. A rule that looks far and then doesn't fit is followed by a refusal, as an unclosed comment or string is; or what
+// it looks at is a run that no later piece goes over again: the `#` behind an `r`, the marks behind a punct.
 fn read(alloc: Global, source: u32, rules: &[Rule], text: &str) -> Result<TokenStream, LexFault>
     requires all { EndsInOther rules.now }
     ensures reads { IfOk result (λ stream. Reads rules.now source (chars text.now) stream) }

@@ -5,8 +5,11 @@
 mod erase;
 mod group;
 mod ident;
+pub mod laws;
 mod lexer;
 mod literal;
+#[cfg(test)]
+mod makers;
 mod print;
 mod punct;
 mod span;
@@ -15,7 +18,7 @@ mod text;
 mod to_tokens;
 mod tt;
 
-pub use erase::{is_clear, is_filled};
+pub use erase::{is_clear, is_filled, same_visible};
 pub use group::{Delimiter, Group};
 pub use ident::{Ident, MakeFault};
 pub use lexer::{LexError, LexFault, lex, lex_marked};

@@ -1,4 +1,4 @@
--- What follows a piece.
+-- What follows a piece: whether a punct is joint (Rust Reference: Procedural macros, on the spacing of punctuation).
 use Rattle.std.specs.Prelude.{ℕ, List, [], ◌∷◌, Bool, false, not, ◌||◌, ◌&&◌, ◌==◌, if◌then◌else◌}
 use Rattle.tok_core.specs.Lexical.Characters.{is_punct_or_apostrophe}
 use Rattle.tok_core.specs.Lexical.Words.{is_identifier_start}

@@ -1,4 +1,4 @@
--- The spellings of integers.
+-- The spellings of integers (Rust Reference: Tokens, Integer literals).
 use Rattle.std.specs.Prelude.{◌≡◌, ℕ, List, [], ◌∷◌, ◌++◌, Bool, true, false, ◌==◌, ◌||◌, ◌&&◌, not}
 use Rattle.std.specs.List.{list_all, list_any}
 use Rattle.std.specs.Char.{is_digit}

@@ -1,4 +1,4 @@
--- The rules of the grammar in their order, and what each spells.
+-- The rules of the grammar in their order, and what each spells (Rust Reference: Tokens; Whitespace; Comments).
 use Rattle.std.specs.Prelude.{◌≡◌, ℕ, List, [], ◌∷◌, true, ◌==◌}
 use Rattle.tok_core.specs.Lexical.Characters.{is_whitespace, is_punct, opening_mark, closing_mark}
 use Rattle.tok_core.specs.Lexical.Words.{IsIdentifier, IsRawIdentifier, IsName}

@@ -1,4 +1,4 @@
--- The spellings of strings and characters.
+-- The spellings of strings and characters (Rust Reference: Tokens, Character and string literals, Escapes, Byte literals).
 use Rattle.std.specs.Prelude.{◌≡◌, ◌≢◌, ℕ, ◌+◌, ◌*◌, ◌≤◌, ◌⊎◌, List, [], ◌∷◌, ◌++◌, Bool, true, false, ◌==◌, ◌||◌, ◌&&◌, not, nat_lt, if◌then◌else◌, fold, count_by}
 use Rattle.std.specs.Char.{is_digit, digit_value, IsScalar}
 use Rattle.tok_core.specs.Lexical.Pieces.{IsOne, Behind, IsAll}

@@ -1,4 +1,4 @@
--- The spellings of identifiers.
+-- The spellings of identifiers (Rust Reference: Identifiers; Tokens, Suffixes and Lifetimes).
 use Rattle.std.specs.Prelude.{◌≡◌, ℕ, List, [], ◌∷◌, ◌⊎◌, Bool, true, false, ◌||◌, ◌&&◌, ◌==◌, codes}
 use Rattle.std.specs.List.{list_all}
 use Rattle.std.specs.Str.{bytes_eq}

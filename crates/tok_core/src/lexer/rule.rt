@@ -1,7 +1,7 @@
 // The rules of the grammar, in their order, and what each takes.
 ghost use Rattle.std.specs.Prelude.{◌≡◌, ℕ, ◌++◌, ◌∷◌, [], List, MatchOption, IfSome, IsTrue};
 ghost use Rattle.std.specs.Str.{chars, IsUtf8};
-ghost use Rattle.tok_core.specs.Lexical.Built.{TriesRules};
+ghost use Rattle.tok_core.specs.Lexical.Built.{TriesRules, may_begin};
 ghost use Rattle.tok_core.specs.Lexical.Meaning.{is_group_mark, width};
 ghost use Rattle.tok_core.specs.Lexical.Pieces.{Tries};
 ghost use Rattle.tok_core.specs.Lexical.Rules.{Spells};
@@ -168,6 +168,34 @@ impl Rule {
         }
     }
 
+    /// Whether a piece of this rule may begin with this character.
+    fn may_begin(self, first: char) -> bool
+        ensures { result ≡ may_begin self first }
+    {
+        match self {
+            Rule::ByteOrderMark => first == '\u{FEFF}',
+            Rule::LineComment => first == '/',
+            Rule::BlockComment => first == '/',
+            Rule::OpenComment => first == '/',
+            Rule::Opening(delimiter) => first == opening_mark(delimiter),
+            Rule::Closing(delimiter) => first == closing_mark(delimiter),
+            Rule::QuotedString => first == '"',
+            Rule::BadString => first == '"',
+            Rule::ByteChar => first == 'b',
+            Rule::BadByteChar => first == 'b',
+            Rule::EscapedChar => first == '\'',
+            Rule::BadEscapedChar => first == '\'',
+            Rule::PlainChar => first == '\'',
+            Rule::Lifetime => first == '\'',
+            Rule::Apostrophe => first == '\'',
+            Rule::MarkedApostrophe => first == '\'',
+            Rule::Based(_) => first == '0',
+            Rule::BadBased(_) => first == '0',
+            Rule::RawIdentifier => first == 'r',
+            _ => true,
+        }
+    }
+
     fn is_group_mark(self) -> bool
         ensures { result ≡ is_group_mark self }
     {
@@ -191,7 +219,14 @@ pub fn first_rule<'a>(rules: &[Rule], text: &'a str) -> Option<(Rule, &'a str)>
     ensures tries { TriesRules rules.now (chars text.now) result }
     ensures utf8 { IfSome result (λ found. IsUtf8 found.1.now) }
 {
+    let Some((first, _)) = next_char(text) else {
+        return None;
+    };
     for rule in rules {
+        // The first character rules most of them out, without a second look at the text.
+        if !rule.may_begin(first) {
+            continue;
+        }
         if let Some(rest) = rule.past(text) {
             return Some((*rule, rest));
         }

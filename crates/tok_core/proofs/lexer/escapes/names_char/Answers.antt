@@ -1,4 +1,4 @@
-use Rattle.tok_core.proofs.Lexical.Digits.{counts_digit, counts_other, too_many, too_large, hex_from, hex_not}
+use Rattle.tok_core.proofs.Lexical.Codes.{counts_digit, counts_other, too_many, too_large, hex_from, hex_not}
 use Rattle.tok_core.proofs.lexer.escapes.names_char.Goals as goal
 
 pub returns-then-count-eq6 : goal.returns-then-count-eq6

@@ -1,6 +1,6 @@
 use Rattle.std.proofs.Common.{◌∙◌, ◌∷◌, sym, subst}
 use Rattle.tok_core.specs.Lexical.Strings.{NamesChar}
-use Rattle.tok_core.proofs.Lexical.Digits.{code_open, code_found, code_unnamed, code_front}
+use Rattle.tok_core.proofs.Lexical.Codes.{code_open, code_found, code_unnamed, code_front}
 use Rattle.tok_core.proofs.lexer.escapes.past_code.Goals as goal
 
 pub returns-in_default-past_char-clause-finds : goal.returns-in_default-past_char-clause-finds

@@ -1,4 +1,4 @@
-use Rattle.tok_core.proofs.Lexical.Digits.{line_found, long_line_finds}
+use Rattle.tok_core.proofs.Lexical.Codes.{line_found, long_line_finds}
 use Rattle.tok_core.proofs.lexer.escapes.past_line_end.Goals as goal
 
 pub returns-in-Some-clause-finds : goal.returns-in-Some-clause-finds

@@ -1,4 +1,4 @@
-use Rattle.tok_core.proofs.Lexical.Digits.{based_tries}
+use Rattle.tok_core.proofs.Lexical.Numbers.{based_tries}
 use Rattle.tok_core.proofs.lexer.numbers.past_based.Goals as goal
 
 pub returns-clause-tries : goal.returns-clause-tries

@@ -1,6 +1,6 @@
 use Rattle.std.proofs.Common.{◌∙◌, sym}
 use Rattle.tok_core.specs.Lexical.Numbers.{starts_digit}
-use Rattle.tok_core.proofs.Lexical.Digits.{takes_number, none_decimal, digits_start}
+use Rattle.tok_core.proofs.Lexical.Numbers.{takes_number, none_decimal, digits_start}
 use Rattle.tok_core.proofs.lexer.numbers.past_decimal.Goals as goal
 
 pub returns-then-not-starts_digit-clause-tries : goal.returns-then-not-starts_digit-clause-tries

@@ -1,5 +1,5 @@
 use Rattle.std.proofs.Common.{◌∙◌, sym}
-use Rattle.tok_core.proofs.Lexical.Digits.{digits_more}
+use Rattle.tok_core.proofs.Lexical.Numbers.{digits_more}
 use Rattle.tok_core.proofs.lexer.numbers.past_digits.Goals as goal
 
 pub loop-c-preserved : goal.loop-c-preserved

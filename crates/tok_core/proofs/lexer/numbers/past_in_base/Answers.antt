@@ -1,6 +1,6 @@
 use Rattle.std.proofs.Common.{◌∙◌, sym}
 use Rattle.tok_core.specs.Lexical.Numbers.{has_digit}
-use Rattle.tok_core.proofs.Lexical.Digits.{takes_number, none_number, digit_grows}
+use Rattle.tok_core.proofs.Lexical.Numbers.{takes_number, none_number, digit_grows}
 use Rattle.tok_core.proofs.lexer.numbers.past_in_base.Goals as goal
 
 pub returns-then-found-clause-tries : goal.returns-then-found-clause-tries

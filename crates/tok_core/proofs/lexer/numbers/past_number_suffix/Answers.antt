@@ -1,5 +1,5 @@
 use Rattle.std.proofs.Common.{◌∙◌, sym, []}
-use Rattle.tok_core.proofs.Lexical.Digits.{takes_no_suffix, no_suffix_start, no_suffix_word}
+use Rattle.tok_core.proofs.Lexical.Numbers.{takes_no_suffix, no_suffix_start, no_suffix_word}
 use Rattle.tok_core.proofs.lexer.numbers.past_number_suffix.Goals as goal
 
 pub returns-then-not-starts_number_suffix : goal.returns-then-not-starts_number_suffix

@@ -1,4 +1,4 @@
-use Rattle.tok_core.proofs.Lexical.Digits.{finds_hashes}
+use Rattle.tok_core.proofs.Lexical.Prefixes.{finds_hashes}
 use Rattle.tok_core.proofs.lexer.prefixes.past_hashes.Goals as goal
 
 pub returns-clause-finds : goal.returns-clause-finds

@@ -1,5 +1,5 @@
 use Rattle.std.proofs.Common.{◌∙◌}
-use Rattle.tok_core.proofs.Lexical.Missing.{no_raw_chars}
+use Rattle.tok_core.proofs.Lexical.Words.{no_raw_chars}
 use Rattle.tok_core.proofs.lexer.words.has_no_raw.Goals as goal
 
 pub returns : goal.returns

@@ -1,4 +1,4 @@
-use Rattle.tok_core.proofs.Lexical.Missing.{whole_identifier}
+use Rattle.tok_core.proofs.Lexical.Words.{whole_identifier}
 use Rattle.tok_core.proofs.lexer.words.is_identifier.Goals as goal
 
 pub returns-in-Some : goal.returns-in-Some

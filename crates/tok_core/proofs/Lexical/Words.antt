@@ -1,17 +1,54 @@
--- A text of ASCII characters, compared by bytes or by characters.
-use Rattle.std.proofs.Common.{◌≡◌, ◌∙◌, arith, inl, inr, ◌++◌, subst, ℕ, zero, suc, ◌<◌, List, [], ◌∷◌, refl, sym, ap, true, false, Bool}
-use Rattle.std.specs.Prelude.{◌||◌, ◌==◌, length, MatchBool, codes, nat_lt, slice_index}
+-- Identifiers, plain and raw.
+use Rattle.std.proofs.Common.{◌≡◌, ◌∙◌, ℕ, ◌<◌, inl, inr, List, [], ◌∷◌, ◌++◌, refl, sym, ap, subst, arith, append_assoc, true, false, Bool, zero, suc}
+use Rattle.std.specs.Prelude.{◌==◌, ◌||◌, Option, Some, None, length, MatchBool, codes, nat_lt, slice_index, encode_utf8_all}
 use Rattle.std.specs.List.{list_all}
 use Rattle.std.specs.Str.{chars, IsUtf8, bytes_eq}
+use Rattle.std.specs.Borrow.{Bor}
+use Rattle.std.proofs.lemmas.List.{append-nil}
+use Rattle.std.proofs.lemmas.Bool.{false≢true, ne_eqb, ltb-true, cases_eq}
+use Rattle.unicode_ident.specs.Ident.{is_xid_continue}
+use Rattle.unicode_ident.proofs.IdentLemmas.{is_xid_continue-ascii}
+use Rattle.tok_core.specs.Lexical.Pieces.{Takes, Fits, Tries}
+use Rattle.tok_core.specs.Lexical.Words.{IsIdentifier, IsRawIdentifier, IsName, has_no_raw, is_missing}
+use Rattle.tok_core.proofs.Lexical.Numbers.{head_passes, tail_passes, not_true}
 use Rattle.std.proofs.lemmas.Str.{encodes-chars, encodes-IsAscii, chars-IsAscii, chars-nil}
 use Rattle.std.proofs.lemmas.Str.Ascii.{IsAscii-nil}
 use Rattle.std.proofs.lemmas.Slice.Eq.{bytes_eq-Decides}
-use Rattle.std.proofs.lemmas.Bool.{ltb-true, false≢true, cases_eq, ne_eqb}
-use Rattle.std.specs.Prelude.{encode_utf8_all}
-use Rattle.tok_core.specs.Lexical.Words.{IsIdentifier, has_no_raw, is_missing}
-use Rattle.tok_core.specs.Lexical.Pieces.{Takes}
-use Rattle.std.proofs.lemmas.List.{append-nil}
-use Rattle.tok_core.proofs.Lexical.Digits.{head_passes, tail_passes, not_true}
+
+-- identifiers, plain or raw
+word_head : (name : List ℕ) → IsRawIdentifier name → (more : List ℕ) × (name ≡ 114 ∷ 35 ∷ more)
+word_head name (more, e, (last, f, w)) = (last, e ∙ ap (λ v. 114 ∷ v) f)
+
+pub name_plain : (text : List ℕ) (answer : Option (Bor (List ℕ))) → (Fits IsRawIdentifier text → ⊥) → Tries IsIdentifier text answer → Tries IsName text answer
+name_plain text None raw misses = λ (piece, after, cut, h). elim h [ inl w ↦ misses (piece, after, cut, w) | inr r ↦ raw (piece, after, cut, r) ]
+name_plain text (Some rest) raw (piece, t) = (
+  piece,
+  record {
+    cut = t.cut;
+    spelled = inl t.spelled;
+    longest = λ more after e h. elim h [
+      | inl w ↦ t.longest more after e w
+      | inr r ↦ absurd (raw (piece ++ more, after, t.cut ∙ ap (λ w. piece ++ w) e ∙ sym (append_assoc piece more after), r))
+    ];
+  },
+)
+
+-- a word has no number sign
+raw_no_word : (name more : List ℕ) → IsRawIdentifier name → IsIdentifier (name ++ more) → ⊥
+raw_no_word name more r w =
+    let h = word_head name r in
+    let v : IsIdentifier (114 ∷ 35 ∷ (h.0 ++ more)) = subst (λ u. IsIdentifier (u ++ more)) h.1 w in
+    false≢true (sym (is_xid_continue-ascii 35 (omega arith)) ∙ head_passes is_xid_continue 35 (h.0 ++ more) v.1)
+
+pub name_raw : (text rest piece : List ℕ) → Takes IsRawIdentifier text piece rest → Takes IsName text piece rest
+name_raw text rest piece t = record {
+  cut = t.cut;
+  spelled = inr t.spelled;
+  longest = λ more after e h. elim h [
+    | inl w ↦ absurd (raw_no_word piece more t.spelled w)
+    | inr r ↦ t.longest more after e r
+  ];
+}
 
 ascii_at : (t : List ℕ) (i : ℕ) → list_all (λ c. nat_lt c 128) t ≡ true → slice_index t i < 128
 ascii_at [] i h = IsAscii-nil i

@@ -1,0 +1,43 @@
+-- Erasures compared tree by tree.
+use Rattle.std.proofs.Common.{◌≡◌, ◌∙◌, sym, ap, refl, ℕ, ◌+◌, ◌≤◌, ◌<◌, Bool, Result, Ok, Err, arith}
+use Rattle.std.specs.declared.alloc.AllocError.{AllocError}
+use Rattle.std.specs.Prelude.{IfOk}
+use Rattle.tok_core.specs.declared.group.Delimiter.{Delimiter}
+use Rattle.tok_core.specs.declared.group.Delimiter.TheVariants.{Parenthesis, Brace, Bracket, None}
+use Rattle.tok_core.specs.declared.span.Span.{Span}
+use Rattle.tok_core.specs.Erase.{erase}
+use Rattle.tok_core.specs.Forest.{Tree, leaf, group, Forest, no_trees, tree, joined}
+use Rattle.tok_core.specs.Pending.{IsVisible}
+use Rattle.tok_core.specs.Weight.{tree_weight}
+
+-- the first two are equal exactly where the others are
+pub record SameAs (p q f g : Forest) : Type 0 where
+  pub onto : p ≡ q → f ≡ g
+  pub back : f ≡ g → p ≡ q
+
+-- two groups with equal edges, which are visible, are equal where their contents are
+erased_group : (d : Delimiter) (f : Forest) (s : Span) → IsVisible (group d f s) → erase (tree (group d f s) no_trees) ≡ tree (group d (erase f) s) no_trees
+erased_group Parenthesis f s v = refl
+erased_group Brace f s v = refl
+erased_group Bracket f s v = refl
+erased_group None f s v = absurd v
+
+content_same : (d e : Delimiter) (f g : Forest) (s r : Span) → tree (group d f s) no_trees ≡ tree (group e g r) no_trees → f ≡ g
+content_same d e f g s r h = cc
+
+edges_same : (d e : Delimiter) (f g : Forest) (s r : Span) → tree (group d f s) no_trees ≡ tree (group e g r) no_trees → (d ≡ e) × (s ≡ r)
+edges_same d e f g s r h = (cc, cc)
+
+module _ (d e : Delimiter) (f g : Forest) (s r : Span) (seen_d : IsVisible (group d f s)) (seen_e : IsVisible (group e g r)) where
+  pub group_edges : erase (tree (group d f s) no_trees) ≡ erase (tree (group e g r) no_trees) → (d ≡ e) × (s ≡ r)
+  group_edges h = edges_same d e (erase f) (erase g) s r (sym (erased_group d f s seen_d) ∙ h ∙ erased_group e g r seen_e)
+
+  pub group_content : erase (tree (group d f s) no_trees) ≡ erase (tree (group e g r) no_trees) → erase f ≡ erase g
+  group_content h = content_same d e (erase f) (erase g) s r (sym (erased_group d f s seen_d) ∙ h ∙ erased_group e g r seen_e)
+
+  pub group_same : d ≡ e → s ≡ r → erase f ≡ erase g → erase (tree (group d f s) no_trees) ≡ erase (tree (group e g r) no_trees)
+  group_same a b h = erased_group d f s seen_d ∙ ap (λ x. tree (group x (erase f) s) no_trees) a ∙ ap (λ x. tree (group e x s) no_trees) h ∙ ap (λ x. tree (group e (erase g) x) no_trees) b ∙ sym (erased_group e g r seen_e)
+
+pub answered : {P Q : Bool → Type 0} (r : Result Bool AllocError) → ((b : Bool) → P b → Q b) → IfOk r P → IfOk r Q
+answered (Ok b) h p = h b p
+answered (Err x) h p = p
