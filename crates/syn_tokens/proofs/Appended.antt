@@ -3,8 +3,8 @@ use Rattle.std.proofs.Common.{◌≡◌, ◌≢◌, ℕ, zero, suc, ◌+◌, ◌
 use Rattle.std.proofs.Math.Seq.{get_or-append_seam}
 use Rattle.std.proofs.lemmas.Bool.Decides.{eqb_tells}
 use Rattle.std.proofs.lemmas.List.{get_or-set_same, get_or-set_other, map-set, length-map}
-use Rattle.syn_tokens.specs.Links.{links_of, no_links, content_links, links_at, AreLinked, IsNew}
-use Rattle.syn_tokens.specs.declared.stream.Links.{Links}
+use Rattle.syn_tokens.specs.Links.{links_of, no_links, unlinked, links_at, AreLinked, IsNew}
+use Rattle.syn_tokens.specs.declared.links.Links.{Links}
 use Rattle.syn_tokens.specs.declared.stream.Stream.{Stream}
 use Rattle.syn_tokens.proofs.Linked.{links_there, linked_along, content_within, last_of, IsAppended, appended_linked}
 
@@ -21,7 +21,7 @@ abbrev orphan : Links → Links
 orphan l = record l { parent = None }
 
 -- before the parent's, the links of the new content are those of no stream
-rest_same : (os : List Links) (k j : ℕ) → orphan (links_at (os ++ content_links k ∷ []) j) ≡ orphan (links_at os j)
+rest_same : (os : List Links) (k j : ℕ) → orphan (links_at (os ++ unlinked (Some k) ∷ []) j) ≡ orphan (links_at os j)
 rest_same [] k zero = refl
 rest_same [] k (suc j) = refl
 rest_same (o ∷ os) k zero = refl
@@ -42,13 +42,13 @@ record Before (ls os : List Links) (k : ℕ) : Type 0 where
   lasts : (j : ℕ) → (links_at ls j).last ≡ (links_at os j).last
   nexts : (j : ℕ) → (links_at ls j).next ≡ (links_at os j).next
 
-before_writes : (ls os : List Links) (k : ℕ) → ls ≡ os ++ content_links k ∷ [] → Before ls os k
+before_writes : (ls os : List Links) (k : ℕ) → ls ≡ os ++ unlinked (Some k) ∷ [] → Before ls os k
 before_writes ls os k e =
     let same : (j : ℕ) → orphan (links_at ls j) ≡ orphan (links_at os j) = λ j. ap (λ z. orphan (links_at z j)) e ∙ rest_same os k j in
     record {
-      len = ap length e ∙ length-append os (content_links k ∷ []);
-      parent = ap (λ z. (links_at z (length os)).parent) e ∙ ap (λ l. l.parent) (get_or-append_seam os (content_links k) [] no_links);
-      parents = λ j ne. ap (λ z. (links_at z j).parent) e ∙ ap (λ l. l.parent) (same_but_last os (content_links k) j ne);
+      len = ap length e ∙ length-append os (unlinked (Some k) ∷ []);
+      parent = ap (λ z. (links_at z (length os)).parent) e ∙ ap (λ l. l.parent) (get_or-append_seam os (unlinked (Some k)) [] no_links);
+      parents = λ j ne. ap (λ z. (links_at z j).parent) e ∙ ap (λ l. l.parent) (same_but_last os (unlinked (Some k)) j ne);
       firsts = λ j. ap (λ l. l.first) (same j);
       lasts = λ j. ap (λ l. l.last) (same j);
       nexts = λ j. ap (λ l. l.next) (same j);

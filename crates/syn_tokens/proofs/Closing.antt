@@ -5,7 +5,7 @@ use Rattle.std.specs.Prelude.{◌&&◌}
 use Rattle.syn_tokens.specs.Links.{links_of, IsContent, HasNone, IsFirstFrom, AreLinked}
 use Rattle.syn_tokens.specs.State.{State, stream_at, is_content_of, is_open_content_of, handed_up, contents_closed, closed_inside}
 use Rattle.syn_tokens.specs.Tracks.{kind_of, state_of_list}
-use Rattle.syn_tokens.specs.declared.stream.Links.{Links}
+use Rattle.syn_tokens.specs.declared.links.Links.{Links}
 use Rattle.syn_tokens.specs.declared.stream.Stream.{Stream}
 use Rattle.syn_tokens.proofs.Linked.{content_within, length-links, links_there}
 use Rattle.syn_tokens.proofs.Tracks.{stream_there, contents_taken, contents_left, contents_done, length-state}

@@ -5,7 +5,7 @@ use Rattle.std.proofs.lemmas.Bool.Decides.{eqb_tells}
 use Rattle.std.proofs.lemmas.Bool.{cases_lt}
 use Rattle.std.proofs.lemmas.List.{get_or-map, length-map}
 use Rattle.syn_tokens.specs.Links.{links_of, no_links, links_at, IsContent, HasNone, IsFirstFrom, IsLast, AreLinked}
-use Rattle.syn_tokens.specs.declared.stream.Links.{Links}
+use Rattle.syn_tokens.specs.declared.links.Links.{Links}
 use Rattle.syn_tokens.specs.declared.stream.Stream.{Stream}
 
 pub links_there : (xs : List Stream) (i : ℕ) (x : Stream) → x ≡ get_or xs i x → i < length xs → links_at (links_of xs) i ≡ x.links

@@ -1,18 +1,18 @@
 -- How the program finds the contents of a stream.
 use Rattle.std.specs.Prelude.{◌≡◌, ℕ, ◌+◌, ◌<◌, ◌≤◌, List, [], ◌∷◌, ◌++◌, length, map, Option, Some, None}
 use Rattle.std.proofs.Common.{get_or}
-use Rattle.syn_tokens.specs.declared.stream.Links.{Links}
+use Rattle.syn_tokens.specs.declared.links.Links.{Links}
 use Rattle.syn_tokens.specs.declared.stream.Stream.{Stream}
 
 abbrev pub links_of : List Stream → List Links
 links_of ss = map (λ s. s.links) ss
 
-abbrev pub no_links : Links
-no_links = record { parent = None; first = None; last = None; next = None }
+-- of a stream from which nothing was entered
+abbrev pub unlinked : Option ℕ → Links
+unlinked p = record { parent = p; first = None; last = None; next = None }
 
--- of a content that was entered from k just now
-abbrev pub content_links : ℕ → Links
-content_links k = record no_links { parent = Some k }
+abbrev pub no_links : Links
+no_links = unlinked None
 
 abbrev pub links_at : List Links → ℕ → Links
 links_at ls i = get_or ls i no_links
@@ -52,7 +52,7 @@ AreLinked ls = (i : ℕ) → i < length ls → IsLinked ls i
 -- the last stream is a content of k to which none leads so far
 pub record IsNew (ls : List Links) (k number : ℕ) : Type 0 where
   pub before : List Links
-  pub whole : ls ≡ before ++ content_links k ∷ []
+  pub whole : ls ≡ before ++ unlinked (Some k) ∷ []
   pub at : length before ≡ number
   pub linked : AreLinked before
   pub parent : k < number

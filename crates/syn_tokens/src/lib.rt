@@ -5,7 +5,7 @@ mod command;
 mod command_text;
 mod fault;
 mod input;
-mod link;
+mod links;
 mod print;
 mod program;
 mod report;

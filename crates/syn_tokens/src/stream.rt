@@ -1,23 +1,14 @@
 // One stream of a replay.
-ghost use Rattle.std.specs.Prelude.{◌≡◌};
+ghost use Rattle.std.specs.Prelude.{◌≡◌, true, None};
+ghost use Rattle.tok_buffer.specs.Cursors.{place_of};
+ghost use Rattle.syn_tokens.specs.Links.{unlinked};
 ghost use Rattle.syn_tokens.specs.Seen.{left_of};
 ghost use Rattle.syn_tokens.specs.State.{handed_note};
-ghost use Rattle.syn_tokens.specs.Tracks.{stream_of};
+ghost use Rattle.syn_tokens.specs.Tracks.{kind_of, stream_of};
 
+use crate::links::Links;
 use tok_buffer::Cursor;
 use tok_core::{Delimiter, Span};
-
-// What a stream is to others, which it names by their numbers.
-#[derive(Clone, Copy)]
-pub struct Links {
-    // The stream from which a group's content was entered.
-    pub parent: Option<usize>,
-    // The first and the last content entered from this stream.
-    pub first: Option<usize>,
-    pub last: Option<usize>,
-    // The content that was entered next from the same parent.
-    pub next: Option<usize>,
-}
 
 // A cursor in its scope.
 #[derive(Clone, Copy)]
@@ -31,6 +22,25 @@ pub struct Stream<'a> {
 }
 
 impl<'a> Stream<'a> {
+    // A content has the stream from which it is entered as its parent.
+    pub fn new(cursor: Cursor<'a>, scope_span: Span, parent: Option<usize>) -> Stream<'a>
+        ensures stream { stream_of result ≡ record { place = place_of cursor.entry; scope_span = scope_span; kind = kind_of parent; is_open = true; note = None } }
+        ensures links { result.links ≡ unlinked parent }
+    {
+        Stream {
+            cursor,
+            scope_span,
+            links: Links {
+                parent,
+                first: None,
+                last: None,
+                next: None,
+            },
+            is_open: true,
+            note: None,
+        }
+    }
+
     // What is noted, or else left over at the cursor.
     pub fn handed(self) -> Option<(Span, Delimiter)>
         ensures { left_of result ≡ handed_note (stream_of self.entry) }

@@ -2,13 +2,14 @@
 ghost use Rattle.std.specs.Prelude.{◌<◌, length};
 ghost use Rattle.syn_tokens.specs.Links.{links_of, AreLinked};
 
-use crate::link::link;
-use crate::stream::{Links, Stream};
+use crate::links::link;
+use crate::stream::Stream;
 use std::alloc::{AllocError, Global};
 use tok_buffer::Cursor;
 use tok_core::{Delimiter, Span};
 
-// Stream 0 is the whole. Each stream leads to its contents, so that closing it visits those alone.
+// Stream 0 is the whole. Each stream leads to its contents, so that closing it visits those alone: a run takes time in
+// proportion to its commands.
 #[derive(Drop)]
 pub struct Streams<'a> {
     list: Vec<Stream<'a>>,
@@ -30,18 +31,7 @@ impl<'a> Streams<'a> {
             (λ s. state_of s ≡ record { place = place_of cursor.entry; scope_span = call_site; kind = outermost; is_open = true; note = None } ∷ []) }
     {
         let mut list = Vec::new(alloc);
-        list.push(Stream {
-            cursor,
-            scope_span: Span::call_site(),
-            links: Links {
-                parent: None,
-                first: None,
-                last: None,
-                next: None,
-            },
-            is_open: true,
-            note: None,
-        })?;
+        list.push(Stream::new(cursor, Span::call_site(), None))?;
         Ok(Streams { list })
     }
 
@@ -85,18 +75,7 @@ impl<'a> Streams<'a> {
         ensures err { OnErr result (state_of self.new ≡ state_of self.old) }
     {
         let number = self.list.len();
-        self.list.push(Stream {
-            cursor: content,
-            scope_span,
-            links: Links {
-                parent: Some(n),
-                first: None,
-                last: None,
-                next: None,
-            },
-            is_open: true,
-            note: None,
-        })?;
+        self.list.push(Stream::new(content, scope_span, Some(n)))?;
         link(&mut self.list, n, number);
         self.list[n].cursor = behind;
         Ok(number)
@@ -125,8 +104,7 @@ impl<'a> Streams<'a> {
         self.list[k].is_open = false;
     }
 
-    // Closes the open contents inside a stream.
-    #[cycle(close)]
+    // Closes the open contents inside a stream. No list is walked twice, since a stream is closed once.
     pub fn close_contents(&mut self, k: usize)
         requires { k < length (state_of self.old) }
         ensures after { state_of self.new ≡ closed_inside k (state_of self.old) }

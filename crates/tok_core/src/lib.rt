@@ -14,6 +14,8 @@ mod print;
 mod punct;
 mod span;
 mod stream;
+#[cfg(test)]
+mod tests;
 mod text;
 mod to_tokens;
 mod tt;

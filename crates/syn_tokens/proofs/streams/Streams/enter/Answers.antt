@@ -33,7 +33,7 @@ returns-clause-ok c =
     let x = c.index_mut.result.now in
     let y : Stream = record x { cursor = c.args.behind } in
     let new = content (place_of c.args.content) c.args.scope_span n ∷ [] in
-    let pushed : state_of_list zs ≡ state_of_list xs ++ new = c.link.ensures.state ∙ ap state_of_list (c.in_ok-push.ensures {u = tt}).items ∙ map-append stream_of xs _ in
+    let pushed : state_of_list zs ≡ state_of_list xs ++ new = c.link.ensures.state ∙ ap state_of_list (c.in_ok-push.ensures {u = tt}).items ∙ map-append stream_of xs _ ∙ ap (λ z. state_of_list xs ++ z ∷ []) c.new.ensures.stream in
     let len : length zs ≡ length xs + 1 = sym (length-state zs) ∙ ap length pushed ∙ length-append (state_of_list xs) new ∙ ap (λ z. z + 1) (length-state xs) in
     let within : n < length zs = omega (arith, len, length-state xs, c.requires) in
     changed_there zs n x y f c.index_mut.ensures.value within refl

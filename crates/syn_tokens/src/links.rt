@@ -1,9 +1,21 @@
-// A new content linked to its parent.
-ghost use Rattle.std.specs.Prelude.{◌≡◌, ◌<◌, ◌++◌, ◌∷◌, [], ℕ, length};
+// The links between streams.
+ghost use Rattle.std.specs.Prelude.{◌≡◌};
 ghost use Rattle.syn_tokens.specs.Links.{links_of, AreLinked, IsNew};
 ghost use Rattle.syn_tokens.specs.Tracks.{state_of_list};
 
 use crate::stream::Stream;
+
+// Other streams, by their numbers.
+#[derive(Clone, Copy)]
+pub struct Links {
+    // The stream from which a group's content was entered.
+    pub parent: Option<usize>,
+    // The first and the last content entered from this stream.
+    pub first: Option<usize>,
+    pub last: Option<usize>,
+    // The content that was entered next from the same parent.
+    pub next: Option<usize>,
+}
 
 // Links the last stream, a content of `parent`, behind the contents that its parent has.
 pub fn link<'a>(list: &mut Vec<Stream<'a>>, parent: usize, number: usize)

@@ -5,8 +5,8 @@ use Rattle.syn_tokens.specs.Tracks.{state_of}
 use Rattle.syn_tokens.proofs.Closing.{left_along, left_first, left_none, left_within, left_spent, left_closed, left_falls}
 use Rattle.syn_tokens.proofs.Linked.{length-links}
 use Rattle.syn_tokens.proofs.Tracks.{length-state}
-use Rattle.syn_tokens.proofs.streams.Streams.+close.Goals as goal
-use Rattle.syn_tokens.proofs.streams.Streams.+close.Goals.{then-stream, else-stream}
+use Rattle.syn_tokens.proofs.streams.Streams.+close_contents.Goals as goal
+use Rattle.syn_tokens.proofs.streams.Streams.+close_contents.Goals.{then-stream, else-stream}
 
 pub loop-next-init : goal.loop-next-init
 loop-next-init t c =

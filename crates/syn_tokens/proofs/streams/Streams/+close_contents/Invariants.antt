@@ -3,7 +3,7 @@ use Rattle.syn_tokens.specs.Links.{links_of}
 use Rattle.syn_tokens.specs.State.{closed_inside}
 use Rattle.syn_tokens.specs.Tracks.{state_of_list}
 use Rattle.syn_tokens.proofs.Closing.{LeftToClose, left_to}
-use Rattle.syn_tokens.proofs.streams.Streams.+close.Given as goal
+use Rattle.syn_tokens.proofs.streams.Streams.+close_contents.Given as goal
 
 abbrev pub decreases-close_contents : goal.decreases-close_contents
 decreases-close_contents l = length l.self.now.list.items - l.k

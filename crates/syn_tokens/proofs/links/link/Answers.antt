@@ -3,8 +3,8 @@ use Rattle.syn_tokens.specs.Tracks.{state_of_list}
 use Rattle.syn_tokens.specs.declared.stream.Stream.{Stream}
 use Rattle.syn_tokens.proofs.Appended.{link_first, link_next, last_within}
 use Rattle.syn_tokens.proofs.Tracks.{state_kept}
-use Rattle.syn_tokens.proofs.link.link.Goals as goal
-use Rattle.syn_tokens.proofs.link.link.Goals.{in-None, in-Some}
+use Rattle.syn_tokens.proofs.links.link.Goals as goal
+use Rattle.syn_tokens.proofs.links.link.Goals.{in-None, in-Some}
 
 pub index_mut-requires-in-Some : goal.index_mut-requires-in-Some
 index_mut-requires-in-Some c =
