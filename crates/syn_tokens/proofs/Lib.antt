@@ -3,6 +3,7 @@ pub mod Closing
 pub mod CommandLines
 pub mod Lines
 pub mod Linked
+pub mod Once
 pub mod Parses
 pub mod Refusals
 pub mod Runs

@@ -43,9 +43,15 @@ Prints bytes printed status =
     ((report : Report) × HasReport bytes report × (printed ≡ report_text report) × (status ≡ verdict_status report.verdict))
     ⊎ ((why : Unreadable) × IsUnreadable bytes why × (printed ≡ ended (unreadable_text why)) × (status ≡ 2))
 
--- What a run comes to: what the program prints for these bytes went out, with its status; or memory was refused, and one
--- line went out with 3; or a read or a write failed, with 2.
+-- memory was refused, and one line went out with 3; or a read or a write failed, with 2
+abbrev pub Fails : ℕ → Option (List ℕ) → Option (List ℕ) → Type 0
+Fails status old new = ((status ≡ 3) × Appends old new (ended (codes "memory"))) ⊎ (status ≡ 2)
+
+-- what the program prints for these bytes went out, with its status, or it failed
 abbrev pub Serves : List ℕ → ℕ → Option (List ℕ) → Option (List ℕ) → Type 0
-Serves bytes status old new =
-    ((printed : List ℕ) × Prints bytes printed status × Appends old new printed)
-    ⊎ (((status ≡ 3) × Appends old new (ended (codes "memory"))) ⊎ (status ≡ 2))
+Serves bytes status old new = ((printed : List ℕ) × Prints bytes printed status × Appends old new printed) ⊎ Fails status old new
+
+-- whatever the program prints for these bytes went out, with its status, or it failed
+abbrev pub ServesOnly : List ℕ → ℕ → Option (List ℕ) → Option (List ℕ) → Type 0
+ServesOnly bytes status old new =
+    (printed : List ℕ) (code : ℕ) → Prints bytes printed code → ((status ≡ code) × Appends old new printed) ⊎ Fails status old new

@@ -22,8 +22,10 @@ struct UnreadableLine;
 pub fn read_commands(alloc: Global, lines: Option<&str>) -> Result<Vec<Command>, Fault>
     requires { ForSome lines (λ text. IsUtf8 text.now) }
     ensures { MatchResult result
-        (λ v. (spec.unreadable_line (lines_left lines.entry) ≡ None) × (map command_of v.items ≡ spec.commands_in (lines_left lines.entry)))
-        (λ fault. OnUnreadable fault (λ why. (n : ℕ) × (why ≡ unreadable.Command n) × (spec.unreadable_line (lines_left lines.entry) ≡ Some n))) }
+        (λ v. (spec.unreadable_line (lines_left lines.entry) ≡ None)
+        × (map command_of v.items ≡ spec.commands_in (lines_left lines.entry)))
+        (λ fault. OnUnreadable fault (λ why. (n : ℕ) × (why ≡ unreadable.Command n)
+        × (spec.unreadable_line (lines_left lines.entry) ≡ Some n))) }
 {
     let mut commands = Vec::new(alloc);
     let mut number = 0usize;
@@ -44,7 +46,8 @@ pub fn read_commands(alloc: Global, lines: Option<&str>) -> Result<Vec<Command>,
 // The command of a line, or none of a line without words.
 fn read_line(line: &str) -> Result<Option<Command>, UnreadableLine>
     ensures { MatchResult result
-        (λ c. (spec.is_unreadable line.now ≡ false) × (spec.command (spec.words line.now) ≡ option_map command_of c))
+        (λ c. (spec.is_unreadable line.now ≡ false)
+        × (spec.command (spec.words line.now) ≡ option_map command_of c))
         (λ _. spec.is_unreadable line.now ≡ true) }
 {
     let Some((name, rest)) = first_word(line) else {

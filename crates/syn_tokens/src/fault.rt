@@ -8,7 +8,7 @@ use std::fmt::{Formatter, Write};
 use tok_core::{LexError, LexFault};
 
 // Why an input can't be read.
-#[derive(Clone, Copy, PartialEq, Eq, Debug)]
+#[derive(Clone, Copy)]
 pub enum Unreadable {
     Utf8,
     // Not one line ends a text.
@@ -34,7 +34,7 @@ impl fmt::Display for Unreadable {
 }
 
 // Why there is no report: the input can't be read, or memory is refused.
-#[derive(Clone, Copy, PartialEq, Eq, Debug)]
+#[derive(Clone, Copy)]
 pub enum Fault {
     Unreadable(Unreadable),
     Memory,

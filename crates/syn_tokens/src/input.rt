@@ -6,7 +6,7 @@ ghost use Rattle.syn_tokens.specs.Input as spec;
 ghost use Rattle.syn_tokens.specs.Printed.{ended};
 
 use std::alloc::Global;
-use std::io::Read;
+use std::io::{ErrorKind, Read};
 
 // Why an input could not be read.
 #[derive(Drop)]
@@ -16,7 +16,7 @@ pub enum ReadFault {
     Memory,
 }
 
-// All that a reader gives, in at most 4,294,967,295 reads.
+// All that a reader gives, in at most 4,294,967,295 reads. An interrupted read is made again.
 pub fn read_input<R: Read>(alloc: Global, input: &mut R) -> Result<Vec<u8>, ReadFault>
     ensures { IfSome (R.remaining input.old) (λ bytes. IfOk result (λ v. v.items ≡ bytes)) }
 {
@@ -30,6 +30,7 @@ pub fn read_input<R: Read>(alloc: Global, input: &mut R) -> Result<Vec<u8>, Read
                     return Err(ReadFault::Memory);
                 }
             }
+            Err(error) if error.kind() == ErrorKind::Interrupted => {}
             Err(_) => return Err(ReadFault::Failed),
         }
     }

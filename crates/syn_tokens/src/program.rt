@@ -2,7 +2,7 @@
 ghost use Rattle.std.specs.Prelude.{◌≡◌, ◌⊎◌, IfOk, IfSome, MatchResult, string_bytes};
 ghost use Rattle.std.specs.Io.KnownBytes.{Appends};
 ghost use Rattle.syn_tokens.specs.Faults.{OnUnreadable};
-ghost use Rattle.syn_tokens.specs.Program.{IsUnreadable, HasReport, verdict_status, Prints, Serves};
+ghost use Rattle.syn_tokens.specs.Program.{IsUnreadable, HasReport, verdict_status, Prints, Serves, ServesOnly};
 ghost use Rattle.syn_tokens.specs.Seen.{report_of, verdict_of};
 
 use crate::command_text::read_commands;
@@ -22,8 +22,10 @@ use tok_core::lex_marked;
 /// says why, and also where a read or a write fails, and 3 where memory is refused, of which the line `memory` tells. An
 /// input that has not ended after 4,294,967,295 reads is a failed read.
 pub fn serve<R: Read, W: Write>(alloc: Global, input: &mut R, output: &mut W) -> u8
-    ensures { IfSome (R.remaining input.old)
+    ensures serves { IfSome (R.remaining input.old)
         (λ bytes. Serves bytes result (W.contents output.old) (W.contents output.new)) }
+    ensures only { IfSome (R.remaining input.old)
+        (λ bytes. ServesOnly bytes result (W.contents output.old) (W.contents output.new)) }
 {
     match read_input(alloc, input) {
         Ok(bytes) => answer(alloc, &bytes, output),
@@ -34,7 +36,8 @@ pub fn serve<R: Read, W: Write>(alloc: Global, input: &mut R, output: &mut W) ->
 
 // Answers an input that is read.
 fn answer<W: Write>(alloc: Global, input: &[u8], output: &mut W) -> u8
-    ensures { Serves input.now result (W.contents output.old) (W.contents output.new) }
+    ensures serves { Serves input.now result (W.contents output.old) (W.contents output.new) }
+    ensures only { ServesOnly input.now result (W.contents output.old) (W.contents output.new) }
 {
     match print(alloc, input) {
         Ok((text, status)) => send(output, text.as_str(), status),
@@ -46,10 +49,10 @@ fn answer<W: Write>(alloc: Global, input: &[u8], output: &mut W) -> u8
 fn send<W: Write>(output: &mut W, text: &str, status: u8) -> u8
     ensures { ((result ≡ status) × Appends (W.contents output.old) (W.contents output.new) text.now) ⊎ (result ≡ 2) }
 {
-    match output.write_all(text.as_bytes()) {
-        Ok(()) => status,
-        Err(_) => 2,
+    if output.write_all(text.as_bytes()).is_err() || output.flush().is_err() {
+        return 2;
     }
+    status
 }
 
 // What is printed for an input, and the status.
@@ -88,3 +91,6 @@ fn report(alloc: Global, input: &[u8]) -> Result<Report, Fault>
     let commands = read_commands(alloc, lines)?;
     Ok(replay(alloc, stream, &commands)?)
 }
+
+#[cfg(test)]
+mod tests;

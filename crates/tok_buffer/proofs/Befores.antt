@@ -1,19 +1,27 @@
 -- The spans at a count, and what lies before it.
 use Rattle.std.proofs.Common.{◌≡◌, inl, inr, ℕ, ◌+◌, ◌<◌, List, [], ◌∷◌, length, refl, ap, sym, ◌∙◌, arith, length-append}
 use Rattle.tok_core.specs.Forest.{leaf, group, Forest, no_trees, tree}
-use Rattle.tok_core.specs.Spans.{leaf_span}
+use Rattle.tok_core.specs.declared.span.Span.{Span}
+use Rattle.tok_core.specs.Spans.{closing_span, leaf_span}
 use Rattle.tok_core.specs.Weight.{weight}
-use Rattle.tok_buffer.specs.Firsts.{owner_closing, level_span, level_previous}
+use Rattle.tok_buffer.specs.Spans.{owner_closing, level_span}
 use Rattle.tok_buffer.specs.Place.{whole, group_of, Level, level, at}
 use Rattle.tok_buffer.specs.Moves.{level_ahead, level_owner, move, levels_at}
 use Rattle.tok_buffer.specs.Layout.{leaf_entry, leaf_in, entries_of, entry_here}
 use Rattle.tok_buffer.specs.Spans.{current_span, previous_span}
-use Rattle.tok_buffer.specs.declared.buffer.Opening.{Opening as Sort}
-use Rattle.tok_buffer.specs.declared.buffer.Entry.TheVariants as entry
-use Rattle.tok_buffer.specs.declared.buffer.Entry.TheVariants.{Group, End}
-use Rattle.tok_buffer.specs.declared.buffer.Leaf as held
+use Rattle.tok_buffer.specs.declared.entry.Opening.{Opening as Sort}
+use Rattle.tok_buffer.specs.declared.entry.Entry.TheVariants as entry
+use Rattle.tok_buffer.specs.declared.entry.Entry.TheVariants.{Group, End}
+use Rattle.tok_buffer.specs.declared.entry.Leaf as held
 use Rattle.tok_buffer.proofs.Layouts.{leaf_in-entry}
 use Rattle.tok_buffer.proofs.Stacks.{At, at_all, nested, last_or, before, after, length-entries_of, levels_next}
+
+-- the span of what lies before in a level, or at its start the owner's whole span
+abbrev pub level_previous : Level → Span
+level_previous (level o (tree (leaf l) p) a) = leaf_span l
+level_previous (level o (tree (group d inside span) p) a) = closing_span span
+level_previous (level (group_of d span) no_trees a) = span
+level_previous (level whole no_trees a) = level_span (level whole no_trees a)
 
 pub current_is : (k s n : ℕ) (l : Level) (us : List Level) → current_span (at k s n l us) ≡ level_span l
 current_is k s n (level o p (tree t f)) us = refl

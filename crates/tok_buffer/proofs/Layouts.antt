@@ -7,9 +7,9 @@ use Rattle.tok_core.specs.Code.{top}
 use Rattle.tok_core.specs.Forest.{Leaf, ident, punct, literal, Tree, leaf, group, Forest, no_trees, tree, joined, turned_onto}
 use Rattle.tok_core.specs.Weight.{weight}
 use Rattle.tok_core.proofs.Facts.{joined-none}
-use Rattle.tok_buffer.specs.declared.buffer.Entry.{Entry}
-use Rattle.tok_buffer.specs.declared.buffer.Entry.TheVariants as entry
-use Rattle.tok_buffer.specs.declared.buffer.Entry.TheVariants.{Group, End}
+use Rattle.tok_buffer.specs.declared.entry.Entry.{Entry}
+use Rattle.tok_buffer.specs.declared.entry.Entry.TheVariants as entry
+use Rattle.tok_buffer.specs.declared.entry.Entry.TheVariants.{Group, End}
 use Rattle.tok_buffer.specs.Layout.{leaf_entry, leaf_in, opening, layout, entries_of, stack_entry, stack_entries, forest_in}
 use Rattle.tok_buffer.proofs.Forests.{turned_is}
 

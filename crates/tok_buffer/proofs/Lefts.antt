@@ -6,7 +6,7 @@ use Rattle.tok_core.specs.declared.group.Delimiter.TheVariants as delimiter
 use Rattle.tok_core.specs.Forest.{Tree}
 use Rattle.tok_core.specs.Spans.{tree_span}
 use Rattle.tok_buffer.specs.Ahead.{first_left}
-use Rattle.tok_buffer.specs.Firsts.{first_of, left_parts}
+use Rattle.tok_buffer.specs.Ahead.{first_of, left_parts}
 
 pub left_first : (scope : Delimiter) (xs : List (Bool × Tree)) (m : Bool) (span : Span) → first_of xs ≡ Some (m, span) → left_parts (first_left scope xs) ≡ Some (span, cond m delimiter.None scope)
 left_first scope [] m span e = cc

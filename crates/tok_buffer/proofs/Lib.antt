@@ -1,11 +1,17 @@
+pub mod Appended
 pub mod Befores
+pub mod CompileErrorLoops
 pub mod Descents
 pub mod Forests
 pub mod Groups
 pub mod InScope
 pub mod Layouts
 pub mod Lefts
+pub mod Names
+pub mod NextChars
 pub mod Owners
+pub mod Peeks
 pub mod Rests
 pub mod Scans
+pub mod Spanned
 pub mod Stacks

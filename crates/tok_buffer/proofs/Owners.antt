@@ -8,8 +8,8 @@ use Rattle.tok_buffer.specs.Place.{Owner, whole, group_of, Level, level, absorb}
 use Rattle.tok_buffer.specs.Rest.{owner_delimiter, levels_delimiter, scope_delimiter}
 use Rattle.tok_buffer.specs.Moves.{level_ahead, level_owner, move, levels_at, up_to, end_of, place_at, in_scope, at_end}
 use Rattle.tok_buffer.specs.Layout.{layout, entries_of, opening, back, entry_here, entry_owner}
-use Rattle.tok_buffer.specs.declared.buffer.Entry.{Entry}
-use Rattle.tok_buffer.specs.declared.buffer.Entry.TheVariants.{End}
+use Rattle.tok_buffer.specs.declared.entry.Entry.{Entry}
+use Rattle.tok_buffer.specs.declared.entry.Entry.TheVariants.{End}
 use Rattle.tok_buffer.proofs.Layouts.{length-layout}
 use Rattle.tok_buffer.proofs.Stacks.{At, at_all, entry_at, after, outside}
 use Rattle.tok_buffer.proofs.InScope.{place_step, In, ends_later, before_scope}

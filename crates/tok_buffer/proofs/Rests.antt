@@ -7,10 +7,10 @@ use Rattle.tok_buffer.specs.Place.{Level, level, at}
 use Rattle.tok_buffer.specs.Moves.{level_ahead, move, levels_at, up_to, end_of, place_at, in_scope}
 use Rattle.tok_buffer.specs.Rest.{rest_in, rest}
 use Rattle.tok_buffer.specs.Layout.{leaf_entry, leaf_in, entry_here}
-use Rattle.tok_buffer.specs.declared.buffer.Opening.{Opening as Sort}
-use Rattle.tok_buffer.specs.declared.buffer.Entry.TheVariants as entry
-use Rattle.tok_buffer.specs.declared.buffer.Entry.TheVariants.{Group, End}
-use Rattle.tok_buffer.specs.declared.buffer.Leaf as held
+use Rattle.tok_buffer.specs.declared.entry.Opening.{Opening as Sort}
+use Rattle.tok_buffer.specs.declared.entry.Entry.TheVariants as entry
+use Rattle.tok_buffer.specs.declared.entry.Entry.TheVariants.{Group, End}
+use Rattle.tok_buffer.specs.declared.entry.Leaf as held
 use Rattle.tok_buffer.proofs.Layouts.{leaf_in-entry}
 use Rattle.tok_buffer.proofs.InScope.{ahead-absorb, place_step, In, outer_seen, ends_later}
 use Rattle.tok_buffer.proofs.Groups.{group_front, inside_place, behind_place}

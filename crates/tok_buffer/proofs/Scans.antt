@@ -8,14 +8,14 @@ use Rattle.tok_core.specs.Forest.{Leaf, Tree, leaf, group, Forest, no_trees, tre
 use Rattle.tok_core.specs.Spans.{leaf_span}
 use Rattle.tok_buffer.specs.Ahead.{visible, ahead_in, ahead}
 use Rattle.tok_buffer.specs.Entry.{same_delimiter}
-use Rattle.tok_buffer.specs.Firsts.{first_of}
+use Rattle.tok_buffer.specs.Ahead.{first_of}
 use Rattle.tok_buffer.specs.Place.{Owner, whole, Level, level, Place, empty_place, at, absorb}
 use Rattle.tok_buffer.specs.Moves.{level_ahead, move, levels_at, up_to, end_of, in_scope}
 use Rattle.tok_buffer.specs.Layout.{leaf_entry, leaf_in, entry_here}
-use Rattle.tok_buffer.specs.declared.buffer.Opening.{Opening as Sort}
-use Rattle.tok_buffer.specs.declared.buffer.Entry.TheVariants as entry
-use Rattle.tok_buffer.specs.declared.buffer.Entry.TheVariants.{Group, End}
-use Rattle.tok_buffer.specs.declared.buffer.Leaf as held
+use Rattle.tok_buffer.specs.declared.entry.Opening.{Opening as Sort}
+use Rattle.tok_buffer.specs.declared.entry.Entry.TheVariants as entry
+use Rattle.tok_buffer.specs.declared.entry.Entry.TheVariants.{Group, End}
+use Rattle.tok_buffer.specs.declared.entry.Leaf as held
 use Rattle.tok_buffer.proofs.Layouts.{leaf_in-entry}
 use Rattle.tok_buffer.proofs.Stacks.{levels_next}
 use Rattle.tok_buffer.proofs.InScope.{ahead-absorb, In, seen_step, outer_seen, ends_later}

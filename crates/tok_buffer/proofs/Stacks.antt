@@ -8,9 +8,9 @@ use Rattle.tok_core.specs.Weight.{weight}
 use Rattle.tok_core.proofs.Facts.{joined-none, turned_back}
 use Rattle.tok_buffer.specs.Place.{Owner, whole, group_of, Level, level}
 use Rattle.tok_buffer.specs.Moves.{move, levels_at}
-use Rattle.tok_buffer.specs.declared.buffer.Entry.{Entry}
-use Rattle.tok_buffer.specs.declared.buffer.Entry.TheVariants as entry
-use Rattle.tok_buffer.specs.declared.buffer.Entry.TheVariants.{Group, End}
+use Rattle.tok_buffer.specs.declared.entry.Entry.{Entry}
+use Rattle.tok_buffer.specs.declared.entry.Entry.TheVariants as entry
+use Rattle.tok_buffer.specs.declared.entry.Entry.TheVariants.{Group, End}
 use Rattle.tok_buffer.specs.Layout.{leaf_entry, layout, entries_of, forest_in, opening, entry_here}
 use Rattle.tok_buffer.proofs.Layouts.{layout-turned, length-layout}
 

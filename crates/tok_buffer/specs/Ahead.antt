@@ -34,3 +34,13 @@ first_left scope (t ∷ ts) = Some (record { span = tree_span t.1; delimiter = c
 
 abbrev pub leftover : Place → Option Leftover
 leftover p = first_left (scope_delimiter p) (ahead p)
+
+-- the first of them: its mark and its span
+abbrev pub first_of : List (Bool × Tree) → Option (Bool × Span)
+first_of [] = None
+first_of (t ∷ ts) = Some (t.0, tree_span t.1)
+
+-- a leftover as a pair
+abbrev pub left_parts : Option Leftover → Option (Span × Delimiter)
+left_parts None = None
+left_parts (Some l) = Some (l.span, l.delimiter)

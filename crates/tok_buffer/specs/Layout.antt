@@ -8,10 +8,10 @@ use Rattle.tok_core.specs.Forest as spec
 use Rattle.tok_core.specs.Seen.{ident_of, punct_of, literal_of}
 use Rattle.tok_core.specs.Weight.{weight}
 use Rattle.tok_buffer.specs.Place.{Owner, whole, group_of, Level, level}
-use Rattle.tok_buffer.specs.declared.buffer.Entry.{Entry}
-use Rattle.tok_buffer.specs.declared.buffer.Entry.TheVariants.{Leaf, Group, End}
-use Rattle.tok_buffer.specs.declared.buffer.Leaf as held
-use Rattle.tok_buffer.specs.declared.buffer.Leaf.TheVariants.{Ident, Punct, Literal}
+use Rattle.tok_buffer.specs.declared.entry.Entry.{Entry}
+use Rattle.tok_buffer.specs.declared.entry.Entry.TheVariants.{Leaf, Group, End}
+use Rattle.tok_buffer.specs.declared.entry.Leaf as held
+use Rattle.tok_buffer.specs.declared.entry.Leaf.TheVariants.{Ident, Punct, Literal}
 
 abbrev pub leaf_entry : spec.Leaf → held.Leaf
 leaf_entry (ident text span) = Ident (record { text = text; span = span })

@@ -1,11 +1,14 @@
 pub mod Ahead
 pub mod Buffer
+pub mod CompileErrors
 pub mod Cursors
 pub mod Descent
 pub mod Entry
-pub mod Firsts
 pub mod Layout
+pub mod Lifetimes
 pub mod Moves
+pub mod Order
+pub mod OrderLaws
 pub mod Place
 pub mod Reads
 pub mod Rest

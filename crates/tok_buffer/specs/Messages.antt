@@ -1,11 +1,14 @@
 -- An error as the list of its messages.
-use Rattle.std.specs.Prelude.{◌≡◌, ℕ, List, [], ◌∷◌, map, unwrap_or}
+use Rattle.std.specs.Prelude.{◌≡◌, ℕ, List, [], ◌∷◌, ◌++◌, map, Option, MatchOption, Result, IfOk}
+use Rattle.std.specs.declared.alloc.AllocError.{AllocError}
+use Rattle.std.specs.List.{flat_map}
 use Rattle.std.specs.Coded.{Coded, code_by, coded×, coded_ℕ, coded_list}
 use Rattle.std.proofs.Common.{ap, ◌∙◌}
 use Rattle.tok_core.specs.Code.{SpanCode, span_code, span_of, span-back, coded_span}
 use Rattle.tok_core.specs.declared.span.Span.{Span}
-use Rattle.tok_core.specs.Spans.{call_site, join}
+use Rattle.tok_core.specs.Spans.{call_site}
 use Rattle.tok_buffer.specs.declared.error.Message.{Message}
+use Rattle.tok_buffer.specs.Spans.{covering}
 use Rattle.tok_buffer.specs.Words.{Refusal}
 
 -- a message: the spans of the first and the last token that it speaks of, and its text
@@ -24,18 +27,26 @@ refused r = error_of r.span r.span r.words
 abbrev pub spans_of : List Message → List (Span × Span)
 spans_of e = map (λ m. (m.start, m.end)) e
 
--- the two spans of a message in one
-abbrev pub covered : Message → Span
-covered m = unwrap_or (join m.start m.end) m.start
-
 -- what an error shows: its first message
 abbrev pub first_span : List Message → Span
 first_span [] = call_site
-first_span (m ∷ ms) = covered m
+first_span (m ∷ ms) = covering m.start m.end
 
 abbrev pub first_text : List Message → List ℕ
 first_text [] = []
 first_text (m ∷ ms) = m.text
+
+-- the errors of one message each
+abbrev pub each_message : List Message → List (List Message)
+each_message e = map (λ m. m ∷ []) e
+
+-- an error with the messages of others behind its own
+abbrev pub AddsMessages : List Message → List (List Message) → List Message → Type 0
+AddsMessages old others new = new ≡ old ++ flat_map (λ e. e) others
+
+-- a list of errors gives its first, unless memory for a copy was refused
+abbrev pub GivesFirst : List (List Message) → Option (Result (List Message) AllocError) → List (List Message) → Type 0
+GivesFirst errors answer left = MatchOption answer ((errors ≡ []) × (left ≡ [])) (λ made. (first : List Message) × ((errors ≡ first ∷ left) × IfOk made (λ e. e ≡ first)))
 
 -- how an error is stored
 abbrev pub MessageCode : Type 0
@@ -54,3 +65,6 @@ message-back m =
 abbrev pub messages_code : Coded (List Message)
 messages_code =
     coded_list (code_by MessageCode (coded× coded_span (coded× coded_span (coded_list coded_ℕ))) message_code message_of message-back)
+
+abbrev pub errors_code : Coded (List (List Message))
+errors_code = coded_list messages_code

@@ -1,8 +1,8 @@
 -- Places in a forest, level by level.
-use Rattle.std.specs.Prelude.{ℕ, ◌+◌, ◌==◌, ◌&&◌, Bool, true, false, List, [], ◌∷◌, Option, Some, None}
+use Rattle.std.specs.Prelude.{ℕ, ◌+◌, Bool, true, false, List, [], ◌∷◌, Option, Some, None}
 use Rattle.tok_core.specs.declared.group.Delimiter.{Delimiter}
 use Rattle.tok_core.specs.declared.span.Span.{Span}
-use Rattle.tok_core.specs.Forest.{Tree, group, Forest, no_trees, tree, turned_onto}
+use Rattle.tok_core.specs.Forest.{Leaf, Tree, leaf, group, Forest, no_trees, tree, turned_onto}
 use Rattle.tok_core.specs.Weight.{weight, tree_weight}
 
 -- whose trees a level has: the whole forest's or a group's
@@ -45,6 +45,11 @@ abbrev pub front : Place → Option Tree
 front (at number scope count (level owner passed (tree t f)) ls) = Some t
 front p = None
 
+-- the leaf in front
+abbrev pub front_leaf : Place → Option Leaf
+front_leaf (at number scope count (level owner passed (tree (leaf l) f)) ls) = Some l
+front_leaf p = None
+
 abbrev pub pass : Place → Place
 pass (at number scope count (level owner passed (tree t f)) ls) = settle number scope (count + tree_weight t) (level owner (tree t passed) f) ls
 pass p = p
@@ -53,8 +58,7 @@ abbrev pub is_at_end : Place → Bool
 is_at_end (at number scope count (level owner passed (tree t f)) ls) = false
 is_at_end p = true
 
--- two places are in one scope, whatever their counts
-abbrev pub same_scope : Place → Place → Bool
-same_scope empty_place empty_place = true
-same_scope (at n s c l ls) (at m t d k ks) = n == m && s == t
-same_scope p q = false
+-- how many openings, leaves and closings lie before
+abbrev pub position : Place → Option ℕ
+position empty_place = None
+position (at number scope count l ls) = Some count

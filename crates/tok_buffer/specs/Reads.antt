@@ -2,9 +2,13 @@
 use Rattle.std.specs.Prelude.{ℕ, ◌==◌, ◌&&◌, not, Bool, true, false, cond, List, [], ◌∷◌, ◌++◌, Option, Some, None}
 use Rattle.tok_core.specs.declared.punct.Spacing.TheVariants.{Joint}
 use Rattle.tok_core.specs.Clear.{is_joint_apostrophe}
-use Rattle.tok_core.specs.Forest.{ident, punct, literal, Tree, leaf, group}
+use Rattle.tok_core.specs.declared.span.Span.{Span}
+use Rattle.tok_core.specs.Forest.{Leaf, ident, punct, literal, Tree, leaf, group}
 use Rattle.tok_buffer.specs.Descent.{descend}
 use Rattle.tok_buffer.specs.Place.{Place, front, pass}
+
+abbrev pub apostrophe : ℕ
+apostrophe = 39
 
 -- the front tree, if it is wanted
 abbrev pub take : (Tree → Bool) → Place → Option (List Tree × Place)
@@ -33,15 +37,15 @@ is_literal t = false
 
 -- a punct other than an apostrophe
 abbrev pub is_punct : Tree → Bool
-is_punct (leaf (punct c spacing span)) = not (c == 39)
+is_punct (leaf (punct c spacing span)) = not (c == apostrophe)
 is_punct t = false
 
 abbrev pub is_punct_of : ℕ → Tree → Bool
-is_punct_of wanted (leaf (punct c spacing span)) = c == wanted && not (c == 39)
+is_punct_of wanted (leaf (punct c spacing span)) = c == wanted && not (c == apostrophe)
 is_punct_of wanted t = false
 
 abbrev pub is_joint_of : ℕ → Tree → Bool
-is_joint_of wanted (leaf (punct c Joint span)) = c == wanted && not (c == 39)
+is_joint_of wanted (leaf (punct c Joint span)) = c == wanted && not (c == apostrophe)
 is_joint_of wanted t = false
 
 abbrev pub is_group : Tree → Bool
@@ -66,6 +70,10 @@ read_word wanted p = take (is_ident_of wanted) (descend p)
 
 abbrev pub read_lifetime : (List ℕ → Bool) → Place → Option (List Tree × Place)
 read_lifetime wanted p = and_then (take is_joint_apostrophe (descend p)) (read_word wanted)
+
+-- the two trees of a lifetime
+abbrev pub lifetime_trees : Span → Leaf → List Tree
+lifetime_trees span name = leaf (punct apostrophe Joint span) ∷ leaf name ∷ []
 
 -- the puncts of a punctuation's characters, each but the last joint; the empty text is never read
 abbrev pub read_punctuation : List ℕ → Place → Option (List Tree × Place)

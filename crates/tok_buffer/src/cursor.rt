@@ -1,19 +1,21 @@
 // A cheap reader of a buffer.
+mod order;
+mod spans;
+
 use crate::buffer::TokenBuffer;
+use crate::lifetime::LifetimeRef;
 use crate::spot::Spot;
 use std::alloc::{AllocError, Global};
-use tok_core::{DelimSpan, Delimiter, Ident, Literal, Punct, Span, TokenStream};
+use tok_core::{DelimSpan, Delimiter, Group, Ident, Literal, Punct, Span, TokenStream, TokenTree};
 
+/// A place in a buffer, and the end of the scope that it is read in: the whole buffer or a group's content. It is cheap
+/// to copy, and a call that reads answers the cursor behind what it read. The calls `ident`, `punct`, `literal`,
+/// `lifetime`, `group` with a visible delimiter, `skip` and the peeks first enter every invisible group in front; the
+/// others don't. A cursor leaves a group that it so entered where nothing of it is left.
 #[derive(Clone, Copy)]
 pub struct Cursor<'a> {
     // None at the empty place.
     spot: Option<Spot<'a>>,
-}
-
-#[derive(Clone, Copy)]
-pub struct LifetimeRef<'a> {
-    pub apostrophe: Span,
-    pub ident: &'a Ident,
 }
 
 impl TokenBuffer {
@@ -21,36 +23,41 @@ impl TokenBuffer {
     ghost use Rattle.tok_buffer.specs.Cursors.{place_of};
     ghost use Rattle.tok_buffer.specs.Place.{start};
 
+    /// The cursor at the first tree, with the whole buffer as its scope.
     pub fn begin<'a>(&'a self) -> Cursor<'a>
         ensures { place_of result ≡ start self.now.number self.now.forest }
     {
-        Cursor {
-            spot: Some(Spot::begin(self)),
-        }
+        Cursor::at(Spot::begin(self))
     }
 }
 
 impl<'a> Cursor<'a> {
-    ghost use Rattle.std.specs.Prelude.{◌≡◌, ◌∷◌, [], true, MatchOption, Some, None, IfOk};
-    ghost use Rattle.tok_core.specs.declared.punct.Spacing.TheVariants.{Joint};
-    ghost use Rattle.tok_core.specs.Forest.{leaf, punct};
-    ghost use Rattle.tok_core.specs.Seen.{ident_of, punct_of, literal_of};
+    ghost use Rattle.std.specs.Prelude.{◌≡◌, ◌∷◌, [], MatchOption, Some, None, IfOk, bytes_eq, is_some};
+    ghost use Rattle.std.specs.Str.{chars};
+    ghost use Rattle.tok_core.specs.Forest.{leaf};
+    ghost use Rattle.tok_core.specs.Seen.{ident_of, punct_of, literal_of, group_of, tree_of};
     ghost use Rattle.tok_core.specs.Spans.{whole_span};
-    ghost use Rattle.tok_buffer.specs.Ahead.{leftover};
-    ghost use Rattle.tok_buffer.specs.Cursors.{place_of};
+    ghost use Rattle.tok_buffer.specs.Cursors.{place_of, spot_place};
     ghost use Rattle.tok_buffer.specs.Entry.{enter_any, enter};
-    ghost use Rattle.tok_buffer.specs.Firsts.{left_parts, position};
     ghost use Rattle.tok_buffer.specs.Place.{empty_place, is_at_end};
-    ghost use Rattle.tok_buffer.specs.Reads.{any_text, skip, read_ident, read_punct, read_literal, read_lifetime};
-    ghost use Rattle.tok_buffer.specs.Rest.{scope_delimiter, rest};
-    ghost use Rattle.tok_buffer.specs.Spans.{current_span, start_span, previous_span};
+    ghost use Rattle.tok_buffer.specs.Reads.{any_text, skip, take, is_group, lifetime_trees, read_ident, read_punct, read_literal, read_lifetime, read_tree, read_word, read_punctuation};
+    ghost use Rattle.tok_buffer.specs.Rest.{rest};
 
+    // The cursor at a spot.
+    fn at(spot: Spot<'a>) -> Cursor<'a>
+        ensures { place_of result ≡ spot_place spot.entry }
+    {
+        Cursor { spot: Some(spot) }
+    }
+
+    /// A cursor of no buffer, with nothing ahead.
     pub fn empty() -> Cursor<'a>
         ensures { place_of result ≡ empty_place }
     {
         Cursor { spot: None }
     }
 
+    /// Whether nothing is left in the scope. An invisible group in front is left, even an empty one.
     pub fn eof(self) -> bool
         ensures { result ≡ is_at_end (place_of self.entry) }
     {
@@ -60,184 +67,148 @@ impl<'a> Cursor<'a> {
         }
     }
 
+    /// The identifier in front, of whatever text, and the cursor behind it.
     pub fn ident(self) -> Option<(&'a Ident, Cursor<'a>)>
         ensures { MatchOption result
             (read_ident (place_of self.entry) ≡ None)
             (λ r. read_ident (place_of self.entry) ≡ Some (leaf (ident_of r.0.now) ∷ [], place_of r.1)) }
     {
-        match self.spot {
-            None => None,
-            Some(spot) => match spot.ident() {
-                None => None,
-                Some((ident, rest)) => Some((ident, Cursor { spot: Some(rest) })),
-            },
-        }
+        let (ident, rest) = self.spot?.ident()?;
+        Some((ident, Cursor::at(rest)))
     }
 
+    /// The punct in front, unless it is an apostrophe, and the cursor behind it.
     pub fn punct(self) -> Option<(Punct, Cursor<'a>)>
         ensures { MatchOption result
             (read_punct (place_of self.entry) ≡ None)
             (λ r. read_punct (place_of self.entry) ≡ Some (leaf (punct_of r.0) ∷ [], place_of r.1)) }
     {
-        match self.spot {
-            None => None,
-            Some(spot) => match spot.punct() {
-                None => None,
-                Some((punct, rest)) => Some((punct, Cursor { spot: Some(rest) })),
-            },
-        }
+        let (punct, rest) = self.spot?.punct()?;
+        Some((punct, Cursor::at(rest)))
     }
 
+    /// The literal in front, and the cursor behind it.
     pub fn literal(self) -> Option<(&'a Literal, Cursor<'a>)>
         ensures { MatchOption result
             (read_literal (place_of self.entry) ≡ None)
             (λ r. read_literal (place_of self.entry) ≡ Some (leaf (literal_of r.0.now) ∷ [], place_of r.1)) }
     {
-        match self.spot {
-            None => None,
-            Some(spot) => match spot.literal() {
-                None => None,
-                Some((literal, rest)) => Some((literal, Cursor { spot: Some(rest) })),
-            },
-        }
+        let (literal, rest) = self.spot?.literal()?;
+        Some((literal, Cursor::at(rest)))
     }
 
+    /// The lifetime in front, of whatever text, and the cursor behind it: a joint apostrophe, and then whatever `ident`
+    /// finds there, so also across the edges of invisible groups.
     pub fn lifetime(self) -> Option<(LifetimeRef<'a>, Cursor<'a>)>
         ensures { MatchOption result
             (read_lifetime any_text (place_of self.entry) ≡ None)
             (λ r. read_lifetime any_text (place_of self.entry)
-            ≡ Some (leaf (punct 39 Joint r.0.apostrophe) ∷ leaf (ident_of r.0.ident.now) ∷ [], place_of r.1)) }
+            ≡ Some (lifetime_trees r.0.apostrophe (ident_of r.0.ident.now), place_of r.1)) }
     {
-        match self.spot {
-            None => None,
-            Some(spot) => match spot.lifetime() {
-                None => None,
-                Some((apostrophe, ident, rest)) => Some((
-                    LifetimeRef { apostrophe, ident },
-                    Cursor { spot: Some(rest) },
-                )),
-            },
-        }
+        let (apostrophe, ident, rest) = self.spot?.lifetime()?;
+        Some((LifetimeRef { apostrophe, ident }, Cursor::at(rest)))
     }
 
+    /// The group of this delimiter in front: the cursor of its content, its span, and the cursor behind it.
     pub fn group(self, delimiter: Delimiter) -> Option<(Cursor<'a>, DelimSpan, Cursor<'a>)>
         ensures { MatchOption result
             (enter delimiter (place_of self.entry) ≡ None)
             (λ r. enter delimiter (place_of self.entry)
             ≡ Some (record { delimiter = delimiter; span = whole_span r.1; content = place_of r.0; behind = place_of r.2 })) }
     {
-        match self.spot {
-            None => None,
-            Some(spot) => match spot.group(delimiter) {
-                None => None,
-                Some((content, span, behind)) => Some((
-                    Cursor {
-                        spot: Some(content),
-                    },
-                    DelimSpan::new(span),
-                    Cursor { spot: Some(behind) },
-                )),
-            },
-        }
+        let (content, span, behind) = self.spot?.group(delimiter)?;
+        Some((
+            Cursor::at(content),
+            DelimSpan::new(span),
+            Cursor::at(behind),
+        ))
     }
 
+    /// The group in front, visible or not: the cursor of its content, its delimiter, its span, and the cursor behind it.
     pub fn any_group(self) -> Option<(Cursor<'a>, Delimiter, DelimSpan, Cursor<'a>)>
         ensures { MatchOption result
             (enter_any (place_of self.entry) ≡ None)
             (λ r. enter_any (place_of self.entry)
             ≡ Some (record { delimiter = r.1; span = whole_span r.2; content = place_of r.0; behind = place_of r.3 })) }
     {
+        let (content, delimiter, span, behind) = self.spot?.enter_any()?;
+        Some((
+            Cursor::at(content),
+            delimiter,
+            DelimSpan::new(span),
+            Cursor::at(behind),
+        ))
+    }
+
+    /// The group in front, visible or not, made anew in memory of `alloc`, and the cursor behind it.
+    pub fn any_group_token(self, alloc: Global) -> Result<Option<(Group, Cursor<'a>)>, AllocError>
+        ensures { IfOk result (λ found. MatchOption found
+            (take is_group (place_of self.entry) ≡ None)
+            (λ r. take is_group (place_of self.entry) ≡ Some (group_of r.0 ∷ [], place_of r.1))) }
+    {
         match self.spot {
-            None => None,
-            Some(spot) => match spot.enter_any() {
-                None => None,
-                Some((content, delimiter, span, behind)) => Some((
-                    Cursor {
-                        spot: Some(content),
-                    },
-                    delimiter,
-                    DelimSpan::new(span),
-                    Cursor { spot: Some(behind) },
-                )),
+            None => Ok(None),
+            Some(spot) => match spot.any_group_token(alloc)? {
+                None => Ok(None),
+                Some((group, rest)) => Ok(Some((group, Cursor::at(rest)))),
             },
         }
     }
 
-    pub fn skip(self) -> Option<Cursor<'a>>
-        ensures { MatchOption result
-            (skip (place_of self.entry) ≡ None)
-            (λ r. skip (place_of self.entry) ≡ Some (place_of r)) }
+    /// The front tree, an invisible group too, made anew in memory of `alloc`, and the cursor behind it.
+    pub fn token_tree(self, alloc: Global) -> Result<Option<(TokenTree, Cursor<'a>)>, AllocError>
+        ensures { IfOk result (λ found. MatchOption found
+            (read_tree (place_of self.entry) ≡ None)
+            (λ r. read_tree (place_of self.entry) ≡ Some (tree_of r.0 ∷ [], place_of r.1))) }
     {
         match self.spot {
-            None => None,
-            Some(spot) => match spot.skip() {
-                None => None,
-                Some(rest) => Some(Cursor { spot: Some(rest) }),
+            None => Ok(None),
+            Some(spot) => match spot.token_tree(alloc)? {
+                None => Ok(None),
+                Some((next, rest)) => Ok(Some((next, Cursor::at(rest)))),
             },
         }
     }
 
-    pub fn leftover(self) -> Option<(Span, Delimiter)>
-        ensures { result ≡ left_parts (leftover (place_of self.entry)) }
-    {
-        match self.spot {
-            None => None,
-            Some(spot) => spot.leftover(),
-        }
-    }
-
-    pub fn scope_delimiter(self) -> Delimiter
-        ensures { result ≡ scope_delimiter (place_of self.entry) }
-    {
-        match self.spot {
-            None => Delimiter::None,
-            Some(spot) => spot.scope_delimiter(),
-        }
-    }
-
-    pub fn position(self) -> Option<usize>
-        ensures { result ≡ position (place_of self.entry) }
-    {
-        match self.spot {
-            None => None,
-            Some(spot) => Some(spot.position()),
-        }
-    }
-
-    pub fn span(self) -> Span
-        ensures { result ≡ current_span (place_of self.entry) }
-    {
-        match self.spot {
-            None => Span::call_site(),
-            Some(spot) => spot.span(),
-        }
-    }
-
-    pub fn start_span(self) -> Span
-        ensures { result ≡ start_span (place_of self.entry) }
-    {
-        match self.spot {
-            None => Span::call_site(),
-            Some(spot) => spot.start_span(),
-        }
-    }
-
-    pub fn prev_span(self) -> Span
-        ensures { result ≡ previous_span (place_of self.entry) }
-    {
-        match self.spot {
-            None => Span::call_site(),
-            Some(spot) => spot.prev_span(),
-        }
-    }
-
-    /// All trees ahead, level by level, made anew.
+    /// All trees that are left in the scope, made anew in memory of `alloc`: first those left in the innermost invisible
+    /// group that has been entered, then those behind it, and so on outwards.
     pub fn token_stream(self, alloc: Global) -> Result<TokenStream, AllocError>
         ensures { IfOk result (λ s. s ≡ rest (place_of self.entry)) }
     {
         match self.spot {
             None => Ok(TokenStream::new(alloc)),
             Some(spot) => spot.token_stream(alloc),
+        }
+    }
+
+    /// The cursor behind the next token: behind the lifetime that `lifetime` reads, or else behind the front tree. `None`
+    /// where nothing visible is left.
+    pub fn skip(self) -> Option<Cursor<'a>>
+        ensures { MatchOption result
+            (skip (place_of self.entry) ≡ None)
+            (λ r. skip (place_of self.entry) ≡ Some (place_of r)) }
+    {
+        Some(Cursor::at(self.spot?.skip()?))
+    }
+
+    /// Whether the identifier in front has this text.
+    pub fn peek_keyword(self, text: &str) -> bool
+        ensures { result ≡ is_some (read_word (bytes_eq text.now) (place_of self.entry)) }
+    {
+        match self.spot {
+            None => false,
+            Some(spot) => spot.peek_word(text),
+        }
+    }
+
+    /// Whether the puncts in front are the characters of this text, each but the last joint. False for the empty text
+    /// and for one with an apostrophe.
+    pub fn peek_punct(self, text: &str) -> bool
+        ensures { result ≡ is_some (read_punctuation (chars text.now) (place_of self.entry)) }
+    {
+        match self.spot {
+            None => false,
+            Some(spot) => spot.peek_punctuation(text),
         }
     }
 }

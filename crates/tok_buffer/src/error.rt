@@ -1,15 +1,20 @@
-// Errors: lists of messages.
-ghost use Rattle.std.specs.Prelude.{◌≡◌, [], ◌∷◌, Some, IfOk, IfSome};
-ghost use Rattle.tok_core.specs.declared.span.Span.{Span};
+//! Errors: lists of messages.
+mod compile_error;
+mod iter;
+
+ghost use Rattle.std.specs.Prelude.{◌≡◌, ◌<◌, ◌≤◌, ◌+◌, [], ◌∷◌, ◌++◌, IfOk, vec_len, vec_capacity};
+ghost use Rattle.tok_core.specs.Seen.{trees_of};
+ghost use Rattle.tok_buffer.specs.Spans.{spanned};
 
 use crate::cursor::Cursor;
+pub use iter::{IntoIter, Iter};
 use std::alloc::{AllocError, Global};
 use std::fmt;
-use std::fmt::{Display, Formatter, Write};
+use std::fmt::{Debug, Display, Formatter, Write};
 use std::marker::Model;
-use tok_core::{Span, Text};
+use tok_core::{LexError, Span, Text, ToTokens, TokenTree};
 
-// The spans of the first and the last token that it speaks of, and its text.
+// One message: the spans of the first and the last token that it speaks of, and its text.
 #[derive(Drop)]
 struct Message {
     start: Span,
@@ -18,7 +23,7 @@ struct Message {
 }
 
 /// Why a parser refuses its input: one message or several, each with the spans of the first and the last token that it
-/// speaks of.
+/// speaks of. In contracts it is the list of its messages.
 #[derive(Drop)]
 pub struct Error {
     first: Message,
@@ -38,7 +43,6 @@ impl Model for Error {
 }
 
 impl Message {
-    /// A copy in memory of its own.
     fn clone(&self) -> Result<Message, AllocError>
         ensures { IfOk result (λ m. m ≡ self.now) }
     {
@@ -50,9 +54,38 @@ impl Message {
     }
 }
 
+// A push where there is room.
+fn put(messages: &mut Vec<Message>, message: Message)
+    requires { vec_len messages.old < vec_capacity messages.old }
+    ensures items { messages.new.items ≡ messages.old.items ++ message ∷ [] }
+    ensures len { vec_len messages.new ≡ vec_len messages.old + 1 }
+    ensures room { vec_capacity messages.old ≤ vec_capacity messages.new }
+{
+    match messages.push(message) {
+        Ok(()) => {}
+        Err(_) => unreachable!(),
+    }
+}
+
+// The spans of the first and the last tree.
+fn ends(trees: &[TokenTree]) -> (Span, Span)
+    ensures { result ≡ spanned (trees_of trees.now) }
+{
+    match (trees.first(), trees.last()) {
+        (Some(first), Some(last)) => (first.span(), last.span()),
+        _ => (Span::call_site(), Span::call_site()),
+    }
+}
+
 impl Error {
+    ghost use Rattle.std.specs.Prelude.{IsTrue, IfSome, OnOk, OnErr};
+    ghost use Rattle.std.specs.Iterator.{ExtendsWithItems, IsFiniteIterable};
+    ghost use Rattle.std.specs.Ordering.{partial_le};
+    ghost use Rattle.tok_core.specs.Lexical.Errors.{error_span, error_words};
     ghost use Rattle.tok_buffer.specs.Cursors.{place_of};
-    ghost use Rattle.tok_buffer.specs.Messages.{error_of, refused, spans_of, first_span};
+    ghost use Rattle.tok_buffer.specs.Messages.{AddsMessages, error_of, refused, spans_of, first_span};
+    ghost use Rattle.tok_buffer.specs.Order.{order};
+    ghost use Rattle.tok_buffer.specs.Spans.{current_span, range_end};
     ghost use Rattle.tok_buffer.specs.Words.{stream_span, at_stream};
 
     /// An error of one message at a span.
@@ -84,6 +117,43 @@ impl Error {
         })
     }
 
+    /// An error of one message from the first of these tokens to the last, or at the call site where there are none.
+    pub fn new_spanned<S: ToTokens + Drop, T: Display + Drop>(
+        alloc: Global,
+        tokens: S,
+        message: T,
+    ) -> Result<Error, AllocError>
+        ensures spans { IfOk result (λ e. spans_of e ≡ spanned (S.printed tokens) ∷ []) }
+        ensures text { IfOk result (λ e. IfSome (T.output message) (λ text.
+            let spans = spanned (S.printed tokens) in e ≡ error_of spans.0 spans.1 text)) }
+    {
+        let stream = tokens.into_token_stream(alloc)?;
+        let (start, end) = ends(stream.trees());
+        Error::new2(alloc, start, end, message)
+    }
+
+    /// An error of one message from one cursor to another, that is, to what lies directly before the second, or where
+    /// the two are equal to what is there. Owed: both are of one buffer, and the first is not after the second.
+    pub fn new_range<T: Display + Drop>(
+        alloc: Global,
+        start: Cursor<'_>,
+        end: Cursor<'_>,
+        message: T,
+    ) -> Result<Error, AllocError>
+        requires { IsTrue (partial_le order (place_of start) (place_of end)) }
+        ensures spans { IfOk result (λ e. spans_of e
+            ≡ (current_span (place_of start.entry), range_end (place_of start.entry) (place_of end.entry)) ∷ []) }
+        ensures text { IfOk result (λ e. IfSome (T.output message) (λ text. e
+            ≡ error_of (current_span (place_of start.entry)) (range_end (place_of start.entry) (place_of end.entry)) text)) }
+    {
+        let last = if start == end {
+            end.span()
+        } else {
+            end.prev_span()
+        };
+        Error::new2(alloc, start.span(), last, message)
+    }
+
     /// An error of one message at a cursor: where nothing is left in its scope the text begins with
     /// "unexpected end of input, " and the span is `scope`, the scope's own.
     pub fn new_at<T: Display + Drop>(
@@ -106,12 +176,45 @@ impl Error {
         }
     }
 
-    /// The span that covers the first message's two, or the first of these where none does.
+    /// The error of a text that isn't read: its span and words.
+    pub fn from_lex(alloc: Global, error: LexError) -> Result<Error, AllocError>
+        ensures { IfOk result (λ e. e ≡ error_of (error_span error) (error_span error) (error_words error)) }
+    {
+        Error::new(alloc, error.span(), error)
+    }
+
+    /// The span that covers the first message's two, or the first of these where none covers both.
     pub fn span(&self) -> Span
         ensures { result ≡ first_span self.now }
     {
         let start = self.first.start;
         start.join(self.first.end).unwrap_or(start)
+    }
+
+    /// Puts the messages of another error behind these. Where memory is refused all stays as before, and the other error
+    /// is dropped.
+    pub fn combine(&mut self, another: Error) -> Result<(), AllocError>
+        ensures ok { OnOk result (self.new ≡ self.old ++ another) }
+        ensures err { OnErr result (self.new ≡ self.old) }
+    {
+        let Error { first, mut more } = another;
+        self.more.reserve(more.len().saturating_add(1))?;
+        put(&mut self.more, first);
+        match self.more.append(&mut more) {
+            Ok(()) => Ok(()),
+            Err(_) => unreachable!(),
+        }
+    }
+
+    /// Combines with each of these errors in turn. Where memory is refused, what came before stays.
+    pub fn extend<I: IntoIterator<Item = Error>>(&mut self, errors: I) -> Result<(), AllocError>
+        requires { IsFiniteIterable I.into_iter_gives I.IntoIter.can_next I.IntoIter.remaining errors }
+        ensures { ExtendsWithItems I.into_iter_gives I.IntoIter.next_gives AddsMessages errors self.old self.new result }
+    {
+        for another in errors {
+            self.combine(another)?;
+        }
+        Ok(())
     }
 
     /// A copy in memory of its own.
@@ -127,7 +230,9 @@ impl Error {
     }
 }
 
+/// Writes the first message's text.
 impl Display for Error {
+    ghost use Rattle.std.specs.Prelude.{Some};
     ghost use Rattle.tok_buffer.specs.Messages.{first_text};
 
     ghost output = { λ e. Some (first_text e) };
@@ -136,3 +241,25 @@ impl Display for Error {
         f.write_str(self.first.text.as_str())
     }
 }
+
+impl Debug for Message {
+    fn fmt<W: Write>(&self, f: &mut Formatter<W>) -> fmt::Result {
+        write!(f, "{:?}", self.text.as_str())
+    }
+}
+
+impl Debug for Error {
+    fn fmt<W: Write>(&self, f: &mut Formatter<W>) -> fmt::Result {
+        if self.more.is_empty() {
+            write!(f, "Error({:?})", self.first)
+        } else {
+            write!(f, "Error([{:?}", self.first)?;
+            for message in &self.more {
+                write!(f, ", {message:?}")?;
+            }
+            f.write_str("])")
+        }
+    }
+}
+
+impl std::error::Error for Error {}

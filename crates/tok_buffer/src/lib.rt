@@ -3,10 +3,18 @@
 
 mod buffer;
 mod cursor;
-mod error;
-mod same;
+mod entry;
+pub mod error;
+pub mod laws;
+mod lifetime;
+mod puncts;
 mod spot;
+mod text;
 
 pub use buffer::TokenBuffer;
-pub use cursor::{Cursor, LifetimeRef};
+pub use cursor::Cursor;
 pub use error::Error;
+pub use lifetime::{Lifetime, LifetimeFault, LifetimeRef};
+
+#[cfg(test)]
+mod tests;

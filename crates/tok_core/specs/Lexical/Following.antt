@@ -26,3 +26,7 @@ starts_name (c ∷ rest) = is_identifier_start c
 abbrev pub past_marks : List ℕ → List ℕ
 past_marks [] = []
 past_marks (c ∷ rest) = if (c == 171) || (c == 187) then past_marks rest else (c ∷ rest)
+
+-- what makes an apostrophe of marked text joint: an identifier or a punctuation character follows, through marks
+abbrev pub is_joint_apostrophe : List ℕ → Bool
+is_joint_apostrophe text = starts_name (past_marks text) || starts_punct (past_marks text)

@@ -1,11 +1,11 @@
 -- What a piece means that a rule took at a byte, with a text after it: a refusal, or its items.
-use Rattle.std.specs.Prelude.{ℕ, ◌+◌, List, [], ◌∷◌, Bool, true, false, not, ◌||◌, ◌==◌, length, map, encode_utf8_all, if◌then◌else◌, Option, Some, None}
+use Rattle.std.specs.Prelude.{ℕ, ◌+◌, List, [], ◌∷◌, Bool, true, false, not, ◌==◌, length, map, encode_utf8_all, if◌then◌else◌, Option, Some, None}
 use Rattle.tok_core.specs.Forest.{ident, punct, literal}
 use Rattle.tok_core.specs.Spans.{source}
 use Rattle.tok_core.specs.Lexical.Words.{is_missing}
 use Rattle.tok_core.specs.Lexical.Comments.{is_line_doc, is_block_doc}
 use Rattle.tok_core.specs.Lexical.Numbers.{is_malformed, is_float}
-use Rattle.tok_core.specs.Lexical.Following.{is_joint, starts_punct, starts_name, past_marks}
+use Rattle.tok_core.specs.Lexical.Following.{is_joint, is_joint_apostrophe, past_marks}
 use Rattle.tok_core.specs.Lexical.Items.{Item, leaf_item, opening, closing}
 use Rattle.tok_core.specs.declared.group.Delimiter.{Delimiter}
 use Rattle.tok_core.specs.declared.group.Delimiter.TheVariants as delimiter
@@ -51,9 +51,12 @@ is_group_mark (Opening d) = is_invisible d
 is_group_mark (Closing d) = is_invisible d
 is_group_mark rule = false
 
--- how many bytes a piece takes: the marks of invisible groups take none
+abbrev pub bytes : List ℕ → ℕ
+bytes text = length (encode_utf8_all text)
+
+-- how many bytes a piece counts for: the marks of invisible groups count for none
 abbrev pub width : Rule → List ℕ → ℕ
-width rule piece = if is_group_mark rule then 0 else length (encode_utf8_all piece)
+width rule piece = if is_group_mark rule then 0 else bytes piece
 
 abbrev pub ident_item : ℕ → ℕ → ℕ → List ℕ → Item
 ident_item number start end text = leaf_item (ident (encode_utf8_all text) (source number start end))
@@ -69,16 +72,16 @@ punct_item number at c joint = leaf_item (punct c (if joint then Joint else Alon
 abbrev pub items : ℕ → Rule → ℕ → List ℕ → List ℕ → List Item
 items number (Opening d) at piece after = opening d at ∷ []
 items number (Closing d) at piece after = closing d (at + width (Closing d) piece) ∷ []
-items number QuotedString at piece after = literal_item number at (at + width QuotedString piece) piece ∷ []
-items number ByteChar at piece after = literal_item number at (at + width ByteChar piece) piece ∷ []
-items number EscapedChar at piece after = literal_item number at (at + width EscapedChar piece) piece ∷ []
-items number PlainChar at piece after = literal_item number at (at + width PlainChar piece) piece ∷ []
-items number Lifetime at piece after = punct_item number at 39 true ∷ ident_item number (at + 1) (at + width Lifetime piece) (behind_first piece) ∷ []
-items number MarkedApostrophe at piece after = punct_item number at 39 (starts_name (past_marks after) || starts_punct (past_marks after)) ∷ []
-items number (Based base) at piece after = literal_item number at (at + width (Based base) piece) piece ∷ []
-items number Decimal at piece after = literal_item number at (at + width Decimal piece) piece ∷ []
-items number RawIdentifier at piece after = ident_item number at (at + width RawIdentifier piece) piece ∷ []
-items number Identifier at piece after = ident_item number at (at + width Identifier piece) piece ∷ []
+items number QuotedString at piece after = literal_item number at (at + bytes piece) piece ∷ []
+items number ByteChar at piece after = literal_item number at (at + bytes piece) piece ∷ []
+items number EscapedChar at piece after = literal_item number at (at + bytes piece) piece ∷ []
+items number PlainChar at piece after = literal_item number at (at + bytes piece) piece ∷ []
+items number Lifetime at piece after = punct_item number at 39 true ∷ ident_item number (at + 1) (at + bytes piece) (behind_first piece) ∷ []
+items number MarkedApostrophe at piece after = punct_item number at 39 (is_joint_apostrophe after) ∷ []
+items number (Based base) at piece after = literal_item number at (at + bytes piece) piece ∷ []
+items number Decimal at piece after = literal_item number at (at + bytes piece) piece ∷ []
+items number RawIdentifier at piece after = ident_item number at (at + bytes piece) piece ∷ []
+items number Identifier at piece after = ident_item number at (at + bytes piece) piece ∷ []
 items number Punct at piece after = map (λ c. punct_item number at c (is_joint after)) piece
 items number MarkedPunct at piece after = map (λ c. punct_item number at c (is_joint (past_marks after))) piece
 items number rule at piece after = []

@@ -1,14 +1,14 @@
 // What follows a punctuation character.
 ghost use Rattle.std.specs.Prelude.{◌≡◌, ℕ, List};
 ghost use Rattle.std.specs.Str.{chars};
-ghost use Rattle.tok_core.specs.Lexical.Following.{starts_punct, begins_comment, is_joint, starts_name, past_marks};
+ghost use Rattle.tok_core.specs.Lexical.Following.{starts_punct, begins_comment, is_joint, is_joint_apostrophe, starts_name, past_marks};
 
 use crate::lexer::classes::is_punct_or_apostrophe;
 use crate::lexer::text::next_char;
 use crate::lexer::words::is_identifier_start;
 
 /// Whether a punct character follows, the apostrophe among them.
-pub fn starts_punct(rest: &str) -> bool
+fn starts_punct(rest: &str) -> bool
     ensures { result ≡ starts_punct (chars rest.now) }
 {
     match next_char(rest) {
@@ -34,13 +34,21 @@ pub fn is_joint(rest: &str) -> bool
 }
 
 /// Whether an identifier follows.
-pub fn starts_name(rest: &str) -> bool
+fn starts_name(rest: &str) -> bool
     ensures { result ≡ starts_name (chars rest.now) }
 {
     match next_char(rest) {
         Some((first, _)) => is_identifier_start(first),
         None => false,
     }
+}
+
+/// Whether an identifier or a punct character follows, through marks.
+pub fn is_joint_apostrophe(after: &str) -> bool
+    ensures { result ≡ is_joint_apostrophe (chars after.now) }
+{
+    let next = past_marks(after);
+    starts_name(next) || starts_punct(next)
 }
 
 /// Past the marks of invisible groups at the front.

@@ -11,7 +11,7 @@ ghost use Rattle.tok_core.specs.Lexical.Rules.{Spells};
 use crate::group::{Delimiter, Group};
 use crate::ident::Ident;
 use crate::lexer::error::{LexError, LexFault, Refusal};
-use crate::lexer::joint::{is_joint, past_marks, starts_name, starts_punct};
+use crate::lexer::joint::{is_joint, is_joint_apostrophe, past_marks};
 use crate::lexer::meaning::refusal;
 use crate::lexer::rule::Rule;
 use crate::lexer::text::{first_of, past_first};
@@ -178,10 +178,7 @@ impl Nest {
             Rule::Opening(delimiter) => return self.open(delimiter, at),
             Rule::Closing(delimiter) => return self.close(delimiter, at, end),
             Rule::Lifetime => self.lifetime(at, end, past_first(piece))?,
-            Rule::MarkedApostrophe => {
-                let next = past_marks(after);
-                self.punct(at, '\'', starts_name(next) | starts_punct(next))?
-            }
+            Rule::MarkedApostrophe => self.punct(at, '\'', is_joint_apostrophe(after))?,
             Rule::Punct => self.punct(at, first_of(piece), is_joint(after))?,
             Rule::MarkedPunct => self.punct(at, first_of(piece), is_joint(past_marks(after)))?,
             Rule::RawIdentifier | Rule::Identifier => self.ident(at, end, piece)?,

@@ -257,6 +257,10 @@ fn marks(rt: HostRuntime) {
     assert_eq!(rt; refused_marked(&rt, "'«'»"), Some((3, 4)));
     assert!(rt; reads_marked(&rt, "'«a»", "joint ' 0..1; invisible a 1..2; "));
     assert_eq!(rt; refused_marked(&rt, "b'«"), Some((6, 0)));
+}
+
+#[test]
+fn marks_and_tokens(rt: HostRuntime) {
     assert_eq!(rt; refused_marked(&rt, "1.«x»"), Some((8, 0)));
     assert_eq!(rt; refused_marked(&rt, "1.«.»"), Some((8, 0)));
     assert_eq!(rt; refused_marked(&rt, "0x1.«f»"), Some((9, 0)));

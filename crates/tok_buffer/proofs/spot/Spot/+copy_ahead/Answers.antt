@@ -5,7 +5,7 @@ use Rattle.tok_core.specs.declared.stream.TokenTree.TheVariants as made
 use Rattle.tok_core.proofs.Facts.{joined-none}
 use Rattle.tok_buffer.specs.Moves.{levels_at}
 use Rattle.tok_buffer.specs.Layout.{entry_here, leaf_in}
-use Rattle.tok_buffer.specs.declared.buffer.Entry.TheVariants.{Group}
+use Rattle.tok_buffer.specs.declared.entry.Entry.TheVariants.{Group}
 use Rattle.tok_buffer.proofs.InScope.{before_scope, place_step}
 use Rattle.tok_buffer.proofs.Groups.{held_fits, held_within, held_behind}
 use Rattle.tok_buffer.proofs.Rests.{rest_at, rest_any, rest_leaf, rest_close, rest_done, rest_group, tree_copied}

@@ -1,0 +1,12 @@
+use Rattle.std.proofs.Common.{rules}
+use Rattle.syn_tokens.specs.Program.{Serves}
+use Rattle.syn_tokens.proofs.Once.{serves_only}
+use Rattle.syn_tokens.proofs.program.answer.Goals as goal
+
+pub returns-in-Ok-clause-only : goal.returns-in-Ok-clause-only
+returns-in-Ok-clause-only g c =
+    let bytes = c.args.input.now in
+    let old = g.W.Write.contents c.args.output.now in
+    let new = g.W.Write.contents c.send.new.output in
+    let served : Serves bytes c.send.result old new = search rules in
+    serves_only bytes c.send.result old new served

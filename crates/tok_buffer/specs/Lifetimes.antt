@@ -1,0 +1,59 @@
+-- Lifetimes, and which texts make one.
+use Rattle.std.specs.Prelude.{ℕ, ◌==◌, ◌&&◌, Bool, false, cond, List, [], ◌∷◌, Option, Some, None}
+use Rattle.std.specs.List.{list_all}
+use Rattle.unicode_ident.specs.Ident.{is_xid_continue}
+use Rattle.tok_core.specs.Forest.{Forest, forest}
+use Rattle.tok_core.specs.Lexical.Words.{is_identifier_start, has_no_raw}
+use Rattle.tok_core.specs.Seen.{ident_of}
+use Rattle.tok_core.specs.Text.{leaf_text}
+use Rattle.tok_core.specs.declared.ident.MakeFault.{MakeFault}
+use Rattle.tok_core.specs.declared.ident.MakeFault.TheVariants as made
+use Rattle.tok_core.specs.declared.ident.MakeFault.TheVariants.{Refused}
+use Rattle.tok_buffer.specs.Reads.{apostrophe, lifetime_trees}
+use Rattle.tok_buffer.specs.declared.lifetime.Lifetime.{Lifetime}
+use Rattle.tok_buffer.specs.declared.lifetime.LifetimeFault.{LifetimeFault}
+use Rattle.tok_buffer.specs.declared.lifetime.LifetimeFault.TheVariants.{NoApostrophe, Empty, NotIdentifier, NoRaw, Memory}
+
+-- the trees that a lifetime is written as
+abbrev pub lifetime_forest : Lifetime → Forest
+lifetime_forest l = forest (lifetime_trees l.apostrophe (ident_of l.ident))
+
+-- an apostrophe and the identifier's text
+abbrev pub lifetime_text : Lifetime → List ℕ
+lifetime_text l = apostrophe ∷ leaf_text (ident_of l.ident)
+
+-- a plain identifier
+abbrev pub is_identifier : List ℕ → Bool
+is_identifier [] = false
+is_identifier (c ∷ cs) = is_identifier_start c && list_all is_xid_continue cs
+
+-- what stands behind `r#`
+abbrev pub raw_word : List ℕ → Option (List ℕ)
+raw_word (c ∷ (d ∷ word)) = cond (c == 114 && d == 35) (Some word) None
+raw_word cs = None
+
+-- why these characters name no lifetime, plain or raw; None where they do
+abbrev pub plain_refusal : List ℕ → Option LifetimeFault
+plain_refusal [] = Some Empty
+plain_refusal (c ∷ cs) = cond (is_identifier (c ∷ cs)) None (Some NotIdentifier)
+
+abbrev pub raw_refusal : List ℕ → Option LifetimeFault
+raw_refusal word = cond (has_no_raw word) (Some NoRaw) (plain_refusal word)
+
+abbrev pub name_refusal : List ℕ → Option LifetimeFault
+name_refusal cs = elim (raw_word cs) [ Some word ↦ raw_refusal word | None ↦ plain_refusal cs ]
+
+-- why these characters make no lifetime; None where they do
+abbrev pub lifetime_refusal : List ℕ → Option LifetimeFault
+lifetime_refusal [] = Some NoApostrophe
+lifetime_refusal (c ∷ cs) = cond (c == apostrophe) (name_refusal cs) (Some NoApostrophe)
+
+-- want of memory refuses no text
+abbrev pub refusal_in : LifetimeFault → Option LifetimeFault
+refusal_in Memory = None
+refusal_in fault = Some fault
+
+-- a maker's fault, at a name that isn't empty and may be raw
+abbrev pub name_fault : MakeFault → LifetimeFault
+name_fault Refused = NotIdentifier
+name_fault made.Memory = Memory

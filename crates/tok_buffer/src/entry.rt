@@ -1,0 +1,75 @@
+// What a buffer holds: leaves, openings of groups and their ends.
+ghost use Rattle.std.specs.Prelude.{◌≡◌, IfOk};
+ghost use Rattle.tok_core.specs.Forest.{leaf};
+ghost use Rattle.tok_core.specs.Seen.{tree_of};
+ghost use Rattle.tok_core.specs.Spans.{leaf_span};
+ghost use Rattle.tok_buffer.specs.Entry.{same_delimiter};
+ghost use Rattle.tok_buffer.specs.Layout.{entry_owner, leaf_in};
+ghost use Rattle.tok_buffer.specs.Spans.{closing_of};
+
+use std::alloc::AllocError;
+use tok_core::{DelimSpan, Delimiter, Ident, Literal, Punct, Span, TokenTree};
+
+#[derive(Clone, Copy)]
+pub struct Opening {
+    pub delimiter: Delimiter,
+    pub span: Span,
+}
+
+#[derive(Drop)]
+pub enum Leaf {
+    Ident(Ident),
+    Punct(Punct),
+    Literal(Literal),
+}
+
+#[derive(Drop)]
+pub enum Entry {
+    Leaf(Leaf),
+    // A group's opening, and the offset to its end.
+    Group(Opening, usize),
+    // The offset back to its group; 0 for the buffer's end.
+    End(usize),
+}
+
+impl Leaf {
+    pub fn span(&self) -> Span
+        ensures { result ≡ leaf_span (leaf_in self.now) }
+    {
+        match self {
+            Leaf::Ident(ident) => ident.span(),
+            Leaf::Punct(punct) => punct.span(),
+            Leaf::Literal(literal) => literal.span(),
+        }
+    }
+
+    // The leaf as a tree of its own.
+    pub fn copied(&self) -> Result<TokenTree, AllocError>
+        ensures { IfOk result (λ t. tree_of t ≡ leaf (leaf_in self.now)) }
+    {
+        match self {
+            Leaf::Ident(ident) => Ok(TokenTree::Ident(ident.clone()?)),
+            Leaf::Punct(punct) => Ok(TokenTree::Punct(*punct)),
+            Leaf::Literal(literal) => Ok(TokenTree::Literal(literal.clone()?)),
+        }
+    }
+}
+
+impl Entry {
+    // The delimiter and the closing span of a group that opens here.
+    pub fn closing(&self) -> (Delimiter, Span)
+        ensures { result ≡ closing_of (entry_owner self.now) }
+    {
+        match self {
+            Entry::Group(group, _) => (group.delimiter, DelimSpan::new(group.span).close()),
+            _ => (Delimiter::None, Span::call_site()),
+        }
+    }
+}
+
+// Equality of delimiters, as contracts have it.
+pub fn same(left: Delimiter, right: Delimiter) -> bool
+    ensures { result ≡ same_delimiter left right }
+{
+    left == right
+}

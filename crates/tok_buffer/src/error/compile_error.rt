@@ -1,0 +1,100 @@
+// Errors as tokens for the compiler.
+ghost use Rattle.std.specs.Prelude.{◌≡◌, true, IfOk, OnOk};
+ghost use Rattle.std.specs.Str.{chars};
+ghost use Rattle.tok_core.specs.Forest.{ident, joined, punct};
+ghost use Rattle.tok_core.specs.Lexical.Characters.{is_punct_or_apostrophe};
+ghost use Rattle.tok_core.specs.Lexical.Words.{IsIdentifier};
+ghost use Rattle.tok_core.specs.Seen.{ident_of, punct_of};
+ghost use Rattle.tok_buffer.specs.CompileErrors.{invocation, segment};
+
+use crate::error::{Error, Message};
+use crate::puncts::punct;
+use std::alloc::{AllocError, Global};
+use tok_core::{
+    Delimiter, Group, Ident, Literal, MakeFault, Spacing, Span, TokenStream, TokenTree,
+};
+
+impl Error {
+    ghost use Rattle.tok_buffer.specs.CompileErrors.{compile_errors};
+
+    /// The messages as tokens that make the compiler refuse them: for each `::core::compile_error!{"text"}`, the path and
+    /// the `!` at the message's first span, the braces and the text at its last.
+    pub fn to_compile_error(&self, alloc: Global) -> Result<TokenStream, AllocError>
+        ensures { IfOk result (λ s. s ≡ compile_errors self.now) }
+    {
+        let mut tokens = TokenStream::new(alloc);
+        self.first.write(alloc, &mut tokens)?;
+        for message in &self.more {
+            message.write(alloc, &mut tokens)?;
+        }
+        Ok(tokens)
+    }
+
+    /// The same, and the error is let go.
+    pub fn into_compile_error(self, alloc: Global) -> Result<TokenStream, AllocError>
+        ensures { IfOk result (λ s. s ≡ compile_errors self) }
+    {
+        self.to_compile_error(alloc)
+    }
+}
+
+impl Message {
+    ghost use Rattle.tok_buffer.specs.CompileErrors.{compile_error};
+
+    // Puts the tokens of this message behind others.
+    fn write(&self, alloc: Global, tokens: &mut TokenStream) -> Result<(), AllocError>
+        ensures { OnOk result (tokens.new ≡ joined tokens.old (compile_error self.now)) }
+    {
+        write_segment(alloc, "core", self.start, tokens)?;
+        write_segment(alloc, "compile_error", self.start, tokens)?;
+        write_invocation(alloc, self.text.as_str(), self.start, self.end, tokens)?;
+        Ok(())
+    }
+}
+
+// Puts `::` and a name behind others.
+fn write_segment(
+    alloc: Global,
+    name: &str,
+    span: Span,
+    tokens: &mut TokenStream,
+) -> Result<(), AllocError>
+    requires { IsIdentifier (chars name.now) }
+    ensures { OnOk result (tokens.new ≡ joined tokens.old (segment name.now span)) }
+{
+    tokens.append(TokenTree::Punct(punct(':', Spacing::Joint, span)))?;
+    tokens.append(TokenTree::Punct(punct(':', Spacing::Alone, span)))?;
+    tokens.append(TokenTree::Ident(identifier(alloc, name, span)?))?;
+    Ok(())
+}
+
+// Puts `!` and, in braces, a text as a string behind others.
+fn write_invocation(
+    alloc: Global,
+    text: &str,
+    start: Span,
+    end: Span,
+    tokens: &mut TokenStream,
+) -> Result<(), AllocError>
+    ensures { OnOk result (tokens.new ≡ joined tokens.old (invocation start end text.now)) }
+{
+    let mut literal = Literal::string(alloc, text)?;
+    literal.set_span(end);
+    let mut inside = TokenStream::new(alloc);
+    inside.append(TokenTree::Literal(literal))?;
+    tokens.append(TokenTree::Punct(punct('!', Spacing::Alone, start)))?;
+    let group = Group::new(Delimiter::Brace, inside, end);
+    tokens.append(TokenTree::Group(group))?;
+    Ok(())
+}
+
+fn identifier(alloc: Global, name: &str, span: Span) -> Result<Ident, AllocError>
+    requires { IsIdentifier (chars name.now) }
+    ensures { IfOk result (λ i. ident_of i ≡ ident name.now span) }
+{
+    match Ident::new(alloc, name, span) {
+        Ok(ident) => Ok(ident),
+        Err(MakeFault::Memory) => Err(AllocError),
+        Err(MakeFault::Refused) => unreachable!(),
+    }
+}

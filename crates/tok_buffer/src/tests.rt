@@ -1,0 +1,374 @@
+// What no contract says: worked rows, printed texts, and that each call succeeds where memory is there.
+ghost use Rattle.std.specs.Prelude.{◌≤◌};
+
+use crate::buffer::TokenBuffer;
+use crate::cursor::Cursor;
+use crate::error::Error;
+use crate::laws;
+use crate::lifetime::{Lifetime, LifetimeFault};
+use std::alloc::{AllocError, Global};
+use std::cmp::Ordering;
+use std::hash::{BuildHasher, BuildHasherDefault, FoldHasher};
+use std::process::Abort;
+use std::test::Fail;
+use tok_core::{Delimiter, LexFault, Span, ToTokens, TokenStream, lex, lex_marked};
+
+fn laid(alloc: Global, number: u64, text: &str) -> Result<TokenBuffer, LexFault> {
+    let stream = lex_marked(alloc, 0, text)?;
+    match TokenBuffer::new2(alloc, number, stream) {
+        Ok(buffer) => Ok(buffer),
+        Err(_) => Err(LexFault::Memory),
+    }
+}
+
+fn at(start: usize, end: usize) -> Span
+    requires { start ≤ end }
+{
+    Span::source(0, start, end)
+}
+
+#[test]
+fn skips_a_token(rt: HostRuntime) -> Result<(), Fail> {
+    let rows = [
+        ("'a b", Some(2)),
+        ("'«a»", Some(4)),
+        ("'«a» ,", Some(4)),
+        ("«'»a", Some(4)),
+        ("'«+»", Some(1)),
+        ("' a", Some(1)),
+        ("(a) b", Some(3)),
+        ("«»", None),
+        ("", None),
+    ];
+    for (text, wanted) in rows {
+        let buffer = laid(rt.alloc(), 0, text)?;
+        let position = buffer.begin().skip().map(|rest| rest.position());
+        assert_eq!(rt; position, wanted.map(Some), "at {text}");
+    }
+    Ok(())
+}
+
+#[test]
+fn reads_a_lifetime_across_an_edge(rt: HostRuntime) -> Result<(), Fail> {
+    let buffer = laid(rt.alloc(), 0, "'«a»")?;
+    let (lifetime, rest) = buffer.begin().lifetime().ok_or("no lifetime")?;
+    assert_eq!(rt; lifetime.apostrophe, at(0, 1));
+    assert_eq!(rt; lifetime.ident.as_str(), "a");
+    assert_eq!(rt; rest.position(), Some(4));
+    Ok(())
+}
+
+#[test]
+fn stops_at_an_empty_invisible_group(rt: HostRuntime) -> Result<(), Fail> {
+    let buffer = laid(rt.alloc(), 0, "«»")?;
+    let begin = buffer.begin();
+    let facts = [
+        !begin.eof(),
+        begin.skip().is_none(),
+        begin.ident().is_none(),
+        begin.leftover().is_none(),
+    ];
+    all_hold(&rt, &facts);
+    Ok(())
+}
+
+// That each of these holds.
+fn all_hold(rt: &impl Abort, facts: &[bool]) {
+    for (row, fact) in facts.iter().enumerate() {
+        assert!(rt; *fact, "fact {row}");
+    }
+}
+
+// The spans in the content of `(a)`, and behind the group.
+#[test]
+fn tells_spans(rt: HostRuntime) -> Result<(), Fail> {
+    let buffer = laid(rt.alloc(), 0, "(a)")?;
+    let begin = buffer.begin();
+    let (content, _, behind) = begin.group(Delimiter::Parenthesis).ok_or("no group")?;
+    let (_, end) = content.ident().ok_or("no identifier")?;
+    all_hold(
+        &rt,
+        &[
+            begin.start_span() == at(0, 1),
+            content.prev_span() == at(0, 3),
+            content.span() == at(1, 2),
+            end.span() == at(2, 3),
+            end.prev_span() == at(1, 2),
+            end.position() == Some(2),
+            behind.span() == Span::call_site(),
+            behind.start_span() == Span::call_site(),
+            behind.prev_span() == at(2, 3),
+            behind.position() == Some(3),
+        ],
+    );
+    Ok(())
+}
+
+#[test]
+fn compares_cursors(rt: HostRuntime) -> Result<(), Fail> {
+    let first = laid(rt.alloc(), 1, "a (b)")?;
+    let second = laid(rt.alloc(), 2, "a (b)")?;
+    let begin = first.begin();
+    let other = second.begin();
+    let empty = Cursor::empty();
+    let (_, group) = begin.ident().ok_or("no identifier")?;
+    let (content, _, _) = group.group(Delimiter::Parenthesis).ok_or("no group")?;
+    all_hold(
+        &rt,
+        &[
+            empty == empty,
+            empty.partial_cmp(&empty) == Some(Ordering::Equal),
+            empty.same_scope(empty),
+            empty.same_buffer(empty),
+            empty != begin,
+            empty.partial_cmp(&begin).is_none(),
+            !empty.same_scope(begin),
+            !begin.same_buffer(empty),
+            begin != other,
+            begin.partial_cmp(&other).is_none(),
+            begin < group,
+            group < content,
+            begin.same_scope(group),
+            !begin.same_scope(content),
+            begin.same_buffer(content),
+            laws::equal_in_order(begin, group),
+        ],
+    );
+    Ok(())
+}
+
+#[test]
+fn finds_the_leftover(rt: HostRuntime) -> Result<(), Fail> {
+    let buffer = laid(rt.alloc(), 0, "(«a» b)")?;
+    let (content, delimiter, _, _) = buffer.begin().any_group().ok_or("no group")?;
+    let (_, rest) = content.ident().ok_or("no identifier")?;
+    all_hold(
+        &rt,
+        &[
+            delimiter == Delimiter::Parenthesis,
+            content.scope_delimiter() == Delimiter::Parenthesis,
+            content.leftover() == Some((at(1, 2), Delimiter::None)),
+            rest.leftover() == Some((at(3, 4), Delimiter::Parenthesis)),
+        ],
+    );
+    Ok(())
+}
+
+#[test]
+fn peeks(rt: HostRuntime) -> Result<(), Fail> {
+    let buffer = laid(rt.alloc(), 0, "fn +«=» 'a")?;
+    let begin = buffer.begin();
+    let (_, sum) = begin.ident().ok_or("no identifier")?;
+    let (_, second) = sum.punct().ok_or("no punct")?;
+    let (_, mark) = second.punct().ok_or("no punct")?;
+    all_hold(
+        &rt,
+        &[
+            begin.peek_keyword("fn"),
+            !begin.peek_keyword("f"),
+            sum.peek_punct("+="),
+            sum.peek_punct("+"),
+            !sum.peek_punct("=="),
+            !sum.peek_punct("+=="),
+            !sum.peek_punct(""),
+            !sum.peek_keyword("+"),
+            !mark.peek_punct("'"),
+            mark.punct().is_none(),
+            !Cursor::empty().peek_punct("+"),
+            !Cursor::empty().peek_keyword("fn"),
+        ],
+    );
+    Ok(())
+}
+
+#[test]
+fn rebuilds_a_stream(rt: HostRuntime) -> Result<(), Fail> {
+    let alloc = rt.alloc();
+    let stream = lex_marked(alloc, 0, "a + 1 («b» 'c) {d}")?;
+    let text = laws::same_stream(alloc, 0, stream)?.to_string(alloc)?;
+    assert_eq!(rt; text.as_str(), "a + 1 («b» 'c) {d}");
+    Ok(())
+}
+
+#[test]
+fn rebuilds_trees(rt: HostRuntime) -> Result<(), Fail> {
+    let buffer = laid(rt.alloc(), 0, "1 («b» 'c)")?;
+    let (literal, rest) = buffer.begin().literal().ok_or("no literal")?;
+    assert_eq!(rt; literal.as_str(), "1");
+    let (first, _) = buffer.begin().token_tree(rt.alloc())?.ok_or("no tree")?;
+    assert_eq!(rt; first.span(), at(0, 1));
+    let (next, end) = rest.token_tree(rt.alloc())?.ok_or("no tree")?;
+    assert_eq!(rt; next.span(), at(2, 8));
+    let (group, _) = rest.any_group_token(rt.alloc())?.ok_or("no group")?;
+    assert_eq!(rt; group.stream().trees().len(), 3);
+    assert!(rt; end.token_tree(rt.alloc())?.is_none());
+    Ok(())
+}
+
+// The spans of errors from cursor to cursor, and of some tokens.
+#[test]
+fn spans_errors(rt: HostRuntime) -> Result<(), Fail> {
+    let alloc = rt.alloc();
+    let buffer = laid(alloc, 0, "a (b) c")?;
+    let begin = buffer.begin();
+    let (_, group) = begin.ident().ok_or("no identifier")?;
+    let behind = group.skip().ok_or("no group")?;
+    let whole = Error::new_range(alloc, begin, behind, "x")?.span();
+    let only = Error::new_range(alloc, group, group, "x")?.span();
+    let all = Error::new_spanned(alloc, begin.token_stream(alloc)?, "x")?.span();
+    let none = Error::new_spanned(alloc, TokenStream::new(alloc), "x")?.span();
+    all_hold(
+        &rt,
+        &[
+            whole == at(0, 5),
+            only == at(2, 5),
+            all == at(0, 7),
+            none == Span::call_site(),
+        ],
+    );
+    Ok(())
+}
+
+#[test]
+fn refuses_at_a_cursor(rt: HostRuntime) -> Result<(), Fail> {
+    let alloc = rt.alloc();
+    let buffer = laid(alloc, 0, "(b)")?;
+    let here = Error::new_at(alloc, at(9, 9), buffer.begin(), "x")?;
+    assert_eq!(rt; here.span(), at(0, 1));
+    let end = Error::new_at(alloc, at(9, 9), Cursor::empty(), "x")?;
+    assert_eq!(rt; end.span(), at(9, 9));
+    let text = end.to_string(alloc)?;
+    assert_eq!(rt; text.as_str(), "unexpected end of input, x");
+    Ok(())
+}
+
+#[test]
+fn reports_what_is_not_read(rt: HostRuntime) -> Result<(), Fail> {
+    let alloc = rt.alloc();
+    match lex(alloc, 0, "a 1.0") {
+        Err(LexFault::Refused(error)) => {
+            let error = Error::from_lex(alloc, error)?;
+            assert_eq!(rt; error.span(), at(2, 2));
+            let text = error.to_string(alloc)?;
+            assert_eq!(rt; text.as_str(), "float literal");
+        }
+        Err(LexFault::Memory) => return Err(Fail::from(LexFault::Memory)),
+        Ok(_) => assert!(rt; false, "it is read"),
+    }
+    Ok(())
+}
+
+// An error of two messages, `x` at 3..4 and `y` at 5..6.
+fn of_two(alloc: Global) -> Result<Error, AllocError> {
+    let mut error = Error::new(alloc, Span::source(0, 3, 4), "x")?;
+    error.combine(Error::new(alloc, Span::source(0, 5, 6), "y")?)?;
+    Ok(error)
+}
+
+#[test]
+fn shows_errors(rt: HostRuntime) -> Result<(), Fail> {
+    let alloc = rt.alloc();
+    let one = Error::new(alloc, at(3, 4), "x")?;
+    let shown = format!(in alloc; "{one:?} {one}")?;
+    assert_eq!(rt; shown.as_str(), "Error(\"x\") x");
+    let two = of_two(alloc)?;
+    let shown = format!(in alloc; "{two:?} {two}")?;
+    assert_eq!(rt; shown.as_str(), "Error([\"x\", \"y\"]) x");
+    Ok(())
+}
+
+#[test]
+fn goes_over_messages(rt: HostRuntime) -> Result<(), Fail> {
+    let alloc = rt.alloc();
+    let spans = [at(3, 4), at(5, 6), at(3, 4), at(5, 6)];
+    let mut error = of_two(alloc)?;
+    for (row, one) in (&error).into_iter().enumerate() {
+        assert_eq!(rt; Some(one?.span()), spans.get(row).copied());
+    }
+    let copy = error.clone()?;
+    error.extend(copy)?;
+    let mut count = 0;
+    for one in error {
+        assert_eq!(rt; Some(one.span()), spans.get(count).copied());
+        count += 1;
+    }
+    assert_eq!(rt; count, 4);
+    Ok(())
+}
+
+#[test]
+fn hands_errors_to_the_compiler(rt: HostRuntime) -> Result<(), Fail> {
+    let alloc = rt.alloc();
+    let one = Error::new(alloc, at(3, 4), "x")?.to_compile_error(alloc)?;
+    let printed = one.to_string(alloc)?;
+    assert_eq!(rt; printed.as_str(), ":: core :: compile_error ! {\"x\"}");
+    let both = of_two(alloc)?.into_compile_error(alloc)?;
+    let trees = both.trees();
+    assert_eq!(rt; trees.len(), 16);
+    assert_eq!(rt; trees.get(7).map(|tree| tree.span()), Some(at(3, 4)));
+    assert_eq!(rt; trees.get(15).map(|tree| tree.span()), Some(at(5, 6)));
+    Ok(())
+}
+
+#[test]
+fn refuses_lifetimes(rt: HostRuntime) -> Result<(), Fail> {
+    let rows = [
+        ("a", LifetimeFault::NoApostrophe),
+        ("", LifetimeFault::NoApostrophe),
+        ("'", LifetimeFault::Empty),
+        ("'r#", LifetimeFault::Empty),
+        ("'1", LifetimeFault::NotIdentifier),
+        ("'r#1", LifetimeFault::NotIdentifier),
+        ("'a b", LifetimeFault::NotIdentifier),
+        ("'r#self", LifetimeFault::NoRaw),
+        ("'r#_", LifetimeFault::NoRaw),
+    ];
+    for (text, wanted) in rows {
+        let refused = Lifetime::new(rt.alloc(), text, at(1, 3)).err();
+        assert_eq!(rt; refused, Some(wanted), "at {text}");
+    }
+    Ok(())
+}
+
+#[test]
+fn compares_lifetimes(rt: HostRuntime) -> Result<(), Fail> {
+    let alloc = rt.alloc();
+    let mut made = Lifetime::new(alloc, "'a", at(1, 3))?;
+    let raw = Lifetime::new(alloc, "'r#fn", at(4, 9))?;
+    let copy = made.clone()?;
+    made.set_span(at(5, 6));
+    made.apostrophe = at(2, 3);
+    let hasher = BuildHasherDefault::<FoldHasher>::default();
+    all_hold(
+        &rt,
+        &[
+            made.span() == at(2, 6),
+            made == copy,
+            made < raw,
+            hasher.hash_one(&made) == hasher.hash_one(&copy),
+            laws::equal_lifetimes_in_order(&made, &raw),
+            laws::lifetimes_by_name(&made, &raw),
+        ],
+    );
+    Ok(())
+}
+
+#[test]
+fn prints_lifetimes(rt: HostRuntime) -> Result<(), Fail> {
+    let alloc = rt.alloc();
+    let raw = Lifetime::new(alloc, "'r#fn", at(4, 9))?;
+    let text = raw.to_string(alloc)?;
+    assert_eq!(rt; text.as_str(), "'r#fn");
+    let printed = raw.into_token_stream(alloc)?;
+    let text = printed.to_string(alloc)?;
+    assert_eq!(rt; text.as_str(), "'r#fn");
+    Ok(())
+}
+
+// One request lays out an empty stream: where the first is refused nothing is made, and a second never comes.
+#[test]
+fn asks_once(rt: HostRuntime) -> Result<(), Fail> {
+    let buffer = TokenBuffer::new2(rt.alloc(), 0, TokenStream::new(rt.alloc()))?;
+    assert!(rt; buffer.begin().eof());
+    Ok(())
+}
