@@ -1,0 +1,56 @@
+//! Callers of `tok_buffer`: a walk with a cursor, and a lifetime read across an edge.
+ghost use Rattle.std.specs.Prelude.{◌≡◌, ◌∷◌, [], MatchOption, Some, None};
+ghost use Rattle.tok_core.specs.Forest.{leaf};
+ghost use Rattle.tok_core.specs.Seen.{ident_of};
+ghost use Rattle.tok_buffer.specs.Cursors.{place_of};
+ghost use Rattle.tok_buffer.specs.Place.{Place};
+ghost use Rattle.tok_buffer.specs.Reads.{and_then, any_text, lifetime_trees, read_ident, read_lifetime};
+
+use tok_buffer::Cursor;
+use tok_core::{Ident, Span};
+
+/// Two identifiers one behind the other, across the edges of invisible groups: a walk with a cursor.
+pub fn pair_of_idents<'a>(cursor: Cursor<'a>) -> Option<(&'a Ident, &'a Ident, Cursor<'a>)>
+    ensures { MatchOption result
+        (and_then (read_ident (place_of cursor.entry)) read_ident ≡ None)
+        (λ r. and_then (read_ident (place_of cursor.entry)) read_ident
+        ≡ Some (leaf (ident_of r.0.now) ∷ leaf (ident_of r.1.now) ∷ [], place_of r.2)) }
+{
+    let (first, behind) = cursor.ident()?;
+    let (second, rest) = behind.ident()?;
+    Some((first, second, rest))
+}
+
+/// The lifetime in front, of whatever name, also where its identifier stands in an invisible group.
+pub fn any_lifetime<'a>(cursor: Cursor<'a>) -> Option<(Span, &'a Ident)>
+    ensures { MatchOption result
+        (read_lifetime any_text (place_of cursor.entry) ≡ None)
+        (λ r. (p : Place) × (read_lifetime any_text (place_of cursor.entry) ≡ Some (lifetime_trees r.0 (ident_of r.1.now), p))) }
+{
+    let (lifetime, _) = cursor.lifetime()?;
+    Some((lifetime.apostrophe, lifetime.ident))
+}
+
+#[cfg(test)]
+mod tests {
+    use super::*;
+    use std::test::Fail;
+    use tok_buffer::TokenBuffer;
+    use tok_core::lex_marked;
+
+    #[test]
+    fn across_edges(rt: HostRuntime) -> Result<(), Fail> {
+        let alloc = rt.alloc();
+        let buffer = TokenBuffer::new2(alloc, 0, lex_marked(alloc, 0, "'«a» b «c» d")?)?;
+        let begin = buffer.begin();
+        let (apostrophe, name) = any_lifetime(begin).ok_or("no lifetime")?;
+        assert_eq!(rt; apostrophe, Span::source(0, 0, 1));
+        assert!(rt; name.as_str() == "a");
+        let behind = begin.skip().ok_or("nothing to skip")?;
+        let (first, second, rest) = pair_of_idents(behind).ok_or("no two identifiers")?;
+        assert!(rt; first.as_str() == "b");
+        assert!(rt; second.as_str() == "c");
+        assert!(rt; pair_of_idents(rest).is_none());
+        Ok(())
+    }
+}

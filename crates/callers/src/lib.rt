@@ -1,0 +1,6 @@
+//! Callers of the crates, as a user would write them, proved from public contracts alone.
+#![tactic(auto)]
+
+pub mod buffer;
+pub mod punctuated;
+pub mod trees;

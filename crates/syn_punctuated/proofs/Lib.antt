@@ -1,0 +1,10 @@
+pub mod Depth
+pub mod Equality
+pub mod Inserts
+pub mod IterRuns
+pub mod PairedUp
+pub mod PairsAdded
+pub mod RetainSteps
+pub mod Trailing
+pub mod WithValue
+pub mod Writes

@@ -1,0 +1,11 @@
+pub mod Adds
+pub mod Boxes
+pub mod Faults
+pub mod Lends
+pub mod Lent
+pub mod Lists
+pub mod PairLends
+pub mod Paired
+pub mod Pairs
+pub mod Printed
+pub mod Retained

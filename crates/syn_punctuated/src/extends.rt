@@ -1,0 +1,139 @@
+//! The calls that add many values.
+ghost use Rattle.std.specs.Prelude.{◌≡◌, [], ◌∷◌, ◌++◌, length, option_to_list, Some, IfOk, IfErr, OnOk, OnErr};
+ghost use Rattle.std.specs.Iterator.{IsFiniteIterable, ExtendsWithItems};
+ghost use Rattle.syn_punctuated.specs.Adds.{AddsValues, ExtendsWithPairs, ExtendsAfterDefault};
+ghost use Rattle.syn_punctuated.specs.Adds.{MadeOfValues, MadeOfPairs, GoesOnAfterEnd};
+ghost use Rattle.syn_punctuated.specs.Faults.{fault_text};
+ghost use Rattle.syn_punctuated.specs.Lists.{values_of, separators_of, IsUnchanged};
+ghost use Rattle.syn_punctuated.specs.Pairs.{value_of_pair, separator_of_pair};
+
+use crate::pair::Pair;
+use crate::punctuated::Punctuated;
+use std::alloc::{AllocError, Global};
+use std::fmt;
+
+/// Why pairs were not all added.
+#[derive(Clone, Copy, Debug, PartialEq, Eq)]
+pub enum PairsFault {
+    /// P1: a pair follows one without a separator.
+    AfterEnd,
+    /// There was no memory.
+    Memory,
+}
+
+impl fmt::Display for PairsFault {
+    ghost output = { λ fault. Some (fault_text fault) };
+
+    fn fmt<W: fmt::Write>(&self, f: &mut fmt::Formatter<W>) -> fmt::Result {
+        f.write_str(match self {
+            PairsFault::AfterEnd => "a pair follows one without a separator",
+            PairsFault::Memory => "out of memory",
+        })
+    }
+}
+
+impl From<AllocError> for PairsFault {
+    ghost use Rattle.syn_punctuated.specs.declared.extends.PairsFault.TheVariants.{Memory};
+
+    ghost from_gives = { λ _ fault. fault ≡ Memory };
+
+    fn from(_refused: AllocError) -> Self {
+        Self::Memory
+    }
+}
+
+impl<T: Drop, P: Drop> Punctuated<T, P> {
+    /// Adds a pair. Owed: the list is empty or ends in a separator.
+    fn push_pair(&mut self, pair: Pair<T, P>) -> Result<(), AllocError>
+        requires { length (values_of self.old) ≡ length (separators_of self.old) }
+        ensures values { OnOk result (values_of self.new ≡ values_of self.old ++ value_of_pair pair ∷ []) }
+        ensures separators { OnOk result (separators_of self.new
+            ≡ separators_of self.old ++ option_to_list (separator_of_pair pair)) }
+        ensures err { OnErr result (IsUnchanged self.old self.new) }
+    {
+        match pair {
+            Pair::Punctuated(value, separator) => {
+                self.inner.push((value, separator))?;
+                Ok(())
+            }
+            Pair::End(value) => self.push_value(value),
+        }
+    }
+
+    /// Adds pairs in turn. Owed: the list is empty or ends in a separator.
+    fn push_pairs<I: IntoIterator<Item = Pair<T, P>>>(&mut self, pairs: I) -> Result<(), PairsFault>
+        requires starts { length (values_of self.old) ≡ length (separators_of self.old) }
+        requires ends { IsFiniteIterable I.into_iter_gives I.IntoIter.can_next I.IntoIter.remaining pairs }
+        ensures { ExtendsWithPairs I.into_iter_gives I.IntoIter.next_gives pairs self.old self.new result }
+    {
+        for pair in pairs {
+            if self.last.is_some() {
+                return Err(PairsFault::AfterEnd);
+            }
+            self.push_pair(pair)?;
+        }
+        Ok(())
+    }
+
+    /// A list of pairs. A pair behind one without a separator is refused, and then nothing is made.
+    pub fn from_pairs<I: IntoIterator<Item = Pair<T, P>>>(
+        alloc: Global,
+        pairs: I,
+    ) -> Result<Self, PairsFault>
+        requires { IsFiniteIterable I.into_iter_gives I.IntoIter.can_next I.IntoIter.remaining pairs }
+        ensures ok { IfOk result (MadeOfPairs I.into_iter_gives I.IntoIter.next_gives pairs) }
+        ensures err { IfErr result (λ fault. fault ≡ PairsFault.AfterEnd
+            → GoesOnAfterEnd I.into_iter_gives I.IntoIter.next_gives pairs) }
+    {
+        let mut list = Punctuated::new(alloc);
+        list.push_pairs(pairs)?;
+        Ok(list)
+    }
+}
+
+impl<T: Drop, P: Default + Drop> Punctuated<T, P> {
+    /// Adds values in turn, each as `push` does.
+    ///
+    /// Where there is no memory, what came before stays.
+    pub fn extend_values<I: IntoIterator<Item = T>>(&mut self, items: I) -> Result<(), AllocError>
+        requires { IsFiniteIterable I.into_iter_gives I.IntoIter.can_next I.IntoIter.remaining items }
+        ensures { ExtendsWithItems I.into_iter_gives I.IntoIter.next_gives (AddsValues P.is_default)
+            items self.old self.new result }
+    {
+        for value in items {
+            self.push(value)?;
+        }
+        Ok(())
+    }
+
+    /// A list of values with a default separator between each two.
+    pub fn from_values<I: IntoIterator<Item = T>>(
+        alloc: Global,
+        items: I,
+    ) -> Result<Self, AllocError>
+        requires { IsFiniteIterable I.into_iter_gives I.IntoIter.can_next I.IntoIter.remaining items }
+        ensures { IfOk result (MadeOfValues I.into_iter_gives I.IntoIter.next_gives P.is_default items) }
+    {
+        let mut list = Punctuated::new(alloc);
+        list.extend_values(items)?;
+        Ok(list)
+    }
+
+    /// Adds pairs in turn. Where the list ends in a bare value a default separator goes first, even if no pair
+    /// follows.
+    ///
+    /// A pair behind one without a separator is refused. At either fault what came before stays.
+    pub fn extend_pairs<I: IntoIterator<Item = Pair<T, P>> + Drop>(
+        &mut self,
+        pairs: I,
+    ) -> Result<(), PairsFault>
+        requires { IsFiniteIterable I.into_iter_gives I.IntoIter.can_next I.IntoIter.remaining pairs }
+        ensures { ExtendsAfterDefault I.into_iter_gives I.IntoIter.next_gives P.is_default
+            pairs self.old self.new result }
+    {
+        if self.last.is_some() {
+            self.push_punct(P::default())?;
+        }
+        self.push_pairs(pairs)
+    }
+}

@@ -1,0 +1,112 @@
+//! A value with the separator behind it, or a bare last value.
+ghost use Rattle.std.specs.Prelude.{◌≡◌, Some, None, IfOk};
+ghost use Rattle.std.specs.Borrow.{sem};
+ghost use Rattle.std.specs.Option.{option_copied, option_copied_mut};
+ghost use Rattle.syn_punctuated.specs.Pairs.{value_of_pair, separator_of_pair, deref_both};
+ghost use Rattle.syn_punctuated.specs.PairLends.{LendsPairValue, LendsPairSeparator};
+
+use std::alloc::AllocError;
+
+/// A value and the separator behind it, or a bare last value.
+#[derive(Clone, Copy, Debug, Drop, PartialEq, Eq, Hash)]
+pub enum Pair<T, P> {
+    /// A value and the separator behind it.
+    Punctuated(T, P),
+    /// A last value with nothing behind it.
+    End(T),
+}
+
+impl<T, P> Pair<T, P> {
+    /// The pair of a value and what stands behind it, if anything does.
+    pub fn new(value: T, separator: Option<P>) -> Self
+        ensures value { value_of_pair result ≡ value }
+        ensures separator { separator_of_pair result ≡ separator }
+    {
+        match separator {
+            Some(separator) => Pair::Punctuated(value, separator),
+            None => Pair::End(value),
+        }
+    }
+
+    /// The value; the separator is dropped.
+    pub fn into_value(self) -> T
+    where
+        P: Drop,
+        ensures { result ≡ value_of_pair self }
+    {
+        match self {
+            Pair::Punctuated(value, _separator) => value,
+            Pair::End(value) => value,
+        }
+    }
+
+    /// The value.
+    pub fn value(&self) -> &T
+        ensures { result.now ≡ value_of_pair self.now }
+    {
+        match self {
+            Pair::Punctuated(value, _) | Pair::End(value) => value,
+        }
+    }
+
+    /// The value, to be written. The pair then has what was written last, and its separator as before.
+    pub fn value_mut(&mut self) -> &mut T
+        ensures* writes_back { sem 𝓛 (LendsPairValue T.row P.row self.entry result) }
+        ensures value { result.now ≡ value_of_pair self.old }
+    {
+        match self {
+            Pair::Punctuated(value, _) => value,
+            Pair::End(value) => value,
+        }
+    }
+
+    /// The separator, if there is one.
+    pub fn punct(&self) -> Option<&P>
+        ensures { option_copied result ≡ separator_of_pair self.now }
+    {
+        match self {
+            Pair::Punctuated(_, separator) => Some(separator),
+            Pair::End(_) => None,
+        }
+    }
+
+    /// The separator, if there is one, to be written. The pair then has what was written last, and its value as
+    /// before.
+    pub fn punct_mut(&mut self) -> Option<&mut P>
+        ensures* writes_back { sem 𝓛 (LendsPairSeparator T.row P.row self.entry result) }
+        ensures separator { option_copied_mut result ≡ separator_of_pair self.old }
+    {
+        match self {
+            Pair::Punctuated(_value, separator) => Some(separator),
+            Pair::End(_) => None,
+        }
+    }
+
+    /// The value, and the separator, if there is one.
+    pub fn into_tuple(self) -> (T, Option<P>)
+        ensures value { result.0 ≡ value_of_pair self }
+        ensures separator { result.1 ≡ separator_of_pair self }
+    {
+        match self {
+            Pair::Punctuated(value, separator) => (value, Some(separator)),
+            Pair::End(value) => (value, None),
+        }
+    }
+}
+
+impl<T: Clone + Drop, P: Clone> Pair<&T, &P> {
+    /// The pair of the clones. Owed: a clone equals its source.
+    pub fn cloned(self) -> Result<Pair<T, P>, AllocError>
+        requires values { (x : T) (y : T) → T.is_clone x y → y ≡ x }
+        requires separators { (x : P) (y : P) → P.is_clone x y → y ≡ x }
+        ensures { IfOk result (λ pair. pair ≡ deref_both self.entry) }
+    {
+        match self {
+            Pair::Punctuated(value, separator) => {
+                let value = value.clone()?;
+                Ok(Pair::Punctuated(value, separator.clone()?))
+            }
+            Pair::End(value) => Ok(Pair::End(value.clone()?)),
+        }
+    }
+}

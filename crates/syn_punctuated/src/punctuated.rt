@@ -1,0 +1,96 @@
+//! The list, and what it says of itself.
+ghost use Rattle.std.specs.Prelude.{◌≡◌, [], ◌-◌, ◌==◌, length, slice_get};
+ghost use Rattle.std.specs.Option.{option_copied, option_to_list};
+ghost use Rattle.syn_punctuated.specs.Boxes.{boxed_values};
+ghost use Rattle.syn_punctuated.specs.Lists.{values_of, separators_of, is_trailing};
+
+use std::alloc::Global;
+
+/// A list of values with separators between them: one behind each value but the last, which may stand bare.
+///
+/// It keeps the allocator that it was made with. Two lists are equal where their values are equal one by one, and
+/// their separators are too.
+#[derive(Drop, PartialEq, Eq, Hash)]
+pub struct Punctuated<T, P> {
+    pub(crate) inner: Vec<(T, P)>,
+    pub(crate) last: Option<Box<T>>,
+}
+
+impl<T, P> Punctuated<T, P> {
+    /// An empty list. It takes no memory until something is added.
+    pub fn new(alloc: Global) -> Self
+        ensures values { values_of result ≡ [] }
+        ensures separators { separators_of result ≡ [] }
+    {
+        Punctuated {
+            inner: Vec::new(alloc),
+            last: None,
+        }
+    }
+
+    /// Whether the list has no value.
+    pub fn is_empty(&self) -> bool
+        ensures { result ≡ (length (values_of self.now) == 0) }
+    {
+        self.len() == 0
+    }
+
+    /// How many values there are.
+    pub fn len(&self) -> usize
+        ensures { result ≡ length (values_of self.now) }
+    {
+        self.inner.len() + if self.last.is_some() { 1 } else { 0 }
+    }
+
+    /// The first value.
+    pub fn first(&self) -> Option<&T>
+        ensures { option_copied result ≡ slice_get (values_of self.now) 0 }
+    {
+        self.get(0)
+    }
+
+    /// The last value.
+    pub fn last(&self) -> Option<&T>
+        ensures { option_copied result ≡ slice_get (values_of self.now) (length (values_of self.now) - 1) }
+    {
+        self.get(self.len().saturating_sub(1))
+    }
+
+    /// The value at `index`, counted from 0.
+    pub fn get(&self, index: usize) -> Option<&T>
+        ensures { option_copied result ≡ slice_get (values_of self.now) index }
+    {
+        let count = self.inner.len();
+        if index < count {
+            Some(&self.inner[index].0)
+        } else if index == count {
+            self.bare_value()
+        } else {
+            None
+        }
+    }
+
+    /// Whether the list ends in a separator.
+    pub fn trailing_punct(&self) -> bool
+        ensures { result ≡ is_trailing self.now }
+    {
+        self.empty_or_trailing() && !self.is_empty()
+    }
+
+    /// Whether the list is empty or ends in a separator.
+    pub fn empty_or_trailing(&self) -> bool
+        ensures { result ≡ (length (values_of self.now) == length (separators_of self.now)) }
+    {
+        self.last.is_none()
+    }
+
+    /// The last value, where no separator stands behind it.
+    pub(crate) fn bare_value(&self) -> Option<&T>
+        ensures { option_to_list (option_copied result) ≡ boxed_values self.now.last }
+    {
+        match &self.last {
+            Some(value) => Some(value.as_ref()),
+            None => None,
+        }
+    }
+}

@@ -1,0 +1,68 @@
+//! The call that keeps some values.
+ghost use Rattle.std.specs.Prelude.{◌≡◌};
+ghost use Rattle.std.specs.Fn.{CalledAtMut};
+ghost use Rattle.syn_punctuated.specs.Retained.{Retains, RetainsPairs};
+
+use crate::punctuated::Punctuated;
+
+/// Shows `f` a value.
+fn test<T, F: FnMut(&mut T) -> bool>(value: &mut T, f: &mut F) -> bool
+    requires { F.IsAlwaysCallable f.old }
+    ensures callable { F.IsAlwaysCallable f.new }
+    ensures called { CalledAtMut F.FnMut f.old value.old result f.new value.new }
+{
+    f(value)
+}
+
+/// Shows `f` the value of a pair.
+fn test_value<T, P, F: FnMut(&mut T) -> bool>(pair: &mut (T, P), f: &mut F) -> bool
+    requires { F.IsAlwaysCallable f.old }
+    ensures callable { F.IsAlwaysCallable f.new }
+    ensures called { CalledAtMut F.FnMut f.old pair.old.0 result f.new pair.new.0 }
+    ensures separator { pair.new.1 ≡ pair.old.1 }
+{
+    test(&mut pair.0, f)
+}
+
+/// Keeps the pairs at whose values `f` answers true.
+fn retain_pairs<T: Drop, P: Drop, F: FnMut(&mut T) -> bool>(pairs: &mut Vec<(T, P)>, f: &mut F)
+    requires { F.IsAlwaysCallable f.old }
+    ensures callable { F.IsAlwaysCallable f.new }
+    ensures kept { RetainsPairs (CalledAtMut F.FnMut) f.old pairs.old.items pairs.new.items f.new }
+{
+    let mut kept = 0;
+    for i in 0..pairs.len() {
+        if test_value(&mut pairs[i], f) {
+            pairs.swap(kept, i);
+            kept += 1;
+        }
+    }
+    pairs.truncate(kept);
+}
+
+impl<T: Drop, P: Drop> Punctuated<T, P> {
+    /// Keeps the values at which `f` answers true, each with the separator behind it. Where the list ended in a bare
+    /// value, the last that is kept stands bare.
+    ///
+    /// `f` sees each value once, in order, and may write to it. No memory is taken: a value that becomes bare goes into
+    /// the box of the one that goes.
+    pub fn retain<F: FnMut(&mut T) -> bool>(&mut self, mut f: F)
+        requires { F.IsAlwaysCallable f }
+        ensures { Retains (CalledAtMut F.FnMut) f self.old self.new }
+    {
+        retain_pairs(&mut self.inner, &mut f);
+        match &mut self.last {
+            Some(last) => {
+                if !test(last.as_mut(), &mut f) {
+                    match self.inner.pop() {
+                        Some((value, _)) => {
+                            let _ = Box::replace(last, value);
+                        }
+                        None => self.last = None,
+                    }
+                }
+            }
+            None => {}
+        }
+    }
+}

@@ -1,0 +1,218 @@
+//! What lists are after each call. A list is written as its values and separators in order; `d` is the default
+//! separator.
+mod iterators;
+mod memory;
+mod nested;
+mod pairs;
+mod tokens;
+
+use crate::{Pair, PairsFault, Punctuated};
+use std::alloc::{AllocError, Global};
+use std::collections::HashSet;
+use std::test::Fail;
+
+#[derive(Clone, Copy, Debug, PartialEq, Eq, Hash)]
+struct Mark(char);
+
+impl Default for Mark {
+    fn default() -> Mark {
+        Mark('d')
+    }
+}
+
+type Numbers = Punctuated<u32, Mark>;
+
+fn numbers(alloc: Global, text: &str) -> Result<Numbers, AllocError> {
+    let mut list = Punctuated::new(alloc);
+    for c in text.chars() {
+        match c.to_digit(10) {
+            Some(digit) => {
+                if list.empty_or_trailing() {
+                    list.push_value(digit)?;
+                }
+            }
+            None => {
+                if !list.empty_or_trailing() {
+                    list.push_punct(Mark(c))?;
+                }
+            }
+        }
+    }
+    Ok(list)
+}
+
+fn shown(alloc: Global, list: &Numbers) -> Result<String, AllocError> {
+    let mut text = String::new(alloc);
+    for pair in list.pairs() {
+        write!(text, "{}", pair.value())?;
+        if let Some(mark) = pair.punct() {
+            write!(text, "{}", mark.0)?;
+        }
+    }
+    Ok(text)
+}
+
+#[test]
+fn keeps_values_with_their_separators(rt: HostRuntime) -> Result<(), Fail> {
+    let alloc = rt.alloc();
+    for (text, refused, left) in [
+        ("2,3,4", 4, "2,3"),
+        ("2,3,", 3, "2,"),
+        ("2,3", 2, "3"),
+        ("2;3,4", 3, "2;4"),
+        ("", 3, ""),
+    ] {
+        let mut list = numbers(alloc, text)?;
+        let trailing = list.trailing_punct();
+        list.retain(|value| *value != refused);
+        assert_eq!(rt; shown(alloc, &list)?.as_str(), left);
+        assert_eq!(rt; list.trailing_punct(), trailing);
+    }
+    let mut none = numbers(alloc, "2,3,4")?;
+    none.retain(|_| false);
+    assert_eq!(rt; shown(alloc, &none)?.as_str(), "");
+    assert!(rt; none.is_empty() && none.empty_or_trailing() && !none.trailing_punct());
+    Ok(())
+}
+
+#[test]
+fn shows_each_value_to_the_predicate_once(rt: HostRuntime) -> Result<(), Fail> {
+    let alloc = rt.alloc();
+    let mut list = numbers(alloc, "1,2,3")?;
+    let mut seen = 0u32;
+    list.retain(|value| {
+        seen = seen.wrapping_mul(10).wrapping_add(*value);
+        *value = value.wrapping_add(4);
+        *value != 6
+    });
+    assert_eq!(rt; seen, 123);
+    assert_eq!(rt; shown(alloc, &list)?.as_str(), "5,7");
+    Ok(())
+}
+
+#[test]
+fn edits_as_the_rows_say(rt: HostRuntime) -> Result<(), Fail> {
+    let alloc = rt.alloc();
+    let mut list = numbers(alloc, "2d3d4")?;
+    list.retain(|value| *value != 4);
+    assert_eq!(rt; shown(alloc, &list)?.as_str(), "2d3");
+    assert_eq!(rt; list.len(), 2);
+    if 1 <= list.len() {
+        list.insert(1, 9)?;
+    }
+    assert_eq!(rt; shown(alloc, &list)?.as_str(), "2d9d3");
+    list.extend_pairs(Numbers::new(alloc).into_pairs())?;
+    assert_eq!(rt; shown(alloc, &list)?.as_str(), "2d9d3d");
+    assert!(rt; list.trailing_punct());
+
+    let mut end = numbers(alloc, "2,3")?;
+    if 2 <= end.len() {
+        end.insert(2, 9)?;
+    }
+    assert_eq!(rt; shown(alloc, &end)?.as_str(), "2,3d9");
+
+    let mut bare = numbers(alloc, "2,3")?;
+    assert_eq!(rt; bare.pop_punct()?, None);
+    assert_eq!(rt; shown(alloc, &bare)?.as_str(), "2,3");
+    let mut trailing = numbers(alloc, "2,3,")?;
+    assert_eq!(rt; trailing.pop_punct()?, Some(Mark(',')));
+    assert_eq!(rt; shown(alloc, &trailing)?.as_str(), "2,3");
+    Ok(())
+}
+
+#[test]
+fn refuses_a_pair_after_the_end(rt: HostRuntime) -> Result<(), Fail> {
+    let alloc = rt.alloc();
+    let pairs = || {
+        vec![in alloc;
+            Pair::Punctuated(3, Mark(',')),
+            Pair::End(4),
+            Pair::Punctuated(5, Mark(',')),
+        ]
+    };
+    let mut list = numbers(alloc, "2")?;
+    match list.extend_pairs(pairs()?) {
+        Err(PairsFault::AfterEnd) => {}
+        other => other?,
+    }
+    assert_eq!(rt; shown(alloc, &list)?.as_str(), "2d3,4");
+    match Numbers::from_pairs(alloc, pairs()?) {
+        Err(PairsFault::AfterEnd) => {}
+        other => assert_eq!(rt; other?.len(), 0),
+    }
+    assert_eq!(rt;
+        format!(in alloc; "{}", PairsFault::AfterEnd)?.as_str(),
+        "a pair follows one without a separator"
+    );
+    let whole = Punctuated::from_pairs(alloc, numbers(alloc, "2;3,4")?.into_pairs())?;
+    assert_eq!(rt; shown(alloc, &whole)?.as_str(), "2;3,4");
+    Ok(())
+}
+
+#[test]
+fn takes_from_the_end(rt: HostRuntime) -> Result<(), Fail> {
+    let alloc = rt.alloc();
+    let mut list = numbers(alloc, "2;3,4")?;
+    assert_eq!(rt; list.pop_pair(), Some(Pair::End(4)));
+    assert_eq!(rt; shown(alloc, &list)?.as_str(), "2;3,");
+    assert_eq!(rt; list.pop(), Some(3));
+    assert_eq!(rt; shown(alloc, &list)?.as_str(), "2;");
+    assert_eq!(rt; list.pop_pair(), Some(Pair::Punctuated(2, Mark(';'))));
+    assert_eq!(rt; list.pop(), None);
+    assert_eq!(rt; list.pop_punct()?, None);
+    list.push(1)?;
+    list.push(2)?;
+    assert_eq!(rt; shown(alloc, &list)?.as_str(), "1d2");
+    list.extend_values([3, 4])?;
+    assert_eq!(rt; shown(alloc, &list)?.as_str(), "1d2d3d4");
+    list.clear();
+    assert!(rt; list.is_empty());
+    Ok(())
+}
+
+#[test]
+fn reads_and_writes_in_place(rt: HostRuntime) -> Result<(), Fail> {
+    let alloc = rt.alloc();
+    let mut list = numbers(alloc, "2,3;4")?;
+    assert_eq!(rt; list.first().copied(), Some(2));
+    assert_eq!(rt; list.last().copied(), Some(4));
+    assert_eq!(rt; list.get(1).copied(), Some(3));
+    assert_eq!(rt; list.get(3).copied(), None);
+    if let Some(value) = list.first_mut() {
+        *value = 5;
+    }
+    if let Some(value) = list.get_mut(1) {
+        *value = 6;
+    }
+    if let Some(value) = list.last_mut() {
+        *value = 7;
+    }
+    assert!(rt; list.get_mut(3).is_none());
+    assert_eq!(rt; shown(alloc, &list)?.as_str(), "5,6;7");
+    for index in 0..list.len() {
+        if index < list.len() {
+            list[index] = list[index].wrapping_add(3);
+        }
+    }
+    assert_eq!(rt; shown(alloc, &list)?.as_str(), "8,9;10");
+    Ok(())
+}
+
+#[test]
+fn compares_values_and_separators(rt: HostRuntime) -> Result<(), Fail> {
+    let alloc = rt.alloc();
+    let list = numbers(alloc, "2,3")?;
+    assert!(rt; list == list.clone()?);
+    let mut seen = HashSet::new(alloc);
+    seen.insert(list.clone()?)?;
+    assert!(rt; seen.contains(&list));
+    for other in ["2,4", "2;3", "2,3,", "2,", "2", ""] {
+        let other = numbers(alloc, other)?;
+        assert!(rt; list != other && !seen.contains(&other));
+    }
+    assert_eq!(rt;
+        format!(in alloc; "{list:?}")?.as_str(),
+        "[2, Mark(','), 3]"
+    );
+    Ok(())
+}

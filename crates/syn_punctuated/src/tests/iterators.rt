@@ -1,0 +1,119 @@
+//! The six iterators, each from both ends.
+ghost use Rattle.std.specs.Prelude.{◌≡◌, length};
+ghost use Rattle.syn_punctuated.specs.Lists.{values_of};
+
+use super::{Mark, numbers, shown};
+use crate::{Pair, Punctuated};
+use std::test::Fail;
+
+/// How many items are left, by both counts.
+fn counts<I: ExactSizeIterator>(items: &I) -> (usize, (usize, Option<usize>)) {
+    (items.len(), items.size_hint())
+}
+
+/// The values of any list, counted one by one.
+fn count<T, P>(list: &Punctuated<T, P>) -> usize
+    ensures { result ≡ length (values_of list.now) }
+{
+    list.iter().count()
+}
+
+/// The last item.
+fn last<I: DoubleEndedIterator>(items: &mut I) -> Option<I::Item>
+    requires { I.can_next_back items.old }
+{
+    items.next_back()
+}
+
+#[test]
+fn gives_values_from_both_ends(rt: HostRuntime) -> Result<(), Fail> {
+    let alloc = rt.alloc();
+    let mut list = numbers(alloc, "2,3;4")?;
+    assert_eq!(rt; count(&list), 3);
+    let mut lent = list.iter();
+    assert_eq!(rt; lent.next().copied(), Some(2));
+    assert_eq!(rt; lent.next_back().copied(), Some(4));
+    assert_eq!(rt; lent.len(), 1);
+    let mut again = lent.clone()?;
+    assert_eq!(rt; lent.next().copied(), Some(3));
+    assert_eq!(rt; lent.next().copied(), None);
+    assert_eq!(rt; lent.next_back().copied(), None);
+    assert_eq!(rt; counts(&again), (1, (1, Some(1))));
+    assert_eq!(rt; again.next_back().copied(), Some(3));
+
+    for value in &mut list {
+        *value = value.saturating_add(1);
+    }
+    let mut written = list.iter_mut();
+    assert_eq!(rt; counts(&written), (3, (3, Some(3))));
+    if let Some(value) = written.next_back() {
+        *value = 9;
+    }
+    if let Some(value) = written.next() {
+        *value = 7;
+    }
+    assert_eq!(rt; written.len(), 1);
+    assert_eq!(rt; shown(alloc, &list)?.as_str(), "7,4;9");
+
+    let mut total = 0u32;
+    for value in &list {
+        total = total.saturating_add(*value);
+    }
+    assert_eq!(rt; total, 20);
+
+    let mut owned = list.into_iter();
+    assert_eq!(rt; counts(&owned), (3, (3, Some(3))));
+    assert_eq!(rt; owned.next(), Some(7));
+    assert_eq!(rt; last(&mut owned), Some(9));
+    let mut copy = owned.clone()?;
+    assert_eq!(rt; last(&mut owned), Some(4));
+    assert_eq!(rt; owned.next(), None);
+    assert_eq!(rt; counts(&copy), (1, (1, Some(1))));
+    assert_eq!(rt; copy.next_back(), Some(4));
+    Ok(())
+}
+
+#[test]
+fn gives_pairs_from_both_ends(rt: HostRuntime) -> Result<(), Fail> {
+    let alloc = rt.alloc();
+    let mut list = numbers(alloc, "2,3;4")?;
+    let mut lent = list.pairs();
+    assert_eq!(rt; counts(&lent), (3, (3, Some(3))));
+    let again = lent.clone()?;
+    match lent.next_back() {
+        Some(pair) => assert_eq!(rt; pair.cloned()?, Pair::End(4)),
+        None => assert!(rt; false),
+    }
+    match lent.next() {
+        Some(pair) => assert_eq!(rt; pair.cloned()?, Pair::Punctuated(2, Mark(','))),
+        None => assert!(rt; false),
+    }
+    assert_eq!(rt; lent.len(), 1);
+    assert_eq!(rt; again.len(), 3);
+
+    let mut written = list.pairs_mut();
+    assert_eq!(rt; counts(&written), (3, (3, Some(3))));
+    match written.next() {
+        Some(Pair::Punctuated(value, mark)) => {
+            *value = 5;
+            *mark = Mark('+');
+        }
+        _ => assert!(rt; false),
+    }
+    match written.next_back() {
+        Some(Pair::End(value)) => *value = 6,
+        _ => assert!(rt; false),
+    }
+    assert_eq!(rt; written.len(), 1);
+    assert_eq!(rt; shown(alloc, &list)?.as_str(), "5+3;6");
+
+    let mut owned = list.into_pairs();
+    assert_eq!(rt; counts(&owned), (3, (3, Some(3))));
+    let mut copy = owned.clone()?;
+    assert_eq!(rt; owned.next(), Some(Pair::Punctuated(5, Mark('+'))));
+    assert_eq!(rt; last(&mut owned), Some(Pair::End(6)));
+    assert_eq!(rt; last(&mut owned), Some(Pair::Punctuated(3, Mark(';'))));
+    assert_eq!(rt; owned.next(), None);
+    assert_eq!(rt; copy.next_back(), Some(Pair::End(6)));
+    Ok(())
+}
