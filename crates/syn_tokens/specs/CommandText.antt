@@ -6,7 +6,7 @@ use Rattle.std.specs.Str.{all_ascii_digits}
 use Rattle.std.specs.Str.Parse.{digits_value}
 use Rattle.tok_core.specs.declared.group.Delimiter.{Delimiter}
 use Rattle.tok_core.specs.declared.group.Delimiter.TheVariants as delimiters
-use Rattle.syn_tokens.specs.Commands.{Kind, ident, Command, parse, enter, empty, close}
+use Rattle.syn_tokens.specs.Commands.{Kind, ident, Command, parse, enter, empty, close, stream_span, cursor_span, previous_span}
 
 abbrev pub is_empty : {A : Type 0} → List A → Bool
 is_empty [] = true
@@ -47,7 +47,10 @@ command_named name n rest =
     cond (bytes_eq name (codes "parse")) (option_map (parse n) (option_and_then kind (only_word rest))) (
     cond (bytes_eq name (codes "enter")) (option_map (enter n) (option_and_then delimiter (only_word rest))) (
     cond (bytes_eq name (codes "empty")) (alone (empty n) rest) (
-    cond (bytes_eq name (codes "close")) (alone (close n) rest) None)))
+    cond (bytes_eq name (codes "close")) (alone (close n) rest) (
+    cond (bytes_eq name (codes "span")) (alone (stream_span n) rest) (
+    cond (bytes_eq name (codes "cursor")) (alone (cursor_span n) rest) (
+    cond (bytes_eq name (codes "previous")) (alone (previous_span n) rest) None))))))
 
 -- a name, a stream's number, and what the command takes
 abbrev pub command : List (List ℕ) → Option Command

@@ -14,6 +14,9 @@ pub data Command : Type 0 where
   empty : ℕ → Command
   enter : ℕ → Delimiter → Command
   close : ℕ → Command
+  stream_span : ℕ → Command
+  cursor_span : ℕ → Command
+  previous_span : ℕ → Command
 
 -- one leaf read: its text and span
 pub record Piece : Type 0 where
@@ -25,6 +28,7 @@ pub data Answer : Type 0 where
   pieces : List Piece → Answer
   entered : ℕ → Delimiter → Span → Answer
   done : Answer
+  shown : Span → Answer
   refused : Refusal → Answer
   unfit : ℕ → Answer
 

@@ -6,7 +6,7 @@ use Rattle.tok_core.specs.declared.span.Span.{Span}
 use Rattle.tok_core.specs.Spans.{range}
 use Rattle.tok_core.specs.Text.{opening}
 use Rattle.tok_buffer.specs.Words.{Refusal}
-use Rattle.syn_tokens.specs.Commands.{Piece, Answer, truth, pieces, entered, done, refused, unfit, Position, stands_at, at_empty, missing, Line, Verdict, accepted, left_over, Report}
+use Rattle.syn_tokens.specs.Commands.{Piece, Answer, truth, pieces, entered, done, shown, refused, unfit, Position, stands_at, at_empty, missing, Line, Verdict, accepted, left_over, Report}
 
 -- a line, with its line feed
 abbrev pub ended : List ℕ → List ℕ
@@ -35,6 +35,7 @@ answer_text (truth false) = codes "false"
 answer_text (pieces ps) = codes "read" ++ flat_map piece_text ps
 answer_text (entered n delimiter span) = codes "entered " ++ (decimal n ++ (codes " " ++ (opening delimiter ++ (codes " " ++ span_text span))))
 answer_text done = codes "done"
+answer_text (shown span) = codes "span " ++ span_text span
 answer_text (refused r) = refusal_text r
 answer_text (unfit n) = codes "refused C" ++ decimal n
 

@@ -9,7 +9,7 @@ use Rattle.tok_buffer.specs.Words.{Refusal}
 use Rattle.tok_buffer.specs.declared.error.Message.{Message}
 use Rattle.syn_tokens.specs.Commands as spec
 use Rattle.syn_tokens.specs.declared.command.Command as program
-use Rattle.syn_tokens.specs.declared.command.Command.TheVariants.{Parse, Enter, Empty, Close}
+use Rattle.syn_tokens.specs.declared.command.Command.TheVariants.{Parse, Enter, Empty, Close, StreamSpan, CursorSpan, PreviousSpan}
 use Rattle.syn_tokens.specs.declared.command.Kind as kinds
 use Rattle.syn_tokens.specs.declared.command.Kind.TheVariants.{Ident}
 use Rattle.syn_tokens.specs.declared.report.Piece as pieces
@@ -34,6 +34,9 @@ command_of (Parse n k) = spec.parse n (kind_of k)
 command_of (Enter n d) = spec.enter n d
 command_of (Empty n) = spec.empty n
 command_of (Close n) = spec.close n
+command_of (StreamSpan n) = spec.stream_span n
+command_of (CursorSpan n) = spec.cursor_span n
+command_of (PreviousSpan n) = spec.previous_span n
 
 abbrev pub piece_of : pieces.Piece → spec.Piece
 piece_of p = record { text = string_bytes p.text; span = p.span }
@@ -43,6 +46,7 @@ answer_of (answer.Truth b) = spec.truth b
 answer_of (answer.Read ps) = spec.pieces (map piece_of ps.items)
 answer_of (answer.Entered n d s) = spec.entered n d (whole_span s)
 answer_of answer.Done = spec.done
+answer_of (answer.At s) = spec.shown s
 answer_of (answer.Refused e) = spec.refused (refusal_of e)
 answer_of (answer.Unfit n) = spec.unfit n
 

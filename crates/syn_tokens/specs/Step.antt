@@ -8,10 +8,11 @@ use Rattle.tok_buffer.specs.Entry.{Entered}
 use Rattle.tok_buffer.specs.Entry as entry
 use Rattle.tok_buffer.specs.Place.{Place, is_at_end}
 use Rattle.tok_buffer.specs.Reads.{read_ident, read_word}
-use Rattle.tok_buffer.specs.Words.{at_stream}
+use Rattle.tok_buffer.specs.Spans.{current_span, previous_span}
+use Rattle.tok_buffer.specs.Words.{at_stream, stream_span}
 use Rattle.tok_types.specs.Texts.{accept_as_ident}
 use Rattle.syn_tokens.specs.Commands
-use Rattle.syn_tokens.specs.Commands.{Kind, Command, Piece, Answer, truth, pieces, entered, done, refused, unfit, Position, missing, Line}
+use Rattle.syn_tokens.specs.Commands.{Kind, Command, Piece, Answer, truth, pieces, entered, done, shown, refused, unfit, Position, missing, Line}
 use Rattle.syn_tokens.specs.State.{Stream, StreamKind, outermost, content_of, State, stream_at, changed, moved_to, closed, position_of}
 use Rattle.syn_tokens.specs.Words.{ident_words, delimiter_words}
 
@@ -62,6 +63,9 @@ on_stream (Commands.parse n kind) st k s = parsed st k s kind
 on_stream (Commands.empty n) st k s = stays st (truth (is_at_end s.place))
 on_stream (Commands.enter n d) st k s = into_group st k s (delimiter_words d) (entry.enter d s.place)
 on_stream (Commands.close n) st k s = content_closed st k s.kind
+on_stream (Commands.stream_span n) st k s = stays st (shown (stream_span s.place s.scope_span))
+on_stream (Commands.cursor_span n) st k s = stays st (shown (current_span s.place))
+on_stream (Commands.previous_span n) st k s = stays st (shown (previous_span s.place))
 
 -- the stream that a command names
 abbrev pub named : Command → ℕ
@@ -69,6 +73,9 @@ named (Commands.parse n kind) = n
 named (Commands.empty n) = n
 named (Commands.enter n d) = n
 named (Commands.close n) = n
+named (Commands.stream_span n) = n
+named (Commands.cursor_span n) = n
+named (Commands.previous_span n) = n
 
 -- C1 where there is no such stream, C2 where it is spent; a refused command changes nothing
 abbrev pub step_on : Command → State → ℕ → Option Stream → Stepped

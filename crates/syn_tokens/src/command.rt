@@ -20,4 +20,10 @@ pub enum Command {
     Empty(usize),
     /// Closes a group's content, and all that are open inside it. What it leaves unread is noted on its parent.
     Close(usize),
+    /// Asks where the stream stands: the span of the token in front or of a group's opening, at the end its scope's.
+    StreamSpan(usize),
+    /// Asks for the whole span of the tree in front; at the end of a group's content it is the closing one.
+    CursorSpan(usize),
+    /// Asks for the span of the token before: a leaf's, a group's opening or closing.
+    PreviousSpan(usize),
 }

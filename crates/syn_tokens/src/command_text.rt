@@ -75,6 +75,9 @@ fn command_named(name: &str, n: usize, rest: &str) -> Option<Command>
         "enter" => Some(Command::Enter(n, delimiter(only_word(rest)?)?)),
         "empty" => alone(Command::Empty(n), rest),
         "close" => alone(Command::Close(n), rest),
+        "span" => alone(Command::StreamSpan(n), rest),
+        "cursor" => alone(Command::CursorSpan(n), rest),
+        "previous" => alone(Command::PreviousSpan(n), rest),
         _ => None,
     }
 }

@@ -44,6 +44,10 @@ impl fmt::Display for Answer {
                 write_span(f, span.join())
             }
             Answer::Done => f.write_str("done"),
+            Answer::At(span) => {
+                f.write_str("span ")?;
+                write_span(f, *span)
+            }
             Answer::Refused(error) => write_refusal(f, error),
             Answer::Unfit(number) => write!(f, "refused C{number}"),
         }

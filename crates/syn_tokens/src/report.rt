@@ -17,6 +17,7 @@ pub enum Answer {
     /// The number of the group's content, and the group's delimiter and span.
     Entered(usize, Delimiter, DelimSpan),
     Done,
+    At(Span),
     /// The parser's own refusal.
     Refused(Error),
     /// The command fits no such stream: 1, there is none; 2, it is spent; 4, it is no group's content.

@@ -110,6 +110,9 @@ fn act<'a>(
         Command::Enter(_, delimiter) => enter(alloc, streams, n, delimiter, stream),
         Command::Empty(_) => Ok(Answer::Truth(stream.cursor.eof())),
         Command::Close(_) => Ok(close(streams, n, stream)),
+        Command::StreamSpan(_) => Ok(Answer::At(stream.span())),
+        Command::CursorSpan(_) => Ok(Answer::At(stream.cursor.span())),
+        Command::PreviousSpan(_) => Ok(Answer::At(stream.cursor.prev_span())),
     }
 }
 
@@ -123,6 +126,9 @@ impl Command {
             Command::Enter(n, _) => n,
             Command::Empty(n) => n,
             Command::Close(n) => n,
+            Command::StreamSpan(n) => n,
+            Command::CursorSpan(n) => n,
+            Command::PreviousSpan(n) => n,
         }
     }
 }

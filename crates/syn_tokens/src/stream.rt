@@ -1,6 +1,7 @@
 // One stream of a replay.
 ghost use Rattle.std.specs.Prelude.{◌≡◌, true, None};
 ghost use Rattle.tok_buffer.specs.Cursors.{place_of};
+ghost use Rattle.tok_buffer.specs.Words.{stream_span};
 ghost use Rattle.syn_tokens.specs.Links.{unlinked};
 ghost use Rattle.syn_tokens.specs.Seen.{left_of};
 ghost use Rattle.syn_tokens.specs.State.{handed_note};
@@ -38,6 +39,17 @@ impl<'a> Stream<'a> {
             },
             is_open: true,
             note: None,
+        }
+    }
+
+    // Where it stands: at the end the scope's span, else that of the next token or of its opening.
+    pub fn span(self) -> Span
+        ensures { result ≡ stream_span (place_of self.entry.cursor) self.entry.scope_span }
+    {
+        if self.cursor.eof() {
+            self.scope_span
+        } else {
+            self.cursor.start_span()
         }
     }
 

@@ -1,4 +1,4 @@
-// A flat buffer of trees, and cursors in it.
+//! A flat buffer of trees, and cursors in it.
 #![tactic(auto)]
 
 mod buffer;

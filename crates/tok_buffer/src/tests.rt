@@ -205,6 +205,15 @@ fn rebuilds_trees(rt: HostRuntime) -> Result<(), Fail> {
     Ok(())
 }
 
+// The span of an error from one cursor to another that isn't before it.
+fn ranged(alloc: Global, start: Cursor<'_>, end: Cursor<'_>) -> Result<Option<Span>, AllocError> {
+    if start <= end {
+        Ok(Some(Error::new_range(alloc, start, end, "x")?.span()))
+    } else {
+        Ok(None)
+    }
+}
+
 // The spans of errors from cursor to cursor, and of some tokens.
 #[test]
 fn spans_errors(rt: HostRuntime) -> Result<(), Fail> {
@@ -213,15 +222,16 @@ fn spans_errors(rt: HostRuntime) -> Result<(), Fail> {
     let begin = buffer.begin();
     let (_, group) = begin.ident().ok_or("no identifier")?;
     let behind = group.skip().ok_or("no group")?;
-    let whole = Error::new_range(alloc, begin, behind, "x")?.span();
-    let only = Error::new_range(alloc, group, group, "x")?.span();
+    let whole = ranged(alloc, begin, behind)?;
+    let only = ranged(alloc, group, group)?;
     let all = Error::new_spanned(alloc, begin.token_stream(alloc)?, "x")?.span();
     let none = Error::new_spanned(alloc, TokenStream::new(alloc), "x")?.span();
     all_hold(
         &rt,
         &[
-            whole == at(0, 5),
-            only == at(2, 5),
+            whole == Some(at(0, 5)),
+            only == Some(at(2, 5)),
+            ranged(alloc, behind, begin)?.is_none(),
             all == at(0, 7),
             none == Span::call_site(),
         ],

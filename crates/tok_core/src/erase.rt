@@ -5,7 +5,6 @@ ghost use Rattle.tok_core.specs.Erase.{erase};
 ghost use Rattle.tok_core.specs.Filled.{filled, has_trees};
 ghost use Rattle.tok_core.specs.Forest.{no_trees, tree, joined, tree_delimiter};
 ghost use Rattle.tok_core.specs.Seen.{group_of, tree_of, ident_of, literal_of, punct_of};
-
 ghost use Rattle.tok_core.specs.Spans.{tree_span};
 ghost use Rattle.tok_core.specs.Weight.{tree_weight};
 ghost use Rattle.tok_core.specs.Pending.{pending, pending_weight, IsVisible, invisible};
@@ -225,9 +224,7 @@ fn same_punct(left: Punct, right: Punct) -> bool
 
 // Takes the next visible tree. On top of the stack lie the trees that come first; those of an invisible group come
 // before what follows it.
-fn next_visible<'a>(
-    stack: &mut Vec<&'a [TokenTree]>,
-) -> Result<Option<&'a TokenTree>, AllocError>
+fn next_visible<'a>(stack: &mut Vec<&'a [TokenTree]>) -> Result<Option<&'a TokenTree>, AllocError>
     ensures erased { IfOk result (λ next. MatchOption next
         (pending stack.old.items ≡ no_trees)
         (λ t. pending stack.old.items ≡ joined (erase (tree (tree_of t.now) no_trees)) (pending stack.new.items))) }

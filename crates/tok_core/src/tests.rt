@@ -69,11 +69,7 @@ fn by_hand(alloc: Global) -> Result<TokenStream, Fail> {
     outer.append(group(Delimiter::None, inner, Span::source(0, 5, 6)))?;
     let mut all = TokenStream::new(alloc);
     all.append(name(alloc, "a", 0)?)?;
-    all.append(group(
-        Delimiter::Parenthesis,
-        outer,
-        Span::source(0, 2, 7),
-    ))?;
+    all.append(group(Delimiter::Parenthesis, outer, Span::source(0, 2, 7)))?;
     all.append(punct('+', Spacing::Joint, 8)?)?;
     all.append(punct('=', Spacing::Alone, 9)?)?;
     Ok(all)
@@ -101,7 +97,13 @@ fn edges(rt: HostRuntime) -> Result<(), Fail> {
     let plain = read(alloc, "a")?;
     let hollow = read(alloc, "a «»")?;
     assert!(rt; same_visible(alloc, &hollow, &plain)?);
-    assert!(rt; same_visible(alloc, &read(alloc, "«a» («b» «c»)")?, &read(alloc, "a (b «c»)")?)?);
+    assert!(rt;
+        same_visible(
+            alloc,
+            &read(alloc, "«a» («b» «c»)")?,
+            &read(alloc, "a (b «c»)")?
+        )?
+    );
     assert!(rt; !same_visible(alloc, &read(alloc, "a")?, &read(alloc, " a")?)?);
     assert!(rt; !same_visible(alloc, &read(alloc, "(a)")?, &read(alloc, "[a]")?)?);
     assert!(rt; !same_visible(alloc, &read(alloc, "a b")?, &plain)?);
@@ -123,7 +125,10 @@ fn without_spans(rt: HostRuntime) -> Result<(), Fail> {
     let left = read(alloc, "a + 'b (\"c\" «1»)")?;
     let right = read(alloc, "  a  +  'b  ( \"c\"  « 1 » )")?;
     assert!(rt; TokenStreamHelper(&left) == TokenStreamHelper(&right));
-    assert_eq!(rt; hash_of(&TokenStreamHelper(&left)), hash_of(&TokenStreamHelper(&right)));
+    assert_eq!(rt;
+        hash_of(&TokenStreamHelper(&left)),
+        hash_of(&TokenStreamHelper(&right))
+    );
     let marked = read(alloc, "a «b»")?;
     let plain = read(alloc, "a b")?;
     assert!(rt; TokenStreamHelper(&marked) != TokenStreamHelper(&plain));
@@ -132,7 +137,10 @@ fn without_spans(rt: HostRuntime) -> Result<(), Fail> {
     let one = name(alloc, "a", 0)?;
     let other = name(alloc, "a", 7)?;
     assert!(rt; TokenTreeHelper(&one) == TokenTreeHelper(&other));
-    assert_eq!(rt; hash_of(&TokenTreeHelper(&one)), hash_of(&TokenTreeHelper(&other)));
+    assert_eq!(rt;
+        hash_of(&TokenTreeHelper(&one)),
+        hash_of(&TokenTreeHelper(&other))
+    );
     assert!(rt; TokenTreeHelper(&one) != TokenTreeHelper(&name(alloc, "b", 0)?));
     Ok(())
 }
@@ -151,11 +159,7 @@ fn written(rt: HostRuntime) -> Result<(), Fail> {
     assert!(rt; tree.to_token_stream(alloc)?.to_string(alloc)?.as_str() == "a");
     let ident = Ident::new_raw(alloc, "fn", Span::call_site())?;
     assert!(rt; ident.into_token_stream(alloc)?.to_string(alloc)?.as_str() == "r#fn");
-    let empty = Group::new(
-        Delimiter::Brace,
-        TokenStream::new(alloc),
-        Span::call_site(),
-    );
+    let empty = Group::new(Delimiter::Brace, TokenStream::new(alloc), Span::call_site());
     assert!(rt; empty.into_token_stream(alloc)?.to_string(alloc)?.as_str() == "{}");
     Ok(())
 }

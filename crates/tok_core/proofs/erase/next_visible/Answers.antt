@@ -29,8 +29,16 @@ loop-trees-smaller c =
     let inside = c.in-Some-invisible_content.content.now in
     let is = c.in-Some-invisible_content.ensures in
     let e = entered c.loop-trees.stack.items c.push.new.self.items c.push-in-Some-invisible_content.new.self.items (tree_of c.in-Some-split_first.first.now) inside is.0 c.trees.result t is.1 c.trees.ensures c.in_ok-push-in-Some-invisible_content.ensures.items in
-    omega (arith, e.1, ap (λ xs. length xs) c.in_ok-push-in-Some-invisible_content.ensures.items, length-append c.push.new.self.items (c.trees.result ∷ []),
-    ap (λ xs. length xs) c.in_ok-push.ensures.items, length-append c.pop.new.self.items (c.in-Some-split_first.rest ∷ []), ap (λ xs. length xs) c.in-Some.ensures.items, length-append c.pop.new.self.items (c.in-Some.trees ∷ []))
+    omega (
+      arith,
+      e.1,
+      ap (λ xs. length xs) c.in_ok-push-in-Some-invisible_content.ensures.items,
+      length-append c.push.new.self.items (c.trees.result ∷ []),
+      ap (λ xs. length xs) c.in_ok-push.ensures.items,
+      length-append c.pop.new.self.items (c.in-Some-split_first.rest ∷ []),
+      ap (λ xs. length xs) c.in-Some.ensures.items,
+      length-append c.pop.new.self.items (c.in-Some.trees ∷ []),
+    )
 
 pub returns-in-None : goal.returns-in-None
 returns-in-None c =
