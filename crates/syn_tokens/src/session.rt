@@ -216,3 +216,6 @@ pub fn replay(
     let verdict = verdict(alloc, &streams)?;
     Ok(Report { lines, verdict })
 }
+
+#[cfg(test)]
+mod tests;

@@ -67,6 +67,11 @@ fn replays(rt: HostRuntime) -> Result<(), Fail> {
             0,
         ),
         (
+            "(a)\n---\nenter 0 (\nprevious 1\nspan 1\nparse 1 Ident\nspan 1\ncursor 1\nprevious 1\nspan 0\ncursor 0\nprevious 0\n",
+            "entered 1 ( 0..3 @3\nspan 0..3 @1\nspan 1..2 @1\nread a 1..2 @2\nspan 2..3 @2\nspan 2..3 @2\nspan 1..2 @2\nspan call @3\nspan call @3\nspan 2..3 @3\naccepted\n",
+            0,
+        ),
+        (
             "fn r#fn\n---\nparse 0 Ident\n",
             "refused 0..2 expected identifier, found keyword `fn` @0\nrefused 0..2 unexpected token\n",
             1,
@@ -113,7 +118,8 @@ fn refuses_commands(rt: HostRuntime) -> Result<(), Fail> {
         ("parse 0 Ident Ident\n", 1),
         ("enter 0 «\n", 1),
         ("enter 0 ((\n", 1),
-        ("close 0\nspan 0\nspan 0", 2),
+        ("close 0\npeek 0\npeek 0", 2),
+        ("span 0 0\n", 1),
     ] {
         let input = format!(in rt.alloc(); "a\n---\n{commands}")?;
         let what = format!(in rt.alloc(); "command {number}")?;

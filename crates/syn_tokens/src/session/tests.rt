@@ -1,0 +1,65 @@
+// Streams built by hand.
+use crate::command::{Command, Kind};
+use crate::report::{Answer, Position, Verdict};
+use crate::session::replay;
+use std::alloc::Global;
+use std::test::Fail;
+use tok_core::{Delimiter, Group, Ident, Span, TokenStream, TokenTree};
+
+// Groups around `a`, visible and invisible by turns, the outermost visible.
+fn nested(alloc: Global, levels: usize) -> Result<TokenStream, Fail> {
+    let ident = Ident::new(alloc, "a", Span::call_site())?;
+    let mut stream = TokenStream::new(alloc);
+    stream.append(TokenTree::Ident(ident))?;
+    for level in 0..levels {
+        let delimiter = if level % 2 == 0 {
+            Delimiter::None
+        } else {
+            Delimiter::Parenthesis
+        };
+        let group = Group::new(delimiter, stream, Span::call_site());
+        stream = TokenStream::new(alloc);
+        stream.append(TokenTree::Group(group))?;
+    }
+    Ok(stream)
+}
+
+#[test]
+fn a_thousand_groups(rt: HostRuntime) -> Result<(), Fail> {
+    let alloc = rt.alloc();
+    let mut commands = Vec::new(alloc);
+    for number in 0..500usize {
+        commands.push(Command::Enter(number, Delimiter::Parenthesis))?;
+    }
+    commands.push(Command::Parse(500, Kind::Ident))?;
+    commands.push(Command::Empty(500))?;
+    let report = replay(alloc, nested(alloc, 1000)?, &commands)?;
+    assert_eq!(rt; report.lines.len(), 502);
+    for (number, line) in report.lines.iter().take(500).enumerate() {
+        match &line.answer {
+            Answer::Entered(content, _, _) => assert_eq!(rt; *content, number.saturating_add(1)),
+            _ => assert!(rt; false, "at {number}"),
+        }
+    }
+    assert_eq!(rt; report.lines[0].position, Position::At(2001));
+    assert_eq!(rt; report.lines[500].position, Position::At(1002));
+    assert!(rt; matches!(&report.lines[500].answer, Answer::Read(_)));
+    assert!(rt; matches!(&report.lines[501].answer, Answer::Truth(true)));
+    assert!(rt; matches!(&report.verdict, Verdict::Accepted));
+    let report = replay(alloc, nested(alloc, 1000)?, &commands[..500])?;
+    assert!(rt; matches!(&report.verdict, Verdict::Refused(_)));
+    Ok(())
+}
+
+#[test]
+fn positions_of_no_stream(rt: HostRuntime) -> Result<(), Fail> {
+    let alloc = rt.alloc();
+    let commands = [Command::Empty(3), Command::Empty(0), Command::Close(0)];
+    let report = replay(alloc, TokenStream::new(alloc), &commands)?;
+    assert_eq!(rt; report.lines.len(), 3);
+    assert!(rt; matches!(&report.lines[0].answer, Answer::Unfit(1)));
+    assert_eq!(rt; report.lines[0].position, Position::Missing);
+    assert!(rt; matches!(&report.lines[1].answer, Answer::Truth(true)));
+    assert!(rt; matches!(&report.lines[2].answer, Answer::Unfit(4)));
+    Ok(())
+}
