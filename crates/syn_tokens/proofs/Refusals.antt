@@ -1,14 +1,13 @@
 -- An error shows the refusal in whose words it is made.
-use Rattle.std.proofs.Common.{◌≡◌, ◌∙◌, ap, refl, ℕ, ◌≤◌, List, arith}
-use Rattle.std.specs.Prelude.{◌==◌, cond, min, max, true, Some, None, unwrap_or}
+use Rattle.std.proofs.Common.{◌≡◌, ◌∙◌, ap, refl, ℕ, arith}
+use Rattle.std.specs.Prelude.{◌==◌, min, max, true, None, unwrap_or}
 use Rattle.std.proofs.lemmas.Bool.{cond-true}
 use Rattle.tok_core.specs.declared.span.Place.TheVariants.{CallSite, Source}
 use Rattle.tok_core.specs.declared.span.Place.{Place}
 use Rattle.tok_core.specs.declared.span.Span.{Span}
 use Rattle.tok_core.specs.Spans.{join, source}
-use Rattle.tok_buffer.specs.Messages.{refused, error_of}
+use Rattle.tok_buffer.specs.Messages.{refused}
 use Rattle.tok_buffer.specs.Words.{Refusal}
-use Rattle.tok_buffer.specs.declared.error.Message.{Message}
 use Rattle.syn_tokens.specs.Seen.{refusal_of}
 
 eqb-same : (n : ℕ) → (n == n) ≡ true

@@ -1,5 +1,5 @@
 -- What commands, answers and reports of the program stand for.
-use Rattle.std.specs.Prelude.{ℕ, List, map, string_bytes, Option, Some, None}
+use Rattle.std.specs.Prelude.{List, map, string_bytes, Option, Some, None}
 use Rattle.tok_core.specs.declared.span.Span.{Span}
 use Rattle.tok_core.specs.declared.group.Delimiter.{Delimiter}
 use Rattle.tok_core.specs.Spans.{whole_span}

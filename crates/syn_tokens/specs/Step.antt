@@ -1,5 +1,5 @@
 -- One command on the streams.
-use Rattle.std.specs.Prelude.{ℕ, not, Bool, true, false, cond, List, [], ◌∷◌, ◌++◌, length, Option, Some, None}
+use Rattle.std.specs.Prelude.{ℕ, true, cond, List, [], ◌∷◌, ◌++◌, length, Option, Some, None}
 use Rattle.tok_core.specs.declared.span.Span.{Span}
 use Rattle.tok_core.specs.Forest.{Tree, leaf}
 use Rattle.tok_core.specs.Spans.{closing_span, leaf_span}

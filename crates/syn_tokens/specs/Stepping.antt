@@ -1,5 +1,5 @@
 -- What the parts of a replay promise.
-use Rattle.std.specs.Prelude.{◌≡◌, ℕ, List, map}
+use Rattle.std.specs.Prelude.{◌≡◌, List, map}
 use Rattle.tok_core.specs.Forest.{Leaf}
 use Rattle.tok_core.specs.Spans.{leaf_span}
 use Rattle.tok_core.specs.Text.{leaf_text}

@@ -7,7 +7,6 @@ use Rattle.tok_core.specs.Forest.{Tree, leaf}
 use Rattle.tok_core.specs.Text.{leaf_text}
 use Rattle.tok_buffer.specs.Ahead.{Leftover}
 use Rattle.tok_buffer.specs.Place.{Place}
-use Rattle.tok_buffer.specs.Reads.{read_ident}
 use Rattle.tok_buffer.specs.Words.{Refusal}
 use Rattle.tok_types.specs.Texts.{quoted}
 

@@ -1,5 +1,5 @@
 -- Clear forests, one tree at a time.
-use Rattle.std.proofs.Common.{◌≡◌, ◌∙◌, sym, ap, refl, ℕ, ◌+◌, ◌-◌, ◌<◌, ◌≤◌, Bool, true, false, not, ◌&&◌, List, [], ◌∷◌, length, get_or, zero, suc, arith}
+use Rattle.std.proofs.Common.{◌≡◌, ◌∙◌, sym, ap, refl, ◌-◌, ◌≤◌, Bool, true, false, not, ◌&&◌, List, [], ◌∷◌, length, get_or, arith}
 use Rattle.tok_core.specs.Clear.{clear, tree_clear, ends_joint, is_invisible, is_joint_apostrophe, starts_invisible}
 use Rattle.tok_core.specs.Forest.{Tree, Forest, tree}
 use Rattle.tok_core.specs.declared.stream.TokenTree.{TokenTree}

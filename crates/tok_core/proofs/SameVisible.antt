@@ -1,14 +1,13 @@
 -- Erasures compared tree by tree.
-use Rattle.std.proofs.Common.{◌≡◌, ◌∙◌, sym, ap, refl, ℕ, ◌+◌, ◌≤◌, ◌<◌, Bool, Result, Ok, Err, arith}
+use Rattle.std.proofs.Common.{◌≡◌, ◌∙◌, sym, ap, refl, Bool, Result, Ok, Err}
 use Rattle.std.specs.declared.alloc.AllocError.{AllocError}
 use Rattle.std.specs.Prelude.{IfOk}
 use Rattle.tok_core.specs.declared.group.Delimiter.{Delimiter}
 use Rattle.tok_core.specs.declared.group.Delimiter.TheVariants.{Parenthesis, Brace, Bracket, None}
 use Rattle.tok_core.specs.declared.span.Span.{Span}
 use Rattle.tok_core.specs.Erase.{erase}
-use Rattle.tok_core.specs.Forest.{Tree, leaf, group, Forest, no_trees, tree, joined}
+use Rattle.tok_core.specs.Forest.{group, Forest, no_trees, tree}
 use Rattle.tok_core.specs.Pending.{IsVisible}
-use Rattle.tok_core.specs.Weight.{tree_weight}
 
 -- the first two are equal exactly where the others are
 pub record SameAs (p q f g : Forest) : Type 0 where

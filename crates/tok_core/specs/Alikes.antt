@@ -1,19 +1,18 @@
 -- Equality but for spans.
-use Rattle.std.proofs.Common.{◌≡◌, ◌∙◌, sym, ap, refl, ℕ, Bool, true, false, ◌&&◌, ◌++◌, List, arith}
+use Rattle.std.proofs.Common.{◌≡◌, ◌∙◌, sym, ap, refl, ℕ, Bool, true, false, ◌&&◌, ◌++◌, arith}
 use Rattle.std.proofs.lemmas.Slice.Eq.{bytes_eq-Decides}
-use Rattle.std.specs.Prelude.{bytes_eq, ◌==◌}
+use Rattle.std.specs.Prelude.{◌==◌}
 use Rattle.std.specs.Bool.{Decides}
-use Rattle.std.specs.Cmp.{IsEquivalence, IsPartialEquivalence, equiv}
+use Rattle.std.specs.Cmp.{IsEquivalence, equiv}
 use Rattle.std.specs.Hash as fed
 use Rattle.tok_core.specs.declared.group.Delimiter.{Delimiter}
 use Rattle.tok_core.specs.declared.group.Delimiter.TheVariants.{Parenthesis, Brace, Bracket, None}
 use Rattle.tok_core.specs.declared.punct.Spacing.{Spacing}
 use Rattle.tok_core.specs.declared.punct.Spacing.TheVariants.{Alone, Joint}
-use Rattle.tok_core.specs.declared.span.Span.{Span}
 use Rattle.tok_core.specs.Code.{delimiter_code}
 use Rattle.tok_core.specs.Forest.{Leaf, ident, punct, literal, Tree, leaf, group, Forest, no_trees, tree}
 use Rattle.tok_core.specs.Spans.{call_site}
-use Rattle.tok_core.specs.Spanless.{leaf_spanless, spanless, tree_spanless, same_delimiter, same_spacing, spacing_number, leaf_alike, alike, tree_alike, tree_input, forest_input}
+use Rattle.tok_core.specs.Spanless.{leaf_spanless, spanless, tree_spanless, same_delimiter, same_spacing, leaf_alike, alike, tree_alike, tree_input, forest_input}
 
 both : (a b : Bool) → (a && b) ≡ true → (a ≡ true) × (b ≡ true)
 both true b e = (refl, e)

@@ -1,4 +1,4 @@
-use Rattle.std.proofs.Common.{◌≡◌, ℕ, ◌-◌, length, slice_set, subst, Option}
+use Rattle.std.proofs.Common.{ℕ, ◌-◌, length, subst, Option}
 use Rattle.std.specs.Borrow.{MutBor}
 use Rattle.std.specs.Option.{OnSome}
 use Rattle.syn_punctuated.specs.Lends.{WritesValue}

@@ -1,5 +1,5 @@
 use Rattle.std.proofs.Common.{◌≡◌, ◌≤◌, ◌&&◌, true, false, ◌+◌, drop, ap, sym, ◌∙◌, rules}
-use Rattle.tok_core.specs.Clear.{clear, tree_clear, is_invisible}
+use Rattle.tok_core.specs.Clear.{clear, is_invisible}
 use Rattle.tok_core.specs.Seen.{tree_of, trees_of}
 use Rattle.tok_core.specs.Weight.{weight, tree_weight}
 use Rattle.tok_core.proofs.Clears.{clear_behind, clear-edge, clear-torn, clear-later}

@@ -1,9 +1,9 @@
-use Rattle.std.proofs.Common.{◌≡◌, ◌∙◌, sym, ap, subst, rules}
+use Rattle.std.proofs.Common.{◌≡◌, ◌∙◌, sym, ap, subst}
 use Rattle.tok_core.specs.Erase.{erase}
-use Rattle.tok_core.specs.Forest.{Tree, Forest, tree, no_trees, group}
+use Rattle.tok_core.specs.Forest.{Tree, Forest, tree, no_trees}
 use Rattle.tok_core.specs.Pending.{IsVisible}
 use Rattle.tok_core.specs.Seen.{tree_of, group_of}
-use Rattle.tok_core.proofs.SameVisible.{group_same, group_content, group_edges, answered}
+use Rattle.tok_core.proofs.SameVisible.{group_same, group_content, answered}
 use Rattle.tok_core.proofs.erase.+same.Goals as goal
 
 abbrev erased : Tree → Forest

@@ -1,4 +1,4 @@
-use Rattle.std.proofs.Common.{◌≡◌, ◌+◌, ◌≤◌}
+use Rattle.std.proofs.Common.{◌+◌, ◌≤◌}
 use Rattle.tok_core.specs.Erase.{erase}
 use Rattle.tok_core.specs.Pending.{pending, pending_weight}
 use Rattle.tok_core.specs.Seen.{tree_of}

@@ -1,7 +1,6 @@
-use Rattle.std.proofs.Common.{◌≡◌, ◌∙◌, sym, ap, [], ◌∷◌, ◌++◌, length, arith, rules}
+use Rattle.std.proofs.Common.{◌∙◌, sym, ap, [], ◌∷◌, length, arith}
 use Rattle.std.proofs.lemmas.List.{length-append}
-use Rattle.tok_core.specs.Forest.{group}
-use Rattle.tok_core.specs.Seen.{tree_of, group_of}
+use Rattle.tok_core.specs.Seen.{tree_of}
 use Rattle.tok_core.proofs.Pendings.{popped_none, taken, entered}
 use Rattle.tok_core.proofs.erase.next_visible.Goals as goal
 

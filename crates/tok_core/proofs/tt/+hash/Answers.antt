@@ -1,4 +1,4 @@
-use Rattle.std.proofs.Common.{◌≡◌, ◌≤◌, rules}
+use Rattle.std.proofs.Common.{◌≤◌, rules}
 use Rattle.tok_core.specs.Seen.{tree_of}
 use Rattle.tok_core.specs.Weight.{weight, tree_weight}
 use Rattle.tok_core.proofs.Trees.{weight-here}

@@ -1,7 +1,6 @@
-use Rattle.std.proofs.Common.{◌≡◌, ◌∙◌, sym, ap, subst, take, rules}
-use Rattle.std.specs.Prelude.{OnErr}
+use Rattle.std.proofs.Common.{◌≡◌, ◌∙◌, sym, ap, subst, rules}
 use Rattle.tok_core.specs.Forest.{AppendsFront, Forest, joined, no_trees, tree}
-use Rattle.tok_core.specs.Seen.{tree_of, trees_of}
+use Rattle.tok_core.specs.Seen.{tree_of}
 use Rattle.tok_core.proofs.Facts.{joined-none}
 use Rattle.tok_core.proofs.Fronts.{some_appended, trees_of-take}
 use Rattle.tok_core.proofs.to_tokens.TokenStreamToTokens.to_tokens.Goals as goal

@@ -1,4 +1,4 @@
-use Rattle.std.proofs.Common.{◌≡◌, take, drop}
+use Rattle.std.proofs.Common.{◌≡◌, take}
 use Rattle.tok_core.specs.Forest.{joined}
 use Rattle.tok_core.specs.Seen.{trees_of}
 use Rattle.tok_core.proofs.to_tokens.TokenStreamToTokens.to_tokens.Given as goal
