@@ -1,6 +1,7 @@
 pub mod Appended
 pub mod Closing
 pub mod CommandLines
+pub mod Fronts
 pub mod Lines
 pub mod Linked
 pub mod Once

@@ -1,6 +1,5 @@
 -- For each input there is one thing that is printed.
 use Rattle.std.proofs.Common.{◌≡◌, ℕ, List, Option, Some, None, IfSome, ap, sym, subst, ◌∙◌, refl, inl, inr}
-use Rattle.std.specs.Io.KnownBytes.{Appends}
 use Rattle.std.specs.Str.{chars}
 use Rattle.tok_core.specs.Forest.{Forest}
 use Rattle.tok_core.specs.Lexical.Reading.{Reads, IsRefused}
@@ -10,6 +9,7 @@ use Rattle.tok_core.proofs.Lexical.Laws.{forest_once, refused_once, never_both}
 use Rattle.syn_tokens.specs.CommandText.{unreadable_line, commands_in}
 use Rattle.syn_tokens.specs.Commands.{Report}
 use Rattle.syn_tokens.specs.Faults.{unreadable_text}
+use Rattle.syn_tokens.specs.Output.{GoesOut}
 use Rattle.syn_tokens.specs.Printed.{ended, report_text}
 use Rattle.syn_tokens.specs.Program.{HasParts, HasForest, IsUnreadable, HasReport, verdict_status, Prints, Serves, ServesOnly}
 use Rattle.syn_tokens.specs.Input.{parts_of}
@@ -88,11 +88,12 @@ prints_once bytes printed other status code (inr (why, k, q, t)) (inr (why', k',
 
 -- what comes of a run is what the program prints
 pub serves_only : (bytes : List ℕ) (status : ℕ) (old new : Option (List ℕ)) → Serves bytes status old new → ServesOnly bytes status old new
-serves_only bytes status old new (inl (printed, h, a)) other code k =
-    let (same, codes) = prints_once bytes printed other status code h k in inl (codes, subst (Appends old new) same a)
+serves_only bytes status old new (inl (printed, mine, h, a)) other code k =
+    let (same, codes) = prints_once bytes printed other mine code h k in
+    inl (subst (λ text. GoesOut text code status old new) same (subst (λ n. GoesOut printed n status old new) codes a))
 serves_only bytes status old new (inr failed) other code k = inr failed
 
--- the same, of the bytes that were read
-pub read_only : (known : Option (List ℕ)) (read : List ℕ) (status : ℕ) (old new : Option (List ℕ)) → IfSome known (λ bytes. read ≡ bytes) → ServesOnly read status old new → IfSome known (λ bytes. ServesOnly bytes status old new)
-read_only None read status old new e h = tt
-read_only (Some bytes) read status old new e h = subst (λ b. ServesOnly b status old new) e h
+-- what holds of the bytes that were read
+pub known_read : (P : List ℕ → Type 0) (known : Option (List ℕ)) (read : List ℕ) → IfSome known (λ bytes. read ≡ bytes) → P read → IfSome known P
+known_read P None read e h = tt
+known_read P (Some bytes) read e h = subst P e h

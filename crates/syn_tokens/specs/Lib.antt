@@ -3,6 +3,7 @@ pub mod Commands
 pub mod Faults
 pub mod Input
 pub mod Links
+pub mod Output
 pub mod Printed
 pub mod Program
 pub mod Seen

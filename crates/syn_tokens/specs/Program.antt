@@ -1,6 +1,6 @@
 -- What the program prints for an input, and its status.
 use Rattle.std.specs.Prelude.{◌≡◌, ◌⊎◌, ℕ, List, Option, Some, None, codes}
-use Rattle.std.specs.Io.KnownBytes.{Appends}
+use Rattle.std.specs.Io.KnownBytes.{Keeps}
 use Rattle.std.specs.Str.{IsUtf8, chars}
 use Rattle.tok_core.specs.Forest.{Forest}
 use Rattle.tok_core.specs.Lexical.Reading.{Reads, IsRefused}
@@ -9,6 +9,7 @@ use Rattle.syn_tokens.specs.CommandText.{unreadable_line, commands_in}
 use Rattle.syn_tokens.specs.Commands.{Verdict, accepted, left_over, Report}
 use Rattle.syn_tokens.specs.Faults.{unreadable_text}
 use Rattle.syn_tokens.specs.Input.{parts_of}
+use Rattle.syn_tokens.specs.Output.{GoesOut}
 use Rattle.syn_tokens.specs.Printed.{ended, report_text}
 use Rattle.syn_tokens.specs.Walk.{walk}
 use Rattle.syn_tokens.specs.declared.fault.Unreadable.{Unreadable}
@@ -43,15 +44,14 @@ Prints bytes printed status =
     ((report : Report) × HasReport bytes report × (printed ≡ report_text report) × (status ≡ verdict_status report.verdict))
     ⊎ ((why : Unreadable) × IsUnreadable bytes why × (printed ≡ ended (unreadable_text why)) × (status ≡ 2))
 
--- memory was refused, and one line went out with 3; or a read or a write failed, with 2
+-- memory was refused, and one line says so with 3; or a read failed, and nothing went out
 abbrev pub Fails : ℕ → Option (List ℕ) → Option (List ℕ) → Type 0
-Fails status old new = ((status ≡ 3) × Appends old new (ended (codes "memory"))) ⊎ (status ≡ 2)
+Fails status old new = GoesOut (ended (codes "memory")) 3 status old new ⊎ ((status ≡ 2) × Keeps old new)
 
--- what the program prints for these bytes went out, with its status, or it failed
+-- what the program prints for these bytes went out, or it failed
 abbrev pub Serves : List ℕ → ℕ → Option (List ℕ) → Option (List ℕ) → Type 0
-Serves bytes status old new = ((printed : List ℕ) × Prints bytes printed status × Appends old new printed) ⊎ Fails status old new
+Serves bytes status old new = ((printed : List ℕ) × (code : ℕ) × Prints bytes printed code × GoesOut printed code status old new) ⊎ Fails status old new
 
--- whatever the program prints for these bytes went out, with its status, or it failed
+-- whatever the program prints for these bytes went out, or it failed
 abbrev pub ServesOnly : List ℕ → ℕ → Option (List ℕ) → Option (List ℕ) → Type 0
-ServesOnly bytes status old new =
-    (printed : List ℕ) (code : ℕ) → Prints bytes printed code → ((status ≡ code) × Appends old new printed) ⊎ Fails status old new
+ServesOnly bytes status old new = (printed : List ℕ) (code : ℕ) → Prints bytes printed code → GoesOut printed code status old new ⊎ Fails status old new

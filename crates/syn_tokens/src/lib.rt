@@ -6,6 +6,7 @@ mod command_text;
 mod fault;
 mod input;
 mod links;
+mod output;
 mod print;
 mod program;
 mod report;

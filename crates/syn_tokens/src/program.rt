@@ -1,6 +1,5 @@
 // The program.
-ghost use Rattle.std.specs.Prelude.{◌≡◌, ◌⊎◌, IfOk, IfSome, MatchResult, string_bytes};
-ghost use Rattle.std.specs.Io.KnownBytes.{Appends};
+ghost use Rattle.std.specs.Prelude.{◌≡◌, IfOk, IfSome, MatchResult, string_bytes};
 ghost use Rattle.syn_tokens.specs.Faults.{OnUnreadable};
 ghost use Rattle.syn_tokens.specs.Program.{IsUnreadable, HasReport, verdict_status, Prints, Serves, ServesOnly};
 ghost use Rattle.syn_tokens.specs.Seen.{report_of, verdict_of};
@@ -8,6 +7,7 @@ ghost use Rattle.syn_tokens.specs.Seen.{report_of, verdict_of};
 use crate::command_text::read_commands;
 use crate::fault::{Fault, Unreadable};
 use crate::input::{ReadFault, parts, read_input};
+use crate::output::send;
 use crate::report::{Report, Verdict};
 use crate::session::replay;
 use std::alloc::{AllocError, Global};
@@ -16,7 +16,7 @@ use std::str::from_utf8;
 use tok_core::lex_marked;
 
 /// Answers one input, and gives the exit status of the program. The input is a marked text, a line `---` and a command
-/// a line; the answer is a report, and it goes out in one piece.
+/// a line; the answer is a report. Nothing goes out before the whole answer stands in memory.
 ///
 /// The status is 0 where the report accepts, 1 where it refuses, 2 for an input that can't be read, of which one line
 /// says why, and also where a read or a write fails, and 3 where memory is refused, of which the line `memory` tells. An
@@ -43,16 +43,6 @@ fn answer<W: Write>(alloc: Global, input: &[u8], output: &mut W) -> u8
         Ok((text, status)) => send(output, text.as_str(), status),
         Err(AllocError) => send(output, "memory\n", 3),
     }
-}
-
-// Writes a text, and gives the status, or 2 where the text doesn't go out.
-fn send<W: Write>(output: &mut W, text: &str, status: u8) -> u8
-    ensures { ((result ≡ status) × Appends (W.contents output.old) (W.contents output.new) text.now) ⊎ (result ≡ 2) }
-{
-    if output.write_all(text.as_bytes()).is_err() || output.flush().is_err() {
-        return 2;
-    }
-    status
 }
 
 // What is printed for an input, and the status.
