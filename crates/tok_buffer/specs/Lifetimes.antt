@@ -1,5 +1,5 @@
 -- Lifetimes, and which texts make one.
-use Rattle.std.specs.Prelude.{ℕ, ◌==◌, ◌&&◌, Bool, false, cond, List, [], ◌∷◌, Option, Some, None}
+use Rattle.std.specs.Prelude.{ℕ, ◌==◌, ◌&&◌, Bool, false, cond, List, [], ◌∷◌, Option, Some, None, codes}
 use Rattle.std.specs.List.{list_all}
 use Rattle.unicode_ident.specs.Ident.{is_xid_continue}
 use Rattle.tok_core.specs.Forest.{Forest, forest}
@@ -18,9 +18,13 @@ use Rattle.tok_buffer.specs.declared.lifetime.LifetimeFault.TheVariants.{NoApost
 abbrev pub lifetime_forest : Lifetime → Forest
 lifetime_forest l = forest (lifetime_trees l.apostrophe (ident_of l.ident))
 
--- an apostrophe and the identifier's text
+-- the identifier's text
+abbrev pub name_of : Lifetime → List ℕ
+name_of l = leaf_text (ident_of l.ident)
+
+-- an apostrophe and the name
 abbrev pub lifetime_text : Lifetime → List ℕ
-lifetime_text l = apostrophe ∷ leaf_text (ident_of l.ident)
+lifetime_text l = apostrophe ∷ name_of l
 
 -- a plain identifier
 abbrev pub is_identifier : List ℕ → Bool
@@ -57,3 +61,10 @@ refusal_in fault = Some fault
 abbrev pub name_fault : MakeFault → LifetimeFault
 name_fault Refused = NotIdentifier
 name_fault made.Memory = Memory
+
+abbrev pub fault_words : LifetimeFault → List ℕ
+fault_words NoApostrophe = codes "lifetime without an apostrophe"
+fault_words Empty = codes "lifetime without a name"
+fault_words NotIdentifier = codes "lifetime whose name is no identifier"
+fault_words NoRaw = codes "lifetime whose raw name does not exist"
+fault_words Memory = codes "out of memory"

@@ -1,7 +1,11 @@
 //! Laws: small functions whose contracts say what holds of every buffer, cursor and lifetime.
-ghost use Rattle.std.specs.Prelude.{◌≡◌, ◌↔◌, true, Some, IsTrue, IfOk};
+ghost use Rattle.std.specs.Prelude.{◌≡◌, ◌↔◌, ℕ, List, true, Some, IfOk, bytes_eq};
+ghost use Rattle.std.specs.Ordering.{nat_cmp};
+ghost use Rattle.std.specs.Cmp.Lexicographic.{slice_cmp};
 ghost use Rattle.std.specs.declared.cmp.Ordering.TheVariants.{Equal};
 ghost use Rattle.tok_core.specs.Forest.{Forest};
+ghost use Rattle.tok_buffer.specs.Cursors.{place_of};
+ghost use Rattle.tok_buffer.specs.Lifetimes.{name_of};
 ghost use Rattle.tok_buffer.specs.Order.{equal, order};
 ghost use Rattle.tok_buffer.specs.Place.{Place, start};
 ghost use Rattle.tok_buffer.specs.Rest.{rest};
@@ -28,23 +32,19 @@ pub fn same_stream(
 }
 
 /// Cursors are equal exactly where their order says so.
-pub fn equal_in_order(left: Cursor<'_>, right: Cursor<'_>) -> bool
+pub fn equal_in_order(left: Cursor<'_>, right: Cursor<'_>) -> (bool, Option<Ordering>)
     ensures places { (p : Place) → (q : Place) → (equal p q ≡ true) ↔ (order p q ≡ Some Equal) }
-    ensures calls { IsTrue result }
+    ensures equal { result.0 ≡ equal (place_of left.entry) (place_of right.entry) }
+    ensures order { result.1 ≡ order (place_of left.entry) (place_of right.entry) }
 {
-    (left == right) == (left.partial_cmp(&right) == Some(Ordering::Equal))
+    (left == right, left.partial_cmp(&right))
 }
 
-/// Lifetimes are equal exactly where their order says so.
-pub fn equal_lifetimes_in_order(left: &Lifetime, right: &Lifetime) -> bool
-    ensures { IsTrue result }
+/// Lifetimes are compared by name alone, and are equal exactly where their order says so.
+pub fn lifetimes_in_order(left: &Lifetime, right: &Lifetime) -> (bool, Ordering)
+    ensures names { (x : List ℕ) → (y : List ℕ) → (bytes_eq x y ≡ true) ↔ (slice_cmp nat_cmp x y ≡ Equal) }
+    ensures equal { result.0 ≡ bytes_eq (name_of left.now) (name_of right.now) }
+    ensures order { result.1 ≡ slice_cmp nat_cmp (name_of left.now) (name_of right.now) }
 {
-    (left == right) == (left.cmp(right) == Ordering::Equal)
-}
-
-/// Lifetimes are compared by the texts of their identifiers alone.
-pub fn lifetimes_by_name(left: &Lifetime, right: &Lifetime) -> bool
-    ensures { IsTrue result }
-{
-    left.cmp(right) == left.ident.as_str().cmp(right.ident.as_str())
+    (left == right, left.cmp(right))
 }

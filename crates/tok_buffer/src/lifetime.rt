@@ -6,7 +6,7 @@ ghost use Rattle.tok_core.specs.Lexical.Words.{has_no_raw};
 ghost use Rattle.tok_core.specs.Seen.{ident_of};
 ghost use Rattle.tok_core.specs.Spans.{leaf_span};
 ghost use Rattle.tok_core.specs.Text.{leaf_text};
-ghost use Rattle.tok_buffer.specs.Lifetimes.{lifetime_forest, lifetime_refusal, lifetime_text, name_fault, name_refusal, plain_refusal, raw_refusal, refusal_in};
+ghost use Rattle.tok_buffer.specs.Lifetimes.{fault_words, lifetime_forest, lifetime_refusal, lifetime_text, name_fault, name_refusal, plain_refusal, raw_refusal, refusal_in};
 ghost use Rattle.tok_buffer.specs.Reads.{apostrophe};
 ghost use Rattle.tok_buffer.specs.Spans.{covering};
 
@@ -48,15 +48,25 @@ pub enum LifetimeFault {
     Memory,
 }
 
-impl Display for LifetimeFault {
-    fn fmt<W: Write>(&self, f: &mut Formatter<W>) -> fmt::Result {
-        f.write_str(match self {
+impl LifetimeFault {
+    fn words(self) -> &'static str
+        ensures { result.now ≡ fault_words self }
+    {
+        match self {
             LifetimeFault::NoApostrophe => "lifetime without an apostrophe",
             LifetimeFault::Empty => "lifetime without a name",
             LifetimeFault::NotIdentifier => "lifetime whose name is no identifier",
             LifetimeFault::NoRaw => "lifetime whose raw name does not exist",
             LifetimeFault::Memory => "out of memory",
-        })
+        }
+    }
+}
+
+impl Display for LifetimeFault {
+    ghost output = { λ fault. Some (fault_words fault) };
+
+    fn fmt<W: Write>(&self, f: &mut Formatter<W>) -> fmt::Result {
+        f.write_str(self.words())
     }
 }
 

@@ -131,7 +131,7 @@ fn compares_cursors(rt: HostRuntime) -> Result<(), Fail> {
             begin.same_scope(group),
             !begin.same_scope(content),
             begin.same_buffer(content),
-            laws::equal_in_order(begin, group),
+            laws::equal_in_order(begin, group) == (false, Some(Ordering::Less)),
         ],
     );
     Ok(())
@@ -356,8 +356,7 @@ fn compares_lifetimes(rt: HostRuntime) -> Result<(), Fail> {
             made == copy,
             made < raw,
             hasher.hash_one(&made) == hasher.hash_one(&copy),
-            laws::equal_lifetimes_in_order(&made, &raw),
-            laws::lifetimes_by_name(&made, &raw),
+            laws::lifetimes_in_order(&made, &raw) == (false, Ordering::Less),
         ],
     );
     Ok(())
