@@ -46,6 +46,9 @@ fn a_thousand_groups(rt: HostRuntime) -> Result<(), Fail> {
     assert!(rt; matches!(&report.lines[500].answer, Answer::Read(_)));
     assert!(rt; matches!(&report.lines[501].answer, Answer::Truth(true)));
     assert!(rt; matches!(&report.verdict, Verdict::Accepted));
+    commands.truncate(500);
+    let report = replay(alloc, nested(alloc, 1000)?, &commands)?;
+    assert!(rt; matches!(&report.verdict, Verdict::Refused(_)));
     Ok(())
 }
 
