@@ -64,6 +64,11 @@ impl TokenStream {
         }
     }
 
+    /// The allocator that the trees' memory comes from.
+    pub fn allocator(&self) -> Global {
+        self.alloc
+    }
+
     /// Puts a tree behind the others. Where memory is refused all stays as before, and the tree is dropped.
     pub fn append(&mut self, next: TokenTree) -> Result<(), AllocError>
         ensures ok { OnOk result (self.new ≡ joined self.old (tree (tree_of next) no_trees)) }

@@ -1,1 +1,5 @@
-pub mod Among
+pub mod Identifiers
+pub mod Puncts
+pub mod Searches
+pub mod Tables
+pub mod Words

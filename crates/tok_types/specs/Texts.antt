@@ -1,21 +1,63 @@
--- Texts of tokens.
-use Rattle.std.specs.Prelude.{ℕ, Bool, false, ◌||◌, not, List, [], ◌∷◌, ◌++◌, bytes_eq, codes}
+-- The texts of tokens.
+use Rattle.std.specs.Prelude.{ℕ, Bool, true, false, ◌||◌, ◌&&◌, ◌==◌, not, cond, List, [], ◌∷◌, ◌++◌, length, map, get_or, bytes_eq, codes}
+use Rattle.std.specs.Borrow.{Bor}
+use Rattle.std.specs.Cmp.Lexicographic.{slice_cmp}
+use Rattle.std.specs.Ordering.{is_lt, nat_cmp}
 
--- the texts that no identifier has where one is parsed: `_`, the literals of type `bool`, and the keywords of the Rust
--- Reference (Keywords), strict or reserved
+-- the keywords of the Rust Reference (Keywords), strict, reserved and weak, and those that only a parser of tokens names
+abbrev pub keywords : List (List ℕ)
+keywords =
+    codes "abstract" ∷ codes "as" ∷ codes "async" ∷ codes "auto" ∷ codes "await" ∷ codes "become" ∷ codes "box" ∷ codes "break" ∷ codes "const" ∷
+    codes "continue" ∷ codes "crate" ∷ codes "default" ∷ codes "do" ∷ codes "dyn" ∷ codes "else" ∷ codes "enum" ∷ codes "extern" ∷ codes "final" ∷
+    codes "fn" ∷ codes "for" ∷ codes "if" ∷ codes "impl" ∷ codes "in" ∷ codes "let" ∷ codes "loop" ∷ codes "macro" ∷ codes "match" ∷ codes "mod" ∷
+    codes "move" ∷ codes "mut" ∷ codes "override" ∷ codes "priv" ∷ codes "pub" ∷ codes "raw" ∷ codes "ref" ∷ codes "return" ∷ codes "safe" ∷
+    codes "Self" ∷ codes "self" ∷ codes "static" ∷ codes "struct" ∷ codes "super" ∷ codes "trait" ∷ codes "try" ∷ codes "type" ∷ codes "typeof" ∷
+    codes "union" ∷ codes "unsafe" ∷ codes "unsized" ∷ codes "use" ∷ codes "virtual" ∷ codes "where" ∷ codes "while" ∷ codes "yield" ∷ []
+
+-- the punctuations of the Rust Reference (Tokens, Punctuation), and `<-`
+abbrev pub punctuations : List (List ℕ)
+punctuations =
+    codes "&" ∷ codes "&&" ∷ codes "&=" ∷ codes "@" ∷ codes "^" ∷ codes "^=" ∷ codes ":" ∷ codes "," ∷ codes "$" ∷ codes "." ∷ codes ".." ∷
+    codes "..." ∷ codes "..=" ∷ codes "=" ∷ codes "==" ∷ codes "=>" ∷ codes ">=" ∷ codes ">" ∷ codes "<-" ∷ codes "<=" ∷ codes "<" ∷ codes "-" ∷
+    codes "-=" ∷ codes "!=" ∷ codes "!" ∷ codes "|" ∷ codes "|=" ∷ codes "||" ∷ codes "::" ∷ codes "%" ∷ codes "%=" ∷ codes "+" ∷ codes "+=" ∷
+    codes "#" ∷ codes "?" ∷ codes "->" ∷ codes ";" ∷ codes "<<" ∷ codes "<<=" ∷ codes ">>" ∷ codes ">>=" ∷ codes "/" ∷ codes "/=" ∷ codes "*" ∷
+    codes "*=" ∷ codes "~" ∷ []
+
+-- the texts that no identifier has where one is parsed: `_`, `true`, `false`, and the keywords, strict or reserved
 abbrev pub reserved : List (List ℕ)
 reserved =
-    codes "_" ∷ codes "true" ∷ codes "false" ∷ codes "abstract" ∷ codes "as" ∷ codes "async" ∷ codes "await" ∷ codes "become" ∷ codes "box" ∷
-    codes "break" ∷ codes "const" ∷ codes "continue" ∷ codes "crate" ∷ codes "do" ∷ codes "dyn" ∷ codes "else" ∷ codes "enum" ∷ codes "extern" ∷
+    codes "Self" ∷ codes "_" ∷ codes "abstract" ∷ codes "as" ∷ codes "async" ∷ codes "await" ∷ codes "become" ∷ codes "box" ∷ codes "break" ∷
+    codes "const" ∷ codes "continue" ∷ codes "crate" ∷ codes "do" ∷ codes "dyn" ∷ codes "else" ∷ codes "enum" ∷ codes "extern" ∷ codes "false" ∷
     codes "final" ∷ codes "fn" ∷ codes "for" ∷ codes "if" ∷ codes "impl" ∷ codes "in" ∷ codes "let" ∷ codes "loop" ∷ codes "macro" ∷ codes "match" ∷
-    codes "mod" ∷ codes "move" ∷ codes "mut" ∷ codes "override" ∷ codes "priv" ∷ codes "pub" ∷ codes "ref" ∷ codes "return" ∷ codes "Self" ∷
-    codes "self" ∷ codes "static" ∷ codes "struct" ∷ codes "super" ∷ codes "trait" ∷ codes "try" ∷ codes "type" ∷ codes "typeof" ∷ codes "unsafe" ∷
+    codes "mod" ∷ codes "move" ∷ codes "mut" ∷ codes "override" ∷ codes "priv" ∷ codes "pub" ∷ codes "ref" ∷ codes "return" ∷ codes "self" ∷
+    codes "static" ∷ codes "struct" ∷ codes "super" ∷ codes "trait" ∷ codes "true" ∷ codes "try" ∷ codes "type" ∷ codes "typeof" ∷ codes "unsafe" ∷
     codes "unsized" ∷ codes "use" ∷ codes "virtual" ∷ codes "where" ∷ codes "while" ∷ codes "yield" ∷ []
+
+-- the text of a number, and the empty text past the table
+abbrev pub keyword_text : ℕ → List ℕ
+keyword_text k = get_or keywords k []
+
+abbrev pub punctuation_text : ℕ → List ℕ
+punctuation_text k = get_or punctuations k []
+
+-- the same for a punctuation of n characters: the empty text where its own isn't of n
+abbrev pub punctuation_word : (k n : ℕ) → List ℕ
+punctuation_word k n = cond (length (punctuation_text k) == n) (punctuation_text k) []
 
 -- one of the texts is this one
 abbrev pub is_among : List (List ℕ) → List ℕ → Bool
 is_among [] s = false
-is_among (t ∷ ts) s = bytes_eq s t || is_among ts s
+is_among (t ∷ ts) s = bytes_eq t s || is_among ts s
+
+-- the texts that a table holds
+abbrev pub texts_of : List (Bor (List ℕ)) → List (List ℕ)
+texts_of = map (λ (t : Bor (List ℕ)). t.now)
+
+-- no text is below the one before it, by its bytes
+abbrev pub is_ascending : List (List ℕ) → Bool
+is_ascending [] = true
+is_ascending (t ∷ []) = true
+is_ascending (t ∷ (u ∷ ts)) = not (is_lt (slice_cmp nat_cmp u t)) && is_ascending (u ∷ ts)
 
 abbrev pub accept_as_ident : List ℕ → Bool
 accept_as_ident s = not (is_among reserved s)

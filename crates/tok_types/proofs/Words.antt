@@ -1,0 +1,94 @@
+-- The texts of the tables are ASCII, and those of keywords are identifiers.
+use Rattle.std.proofs.Common.{◌≡◌, ◌∙◌, ◌<◌, sym, ap, subst, refl, ℕ, zero, suc, Bool, true, false, ◌||◌, ◌&&◌, cond, List, [], ◌∷◌, get_or, length, ◌⊎◌, inl, inr, arith, eqb-true, encode_utf8_all}
+use Rattle.std.specs.Prelude.{codes, nat_lt, slice_index, ◌==◌}
+use Rattle.std.specs.List.{list_all}
+use Rattle.std.specs.Str.{chars, IsAscii, IsUtf8}
+use Rattle.std.proofs.lemmas.Bool.{false≢true, ltb-true}
+use Rattle.std.proofs.lemmas.List.{get_or_past}
+use Rattle.std.proofs.lemmas.Str.{chars-IsAscii, chars-nil, encodes-chars}
+use Rattle.unicode_ident.specs.Ident.{is_xid_start, is_xid_continue}
+use Rattle.unicode_ident.proofs.Computing.{unicode_ident}
+use Rattle.tok_core.specs.Lexical.Words.{IsIdentifier, IsSuffix, is_identifier_start}
+use Rattle.tok_core.specs.declared.span.Span.{Span}
+use Rattle.tok_core.specs.Forest.{ident, leaf, no_trees, tree}
+use Rattle.tok_types.specs.Printed.{word}
+use Rattle.tok_types.proofs.Searches.{below_or_not}
+use Rattle.tok_types.specs.Texts.{keywords, keyword_text, punctuations, punctuation_text, punctuation_word}
+
+both : (a b : Bool) → (a && b) ≡ true → (a ≡ true) × (b ≡ true)
+both true b h = (refl, h)
+both false b h = absurd (false≢true h)
+
+-- what holds of each text of a table and of the empty text holds of the text of any number
+of_each : (holds : List ℕ → Bool) (ts : List (List ℕ)) (k : ℕ) → holds [] ≡ true → list_all holds ts ≡ true → holds (get_or ts k []) ≡ true
+of_each holds [] k e h = e
+of_each holds (t ∷ ts) zero e h = (both (holds t) (list_all holds ts) h).0
+of_each holds (t ∷ ts) (suc k) e h = of_each holds ts k e (both (holds t) (list_all holds ts) h).1
+
+of_each_in : (holds : List ℕ → Bool) (ts : List (List ℕ)) (k : ℕ) → k < length ts → list_all holds ts ≡ true → holds (get_or ts k []) ≡ true
+of_each_in holds [] k low h = absurd (omega arith)
+of_each_in holds (t ∷ ts) zero low h = (both (holds t) (list_all holds ts) h).0
+of_each_in holds (t ∷ ts) (suc k) low h = of_each_in holds ts k (omega arith) (both (holds t) (list_all holds ts) h).1
+
+abbrev is_ascii : List ℕ → Bool
+is_ascii t = list_all (λ c. nat_lt c 128) t
+
+ascii_at : (t : List ℕ) → is_ascii t ≡ true → (i : ℕ) → slice_index t i < 128
+ascii_at [] h i = omega arith
+ascii_at (c ∷ t) h zero = ltb-true c 128 (both (nat_lt c 128) (is_ascii t) h).0
+ascii_at (c ∷ t) h (suc i) = ascii_at t (both (nat_lt c 128) (is_ascii t) h).1 i
+
+ascii_chars : (t : List ℕ) → is_ascii t ≡ true → chars t ≡ t
+ascii_chars t h = chars-IsAscii t (ascii_at t h)
+
+-- a plain identifier
+abbrev is_word : List ℕ → Bool
+is_word [] = false
+is_word (c ∷ cs) = is_identifier_start c && list_all is_xid_continue cs
+
+told : (t : List ℕ) → is_word t ≡ true → IsIdentifier t
+told [] h = absurd (false≢true h)
+told (c ∷ cs) h = both (is_identifier_start c) (list_all is_xid_continue cs) h
+
+keywords-are-words : list_all is_word keywords ≡ true
+unfolding is_xid_start is_xid_continue unicode_ident
+keywords-are-words = refl
+
+-- the text of a keyword of the table
+pub keyword-identifier : (k : ℕ) → k < 54 → IsIdentifier (chars (keyword_text k))
+keyword-identifier k h = subst IsIdentifier (sym (ascii_chars (keyword_text k) (of_each is_ascii keywords k refl refl))) (told (keyword_text k) (of_each_in is_word keywords k h keywords-are-words))
+
+-- and the text of any number
+pub keyword-suffix : (k : ℕ) → IsSuffix (chars (keyword_text k))
+keyword-suffix k =
+    elim (below_or_not k 54) [
+      | inl h ↦ inr (keyword-identifier k h)
+      | inr h ↦ inl (ap chars (get_or_past keywords k [] h) ∙ chars-nil)
+    ]
+
+some : (t : List ℕ) → (length t == 0) ≡ false → t ≡ [] → ⊥
+some t h e = false≢true (sym h ∙ ap (λ u. length u == 0) e)
+
+-- a text that isn't empty spells some character
+pub suffix-identifier : (t : List ℕ) → IsUtf8 t → (length t == 0) ≡ false → IsSuffix (chars t) → IsIdentifier (chars t)
+suffix-identifier t u h (inl none) = absurd (some t h (sym (encodes-chars t u) ∙ ap encode_utf8_all none))
+suffix-identifier t u h (inr word) = word
+
+pub word-empty : (t : List ℕ) (span : Span) → (length t == 0) ≡ true → word t span ≡ no_trees
+word-empty [] span h = refl
+word-empty (c ∷ cs) span h = absurd (omega (arith, eqb-true (length (c ∷ cs)) 0 h))
+
+pub word-some : (t : List ℕ) (span : Span) → (length t == 0) ≡ false → word t span ≡ tree (leaf (ident t span)) no_trees
+word-some [] span h = absurd (false≢true (sym h))
+word-some (c ∷ cs) span h = refl
+
+pub underscore-identifier : IsIdentifier (chars (codes "_"))
+unfolding is_xid_start unicode_ident
+underscore-identifier = subst IsIdentifier (sym (ascii_chars (codes "_") refl)) (refl, refl)
+
+chosen : (b : Bool) (t : List ℕ) → is_ascii t ≡ true → is_ascii (cond b t []) ≡ true
+chosen true t h = h
+chosen false t h = refl
+
+pub punctuation-chars : (k n : ℕ) → chars (punctuation_word k n) ≡ punctuation_word k n
+punctuation-chars k n = ascii_chars (punctuation_word k n) (chosen (length (punctuation_text k) == n) (punctuation_text k) (of_each is_ascii punctuations k refl refl))

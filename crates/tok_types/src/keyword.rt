@@ -1,0 +1,88 @@
+// Keywords.
+ghost use Rattle.std.specs.Prelude.{◌≡◌, ◌<◌, IfOk};
+ghost use Rattle.tok_core.specs.Forest.{ident};
+ghost use Rattle.tok_core.specs.Seen.{ident_of};
+ghost use Rattle.tok_core.specs.Spans.{call_site};
+ghost use Rattle.tok_types.specs.Looks.{Finds, IsText, read_keyword};
+ghost use Rattle.tok_types.specs.Printed.{word};
+ghost use Rattle.tok_types.specs.Texts.{keyword_text, quoted};
+
+use crate::ident::{append_word, identifier};
+use crate::look::Token;
+use crate::texts::{keyword_display, keyword_text};
+use std::alloc::{AllocError, Global};
+use std::fmt;
+use std::fmt::{Debug, Formatter, Write};
+use tok_buffer::Cursor;
+use tok_core::{Ident, Span, ToTokens, TokenStream};
+
+/// The keyword of the number `K` in the table of keywords: `token::Fn` is `Keyword<18>`. Past the table it has no text, is
+/// never found, and is written as nothing. All values of a type are equal.
+#[derive(Clone, Copy)]
+#[derive_where(PartialEq, Eq, Hash)]
+pub struct Keyword<const K: usize> {
+    #[derive_where(skip(EqHashOrd))]
+    pub span: Span,
+}
+
+impl<const K: usize> Keyword<K> {
+    pub fn new(span: Span) -> Self
+        ensures { result.span ≡ span }
+    {
+        Keyword { span }
+    }
+
+    pub fn from_span(span: Span) -> Self
+        ensures { result.span ≡ span }
+    {
+        Keyword { span }
+    }
+
+    // The identifier of a keyword in the table.
+    pub(crate) fn ident(self, alloc: Global) -> Result<Ident, AllocError>
+        requires { K < 54 }
+        ensures { IfOk result (λ i. ident_of i ≡ ident (keyword_text K) self.entry.span) }
+    {
+        identifier(alloc, keyword_text(K), self.span)
+    }
+}
+
+impl<const K: usize> Token for Keyword<K> {
+    ghost peeks = { Finds (read_keyword (keyword_text K)) };
+
+    ghost shown = { IsText (quoted (keyword_text K)) };
+
+    fn peek(cursor: Cursor<'_>) -> bool {
+        let text = keyword_text(K);
+        !text.is_empty() && cursor.peek_keyword(text)
+    }
+
+    fn display() -> &'static str {
+        keyword_display(K)
+    }
+}
+
+/// Writes an identifier of the keyword's text.
+impl<const K: usize> ToTokens for Keyword<K> {
+    ghost printed = { λ k. word (keyword_text K) k.span };
+
+    fn to_tokens(&self, tokens: &mut TokenStream) -> Result<(), AllocError> {
+        append_word(keyword_text(K), self.span, tokens)
+    }
+}
+
+/// At the call site.
+impl<const K: usize> Default for Keyword<K> {
+    ghost is_default = { λ k. k.span ≡ call_site };
+
+    fn default() -> Self {
+        Keyword::new(Span::call_site())
+    }
+}
+
+/// As `Token![fn]`.
+impl<const K: usize> Debug for Keyword<K> {
+    fn fmt<W: Write>(&self, f: &mut Formatter<W>) -> fmt::Result {
+        write!(f, "Token![{}]", keyword_text(K))
+    }
+}

@@ -1,0 +1,107 @@
+// Punctuations.
+ghost use Rattle.std.specs.Prelude.{◌≡◌, [], ◌∷◌, replicate};
+ghost use Rattle.tok_buffer.specs.Reads.{read_punctuation};
+ghost use Rattle.tok_core.specs.Spans.{call_site};
+ghost use Rattle.tok_types.specs.Looks.{Finds, IsText};
+ghost use Rattle.tok_types.specs.Printed.{puncts};
+ghost use Rattle.tok_types.specs.Texts.{punctuation_word, quoted};
+
+use crate::look::Token;
+use crate::texts::{punctuation_display, punctuation_text};
+use crate::token::printing;
+use std::alloc::AllocError;
+use std::fmt;
+use std::fmt::{Debug, Formatter, Write};
+use tok_buffer::Cursor;
+use tok_core::{Span, ToTokens, TokenStream};
+
+/// The punctuation of the number `K` in the table of punctuations, of `N` characters: `token::PathSep` is `Punctuation<28, 2>`.
+/// Past the table, or where its text isn't of `N` characters, it has no text, is never found, and is written as nothing.
+/// All values of a type are equal.
+#[derive(Clone, Copy)]
+#[derive_where(PartialEq, Eq, Hash)]
+pub struct Punctuation<const K: usize, const N: usize> {
+    /// One for each character.
+    #[derive_where(skip(EqHashOrd))]
+    pub spans: [Span; N],
+}
+
+impl<const K: usize, const N: usize> Punctuation<K, N> {
+    pub fn new(spans: [Span; N]) -> Self
+        ensures { result.spans ≡ spans.entry }
+    {
+        Punctuation { spans }
+    }
+
+    /// One span for all characters.
+    pub fn from_span(span: Span) -> Self
+        ensures { result.spans ≡ replicate N span }
+    {
+        Punctuation { spans: [span; N] }
+    }
+
+    // The text, empty where it isn't of `N` characters.
+    fn text() -> &'static str
+        ensures { result.now ≡ punctuation_word K N }
+    {
+        let text = punctuation_text(K);
+        if text.len() == N { text } else { "" }
+    }
+}
+
+impl<const K: usize> Punctuation<K, 1> {
+    pub fn span(&self) -> Span
+        ensures { self.now.spans ≡ result ∷ [] }
+    {
+        self.spans[0]
+    }
+
+    pub fn set_span(&mut self, span: Span)
+        ensures { self.new.spans ≡ span ∷ [] }
+    {
+        self.spans = [span];
+    }
+}
+
+impl<const K: usize, const N: usize> Token for Punctuation<K, N> {
+    ghost peeks = { Finds (read_punctuation (punctuation_word K N)) };
+
+    ghost shown = { IsText (quoted (punctuation_word K N)) };
+
+    fn peek(cursor: Cursor<'_>) -> bool {
+        cursor.peek_punct(Self::text())
+    }
+
+    fn display() -> &'static str {
+        if Self::text().is_empty() {
+            "``"
+        } else {
+            punctuation_display(K)
+        }
+    }
+}
+
+/// Writes a punct for each character, each but the last joint.
+impl<const K: usize, const N: usize> ToTokens for Punctuation<K, N> {
+    ghost printed = { λ p. puncts (punctuation_word K N) p.spans };
+
+    fn to_tokens(&self, tokens: &mut TokenStream) -> Result<(), AllocError> {
+        printing::punct(Self::text(), &self.spans, tokens)
+    }
+}
+
+/// At the call site.
+impl<const K: usize, const N: usize> Default for Punctuation<K, N> {
+    ghost is_default = { λ p. p.spans ≡ replicate N call_site };
+
+    fn default() -> Self {
+        Punctuation::from_span(Span::call_site())
+    }
+}
+
+/// As `Token![::]`.
+impl<const K: usize, const N: usize> Debug for Punctuation<K, N> {
+    fn fmt<W: Write>(&self, f: &mut Formatter<W>) -> fmt::Result {
+        write!(f, "Token![{}]", Self::text())
+    }
+}

@@ -1,0 +1,52 @@
+//! How punctuations are written.
+ghost use Rattle.std.specs.Prelude.{◌≡◌, true, OnOk, OnErr};
+ghost use Rattle.std.specs.List.{list_all};
+ghost use Rattle.tok_core.specs.Forest.{AppendsFront, joined, punct};
+ghost use Rattle.tok_core.specs.Lexical.Characters.{is_punct_or_apostrophe};
+ghost use Rattle.tok_core.specs.Seen.{punct_of};
+ghost use Rattle.tok_types.specs.Printed.{puncts, spacing};
+
+use std::alloc::AllocError;
+use tok_core::{Punct, Spacing, Span, TokenStream, TokenTree};
+
+/// Writes a punct for each character of a text, each but the last joint, at the span with the same index. Writes nothing if
+/// there aren't as many spans as bytes, or if a character is no punct's. Where memory is refused, the puncts that were
+/// written before stay.
+pub fn punct(text: &str, spans: &[Span], tokens: &mut TokenStream) -> Result<(), AllocError>
+    ensures ok { OnOk result (tokens.new ≡ joined tokens.old (puncts text.now spans.now)) }
+    ensures err { OnErr result (AppendsFront tokens.old (puncts text.now spans.now) tokens.new) }
+{
+    if text.len() != spans.len() || !are_puncts(text) {
+        return Ok(());
+    }
+    let bytes = text.as_bytes();
+    for (index, span) in spans.iter().enumerate() {
+        let is_last = index + 1 == spans.len();
+        tokens.append(TokenTree::Punct(one_of(bytes[index], is_last, *span)))?;
+    }
+    Ok(())
+}
+
+// The punct of a character that one may have, as one of several.
+fn one_of(byte: u8, is_last: bool, span: Span) -> Punct
+    requires { is_punct_or_apostrophe byte ≡ true }
+    ensures { punct_of result ≡ punct byte (spacing is_last) span }
+{
+    let spacing = if is_last {
+        Spacing::Alone
+    } else {
+        Spacing::Joint
+    };
+    match Punct::new_spanned(char::from(byte), spacing, span) {
+        Some(punct) => punct,
+        None => unreachable!(),
+    }
+}
+
+// Whether each character is one that a punct may have.
+fn are_puncts(text: &str) -> bool
+    ensures { result ≡ list_all is_punct_or_apostrophe text.now }
+{
+    text.bytes()
+        .all(|byte| Punct::new(char::from(byte), Spacing::Alone).is_some())
+}

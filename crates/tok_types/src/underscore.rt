@@ -1,0 +1,86 @@
+// The underscore.
+ghost use Rattle.std.specs.Prelude.{◌≡◌, [], ◌∷◌, codes, slice_index_or};
+ghost use Rattle.tok_core.specs.Spans.{call_site};
+ghost use Rattle.tok_types.specs.Looks.{Finds, IsText, read_keyword};
+ghost use Rattle.tok_types.specs.Printed.{first_span, word};
+
+use crate::ident::append_word;
+use crate::look::Token;
+use std::alloc::AllocError;
+use std::fmt;
+use std::fmt::{Debug, Formatter, Write};
+use tok_buffer::Cursor;
+use tok_core::{Span, ToTokens, TokenStream};
+
+/// `_`, which is an identifier among trees and has a type of its own here. All values are equal.
+#[derive(Clone, Copy)]
+#[derive_where(PartialEq, Eq, Hash)]
+pub struct Underscore {
+    #[derive_where(skip(EqHashOrd))]
+    pub spans: [Span; 1],
+}
+
+impl Underscore {
+    pub fn new(spans: [Span; 1]) -> Self
+        ensures { result.spans ≡ spans }
+    {
+        Underscore { spans }
+    }
+
+    pub fn from_span(span: Span) -> Self
+        ensures { result.spans ≡ span ∷ [] }
+    {
+        Underscore { spans: [span] }
+    }
+
+    pub fn span(&self) -> Span
+        ensures { self.now.spans ≡ result ∷ [] }
+    {
+        self.spans[0]
+    }
+
+    pub fn set_span(&mut self, span: Span)
+        ensures { self.new.spans ≡ span ∷ [] }
+    {
+        self.spans = [span];
+    }
+}
+
+impl Token for Underscore {
+    ghost peeks = { Finds (read_keyword (codes "_")) };
+
+    ghost shown = { IsText (codes "`_`") };
+
+    fn peek(cursor: Cursor<'_>) -> bool {
+        cursor.peek_keyword("_")
+    }
+
+    fn display() -> &'static str {
+        "`_`"
+    }
+}
+
+/// Writes the identifier `_`.
+impl ToTokens for Underscore {
+    ghost printed = { λ u. word (codes "_") (first_span u.spans) };
+
+    fn to_tokens(&self, tokens: &mut TokenStream) -> Result<(), AllocError> {
+        append_word("_", self.span(), tokens)
+    }
+}
+
+/// At the call site.
+impl Default for Underscore {
+    ghost is_default = { λ u. u.spans ≡ call_site ∷ [] };
+
+    fn default() -> Self {
+        Underscore::from_span(Span::call_site())
+    }
+}
+
+/// As `Token![_]`.
+impl Debug for Underscore {
+    fn fmt<W: Write>(&self, f: &mut Formatter<W>) -> fmt::Result {
+        f.write_str("Token![_]")
+    }
+}
