@@ -3,4 +3,5 @@
 
 pub mod buffer;
 pub mod punctuated;
+pub mod tokens;
 pub mod trees;

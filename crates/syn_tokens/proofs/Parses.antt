@@ -4,39 +4,18 @@ use Rattle.std.proofs.lemmas.List.{append-nil}
 use Rattle.std.proofs.lemmas.Bool.{cond-true, cond-false}
 use Rattle.std.specs.Prelude.{cond, codes}
 use Rattle.tok_core.specs.declared.span.Span.{Span}
-use Rattle.tok_core.specs.Forest.{ident, punct, literal, Tree, leaf, group, no_trees, tree}
+use Rattle.tok_core.specs.Forest.{ident, Tree, leaf}
 use Rattle.tok_buffer.specs.Descent.{descend}
-use Rattle.tok_buffer.specs.Place.{level, Place, empty_place, at}
-use Rattle.tok_buffer.specs.Reads.{take, is_ident, is_ident_of, read_ident}
+use Rattle.tok_buffer.specs.Place.{Place}
+use Rattle.tok_buffer.specs.Reads.{read_ident}
 use Rattle.tok_buffer.specs.Words.{at_stream}
 use Rattle.tok_types.specs.Texts.{accept_as_ident, quoted}
+use Rattle.tok_types.proofs.Identifiers.{word_of, word_none}
 use Rattle.syn_tokens.specs.Commands as spec
 use Rattle.syn_tokens.specs.State.{State}
 use Rattle.syn_tokens.specs.State as states
 use Rattle.syn_tokens.specs.Step.{Stepped, stays, moves, parsed, pieces_of}
 use Rattle.syn_tokens.specs.Words.{ident_words}
-
-abbrev head_text : Option (List Tree × Place) → List ℕ
-head_text (Some (leaf (ident text span) ∷ ts, r)) = text
-head_text x = []
-
--- a word where an identifier is read
-pub word_of : (w : List ℕ → Bool) (q : Place) (text : List ℕ) (span : Span) (r : Place) → take is_ident q ≡ Some (leaf (ident text span) ∷ [], r) → take (is_ident_of w) q ≡ cond (w text) (Some (leaf (ident text span) ∷ [], r)) None
-word_of w empty_place text span r e = cc
-word_of w (at k s n (level o p no_trees) us) text span r e = cc
-word_of w (at k s n (level o p (tree (group d c t) f)) us) text span r e = cc
-word_of w (at k s n (level o p (tree (leaf (punct c j t)) f)) us) text span r e = cc
-word_of w (at k s n (level o p (tree (leaf (literal x t)) f)) us) text span r e = cc
-word_of w (at k s n (level o p (tree (leaf (ident x t)) f)) us) text span r e =
-    ap (λ z. cond (w x) z None) e ∙ ap (λ z. cond (w z) (Some (leaf (ident text span) ∷ [], r)) None) (ap head_text e)
-
-pub word_none : (w : List ℕ → Bool) (q : Place) → take is_ident q ≡ None → take (is_ident_of w) q ≡ None
-word_none w empty_place e = refl
-word_none w (at k s n (level o p no_trees) us) e = refl
-word_none w (at k s n (level o p (tree (group d c t) f)) us) e = refl
-word_none w (at k s n (level o p (tree (leaf (punct c j t)) f)) us) e = refl
-word_none w (at k s n (level o p (tree (leaf (literal x t)) f)) us) e = refl
-word_none w (at k s n (level o p (tree (leaf (ident x t)) f)) us) e = cc
 
 abbrev parsed_with : State → ℕ → states.Stream → Option (List Tree × Place) → Stepped
 parsed_with st k s x =

@@ -55,7 +55,7 @@ puncts_step old before new cs ss i h low was now =
     let ts = joint_puncts cs ss in
     let t : Tree = punct_of_several cs ss i in
     let more : take (i + 1) ts ≡ take i ts ++ t ∷ [] =
-        take_more ts i t (omega (arith, h, low, puncts-length cs ss h)) ∙ ap (λ x. take i ts ++ x ∷ []) (at_index t call_site cs ss i (i + 1 == length ss) h low refl) in
+    take_more ts i t (omega (arith, h, low, puncts-length cs ss h)) ∙ ap (λ x. take i ts ++ x ∷ []) (at_index t call_site cs ss i (i + 1 == length ss) h low refl) in
     now
     ∙ ap (λ f. joined f (tree t no_trees)) was
     ∙ joined_assoc old (forest (take i ts)) (tree t no_trees)

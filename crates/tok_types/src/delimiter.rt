@@ -30,9 +30,7 @@ where
 {
     let mut inside = TokenStream::new(tokens.allocator());
     f(&mut inside)?;
-    tokens.append(TokenTree::Group(tok_core::Group::new(
-        delimiter, inside, span,
-    )))
+    tokens.append(TokenTree::Group(tok_core::Group::new(delimiter, inside, span)))
 }
 
 /// `( .. )`, looked for across the edges of invisible groups. All values are equal.

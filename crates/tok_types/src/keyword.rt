@@ -35,7 +35,7 @@ impl<const K: usize> Keyword<K> {
     pub fn from_span(span: Span) -> Self
         ensures { result.span ≡ span }
     {
-        Keyword { span }
+        Keyword::new(span)
     }
 
     // The identifier of a keyword in the table.

@@ -47,6 +47,5 @@ fn one_of(byte: u8, is_last: bool, span: Span) -> Punct
 fn are_puncts(text: &str) -> bool
     ensures { result ≡ list_all is_punct_or_apostrophe text.now }
 {
-    text.bytes()
-        .all(|byte| Punct::new(char::from(byte), Spacing::Alone).is_some())
+    text.bytes().all(|byte| Punct::new(char::from(byte), Spacing::Alone).is_some())
 }

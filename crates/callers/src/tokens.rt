@@ -1,0 +1,90 @@
+//! Callers of `tok_types`: a token of the caller's own, a look at two tokens, and tokens that are written.
+ghost use Rattle.std.specs.Prelude.{◌≡◌, ◌||◌, ◌&&◌, Bool, codes, is_some, OnOk};
+ghost use Rattle.tok_core.specs.Forest.{group, ident, joined, leaf, no_trees, tree};
+ghost use Rattle.tok_core.specs.Spans.{call_site};
+ghost use Rattle.tok_core.specs.declared.group.Delimiter.TheVariants.{Parenthesis};
+ghost use Rattle.tok_buffer.specs.Cursors.{place_of};
+ghost use Rattle.tok_buffer.specs.Entry.{enter};
+ghost use Rattle.tok_buffer.specs.Reads.{skip};
+ghost use Rattle.tok_types.specs.Looks.{read_keyword};
+ghost use Rattle.callers.specs.Looks.{behind_skip};
+
+use std::alloc::AllocError;
+use tok_buffer::Cursor;
+use tok_core::{ToTokens, TokenStream};
+use tok_types::token;
+use tok_types::token::Token;
+
+/// A word that is a keyword to this caller alone. Such a type needs no more than these two functions.
+pub struct Sealed;
+
+impl Token for Sealed {
+    fn peek(cursor: Cursor<'_>) -> bool {
+        cursor.peek_keyword("sealed")
+    }
+
+    fn display() -> &'static str {
+        "`sealed`"
+    }
+}
+
+/// Whether one of two tokens is in front, whichever they are.
+pub fn either<A: Token, B: Token>(cursor: Cursor<'_>) -> bool
+    ensures { (a : Bool) × (b : Bool) × A.peeks (place_of cursor.entry) a × B.peeks (place_of cursor.entry) b × (result ≡ (a || b)) }
+{
+    let first = A::peek(cursor);
+    let second = B::peek(cursor);
+    first || second
+}
+
+/// Whether `pub` is in front and parentheses stand behind it, as in `pub (crate)`.
+pub fn is_restricted(cursor: Cursor<'_>) -> bool
+    ensures { result ≡ (is_some (read_keyword (codes "pub") (place_of cursor.entry))
+        && behind_skip (λ p. is_some (enter Parenthesis p)) (skip (place_of cursor.entry))) }
+{
+    match cursor.skip() {
+        Some(rest) => token::Pub::peek(cursor) && token::Paren::peek(rest),
+        None => false,
+    }
+}
+
+/// Writes `pub (crate)`.
+pub fn write_restricted(tokens: &mut TokenStream) -> Result<(), AllocError>
+    ensures { OnOk result (tokens.new ≡ joined tokens.old
+        (tree (leaf (ident (codes "pub") call_site))
+        (tree (group Parenthesis (tree (leaf (ident (codes "crate") call_site)) no_trees) call_site) no_trees))) }
+{
+    token::Pub::default().to_tokens(tokens)?;
+    token::Paren::default().surround(tokens, |inside| token::Crate::default().to_tokens(inside))
+}
+
+#[cfg(test)]
+mod tests {
+    use super::*;
+    use std::test::Fail;
+    use tok_buffer::TokenBuffer;
+    use tok_core::lex_marked;
+
+    #[test]
+    fn a_token_of_the_callers_own(rt: HostRuntime) -> Result<(), Fail> {
+        let alloc = rt.alloc();
+        let sealed = TokenBuffer::new2(alloc, 0, lex_marked(alloc, 0, "«sealed» trait")?)?;
+        assert!(rt; Sealed::peek(sealed.begin()));
+        assert!(rt; either::<token::Pub, Sealed>(sealed.begin()));
+        assert!(rt; !either::<token::Pub, token::Trait>(sealed.begin()));
+        assert!(rt; !is_restricted(sealed.begin()));
+        Ok(())
+    }
+
+    #[test]
+    fn writes_what_it_looks_for(rt: HostRuntime) -> Result<(), Fail> {
+        let alloc = rt.alloc();
+        let mut tokens = TokenStream::new(alloc);
+        write_restricted(&mut tokens)?;
+        let text = tokens.to_string(alloc)?;
+        assert_eq!(rt; text.as_str(), "pub (crate)");
+        let buffer = TokenBuffer::new2(alloc, 0, tokens)?;
+        assert!(rt; is_restricted(buffer.begin()));
+        Ok(())
+    }
+}
