@@ -1,0 +1,42 @@
+// Makes the calls that take memory, and looks at what each answers and at what stands afterwards.
+//
+// The status is 0 where each request for memory is granted; 3 where one is refused and all that stands is right; 1 where
+// something is wrong, and then the name of the call is printed. Before the calls it makes one request for each byte of its
+// input: where always the 200th request is refused, inputs of 199 bytes and fewer bring each request of the calls there.
+#![tactic(auto)]
+
+mod outcome;
+mod trees;
+
+use outcome::{Outcome, Stop, worst};
+use std::alloc::{AllocError, Global};
+use std::io::Read;
+use std::process::ExitCode;
+
+fn main(rt: HostRuntime) -> ExitCode {
+    let mut bytes = [0u8; 256];
+    let Ok(count) = rt.stdin().read(&mut bytes) else {
+        return ExitCode::FAILURE;
+    };
+    match run(rt.alloc(), count) {
+        Ok(()) => ExitCode::SUCCESS,
+        Err(Stop::Refused) => ExitCode::from(3),
+        Err(Stop::Wrong(call)) => {
+            let _ = println!(rt; "{call}");
+            ExitCode::FAILURE
+        }
+    }
+}
+
+fn run(alloc: Global, before: usize) -> Outcome {
+    spend(alloc, before)?;
+    worst(&[trees::calls(alloc)])
+}
+
+// Makes so many requests.
+fn spend(alloc: Global, count: usize) -> Result<(), AllocError> {
+    for _ in 0..count {
+        let _spent = Vec::<u8>::with_capacity(alloc, 1)?;
+    }
+    Ok(())
+}

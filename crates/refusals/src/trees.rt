@@ -1,0 +1,245 @@
+// The calls of `tok_core` that take memory.
+use crate::outcome::{Outcome, Stop, expect, worst};
+use std::alloc::{AllocError, Global};
+use std::fmt::InlineText;
+use tok_core::{
+    Delimiter, Group, Ident, LexFault, Literal, MakeFault, Punct, Spacing, Span, Text, ToTokens,
+    TokenStream, TokenTree, lex, lex_marked, same_visible,
+};
+
+/// Each of them, some more than once.
+pub fn calls(alloc: Global) -> Outcome {
+    worst(&[
+        idents(alloc),
+        literals(alloc),
+        texts(alloc),
+        appends(alloc),
+        clones(alloc),
+        leaves_as_tokens(alloc),
+        trees_as_tokens(alloc),
+        own_streams(alloc),
+        same(alloc),
+        reads(alloc),
+        prints(alloc),
+    ])
+}
+
+// The span of all that is made here.
+fn span() -> Span {
+    Span::source(1, 2, 4)
+}
+
+// An identifier, unless memory is refused.
+fn made(ident: Result<Ident, MakeFault>, call: &'static str) -> Result<Ident, Stop> {
+    match ident {
+        Ok(ident) => Ok(ident),
+        Err(MakeFault::Memory) => Err(Stop::Refused),
+        Err(MakeFault::Refused) => Err(Stop::Wrong(call)),
+    }
+}
+
+fn is_ident(ident: &Ident, text: &str) -> bool {
+    ident.as_str() == text && ident.span() == span()
+}
+
+fn is_literal(literal: &Literal, text: &str) -> bool {
+    literal.as_str() == text && literal.span() == Span::call_site()
+}
+
+fn has_text(stream: &TokenStream, text: &str) -> bool {
+    InlineText::<64>::of(stream).as_str() == text
+}
+
+// Whether a stream has this text, and each of its trees the span.
+fn is_stream(stream: &TokenStream, text: &str) -> bool {
+    for next in stream.trees() {
+        if next.span() != span() {
+            return false;
+        }
+    }
+    has_text(stream, text)
+}
+
+fn idents(alloc: Global) -> Outcome {
+    let ident = made(Ident::new(alloc, "ab", span()), "Ident::new")?;
+    expect(is_ident(&ident, "ab"), "Ident::new")?;
+    let raw = made(Ident::new_raw(alloc, "fn", span()), "Ident::new_raw")?;
+    expect(is_ident(&raw, "r#fn"), "Ident::new_raw")?;
+    let copy = ident.clone();
+    expect(is_ident(&ident, "ab"), "Ident::clone")?;
+    expect(is_ident(&copy?, "ab"), "Ident::clone")
+}
+
+fn literals(alloc: Global) -> Outcome {
+    let literal = Literal::string(alloc, "q\n")?;
+    expect(is_literal(&literal, "\"q\\n\""), "Literal::string")?;
+    let copy = literal.clone();
+    expect(is_literal(&literal, "\"q\\n\""), "Literal::clone")?;
+    expect(is_literal(&copy?, "\"q\\n\""), "Literal::clone")
+}
+
+fn texts(alloc: Global) -> Outcome {
+    let text = Text::new(String::from_str(alloc, "ab")?);
+    let copy = text.clone();
+    expect(text.as_str() == "ab", "Text::clone")?;
+    expect(copy?.as_str() == "ab", "Text::clone")
+}
+
+fn plus() -> Result<Punct, Stop> {
+    Punct::new_spanned('+', Spacing::Alone, span()).ok_or(Stop::Wrong("Punct::new_spanned"))
+}
+
+// Puts a plus behind the others. Where memory is refused the stream is as before, and takes the plus when it is put again.
+fn append(stream: &mut TokenStream, before: &str, after: &str) -> Outcome {
+    let call = "TokenStream::append";
+    if stream.append(TokenTree::Punct(plus()?)).is_ok() {
+        return expect(is_stream(stream, after), call);
+    }
+    expect(is_stream(stream, before), call)?;
+    stream.append(TokenTree::Punct(plus()?))?;
+    expect(is_stream(stream, after), call)?;
+    Err(Stop::Refused)
+}
+
+fn appends(alloc: Global) -> Outcome {
+    let mut stream = TokenStream::new(alloc);
+    append(&mut stream, "", "+")?;
+    append(&mut stream, "+", "+ +")?;
+    append(&mut stream, "+ +", "+ + +")?;
+    append(&mut stream, "+ + +", "+ + + +")?;
+    append(&mut stream, "+ + + +", "+ + + + +")
+}
+
+// A group with an identifier inside.
+fn group(alloc: Global) -> Result<Group, Stop> {
+    let ident = made(Ident::new(alloc, "ab", span()), "Ident::new")?;
+    let mut inside = TokenStream::new(alloc);
+    inside.append(TokenTree::Ident(ident))?;
+    Ok(Group::new(Delimiter::Brace, inside, span()))
+}
+
+fn is_group(group: &Group) -> bool {
+    group.delimiter() == Delimiter::Brace
+        && group.span() == span()
+        && is_stream(group.stream(), "ab")
+}
+
+fn clones(alloc: Global) -> Outcome {
+    let group = group(alloc)?;
+    let copy = group.clone();
+    expect(is_group(&group), "Group::clone")?;
+    expect(is_group(&copy?), "Group::clone")?;
+    let mut stream = TokenStream::new(alloc);
+    let tree = TokenTree::Group(group);
+    let copy = tree.clone();
+    stream.append(tree)?;
+    expect(is_stream(&stream, "{ab}"), "TokenTree::clone")?;
+    stream.append(copy?)?;
+    expect(is_stream(&stream, "{ab} {ab}"), "TokenTree::clone")?;
+    let copy = stream.clone();
+    expect(is_stream(&stream, "{ab} {ab}"), "TokenStream::clone")?;
+    expect(is_stream(&copy?, "{ab} {ab}"), "TokenStream::clone")
+}
+
+// Four pluses: so many trees have room in the memory that a stream asks for first.
+fn pluses(alloc: Global) -> Result<TokenStream, Stop> {
+    let mut stream = TokenStream::new(alloc);
+    for _ in 0..4 {
+        stream.append(TokenTree::Punct(plus()?))?;
+    }
+    Ok(stream)
+}
+
+// Writes a value behind four pluses. Where memory is refused one of these fronts stands there, and else the last.
+fn write<T: ToTokens>(alloc: Global, value: &T, fronts: &[&str], call: &'static str) -> Outcome {
+    let mut tokens = pluses(alloc)?;
+    if value.to_tokens(&mut tokens).is_ok() {
+        return match fronts {
+            [.., all] => expect(is_stream(&tokens, all), call),
+            [] => Err(Stop::Wrong(call)),
+        };
+    }
+    for front in fronts {
+        if is_stream(&tokens, front) {
+            return Err(Stop::Refused);
+        }
+    }
+    Err(Stop::Wrong(call))
+}
+
+fn leaves_as_tokens(alloc: Global) -> Outcome {
+    let call = "Punct::to_tokens";
+    write(alloc, &plus()?, &["+ + + +", "+ + + + +"], call)?;
+    let ident = made(Ident::new(alloc, "ab", span()), "Ident::new")?;
+    let call = "Ident::to_tokens";
+    write(alloc, &ident, &["+ + + +", "+ + + + ab"], call)?;
+    let mut literal = Literal::string(alloc, "q")?;
+    literal.set_span(span());
+    let call = "Literal::to_tokens";
+    write(alloc, &literal, &["+ + + +", "+ + + + \"q\""], call)
+}
+
+fn trees_as_tokens(alloc: Global) -> Outcome {
+    let group = group(alloc)?;
+    let call = "Group::to_tokens";
+    write(alloc, &group, &["+ + + +", "+ + + + {ab}"], call)?;
+    let tree = TokenTree::Group(group);
+    let call = "TokenTree::to_tokens";
+    write(alloc, &tree, &["+ + + +", "+ + + + {ab}"], call)?;
+    let mut stream = TokenStream::new(alloc);
+    stream.append(tree)?;
+    stream.append(TokenTree::Punct(plus()?))?;
+    let fronts = ["+ + + +", "+ + + + {ab}", "+ + + + {ab} +"];
+    write(alloc, &stream, &fronts, "TokenStream::to_tokens")
+}
+
+fn own_streams(alloc: Global) -> Outcome {
+    let ident = made(Ident::new(alloc, "ab", span()), "Ident::new")?;
+    let tokens = ident.to_token_stream(alloc);
+    expect(is_ident(&ident, "ab"), "ToTokens::to_token_stream")?;
+    expect(is_stream(&tokens?, "ab"), "ToTokens::to_token_stream")?;
+    let tokens = ident.into_token_stream(alloc)?;
+    expect(is_stream(&tokens, "ab"), "ToTokens::into_token_stream")
+}
+
+// A stream with nothing but an invisible group.
+fn hidden(alloc: Global, inside: TokenStream) -> Result<TokenStream, AllocError> {
+    let mut stream = TokenStream::new(alloc);
+    stream.append(TokenTree::Group(Group::new(Delimiter::None, inside, span())))?;
+    Ok(stream)
+}
+
+fn same(alloc: Global) -> Outcome {
+    let plain = pluses(alloc)?;
+    let mut deep = pluses(alloc)?;
+    for _ in 0..5 {
+        deep = hidden(alloc, deep)?;
+    }
+    let same = same_visible(alloc, &deep, &plain);
+    expect(is_stream(&plain, "+ + + +"), "same_visible")?;
+    expect(is_stream(&deep, "«««««+ + + +»»»»»"), "same_visible")?;
+    expect(same?, "same_visible")
+}
+
+fn read(stream: Result<TokenStream, LexFault>, text: &str, call: &'static str) -> Outcome {
+    match stream {
+        Ok(stream) => expect(has_text(&stream, text), call),
+        Err(LexFault::Memory) => Err(Stop::Refused),
+        Err(LexFault::Refused(_)) => Err(Stop::Wrong(call)),
+    }
+}
+
+fn reads(alloc: Global) -> Outcome {
+    let text = "a += ('b [{1}] \"c\")";
+    read(lex(alloc, 0, text), text, "lex")?;
+    let text = "«a «()» +»";
+    read(lex_marked(alloc, 0, text), text, "lex_marked")
+}
+
+// What prints a stream passes a refusal on, and never cuts the text.
+fn prints(alloc: Global) -> Outcome {
+    let stream = pluses(alloc)?;
+    let text = stream.to_string(alloc);
+    expect(is_stream(&stream, "+ + + +"), "Display::fmt")?;
+    expect(text?.as_str() == "+ + + +", "Display::fmt")
+}
