@@ -1,7 +1,8 @@
 -- One more pair.
-use Rattle.std.proofs.Common.{◌≡◌, ◌+◌, List, [], ◌∷◌, ◌++◌, map, length, refl, sym, ap, ◌∙◌, arith, append_assoc, length-append, Option, None, Some, true, false, is_some}
+use Rattle.std.proofs.Common.{◌≡◌, ◌+◌, List, [], ◌∷◌, ◌++◌, map, length, refl, sym, ap, ◌∙◌, arith, append_assoc, length-append, Option, None, Some, true, false, is_some, subst, Result, Ok, Err, MatchResult, IfErr}
 use Rattle.std.proofs.lemmas.List.{length-map, map-append}
 use Rattle.std.specs.Option.{option_to_list}
+use Rattle.std.specs.Result.{IsErrAnd}
 use Rattle.std.specs.Global.{Box}
 use Rattle.syn_punctuated.specs.declared.punctuated.Punctuated.{Punctuated as List'}
 use Rattle.syn_punctuated.specs.declared.pair.Pair.{Pair}
@@ -14,6 +15,16 @@ use Rattle.syn_punctuated.specs.Adds.{AddsPairs, IsPairs, EndsBare, separators_i
 boxed_count : {X : Type 0} (last : Option (Box X)) → (is_some last ≡ true → length (boxed_values last) ≡ 1) × (is_some last ≡ false → length (boxed_values last) ≡ 0)
 boxed_count None = ((λ e. cc), λ e. refl)
 boxed_count (Some v) = ((λ e. refl), λ e. cc)
+
+-- what holds of a fault holds of an answer that is this fault
+module _ {A B : Type 0} (Q : B → Type 0) (fault : B) where
+  pub match_fault : (P : A → Type 0) (r : Result A B) → IsErrAnd r (λ e. e ≡ fault) → Q fault → MatchResult r P Q
+  match_fault P (Ok a) h q = absurd h
+  match_fault P (Err e) h q = subst Q (sym h) q
+
+  pub if_fault : (r : Result A B) → IsErrAnd r (λ e. e ≡ fault) → Q fault → IfErr r Q
+  if_fault (Ok a) h q = absurd h
+  if_fault (Err e) h q = subst Q (sym h) q
 
 module _ {X Y : Type 0} where
   pub some_is_bare : (list : List' X Y) → is_some list.last ≡ true → length (values_of list) ≡ length (separators_of list) + 1

@@ -1,5 +1,5 @@
 //! The calls that add and remove values and separators.
-ghost use Rattle.std.specs.Prelude.{◌≡◌, ◌+◌, ◌≤◌, ◌<◌, [], ◌∷◌, ◌++◌, length, take, is_some, option_map};
+ghost use Rattle.std.specs.Prelude.{◌≡◌, ◌+◌, ◌≤◌, ◌<◌, [], ◌∷◌, ◌++◌, length, take, true, is_some, option_map};
 ghost use Rattle.std.specs.Prelude.{option_and_then, option_to_list, IfOk, OnErr, OnOk, IfNone};
 ghost use Rattle.std.specs.List.{insert};
 ghost use Rattle.syn_punctuated.specs.Lists.{values_of, separators_of, is_trailing};
@@ -67,6 +67,7 @@ impl<T: Drop, P: Drop> Punctuated<T, P> {
         ensures taken { IfOk result (λ taken. separators_of self.old ≡ separators_of self.new ++ option_to_list taken) }
         ensures some { IfOk result (λ taken. is_some taken ≡ is_trailing self.old) }
         ensures err { OnErr result (IsUnchanged self.old self.new) }
+        ensures refused { OnErr result (is_trailing self.old ≡ true) }
     {
         if self.last.is_some() {
             return Ok(None);

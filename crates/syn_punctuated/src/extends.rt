@@ -1,8 +1,8 @@
 //! The calls that add many values.
 ghost use Rattle.std.specs.Prelude.{◌≡◌, [], ◌∷◌, ◌++◌, length, option_to_list, Some, IfOk, IfErr, OnOk, OnErr};
-ghost use Rattle.std.specs.Iterator.{IsFiniteIterable, ExtendsWithItems};
-ghost use Rattle.syn_punctuated.specs.Adds.{AddsValues, ExtendsWithPairs, ExtendsAfterDefault};
-ghost use Rattle.syn_punctuated.specs.Adds.{MadeOfValues, MadeOfPairs, GoesOnAfterEnd};
+ghost use Rattle.std.specs.Iterator.{IsFiniteIterable};
+ghost use Rattle.syn_punctuated.specs.Adds.{ExtendsWithValues, ExtendsWithPairs, ExtendsAfterDefault};
+ghost use Rattle.syn_punctuated.specs.Adds.{MadeOfValues, GivesAny, MadeOfPairs, RefusesPairs};
 ghost use Rattle.syn_punctuated.specs.Faults.{fault_text};
 ghost use Rattle.syn_punctuated.specs.Lists.{values_of, separators_of, IsUnchanged};
 ghost use Rattle.syn_punctuated.specs.Pairs.{value_of_pair, separator_of_pair};
@@ -82,8 +82,7 @@ impl<T: Drop, P: Drop> Punctuated<T, P> {
     ) -> Result<Self, PairsFault>
         requires { IsFiniteIterable I.into_iter_gives I.IntoIter.can_next I.IntoIter.remaining pairs }
         ensures ok { IfOk result (MadeOfPairs I.into_iter_gives I.IntoIter.next_gives pairs) }
-        ensures err { IfErr result (λ fault. fault ≡ PairsFault.AfterEnd
-            → GoesOnAfterEnd I.into_iter_gives I.IntoIter.next_gives pairs) }
+        ensures err { IfErr result (RefusesPairs I.into_iter_gives I.IntoIter.next_gives pairs) }
     {
         let mut list = Punctuated::new(alloc);
         list.push_pairs(pairs)?;
@@ -94,10 +93,10 @@ impl<T: Drop, P: Drop> Punctuated<T, P> {
 impl<T: Drop, P: Default + Drop> Punctuated<T, P> {
     /// Adds values in turn, each as `push` does.
     ///
-    /// Where there is no memory, what came before stays.
+    /// Where there is no memory for a value, those before it stay, and it is dropped.
     pub fn extend_values<I: IntoIterator<Item = T>>(&mut self, items: I) -> Result<(), AllocError>
         requires { IsFiniteIterable I.into_iter_gives I.IntoIter.can_next I.IntoIter.remaining items }
-        ensures { ExtendsWithItems I.into_iter_gives I.IntoIter.next_gives (AddsValues P.is_default)
+        ensures { ExtendsWithValues I.into_iter_gives I.IntoIter.next_gives P.is_default
             items self.old self.new result }
     {
         for value in items {
@@ -112,7 +111,8 @@ impl<T: Drop, P: Default + Drop> Punctuated<T, P> {
         items: I,
     ) -> Result<Self, AllocError>
         requires { IsFiniteIterable I.into_iter_gives I.IntoIter.can_next I.IntoIter.remaining items }
-        ensures { IfOk result (MadeOfValues I.into_iter_gives I.IntoIter.next_gives P.is_default items) }
+        ensures ok { IfOk result (MadeOfValues I.into_iter_gives I.IntoIter.next_gives P.is_default items) }
+        ensures err { OnErr result (GivesAny I.into_iter_gives I.IntoIter.next_gives items) }
     {
         let mut list = Punctuated::new(alloc);
         list.extend_values(items)?;
@@ -122,7 +122,8 @@ impl<T: Drop, P: Default + Drop> Punctuated<T, P> {
     /// Adds pairs in turn. Where the list ends in a bare value a default separator goes first, even if no pair
     /// follows.
     ///
-    /// A pair behind one without a separator is refused. At either fault what came before stays.
+    /// A pair behind one without a separator is refused. At either fault what came before stays, and the pair at which
+    /// it stopped is dropped.
     pub fn extend_pairs<I: IntoIterator<Item = Pair<T, P>> + Drop>(
         &mut self,
         pairs: I,

@@ -1,4 +1,4 @@
-use Rattle.std.proofs.Common.{◌≡◌, arith, inl, ap, sym, ◌∙◌, [], ◌∷◌, ◌++◌}
+use Rattle.std.proofs.Common.{◌≡◌, arith, rules, inl, inr, ap, sym, ◌∙◌, [], ◌∷◌, ◌++◌}
 use Rattle.syn_punctuated.specs.Lists.{values_of, separators_of}
 use Rattle.syn_punctuated.proofs.PairsAdded.{some_is_bare, none_is_trailing}
 use Rattle.syn_punctuated.proofs.punctuated.Punctuated.extend_pairs.Goals.{then-is_some+in_ok-push_punct, else-is_some}
@@ -18,3 +18,6 @@ returns g c =
           let even = none_is_trailing old (sym c.is_some.ensures ∙ w.if-is_some.false) in
           inl (mid, ap values_of w.self-is, record { trailing = λ _. ap separators_of w.self-is; bare = λ e. absurd (omega (arith, e, even)) }, c.push_pairs.ensures)
     ]
+
+pub returns-in_err-push_punct : goal.returns-in_err-push_punct
+returns-in_err-push_punct g c = inr (search rules, c.in_err-push_punct.ensures.err, some_is_bare c.args.self.now (sym c.is_some.ensures ∙ c.if-is_some.true))
