@@ -48,6 +48,13 @@ pub fn is_restricted(cursor: Cursor<'_>) -> bool
     }
 }
 
+// Writes `crate`.
+fn write_crate(tokens: &mut TokenStream) -> Result<(), AllocError>
+    ensures { OnOk result (tokens.new ≡ joined tokens.old (tree (leaf (ident (codes "crate") call_site)) no_trees)) }
+{
+    token::Crate::default().to_tokens(tokens)
+}
+
 /// Writes `pub (crate)`.
 pub fn write_restricted(tokens: &mut TokenStream) -> Result<(), AllocError>
     ensures { OnOk result (tokens.new ≡ joined tokens.old
@@ -55,7 +62,7 @@ pub fn write_restricted(tokens: &mut TokenStream) -> Result<(), AllocError>
         (tree (group Parenthesis (tree (leaf (ident (codes "crate") call_site)) no_trees) call_site) no_trees))) }
 {
     token::Pub::default().to_tokens(tokens)?;
-    token::Paren::default().surround(tokens, |inside| token::Crate::default().to_tokens(inside))
+    token::Paren::default().surround(tokens, write_crate)
 }
 
 #[cfg(test)]

@@ -2,10 +2,13 @@
 //
 // The status is 0 where each request for memory is granted; 3 where one is refused and all that stands is right; 1 where
 // something is wrong, and then the name of the call is printed. Before the calls it makes one request for each byte of its
-// input: where always the 200th request is refused, inputs of 199 bytes and fewer bring each request of the calls there.
+// input: where always the 300th request is refused, inputs of 299 bytes and fewer bring each request of the calls there.
 #![tactic(auto)]
 
+mod cursors;
+mod lists;
 mod outcome;
+mod tokens;
 mod trees;
 
 use outcome::{Outcome, Stop, worst};
@@ -14,7 +17,7 @@ use std::io::Read;
 use std::process::ExitCode;
 
 fn main(rt: HostRuntime) -> ExitCode {
-    let mut bytes = [0u8; 256];
+    let mut bytes = [0u8; 512];
     let Ok(count) = rt.stdin().read(&mut bytes) else {
         return ExitCode::FAILURE;
     };
@@ -30,7 +33,12 @@ fn main(rt: HostRuntime) -> ExitCode {
 
 fn run(alloc: Global, before: usize) -> Outcome {
     spend(alloc, before)?;
-    worst(&[trees::calls(alloc)])
+    worst(&[
+        trees::calls(alloc),
+        cursors::calls(alloc),
+        tokens::calls(alloc),
+        lists::calls(alloc),
+    ])
 }
 
 // Makes so many requests.

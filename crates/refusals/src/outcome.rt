@@ -1,5 +1,10 @@
 // How calls end.
-use std::alloc::AllocError;
+use std::alloc::{AllocError, AllocFailed};
+use std::fmt;
+use std::fmt::{Display, Write};
+use syn_punctuated::PairsFault;
+use tok_buffer::LifetimeFault;
+use tok_core::{LexFault, MakeFault};
 
 /// All was granted and right, or why the calls stop.
 pub type Outcome = Result<(), Stop>;
@@ -17,12 +22,70 @@ impl From<AllocError> for Stop {
     }
 }
 
+impl<T: Drop> From<AllocFailed<T>> for Stop {
+    fn from(_: AllocFailed<T>) -> Self {
+        Stop::Refused
+    }
+}
+
+impl From<LexFault> for Stop {
+    fn from(fault: LexFault) -> Self {
+        match fault {
+            LexFault::Memory => Stop::Refused,
+            LexFault::Refused(_) => Stop::Wrong("lex"),
+        }
+    }
+}
+
+impl From<MakeFault> for Stop {
+    fn from(fault: MakeFault) -> Self {
+        match fault {
+            MakeFault::Memory => Stop::Refused,
+            MakeFault::Refused => Stop::Wrong("Ident::new"),
+        }
+    }
+}
+
+impl From<LifetimeFault> for Stop {
+    fn from(fault: LifetimeFault) -> Self {
+        match fault {
+            LifetimeFault::Memory => Stop::Refused,
+            _ => Stop::Wrong("Lifetime::new"),
+        }
+    }
+}
+
+impl From<PairsFault> for Stop {
+    fn from(fault: PairsFault) -> Self {
+        match fault {
+            PairsFault::Memory => Stop::Refused,
+            PairsFault::AfterEnd => Stop::Wrong("Punctuated::from_pairs"),
+        }
+    }
+}
+
 /// Stops where something is wrong after this call.
 pub fn expect(is_right: bool, call: &'static str) -> Outcome {
     if is_right {
         Ok(())
     } else {
         Err(Stop::Wrong(call))
+    }
+}
+
+/// Stops where what stands is wrong, after this call was granted or after it was refused.
+pub fn stands(
+    answer: Result<(), AllocError>,
+    granted: bool,
+    refused: bool,
+    call: &'static str,
+) -> Outcome {
+    match answer {
+        Ok(()) => expect(granted, call),
+        Err(AllocError) => {
+            expect(refused, call)?;
+            Err(Stop::Refused)
+        }
     }
 }
 
@@ -37,4 +100,26 @@ pub fn worst(outcomes: &[Outcome]) -> Outcome {
         }
     }
     worst
+}
+
+// What is left of the bytes that are wanted.
+#[derive(Drop)]
+struct Wanted<'a>(&'a [u8]);
+
+impl Write for Wanted<'_> {
+    fn write_str(&mut self, part: &str) -> fmt::Result {
+        match self.0.split_at_checked(part.len()) {
+            Some((front, rest)) if front == part.as_bytes() => {
+                self.0 = rest;
+                Ok(())
+            }
+            _ => Err(fmt::Error),
+        }
+    }
+}
+
+/// Whether a value is printed as this text. It takes no memory.
+pub fn shows<T: Display>(value: &T, text: &str) -> bool {
+    let mut wanted = Wanted(text.as_bytes());
+    write!(wanted, "{value}").is_ok() && wanted.0.is_empty()
 }

@@ -25,7 +25,7 @@ pub fn calls(alloc: Global) -> Outcome {
 }
 
 // The span of all that is made here.
-fn span() -> Span {
+pub fn span() -> Span {
     Span::source(1, 2, 4)
 }
 
@@ -38,7 +38,7 @@ fn made(ident: Result<Ident, MakeFault>, call: &'static str) -> Result<Ident, St
     }
 }
 
-fn is_ident(ident: &Ident, text: &str) -> bool {
+pub fn is_ident(ident: &Ident, text: &str) -> bool {
     ident.as_str() == text && ident.span() == span()
 }
 
@@ -51,7 +51,7 @@ fn has_text(stream: &TokenStream, text: &str) -> bool {
 }
 
 // Whether a stream has this text, and each of its trees the span.
-fn is_stream(stream: &TokenStream, text: &str) -> bool {
+pub fn is_stream(stream: &TokenStream, text: &str) -> bool {
     for next in stream.trees() {
         if next.span() != span() {
             return false;
@@ -142,7 +142,7 @@ fn clones(alloc: Global) -> Outcome {
 }
 
 // Four pluses: so many trees have room in the memory that a stream asks for first.
-fn pluses(alloc: Global) -> Result<TokenStream, Stop> {
+pub fn pluses(alloc: Global) -> Result<TokenStream, Stop> {
     let mut stream = TokenStream::new(alloc);
     for _ in 0..4 {
         stream.append(TokenTree::Punct(plus()?))?;
@@ -151,7 +151,12 @@ fn pluses(alloc: Global) -> Result<TokenStream, Stop> {
 }
 
 // Writes a value behind four pluses. Where memory is refused one of these fronts stands there, and else the last.
-fn write<T: ToTokens>(alloc: Global, value: &T, fronts: &[&str], call: &'static str) -> Outcome {
+pub fn write<T: ToTokens>(
+    alloc: Global,
+    value: &T,
+    fronts: &[&str],
+    call: &'static str,
+) -> Outcome {
     let mut tokens = pluses(alloc)?;
     if value.to_tokens(&mut tokens).is_ok() {
         return match fronts {

@@ -1,0 +1,84 @@
+//! The calls of `tok_buffer` that take memory.
+ghost use Rattle.std.specs.Prelude.{◌≤◌};
+
+mod errors;
+mod lifetimes;
+
+use crate::outcome::{Outcome, Stop, expect, shows, worst};
+use std::alloc::Global;
+use tok_buffer::{Cursor, TokenBuffer};
+use tok_core::{Span, TokenTree, lex};
+
+/// Each of them.
+pub fn calls(alloc: Global) -> Outcome {
+    worst(&[
+        buffers(alloc),
+        errors::calls(alloc),
+        lifetimes::calls(alloc),
+    ])
+}
+
+fn buffers(alloc: Global) -> Outcome {
+    let buffer = laid(alloc)?;
+    let begin = buffer.begin();
+    worst(&[
+        leaf_tree(alloc, begin),
+        group_tree(alloc, begin),
+        any_group(alloc, begin),
+        stream(alloc, begin),
+        errors::at_cursors(alloc, begin),
+    ])
+}
+
+fn at(start: usize, end: usize) -> Span
+    requires { start ≤ end }
+{
+    Span::source(0, start, end)
+}
+
+fn laid(alloc: Global) -> Result<TokenBuffer, Stop> {
+    let buffer = TokenBuffer::new2(alloc, 0, lex(alloc, 0, "(a)")?)?;
+    Ok(buffer)
+}
+
+fn leaf_tree(alloc: Global, cursor: Cursor<'_>) -> Outcome {
+    let (content, _, _, _) = cursor.any_group().ok_or(Stop::Wrong("Cursor::token_tree"))?;
+    let (leaf, rest) = content
+        .token_tree(alloc)?
+        .ok_or(Stop::Wrong("Cursor::token_tree"))?;
+    match leaf {
+        TokenTree::Ident(ident) => expect(
+            ident.as_str() == "a" && rest.eof(),
+            "Cursor::token_tree",
+        ),
+        _ => Err(Stop::Wrong("Cursor::token_tree")),
+    }
+}
+
+fn group_tree(alloc: Global, cursor: Cursor<'_>) -> Outcome {
+    let (group, rest) = cursor
+        .token_tree(alloc)?
+        .ok_or(Stop::Wrong("Cursor::token_tree"))?;
+    match group {
+        TokenTree::Group(group) => expect(
+            shows(group.stream(), "a") && rest.eof(),
+            "Cursor::token_tree",
+        ),
+        _ => Err(Stop::Wrong("Cursor::token_tree")),
+    }
+}
+
+fn any_group(alloc: Global, cursor: Cursor<'_>) -> Outcome {
+    let (group, rest) = cursor
+        .any_group_token(alloc)?
+        .ok_or(Stop::Wrong("Cursor::any_group_token"))?;
+    expect(
+        shows(group.stream(), "a") && rest.eof(),
+        "Cursor::any_group_token",
+    )
+}
+
+fn stream(alloc: Global, cursor: Cursor<'_>) -> Outcome {
+    let stream = cursor.token_stream(alloc)?;
+    expect(shows(&stream, "(a)"), "Cursor::token_stream")
+}
