@@ -1,2 +1,3 @@
-pub mod Text
 pub mod Looks
+pub mod Text
+pub mod Trees

@@ -1,20 +1,38 @@
 //! A caller of `tok_core`: it builds `a (b «c») +=` by hand, and prints it.
 ghost use Rattle.std.specs.Prelude.{◌≡◌, IfOk, string_bytes};
+ghost use Rattle.tok_core.specs.Forest.{group, ident, leaf, punct};
+ghost use Rattle.tok_core.specs.Seen.{tree_of};
+ghost use Rattle.tok_core.specs.Spans.{call_site};
 ghost use Rattle.tok_core.specs.Text.{text};
+ghost use Rattle.callers.specs.Trees.{by_hand};
 
 use std::alloc::{AllocError, Global};
 use tok_core::{Delimiter, Group, Ident, MakeFault, Punct, Spacing, Span, TokenStream, TokenTree};
 
-fn name(alloc: Global, text: &str) -> Result<TokenTree, MakeFault> {
-    Ok(TokenTree::Ident(Ident::new(alloc, text, Span::call_site())?))
+fn name(alloc: Global, text: &str) -> Result<TokenTree, MakeFault>
+    ensures { IfOk result (λ t. tree_of t ≡ leaf (ident text.now call_site)) }
+{
+    let ident = Ident::new(alloc, text, Span::call_site())?;
+    Ok(TokenTree::Ident(ident))
 }
 
-fn group(delimiter: Delimiter, content: TokenStream) -> TokenTree {
+fn sign(ch: char, spacing: Spacing) -> Result<TokenTree, MakeFault>
+    ensures { IfOk result (λ t. tree_of t ≡ leaf (punct ch spacing call_site)) }
+{
+    let punct = Punct::new(ch, spacing).ok_or(MakeFault::Refused)?;
+    Ok(TokenTree::Punct(punct))
+}
+
+fn group(delimiter: Delimiter, content: TokenStream) -> TokenTree
+    ensures { tree_of result ≡ group delimiter content call_site }
+{
     TokenTree::Group(Group::new(delimiter, content, Span::call_site()))
 }
 
 /// The trees of `a (b «c») +=`.
-pub fn by_hand(alloc: Global) -> Result<TokenStream, MakeFault> {
+pub fn by_hand(alloc: Global) -> Result<TokenStream, MakeFault>
+    ensures { IfOk result (λ stream. stream ≡ by_hand) }
+{
     let mut inner = TokenStream::new(alloc);
     inner.append(name(alloc, "c")?)?;
     let mut outer = TokenStream::new(alloc);
@@ -23,10 +41,8 @@ pub fn by_hand(alloc: Global) -> Result<TokenStream, MakeFault> {
     let mut all = TokenStream::new(alloc);
     all.append(name(alloc, "a")?)?;
     all.append(group(Delimiter::Parenthesis, outer))?;
-    for (ch, spacing) in [('+', Spacing::Joint), ('=', Spacing::Alone)] {
-        let punct = Punct::new(ch, spacing).ok_or(MakeFault::Refused)?;
-        all.append(TokenTree::Punct(punct))?;
-    }
+    all.append(sign('+', Spacing::Joint)?)?;
+    all.append(sign('=', Spacing::Alone)?)?;
     Ok(all)
 }
 

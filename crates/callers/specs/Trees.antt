@@ -1,0 +1,13 @@
+-- Trees that a caller builds.
+use Rattle.std.specs.Prelude.{[], ◌∷◌, codes}
+use Rattle.tok_core.specs.declared.group.Delimiter.TheVariants.{Parenthesis, None}
+use Rattle.tok_core.specs.declared.punct.Spacing.TheVariants.{Alone, Joint}
+use Rattle.tok_core.specs.Forest.{ident, punct, leaf, group, Forest, forest}
+use Rattle.tok_core.specs.Spans.{call_site}
+
+-- `a (b «c») +=`, at the call site
+abbrev pub by_hand : Forest
+by_hand =
+    let inner = forest (leaf (ident (codes "c") call_site) ∷ []) in
+    let outer = forest (leaf (ident (codes "b") call_site) ∷ group None inner call_site ∷ []) in
+    forest (leaf (ident (codes "a") call_site) ∷ group Parenthesis outer call_site ∷ leaf (punct 43 Joint call_site) ∷ leaf (punct 61 Alone call_site) ∷ [])
