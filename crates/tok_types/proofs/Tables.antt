@@ -1,5 +1,5 @@
 -- Tables of texts, each with the same in backquotes.
-use Rattle.std.proofs.Common.{◌≡◌, ◌∙◌, ◌<◌, sym, ℕ, List, [], Bor, map, get_or, length}
+use Rattle.std.proofs.Common.{◌≡◌, ◌<◌, sym, ℕ, List, [], Bor, map, get_or, length}
 use Rattle.std.proofs.lemmas.List.{get_or-map}
 use Rattle.tok_types.specs.Texts.{quoted}
 

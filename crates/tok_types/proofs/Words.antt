@@ -1,8 +1,8 @@
 -- The texts of the tables are ASCII, and those of keywords are identifiers.
-use Rattle.std.proofs.Common.{◌≡◌, ◌∙◌, ◌<◌, sym, ap, subst, refl, ℕ, zero, suc, Bool, true, false, ◌||◌, ◌&&◌, cond, List, [], ◌∷◌, get_or, length, ◌⊎◌, inl, inr, arith, eqb-true, encode_utf8_all}
+use Rattle.std.proofs.Common.{◌≡◌, ◌∙◌, ◌<◌, sym, ap, subst, refl, ℕ, zero, suc, Bool, true, false, ◌&&◌, cond, List, [], ◌∷◌, get_or, length, inl, inr, arith, eqb-true, encode_utf8_all}
 use Rattle.std.specs.Prelude.{codes, nat_lt, slice_index, ◌==◌}
 use Rattle.std.specs.List.{list_all}
-use Rattle.std.specs.Str.{chars, IsAscii, IsUtf8}
+use Rattle.std.specs.Str.{chars, IsUtf8}
 use Rattle.std.proofs.lemmas.Bool.{false≢true, ltb-true}
 use Rattle.std.proofs.lemmas.List.{get_or_past}
 use Rattle.std.proofs.lemmas.Str.{chars-IsAscii, chars-nil, encodes-chars}

@@ -1,9 +1,7 @@
-use Rattle.std.proofs.Common.{◌≡◌, ◌∙◌, sym, ap, length, false, true}
-use Rattle.std.specs.Prelude.{◌==◌}
-use Rattle.tok_core.specs.Forest.{joined, tree, leaf, no_trees}
-use Rattle.tok_core.specs.Seen.{ident_of}
+use Rattle.std.proofs.Common.{◌∙◌, sym, ap}
+use Rattle.tok_core.specs.Forest.{joined}
 use Rattle.tok_core.proofs.Facts.{joined-none}
-use Rattle.tok_types.proofs.Words.{suffix-identifier, word-empty, word-some}
+use Rattle.tok_types.proofs.Words.{suffix-identifier, word-empty}
 use Rattle.tok_types.proofs.ident.append_word.Goals as goal
 
 pub returns-then-is_empty-clause-ok : goal.returns-then-is_empty-clause-ok

@@ -1,4 +1,4 @@
-use Rattle.std.proofs.Common.{ap, subst, sym}
+use Rattle.std.proofs.Common.{subst, sym}
 use Rattle.std.specs.Str.{chars}
 use Rattle.tok_core.proofs.Fronts.{none_appended}
 use Rattle.tok_core.specs.Lexical.Words.{IsSuffix}
