@@ -41,7 +41,7 @@ impl token::SelfValue {
     pub fn into_ident(self, alloc: Global) -> Result<Ident, AllocError>
         ensures { IfOk result (λ i. ident_of i ≡ ident (codes "self") self.span) }
     {
-        self.ident(alloc)
+        identifier(alloc, "self", self.span)
     }
 }
 
@@ -50,7 +50,7 @@ impl token::SelfType {
     pub fn into_ident(self, alloc: Global) -> Result<Ident, AllocError>
         ensures { IfOk result (λ i. ident_of i ≡ ident (codes "Self") self.span) }
     {
-        self.ident(alloc)
+        identifier(alloc, "Self", self.span)
     }
 }
 
@@ -59,7 +59,7 @@ impl token::Super {
     pub fn into_ident(self, alloc: Global) -> Result<Ident, AllocError>
         ensures { IfOk result (λ i. ident_of i ≡ ident (codes "super") self.span) }
     {
-        self.ident(alloc)
+        identifier(alloc, "super", self.span)
     }
 }
 
@@ -68,7 +68,7 @@ impl token::Crate {
     pub fn into_ident(self, alloc: Global) -> Result<Ident, AllocError>
         ensures { IfOk result (λ i. ident_of i ≡ ident (codes "crate") self.span) }
     {
-        self.ident(alloc)
+        identifier(alloc, "crate", self.span)
     }
 }
 
@@ -77,7 +77,7 @@ impl token::Extern {
     pub fn into_ident(self, alloc: Global) -> Result<Ident, AllocError>
         ensures { IfOk result (λ i. ident_of i ≡ ident (codes "extern") self.span) }
     {
-        self.ident(alloc)
+        identifier(alloc, "extern", self.span)
     }
 }
 

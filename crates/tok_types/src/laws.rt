@@ -1,5 +1,6 @@
-//! Laws: small functions whose contracts say what holds of every token.
-ghost use Rattle.std.specs.Prelude.{◌≡◌, ◌≤◌, true, false, length};
+//! Laws of token types. Each stands as the contract of a function that does nothing.
+ghost use Rattle.std.specs.Prelude.{◌≡◌, ◌≤◌, length};
+ghost use Rattle.tok_types.specs.Laws.{AreEqual, WriteNothing, IsNeverFound};
 ghost use Rattle.tok_types.specs.Texts.{punctuation_text};
 
 use crate::delimiter::{Brace, Bracket, Group, Paren};
@@ -7,96 +8,56 @@ use crate::keyword::Keyword;
 use crate::look::Token;
 use crate::punctuation::Punctuation;
 use crate::underscore::Underscore;
-use std::hash::{Hash, Hasher};
-use tok_buffer::Cursor;
+use std::hash::Hash;
 
 /// A keyword past the table is never found.
-pub fn keyword_past_the_table<const K: usize>(cursor: Cursor<'_>) -> bool
-    requires { 54 ≤ K }
-    ensures { result ≡ false }
-{
-    Keyword::<K>::peek(cursor)
-}
+pub fn keyword_past_the_table<const K: usize>()
+    ensures { 54 ≤ K → IsNeverFound ⟦<Keyword<K> as Token>⟧.peeks }
+{}
 
 /// A punctuation past the table, or whose text isn't of as many characters as its type says, is never found.
-pub fn punctuation_past_the_table<const K: usize, const N: usize>(cursor: Cursor<'_>) -> bool
-    requires { length (punctuation_text K) ≡ N → N ≡ 0 }
-    ensures { result ≡ false }
-{
-    Punctuation::<K, N>::peek(cursor)
-}
+pub fn punctuation_past_the_table<const K: usize, const N: usize>()
+    ensures { (length (punctuation_text K) ≡ N → N ≡ 0) → IsNeverFound ⟦<Punctuation<K, N> as Token>⟧.peeks }
+{}
 
-/// All values of the type are equal, and feed a hasher nothing.
-pub fn keywords_are_equal<const K: usize, H: Hasher>(
-    left: &Keyword<K>,
-    right: &Keyword<K>,
-    state: &mut H,
-) -> bool
-    ensures equal { result ≡ true }
-    ensures hash { state.new ≡ state.old }
-{
-    left.hash(state);
-    left == right
-}
+/// All keywords of one number are equal, and write nothing to a hasher.
+pub fn keywords_are_equal<const K: usize>()
+    ensures equal { AreEqual ⟦<Keyword<K> as PartialEq>⟧.eq }
+    ensures hash { WriteNothing ⟦<Keyword<K> as Hash>⟧.hash_input }
+{}
 
-/// All values of the type are equal, and feed a hasher nothing.
-pub fn punctuations_are_equal<const K: usize, const N: usize, H: Hasher>(
-    left: &Punctuation<K, N>,
-    right: &Punctuation<K, N>,
-    state: &mut H,
-) -> bool
-    ensures equal { result ≡ true }
-    ensures hash { state.new ≡ state.old }
-{
-    left.hash(state);
-    left == right
-}
+/// All punctuations of one number and length are equal, and write nothing to a hasher.
+pub fn punctuations_are_equal<const K: usize, const N: usize>()
+    ensures equal { AreEqual ⟦<Punctuation<K, N> as PartialEq>⟧.eq }
+    ensures hash { WriteNothing ⟦<Punctuation<K, N> as Hash>⟧.hash_input }
+{}
 
-/// All values of the type are equal, and feed a hasher nothing.
-pub fn underscores_are_equal<H: Hasher>(
-    left: &Underscore,
-    right: &Underscore,
-    state: &mut H,
-) -> bool
-    ensures equal { result ≡ true }
-    ensures hash { state.new ≡ state.old }
-{
-    left.hash(state);
-    left == right
-}
+/// All underscores are equal, and write nothing to a hasher.
+pub fn underscores_are_equal()
+    ensures equal { AreEqual ⟦<Underscore as PartialEq>⟧.eq }
+    ensures hash { WriteNothing ⟦<Underscore as Hash>⟧.hash_input }
+{}
 
-/// All values of the type are equal, and feed a hasher nothing.
-pub fn parens_are_equal<H: Hasher>(left: &Paren, right: &Paren, state: &mut H) -> bool
-    ensures equal { result ≡ true }
-    ensures hash { state.new ≡ state.old }
-{
-    left.hash(state);
-    left == right
-}
+/// All parentheses are equal, and write nothing to a hasher.
+pub fn parens_are_equal()
+    ensures equal { AreEqual ⟦<Paren as PartialEq>⟧.eq }
+    ensures hash { WriteNothing ⟦<Paren as Hash>⟧.hash_input }
+{}
 
-/// All values of the type are equal, and feed a hasher nothing.
-pub fn braces_are_equal<H: Hasher>(left: &Brace, right: &Brace, state: &mut H) -> bool
-    ensures equal { result ≡ true }
-    ensures hash { state.new ≡ state.old }
-{
-    left.hash(state);
-    left == right
-}
+/// All braces are equal, and write nothing to a hasher.
+pub fn braces_are_equal()
+    ensures equal { AreEqual ⟦<Brace as PartialEq>⟧.eq }
+    ensures hash { WriteNothing ⟦<Brace as Hash>⟧.hash_input }
+{}
 
-/// All values of the type are equal, and feed a hasher nothing.
-pub fn brackets_are_equal<H: Hasher>(left: &Bracket, right: &Bracket, state: &mut H) -> bool
-    ensures equal { result ≡ true }
-    ensures hash { state.new ≡ state.old }
-{
-    left.hash(state);
-    left == right
-}
+/// All brackets are equal, and write nothing to a hasher.
+pub fn brackets_are_equal()
+    ensures equal { AreEqual ⟦<Bracket as PartialEq>⟧.eq }
+    ensures hash { WriteNothing ⟦<Bracket as Hash>⟧.hash_input }
+{}
 
-/// All values of the type are equal, and feed a hasher nothing.
-pub fn groups_are_equal<H: Hasher>(left: &Group, right: &Group, state: &mut H) -> bool
-    ensures equal { result ≡ true }
-    ensures hash { state.new ≡ state.old }
-{
-    left.hash(state);
-    left == right
-}
+/// All invisible delimiters are equal, and write nothing to a hasher.
+pub fn groups_are_equal()
+    ensures equal { AreEqual ⟦<Group as PartialEq>⟧.eq }
+    ensures hash { WriteNothing ⟦<Group as Hash>⟧.hash_input }
+{}
