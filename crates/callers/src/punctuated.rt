@@ -34,8 +34,10 @@ pub fn raise_first(list: &mut Numbers)
 
 /// Writes 8 over the last value, if there is one, and says whether there was.
 pub fn raise_last(list: &mut Numbers) -> bool
+    ensures any { OnTrue result (0 < length (values_of list.old)) }
     ensures written { OnTrue result (values_of list.new ≡ slice_set (values_of list.old) (length (values_of list.old) - 1) 8) }
-    ensures none { OnFalse result (IsUnchanged list.old list.new) }
+    ensures none { OnFalse result (values_of list.old ≡ []) }
+    ensures kept { OnFalse result (IsUnchanged list.old list.new) }
     ensures separators { separators_of list.new ≡ separators_of list.old }
 {
     match list.last_mut() {

@@ -1,6 +1,9 @@
 //! A caller of `tok_core`: it builds `a (b «c») +=` by hand, and prints it.
-ghost use Rattle.std.specs.Prelude.{◌≡◌, IfOk, string_bytes};
+ghost use Rattle.std.specs.Prelude.{◌≡◌, true, IfErr, IfOk, IsOk, string_bytes};
+ghost use Rattle.std.specs.Str.{chars};
 ghost use Rattle.tok_core.specs.Forest.{group, ident, leaf, punct};
+ghost use Rattle.tok_core.specs.Lexical.Characters.{is_punct_or_apostrophe};
+ghost use Rattle.tok_core.specs.Lexical.Words.{IsIdentifier};
 ghost use Rattle.tok_core.specs.Seen.{tree_of};
 ghost use Rattle.tok_core.specs.Spans.{call_site};
 ghost use Rattle.tok_core.specs.Text.{text};
@@ -10,14 +13,17 @@ use std::alloc::{AllocError, Global};
 use tok_core::{Delimiter, Group, Ident, MakeFault, Punct, Spacing, Span, TokenStream, TokenTree};
 
 fn name(alloc: Global, text: &str) -> Result<TokenTree, MakeFault>
-    ensures { IfOk result (λ t. tree_of t ≡ leaf (ident text.now call_site)) }
+    requires { IsIdentifier (chars text.now) }
+    ensures made { IfOk result (λ t. tree_of t ≡ leaf (ident text.now call_site)) }
+    ensures fault { IfErr result (λ fault. fault ≡ MakeFault.Memory) }
 {
     let ident = Ident::new(alloc, text, Span::call_site())?;
     Ok(TokenTree::Ident(ident))
 }
 
 fn sign(ch: char, spacing: Spacing) -> Result<TokenTree, MakeFault>
-    ensures { IfOk result (λ t. tree_of t ≡ leaf (punct ch spacing call_site)) }
+    ensures made { IfOk result (λ t. tree_of t ≡ leaf (punct ch spacing call_site)) }
+    ensures taken { is_punct_or_apostrophe ch ≡ true → IsOk result }
 {
     let punct = Punct::new(ch, spacing).ok_or(MakeFault::Refused)?;
     Ok(TokenTree::Punct(punct))
@@ -29,9 +35,10 @@ fn group(delimiter: Delimiter, content: TokenStream) -> TokenTree
     TokenTree::Group(Group::new(delimiter, content, Span::call_site()))
 }
 
-/// The trees of `a (b «c») +=`.
+/// The trees of `a (b «c») +=`. No part of them is refused: only memory can be.
 pub fn by_hand(alloc: Global) -> Result<TokenStream, MakeFault>
-    ensures { IfOk result (λ stream. stream ≡ by_hand) }
+    ensures made { IfOk result (λ stream. stream ≡ by_hand) }
+    ensures fault { IfErr result (λ fault. fault ≡ MakeFault.Memory) }
 {
     let mut inner = TokenStream::new(alloc);
     inner.append(name(alloc, "c")?)?;
