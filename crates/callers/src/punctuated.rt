@@ -89,6 +89,7 @@ mod tests {
     fn edits_a_list(rt: HostRuntime) -> Result<(), Fail> {
         let alloc = rt.alloc();
         let mut list = two_three_four(alloc)?;
+        assert_eq!(rt; total(&list), 9);
         assert_eq!(rt; written(alloc, &list)?.as_str(), "2,3,4");
         list.retain(|value| *value != 4);
         assert_eq!(rt; written(alloc, &list)?.as_str(), "2,3");
@@ -98,6 +99,9 @@ mod tests {
             put_seven(&mut list)?;
         }
         assert_eq!(rt; list.get(1).copied(), Some(9));
+        assert!(rt; raise_last(&mut list));
+        assert_eq!(rt; list.last().copied(), Some(8));
+        assert!(rt; !raise_last(&mut Punctuated::new(alloc)));
         Ok(())
     }
 }

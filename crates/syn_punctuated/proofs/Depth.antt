@@ -1,5 +1,5 @@
 -- How deep the values of a list may lie, for a recursion over a type that holds lists of itself.
-use Rattle.std.specs.Prelude.{◌≡◌, ℕ, zero, suc, ◌≤◌, max, List, [], ◌∷◌, map, Option, None, Some, slice_get}
+use Rattle.std.specs.Prelude.{◌≡◌, ℕ, max, List, [], ◌∷◌, map, Option, None, Some}
 use Rattle.std.proofs.Common.{arith, refl}
 use Rattle.std.specs.Global.{Box}
 use denote.Param.Weighed.{most, most-append}
@@ -8,11 +8,6 @@ use Rattle.syn_punctuated.specs.Lists.{values_of}
 use Rattle.syn_punctuated.specs.Boxes.{boxed_values}
 
 module _ {X : Type 0} (μ : X → ℕ) where
-  pub get_le_most : (xs : List X) (i : ℕ) (x : X) → slice_get xs i ≡ Some x → μ x ≤ most μ xs
-  get_le_most [] i x e = cc
-  get_le_most (y ∷ ys) zero x e = let same : y ≡ x = cc in rw same (omega arith)
-  get_le_most (y ∷ ys) (suc i) x e = omega (arith, get_le_most ys i x e)
-
   pub most_first : {Y : Type 0} (pairs : List (X × Y)) → most μ (map (λ pair. pair.0) pairs) ≡ most (λ pair. max (μ pair.0) 0) pairs
   most_first [] = refl
   most_first (p ∷ ps) = omega (arith, most_first ps)
@@ -33,7 +28,3 @@ module _ {X Y : Type 0} (μ : X → ℕ) where
 
   pub most_values : (list : Punctuated X Y) → most μ (values_of list) ≡ deepest_value list
   most_values list = omega (arith, most-append μ (map (λ pair. pair.0) list.inner.items) (boxed_values list.last), most_first μ list.inner.items, last_most μ list.last)
-
-  -- a value of the list is no deeper than the deepest
-  pub value_le_deepest : (list : Punctuated X Y) (i : ℕ) (x : X) → slice_get (values_of list) i ≡ Some x → μ x ≤ deepest_value list
-  value_le_deepest list i x e = omega (arith, get_le_most μ (values_of list) i x e, most_values list)

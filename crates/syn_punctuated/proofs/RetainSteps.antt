@@ -56,9 +56,6 @@ module _ {S X Y : Type 0} (R : S → X → Bool → S → X → Type 0) (s : S) 
     pub runs : RunsOver R s (map (λ p. p.0) (take i old)) run t
     pub front : take k now ≡ kept_pairs run (take i old)
 
-  pub going_first : Going 0 0 old s
-  going_first = record { le = omega arith; long = refl; rest = refl; run = []; runs = refl; front = refl }
-
   -- one more pair was shown to R
   shown : (i k : ℕ) (now : List (X × Y)) (t : S) (p : X × Y) (b : Bool) (u : S) (y : X) → i < length now → (h : Going i k now t) → p ≡ get_or now i p → R t p.0 b u y → RunsOver R s (map (λ p. p.0) (take (i + 1) old)) (h.run ++ (b, y) ∷ []) u × (kept_pairs (h.run ++ (b, y) ∷ []) (take (i + 1) old) ≡ kept_pairs h.run (take i old) ++ cond b ((y, p.1) ∷ []) [])
   shown i k now t p b u y lt h is step =
@@ -104,9 +101,6 @@ module _ {S X Y : Type 0} (R : S → X → Bool → S → X → Type 0) (s : S) 
   going_skips i k now t p u q lt h is behind step =
       let e : q ≡ (q.0, p.1) = λ j. (q.0, behind j) in
       subst (λ (r : X × Y). Going (i + 1) k (set now i r) u) (sym e) (going_drops i k now t p u q.0 lt h is step)
-
-  pub going_ends : (k : ℕ) (now : List (X × Y)) (t : S) → Going (length old) k now t → RetainsPairs R s old (take k now) t
-  going_ends k now t h = (h.run, subst (λ (ps : List (X × Y)). RunsOver R s (map (λ p. p.0) ps) h.run t) (take_all (length old) old (omega arith)) h.runs, h.front ∙ ap (kept_pairs h.run) (take_all (length old) old (omega arith)))
 
 -- ---- from the pairs to the whole list
 

@@ -27,17 +27,6 @@ pub record AreRead (first left : Option (Bor (List ℕ))) (commands : List Comma
   pub room : number + left_len left ≤ left_len first
   pub utf8 : IfSome left (λ rest. IsUtf8 rest.now)
 
-pub read_start : (first : Option (Bor (List ℕ))) (commands : List Command) → commands ≡ [] → IfSome first (λ rest. IsUtf8 rest.now) → AreRead first first commands 0
-read_start first commands e u = record {
-  passed = [];
-  readable = λ k d h. absurd (omega arith);
-  all = refl;
-  count = refl;
-  said = ap (map command_of) e;
-  room = omega arith;
-  utf8 = u;
-}
-
 commands_in-push : (ls : List (List ℕ)) (l : List ℕ) → commands_in (ls ++ l ∷ []) ≡ commands_in ls ++ option_to_list (command (words l))
 commands_in-push ls l =
     filter_map-append (λ line. command (words line)) ls (l ∷ []) ∙ ap (λ z. commands_in ls ++ z) (one (command (words l)))

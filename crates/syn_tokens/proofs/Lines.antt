@@ -1,15 +1,14 @@
 -- Lines and words, one cut off after the other.
-use Rattle.std.proofs.Common.{◌≡◌, ℕ, ◌+◌, ◌-◌, ◌<◌, true, false, eqb, List, [], ◌∷◌, ◌++◌, length, take, Option, Some, None, IfSome, Bor, refl, ap, sym, subst, ◌∙◌, append_assoc, arith, length-append}
+use Rattle.std.proofs.Common.{◌≡◌, ℕ, ◌+◌, ◌-◌, ◌<◌, true, false, eqb, List, [], ◌∷◌, ◌++◌, length, take, Option, Some, None, IfSome, Bor, refl, ap, sym, ◌∙◌, append_assoc, arith, length-append}
 use Rattle.std.proofs.Math.Seq.{take-append_seam}
 use Rattle.std.proofs.lemmas.List.{append-nil}
 use Rattle.std.proofs.lemmas.List.Concat.{flat_map-append}
 use Rattle.std.proofs.lemmas.List.Elements.{All-append, All-cons}
 use Rattle.std.proofs.lemmas.List.Sums.{fails_before_first}
 use Rattle.std.proofs.lemmas.List.Splits.{slice_split_first, slice_split_none, slice_split_at, length-slice_split}
-use Rattle.std.proofs.lemmas.Str.{IsCharBoundary-at_seam}
 use Rattle.std.proofs.lemmas.Str.Pattern.{IsSplitOnceResult, split_once_first, split_parts}
 use Rattle.std.specs.List.{All, slice_split, after_first, position_or_len}
-use Rattle.std.specs.Str.{IsUtf8, IsCharBoundary}
+use Rattle.std.specs.Str.{IsUtf8}
 use Rattle.syn_tokens.specs.Input.{lines, is_cut, text_of, one_text, parts_of, lines_left}
 use Rattle.syn_tokens.specs.Printed.{ended}
 
@@ -34,9 +33,6 @@ pub record IsPast (input : List ℕ) (left : Option (Bor (List ℕ))) : Type 0 w
   pub uncut : All (λ line. is_cut line ≡ false) passed
   pub all : lines input ≡ passed ++ lines_left left
   pub seam : IfSome left (λ rest. (input ≡ text_of passed ++ rest.now) × IsUtf8 rest.now)
-
-pub past_start : (input : Bor (List ℕ)) → IsUtf8 input.now → IsPast input.now (Some input)
-past_start input u = record { passed = []; uncut = λ k d h. absurd (omega arith); all = refl; seam = (refl, u) }
 
 text_of-push : (ls : List (List ℕ)) (l : List ℕ) → text_of (ls ++ l ∷ []) ≡ text_of ls ++ ended l
 text_of-push ls l = flat_map-append ended ls (l ∷ []) ∙ ap (λ z. text_of ls ++ z) (append-nil (ended l))
@@ -73,12 +69,6 @@ pub past_all : (input : List ℕ) → IsPast input None → slice_split is_cut (
 past_all input past =
     let e : lines input ≡ past.passed = past.all ∙ append-nil past.passed in
     ap (slice_split is_cut) e ∙ slice_split_none is_cut past.passed past.uncut ∙ ap (λ z. z ∷ []) (sym e)
-
--- the text ends before a character
-pub past_boundary : (input : List ℕ) (rest : Bor (List ℕ)) → IsPast input (Some rest) → IsCharBoundary input (length input - length rest.now)
-past_boundary input rest past =
-    let len : length (text_of past.passed) ≡ length input - length rest.now = omega (arith, ap length past.seam.0, length-append (text_of past.passed) rest.now) in
-    subst (IsCharBoundary input) len (IsCharBoundary-at_seam input (text_of past.passed) rest.now past.seam.0 past.seam.1)
 
 -- more than the bytes that are left, while something is
 abbrev pub left_len : Option (Bor (List ℕ)) → ℕ

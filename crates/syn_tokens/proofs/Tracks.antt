@@ -28,11 +28,6 @@ changed_there [] n x y f e h q = absurd (omega arith)
 changed_there (z ∷ zs) zero x y f e h q = ap (λ s. s ∷ state_of_list zs) (q ∙ ap (λ w. f (stream_of w)) e)
 changed_there (z ∷ zs) (suc n) x y f e h q = ap (λ s. stream_of z ∷ s) (changed_there zs n x y f e (omega arith) q)
 
-pub changed_past : (xs : List Stream) (n : ℕ) (f : states.Stream → states.Stream) → length xs ≤ n → changed (state_of_list xs) n f ≡ state_of_list xs
-changed_past [] n f h = refl
-changed_past (z ∷ zs) zero f h = absurd (omega arith)
-changed_past (z ∷ zs) (suc n) f h = ap (λ s. stream_of z ∷ s) (changed_past zs n f (omega arith))
-
 -- one content more
 pub contents_step : (count i k : ℕ) (st : State) → i < count → contents_closed (count - i) k i st ≡ contents_closed (count - (i + 1)) k (i + 1) (cond (is_open_content_of k (stream_at st i)) (handed_up i (contents_closed (count - (i + 1)) i (i + 1) st)) st)
 contents_step count i k st h =
@@ -60,11 +55,6 @@ state_kept xs n x y e q = map-set_same stream_of xs n y x (q ∙ ap stream_of e)
 pub left_or : (a b : Option (Span × Delimiter)) → left_of (option_or a b) ≡ option_or (left_of a) (left_of b)
 left_or None b = refl
 left_or (Some l) b = refl
-
-pub length-changed : (st : State) (n : ℕ) (f : states.Stream → states.Stream) → length (changed st n f) ≡ length st
-length-changed [] n f = refl
-length-changed (s ∷ st) zero f = refl
-length-changed (s ∷ st) (suc n) f = ap suc (length-changed st n f)
 
 pub changed-append : (st us : State) (n : ℕ) (f : states.Stream → states.Stream) → n < length st → changed (st ++ us) n f ≡ changed st n f ++ us
 changed-append [] us n f h = absurd (omega arith)

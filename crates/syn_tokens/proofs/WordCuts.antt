@@ -1,6 +1,6 @@
 -- Words, and the numbers among them.
 use Rattle.std.proofs.Common.{◌≡◌, ◌≢◌, ℕ, ◌<◌, ◌≤◌, ◌^◌, Bool, true, false, eqb, cond, List, [], ◌∷◌, length, get_or, Some, None, Result, Ok, Err, Bor, refl, ap, sym, ◌∙◌, arith, rules, lit<}
-use Rattle.std.proofs.lemmas.Bool.{cond-true, cond-false}
+use Rattle.std.proofs.lemmas.Bool.{cond-true}
 use Rattle.std.proofs.lemmas.Bool.Decides.{nat_tests}
 use Rattle.std.proofs.lemmas.Str.Parse.{IsNumeralModel, numerals_by_value, tells_all_ascii_digits, parse_plain, digits_value_short}
 use Rattle.std.proofs.lemmas.Str.Pattern.{IsSplitOnceResult}
@@ -16,17 +16,9 @@ pub is_empty_len : (xs : List ℕ) → eqb (length xs) 0 ≡ is_empty xs
 is_empty_len [] = refl
 is_empty_len (x ∷ xs) = search rules
 
--- an empty part is no word
-pub words_skip : (line : List ℕ) (x : Bor (List ℕ) × Bor (List ℕ)) → IsSplitOnceResult 32 line (Some x) → is_empty x.0.now ≡ true → words line ≡ words x.1.now
-words_skip line x h e =
-    ap (filter (λ w. not (is_empty w))) (split_some 32 line x h (lit< tt)) ∙ cond-false _ _ _ (ap not e)
-
 pub words_take : (line : List ℕ) (x : Bor (List ℕ) × Bor (List ℕ)) → IsSplitOnceResult 32 line (Some x) → is_empty x.0.now ≡ false → words line ≡ x.0.now ∷ words x.1.now
 words_take line x h e =
     ap (filter (λ w. not (is_empty w))) (split_some 32 line x h (lit< tt)) ∙ cond-true _ _ _ (ap not e)
-
-pub words_none : (line : List ℕ) → IsSplitOnceResult 32 line None → is_empty line ≡ true → words line ≡ []
-words_none line h e = ap (filter (λ w. not (is_empty w))) (split_none 32 line h (lit< tt)) ∙ cond-false _ _ _ (ap not e)
 
 pub words_last : (line : List ℕ) → IsSplitOnceResult 32 line None → is_empty line ≡ false → words line ≡ line ∷ []
 words_last line h e = ap (filter (λ w. not (is_empty w))) (split_none 32 line h (lit< tt)) ∙ cond-true _ _ _ (ap not e)

@@ -47,21 +47,6 @@ has_trees-later t f e = has_trees-tree t f ∙ ap (λ b. b || has_trees (erase f
 pub filled-stops : (t : Tree) (f : Forest) → filled (tree t no_trees) ≡ false → filled (tree t f) ≡ false
 filled-stops t f e = filled-tree t f ∙ ap (λ b. b && filled f) e
 
-pub filled-later : (t : Tree) (f : Forest) → filled (tree t no_trees) ≡ true → filled (tree t f) ≡ filled f
-filled-later t f e = filled-tree t f ∙ ap (λ b. b && filled f) e
-
-pub erase-joined : (f g : Forest) → erase (joined f g) ≡ joined (erase f) (erase g)
-erase-joined no_trees g = refl
-erase-joined (tree (leaf l) f) g = ap (tree (leaf l)) (erase-joined f g)
-erase-joined (tree (group None inside span) f) g = ap (joined (erase inside)) (erase-joined f g) ∙ sym (joined_assoc (erase inside) (erase f) (erase g))
-erase-joined (tree (group d inside span) f) g = ap (tree (group d (erase inside) span)) (erase-joined f g)
-
-pub erase-erase : (f : Forest) → erase (erase f) ≡ erase f
-erase-erase no_trees = refl
-erase-erase (tree (leaf l) f) = ap (tree (leaf l)) (erase-erase f)
-erase-erase (tree (group None inside span) f) = erase-joined (erase inside) (erase f) ∙ ap (λ g. joined g (erase (erase f))) (erase-erase inside) ∙ ap (joined (erase inside)) (erase-erase f)
-erase-erase (tree (group d inside span) f) = ap (λ g. tree (group d g span) (erase (erase f))) (erase-erase inside) ∙ ap (tree (group d (erase inside) span)) (erase-erase f)
-
 pub turned_turned : (f g h : Forest) → turned_onto (turned_onto f g) h ≡ turned_onto g (joined f h)
 turned_turned no_trees g h = refl
 turned_turned (tree t f) g h = turned_turned f (tree t g) h

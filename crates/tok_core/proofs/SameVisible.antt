@@ -24,13 +24,7 @@ erased_group None f s v = absurd v
 content_same : (d e : Delimiter) (f g : Forest) (s r : Span) → tree (group d f s) no_trees ≡ tree (group e g r) no_trees → f ≡ g
 content_same d e f g s r h = cc
 
-edges_same : (d e : Delimiter) (f g : Forest) (s r : Span) → tree (group d f s) no_trees ≡ tree (group e g r) no_trees → (d ≡ e) × (s ≡ r)
-edges_same d e f g s r h = (cc, cc)
-
 module _ (d e : Delimiter) (f g : Forest) (s r : Span) (seen_d : IsVisible (group d f s)) (seen_e : IsVisible (group e g r)) where
-  pub group_edges : erase (tree (group d f s) no_trees) ≡ erase (tree (group e g r) no_trees) → (d ≡ e) × (s ≡ r)
-  group_edges h = edges_same d e (erase f) (erase g) s r (sym (erased_group d f s seen_d) ∙ h ∙ erased_group e g r seen_e)
-
   pub group_content : erase (tree (group d f s) no_trees) ≡ erase (tree (group e g r) no_trees) → erase f ≡ erase g
   group_content h = content_same d e (erase f) (erase g) s r (sym (erased_group d f s seen_d) ∙ h ∙ erased_group e g r seen_e)
 

@@ -28,13 +28,6 @@ weight-item ts i t h is = omega (arith, weight-drop ts i, ap weight (trees_of-dr
 pub weight-here : (ts : List TokenTree) (i : ℕ) (t : TokenTree) (f : Forest) → trees_of ts ≡ f → i < length ts → t ≡ get_or ts i t → tree_weight (tree_of t) ≤ weight f
 weight-here ts i t f e h is = omega (arith, weight-item ts i t h is, ap weight e)
 
--- past the last tree nothing is left
-pub trees_of-end : (ts : List TokenTree) (i : ℕ) → length ts ≤ i → trees_of (drop i ts) ≡ no_trees
-trees_of-end [] zero h = refl
-trees_of-end [] (suc i) h = refl
-trees_of-end (t ∷ ts) zero h = absurd (omega arith)
-trees_of-end (t ∷ ts) (suc i) h = trees_of-end ts i (omega arith)
-
 pub has_trees-of : (ts : List TokenTree) → has_trees (trees_of ts) ≡ not (eqb (length ts) 0)
 has_trees-of [] = refl
 has_trees-of (t ∷ ts) = ap not (sym (ne_eqb (length (t ∷ ts)) 0 (λ e. absurd (omega arith))))

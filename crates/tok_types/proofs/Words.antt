@@ -10,7 +10,7 @@ use Rattle.unicode_ident.specs.Ident.{is_xid_start, is_xid_continue}
 use Rattle.unicode_ident.proofs.Computing.{unicode_ident}
 use Rattle.tok_core.specs.Lexical.Words.{IsIdentifier, IsSuffix, is_identifier_start}
 use Rattle.tok_core.specs.declared.span.Span.{Span}
-use Rattle.tok_core.specs.Forest.{ident, leaf, no_trees, tree}
+use Rattle.tok_core.specs.Forest.{no_trees}
 use Rattle.tok_types.specs.Printed.{word}
 use Rattle.tok_types.proofs.Searches.{below_or_not}
 use Rattle.tok_types.specs.Texts.{keywords, keyword_text, punctuations, punctuation_text, punctuation_word}
@@ -77,10 +77,6 @@ suffix-identifier t u h (inr word) = word
 pub word-empty : (t : List ℕ) (span : Span) → (length t == 0) ≡ true → word t span ≡ no_trees
 word-empty [] span h = refl
 word-empty (c ∷ cs) span h = absurd (omega (arith, eqb-true (length (c ∷ cs)) 0 h))
-
-pub word-some : (t : List ℕ) (span : Span) → (length t == 0) ≡ false → word t span ≡ tree (leaf (ident t span)) no_trees
-word-some [] span h = absurd (false≢true (sym h))
-word-some (c ∷ cs) span h = refl
 
 pub underscore-identifier : IsIdentifier (chars (codes "_"))
 unfolding is_xid_start unicode_ident

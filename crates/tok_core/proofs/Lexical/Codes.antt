@@ -5,7 +5,7 @@ use Rattle.std.specs.Char.{is_digit, digit_value, IsScalar}
 use Rattle.std.specs.Str.{chars}
 use Rattle.std.specs.Borrow.{Bor}
 use Rattle.std.proofs.Math.Utf8.{scalar_cases}
-use Rattle.std.proofs.lemmas.Bool.{false≢true, lt-ltb, ltb-true}
+use Rattle.std.proofs.lemmas.Bool.{lt-ltb, ltb-true}
 use Rattle.tok_core.specs.Lexical.Pieces.{Fits, Finds, Skips, IsOne}
 use Rattle.tok_core.specs.Lexical.Strings.{IsEscape, IsByte, is_byte, is_hex, is_hex_or_underscore, hex_value, IsHex, NamesChar, IsCode, IsLineEnd}
 use Rattle.tok_core.proofs.Lexical.Takes.{finds_behind}
@@ -50,9 +50,6 @@ pub record Counts (all rest : List ℕ) (value count : ℕ) : Type 0 where
   pub count_is : fold count_step count rest ≡ count_by is_hex all
   pub few : count ≤ 6
 
-pub counts_first : (all : List ℕ) → Counts all all 0 0
-counts_first all = record { value_is = refl; count_is = refl; few = omega arith }
-
 pub counts_digit : (all rest after : List ℕ) (value count c d : ℕ) → Counts all rest value count → rest ≡ c ∷ after → is_hex c ≡ true → d ≡ digit_value c → (count ≡ 6 → ⊥) → Counts all after (value * 16 + d) (count + 1)
 counts_digit all rest after value count c d s e h k f = record {
   value_is = ap (λ n. fold value_step n after) (ap (λ n. value * 16 + n) k ∙ sym (ap (λ b. if b then value * 16 + digit_value c else value) h)) ∙ ap (fold value_step value) (sym e) ∙ s.value_is;
@@ -88,9 +85,6 @@ counted all rest value count s e =
 pub named : (all rest : List ℕ) (value count : ℕ) → Counts all rest value count → rest ≡ [] → IsScalar value → NamesChar all
 named all rest value count s e h = let w = counted all rest value count s e in record { few = w.1; scalar = subst IsScalar (sym w.0) h }
 
-pub not_named : (all rest : List ℕ) (value count : ℕ) → Counts all rest value count → rest ≡ [] → (IsScalar value → ⊥) → NamesChar all → ⊥
-not_named all rest value count s e h n = h (subst IsScalar (counted all rest value count s e).0 n.scalar)
-
 pub code_found : (text start second after rest digits : List ℕ) (first : ℕ) → text ≡ 123 ∷ start → start ≡ first ∷ second → is_digit first 16 ≡ true → Skips is_hex_or_underscore second digits after → after ≡ 125 ∷ rest → NamesChar (first ∷ digits) → (piece : List ℕ) × (text ≡ piece ++ rest) × IsCode piece
 code_found text start second after rest digits first one two h s e n =
     (123 ∷ first ∷ (digits ++ 125 ∷ []), one ∙ ap (λ w. 123 ∷ w) (two ∙ ap (λ w. first ∷ w) (s.cut ∙ ap (λ w. digits ++ w) e ∙ sym (append_assoc digits (125 ∷ []) rest))), (first, digits, refl, h, s.pass, n))
@@ -104,11 +98,6 @@ code_is text start second after digits first one two s (piece, last, cut, (c, ds
     let same : first ≡ c = heads first c _ _ second_is in
     let w = all_stops is_hex_or_underscore digits ds after (125 ∷ last) s.pass all s.stops refl inner in
     (last, ap is_hex same ∙ h, w.1, subst NamesChar (ap (λ v. v ∷ ds) (sym same) ∙ ap (λ v. first ∷ v) (sym w.0)) n)
-
-pub code_first : (text start second : List ℕ) (first : ℕ) → text ≡ 123 ∷ start → start ≡ first ∷ second → is_digit first 16 ≡ false → Fits IsCode text → ⊥
-code_first text start second first one two h (piece, last, cut, (c, ds, f, k, all, n)) =
-    let whole : 123 ∷ first ∷ second ≡ 123 ∷ c ∷ ((ds ++ 125 ∷ []) ++ last) = sym (one ∙ ap (λ w. 123 ∷ w) two) ∙ cut ∙ ap (λ w. w ++ last) f in
-    false≢true (sym h ∙ ap is_hex (heads first c _ _ (tails 123 123 _ _ whole)) ∙ k)
 
 -- bytes
 pub byte_escape : (text rest : List ℕ) (c : ℕ) (answer : Option (Bor (List ℕ))) → text ≡ c ∷ rest → c ≡ 92 → Finds (IsEscape false true) rest answer → Finds IsByte text answer

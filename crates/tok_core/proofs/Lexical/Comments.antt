@@ -1,7 +1,7 @@
 -- The steps of the loop over a nested comment.
 use Rattle.std.proofs.Common.{◌≡◌, ◌∙◌, ℕ, zero, suc, ◌+◌, ◌-◌, ◌<◌, List, [], ◌∷◌, ◌++◌, refl, sym, ap, subst, arith, append_assoc, true, rules, tests}
 use Rattle.std.proofs.lemmas.List.{append-nil, append_cancel_left}
-use Rattle.tok_core.specs.Lexical.Pieces.{Takes, Fits}
+use Rattle.tok_core.specs.Lexical.Pieces.{Takes}
 use Rattle.tok_core.specs.Lexical.Comments.{IsPlain, Closes, done, nested, ended, plain, IsBlockComment, is_not_line_feed}
 
 -- a front of the start closes one comment just where what is left of it, at the rest, closes `depth`
@@ -9,9 +9,6 @@ pub record Stands (start rest front : List ℕ) (depth : ℕ) : Type 0 where
   pub cut : start ≡ front ++ rest
   pub back : (tail after : List ℕ) → rest ≡ tail ++ after → Closes depth tail → Closes 1 (front ++ tail)
   pub forth : (tail after : List ℕ) → start ≡ tail ++ after → Closes 1 tail → (more : List ℕ) × (tail ≡ front ++ more) × (rest ≡ more ++ after) × Closes depth more
-
-pub stands_first : (start : List ℕ) → Stands start start [] 1
-stands_first start = record { cut = refl; back = λ tail after e c. c; forth = λ tail after e c. (tail, refl, e, c) }
 
 heads : (a b : ℕ) (x y : List ℕ) → a ∷ x ≡ b ∷ y → a ≡ b
 heads a b x y e = cc
@@ -89,21 +86,6 @@ takes_block text start rest front depth e z s = (
         append_cancel_left front more [] (sym body_is ∙ a.1 ∙ ap (λ w. front ++ w) none);
   },
 )
-
-pub unclosed_block : (text start rest front : List ℕ) (depth : ℕ) → text ≡ 47 ∷ 42 ∷ start → 0 < depth → rest ≡ [] → Stands start rest front depth → Fits IsBlockComment text → ⊥
-unclosed_block text start rest front zero e l r s f = absurd (omega arith)
-unclosed_block text start rest front (suc n) e l r s (piece, after, cut, (body, g, c)) =
-    let both : 47 ∷ 42 ∷ start ≡ 47 ∷ 42 ∷ (body ++ after) = sym e ∙ cut ∙ ap (λ w. w ++ after) g in
-    let whole : start ≡ body ++ after = cc in
-    let a = s.forth body after whole c in
-    nothing_more n a.0 after (sym r ∙ a.2) a.3
-  where
-    nothing_more : (n : ℕ) (more after : List ℕ) → [] ≡ more ++ after → Closes (suc n) more → ⊥
-    nothing_more n [] after e c = elim c [ ]
-    nothing_more n (x ∷ more) after e c = cc
-
-pub no_block : (text : List ℕ) → ((more : List ℕ) → text ≡ 47 ∷ 42 ∷ more → ⊥) → Fits IsBlockComment text → ⊥
-no_block text misses (piece, after, cut, (body, g, c)) = misses (body ++ after) (cut ∙ ap (λ w. w ++ after) g)
 
 pub not_line_feed : (c : ℕ) → (c ≡ 10 → ⊥) → is_not_line_feed c ≡ true
 not_line_feed c h = search (rules, tests)

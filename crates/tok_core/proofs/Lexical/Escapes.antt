@@ -126,12 +126,6 @@ module _ (le wide : Bool) (text rest : List ℕ) (kind : ℕ) (one : text ≡ ki
   finds_code None w n k misses = λ (piece, after, cut, v). none_escape le wide kind rest piece after n (λ e. absurd (omega arith)) (λ _ _ f. misses f) (λ _ f. no_line kind rest (omega arith) f) v (sym one ∙ cut)
   finds_code (Some after) w n k (piece, cut, v) = (117 ∷ piece, one ∙ ap (λ w. w ∷ rest) k ∙ ap (λ w. 117 ∷ w) cut, code w v)
 
-  pub finds_no_code : wide ≡ true → is_simple_escape kind ≡ false → kind ≡ 117 → Fits (IsEscape le wide) text → ⊥
-  finds_no_code w n k (piece, after, cut, v) = none_escape le wide kind rest piece after n (λ e. absurd (omega arith)) (λ _ u. absurd (false≢true (sym u ∙ w))) (λ _ f. no_line kind rest (omega arith) f) v (sym one ∙ cut)
-
   pub finds_line : (answer : Option (Bor (List ℕ))) → le ≡ true → is_simple_escape kind ≡ false → (kind ≡ 120 → ⊥) → (kind ≡ 117 → ⊥) → Finds IsLineEnd text answer → Finds (IsEscape le wide) text answer
   finds_line None l n a b misses = λ (piece, after, cut, v). none_escape le wide kind rest piece after n (λ e. absurd (a e)) (λ e. absurd (b e)) (λ _ f. misses (subst (λ w. Fits IsLineEnd w) (sym one) f)) v (sym one ∙ cut)
   finds_line (Some after) l n a b (piece, cut, v) = (piece, cut, line_end l v)
-
-  pub finds_no_line : le ≡ false → is_simple_escape kind ≡ false → (kind ≡ 120 → ⊥) → (kind ≡ 117 → ⊥) → Fits (IsEscape le wide) text → ⊥
-  finds_no_line l n a b (piece, after, cut, v) = none_escape le wide kind rest piece after n (λ e. absurd (a e)) (λ e. absurd (b e)) (λ u. absurd (false≢true (sym l ∙ u))) v (sym one ∙ cut)

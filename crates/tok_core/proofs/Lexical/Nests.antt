@@ -2,7 +2,6 @@
 use Rattle.std.proofs.Common.{◌≡◌, ◌∙◌, ℕ, zero, suc, ◌+◌, ◌<◌, ◌≤◌, List, [], ◌∷◌, ◌++◌, length, refl, sym, ap, subst, arith, append_assoc}
 use Rattle.std.specs.Prelude.{Bool, true, if◌then◌else◌, encode_utf8_all}
 use Rattle.std.specs.Str.{chars, IsUtf8}
-use Rattle.std.proofs.lemmas.List.{append-nil}
 use Rattle.std.proofs.lemmas.Str.{encodes-chars}
 use Rattle.tok_core.specs.declared.group.Delimiter.{Delimiter}
 use Rattle.tok_core.specs.Spans.{source}
@@ -80,13 +79,6 @@ module _ (at : ℕ) (old new : Nest) where
     same_source = s;
     reached = λ r. (reached_pop new.«open».items g at (subst (λ w. Reached w at) o r)).0;
     holds = λ all h. subst (λ w. Holds old.source 256 new.«open».items w (all ++ closing g.delimiter end ∷ [])) (sym t) (holds_closed new.«open».items g end (subst (λ w. Holds old.source 256 w old.trees all) o h));
-  }
-
-  pub grows_nothing : new ≡ old → Grows at old new []
-  grows_nothing e = record {
-    same_source = ap (λ w. w.source) e;
-    reached = λ r. subst (λ w. Reached w.«open».items at) (sym e) r;
-    holds = λ all h. subst (λ w. Holds old.source 256 w.«open».items w.trees (all ++ [])) (sym e) (subst (Holds old.source 256 old.«open».items old.trees) (sym (append-nil all)) h);
   }
 
 -- one addition after the other

@@ -9,8 +9,8 @@ use Rattle.std.proofs.lemmas.Bool.{false≢true, and_parts}
 use Rattle.tok_core.specs.Lexical.Pieces.{Takes, Fits, Tries, Skips, Stops, Behind}
 use Rattle.tok_core.specs.Lexical.Words.{IsIdentifier}
 use Rattle.tok_core.specs.declared.lexer.rule.Base.{Base}
-use Rattle.tok_core.specs.Lexical.Numbers.{base_mark, radix, IsBased, is_digit_or_underscore, starts_digit, starts_number_suffix, IsNumberSuffix, IsNumber, has_digit, IsDecimal, is_bare}
-use Rattle.tok_core.proofs.Lexical.Takes.{no_more, list_all-push, tries_behind, none_behind_two, fronts}
+use Rattle.tok_core.specs.Lexical.Numbers.{base_mark, radix, IsBased, is_digit_or_underscore, starts_digit, starts_number_suffix, IsNumberSuffix, IsNumber, has_digit, IsDecimal}
+use Rattle.tok_core.proofs.Lexical.Takes.{no_more, list_all-push, tries_behind, fronts}
 use Rattle.tok_core.proofs.Lexical.Escapes.{heads, tails}
 
 pub not_true : (b : Bool) → (b ≡ true → ⊥) → b ≡ false
@@ -103,22 +103,8 @@ digits_start text [] [] s g = absurd (false≢true (sym (ap starts_digit s.cut) 
 digits_start text (c ∷ rest) [] s g = absurd (false≢true (sym s.stops ∙ or_left (is_digit c 10) (c == 95) (sym (ap starts_digit s.cut) ∙ g)))
 digits_start text rest (d ∷ digits) s g = sym (ap starts_digit s.cut) ∙ g
 
-pub takes_number_suffix : (n : ℕ) (text tail rest suffix : List ℕ) (c : ℕ) → text ≡ c ∷ tail → starts_number_suffix n c ≡ true → Takes IsIdentifier text suffix rest → Takes (IsNumberSuffix n) text suffix rest
-takes_number_suffix n text tail rest [] c e p t = absurd t.spelled
-takes_number_suffix n text tail rest (d ∷ suffix) c e p t =
-    let same : d ≡ c = heads d c (suffix ++ rest) tail (sym t.cut ∙ e) in
-    record {
-      cut = t.cut;
-      spelled = (ap (starts_number_suffix n) same ∙ p, t.spelled);
-      longest = λ more after f s. t.longest more after f s.1;
-    }
-
 pub takes_no_suffix : (n : ℕ) (text : List ℕ) → ((piece after : List ℕ) → text ≡ piece ++ after → IsNumberSuffix n piece → piece ≡ []) → Takes (IsNumberSuffix n) text [] text
 takes_no_suffix n text h = record { cut = refl; spelled = tt; longest = λ more after e s. h more after e s }
-
-pub no_suffix_nil : (n : ℕ) (text piece after : List ℕ) → text ≡ [] → text ≡ piece ++ after → IsNumberSuffix n piece → piece ≡ []
-no_suffix_nil n text [] after z e s = refl
-no_suffix_nil n text (c ∷ piece) after z e s = cc
 
 pub no_suffix_start : (n : ℕ) (text tail : List ℕ) (c : ℕ) → text ≡ c ∷ tail → starts_number_suffix n c ≡ false → (piece after : List ℕ) → text ≡ piece ++ after → IsNumberSuffix n piece → piece ≡ []
 no_suffix_start n text tail c one bad [] after e s = refl
@@ -128,23 +114,7 @@ pub no_suffix_word : (n : ℕ) (text : List ℕ) → (Fits IsIdentifier text →
 no_suffix_word n text misses [] after e s = refl
 no_suffix_word n text misses (d ∷ piece) after e s = absurd (misses (d ∷ piece, after, e, s.1))
 
--- digits alone
-pub bare_all : (n : ℕ) (text rest digits : List ℕ) → Skips (is_digit_or_underscore n) text digits rest → rest ≡ [] → true ≡ is_bare n text
-bare_all n text rest digits s e = sym (ap (is_bare n) (s.cut ∙ ap (λ w. digits ++ w) e ∙ append-nil digits) ∙ s.pass)
-
-all_behind : (p : ℕ → Bool) (xs ys : List ℕ) → list_all p (xs ++ ys) ≡ true → list_all p ys ≡ true
-all_behind p [] ys h = h
-all_behind p (x ∷ xs) ys h = all_behind p xs ys (tail_passes p x (xs ++ ys) h)
-
-pub bare_not : (n : ℕ) (text rest digits tail : List ℕ) (c : ℕ) → Skips (is_digit_or_underscore n) text digits rest → rest ≡ c ∷ tail → false ≡ is_bare n text
-bare_not n text rest digits tail c s e =
-    let stops : is_digit_or_underscore n c ≡ false = subst (Stops (is_digit_or_underscore n)) e s.stops in
-    sym (not_true (is_bare n text) (λ h. false≢true (sym stops ∙ head_passes (is_digit_or_underscore n) c tail (all_behind (is_digit_or_underscore n) digits (c ∷ tail) (ap (is_bare n) (sym (s.cut ∙ ap (λ w. digits ++ w) e)) ∙ h)))))
-
 pub based_tries : (base : Base) (mark n : ℕ) (text rest : List ℕ) (answer : Option (Bor (List ℕ))) → mark ≡ base_mark base → text ≡ 48 ∷ mark ∷ rest → n ≡ radix base → Tries (IsNumber n (has_digit n)) rest answer → Tries (IsBased base) text answer
 based_tries base mark n text rest answer m e r t =
     tries_behind 48 (Behind (base_mark base) (IsNumber (radix base) (has_digit (radix base)))) text (base_mark base ∷ rest) answer (e ∙ ap (λ w. 48 ∷ w ∷ rest) m)
     (tries_behind (base_mark base) (IsNumber (radix base) (has_digit (radix base))) (base_mark base ∷ rest) rest answer refl (subst (λ w. Tries (IsNumber w (has_digit w)) rest answer) r t))
-
-pub none_based : (base : Base) (mark : ℕ) (text : List ℕ) → mark ≡ base_mark base → ((more : List ℕ) → text ≡ 48 ∷ mark ∷ more → ⊥) → Fits (IsBased base) text → ⊥
-none_based base mark text m misses = none_behind_two 48 (base_mark base) (IsNumber (radix base) (has_digit (radix base))) text (λ more e. misses more (e ∙ ap (λ w. 48 ∷ w ∷ more) (sym m)))

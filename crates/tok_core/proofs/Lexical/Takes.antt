@@ -6,7 +6,7 @@ use Rattle.std.specs.Str.{chars, IsUtf8}
 use Rattle.std.specs.Char.{encode_utf8}
 use Rattle.std.proofs.lemmas.Str.{chars_past_char, length-encode, len_utf8_bounds}
 use Rattle.std.proofs.lemmas.Bool.{false≢true}
-use Rattle.tok_core.specs.Lexical.Pieces.{Fits, Takes, Tries, Finds, Stops, Skips, IsOne, Behind}
+use Rattle.tok_core.specs.Lexical.Pieces.{Takes, Tries, Finds, Stops, Skips, IsOne, Behind}
 use Rattle.std.specs.Prelude.{Option, Some, None, MatchOption}
 use Rattle.std.specs.Borrow.{Bor}
 use Rattle.tok_core.specs.Lexical.Comments.{is_not_line_feed, IsLineComment}
@@ -35,15 +35,6 @@ takes_one p text rest c e h = record {
   spelled = (c, h, refl);
   longest = λ more after q s. one_and_more c s.0 more s.2;
 }
-
-pub fits_no_one : (p : ℕ → Bool) (text rest : List ℕ) (c : ℕ) → text ≡ c ∷ rest → p c ≡ false → Fits (IsOne p) text → ⊥
-fits_no_one p text rest c e h (piece, after, cut, found) =
-    let d = found.0 in
-    let pass = found.1 in
-    let one = found.2 in
-    let f : d ∷ after ≡ c ∷ rest = ap (λ w. w ++ after) (sym one) ∙ sym cut ∙ e in
-    let g : d ≡ c = cc in
-    false≢true (sym h ∙ ap p (sym g) ∙ pass)
 
 pub list_all-push : (p : ℕ → Bool) (xs : List ℕ) (c : ℕ) → list_all p xs ≡ true → p c ≡ true → list_all p (xs ++ c ∷ []) ≡ true
 list_all-push p [] c a h = rw h refl
@@ -130,12 +121,6 @@ finds_behind k S text rest None e misses = λ (piece, after, cut, (more, f, s)).
     let inner : rest ≡ more ++ after = cc in
     misses (more, after, inner, s)
 finds_behind k S text rest (Some behind) e (piece, cut, s) = (k ∷ piece, e ∙ ap (λ w. k ∷ w) cut, (piece, refl, s))
-
-pub none_behind : (k : ℕ) (S : List ℕ → Type 0) (text : List ℕ) → ((more : List ℕ) → text ≡ k ∷ more → ⊥) → Fits (Behind k S) text → ⊥
-none_behind k S text misses (piece, after, cut, (more, f, s)) = misses (more ++ after) (cut ∙ ap (λ w. w ++ after) f)
-
-pub none_behind_two : (j k : ℕ) (S : List ℕ → Type 0) (text : List ℕ) → ((more : List ℕ) → text ≡ j ∷ k ∷ more → ⊥) → Fits (Behind j (Behind k S)) text → ⊥
-none_behind_two j k S text misses (piece, after, cut, (q, g, (more, f, s))) = misses (more ++ after) (cut ∙ ap (λ w. w ++ after) (g ∙ ap (λ w. j ∷ w) f))
 
 -- of a spelling of which none begins another, what is found is taken
 abbrev pub IsFree : (List ℕ → Type 0) → Type 0

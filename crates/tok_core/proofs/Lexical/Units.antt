@@ -79,20 +79,6 @@ open_string text start rest front e s misses opened (piece, last, cut, (body, ta
     let b = over rest a.0 (tail ++ last) misses a.2 a.3 in
     opened (tail ++ last) b.1
 
-pub no_string : (text : List ℕ) → ((start : List ℕ) → text ≡ 34 ∷ start → ⊥) → Fits IsString text → ⊥
-no_string text misses (piece, last, cut, (body, tail, g, us, k)) = misses ((body ++ 34 ∷ tail) ++ last) (cut ∙ ap (λ w. w ++ last) g)
-
-pub takes_suffix : (text rest suffix : List ℕ) → Takes IsIdentifier text suffix rest → Takes IsSuffix text suffix rest
-takes_suffix text rest suffix t = record {
-  cut = t.cut;
-  spelled = inr t.spelled;
-  longest = λ more after e s. elim s [ inl nothing ↦ ended suffix more nothing | inr w ↦ t.longest more after e w ];
-}
-  where
-    ended : (a b : List ℕ) → a ++ b ≡ [] → b ≡ []
-    ended [] b e = e
-    ended (x ∷ a) b e = cc
-
 pub takes_none : (text : List ℕ) → (Fits IsIdentifier text → ⊥) → Takes IsSuffix text [] text
 takes_none text misses = record {
   cut = refl;
@@ -130,14 +116,6 @@ tries_quoted Inner text start rest inner (Some last) free one two h (piece, t) =
             t.longest more after f (suffix', w.1, s');
       },
     )
-
-pub none_within : (Inner : List ℕ → Type 0) (text start : List ℕ) → text ≡ 39 ∷ start → (Fits Inner start → ⊥) → Fits (IsQuoted Inner) text → ⊥
-none_within Inner text start one misses (piece, after, cut, (inner, suffix, e, h, s)) =
-    let whole : 39 ∷ start ≡ 39 ∷ ((inner ++ 39 ∷ suffix) ++ after) = sym one ∙ cut ∙ ap (λ w. w ++ after) e in
-    misses (inner, 39 ∷ suffix ++ after, tails 39 39 _ _ whole ∙ append_assoc inner (39 ∷ suffix) after, h)
-
-pub none_quoted : (Inner : List ℕ → Type 0) (text : List ℕ) → ((more : List ℕ) → text ≡ 39 ∷ more → ⊥) → Fits (IsQuoted Inner) text → ⊥
-none_quoted Inner text misses (piece, after, cut, (inner, suffix, e, h, s)) = misses ((inner ++ 39 ∷ suffix) ++ after) (cut ∙ ap (λ w. w ++ after) e)
 
 -- a character, and a suffix behind it
 pub takes_behind : (k : ℕ) (S : List ℕ → Type 0) (text rest last suffix : List ℕ) → text ≡ k ∷ rest → Takes S rest suffix last → (piece : List ℕ) × Takes (Behind k S) text piece last

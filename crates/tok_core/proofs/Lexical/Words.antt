@@ -5,11 +5,11 @@ use Rattle.std.specs.List.{list_all}
 use Rattle.std.specs.Str.{chars, IsUtf8, bytes_eq}
 use Rattle.std.specs.Borrow.{Bor}
 use Rattle.std.proofs.lemmas.List.{append-nil}
-use Rattle.std.proofs.lemmas.Bool.{false≢true, ne_eqb, ltb-true, cases_eq}
+use Rattle.std.proofs.lemmas.Bool.{false≢true, ne_eqb, ltb-true}
 use Rattle.unicode_ident.specs.Ident.{is_xid_continue}
 use Rattle.unicode_ident.proofs.IdentLemmas.{is_xid_continue-ascii}
 use Rattle.tok_core.specs.Lexical.Pieces.{Takes, Fits, Tries}
-use Rattle.tok_core.specs.Lexical.Words.{IsIdentifier, IsRawIdentifier, IsName, has_no_raw, is_missing}
+use Rattle.tok_core.specs.Lexical.Words.{IsIdentifier, IsRawIdentifier, IsName, has_no_raw}
 use Rattle.tok_core.proofs.Lexical.Numbers.{head_passes, tail_passes, not_true}
 use Rattle.std.proofs.lemmas.Str.{encodes-chars, encodes-IsAscii, chars-IsAscii, chars-nil}
 use Rattle.std.proofs.lemmas.Str.Ascii.{IsAscii-nil}
@@ -77,18 +77,6 @@ no_raw_chars bytes u =
     (either _ _ _ _ (same_text bytes (codes "self") u refl)
     (either _ _ _ _ (same_text bytes (codes "Self") u refl)
     (either _ _ _ _ (same_text bytes (codes "super") u refl) (same_text bytes (codes "crate") u refl))))
-
-pub is_never_missing : (name : List ℕ) → ((word : List ℕ) → name ≡ 114 ∷ 35 ∷ word → ⊥) → is_missing name ≡ false
-is_never_missing [] misses = refl
-is_never_missing (c ∷ []) misses = refl
-is_never_missing (c ∷ d ∷ word) misses =
-    elim (cases_eq c 114) [
-      | inr other ↦ rw (ne_eqb c 114 other) refl
-      | inl first ↦ elim (cases_eq d 35) [
-        | inr other ↦ rw (first, ne_eqb d 35 other) refl
-        | inl second ↦ absurd (misses word (rw (first, second) refl))
-      ]
-    ]
 
 -- a text of which all is taken, or some is left
 pub is_whole : (text rest : List ℕ) → rest ≡ [] → (piece : List ℕ) × Takes IsIdentifier text piece rest → IsIdentifier text
