@@ -27,7 +27,7 @@ pub struct Spot<'a> {
 }
 
 impl<'a> Spot<'a> {
-    ghost use Rattle.std.specs.Prelude.{◌≡◌, ◌≤◌, ◌+◌, IsTrue, true, false, Some};
+    ghost use Rattle.std.specs.Prelude.{◌≡◌, ◌≤◌, ◌+◌, IsTrue, false, Some};
     ghost use Rattle.tok_core.specs.Weight.{weight};
     ghost use Rattle.tok_buffer.specs.Cursors.{spot_place};
     ghost use Rattle.tok_buffer.specs.Descent.{descend};

@@ -1,5 +1,5 @@
 // Text to trees.
-ghost use Rattle.std.specs.Prelude.{◌≡◌, List, MatchResult, IfOk, IfErr, IfSome};
+ghost use Rattle.std.specs.Prelude.{◌≡◌, MatchResult, IfOk, IfErr};
 ghost use Rattle.std.specs.Str.{chars};
 ghost use Rattle.tok_core.specs.Forest.{Forest};
 ghost use Rattle.tok_core.specs.Lexical.Built.{EndsInOther};

@@ -1,5 +1,5 @@
 // Streams of trees.
-ghost use Rattle.std.specs.Prelude.{◌≡◌, ◌+◌, not, min, IfOk, OnOk, OnErr};
+ghost use Rattle.std.specs.Prelude.{◌≡◌, not, min, IfOk, OnOk, OnErr};
 ghost use Rattle.tok_core.specs.Filled.{has_trees};
 ghost use Rattle.tok_core.specs.Forest.{joined, no_trees, tree};
 ghost use Rattle.tok_core.specs.Seen.{tree_of, trees_of};

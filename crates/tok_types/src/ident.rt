@@ -1,6 +1,6 @@
 // Identifiers of tokens.
-ghost use Rattle.std.specs.Prelude.{◌≡◌, ◌<◌, [], codes, true, IfOk, OnOk, OnErr};
-ghost use Rattle.tok_core.specs.Forest.{AppendsFront, ident, joined};
+ghost use Rattle.std.specs.Prelude.{◌≡◌, ◌<◌, codes, IfOk, OnOk, OnErr};
+ghost use Rattle.tok_core.specs.Forest.{ident, joined};
 ghost use Rattle.tok_core.specs.Lexical.Words.{IsIdentifier, IsSuffix};
 ghost use Rattle.tok_core.specs.Seen.{ident_of};
 ghost use Rattle.std.specs.Str.{chars};

@@ -1,5 +1,5 @@
 // The underscore.
-ghost use Rattle.std.specs.Prelude.{◌≡◌, [], ◌∷◌, codes, slice_index_or};
+ghost use Rattle.std.specs.Prelude.{◌≡◌, [], ◌∷◌, codes};
 ghost use Rattle.tok_core.specs.Spans.{call_site};
 ghost use Rattle.tok_types.specs.Looks.{Finds, IsText, read_keyword};
 ghost use Rattle.tok_types.specs.Printed.{first_span, word};

@@ -1,5 +1,4 @@
 //! Errors.
-ghost use Rattle.std.specs.Prelude.{◌≤◌};
 
 use super::at;
 use crate::outcome::{Outcome, Stop, expect, shows, stands, worst};

@@ -1,10 +1,9 @@
 // Errors as tokens for the compiler.
-ghost use Rattle.std.specs.Prelude.{◌≡◌, true, IfOk, OnOk};
+ghost use Rattle.std.specs.Prelude.{◌≡◌, IfOk, OnOk};
 ghost use Rattle.std.specs.Str.{chars};
 ghost use Rattle.tok_core.specs.Forest.{ident, joined, punct};
-ghost use Rattle.tok_core.specs.Lexical.Characters.{is_punct_or_apostrophe};
 ghost use Rattle.tok_core.specs.Lexical.Words.{IsIdentifier};
-ghost use Rattle.tok_core.specs.Seen.{ident_of, punct_of};
+ghost use Rattle.tok_core.specs.Seen.{ident_of};
 ghost use Rattle.tok_buffer.specs.CompileErrors.{invocation, segment};
 
 use crate::error::{Error, Message};

@@ -1,5 +1,5 @@
 // Characters and byte characters.
-ghost use Rattle.std.specs.Prelude.{◌≡◌, ℕ, List, IfSome};
+ghost use Rattle.std.specs.Prelude.{◌≡◌, IfSome};
 ghost use Rattle.std.specs.Str.{chars, IsUtf8};
 ghost use Rattle.tok_core.specs.Lexical.Pieces.{IsOne, Behind, Tries, Finds};
 ghost use Rattle.tok_core.specs.Lexical.Words.{IsSuffix};

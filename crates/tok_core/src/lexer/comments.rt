@@ -1,5 +1,5 @@
 // Comments.
-ghost use Rattle.std.specs.Prelude.{◌≡◌, ℕ, ◌++◌, ◌∷◌, [], List, MatchOption, IfSome};
+ghost use Rattle.std.specs.Prelude.{◌≡◌, ℕ, List, IfSome};
 ghost use Rattle.std.specs.Str.{chars, IsUtf8};
 ghost use Rattle.tok_core.specs.Lexical.Pieces.{Tries, Skips};
 ghost use Rattle.tok_core.specs.Lexical.Comments.{is_not_line_feed, IsLineComment, IsBlockComment, is_line_doc, is_block_doc};

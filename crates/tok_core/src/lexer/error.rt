@@ -1,6 +1,5 @@
 // Why a text isn't read.
 ghost use Rattle.std.specs.Prelude.{◌≡◌, Some};
-ghost use Rattle.std.specs.Fmt.{WritesOnOk};
 ghost use Rattle.tok_core.specs.Lexical.Errors.{refusal_number, refusal_words, error_number, error_byte, error_span, error_words};
 
 use crate::span::Span;

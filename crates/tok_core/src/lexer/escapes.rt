@@ -1,5 +1,5 @@
 // Escapes.
-ghost use Rattle.std.specs.Prelude.{◌≡◌, ◌≤◌, ℕ, ◌++◌, ◌∷◌, List, IfSome, length, ◌<◌, Bool, true, false, if◌then◌else◌, MatchBool};
+ghost use Rattle.std.specs.Prelude.{◌≡◌, ◌≤◌, ℕ, List, IfSome, length, ◌<◌, false, if◌then◌else◌, MatchBool};
 ghost use Rattle.std.specs.Str.{chars, IsUtf8};
 ghost use Rattle.tok_core.specs.Lexical.Pieces.{Finds, Skips};
 ghost use Rattle.tok_core.specs.Lexical.Strings.{is_simple_escape, is_hex_or_underscore, IsHex, NamesChar, IsCode, IsLineEnd, IsEscape};

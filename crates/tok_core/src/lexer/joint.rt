@@ -1,5 +1,5 @@
 // What follows a punctuation character.
-ghost use Rattle.std.specs.Prelude.{◌≡◌, ℕ, List};
+ghost use Rattle.std.specs.Prelude.{◌≡◌};
 ghost use Rattle.std.specs.Str.{chars};
 ghost use Rattle.tok_core.specs.Lexical.Following.{starts_punct, begins_comment, is_joint, is_joint_apostrophe, starts_name, past_marks};
 

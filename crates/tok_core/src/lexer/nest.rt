@@ -1,5 +1,5 @@
 // The trees so far, with the groups that are open.
-ghost use Rattle.std.specs.Prelude.{◌≡◌, ℕ, ◌+◌, ◌<◌, ◌≤◌, ◌^◌, ◌∷◌, [], List, IfErr, OnOk, None, if◌then◌else◌, true};
+ghost use Rattle.std.specs.Prelude.{◌≡◌, ℕ, ◌+◌, ◌<◌, ◌≤◌, ◌^◌, ◌∷◌, [], IfErr, OnOk, None, if◌then◌else◌, true};
 ghost use Rattle.std.specs.Str.{chars};
 ghost use Rattle.tok_core.specs.Forest.{no_trees};
 ghost use Rattle.tok_core.specs.Lexical.Built.{Grows, Reached, HaltsAt, IsTooDeep, IsUnfit};

@@ -1,5 +1,5 @@
 // The starts of raw, byte and C strings.
-ghost use Rattle.std.specs.Prelude.{◌≡◌, ◌==◌, ℕ, List, IfSome};
+ghost use Rattle.std.specs.Prelude.{◌==◌, ℕ, List, IfSome};
 ghost use Rattle.std.specs.Str.{chars, IsUtf8};
 ghost use Rattle.tok_core.specs.Lexical.Pieces.{Behind, Tries, Finds, Skips};
 ghost use Rattle.tok_core.specs.Lexical.Strings.{IsHashes, IsPrefixed, IsStringPrefix};

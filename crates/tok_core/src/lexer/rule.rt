@@ -1,5 +1,5 @@
 // The rules of the grammar, in their order, and what each takes.
-ghost use Rattle.std.specs.Prelude.{◌≡◌, ℕ, ◌++◌, ◌∷◌, [], List, MatchOption, IfSome, IsTrue};
+ghost use Rattle.std.specs.Prelude.{◌≡◌, IfSome};
 ghost use Rattle.std.specs.Str.{chars, IsUtf8};
 ghost use Rattle.tok_core.specs.Lexical.Built.{TriesRules, may_begin};
 ghost use Rattle.tok_core.specs.Lexical.Meaning.{is_group_mark, width};

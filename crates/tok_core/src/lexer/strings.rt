@@ -1,5 +1,5 @@
 // Strings.
-ghost use Rattle.std.specs.Prelude.{◌≡◌, ℕ, List, IfSome, length, ◌<◌};
+ghost use Rattle.std.specs.Prelude.{IfSome, length, ◌<◌};
 ghost use Rattle.std.specs.Str.{chars, IsUtf8};
 ghost use Rattle.tok_core.specs.Lexical.Pieces.{Tries, Finds};
 ghost use Rattle.tok_core.specs.Lexical.Strings.{IsUnit, IsString};
