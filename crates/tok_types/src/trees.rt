@@ -45,7 +45,7 @@ impl Token for IdentAny {
     }
 
     fn display() -> &'static str {
-        "identifier"
+        Ident::display()
     }
 }
 
