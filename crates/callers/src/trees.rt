@@ -13,9 +13,8 @@ use std::alloc::{AllocError, Global};
 use tok_core::{Delimiter, Group, Ident, MakeFault, Punct, Spacing, Span, TokenStream, TokenTree};
 
 fn name(alloc: Global, text: &str) -> Result<TokenTree, MakeFault>
-    requires { IsIdentifier (chars text.now) }
     ensures made { IfOk result (λ t. tree_of t ≡ leaf (ident text.now call_site)) }
-    ensures fault { IfErr result (λ fault. fault ≡ MakeFault.Memory) }
+    ensures taken { IsIdentifier (chars text.now) → IfErr result (λ fault. fault ≡ MakeFault.Memory) }
 {
     let ident = Ident::new(alloc, text, Span::call_site())?;
     Ok(TokenTree::Ident(ident))

@@ -1,5 +1,5 @@
 // Identifiers of tokens.
-ghost use Rattle.std.specs.Prelude.{◌≡◌, ◌<◌, codes, IfOk, OnOk, OnErr};
+ghost use Rattle.std.specs.Prelude.{◌≡◌, codes, IfOk, OnOk, OnErr};
 ghost use Rattle.tok_core.specs.Forest.{ident, joined};
 ghost use Rattle.tok_core.specs.Lexical.Words.{IsIdentifier, IsSuffix};
 ghost use Rattle.tok_core.specs.Seen.{ident_of};
@@ -41,7 +41,7 @@ impl token::SelfValue {
     pub fn into_ident(self, alloc: Global) -> Result<Ident, AllocError>
         ensures { IfOk result (λ i. ident_of i ≡ ident (codes "self") self.span) }
     {
-        identifier(alloc, "self", self.span)
+        token::SelfValue::ident(self, alloc)
     }
 }
 
@@ -50,7 +50,7 @@ impl token::SelfType {
     pub fn into_ident(self, alloc: Global) -> Result<Ident, AllocError>
         ensures { IfOk result (λ i. ident_of i ≡ ident (codes "Self") self.span) }
     {
-        identifier(alloc, "Self", self.span)
+        token::SelfType::ident(self, alloc)
     }
 }
 
@@ -59,7 +59,7 @@ impl token::Super {
     pub fn into_ident(self, alloc: Global) -> Result<Ident, AllocError>
         ensures { IfOk result (λ i. ident_of i ≡ ident (codes "super") self.span) }
     {
-        identifier(alloc, "super", self.span)
+        token::Super::ident(self, alloc)
     }
 }
 
@@ -68,7 +68,7 @@ impl token::Crate {
     pub fn into_ident(self, alloc: Global) -> Result<Ident, AllocError>
         ensures { IfOk result (λ i. ident_of i ≡ ident (codes "crate") self.span) }
     {
-        identifier(alloc, "crate", self.span)
+        token::Crate::ident(self, alloc)
     }
 }
 
@@ -77,7 +77,7 @@ impl token::Extern {
     pub fn into_ident(self, alloc: Global) -> Result<Ident, AllocError>
         ensures { IfOk result (λ i. ident_of i ≡ ident (codes "extern") self.span) }
     {
-        identifier(alloc, "extern", self.span)
+        token::Extern::ident(self, alloc)
     }
 }
 

@@ -1,11 +1,12 @@
+use Rattle.std.proofs.Common.{rules}
 use Rattle.callers.proofs.Names.{a-identifier, b-identifier, c-identifier}
 use Rattle.callers.proofs.trees.by_hand.Goals as goal
 
-pub name-requires : goal.name-requires
-name-requires c = c-identifier
+pub returns-in_err-name-clause-fault : goal.returns-in_err-name-clause-fault
+returns-in_err-name-clause-fault c = let fault = c.in_err-name.ensures.taken c-identifier in search rules
 
-pub name-requires-2 : goal.name-requires-2
-name-requires-2 c = b-identifier
+pub returns-in_err-name-2-clause-fault : goal.returns-in_err-name-2-clause-fault
+returns-in_err-name-2-clause-fault c = let fault = c.in_err-name-2.ensures.taken b-identifier in search rules
 
-pub name-requires-3 : goal.name-requires-3
-name-requires-3 c = a-identifier
+pub returns-in_err-name-3-clause-fault : goal.returns-in_err-name-3-clause-fault
+returns-in_err-name-3-clause-fault c = let fault = c.in_err-name-3.ensures.taken a-identifier in search rules
