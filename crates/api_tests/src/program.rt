@@ -1,10 +1,10 @@
 // What the program prints for the worked inputs.
-use super::*;
-use std::io;
-use std::io::{Error, ErrorKind};
+use std::alloc::{AllocError, AllocGlobal, Global};
+use std::io::{self, Error, ErrorKind, Read, Write};
 use std::process::Abort;
 use std::str::from_utf8;
 use std::test::Fail;
+use syn_tokens::serve;
 
 // Runs the program in memory, and wants this output and status.
 fn wants(

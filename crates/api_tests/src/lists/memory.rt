@@ -3,10 +3,10 @@
 ghost use Rattle.std.specs.Prelude.{◌≡◌};
 
 use super::{Mark, Numbers, numbers, shown};
-use crate::{Pair, PairsFault, Punctuated};
 use std::alloc::{AllocError, Global};
 use std::process::Abort;
 use std::test::Fail;
+use syn_punctuated::{Pair, PairsFault, Punctuated};
 
 /// A value that is not cloned where it is 13.
 #[derive(Debug, Drop, PartialEq, Eq)]

@@ -6,10 +6,10 @@ mod nested;
 mod pairs;
 mod tokens;
 
-use crate::{Pair, PairsFault, Punctuated};
 use std::alloc::{AllocError, Global};
 use std::collections::HashSet;
 use std::test::Fail;
+use syn_punctuated::{Pair, PairsFault, Punctuated};
 
 #[derive(Clone, Copy, Debug, PartialEq, Eq, Hash)]
 struct Mark(char);

@@ -3,8 +3,8 @@ ghost use Rattle.std.specs.Prelude.{◌≡◌, length};
 ghost use Rattle.syn_punctuated.specs.Lists.{values_of};
 
 use super::{Mark, numbers, shown};
-use crate::{Pair, Punctuated};
 use std::test::Fail;
+use syn_punctuated::{Pair, Punctuated};
 
 /// How many items are left, by both counts.
 fn counts<I: ExactSizeIterator>(items: &I) -> (usize, (usize, Option<usize>)) {

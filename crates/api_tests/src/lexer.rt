@@ -1,11 +1,7 @@
 // Texts, their trees and their refusals.
-use crate::group::Delimiter;
-use crate::lexer::{LexFault, lex, lex_marked};
-use crate::punct::Spacing;
-use crate::span::Span;
-use crate::stream::{TokenStream, TokenTree};
 use std::alloc::{AllocError, Global};
 use std::test::Fail;
+use tok_core::{Delimiter, LexFault, Spacing, Span, TokenStream, TokenTree, lex, lex_marked};
 
 fn leaf(alloc: Global, next: &TokenTree) -> Result<String, AllocError> {
     match next {

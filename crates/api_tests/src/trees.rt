@@ -1,17 +1,11 @@
 // What trees and streams answer, on values made by hand.
-use crate::erase::{is_clear, is_filled, same_visible};
-use crate::group::{Delimiter, Group};
-use crate::ident::Ident;
-use crate::lexer::lex_marked;
-use crate::literal::Literal;
-use crate::punct::{Punct, Spacing};
-use crate::span::{DelimSpan, Span};
-use crate::stream::{TokenStream, TokenTree};
-use crate::to_tokens::ToTokens;
-use crate::tt::{TokenStreamHelper, TokenTreeHelper};
 use std::alloc::Global;
 use std::hash::{DefaultHasher, Hash, Hasher};
 use std::test::Fail;
+use tok_core::{
+    DelimSpan, Delimiter, Group, Ident, Literal, Punct, Spacing, Span, ToTokens, TokenStream,
+    TokenStreamHelper, TokenTree, TokenTreeHelper, is_clear, is_filled, lex_marked, same_visible,
+};
 
 fn name(alloc: Global, text: &str, start: usize) -> Result<TokenTree, Fail> {
     let end = start.saturating_add(text.len());

@@ -1,7 +1,7 @@
 //! The calls of `Pair`.
 use super::Mark;
-use crate::Pair;
 use std::test::Fail;
+use syn_punctuated::Pair;
 
 fn twice<T: Copy>(value: T) -> (T, T) {
     (value, value)

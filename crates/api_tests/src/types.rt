@@ -4,15 +4,13 @@ mod keywords;
 mod punctuations;
 mod trees;
 
-use crate::look::Token;
-use crate::token;
-use crate::token::printing;
 use std::alloc::{AllocError, Global};
 use std::hash::{DefaultHasher, Hash, Hasher};
 use std::process::Abort;
 use std::test::Fail;
 use tok_buffer::{Cursor, TokenBuffer};
 use tok_core::{Ident, Span, ToTokens, TokenStream, TokenTree, lex_marked};
+use tok_types::token::{self, Token, printing};
 
 // That each of these holds.
 fn all_hold(rt: &impl Abort, facts: &[bool]) {

@@ -1,16 +1,12 @@
 // What no contract says: worked rows, printed texts, and that each call succeeds where memory is there.
 ghost use Rattle.std.specs.Prelude.{◌≤◌};
 
-use crate::buffer::TokenBuffer;
-use crate::cursor::Cursor;
-use crate::error::Error;
-use crate::laws;
-use crate::lifetime::{Lifetime, LifetimeFault};
 use std::alloc::{AllocError, Global};
 use std::cmp::Ordering;
 use std::hash::{BuildHasher, BuildHasherDefault, FoldHasher};
 use std::process::Abort;
 use std::test::Fail;
+use tok_buffer::{Cursor, Error, Lifetime, LifetimeFault, TokenBuffer, laws};
 use tok_core::{Delimiter, LexFault, Span, ToTokens, TokenStream, lex, lex_marked};
 
 fn laid(alloc: Global, number: u64, text: &str) -> Result<TokenBuffer, LexFault> {

@@ -1,12 +1,11 @@
 // Looks at trees, lifetimes, delimiters and the end.
 use super::{all_hold, found_in, is_token};
-use crate::look::Token;
-use crate::token;
-use crate::trees::{End, IdentAny};
 use std::alloc::Global;
 use std::process::Abort;
 use tok_buffer::Lifetime;
 use tok_core::{Group, Ident, Literal, Punct, TokenTree};
+use tok_types::token::{self, Token};
+use tok_types::{End, IdentAny};
 
 // Whether a token is found in front of the first text and not of the second.
 fn tells<T: Token>(alloc: Global, here: &str, not_here: &str) -> bool {
