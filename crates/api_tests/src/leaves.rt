@@ -39,6 +39,10 @@ fn idents(rt: HostRuntime) {
     assert!(rt; refused(&rt, "1a"));
     assert!(rt; refused(&rt, "r#a"));
     assert!(rt; refused(&rt, "a b"));
+}
+
+#[test]
+fn raw_idents(rt: HostRuntime) {
     assert!(rt; made_raw(&rt, "a", "r#a"));
     assert!(rt; made_raw(&rt, "selfish", "r#selfish"));
     for text in ["_", "self", "Self", "super", "crate", "r#a", ""] {

@@ -1,5 +1,6 @@
 // Texts, their trees and their refusals.
-use std::alloc::{AllocError, Global};
+use std::alloc::{AllocError, AllocGlobal, Global};
+use std::process::Abort;
 use std::test::Fail;
 use tok_core::{Delimiter, LexFault, Spacing, Span, TokenStream, TokenTree, lex, lex_marked};
 
@@ -33,6 +34,44 @@ fn line(alloc: Global, stream: &TokenStream) -> Result<String, AllocError> {
     Ok(out)
 }
 
+// Texts and the lines that they are read as, without marks.
+fn all_read(rt: &(impl Abort + AllocGlobal), rows: &[(&str, &str)]) {
+    for (text, wanted) in rows {
+        let answer = lex(rt.alloc(), 7, text);
+        assert!(rt; is_line(rt.alloc(), answer, wanted), "at {text}");
+    }
+}
+
+// The same with marks.
+fn all_read_marked(rt: &(impl Abort + AllocGlobal), rows: &[(&str, &str)]) {
+    for (text, wanted) in rows {
+        let answer = lex_marked(rt.alloc(), 7, text);
+        assert!(rt; is_line(rt.alloc(), answer, wanted), "at {text}");
+    }
+}
+
+// Texts that are refused without marks, with the number of the refusal and its byte.
+fn all_refused(rt: &(impl Abort + AllocGlobal), rows: &[(&str, u8, usize)]) {
+    for (text, number, at) in rows {
+        assert_eq!(rt;
+            refusal(lex(rt.alloc(), 7, text)),
+            Some((*number, *at)),
+            "at {text}"
+        );
+    }
+}
+
+// The same with marks.
+fn all_refused_marked(rt: &(impl Abort + AllocGlobal), rows: &[(&str, u8, usize)]) {
+    for (text, number, at) in rows {
+        assert_eq!(rt;
+            refusal(lex_marked(rt.alloc(), 7, text)),
+            Some((*number, *at)),
+            "at {text}"
+        );
+    }
+}
+
 fn is_line(alloc: Global, answer: Result<TokenStream, LexFault>, wanted: &str) -> bool {
     match answer {
         Ok(stream) => match line(alloc, &stream) {
@@ -43,27 +82,11 @@ fn is_line(alloc: Global, answer: Result<TokenStream, LexFault>, wanted: &str) -
     }
 }
 
-fn reads(rt: &HostRuntime, text: &str, wanted: &str) -> bool {
-    is_line(rt.alloc(), lex(rt.alloc(), 7, text), wanted)
-}
-
-fn reads_marked(rt: &HostRuntime, text: &str, wanted: &str) -> bool {
-    is_line(rt.alloc(), lex_marked(rt.alloc(), 7, text), wanted)
-}
-
 fn refusal(answer: Result<TokenStream, LexFault>) -> Option<(u8, usize)> {
     match answer {
         Err(LexFault::Refused(error)) => Some((error.number(), error.at())),
         _ => None,
     }
-}
-
-fn refused(rt: &HostRuntime, text: &str) -> Option<(u8, usize)> {
-    refusal(lex(rt.alloc(), 7, text))
-}
-
-fn refused_marked(rt: &HostRuntime, text: &str) -> Option<(u8, usize)> {
-    refusal(lex_marked(rt.alloc(), 7, text))
 }
 
 // A tree within the first group of a text.
@@ -81,163 +104,269 @@ fn inside(rt: &HostRuntime, text: &str, wanted: &str) -> bool {
 }
 
 #[test]
-fn numbers(rt: HostRuntime) {
-    assert!(rt;
-        reads(
-            &rt,
-            "1..2",
-            "literal 1 0..1; joint . 1..2; alone . 2..3; literal 2 3..4; "
-        )
+fn reads_numbers(rt: HostRuntime) {
+    all_read(
+        &rt,
+        &[
+            (
+                "1..2",
+                "literal 1 0..1; joint . 1..2; alone . 2..3; literal 2 3..4; ",
+            ),
+            ("1.x", "literal 1 0..1; alone . 1..2; ident x 2..3; "),
+            ("0x1.f", "literal 0x1 0..3; alone . 3..4; ident f 4..5; "),
+            ("1_000u64", "literal 1_000u64 0..8; "),
+            ("1._x", "literal 1 0..1; alone . 1..2; ident _x 2..4; "),
+            ("1u8.", "literal 1u8 0..3; alone . 3..4; "),
+            ("0x_1", "literal 0x_1 0..4; "),
+            ("1b'x'", "literal 1b 0..2; literal 'x' 2..5; "),
+            ("1r\"x\"", "literal 1r 0..2; literal \"x\" 2..5; "),
+        ],
     );
-    assert_eq!(rt; refused(&rt, "1.0"), Some((8, 0)));
-    assert!(rt; reads(&rt, "1.x", "literal 1 0..1; alone . 1..2; ident x 2..3; "));
-    assert_eq!(rt; refused(&rt, "1."), Some((8, 0)));
-    assert_eq!(rt; refused(&rt, "1e5"), Some((8, 0)));
-    assert_eq!(rt; refused(&rt, "0x"), Some((9, 0)));
-    assert_eq!(rt; refused(&rt, "0o8"), Some((9, 0)));
-    assert_eq!(rt; refused(&rt, "0b1e"), Some((9, 0)));
-    assert_eq!(rt; refused(&rt, "0x1."), Some((9, 0)));
-    assert!(rt;
-        reads(
-            &rt,
-            "0x1.f",
-            "literal 0x1 0..3; alone . 3..4; ident f 4..5; "
-        )
+}
+
+#[test]
+fn refuses_floats(rt: HostRuntime) {
+    all_refused(
+        &rt,
+        &[("1.0", 8, 0), ("1.", 8, 0), ("1e5", 8, 0), ("1_e", 8, 0)],
     );
-    assert!(rt; reads(&rt, "1_000u64", "literal 1_000u64 0..8; "));
-    assert!(rt; reads(&rt, "1._x", "literal 1 0..1; alone . 1..2; ident _x 2..4; "));
-    assert!(rt; reads(&rt, "1u8.", "literal 1u8 0..3; alone . 3..4; "));
-    assert_eq!(rt; refused(&rt, "1_e"), Some((8, 0)));
-    assert_eq!(rt; refused(&rt, "0x_"), Some((9, 0)));
-    assert!(rt; reads(&rt, "0x_1", "literal 0x_1 0..4; "));
-    assert_eq!(rt; refused(&rt, "0b12"), Some((9, 0)));
-    assert_eq!(rt; refused(&rt, "0x1f\u{663}"), Some((1, 4)));
-    assert!(rt; reads(&rt, "1b'x'", "literal 1b 0..2; literal 'x' 2..5; "));
-    assert!(rt; reads(&rt, "1r\"x\"", "literal 1r 0..2; literal \"x\" 2..5; "));
 }
 
 #[test]
-fn quotes(rt: HostRuntime) {
-    assert!(rt; reads(&rt, "'a'", "literal 'a' 0..3; "));
-    assert_eq!(rt; refused(&rt, "'ab'"), Some((11, 3)));
-    assert!(rt; reads(&rt, "b'x'u8", "literal b'x'u8 0..6; "));
-    assert!(rt; reads(&rt, "a\"x\"", "ident a 0..1; literal \"x\" 1..4; "));
-    assert!(rt; reads(&rt, "\"x\"_", "literal \"x\"_ 0..4; "));
-    assert_eq!(rt; refused(&rt, "b\"x\""), Some((7, 0)));
-    assert_eq!(rt; refused(&rt, "r#\"x\"#"), Some((7, 0)));
-    assert_eq!(rt; refused(&rt, "r#\""), Some((7, 0)));
-    assert_eq!(rt; refused(&rt, "c\""), Some((7, 0)));
-    assert_eq!(rt; refused(&rt, "br##\""), Some((7, 0)));
-    assert_eq!(rt; refused(&rt, "cr\""), Some((7, 0)));
-    assert_eq!(rt; refused(&rt, "\"a\\"), Some((6, 0)));
-    assert_eq!(rt; refused(&rt, "\"a"), Some((6, 0)));
-    assert_eq!(rt; refused(&rt, "'\\"), Some((6, 0)));
-    assert_eq!(rt; refused(&rt, "b'"), Some((6, 0)));
-    assert_eq!(rt; refused(&rt, "b'é'"), Some((6, 0)));
-    assert_eq!(rt; refused(&rt, "\"\\x80\""), Some((6, 0)));
-    assert!(rt; reads(&rt, "\"\\x7F\"", "literal \"\\x7F\" 0..6; "));
-    assert!(rt; reads(&rt, "b'\\xFF'", "literal b'\\xFF' 0..7; "));
-    assert_eq!(rt; refused(&rt, "'\\xFF'"), Some((6, 0)));
-    assert_eq!(rt; refused(&rt, "b'\\u{41}'"), Some((6, 0)));
-    assert!(rt; reads(&rt, "'\\u{1F600}'", "literal '\\u{1F600}' 0..11; "));
-    assert_eq!(rt; refused(&rt, "'\\u{D800}'"), Some((6, 0)));
-    assert_eq!(rt; refused(&rt, "'\\u{0000041}'"), Some((6, 0)));
-    assert!(rt; reads(&rt, "\"\\u{4_1_}\"", "literal \"\\u{4_1_}\" 0..10; "));
-    assert_eq!(rt; refused(&rt, "\"\\u{_4}\""), Some((6, 0)));
-    assert!(rt; reads(&rt, "\"a\\\n b\"", "literal \"a\\\n b\" 0..7; "));
-    assert!(rt; reads(&rt, "\"\\\r\n\"", "literal \"\\\r\n\" 0..5; "));
-    assert_eq!(rt; refused(&rt, "\"\\\r\""), Some((6, 0)));
-    assert_eq!(rt; refused(&rt, "'\\\n'"), Some((6, 0)));
-}
-
-#[test]
-fn words(rt: HostRuntime) {
-    assert!(rt; reads(&rt, "é", "ident é 0..2; "));
-    assert!(rt; reads(&rt, "r#a", "ident r#a 0..3; "));
-    assert!(rt; reads(&rt, "_", "ident _ 0..1; "));
-    assert!(rt; reads(&rt, "r#1", "ident r 0..1; alone # 1..2; literal 1 2..3; "));
-    assert_eq!(rt; refused(&rt, "r#self"), Some((10, 0)));
-    assert_eq!(rt; refused(&rt, "a r#_"), Some((10, 2)));
-    assert!(rt; reads(&rt, "r#selfish", "ident r#selfish 0..9; "));
-    assert_eq!(rt; refused(&rt, "'r#self"), Some((10, 0)));
-    assert!(rt; reads(&rt, "'a", "joint ' 0..1; ident a 1..2; "));
-    assert!(rt; reads(&rt, "'r#a", "joint ' 0..1; ident r#a 1..4; "));
-    assert!(rt;
-        reads(
-            &rt,
-            "'static 'x",
-            "joint ' 0..1; ident static 1..7; joint ' 8..9; ident x 9..10; "
-        )
+fn refuses_numbers(rt: HostRuntime) {
+    all_refused(
+        &rt,
+        &[
+            ("0x", 9, 0),
+            ("0o8", 9, 0),
+            ("0b1e", 9, 0),
+            ("0x1.", 9, 0),
+            ("0x_", 9, 0),
+            ("0b12", 9, 0),
+            ("0x1f\u{663}", 1, 4),
+        ],
     );
-    assert_eq!(rt; refused(&rt, "' a"), Some((11, 0)));
-    assert_eq!(rt; refused(&rt, "\u{0}"), Some((1, 0)));
 }
 
 #[test]
-fn comments(rt: HostRuntime) {
-    assert!(rt; reads(&rt, "////", ""));
-    assert!(rt; reads(&rt, "/**/", ""));
-    assert!(rt; reads(&rt, "/***/", ""));
-    assert!(rt; reads(&rt, "// x\na", "ident a 5..6; "));
-    assert!(rt; reads(&rt, "/* /* */ */a", "ident a 11..12; "));
-    assert_eq!(rt; refused(&rt, "///"), Some((5, 0)));
-    assert_eq!(rt; refused(&rt, "//!"), Some((5, 0)));
-    assert_eq!(rt; refused(&rt, "/*!*/"), Some((5, 0)));
-    assert_eq!(rt; refused(&rt, "/** x */"), Some((5, 0)));
-    assert_eq!(rt; refused(&rt, "/** x"), Some((4, 0)));
-    assert_eq!(rt; refused(&rt, "/* /* */"), Some((4, 0)));
-    assert_eq!(rt; refused(&rt, "é /* /* */"), Some((4, 3)));
-    assert!(rt; reads(&rt, "=//", "alone = 0..1; "));
-    assert!(rt; reads(&rt, "+=", "joint + 0..1; alone = 1..2; "));
-    assert!(rt; reads(&rt, "+'a", "joint + 0..1; joint ' 1..2; ident a 2..3; "));
-    assert!(rt; reads(&rt, "+'x'", "joint + 0..1; literal 'x' 1..4; "));
-    assert!(rt; reads(&rt, "\u{FEFF}a", "ident a 3..4; "));
-    assert_eq!(rt; refused(&rt, "a\u{FEFF}"), Some((1, 1)));
-    assert!(rt; reads(&rt, "\u{85}\u{200E}\u{2028}\u{B}a", "ident a 9..10; "));
+fn reads_characters(rt: HostRuntime) {
+    all_read(
+        &rt,
+        &[
+            ("'a'", "literal 'a' 0..3; "),
+            ("b'x'u8", "literal b'x'u8 0..6; "),
+            ("b'\\xFF'", "literal b'\\xFF' 0..7; "),
+            ("'\\u{1F600}'", "literal '\\u{1F600}' 0..11; "),
+        ],
+    );
 }
 
 #[test]
-fn groups(rt: HostRuntime) -> Result<(), Fail> {
-    assert_eq!(rt; refused(&rt, "("), Some((2, 0)));
-    assert_eq!(rt; refused(&rt, "(]"), Some((3, 1)));
-    assert_eq!(rt; refused(&rt, ")"), Some((3, 0)));
-    assert_eq!(rt; refused(&rt, "{ ["), Some((2, 2)));
-    assert!(rt;
-        reads(
-            &rt,
+fn reads_strings(rt: HostRuntime) {
+    all_read(
+        &rt,
+        &[
+            ("a\"x\"", "ident a 0..1; literal \"x\" 1..4; "),
+            ("\"x\"_", "literal \"x\"_ 0..4; "),
+            ("\"\\x7F\"", "literal \"\\x7F\" 0..6; "),
+            ("\"\\u{4_1_}\"", "literal \"\\u{4_1_}\" 0..10; "),
+            ("\"a\\\n b\"", "literal \"a\\\n b\" 0..7; "),
+            ("\"\\\r\n\"", "literal \"\\\r\n\" 0..5; "),
+        ],
+    );
+}
+
+#[test]
+fn refuses_raw_byte_and_c_strings(rt: HostRuntime) {
+    all_refused(
+        &rt,
+        &[
+            ("b\"x\"", 7, 0),
+            ("r#\"x\"#", 7, 0),
+            ("r#\"", 7, 0),
+            ("c\"", 7, 0),
+            ("br##\"", 7, 0),
+            ("cr\"", 7, 0),
+        ],
+    );
+}
+
+#[test]
+fn refuses_unclosed_quotes(rt: HostRuntime) {
+    all_refused(
+        &rt,
+        &[
+            ("'ab'", 11, 3),
+            ("\"a\\", 6, 0),
+            ("\"a", 6, 0),
+            ("'\\", 6, 0),
+            ("b'", 6, 0),
+        ],
+    );
+}
+
+#[test]
+fn refuses_escapes(rt: HostRuntime) {
+    all_refused(
+        &rt,
+        &[
+            ("b'é'", 6, 0),
+            ("\"\\x80\"", 6, 0),
+            ("'\\xFF'", 6, 0),
+            ("b'\\u{41}'", 6, 0),
+            ("'\\u{D800}'", 6, 0),
+            ("'\\u{0000041}'", 6, 0),
+            ("\"\\u{_4}\"", 6, 0),
+            ("\"\\\r\"", 6, 0),
+            ("'\\\n'", 6, 0),
+        ],
+    );
+}
+
+#[test]
+fn reads_words(rt: HostRuntime) {
+    all_read(
+        &rt,
+        &[
+            ("é", "ident é 0..2; "),
+            ("r#a", "ident r#a 0..3; "),
+            ("_", "ident _ 0..1; "),
+            ("r#1", "ident r 0..1; alone # 1..2; literal 1 2..3; "),
+            ("r#selfish", "ident r#selfish 0..9; "),
+            ("'a", "joint ' 0..1; ident a 1..2; "),
+            ("'r#a", "joint ' 0..1; ident r#a 1..4; "),
+            (
+                "'static 'x",
+                "joint ' 0..1; ident static 1..7; joint ' 8..9; ident x 9..10; ",
+            ),
+        ],
+    );
+}
+
+#[test]
+fn refuses_words(rt: HostRuntime) {
+    all_refused(
+        &rt,
+        &[
+            ("r#self", 10, 0),
+            ("a r#_", 10, 2),
+            ("'r#self", 10, 0),
+            ("' a", 11, 0),
+            ("\u{0}", 1, 0),
+        ],
+    );
+}
+
+#[test]
+fn skips_comments_and_white_space(rt: HostRuntime) {
+    all_read(
+        &rt,
+        &[
+            ("////", ""),
+            ("/**/", ""),
+            ("/***/", ""),
+            ("// x\na", "ident a 5..6; "),
+            ("/* /* */ */a", "ident a 11..12; "),
+            ("\u{FEFF}a", "ident a 3..4; "),
+            ("\u{85}\u{200E}\u{2028}\u{B}a", "ident a 9..10; "),
+        ],
+    );
+}
+
+#[test]
+fn reads_puncts(rt: HostRuntime) {
+    all_read(
+        &rt,
+        &[
+            ("=//", "alone = 0..1; "),
+            ("+=", "joint + 0..1; alone = 1..2; "),
+            ("+'a", "joint + 0..1; joint ' 1..2; ident a 2..3; "),
+            ("+'x'", "joint + 0..1; literal 'x' 1..4; "),
+        ],
+    );
+}
+
+#[test]
+fn refuses_comments(rt: HostRuntime) {
+    all_refused(
+        &rt,
+        &[
+            ("///", 5, 0),
+            ("//!", 5, 0),
+            ("/*!*/", 5, 0),
+            ("/** x */", 5, 0),
+            ("/** x", 4, 0),
+            ("/* /* */", 4, 0),
+            ("é /* /* */", 4, 3),
+            ("a\u{FEFF}", 1, 1),
+        ],
+    );
+}
+
+#[test]
+fn groups(rt: HostRuntime) {
+    all_read(
+        &rt,
+        &[(
             "a (b {c}) d",
-            "ident a 0..1; group b {c} 2..9; ident d 10..11; "
-        )
+            "ident a 0..1; group b {c} 2..9; ident d 10..11; ",
+        )],
     );
-    assert_eq!(rt; refused(&rt, "«"), Some((1, 0)));
-    let mut deep = String::new(rt.alloc());
-    for _ in 0..256 {
-        deep.push('(')?;
+    all_refused(
+        &rt,
+        &[
+            ("(", 2, 0),
+            ("(]", 3, 1),
+            (")", 3, 0),
+            ("{ [", 2, 2),
+            ("«", 1, 0),
+        ],
+    );
+}
+
+fn repeated(alloc: Global, ch: char, count: usize) -> Result<String, AllocError> {
+    let mut text = String::new(alloc);
+    for _ in 0..count {
+        text.push(ch)?;
     }
-    let mut closed = deep.clone()?;
-    for _ in 0..256 {
-        closed.push(')')?;
-    }
-    assert_eq!(rt; refused(&rt, closed.as_str()), None);
-    deep.push('(')?;
-    assert_eq!(rt; refused(&rt, deep.as_str()), Some((12, 256)));
+    Ok(text)
+}
+
+#[test]
+fn limits_levels(rt: HostRuntime) -> Result<(), Fail> {
+    let alloc = rt.alloc();
+    let mut closed = repeated(alloc, '(', 256)?;
+    closed.push_str(repeated(alloc, ')', 256)?.as_str())?;
+    assert!(rt; lex(alloc, 7, closed.as_str()).is_ok());
+    let deep = repeated(alloc, '(', 257)?;
+    assert_eq!(rt; refusal(lex(alloc, 7, deep.as_str())), Some((12, 256)));
+    let brackets = repeated(alloc, '[', 257)?;
+    assert!(rt; says(&rt, brackets.as_str(), 12, "groups nested too deep"));
     Ok(())
 }
 
 #[test]
-fn marks(rt: HostRuntime) {
-    assert!(rt; reads_marked(&rt, "'ab'", "joint ' 0..1; ident ab 1..3; alone ' 3..4; "));
-    assert!(rt; reads_marked(&rt, "' a", "alone ' 0..1; ident a 2..3; "));
-    assert_eq!(rt; refused_marked(&rt, "(«a)"), Some((3, 2)));
-    assert!(rt; reads_marked(&rt, "+«=»", "joint + 0..1; invisible = 1..2; "));
-    assert!(rt; inside(&rt, "«=»", "alone = 0..1; "));
-    assert!(rt;
-        reads_marked(
-            &rt,
-            "a «b c» d",
-            "ident a 0..1; invisible b c 2..5; ident d 6..7; "
-        )
+fn reads_marks(rt: HostRuntime) {
+    all_read_marked(
+        &rt,
+        &[
+            ("'ab'", "joint ' 0..1; ident ab 1..3; alone ' 3..4; "),
+            ("' a", "alone ' 0..1; ident a 2..3; "),
+            ("+«=»", "joint + 0..1; invisible = 1..2; "),
+            (
+                "a «b c» d",
+                "ident a 0..1; invisible b c 2..5; ident d 6..7; ",
+            ),
+            ("'//x", "joint ' 0..1; "),
+            ("=//x", "alone = 0..1; "),
+            ("'«a»", "joint ' 0..1; invisible a 1..2; "),
+        ],
     );
+}
+
+#[test]
+fn reads_what_marks_hold(rt: HostRuntime) {
+    assert!(rt; inside(&rt, "«=»", "alone = 0..1; "));
     assert!(rt;
         inside(
             &rt,
@@ -245,47 +374,56 @@ fn marks(rt: HostRuntime) {
             "ident a 0..1; invisible b 2..3; ident c 4..5; "
         )
     );
-    assert_eq!(rt; refused_marked(&rt, "«("), Some((2, 0)));
-    assert_eq!(rt; refused_marked(&rt, "«"), Some((2, 0)));
-    assert_eq!(rt; refused_marked(&rt, "»"), Some((3, 0)));
-    assert!(rt; reads_marked(&rt, "'//x", "joint ' 0..1; "));
-    assert!(rt; reads_marked(&rt, "=//x", "alone = 0..1; "));
-    assert_eq!(rt; refused_marked(&rt, "'«'»"), Some((3, 4)));
-    assert!(rt; reads_marked(&rt, "'«a»", "joint ' 0..1; invisible a 1..2; "));
-    assert_eq!(rt; refused_marked(&rt, "b'«"), Some((6, 0)));
 }
 
 #[test]
-fn marks_and_tokens(rt: HostRuntime) {
-    assert_eq!(rt; refused_marked(&rt, "1.«x»"), Some((8, 0)));
-    assert_eq!(rt; refused_marked(&rt, "1.«.»"), Some((8, 0)));
-    assert_eq!(rt; refused_marked(&rt, "0x1.«f»"), Some((9, 0)));
-    assert_eq!(rt; refused_marked(&rt, "0x«1»"), Some((9, 0)));
-    assert!(rt; reads_marked(&rt, "1«.»", "literal 1 0..1; invisible . 1..2; "));
-    assert!(rt; reads_marked(&rt, "1«e5»", "literal 1 0..1; invisible e5 1..3; "));
-    assert!(rt;
-        reads_marked(
-            &rt,
-            "r#«a»",
-            "ident r 0..1; alone # 1..2; invisible a 2..3; "
-        )
+fn refuses_marks(rt: HostRuntime) {
+    all_refused_marked(
+        &rt,
+        &[
+            ("(«a)", 3, 2),
+            ("«(", 2, 0),
+            ("«", 2, 0),
+            ("»", 3, 0),
+            ("'«'»", 3, 4),
+            ("b'«", 6, 0),
+        ],
     );
-    assert!(rt; reads_marked(&rt, "/«/»", "joint / 0..1; invisible / 1..2; "));
-    assert!(rt; reads_marked(&rt, "/«*»", "joint / 0..1; invisible * 1..2; "));
-    assert!(rt;
-        reads_marked(
-            &rt,
-            "+«/»/",
-            "joint + 0..1; invisible / 1..2; alone / 2..3; "
-        )
-    );
-    assert_eq!(rt; refused_marked(&rt, "+«//»"), Some((2, 1)));
-    assert!(rt; reads_marked(&rt, "«»\u{FEFF}a", "invisible  0..0; ident a 3..4; "));
-    assert_eq!(rt; refused_marked(&rt, "a«»\u{FEFF}"), Some((1, 1)));
-    assert!(rt; reads_marked(&rt, "// «\n/* » */\"«\"", "literal \"«\" 14..18; "));
 }
 
-fn says(rt: &HostRuntime, text: &str, number: u8, words: &str) -> bool {
+#[test]
+fn reads_tokens_up_to_marks(rt: HostRuntime) {
+    all_read_marked(
+        &rt,
+        &[
+            ("1«.»", "literal 1 0..1; invisible . 1..2; "),
+            ("1«e5»", "literal 1 0..1; invisible e5 1..3; "),
+            ("r#«a»", "ident r 0..1; alone # 1..2; invisible a 2..3; "),
+            ("/«/»", "joint / 0..1; invisible / 1..2; "),
+            ("/«*»", "joint / 0..1; invisible * 1..2; "),
+            ("+«/»/", "joint + 0..1; invisible / 1..2; alone / 2..3; "),
+            ("«»\u{FEFF}a", "invisible  0..0; ident a 3..4; "),
+            ("// «\n/* » */\"«\"", "literal \"«\" 14..18; "),
+        ],
+    );
+}
+
+#[test]
+fn refuses_tokens_up_to_marks(rt: HostRuntime) {
+    all_refused_marked(
+        &rt,
+        &[
+            ("1.«x»", 8, 0),
+            ("1.«.»", 8, 0),
+            ("0x1.«f»", 9, 0),
+            ("0x«1»", 9, 0),
+            ("+«//»", 2, 1),
+            ("a«»\u{FEFF}", 1, 1),
+        ],
+    );
+}
+
+fn says(rt: &impl AllocGlobal, text: &str, number: u8, words: &str) -> bool {
     match lex(rt.alloc(), 7, text) {
         Err(LexFault::Refused(error)) => match format!(in rt.alloc(); "{error}") {
             Ok(shown) => error.number() == number && shown.as_str() == words,
@@ -295,25 +433,39 @@ fn says(rt: &HostRuntime, text: &str, number: u8, words: &str) -> bool {
     }
 }
 
-#[test]
-fn errors(rt: HostRuntime) -> Result<(), Fail> {
-    assert!(rt; says(&rt, "\u{0}", 1, "unknown character"));
-    assert!(rt; says(&rt, "(", 2, "unclosed group"));
-    assert!(rt; says(&rt, ")", 3, "unexpected closing delimiter"));
-    assert!(rt; says(&rt, "/*", 4, "unclosed comment"));
-    assert!(rt; says(&rt, "///", 5, "doc comment"));
-    assert!(rt; says(&rt, "\"", 6, "malformed string or character"));
-    assert!(rt; says(&rt, "b\"", 7, "raw, byte or C string"));
-    assert!(rt; says(&rt, "1.", 8, "float literal"));
-    assert!(rt; says(&rt, "0x", 9, "malformed number"));
-    assert!(rt; says(&rt, "r#self", 10, "raw identifier that does not exist"));
-    assert!(rt; says(&rt, "'", 11, "lone apostrophe"));
-    let mut deep = String::new(rt.alloc());
-    for _ in 0..257 {
-        deep.push('[')?;
+fn all_say(rt: &(impl Abort + AllocGlobal), rows: &[(&str, u8, &str)]) {
+    for (text, number, words) in rows {
+        assert!(rt; says(rt, text, *number, words), "at {text}");
     }
-    assert!(rt; says(&rt, deep.as_str(), 12, "groups nested too deep"));
-    Ok(())
+}
+
+#[test]
+fn words_of_groups_and_comments(rt: HostRuntime) {
+    all_say(
+        &rt,
+        &[
+            ("\u{0}", 1, "unknown character"),
+            ("(", 2, "unclosed group"),
+            (")", 3, "unexpected closing delimiter"),
+            ("/*", 4, "unclosed comment"),
+            ("///", 5, "doc comment"),
+        ],
+    );
+}
+
+#[test]
+fn words_of_tokens(rt: HostRuntime) {
+    all_say(
+        &rt,
+        &[
+            ("\"", 6, "malformed string or character"),
+            ("b\"", 7, "raw, byte or C string"),
+            ("1.", 8, "float literal"),
+            ("0x", 9, "malformed number"),
+            ("r#self", 10, "raw identifier that does not exist"),
+            ("'", 11, "lone apostrophe"),
+        ],
+    );
 }
 
 #[test]

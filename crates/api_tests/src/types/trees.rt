@@ -25,7 +25,7 @@ fn underscore(rt: HostRuntime) {
 }
 
 #[test]
-fn trees(rt: HostRuntime) {
+fn idents_and_lifetimes(rt: HostRuntime) {
     let alloc = rt.alloc();
     all_hold(
         &rt,
@@ -37,6 +37,16 @@ fn trees(rt: HostRuntime) {
             tells::<IdentAny>(alloc, "_", "'a"),
             tells::<Lifetime>(alloc, "'«a»", "' a"),
             tells::<Lifetime>(alloc, "'fn", "a"),
+        ],
+    );
+}
+
+#[test]
+fn trees(rt: HostRuntime) {
+    let alloc = rt.alloc();
+    all_hold(
+        &rt,
+        &[
             tells::<Literal>(alloc, "«1»", "a"),
             tells::<Punct>(alloc, "«+»", "'a"),
             tells::<Group>(alloc, "«»", "a (b)"),
@@ -74,6 +84,15 @@ fn displays(rt: HostRuntime) {
             Group::display() == "group token",
             TokenTree::display() == "token",
             End::display() == "`)`",
+        ],
+    );
+}
+
+#[test]
+fn displays_of_tokens(rt: HostRuntime) {
+    all_hold(
+        &rt,
+        &[
             token::Paren::display() == "parentheses",
             token::Brace::display() == "curly braces",
             token::Bracket::display() == "square brackets",
