@@ -30,27 +30,3 @@ pub fn any_lifetime<'a>(cursor: Cursor<'a>) -> Option<(Span, &'a Ident)>
     let (lifetime, _) = cursor.lifetime()?;
     Some((lifetime.apostrophe, lifetime.ident))
 }
-
-#[cfg(test)]
-mod tests {
-    use super::*;
-    use std::test::Fail;
-    use tok_buffer::TokenBuffer;
-    use tok_core::lex_marked;
-
-    #[test]
-    fn across_edges(rt: HostRuntime) -> Result<(), Fail> {
-        let alloc = rt.alloc();
-        let buffer = TokenBuffer::new2(alloc, 0, lex_marked(alloc, 0, "'«a» b «c» d")?)?;
-        let begin = buffer.begin();
-        let (apostrophe, name) = any_lifetime(begin).ok_or("no lifetime")?;
-        assert_eq!(rt; apostrophe, Span::source(0, 0, 1));
-        assert!(rt; name.as_str() == "a");
-        let behind = begin.skip().ok_or("nothing to skip")?;
-        let (first, second, rest) = pair_of_idents(behind).ok_or("no two identifiers")?;
-        assert!(rt; first.as_str() == "b");
-        assert!(rt; second.as_str() == "c");
-        assert!(rt; pair_of_idents(rest).is_none());
-        Ok(())
-    }
-}

@@ -79,29 +79,3 @@ pub fn written(alloc: Global, list: &Numbers) -> Result<String, AllocError>
     }
     Ok(text)
 }
-
-#[cfg(test)]
-mod tests {
-    use super::*;
-    use std::test::Fail;
-
-    #[test]
-    fn edits_a_list(rt: HostRuntime) -> Result<(), Fail> {
-        let alloc = rt.alloc();
-        let mut list = two_three_four(alloc)?;
-        assert_eq!(rt; total(&list), 9);
-        assert_eq!(rt; written(alloc, &list)?.as_str(), "2,3,4");
-        list.retain(|value| *value != 4);
-        assert_eq!(rt; written(alloc, &list)?.as_str(), "2,3");
-        assert!(rt; !list.trailing_punct());
-        if 1 <= list.len() {
-            raise_first(&mut list);
-            put_seven(&mut list)?;
-        }
-        assert_eq!(rt; list.get(1).copied(), Some(9));
-        assert!(rt; raise_last(&mut list));
-        assert_eq!(rt; list.last().copied(), Some(8));
-        assert!(rt; !raise_last(&mut Punctuated::new(alloc)));
-        Ok(())
-    }
-}

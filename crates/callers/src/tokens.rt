@@ -64,34 +64,3 @@ pub fn write_restricted(tokens: &mut TokenStream) -> Result<(), AllocError>
     token::Pub::default().to_tokens(tokens)?;
     token::Paren::default().surround(tokens, write_crate)
 }
-
-#[cfg(test)]
-mod tests {
-    use super::*;
-    use std::test::Fail;
-    use tok_buffer::TokenBuffer;
-    use tok_core::lex_marked;
-
-    #[test]
-    fn a_token_of_the_callers_own(rt: HostRuntime) -> Result<(), Fail> {
-        let alloc = rt.alloc();
-        let sealed = TokenBuffer::new2(alloc, 0, lex_marked(alloc, 0, "«sealed» trait")?)?;
-        assert!(rt; Sealed::peek(sealed.begin()));
-        assert!(rt; either::<token::Pub, Sealed>(sealed.begin()));
-        assert!(rt; !either::<token::Pub, token::Trait>(sealed.begin()));
-        assert!(rt; !is_restricted(sealed.begin()));
-        Ok(())
-    }
-
-    #[test]
-    fn writes_what_it_looks_for(rt: HostRuntime) -> Result<(), Fail> {
-        let alloc = rt.alloc();
-        let mut tokens = TokenStream::new(alloc);
-        write_restricted(&mut tokens)?;
-        let text = tokens.to_string(alloc)?;
-        assert_eq!(rt; text.as_str(), "pub (crate)");
-        let buffer = TokenBuffer::new2(alloc, 0, tokens)?;
-        assert!(rt; is_restricted(buffer.begin()));
-        Ok(())
-    }
-}

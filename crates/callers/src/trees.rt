@@ -58,17 +58,3 @@ pub fn printed(alloc: Global, stream: &TokenStream) -> Result<String, AllocError
 {
     stream.to_string(alloc)
 }
-
-#[cfg(test)]
-mod tests {
-    use super::*;
-    use std::test::Fail;
-
-    #[test]
-    fn prints_what_was_built(rt: HostRuntime) -> Result<(), Fail> {
-        let alloc = rt.alloc();
-        let stream = by_hand(alloc)?;
-        assert!(rt; printed(alloc, &stream)?.as_str() == "a (b «c») +=");
-        Ok(())
-    }
-}

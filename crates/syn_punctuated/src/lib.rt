@@ -26,6 +26,3 @@ pub use pair::Pair;
 pub use pairs::Pairs;
 pub use pairs_mut::PairsMut;
 pub use punctuated::Punctuated;
-
-#[cfg(test)]
-mod tests;

@@ -81,6 +81,3 @@ fn report(alloc: Global, input: &[u8]) -> Result<Report, Fault>
     let commands = read_commands(alloc, lines)?;
     Ok(replay(alloc, stream, &commands)?)
 }
-
-#[cfg(test)]
-mod tests;

@@ -216,6 +216,3 @@ pub fn replay(
     let verdict = verdict(alloc, &streams)?;
     Ok(Report { lines, verdict })
 }
-
-#[cfg(test)]
-mod tests;

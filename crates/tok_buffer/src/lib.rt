@@ -15,6 +15,3 @@ pub use buffer::TokenBuffer;
 pub use cursor::Cursor;
 pub use error::Error;
 pub use lifetime::{Lifetime, LifetimeFault, LifetimeRef};
-
-#[cfg(test)]
-mod tests;

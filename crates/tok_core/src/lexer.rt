@@ -19,8 +19,6 @@ mod numbers;
 mod prefixes;
 mod rule;
 mod strings;
-#[cfg(test)]
-mod tests;
 mod text;
 mod words;
 

@@ -8,14 +8,10 @@ mod ident;
 pub mod laws;
 mod lexer;
 mod literal;
-#[cfg(test)]
-mod makers;
 mod print;
 mod punct;
 mod span;
 mod stream;
-#[cfg(test)]
-mod tests;
 mod text;
 mod to_tokens;
 mod tt;

@@ -1,14 +1,15 @@
 -- The texts of the tables are ASCII, and those of keywords are identifiers.
-use Rattle.std.proofs.Common.{◌≡◌, ◌∙◌, ◌<◌, sym, ap, subst, refl, ℕ, zero, suc, Bool, true, false, ◌&&◌, cond, List, [], ◌∷◌, get_or, length, inl, inr, arith, eqb-true, encode_utf8_all}
+use Rattle.std.proofs.Common.{◌≡◌, ◌∙◌, ◌<◌, sym, ap, subst, refl, ℕ, zero, suc, Bool, true, false, ◌&&◌, ◌||◌, cond, List, [], ◌∷◌, get_or, length, inl, inr, arith, eqb-true, encode_utf8_all}
 use Rattle.std.specs.Prelude.{codes, nat_lt, slice_index, ◌==◌}
 use Rattle.std.specs.List.{list_all}
+use Rattle.std.specs.Char.{is_ascii_alphabetic, is_ascii_alphanumeric}
 use Rattle.std.specs.Str.{chars, IsUtf8}
 use Rattle.std.proofs.lemmas.Bool.{false≢true, ltb-true}
 use Rattle.std.proofs.lemmas.List.{get_or_past}
 use Rattle.std.proofs.lemmas.Str.{chars-IsAscii, chars-nil, encodes-chars}
-use Rattle.unicode_ident.specs.Ident.{is_xid_start, is_xid_continue}
-use Rattle.unicode_ident.proofs.Computing.{unicode_ident}
-use Rattle.tok_core.specs.Lexical.Words.{IsIdentifier, IsSuffix, is_identifier_start}
+use Rattle.unicode_ident.specs.Ident.{is_xid_continue}
+use Rattle.unicode_ident.proofs.IdentLemmas.{is_xid_start-ascii, is_xid_continue-ascii}
+use Rattle.tok_core.specs.Lexical.Words.{IsIdentifier, IsSuffix}
 use Rattle.tok_core.specs.declared.span.Span.{Span}
 use Rattle.tok_core.specs.Forest.{no_trees}
 use Rattle.tok_types.specs.Printed.{word}
@@ -41,22 +42,41 @@ ascii_at (c ∷ t) h (suc i) = ascii_at t (both (nat_lt c 128) (is_ascii t) h).1
 ascii_chars : (t : List ℕ) → is_ascii t ≡ true → chars t ≡ t
 ascii_chars t h = chars-IsAscii t (ascii_at t h)
 
--- a plain identifier
+-- a plain identifier of ASCII
+abbrev is_ascii_continue : ℕ → Bool
+is_ascii_continue c = is_ascii_alphanumeric c || (c == 95)
+
 abbrev is_word : List ℕ → Bool
 is_word [] = false
-is_word (c ∷ cs) = is_identifier_start c && list_all is_xid_continue cs
+is_word (c ∷ cs) = (is_ascii_alphabetic c || (c == 95)) && list_all is_ascii_continue cs
 
-told : (t : List ℕ) → is_word t ≡ true → IsIdentifier t
-told [] h = absurd (false≢true h)
-told (c ∷ cs) h = both (is_identifier_start c) (list_all is_xid_continue cs) h
+and : (a b : Bool) → a ≡ true → b ≡ true → (a && b) ≡ true
+and true b ha hb = hb
+and false b ha hb = absurd (false≢true ha)
+
+continues : (cs : List ℕ) → is_ascii cs ≡ true → list_all is_ascii_continue cs ≡ true → list_all is_xid_continue cs ≡ true
+continues [] a h = refl
+continues (c ∷ cs) a h =
+    let ascii = both (nat_lt c 128) (is_ascii cs) a in
+    let parts = both (is_ascii_continue c) (list_all is_ascii_continue cs) h in
+    and (is_xid_continue c) (list_all is_xid_continue cs) (is_xid_continue-ascii c (ltb-true c 128 ascii.0) ∙ parts.0) (continues cs ascii.1 parts.1)
+
+told : (t : List ℕ) → is_ascii t ≡ true → is_word t ≡ true → IsIdentifier t
+told [] a h = absurd (false≢true h)
+told (c ∷ cs) a h =
+    let ascii = both (nat_lt c 128) (is_ascii cs) a in
+    let parts = both (is_ascii_alphabetic c || (c == 95)) (list_all is_ascii_continue cs) h in
+    (ap (λ b. b || (c == 95)) (is_xid_start-ascii c (ltb-true c 128 ascii.0)) ∙ parts.0, continues cs ascii.1 parts.1)
+
+word-chars : (t : List ℕ) → is_ascii t ≡ true → is_word t ≡ true → IsIdentifier (chars t)
+word-chars t a h = subst IsIdentifier (sym (ascii_chars t a)) (told t a h)
 
 keywords-are-words : list_all is_word keywords ≡ true
-unfolding is_xid_start is_xid_continue unicode_ident
 keywords-are-words = refl
 
 -- the text of a keyword of the table
 pub keyword-identifier : (k : ℕ) → k < 54 → IsIdentifier (chars (keyword_text k))
-keyword-identifier k h = subst IsIdentifier (sym (ascii_chars (keyword_text k) (of_each is_ascii keywords k refl refl))) (told (keyword_text k) (of_each_in is_word keywords k h keywords-are-words))
+keyword-identifier k h = word-chars (keyword_text k) (of_each is_ascii keywords k refl refl) (of_each_in is_word keywords k h keywords-are-words)
 
 -- and the text of any number
 pub keyword-suffix : (k : ℕ) → IsSuffix (chars (keyword_text k))
@@ -79,8 +99,7 @@ word-empty [] span h = refl
 word-empty (c ∷ cs) span h = absurd (omega (arith, eqb-true (length (c ∷ cs)) 0 h))
 
 pub underscore-identifier : IsIdentifier (chars (codes "_"))
-unfolding is_xid_start unicode_ident
-underscore-identifier = subst IsIdentifier (sym (ascii_chars (codes "_") refl)) (refl, refl)
+underscore-identifier = word-chars (codes "_") refl refl
 
 chosen : (b : Bool) (t : List ℕ) → is_ascii t ≡ true → is_ascii (cond b t []) ≡ true
 chosen true t h = h

@@ -3,10 +3,10 @@
 ghost use Rattle.std.specs.Prelude.{◌≡◌};
 
 use super::{Mark, Numbers, numbers, shown};
-use crate::{Pair, PairsFault, Punctuated};
 use std::alloc::{AllocError, Global};
 use std::process::Abort;
 use std::test::Fail;
+use syn_punctuated::{Pair, PairsFault, Punctuated};
 
 /// A value that is not cloned where it is 13.
 #[derive(Debug, Drop, PartialEq, Eq)]
@@ -43,7 +43,7 @@ fn check(
 }
 
 #[test]
-fn leaves_all_as_before(rt: HostRuntime) -> Result<(), Fail> {
+fn pushes_or_leaves_all_as_before(rt: HostRuntime) -> Result<(), Fail> {
     let alloc = rt.alloc();
     let mut list = full(alloc, "2,3")?;
     let done = list.push(4).is_ok();
@@ -52,7 +52,12 @@ fn leaves_all_as_before(rt: HostRuntime) -> Result<(), Fail> {
     let mut list = full(alloc, "2,3,")?;
     let done = list.push(4).is_ok();
     check(&rt, alloc, &list, done, "2,3,4", "2,3,")?;
+    Ok(())
+}
 
+#[test]
+fn pushes_parts_or_leaves_all_as_before(rt: HostRuntime) -> Result<(), Fail> {
+    let alloc = rt.alloc();
     let mut list = full(alloc, "2,")?;
     if list.empty_or_trailing() {
         let done = list.push_value(3).is_ok();
@@ -64,11 +69,21 @@ fn leaves_all_as_before(rt: HostRuntime) -> Result<(), Fail> {
         let done = list.push_punct(Mark(';')).is_ok();
         check(&rt, alloc, &list, done, "2,3;", "2,3")?;
     }
+    Ok(())
+}
 
+#[test]
+fn takes_a_separator_or_leaves_all_as_before(rt: HostRuntime) -> Result<(), Fail> {
+    let alloc = rt.alloc();
     let mut list = full(alloc, "2,3,")?;
     let done = list.pop_punct().is_ok();
     check(&rt, alloc, &list, done, "2,3", "2,3,")?;
+    Ok(())
+}
 
+#[test]
+fn inserts_or_leaves_all_as_before(rt: HostRuntime) -> Result<(), Fail> {
+    let alloc = rt.alloc();
     let mut list = full(alloc, "2,3")?;
     if 1 <= list.len() {
         let done = list.insert(1, 9).is_ok();
@@ -84,14 +99,19 @@ fn leaves_all_as_before(rt: HostRuntime) -> Result<(), Fail> {
 }
 
 #[test]
-fn keeps_what_came_before(rt: HostRuntime) -> Result<(), Fail> {
+fn keeps_values_that_came_before(rt: HostRuntime) -> Result<(), Fail> {
     let alloc = rt.alloc();
     let mut list = full(alloc, "1,2")?;
     let done = list.extend_values([3, 4, 5, 6, 7, 8]).is_ok();
     let text = shown(alloc, &list)?;
     assert!(rt; "1,2d3d4d5d6d7d8".starts_with(text.as_str()));
     assert_eq!(rt; done, list.len() == 8);
+    Ok(())
+}
 
+#[test]
+fn keeps_pairs_that_came_before(rt: HostRuntime) -> Result<(), Fail> {
+    let alloc = rt.alloc();
     let mut list = full(alloc, "1,2")?;
     let more = numbers(alloc, "3,4,5,6,7,8")?;
     match list.extend_pairs(more.into_pairs()) {
@@ -117,10 +137,22 @@ fn makes_nothing_or_all(rt: HostRuntime) -> Result<(), Fail> {
         Ok(list) => assert_eq!(rt; shown(alloc, &list)?.as_str(), "1,2,3,4,5,6"),
         Err(fault) => assert_eq!(rt; fault, PairsFault::Memory),
     }
+    Ok(())
+}
+
+#[test]
+fn clones_nothing_or_all(rt: HostRuntime) -> Result<(), Fail> {
+    let alloc = rt.alloc();
     let list = numbers(alloc, "1,2,3")?;
     if let Ok(copy) = list.clone() {
         assert!(rt; copy == list);
     }
+    Ok(())
+}
+
+#[test]
+fn clones_iterators_or_nothing(rt: HostRuntime) -> Result<(), Fail> {
+    let list = numbers(rt.alloc(), "1,2,3")?;
     let mut pairs = list.clone()?.into_pairs();
     if let Ok(mut copy) = pairs.clone() {
         assert_eq!(rt; copy.next_back(), Some(Pair::End(3)));

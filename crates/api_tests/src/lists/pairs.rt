@@ -1,7 +1,7 @@
 //! The calls of `Pair`.
 use super::Mark;
-use crate::Pair;
 use std::test::Fail;
+use syn_punctuated::Pair;
 
 fn twice<T: Copy>(value: T) -> (T, T) {
     (value, value)
@@ -21,7 +21,11 @@ fn reads_and_writes_its_parts(rt: HostRuntime) -> Result<(), Fail> {
     assert_eq!(rt; left.into_value(), 3);
     assert_eq!(rt; right.into_tuple(), (3, Some(Mark(';'))));
     assert_eq!(rt; pair.clone()?, pair);
+    Ok(())
+}
 
+#[test]
+fn has_no_separator_at_the_end(rt: HostRuntime) -> Result<(), Fail> {
     let mut end = Pair::new(4, None);
     *end.value_mut() = 5;
     assert!(rt; end.punct_mut().is_none());

@@ -4,15 +4,13 @@ mod keywords;
 mod punctuations;
 mod trees;
 
-use crate::look::Token;
-use crate::token;
-use crate::token::printing;
 use std::alloc::{AllocError, Global};
 use std::hash::{DefaultHasher, Hash, Hasher};
 use std::process::Abort;
 use std::test::Fail;
 use tok_buffer::{Cursor, TokenBuffer};
 use tok_core::{Ident, Span, ToTokens, TokenStream, TokenTree, lex_marked};
+use tok_types::token::{self, Token, printing};
 
 // That each of these holds.
 fn all_hold(rt: &impl Abort, facts: &[bool]) {
@@ -59,8 +57,7 @@ fn at(start: usize) -> Span {
 }
 
 #[test]
-fn numbers_past_a_table(rt: HostRuntime) -> Result<(), Fail> {
-    let alloc = rt.alloc();
+fn texts_past_a_table(rt: HostRuntime) {
     all_hold(
         &rt,
         &[
@@ -68,16 +65,37 @@ fn numbers_past_a_table(rt: HostRuntime) -> Result<(), Fail> {
             token::keyword_display(54) == "``",
             token::punctuation_text(46).is_empty(),
             token::punctuation_display(46) == "``",
+        ],
+    );
+}
+
+#[test]
+fn tokens_past_a_table(rt: HostRuntime) -> Result<(), Fail> {
+    let alloc = rt.alloc();
+    all_hold(
+        &rt,
+        &[
             token::Keyword::<54>::display() == "``",
             found_in::<token::Keyword<54>>(alloc, "a") == Some(false),
             found_in::<token::Keyword<54>>(alloc, "") == Some(false),
             written(alloc, &token::Keyword::<54>::default())?.is_empty(),
+            token::Punctuation::<46, 0>::display() == "``",
+            found_in::<token::Punctuation<46, 0>>(alloc, "+") == Some(false),
+        ],
+    );
+    Ok(())
+}
+
+#[test]
+fn punctuations_of_another_length(rt: HostRuntime) -> Result<(), Fail> {
+    let alloc = rt.alloc();
+    all_hold(
+        &rt,
+        &[
             token::Punctuation::<7, 2>::display() == "``",
             found_in::<token::Punctuation<7, 2>>(alloc, ",") == Some(false),
             found_in::<token::Punctuation<7, 2>>(alloc, "") == Some(false),
             written(alloc, &token::Punctuation::<7, 2>::default())?.is_empty(),
-            token::Punctuation::<46, 0>::display() == "``",
-            found_in::<token::Punctuation<46, 0>>(alloc, "+") == Some(false),
         ],
     );
     Ok(())

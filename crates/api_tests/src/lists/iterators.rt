@@ -3,8 +3,8 @@ ghost use Rattle.std.specs.Prelude.{◌≡◌, length};
 ghost use Rattle.syn_punctuated.specs.Lists.{values_of};
 
 use super::{Mark, numbers, shown};
-use crate::{Pair, Punctuated};
 use std::test::Fail;
+use syn_punctuated::{Pair, Punctuated};
 
 /// How many items are left, by both counts.
 fn counts<I: ExactSizeIterator>(items: &I) -> (usize, (usize, Option<usize>)) {
@@ -26,24 +26,36 @@ fn last<I: DoubleEndedIterator>(items: &mut I) -> Option<I::Item>
 }
 
 #[test]
-fn gives_values_from_both_ends(rt: HostRuntime) -> Result<(), Fail> {
-    let alloc = rt.alloc();
-    let mut list = numbers(alloc, "2,3;4")?;
+fn lends_values_from_both_ends(rt: HostRuntime) -> Result<(), Fail> {
+    let list = numbers(rt.alloc(), "2,3;4")?;
     assert_eq!(rt; count(&list), 3);
     let mut lent = list.iter();
     assert_eq!(rt; lent.next().copied(), Some(2));
     assert_eq!(rt; lent.next_back().copied(), Some(4));
     assert_eq!(rt; lent.len(), 1);
-    let mut again = lent.clone()?;
+    let again = lent.clone()?;
     assert_eq!(rt; lent.next().copied(), Some(3));
     assert_eq!(rt; lent.next().copied(), None);
     assert_eq!(rt; lent.next_back().copied(), None);
     assert_eq!(rt; counts(&again), (1, (1, Some(1))));
-    assert_eq!(rt; again.next_back().copied(), Some(3));
+    Ok(())
+}
 
-    for value in &mut list {
-        *value = value.saturating_add(1);
-    }
+#[test]
+fn copies_lent_values(rt: HostRuntime) -> Result<(), Fail> {
+    let list = numbers(rt.alloc(), "2,3")?;
+    let mut lent = list.iter();
+    assert_eq!(rt; lent.next().copied(), Some(2));
+    let mut again = lent.clone()?;
+    assert_eq!(rt; lent.next().copied(), Some(3));
+    assert_eq!(rt; again.next_back().copied(), Some(3));
+    Ok(())
+}
+
+#[test]
+fn lends_values_to_write(rt: HostRuntime) -> Result<(), Fail> {
+    let alloc = rt.alloc();
+    let mut list = numbers(alloc, "2,3;4")?;
     let mut written = list.iter_mut();
     assert_eq!(rt; counts(&written), (3, (3, Some(3))));
     if let Some(value) = written.next_back() {
@@ -53,15 +65,27 @@ fn gives_values_from_both_ends(rt: HostRuntime) -> Result<(), Fail> {
         *value = 7;
     }
     assert_eq!(rt; written.len(), 1);
-    assert_eq!(rt; shown(alloc, &list)?.as_str(), "7,4;9");
+    assert_eq!(rt; shown(alloc, &list)?.as_str(), "7,3;9");
+    Ok(())
+}
 
+#[test]
+fn goes_over_values(rt: HostRuntime) -> Result<(), Fail> {
+    let mut list = numbers(rt.alloc(), "2,3;4")?;
+    for value in &mut list {
+        *value = value.saturating_add(1);
+    }
     let mut total = 0u32;
     for value in &list {
         total = total.saturating_add(*value);
     }
-    assert_eq!(rt; total, 20);
+    assert_eq!(rt; total, 12);
+    Ok(())
+}
 
-    let mut owned = list.into_iter();
+#[test]
+fn gives_values_from_both_ends(rt: HostRuntime) -> Result<(), Fail> {
+    let mut owned = numbers(rt.alloc(), "7,4;9")?.into_iter();
     assert_eq!(rt; counts(&owned), (3, (3, Some(3))));
     assert_eq!(rt; owned.next(), Some(7));
     assert_eq!(rt; last(&mut owned), Some(9));
@@ -74,9 +98,8 @@ fn gives_values_from_both_ends(rt: HostRuntime) -> Result<(), Fail> {
 }
 
 #[test]
-fn gives_pairs_from_both_ends(rt: HostRuntime) -> Result<(), Fail> {
-    let alloc = rt.alloc();
-    let mut list = numbers(alloc, "2,3;4")?;
+fn lends_pairs_from_both_ends(rt: HostRuntime) -> Result<(), Fail> {
+    let list = numbers(rt.alloc(), "2,3;4")?;
     let mut lent = list.pairs();
     assert_eq!(rt; counts(&lent), (3, (3, Some(3))));
     let again = lent.clone()?;
@@ -90,7 +113,13 @@ fn gives_pairs_from_both_ends(rt: HostRuntime) -> Result<(), Fail> {
     }
     assert_eq!(rt; lent.len(), 1);
     assert_eq!(rt; again.len(), 3);
+    Ok(())
+}
 
+#[test]
+fn lends_pairs_to_write(rt: HostRuntime) -> Result<(), Fail> {
+    let alloc = rt.alloc();
+    let mut list = numbers(alloc, "2,3;4")?;
     let mut written = list.pairs_mut();
     assert_eq!(rt; counts(&written), (3, (3, Some(3))));
     match written.next() {
@@ -106,8 +135,12 @@ fn gives_pairs_from_both_ends(rt: HostRuntime) -> Result<(), Fail> {
     }
     assert_eq!(rt; written.len(), 1);
     assert_eq!(rt; shown(alloc, &list)?.as_str(), "5+3;6");
+    Ok(())
+}
 
-    let mut owned = list.into_pairs();
+#[test]
+fn gives_pairs_from_both_ends(rt: HostRuntime) -> Result<(), Fail> {
+    let mut owned = numbers(rt.alloc(), "5+3;6")?.into_pairs();
     assert_eq!(rt; counts(&owned), (3, (3, Some(3))));
     let mut copy = owned.clone()?;
     assert_eq!(rt; owned.next(), Some(Pair::Punctuated(5, Mark('+'))));

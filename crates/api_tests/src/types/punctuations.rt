@@ -1,9 +1,9 @@
 // Each punctuation of the table.
 use super::{all_hold, is_token};
-use crate::token;
 use std::alloc::Global;
 use std::process::Abort;
 use std::test::Fail;
+use tok_types::token;
 
 // The table, by number.
 const MARKS: [&str; 46] = [

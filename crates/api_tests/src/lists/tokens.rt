@@ -2,9 +2,9 @@
 ghost use Rattle.tok_core.specs.Forest.{no_trees, tree};
 ghost use Rattle.tok_core.specs.Seen.{group_of};
 
-use crate::{Pair, Punctuated};
 use std::alloc::{AllocError, Global};
 use std::test::Fail;
+use syn_punctuated::{Pair, Punctuated};
 use tok_core::{Delimiter, Group, Span, ToTokens, TokenStream};
 
 /// A group that finds no memory where it is invisible.

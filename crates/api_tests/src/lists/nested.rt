@@ -1,7 +1,7 @@
 //! A type that holds lists of itself, with derives and a recursion over it.
-use crate::Punctuated;
 use std::alloc::{AllocError, Global};
 use std::test::Fail;
+use syn_punctuated::Punctuated;
 
 #[cycle(arguments)]
 #[derive(Drop, Debug, PartialEq, Eq)]

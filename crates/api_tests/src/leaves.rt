@@ -1,9 +1,6 @@
 // What the makers of leaves take and refuse.
-use crate::ident::{Ident, MakeFault};
-use crate::literal::Literal;
-use crate::punct::{Punct, Spacing};
-use crate::span::Span;
 use std::test::Fail;
+use tok_core::{Ident, Literal, MakeFault, Punct, Spacing, Span};
 
 fn made(rt: &HostRuntime, text: &str, wanted: &str) -> bool {
     match Ident::new(rt.alloc(), text, Span::source(1, 2, 4)) {
@@ -42,6 +39,10 @@ fn idents(rt: HostRuntime) {
     assert!(rt; refused(&rt, "1a"));
     assert!(rt; refused(&rt, "r#a"));
     assert!(rt; refused(&rt, "a b"));
+}
+
+#[test]
+fn raw_idents(rt: HostRuntime) {
     assert!(rt; made_raw(&rt, "a", "r#a"));
     assert!(rt; made_raw(&rt, "selfish", "r#selfish"));
     for text in ["_", "self", "Self", "super", "crate", "r#a", ""] {

@@ -1,12 +1,11 @@
 // Looks at trees, lifetimes, delimiters and the end.
 use super::{all_hold, found_in, is_token};
-use crate::look::Token;
-use crate::token;
-use crate::trees::{End, IdentAny};
 use std::alloc::Global;
 use std::process::Abort;
 use tok_buffer::Lifetime;
 use tok_core::{Group, Ident, Literal, Punct, TokenTree};
+use tok_types::token::{self, Token};
+use tok_types::{End, IdentAny};
 
 // Whether a token is found in front of the first text and not of the second.
 fn tells<T: Token>(alloc: Global, here: &str, not_here: &str) -> bool {
@@ -26,7 +25,7 @@ fn underscore(rt: HostRuntime) {
 }
 
 #[test]
-fn trees(rt: HostRuntime) {
+fn idents_and_lifetimes(rt: HostRuntime) {
     let alloc = rt.alloc();
     all_hold(
         &rt,
@@ -38,6 +37,16 @@ fn trees(rt: HostRuntime) {
             tells::<IdentAny>(alloc, "_", "'a"),
             tells::<Lifetime>(alloc, "'«a»", "' a"),
             tells::<Lifetime>(alloc, "'fn", "a"),
+        ],
+    );
+}
+
+#[test]
+fn trees(rt: HostRuntime) {
+    let alloc = rt.alloc();
+    all_hold(
+        &rt,
+        &[
             tells::<Literal>(alloc, "«1»", "a"),
             tells::<Punct>(alloc, "«+»", "'a"),
             tells::<Group>(alloc, "«»", "a (b)"),
@@ -75,6 +84,15 @@ fn displays(rt: HostRuntime) {
             Group::display() == "group token",
             TokenTree::display() == "token",
             End::display() == "`)`",
+        ],
+    );
+}
+
+#[test]
+fn displays_of_tokens(rt: HostRuntime) {
+    all_hold(
+        &rt,
+        &[
             token::Paren::display() == "parentheses",
             token::Brace::display() == "curly braces",
             token::Bracket::display() == "square brackets",

@@ -1,10 +1,10 @@
 // What the program prints for the worked inputs.
-use super::*;
-use std::io;
-use std::io::{Error, ErrorKind};
+use std::alloc::{AllocError, AllocGlobal, Global};
+use std::io::{self, Error, ErrorKind, Read, Write};
 use std::process::Abort;
 use std::str::from_utf8;
 use std::test::Fail;
+use syn_tokens::serve;
 
 // Runs the program in memory, and wants this output and status.
 fn wants(
@@ -51,6 +51,15 @@ fn replays(rt: HostRuntime) -> Result<(), Fail> {
             "entered 1 ( 0..5 @4\nread a 1..2 @2\ndone @2\nrefused 3..4 unexpected token, expected `)`\n",
             1,
         ),
+    ] {
+        wants(&rt, input.as_bytes(), output, status)?;
+    }
+    Ok(())
+}
+
+#[test]
+fn closes_and_tells_spans(rt: HostRuntime) -> Result<(), Fail> {
+    for (input, output, status) in [
         (
             "(a «b»)\n---\nenter 0 (\nparse 1 Ident\nclose 1\n",
             "entered 1 ( 0..5 @6\nread a 1..2 @2\ndone @2\nrefused 3..4 unexpected token\n",
@@ -102,6 +111,17 @@ fn reads_commands(rt: HostRuntime) -> Result<(), Fail> {
     Ok(())
 }
 
+// Refuses commands after a text, at the line of this number.
+fn wants_unreadable_commands(
+    rt: &(impl Abort + AllocGlobal),
+    commands: &str,
+    number: usize,
+) -> Result<(), Fail> {
+    let input = format!(in rt.alloc(); "a\n---\n{commands}")?;
+    let what = format!(in rt.alloc(); "command {number}")?;
+    wants_unreadable(rt, input.as_bytes(), what.as_str())
+}
+
 #[test]
 fn refuses_commands(rt: HostRuntime) -> Result<(), Fail> {
     for (commands, number) in [
@@ -113,17 +133,24 @@ fn refuses_commands(rt: HostRuntime) -> Result<(), Fail> {
         ("empty\t0\n", 1),
         ("empty 0\r\n", 1),
         ("Empty 0\n", 1),
+        ("close 0\npeek 0\npeek 0", 2),
+    ] {
+        wants_unreadable_commands(&rt, commands, number)?;
+    }
+    Ok(())
+}
+
+#[test]
+fn refuses_words_of_commands(rt: HostRuntime) -> Result<(), Fail> {
+    for (commands, number) in [
         ("parse 0\n", 1),
         ("parse 0 ident\n", 1),
         ("parse 0 Ident Ident\n", 1),
         ("enter 0 «\n", 1),
         ("enter 0 ((\n", 1),
-        ("close 0\npeek 0\npeek 0", 2),
         ("span 0 0\n", 1),
     ] {
-        let input = format!(in rt.alloc(); "a\n---\n{commands}")?;
-        let what = format!(in rt.alloc(); "command {number}")?;
-        wants_unreadable(&rt, input.as_bytes(), what.as_str())?;
+        wants_unreadable_commands(&rt, commands, number)?;
     }
     Ok(())
 }

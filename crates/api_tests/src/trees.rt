@@ -1,17 +1,11 @@
 // What trees and streams answer, on values made by hand.
-use crate::erase::{is_clear, is_filled, same_visible};
-use crate::group::{Delimiter, Group};
-use crate::ident::Ident;
-use crate::lexer::lex_marked;
-use crate::literal::Literal;
-use crate::punct::{Punct, Spacing};
-use crate::span::{DelimSpan, Span};
-use crate::stream::{TokenStream, TokenTree};
-use crate::to_tokens::ToTokens;
-use crate::tt::{TokenStreamHelper, TokenTreeHelper};
 use std::alloc::Global;
 use std::hash::{DefaultHasher, Hash, Hasher};
 use std::test::Fail;
+use tok_core::{
+    DelimSpan, Delimiter, Group, Ident, Literal, Punct, Spacing, Span, ToTokens, TokenStream,
+    TokenStreamHelper, TokenTree, TokenTreeHelper, is_clear, is_filled, lex_marked, same_visible,
+};
 
 fn name(alloc: Global, text: &str, start: usize) -> Result<TokenTree, Fail> {
     let end = start.saturating_add(text.len());
@@ -40,7 +34,7 @@ fn hash_of<T: Hash>(value: &T) -> u64 {
 }
 
 #[test]
-fn spans(rt: HostRuntime) {
+fn joins_spans(rt: HostRuntime) {
     let left = Span::source(1, 0, 2);
     let right = Span::source(1, 5, 6);
     assert_eq!(rt; left.join(right), Some(Span::source(1, 0, 6)));
@@ -50,6 +44,10 @@ fn spans(rt: HostRuntime) {
     assert_eq!(rt; Span::call_site().join(left), None);
     assert_eq!(rt; left.as_range(), Some((1, 0, 2)));
     assert_eq!(rt; Span::call_site().as_range(), None);
+}
+
+#[test]
+fn spans_of_delimiters(rt: HostRuntime) {
     let span = DelimSpan::new(Span::source(0, 4, 10));
     assert_eq!(rt; span.open(), Span::source(0, 4, 5));
     assert_eq!(rt; span.close(), Span::source(0, 9, 10));
@@ -92,7 +90,7 @@ fn printed(rt: HostRuntime) -> Result<(), Fail> {
 }
 
 #[test]
-fn edges(rt: HostRuntime) -> Result<(), Fail> {
+fn compares_what_is_visible(rt: HostRuntime) -> Result<(), Fail> {
     let alloc = rt.alloc();
     let plain = read(alloc, "a")?;
     let hollow = read(alloc, "a «»")?;
@@ -108,7 +106,13 @@ fn edges(rt: HostRuntime) -> Result<(), Fail> {
     assert!(rt; !same_visible(alloc, &read(alloc, "(a)")?, &read(alloc, "[a]")?)?);
     assert!(rt; !same_visible(alloc, &read(alloc, "a b")?, &plain)?);
     assert!(rt; !same_visible(alloc, &read(alloc, "+=")?, &read(alloc, "+ =")?)?);
-    assert!(rt; !is_filled(&hollow));
+    Ok(())
+}
+
+#[test]
+fn tells_filled_and_clear(rt: HostRuntime) -> Result<(), Fail> {
+    let alloc = rt.alloc();
+    assert!(rt; !is_filled(&read(alloc, "a «»")?));
     assert!(rt; !is_filled(&read(alloc, "(«()» «»)")?));
     assert!(rt; is_filled(&read(alloc, "(«()» ««a»»)")?));
     assert!(rt; is_filled(&TokenStream::new(alloc)));

@@ -1,9 +1,7 @@
 // Streams built by hand.
-use crate::command::{Command, Kind};
-use crate::report::{Answer, Position, Verdict};
-use crate::session::replay;
 use std::alloc::Global;
 use std::test::Fail;
+use syn_tokens::{Answer, Command, Kind, Position, Verdict, replay};
 use tok_core::{Delimiter, Group, Ident, Span, TokenStream, TokenTree};
 
 // Groups around `a`, visible and invisible by turns, the outermost visible.

@@ -6,10 +6,10 @@ mod nested;
 mod pairs;
 mod tokens;
 
-use crate::{Pair, PairsFault, Punctuated};
 use std::alloc::{AllocError, Global};
 use std::collections::HashSet;
 use std::test::Fail;
+use syn_punctuated::{Pair, PairsFault, Punctuated};
 
 #[derive(Clone, Copy, Debug, PartialEq, Eq, Hash)]
 struct Mark(char);
@@ -91,7 +91,7 @@ fn shows_each_value_to_the_predicate_once(rt: HostRuntime) -> Result<(), Fail> {
 }
 
 #[test]
-fn edits_as_the_rows_say(rt: HostRuntime) -> Result<(), Fail> {
+fn retains_inserts_and_extends(rt: HostRuntime) -> Result<(), Fail> {
     let alloc = rt.alloc();
     let mut list = numbers(alloc, "2d3d4")?;
     list.retain(|value| *value != 4);
@@ -104,13 +104,23 @@ fn edits_as_the_rows_say(rt: HostRuntime) -> Result<(), Fail> {
     list.extend_pairs(Numbers::new(alloc).into_pairs())?;
     assert_eq!(rt; shown(alloc, &list)?.as_str(), "2d9d3d");
     assert!(rt; list.trailing_punct());
+    Ok(())
+}
 
+#[test]
+fn inserts_at_the_end(rt: HostRuntime) -> Result<(), Fail> {
+    let alloc = rt.alloc();
     let mut end = numbers(alloc, "2,3")?;
     if 2 <= end.len() {
         end.insert(2, 9)?;
     }
     assert_eq!(rt; shown(alloc, &end)?.as_str(), "2,3d9");
+    Ok(())
+}
 
+#[test]
+fn takes_a_trailing_separator(rt: HostRuntime) -> Result<(), Fail> {
+    let alloc = rt.alloc();
     let mut bare = numbers(alloc, "2,3")?;
     assert_eq!(rt; bare.pop_punct()?, None);
     assert_eq!(rt; shown(alloc, &bare)?.as_str(), "2,3");
@@ -120,23 +130,32 @@ fn edits_as_the_rows_say(rt: HostRuntime) -> Result<(), Fail> {
     Ok(())
 }
 
+// Pairs of which one follows a pair without a separator.
+fn misplaced_pairs(alloc: Global) -> Result<Vec<Pair<u32, Mark>>, AllocError> {
+    let pairs = vec![in alloc;
+        Pair::Punctuated(3, Mark(',')),
+        Pair::End(4),
+        Pair::Punctuated(5, Mark(',')),
+    ]?;
+    Ok(pairs)
+}
+
 #[test]
-fn refuses_a_pair_after_the_end(rt: HostRuntime) -> Result<(), Fail> {
+fn extends_up_to_a_misplaced_pair(rt: HostRuntime) -> Result<(), Fail> {
     let alloc = rt.alloc();
-    let pairs = || {
-        vec![in alloc;
-            Pair::Punctuated(3, Mark(',')),
-            Pair::End(4),
-            Pair::Punctuated(5, Mark(',')),
-        ]
-    };
     let mut list = numbers(alloc, "2")?;
-    match list.extend_pairs(pairs()?) {
+    match list.extend_pairs(misplaced_pairs(alloc)?) {
         Err(PairsFault::AfterEnd) => {}
         other => other?,
     }
     assert_eq!(rt; shown(alloc, &list)?.as_str(), "2d3,4");
-    match Numbers::from_pairs(alloc, pairs()?) {
+    Ok(())
+}
+
+#[test]
+fn makes_lists_of_pairs(rt: HostRuntime) -> Result<(), Fail> {
+    let alloc = rt.alloc();
+    match Numbers::from_pairs(alloc, misplaced_pairs(alloc)?) {
         Err(PairsFault::AfterEnd) => {}
         other => assert_eq!(rt; other?.len(), 0),
     }
@@ -160,6 +179,13 @@ fn takes_from_the_end(rt: HostRuntime) -> Result<(), Fail> {
     assert_eq!(rt; list.pop_pair(), Some(Pair::Punctuated(2, Mark(';'))));
     assert_eq!(rt; list.pop(), None);
     assert_eq!(rt; list.pop_punct()?, None);
+    Ok(())
+}
+
+#[test]
+fn adds_with_default_separators(rt: HostRuntime) -> Result<(), Fail> {
+    let alloc = rt.alloc();
+    let mut list = Numbers::new(alloc);
     list.push(1)?;
     list.push(2)?;
     assert_eq!(rt; shown(alloc, &list)?.as_str(), "1d2");
@@ -171,13 +197,21 @@ fn takes_from_the_end(rt: HostRuntime) -> Result<(), Fail> {
 }
 
 #[test]
-fn reads_and_writes_in_place(rt: HostRuntime) -> Result<(), Fail> {
+fn reads_in_place(rt: HostRuntime) -> Result<(), Fail> {
     let alloc = rt.alloc();
     let mut list = numbers(alloc, "2,3;4")?;
     assert_eq!(rt; list.first().copied(), Some(2));
     assert_eq!(rt; list.last().copied(), Some(4));
     assert_eq!(rt; list.get(1).copied(), Some(3));
     assert_eq!(rt; list.get(3).copied(), None);
+    assert!(rt; list.get_mut(3).is_none());
+    Ok(())
+}
+
+#[test]
+fn writes_in_place(rt: HostRuntime) -> Result<(), Fail> {
+    let alloc = rt.alloc();
+    let mut list = numbers(alloc, "2,3;4")?;
     if let Some(value) = list.first_mut() {
         *value = 5;
     }
@@ -187,7 +221,6 @@ fn reads_and_writes_in_place(rt: HostRuntime) -> Result<(), Fail> {
     if let Some(value) = list.last_mut() {
         *value = 7;
     }
-    assert!(rt; list.get_mut(3).is_none());
     assert_eq!(rt; shown(alloc, &list)?.as_str(), "5,6;7");
     for index in 0..list.len() {
         if index < list.len() {
