@@ -32,7 +32,7 @@ impl TokenBuffer {
 }
 
 impl<'a> Cursor<'a> {
-    ghost use Rattle.std.specs.Prelude.{◌≡◌, ◌∷◌, [], MatchOption, Some, None, IfOk, bytes_eq, is_some};
+    ghost use Rattle.std.specs.Prelude.{◌≡◌, ◌∷◌, [], length, MatchOption, Some, None, IfOk, bytes_eq, is_some};
     ghost use Rattle.std.specs.Str.{chars};
     ghost use Rattle.tok_core.specs.Forest.{leaf};
     ghost use Rattle.tok_core.specs.Seen.{ident_of, punct_of, literal_of, group_of, tree_of};
@@ -40,7 +40,7 @@ impl<'a> Cursor<'a> {
     ghost use Rattle.tok_buffer.specs.Cursors.{place_of, spot_place};
     ghost use Rattle.tok_buffer.specs.Entry.{enter_any, enter};
     ghost use Rattle.tok_buffer.specs.Place.{empty_place, is_at_end};
-    ghost use Rattle.tok_buffer.specs.Reads.{any_text, skip, take, is_group, lifetime_trees, read_ident, read_punct, read_literal, read_lifetime, read_tree, read_word, read_punctuation};
+    ghost use Rattle.tok_buffer.specs.Reads.{any_text, skip, take, is_group, lifetime_trees, read_ident, read_punct, read_literal, read_lifetime, read_tree, read_word, read_punctuation, read_spans, sized};
     ghost use Rattle.tok_buffer.specs.Rest.{rest};
 
     // The cursor at a spot.
@@ -210,5 +210,17 @@ impl<'a> Cursor<'a> {
             None => false,
             Some(spot) => spot.peek_punctuation(text),
         }
+    }
+
+    /// Reads the puncts in front that are the characters of this text, each but the last joint: writes a span for each
+    /// into `spans`, and returns the cursor after them. A text of another number of characters than there are spans
+    /// counts as empty, and the empty text is never read. Takes no memory. What `spans` holds after a `None` is not said.
+    pub fn puncts(self, text: &str, spans: &mut [Span]) -> Option<Cursor<'a>>
+        ensures { MatchOption result
+            (read_punctuation (sized (length spans.old) (chars text.now)) (place_of self.entry) ≡ None)
+            (λ r. read_spans (read_punctuation (sized (length spans.old) (chars text.now)) (place_of self.entry))
+            ≡ Some (spans.new, place_of r)) }
+    {
+        Some(Cursor::at(self.spot?.puncts(text, spans)?))
     }
 }
