@@ -1,5 +1,5 @@
 // Choosing by the next token.
-ghost use Rattle.std.specs.Prelude.{◌≡◌, ◌++◌, IfOk, OnOk, OnErr, string_bytes};
+ghost use Rattle.std.specs.Prelude.{◌≡◌, ◌++◌, false, IfOk, OnOk, OnErr, string_bytes};
 ghost use Rattle.tok_buffer.specs.Messages.{refused};
 ghost use Rattle.syn_parse.specs.Faults.{Refuses};
 ghost use Rattle.syn_parse.specs.Lookahead.{Looked, looks, noted_as, look_refusal, more_words, named, named_ends, texts_of};
@@ -57,10 +57,10 @@ impl<'a> ParseBuffer<'a> {
 }
 
 impl<'a> Lookahead1<'a> {
-    /// Whether this token is next. If it isn't, its display is noted. Where the allocation for the note fails nothing is.
+    /// Whether this token is next. If it isn't, its display is noted, for which an allocation may fail: then nothing is.
     pub fn peek<T: Token>(&mut self) -> Result<bool, AllocError>
         ensures ok { IfOk result (λ found. T.peeks self.old.place found × Looked T.shown found self.old self.new) }
-        ensures err { OnErr result (self.new ≡ self.old) }
+        ensures err { OnErr result (T.peeks self.old.place false × (self.new ≡ self.old)) }
     {
         let found = T::peek(self.cursor);
         self.peek_as(found, T::display())
@@ -69,7 +69,7 @@ impl<'a> Lookahead1<'a> {
     /// Notes this display if the token wasn't found, and returns `found`: what `peek` does after its own look.
     pub fn peek_as(&mut self, found: bool, display: &'static str) -> Result<bool, AllocError>
         ensures ok { IfOk result (λ answer. (answer ≡ found) × (self.new ≡ noted_as found display.now self.old)) }
-        ensures err { OnErr result (self.new ≡ self.old) }
+        ensures err { OnErr result ((found ≡ false) × (self.new ≡ self.old)) }
     {
         if !found {
             self.missed.push(display)?;
