@@ -64,8 +64,3 @@ verdict_of (verdict.Refused e) = spec.left_over (refusal_of e)
 
 abbrev pub report_of : reports.Report → spec.Report
 report_of r = record { lines = map line_of r.lines.items; verdict = verdict_of r.verdict }
-
--- a leftover, as the cursor gives it
-abbrev pub left_of : Option (Span × Delimiter) → Option Leftover
-left_of None = None
-left_of (Some l) = Some (record { span = l.0; delimiter = l.1 })
