@@ -1,5 +1,5 @@
 -- What is read at a place, and the place behind it.
-use Rattle.std.specs.Prelude.{ℕ, ◌==◌, ◌&&◌, not, Bool, true, false, cond, List, [], ◌∷◌, ◌++◌, length, map, Option, Some, None, option_map}
+use Rattle.std.specs.Prelude.{ℕ, ◌==◌, ◌&&◌, not, Bool, true, false, cond, List, [], ◌∷◌, ◌++◌, length, map, Option, Some, None, option_map, bytes_eq}
 use Rattle.tok_core.specs.declared.punct.Spacing.TheVariants.{Joint}
 use Rattle.tok_core.specs.Clear.{is_joint_apostrophe}
 use Rattle.tok_core.specs.declared.span.Span.{Span}
@@ -65,9 +65,14 @@ read_literal p = take is_literal (descend p)
 abbrev pub read_punct : Place → Option (List Tree × Place)
 read_punct p = take is_punct (descend p)
 
--- a keyword, or an identifier of which a test of its text is true
+-- an identifier of which a test of its text is true
 abbrev pub read_word : (List ℕ → Bool) → Place → Option (List Tree × Place)
 read_word wanted p = take (is_ident_of wanted) (descend p)
+
+-- an identifier of this text; the empty text is never read
+abbrev pub read_keyword : List ℕ → Place → Option (List Tree × Place)
+read_keyword [] p = None
+read_keyword (c ∷ cs) p = read_word (bytes_eq (c ∷ cs)) p
 
 abbrev pub read_lifetime : (List ℕ → Bool) → Place → Option (List Tree × Place)
 read_lifetime wanted p = and_then (take is_joint_apostrophe (descend p)) (read_word wanted)

@@ -32,7 +32,7 @@ impl TokenBuffer {
 }
 
 impl<'a> Cursor<'a> {
-    ghost use Rattle.std.specs.Prelude.{◌≡◌, ◌∷◌, [], length, MatchOption, Some, None, IfOk, bytes_eq, is_some};
+    ghost use Rattle.std.specs.Prelude.{◌≡◌, ◌∷◌, [], length, MatchOption, Some, None, IfOk, is_some};
     ghost use Rattle.std.specs.Str.{chars};
     ghost use Rattle.tok_core.specs.Forest.{leaf};
     ghost use Rattle.tok_core.specs.Seen.{ident_of, punct_of, literal_of, group_of, tree_of};
@@ -40,7 +40,7 @@ impl<'a> Cursor<'a> {
     ghost use Rattle.tok_buffer.specs.Cursors.{place_of, spot_place};
     ghost use Rattle.tok_buffer.specs.Entry.{enter_any, enter};
     ghost use Rattle.tok_buffer.specs.Place.{empty_place, is_at_end};
-    ghost use Rattle.tok_buffer.specs.Reads.{any_text, skip, take, is_group, lifetime_trees, read_ident, read_punct, read_literal, read_lifetime, read_tree, read_word, read_punctuation, read_spans, sized};
+    ghost use Rattle.tok_buffer.specs.Reads.{any_text, skip, take, is_group, lifetime_trees, read_ident, read_punct, read_literal, read_lifetime, read_tree, read_keyword, read_punctuation, read_spans, sized};
     ghost use Rattle.tok_buffer.specs.Rest.{rest};
 
     // The cursor at a spot.
@@ -191,13 +191,13 @@ impl<'a> Cursor<'a> {
         Some(Cursor::at(self.spot?.skip()?))
     }
 
-    /// Whether the identifier in front has this text.
+    /// Whether the identifier in front has this text. False for the empty text.
     pub fn peek_keyword(self, text: &str) -> bool
-        ensures { result ≡ is_some (read_word (bytes_eq text.now) (place_of self.entry)) }
+        ensures { result ≡ is_some (read_keyword text.now (place_of self.entry)) }
     {
         match self.spot {
             None => false,
-            Some(spot) => spot.peek_word(text),
+            Some(spot) => !text.is_empty() && spot.peek_word(text),
         }
     }
 
