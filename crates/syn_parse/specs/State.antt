@@ -1,10 +1,11 @@
 -- A stream: where it stands, the span of its scope, and the leftover that it has noted.
-use Rattle.std.specs.Prelude.{Option, Some, None}
+use Rattle.std.specs.Prelude.{Option, None, refl}
+use Rattle.std.specs.Coded.{Coded, code_by, coded×, coded_option}
 use Rattle.std.specs.Option.{option_or}
-use Rattle.tok_core.specs.declared.group.Delimiter.{Delimiter}
 use Rattle.tok_core.specs.declared.span.Span.{Span}
 use Rattle.tok_core.specs.Spans.{closing_span}
 use Rattle.tok_buffer.specs.Ahead.{Leftover, leftover}
+use Rattle.tok_buffer.specs.Code.{coded_leftover, coded_place, coded_spans}
 use Rattle.tok_buffer.specs.Entry.{Entered}
 use Rattle.tok_buffer.specs.Place.{Place}
 use Rattle.tok_buffer.specs.Words.{stream_span}
@@ -17,11 +18,6 @@ pub record State : Type 0 where
 -- the span of a stream: its scope's at the end, else that of the next token or of a group's opening
 abbrev pub state_span : State → Span
 state_span s = stream_span s.place s.scope_span
-
--- a leftover, as a cursor gives it
-abbrev pub left_of : Option (Span × Delimiter) → Option Leftover
-left_of None = None
-left_of (Some l) = Some (record { span = l.0; delimiter = l.1 })
 
 -- a stream that has noted nothing
 abbrev pub fresh : Place → Span → State
@@ -55,3 +51,10 @@ content_of e = fresh e.content (closing_span e.span)
 
 abbrev pub behind : Entered → State → State
 behind e s = moved e.behind s
+
+-- how a stream is stored
+abbrev pub coded_state : Coded State
+coded_state =
+    let parts = coded× coded_place (coded× coded_spans (coded_option coded_leftover)) in
+    code_by (Place × (Span × Option Leftover)) parts (λ s. (s.place, (s.scope_span, s.noted)))
+    (λ c. record { place = c.0; scope_span = c.1.0; noted = c.1.1 }) (λ _. refl)

@@ -1,11 +1,12 @@
 // Identifiers and lifetimes whatever their text.
-ghost use Rattle.std.specs.Prelude.{Result};
-ghost use Rattle.syn_parse.specs.Parses.{AnyIdentParses, AnyLifetimeParses};
+ghost use Rattle.std.specs.Prelude.{Result, IfOk};
+ghost use Rattle.syn_parse.specs.Parses.{AnyIdentParses, AnyLifetimeParses, IsUnraw};
 ghost use Rattle.syn_parse.specs.State.{State};
 ghost use Rattle.syn_parse.specs.declared.fault.Fault.{Fault};
 
 use crate::fault::Result;
 use crate::stream::ParseStream;
+use std::alloc::{AllocError, Global};
 use tok_buffer::Lifetime;
 use tok_core::Ident;
 
@@ -17,10 +18,19 @@ pub trait IdentExt: Sized {
     /// Parses an identifier whatever its text, also a reserved word.
     fn parse_any(input: ParseStream<'_, '_>) -> Result<Self>
         ensures { any_parses input.old result input.new };
+
+    // How an identifier and the one without `r#` are tied.
+    ghost is_unraw: { Self → Self → Type 0 };
+
+    /// The identifier without a leading `r#`, with the same span: what `Ident::unraw` returns.
+    fn unraw(&self, alloc: Global) -> std::result::Result<Self, AllocError>
+        ensures { IfOk result (is_unraw self.now) };
 }
 
 impl IdentExt for Ident {
     ghost any_parses = { AnyIdentParses };
+
+    ghost is_unraw = { IsUnraw };
 
     fn parse_any(input: ParseStream<'_, '_>) -> Result<Self> {
         let Some((ident, rest)) = input.cursor().ident() else {
@@ -29,6 +39,10 @@ impl IdentExt for Ident {
         let ident = ident.clone()?;
         input.move_to(rest);
         Ok(ident)
+    }
+
+    fn unraw(&self, alloc: Global) -> std::result::Result<Self, AllocError> {
+        Ident::unraw(self, alloc)
     }
 }
 

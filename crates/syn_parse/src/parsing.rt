@@ -3,8 +3,7 @@ ghost use Rattle.std.specs.Prelude.{◌≡◌, ◌∷◌, [], Some, None, MatchO
 ghost use Rattle.std.specs.Str.{chars};
 ghost use Rattle.tok_core.specs.Forest.{leaf, ident};
 ghost use Rattle.tok_buffer.specs.Cursors.{place_of};
-ghost use Rattle.tok_buffer.specs.Reads.{read_punctuation, sized};
-ghost use Rattle.tok_types.specs.Looks.{read_keyword};
+ghost use Rattle.tok_buffer.specs.Reads.{read_keyword, read_punctuation, sized};
 ghost use Rattle.syn_parse.specs.Faults.{Refuses};
 ghost use Rattle.syn_parse.specs.Parses.{PunctuationParses, WordParses, ascii_chars};
 ghost use Rattle.syn_parse.specs.Words.{punctuation_refusal, punctuation_span};

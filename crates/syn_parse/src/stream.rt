@@ -1,12 +1,13 @@
 // Parse streams.
 ghost use Rattle.std.specs.Prelude.{◌≡◌, None, true, IfSome, MatchOption, Ok};
 ghost use Rattle.std.specs.Fn.{FnOnceReturnsAtMut, FnOnceTakesAtMut};
+ghost use Rattle.tok_buffer.specs.Ahead.{left_of};
 ghost use Rattle.tok_buffer.specs.Cursors.{place_of};
 ghost use Rattle.tok_buffer.specs.Order.{same_scope};
 ghost use Rattle.tok_buffer.specs.Place.{start, is_at_end};
 ghost use Rattle.syn_parse.specs.Faults.{Refuses, RefusesAt, IsRefused};
 ghost use Rattle.syn_parse.specs.Pauses.{paused_state};
-ghost use Rattle.syn_parse.specs.State.{left_of, fresh, moved, handed, closed, forked, advanced, state_span};
+ghost use Rattle.syn_parse.specs.State.{fresh, moved, handed, closed, forked, advanced, state_span};
 ghost use Rattle.syn_parse.specs.Words.{refused_at, leftover_refusal};
 
 use crate::fault::{Fault, Result};
@@ -33,9 +34,9 @@ pub struct ParseBuffer<'a> {
 }
 
 impl<'a> Model for ParseBuffer<'a> {
+    ghost use Rattle.tok_buffer.specs.Ahead.{left_of};
     ghost use Rattle.tok_buffer.specs.Cursors.{place_of};
-    ghost use Rattle.syn_parse.specs.State.{State, left_of};
-    ghost use Rattle.syn_parse.specs.Code.{coded_state};
+    ghost use Rattle.syn_parse.specs.State.{State, coded_state};
 
     ghost Value = { State };
 
