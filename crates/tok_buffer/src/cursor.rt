@@ -6,6 +6,8 @@ use crate::buffer::TokenBuffer;
 use crate::lifetime::LifetimeRef;
 use crate::spot::Spot;
 use std::alloc::{AllocError, Global};
+use std::fmt;
+use std::fmt::{Formatter, Write};
 use tok_core::{DelimSpan, Delimiter, Group, Ident, Literal, Punct, Span, TokenStream, TokenTree};
 
 /// A place in a buffer, and the end of the scope that it is read in: the whole buffer or a group's content. It is cheap
@@ -37,6 +39,8 @@ impl<'a> Cursor<'a> {
     ghost use Rattle.tok_core.specs.Forest.{leaf};
     ghost use Rattle.tok_core.specs.Seen.{ident_of, punct_of, literal_of, group_of, tree_of};
     ghost use Rattle.tok_core.specs.Spans.{whole_span};
+    ghost use Rattle.std.specs.Fmt.{WritesOnOk};
+    ghost use Rattle.tok_core.specs.Text.{text};
     ghost use Rattle.tok_buffer.specs.Cursors.{place_of, spot_place};
     ghost use Rattle.tok_buffer.specs.Entry.{enter_any, enter};
     ghost use Rattle.tok_buffer.specs.Place.{empty_place, is_at_end};
@@ -178,6 +182,17 @@ impl<'a> Cursor<'a> {
         match self.spot {
             None => Ok(TokenStream::new(alloc)),
             Some(spot) => spot.token_stream(alloc),
+        }
+    }
+
+    /// Writes all trees that are left in the scope, as the stream that `token_stream` makes of them is printed. Takes no
+    /// memory.
+    pub fn write_ahead<W: Write>(self, f: &mut Formatter<W>) -> fmt::Result
+        ensures { WritesOnOk W.write_str_gives f.old result (text (rest (place_of self.entry))) f.new }
+    {
+        match self.spot {
+            None => Ok(()),
+            Some(spot) => spot.write_ahead(f),
         }
     }
 
