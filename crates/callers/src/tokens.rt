@@ -5,8 +5,7 @@ ghost use Rattle.tok_core.specs.Spans.{call_site};
 ghost use Rattle.tok_core.specs.declared.group.Delimiter.TheVariants.{Parenthesis};
 ghost use Rattle.tok_buffer.specs.Cursors.{place_of};
 ghost use Rattle.tok_buffer.specs.Entry.{enter};
-ghost use Rattle.tok_buffer.specs.Reads.{skip};
-ghost use Rattle.tok_types.specs.Looks.{read_keyword};
+ghost use Rattle.tok_buffer.specs.Reads.{read_keyword, skip};
 ghost use Rattle.callers.specs.Looks.{behind_skip};
 
 use std::alloc::AllocError;

@@ -65,6 +65,9 @@ fn idents(alloc: Global) -> Outcome {
     expect(is_ident(&ident, "ab"), "Ident::new")?;
     let raw = made(Ident::new_raw(alloc, "fn", span()), "Ident::new_raw")?;
     expect(is_ident(&raw, "r#fn"), "Ident::new_raw")?;
+    let plain = raw.unraw(alloc);
+    expect(is_ident(&raw, "r#fn"), "Ident::unraw")?;
+    expect(is_ident(&plain?, "fn"), "Ident::unraw")?;
     let copy = ident.clone();
     expect(is_ident(&ident, "ab"), "Ident::clone")?;
     expect(is_ident(&copy?, "ab"), "Ident::clone")

@@ -7,7 +7,7 @@ use Rattle.std.specs.Prelude.{cond}
 use Rattle.std.specs.Option.{option_or}
 use Rattle.tok_core.specs.declared.group.Delimiter.{Delimiter}
 use Rattle.tok_core.specs.declared.span.Span.{Span}
-use Rattle.syn_tokens.specs.Seen.{left_of}
+use Rattle.tok_buffer.specs.Ahead.{left_of}
 use Rattle.syn_tokens.specs.State.{State, stream_at, changed, spent, handed_note, noted_on_parent, is_open_content_of, handed_up, contents_closed}
 use Rattle.syn_tokens.specs.State as states
 use Rattle.syn_tokens.specs.Tracks.{stream_of, state_of_list}

@@ -1,7 +1,7 @@
 -- What the streams of the program stand for.
 use Rattle.std.specs.Prelude.{ℕ, List, map, Option, Some, None}
 use Rattle.tok_buffer.specs.Cursors.{place_of}
-use Rattle.syn_tokens.specs.Seen.{left_of}
+use Rattle.tok_buffer.specs.Ahead.{left_of}
 use Rattle.syn_tokens.specs.State.{State, StreamKind, outermost, content_of}
 use Rattle.syn_tokens.specs.State as spec
 use Rattle.syn_tokens.specs.declared.stream.Stream.{Stream}

@@ -3,7 +3,7 @@ ghost use Rattle.std.specs.Prelude.{◌≡◌, true, None};
 ghost use Rattle.tok_buffer.specs.Cursors.{place_of};
 ghost use Rattle.tok_buffer.specs.Words.{stream_span};
 ghost use Rattle.syn_tokens.specs.Links.{unlinked};
-ghost use Rattle.syn_tokens.specs.Seen.{left_of};
+ghost use Rattle.tok_buffer.specs.Ahead.{left_of};
 ghost use Rattle.syn_tokens.specs.State.{handed_note};
 ghost use Rattle.syn_tokens.specs.Tracks.{kind_of, stream_of};
 

@@ -21,7 +21,7 @@ impl<'a> Streams<'a> {
     ghost use Rattle.std.specs.Prelude.{◌≡◌, ◌<◌, ◌∷◌, [], ◌++◌, length, Some, None, MatchOption, IfOk, OnOk, OnErr, true};
     ghost use Rattle.tok_buffer.specs.Cursors.{place_of};
     ghost use Rattle.tok_core.specs.Spans.{call_site};
-    ghost use Rattle.syn_tokens.specs.Seen.{left_of};
+    ghost use Rattle.tok_buffer.specs.Ahead.{left_of};
     ghost use Rattle.syn_tokens.specs.State.{outermost, stream_at, changed, moved_to, noted, handed_up, closed_inside, closed};
     ghost use Rattle.syn_tokens.specs.Step.{content as content_at};
     ghost use Rattle.syn_tokens.specs.Tracks.{stream_of, state_of};

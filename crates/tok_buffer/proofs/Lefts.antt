@@ -1,15 +1,15 @@
 -- The leftover, from the first visible tree.
-use Rattle.std.proofs.Common.{◌≡◌, Bool, cond, List, [], ◌∷◌, Some, ap}
+use Rattle.std.proofs.Common.{◌≡◌, Bool, cond, List, [], ◌∷◌, Some, sym, ap}
 use Rattle.tok_core.specs.declared.span.Span.{Span}
 use Rattle.tok_core.specs.declared.group.Delimiter.{Delimiter}
 use Rattle.tok_core.specs.declared.group.Delimiter.TheVariants as delimiter
 use Rattle.tok_core.specs.Forest.{Tree}
 use Rattle.tok_core.specs.Spans.{tree_span}
 use Rattle.tok_buffer.specs.Ahead.{first_left}
-use Rattle.tok_buffer.specs.Ahead.{first_of, left_parts}
+use Rattle.tok_buffer.specs.Ahead.{first_of, left_of}
 
-pub left_first : (scope : Delimiter) (xs : List (Bool × Tree)) (m : Bool) (span : Span) → first_of xs ≡ Some (m, span) → left_parts (first_left scope xs) ≡ Some (span, cond m delimiter.None scope)
+pub left_first : (scope : Delimiter) (xs : List (Bool × Tree)) (m : Bool) (span : Span) → first_of xs ≡ Some (m, span) → left_of (Some (span, cond m delimiter.None scope)) ≡ first_left scope xs
 left_first scope [] m span e = cc
 left_first scope (x ∷ xs) m span e =
     let q : (x.0, tree_span x.1) ≡ (m, span) = cc in
-    ap (λ (z : Bool × Span). Some (z.1, cond z.0 delimiter.None scope)) q
+    sym (ap (λ (z : Bool × Span). left_of (Some (z.1, cond z.0 delimiter.None scope))) q)

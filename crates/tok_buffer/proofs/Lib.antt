@@ -11,6 +11,7 @@ pub mod Names
 pub mod NextChars
 pub mod Owners
 pub mod Peeks
+pub mod PunctRuns
 pub mod Rests
 pub mod Scans
 pub mod Spanned

@@ -51,7 +51,7 @@ pub joint_then : (c d : ℕ) (cs : List ℕ) (p q : Place) → behind (take (is_
 joint_then c d cs p q e = behind_then (take (is_joint_of c) (descend p)) q (read_punctuation (d ∷ cs)) e
 
 -- none is in front of the empty place
-pub no_punctuation : (cs : List ℕ) → is_some (read_punctuation cs empty_place) ≡ false
+pub no_punctuation : (cs : List ℕ) → read_punctuation cs empty_place ≡ None
 no_punctuation [] = refl
 no_punctuation (c ∷ []) = refl
 no_punctuation (c ∷ (d ∷ cs)) = refl

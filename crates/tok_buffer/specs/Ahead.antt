@@ -40,7 +40,7 @@ abbrev pub first_of : List (Bool × Tree) → Option (Bool × Span)
 first_of [] = None
 first_of (t ∷ ts) = Some (t.0, tree_span t.1)
 
--- a leftover as a pair
-abbrev pub left_parts : Option Leftover → Option (Span × Delimiter)
-left_parts None = None
-left_parts (Some l) = Some (l.span, l.delimiter)
+-- a leftover, from a pair
+abbrev pub left_of : Option (Span × Delimiter) → Option Leftover
+left_of None = None
+left_of (Some l) = Some (record { span = l.0; delimiter = l.1 })

@@ -1,5 +1,6 @@
 pub mod Ahead
 pub mod Buffer
+pub mod Code
 pub mod CompileErrors
 pub mod Cursors
 pub mod Descent

@@ -1,9 +1,10 @@
 -- What is read at a place, and the place behind it.
-use Rattle.std.specs.Prelude.{ℕ, ◌==◌, ◌&&◌, not, Bool, true, false, cond, List, [], ◌∷◌, ◌++◌, Option, Some, None}
+use Rattle.std.specs.Prelude.{ℕ, ◌==◌, ◌&&◌, not, Bool, true, false, cond, List, [], ◌∷◌, ◌++◌, length, map, Option, Some, None, option_map, bytes_eq}
 use Rattle.tok_core.specs.declared.punct.Spacing.TheVariants.{Joint}
 use Rattle.tok_core.specs.Clear.{is_joint_apostrophe}
 use Rattle.tok_core.specs.declared.span.Span.{Span}
 use Rattle.tok_core.specs.Forest.{Leaf, ident, punct, literal, Tree, leaf, group}
+use Rattle.tok_core.specs.Spans.{tree_span}
 use Rattle.tok_buffer.specs.Descent.{descend}
 use Rattle.tok_buffer.specs.Place.{Place, front, pass}
 
@@ -64,9 +65,14 @@ read_literal p = take is_literal (descend p)
 abbrev pub read_punct : Place → Option (List Tree × Place)
 read_punct p = take is_punct (descend p)
 
--- a keyword, or an identifier of which a test of its text is true
+-- an identifier of which a test of its text is true
 abbrev pub read_word : (List ℕ → Bool) → Place → Option (List Tree × Place)
 read_word wanted p = take (is_ident_of wanted) (descend p)
+
+-- an identifier of this text; the empty text is never read
+abbrev pub read_keyword : List ℕ → Place → Option (List Tree × Place)
+read_keyword [] p = None
+read_keyword (c ∷ cs) p = read_word (bytes_eq (c ∷ cs)) p
 
 abbrev pub read_lifetime : (List ℕ → Bool) → Place → Option (List Tree × Place)
 read_lifetime wanted p = and_then (take is_joint_apostrophe (descend p)) (read_word wanted)
@@ -75,11 +81,24 @@ read_lifetime wanted p = and_then (take is_joint_apostrophe (descend p)) (read_w
 abbrev pub lifetime_trees : Span → Leaf → List Tree
 lifetime_trees span name = leaf (punct apostrophe Joint span) ∷ leaf name ∷ []
 
+-- the punct of a character, joint where more follow
+abbrev pub read_next : ℕ → List ℕ → Place → Option (List Tree × Place)
+read_next c [] p = take (is_punct_of c) (descend p)
+read_next c (d ∷ cs) p = take (is_joint_of c) (descend p)
+
 -- the puncts of a punctuation's characters, each but the last joint; the empty text is never read
 abbrev pub read_punctuation : List ℕ → Place → Option (List Tree × Place)
 read_punctuation [] p = None
 read_punctuation (c ∷ []) p = take (is_punct_of c) (descend p)
 read_punctuation (c ∷ (d ∷ cs)) p = and_then (take (is_joint_of c) (descend p)) (read_punctuation (d ∷ cs))
+
+-- these characters where there are so many of them, and else none
+abbrev pub sized : ℕ → List ℕ → List ℕ
+sized n cs = cond (length cs == n) cs []
+
+-- the spans of what is read, and the place behind it
+abbrev pub read_spans : Option (List Tree × Place) → Option (List Span × Place)
+read_spans = option_map (λ r. (map tree_span r.0, r.1))
 
 -- without a descent
 abbrev pub read_tree : Place → Option (List Tree × Place)

@@ -6,6 +6,8 @@ use crate::buffer::TokenBuffer;
 use crate::lifetime::LifetimeRef;
 use crate::spot::Spot;
 use std::alloc::{AllocError, Global};
+use std::fmt;
+use std::fmt::{Formatter, Write};
 use tok_core::{DelimSpan, Delimiter, Group, Ident, Literal, Punct, Span, TokenStream, TokenTree};
 
 /// A place in a buffer, and the end of the scope that it is read in: the whole buffer or a group's content. It is cheap
@@ -32,15 +34,17 @@ impl TokenBuffer {
 }
 
 impl<'a> Cursor<'a> {
-    ghost use Rattle.std.specs.Prelude.{◌≡◌, ◌∷◌, [], MatchOption, Some, None, IfOk, bytes_eq, is_some};
+    ghost use Rattle.std.specs.Prelude.{◌≡◌, ◌∷◌, [], length, MatchOption, Some, None, IfOk, is_some};
     ghost use Rattle.std.specs.Str.{chars};
     ghost use Rattle.tok_core.specs.Forest.{leaf};
     ghost use Rattle.tok_core.specs.Seen.{ident_of, punct_of, literal_of, group_of, tree_of};
     ghost use Rattle.tok_core.specs.Spans.{whole_span};
+    ghost use Rattle.std.specs.Fmt.{WritesOnOk};
+    ghost use Rattle.tok_core.specs.Text.{text};
     ghost use Rattle.tok_buffer.specs.Cursors.{place_of, spot_place};
     ghost use Rattle.tok_buffer.specs.Entry.{enter_any, enter};
     ghost use Rattle.tok_buffer.specs.Place.{empty_place, is_at_end};
-    ghost use Rattle.tok_buffer.specs.Reads.{any_text, skip, take, is_group, lifetime_trees, read_ident, read_punct, read_literal, read_lifetime, read_tree, read_word, read_punctuation};
+    ghost use Rattle.tok_buffer.specs.Reads.{any_text, skip, take, is_group, lifetime_trees, read_ident, read_punct, read_literal, read_lifetime, read_tree, read_keyword, read_punctuation, read_spans, sized};
     ghost use Rattle.tok_buffer.specs.Rest.{rest};
 
     // The cursor at a spot.
@@ -181,6 +185,17 @@ impl<'a> Cursor<'a> {
         }
     }
 
+    /// Writes all trees that are left in the scope, as the stream that `token_stream` makes of them is printed. Takes no
+    /// memory.
+    pub fn write_ahead<W: Write>(self, f: &mut Formatter<W>) -> fmt::Result
+        ensures { WritesOnOk W.write_str_gives f.old result (text (rest (place_of self.entry))) f.new }
+    {
+        match self.spot {
+            None => Ok(()),
+            Some(spot) => spot.write_ahead(f),
+        }
+    }
+
     /// The cursor behind the next token: behind the lifetime that `lifetime` reads, or else behind the front tree. `None`
     /// where nothing visible is left.
     pub fn skip(self) -> Option<Cursor<'a>>
@@ -191,13 +206,13 @@ impl<'a> Cursor<'a> {
         Some(Cursor::at(self.spot?.skip()?))
     }
 
-    /// Whether the identifier in front has this text.
+    /// Whether the identifier in front has this text. False for the empty text.
     pub fn peek_keyword(self, text: &str) -> bool
-        ensures { result ≡ is_some (read_word (bytes_eq text.now) (place_of self.entry)) }
+        ensures { result ≡ is_some (read_keyword text.now (place_of self.entry)) }
     {
         match self.spot {
             None => false,
-            Some(spot) => spot.peek_word(text),
+            Some(spot) => !text.is_empty() && spot.peek_word(text),
         }
     }
 
@@ -210,5 +225,17 @@ impl<'a> Cursor<'a> {
             None => false,
             Some(spot) => spot.peek_punctuation(text),
         }
+    }
+
+    /// Reads the puncts in front that are the characters of this text, each but the last joint: writes a span for each
+    /// into `spans`, and returns the cursor after them. A text of another number of characters than there are spans
+    /// counts as empty, and the empty text is never read. Takes no memory. What `spans` holds after a `None` is not said.
+    pub fn puncts(self, text: &str, spans: &mut [Span]) -> Option<Cursor<'a>>
+        ensures { MatchOption result
+            (read_punctuation (sized (length spans.old) (chars text.now)) (place_of self.entry) ≡ None)
+            (λ r. read_spans (read_punctuation (sized (length spans.old) (chars text.now)) (place_of self.entry))
+            ≡ Some (spans.new, place_of r)) }
+    {
+        Some(Cursor::at(self.spot?.puncts(text, spans)?))
     }
 }

@@ -1,6 +1,7 @@
 // A position in a buffer, and the end of its scope.
 mod ahead;
 mod groups;
+mod print;
 mod puncts;
 mod reads;
 mod rebuild;

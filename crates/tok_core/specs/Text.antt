@@ -1,5 +1,5 @@
 -- The printed text of a forest.
-use Rattle.std.specs.Prelude.{ℕ, Bool, true, false, cond, List, [], ◌∷◌, ◌++◌, encode_utf8, codes}
+use Rattle.std.specs.Prelude.{ℕ, ◌==◌, ◌&&◌, Bool, true, false, cond, List, [], ◌∷◌, ◌++◌, encode_utf8, codes}
 use Rattle.tok_core.specs.declared.group.Delimiter.{Delimiter}
 use Rattle.tok_core.specs.declared.group.Delimiter.TheVariants.{Parenthesis, Brace, Bracket, None}
 use Rattle.tok_core.specs.declared.punct.Spacing.TheVariants.{Joint}
@@ -21,6 +21,11 @@ abbrev pub leaf_text : Leaf → List ℕ
 leaf_text (ident text span) = text
 leaf_text (punct c spacing span) = encode_utf8 c
 leaf_text (literal text span) = text
+
+-- an identifier's text without a leading `r#`
+abbrev pub unraw : List ℕ → List ℕ
+unraw (c ∷ (d ∷ word)) = cond (c == 114 && d == 35) word (c ∷ (d ∷ word))
+unraw text = text
 
 abbrev pub is_joint : Tree → Bool
 is_joint (leaf (punct c Joint span)) = true

@@ -5,7 +5,7 @@ ghost use Rattle.tok_core.specs.Forest.{ident};
 ghost use Rattle.tok_core.specs.Lexical.Words.{IsIdentifier, HasRaw};
 ghost use Rattle.tok_core.specs.Seen.{ident_of};
 ghost use Rattle.tok_core.specs.Spans.{leaf_span};
-ghost use Rattle.tok_core.specs.Text.{leaf_text};
+ghost use Rattle.tok_core.specs.Text.{leaf_text, unraw};
 
 use crate::lexer::{has_no_raw, is_identifier};
 use crate::span::Span;
@@ -37,6 +37,13 @@ impl From<AllocError> for MakeFault {
     fn from(_: AllocError) -> Self {
         MakeFault::Memory
     }
+}
+
+// The text without a leading `r#`.
+fn without_raw(text: &str) -> &str
+    ensures { result.now ≡ unraw text.now }
+{
+    text.strip_prefix("r#").unwrap_or(text)
 }
 
 impl Ident {
@@ -96,6 +103,16 @@ impl Ident {
         ensures { ident_of self.new ≡ ident (leaf_text (ident_of self.old)) span }
     {
         self.span = span;
+    }
+
+    /// The same identifier without a leading `r#`, in memory of its own: its text is what is left, and its span is this
+    /// one's. An identifier that isn't raw is copied.
+    pub fn unraw(&self, alloc: Global) -> Result<Ident, AllocError>
+        ensures { IfOk result (λ i. ident_of i
+            ≡ ident (unraw (leaf_text (ident_of self.now))) (leaf_span (ident_of self.now))) }
+    {
+        let text = String::from_str(alloc, without_raw(self.as_str()))?;
+        Ok(Ident::unchecked(text, self.span))
     }
 
     /// A copy in memory of its own.

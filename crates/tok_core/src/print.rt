@@ -4,7 +4,6 @@ ghost use Rattle.std.specs.Fmt.{WritesOnOk};
 ghost use Rattle.tok_core.specs.Seen.{tree_of};
 ghost use Rattle.tok_core.specs.Text as spec;
 
-use crate::group::Delimiter;
 use crate::punct::Spacing;
 use crate::stream::{TokenStream, TokenTree};
 use std::fmt;
@@ -37,9 +36,9 @@ fn write_tree<W: Write>(f: &mut Formatter<W>, next: &TokenTree) -> fmt::Result
 {
     match next {
         TokenTree::Group(group) => {
-            f.write_str(opening(group.delimiter()))?;
+            f.write_str(group.delimiter().opening())?;
             write_stream(f, group.stream())?;
-            f.write_str(closing(group.delimiter()))
+            f.write_str(group.delimiter().closing())
         }
         TokenTree::Ident(ident) => f.write_str(ident.as_str()),
         TokenTree::Punct(punct) => f.write_char(punct.as_char()),
@@ -62,27 +61,5 @@ fn is_joint(next: &TokenTree) -> bool
             Spacing::Alone => false,
         },
         _ => false,
-    }
-}
-
-fn opening(delimiter: Delimiter) -> &'static str
-    ensures { result.now ≡ spec.opening delimiter }
-{
-    match delimiter {
-        Delimiter::Parenthesis => "(",
-        Delimiter::Brace => "{",
-        Delimiter::Bracket => "[",
-        Delimiter::None => "«",
-    }
-}
-
-fn closing(delimiter: Delimiter) -> &'static str
-    ensures { result.now ≡ spec.closing delimiter }
-{
-    match delimiter {
-        Delimiter::Parenthesis => ")",
-        Delimiter::Brace => "}",
-        Delimiter::Bracket => "]",
-        Delimiter::None => "»",
     }
 }

@@ -3,7 +3,8 @@ ghost use Rattle.std.specs.Prelude.{◌≡◌, ◌<◌, IfOk};
 ghost use Rattle.tok_core.specs.Forest.{ident};
 ghost use Rattle.tok_core.specs.Seen.{ident_of};
 ghost use Rattle.tok_core.specs.Spans.{call_site};
-ghost use Rattle.tok_types.specs.Looks.{Finds, IsText, read_keyword};
+ghost use Rattle.tok_buffer.specs.Reads.{read_keyword};
+ghost use Rattle.tok_types.specs.Looks.{Finds, IsText};
 ghost use Rattle.tok_types.specs.Printed.{word};
 ghost use Rattle.tok_types.specs.Texts.{keyword_text, quoted};
 
@@ -53,8 +54,7 @@ impl<const K: usize> Token for Keyword<K> {
     ghost shown = { IsText (quoted (keyword_text K)) };
 
     fn peek(cursor: Cursor<'_>) -> bool {
-        let text = keyword_text(K);
-        !text.is_empty() && cursor.peek_keyword(text)
+        cursor.peek_keyword(keyword_text(K))
     }
 
     fn display() -> &'static str {

@@ -1,7 +1,8 @@
 // The underscore.
 ghost use Rattle.std.specs.Prelude.{◌≡◌, [], ◌∷◌, codes};
 ghost use Rattle.tok_core.specs.Spans.{call_site};
-ghost use Rattle.tok_types.specs.Looks.{Finds, IsText, read_keyword};
+ghost use Rattle.tok_buffer.specs.Reads.{read_keyword};
+ghost use Rattle.tok_types.specs.Looks.{Finds, IsText};
 ghost use Rattle.tok_types.specs.Printed.{first_span, word};
 
 use crate::ident::append_word;

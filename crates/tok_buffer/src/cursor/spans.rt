@@ -4,7 +4,7 @@ use tok_core::{Delimiter, Span};
 
 impl<'a> Cursor<'a> {
     ghost use Rattle.std.specs.Prelude.{◌≡◌};
-    ghost use Rattle.tok_buffer.specs.Ahead.{leftover, left_parts};
+    ghost use Rattle.tok_buffer.specs.Ahead.{left_of, leftover};
     ghost use Rattle.tok_buffer.specs.Cursors.{place_of};
     ghost use Rattle.tok_buffer.specs.Place.{position};
     ghost use Rattle.tok_buffer.specs.Rest.{scope_delimiter};
@@ -53,7 +53,7 @@ impl<'a> Cursor<'a> {
     /// The first visible tree that is left: its span, a group's whole, and the delimiter that was wanted in its place.
     /// That is the scope's, or `Delimiter::None` where the tree lies in an invisible group that has not been entered.
     pub fn leftover(self) -> Option<(Span, Delimiter)>
-        ensures { result ≡ left_parts (leftover (place_of self.entry)) }
+        ensures { left_of result ≡ leftover (place_of self.entry) }
     {
         self.spot?.leftover()
     }

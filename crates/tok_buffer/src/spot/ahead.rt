@@ -7,12 +7,12 @@ use tok_core::{Delimiter, Span};
 impl<'a> Spot<'a> {
     ghost use Rattle.std.specs.Prelude.{◌≡◌, ◌≤◌, IsTrue};
     ghost use Rattle.tok_core.specs.Weight.{weight};
-    ghost use Rattle.tok_buffer.specs.Ahead.{ahead, first_of, leftover, left_parts};
+    ghost use Rattle.tok_buffer.specs.Ahead.{ahead, first_of, left_of, leftover};
     ghost use Rattle.tok_buffer.specs.Cursors.{spot_place};
     ghost use Rattle.tok_buffer.specs.Moves.{in_scope, place_at};
 
     pub fn leftover(self) -> Option<(Span, Delimiter)>
-        ensures { result ≡ left_parts (leftover (spot_place self.entry)) }
+        ensures { left_of result ≡ leftover (spot_place self.entry) }
     {
         match Spot::scan(self.buffer, self.position, self.scope) {
             None => None,

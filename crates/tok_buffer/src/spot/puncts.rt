@@ -7,14 +7,16 @@ ghost use Rattle.tok_buffer.specs.Reads as spec;
 use crate::entry::Leaf;
 use crate::spot::Spot;
 use crate::text::next_char;
-use tok_core::{Punct, Spacing};
+use tok_core::{Punct, Spacing, Span};
 
 impl<'a> Spot<'a> {
-    ghost use Rattle.std.specs.Prelude.{◌≡◌, MatchOption, Some, None, is_some};
+    ghost use Rattle.std.specs.Prelude.{◌≡◌, ◌∷◌, [], length, MatchOption, Some, None, is_some};
+    ghost use Rattle.tok_core.specs.Forest.{leaf};
+    ghost use Rattle.tok_core.specs.Seen.{punct_of};
     ghost use Rattle.std.specs.Str.{chars};
     ghost use Rattle.tok_buffer.specs.Cursors.{spot_place};
     ghost use Rattle.tok_buffer.specs.Descent.{descend};
-    ghost use Rattle.tok_buffer.specs.Reads.{behind, is_joint_of, is_punct_of, read_punctuation, take};
+    ghost use Rattle.tok_buffer.specs.Reads.{is_joint_of, is_punct_of, read_next, read_punctuation, read_spans, sized, take};
 
     // The characters of this text are in front as puncts, each but the last joint.
     pub fn peek_punctuation(self, text: &str) -> bool
@@ -27,8 +29,8 @@ impl<'a> Spot<'a> {
         let mut wanted = first;
         let mut rest = after;
         while let Some((next, after)) = next_char(rest) {
-            match spot.past_joint(wanted) {
-                Some(behind) => spot = behind,
+            match spot.joint(wanted) {
+                Some((_, behind)) => spot = behind,
                 None => return false,
             }
             wanted = next;
@@ -37,22 +39,83 @@ impl<'a> Spot<'a> {
         spot.peek_char(wanted)
     }
 
-    // The spot behind the joint punct of this character in front.
-    fn past_joint(self, wanted: char) -> Option<Spot<'a>>
+    // The joint punct of this character in front.
+    fn joint(self, wanted: char) -> Option<(Punct, Spot<'a>)>
         ensures { MatchOption result
             (take (is_joint_of wanted) (descend (spot_place self.entry)) ≡ None)
-            (λ r. behind (take (is_joint_of wanted) (descend (spot_place self.entry))) ≡ Some (spot_place r)) }
+            (λ r. take (is_joint_of wanted) (descend (spot_place self.entry)) ≡ Some (leaf (punct_of r.0) ∷ [], spot_place r.1)) }
     {
         let spot = self.ignore_none();
         match spot.leaf() {
             Some(Leaf::Punct(punct)) => {
                 if is_joint_of(*punct, wanted) {
-                    Some(spot.bump())
+                    Some((*punct, spot.bump()))
                 } else {
                     None
                 }
             }
             _ => None,
+        }
+    }
+
+    // The punct of this character in front.
+    fn last(self, wanted: char) -> Option<(Punct, Spot<'a>)>
+        ensures { MatchOption result
+            (take (is_punct_of wanted) (descend (spot_place self.entry)) ≡ None)
+            (λ r. take (is_punct_of wanted) (descend (spot_place self.entry)) ≡ Some (leaf (punct_of r.0) ∷ [], spot_place r.1)) }
+    {
+        let spot = self.ignore_none();
+        match spot.leaf() {
+            Some(Leaf::Punct(punct)) => {
+                if is_punct_of(*punct, wanted) {
+                    Some((*punct, spot.bump()))
+                } else {
+                    None
+                }
+            }
+            _ => None,
+        }
+    }
+
+    // The punct of the first of some characters in front, joint where more of them follow.
+    fn next_of(self, wanted: char, rest: &str) -> Option<(Punct, Spot<'a>)>
+        ensures { MatchOption result
+            (read_next wanted (chars rest.now) (spot_place self.entry) ≡ None)
+            (λ r. read_next wanted (chars rest.now) (spot_place self.entry)
+            ≡ Some (leaf (punct_of r.0) ∷ [], spot_place r.1)) }
+    {
+        match next_char(rest) {
+            None => self.last(wanted),
+            Some(_) => self.joint(wanted),
+        }
+    }
+
+    // The puncts in front that are the characters of this text, each but the last joint, with their spans.
+    pub fn puncts(self, text: &str, spans: &mut [Span]) -> Option<Spot<'a>>
+        ensures { MatchOption result
+            (read_punctuation (sized (length spans.old) (chars text.now)) (spot_place self.entry) ≡ None)
+            (λ r. read_spans (read_punctuation (sized (length spans.old) (chars text.now)) (spot_place self.entry))
+            ≡ Some (spans.new, spot_place r)) }
+    {
+        if spans.is_empty() {
+            return None;
+        }
+        let mut spot = self;
+        let mut rest = text;
+        for span in spans.iter_mut() {
+            let Some((wanted, after)) = next_char(rest) else {
+                return None;
+            };
+            let Some((punct, behind)) = spot.next_of(wanted, after) else {
+                return None;
+            };
+            *span = punct.span();
+            spot = behind;
+            rest = after;
+        }
+        match next_char(rest) {
+            None => Some(spot),
+            Some(_) => None,
         }
     }
 

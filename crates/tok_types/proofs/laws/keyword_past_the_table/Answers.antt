@@ -1,6 +1,6 @@
 use Rattle.std.proofs.Common.{◌∙◌, ap, [], is_some}
 use Rattle.std.proofs.lemmas.List.{get_or_past}
-use Rattle.tok_types.specs.Looks.{read_keyword}
+use Rattle.tok_buffer.specs.Reads.{read_keyword}
 use Rattle.tok_types.specs.Texts.{keywords}
 use Rattle.tok_types.proofs.laws.keyword_past_the_table.Goals as goal
 

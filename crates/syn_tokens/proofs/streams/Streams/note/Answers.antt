@@ -1,6 +1,6 @@
 use Rattle.std.proofs.Common.{◌≡◌, ap, ◌∙◌, refl, length-set, arith}
 use Rattle.std.specs.Option.{option_or}
-use Rattle.syn_tokens.specs.Seen.{left_of}
+use Rattle.tok_buffer.specs.Ahead.{left_of}
 use Rattle.syn_tokens.specs.State.{noted}
 use Rattle.syn_tokens.specs.State as states
 use Rattle.syn_tokens.specs.Tracks.{stream_of}

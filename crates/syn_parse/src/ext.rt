@@ -1,0 +1,73 @@
+// Identifiers and lifetimes whatever their text.
+ghost use Rattle.std.specs.Prelude.{Result, IfOk};
+ghost use Rattle.syn_parse.specs.Parses.{AnyIdentParses, AnyLifetimeParses, IsUnraw};
+ghost use Rattle.syn_parse.specs.State.{State};
+ghost use Rattle.syn_parse.specs.declared.fault.Fault.{Fault};
+
+use crate::fault::Result;
+use crate::stream::ParseStream;
+use std::alloc::{AllocError, Global};
+use tok_buffer::Lifetime;
+use tok_core::Ident;
+
+/// Further calls on identifiers.
+pub trait IdentExt: Sized {
+    // How the stream before `parse_any`, its result and the stream after it are tied.
+    ghost any_parses: { State → Result Self Fault → State → Type 0 };
+
+    /// Parses an identifier whatever its text, also a reserved word.
+    fn parse_any(input: ParseStream<'_, '_>) -> Result<Self>
+        ensures { any_parses input.old result input.new };
+
+    // How an identifier and the one without `r#` are tied.
+    ghost is_unraw: { Self → Self → Type 0 };
+
+    /// The identifier without a leading `r#`, with the same span: what `Ident::unraw` returns.
+    fn unraw(&self, alloc: Global) -> std::result::Result<Self, AllocError>
+        ensures { IfOk result (is_unraw self.now) };
+}
+
+impl IdentExt for Ident {
+    ghost any_parses = { AnyIdentParses };
+
+    ghost is_unraw = { IsUnraw };
+
+    fn parse_any(input: ParseStream<'_, '_>) -> Result<Self> {
+        let Some((ident, rest)) = input.cursor().ident() else {
+            return Err(input.error("expected ident"));
+        };
+        let ident = ident.clone()?;
+        input.move_to(rest);
+        Ok(ident)
+    }
+
+    fn unraw(&self, alloc: Global) -> std::result::Result<Self, AllocError> {
+        Ident::unraw(self, alloc)
+    }
+}
+
+/// A further call on lifetimes.
+pub trait LifetimeExt: Sized {
+    // How the stream before `parse_any`, its result and the stream after it are tied.
+    ghost any_parses: { State → Result Self Fault → State → Type 0 };
+
+    /// Parses a lifetime whatever its name, also a reserved word.
+    fn parse_any(input: ParseStream<'_, '_>) -> Result<Self>
+        ensures { any_parses input.old result input.new };
+}
+
+impl LifetimeExt for Lifetime {
+    ghost any_parses = { AnyLifetimeParses };
+
+    fn parse_any(input: ParseStream<'_, '_>) -> Result<Self> {
+        let Some((lifetime, rest)) = input.cursor().lifetime() else {
+            return Err(input.error("expected lifetime"));
+        };
+        let ident = lifetime.ident.clone()?;
+        input.move_to(rest);
+        Ok(Lifetime {
+            apostrophe: lifetime.apostrophe,
+            ident,
+        })
+    }
+}

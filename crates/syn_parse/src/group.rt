@@ -1,0 +1,182 @@
+// Entering groups.
+ghost use Rattle.std.specs.Prelude.{◌≡◌, Some, codes};
+ghost use Rattle.std.specs.Fn.{FnOnceReturnsAtMut, FnOnceTakesAtMut};
+ghost use Rattle.tok_core.specs.declared.group.Delimiter.TheVariants as delimiter;
+ghost use Rattle.tok_buffer.specs.Entry.{Entered, enter, enter_any};
+ghost use Rattle.syn_parse.specs.Groups.{AreParts, Enters, RunsWithin};
+ghost use Rattle.syn_parse.specs.State.{content_of};
+ghost use Rattle.syn_parse.specs.Words.{delimiter_words, refused_at};
+
+use crate::fault::Result;
+use crate::stream::{ParseBuffer, ParseStream};
+use crate::words::delimiter_words;
+use tok_core::{DelimSpan, Delimiter};
+use tok_types::token;
+
+/// Parentheses that have been entered: their token, and the stream of what is inside.
+pub struct Parens<'a> {
+    pub token: token::Paren,
+    pub content: ParseBuffer<'a>,
+}
+
+/// Braces that have been entered: their token, and the stream of what is inside.
+pub struct Braces<'a> {
+    pub token: token::Brace,
+    pub content: ParseBuffer<'a>,
+}
+
+/// Brackets that have been entered: their token, and the stream of what is inside.
+pub struct Brackets<'a> {
+    pub token: token::Bracket,
+    pub content: ParseBuffer<'a>,
+}
+
+/// An invisible group that has been entered: its token, and the stream of what is inside.
+pub struct Group<'a> {
+    pub token: token::Group,
+    pub content: ParseBuffer<'a>,
+}
+
+/// Enters parentheses, and moves the stream after them. Close the content into the stream.
+///
+///     let Parens { token, mut content } = parse_parens(input)?;
+///     let name = content.parse::<Ident>();
+///     input.close(content);
+///     Ok((token, name?))
+pub fn parse_parens<'a>(input: ParseStream<'_, 'a>) -> Result<Parens<'a>>
+    ensures { Enters (λ p. AreParts p.token.span p.content) (enter delimiter.Parenthesis input.old.place)
+        (refused_at input.old (delimiter_words delimiter.Parenthesis)) input.old result input.new }
+{
+    let (span, content) = input.enter(Delimiter::Parenthesis)?;
+    Ok(Parens {
+        token: token::Paren::new(span),
+        content,
+    })
+}
+
+/// Enters braces, as `parse_parens` does parentheses.
+pub fn parse_braces<'a>(input: ParseStream<'_, 'a>) -> Result<Braces<'a>>
+    ensures { Enters (λ p. AreParts p.token.span p.content) (enter delimiter.Brace input.old.place)
+        (refused_at input.old (delimiter_words delimiter.Brace)) input.old result input.new }
+{
+    let (span, content) = input.enter(Delimiter::Brace)?;
+    Ok(Braces {
+        token: token::Brace::new(span),
+        content,
+    })
+}
+
+/// Enters brackets, as `parse_parens` does parentheses.
+pub fn parse_brackets<'a>(input: ParseStream<'_, 'a>) -> Result<Brackets<'a>>
+    ensures { Enters (λ p. AreParts p.token.span p.content) (enter delimiter.Bracket input.old.place)
+        (refused_at input.old (delimiter_words delimiter.Bracket)) input.old result input.new }
+{
+    let (span, content) = input.enter(Delimiter::Bracket)?;
+    Ok(Brackets {
+        token: token::Bracket::new(span),
+        content,
+    })
+}
+
+/// Enters an invisible group, as `parse_parens` does parentheses.
+pub fn parse_group<'a>(input: ParseStream<'_, 'a>) -> Result<Group<'a>>
+    ensures { Enters (λ p e. (p.token.span ≡ e.span) × (p.content ≡ content_of e)) (enter delimiter.None input.old.place)
+        (refused_at input.old (delimiter_words delimiter.None)) input.old result input.new }
+{
+    let (span, content) = input.enter(Delimiter::None)?;
+    Ok(Group {
+        token: token::Group::new(span.join()),
+        content,
+    })
+}
+
+impl<'a> ParseBuffer<'a> {
+    // Enters the group of this delimiter: its span, and the stream of its content.
+    fn enter(&mut self, delimiter: Delimiter) -> Result<(DelimSpan, Self)>
+        ensures { Enters (λ p. AreParts p.0 p.1) (enter delimiter self.old.place)
+            (refused_at self.old (delimiter_words delimiter)) self.old result self.new }
+    {
+        match self.cursor().group(delimiter) {
+            Some((content, span, rest)) => {
+                self.move_to(rest);
+                Ok((
+                    span,
+                    ParseBuffer::made(self.allocator(), content, span.close(), None),
+                ))
+            }
+            None => Err(self.error(delimiter_words(delimiter))),
+        }
+    }
+
+    /// Enters the next tree if it is a group, also an invisible one: its delimiter, its span, and the stream of its
+    /// content. Close the content into this stream.
+    pub fn parse_any_delimiter(&mut self) -> Result<(Delimiter, DelimSpan, Self)>
+        ensures { Enters (λ p e. (p.0 ≡ e.delimiter) × AreParts p.1 p.2 e) (enter_any self.old.place)
+            (refused_at self.old (codes "expected any delimiter")) self.old result self.new }
+    {
+        match self.cursor().any_group() {
+            Some((content, delimiter, span, rest)) => {
+                self.move_to(rest);
+                let content = ParseBuffer::made(self.allocator(), content, span.close(), None);
+                Ok((delimiter, span, content))
+            }
+            None => Err(self.error("expected any delimiter")),
+        }
+    }
+
+    /// Enters a group of this delimiter, runs `f` on its content, and closes the content, also where `f` returns an error.
+    /// Returns the group's span and the value of `f`.
+    ///
+    ///     let (span, name) = input.within(Delimiter::Parenthesis, |content| content.parse::<Ident>())?;
+    pub fn within<F, R>(&mut self, delimiter: Delimiter, f: F) -> Result<(DelimSpan, R)>
+    where
+        F: FnOnce(ParseStream<'_, 'a>) -> Result<R>,
+        requires { (e : Entered) → enter delimiter self.old.place ≡ Some e → FnOnceTakesAtMut F.FnOnce f (content_of e) }
+        ensures { RunsWithin (FnOnceReturnsAtMut F.FnOnce f) (enter delimiter self.old.place)
+            (refused_at self.old (delimiter_words delimiter)) self.old result self.new }
+    {
+        let (span, mut content) = self.enter(delimiter)?;
+        let value = content.call(f);
+        self.close(content);
+        Ok((span, value?))
+    }
+}
+
+/// Enters parentheses: gives their token, and puts the stream of what is inside into a variable that was declared before.
+/// It stands in functions that return a `Result`, since it uses `?`.
+///
+///     let mut content;
+///     let paren = parenthesized!(content in input);
+///     let name = content.parse::<Ident>();
+///     input.close(content);
+#[macro_export]
+macro_rules! parenthesized {
+    ($content:ident in $input:expr) => {{
+        let parens = $crate::parse_parens($input)?;
+        let $crate::Parens { token, content: inner } = parens;
+        $content = inner;
+        token
+    }};
+}
+
+/// Enters braces, as `parenthesized!` does parentheses.
+#[macro_export]
+macro_rules! braced {
+    ($content:ident in $input:expr) => {{
+        let braces = $crate::parse_braces($input)?;
+        let $crate::Braces { token, content: inner } = braces;
+        $content = inner;
+        token
+    }};
+}
+
+/// Enters brackets, as `parenthesized!` does parentheses.
+#[macro_export]
+macro_rules! bracketed {
+    ($content:ident in $input:expr) => {{
+        let brackets = $crate::parse_brackets($input)?;
+        let $crate::Brackets { token, content: inner } = brackets;
+        $content = inner;
+        token
+    }};
+}

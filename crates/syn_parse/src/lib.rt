@@ -1,0 +1,36 @@
+//! Parse streams: what parsers of token trees are written on.
+//!
+//! A parser is a function `fn(ParseStream) -> Result<T>`. It reads values by `parse`, looks ahead by `peek` and
+//! `lookahead1`, enters groups by `within` or by the readers of this crate, and tries by `fork`. `Parser` runs one over a
+//! whole text or stream of tokens.
+#![tactic(auto)]
+
+mod ext;
+mod fault;
+mod group;
+mod lookahead;
+mod parse;
+mod parser;
+pub mod parsing;
+mod paused;
+mod step;
+mod stream;
+mod tokens;
+mod trees;
+mod words;
+
+pub use ext::{IdentExt, LifetimeExt};
+pub use fault::{Fault, Result};
+pub use group::{
+    Braces, Brackets, Group, Parens, parse_braces, parse_brackets, parse_group, parse_parens,
+};
+pub use lookahead::Lookahead1;
+pub use parse::Parse;
+pub use parser::Parser;
+pub use paused::Paused;
+pub use step::StepCursor;
+pub use stream::{ParseBuffer, ParseStream, tokens_to_parse_buffer};
+pub use tokens::Nothing;
+
+#[cfg(test)]
+mod tests;

@@ -1,0 +1,89 @@
+// Values that are parsed, and peeks.
+ghost use Rattle.std.specs.Prelude.{Result, codes};
+ghost use Rattle.syn_parse.specs.Reads.{BoxParses, OptionParses, Peeks2, Peeks3};
+ghost use Rattle.syn_parse.specs.State.{State};
+ghost use Rattle.syn_parse.specs.declared.fault.Fault.{Fault};
+
+use crate::fault::Result;
+use crate::stream::{ParseBuffer, ParseStream};
+use tok_types::token::Token;
+
+/// A type whose values can be parsed from a stream. An own type writes `parse` alone:
+///
+///     impl Parse for Name {
+///         fn parse(input: ParseStream<'_, '_>) -> Result<Self> {
+///             Ok(Name { ident: input.parse()? })
+///         }
+///     }
+pub trait Parse: Sized {
+    // How the stream before a call, its result and the stream after it are tied. A type that states nothing promises
+    // nothing.
+    ghost parses: { State → Result Self Fault → State → Type 0 } = { λ _ _ _. Unit {0} };
+
+    /// Parses a value, and leaves the stream after it.
+    fn parse(input: ParseStream<'_, '_>) -> Result<Self>
+        ensures { parses input.old result input.new };
+}
+
+impl<'a> ParseBuffer<'a> {
+    /// Parses a value of this type: `let name: Ident = input.parse()?;`.
+    pub fn parse<T: Parse>(&mut self) -> Result<T>
+        ensures { T.parses self.old result self.new }
+    {
+        T::parse(self)
+    }
+
+    /// Whether this token is next: `input.peek::<token::Comma>()`.
+    pub fn peek<T: Token>(&self) -> bool
+        ensures { T.peeks self.now.place result }
+    {
+        T::peek(self.cursor())
+    }
+
+    /// Whether this token comes after the next one.
+    pub fn peek2<T: Token>(&self) -> bool
+        ensures { Peeks2 T.peeks self.now.place result }
+    {
+        match self.cursor().skip() {
+            Some(second) => T::peek(second),
+            None => false,
+        }
+    }
+
+    /// Whether this token comes after the next two.
+    pub fn peek3<T: Token>(&self) -> bool
+        ensures { Peeks3 T.peeks self.now.place result }
+    {
+        let Some(second) = self.cursor().skip() else {
+            return false;
+        };
+        match second.skip() {
+            Some(third) => T::peek(third),
+            None => false,
+        }
+    }
+}
+
+/// Parses a value where its peek is true, and else nothing.
+impl<T: Parse + Token> Parse for Option<T> {
+    ghost parses = { OptionParses T.peeks T.parses };
+
+    fn parse(input: ParseStream<'_, '_>) -> Result<Self> {
+        if T::peek(input.cursor()) {
+            Ok(Some(T::parse(input)?))
+        } else {
+            Ok(None)
+        }
+    }
+}
+
+/// Parses a value into a box. Where the allocation fails the stream is after the value.
+impl<T: Parse + Drop> Parse for Box<T> {
+    ghost parses = { BoxParses T.parses };
+
+    fn parse(input: ParseStream<'_, '_>) -> Result<Self> {
+        let alloc = input.allocator();
+        let value = T::parse(input)?;
+        Ok(Box::new(alloc, value)?)
+    }
+}

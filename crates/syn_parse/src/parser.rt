@@ -1,0 +1,98 @@
+// Parsers of whole texts and streams of tokens.
+ghost use Rattle.std.specs.Prelude.{Result};
+ghost use Rattle.std.specs.Str.{chars};
+ghost use Rattle.std.specs.Fn.{FnOnceReturnsAtMut};
+ghost use Rattle.tok_core.specs.Spans.{call_site};
+ghost use Rattle.syn_parse.specs.Parsers.{Finishes, IsUnread, ParsesText, ParsesWhole, whole_stream};
+ghost use Rattle.syn_parse.specs.State.{State};
+ghost use Rattle.syn_parse.specs.declared.fault.Fault.{Fault};
+
+use crate::fault::{Fault, Result};
+use crate::stream::{ParseBuffer, ParseStream, tokens_to_parse_buffer};
+use std::alloc::{AllocError, Global};
+use tok_buffer::{Error, TokenBuffer};
+use tok_core::{LexFault, Span, TokenStream, lex};
+
+/// A parser of a whole stream of tokens. Every function from a `ParseStream` to a `Result` is one:
+///
+///     let name = Ident::parse.parse_str(alloc, "x")?;
+pub trait Parser: Sized {
+    /// What is parsed.
+    type Output;
+
+    // How the stream before a call, its result and the stream after it are tied.
+    ghost parses: { Self → State → Result Self.Output Fault → State → Type 0 };
+
+    // The parser may be called on every stream.
+    ghost callable: { Self → Type 0 };
+
+    /// Parses all of these tokens. A refusal of the parser comes first; otherwise a token that is left unread is refused.
+    fn parse2(self, alloc: Global, tokens: TokenStream) -> Result<Self::Output>
+        requires { callable self }
+        ensures { ParsesWhole (parses self) (whole_stream tokens call_site) result };
+
+    /// Lexes a text as source 0, and parses its tokens as `parse2` does.
+    fn parse_str(self, alloc: Global, text: &str) -> Result<Self::Output>
+        requires { callable self }
+        ensures { ParsesText (parses self) (chars text.now) result };
+
+    /// Parses all of these tokens as `parse2` does, where the end of the tokens has the span `scope`.
+    fn parse_scoped(self, alloc: Global, scope: Span, tokens: TokenStream) -> Result<Self::Output>
+        requires { callable self }
+        ensures { ParsesWhole (parses self) (whole_stream tokens scope) result };
+}
+
+impl<T: Drop, F> Parser for F
+where
+    F: FnOnce(ParseStream<'_, '_>) -> Result<T>,
+{
+    type Output = T;
+
+    ghost parses = { λ f s r t. FnOnceReturnsAtMut F.FnOnce f s r t };
+
+    ghost callable = { λ f. F.IsAlwaysCallable f };
+
+    fn parse2(self, alloc: Global, tokens: TokenStream) -> Result<T> {
+        self.parse_scoped(alloc, Span::call_site(), tokens)
+    }
+
+    fn parse_str(self, alloc: Global, text: &str) -> Result<T> {
+        match lex(alloc, 0, text) {
+            Ok(tokens) => self.parse2(alloc, tokens),
+            Err(fault) => Err(unread(alloc, fault)),
+        }
+    }
+
+    fn parse_scoped(self, alloc: Global, scope: Span, tokens: TokenStream) -> Result<T> {
+        let buffer = TokenBuffer::new2(alloc, 0, tokens)?;
+        let mut input = tokens_to_parse_buffer(alloc, &buffer, scope);
+        let answer = self(&mut input);
+        settle(answer, input)
+    }
+}
+
+// The parser's refusal, or else that of a leftover, or else the value.
+fn settle<T: Drop>(answer: Result<T>, input: ParseBuffer<'_>) -> Result<T>
+    ensures { Finishes answer input.entry result }
+{
+    match answer {
+        Ok(value) => {
+            input.finish()?;
+            Ok(value)
+        }
+        Err(fault) => {
+            input.discard();
+            Err(fault)
+        }
+    }
+}
+
+// The refusal of a text that the lexer refuses.
+fn unread(alloc: Global, fault: LexFault) -> Fault
+    ensures { IsUnread fault result }
+{
+    match fault {
+        LexFault::Refused(error) => Fault::refused(Error::from_lex(alloc, error)),
+        LexFault::Memory => Fault::Memory(AllocError),
+    }
+}

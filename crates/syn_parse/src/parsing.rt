@@ -1,0 +1,94 @@
+//! Parsers of tokens that are given by their text.
+ghost use Rattle.std.specs.Prelude.{◌≡◌, ◌∷◌, [], Some, None, MatchOption, is_some};
+ghost use Rattle.std.specs.Str.{chars};
+ghost use Rattle.tok_core.specs.Forest.{leaf, ident};
+ghost use Rattle.tok_buffer.specs.Cursors.{place_of};
+ghost use Rattle.tok_buffer.specs.Reads.{read_keyword, read_punctuation, sized};
+ghost use Rattle.syn_parse.specs.Faults.{Refuses};
+ghost use Rattle.syn_parse.specs.Parses.{PunctuationParses, WordParses, ascii_chars};
+ghost use Rattle.syn_parse.specs.Words.{punctuation_refusal, punctuation_span};
+
+use crate::fault::{Fault, Result};
+use crate::stream::{ParseBuffer, ParseStream};
+use tok_buffer::{Cursor, Error};
+use tok_core::Span;
+
+/// Parses the identifier of this text, and returns its span. The empty text is always refused.
+///
+///     let span = parsing::keyword(input, "sealed")?;
+pub fn keyword(input: ParseStream<'_, '_>, text: &str) -> Result<Span>
+    ensures { WordParses (λ span. span) text.now input.old result input.new }
+{
+    match word(input.cursor(), text) {
+        Some((span, rest)) => {
+            input.move_to(rest);
+            Ok(span)
+        }
+        None => Err(input.error(format_args!("expected `{text}`"))),
+    }
+}
+
+/// Parses the puncts that are the characters of this text, each but the last joint, and returns their spans. A text of
+/// another length than `N` bytes counts as empty. The empty text is always refused, and so is one that isn't ASCII.
+///
+///     let spans: [Span; 2] = parsing::punct(input, "=~")?;
+pub fn punct<const N: usize>(input: ParseStream<'_, '_>, text: &str) -> Result<[Span; N]>
+    ensures { let text = sized N text.now in PunctuationParses (λ spans. spans) (ascii_chars text) text input.old result input.new }
+{
+    let text = if text.len() == N { text } else { "" };
+    let mut spans = [Span::call_site(); N];
+    match input.cursor().puncts(text, &mut spans) {
+        Some(rest) => {
+            input.move_to(rest);
+            Ok(spans)
+        }
+        None => Err(input.punct_error(text)),
+    }
+}
+
+/// Whether the puncts in front are the characters of this text, each but the last joint.
+pub fn peek_punct(cursor: Cursor<'_>, text: &str) -> bool
+    ensures { result ≡ is_some (read_punctuation (chars text.now) (place_of cursor.entry)) }
+{
+    cursor.peek_punct(text)
+}
+
+impl<'a> ParseBuffer<'a> {
+    // The refusal of a punctuation: without the words for an end, and at the next punct if there is one.
+    fn punct_error(&self, text: &str) -> Fault
+        ensures { Refuses (punctuation_refusal text.now self.now) result }
+    {
+        let span = self.punct_span(text);
+        let error = Error::new(self.allocator(), span, format_args!("expected `{text}`"));
+        Fault::refused(error)
+    }
+
+    fn punct_span(&self, text: &str) -> Span
+        ensures { result ≡ punctuation_span text.now self.now }
+    {
+        if text.is_empty() {
+            return self.span();
+        }
+        match self.cursor().punct() {
+            Some((punct, _)) => punct.span(),
+            None => self.span(),
+        }
+    }
+}
+
+// The span of the next token if it is the identifier of this text, and the cursor after it.
+fn word<'a>(cursor: Cursor<'a>, text: &str) -> Option<(Span, Cursor<'a>)>
+    ensures { MatchOption result
+        (read_keyword text.now (place_of cursor.entry) ≡ None)
+        (λ r. read_keyword text.now (place_of cursor.entry) ≡ Some (leaf (ident text.now r.0) ∷ [], place_of r.1)) }
+{
+    if text.is_empty() {
+        return None;
+    }
+    let (ident, rest) = cursor.ident()?;
+    if text == ident.as_str() {
+        Some((ident.span(), rest))
+    } else {
+        None
+    }
+}

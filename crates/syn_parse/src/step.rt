@@ -1,0 +1,69 @@
+// Parsers written over cursors.
+ghost use Rattle.std.specs.Prelude.{◌≡◌, Ok, IfSome};
+ghost use Rattle.tok_buffer.specs.Cursors.{place_of};
+ghost use Rattle.tok_buffer.specs.declared.cursor.Cursor.{Cursor};
+ghost use Rattle.syn_parse.specs.Faults.{Refuses, RefusesAt};
+ghost use Rattle.syn_parse.specs.State.{forked, state_span};
+ghost use Rattle.syn_parse.specs.Steps.{step_state, StaysIn, StepsTo};
+ghost use Rattle.syn_parse.specs.Words.{refused_at};
+ghost use Rattle.syn_parse.specs.declared.step.StepCursor.{StepCursor};
+
+use crate::fault::{Fault, Result};
+use crate::stream::ParseBuffer;
+use std::alloc::Global;
+use std::fmt::Display;
+use tok_buffer::{Cursor, Error};
+use tok_core::Span;
+
+/// What the function of a `step` is handed: the stream's cursor, and refusals at it.
+#[derive(Clone, Copy)]
+pub struct StepCursor<'a> {
+    alloc: Global,
+    cursor: Cursor<'a>,
+    scope_span: Span,
+}
+
+impl<'a> StepCursor<'a> {
+    /// The cursor at the stream's place.
+    pub fn cursor(self) -> Cursor<'a>
+        ensures { place_of result ≡ (step_state self.entry).place }
+    {
+        self.cursor
+    }
+
+    /// A refusal with this message where the step begins, as `ParseBuffer::error` of the stream.
+    pub fn error<T: Display + Drop>(self, message: T) -> Fault
+        ensures span { RefusesAt (state_span (step_state self.entry)) result }
+        ensures words { IfSome (T.output message) (λ words. Refuses (refused_at (step_state self.entry) words) result) }
+    {
+        Fault::refused(Error::new_at(self.alloc, self.scope_span, self.cursor, message))
+    }
+}
+
+impl<'a> ParseBuffer<'a> {
+    /// Runs `f` on the stream's cursor, returns its value, and moves to the cursor that it returns. Where `f` returns an
+    /// error the stream stays where it is. Owed: the cursor that `f` returns is in the same scope and no earlier, or empty.
+    ///
+    ///     input.step(|from| match from.cursor().literal() {
+    ///         Some((literal, rest)) => Ok((literal.clone()?, rest)),
+    ///         None => Err(from.error("expected a literal")),
+    ///     })
+    pub fn step<F, R>(&mut self, f: F) -> Result<R>
+    where
+        F: FnOnce(StepCursor<'a>) -> Result<(R, Cursor<'a>)>,
+        requires callable { (from : StepCursor) → step_state from ≡ forked self.old → F.pre f from }
+        requires stays { (from : StepCursor) (value : R) (rest : Cursor) → step_state from ≡ forked self.old
+            → F.post f from (Ok (value, rest)) → StaysIn self.old.place (place_of rest) }
+        ensures { (from : StepCursor) × (answer : _) × (step_state from ≡ forked self.old)
+            × F.post f from answer × StepsTo self.old answer result self.new }
+    {
+        let from = StepCursor {
+            alloc: self.allocator(),
+            cursor: self.cursor(),
+            scope_span: self.scope_span(),
+        };
+        let (value, rest) = f(from)?;
+        self.move_to(rest);
+        Ok(value)
+    }
+}

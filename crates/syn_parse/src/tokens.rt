@@ -1,0 +1,62 @@
+// Parsing keywords, punctuations, `_` and nothing.
+ghost use Rattle.std.specs.Prelude.{codes};
+ghost use Rattle.tok_types.specs.Printed.{first_span};
+ghost use Rattle.tok_types.specs.Texts.{keyword_text, punctuation_word};
+ghost use Rattle.syn_parse.specs.Parses.{NothingParses, PunctuationParses, WordParses};
+
+use crate::fault::Result;
+use crate::parse::Parse;
+use crate::parsing::{keyword, punct};
+use crate::stream::ParseStream;
+use std::alloc::AllocError;
+use tok_core::{ToTokens, TokenStream};
+use tok_types::token::{Keyword, Punctuation, Underscore, keyword_text, punctuation_text};
+
+impl<const K: usize> Parse for Keyword<K> {
+    ghost parses = { WordParses (λ k. k.span) (keyword_text K) };
+
+    fn parse(input: ParseStream<'_, '_>) -> Result<Self> {
+        let span = keyword(input, keyword_text(K))?;
+        Ok(Keyword::new(span))
+    }
+}
+
+impl<const K: usize, const N: usize> Parse for Punctuation<K, N> {
+    ghost parses = { PunctuationParses (λ p. p.spans) (punctuation_word K N) (punctuation_word K N) };
+
+    fn parse(input: ParseStream<'_, '_>) -> Result<Self> {
+        let spans = punct(input, punctuation_text(K))?;
+        Ok(Punctuation::new(spans))
+    }
+}
+
+impl Parse for Underscore {
+    ghost parses = { WordParses (λ u. first_span u.spans) (codes "_") };
+
+    fn parse(input: ParseStream<'_, '_>) -> Result<Self> {
+        let span = keyword(input, "_")?;
+        Ok(Underscore::from_span(span))
+    }
+}
+
+/// A value that is parsed from no tokens: its `parse` always succeeds, and leaves the stream as it is.
+#[derive(Clone, Copy, PartialEq, Eq, Hash, Debug)]
+pub struct Nothing;
+
+impl Parse for Nothing {
+    ghost parses = { NothingParses };
+
+    fn parse(_input: ParseStream<'_, '_>) -> Result<Self> {
+        Ok(Nothing)
+    }
+}
+
+impl ToTokens for Nothing {
+    ghost use Rattle.tok_core.specs.Forest.{no_trees};
+
+    ghost printed = { λ _. no_trees };
+
+    fn to_tokens(&self, _tokens: &mut TokenStream) -> std::result::Result<(), AllocError> {
+        Ok(())
+    }
+}

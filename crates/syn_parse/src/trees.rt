@@ -1,0 +1,140 @@
+// Parsing trees, identifiers and lifetimes.
+ghost use Rattle.std.specs.Prelude.{◌≡◌, is_some};
+ghost use Rattle.tok_buffer.specs.Cursors.{place_of};
+ghost use Rattle.syn_parse.specs.Parses as spec;
+ghost use Rattle.syn_parse.specs.Parses.{GroupParses, IdentParses, LifetimeParses, LiteralParses, PunctParses, RestParses, TreeParses};
+
+use crate::fault::Result;
+use crate::parse::Parse;
+use crate::stream::ParseStream;
+use tok_buffer::{Cursor, Lifetime};
+use tok_core::{Delimiter, Group, Ident, Literal, Punct, TokenStream, TokenTree};
+use tok_types::accept_as_ident;
+
+/// Parses an identifier that is no reserved word.
+impl Parse for Ident {
+    ghost parses = { IdentParses };
+
+    fn parse(input: ParseStream<'_, '_>) -> Result<Self> {
+        let Some((ident, rest)) = input.cursor().ident() else {
+            return Err(input.error("expected identifier"));
+        };
+        let name = ident.as_str();
+        if !accept_as_ident(name) {
+            return Err(input.error(format_args!("expected identifier, found keyword `{name}`")));
+        }
+        let ident = ident.clone()?;
+        input.move_to(rest);
+        Ok(ident)
+    }
+}
+
+/// Parses a lifetime whose name is no reserved word, or is `static` or `_`.
+impl Parse for Lifetime {
+    ghost parses = { LifetimeParses };
+
+    fn parse(input: ParseStream<'_, '_>) -> Result<Self> {
+        let Some((lifetime, rest)) = input.cursor().lifetime() else {
+            return Err(input.error("expected lifetime"));
+        };
+        let name = lifetime.ident.as_str();
+        if !accept_as_lifetime(name) {
+            return Err(input.error(format_args!("unexpected keyword lifetime \"'{name}\"")));
+        }
+        let ident = lifetime.ident.clone()?;
+        input.move_to(rest);
+        Ok(Lifetime {
+            apostrophe: lifetime.apostrophe,
+            ident,
+        })
+    }
+}
+
+// Whether `Lifetime::parse` takes a lifetime of this name.
+fn accept_as_lifetime(name: &str) -> bool
+    ensures { result ≡ spec.accept_as_lifetime name.now }
+{
+    accept_as_ident(name) || name == "static" || name == "_"
+}
+
+/// Parses a literal.
+impl Parse for Literal {
+    ghost parses = { LiteralParses };
+
+    fn parse(input: ParseStream<'_, '_>) -> Result<Self> {
+        let Some((literal, rest)) = input.cursor().literal() else {
+            return Err(input.error("expected literal token"));
+        };
+        let literal = literal.clone()?;
+        input.move_to(rest);
+        Ok(literal)
+    }
+}
+
+/// Parses a punct other than an apostrophe.
+impl Parse for Punct {
+    ghost parses = { PunctParses };
+
+    fn parse(input: ParseStream<'_, '_>) -> Result<Self> {
+        let Some((punct, rest)) = input.cursor().punct() else {
+            return Err(input.error("expected punctuation token"));
+        };
+        input.move_to(rest);
+        Ok(punct)
+    }
+}
+
+/// Parses the next tree, also an invisible group.
+impl Parse for TokenTree {
+    ghost parses = { TreeParses };
+
+    fn parse(input: ParseStream<'_, '_>) -> Result<Self> {
+        let alloc = input.allocator();
+        let Some((next, rest)) = input.cursor().token_tree(alloc)? else {
+            return Err(input.error("expected token tree"));
+        };
+        input.move_to(rest);
+        Ok(next)
+    }
+}
+
+/// Parses the next tree if it is a visible group.
+impl Parse for Group {
+    ghost parses = { GroupParses };
+
+    fn parse(input: ParseStream<'_, '_>) -> Result<Self> {
+        let alloc = input.allocator();
+        let cursor = input.cursor();
+        if !is_at_visible_group(cursor) {
+            return Err(input.error("expected group token"));
+        }
+        let Some((group, rest)) = cursor.any_group_token(alloc)? else {
+            return Err(input.error("expected group token"));
+        };
+        input.move_to(rest);
+        Ok(group)
+    }
+}
+
+// Whether the next tree is a visible group.
+fn is_at_visible_group(cursor: Cursor<'_>) -> bool
+    ensures { result ≡ is_some (spec.read_group (place_of cursor.entry)) }
+{
+    match cursor.any_group() {
+        Some((_, Delimiter::None, _, _)) => false,
+        Some(_) => true,
+        None => false,
+    }
+}
+
+/// Parses all that is left. The stream is at the empty cursor then, which is in no scope.
+impl Parse for TokenStream {
+    ghost parses = { RestParses };
+
+    fn parse(input: ParseStream<'_, '_>) -> Result<Self> {
+        let alloc = input.allocator();
+        let stream = input.cursor().token_stream(alloc)?;
+        input.move_to(Cursor::empty());
+        Ok(stream)
+    }
+}
