@@ -2,7 +2,7 @@
 ghost use Rattle.std.specs.Prelude.{◌≡◌, length};
 ghost use Rattle.syn_punctuated.specs.Lists.{values_of};
 
-use super::{Mark, numbers, shown};
+use super::{Mark, numbers, wants};
 use std::test::Fail;
 use syn_punctuated::{Pair, Punctuated};
 
@@ -65,7 +65,7 @@ fn lends_values_to_write(rt: HostRuntime) -> Result<(), Fail> {
         *value = 7;
     }
     assert_eq!(rt; written.len(), 1);
-    assert_eq!(rt; shown(alloc, &list)?.as_str(), "7,3;9");
+    wants(&rt, &list, "7,3;9");
     Ok(())
 }
 
@@ -134,7 +134,7 @@ fn lends_pairs_to_write(rt: HostRuntime) -> Result<(), Fail> {
         _ => assert!(rt; false),
     }
     assert_eq!(rt; written.len(), 1);
-    assert_eq!(rt; shown(alloc, &list)?.as_str(), "5+3;6");
+    wants(&rt, &list, "5+3;6");
     Ok(())
 }
 
