@@ -218,17 +218,31 @@ fn rebuilds_a_stream(rt: HostRuntime) -> Result<(), Fail> {
 }
 
 #[test]
-fn rebuilds_trees(rt: HostRuntime) -> Result<(), Fail> {
+fn rebuilds_a_leaf(rt: HostRuntime) -> Result<(), Fail> {
     let buffer = laid(rt.alloc(), 0, "1 («b» 'c)")?;
-    let (literal, rest) = buffer.begin().literal().ok_or("no literal")?;
+    let (literal, _) = buffer.begin().literal().ok_or("no literal")?;
     assert_eq!(rt; literal.as_str(), "1");
-    let (first, _) = buffer.begin().token_tree(rt.alloc())?.ok_or("no tree")?;
-    assert_eq!(rt; first.span(), at(0, 1));
-    let (next, end) = rest.token_tree(rt.alloc())?.ok_or("no tree")?;
-    assert_eq!(rt; next.span(), at(2, 8));
+    let (tree, _) = buffer.begin().token_tree(rt.alloc())?.ok_or("no tree")?;
+    assert_eq!(rt; tree.span(), at(0, 1));
+    Ok(())
+}
+
+#[test]
+fn rebuilds_a_group(rt: HostRuntime) -> Result<(), Fail> {
+    let buffer = laid(rt.alloc(), 0, "1 («b» 'c)")?;
+    let (_, rest) = buffer.begin().literal().ok_or("no literal")?;
+    let (tree, end) = rest.token_tree(rt.alloc())?.ok_or("no tree")?;
+    assert_eq!(rt; tree.span(), at(2, 8));
+    assert!(rt; end.token_tree(rt.alloc())?.is_none());
+    Ok(())
+}
+
+#[test]
+fn rebuilds_the_trees_of_a_group(rt: HostRuntime) -> Result<(), Fail> {
+    let buffer = laid(rt.alloc(), 0, "1 («b» 'c)")?;
+    let (_, rest) = buffer.begin().literal().ok_or("no literal")?;
     let (group, _) = rest.any_group_token(rt.alloc())?.ok_or("no group")?;
     assert_eq!(rt; group.stream().trees().len(), 3);
-    assert!(rt; end.token_tree(rt.alloc())?.is_none());
     Ok(())
 }
 

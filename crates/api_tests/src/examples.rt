@@ -71,6 +71,13 @@ fn edits_a_list(rt: HostRuntime) -> Result<(), Fail> {
     list.retain(|value| *value != 4);
     assert_eq!(rt; written(alloc, &list)?.as_str(), "2,3");
     assert!(rt; !list.trailing_punct());
+    Ok(())
+}
+
+#[test]
+fn writes_into_a_list(rt: HostRuntime) -> Result<(), Fail> {
+    let alloc = rt.alloc();
+    let mut list = two_three_four(alloc)?;
     if 1 <= list.len() {
         raise_first(&mut list);
         put_seven(&mut list)?;

@@ -77,6 +77,12 @@ fn keeps_values_with_their_separators(rt: HostRuntime) -> Result<(), Fail> {
         wants(&rt, &list, left);
         assert_eq!(rt; list.trailing_punct(), trailing);
     }
+    Ok(())
+}
+
+#[test]
+fn keeps_nothing(rt: HostRuntime) -> Result<(), Fail> {
+    let alloc = rt.alloc();
     let mut none = numbers(alloc, "2,3,4")?;
     none.retain(|_| false);
     wants(&rt, &none, "");
@@ -100,16 +106,29 @@ fn shows_each_value_to_the_predicate_once(rt: HostRuntime) -> Result<(), Fail> {
 }
 
 #[test]
-fn retains_inserts_and_extends(rt: HostRuntime) -> Result<(), Fail> {
+fn retains_all_but_the_last(rt: HostRuntime) -> Result<(), Fail> {
     let alloc = rt.alloc();
     let mut list = numbers(alloc, "2d3d4")?;
     list.retain(|value| *value != 4);
     wants(&rt, &list, "2d3");
     assert_eq!(rt; list.len(), 2);
+    Ok(())
+}
+
+#[test]
+fn inserts(rt: HostRuntime) -> Result<(), Fail> {
+    let mut list = numbers(rt.alloc(), "2d3")?;
     if 1 <= list.len() {
         list.insert(1, 9)?;
     }
     wants(&rt, &list, "2d9d3");
+    Ok(())
+}
+
+#[test]
+fn extends_by_no_pairs(rt: HostRuntime) -> Result<(), Fail> {
+    let alloc = rt.alloc();
+    let mut list = numbers(alloc, "2d9d3")?;
     list.extend_pairs(Numbers::new(alloc).into_pairs())?;
     wants(&rt, &list, "2d9d3d");
     assert!(rt; list.trailing_punct());
@@ -183,6 +202,13 @@ fn takes_from_the_end(rt: HostRuntime) -> Result<(), Fail> {
     let mut list = numbers(alloc, "2;3,4")?;
     assert_eq!(rt; list.pop_pair(), Some(Pair::End(4)));
     wants(&rt, &list, "2;3,");
+    Ok(())
+}
+
+#[test]
+fn takes_values_and_pairs(rt: HostRuntime) -> Result<(), Fail> {
+    let alloc = rt.alloc();
+    let mut list = numbers(alloc, "2;3,")?;
     assert_eq!(rt; list.pop(), Some(3));
     wants(&rt, &list, "2;");
     assert_eq!(rt; list.pop_pair(), Some(Pair::Punctuated(2, Mark(';'))));
@@ -198,6 +224,13 @@ fn adds_with_default_separators(rt: HostRuntime) -> Result<(), Fail> {
     list.push(1)?;
     list.push(2)?;
     wants(&rt, &list, "1d2");
+    Ok(())
+}
+
+#[test]
+fn extends_by_values(rt: HostRuntime) -> Result<(), Fail> {
+    let alloc = rt.alloc();
+    let mut list = numbers(alloc, "1d2")?;
     list.extend_values([3, 4])?;
     wants(&rt, &list, "1d2d3d4");
     list.clear();

@@ -151,14 +151,23 @@ fn clones_iterators_or_nothing(rt: HostRuntime) -> Result<(), Fail> {
     Ok(())
 }
 
+/// The list of 1 and these values.
+fn rare_values(
+    alloc: Global,
+    second: u32,
+    last: u32,
+) -> Result<Punctuated<Rare, Mark>, AllocError> {
+    let mut list = Punctuated::new(alloc);
+    list.push(Rare(1))?;
+    list.push(Rare(second))?;
+    list.push(Rare(last))?;
+    Ok(list)
+}
+
 #[test]
-fn passes_on_what_a_clone_wants(rt: HostRuntime) -> Result<(), Fail> {
-    let alloc = rt.alloc();
+fn passes_on_what_the_clone_of_a_pair_wants(rt: HostRuntime) -> Result<(), Fail> {
     for (second, last) in [(13, 3), (2, 13), (2, 3)] {
-        let mut list = Punctuated::<Rare, Mark>::new(alloc);
-        list.push(Rare(1))?;
-        list.push(Rare(second))?;
-        list.push(Rare(last))?;
+        let list = rare_values(rt.alloc(), second, last)?;
         for pair in list.pairs() {
             let value = pair.value().0;
             if value == 13 {
@@ -167,6 +176,14 @@ fn passes_on_what_a_clone_wants(rt: HostRuntime) -> Result<(), Fail> {
                 assert_eq!(rt; pair.cloned()?.into_value().0, value);
             }
         }
+    }
+    Ok(())
+}
+
+#[test]
+fn passes_on_what_the_clone_of_a_list_wants(rt: HostRuntime) -> Result<(), Fail> {
+    for (second, last) in [(13, 3), (2, 13), (2, 3)] {
+        let list = rare_values(rt.alloc(), second, last)?;
         if second == 13 || last == 13 {
             assert!(rt; list.clone().is_err());
             assert!(rt; list.into_pairs().clone().is_err());
