@@ -122,25 +122,43 @@ fn compares_empty_cursors(rt: HostRuntime) -> Result<(), Fail> {
 }
 
 #[test]
-fn compares_cursors(rt: HostRuntime) -> Result<(), Fail> {
+fn compares_cursors_of_two_buffers(rt: HostRuntime) -> Result<(), Fail> {
     let first = laid(rt.alloc(), 1, "a (b)")?;
     let second = laid(rt.alloc(), 2, "a (b)")?;
     let begin = first.begin();
     let other = second.begin();
+    assert!(rt; begin != other);
+    assert!(rt; begin.partial_cmp(&other).is_none());
+    Ok(())
+}
+
+#[test]
+fn compares_scopes(rt: HostRuntime) -> Result<(), Fail> {
+    let buffer = laid(rt.alloc(), 1, "a (b)")?;
+    let begin = buffer.begin();
     let (_, group) = begin.ident().ok_or("no identifier")?;
     let (content, _, _) = group.group(Delimiter::Parenthesis).ok_or("no group")?;
     all_hold(
         &rt,
         &[
-            begin != other,
-            begin.partial_cmp(&other).is_none(),
-            begin < group,
-            group < content,
             begin.same_scope(group),
             !begin.same_scope(content),
             begin.same_buffer(content),
-            laws::equal_in_order(begin, group) == (false, Some(Ordering::Less)),
         ],
+    );
+    Ok(())
+}
+
+#[test]
+fn orders_cursors(rt: HostRuntime) -> Result<(), Fail> {
+    let buffer = laid(rt.alloc(), 1, "a (b)")?;
+    let begin = buffer.begin();
+    let (_, group) = begin.ident().ok_or("no identifier")?;
+    let (content, _, _) = group.group(Delimiter::Parenthesis).ok_or("no group")?;
+    assert!(rt; begin < group && group < content);
+    assert_eq!(rt;
+        laws::equal_in_order(begin, group),
+        (false, Some(Ordering::Less))
     );
     Ok(())
 }
@@ -211,17 +229,31 @@ fn rebuilds_a_stream(rt: HostRuntime) -> Result<(), Fail> {
 }
 
 #[test]
-fn rebuilds_trees(rt: HostRuntime) -> Result<(), Fail> {
+fn rebuilds_a_leaf(rt: HostRuntime) -> Result<(), Fail> {
     let buffer = laid(rt.alloc(), 0, "1 («b» 'c)")?;
-    let (literal, rest) = buffer.begin().literal().ok_or("no literal")?;
+    let (literal, _) = buffer.begin().literal().ok_or("no literal")?;
     assert_eq!(rt; literal.as_str(), "1");
-    let (first, _) = buffer.begin().token_tree(rt.alloc())?.ok_or("no tree")?;
-    assert_eq!(rt; first.span(), at(0, 1));
-    let (next, end) = rest.token_tree(rt.alloc())?.ok_or("no tree")?;
-    assert_eq!(rt; next.span(), at(2, 8));
+    let (tree, _) = buffer.begin().token_tree(rt.alloc())?.ok_or("no tree")?;
+    assert_eq!(rt; tree.span(), at(0, 1));
+    Ok(())
+}
+
+#[test]
+fn rebuilds_a_group(rt: HostRuntime) -> Result<(), Fail> {
+    let buffer = laid(rt.alloc(), 0, "1 («b» 'c)")?;
+    let (_, rest) = buffer.begin().literal().ok_or("no literal")?;
+    let (tree, end) = rest.token_tree(rt.alloc())?.ok_or("no tree")?;
+    assert_eq!(rt; tree.span(), at(2, 8));
+    assert!(rt; end.token_tree(rt.alloc())?.is_none());
+    Ok(())
+}
+
+#[test]
+fn rebuilds_the_trees_of_a_group(rt: HostRuntime) -> Result<(), Fail> {
+    let buffer = laid(rt.alloc(), 0, "1 («b» 'c)")?;
+    let (_, rest) = buffer.begin().literal().ok_or("no literal")?;
     let (group, _) = rest.any_group_token(rt.alloc())?.ok_or("no group")?;
     assert_eq!(rt; group.stream().trees().len(), 3);
-    assert!(rt; end.token_tree(rt.alloc())?.is_none());
     Ok(())
 }
 
@@ -265,6 +297,12 @@ fn refuses_at_a_cursor(rt: HostRuntime) -> Result<(), Fail> {
     let buffer = laid(alloc, 0, "(b)")?;
     let here = Error::new_at(alloc, at(9, 9), buffer.begin(), "x")?;
     assert_eq!(rt; here.span(), at(0, 1));
+    Ok(())
+}
+
+#[test]
+fn refuses_at_an_end(rt: HostRuntime) -> Result<(), Fail> {
+    let alloc = rt.alloc();
     let end = Error::new_at(alloc, at(9, 9), Cursor::empty(), "x")?;
     assert_eq!(rt; end.span(), at(9, 9));
     let text = end.to_string(alloc)?;
@@ -296,11 +334,17 @@ fn of_two(alloc: Global) -> Result<Error, AllocError> {
 }
 
 #[test]
-fn shows_errors(rt: HostRuntime) -> Result<(), Fail> {
+fn shows_an_error(rt: HostRuntime) -> Result<(), Fail> {
     let alloc = rt.alloc();
     let one = Error::new(alloc, at(3, 4), "x")?;
     let shown = format!(in alloc; "{one:?} {one}")?;
     assert_eq!(rt; shown.as_str(), "Error(\"x\") x");
+    Ok(())
+}
+
+#[test]
+fn shows_an_error_of_two_messages(rt: HostRuntime) -> Result<(), Fail> {
+    let alloc = rt.alloc();
     let two = of_two(alloc)?;
     let shown = format!(in alloc; "{two:?} {two}")?;
     assert_eq!(rt; shown.as_str(), "Error([\"x\", \"y\"]) x");
@@ -308,13 +352,19 @@ fn shows_errors(rt: HostRuntime) -> Result<(), Fail> {
 }
 
 #[test]
-fn goes_over_messages(rt: HostRuntime) -> Result<(), Fail> {
-    let alloc = rt.alloc();
-    let spans = [at(3, 4), at(5, 6), at(3, 4), at(5, 6)];
-    let mut error = of_two(alloc)?;
+fn lends_messages(rt: HostRuntime) -> Result<(), Fail> {
+    let spans = [at(3, 4), at(5, 6)];
+    let error = of_two(rt.alloc())?;
     for (row, one) in (&error).into_iter().enumerate() {
         assert_eq!(rt; Some(one?.span()), spans.get(row).copied());
     }
+    Ok(())
+}
+
+#[test]
+fn gives_messages(rt: HostRuntime) -> Result<(), Fail> {
+    let spans = [at(3, 4), at(5, 6), at(3, 4), at(5, 6)];
+    let mut error = of_two(rt.alloc())?;
     let copy = error.clone()?;
     error.extend(copy)?;
     let mut count = 0;
@@ -332,6 +382,12 @@ fn hands_errors_to_the_compiler(rt: HostRuntime) -> Result<(), Fail> {
     let one = Error::new(alloc, at(3, 4), "x")?.to_compile_error(alloc)?;
     let printed = one.to_string(alloc)?;
     assert_eq!(rt; printed.as_str(), ":: core :: compile_error ! {\"x\"}");
+    Ok(())
+}
+
+#[test]
+fn hands_two_errors_to_the_compiler(rt: HostRuntime) -> Result<(), Fail> {
+    let alloc = rt.alloc();
     let both = of_two(alloc)?.into_compile_error(alloc)?;
     let trees = both.trees();
     assert_eq!(rt; trees.len(), 16);

@@ -18,14 +18,20 @@ fn prints_what_was_built(rt: HostRuntime) -> Result<(), Fail> {
 }
 
 #[test]
-fn across_edges(rt: HostRuntime) -> Result<(), Fail> {
+fn reads_a_lifetime_across_an_edge(rt: HostRuntime) -> Result<(), Fail> {
     let alloc = rt.alloc();
-    let buffer = TokenBuffer::new2(alloc, 0, lex_marked(alloc, 0, "'«a» b «c» d")?)?;
-    let begin = buffer.begin();
-    let (apostrophe, name) = any_lifetime(begin).ok_or("no lifetime")?;
+    let buffer = TokenBuffer::new2(alloc, 0, lex_marked(alloc, 0, "'«a» b")?)?;
+    let (apostrophe, name) = any_lifetime(buffer.begin()).ok_or("no lifetime")?;
     assert_eq!(rt; apostrophe, Span::source(0, 0, 1));
     assert!(rt; name.as_str() == "a");
-    let behind = begin.skip().ok_or("nothing to skip")?;
+    Ok(())
+}
+
+#[test]
+fn reads_two_idents_across_edges(rt: HostRuntime) -> Result<(), Fail> {
+    let alloc = rt.alloc();
+    let buffer = TokenBuffer::new2(alloc, 0, lex_marked(alloc, 0, "'«a» b «c» d")?)?;
+    let behind = buffer.begin().skip().ok_or("nothing to skip")?;
     let (first, second, rest) = pair_of_idents(behind).ok_or("no two identifiers")?;
     assert!(rt; first.as_str() == "b");
     assert!(rt; second.as_str() == "c");
@@ -65,6 +71,13 @@ fn edits_a_list(rt: HostRuntime) -> Result<(), Fail> {
     list.retain(|value| *value != 4);
     assert_eq!(rt; written(alloc, &list)?.as_str(), "2,3");
     assert!(rt; !list.trailing_punct());
+    Ok(())
+}
+
+#[test]
+fn writes_into_a_list(rt: HostRuntime) -> Result<(), Fail> {
+    let alloc = rt.alloc();
+    let mut list = two_three_four(alloc)?;
     if 1 <= list.len() {
         raise_first(&mut list);
         put_seven(&mut list)?;

@@ -76,6 +76,11 @@ fn strings(rt: HostRuntime) -> Result<(), Fail> {
     let plain = Literal::string(rt.alloc(), "a\"b")?;
     assert_eq!(rt; plain.as_str(), "\"a\\\"b\"");
     assert_eq!(rt; plain.span(), Span::call_site());
+    Ok(())
+}
+
+#[test]
+fn escapes_in_strings(rt: HostRuntime) -> Result<(), Fail> {
     let escaped = Literal::string(rt.alloc(), "\\\n\r\t\0'é")?;
     assert_eq!(rt; escaped.as_str(), "\"\\\\\\n\\r\\t\\0'é\"");
     Ok(())

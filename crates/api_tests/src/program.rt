@@ -6,6 +6,13 @@ use std::str::from_utf8;
 use std::test::Fail;
 use syn_tokens::serve;
 
+// What the program writes, and its status.
+fn served(alloc: Global, mut input: &[u8]) -> (Vec<u8>, u8) {
+    let mut written = Vec::new(alloc);
+    let status = serve(alloc, &mut input, &mut written);
+    (written, status)
+}
+
 // Runs the program in memory, and wants this output and status.
 fn wants(
     rt: &(impl Abort + AllocGlobal),
@@ -13,11 +20,9 @@ fn wants(
     output: &str,
     status: u8,
 ) -> Result<(), Fail> {
-    let mut reader = input;
-    let mut written = Vec::new(rt.alloc());
-    let got = serve(rt.alloc(), &mut reader, &mut written);
+    let (written, got) = served(rt.alloc(), input);
+    assert_eq!(rt; got, status, "before {output}");
     assert_eq!(rt; from_utf8(&written)?, output);
-    assert_eq!(rt; got, status, "after {output}");
     Ok(())
 }
 

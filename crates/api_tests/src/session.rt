@@ -1,7 +1,7 @@
 // Streams built by hand.
-use std::alloc::Global;
+use std::alloc::{AllocError, Global};
 use std::test::Fail;
-use syn_tokens::{Answer, Command, Kind, Position, Verdict, replay};
+use syn_tokens::{Answer, Command, Kind, Position, Report, Verdict, replay};
 use tok_core::{Delimiter, Group, Ident, Span, TokenStream, TokenTree};
 
 // Groups around `a`, visible and invisible by turns, the outermost visible.
@@ -22,29 +22,61 @@ fn nested(alloc: Global, levels: usize) -> Result<TokenStream, Fail> {
     Ok(stream)
 }
 
-#[test]
-fn a_thousand_groups(rt: HostRuntime) -> Result<(), Fail> {
-    let alloc = rt.alloc();
+// Commands that enter so many parentheses, one inside the other.
+fn enters(alloc: Global, levels: usize) -> Result<Vec<Command>, AllocError> {
     let mut commands = Vec::new(alloc);
-    for number in 0..500usize {
+    for number in 0..levels {
         commands.push(Command::Enter(number, Delimiter::Parenthesis))?;
     }
-    commands.push(Command::Parse(500, Kind::Ident))?;
-    commands.push(Command::Empty(500))?;
-    let report = replay(alloc, nested(alloc, 1000)?, &commands)?;
-    assert_eq!(rt; report.lines.len(), 502);
-    for (number, line) in report.lines.iter().take(500).enumerate() {
+    Ok(commands)
+}
+
+// How many lines in front entered a content, each the next one.
+fn entered(report: &Report) -> usize {
+    let mut count = 0usize;
+    for line in &report.lines {
         match &line.answer {
-            Answer::Entered(content, _, _) => assert_eq!(rt; *content, number.saturating_add(1)),
-            _ => assert!(rt; false, "at {number}"),
+            Answer::Entered(content, _, _) if *content == count.saturating_add(1) => {
+                count = *content;
+            }
+            _ => return count,
         }
     }
+    count
+}
+
+// Enters 500 parentheses in a thousand groups, and reads what stands in them.
+fn reads_within(alloc: Global) -> Result<Report, Fail> {
+    let mut commands = enters(alloc, 500)?;
+    commands.push(Command::Parse(500, Kind::Ident))?;
+    commands.push(Command::Empty(500))?;
+    Ok(replay(alloc, nested(alloc, 1000)?, &commands)?)
+}
+
+#[test]
+fn enters_a_thousand_groups(rt: HostRuntime) -> Result<(), Fail> {
+    let report = reads_within(rt.alloc())?;
+    assert_eq!(rt; report.lines.len(), 502);
+    assert_eq!(rt; entered(&report), 500);
     assert_eq!(rt; report.lines[0].position, Position::At(2001));
     assert_eq!(rt; report.lines[500].position, Position::At(1002));
+    Ok(())
+}
+
+#[test]
+fn reads_in_a_thousand_groups(rt: HostRuntime) -> Result<(), Fail> {
+    let report = reads_within(rt.alloc())?;
+    assert_eq!(rt; report.lines.len(), 502);
     assert!(rt; matches!(&report.lines[500].answer, Answer::Read(_)));
     assert!(rt; matches!(&report.lines[501].answer, Answer::Truth(true)));
     assert!(rt; matches!(&report.verdict, Verdict::Accepted));
-    commands.truncate(500);
+    Ok(())
+}
+
+#[test]
+fn leaves_a_thousand_groups_unread(rt: HostRuntime) -> Result<(), Fail> {
+    let alloc = rt.alloc();
+    let commands = enters(alloc, 500)?;
     let report = replay(alloc, nested(alloc, 1000)?, &commands)?;
     assert!(rt; matches!(&report.verdict, Verdict::Refused(_)));
     Ok(())

@@ -89,37 +89,45 @@ fn printed(rt: HostRuntime) -> Result<(), Fail> {
     Ok(())
 }
 
+// Whether two texts have the same visible trees.
+fn seen_alike(alloc: Global, left: &str, right: &str) -> Result<bool, Fail> {
+    Ok(same_visible(alloc, &read(alloc, left)?, &read(alloc, right)?)?)
+}
+
 #[test]
 fn compares_what_is_visible(rt: HostRuntime) -> Result<(), Fail> {
-    let alloc = rt.alloc();
-    let plain = read(alloc, "a")?;
-    let hollow = read(alloc, "a «»")?;
-    assert!(rt; same_visible(alloc, &hollow, &plain)?);
-    assert!(rt;
-        same_visible(
-            alloc,
-            &read(alloc, "«a» («b» «c»)")?,
-            &read(alloc, "a (b «c»)")?
-        )?
-    );
-    assert!(rt; !same_visible(alloc, &read(alloc, "a")?, &read(alloc, " a")?)?);
-    assert!(rt; !same_visible(alloc, &read(alloc, "(a)")?, &read(alloc, "[a]")?)?);
-    assert!(rt; !same_visible(alloc, &read(alloc, "a b")?, &plain)?);
-    assert!(rt; !same_visible(alloc, &read(alloc, "+=")?, &read(alloc, "+ =")?)?);
+    for (left, right, wanted) in [
+        ("a «»", "a", true),
+        ("«a» («b» «c»)", "a (b «c»)", true),
+        ("a", " a", false),
+        ("(a)", "[a]", false),
+        ("a b", "a", false),
+        ("+=", "+ =", false),
+    ] {
+        assert_eq!(rt; seen_alike(rt.alloc(), left, right)?, wanted, "at {left}");
+    }
     Ok(())
 }
 
 #[test]
-fn tells_filled_and_clear(rt: HostRuntime) -> Result<(), Fail> {
-    let alloc = rt.alloc();
-    assert!(rt; !is_filled(&read(alloc, "a «»")?));
-    assert!(rt; !is_filled(&read(alloc, "(«()» «»)")?));
-    assert!(rt; is_filled(&read(alloc, "(«()» ««a»»)")?));
-    assert!(rt; is_filled(&TokenStream::new(alloc)));
-    assert!(rt; is_clear(&TokenStream::new(alloc)));
-    assert!(rt; !is_clear(&read(alloc, "«'»a")?));
-    assert!(rt; !is_clear(&read(alloc, "('«a»)")?));
-    assert!(rt; is_clear(&read(alloc, "«' »a 'b")?));
+fn tells_what_is_filled(rt: HostRuntime) -> Result<(), Fail> {
+    for (text, wanted) in [
+        ("a «»", false),
+        ("(«()» «»)", false),
+        ("(«()» ««a»»)", true),
+    ] {
+        assert_eq!(rt; is_filled(&read(rt.alloc(), text)?), wanted, "at {text}");
+    }
+    assert!(rt; is_filled(&TokenStream::new(rt.alloc())));
+    Ok(())
+}
+
+#[test]
+fn tells_what_is_clear(rt: HostRuntime) -> Result<(), Fail> {
+    for (text, wanted) in [("«'»a", false), ("('«a»)", false), ("«' »a 'b", true)] {
+        assert_eq!(rt; is_clear(&read(rt.alloc(), text)?), wanted, "at {text}");
+    }
+    assert!(rt; is_clear(&TokenStream::new(rt.alloc())));
     Ok(())
 }
 
@@ -184,6 +192,13 @@ fn moved(rt: HostRuntime) -> Result<(), Fail> {
             assert!(rt; group.stream().to_string(alloc)?.as_str() == "b «c»");
         }
     }
+    Ok(())
+}
+
+#[test]
+fn compares_idents(rt: HostRuntime) -> Result<(), Fail> {
+    let alloc = rt.alloc();
+    let span = Span::source(3, 1, 2);
     let left = Ident::new(alloc, "a", Span::call_site())?;
     let right = Ident::new(alloc, "a", span)?;
     assert!(rt; left == right);

@@ -2,9 +2,8 @@
 //! `rt try --test --fail-alloc N` refuses the Nth request of each test.
 ghost use Rattle.std.specs.Prelude.{◌≡◌};
 
-use super::{Mark, Numbers, numbers, shown};
+use super::{Mark, Numbers, numbers, shown, wants};
 use std::alloc::{AllocError, Global};
-use std::process::Abort;
 use std::test::Fail;
 use syn_punctuated::{Pair, PairsFault, Punctuated};
 
@@ -28,30 +27,16 @@ fn full(alloc: Global, text: &str) -> Result<Numbers, AllocError> {
     numbers(alloc, text)?.clone()
 }
 
-/// The list is as wanted where the call was done, and else as it was.
-fn check(
-    rt: &impl Abort,
-    alloc: Global,
-    list: &Numbers,
-    done: bool,
-    wanted: &str,
-    was: &str,
-) -> Result<(), AllocError> {
-    let text = shown(alloc, list)?;
-    assert_eq!(rt; text.as_str(), if done { wanted } else { was });
-    Ok(())
-}
-
 #[test]
 fn pushes_or_leaves_all_as_before(rt: HostRuntime) -> Result<(), Fail> {
     let alloc = rt.alloc();
     let mut list = full(alloc, "2,3")?;
     let done = list.push(4).is_ok();
-    check(&rt, alloc, &list, done, "2,3d4", "2,3")?;
+    wants(&rt, &list, if done { "2,3d4" } else { "2,3" });
 
     let mut list = full(alloc, "2,3,")?;
     let done = list.push(4).is_ok();
-    check(&rt, alloc, &list, done, "2,3,4", "2,3,")?;
+    wants(&rt, &list, if done { "2,3,4" } else { "2,3," });
     Ok(())
 }
 
@@ -61,13 +46,13 @@ fn pushes_parts_or_leaves_all_as_before(rt: HostRuntime) -> Result<(), Fail> {
     let mut list = full(alloc, "2,")?;
     if list.empty_or_trailing() {
         let done = list.push_value(3).is_ok();
-        check(&rt, alloc, &list, done, "2,3", "2,")?;
+        wants(&rt, &list, if done { "2,3" } else { "2," });
     }
 
     let mut list = full(alloc, "2,3")?;
     if !list.empty_or_trailing() {
         let done = list.push_punct(Mark(';')).is_ok();
-        check(&rt, alloc, &list, done, "2,3;", "2,3")?;
+        wants(&rt, &list, if done { "2,3;" } else { "2,3" });
     }
     Ok(())
 }
@@ -77,7 +62,7 @@ fn takes_a_separator_or_leaves_all_as_before(rt: HostRuntime) -> Result<(), Fail
     let alloc = rt.alloc();
     let mut list = full(alloc, "2,3,")?;
     let done = list.pop_punct().is_ok();
-    check(&rt, alloc, &list, done, "2,3", "2,3,")?;
+    wants(&rt, &list, if done { "2,3" } else { "2,3," });
     Ok(())
 }
 
@@ -87,13 +72,13 @@ fn inserts_or_leaves_all_as_before(rt: HostRuntime) -> Result<(), Fail> {
     let mut list = full(alloc, "2,3")?;
     if 1 <= list.len() {
         let done = list.insert(1, 9).is_ok();
-        check(&rt, alloc, &list, done, "2,9d3", "2,3")?;
+        wants(&rt, &list, if done { "2,9d3" } else { "2,3" });
     }
 
     let mut list = full(alloc, "2,3")?;
     if 2 <= list.len() {
         let done = list.insert(2, 9).is_ok();
-        check(&rt, alloc, &list, done, "2,3d9", "2,3")?;
+        wants(&rt, &list, if done { "2,3d9" } else { "2,3" });
     }
     Ok(())
 }
@@ -130,11 +115,11 @@ fn keeps_pairs_that_came_before(rt: HostRuntime) -> Result<(), Fail> {
 fn makes_nothing_or_all(rt: HostRuntime) -> Result<(), Fail> {
     let alloc = rt.alloc();
     if let Ok(list) = Numbers::from_values(alloc, 1..9) {
-        assert_eq!(rt; shown(alloc, &list)?.as_str(), "1d2d3d4d5d6d7d8");
+        wants(&rt, &list, "1d2d3d4d5d6d7d8");
     }
     let pairs = numbers(alloc, "1,2,3,4,5,6")?.into_pairs();
     match Punctuated::from_pairs(alloc, pairs) {
-        Ok(list) => assert_eq!(rt; shown(alloc, &list)?.as_str(), "1,2,3,4,5,6"),
+        Ok(list) => wants(&rt, &list, "1,2,3,4,5,6"),
         Err(fault) => assert_eq!(rt; fault, PairsFault::Memory),
     }
     Ok(())
@@ -166,14 +151,23 @@ fn clones_iterators_or_nothing(rt: HostRuntime) -> Result<(), Fail> {
     Ok(())
 }
 
+/// The list of 1 and these values.
+fn rare_values(
+    alloc: Global,
+    second: u32,
+    last: u32,
+) -> Result<Punctuated<Rare, Mark>, AllocError> {
+    let mut list = Punctuated::new(alloc);
+    list.push(Rare(1))?;
+    list.push(Rare(second))?;
+    list.push(Rare(last))?;
+    Ok(list)
+}
+
 #[test]
-fn passes_on_what_a_clone_wants(rt: HostRuntime) -> Result<(), Fail> {
-    let alloc = rt.alloc();
+fn passes_on_what_the_clone_of_a_pair_wants(rt: HostRuntime) -> Result<(), Fail> {
     for (second, last) in [(13, 3), (2, 13), (2, 3)] {
-        let mut list = Punctuated::<Rare, Mark>::new(alloc);
-        list.push(Rare(1))?;
-        list.push(Rare(second))?;
-        list.push(Rare(last))?;
+        let list = rare_values(rt.alloc(), second, last)?;
         for pair in list.pairs() {
             let value = pair.value().0;
             if value == 13 {
@@ -182,6 +176,14 @@ fn passes_on_what_a_clone_wants(rt: HostRuntime) -> Result<(), Fail> {
                 assert_eq!(rt; pair.cloned()?.into_value().0, value);
             }
         }
+    }
+    Ok(())
+}
+
+#[test]
+fn passes_on_what_the_clone_of_a_list_wants(rt: HostRuntime) -> Result<(), Fail> {
+    for (second, last) in [(13, 3), (2, 13), (2, 3)] {
+        let list = rare_values(rt.alloc(), second, last)?;
         if second == 13 || last == 13 {
             assert!(rt; list.clone().is_err());
             assert!(rt; list.into_pairs().clone().is_err());

@@ -53,22 +53,35 @@ fn writes_values_and_separators_by_turns(rt: HostRuntime) -> Result<(), Fail> {
     let alloc = rt.alloc();
     let list = marks(alloc, Delimiter::Brace)?;
     assert_eq!(rt; text(alloc, &list)?.as_str(), "() [] {} [] {}");
-    let mut tokens = list.to_token_stream(alloc)?;
+    let none = Punctuated::<Mark, Mark>::new(alloc);
+    assert!(rt; none.to_token_stream(alloc)?.is_empty());
+    Ok(())
+}
+
+#[test]
+fn writes_a_pair(rt: HostRuntime) -> Result<(), Fail> {
+    let alloc = rt.alloc();
     let pair = Pair::Punctuated(
         empty(alloc, Delimiter::Brace),
         empty(alloc, Delimiter::Bracket),
     );
     assert_eq!(rt; text(alloc, &pair)?.as_str(), "{} []");
-    pair.to_tokens(&mut tokens)?;
+    Ok(())
+}
+
+#[test]
+fn writes_after_what_is_there(rt: HostRuntime) -> Result<(), Fail> {
+    let alloc = rt.alloc();
+    let mut tokens = marks(alloc, Delimiter::Brace)?.to_token_stream(alloc)?;
+    Pair::Punctuated(
+        empty(alloc, Delimiter::Brace),
+        empty(alloc, Delimiter::Bracket),
+    )
+    .to_tokens(&mut tokens)?;
     Pair::<Mark, Mark>::End(empty(alloc, Delimiter::Parenthesis)).to_tokens(&mut tokens)?;
     assert_eq!(rt;
         format!(in alloc; "{tokens}")?.as_str(),
         "() [] {} [] {} {} [] ()"
-    );
-    assert!(rt;
-        Punctuated::<Mark, Mark>::new(alloc)
-            .to_token_stream(alloc)?
-            .is_empty()
     );
     Ok(())
 }
