@@ -16,6 +16,8 @@ mod program;
 #[cfg(test)]
 mod session;
 #[cfg(test)]
+mod streams;
+#[cfg(test)]
 mod trees;
 #[cfg(test)]
 mod types;

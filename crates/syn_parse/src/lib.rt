@@ -31,6 +31,3 @@ pub use paused::Paused;
 pub use step::StepCursor;
 pub use stream::{ParseBuffer, ParseStream, tokens_to_parse_buffer};
 pub use tokens::Nothing;
-
-#[cfg(test)]
-mod tests;

@@ -14,7 +14,8 @@ use crate::fault::{Fault, Result};
 use crate::paused::Paused;
 use crate::words::leftover_words;
 use std::alloc::Global;
-use std::fmt::Display;
+use std::fmt;
+use std::fmt::{Display, Formatter, Write};
 use std::marker::Model;
 use tok_buffer::{Cursor, Error, TokenBuffer};
 use tok_core::{Delimiter, Span};
@@ -235,5 +236,18 @@ impl<'a> ParseBuffer<'a> {
         ensures { FnOnceReturnsAtMut F.FnOnce f self.old result self.new }
     {
         f(self)
+    }
+}
+
+/// The trees that are left, as their stream is printed. It takes no memory.
+impl Display for ParseBuffer<'_> {
+    ghost use Rattle.std.specs.Prelude.{Some};
+    ghost use Rattle.tok_buffer.specs.Rest.{rest};
+    ghost use Rattle.tok_core.specs.Text.{text};
+
+    ghost output = { λ s. Some (text (rest s.place)) };
+
+    fn fmt<W: Write>(&self, f: &mut Formatter<W>) -> fmt::Result {
+        self.cursor.write_ahead(f)
     }
 }

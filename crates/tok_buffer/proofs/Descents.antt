@@ -13,7 +13,7 @@ use Rattle.tok_buffer.specs.Place.{Owner, group_of, Level, level, Place, at, abs
 use Rattle.tok_buffer.specs.Moves.{level_ahead, advance, is_settled, invisible_front}
 
 -- a descent is one into the settled place
-descend-settle : (n s c : ℕ) (l : Level) (ls : List Level) → descend (settle n s c l ls) ≡ descend_from n s c l ls
+pub descend-settle : (n s c : ℕ) (l : Level) (ls : List Level) → descend (settle n s c l ls) ≡ descend_from n s c l ls
 descend-settle n s c l [] = refl
 descend-settle n s c (level o p no_trees) (m ∷ ls) = descend-settle n s (c + 1) (absorb o p m) ls ∙ ap (λ k. descend_from n s (k + 1) (absorb o p m) ls) (sym (add-zero c))
 descend-settle n s c (level o p (tree t f)) (m ∷ ls) = refl

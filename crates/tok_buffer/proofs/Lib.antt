@@ -2,13 +2,16 @@ pub mod Appended
 pub mod Befores
 pub mod CompileErrorLoops
 pub mod Descents
+pub mod Entered
 pub mod Forests
 pub mod Groups
 pub mod InScope
 pub mod Layouts
 pub mod Lefts
+pub mod Measured
 pub mod Names
 pub mod NextChars
+pub mod Onwards
 pub mod Owners
 pub mod Peeks
 pub mod PunctRuns

@@ -1,10 +1,10 @@
 -- Into the invisible groups in front, and past those that hold nothing visible.
-use Rattle.std.specs.Prelude.{ℕ, ◌+◌, List, [], ◌∷◌, Option, Some, None, unwrap_or}
+use Rattle.std.specs.Prelude.{◌≡◌, ℕ, ◌+◌, Bool, true, false, List, [], ◌∷◌, Option, Some, None, unwrap_or}
 use Rattle.std.specs.Option.{option_or}
 use Rattle.tok_core.specs.declared.group.Delimiter.TheVariants as delimiter
 use Rattle.tok_core.specs.Forest.{leaf, group, Forest, no_trees, tree, turned_onto}
 use Rattle.tok_core.specs.Weight.{weight}
-use Rattle.tok_buffer.specs.Place.{Owner, group_of, Level, level, Place, empty_place, at, absorb}
+use Rattle.tok_buffer.specs.Place.{Owner, group_of, Level, level, Place, empty_place, at, absorb, settle, settled}
 
 -- the place at the first visible tree of these trees, which stand ahead in a level; none where they hold none
 abbrev pub into_front : Forest → (number scope count : ℕ) → Owner → Forest → List Level → Option Place
@@ -23,6 +23,27 @@ descend_from number scope count (level owner passed ahead) (l ∷ ls) =
     unwrap_or (into_front ahead number scope count owner passed (l ∷ ls))
     (descend_from number scope (count + weight ahead + 1) (absorb owner (turned_onto ahead passed) l) ls)
 
+-- out of each level that is left, and into the invisible groups in front
 abbrev pub descend : Place → Place
 descend empty_place = empty_place
 descend (at number scope count l ls) = descend_from number scope count l ls
+
+-- an invisible group is in front
+abbrev pub is_before_invisible : Place → Bool
+is_before_invisible (at number scope count (level owner passed (tree (group delimiter.None inside span) f)) ls) = true
+is_before_invisible p = false
+
+-- into the invisible group in front, and out of it again where it holds nothing
+abbrev pub inwards : Place → Place
+inwards (at number scope count (level owner passed (tree (group delimiter.None inside span) f)) ls) =
+    settle number scope (count + 1) (level (group_of delimiter.None span) no_trees inside) (level owner passed f ∷ ls)
+inwards p = p
+
+-- entering, again and again, until no invisible group is in front
+pub data Descends : Place → Place → Type 0 where
+  stop : (p : Place) → is_before_invisible p ≡ false → Descends p p
+  enters : (p q : Place) → is_before_invisible p ≡ true → Descends (inwards p) q → Descends p q
+
+-- each descent ends so, with no invisible group in front
+abbrev pub DescentsEnter : Type 0
+DescentsEnter = (p : Place) → Descends (settled p) (descend p) × (is_before_invisible (descend p) ≡ false)

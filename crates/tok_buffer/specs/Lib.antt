@@ -11,6 +11,7 @@ pub mod Moves
 pub mod Order
 pub mod OrderLaws
 pub mod Place
+pub mod Progress
 pub mod Reads
 pub mod Rest
 pub mod Messages

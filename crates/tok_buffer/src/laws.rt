@@ -4,10 +4,12 @@ ghost use Rattle.std.specs.Ordering.{nat_cmp};
 ghost use Rattle.std.specs.Cmp.Lexicographic.{slice_cmp};
 ghost use Rattle.std.specs.declared.cmp.Ordering.TheVariants.{Equal};
 ghost use Rattle.tok_core.specs.Forest.{Forest};
-ghost use Rattle.tok_buffer.specs.Cursors.{place_of};
+ghost use Rattle.tok_buffer.specs.Cursors.{place_of, CursorsLoseNone};
+ghost use Rattle.tok_buffer.specs.Descent.{DescentsEnter};
 ghost use Rattle.tok_buffer.specs.Lifetimes.{name_of};
 ghost use Rattle.tok_buffer.specs.Order.{equal, order};
 ghost use Rattle.tok_buffer.specs.Place.{Place, start};
+ghost use Rattle.tok_buffer.specs.Progress.{EntriesGoOn, MovesStay, ReadsGoOn};
 ghost use Rattle.tok_buffer.specs.Rest.{rest};
 
 use crate::buffer::TokenBuffer;
@@ -48,3 +50,31 @@ pub fn lifetimes_in_order(left: &Lifetime, right: &Lifetime) -> (bool, Ordering)
 {
     (left == right, left.cmp(right))
 }
+
+/// Each read and each skip stays in the buffer and the scope of its cursor and goes on, and lowers what is left, so a loop
+/// of reads ends.
+pub fn reads_go_on()
+    ensures { ReadsGoOn }
+{}
+
+/// A group that is entered, visible or not, has less left than the place before it, and the place after it is reached in the
+/// scope, with less left too.
+pub fn entries_go_on()
+    ensures { EntriesGoOn }
+{}
+
+/// A descent and a pass stay in the scope and take nothing back; staying in the scope is reflexive and transitive.
+pub fn moves_stay()
+    ensures { MovesStay }
+{}
+
+/// Of two cursors of which the second stays in the scope of the first, the second has no more left, and less where it is
+/// another place. So a loop that moves its cursor ends, whatever parser moves it.
+pub fn staying_adds_nothing()
+    ensures { CursorsLoseNone }
+{}
+
+/// A descent leaves no invisible group in front, and is entering the one in front, again and again.
+pub fn descents_enter()
+    ensures { DescentsEnter }
+{}

@@ -1,0 +1,47 @@
+//! Parsers of whole texts and streams of tokens.
+use super::is_name;
+use crate::outcome::{Outcome, Stop, expect, shows, worst};
+use std::alloc::Global;
+use syn_parse::{Fault, ParseStream, Parser, Result};
+use tok_core::{Ident, Span, lex};
+
+/// Each of their calls.
+pub fn calls(alloc: Global) -> Outcome {
+    let text = named(name.parse_str(alloc, "a"), "parse_str");
+    let unread = refused(name.parse_str(alloc, "1.0"), "float literal", "parse_str");
+    let left = refused(
+        name.parse_str(alloc, "a b"),
+        "unexpected token",
+        "parse_str",
+    );
+    worst(&[text, unread, left, tokens(alloc)])
+}
+
+fn name(input: ParseStream<'_, '_>) -> Result<Ident> {
+    input.parse()
+}
+
+fn named(answer: Result<Ident>, call: &'static str) -> Outcome {
+    match answer {
+        Ok(name) => expect(is_name(&name, "a"), call),
+        Err(Fault::Memory(_)) => Err(Stop::Refused),
+        Err(Fault::Refused(_)) => Err(Stop::Wrong(call)),
+    }
+}
+
+fn refused(answer: Result<Ident>, words: &str, call: &'static str) -> Outcome {
+    match answer {
+        Ok(_) => Err(Stop::Wrong(call)),
+        Err(Fault::Memory(_)) => Err(Stop::Refused),
+        Err(Fault::Refused(error)) => expect(shows(&error, words), call),
+    }
+}
+
+fn tokens(alloc: Global) -> Outcome {
+    named(name.parse2(alloc, lex(alloc, 0, "a")?), "parse2")?;
+    let tokens = lex(alloc, 0, "a")?;
+    named(
+        name.parse_scoped(alloc, Span::call_site(), tokens),
+        "parse_scoped",
+    )
+}

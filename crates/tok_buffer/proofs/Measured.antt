@@ -1,0 +1,59 @@
+-- What is left at a cursor is as far as its scope's end is off.
+use Rattle.std.proofs.Common.{◌≡◌, inl, inr, ℕ, ◌+◌, ◌≤◌, ◌<◌, ◌≢◌, true, false, List, [], ◌∷◌, sym, ◌∙◌, ap, eq-eqb, arith, eqb-true, Option, Some, None}
+use Rattle.std.proofs.lemmas.Bool.{or_cases, cond_both, false≢true}
+use Rattle.std.specs.Prelude.{◌==◌, ◌&&◌}
+use Rattle.tok_core.specs.Weight.{weight}
+use Rattle.tok_buffer.specs.Cursors.{spot_place, place_of, CursorsLoseNone}
+use Rattle.tok_buffer.specs.Moves.{levels_at, up_to, some_ends, end_of}
+use Rattle.tok_buffer.specs.Order.{equal}
+use Rattle.tok_buffer.specs.Place.{Level, level, Place, empty_place, at}
+use Rattle.tok_buffer.specs.Progress.{remaining, remaining_around, LosesNone}
+use Rattle.tok_buffer.specs.declared.cursor.Cursor.{Cursor}
+use Rattle.tok_buffer.specs.declared.spot.Spot.{Spot}
+use Rattle.tok_buffer.proofs.Onwards.{along}
+
+abbrev IsMeasured : Place → Type 0
+IsMeasured empty_place = Unit {0}
+IsMeasured (at n s c (level o p f) ls) = c + weight f + remaining_around ls ≡ s
+
+measured_up_to : (e s : ℕ) (us : List Level) → some_ends e s us ≡ true → e + remaining_around (up_to e s us) ≡ s
+measured_up_to e s [] h = let q : e ≡ s = eqb-true e s h in omega arith
+measured_up_to e s (level o p f ∷ us) h =
+    cond_both (e == s) [] (level o p f ∷ up_to (e + 1 + weight f) s us) (λ ls. e + remaining_around ls ≡ s)
+    (λ q. let r : e ≡ s = eqb-true e s q in omega arith)
+    (λ q. elim (or_cases (e == s) _ h) [
+      | inl k ↦ absurd (false≢true (sym q ∙ k))
+      | inr k ↦ omega (arith, measured_up_to (e + 1 + weight f) s us k)
+    ])
+
+measured_at : (n c s : ℕ) (l : Level) (us : List Level) → some_ends (end_of c l) s us ≡ true → IsMeasured (at n s c l (up_to (end_of c l) s us))
+measured_at n c s (level o p f) us h = omega (arith, measured_up_to (c + weight f) s us h)
+
+spot_measured : (spot : Option Spot) → IsMeasured (elim spot [ None ↦ empty_place | Some s ↦ spot_place s ])
+spot_measured None = tt
+spot_measured (Some s) = measured_at s.buffer.now.number s.position s.scope (levels_at s.buffer.now.forest s.position).0 (levels_at s.buffer.now.forest s.position).1 s.within
+
+measured : (c : Cursor) → IsMeasured (place_of c)
+measured c = spot_measured c.spot
+
+none_lost : (p q : Place) → IsMeasured p → IsMeasured q → LosesNone p q
+none_lost p empty_place u v h = none_there p
+  where
+    none_there : (p : Place) → (0 ≤ remaining p) × (equal p empty_place ≡ false → 0 < remaining p)
+    none_there empty_place = (omega arith, λ e. absurd (false≢true (sym e)))
+    none_there (at n s c (level o f a) ls) = (omega arith, λ e. omega arith)
+none_lost empty_place (at m t d k ks) u v (inl h) = absurd (false≢true h.0)
+none_lost empty_place (at m t d k ks) u v (inr h) = cc
+none_lost (at n s c (level o p f) ls) (at m t d (level a b g) ks) u v h =
+    let w = along n s c m t d (level o p f) (level a b g) ls ks h in (
+      omega (arith, u, v, w.scopes, w.counts),
+      λ e.
+          let other : c ≢ d = λ same. false≢true (sym e ∙ both n m c d w.numbers same) in
+          omega (arith, u, v, w.scopes, w.counts, other),
+    )
+  where
+    both : (n m c d : ℕ) → n ≡ m → c ≡ d → (n == m && c == d) ≡ true
+    both n m c d x y = ap (λ z. z && c == d) (eq-eqb n m x) ∙ eq-eqb c d y
+
+pub cursors_lose_none : CursorsLoseNone
+cursors_lose_none from to = none_lost (place_of from) (place_of to) (measured from) (measured to)

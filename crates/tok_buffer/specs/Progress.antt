@@ -1,0 +1,67 @@
+-- What moves of a cursor keep, and a measure that they lower.
+use Rattle.std.specs.Prelude.{◌≡◌, ◌⊎◌, ℕ, ◌+◌, ◌<◌, ◌≤◌, true, false, IsTrue, Bool, List, [], ◌∷◌, Option, Some}
+use Rattle.std.specs.Ordering.{partial_le}
+use Rattle.tok_core.specs.declared.group.Delimiter.{Delimiter}
+use Rattle.tok_core.specs.Forest.{Tree}
+use Rattle.tok_core.specs.Weight.{weight}
+use Rattle.tok_buffer.specs.Descent.{descend}
+use Rattle.tok_buffer.specs.Entry.{Entered, enter, enter_any}
+use Rattle.tok_buffer.specs.Order.{equal, order, same_scope}
+use Rattle.tok_buffer.specs.Place.{Level, level, Place, empty_place, at, pass}
+use Rattle.tok_buffer.specs.Reads.{take, read_ident, read_literal, read_punct, read_word, read_keyword, read_lifetime, read_punctuation, read_tree, skip}
+
+-- in the same buffer and scope and no earlier, or the empty place
+abbrev pub StaysIn : (from to : Place) → Type 0
+StaysIn from to = ((same_scope from to ≡ true) × IsTrue (partial_le order from to)) ⊎ (to ≡ empty_place)
+
+-- the end of each invisible group that has been entered, and what is ahead around it
+abbrev pub remaining_around : List Level → ℕ
+remaining_around [] = 0
+remaining_around (level o p f ∷ ls) = 1 + weight f + remaining_around ls
+
+-- how many openings, leaves and closings are left up to the scope's end, and one more; none at the empty place
+abbrev pub remaining : Place → ℕ
+remaining empty_place = 0
+remaining (at number scope count (level o p f) ls) = weight f + remaining_around ls + 1
+
+-- a move that stays in its scope, and takes nothing back
+abbrev pub Stays : (from to : Place) → Type 0
+Stays from to = StaysIn from to × (remaining to ≤ remaining from)
+
+-- a move that takes something away from what is left
+abbrev pub GoesOn : (from to : Place) → Type 0
+GoesOn from to = StaysIn from to × (remaining to < remaining from)
+
+-- wherever it reads
+abbrev pub ReadsOn : (Place → Option (List Tree × Place)) → Type 0
+ReadsOn read = (p : Place) (ts : List Tree) (q : Place) → read p ≡ Some (ts, q) → GoesOn p q
+
+pub record ReadsGoOn : Type 0 where
+  pub idents : ReadsOn read_ident
+  pub literals : ReadsOn read_literal
+  pub puncts : ReadsOn read_punct
+  pub words : (wanted : List ℕ → Bool) → ReadsOn (read_word wanted)
+  pub keywords : (text : List ℕ) → ReadsOn (read_keyword text)
+  pub lifetimes : (wanted : List ℕ → Bool) → ReadsOn (read_lifetime wanted)
+  pub punctuations : (text : List ℕ) → ReadsOn (read_punctuation text)
+  pub trees : ReadsOn read_tree
+  pub taken : (wanted : Tree → Bool) → ReadsOn (take wanted)
+  pub skips : (p q : Place) → skip p ≡ Some q → GoesOn p q
+
+-- a content has less left than the place before its group
+abbrev pub GoesIn : Place → Entered → Type 0
+GoesIn p e = GoesOn p e.behind × (remaining e.content < remaining p)
+
+pub record EntriesGoOn : Type 0 where
+  pub groups : (d : Delimiter) (p : Place) (e : Entered) → enter d p ≡ Some e → GoesIn p e
+  pub any_groups : (p : Place) (e : Entered) → enter_any p ≡ Some e → GoesIn p e
+
+pub record MovesStay : Type 0 where
+  pub descents : (p : Place) → Stays p (descend p)
+  pub passes : (p : Place) → Stays p (pass p)
+  pub none : (p : Place) → StaysIn p p
+  pub chains : (p q r : Place) → StaysIn p q → StaysIn q r → StaysIn p r
+
+-- nothing is added by staying in the scope, and something is taken away by going anywhere else in it
+abbrev pub LosesNone : (from to : Place) → Type 0
+LosesNone from to = StaysIn from to → (remaining to ≤ remaining from) × (equal from to ≡ false → remaining to < remaining from)
