@@ -167,6 +167,12 @@ fn written(rt: HostRuntime) -> Result<(), Fail> {
     comma.to_tokens(&mut tokens)?;
     let text = tokens.to_string(alloc)?;
     assert!(rt; text.as_str() == "x a (b «c») += \"q\" ,");
+    Ok(())
+}
+
+#[test]
+fn written_alone(rt: HostRuntime) -> Result<(), Fail> {
+    let alloc = rt.alloc();
     let tree = name(alloc, "a", 0)?;
     assert!(rt; tree.to_token_stream(alloc)?.to_string(alloc)?.as_str() == "a");
     let ident = Ident::new_raw(alloc, "fn", Span::call_site())?;

@@ -182,15 +182,18 @@ fn passes_on_what_the_clone_of_a_pair_wants(rt: HostRuntime) -> Result<(), Fail>
 
 #[test]
 fn passes_on_what_the_clone_of_a_list_wants(rt: HostRuntime) -> Result<(), Fail> {
-    for (second, last) in [(13, 3), (2, 13), (2, 3)] {
+    for (second, last) in [(13, 3), (2, 13)] {
         let list = rare_values(rt.alloc(), second, last)?;
-        if second == 13 || last == 13 {
-            assert!(rt; list.clone().is_err());
-            assert!(rt; list.into_pairs().clone().is_err());
-        } else {
-            assert!(rt; list.clone()? == list);
-            assert_eq!(rt; list.into_pairs().clone()?.len(), 3);
-        }
+        assert!(rt; list.clone().is_err());
+        assert!(rt; list.into_pairs().clone().is_err());
     }
+    Ok(())
+}
+
+#[test]
+fn clones_a_list_by_its_values(rt: HostRuntime) -> Result<(), Fail> {
+    let list = rare_values(rt.alloc(), 2, 3)?;
+    assert!(rt; list.clone()? == list);
+    assert_eq!(rt; list.into_pairs().clone()?.len(), 3);
     Ok(())
 }
