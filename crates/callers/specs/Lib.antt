@@ -1,3 +1,4 @@
 pub mod Looks
+pub mod Loops
 pub mod Text
 pub mod Trees

@@ -2,6 +2,7 @@
 #![tactic(auto)]
 
 pub mod buffer;
+pub mod loops;
 pub mod punctuated;
 pub mod tokens;
 pub mod trees;

@@ -10,6 +10,7 @@ use Rattle.tok_buffer.specs.Entry.{Entered}
 use Rattle.tok_buffer.specs.Place.{Place}
 use Rattle.tok_buffer.specs.Words.{stream_span}
 
+-- what contracts see of a stream
 pub record State : Type 0 where
   pub place : Place
   pub scope_span : Span
@@ -23,6 +24,7 @@ state_span s = stream_span s.place s.scope_span
 abbrev pub fresh : Place → Span → State
 fresh p scope = record { place = p; scope_span = scope; noted = None }
 
+-- a stream at another place
 abbrev pub moved : Place → State → State
 moved p s = record s { place = p }
 
@@ -38,6 +40,7 @@ handed s = option_or s.noted (leftover s.place)
 abbrev pub closed : State → State → State
 closed content s = noting (handed content) s
 
+-- a fork of a stream
 abbrev pub forked : State → State
 forked s = fresh s.place s.scope_span
 
@@ -45,12 +48,13 @@ forked s = fresh s.place s.scope_span
 abbrev pub advanced : State → State → State
 advanced fork s = noting fork.noted (moved fork.place s)
 
--- a group is entered: its content, and the stream behind it
+-- the content of a group that is entered
 abbrev pub content_of : Entered → State
 content_of e = fresh e.content (closing_span e.span)
 
-abbrev pub behind : Entered → State → State
-behind e s = moved e.behind s
+-- the stream after a group that is entered
+abbrev pub after_group : Entered → State → State
+after_group e s = moved e.behind s
 
 -- how a stream is stored
 abbrev pub coded_state : Coded State

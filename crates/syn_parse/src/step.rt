@@ -4,7 +4,8 @@ ghost use Rattle.tok_buffer.specs.Cursors.{place_of};
 ghost use Rattle.tok_buffer.specs.declared.cursor.Cursor.{Cursor};
 ghost use Rattle.syn_parse.specs.Faults.{Refuses, RefusesAt};
 ghost use Rattle.syn_parse.specs.State.{forked, state_span};
-ghost use Rattle.syn_parse.specs.Steps.{step_state, StaysIn, StepsTo};
+ghost use Rattle.syn_parse.specs.Steps.{step_state, StepsTo};
+ghost use Rattle.tok_buffer.specs.Progress.{StaysIn};
 ghost use Rattle.syn_parse.specs.Words.{refused_at};
 ghost use Rattle.syn_parse.specs.declared.step.StepCursor.{StepCursor};
 

@@ -15,7 +15,7 @@ use Rattle.tok_core.specs.Weight.{tree_weight, weight}
 use Rattle.tok_buffer.specs.Descent.{descend, descend_from, into_front}
 use Rattle.tok_buffer.specs.Entry.{Entered, enter, enter_any, entered_of, same_delimiter}
 use Rattle.tok_buffer.specs.Place.{Owner, whole, group_of, Level, level, Place, empty_place, at, absorb, pass, settle}
-use Rattle.tok_buffer.specs.Progress.{StaysIn, remaining, remaining_around, Stays, GoesOn, ReadsOn, ReadsGoOn, GoesIn, EntriesGoOn, MovesStay}
+use Rattle.tok_buffer.specs.Progress.{StaysIn, remaining, remaining_around, ReadsOn, ReadsGoOn, SkipsGoOn, EntersOn, EntriesGoOn, MovesStay, StaysAlong}
 use Rattle.tok_buffer.specs.Reads.{and_then, any_text, any_tree, behind, is_ident, is_ident_of, is_joint_of, is_literal, is_punct, is_punct_of, read_keyword, read_lifetime, read_punctuation, read_tree, read_word, skip}
 use Rattle.tok_buffer.specs.Reads as reads
 
@@ -98,6 +98,10 @@ stays {n} {s} {c} l ls h = rw h.is (in_scope n s c h.now l h.inner ls h.outer h.
 left : {n s c x y : ℕ} {q : Place} → Later n s c x y q → remaining q + x ≤ y
 left {x = x} {y = y} h = rw h.is h.fewer
 
+-- a move that takes something away
+abbrev GoesOn : Place → Place → Type 0
+GoesOn from to = StaysIn from to × (remaining to < remaining from)
+
 goes_on : {n s c : ℕ} (l : Level) (ls : List Level) {q : Place} → Later n s c 1 (remaining (at n s c l ls)) q → GoesOn (at n s c l ls) q
 goes_on l ls h = (stays l ls h, omega (arith, left h))
 
@@ -159,9 +163,12 @@ nothing : {A : Type 0} (r : List Tree × Place) → None ≡ Some r → A
 nothing r e = cc
 
 -- a read that finds nothing at the empty place
+read_on : (read : Place → Option (List Tree × Place)) → read empty_place ≡ None → Onwards read → (p : Place) (ts : List Tree) (q : Place) → read p ≡ Some (ts, q) → GoesOn p q
+read_on read none on empty_place ts q e = nothing (ts, q) (sym none ∙ e)
+read_on read none on (at n s c l ls) ts q e = goes_on l ls (on n s c l ls ts q e)
+
 reads_on : (read : Place → Option (List Tree × Place)) → read empty_place ≡ None → Onwards read → ReadsOn read
-reads_on read none on empty_place ts q e = nothing (ts, q) (sym none ∙ e)
-reads_on read none on (at n s c l ls) ts q e = goes_on l ls (on n s c l ls ts q e)
+reads_on read none on = record { stays = λ p ts q e. (read_on read none on p ts q e).0; lowers = λ p ts q e. (read_on read none on p ts q e).1 }
 
 no_punctuation : (text : List ℕ) → read_punctuation text empty_place ≡ None
 no_punctuation [] = refl
@@ -196,11 +203,13 @@ reads_go_on = record {
   punctuations = λ text. reads_on (read_punctuation text) (no_punctuation text) (punctuation_onwards text);
   trees = reads_on read_tree refl (take_onwards any_tree);
   taken = λ wanted. reads_on (reads.take wanted) refl (take_onwards wanted);
-  skips = skips_on;
 }
 
+pub skips_go_on : SkipsGoOn
+skips_go_on = record { stays = λ p q e. (skips_on p q e).0; lowers = λ p q e. (skips_on p q e).1 }
+
 -- the moves themselves
-pub stays_here : (p : Place) → StaysIn p p
+stays_here : (p : Place) → StaysIn p p
 stays_here empty_place = inr refl
 stays_here (at n s c l ls) = in_scope n s c c l l ls ls (omega arith)
 
@@ -243,6 +252,10 @@ chains (at n s c x xs) (at j t d l ls) (at i u e m ms) h k =
     let Q : ℕ → Type 0 = λ z. StaysIn (at n s c x xs) (at i z e m ms) in
     subst Q (a.scopes ∙ b.scopes) (subst P (a.numbers ∙ b.numbers) (in_scope n s c e x m xs ms (omega (arith, a.counts, b.counts))))
 
+-- a move that adds nothing
+abbrev Stays : Place → Place → Type 0
+Stays from to = StaysIn from to × (remaining to ≤ remaining from)
+
 descents : (p : Place) → Stays p (descend p)
 descents empty_place = (inr refl, omega arith)
 descents (at n s c l ls) = let h = descend_later n s c l ls in (stays l ls h, omega (arith, left h))
@@ -253,11 +266,20 @@ passes (at n s c (level o p no_trees) ls) = (stays_here (at n s c (level o p no_
 passes (at n s c (level o p (tree t f)) ls) = let h = passed n s c o p t f ls in (stays (level o p (tree t f)) ls h, omega (arith, left h))
 
 pub moves_stay : MovesStay
-moves_stay = record { descents = descents; passes = passes; none = stays_here; chains = chains }
+moves_stay = record {
+  descents = record { stays = λ p. (descents p).0; adds_nothing = λ p. (descents p).1 };
+  passes = record { stays = λ p. (passes p).0; adds_nothing = λ p. (passes p).1 };
+}
+
+pub stays_along : StaysAlong
+stays_along = record { here = stays_here; along = chains }
 
 -- groups that are entered
 entered_is : (x e : Entered) → Some x ≡ Some e → x ≡ e
 entered_is x e h = ap (λ y. elim y [ Some z ↦ z | None ↦ x ]) h
+
+abbrev GoesIn : Place → Entered → Type 0
+GoesIn p e = GoesOn p e.behind × (remaining e.content < remaining p)
 
 any_goes_in : (p : Place) (e : Entered) → enter_any p ≡ Some e → GoesIn p e
 any_goes_in empty_place e h = cc
@@ -288,8 +310,11 @@ goes_in delimiter.Parenthesis p e h = visible_goes_in delimiter.Parenthesis p e 
 goes_in delimiter.Brace p e h = visible_goes_in delimiter.Brace p e h
 goes_in delimiter.Bracket p e h = visible_goes_in delimiter.Bracket p e h
 
+enters_on : (entry : Place → Option Entered) → ((p : Place) (e : Entered) → entry p ≡ Some e → GoesIn p e) → EntersOn entry
+enters_on entry on = record { stays = λ p e h. (on p e h).0.0; lowers = λ p e h. (on p e h).0.1; inwards = λ p e h. (on p e h).1 }
+
 pub entries_go_on : EntriesGoOn
-entries_go_on = record { groups = goes_in; any_groups = any_goes_in }
+entries_go_on = record { groups = λ d. enters_on (enter d) (goes_in d); any_groups = enters_on enter_any any_goes_in }
 
 pub settle_remaining : (n s c : ℕ) (l : Level) (ls : List Level) → remaining (settle n s c l ls) ≤ remaining (at n s c l ls)
 settle_remaining n s c l ls = omega (arith, left (settle_later n s c l ls))

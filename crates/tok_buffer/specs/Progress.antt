@@ -24,17 +24,10 @@ abbrev pub remaining : Place → ℕ
 remaining empty_place = 0
 remaining (at number scope count (level o p f) ls) = weight f + remaining_around ls + 1
 
--- a move that stays in its scope, and takes nothing back
-abbrev pub Stays : (from to : Place) → Type 0
-Stays from to = StaysIn from to × (remaining to ≤ remaining from)
-
--- a move that takes something away from what is left
-abbrev pub GoesOn : (from to : Place) → Type 0
-GoesOn from to = StaysIn from to × (remaining to < remaining from)
-
--- wherever it reads
-abbrev pub ReadsOn : (Place → Option (List Tree × Place)) → Type 0
-ReadsOn read = (p : Place) (ts : List Tree) (q : Place) → read p ≡ Some (ts, q) → GoesOn p q
+-- wherever it reads, it stays in the scope and takes something away from what remains
+pub record ReadsOn (read : Place → Option (List Tree × Place)) : Type 0 where
+  pub stays : (p : Place) (ts : List Tree) (q : Place) → read p ≡ Some (ts, q) → StaysIn p q
+  pub lowers : (p : Place) (ts : List Tree) (q : Place) → read p ≡ Some (ts, q) → remaining q < remaining p
 
 pub record ReadsGoOn : Type 0 where
   pub idents : ReadsOn read_ident
@@ -46,21 +39,35 @@ pub record ReadsGoOn : Type 0 where
   pub punctuations : (text : List ℕ) → ReadsOn (read_punctuation text)
   pub trees : ReadsOn read_tree
   pub taken : (wanted : Tree → Bool) → ReadsOn (take wanted)
-  pub skips : (p q : Place) → skip p ≡ Some q → GoesOn p q
 
--- a content has less left than the place before its group
-abbrev pub GoesIn : Place → Entered → Type 0
-GoesIn p e = GoesOn p e.behind × (remaining e.content < remaining p)
+-- the same of a skip
+pub record SkipsGoOn : Type 0 where
+  pub stays : (p q : Place) → skip p ≡ Some q → StaysIn p q
+  pub lowers : (p q : Place) → skip p ≡ Some q → remaining q < remaining p
+
+-- of the place behind a group that is entered, and of its content, in which less remains, too
+pub record EntersOn (entry : Place → Option Entered) : Type 0 where
+  pub stays : (p : Place) (e : Entered) → entry p ≡ Some e → StaysIn p e.behind
+  pub lowers : (p : Place) (e : Entered) → entry p ≡ Some e → remaining e.behind < remaining p
+  pub inwards : (p : Place) (e : Entered) → entry p ≡ Some e → remaining e.content < remaining p
 
 pub record EntriesGoOn : Type 0 where
-  pub groups : (d : Delimiter) (p : Place) (e : Entered) → enter d p ≡ Some e → GoesIn p e
-  pub any_groups : (p : Place) (e : Entered) → enter_any p ≡ Some e → GoesIn p e
+  pub groups : (d : Delimiter) → EntersOn (enter d)
+  pub any_groups : EntersOn enter_any
+
+-- a move that stays in the scope, and adds nothing
+pub record MovesOn (move : Place → Place) : Type 0 where
+  pub stays : (p : Place) → StaysIn p (move p)
+  pub adds_nothing : (p : Place) → remaining (move p) ≤ remaining p
 
 pub record MovesStay : Type 0 where
-  pub descents : (p : Place) → Stays p (descend p)
-  pub passes : (p : Place) → Stays p (pass p)
-  pub none : (p : Place) → StaysIn p p
-  pub chains : (p q r : Place) → StaysIn p q → StaysIn q r → StaysIn p r
+  pub descents : MovesOn descend
+  pub passes : MovesOn pass
+
+-- staying in the scope is reflexive and transitive
+pub record StaysAlong : Type 0 where
+  pub here : (p : Place) → StaysIn p p
+  pub along : (p q r : Place) → StaysIn p q → StaysIn q r → StaysIn p r
 
 -- nothing is added by staying in the scope, and something is taken away by going anywhere else in it
 abbrev pub LosesNone : (from to : Place) → Type 0

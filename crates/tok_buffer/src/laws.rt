@@ -9,7 +9,7 @@ ghost use Rattle.tok_buffer.specs.Descent.{DescentsEnter};
 ghost use Rattle.tok_buffer.specs.Lifetimes.{name_of};
 ghost use Rattle.tok_buffer.specs.Order.{equal, order};
 ghost use Rattle.tok_buffer.specs.Place.{Place, start};
-ghost use Rattle.tok_buffer.specs.Progress.{EntriesGoOn, MovesStay, ReadsGoOn};
+ghost use Rattle.tok_buffer.specs.Progress.{EntriesGoOn, MovesStay, ReadsGoOn, SkipsGoOn, StaysAlong};
 ghost use Rattle.tok_buffer.specs.Rest.{rest};
 
 use crate::buffer::TokenBuffer;
@@ -51,21 +51,29 @@ pub fn lifetimes_in_order(left: &Lifetime, right: &Lifetime) -> (bool, Ordering)
     (left == right, left.cmp(right))
 }
 
-/// Each read and each skip stays in the buffer and the scope of its cursor and goes on, and lowers what is left, so a loop
-/// of reads ends.
+/// Each read stays in the buffer and the scope of its cursor and goes on, and lowers what remains, so a loop of reads ends.
 pub fn reads_go_on()
     ensures { ReadsGoOn }
 {}
 
-/// A group that is entered, visible or not, has less left than the place before it, and the place after it is reached in the
-/// scope, with less left too.
+/// So does each skip.
+pub fn skips_go_on()
+    ensures { SkipsGoOn }
+{}
+
+/// So does the entry of a group, visible or not, for the place after it; and less remains in its content than before it.
 pub fn entries_go_on()
     ensures { EntriesGoOn }
 {}
 
-/// A descent and a pass stay in the scope and take nothing back; staying in the scope is reflexive and transitive.
+/// A descent and a pass stay in the scope, and add nothing to what remains.
 pub fn moves_stay()
     ensures { MovesStay }
+{}
+
+/// To stay in the scope is reflexive and transitive, so a run of reads stays in it.
+pub fn stays_along()
+    ensures { StaysAlong }
 {}
 
 /// Of two cursors of which the second stays in the scope of the first, the second has no more left, and less where it is

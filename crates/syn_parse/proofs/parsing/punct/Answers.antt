@@ -1,7 +1,6 @@
-use Rattle.std.proofs.Common.{◌≡◌, ◌∙◌, ap, sym, List, length, ℕ, Some, replicate}
+use Rattle.std.proofs.Common.{◌≡◌, ◌∙◌, ap, sym, length, Some, replicate}
 use Rattle.std.proofs.lemmas.List.{length-replicate}
 use Rattle.std.specs.Str.{chars}
-use Rattle.tok_core.specs.declared.span.Span.{Span}
 use Rattle.tok_buffer.specs.Cursors.{place_of}
 use Rattle.tok_buffer.specs.Reads.{read_punctuation, read_spans, sized}
 use Rattle.syn_parse.specs.Parses.{ascii_chars}
