@@ -2,7 +2,7 @@
 //
 // The status is 0 where each request for memory is granted; 3 where one is refused and all that stands is right; 1 where
 // something is wrong, and then the name of the call is printed. Before the calls it makes one request for each byte of its
-// input: where always the 300th request is refused, inputs of 299 bytes and fewer bring each request of the calls there.
+// input: where always the 500th request is refused, inputs of 499 bytes and fewer bring each request of the calls there.
 #![tactic(auto)]
 
 mod cursors;

@@ -1,13 +1,13 @@
 //! The calls of `syn_parse` that take memory.
 mod groups;
 mod looks;
+mod own;
 mod whole;
 
 use crate::outcome::{Outcome, Stop, expect, shows, worst};
+use own::{AnyIdent, AnyLifetime, Plus, Word};
 use std::alloc::Global;
-use syn_parse::{
-    Fault, IdentExt, LifetimeExt, Parse, ParseStream, Result, parsing, tokens_to_parse_buffer,
-};
+use syn_parse::{Fault, IdentExt, Parse, tokens_to_parse_buffer};
 use tok_buffer::{Lifetime, TokenBuffer};
 use tok_core::{Group, Ident, Literal, Punct, Span, TokenStream, TokenTree, lex};
 use tok_types::token;
@@ -17,7 +17,6 @@ pub fn calls(alloc: Global) -> Outcome {
     worst(&[
         values(alloc),
         boxed(alloc),
-        any_text(alloc),
         unraw(alloc),
         refusals_of_trees(alloc),
         refusals_of_tokens(alloc),
@@ -27,248 +26,106 @@ pub fn calls(alloc: Global) -> Outcome {
     ])
 }
 
-fn is_name(ident: &Ident, text: &str) -> bool {
-    ident.as_str() == text
-}
-
-// Runs a function on a stream over a text. What it leaves unread is discarded.
-fn over<F>(alloc: Global, text: &str, f: F) -> Outcome
-where
-    F: FnOnce(ParseStream<'_, '_>) -> Outcome,
-    requires { F.IsAlwaysCallable f }
-{
+fn laid(alloc: Global, text: &str) -> Result<TokenBuffer, Stop> {
     let buffer = TokenBuffer::new2(alloc, 0, lex(alloc, 0, text)?)?;
+    Ok(buffer)
+}
+
+// A value of the whole text; or a stream where it was, where memory is refused.
+fn takes_all<T: Parse + Drop>(alloc: Global, text: &str, call: &'static str) -> Outcome {
+    let buffer = laid(alloc, text)?;
     let mut input = tokens_to_parse_buffer(alloc, &buffer, Span::call_site());
-    let outcome = f(&mut input);
+    let start = input.cursor();
+    let parsed = input.parse::<T>();
+    let stays = input.cursor() == start;
+    let is_empty = input.is_empty();
     input.discard();
-    outcome
+    match parsed {
+        Ok(_) => expect(is_empty, call),
+        Err(Fault::Memory(_)) => {
+            expect(stays, call)?;
+            Err(Stop::Refused)
+        }
+        Err(Fault::Refused(_)) => Err(Stop::Wrong(call)),
+    }
 }
 
-// A parser that takes the whole text, or leaves the stream where it was.
-fn takes_all<T, F>(alloc: Global, text: &str, parser: F, call: &'static str) -> Outcome
-where
-    T: Drop,
-    F: FnOnce(ParseStream<'_, '_>) -> Result<T>,
-    requires { F.IsAlwaysCallable parser }
-{
-    over(alloc, text, |input| {
-        let start = input.cursor();
-        match parser(input) {
-            Ok(_) => expect(input.is_empty(), call),
-            Err(Fault::Memory(_)) => {
-                expect(input.cursor() == start, call)?;
-                Err(Stop::Refused)
-            }
-            Err(Fault::Refused(_)) => Err(Stop::Wrong(call)),
-        }
-    })
-}
-
-// A parser that refuses a text in these words, and leaves the stream where it was.
-fn refuses<T, F>(alloc: Global, text: &str, parser: F, words: &str, call: &'static str) -> Outcome
-where
-    T: Drop,
-    F: FnOnce(ParseStream<'_, '_>) -> Result<T>,
-    requires { F.IsAlwaysCallable parser }
-{
-    over(alloc, text, |input| {
-        let start = input.cursor();
-        let outcome = parser(input);
-        expect(input.cursor() == start, call)?;
-        match outcome {
-            Ok(_) => Err(Stop::Wrong(call)),
-            Err(Fault::Memory(_)) => Err(Stop::Refused),
-            Err(Fault::Refused(error)) => expect(shows(&error, words), call),
-        }
-    })
+// A refusal in these words, and a stream where it was.
+fn refuses<T: Parse + Drop>(alloc: Global, text: &str, words: &str, call: &'static str) -> Outcome {
+    let buffer = laid(alloc, text)?;
+    let mut input = tokens_to_parse_buffer(alloc, &buffer, Span::call_site());
+    let start = input.cursor();
+    let parsed = input.parse::<T>();
+    let stays = input.cursor() == start;
+    input.discard();
+    expect(stays, call)?;
+    match parsed {
+        Ok(_) => Err(Stop::Wrong(call)),
+        Err(Fault::Memory(_)) => Err(Stop::Refused),
+        Err(Fault::Refused(error)) => expect(shows(&error, words), call),
+    }
 }
 
 fn values(alloc: Global) -> Outcome {
     worst(&[
-        takes_all(alloc, "a", |input| Ident::parse(input), "Ident::parse"),
-        takes_all(
-            alloc,
-            "'a",
-            |input| Lifetime::parse(input),
-            "Lifetime::parse",
-        ),
-        takes_all(alloc, "1", |input| Literal::parse(input), "Literal::parse"),
-        takes_all(alloc, "(a)", |input| Group::parse(input), "Group::parse"),
-        takes_all(
-            alloc,
-            "[1]",
-            |input| TokenTree::parse(input),
-            "TokenTree::parse",
-        ),
-        takes_all(
-            alloc,
-            "a (1)",
-            |input| TokenStream::parse(input),
-            "TokenStream::parse",
-        ),
-        takes_all(
-            alloc,
-            "a",
-            |input| Option::<Ident>::parse(input),
-            "Option::parse",
-        ),
+        takes_all::<Ident>(alloc, "a", "Ident::parse"),
+        takes_all::<Lifetime>(alloc, "'a", "Lifetime::parse"),
+        takes_all::<Literal>(alloc, "1", "Literal::parse"),
+        takes_all::<Group>(alloc, "(a)", "Group::parse"),
+        takes_all::<TokenTree>(alloc, "[1]", "TokenTree::parse"),
+        takes_all::<TokenStream>(alloc, "a (1)", "TokenStream::parse"),
+        takes_all::<Option<Ident>>(alloc, "a", "Option::parse"),
+        takes_all::<AnyIdent>(alloc, "fn", "Ident::parse_any"),
+        takes_all::<AnyLifetime>(alloc, "'fn", "Lifetime::parse_any"),
     ])
 }
 
-// Where the box is refused the identifier has been read.
+// A box is asked for after its value is read: where it is refused the stream is after the value.
 fn boxed(alloc: Global) -> Outcome {
-    over(alloc, "a", |input| {
-        match input.parse::<Box<token::Fn>>() {
-            Ok(_) => return Err(Stop::Wrong("Box::parse")),
-            Err(Fault::Memory(_)) => return Err(Stop::Refused),
-            Err(Fault::Refused(_)) => {}
-        }
-        match input.parse::<Box<Ident>>() {
-            Ok(name) => expect(is_name(&name, "a") && input.is_empty(), "Box::parse"),
-            Err(Fault::Memory(_)) => Err(Stop::Refused),
-            Err(Fault::Refused(_)) => Err(Stop::Wrong("Box::parse")),
-        }
-    })
-}
-
-fn any_text(alloc: Global) -> Outcome {
-    worst(&[
-        takes_all(
-            alloc,
-            "fn",
-            |input| Ident::parse_any(input),
-            "Ident::parse_any",
-        ),
-        takes_all(
-            alloc,
-            "'fn",
-            |input| Lifetime::parse_any(input),
-            "Lifetime::parse_any",
-        ),
-        refuses(
-            alloc,
-            "1",
-            |input| Ident::parse_any(input),
-            "expected ident",
-            "Ident::parse_any",
-        ),
-        refuses(
-            alloc,
-            "1",
-            |input| Lifetime::parse_any(input),
-            "expected lifetime",
-            "Lifetime::parse_any",
-        ),
-    ])
+    let buffer = laid(alloc, "fn")?;
+    let mut input = tokens_to_parse_buffer(alloc, &buffer, Span::call_site());
+    let parsed = input.parse::<Box<token::Fn>>();
+    let is_empty = input.is_empty();
+    input.discard();
+    expect(is_empty, "Box::parse")?;
+    match parsed {
+        Ok(_) => Ok(()),
+        Err(Fault::Memory(_)) => Err(Stop::Refused),
+        Err(Fault::Refused(_)) => Err(Stop::Wrong("Box::parse")),
+    }
 }
 
 fn unraw(alloc: Global) -> Outcome {
     let raw = Ident::new_raw(alloc, "fn", Span::call_site())?;
     let plain = IdentExt::unraw(&raw, alloc);
-    expect(is_name(&raw, "r#fn"), "IdentExt::unraw")?;
-    expect(is_name(&plain?, "fn"), "IdentExt::unraw")
+    expect(raw.as_str() == "r#fn", "IdentExt::unraw")?;
+    expect(plain?.as_str() == "fn", "IdentExt::unraw")
 }
 
 fn refusals_of_trees(alloc: Global) -> Outcome {
     let end = "unexpected end of input, expected token tree";
     let keyword = "expected identifier, found keyword `fn`";
-    let keyword_lifetime = "unexpected keyword lifetime \"'fn\"";
+    let lifetime = "unexpected keyword lifetime \"'fn\"";
     worst(&[
-        refuses(
-            alloc,
-            "1",
-            |input| Ident::parse(input),
-            "expected identifier",
-            "Ident::parse",
-        ),
-        refuses(
-            alloc,
-            "fn",
-            |input| Ident::parse(input),
-            keyword,
-            "Ident::parse",
-        ),
-        refuses(
-            alloc,
-            "1",
-            |input| Lifetime::parse(input),
-            "expected lifetime",
-            "Lifetime::parse",
-        ),
-        refuses(
-            alloc,
-            "'fn",
-            |input| Lifetime::parse(input),
-            keyword_lifetime,
-            "Lifetime::parse",
-        ),
-        refuses(
-            alloc,
-            "a",
-            |input| Literal::parse(input),
-            "expected literal token",
-            "Literal::parse",
-        ),
-        refuses(
-            alloc,
-            "a",
-            |input| Punct::parse(input),
-            "expected punctuation token",
-            "Punct::parse",
-        ),
-        refuses(
-            alloc,
-            "a",
-            |input| Group::parse(input),
-            "expected group token",
-            "Group::parse",
-        ),
-        refuses(
-            alloc,
-            "",
-            |input| TokenTree::parse(input),
-            end,
-            "TokenTree::parse",
-        ),
+        refuses::<Ident>(alloc, "1", "expected identifier", "Ident::parse"),
+        refuses::<Ident>(alloc, "fn", keyword, "Ident::parse"),
+        refuses::<Lifetime>(alloc, "1", "expected lifetime", "Lifetime::parse"),
+        refuses::<Lifetime>(alloc, "'fn", lifetime, "Lifetime::parse"),
+        refuses::<Literal>(alloc, "a", "expected literal token", "Literal::parse"),
+        refuses::<Punct>(alloc, "a", "expected punctuation token", "Punct::parse"),
+        refuses::<Group>(alloc, "a", "expected group token", "Group::parse"),
+        refuses::<TokenTree>(alloc, "", end, "TokenTree::parse"),
     ])
 }
 
 fn refusals_of_tokens(alloc: Global) -> Outcome {
     worst(&[
-        refuses(
-            alloc,
-            "a",
-            |input| token::Fn::parse(input),
-            "expected `fn`",
-            "Keyword::parse",
-        ),
-        refuses(
-            alloc,
-            "a",
-            |input| token::Comma::parse(input),
-            "expected `,`",
-            "Punctuation::parse",
-        ),
-        refuses(
-            alloc,
-            "a",
-            |input| token::Underscore::parse(input),
-            "expected `_`",
-            "Underscore::parse",
-        ),
-        refuses(
-            alloc,
-            "a",
-            |input| parsing::keyword(input, "b"),
-            "expected `b`",
-            "parsing::keyword",
-        ),
-        refuses(
-            alloc,
-            "a",
-            |input| parsing::punct::<1>(input, "+"),
-            "expected `+`",
-            "parsing::punct",
-        ),
+        refuses::<AnyIdent>(alloc, "1", "expected ident", "Ident::parse_any"),
+        refuses::<AnyLifetime>(alloc, "1", "expected lifetime", "Lifetime::parse_any"),
+        refuses::<token::Fn>(alloc, "a", "expected `fn`", "Keyword::parse"),
+        refuses::<token::Comma>(alloc, "a", "expected `,`", "Punctuation::parse"),
+        refuses::<token::Underscore>(alloc, "a", "expected `_`", "Underscore::parse"),
+        refuses::<Word>(alloc, "a", "expected `word`", "parsing::keyword"),
+        refuses::<Plus>(alloc, "a", "expected `+`", "parsing::punct"),
     ])
 }

@@ -8,6 +8,7 @@
 mod ext;
 mod fault;
 mod group;
+pub mod laws;
 mod lookahead;
 mod parse;
 mod parser;

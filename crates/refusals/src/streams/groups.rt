@@ -1,121 +1,48 @@
-//! Groups, steps and the end of a stream.
-use super::{over, refuses};
+//! Groups, refusals in words of one's own, and the end of a stream.
+use super::own::{InAny, InBraces, InBrackets, InGroup, InParens, Refused, StepRefused};
+use super::{laid, refuses};
 use crate::outcome::{Outcome, Stop, expect, shows, worst};
 use std::alloc::Global;
-use syn_parse::{
-    Braces, Brackets, Fault, Group, Parens, ParseStream, Result, parse_braces, parse_brackets,
-    parse_group, parse_parens,
-};
-use tok_core::{Delimiter, Ident};
+use syn_parse::{Fault, tokens_to_parse_buffer};
+use tok_core::{Delimiter, Ident, Span};
 
 /// Each of their calls.
 pub fn calls(alloc: Global) -> Outcome {
+    let end = "unexpected end of input, own words";
     worst(&[
-        readers(alloc),
-        refuses(
-            alloc,
-            "a",
-            any_delimiter,
-            "expected any delimiter",
-            "parse_any_delimiter",
-        ),
+        refuses::<InParens>(alloc, "a", "expected parentheses", "parse_parens"),
+        refuses::<InBraces>(alloc, "a", "expected curly braces", "parse_braces"),
+        refuses::<InBrackets>(alloc, "a", "expected square brackets", "parse_brackets"),
+        refuses::<InGroup>(alloc, "a", "expected invisible group", "parse_group"),
+        refuses::<InAny>(alloc, "a", "expected any delimiter", "parse_any_delimiter"),
+        refuses::<Refused>(alloc, "", end, "ParseBuffer::error"),
+        refuses::<StepRefused>(alloc, "", end, "StepCursor::error"),
         within(alloc),
-        own_words(alloc),
         finish(alloc),
-    ])
-}
-
-fn parens(input: ParseStream<'_, '_>) -> Result<()> {
-    let Parens { token: _, content } = parse_parens(input)?;
-    content.discard();
-    Ok(())
-}
-
-fn braces(input: ParseStream<'_, '_>) -> Result<()> {
-    let Braces { token: _, content } = parse_braces(input)?;
-    content.discard();
-    Ok(())
-}
-
-fn brackets(input: ParseStream<'_, '_>) -> Result<()> {
-    let Brackets { token: _, content } = parse_brackets(input)?;
-    content.discard();
-    Ok(())
-}
-
-fn group(input: ParseStream<'_, '_>) -> Result<()> {
-    let Group { token: _, content } = parse_group(input)?;
-    content.discard();
-    Ok(())
-}
-
-fn any_delimiter(input: ParseStream<'_, '_>) -> Result<()> {
-    let (_, _, content) = input.parse_any_delimiter()?;
-    content.discard();
-    Ok(())
-}
-
-fn readers(alloc: Global) -> Outcome {
-    worst(&[
-        refuses(alloc, "a", parens, "expected parentheses", "parse_parens"),
-        refuses(alloc, "a", braces, "expected curly braces", "parse_braces"),
-        refuses(
-            alloc,
-            "a",
-            brackets,
-            "expected square brackets",
-            "parse_brackets",
-        ),
-        refuses(alloc, "a", group, "expected invisible group", "parse_group"),
     ])
 }
 
 // The content is closed, whether the identifier in it is read or not.
 fn within(alloc: Global) -> Outcome {
-    over(alloc, "(a)", |input| {
-        let found = input.within(Delimiter::Parenthesis, |content| content.parse::<Ident>());
-        expect(input.is_empty(), "within")?;
-        match found {
-            Ok(_) => Ok(()),
-            Err(Fault::Memory(_)) => Err(Stop::Refused),
-            Err(Fault::Refused(_)) => Err(Stop::Wrong("within")),
-        }
-    })
-}
-
-fn own_words(alloc: Global) -> Outcome {
-    worst(&[
-        refuses(
-            alloc,
-            "",
-            |input| {
-                let refused: Result<()> = Err(input.error("own words"));
-                refused
-            },
-            "unexpected end of input, own words",
-            "ParseBuffer::error",
-        ),
-        refuses(
-            alloc,
-            "a",
-            |input| {
-                input.step(|from| {
-                    let refused: Result<((), tok_buffer::Cursor<'_>)> = Err(from.error(
-                        "own words",
-                    ));
-                    refused
-                })
-            },
-            "own words",
-            "StepCursor::error",
-        ),
-    ])
+    let buffer = laid(alloc, "(a)")?;
+    let mut input = tokens_to_parse_buffer(alloc, &buffer, Span::call_site());
+    let found = input.within(Delimiter::Parenthesis, |content| content.parse::<Ident>());
+    let is_empty = input.is_empty();
+    input.discard();
+    expect(is_empty, "within")?;
+    match found {
+        Ok(_) => Ok(()),
+        Err(Fault::Memory(_)) => Err(Stop::Refused),
+        Err(Fault::Refused(_)) => Err(Stop::Wrong("within")),
+    }
 }
 
 fn finish(alloc: Global) -> Outcome {
-    over(alloc, "a", |input| match input.fork().finish() {
+    let buffer = laid(alloc, "a")?;
+    let input = tokens_to_parse_buffer(alloc, &buffer, Span::call_site());
+    match input.finish() {
         Ok(()) => Err(Stop::Wrong("finish")),
         Err(Fault::Memory(_)) => Err(Stop::Refused),
         Err(Fault::Refused(error)) => expect(shows(&error, "unexpected token"), "finish"),
-    })
+    }
 }

@@ -1,43 +1,37 @@
 //! Lookaheads.
-use super::over;
-use crate::outcome::{Outcome, Stop, expect, shows};
+use super::laid;
+use crate::outcome::{Outcome, Stop, expect, shows, worst};
 use std::alloc::Global;
-use syn_parse::{Fault, ParseStream};
+use syn_parse::{Fault, Lookahead1, tokens_to_parse_buffer};
+use tok_core::Span;
 use tok_types::token;
 
-// What a lookahead says, whose notes are these words.
-fn said(fault: Fault, words: &str, call: &'static str) -> Outcome {
+/// Each of their calls. What was noted before a refused peek stays noted.
+pub fn calls(alloc: Global) -> Outcome {
+    let buffer = laid(alloc, "a")?;
+    let input = tokens_to_parse_buffer(alloc, &buffer, Span::call_site());
+    let none = said(input.lookahead1().error(), "unexpected token");
+    let looked = looks(input.lookahead1());
+    input.discard();
+    worst(&[none, looked])
+}
+
+fn said(fault: Fault, words: &str) -> Outcome {
     match fault {
         Fault::Memory(_) => Err(Stop::Refused),
-        Fault::Refused(error) => expect(shows(&error, words), call),
+        Fault::Refused(error) => expect(shows(&error, words), "Lookahead1"),
     }
 }
 
-/// Each of their calls. What is noted before a refused peek stays noted.
-pub fn calls(alloc: Global) -> Outcome {
-    over(alloc, "a", looks)
-}
-
-fn looks(input: ParseStream<'_, '_>) -> Outcome {
-    said(
-        input.lookahead1().error(),
-        "unexpected token",
-        "Lookahead1::error",
-    )?;
-    let mut lookahead = input.lookahead1();
+fn looks(mut lookahead: Lookahead1<'_>) -> Outcome {
     lookahead.peek::<token::Fn>()?;
-    if let Err(_) = lookahead.peek_as(false, "`x`") {
-        said(lookahead.error(), "expected `fn`", "Lookahead1::peek_as")?;
+    if lookahead.peek_as(false, "`x`").is_err() {
+        said(lookahead.error(), "expected `fn`")?;
         return Err(Stop::Refused);
     }
-    if let Err(_) = lookahead.peek::<token::Comma>() {
-        said(
-            lookahead.error(),
-            "expected `fn` or `x`",
-            "Lookahead1::peek",
-        )?;
+    if lookahead.peek::<token::Comma>().is_err() {
+        said(lookahead.error(), "expected `fn` or `x`")?;
         return Err(Stop::Refused);
     }
-    let words = "expected one of: `fn`, `x`, `,`";
-    said(lookahead.error(), words, "Lookahead1::error")
+    said(lookahead.error(), "expected one of: `fn`, `x`, `,`")
 }

@@ -1,5 +1,4 @@
 //! Parsers of whole texts and streams of tokens.
-use super::is_name;
 use crate::outcome::{Outcome, Stop, expect, shows, worst};
 use std::alloc::Global;
 use syn_parse::{Fault, ParseStream, Parser, Result};
@@ -23,7 +22,7 @@ fn name(input: ParseStream<'_, '_>) -> Result<Ident> {
 
 fn named(answer: Result<Ident>, call: &'static str) -> Outcome {
     match answer {
-        Ok(name) => expect(is_name(&name, "a"), call),
+        Ok(name) => expect(name.as_str() == "a", call),
         Err(Fault::Memory(_)) => Err(Stop::Refused),
         Err(Fault::Refused(_)) => Err(Stop::Wrong(call)),
     }
