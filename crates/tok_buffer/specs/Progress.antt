@@ -1,6 +1,7 @@
 -- What moves of a cursor keep, and a measure that they lower.
 use Rattle.std.specs.Prelude.{◌≡◌, ◌⊎◌, ℕ, ◌+◌, ◌<◌, ◌≤◌, true, false, IsTrue, Bool, List, [], ◌∷◌, Option, Some}
 use Rattle.std.specs.Ordering.{partial_le}
+use Rattle.std.specs.declared.cmp.Ordering.TheVariants.{Less}
 use Rattle.tok_core.specs.declared.group.Delimiter.{Delimiter}
 use Rattle.tok_core.specs.Forest.{Tree}
 use Rattle.tok_core.specs.Weight.{weight}
@@ -24,9 +25,10 @@ abbrev pub remaining : Place → ℕ
 remaining empty_place = 0
 remaining (at number scope count (level o p f) ls) = weight f + remaining_around ls + 1
 
--- wherever it reads, it stays in the scope and takes something away from what remains
+-- wherever it reads, it stays in the scope, goes to a later place, and takes something away from what remains
 pub record ReadsOn (read : Place → Option (List Tree × Place)) : Type 0 where
   pub stays : (p : Place) (ts : List Tree) (q : Place) → read p ≡ Some (ts, q) → StaysIn p q
+  pub later : (p : Place) (ts : List Tree) (q : Place) → read p ≡ Some (ts, q) → order p q ≡ Some Less
   pub lowers : (p : Place) (ts : List Tree) (q : Place) → read p ≡ Some (ts, q) → remaining q < remaining p
 
 pub record ReadsGoOn : Type 0 where
@@ -43,11 +45,13 @@ pub record ReadsGoOn : Type 0 where
 -- the same of a skip
 pub record SkipsGoOn : Type 0 where
   pub stays : (p q : Place) → skip p ≡ Some q → StaysIn p q
+  pub later : (p q : Place) → skip p ≡ Some q → order p q ≡ Some Less
   pub lowers : (p q : Place) → skip p ≡ Some q → remaining q < remaining p
 
--- of the place behind a group that is entered, and of its content, in which less remains, too
+-- the same of the place after a group that is entered; and less remains in its content, too
 pub record EntersOn (entry : Place → Option Entered) : Type 0 where
   pub stays : (p : Place) (e : Entered) → entry p ≡ Some e → StaysIn p e.behind
+  pub later : (p : Place) (e : Entered) → entry p ≡ Some e → order p e.behind ≡ Some Less
   pub lowers : (p : Place) (e : Entered) → entry p ≡ Some e → remaining e.behind < remaining p
   pub inwards : (p : Place) (e : Entered) → entry p ≡ Some e → remaining e.content < remaining p
 

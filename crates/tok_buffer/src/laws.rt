@@ -51,7 +51,8 @@ pub fn lifetimes_in_order(left: &Lifetime, right: &Lifetime) -> (bool, Ordering)
     (left == right, left.cmp(right))
 }
 
-/// Each read stays in the buffer and the scope of its cursor and goes on, and lowers what remains, so a loop of reads ends.
+/// Each read stays in the buffer and the scope of its cursor, goes to a later place, and lowers what remains: so a loop of
+/// reads ends.
 pub fn reads_go_on()
     ensures { ReadsGoOn }
 {}
