@@ -10,23 +10,24 @@ use Rattle.syn_tokens.specs.declared.stream.Stream.{Stream}
 use Rattle.syn_tokens.proofs.Linked.{content_within, length-links, links_there}
 use Rattle.syn_tokens.proofs.Tracks.{stream_there, contents_taken, contents_left, contents_done, length-state}
 
-not_content : (b : Bool) (k : ℕ) (o : Option ℕ) → (o ≡ Some k → ⊥) → (b && is_content_of k (kind_of o)) ≡ false
-not_content false k o h = refl
-not_content true k None h = refl
-not_content true k (Some p) h = ne_eqb p k (λ e. h (ap (λ z. Some z) e))
+not_content : (b f : Bool) (k : ℕ) (o : Option ℕ) → (o ≡ Some k → ⊥) → (b && is_content_of k (kind_of f o)) ≡ false
+not_content false f k o h = refl
+not_content true true k None h = refl
+not_content true false k None h = refl
+not_content true f k (Some p) h = ne_eqb p k (λ e. h (ap (λ z. Some z) e))
 
 passed_over : (xs : List Stream) (k j : ℕ) → (IsContent (links_of xs) k j → ⊥) → is_open_content_of k (stream_at (state_of_list xs) j) ≡ false
 passed_over [] k j h = refl
-passed_over (x ∷ xs) k zero h = not_content x.is_open k x.links.parent h
+passed_over (x ∷ xs) k zero h = not_content x.is_open x.is_fork k x.links.parent h
 passed_over (x ∷ xs) k (suc j) h = passed_over xs k j h
 
-content_open : (b : Bool) (k : ℕ) (o : Option ℕ) → o ≡ Some k → (b && is_content_of k (kind_of o)) ≡ b
-content_open false k o e = refl
-content_open true k o e = ap (λ z. is_content_of k (kind_of z)) e ∙ eq-eqb k k refl
+content_open : (b f : Bool) (k : ℕ) (o : Option ℕ) → o ≡ Some k → (b && is_content_of k (kind_of f o)) ≡ b
+content_open false f k o e = refl
+content_open true f k o e = ap (λ z. is_content_of k (kind_of f z)) e ∙ eq-eqb k k refl
 
 taken_at : (xs : List Stream) (k i : ℕ) (x : Stream) → x ≡ get_or xs i x → i < length xs → IsContent (links_of xs) k i → is_open_content_of k (stream_at (state_of_list xs) i) ≡ x.is_open
 taken_at xs k i x e t h =
-    ap (is_open_content_of k) (stream_there xs i x e t) ∙ content_open x.is_open k x.links.parent (sym (ap (λ l. l.parent) (links_there xs i x e t)) ∙ h)
+    ap (is_open_content_of k) (stream_there xs i x e t) ∙ content_open x.is_open x.is_fork k x.links.parent (sym (ap (λ l. l.parent) (links_there xs i x e t)) ∙ h)
 
 -- streams that are no contents of k are passed over
 skipped_by : (d count n m k : ℕ) (xs : List Stream) → m ≡ n + d → m ≤ count → HasNone (links_of xs) k n m → contents_closed (count - n) k n (state_of_list xs) ≡ contents_closed (count - m) k m (state_of_list xs)

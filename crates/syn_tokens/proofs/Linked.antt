@@ -1,9 +1,10 @@
 -- Links that stay, and a content linked.
-use Rattle.std.proofs.Common.{◌≡◌, ◌≢◌, ℕ, zero, suc, ◌+◌, ◌≤◌, ◌<◌, ◌⊎◌, inl, inr, List, [], ◌∷◌, length, get_or, set, Option, Some, None, refl, ap, sym, subst, ◌∙◌, arith}
+use Rattle.std.proofs.Common.{◌≡◌, ◌≢◌, ℕ, zero, suc, ◌+◌, ◌≤◌, ◌<◌, ◌⊎◌, inl, inr, List, [], ◌∷◌, ◌++◌, length, length-append, get_or, set, Bool, true, false, Option, Some, None, refl, ap, sym, subst, ◌∙◌, arith}
 use Rattle.std.proofs.Math.Seq.{map-set_same}
 use Rattle.std.proofs.lemmas.Bool.Decides.{eqb_tells}
 use Rattle.std.proofs.lemmas.Bool.{cases_lt}
-use Rattle.std.proofs.lemmas.List.{get_or-map, length-map}
+use Rattle.std.proofs.lemmas.List.{get_or-map, length-map, map-append}
+use Rattle.std.specs.Prelude.{cond}
 use Rattle.syn_tokens.specs.Links.{links_of, no_links, links_at, IsContent, HasNone, IsFirstFrom, IsLast, AreLinked}
 use Rattle.syn_tokens.specs.declared.links.Links.{Links}
 use Rattle.syn_tokens.specs.declared.stream.Stream.{Stream}
@@ -263,3 +264,50 @@ appended_linked old new k a h i t =
             | inr d ↦ let w : i ≢ n = d.1 in next_old old new k i p a h (omega (arith, a.len)) (content_was old new k p i a d.1 c)
           ];
     }
+
+-- a stream of no links leaves those of all
+links_apart : (ls : List Links) (j : ℕ) → links_at (ls ++ no_links ∷ []) j ≡ links_at ls j
+links_apart [] zero = refl
+links_apart [] (suc j) = refl
+links_apart (l ∷ ls) zero = refl
+links_apart (l ∷ ls) (suc j) = links_apart ls j
+
+-- a stream that is no content is linked to none
+pub apart_linked : (ls : List Links) → AreLinked ls → AreLinked (ls ++ no_links ∷ [])
+apart_linked ls h i t =
+    let n = length ls in
+    let new = ls ++ no_links ∷ [] in
+    let len : length new ≡ n + 1 = length-append ls (no_links ∷ []) in
+    let same : (j : ℕ) → links_at new j ≡ links_at ls j = links_apart ls in
+    let was : (p j : ℕ) → IsContent new p j → IsContent ls p j = λ p j c. sym (ap (λ l. l.parent) (same j)) ∙ c in
+    let is : (p j : ℕ) → IsContent ls p j → IsContent new p j = λ p j c. ap (λ l. l.parent) (same j) ∙ c in
+    let none : (p a : ℕ) → HasNone ls p a n → HasNone new p a (length new) =
+    λ p a f j g d c. f j g (content_within ls p j (was p j c)) (was p j c) in
+    let first : (p a : ℕ) (o u : Option ℕ) → u ≡ o → IsFirstFrom ls p a o → IsFirstFrom new p a u =
+    λ p a o u e f. record {
+      none = λ q. none p a (f.none (sym e ∙ q));
+      content = λ m q. is p m (f.content m (sym e ∙ q));
+      from = λ m q. f.from m (sym e ∙ q);
+      nearest = λ m q j g d c. f.nearest m (sym e ∙ q) j g d (was p j c);
+    } in
+    let last = last_of ls i h in
+    let end : (links_at new i).last ≡ (links_at ls i).last = ap (λ l. l.last) (same i) in
+    record {
+      parent = λ p c. (h i (content_within ls p i (was p i c))).parent p (was p i c);
+      first = first i (i + 1) _ _ (ap (λ l. l.first) (same i)) (first_of ls i h);
+      last = record {
+        none = λ q. none i 0 (last.none (sym end ∙ q));
+        content = λ m q. is i m (last.content m (sym end ∙ q));
+        latest = λ m q. none i (m + 1) (last.latest m (sym end ∙ q));
+      };
+      next = λ p c. first p (i + 1) _ _ (ap (λ l. l.next) (same i)) ((h i (content_within ls p i (was p i c))).next p (was p i c));
+    }
+
+pub pushed_some : (b : Bool) (xs ys : List Stream) (x : Stream) → ys ≡ cond b (xs ++ x ∷ []) xs → 0 < length xs → 0 < length ys
+pushed_some true xs ys x e h = omega (arith, ap length e, length-append xs (x ∷ []))
+pushed_some false xs ys x e h = omega (arith, ap length e)
+
+pub pushed_linked : (b : Bool) (xs ys : List Stream) (x : Stream) → ys ≡ cond b (xs ++ x ∷ []) xs → x.links ≡ no_links → AreLinked (links_of xs) → AreLinked (links_of ys)
+pushed_linked true xs ys x e q h =
+    linked_along (links_of ys) (links_of xs ++ no_links ∷ []) (ap links_of e ∙ map-append (λ s. s.links) xs (x ∷ []) ∙ ap (λ z. links_of xs ++ z ∷ []) q) (apart_linked (links_of xs) h)
+pushed_linked false xs ys x e q h = linked_along (links_of ys) (links_of xs) (ap links_of e) h

@@ -1,16 +1,14 @@
 -- Streams and what they stand for.
-use Rattle.std.proofs.Common.{◌≡◌, ℕ, zero, suc, ◌+◌, ◌-◌, ◌≤◌, ◌<◌, true, false, List, [], ◌∷◌, ◌++◌, length, get_or, set, Option, Some, None, refl, ap, sym, ◌∙◌, arith}
+use Rattle.std.proofs.Common.{◌≡◌, ℕ, zero, suc, ◌+◌, ◌-◌, ◌≤◌, ◌<◌, Bool, true, false, List, [], ◌∷◌, ◌++◌, length, get_or, set, Option, Some, None, refl, ap, sym, ◌∙◌, arith}
 use Rattle.std.proofs.Math.Seq.{map-set_same}
 use Rattle.std.proofs.lemmas.List.{length-map}
 use Rattle.std.proofs.lemmas.Bool.{cond-true, cond-false}
 use Rattle.std.specs.Prelude.{cond}
-use Rattle.std.specs.Option.{option_or}
-use Rattle.tok_core.specs.declared.group.Delimiter.{Delimiter}
-use Rattle.tok_core.specs.declared.span.Span.{Span}
-use Rattle.tok_buffer.specs.Ahead.{left_of}
-use Rattle.syn_tokens.specs.State.{State, stream_at, changed, spent, handed_note, noted_on_parent, is_open_content_of, handed_up, contents_closed}
+use Rattle.syn_tokens.specs.State.{State, stream_at, changed, spent, handed_note, noted_on_parent, is_open_content_of, handed_up, contents_closed, closed_inside, StreamKind, outermost, content_of, a_fork}
+use Rattle.syn_tokens.specs.Step.{place_of}
 use Rattle.syn_tokens.specs.State as states
-use Rattle.syn_tokens.specs.Tracks.{stream_of, state_of_list}
+use Rattle.tok_buffer.specs.Ahead.{Leftover}
+use Rattle.syn_tokens.specs.Tracks.{kind_of, stream_of, state_of_list}
 use Rattle.syn_tokens.specs.declared.stream.Stream.{Stream}
 
 pub stream_there : (xs : List Stream) (n : ℕ) (x : Stream) → x ≡ get_or xs n x → n < length xs → stream_at (state_of_list xs) n ≡ Some (stream_of x)
@@ -51,10 +49,12 @@ length-state xs = length-map xs stream_of
 pub state_kept : (xs : List Stream) (n : ℕ) (x y : Stream) → x ≡ get_or xs n x → stream_of y ≡ stream_of x → state_of_list (set xs n y) ≡ state_of_list xs
 state_kept xs n x y e q = map-set_same stream_of xs n y x (q ∙ ap stream_of e)
 
--- the first note stays
-pub left_or : (a b : Option (Span × Delimiter)) → left_of (option_or a b) ≡ option_or (left_of a) (left_of b)
-left_or None b = refl
-left_or (Some l) b = refl
+-- two changes that are the same at the stream that is there
+pub changed_alike : (st : State) (n : ℕ) (s : states.Stream) (f g : states.Stream → states.Stream) → stream_at st n ≡ Some s → f s ≡ g s → changed st n f ≡ changed st n g
+changed_alike [] n s f g e h = refl
+changed_alike (x ∷ st) zero s f g e h =
+    let same : x ≡ s = cc in ap (λ z. z ∷ st) (ap f same ∙ h ∙ ap g (sym same))
+changed_alike (x ∷ st) (suc n) s f g e h = ap (λ z. x ∷ z) (changed_alike st n s f g e h)
 
 pub changed-append : (st us : State) (n : ℕ) (f : states.Stream → states.Stream) → n < length st → changed (st ++ us) n f ≡ changed st n f ++ us
 changed-append [] us n f h = absurd (omega arith)
@@ -76,3 +76,42 @@ pub there_within : (st : State) (n : ℕ) (s : states.Stream) → stream_at st n
 there_within [] n s e = absurd (cc)
 there_within (x ∷ st) zero s e = omega arith
 there_within (x ∷ st) (suc n) s e = let t : n < length st = there_within st n s e in omega arith
+
+-- one that is no content notes on none
+pub noted_apart : (is_fork : Bool) (o : Option ℕ) (n : Option Leftover) (st : State) → o ≡ None → st ≡ noted_on_parent (kind_of is_fork o) n st
+noted_apart true None n st e = refl
+noted_apart false None n st e = refl
+noted_apart f (Some p) n st e = cc
+
+-- nothing that is closed, noted or spent moves
+module _ (j : ℕ) where
+  changed_place : (st : State) (n i : ℕ) (f : states.Stream → states.Stream) → ((s : states.Stream) → (f s).place ≡ s.place) → place_of (stream_at (changed st n f) i) ≡ place_of (stream_at st i)
+  changed_place [] n i f h = refl
+  changed_place (s ∷ st) zero zero f h = h s
+  changed_place (s ∷ st) zero (suc i) f h = refl
+  changed_place (s ∷ st) (suc n) zero f h = refl
+  changed_place (s ∷ st) (suc n) (suc i) f h = changed_place st n i f h
+
+  noted_place : (kind : StreamKind) (n : Option Leftover) (st : State) → place_of (stream_at (noted_on_parent kind n st) j) ≡ place_of (stream_at st j)
+  noted_place outermost n st = refl
+  noted_place a_fork n st = refl
+  noted_place (content_of p) n st = changed_place st p j (states.noted n) (λ s. refl)
+
+  handed_place : (k : ℕ) (st : State) (o : Option states.Stream) → place_of (stream_at (handed_with k st o) j) ≡ place_of (stream_at st j)
+  handed_place k st None = refl
+  handed_place k st (Some s) = changed_place (noted_on_parent s.kind (handed_note s) st) k j spent (λ s. refl) ∙ noted_place s.kind (handed_note s) st
+
+  closed_place : (room stream next : ℕ) (st : State) → place_of (stream_at (contents_closed room stream next st) j) ≡ place_of (stream_at st j)
+  closed_place zero stream next st = refl
+  closed_place (suc room) stream next st =
+      closed_place room stream (next + 1) (cond (is_open_content_of stream (stream_at st next)) (handed_up next (contents_closed room next (next + 1) st)) st)
+      ∙ go (is_open_content_of stream (stream_at st next)) (handed_place next inside (stream_at inside next) ∙ closed_place room next (next + 1) st) where
+        inside : State
+        inside = contents_closed room next (next + 1) st
+
+        go : (b : Bool) → place_of (stream_at (handed_up next inside) j) ≡ place_of (stream_at st j) → place_of (stream_at (cond b (handed_up next inside) st) j) ≡ place_of (stream_at st j)
+        go true h = h
+        go false h = refl
+
+pub inside_place : (k j : ℕ) (st : State) → place_of (stream_at (closed_inside k st) j) ≡ place_of (stream_at st j)
+inside_place k j st = closed_place j (length st - (k + 1)) k (k + 1) st

@@ -6,7 +6,12 @@ use Rattle.std.specs.Str.{all_ascii_digits}
 use Rattle.std.specs.Str.Parse.{digits_value}
 use Rattle.tok_core.specs.declared.group.Delimiter.{Delimiter}
 use Rattle.tok_core.specs.declared.group.Delimiter.TheVariants as delimiters
-use Rattle.syn_tokens.specs.Commands.{Kind, ident, Command, parse, enter, empty, close, stream_span, cursor_span, previous_span}
+use Rattle.tok_core.specs.Text.{opening}
+use Rattle.tok_types.specs.Texts.{keywords, punctuations}
+use Rattle.syn_tokens.specs.Commands as commands
+use Rattle.syn_tokens.specs.Commands.{Command, peek, peek2, peek3, parse, optional, empty, enter, enter_any, lookahead, fork, advance, discard, close, stream_span, cursor_span, previous_span, next_tree, next_group}
+use Rattle.syn_tokens.specs.Kinds as looks
+use Rattle.syn_tokens.specs.Kinds.{Kind, ident, ident_any, lifetime, lifetime_any, literal, punct, underscore, keyword, punctuation, Look, paren, brace, bracket, the_end, invisible_group, group_tree, any_tree}
 
 abbrev pub is_empty : {A : Type 0} → List A → Bool
 is_empty [] = true
@@ -23,14 +28,45 @@ is_number word = not (is_empty word) && (nat_le (length word) 9 && all_ascii_dig
 abbrev pub number : List ℕ → Option ℕ
 number word = cond (is_number word) (Some (digits_value 10 word)) None
 
+-- the number of a text in a table
+abbrev pub number_in : List (List ℕ) → List ℕ → Option ℕ
+number_in texts word = position (λ text. bytes_eq text word) texts
+
+-- a keyword or a punctuation, by its text
+abbrev pub token : List ℕ → Option Kind
+token word = elim (number_in keywords word) [ Some k ↦ Some (keyword k) | None ↦ option_map punctuation (number_in punctuations word) ]
+
 abbrev pub kind : List ℕ → Option Kind
-kind word = cond (bytes_eq word (codes "Ident")) (Some ident) None
+kind word =
+    cond (bytes_eq word (codes "Ident")) (Some ident) (
+    cond (bytes_eq word (codes "IdentAny")) (Some ident_any) (
+    cond (bytes_eq word (codes "Lifetime")) (Some lifetime) (
+    cond (bytes_eq word (codes "LifetimeAny")) (Some lifetime_any) (
+    cond (bytes_eq word (codes "Literal")) (Some literal) (
+    cond (bytes_eq word (codes "Punct")) (Some punct) (
+    cond (bytes_eq word (codes "_")) (Some underscore) (token word)))))))
+
+abbrev pub look : List ℕ → Option Look
+look word =
+    cond (bytes_eq word (codes "Paren")) (Some paren) (
+    cond (bytes_eq word (codes "Brace")) (Some brace) (
+    cond (bytes_eq word (codes "Bracket")) (Some bracket) (
+    cond (bytes_eq word (codes "End")) (Some the_end) (
+    cond (bytes_eq word (codes "Group")) (Some invisible_group) (
+    cond (bytes_eq word (codes "GroupTree")) (Some group_tree) (
+    cond (bytes_eq word (codes "Tree")) (Some any_tree) (option_map looks.kind (kind word))))))))
+
+-- the looks of all words, in order
+abbrev pub all_looks : List (List ℕ) → Option (List Look)
+all_looks [] = Some []
+all_looks (word ∷ rest) = option_and_then (λ l. option_map (λ ls. l ∷ ls) (all_looks rest)) (look word)
 
 abbrev pub delimiter : List ℕ → Option Delimiter
 delimiter word =
     cond (bytes_eq word (codes "(")) (Some delimiters.Parenthesis) (
     cond (bytes_eq word (codes "{")) (Some delimiters.Brace) (
-    cond (bytes_eq word (codes "[")) (Some delimiters.Bracket) None))
+    cond (bytes_eq word (codes "[")) (Some delimiters.Bracket) (
+    cond (bytes_eq word (opening delimiters.None)) (Some delimiters.None) None)))
 
 -- the one word that stands there
 abbrev pub only_word : List (List ℕ) → Option (List ℕ)
@@ -41,20 +77,35 @@ only_word ws = None
 abbrev pub alone : Command → List (List ℕ) → Option Command
 alone command rest = cond (is_empty rest) (Some command) None
 
--- the command of this name on a stream, with the words behind
+-- the command of this name on a stream, with the words that it takes
 abbrev pub command_named : List ℕ → ℕ → List (List ℕ) → Option Command
 command_named name n rest =
+    cond (bytes_eq name (codes "peek")) (option_map (peek n) (option_and_then look (only_word rest))) (
+    cond (bytes_eq name (codes "peek2")) (option_map (peek2 n) (option_and_then look (only_word rest))) (
+    cond (bytes_eq name (codes "peek3")) (option_map (peek3 n) (option_and_then look (only_word rest))) (
     cond (bytes_eq name (codes "parse")) (option_map (parse n) (option_and_then kind (only_word rest))) (
-    cond (bytes_eq name (codes "enter")) (option_map (enter n) (option_and_then delimiter (only_word rest))) (
+    cond (bytes_eq name (codes "optional")) (option_map (optional n) (option_and_then kind (only_word rest))) (
     cond (bytes_eq name (codes "empty")) (alone (empty n) rest) (
+    cond (bytes_eq name (codes "enter")) (option_map (enter n) (option_and_then delimiter (only_word rest))) (
+    cond (bytes_eq name (codes "any")) (alone (enter_any n) rest) (
+    cond (bytes_eq name (codes "fork")) (alone (fork n) rest) (
+    cond (bytes_eq name (codes "advance")) (option_map (advance n) (option_and_then number (only_word rest))) (
+    cond (bytes_eq name (codes "discard")) (alone (discard n) rest) (
     cond (bytes_eq name (codes "close")) (alone (close n) rest) (
     cond (bytes_eq name (codes "span")) (alone (stream_span n) rest) (
     cond (bytes_eq name (codes "cursor")) (alone (cursor_span n) rest) (
-    cond (bytes_eq name (codes "previous")) (alone (previous_span n) rest) None))))))
+    cond (bytes_eq name (codes "previous")) (alone (previous_span n) rest) (
+    cond (bytes_eq name (codes "tree")) (alone (next_tree n) rest) (
+    cond (bytes_eq name (codes "rest")) (alone (commands.rest n) rest) (
+    cond (bytes_eq name (codes "group")) (alone (next_group n) rest) None)))))))))))))))))
+
+-- a lookahead takes any number of words
+abbrev pub command_on : List ℕ → ℕ → List (List ℕ) → Option Command
+command_on name n rest = cond (bytes_eq name (codes "lookahead")) (option_map (lookahead n) (all_looks rest)) (command_named name n rest)
 
 -- a name, a stream's number, and what the command takes
 abbrev pub command : List (List ℕ) → Option Command
-command (name ∷ stream ∷ rest) = option_and_then (λ n. command_named name n rest) (number stream)
+command (name ∷ stream ∷ rest) = option_and_then (λ n. command_on name n rest) (number stream)
 command ws = None
 
 -- a line with words that are no command

@@ -1,9 +1,12 @@
 -- Why the program has no report for an input.
-use Rattle.std.specs.Prelude.{ℕ, List, ◌++◌, codes}
+use Rattle.std.specs.Prelude.{◌≡◌, ℕ, true, List, ◌++◌, codes}
 use Rattle.std.specs.Fmt.{decimal}
 use Rattle.tok_core.specs.Lexical.Errors.{error_number, error_byte}
 use Rattle.tok_core.specs.declared.lexer.error.LexFault.{LexFault}
 use Rattle.tok_core.specs.declared.lexer.error.LexFault.TheVariants as lexical
+use Rattle.syn_tokens.specs.CommandText.{is_unreadable}
+use Rattle.syn_tokens.specs.declared.command_text.LineFault.{LineFault}
+use Rattle.syn_tokens.specs.declared.command_text.LineFault.TheVariants as line_faults
 use Rattle.syn_tokens.specs.declared.fault.Fault.{Fault}
 use Rattle.syn_tokens.specs.declared.fault.Fault.TheVariants as faults
 use Rattle.syn_tokens.specs.declared.fault.Unreadable.{Unreadable}
@@ -25,3 +28,8 @@ fault_of lexical.Memory = faults.Memory
 abbrev pub OnUnreadable : Fault → (Unreadable → Type 0) → Type 0
 OnUnreadable (faults.Unreadable why) P = P why
 OnUnreadable faults.Memory P = Unit {0}
+
+-- a line's fault: the line is no command, or nothing is said of a failed allocation
+abbrev pub IsUnreadableLine : LineFault → List ℕ → Type 0
+IsUnreadableLine line_faults.Unreadable line = is_unreadable line ≡ true
+IsUnreadableLine line_faults.Memory line = Unit {0}

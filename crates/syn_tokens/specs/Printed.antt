@@ -1,12 +1,14 @@
 -- The printed text of a report.
-use Rattle.std.specs.Prelude.{ℕ, true, false, List, [], ◌∷◌, ◌++◌, Some, None, codes}
+use Rattle.std.specs.Prelude.{ℕ, true, false, cond, List, [], ◌∷◌, ◌++◌, Some, None, codes}
 use Rattle.std.specs.Fmt.{decimal}
 use Rattle.std.specs.List.{flat_map}
 use Rattle.tok_core.specs.declared.span.Span.{Span}
+use Rattle.tok_core.specs.Filled.{has_trees}
+use Rattle.tok_core.specs.Forest.{Forest}
 use Rattle.tok_core.specs.Spans.{range}
-use Rattle.tok_core.specs.Text.{opening}
+use Rattle.tok_core.specs.Text.{opening, text}
 use Rattle.tok_buffer.specs.Words.{Refusal}
-use Rattle.syn_tokens.specs.Commands.{Piece, Answer, truth, pieces, entered, done, shown, refused, unfit, Position, stands_at, at_empty, missing, Line, Verdict, accepted, left_over, Report}
+use Rattle.syn_tokens.specs.Commands.{Piece, Answer, truth, pieces, absent, entered, forked, listed, found, done, shown, trees, refused, unfit, Position, stands_at, at_empty, missing, Line, Verdict, accepted, left_over, Report}
 
 -- a line, with its line feed
 abbrev pub ended : List ℕ → List ℕ
@@ -29,11 +31,25 @@ refusal_text r = codes "refused " ++ (span_text r.span ++ (codes " " ++ r.words)
 abbrev pub piece_text : Piece → List ℕ
 piece_text p = behind p.text ++ (codes " " ++ span_text p.span)
 
+-- a value or a separator behind others, in brackets
+abbrev pub part_text : List Piece → List ℕ
+part_text [] = codes " []"
+part_text (p ∷ ps) = codes " [" ++ (p.text ++ (codes " " ++ (span_text p.span ++ (flat_map piece_text ps ++ codes "]"))))
+
+-- trees behind others: a space parts them from these, and no trees add none
+abbrev pub trees_text : Forest → List ℕ
+trees_text f = cond (has_trees f) (codes " " ++ text f) []
+
 abbrev pub answer_text : Answer → List ℕ
 answer_text (truth true) = codes "true"
 answer_text (truth false) = codes "false"
 answer_text (pieces ps) = codes "read" ++ flat_map piece_text ps
 answer_text (entered n delimiter span) = codes "entered " ++ (decimal n ++ (codes " " ++ (opening delimiter ++ (codes " " ++ span_text span))))
+answer_text absent = codes "none"
+answer_text (forked n) = codes "forked " ++ decimal n
+answer_text (listed parts) = codes "list" ++ flat_map part_text parts
+answer_text (found n) = codes "found " ++ decimal n
+answer_text (trees f) = codes "trees" ++ trees_text f
 answer_text done = codes "done"
 answer_text (shown span) = codes "span " ++ span_text span
 answer_text (refused r) = refusal_text r

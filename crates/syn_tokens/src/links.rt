@@ -1,6 +1,6 @@
 // The links between streams.
 ghost use Rattle.std.specs.Prelude.{◌≡◌};
-ghost use Rattle.syn_tokens.specs.Links.{links_of, AreLinked, IsNew};
+ghost use Rattle.syn_tokens.specs.Links.{links_of, unlinked, AreLinked, IsNew};
 ghost use Rattle.syn_tokens.specs.Tracks.{state_of_list};
 
 use crate::stream::Stream;
@@ -15,6 +15,19 @@ pub struct Links {
     pub last: Option<usize>,
     // The content that was entered next from the same parent.
     pub next: Option<usize>,
+}
+
+impl Links {
+    pub fn of_parent(parent: Option<usize>) -> Links
+        ensures { result ≡ unlinked parent }
+    {
+        Links {
+            parent,
+            first: None,
+            last: None,
+            next: None,
+        }
+    }
 }
 
 // Links the last stream, a content of `parent`, behind the contents that its parent has.

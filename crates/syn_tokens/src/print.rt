@@ -10,7 +10,7 @@ use crate::report::{Answer, Line, Piece, Position, Report, Verdict};
 use std::fmt;
 use std::fmt::{Formatter, Write};
 use tok_buffer::Error;
-use tok_core::{Delimiter, Span};
+use tok_core::{Delimiter, Span, TokenStream};
 
 impl fmt::Display for Report {
     ghost output = { λ r. Some (spec.report_text (report_of r)) };
@@ -43,6 +43,10 @@ impl fmt::Display for Answer {
                 write!(f, "entered {number} {} ", opening(*delimiter))?;
                 write_span(f, span.join())
             }
+            Answer::Absent => f.write_str("none"),
+            Answer::Forked(number) => write!(f, "forked {number}"),
+            Answer::Found(index) => write!(f, "found {index}"),
+            Answer::Trees(stream) => write_trees(f, stream),
             Answer::Done => f.write_str("done"),
             Answer::At(span) => {
                 f.write_str("span ")?;
@@ -87,6 +91,18 @@ fn write_pieces<W: Write>(f: &mut Formatter<W>, pieces: &Vec<Piece>) -> fmt::Res
         write_span(f, piece.span)?;
     }
     Ok(())
+}
+
+// `trees`, and the text of the trees if there are any.
+fn write_trees<W: Write>(f: &mut Formatter<W>, stream: &TokenStream) -> fmt::Result
+    ensures { WritesOnOk W.write_str_gives f.old result (codes "trees" ++ spec.trees_text stream.now) f.new }
+{
+    f.write_str("trees")?;
+    if stream.is_empty() {
+        Ok(())
+    } else {
+        write!(f, " {stream}")
+    }
 }
 
 // `refused`, the span and the words.

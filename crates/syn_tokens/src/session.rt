@@ -1,175 +1,215 @@
-// Commands answered over a stream.
-ghost use Rattle.std.specs.Prelude.{◌≡◌, ◌<◌, length, Some, None, IfOk, map};
-ghost use Rattle.tok_core.specs.Seen.{ident_of};
-ghost use Rattle.tok_buffer.specs.Entry.{enter};
-ghost use Rattle.syn_tokens.specs.Commands as spec;
-ghost use Rattle.syn_tokens.specs.Seen.{command_of, position_of, piece_of, verdict_of, report_of};
+// Commands answered one by one over a stream.
+ghost use Rattle.std.specs.Prelude.{◌≡◌, ◌<◌, ◌∷◌, length, Some, None, IfOk, map, true};
 ghost use Rattle.syn_tokens.specs.State.{stream_at};
-ghost use Rattle.syn_tokens.specs.Step.{parsed, into_group, content_closed, on_stream, named, step, position_in};
-ghost use Rattle.syn_tokens.specs.Stepping.{IsStepped, IsLine, HasRun, piece_for};
-ghost use Rattle.syn_tokens.specs.Tracks.{stream_of, state_of};
+ghost use Rattle.syn_tokens.specs.Step as spec;
+ghost use Rattle.syn_tokens.specs.Step.{any_of, is_missing, is_spent, first_named, named, on_stream, place_of, step, position_in};
 ghost use Rattle.syn_tokens.specs.Walk.{walk, stream_verdict};
-ghost use Rattle.syn_tokens.specs.Words as words;
+ghost use Rattle.syn_tokens.specs.Reading.{is_read};
+ghost use Rattle.syn_tokens.specs.Seen.{command_of, position_of, verdict_of, report_of};
+ghost use Rattle.syn_tokens.specs.Stepping.{IsStepped, IsLine, HasRun, IsPlainVerdict, ArePlain, stands, with_other};
+ghost use Rattle.syn_tokens.specs.Tracks.{stream_of, state_of};
 
 use crate::command::Command;
-use crate::report::{Answer, Line, Piece, Position, Report, Verdict};
+use crate::report::{Answer, Line, Position, Report, Verdict};
 use crate::stream::Stream;
 use crate::streams::Streams;
-use crate::words::{delimiter_words, found_keyword, leftover_words};
+use crate::{reads, table};
 use std::alloc::{AllocError, Global};
-use tok_buffer::{Error, TokenBuffer};
-use tok_core::{Delimiter, Ident, Span, TokenStream};
-use tok_types::accept_as_ident;
+use syn_parse::{Fault, tokens_to_parse_buffer};
+use tok_buffer::TokenBuffer;
+use tok_core::{Span, TokenStream};
 
-fn piece(alloc: Global, ident: &Ident) -> Result<Piece, AllocError>
-    ensures { IfOk result (λ p. piece_of p ≡ piece_for (ident_of ident.now)) }
-{
-    Ok(Piece {
-        text: String::from_str(alloc, ident.as_str())?,
-        span: ident.span(),
-    })
-}
-
-fn parse<'a>(
-    alloc: Global,
+// A command that concerns stream `n` alone.
+fn read<'a>(
     streams: &mut Streams<'a>,
     n: usize,
     stream: Stream<'a>,
+    command: &Command,
 ) -> Result<Answer, AllocError>
-    requires { n < length (state_of streams.old) }
+    requires here { stream_at (state_of streams.old) n ≡ Some (stream_of stream) }
+    requires read { is_read (command_of command.now) ≡ true }
     ensures { IfOk result
-        (λ a. IsStepped a (state_of streams.new) (parsed (state_of streams.old) n (stream_of stream.entry) spec.ident)) }
+        (λ a. IsStepped a (state_of streams.new) (on_stream (command_of command.now) (state_of streams.old) n (stream_of stream.entry))) }
 {
-    let Stream {
-        cursor,
-        scope_span,
-        ..
-    } = stream;
-    let Some((ident, rest)) = cursor.ident() else {
-        let error = Error::new_at(alloc, scope_span, cursor, "expected identifier")?;
-        return Ok(Answer::Refused(error));
-    };
-    if !accept_as_ident(ident.as_str()) {
-        let words = found_keyword(alloc, ident.as_str())?;
-        let error = Error::new_at(alloc, scope_span, cursor, words.as_str())?;
-        return Ok(Answer::Refused(error));
-    }
-    let mut pieces = Vec::new(alloc);
-    pieces.push(piece(alloc, ident)?)?;
-    streams.move_to(n, rest);
-    Ok(Answer::Read(pieces))
-}
-
-fn enter<'a>(
-    alloc: Global,
-    streams: &mut Streams<'a>,
-    n: usize,
-    delimiter: Delimiter,
-    stream: Stream<'a>,
-) -> Result<Answer, AllocError>
-    requires { n < length (state_of streams.old) }
-    ensures { IfOk result
-        (λ a. IsStepped a (state_of streams.new)
-        (into_group (state_of streams.old) n (stream_of stream.entry) (words.delimiter_words delimiter) (enter delimiter (stream_of stream.entry).place))) }
-{
-    let Some((content, span, behind)) = stream.cursor.group(delimiter) else {
-        let words = delimiter_words(delimiter);
-        let error = Error::new_at(alloc, stream.scope_span, stream.cursor, words)?;
-        return Ok(Answer::Refused(error));
-    };
-    let number = streams.enter(n, content, span.close(), behind)?;
-    Ok(Answer::Entered(number, delimiter, span))
-}
-
-fn close<'a>(streams: &mut Streams<'a>, n: usize, stream: Stream<'a>) -> Answer
-    requires { n < length (state_of streams.old) }
-    ensures { IsStepped result (state_of streams.new) (content_closed (state_of streams.old) n (stream_of stream.entry).kind) }
-{
-    match stream.links.parent {
-        None => Answer::Unfit(4),
-        Some(_) => {
-            streams.close(n);
-            Answer::Done
-        }
+    let mut input = stream.paused.resume();
+    let answer = reads::answer(&mut input, command);
+    streams.put(n, input.pause());
+    match answer {
+        Ok(answer) => Ok(answer),
+        Err(fault) => table::refused(fault),
     }
 }
 
-fn act<'a>(
-    alloc: Global,
-    streams: &mut Streams<'a>,
-    n: usize,
-    stream: Stream<'a>,
-    command: Command,
-) -> Result<Answer, AllocError>
-    requires { n < length (state_of streams.old) }
-    ensures { IfOk result
-        (λ a. IsStepped a (state_of streams.new) (on_stream (command_of command) (state_of streams.old) n (stream_of stream.entry))) }
+// A command whose streams are open, and of the kinds that it asks for.
+fn act<'a>(streams: &mut Streams<'a>, command: &Command) -> Result<Answer, AllocError>
+    requires { spec.misuse (command_of command.now) (state_of streams.old) ≡ None }
+    ensures { IfOk result (λ a. IsStepped a (state_of streams.new) (step (command_of command.now) (state_of streams.old))) }
 {
+    let (n, _) = command.streams();
+    let stream = streams.at(n);
     match command {
-        Command::Parse(_, _) => parse(alloc, streams, n, stream),
-        Command::Enter(_, delimiter) => enter(alloc, streams, n, delimiter, stream),
-        Command::Empty(_) => Ok(Answer::Truth(stream.cursor.eof())),
-        Command::Close(_) => Ok(close(streams, n, stream)),
-        Command::StreamSpan(_) => Ok(Answer::At(stream.span())),
-        Command::CursorSpan(_) => Ok(Answer::At(stream.cursor.span())),
-        Command::PreviousSpan(_) => Ok(Answer::At(stream.cursor.prev_span())),
+        Command::Enter(_, delimiter) => table::enter(streams, n, stream, Some(*delimiter)),
+        Command::EnterAny(_) => table::enter(streams, n, stream, None),
+        Command::Fork(_) => table::fork(streams, n, stream),
+        Command::Advance(_, fork) => Ok(table::advance(streams, n, stream, *fork)),
+        Command::Discard(_) => Ok(table::discard(streams, n, stream)),
+        Command::Close(_) => Ok(table::close(streams, n, stream)),
+        _ => read(streams, n, stream, command),
     }
 }
 
 impl Command {
-    // The stream that it names.
-    fn stream(self) -> usize
-        ensures { result ≡ named (command_of self) }
+    // The streams that it names: the first, and another if it names two.
+    fn streams(&self) -> (usize, Option<usize>)
+        ensures { named (command_of self.now) ≡ with_other result.0 result.1 }
     {
         match self {
-            Command::Parse(n, _) => n,
-            Command::Enter(n, _) => n,
-            Command::Empty(n) => n,
-            Command::Close(n) => n,
-            Command::StreamSpan(n) => n,
-            Command::CursorSpan(n) => n,
-            Command::PreviousSpan(n) => n,
+            Command::Peek(n, _) => (*n, None),
+            Command::Peek2(n, _) => (*n, None),
+            Command::Peek3(n, _) => (*n, None),
+            Command::Parse(n, _) => (*n, None),
+            Command::Optional(n, _) => (*n, None),
+            Command::Empty(n) => (*n, None),
+            Command::Enter(n, _) => (*n, None),
+            Command::EnterAny(n) => (*n, None),
+            Command::Lookahead(n, _) => (*n, None),
+            Command::Fork(n) => (*n, None),
+            Command::Advance(n, fork) => (*n, Some(*fork)),
+            Command::Discard(n) => (*n, None),
+            Command::Close(n) => (*n, None),
+            Command::StreamSpan(n) => (*n, None),
+            Command::CursorSpan(n) => (*n, None),
+            Command::PreviousSpan(n) => (*n, None),
+            Command::Tree(n) => (*n, None),
+            Command::Rest(n) => (*n, None),
+            Command::GroupTree(n) => (*n, None),
         }
     }
 }
 
-fn answer_to<'a>(
-    alloc: Global,
-    streams: &mut Streams<'a>,
-    command: Command,
-) -> Result<Answer, AllocError>
-    ensures { IfOk result (λ a. IsStepped a (state_of streams.new) (step (command_of command) (state_of streams.old))) }
+// Whether one of these streams is not there.
+fn any_missing<'a>(streams: &Streams<'a>, n: usize, other: Option<usize>) -> bool
+    ensures { result ≡ any_of (is_missing (state_of streams.now)) (with_other n other) }
 {
-    let n = command.stream();
+    match other {
+        None => streams.get(n).is_none(),
+        Some(other) => streams.get(n).is_none() || streams.get(other).is_none(),
+    }
+}
+
+fn is_spent<'a>(streams: &Streams<'a>, n: usize) -> bool
+    ensures { result ≡ is_spent (state_of streams.now) n }
+{
     match streams.get(n) {
-        None => Ok(Answer::Unfit(1)),
-        Some(stream) => {
-            if stream.is_open {
-                act(alloc, streams, n, stream, command)
+        None => false,
+        Some(stream) => !stream.is_open,
+    }
+}
+
+// Whether one of these streams is spent.
+fn any_spent<'a>(streams: &Streams<'a>, n: usize, other: Option<usize>) -> bool
+    ensures { result ≡ any_of (is_spent (state_of streams.now)) (with_other n other) }
+{
+    match other {
+        None => is_spent(streams, n),
+        Some(other) => is_spent(streams, n) || is_spent(streams, other),
+    }
+}
+
+fn is_fork<'a>(streams: &Streams<'a>, n: usize) -> bool
+    ensures { result ≡ spec.of_kind spec.is_fork (state_of streams.now) n }
+{
+    match streams.get(n) {
+        None => false,
+        Some(stream) => stream.is_fork && stream.links.parent.is_none(),
+    }
+}
+
+fn is_content<'a>(streams: &Streams<'a>, n: usize) -> bool
+    ensures { result ≡ spec.of_kind spec.is_content (state_of streams.now) n }
+{
+    match streams.get(n) {
+        None => false,
+        Some(stream) => stream.links.parent.is_some(),
+    }
+}
+
+// The refusal of a stream whose kind isn't the one that the command asks for.
+fn kind_refusal<'a>(streams: &Streams<'a>, command: &Command) -> Option<u8>
+    ensures { result ≡ spec.kind_refusal (command_of command.now) (state_of streams.now) }
+{
+    match command {
+        Command::Advance(_, fork) => {
+            if is_fork(streams, *fork) {
+                None
             } else {
-                Ok(Answer::Unfit(2))
+                Some(3)
             }
         }
+        Command::Discard(fork) => {
+            if is_fork(streams, *fork) {
+                None
+            } else {
+                Some(3)
+            }
+        }
+        Command::Close(content) => {
+            if is_content(streams, *content) {
+                None
+            } else {
+                Some(4)
+            }
+        }
+        _ => None,
+    }
+}
+
+// The first refusal of the streams that a command names.
+fn misuse<'a>(streams: &Streams<'a>, command: &Command) -> Option<u8>
+    ensures { result ≡ spec.misuse (command_of command.now) (state_of streams.now) }
+{
+    let (n, other) = command.streams();
+    if any_missing(streams, n, other) {
+        Some(1)
+    } else if any_spent(streams, n, other) {
+        Some(2)
+    } else {
+        kind_refusal(streams, command)
+    }
+}
+
+fn answer_to<'a>(streams: &mut Streams<'a>, command: &Command) -> Result<Answer, AllocError>
+    ensures { IfOk result (λ a. IsStepped a (state_of streams.new) (step (command_of command.now) (state_of streams.old))) }
+{
+    match misuse(streams, command) {
+        Some(number) => Ok(Answer::Unfit(number)),
+        None => act(streams, command),
     }
 }
 
 fn position<'a>(streams: &Streams<'a>, n: usize) -> Position
-    ensures { position_of result ≡ position_in (state_of streams.now) n }
+    ensures { position_of result ≡ stands (state_of streams.now) n }
 {
     match streams.get(n) {
         None => Position::Missing,
-        Some(stream) => match stream.cursor.position() {
+        Some(stream) => match stream.cursor().position() {
             None => Position::Empty,
             Some(n) => Position::At(n),
         },
     }
 }
 
-fn line<'a>(alloc: Global, streams: &mut Streams<'a>, command: Command) -> Result<Line, AllocError>
-    ensures { IfOk result (λ l. IsLine l (state_of streams.new) (state_of streams.old) command) }
+fn line<'a>(streams: &mut Streams<'a>, command: &Command) -> Result<Line, AllocError>
+    ensures { IfOk result (λ l. IsLine l (state_of streams.new) (state_of streams.old) command.now) }
 {
-    let answer = answer_to(alloc, streams, command)?;
-    let position = position(streams, command.stream());
+    let (n, other) = command.streams();
+    let is_missing = any_missing(streams, n, other);
+    let answer = answer_to(streams, command)?;
+    let position = if is_missing {
+        Position::Missing
+    } else {
+        position(streams, n)
+    };
     Ok(Line { answer, position })
 }
 
@@ -182,37 +222,38 @@ fn run<'a>(
 {
     let mut lines = Vec::with_capacity(alloc, commands.len())?;
     for command in commands {
-        lines.push(line(alloc, streams, *command)?)?;
+        lines.push(line(streams, command)?)?;
     }
     Ok(lines)
 }
 
-fn verdict<'a>(alloc: Global, streams: &Streams<'a>) -> Result<Verdict, AllocError>
-    ensures { IfOk result (λ v. verdict_of v ≡ stream_verdict (stream_at (state_of streams.now) 0)) }
+fn verdict<'a>(streams: &Streams<'a>) -> Result<Verdict, AllocError>
+    ensures { IfOk result (λ v. (verdict_of v ≡ stream_verdict (stream_at (state_of streams.now) 0)) × IsPlainVerdict v) }
 {
-    match streams.whole().handed() {
-        None => Ok(Verdict::Accepted),
-        Some((span, delimiter)) => {
-            let error = Error::new(alloc, span, leftover_words(delimiter))?;
-            Ok(Verdict::Refused(error))
-        }
+    match streams.whole().paused.resume().finish() {
+        Ok(()) => Ok(Verdict::Accepted),
+        Err(Fault::Refused(error)) => Ok(Verdict::Refused(error)),
+        Err(Fault::Memory(error)) => Err(error),
     }
 }
 
-/// Answers the commands over the stream, one line each. Stream 0 is the whole stream, and each group that is entered
-/// gives the next number. A refused command changes nothing. At the end the contents that are open are closed, and
-/// stream 0 is accepted if nothing is left over in it, nor in a content that was closed.
+/// Answers the commands over the stream, one line each. Stream 0 is the whole stream, and each group that is entered and
+/// each fork gives the next number. A refused command changes nothing. At the end the contents that are open are closed, and
+/// stream 0 is accepted if nothing is left over in it, nor in a content that was closed into it. The error of a refusal is one
+/// message.
 pub fn replay(
     alloc: Global,
     stream: TokenStream,
     commands: &[Command],
 ) -> Result<Report, AllocError>
-    ensures { IfOk result (λ r. report_of r ≡ walk stream (map command_of commands.now)) }
+    ensures walk { IfOk result (λ r. report_of r ≡ walk stream (map command_of commands.now)) }
+    ensures errors { IfOk result (λ r. ArePlain r.lines.items × IsPlainVerdict r.verdict) }
 {
     let buffer = TokenBuffer::new2(alloc, 0, stream)?;
-    let mut streams = Streams::new(alloc, buffer.begin())?;
+    let whole = tokens_to_parse_buffer(alloc, &buffer, Span::call_site());
+    let mut streams = Streams::new(alloc, whole.pause())?;
     let lines = run(alloc, &mut streams, commands)?;
     streams.close_contents(0);
-    let verdict = verdict(alloc, &streams)?;
+    let verdict = verdict(&streams)?;
     Ok(Report { lines, verdict })
 }

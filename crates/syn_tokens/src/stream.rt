@@ -1,65 +1,56 @@
 // One stream of a replay.
-ghost use Rattle.std.specs.Prelude.{◌≡◌, true, None};
+ghost use Rattle.std.specs.Prelude.{◌≡◌, true, false};
 ghost use Rattle.tok_buffer.specs.Cursors.{place_of};
-ghost use Rattle.tok_buffer.specs.Words.{stream_span};
-ghost use Rattle.syn_tokens.specs.Links.{unlinked};
-ghost use Rattle.tok_buffer.specs.Ahead.{left_of};
-ghost use Rattle.syn_tokens.specs.State.{handed_note};
+ghost use Rattle.syn_parse.specs.Pauses.{paused_state};
+ghost use Rattle.syn_tokens.specs.Links.{no_links, unlinked};
+ghost use Rattle.syn_tokens.specs.State.{a_fork, standing};
 ghost use Rattle.syn_tokens.specs.Tracks.{kind_of, stream_of};
 
 use crate::links::Links;
+use syn_parse::Paused;
 use tok_buffer::Cursor;
-use tok_core::{Delimiter, Span};
 
-// A cursor in its scope.
+// At rest between two commands.
 #[derive(Clone, Copy)]
 pub struct Stream<'a> {
-    pub cursor: Cursor<'a>,
-    pub scope_span: Span,
+    pub paused: Paused<'a>,
     pub links: Links,
+    pub is_fork: bool,
     pub is_open: bool,
-    // The first leftover that a content inside handed up.
-    pub note: Option<(Span, Delimiter)>,
 }
 
 impl<'a> Stream<'a> {
-    // A content has the stream from which it is entered as its parent.
-    pub fn new(cursor: Cursor<'a>, scope_span: Span, parent: Option<usize>) -> Stream<'a>
-        ensures stream { stream_of result ≡ record { place = place_of cursor.entry; scope_span = scope_span; kind = kind_of parent; is_open = true; note = None } }
+    // The whole stream, or a content, which has the stream from which it is entered as its parent.
+    pub fn new(paused: Paused<'a>, parent: Option<usize>) -> Stream<'a>
+        ensures stream { stream_of result ≡ standing (paused_state paused.entry) (kind_of false parent) true }
         ensures links { result.links ≡ unlinked parent }
     {
         Stream {
-            cursor,
-            scope_span,
-            links: Links {
-                parent,
-                first: None,
-                last: None,
-                next: None,
-            },
+            paused,
+            links: Links::of_parent(parent),
+            is_fork: false,
             is_open: true,
-            note: None,
         }
     }
 
-    // Where it stands: at the end the scope's span, else that of the next token or of its opening.
-    pub fn span(self) -> Span
-        ensures { result ≡ stream_span (place_of self.entry.cursor) self.entry.scope_span }
+    pub fn fork(paused: Paused<'a>) -> Stream<'a>
+        ensures stream { stream_of result ≡ standing (paused_state paused.entry) a_fork true }
+        ensures links { result.links ≡ no_links }
     {
-        if self.cursor.eof() {
-            self.scope_span
-        } else {
-            self.cursor.start_span()
+        Stream {
+            paused,
+            links: Links::of_parent(None),
+            is_fork: true,
+            is_open: true,
         }
     }
 
-    // What is noted, or else left over at the cursor.
-    pub fn handed(self) -> Option<(Span, Delimiter)>
-        ensures { left_of result ≡ handed_note (stream_of self.entry) }
+    pub fn cursor(self) -> Cursor<'a>
+        ensures { place_of result ≡ (stream_of self.entry).place }
     {
-        match self.note {
-            Some(note) => Some(note),
-            None => self.cursor.leftover(),
-        }
+        let input = self.paused.resume();
+        let cursor = input.cursor();
+        input.discard();
+        cursor
     }
 }

@@ -5,11 +5,9 @@ ghost use Rattle.syn_tokens.specs.Links.{links_of, AreLinked};
 use crate::links::link;
 use crate::stream::Stream;
 use std::alloc::{AllocError, Global};
-use tok_buffer::Cursor;
-use tok_core::{Delimiter, Span};
+use syn_parse::Paused;
 
-// Stream 0 is the whole. Each stream leads to its contents, so that closing it visits those alone: a run takes time in
-// proportion to its commands.
+// Stream 0 is the whole. Each stream leads to its contents, so that closing it visits those alone.
 #[derive(Drop)]
 pub struct Streams<'a> {
     list: Vec<Stream<'a>>,
@@ -18,20 +16,18 @@ pub struct Streams<'a> {
 }
 
 impl<'a> Streams<'a> {
-    ghost use Rattle.std.specs.Prelude.{◌≡◌, ◌<◌, ◌∷◌, [], ◌++◌, length, Some, None, MatchOption, IfOk, OnOk, OnErr, true};
-    ghost use Rattle.tok_buffer.specs.Cursors.{place_of};
-    ghost use Rattle.tok_core.specs.Spans.{call_site};
-    ghost use Rattle.tok_buffer.specs.Ahead.{left_of};
-    ghost use Rattle.syn_tokens.specs.State.{outermost, stream_at, changed, moved_to, noted, handed_up, closed_inside, closed};
-    ghost use Rattle.syn_tokens.specs.Step.{content as content_at};
+    ghost use Rattle.std.specs.Prelude.{◌≡◌, ◌<◌, ◌==◌, ◌||◌, ◌∷◌, [], ◌++◌, length, Some, None, MatchOption, IfOk, OnOk, OnErr, true};
+    ghost use Rattle.tok_buffer.specs.Order.{same_scope};
+    ghost use Rattle.syn_parse.specs.Pauses.{paused_state};
+    ghost use Rattle.syn_tokens.specs.State.{outermost, content_of, a_fork, stream_at, changed, standing, put, handed_up, closed_inside, closed, spent, advanced, all_spent, is_inside};
+    ghost use Rattle.syn_tokens.specs.Step.{place_of};
     ghost use Rattle.syn_tokens.specs.Tracks.{stream_of, state_of};
 
-    pub fn new(alloc: Global, cursor: Cursor<'a>) -> Result<Self, AllocError>
-        ensures { IfOk result
-            (λ s. state_of s ≡ record { place = place_of cursor.entry; scope_span = call_site; kind = outermost; is_open = true; note = None } ∷ []) }
+    pub fn new(alloc: Global, whole: Paused<'a>) -> Result<Self, AllocError>
+        ensures { IfOk result (λ s. state_of s ≡ standing (paused_state whole.entry) outermost true ∷ []) }
     {
         let mut list = Vec::new(alloc);
-        list.push(Stream::new(cursor, Span::call_site(), None))?;
+        list.push(Stream::new(whole, None))?;
         Ok(Streams { list })
     }
 
@@ -47,51 +43,61 @@ impl<'a> Streams<'a> {
         }
     }
 
+    // The stream of this number.
+    pub fn at(&self, n: usize) -> Stream<'a>
+        requires { n < length (state_of self.now) }
+        ensures { stream_at (state_of self.now) n ≡ Some (stream_of result) }
+    {
+        self.list[n]
+    }
+
     pub fn whole(&self) -> Stream<'a>
         ensures { stream_at (state_of self.now) 0 ≡ Some (stream_of result) }
     {
         self.list[0]
     }
 
-    pub fn move_to(&mut self, n: usize, cursor: Cursor<'a>)
+    // Stream `n` stands here now.
+    pub fn put(&mut self, n: usize, paused: Paused<'a>)
         requires { n < length (state_of self.old) }
-        ensures { state_of self.new ≡ changed (state_of self.old) n (moved_to (place_of cursor.entry)) }
+        ensures after { state_of self.new ≡ changed (state_of self.old) n (put (paused_state paused.entry)) }
+        ensures links { links_of self.new.list.items ≡ links_of self.old.list.items }
     {
-        self.list[n].cursor = cursor;
+        self.list[n].paused = paused;
     }
 
-    // Stream `n` moves behind a group, whose content is the next stream. A refused request changes nothing.
+    // Stream `n` stands behind a group, whose content is the next stream. A refused request changes nothing.
     pub fn enter(
         &mut self,
         n: usize,
-        content: Cursor<'a>,
-        scope_span: Span,
-        behind: Cursor<'a>,
+        content: Paused<'a>,
+        behind: Paused<'a>,
     ) -> Result<usize, AllocError>
         requires { n < length (state_of self.old) }
         ensures number { IfOk result (λ i. i ≡ length (state_of self.old)) }
         ensures ok { OnOk result
-            (state_of self.new ≡ changed (state_of self.old) n (moved_to (place_of behind.entry)) ++ content_at (place_of content.entry) scope_span n ∷ []) }
+            (state_of self.new ≡ changed (state_of self.old) n (put (paused_state behind.entry)) ++ standing (paused_state content.entry) (content_of n) true ∷ []) }
         ensures err { OnErr result (state_of self.new ≡ state_of self.old) }
     {
         let number = self.list.len();
-        self.list.push(Stream::new(content, scope_span, Some(n)))?;
+        self.list.push(Stream::new(content, Some(n)))?;
         link(&mut self.list, n, number);
-        self.list[n].cursor = behind;
+        self.list[n].paused = behind;
         Ok(number)
     }
 
-    // The first note stays.
-    fn note(&mut self, n: usize, note: Option<(Span, Delimiter)>)
-        requires { n < length (state_of self.old) }
-        ensures after { state_of self.new ≡ changed (state_of self.old) n (noted (left_of note)) }
-        ensures links { links_of self.new.list.items ≡ links_of self.old.list.items }
+    // A fork is the next stream. A refused request changes nothing.
+    pub fn fork(&mut self, fork: Paused<'a>) -> Result<usize, AllocError>
+        ensures number { IfOk result (λ i. i ≡ length (state_of self.old)) }
+        ensures ok { OnOk result (state_of self.new ≡ state_of self.old ++ standing (paused_state fork.entry) a_fork true ∷ []) }
+        ensures err { OnErr result (state_of self.new ≡ state_of self.old) }
     {
-        let stream = &mut self.list[n];
-        stream.note = stream.note.or(note);
+        let number = self.list.len();
+        self.list.push(Stream::fork(fork))?;
+        Ok(number)
     }
 
-    // Hands a content's leftover to its parent, and spends it.
+    // Closes a content into its parent, and spends it.
     fn hand_up(&mut self, k: usize)
         requires { k < length (state_of self.old) }
         ensures after { state_of self.new ≡ handed_up k (state_of self.old) }
@@ -99,7 +105,9 @@ impl<'a> Streams<'a> {
     {
         let stream = self.list[k];
         if let Some(parent) = stream.links.parent {
-            self.note(parent, stream.handed());
+            let mut input = self.list[parent].paused.resume();
+            input.close(stream.paused.resume());
+            self.put(parent, input.pause());
         }
         self.list[k].is_open = false;
     }
@@ -128,5 +136,64 @@ impl<'a> Streams<'a> {
     {
         self.close_contents(k);
         self.hand_up(k);
+    }
+
+    // Whether a stream was entered inside another, at any depth.
+    pub fn is_inside(&self, outer: usize, inner: usize) -> bool
+        requires { inner < length (state_of self.now) }
+        ensures { result ≡ is_inside (state_of self.now) outer inner }
+    {
+        let mut next = self.list[inner].links.parent;
+        while let Some(parent) = next {
+            if parent == outer {
+                return true;
+            }
+            next = self.list[parent].links.parent;
+        }
+        false
+    }
+
+    fn spend(&mut self, k: usize)
+        requires { k < length (state_of self.old) }
+        ensures after { state_of self.new ≡ changed (state_of self.old) k spent }
+        ensures links { links_of self.new.list.items ≡ links_of self.old.list.items }
+    {
+        self.list[k].is_open = false;
+    }
+
+    // Closes the open contents inside a fork, takes stream `n` to where it stands, and spends it.
+    pub fn advance(&mut self, n: usize, fork: usize)
+        requires stream { n < length (state_of self.old) }
+        requires fork { fork < length (state_of self.old) }
+        requires scope { same_scope (place_of (stream_at (state_of self.old) n)) (place_of (stream_at (state_of self.old) fork)) ≡ true }
+        ensures { state_of self.new ≡ advanced n fork (state_of self.old) }
+    {
+        self.close_contents(fork);
+        let mut input = self.list[n].paused.resume();
+        input.advance_to(self.list[fork].paused.resume());
+        self.put(n, input.pause());
+        self.spend(fork);
+    }
+
+    // Whether a stream is another, or was entered inside it.
+    pub fn is_or_inside(&self, outer: usize, n: usize) -> bool
+        requires { n < length (state_of self.now) }
+        ensures { result ≡ ((n == outer) || is_inside (state_of self.now) outer n) }
+    {
+        n == outer || self.is_inside(outer, n)
+    }
+
+    // Spends a fork and all contents inside it. What they leave unread is noted nowhere.
+    pub fn discard(&mut self, fork: usize)
+        requires { fork < length (state_of self.old) }
+        ensures { state_of self.new ≡ all_spent fork (state_of self.old) }
+    {
+        let mut index = 0;
+        while index < self.list.len() {
+            if self.is_or_inside(fork, index) {
+                self.spend(index);
+            }
+            index += 1;
+        }
     }
 }

@@ -1,14 +1,15 @@
 use Rattle.std.proofs.Common.{◌+◌, Some, None, refl, subst, ap, sym, ◌∙◌}
 use Rattle.std.proofs.lemmas.List.{append-nil}
 use Rattle.std.specs.Option.{option_map}
+use Rattle.syn_tokens.specs.Faults.{IsUnreadableLine}
 use Rattle.syn_tokens.specs.Seen.{command_of}
 use Rattle.syn_tokens.proofs.CommandLines.{AreRead, read_more, read_stop, read_done}
 use Rattle.syn_tokens.proofs.command_text.read_commands.Goals as goal
 
-pub returns-in-Err : goal.returns-in-Err
-returns-in-Err c =
+pub returns-in-Err-Unreadable : goal.returns-in-Err-Unreadable
+returns-in-Err-Unreadable c =
     let r = subst (λ z. AreRead c.args.lines z c.loop-left.commands.items c.loop-left.number) c.in-Some.is c.loop-left.invariant in
-    (c.loop-left.number + 1, refl, read_stop c.args.lines c.first_line.result.1 c.in-Some.rest c.first_line.result.0.now c.loop-left.commands.items c.loop-left.number r c.first_line.ensures.lines c.in-Err.ensures)
+    (c.loop-left.number + 1, refl, read_stop c.args.lines c.first_line.result.1 c.in-Some.rest c.first_line.result.0.now c.loop-left.commands.items c.loop-left.number r c.first_line.ensures.lines (subst (λ z. IsUnreadableLine z c.first_line.result.0.now) c.in-Err-Unreadable.field-0-is c.in-Err-Unreadable.ensures))
 
 pub loop-left-preserved-in-Ok-None : goal.loop-left-preserved-in-Ok-None
 loop-left-preserved-in-Ok-None c =

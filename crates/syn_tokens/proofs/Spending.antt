@@ -1,0 +1,194 @@
+-- A fork is spent with all that is inside it.
+use Rattle.std.proofs.Common.{◌≡◌, ◌≢◌, ◌∙◌, sym, ap, subst, refl, ℕ, zero, suc, ◌+◌, ◌<◌, ◌≤◌, Bool, true, false, List, [], ◌∷◌, length, map, Option, Some, None, arith, inl, inr}
+use Rattle.std.proofs.lemmas.Bool.{ne_eqb, eq-eqb, eqb-true, cases_lt, le-ltb, lt-ltb}
+use Rattle.std.proofs.lemmas.Bool.Decides.{eqb_tells}
+use Rattle.std.specs.Prelude.{◌==◌, ◌||◌, ◌&&◌, cond, nat_lt}
+use Rattle.syn_tokens.specs.State.{State, StreamKind, outermost, content_of, a_fork, all_spent, changed, contains, inside_of, is_content_among, is_inside, spent, spent_with, stream_at}
+use Rattle.syn_tokens.specs.State as states
+use Rattle.syn_tokens.proofs.Inside.{at_start}
+use Rattle.syn_tokens.proofs.Tracks.{there_within}
+
+-- a stream, spent or as it was
+abbrev pub spent_when : Bool → Option states.Stream → Option states.Stream
+spent_when b None = None
+spent_when b (Some s) = Some (cond b (spent s) s)
+
+-- two lists of numbers that hold the same
+among_same : (ns ms : List ℕ) (kind : StreamKind) → ((p : ℕ) → contains ns p ≡ contains ms p) → is_content_among ns kind ≡ is_content_among ms kind
+among_same ns ms outermost h = refl
+among_same ns ms a_fork h = refl
+among_same ns ms (content_of p) h = h p
+
+inside_same : (ns ms : List ℕ) (k : ℕ) (st : State) → ((p : ℕ) → contains ns p ≡ contains ms p) → inside_of ns k st ≡ inside_of ms k st
+inside_same ns ms k [] h = refl
+inside_same ns ms k (s ∷ st) h =
+    ap (λ b. cond b (k ∷ inside_of (k ∷ ns) (k + 1) st) (inside_of ns (k + 1) st)) (among_same ns ms s.kind h)
+    ∙ ap (λ z. cond (is_content_among ms s.kind) (k ∷ z) (inside_of ns (k + 1) st)) (inside_same (k ∷ ns) (k ∷ ms) (k + 1) st (λ p. ap (λ z. (k == p) || z) (h p)))
+    ∙ ap (λ z. cond (is_content_among ms s.kind) (k ∷ inside_of (k ∷ ms) (k + 1) st) z) (inside_same ns ms (k + 1) st h)
+
+twice_in : (ns : List ℕ) (k p : ℕ) → contains ns k ≡ true → contains (k ∷ ns) p ≡ contains ns p
+twice_in ns k p h = go (k == p) refl where
+  go : (b : Bool) → (k == p) ≡ b → (b || contains ns p) ≡ contains ns p
+  go true e = sym (ap (contains ns) (sym (eqb-true k p e)) ∙ h)
+  go false e = refl
+
+-- the stream of number k + i
+pub spent_at : (ns : List ℕ) (k : ℕ) (st : State) (i : ℕ) → stream_at (spent_with ns k st) i ≡ spent_when (contains ns (k + i) || contains (inside_of ns k st) (k + i)) (stream_at st i)
+spent_at ns k [] i = refl
+spent_at ns k (x ∷ st) zero =
+    let plain : k + 0 ≡ k = omega arith in
+    head (contains ns k || is_content_among ns x.kind)
+    ∙ ap (λ b. Some (cond (contains ns k || b) (spent x) x)) (sym (at_start ns k x st))
+    ∙ ap (λ j. Some (cond (contains ns j || contains (inside_of ns k (x ∷ st)) j) (spent x) x)) (sym plain) where
+      head : (b : Bool) → stream_at (cond b (spent x ∷ spent_with (k ∷ ns) (k + 1) st) (x ∷ spent_with ns (k + 1) st)) 0 ≡ Some (cond b (spent x) x)
+      head true = refl
+      head false = refl
+spent_at ns k (x ∷ st) (suc i) =
+    let plain : k + suc i ≡ (k + 1) + i = omega arith in
+    go (contains ns k) (is_content_among ns x.kind) refl (spent_at (k ∷ ns) (k + 1) st i) (spent_at ns (k + 1) st i)
+    ∙ ap (λ j. spent_when (contains ns j || contains (inside_of ns k (x ∷ st)) j) (stream_at st i)) (sym plain) where
+      apart : k ≡ (k + 1) + i → ⊥
+      apart q = omega arith
+
+      go : (a b : Bool) → contains ns k ≡ a → stream_at (spent_with (k ∷ ns) (k + 1) st) i ≡ spent_when (contains (k ∷ ns) ((k + 1) + i) || contains (inside_of (k ∷ ns) (k + 1) st) ((k + 1) + i)) (stream_at st i) → stream_at (spent_with ns (k + 1) st) i ≡ spent_when (contains ns ((k + 1) + i) || contains (inside_of ns (k + 1) st) ((k + 1) + i)) (stream_at st i) → stream_at (cond (a || b) (spent x ∷ spent_with (k ∷ ns) (k + 1) st) (x ∷ spent_with ns (k + 1) st)) (suc i) ≡ spent_when (contains ns ((k + 1) + i) || contains (cond b (k ∷ inside_of (k ∷ ns) (k + 1) st) (inside_of ns (k + 1) st)) ((k + 1) + i)) (stream_at st i)
+      go true true q with_it without =
+          with_it
+          ∙ ap (λ z. spent_when ((z || contains ns ((k + 1) + i)) || contains (inside_of (k ∷ ns) (k + 1) st) ((k + 1) + i)) (stream_at st i)) (ne_eqb k ((k + 1) + i) apart)
+          ∙ ap (λ z. spent_when (contains ns ((k + 1) + i) || (z || contains (inside_of (k ∷ ns) (k + 1) st) ((k + 1) + i))) (stream_at st i)) (sym (ne_eqb k ((k + 1) + i) apart))
+      go false true q with_it without =
+          with_it
+          ∙ ap (λ z. spent_when ((z || contains ns ((k + 1) + i)) || contains (inside_of (k ∷ ns) (k + 1) st) ((k + 1) + i)) (stream_at st i)) (ne_eqb k ((k + 1) + i) apart)
+          ∙ ap (λ z. spent_when (contains ns ((k + 1) + i) || (z || contains (inside_of (k ∷ ns) (k + 1) st) ((k + 1) + i))) (stream_at st i)) (sym (ne_eqb k ((k + 1) + i) apart))
+      go true false q with_it without =
+          with_it
+          ∙ ap (λ z. spent_when ((z || contains ns ((k + 1) + i)) || contains (inside_of (k ∷ ns) (k + 1) st) ((k + 1) + i)) (stream_at st i)) (ne_eqb k ((k + 1) + i) apart)
+          ∙ ap (λ z. spent_when (contains ns ((k + 1) + i) || contains z ((k + 1) + i)) (stream_at st i)) (inside_same (k ∷ ns) ns (k + 1) st (λ p. twice_in ns k p q))
+      go false false q with_it without = without
+
+-- states whose streams are the same
+pub same_streams : (us vs : State) → ((i : ℕ) → stream_at us i ≡ stream_at vs i) → us ≡ vs
+same_streams [] [] h = refl
+same_streams [] (v ∷ vs) h = let e = h 0 in cc
+same_streams (u ∷ us) [] h = let e = h 0 in cc
+same_streams (u ∷ us) (v ∷ vs) h =
+    let head = h 0 in
+    let first : u ≡ v = cc in
+    ap (λ z. z ∷ us) first ∙ ap (λ z. v ∷ z) (same_streams us vs (λ i. h (suc i)))
+
+-- spending changes no kind, and so not what is inside
+inside_kinds : (ns : List ℕ) (k : ℕ) (us vs : State) → map (λ (s : states.Stream). s.kind) us ≡ map (λ (s : states.Stream). s.kind) vs → inside_of ns k us ≡ inside_of ns k vs
+inside_kinds ns k [] [] e = refl
+inside_kinds ns k [] (v ∷ vs) e = cc
+inside_kinds ns k (u ∷ us) [] e = cc
+inside_kinds ns k (u ∷ us) (v ∷ vs) e =
+    let kind : u.kind ≡ v.kind = cc in
+    let rest : map (λ (s : states.Stream). s.kind) us ≡ map (λ (s : states.Stream). s.kind) vs = cc in
+    ap (λ z. cond (is_content_among ns z) (k ∷ inside_of (k ∷ ns) (k + 1) us) (inside_of ns (k + 1) us)) kind
+    ∙ ap (λ z. cond (is_content_among ns v.kind) (k ∷ z) (inside_of ns (k + 1) us)) (inside_kinds (k ∷ ns) (k + 1) us vs rest)
+    ∙ ap (λ z. cond (is_content_among ns v.kind) (k ∷ inside_of (k ∷ ns) (k + 1) vs) z) (inside_kinds ns (k + 1) us vs rest)
+
+-- a stream of a state in which one was changed
+abbrev mapped : (states.Stream → states.Stream) → Option states.Stream → Option states.Stream
+mapped f None = None
+mapped f (Some s) = Some (f s)
+
+changed_at : (st : State) (n : ℕ) (f : states.Stream → states.Stream) → stream_at (changed st n f) n ≡ mapped f (stream_at st n)
+changed_at [] n f = refl
+changed_at (s ∷ st) zero f = refl
+changed_at (s ∷ st) (suc n) f = changed_at st n f
+
+changed_not : (st : State) (n i : ℕ) (f : states.Stream → states.Stream) → i ≢ n → stream_at (changed st n f) i ≡ stream_at st i
+changed_not [] n i f h = refl
+changed_not (s ∷ st) zero zero f h = absurd (h refl)
+changed_not (s ∷ st) zero (suc i) f h = refl
+changed_not (s ∷ st) (suc n) zero f h = refl
+changed_not (s ∷ st) (suc n) (suc i) f h = changed_not st n i f (λ e. h (ap suc e))
+
+spent_false : (o : Option states.Stream) → spent_when false o ≡ o
+spent_false None = refl
+spent_false (Some s) = refl
+
+spent_true : (o : Option states.Stream) → mapped spent o ≡ spent_when true o
+spent_true None = refl
+spent_true (Some s) = refl
+
+-- the streams below a number are spent where the test is true
+abbrev pub SpentBelow : (ℕ → Bool) → ℕ → State → State → Type 0
+SpentBelow test n old now = (i : ℕ) → stream_at now i ≡ spent_when (nat_lt i n && test i) (stream_at old i)
+
+below_false : (i n : ℕ) → n ≤ i → nat_lt i n ≡ false
+below_false i n h = le-ltb i n h
+
+at_new : (test : ℕ → Bool) (n : ℕ) (old us vs : State) (b : Bool) → SpentBelow test n old us → test n ≡ b → vs ≡ cond b (changed us n spent) us → stream_at vs n ≡ spent_when (nat_lt n (n + 1) && test n) (stream_at old n)
+at_new test n old us vs b h t e =
+    ap (λ z. stream_at z n) e ∙ go b
+    ∙ ap (λ z. spent_when z (stream_at old n)) (sym t)
+    ∙ ap (λ z. spent_when (z && test n) (stream_at old n)) (sym (lt-ltb n (n + 1) (omega arith))) where
+      before : stream_at us n ≡ stream_at old n
+      before = h n ∙ ap (λ z. spent_when (z && test n) (stream_at old n)) (below_false n n (omega arith)) ∙ spent_false (stream_at old n)
+
+      go : (b : Bool) → stream_at (cond b (changed us n spent) us) n ≡ spent_when b (stream_at old n)
+      go true = changed_at us n spent ∙ ap (mapped spent) before ∙ spent_true (stream_at old n)
+      go false = before ∙ sym (spent_false (stream_at old n))
+
+at_other : (n i : ℕ) (us vs : State) (b : Bool) → i ≢ n → vs ≡ cond b (changed us n spent) us → stream_at vs i ≡ stream_at us i
+at_other n i us vs true ne e = ap (λ z. stream_at z i) e ∙ changed_not us n i spent ne
+at_other n i us vs false ne e = ap (λ z. stream_at z i) e
+
+same_below : (i n : ℕ) → i ≢ n → nat_lt i n ≡ nat_lt i (n + 1)
+same_below i n ne =
+    elim (cases_lt i n) [
+      | inl h ↦ lt-ltb i n h ∙ sym (lt-ltb i (n + 1) (omega arith))
+      | inr h ↦ below_false i n (omega arith) ∙ sym (below_false i (n + 1) (omega arith))
+    ]
+
+pub spent_more : (test : ℕ → Bool) (n : ℕ) (old us vs : State) (b : Bool) → SpentBelow test n old us → test n ≡ b → vs ≡ cond b (changed us n spent) us → SpentBelow test (n + 1) old vs
+spent_more test n old us vs b h t e i =
+    elim (eqb_tells i n) [
+      | inl s ↦
+          let P : ℕ → Type 0 = λ z. stream_at vs z ≡ spent_when (nat_lt z (n + 1) && test z) (stream_at old z) in
+          subst P (sym s.1) (at_new test n old us vs b h t e)
+      | inr d ↦ at_other n i us vs b d.1 e ∙ h i ∙ ap (λ z. spent_when (z && test i) (stream_at old i)) (same_below i n d.1)
+    ]
+
+-- the test of a discard
+abbrev pub discards : State → ℕ → ℕ → Bool
+discards st fork i = (i == fork) || is_inside st fork i
+
+mirrored : (a b : ℕ) → (a == b) ≡ (b == a)
+mirrored a b =
+    elim (eqb_tells a b) [
+      | inl e ↦ eq-eqb a b e.1 ∙ sym (eq-eqb b a (sym e.1))
+      | inr d ↦ ne_eqb a b d.1 ∙ sym (ne_eqb b a (λ q. d.1 (sym q)))
+    ]
+
+or_none : (b : Bool) → (b || false) ≡ b
+or_none true = refl
+or_none false = refl
+
+test_is : (st : State) (fork i : ℕ) → discards st fork i ≡ (contains (fork ∷ []) (0 + i) || contains (inside_of (fork ∷ []) 0 st) (0 + i))
+test_is st fork i =
+    let plain : i ≡ 0 + i = omega arith in
+    ap (λ z. z || is_inside st fork i) (mirrored i fork ∙ sym (or_none (fork == i)))
+    ∙ ap (λ z. contains (fork ∷ []) z || contains (inside_of (fork ∷ []) 0 st) z) plain
+
+pub spent_all : (fork n : ℕ) (st us : State) → length st ≤ n → SpentBelow (discards st fork) n st us → us ≡ all_spent fork st
+spent_all fork n st us out h =
+    same_streams us (all_spent fork st) (λ i.
+    h i ∙ go i (stream_at st i) refl
+    ∙ ap (λ b. spent_when b (stream_at st i)) (test_is st fork i)
+    ∙ sym (spent_at (fork ∷ []) 0 st i)) where
+      go : (i : ℕ) (o : Option states.Stream) → stream_at st i ≡ o → spent_when (nat_lt i n && discards st fork i) (stream_at st i) ≡ spent_when (discards st fork i) (stream_at st i)
+      go i None e = ap (spent_when (nat_lt i n && discards st fork i)) e ∙ sym (ap (spent_when (discards st fork i)) e)
+      go i (Some s) e =
+          let t : i < length st = there_within st i s e in
+          ap (λ z. spent_when (z && discards st fork i) (stream_at st i)) (lt-ltb i n (omega arith))
+
+-- spending a stream keeps all kinds
+pub kinds_kept : (st : State) (n : ℕ) → map (λ (s : states.Stream). s.kind) (changed st n spent) ≡ map (λ (s : states.Stream). s.kind) st
+kinds_kept [] n = refl
+kinds_kept (s ∷ st) zero = refl
+kinds_kept (s ∷ st) (suc n) = ap (λ z. s.kind ∷ z) (kinds_kept st n)
+
+pub same_inside : (fork i : ℕ) (us vs : State) → map (λ (s : states.Stream). s.kind) us ≡ map (λ (s : states.Stream). s.kind) vs → is_inside us fork i ≡ is_inside vs fork i
+same_inside fork i us vs e = ap (λ z. contains z i) (inside_kinds (fork ∷ []) 0 us vs e)
