@@ -16,7 +16,7 @@ use Rattle.tok_buffer.specs.Descent.{descend, descend_from, into_front}
 use Rattle.tok_buffer.specs.Entry.{Entered, enter, enter_any, entered_of, same_delimiter}
 use Rattle.tok_buffer.specs.Order.{order}
 use Rattle.tok_buffer.specs.Place.{Owner, whole, group_of, Level, level, Place, empty_place, at, absorb, pass, settle}
-use Rattle.tok_buffer.specs.Progress.{StaysIn, remaining, remaining_around, ReadsOn, ReadsGoOn, SkipsGoOn, EntersOn, EntriesGoOn, MovesStay, StaysAlong}
+use Rattle.tok_buffer.specs.Progress.{ReadsGoLater, StaysIn, remaining, remaining_around, ReadsOn, ReadsGoOn, SkipsGoOn, EntersOn, EntriesGoOn, MovesStay, StaysAlong}
 use Rattle.tok_buffer.specs.Reads.{and_then, any_text, any_tree, behind, is_ident, is_ident_of, is_joint_of, is_literal, is_punct, is_punct_of, read_keyword, read_lifetime, read_punctuation, read_tree, read_word, skip}
 use Rattle.tok_buffer.specs.Reads as reads
 
@@ -178,7 +178,7 @@ read_on read none on empty_place ts q e = nothing (ts, q) (sym none ∙ e)
 read_on read none on (at n s c l ls) ts q e = goes_on l ls (on n s c l ls ts q e)
 
 reads_on : (read : Place → Option (List Tree × Place)) → read empty_place ≡ None → Onwards read → ReadsOn read
-reads_on read none on = record { stays = λ p ts q e. (read_on read none on p ts q e).0; lowers = λ p ts q e. (read_on read none on p ts q e).1; later = λ p ts q e. (read_on read none on p ts q e).2 }
+reads_on read none on = record { stays = λ p ts q e. (read_on read none on p ts q e).0; lowers = λ p ts q e. (read_on read none on p ts q e).1 }
 
 no_punctuation : (text : List ℕ) → read_punctuation text empty_place ≡ None
 no_punctuation [] = refl
@@ -216,7 +216,7 @@ reads_go_on = record {
 }
 
 pub skips_go_on : SkipsGoOn
-skips_go_on = record { stays = λ p q e. (skips_on p q e).0; lowers = λ p q e. (skips_on p q e).1; later = λ p q e. (skips_on p q e).2 }
+skips_go_on = record { stays = λ p q e. (skips_on p q e).0; lowers = λ p q e. (skips_on p q e).1 }
 
 -- the moves themselves
 stays_here : (p : Place) → StaysIn p p
@@ -348,10 +348,30 @@ goes_in delimiter.Brace p e h = visible_goes_in delimiter.Brace p e h
 goes_in delimiter.Bracket p e h = visible_goes_in delimiter.Bracket p e h
 
 enters_on : (entry : Place → Option Entered) → ((p : Place) (e : Entered) → entry p ≡ Some e → GoesIn p e) → EntersOn entry
-enters_on entry on = record { stays = λ p e h. (on p e h).0.0; lowers = λ p e h. (on p e h).0.1; later = λ p e h. (on p e h).0.2; inwards = λ p e h. (on p e h).1 }
+enters_on entry on = record { stays = λ p e h. (on p e h).0.0; lowers = λ p e h. (on p e h).0.1; inwards = λ p e h. (on p e h).1 }
 
 pub entries_go_on : EntriesGoOn
 entries_go_on = record { groups = λ d. enters_on (enter d) (goes_in d); any_groups = enters_on enter_any any_goes_in }
 
 pub settle_remaining : (n s c : ℕ) (l : Level) (ls : List Level) → remaining (settle n s c l ls) ≤ remaining (at n s c l ls)
 settle_remaining n s c l ls = omega (arith, left (settle_later n s c l ls))
+
+-- what a read passes lies before
+read_later : (read : Place → Option (List Tree × Place)) → read empty_place ≡ None → Onwards read → (p : Place) (ts : List Tree) (q : Place) → read p ≡ Some (ts, q) → order p q ≡ Some Less
+read_later read none on p ts q e = (read_on read none on p ts q e).2
+
+pub reads_go_later : ReadsGoLater
+reads_go_later = record {
+  idents = read_later _ refl (descended (reads.take is_ident) (take_onwards is_ident));
+  literals = read_later _ refl (descended (reads.take is_literal) (take_onwards is_literal));
+  puncts = read_later _ refl (descended (reads.take is_punct) (take_onwards is_punct));
+  words = λ wanted. read_later (read_word wanted) refl (word_onwards wanted);
+  keywords = λ text. read_later (read_keyword text) (no_keyword text) (keyword_onwards text);
+  lifetimes = λ wanted. read_later (read_lifetime wanted) refl (lifetime_onwards wanted);
+  punctuations = λ text. read_later (read_punctuation text) (no_punctuation text) (punctuation_onwards text);
+  trees = read_later read_tree refl (take_onwards any_tree);
+  taken = λ wanted. read_later (reads.take wanted) refl (take_onwards wanted);
+  skips = λ p q e. (skips_on p q e).2;
+  groups = λ d p e h. (goes_in d p e h).0.2;
+  any_groups = λ p e h. (any_goes_in p e h).0.2;
+}

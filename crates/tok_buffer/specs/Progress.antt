@@ -25,10 +25,9 @@ abbrev pub remaining : Place → ℕ
 remaining empty_place = 0
 remaining (at number scope count (level o p f) ls) = weight f + remaining_around ls + 1
 
--- wherever it reads, it stays in the scope, goes to a later place, and takes something away from what remains
+-- wherever it reads, it stays in the scope and takes something away from what remains
 pub record ReadsOn (read : Place → Option (List Tree × Place)) : Type 0 where
   pub stays : (p : Place) (ts : List Tree) (q : Place) → read p ≡ Some (ts, q) → StaysIn p q
-  pub later : (p : Place) (ts : List Tree) (q : Place) → read p ≡ Some (ts, q) → order p q ≡ Some Less
   pub lowers : (p : Place) (ts : List Tree) (q : Place) → read p ≡ Some (ts, q) → remaining q < remaining p
 
 pub record ReadsGoOn : Type 0 where
@@ -45,19 +44,35 @@ pub record ReadsGoOn : Type 0 where
 -- the same of a skip
 pub record SkipsGoOn : Type 0 where
   pub stays : (p q : Place) → skip p ≡ Some q → StaysIn p q
-  pub later : (p q : Place) → skip p ≡ Some q → order p q ≡ Some Less
   pub lowers : (p q : Place) → skip p ≡ Some q → remaining q < remaining p
 
 -- the same of the place after a group that is entered; and less remains in its content, too
 pub record EntersOn (entry : Place → Option Entered) : Type 0 where
   pub stays : (p : Place) (e : Entered) → entry p ≡ Some e → StaysIn p e.behind
-  pub later : (p : Place) (e : Entered) → entry p ≡ Some e → order p e.behind ≡ Some Less
   pub lowers : (p : Place) (e : Entered) → entry p ≡ Some e → remaining e.behind < remaining p
   pub inwards : (p : Place) (e : Entered) → entry p ≡ Some e → remaining e.content < remaining p
 
 pub record EntriesGoOn : Type 0 where
   pub groups : (d : Delimiter) → EntersOn (enter d)
   pub any_groups : EntersOn enter_any
+
+-- the places after them are later
+abbrev pub Later : (Place → Option (List Tree × Place)) → Type 0
+Later read = (p : Place) (ts : List Tree) (q : Place) → read p ≡ Some (ts, q) → order p q ≡ Some Less
+
+pub record ReadsGoLater : Type 0 where
+  pub idents : Later read_ident
+  pub literals : Later read_literal
+  pub puncts : Later read_punct
+  pub words : (wanted : List ℕ → Bool) → Later (read_word wanted)
+  pub keywords : (text : List ℕ) → Later (read_keyword text)
+  pub lifetimes : (wanted : List ℕ → Bool) → Later (read_lifetime wanted)
+  pub punctuations : (text : List ℕ) → Later (read_punctuation text)
+  pub trees : Later read_tree
+  pub taken : (wanted : Tree → Bool) → Later (take wanted)
+  pub skips : (p q : Place) → skip p ≡ Some q → order p q ≡ Some Less
+  pub groups : (d : Delimiter) (p : Place) (e : Entered) → enter d p ≡ Some e → order p e.behind ≡ Some Less
+  pub any_groups : (p : Place) (e : Entered) → enter_any p ≡ Some e → order p e.behind ≡ Some Less
 
 -- a move that stays in the scope, and adds nothing
 pub record MovesOn (move : Place → Place) : Type 0 where
