@@ -8,6 +8,7 @@
 mod cursors;
 mod lists;
 mod outcome;
+mod replays;
 mod tokens;
 mod trees;
 
@@ -38,6 +39,7 @@ fn run(alloc: Global, before: usize) -> Outcome {
         cursors::calls(alloc),
         tokens::calls(alloc),
         lists::calls(alloc),
+        replays::calls(alloc),
     ])
 }
 
