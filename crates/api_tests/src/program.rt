@@ -1,4 +1,6 @@
 // What the program prints for the worked inputs.
+mod commands;
+
 use std::alloc::{AllocError, AllocGlobal, Global};
 use std::io::{self, Error, ErrorKind, Read, Write};
 use std::process::Abort;
@@ -151,7 +153,10 @@ fn refuses_words_of_commands(rt: HostRuntime) -> Result<(), Fail> {
         ("parse 0\n", 1),
         ("parse 0 ident\n", 1),
         ("parse 0 Ident Ident\n", 1),
-        ("enter 0 «\n", 1),
+        ("enter 0 »\n", 1),
+        ("parse 0 Paren\n", 1),
+        ("advance 0\n", 1),
+        ("lookahead 0 Ident Self_\n", 1),
         ("enter 0 ((\n", 1),
         ("span 0 0\n", 1),
     ] {
@@ -232,6 +237,24 @@ fn limits_levels(rt: HostRuntime) -> Result<(), Fail> {
     wants(&rt, deep.as_bytes(), "read a 0..1 @513\naccepted\n", 0)?;
     let deeper = nested(rt.alloc(), 257)?;
     wants_unreadable(&rt, deeper.as_bytes(), "L12 at 0")
+}
+
+#[test]
+fn looks_into_empty_levels(rt: HostRuntime) -> Result<(), Fail> {
+    let mut text = String::new(rt.alloc());
+    for _ in 0..256u32 {
+        text.push('«')?;
+    }
+    for _ in 0..256u32 {
+        text.push('»')?;
+    }
+    text.push_str("\n---\nempty 0\npeek2 0 Ident\nparse 0 Ident\n")?;
+    wants(
+        &rt,
+        text.as_bytes(),
+        "false @0\nfalse @0\nrefused 0..0 expected identifier @0\naccepted\n",
+        0,
+    )
 }
 
 // Gives a byte at a time, each after an interrupted read, and fails or ends behind them.

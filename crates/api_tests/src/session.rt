@@ -94,3 +94,26 @@ fn positions_of_no_stream(rt: HostRuntime) -> Result<(), Fail> {
     assert!(rt; matches!(&report.lines[2].answer, Answer::Unfit(4)));
     Ok(())
 }
+
+// Contents of different groups are different scopes, whatever their spans.
+#[test]
+fn scopes_are_told_by_place(rt: HostRuntime) -> Result<(), Fail> {
+    let alloc = rt.alloc();
+    let mut stream = TokenStream::new(alloc);
+    for _ in 0..2u32 {
+        let group = Group::new(Delimiter::Parenthesis, nested(alloc, 0)?, Span::call_site());
+        stream.append(TokenTree::Group(group))?;
+    }
+    let commands = [
+        Command::Enter(0, Delimiter::Parenthesis),
+        Command::Enter(0, Delimiter::Parenthesis),
+        Command::Fork(1),
+        Command::Advance(2, 3),
+        Command::Advance(1, 3),
+    ];
+    let report = replay(alloc, stream, &commands)?;
+    assert!(rt; matches!(&report.lines[2].answer, Answer::Forked(3)));
+    assert!(rt; matches!(&report.lines[3].answer, Answer::Unfit(5)));
+    assert!(rt; matches!(&report.lines[4].answer, Answer::Done));
+    Ok(())
+}

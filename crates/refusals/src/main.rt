@@ -8,6 +8,7 @@
 mod cursors;
 mod lists;
 mod outcome;
+mod replays;
 mod streams;
 mod tokens;
 mod trees;
@@ -40,6 +41,7 @@ fn run(alloc: Global, before: usize) -> Outcome {
         tokens::calls(alloc),
         lists::calls(alloc),
         streams::calls(alloc),
+        replays::calls(alloc),
     ])
 }
 

@@ -82,7 +82,7 @@ left_at k i xs all h =
     let t = left_within k i xs all h in
     sym (skipped_to (length xs) h.from i k xs (h.first.from i refl) (omega (arith, t.1)) (h.first.nearest i refl)) ∙ h.rest
 
-next_first : (k i : ℕ) (xs : List Stream) (x : Stream) → x ≡ get_or xs i x → i < length xs → IsContent (links_of xs) k i → AreLinked (links_of xs) → IsFirstFrom (links_of xs) k (i + 1) x.links.next
+pub next_first : (k i : ℕ) (xs : List Stream) (x : Stream) → x ≡ get_or xs i x → i < length xs → IsContent (links_of xs) k i → AreLinked (links_of xs) → IsFirstFrom (links_of xs) k (i + 1) x.links.next
 next_first k i xs x e t c h =
     let P : Option ℕ → Type 0 = λ z. IsFirstFrom (links_of xs) k (i + 1) z in
     subst P (ap (λ l. l.next) (links_there xs i x e t)) ((h i (omega (arith, length-links xs))).next k c)
@@ -126,7 +126,7 @@ abbrev pub left_to : ℕ → Option ℕ → ℕ
 left_to n None = 0
 left_to n (Some i) = n - i
 
-left_less : (n i : ℕ) (o : Option ℕ) → i < n → ((m : ℕ) → o ≡ Some m → i + 1 ≤ m) → left_to n o < n - i
+pub left_less : (n i : ℕ) (o : Option ℕ) → i < n → ((m : ℕ) → o ≡ Some m → i + 1 ≤ m) → left_to n o < n - i
 left_less n i None h f = omega arith
 left_less n i (Some m) h f = let g = f m refl in omega arith
 

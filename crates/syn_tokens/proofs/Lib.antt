@@ -3,6 +3,7 @@ pub mod Anywhere
 pub mod Appended
 pub mod Closing
 pub mod CommandLines
+pub mod Discards
 pub mod Entered
 pub mod Fronts
 pub mod Inside

@@ -6,7 +6,6 @@ use Rattle.std.specs.Prelude.{◌==◌, ◌||◌, ◌&&◌, cond, nat_lt}
 use Rattle.syn_tokens.specs.State.{State, StreamKind, outermost, content_of, a_fork, all_spent, changed, contains, inside_of, is_content_among, is_inside, spent, spent_with, stream_at}
 use Rattle.syn_tokens.specs.State as states
 use Rattle.syn_tokens.proofs.Inside.{at_start}
-use Rattle.syn_tokens.proofs.Tracks.{there_within}
 
 -- a stream, spent or as it was
 abbrev pub spent_when : Bool → Option states.Stream → Option states.Stream
@@ -88,74 +87,35 @@ inside_kinds ns k (u ∷ us) (v ∷ vs) e =
     ∙ ap (λ z. cond (is_content_among ns v.kind) (k ∷ inside_of (k ∷ ns) (k + 1) vs) z) (inside_kinds ns (k + 1) us vs rest)
 
 -- a stream of a state in which one was changed
-abbrev mapped : (states.Stream → states.Stream) → Option states.Stream → Option states.Stream
+abbrev pub mapped : (states.Stream → states.Stream) → Option states.Stream → Option states.Stream
 mapped f None = None
 mapped f (Some s) = Some (f s)
 
-changed_at : (st : State) (n : ℕ) (f : states.Stream → states.Stream) → stream_at (changed st n f) n ≡ mapped f (stream_at st n)
+pub changed_at : (st : State) (n : ℕ) (f : states.Stream → states.Stream) → stream_at (changed st n f) n ≡ mapped f (stream_at st n)
 changed_at [] n f = refl
 changed_at (s ∷ st) zero f = refl
 changed_at (s ∷ st) (suc n) f = changed_at st n f
 
-changed_not : (st : State) (n i : ℕ) (f : states.Stream → states.Stream) → i ≢ n → stream_at (changed st n f) i ≡ stream_at st i
+pub changed_not : (st : State) (n i : ℕ) (f : states.Stream → states.Stream) → i ≢ n → stream_at (changed st n f) i ≡ stream_at st i
 changed_not [] n i f h = refl
 changed_not (s ∷ st) zero zero f h = absurd (h refl)
 changed_not (s ∷ st) zero (suc i) f h = refl
 changed_not (s ∷ st) (suc n) zero f h = refl
 changed_not (s ∷ st) (suc n) (suc i) f h = changed_not st n i f (λ e. h (ap suc e))
 
-spent_false : (o : Option states.Stream) → spent_when false o ≡ o
+pub spent_false : (o : Option states.Stream) → spent_when false o ≡ o
 spent_false None = refl
 spent_false (Some s) = refl
 
-spent_true : (o : Option states.Stream) → mapped spent o ≡ spent_when true o
+pub spent_true : (o : Option states.Stream) → mapped spent o ≡ spent_when true o
 spent_true None = refl
 spent_true (Some s) = refl
-
--- the streams below a number are spent where the test is true
-abbrev pub SpentBelow : (ℕ → Bool) → ℕ → State → State → Type 0
-SpentBelow test n old now = (i : ℕ) → stream_at now i ≡ spent_when (nat_lt i n && test i) (stream_at old i)
-
-below_false : (i n : ℕ) → n ≤ i → nat_lt i n ≡ false
-below_false i n h = le-ltb i n h
-
-at_new : (test : ℕ → Bool) (n : ℕ) (old us vs : State) (b : Bool) → SpentBelow test n old us → test n ≡ b → vs ≡ cond b (changed us n spent) us → stream_at vs n ≡ spent_when (nat_lt n (n + 1) && test n) (stream_at old n)
-at_new test n old us vs b h t e =
-    ap (λ z. stream_at z n) e ∙ go b
-    ∙ ap (λ z. spent_when z (stream_at old n)) (sym t)
-    ∙ ap (λ z. spent_when (z && test n) (stream_at old n)) (sym (lt-ltb n (n + 1) (omega arith))) where
-      before : stream_at us n ≡ stream_at old n
-      before = h n ∙ ap (λ z. spent_when (z && test n) (stream_at old n)) (below_false n n (omega arith)) ∙ spent_false (stream_at old n)
-
-      go : (b : Bool) → stream_at (cond b (changed us n spent) us) n ≡ spent_when b (stream_at old n)
-      go true = changed_at us n spent ∙ ap (mapped spent) before ∙ spent_true (stream_at old n)
-      go false = before ∙ sym (spent_false (stream_at old n))
-
-at_other : (n i : ℕ) (us vs : State) (b : Bool) → i ≢ n → vs ≡ cond b (changed us n spent) us → stream_at vs i ≡ stream_at us i
-at_other n i us vs true ne e = ap (λ z. stream_at z i) e ∙ changed_not us n i spent ne
-at_other n i us vs false ne e = ap (λ z. stream_at z i) e
-
-same_below : (i n : ℕ) → i ≢ n → nat_lt i n ≡ nat_lt i (n + 1)
-same_below i n ne =
-    elim (cases_lt i n) [
-      | inl h ↦ lt-ltb i n h ∙ sym (lt-ltb i (n + 1) (omega arith))
-      | inr h ↦ below_false i n (omega arith) ∙ sym (below_false i (n + 1) (omega arith))
-    ]
-
-pub spent_more : (test : ℕ → Bool) (n : ℕ) (old us vs : State) (b : Bool) → SpentBelow test n old us → test n ≡ b → vs ≡ cond b (changed us n spent) us → SpentBelow test (n + 1) old vs
-spent_more test n old us vs b h t e i =
-    elim (eqb_tells i n) [
-      | inl s ↦
-          let P : ℕ → Type 0 = λ z. stream_at vs z ≡ spent_when (nat_lt z (n + 1) && test z) (stream_at old z) in
-          subst P (sym s.1) (at_new test n old us vs b h t e)
-      | inr d ↦ at_other n i us vs b d.1 e ∙ h i ∙ ap (λ z. spent_when (z && test i) (stream_at old i)) (same_below i n d.1)
-    ]
 
 -- the test of a discard
 abbrev pub discards : State → ℕ → ℕ → Bool
 discards st fork i = (i == fork) || is_inside st fork i
 
-mirrored : (a b : ℕ) → (a == b) ≡ (b == a)
+pub mirrored : (a b : ℕ) → (a == b) ≡ (b == a)
 mirrored a b =
     elim (eqb_tells a b) [
       | inl e ↦ eq-eqb a b e.1 ∙ sym (eq-eqb b a (sym e.1))
@@ -172,23 +132,22 @@ test_is st fork i =
     ap (λ z. z || is_inside st fork i) (mirrored i fork ∙ sym (or_none (fork == i)))
     ∙ ap (λ z. contains (fork ∷ []) z || contains (inside_of (fork ∷ []) 0 st) z) plain
 
-pub spent_all : (fork n : ℕ) (st us : State) → length st ≤ n → SpentBelow (discards st fork) n st us → us ≡ all_spent fork st
-spent_all fork n st us out h =
-    same_streams us (all_spent fork st) (λ i.
-    h i ∙ go i (stream_at st i) refl
-    ∙ ap (λ b. spent_when b (stream_at st i)) (test_is st fork i)
-    ∙ sym (spent_at (fork ∷ []) 0 st i)) where
-      go : (i : ℕ) (o : Option states.Stream) → stream_at st i ≡ o → spent_when (nat_lt i n && discards st fork i) (stream_at st i) ≡ spent_when (discards st fork i) (stream_at st i)
-      go i None e = ap (spent_when (nat_lt i n && discards st fork i)) e ∙ sym (ap (spent_when (discards st fork i)) e)
-      go i (Some s) e =
-          let t : i < length st = there_within st i s e in
-          ap (λ z. spent_when (z && discards st fork i) (stream_at st i)) (lt-ltb i n (omega arith))
+-- what a discard makes of each stream
+pub all_spent_at : (fork : ℕ) (st : State) (i : ℕ) → stream_at (all_spent fork st) i ≡ spent_when (discards st fork i) (stream_at st i)
+all_spent_at fork st i = spent_at (fork ∷ []) 0 st i ∙ ap (λ b. spent_when b (stream_at st i)) (sym (test_is st fork i))
 
--- spending a stream keeps all kinds
-pub kinds_kept : (st : State) (n : ℕ) → map (λ (s : states.Stream). s.kind) (changed st n spent) ≡ map (λ (s : states.Stream). s.kind) st
-kinds_kept [] n = refl
-kinds_kept (s ∷ st) zero = refl
-kinds_kept (s ∷ st) (suc n) = ap (λ z. s.kind ∷ z) (kinds_kept st n)
+abbrev pub kinds : State → List StreamKind
+kinds st = map (λ (s : states.Stream). s.kind) st
 
-pub same_inside : (fork i : ℕ) (us vs : State) → map (λ (s : states.Stream). s.kind) us ≡ map (λ (s : states.Stream). s.kind) vs → is_inside us fork i ≡ is_inside vs fork i
-same_inside fork i us vs e = ap (λ z. contains z i) (inside_kinds (fork ∷ []) 0 us vs e)
+spent_with_kinds : (ns : List ℕ) (k : ℕ) (st : State) → kinds (spent_with ns k st) ≡ kinds st
+spent_with_kinds ns k [] = refl
+spent_with_kinds ns k (s ∷ st) = go (contains ns k || is_content_among ns s.kind) (spent_with_kinds (k ∷ ns) (k + 1) st) (spent_with_kinds ns (k + 1) st) where
+  go : (b : Bool) → kinds (spent_with (k ∷ ns) (k + 1) st) ≡ kinds st → kinds (spent_with ns (k + 1) st) ≡ kinds st → kinds (cond b (spent s ∷ spent_with (k ∷ ns) (k + 1) st) (s ∷ spent_with ns (k + 1) st)) ≡ s.kind ∷ kinds st
+  go true with_it without = ap (λ z. s.kind ∷ z) with_it
+  go false with_it without = ap (λ z. s.kind ∷ z) without
+
+pub all_spent_kinds : (fork : ℕ) (st : State) → kinds (all_spent fork st) ≡ kinds st
+all_spent_kinds fork st = spent_with_kinds (fork ∷ []) 0 st
+
+pub same_discards : (fork i : ℕ) (us vs : State) → kinds us ≡ kinds vs → discards us fork i ≡ discards vs fork i
+same_discards fork i us vs e = ap (λ z. (i == fork) || contains z i) (inside_kinds (fork ∷ []) 0 us vs e)

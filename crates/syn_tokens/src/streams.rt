@@ -153,12 +153,12 @@ impl<'a> Streams<'a> {
         false
     }
 
-    fn spend(&mut self, k: usize)
-        requires { k < length (state_of self.old) }
-        ensures after { state_of self.new ≡ changed (state_of self.old) k spent }
+    fn spend(&mut self, n: usize)
+        requires { n < length (state_of self.old) }
+        ensures after { state_of self.new ≡ changed (state_of self.old) n spent }
         ensures links { links_of self.new.list.items ≡ links_of self.old.list.items }
     {
-        self.list[k].is_open = false;
+        self.list[n].is_open = false;
     }
 
     // Closes the open contents inside a fork, takes stream `n` to where it stands, and spends it.
@@ -183,17 +183,18 @@ impl<'a> Streams<'a> {
         n == outer || self.is_inside(outer, n)
     }
 
-    // Spends a fork and all contents inside it. What they leave unread is noted nowhere.
-    pub fn discard(&mut self, fork: usize)
-        requires { fork < length (state_of self.old) }
-        ensures { state_of self.new ≡ all_spent fork (state_of self.old) }
+    // Spends a stream and all contents inside it, each once. What they leave unread is noted nowhere.
+    pub fn discard(&mut self, n: usize)
+        requires { n < length (state_of self.old) }
+        ensures after { state_of self.new ≡ all_spent n (state_of self.old) }
+        ensures links { links_of self.new.list.items ≡ links_of self.old.list.items }
     {
-        let mut index = 0;
-        while index < self.list.len() {
-            if self.is_or_inside(fork, index) {
-                self.spend(index);
-            }
-            index += 1;
+        let mut next = self.list[n].links.first;
+        while let Some(content) = next {
+            let inside = self.list[content];
+            self.discard(content);
+            next = inside.links.next;
         }
+        self.spend(n);
     }
 }
