@@ -10,7 +10,7 @@ use Rattle.tok_buffer.specs.Messages as messages
 use Rattle.tok_buffer.specs.Words.{Refusal}
 use Rattle.tok_buffer.specs.declared.error.Message.{Message}
 use Rattle.syn_parse.specs.Groups.{AreParts, Enters}
-use Rattle.syn_parse.specs.State.{behind}
+use Rattle.syn_parse.specs.State.{after_group}
 use Rattle.syn_parse.specs.State as parse
 use Rattle.syn_parse.specs.Words.{refused_at}
 use Rattle.syn_parse.specs.declared.fault.Fault.{Fault}
@@ -39,8 +39,8 @@ module _ (st : State) (n : ℕ) (s : states.Stream) (here : stream_at st n ≡ S
   entered-value (Some e) d span content t h = (
     ap (λ z. spec.entered (length st) z (whole_span span)) h.0.0 ∙ ap (spec.entered (length st) e.delimiter) h.0.1.0,
     ap (λ u. changed st n (put u) ++ standing content (content_of n) true ∷ []) h.1
-        ∙ ap (λ c. changed st n (put (behind e (at_rest s))) ++ standing c (content_of n) true ∷ []) h.0.1.1
-        ∙ ap (λ us. us ++ standing (parse.content_of e) (content_of n) true ∷ []) (changed_alike st n s (put (behind e (at_rest s))) (states.moved_to e.behind) here refl),
+        ∙ ap (λ c. changed st n (put (after_group e (at_rest s))) ++ standing c (content_of n) true ∷ []) h.0.1.1
+        ∙ ap (λ us. us ++ standing (parse.content_of e) (content_of n) true ∷ []) (changed_alike st n s (put (after_group e (at_rest s))) (states.moved_to e.behind) here refl),
   )
 
   pub entered-refusal : (x : Option Entered) (f : Fault) (t : parse.State) (result : Result Answer AllocError) → Enters AreEntered x (refused_at (at_rest s) words) (at_rest s) (Err f) t → Answers f result → IfOk result (λ a. IsStepped a st (into_group st n s words x))
