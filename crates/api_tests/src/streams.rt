@@ -1,4 +1,5 @@
 // Parse streams: refusals with their spans, groups, lookahead, and parsers that go where none would.
+mod callers;
 mod groups;
 mod hostile;
 

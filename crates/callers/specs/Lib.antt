@@ -1,4 +1,5 @@
 pub mod Looks
 pub mod Loops
+pub mod Streams
 pub mod Text
 pub mod Trees

@@ -4,5 +4,6 @@
 pub mod buffer;
 pub mod loops;
 pub mod punctuated;
+pub mod streams;
 pub mod tokens;
 pub mod trees;

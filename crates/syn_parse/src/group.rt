@@ -1,9 +1,9 @@
 // Entering groups.
-ghost use Rattle.std.specs.Prelude.{◌≡◌, Some, codes};
+ghost use Rattle.std.specs.Prelude.{◌≡◌, Some, IfOk, codes};
 ghost use Rattle.std.specs.Fn.{FnOnceReturnsAtMut, FnOnceTakesAtMut};
 ghost use Rattle.tok_core.specs.declared.group.Delimiter.TheVariants as delimiter;
 ghost use Rattle.tok_buffer.specs.Entry.{Entered, enter, enter_any};
-ghost use Rattle.syn_parse.specs.Groups.{AreParts, Enters, RunsWithin};
+ghost use Rattle.syn_parse.specs.Groups.{AreParts, Enters, IsAfter, RunsWithin};
 ghost use Rattle.syn_parse.specs.State.{content_of};
 ghost use Rattle.syn_parse.specs.Words.{delimiter_words, refused_at};
 
@@ -132,8 +132,9 @@ impl<'a> ParseBuffer<'a> {
     where
         F: FnOnce(ParseStream<'_, 'a>) -> Result<R>,
         requires { (e : Entered) → enter delimiter self.old.place ≡ Some e → FnOnceTakesAtMut F.FnOnce f (content_of e) }
-        ensures { RunsWithin (FnOnceReturnsAtMut F.FnOnce f) (enter delimiter self.old.place)
+        ensures runs { RunsWithin (FnOnceReturnsAtMut F.FnOnce f) (enter delimiter self.old.place)
             (refused_at self.old (delimiter_words delimiter)) self.old result self.new }
+        ensures after { IfOk result (λ _. IsAfter (enter delimiter self.old.place) self.new.place) }
     {
         let (span, mut content) = self.enter(delimiter)?;
         let value = content.call(f);

@@ -55,11 +55,7 @@ fn an_option_refuses_what_its_peek_promises(rt: HostRuntime) {
     assert!(rt; refuses(alloc, outcome, "0..1 never"));
 }
 
-fn swapped<'a>(
-    input: ParseStream<'_, 'a>,
-    alloc: Global,
-    other: &'a TokenBuffer,
-) -> Result<Ident> {
+fn swapped<'a>(input: ParseStream<'_, 'a>, alloc: Global, other: &'a TokenBuffer) -> Result<Ident> {
     let mut stream = tokens_to_parse_buffer(alloc, other, Span::call_site());
     let name = input.within(Delimiter::Parenthesis, |content| {
         content.swap(&mut stream);

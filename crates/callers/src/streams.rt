@@ -1,0 +1,150 @@
+//! Callers of `syn_parse`: an item read by hand, a choice, a try on a fork, a step, and a parser that calls itself.
+ghost use Rattle.std.specs.Prelude.{◌<◌, IfOk, codes};
+ghost use Rattle.tok_buffer.specs.Cursors.{place_of};
+ghost use Rattle.tok_buffer.specs.Progress.{remaining};
+ghost use Rattle.tok_buffer.specs.Reads.{read_tree};
+ghost use Rattle.syn_parse.specs.Parses.{IsTree, TreeParses};
+ghost use Rattle.syn_parse.specs.Steps.{StepReads, step_state};
+ghost use Rattle.syn_parse.specs.Words.{refused_at};
+ghost use Rattle.callers.specs.Streams.{ChoosesKind};
+
+use syn_parse::laws::parses_go_on;
+use syn_parse::{Fault, Parse, ParseStream, Result};
+use tok_buffer::laws::{entries_go_on, reads_go_on};
+use tok_core::{Delimiter, Ident, TokenTree};
+use tok_types::token;
+
+/// A field of an item: `name: Kind`.
+#[derive(Drop)]
+pub struct Field {
+    pub name: Ident,
+    pub kind: Ident,
+}
+
+/// An item `struct Name { field: Kind, .. }`.
+#[derive(Drop)]
+pub struct Item {
+    pub name: Ident,
+    pub fields: Vec<Field>,
+}
+
+impl Parse for Item {
+    fn parse(input: ParseStream<'_, '_>) -> Result<Self> {
+        let _: token::Struct = input.parse()?;
+        let name = input.parse()?;
+        let (_, fields) = input.within(Delimiter::Brace, |content| fields(content))?;
+        Ok(Item { name, fields })
+    }
+}
+
+// Fields up to the end, with a comma after each but the last, and after the last too if you like.
+fn fields(input: ParseStream<'_, '_>) -> Result<Vec<Field>> {
+    parses_go_on();
+    let mut fields = Vec::new(input.allocator());
+    while !input.is_empty() {
+        let name: Ident = input.parse()?;
+        let _: token::Colon = input.parse()?;
+        let kind: Ident = input.parse()?;
+        fields.push(Field { name, kind })?;
+        if !input.is_empty() {
+            let _: token::Comma = input.parse()?;
+        }
+    }
+    Ok(fields)
+}
+
+/// What kind of item is next.
+#[derive(Clone, Copy, PartialEq, Eq)]
+pub enum Kind {
+    Function,
+    Structure,
+}
+
+/// The kind of the next item, by its keyword, which is left: a choice by lookahead.
+pub fn next_kind(input: ParseStream<'_, '_>) -> Result<Kind>
+    ensures { ChoosesKind input.old result input.new }
+{
+    let mut lookahead = input.lookahead1();
+    if lookahead.peek::<token::Fn>()? {
+        Ok(Kind::Function)
+    } else if lookahead.peek::<token::Struct>()? {
+        Ok(Kind::Structure)
+    } else {
+        Err(lookahead.error())
+    }
+}
+
+/// The next tree, by a step over the stream's cursor.
+pub fn next_tree(input: ParseStream<'_, '_>) -> Result<TokenTree>
+    ensures { TreeParses input.old result input.new }
+{
+    reads_go_on();
+    let alloc = input.allocator();
+    input.step(
+        |from|
+            ensures { StepReads IsTree (read_tree (step_state from.entry).place) (refused_at (step_state from.entry) (codes "expected token tree")) result }
+        {
+            match from.cursor().token_tree(alloc)? {
+                Some((next, rest)) => Ok((next, rest)),
+                None => Err(from.error("expected token tree")),
+            }
+        },
+    )
+}
+
+/// A field, or `None` where none is next, and then the stream stays: a try on a fork.
+pub fn optional_field(input: ParseStream<'_, '_>) -> Result<Option<Field>> {
+    let mut fork = input.fork();
+    match parse_field(&mut fork) {
+        Ok(field) => {
+            if fork.cursor().same_scope(input.cursor()) {
+                input.advance_to(fork);
+            } else {
+                fork.discard();
+            }
+            Ok(Some(field))
+        }
+        Err(fault) => {
+            fork.discard();
+            match fault {
+                Fault::Refused(_) => Ok(None),
+                Fault::Memory(error) => Err(Fault::Memory(error)),
+            }
+        }
+    }
+}
+
+fn parse_field(input: ParseStream<'_, '_>) -> Result<Field> {
+    let name = input.parse()?;
+    let _: token::Colon = input.parse()?;
+    Ok(Field {
+        name,
+        kind: input.parse()?,
+    })
+}
+
+/// How many names a nested list in parentheses has: 3 in `(a (b) ((c)))`. Each call takes something away from what remains.
+#[cycle(nested)]
+pub fn count_names(input: ParseStream<'_, '_>) -> Result<u64>
+    ensures { IfOk result (λ _. remaining input.new.place < remaining input.old.place) }
+{
+    entries_go_on();
+    parses_go_on();
+    if input.peek::<Ident>() {
+        let _: Ident = input.parse()?;
+        Ok(1)
+    } else {
+        let (_, count) = input.within(Delimiter::Parenthesis, |content| count_all(content))?;
+        Ok(count)
+    }
+}
+
+// The names of all that is left.
+#[cycle(nested)]
+fn count_all(input: ParseStream<'_, '_>) -> Result<u64> {
+    let mut count = 0u64;
+    while !input.is_empty() {
+        count = count.saturating_add(count_names(input)?);
+    }
+    Ok(count)
+}
