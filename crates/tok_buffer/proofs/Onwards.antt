@@ -4,7 +4,7 @@ use Rattle.std.proofs.lemmas.Bool.{and_parts, false≢true}
 use Rattle.std.specs.Prelude.{◌==◌, ◌&&◌, cond, unwrap_or, bytes_eq}
 use Rattle.std.specs.Cmp.{ranks}
 use Rattle.std.specs.Option.{option_or}
-use Rattle.std.specs.Ordering.{is_le, is_some_and, nat_cmp, MatchOrdering}
+use Rattle.std.specs.Ordering.{is_le, is_lt, is_some_and, nat_cmp, MatchOrdering}
 use Rattle.std.specs.declared.cmp.Ordering.{Ordering}
 use Rattle.std.specs.declared.cmp.Ordering.TheVariants.{Less, Equal, Greater}
 use Rattle.tok_core.specs.Clear.{is_joint_apostrophe}
@@ -14,8 +14,9 @@ use Rattle.tok_core.specs.Forest.{leaf, group, Tree, Forest, no_trees, tree, tur
 use Rattle.tok_core.specs.Weight.{tree_weight, weight}
 use Rattle.tok_buffer.specs.Descent.{descend, descend_from, into_front}
 use Rattle.tok_buffer.specs.Entry.{Entered, enter, enter_any, entered_of, same_delimiter}
+use Rattle.tok_buffer.specs.Order.{order}
 use Rattle.tok_buffer.specs.Place.{Owner, whole, group_of, Level, level, Place, empty_place, at, absorb, pass, settle}
-use Rattle.tok_buffer.specs.Progress.{StaysIn, remaining, remaining_around, ReadsOn, ReadsGoOn, SkipsGoOn, EntersOn, EntriesGoOn, MovesStay, StaysAlong}
+use Rattle.tok_buffer.specs.Progress.{ReadsGoLater, StaysIn, remaining, remaining_around, ReadsOn, ReadsGoOn, SkipsGoOn, EntersOn, EntriesGoOn, MovesStay, StaysAlong}
 use Rattle.tok_buffer.specs.Reads.{and_then, any_text, any_tree, behind, is_ident, is_ident_of, is_joint_of, is_literal, is_punct, is_punct_of, read_keyword, read_lifetime, read_punctuation, read_tree, read_word, skip}
 use Rattle.tok_buffer.specs.Reads as reads
 
@@ -25,11 +26,11 @@ record Later (number scope count : ℕ) (taken left : ℕ) (p : Place) : Type 0 
   inner : Level
   outer : List Level
   is : p ≡ at number scope now inner outer
-  no_earlier : count ≤ now
+  no_earlier : count + taken ≤ now
   fewer : remaining (at number scope now inner outer) + taken ≤ left
 
-later : {n s c d x y a b : ℕ} {p : Place} → Later n s d x a p → c ≤ d → y + a ≤ x + b → Later n s c y b p
-later {n} {s} {c} {d} {x} {y} {a} {b} {p} l h k = record { now = l.now; inner = l.inner; outer = l.outer; is = l.is; no_earlier = omega (arith, l.no_earlier); fewer = omega (arith, l.fewer, k) }
+later : {n s c d x y a b : ℕ} {p : Place} → Later n s d x a p → c + y ≤ d + x → y + a ≤ x + b → Later n s c y b p
+later {n} {s} {c} {d} {x} {y} {a} {b} {p} l h k = record { now = l.now; inner = l.inner; outer = l.outer; is = l.is; no_earlier = omega (arith, l.no_earlier, h); fewer = omega (arith, l.fewer, k) }
 
 here : (n s c : ℕ) (l : Level) (ls : List Level) → Later n s c 0 (remaining (at n s c l ls)) (at n s c l ls)
 here n s c l ls = record { now = c; inner = l; outer = ls; is = refl; no_earlier = omega arith; fewer = omega arith }
@@ -48,7 +49,7 @@ some_weight (leaf l) = omega arith
 some_weight (group d inside span) = omega arith
 
 passed : (n s c : ℕ) (o : Owner) (p : Forest) (t : Tree) (f : Forest) (ls : List Level) → Later n s c 1 (remaining (at n s c (level o p (tree t f)) ls)) (pass (at n s c (level o p (tree t f)) ls))
-passed n s c o p t f ls = later (settle_later n s (c + tree_weight t) (level o (tree t p) f) ls) (omega arith) (omega (arith, some_weight t))
+passed n s c o p t f ls = later (settle_later n s (c + tree_weight t) (level o (tree t p) f) ls) (omega (arith, some_weight t)) (omega (arith, some_weight t))
 
 or_later : (n s c m : ℕ) (a b : Option Place) (q : Place) → ((r : Place) → a ≡ Some r → Later n s c 0 m r) → ((r : Place) → b ≡ Some r → Later n s c 0 m r) → option_or a b ≡ Some q → Later n s c 0 m q
 or_later n s c m None b q f g e = g q e
@@ -93,17 +94,26 @@ in_scope n s c d l m ls ms h =
     )
 
 stays : {n s c x y : ℕ} (l : Level) (ls : List Level) {q : Place} → Later n s c x y q → StaysIn (at n s c l ls) q
-stays {n} {s} {c} l ls h = rw h.is (in_scope n s c h.now l h.inner ls h.outer h.no_earlier)
+stays {n} {s} {c} l ls h = rw h.is (in_scope n s c h.now l h.inner ls h.outer (omega (arith, h.no_earlier)))
 
 left : {n s c x y : ℕ} {q : Place} → Later n s c x y q → remaining q + x ≤ y
 left {x = x} {y = y} h = rw h.is h.fewer
 
 -- a move that takes something away
 abbrev GoesOn : Place → Place → Type 0
-GoesOn from to = StaysIn from to × (remaining to < remaining from)
+GoesOn from to = StaysIn from to × (remaining to < remaining from) × (order from to ≡ Some Less)
+
+less : (c d : ℕ) → c < d → nat_cmp c d ≡ Less
+less c d h = grind arith
+
+in_order_later : (n s c d : ℕ) (l m : Level) (ls ms : List Level) → c < d → order (at n s c l ls) (at n s d m ms) ≡ Some Less
+in_order_later n s c d l m ls ms h = ap (λ b. cond b (Some (nat_cmp c d)) None) (eqb-same n) ∙ ap Some (less c d h)
+
+ahead_of : {n s c y : ℕ} (l : Level) (ls : List Level) {q : Place} → Later n s c 1 y q → order (at n s c l ls) q ≡ Some Less
+ahead_of {n} {s} {c} l ls h = rw h.is (in_order_later n s c h.now l h.inner ls h.outer (omega (arith, h.no_earlier)))
 
 goes_on : {n s c : ℕ} (l : Level) (ls : List Level) {q : Place} → Later n s c 1 (remaining (at n s c l ls)) q → GoesOn (at n s c l ls) q
-goes_on l ls h = (stays l ls h, omega (arith, left h))
+goes_on l ls h = (stays l ls h, omega (arith, left h), ahead_of l ls h)
 
 -- a read from a place of a scope
 abbrev Onwards : (Place → Option (List Tree × Place)) → Type 0
@@ -125,7 +135,7 @@ take_onwards wanted n s c (level o p (tree t f)) ls ts q e = wanted_later t _ (w
 
 from_later : {n s c m : ℕ} (read : Place → Option (List Tree × Place)) → Onwards read → (p : Place) → Later n s c 0 m p → (ts : List Tree) (q : Place) → read p ≡ Some (ts, q) → Later n s c 1 m q
 from_later read on p h ts q e =
-    later (on _ _ h.now h.inner h.outer ts q (sym (ap read h.is) ∙ e)) h.no_earlier (omega (arith, h.fewer))
+    later (on _ _ h.now h.inner h.outer ts q (sym (ap read h.is) ∙ e)) (omega (arith, h.no_earlier)) (omega (arith, h.fewer))
 
 descended : (read : Place → Option (List Tree × Place)) → Onwards read → Onwards (λ p. read (descend p))
 descended read on n s c l ls ts q e = from_later read on _ (descend_later n s c l ls) ts q e
@@ -252,6 +262,33 @@ chains (at n s c x xs) (at j t d l ls) (at i u e m ms) h k =
     let Q : ℕ → Type 0 = λ z. StaysIn (at n s c x xs) (at i z e m ms) in
     subst Q (a.scopes ∙ b.scopes) (subst P (a.numbers ∙ b.numbers) (in_scope n s c e x m xs ms (omega (arith, a.counts, b.counts))))
 
+unordered : {A : Type 0} → None ≡ Some Less → A
+unordered h = cc
+
+compared : (same : Bool) (o : Ordering) → cond same (Some o) None ≡ Some Less → (same ≡ true) × (o ≡ Less)
+compared true o h = (refl, ap (λ x. unwrap_or x o) h)
+compared false o h = unordered h
+
+less_than : (c d : ℕ) → nat_cmp c d ≡ Less → c < d
+less_than c d h = by (nat_cmp c d) (ranks c d) h
+  where
+    by : (o : Ordering) → MatchOrdering o (c < d) (c ≡ d) (d < c) → o ≡ Less → c < d
+    by Less l h = l
+    by Equal e h = absurd (false≢true (ap is_lt h))
+    by Greater l h = absurd (false≢true (ap is_lt h))
+
+strictly : (p q r : Place) → StaysIn p q → order q r ≡ Some Less → order p r ≡ Some Less
+strictly p empty_place empty_place h k = absurd (false≢true (ap (λ x. is_some_and is_lt x) k))
+strictly p (at j t d l ls) empty_place h k = unordered k
+strictly p empty_place (at i u e m ms) h k = unordered k
+strictly empty_place (at j t d l ls) (at i u e m ms) h k = never_out j t d l ls h
+strictly (at n s c x xs) (at j t d l ls) (at i u e m ms) h k =
+    let a = along n s c j t d x l xs ls h in
+    let b = compared (j == i) (nat_cmp d e) k in
+    let f : d < e = less_than d e b.1 in
+    let P : ℕ → Type 0 = λ z. order (at n s c x xs) (at z u e m ms) ≡ Some Less in
+    subst P (a.numbers ∙ eqb-true j i b.0) (ap (λ y. cond y (Some (nat_cmp c e)) None) (eqb-same n) ∙ ap Some (less c e (omega (arith, a.counts, f))))
+
 -- a move that adds nothing
 abbrev Stays : Place → Place → Type 0
 Stays from to = StaysIn from to × (remaining to ≤ remaining from)
@@ -299,7 +336,7 @@ of_any d (Some x) e h = go (same_delimiter d x.delimiter) h where
 from_descent : (p : Place) (e : Entered) → GoesIn (descend p) e → GoesIn p e
 from_descent p e g =
     let d = descents p in
-    ((chains p (descend p) e.behind d.0 g.0.0, omega (arith, d.1, g.0.1)), omega (arith, d.1, g.1))
+    ((chains p (descend p) e.behind d.0 g.0.0, omega (arith, d.1, g.0.1), strictly p (descend p) e.behind d.0 g.0.2), omega (arith, d.1, g.1))
 
 visible_goes_in : (d : Delimiter) (p : Place) (e : Entered) → entered_of d (enter_any (descend p)) ≡ Some e → GoesIn p e
 visible_goes_in d p e h = from_descent p e (any_goes_in (descend p) e (of_any d (enter_any (descend p)) e h))
@@ -318,3 +355,23 @@ entries_go_on = record { groups = λ d. enters_on (enter d) (goes_in d); any_gro
 
 pub settle_remaining : (n s c : ℕ) (l : Level) (ls : List Level) → remaining (settle n s c l ls) ≤ remaining (at n s c l ls)
 settle_remaining n s c l ls = omega (arith, left (settle_later n s c l ls))
+
+-- what a read passes lies before
+read_later : (read : Place → Option (List Tree × Place)) → read empty_place ≡ None → Onwards read → (p : Place) (ts : List Tree) (q : Place) → read p ≡ Some (ts, q) → order p q ≡ Some Less
+read_later read none on p ts q e = (read_on read none on p ts q e).2
+
+pub reads_go_later : ReadsGoLater
+reads_go_later = record {
+  idents = read_later _ refl (descended (reads.take is_ident) (take_onwards is_ident));
+  literals = read_later _ refl (descended (reads.take is_literal) (take_onwards is_literal));
+  puncts = read_later _ refl (descended (reads.take is_punct) (take_onwards is_punct));
+  words = λ wanted. read_later (read_word wanted) refl (word_onwards wanted);
+  keywords = λ text. read_later (read_keyword text) (no_keyword text) (keyword_onwards text);
+  lifetimes = λ wanted. read_later (read_lifetime wanted) refl (lifetime_onwards wanted);
+  punctuations = λ text. read_later (read_punctuation text) (no_punctuation text) (punctuation_onwards text);
+  trees = read_later read_tree refl (take_onwards any_tree);
+  taken = λ wanted. read_later (reads.take wanted) refl (take_onwards wanted);
+  skips = λ p q e. (skips_on p q e).2;
+  groups = λ d p e h. (goes_in d p e h).0.2;
+  any_groups = λ p e h. (any_goes_in p e h).0.2;
+}

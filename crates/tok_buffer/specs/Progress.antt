@@ -1,6 +1,7 @@
 -- What moves of a cursor keep, and a measure that they lower.
 use Rattle.std.specs.Prelude.{◌≡◌, ◌⊎◌, ℕ, ◌+◌, ◌<◌, ◌≤◌, true, false, IsTrue, Bool, List, [], ◌∷◌, Option, Some}
 use Rattle.std.specs.Ordering.{partial_le}
+use Rattle.std.specs.declared.cmp.Ordering.TheVariants.{Less}
 use Rattle.tok_core.specs.declared.group.Delimiter.{Delimiter}
 use Rattle.tok_core.specs.Forest.{Tree}
 use Rattle.tok_core.specs.Weight.{weight}
@@ -45,7 +46,7 @@ pub record SkipsGoOn : Type 0 where
   pub stays : (p q : Place) → skip p ≡ Some q → StaysIn p q
   pub lowers : (p q : Place) → skip p ≡ Some q → remaining q < remaining p
 
--- of the place behind a group that is entered, and of its content, in which less remains, too
+-- the same of the place after a group that is entered; and less remains in its content, too
 pub record EntersOn (entry : Place → Option Entered) : Type 0 where
   pub stays : (p : Place) (e : Entered) → entry p ≡ Some e → StaysIn p e.behind
   pub lowers : (p : Place) (e : Entered) → entry p ≡ Some e → remaining e.behind < remaining p
@@ -54,6 +55,24 @@ pub record EntersOn (entry : Place → Option Entered) : Type 0 where
 pub record EntriesGoOn : Type 0 where
   pub groups : (d : Delimiter) → EntersOn (enter d)
   pub any_groups : EntersOn enter_any
+
+-- the places after them are later
+abbrev pub Later : (Place → Option (List Tree × Place)) → Type 0
+Later read = (p : Place) (ts : List Tree) (q : Place) → read p ≡ Some (ts, q) → order p q ≡ Some Less
+
+pub record ReadsGoLater : Type 0 where
+  pub idents : Later read_ident
+  pub literals : Later read_literal
+  pub puncts : Later read_punct
+  pub words : (wanted : List ℕ → Bool) → Later (read_word wanted)
+  pub keywords : (text : List ℕ) → Later (read_keyword text)
+  pub lifetimes : (wanted : List ℕ → Bool) → Later (read_lifetime wanted)
+  pub punctuations : (text : List ℕ) → Later (read_punctuation text)
+  pub trees : Later read_tree
+  pub taken : (wanted : Tree → Bool) → Later (take wanted)
+  pub skips : (p q : Place) → skip p ≡ Some q → order p q ≡ Some Less
+  pub groups : (d : Delimiter) (p : Place) (e : Entered) → enter d p ≡ Some e → order p e.behind ≡ Some Less
+  pub any_groups : (p : Place) (e : Entered) → enter_any p ≡ Some e → order p e.behind ≡ Some Less
 
 -- a move that stays in the scope, and adds nothing
 pub record MovesOn (move : Place → Place) : Type 0 where

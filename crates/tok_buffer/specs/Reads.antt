@@ -96,7 +96,7 @@ read_punctuation (c ∷ (d ∷ cs)) p = and_then (take (is_joint_of c) (descend 
 abbrev pub sized : ℕ → List ℕ → List ℕ
 sized n cs = cond (length cs == n) cs []
 
--- the spans of what is read, and the place behind it
+-- the spans of what is read, and the place after it
 abbrev pub read_spans : Option (List Tree × Place) → Option (List Span × Place)
 read_spans = option_map (λ r. (map tree_span r.0, r.1))
 

@@ -9,7 +9,7 @@ ghost use Rattle.tok_buffer.specs.Descent.{DescentsEnter};
 ghost use Rattle.tok_buffer.specs.Lifetimes.{name_of};
 ghost use Rattle.tok_buffer.specs.Order.{equal, order};
 ghost use Rattle.tok_buffer.specs.Place.{Place, start};
-ghost use Rattle.tok_buffer.specs.Progress.{EntriesGoOn, MovesStay, ReadsGoOn, SkipsGoOn, StaysAlong};
+ghost use Rattle.tok_buffer.specs.Progress.{EntriesGoOn, MovesStay, ReadsGoLater, ReadsGoOn, SkipsGoOn, StaysAlong};
 ghost use Rattle.tok_buffer.specs.Rest.{rest};
 
 use crate::buffer::TokenBuffer;
@@ -51,7 +51,7 @@ pub fn lifetimes_in_order(left: &Lifetime, right: &Lifetime) -> (bool, Ordering)
     (left == right, left.cmp(right))
 }
 
-/// Each read stays in the buffer and the scope of its cursor and goes on, and lowers what remains, so a loop of reads ends.
+/// Each read stays in the buffer and the scope of its cursor and lowers what remains, so a loop of reads ends.
 pub fn reads_go_on()
     ensures { ReadsGoOn }
 {}
@@ -64,6 +64,11 @@ pub fn skips_go_on()
 /// So does the entry of a group, visible or not, for the place after it; and less remains in its content than before it.
 pub fn entries_go_on()
     ensures { EntriesGoOn }
+{}
+
+/// The place after a read, a skip or the entry of a group is later.
+pub fn reads_go_later()
+    ensures { ReadsGoLater }
 {}
 
 /// A descent and a pass stay in the scope, and add nothing to what remains.
