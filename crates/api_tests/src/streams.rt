@@ -1,5 +1,5 @@
 // Parse streams: refusals with their spans, groups, lookahead, and parsers that go where none would.
-mod callers;
+mod examples;
 mod groups;
 mod hostile;
 

@@ -191,11 +191,11 @@ spend_none k old xs us linked e h =
           let t : j < length old = omega (arith, there_within st j x s, length-state old) in
           let out : (j == k) ≡ false = ne_eqb j k ne in
           let reached : is_inside st k j ≡ true → (h.each j).was ≡ true = λ q.
-              let (c, content, d) = content_around (j + 1) old k j linked (omega arith) t q in
-              elim (cases_lt c h.from) [
-                | inl below ↦ (h.each j).passed c below content d
-                | inr past ↦ absurd (h.first.none refl c past (content_within (links_of old) k c content) content)
-              ] in
+          let (c, content, d) = content_around (j + 1) old k j linked (omega arith) t q in
+          elim (cases_lt c h.from) [
+            | inl below ↦ (h.each j).passed c below content d
+            | inr past ↦ absurd (h.first.none refl c past (content_within (links_of old) k c content) content)
+          ] in
           ap (λ z. spent_when z (Some x)) (settled (h.each j).was (is_inside st k j) ((h.each j).inside t) reached ∙ ap (λ z. z || is_inside st k j) (sym out))
 
       at : (j : ℕ) → stream_at (changed (state_of_list xs) k spent) j ≡ spent_when (discards (state_of_list old) k j) (stream_at (state_of_list old) j)
