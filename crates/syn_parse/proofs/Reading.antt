@@ -1,4 +1,4 @@
--- How a read, a refusal and want of memory meet the definitions of one-step parsers.
+-- How a read, a refusal and an allocation failure meet the definitions of one-step parsers.
 use Rattle.std.proofs.Common.{◌≡◌, refl, List, Option, Some, None, Ok, Err}
 use Rattle.std.proofs.lemmas.Result.{err_from_is_err_and}
 use Rattle.std.specs.Prelude.{Result}

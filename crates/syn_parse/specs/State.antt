@@ -1,4 +1,4 @@
--- A stream: where it stands, the span of its scope, and the leftover that it has noted.
+-- A stream: its place, the span of its scope, and the leftover that it has noted.
 use Rattle.std.specs.Prelude.{Option, None, refl}
 use Rattle.std.specs.Coded.{Coded, code_by, coded×, coded_option}
 use Rattle.std.specs.Option.{option_or}

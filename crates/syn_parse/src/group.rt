@@ -144,7 +144,7 @@ impl<'a> ParseBuffer<'a> {
 }
 
 /// Enters parentheses: gives their token, and puts the stream of what is inside into a variable that was declared before.
-/// It stands in functions that return a `Result`, since it uses `?`.
+/// For functions that return a `Result`, since it uses `?`.
 ///
 ///     let mut content;
 ///     let paren = parenthesized!(content in input);

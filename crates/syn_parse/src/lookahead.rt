@@ -68,7 +68,7 @@ impl<'a> Lookahead1<'a> {
 
     /// Notes this display if the token wasn't found, and returns `found`: what `peek` does after its own look.
     pub fn peek_as(&mut self, found: bool, display: &'static str) -> Result<bool, AllocError>
-        ensures ok { IfOk result (λ answer. (answer ≡ found) × (self.new ≡ noted_as found display.now self.old)) }
+        ensures ok { IfOk result (λ is_found. (is_found ≡ found) × (self.new ≡ noted_as found display.now self.old)) }
         ensures err { OnErr result ((found ≡ false) × (self.new ≡ self.old)) }
     {
         if !found {

@@ -66,16 +66,16 @@ where
     fn parse_scoped(self, alloc: Global, scope: Span, tokens: TokenStream) -> Result<T> {
         let buffer = TokenBuffer::new2(alloc, 0, tokens)?;
         let mut input = tokens_to_parse_buffer(alloc, &buffer, scope);
-        let answer = self(&mut input);
-        settle(answer, input)
+        let parsed = self(&mut input);
+        settle(parsed, input)
     }
 }
 
 // The parser's refusal, or else that of a leftover, or else the value.
-fn settle<T: Drop>(answer: Result<T>, input: ParseBuffer<'_>) -> Result<T>
-    ensures { Finishes answer input.entry result }
+fn settle<T: Drop>(parsed: Result<T>, input: ParseBuffer<'_>) -> Result<T>
+    ensures { Finishes parsed input.entry result }
 {
-    match answer {
+    match parsed {
         Ok(value) => {
             input.finish()?;
             Ok(value)

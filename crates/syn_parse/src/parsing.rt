@@ -46,7 +46,7 @@ pub fn punct<const N: usize>(input: ParseStream<'_, '_>, text: &str) -> Result<[
     }
 }
 
-/// Whether the puncts in front are the characters of this text, each but the last joint.
+/// Whether the next puncts are the characters of this text, each but the last joint.
 pub fn peek_punct(cursor: Cursor<'_>, text: &str) -> bool
     ensures { result ≡ is_some (read_punctuation (chars text.now) (place_of cursor.entry)) }
 {

@@ -55,8 +55,8 @@ impl<'a> ParseBuffer<'a> {
         requires callable { (from : StepCursor) → step_state from ≡ forked self.old → F.pre f from }
         requires stays { (from : StepCursor) (value : R) (rest : Cursor) → step_state from ≡ forked self.old
             → F.post f from (Ok (value, rest)) → StaysIn self.old.place (place_of rest) }
-        ensures { (from : StepCursor) × (answer : _) × (step_state from ≡ forked self.old)
-            × F.post f from answer × StepsTo self.old answer result self.new }
+        ensures { (from : StepCursor) × (returned : _) × (step_state from ≡ forked self.old)
+            × F.post f from returned × StepsTo self.old returned result self.new }
     {
         let from = StepCursor {
             alloc: self.allocator(),

@@ -20,16 +20,16 @@ fn name(input: ParseStream<'_, '_>) -> Result<Ident> {
     input.parse()
 }
 
-fn named(answer: Result<Ident>, call: &'static str) -> Outcome {
-    match answer {
+fn named(returned: Result<Ident>, call: &'static str) -> Outcome {
+    match returned {
         Ok(name) => expect(name.as_str() == "a", call),
         Err(Fault::Memory(_)) => Err(Stop::Refused),
         Err(Fault::Refused(_)) => Err(Stop::Wrong(call)),
     }
 }
 
-fn refused(answer: Result<Ident>, words: &str, call: &'static str) -> Outcome {
-    match answer {
+fn refused(returned: Result<Ident>, words: &str, call: &'static str) -> Outcome {
+    match returned {
         Ok(_) => Err(Stop::Wrong(call)),
         Err(Fault::Memory(_)) => Err(Stop::Refused),
         Err(Fault::Refused(error)) => expect(shows(&error, words), call),
