@@ -1,7 +1,11 @@
 //! Laws of streams. The functions do nothing: each one's contract is a law.
+ghost use Rattle.syn_parse.specs.Laws.{BracesParse, BracketsParse, ForksFollow, ParensParse, PeekTells};
 ghost use Rattle.syn_parse.specs.Progress.{ParsesGoOn};
 
+use crate::parse::Parse;
 use tok_buffer::laws::reads_go_on;
+use tok_core::{Ident, Literal, Punct, TokenTree};
+use tok_types::token::{Brace, Bracket, Keyword, Paren, Punctuation, Token, Underscore};
 
 /// Each parse of an identifier, lifetime, literal, punct, tree, group, keyword, punctuation or `_` that returns a value
 /// stays in the scope of its stream, and lowers what remains there. So a loop of parses ends.
@@ -10,3 +14,31 @@ pub fn parses_go_on()
 {
     reads_go_on();
 }
+
+/// A peek of an identifier, literal, punct, tree or `_` is true exactly where a parse of it returns a value, memory aside.
+pub fn peeks_tell_parses()
+    ensures idents { PeekTells ⟦<Ident as Token>⟧.peeks ⟦<Ident as Parse>⟧.parses }
+    ensures literals { PeekTells ⟦<Literal as Token>⟧.peeks ⟦<Literal as Parse>⟧.parses }
+    ensures puncts { PeekTells ⟦<Punct as Token>⟧.peeks ⟦<Punct as Parse>⟧.parses }
+    ensures trees { PeekTells ⟦<TokenTree as Token>⟧.peeks ⟦<TokenTree as Parse>⟧.parses }
+    ensures underscores { PeekTells ⟦<Underscore as Token>⟧.peeks ⟦<Underscore as Parse>⟧.parses }
+{}
+
+/// The same of keywords and punctuations, also of those past their tables.
+pub fn peeks_tell_tokens<const K: usize, const N: usize>()
+    ensures keywords { PeekTells ⟦<Keyword<K> as Token>⟧.peeks ⟦<Keyword<K> as Parse>⟧.parses }
+    ensures punctuations { PeekTells ⟦<Punctuation<K, N> as Token>⟧.peeks ⟦<Punctuation<K, N> as Parse>⟧.parses }
+{}
+
+/// A peek of parentheses, braces or brackets is true exactly where `parse_parens` and its like enter a group, memory aside.
+pub fn peeks_tell_groups()
+    ensures parens { PeekTells ⟦<Paren as Token>⟧.peeks ParensParse }
+    ensures braces { PeekTells ⟦<Brace as Token>⟧.peeks BracesParse }
+    ensures brackets { PeekTells ⟦<Bracket as Token>⟧.peeks BracketsParse }
+{}
+
+/// What is done on a fork, and then taken over by `advance_to`, is what the stream would have done itself: each move and
+/// each content closed, one after the other.
+pub fn forks_follow()
+    ensures { ForksFollow }
+{}

@@ -1,0 +1,51 @@
+-- What holds of all streams: peeks tell what a parse does, and a fork may run in its stream's place.
+use Rattle.std.specs.Prelude.{◌≡◌, Bool, true, false, Result, Ok, Err}
+use Rattle.tok_core.specs.declared.group.Delimiter.TheVariants as delimiter
+use Rattle.tok_buffer.specs.Entry.{enter}
+use Rattle.tok_buffer.specs.Place.{Place}
+use Rattle.syn_parse.specs.Groups.{AreParts, Enters}
+use Rattle.syn_parse.specs.Reads.{Call}
+use Rattle.syn_parse.specs.State.{State, advanced, closed, forked, moved}
+use Rattle.syn_parse.specs.Words.{delimiter_words, refused_at}
+use Rattle.syn_parse.specs.declared.fault.Fault.{Fault}
+use Rattle.syn_parse.specs.declared.fault.Fault.TheVariants.{Refused, Memory}
+use Rattle.syn_parse.specs.declared.group.Braces.{Braces}
+use Rattle.syn_parse.specs.declared.group.Brackets.{Brackets}
+use Rattle.syn_parse.specs.declared.group.Parens.{Parens}
+
+-- a value where the peek was true, a refusal where it was false; memory aside
+abbrev pub Tells : {T : Type 0} → Bool → Result T Fault → Type 0
+Tells found (Ok v) = found ≡ true
+Tells found (Err (Refused e)) = found ≡ false
+Tells found (Err (Memory e)) = Unit {0}
+
+-- the peek is true exactly where the call returns a value
+abbrev pub PeekTells : {T : Type 0} → (Place → Bool → Type 0) → Call T → Type 0
+PeekTells {T} peeks calls =
+    (s : State) (found : Bool) (r : Result T Fault) (t : State) →
+    peeks s.place found → calls s r t → Tells found r
+
+-- how each reader of groups enters
+abbrev pub ParensParse : Call Parens
+ParensParse s =
+    let words = refused_at s (delimiter_words delimiter.Parenthesis) in
+    Enters (λ p. AreParts p.token.span p.content) (enter delimiter.Parenthesis s.place) words s
+
+abbrev pub BracesParse : Call Braces
+BracesParse s =
+    let words = refused_at s (delimiter_words delimiter.Brace) in
+    Enters (λ p. AreParts p.token.span p.content) (enter delimiter.Brace s.place) words s
+
+abbrev pub BracketsParse : Call Brackets
+BracketsParse s =
+    let words = refused_at s (delimiter_words delimiter.Bracket) in
+    Enters (λ p. AreParts p.token.span p.content) (enter delimiter.Bracket s.place) words s
+
+-- A fork may run in its stream's place: to go where the fork went, after it has moved or closed a
+-- content, is to do the same on the stream that goes there; and a new fork is where its stream is.
+pub record ForksFollow : Type 0 where
+  pub new : (s : State) → advanced (forked s) s ≡ s
+  pub moving : (p : Place) (fork s : State) →
+      advanced (moved p fork) s ≡ moved p (advanced fork s)
+  pub closing : (content fork s : State) →
+      advanced (closed content fork) s ≡ closed content (advanced fork s)
