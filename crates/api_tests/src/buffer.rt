@@ -190,6 +190,7 @@ fn peeks_at_words(rt: HostRuntime) -> Result<(), Fail> {
         &[
             begin.peek_keyword("fn"),
             !begin.peek_keyword("f"),
+            !begin.peek_keyword(""),
             !sum.peek_keyword("+"),
             !Cursor::empty().peek_keyword("fn"),
         ],
@@ -214,6 +215,24 @@ fn peeks_at_puncts(rt: HostRuntime) -> Result<(), Fail> {
             !mark.peek_punct("'"),
             mark.punct().is_none(),
             !Cursor::empty().peek_punct("+"),
+        ],
+    );
+    Ok(())
+}
+
+#[test]
+fn reads_puncts_with_their_spans(rt: HostRuntime) -> Result<(), Fail> {
+    let buffer = laid(rt.alloc(), 0, "+«=» +")?;
+    let mut spans = [Span::call_site(); 2];
+    let rest = buffer.begin().puncts("+=", &mut spans).ok_or("no puncts")?;
+    all_hold(
+        &rt,
+        &[
+            spans[0] == at(0, 1),
+            spans[1] == at(1, 2),
+            rest.position() == Some(4),
+            rest.puncts("+=", &mut spans).is_none(),
+            rest.puncts("+", &mut spans).is_none(),
         ],
     );
     Ok(())

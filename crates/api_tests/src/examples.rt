@@ -1,5 +1,6 @@
 // The callers of the crate `callers`, each run once.
 use callers::buffer::{any_lifetime, pair_of_idents};
+use callers::loops::{past_idents, past_sign};
 use callers::punctuated::{put_seven, raise_first, raise_last, total, two_three_four, written};
 use callers::tokens::{Sealed, either, is_restricted, write_restricted};
 use callers::trees::{by_hand, printed};
@@ -86,5 +87,17 @@ fn writes_into_a_list(rt: HostRuntime) -> Result<(), Fail> {
     assert!(rt; raise_last(&mut list));
     assert_eq!(rt; list.last().copied(), Some(8));
     assert!(rt; !raise_last(&mut Punctuated::new(alloc)));
+    Ok(())
+}
+
+#[test]
+fn loops_end(rt: HostRuntime) -> Result<(), Fail> {
+    let alloc = rt.alloc();
+    let buffer = TokenBuffer::new2(alloc, 0, lex_marked(alloc, 0, "a «b» c (@) @ d")?)?;
+    let rest = past_idents(buffer.begin());
+    assert!(rt; rest.position() == Some(5));
+    let found = past_sign(alloc, rest)?.ok_or("no sign")?;
+    assert!(rt; found.position() == Some(9));
+    assert!(rt; past_sign(alloc, found)?.is_none());
     Ok(())
 }

@@ -60,24 +60,3 @@ fn is_sign(tree: TokenTree) -> bool
         _ => false,
     }
 }
-
-#[cfg(test)]
-mod tests {
-    use super::*;
-    use std::test::Fail;
-    use tok_buffer::TokenBuffer;
-    use tok_core::lex_marked;
-
-    #[test]
-    fn ends(rt: HostRuntime) -> Result<(), Fail> {
-        let alloc = rt.alloc();
-        let buffer = TokenBuffer::new2(alloc, 0, lex_marked(alloc, 0, "a «b» c (@) @ d")?)?;
-        let begin = buffer.begin();
-        let rest = past_idents(begin);
-        assert!(rt; rest.position() == Some(5));
-        let found = past_sign(alloc, rest)?.ok_or("no sign")?;
-        assert!(rt; found.position() == Some(9));
-        assert!(rt; past_sign(alloc, found)?.is_none());
-        Ok(())
-    }
-}
