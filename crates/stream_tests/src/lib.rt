@@ -1,0 +1,11 @@
+//! Tests of the public calls of parse streams and of `replay`, of the program, and of the callers: as in `api_tests`.
+#![tactic(auto)]
+
+#[cfg(test)]
+mod examples;
+#[cfg(test)]
+mod program;
+#[cfg(test)]
+mod session;
+#[cfg(test)]
+mod streams;
