@@ -66,7 +66,7 @@ impl<'a> Streams<'a> {
         self.list[n].paused = paused;
     }
 
-    // Stream `n` stands behind a group, whose content is the next stream. A refused request changes nothing.
+    // Stream `n` is then after a group, whose content is the next stream. If an allocation fails, nothing changes.
     pub fn enter(
         &mut self,
         n: usize,

@@ -1,4 +1,4 @@
-// Rows of commands: a text, its commands, and the lines of the report, each list parted by `|`.
+// Rows of commands: a text, its commands, and the lines of the report, each list separated by `|`.
 use super::wants;
 use std::alloc::AllocGlobal;
 use std::process::Abort;
