@@ -1,4 +1,5 @@
--- What holds of all streams: peeks tell what a parse does, and a fork may run in its stream's place.
+-- What holds of all streams: peeks tell what a parse does, and a fork may run in its stream's
+-- place.
 use Rattle.std.specs.Prelude.{◌≡◌, Bool, true, false, Result, Ok, Err}
 use Rattle.tok_core.specs.declared.group.Delimiter.TheVariants as delimiter
 use Rattle.tok_buffer.specs.Entry.{enter}

@@ -1,6 +1,9 @@
 //! Laws of streams. The functions do nothing: each one's contract is a law.
 ghost use Rattle.syn_parse.specs.Laws.{BracesParse, BracketsParse, ForksFollow, ParensParse, PeekTells};
 ghost use Rattle.syn_parse.specs.Progress.{ParsesGoOn};
+ghost use Rattle.syn_parse.specs.Reads.{Peeks2, Peeks3};
+ghost use Rattle.syn_parse.specs.Views.{ViewsDecideLookaheads, ViewsDecideWords};
+ghost use Rattle.tok_types.specs.Views.{IgnoresInvisible};
 
 use crate::parse::Parse;
 use tok_buffer::laws::reads_go_on;
@@ -41,4 +44,17 @@ pub fn peeks_tell_groups()
 /// each content closed, one after the other.
 pub fn forks_follow()
     ensures { ForksFollow }
+{}
+
+/// Invisible groups do not matter to the words of refusals: at places of filled forests with equal views they are the same.
+/// So are those of lookaheads that have noted the same displays.
+pub fn views_decide_words()
+    ensures streams { ViewsDecideWords }
+    ensures lookaheads { ViewsDecideLookaheads }
+{}
+
+/// Invisible groups do not matter to `peek2` and `peek3` of a token where they do not matter to its `peek`.
+pub fn peeks_past_ignore_invisible<T: Token>()
+    ensures second { IgnoresInvisible T.peeks → IgnoresInvisible (Peeks2 T.peeks) }
+    ensures third { IgnoresInvisible T.peeks → IgnoresInvisible (Peeks3 T.peeks) }
 {}

@@ -1,4 +1,4 @@
--- Trees that are put behind others.
+-- Trees that are put after others.
 use Rattle.std.proofs.Common.{◌≡◌, ◌∙◌, ap}
 use Rattle.tok_core.specs.Forest.{Tree, Forest, no_trees, tree, joined}
 use Rattle.tok_core.proofs.Facts.{joined_assoc}

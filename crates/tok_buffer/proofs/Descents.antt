@@ -22,7 +22,7 @@ or-unwrap : (a b : Option Place) (p : Place) → unwrap_or (option_or a b) p ≡
 or-unwrap None b p = refl
 or-unwrap (Some a) b p = refl
 
--- what is behind the trees ahead
+-- what follows the trees ahead
 abbrev behind : (k s n : ℕ) → Owner → (passed ahead : Forest) → List Level → Place
 behind k s n o p f [] = at k s (n + weight f) (level o (turned_onto f p) no_trees) []
 behind k s n o p f (l ∷ ls) = descend_from k s (n + weight f + 1) (absorb o (turned_onto f p) l) ls

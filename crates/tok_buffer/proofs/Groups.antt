@@ -1,4 +1,4 @@
--- A group in front: its content, and the place behind.
+-- A group in front: its content, and the place after.
 use Rattle.std.proofs.Common.{◌≡◌, ℕ, ◌+◌, ◌≤◌, true, eqb, [], ◌∷◌, Option, Some, ap, sym, ◌∙◌, subst, arith, eq-eqb}
 use Rattle.std.proofs.lemmas.Bool.{or_left, cond-true}
 use Rattle.tok_core.specs.declared.span.Span.{Span}

@@ -19,3 +19,4 @@ pub mod Rests
 pub mod Scans
 pub mod Spanned
 pub mod Stacks
+pub mod View

@@ -14,9 +14,9 @@ use Rattle.tok_core.specs.Forest.{leaf, group, Tree, Forest, no_trees, tree, tur
 use Rattle.tok_core.specs.Weight.{tree_weight, weight}
 use Rattle.tok_buffer.specs.Descent.{descend, descend_from, into_front}
 use Rattle.tok_buffer.specs.Entry.{Entered, enter, enter_any, entered_of, same_delimiter}
-use Rattle.tok_buffer.specs.Order.{order}
+use Rattle.tok_buffer.specs.Order.{order, same_scope}
 use Rattle.tok_buffer.specs.Place.{Owner, whole, group_of, Level, level, Place, empty_place, at, absorb, pass, settle}
-use Rattle.tok_buffer.specs.Progress.{ReadsGoLater, StaysIn, remaining, remaining_around, ReadsOn, ReadsGoOn, SkipsGoOn, EntersOn, EntriesGoOn, MovesStay, StaysAlong}
+use Rattle.tok_buffer.specs.Progress.{ReadsGoLater, ReadsKeepScope, StaysIn, remaining, remaining_around, ReadsOn, ReadsGoOn, SkipsGoOn, EntersOn, EntriesGoOn, MovesStay, StaysAlong}
 use Rattle.tok_buffer.specs.Reads.{and_then, any_text, any_tree, behind, is_ident, is_ident_of, is_joint_of, is_literal, is_punct, is_punct_of, read_keyword, read_lifetime, read_punctuation, read_tree, read_word, skip}
 use Rattle.tok_buffer.specs.Reads as reads
 
@@ -374,4 +374,48 @@ reads_go_later = record {
   skips = λ p q e. (skips_on p q e).2;
   groups = λ d p e h. (goes_in d p e h).0.2;
   any_groups = λ p e h. (any_goes_in p e h).0.2;
+}
+
+-- what stays in the scope and is later is not the empty place
+scoped : (p q : Place) → StaysIn p q → order p q ≡ Some Less → same_scope p q ≡ true
+scoped p q (inl h) k = h.0
+scoped empty_place empty_place (inr h) k = refl
+scoped (at n s c l ls) empty_place (inr h) k = unordered k
+scoped empty_place (at m t d x xs) (inr h) k = unordered k
+scoped (at n s c l ls) (at m t d x xs) (inr h) k = cc
+
+kept : (p q : Place) → GoesOn p q → same_scope p q ≡ true
+kept p q g = scoped p q g.0 g.2
+
+read_kept :
+    (read : Place → Option (List Tree × Place)) → read empty_place ≡ None → Onwards read →
+    (p : Place) (ts : List Tree) (q : Place) → read p ≡ Some (ts, q) → same_scope p q ≡ true
+read_kept read none on p ts q e = kept p q (read_on read none on p ts q e)
+
+kept_along :
+    (p q r : Place) → same_scope p q ≡ true → same_scope q r ≡ true → same_scope p r ≡ true
+kept_along empty_place empty_place r h k = k
+kept_along empty_place (at j t d l ls) r h k = absurd (false≢true h)
+kept_along (at n s c x xs) empty_place r h k = absurd (false≢true h)
+kept_along p (at j t d l ls) empty_place h k = absurd (false≢true k)
+kept_along (at n s c x xs) (at j t d l ls) (at i u e m ms) h k =
+    let a = and_parts (n == j) (s == t) h in
+    rw (eqb-true n j a.0) (rw (eqb-true s t a.1) k)
+
+pub reads_keep_scope : ReadsKeepScope
+reads_keep_scope = record {
+  idents = read_kept _ refl (descended (reads.take is_ident) (take_onwards is_ident));
+  literals = read_kept _ refl (descended (reads.take is_literal) (take_onwards is_literal));
+  puncts = read_kept _ refl (descended (reads.take is_punct) (take_onwards is_punct));
+  words = λ wanted. read_kept (read_word wanted) refl (word_onwards wanted);
+  keywords = λ text. read_kept (read_keyword text) (no_keyword text) (keyword_onwards text);
+  lifetimes = λ wanted. read_kept (read_lifetime wanted) refl (lifetime_onwards wanted);
+  punctuations =
+      λ text. read_kept (read_punctuation text) (no_punctuation text) (punctuation_onwards text);
+  trees = read_kept read_tree refl (take_onwards any_tree);
+  taken = λ wanted. read_kept (reads.take wanted) refl (take_onwards wanted);
+  skips = λ p q e. kept p q (skips_on p q e);
+  groups = λ d p e h. kept p e.behind (goes_in d p e h).0;
+  any_groups = λ p e h. kept p e.behind (any_goes_in p e h).0;
+  along = kept_along;
 }

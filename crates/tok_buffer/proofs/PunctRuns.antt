@@ -10,7 +10,7 @@ use Rattle.tok_buffer.specs.Reads.{and_then, read_next, read_punctuation}
 abbrev Read : Type 0
 Read = Option (List Tree × Place)
 
--- a read behind some trees
+-- a read after some trees
 abbrev after : List Tree → Read → Read
 after done x = elim x [ Some r ↦ Some (done ++ r.0, r.1) | None ↦ None ]
 

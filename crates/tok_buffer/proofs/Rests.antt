@@ -73,7 +73,7 @@ rest_done F n s h e =
     let P : ℕ → Type 0 = λ m. In n m x → joined (level_ahead x.0) (rest_in (up_to (end_of n x.0) m x.1)) ≡ no_trees in
     rest_is 0 s n x.0 (up_to (end_of n x.0) s x.1) ∙ subst P e (end_rest n x.0 x.1) h
 
--- a group: its content, then what is behind it
+-- a group: its content, then what follows it
 pub rest_group : (F : Forest) (n s : ℕ) (g : Sort) (k : ℕ) → in_scope F n s ≡ true → entry_here (levels_at F n).0 ≡ Group g k → rest_at F n s ≡ tree (group g.delimiter (rest_at F (n + 1) (n + k)) g.span) (rest_at F (n + k + 1) s)
 rest_group F n s g k h e =
     let w = group_front (levels_at F n).0 g k e in

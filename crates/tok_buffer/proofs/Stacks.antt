@@ -14,7 +14,7 @@ use Rattle.tok_buffer.specs.declared.entry.Entry.TheVariants.{Group, End}
 use Rattle.tok_buffer.specs.Layout.{leaf_entry, layout, entries_of, forest_in, opening, entry_here}
 use Rattle.tok_buffer.proofs.Layouts.{layout-turned, length-layout}
 
--- what lies before and behind a level's content c
+-- what lies before and after a level's content c
 abbrev pub outside : Owner → Forest → List Level → List Entry × List Entry
 outside whole c us = ([], End 0 ∷ [])
 outside (group_of d s) c [] = ([], End (weight c + 1) ∷ [])

@@ -30,7 +30,8 @@ pub record Leftover : Type 0 where
 
 abbrev pub first_left : Delimiter → List (Bool × Tree) → Option Leftover
 first_left scope [] = None
-first_left scope (t ∷ ts) = Some (record { span = tree_span t.1; delimiter = cond t.0 delimiter.None scope })
+first_left scope (t ∷ ts) =
+    Some (record { span = tree_span t.1; delimiter = cond t.0 delimiter.None scope })
 
 abbrev pub leftover : Place → Option Leftover
 leftover p = first_left (scope_delimiter p) (ahead p)

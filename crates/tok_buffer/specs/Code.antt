@@ -2,7 +2,8 @@
 use Rattle.std.specs.Prelude.{◌≡◌, ℕ, List, Option, Some, None, refl}
 use Rattle.std.proofs.Common.{ap, ◌∙◌}
 use Rattle.std.specs.Coded.{Coded, code_by, coded×, coded_ℕ, coded_list, coded_option}
-use Rattle.tok_core.specs.Code.{SpanCode, span_code, span_of, span-back, coded_span, delimiter_code, delimiter_of, delimiter-back, forest_code}
+use Rattle.tok_core.specs.Code.{SpanCode, span_code, span_of, span-back, coded_span, delimiter_code}
+use Rattle.tok_core.specs.Code.{delimiter_of, delimiter-back, forest_code}
 use Rattle.tok_core.specs.Forest.{Forest}
 use Rattle.tok_core.specs.declared.span.Span.{Span}
 use Rattle.tok_buffer.specs.Ahead.{Leftover}
@@ -24,10 +25,13 @@ owner_of (Some c) = group_of (delimiter_of c.0) (span_of c.1)
 
 pub owner-back : (o : Owner) → owner_of (owner_code o) ≡ o
 owner-back whole = refl
-owner-back (group_of d span) = ap (λ e. group_of e (span_of (span_code span))) (delimiter-back d) ∙ ap (group_of d) (span-back span)
+owner-back (group_of d span) =
+    ap (λ e. group_of e (span_of (span_code span))) (delimiter-back d)
+    ∙ ap (group_of d) (span-back span)
 
 abbrev pub coded_owner : Coded Owner
-coded_owner = code_by OwnerCode (coded_option (coded× coded_ℕ coded_span)) owner_code owner_of owner-back
+coded_owner =
+    code_by OwnerCode (coded_option (coded× coded_ℕ coded_span)) owner_code owner_of owner-back
 
 abbrev pub LevelCode : Type 0
 LevelCode = Owner × (Forest × Forest)
@@ -42,7 +46,9 @@ pub level-back : (l : Level) → level_of (level_code l) ≡ l
 level-back (level o p a) = refl
 
 abbrev pub coded_level : Coded Level
-coded_level = code_by LevelCode (coded× coded_owner (coded× forest_code forest_code)) level_code level_of level-back
+coded_level =
+    code_by LevelCode
+    (coded× coded_owner (coded× forest_code forest_code)) level_code level_of level-back
 
 abbrev pub PlaceCode : Type 0
 PlaceCode = Option (ℕ × (ℕ × (ℕ × (Level × List Level))))
@@ -62,7 +68,10 @@ place-back (at number scope count l ls) = refl
 abbrev pub coded_place : Coded Place
 coded_place =
     let levels = coded× coded_level (coded_list coded_level) in
-    code_by PlaceCode (coded_option (coded× coded_ℕ (coded× coded_ℕ (coded× coded_ℕ levels)))) place_code place_from place-back
+    code_by PlaceCode
+    (coded_option
+    (coded× coded_ℕ
+    (coded× coded_ℕ (coded× coded_ℕ levels)))) place_code place_from place-back
 
 abbrev pub LeftoverCode : Type 0
 LeftoverCode = SpanCode × ℕ
@@ -75,8 +84,10 @@ leftover_from c = record { span = span_of c.0; delimiter = delimiter_of c.1 }
 
 pub leftover-back : (l : Leftover) → leftover_from (leftover_code l) ≡ l
 leftover-back l =
-    ap (λ s. record { span = s; delimiter = delimiter_of (delimiter_code l.delimiter) }) (span-back l.span)
+    ap (λ s. record { span = s; delimiter = delimiter_of (delimiter_code l.delimiter) })
+    (span-back l.span)
     ∙ ap (λ d. record { span = l.span; delimiter = d }) (delimiter-back l.delimiter)
 
 abbrev pub coded_leftover : Coded Leftover
-coded_leftover = code_by LeftoverCode (coded× coded_span coded_ℕ) leftover_code leftover_from leftover-back
+coded_leftover =
+    code_by LeftoverCode (coded× coded_span coded_ℕ) leftover_code leftover_from leftover-back

@@ -1,10 +1,12 @@
--- The tokens of an error that hand its messages to the compiler: for each message `::core::compile_error!{"text"}`.
+-- The tokens of an error that hand its messages to the compiler: for each message
+-- `::core::compile_error!{"text"}`.
 use Rattle.std.specs.Prelude.{ℕ, List, [], ◌∷◌, codes}
 use Rattle.std.specs.Str.{chars}
 use Rattle.tok_core.specs.declared.group.Delimiter.TheVariants.{Brace}
 use Rattle.tok_core.specs.declared.punct.Spacing.TheVariants.{Alone, Joint}
 use Rattle.tok_core.specs.declared.span.Span.{Span}
-use Rattle.tok_core.specs.Forest.{ident, punct, literal, leaf, group, Forest, no_trees, tree, forest, joined}
+use Rattle.tok_core.specs.Forest.{ident, punct, literal, leaf, group, Forest, no_trees, tree}
+use Rattle.tok_core.specs.Forest.{forest, joined}
 use Rattle.tok_core.specs.Lexical.Quoting.{quoted}
 use Rattle.tok_buffer.specs.declared.error.Message.{Message}
 
@@ -16,16 +18,21 @@ bang = 33
 
 -- `::` and a name
 abbrev pub segment : List ℕ → Span → Forest
-segment name span = forest (leaf (punct colon Joint span) ∷ leaf (punct colon Alone span) ∷ leaf (ident name span) ∷ [])
+segment name span =
+    forest (leaf (punct colon Joint span) ∷ leaf (punct colon Alone span) ∷ leaf
+    (ident name span) ∷ [])
 
 -- `!` and, in braces, the text as a string
 abbrev pub invocation : (start end : Span) → List ℕ → Forest
 invocation start end text =
-    forest (leaf (punct bang Alone start) ∷ group Brace (tree (leaf (literal (quoted (chars text)) end)) no_trees) end ∷ [])
+    forest (leaf (punct bang Alone start) ∷ group Brace
+    (tree (leaf (literal (quoted (chars text)) end)) no_trees) end ∷ [])
 
 -- the path and the `!` at the start span, the braces and the text at the end span
 abbrev pub compile_error : Message → Forest
-compile_error m = joined (segment (codes "core") m.start) (joined (segment (codes "compile_error") m.start) (invocation m.start m.end m.text))
+compile_error m =
+    joined (segment (codes "core") m.start)
+    (joined (segment (codes "compile_error") m.start) (invocation m.start m.end m.text))
 
 abbrev pub compile_errors : List Message → Forest
 compile_errors [] = no_trees

@@ -1,27 +1,39 @@
 -- Into the invisible groups in front, and past those that hold nothing visible.
-use Rattle.std.specs.Prelude.{◌≡◌, ℕ, ◌+◌, Bool, true, false, List, [], ◌∷◌, Option, Some, None, unwrap_or}
+use Rattle.std.specs.Prelude.{◌≡◌, ℕ, ◌+◌, Bool, true, false, List, [], ◌∷◌, Option, Some, None}
+use Rattle.std.specs.Prelude.{unwrap_or}
 use Rattle.std.specs.Option.{option_or}
 use Rattle.tok_core.specs.declared.group.Delimiter.TheVariants as delimiter
 use Rattle.tok_core.specs.Forest.{leaf, group, Forest, no_trees, tree, turned_onto}
 use Rattle.tok_core.specs.Weight.{weight}
-use Rattle.tok_buffer.specs.Place.{Owner, group_of, Level, level, Place, empty_place, at, absorb, settle, settled}
+use Rattle.tok_buffer.specs.Place.{Owner, group_of, Level, level, Place, empty_place, at, absorb}
+use Rattle.tok_buffer.specs.Place.{settle, settled}
 
--- the place at the first visible tree of these trees, which stand ahead in a level; none where they hold none
-abbrev pub into_front : Forest → (number scope count : ℕ) → Owner → Forest → List Level → Option Place
+-- the place at the first visible tree of these trees, which stand ahead in a level; none where they
+-- hold none
+abbrev pub into_front : Forest → (number scope count : ℕ) → Owner → Forest → List Level →
+    Option Place
 into_front no_trees number scope count owner passed ls = None
-into_front (tree (leaf l) f) number scope count owner passed ls = Some (at number scope count (level owner passed (tree (leaf l) f)) ls)
+into_front (tree (leaf l) f) number scope count owner passed ls =
+    Some (at number scope count (level owner passed (tree (leaf l) f)) ls)
 into_front (tree (group delimiter.None inside span) f) number scope count owner passed ls =
-    option_or (into_front inside number scope (count + 1) (group_of delimiter.None span) no_trees (level owner passed f ∷ ls))
-    (into_front f number scope (count + (2 + weight inside)) owner (tree (group delimiter.None inside span) passed) ls)
-into_front (tree (group d inside span) f) number scope count owner passed ls = Some (at number scope count (level owner passed (tree (group d inside span) f)) ls)
+    option_or
+    (into_front inside number scope (count + 1) (group_of delimiter.None span) no_trees
+    (level owner passed f ∷ ls))
+    (into_front f number scope (count + (2 + weight inside)) owner
+    (tree (group delimiter.None inside span) passed) ls)
+into_front (tree (group d inside span) f) number scope count owner passed ls =
+    Some (at number scope count (level owner passed (tree (group d inside span) f)) ls)
 
 -- the place at the first visible tree, or at the scope's end
 abbrev pub descend_from : (number scope count : ℕ) → Level → List Level → Place
 descend_from number scope count (level owner passed ahead) [] =
-    unwrap_or (into_front ahead number scope count owner passed []) (at number scope (count + weight ahead) (level owner (turned_onto ahead passed) no_trees) [])
+    unwrap_or (into_front ahead number scope count owner passed [])
+    (at number scope (count + weight ahead)
+    (level owner (turned_onto ahead passed) no_trees) [])
 descend_from number scope count (level owner passed ahead) (l ∷ ls) =
     unwrap_or (into_front ahead number scope count owner passed (l ∷ ls))
-    (descend_from number scope (count + weight ahead + 1) (absorb owner (turned_onto ahead passed) l) ls)
+    (descend_from number scope (count + weight ahead + 1)
+    (absorb owner (turned_onto ahead passed) l) ls)
 
 -- out of each level that is left, and into the invisible groups in front
 abbrev pub descend : Place → Place
@@ -30,13 +42,17 @@ descend (at number scope count l ls) = descend_from number scope count l ls
 
 -- an invisible group is in front
 abbrev pub is_before_invisible : Place → Bool
-is_before_invisible (at number scope count (level owner passed (tree (group delimiter.None inside span) f)) ls) = true
+is_before_invisible
+    (at number scope count (level owner passed (tree (group delimiter.None inside span) f)) ls) =
+    true
 is_before_invisible p = false
 
 -- into the invisible group in front, and out of it again where it holds nothing
 abbrev pub inwards : Place → Place
-inwards (at number scope count (level owner passed (tree (group delimiter.None inside span) f)) ls) =
-    settle number scope (count + 1) (level (group_of delimiter.None span) no_trees inside) (level owner passed f ∷ ls)
+inwards (at number scope count
+    (level owner passed (tree (group delimiter.None inside span) f)) ls) =
+    settle number scope (count + 1) (level (group_of delimiter.None span) no_trees inside)
+    (level owner passed f ∷ ls)
 inwards p = p
 
 -- entering, again and again, until no invisible group is in front
@@ -46,4 +62,5 @@ pub data Descends : Place → Place → Type 0 where
 
 -- each descent ends so, with no invisible group in front
 abbrev pub DescentsEnter : Type 0
-DescentsEnter = (p : Place) → Descends (settled p) (descend p) × (is_before_invisible (descend p) ≡ false)
+DescentsEnter =
+    (p : Place) → Descends (settled p) (descend p) × (is_before_invisible (descend p) ≡ false)

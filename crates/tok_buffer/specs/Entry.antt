@@ -1,4 +1,4 @@
--- Entering a group: the place of its content, and the place behind it.
+-- Entering a group: the place of its content, and the place after it.
 use Rattle.std.specs.Prelude.{◌+◌, Bool, true, false, cond, [], Option, Some, None}
 use Rattle.tok_core.specs.declared.group.Delimiter.{Delimiter}
 use Rattle.tok_core.specs.declared.group.Delimiter.TheVariants.{Parenthesis, Brace, Bracket}
@@ -25,14 +25,21 @@ pub record Entered : Type 0 where
 -- the group in front, of whatever delimiter
 abbrev pub enter_any : Place → Option Entered
 enter_any (at n s c (level o p (tree (group d inside span) f)) ls) =
-    Some (record { delimiter = d; span = span; content = at n (c + 1 + weight inside) (c + 1) (level (group_of d span) no_trees inside) []; behind = pass (at n s c (level o p (tree (group d inside span) f)) ls) })
+    Some (record {
+      delimiter = d;
+      span = span;
+      content = at n (c + 1 + weight inside) (c + 1)
+          (level (group_of d span) no_trees inside) [];
+      behind =
+          pass (at n s c (level o p (tree (group d inside span) f)) ls);
+    })
 enter_any p = None
 
 abbrev pub entered_of : Delimiter → Option Entered → Option Entered
 entered_of d None = None
 entered_of d (Some e) = cond (same_delimiter d e.delimiter) (Some e) None
 
--- a visible group is looked for behind the invisible edges in front, an invisible one is not
+-- a visible group is looked for after the invisible edges in front, an invisible one is not
 abbrev pub enter : Delimiter → Place → Option Entered
 enter delimiter.None p = entered_of delimiter.None (enter_any p)
 enter d p = entered_of d (enter_any (descend p))

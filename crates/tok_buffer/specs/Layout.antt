@@ -3,7 +3,8 @@ use Rattle.std.specs.Prelude.{ℕ, ◌+◌, List, [], ◌∷◌, ◌++◌}
 use Rattle.tok_core.specs.declared.group.Delimiter.{Delimiter}
 use Rattle.tok_core.specs.declared.span.Span.{Span}
 use Rattle.tok_core.specs.Code.{top}
-use Rattle.tok_core.specs.Forest.{ident, punct, literal, leaf, group, Forest, no_trees, tree, turned_onto}
+use Rattle.tok_core.specs.Forest.{ident, punct, literal, leaf, group, Forest, no_trees, tree}
+use Rattle.tok_core.specs.Forest.{turned_onto}
 use Rattle.tok_core.specs.Forest as spec
 use Rattle.tok_core.specs.Seen.{ident_of, punct_of, literal_of}
 use Rattle.tok_core.specs.Weight.{weight}

@@ -1,5 +1,6 @@
 -- Lifetimes, and which texts make one.
-use Rattle.std.specs.Prelude.{ℕ, ◌==◌, ◌&&◌, Bool, false, cond, List, [], ◌∷◌, Option, Some, None, codes}
+use Rattle.std.specs.Prelude.{ℕ, ◌==◌, ◌&&◌, Bool, false, cond, List, [], ◌∷◌, Option, Some, None}
+use Rattle.std.specs.Prelude.{codes}
 use Rattle.std.specs.List.{list_all}
 use Rattle.unicode_ident.specs.Ident.{is_xid_continue}
 use Rattle.tok_core.specs.Forest.{Forest, forest}
@@ -12,7 +13,9 @@ use Rattle.tok_core.specs.declared.ident.MakeFault.TheVariants.{Refused}
 use Rattle.tok_buffer.specs.Reads.{apostrophe, lifetime_trees}
 use Rattle.tok_buffer.specs.declared.lifetime.Lifetime.{Lifetime}
 use Rattle.tok_buffer.specs.declared.lifetime.LifetimeFault.{LifetimeFault}
-use Rattle.tok_buffer.specs.declared.lifetime.LifetimeFault.TheVariants.{NoApostrophe, Empty, NotIdentifier, NoRaw, Memory}
+use Rattle.tok_buffer.specs.declared.lifetime.LifetimeFault.TheVariants.{NoApostrophe, Empty}
+use Rattle.tok_buffer.specs.declared.lifetime.LifetimeFault.TheVariants.{NotIdentifier, NoRaw}
+use Rattle.tok_buffer.specs.declared.lifetime.LifetimeFault.TheVariants.{Memory}
 
 -- the trees that a lifetime is written as
 abbrev pub lifetime_forest : Lifetime → Forest
@@ -31,7 +34,7 @@ abbrev pub is_identifier : List ℕ → Bool
 is_identifier [] = false
 is_identifier (c ∷ cs) = is_identifier_start c && list_all is_xid_continue cs
 
--- what stands behind `r#`
+-- what follows `r#`
 abbrev pub raw_word : List ℕ → Option (List ℕ)
 raw_word (c ∷ (d ∷ word)) = cond (c == 114 && d == 35) (Some word) None
 raw_word cs = None
@@ -52,7 +55,7 @@ abbrev pub lifetime_refusal : List ℕ → Option LifetimeFault
 lifetime_refusal [] = Some NoApostrophe
 lifetime_refusal (c ∷ cs) = cond (c == apostrophe) (name_refusal cs) (Some NoApostrophe)
 
--- want of memory refuses no text
+-- an allocation failure refuses no text
 abbrev pub refusal_in : LifetimeFault → Option LifetimeFault
 refusal_in Memory = None
 refusal_in fault = Some fault

@@ -40,13 +40,16 @@ first_text (m ∷ ms) = m.text
 abbrev pub each_message : List Message → List (List Message)
 each_message e = map (λ m. m ∷ []) e
 
--- an error with the messages of others behind its own
+-- an error with the messages of others after its own
 abbrev pub AddsMessages : List Message → List (List Message) → List Message → Type 0
 AddsMessages old others new = new ≡ old ++ flat_map (λ e. e) others
 
 -- a list of errors gives its first, unless memory for a copy was refused
-abbrev pub GivesFirst : List (List Message) → Option (Result (List Message) AllocError) → List (List Message) → Type 0
-GivesFirst errors answer left = MatchOption answer ((errors ≡ []) × (left ≡ [])) (λ made. (first : List Message) × ((errors ≡ first ∷ left) × IfOk made (λ e. e ≡ first)))
+abbrev pub GivesFirst : List (List Message) → Option (Result (List Message) AllocError) →
+    List (List Message) → Type 0
+GivesFirst errors answer left =
+    MatchOption answer ((errors ≡ []) × (left ≡ []))
+    (λ made. (first : List Message) × ((errors ≡ first ∷ left) × IfOk made (λ e. e ≡ first)))
 
 -- how an error is stored
 abbrev pub MessageCode : Type 0
@@ -60,11 +63,15 @@ message_of c = message (span_of c.0) (span_of c.1.0) c.1.1
 
 pub message-back : (m : Message) → message_of (message_code m) ≡ m
 message-back m =
-    ap (λ s. message s (span_of (span_code m.end)) m.text) (span-back m.start) ∙ ap (λ s. message m.start s m.text) (span-back m.end)
+    ap (λ s. message s (span_of (span_code m.end)) m.text) (span-back m.start)
+    ∙ ap (λ s. message m.start s m.text) (span-back m.end)
 
 abbrev pub messages_code : Coded (List Message)
 messages_code =
-    coded_list (code_by MessageCode (coded× coded_span (coded× coded_span (coded_list coded_ℕ))) message_code message_of message-back)
+    coded_list
+    (code_by MessageCode
+    (coded× coded_span
+    (coded× coded_span (coded_list coded_ℕ))) message_code message_of message-back)
 
 abbrev pub errors_code : Coded (List (List Message))
 errors_code = coded_list messages_code

@@ -4,7 +4,8 @@ use Rattle.tok_core.specs.declared.group.Delimiter.TheVariants as delimiter
 use Rattle.tok_core.specs.Forest.{leaf, group, Forest, no_trees, tree}
 use Rattle.tok_core.specs.Weight.{weight}
 use Rattle.tok_buffer.specs.Entry.{same_delimiter}
-use Rattle.tok_buffer.specs.Place.{Owner, whole, group_of, Level, level, Place, empty_place, at, absorb}
+use Rattle.tok_buffer.specs.Place.{Owner, whole, group_of, Level, level, Place, empty_place, at}
+use Rattle.tok_buffer.specs.Place.{absorb}
 
 abbrev pub level_ahead : Level → Forest
 level_ahead (level o p f) = f
@@ -20,7 +21,8 @@ abbrev pub move : Level → List Level → Level × List Level
 move (level o p no_trees) [] = (level o p no_trees, [])
 move (level o p no_trees) (u ∷ us) = (absorb o p u, us)
 move (level o p (tree (leaf l) f)) us = (level o (tree (leaf l) p) f, us)
-move (level o p (tree (group d inside span) f)) us = (level (group_of d span) no_trees inside, level o p f ∷ us)
+move (level o p (tree (group d inside span) f)) us =
+    (level (group_of d span) no_trees inside, level o p f ∷ us)
 
 -- all levels after so many moves from the start of a forest, the innermost first
 unfoldable pub levels_at : Forest → ℕ → Level × List Level
@@ -42,7 +44,8 @@ end_of n l = n + weight (level_ahead l)
 
 -- the place at count n of a forest, in the scope that ends at count s
 abbrev pub place_at : ℕ → Forest → ℕ → ℕ → Place
-place_at k g n s = at k s n (levels_at g n).0 (up_to (end_of n (levels_at g n).0) s (levels_at g n).1)
+place_at k g n s =
+    at k s n (levels_at g n).0 (up_to (end_of n (levels_at g n).0) s (levels_at g n).1)
 
 -- no level ends here but the scope's
 abbrev pub is_settled : Level → List Level → Bool
@@ -70,4 +73,5 @@ in_scope g n s = some_ends (end_of n (levels_at g n).0) s (levels_at g n).1
 
 -- no group ends at count n, but that of the scope
 abbrev pub settled_at : Forest → ℕ → ℕ → Bool
-settled_at g n s = is_settled (levels_at g n).0 (up_to (end_of n (levels_at g n).0) s (levels_at g n).1)
+settled_at g n s =
+    is_settled (levels_at g n).0 (up_to (end_of n (levels_at g n).0) s (levels_at g n).1)

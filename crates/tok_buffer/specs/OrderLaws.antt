@@ -1,11 +1,14 @@
--- Equality of places is an equivalence, and their order a partial order that answers `Equal` where they are equal.
-use Rattle.std.specs.Prelude.{◌≡◌, Bool, true, false, cond, ◌==◌, ◌&&◌, Option, Some, None, refl, unwrap_or, is_some}
+-- Equality of places is an equivalence, and their order a partial order that answers `Equal` where
+-- they are equal.
+use Rattle.std.specs.Prelude.{◌≡◌, Bool, true, false, cond, ◌==◌, ◌&&◌, Option, Some, None, refl}
+use Rattle.std.specs.Prelude.{unwrap_or, is_some}
 use Rattle.std.proofs.Common.{ap, sym, ◌∙◌, eqb-true}
 use Rattle.std.proofs.lemmas.Bool.{false≢true}
 use Rattle.std.specs.Bool.{Decides}
 use Rattle.std.specs.declared.cmp.Ordering.{Ordering}
 use Rattle.std.specs.declared.cmp.Ordering.TheVariants.{Less, Equal}
-use Rattle.std.specs.Cmp.{IsEquivalence, IsPartialOrder, Equal-is, nat_eq_equiv, nat_cmp_total, unsigned_ties}
+use Rattle.std.specs.Cmp.{IsEquivalence, IsPartialOrder, Equal-is, nat_eq_equiv, nat_cmp_total}
+use Rattle.std.specs.Cmp.{unsigned_ties}
 use Rattle.std.specs.Ordering.{nat_cmp, ordering_reverse, is_eq, is_lt}
 use Rattle.std.specs.Option.{option_map}
 use Rattle.tok_buffer.specs.Order.{equal, order}
@@ -28,7 +31,8 @@ inside r s e = ap (λ o. unwrap_or o Equal) e
 nothing : {A : Type 0} (r : Ordering) → None ≡ Some r → A
 nothing r e = absurd (false≢true (ap is_some e))
 
-reversed : (b : Bool) (r s : Ordering) → r ≡ ordering_reverse s → within b r ≡ option_map ordering_reverse (within b s)
+reversed : (b : Bool) (r s : Ordering) → r ≡ ordering_reverse s →
+    within b r ≡ option_map ordering_reverse (within b s)
 reversed true r s e = ap Some e
 reversed false r s e = refl
 
@@ -37,7 +41,8 @@ less true r e = (refl, inside r Less e)
 less false r e = nothing Less e
 
 tied : (b e : Bool) (r : Ordering) → e ≡ is_eq r → Decides (b && e) (within b r ≡ Some Equal)
-tied true e r q = (λ h. ap Some ((Equal-is r).0 (sym q ∙ h)), λ h. q ∙ (Equal-is r).1 (inside r Equal h))
+tied true e r q =
+    (λ h. ap Some ((Equal-is r).0 (sym q ∙ h)), λ h. q ∙ (Equal-is r).1 (inside r Equal h))
 tied false e r q = (λ h. absurd (false≢true h), λ h. nothing Equal h)
 
 pub equal_equiv : IsEquivalence equal
@@ -50,7 +55,9 @@ equal_equiv = record { refl = itself; symm = turned; congr = alike } where
   turned empty_place empty_place = refl
   turned empty_place (at m t d k ks) = refl
   turned (at n s c l ls) empty_place = refl
-  turned (at n s c l ls) (at m t d k ks) = ap (λ b. b && (c == d)) (nat_eq_equiv.symm n m) ∙ ap (λ b. (m == n) && b) (nat_eq_equiv.symm c d)
+  turned (at n s c l ls) (at m t d k ks) =
+      ap (λ b. b && (c == d)) (nat_eq_equiv.symm n m)
+      ∙ ap (λ b. (m == n) && b) (nat_eq_equiv.symm c d)
 
   alike : (x y z : Place) → equal x y ≡ true → equal x z ≡ equal y z
   alike empty_place empty_place z h = refl
@@ -59,7 +66,8 @@ equal_equiv = record { refl = itself; symm = turned; congr = alike } where
   alike (at n s c l ls) (at m t d k ks) empty_place h = refl
   alike (at n s c l ls) (at m t d k ks) (at o u e j js) h =
       let p = parts (n == m) (c == d) h in
-      ap (λ b. b && (c == e)) (nat_eq_equiv.congr n m o p.0) ∙ ap (λ b. (m == o) && b) (nat_eq_equiv.congr c d e p.1)
+      ap (λ b. b && (c == e)) (nat_eq_equiv.congr n m o p.0)
+      ∙ ap (λ b. (m == o) && b) (nat_eq_equiv.congr c d e p.1)
 
 pub order_partial : IsPartialOrder equal order
 order_partial = record { antisymm = turned; trans = chain; matches_eq = ties; congr = alike } where
@@ -68,7 +76,8 @@ order_partial = record { antisymm = turned; trans = chain; matches_eq = ties; co
   turned empty_place (at m t d k ks) = refl
   turned (at n s c l ls) empty_place = refl
   turned (at n s c l ls) (at m t d k ks) =
-      ap (λ b. within b (nat_cmp c d)) (nat_eq_equiv.symm n m) ∙ reversed (m == n) (nat_cmp c d) (nat_cmp d c) (nat_cmp_total.antisymm c d)
+      ap (λ b. within b (nat_cmp c d)) (nat_eq_equiv.symm n m)
+      ∙ reversed (m == n) (nat_cmp c d) (nat_cmp d c) (nat_cmp_total.antisymm c d)
 
   chain : (x y z : Place) → order x y ≡ Some Less → order y z ≡ Some Less → order x z ≡ Some Less
   chain empty_place empty_place z h k = absurd (false≢true (ap is_lt (inside Equal Less h)))
@@ -78,7 +87,8 @@ order_partial = record { antisymm = turned; trans = chain; matches_eq = ties; co
   chain (at n s c l ls) (at m t d w ws) (at o u e j js) h k =
       let p = less (n == m) (nat_cmp c d) h in
       let q = less (m == o) (nat_cmp d e) k in
-      ap (λ b. within b (nat_cmp c e)) (nat_eq_equiv.congr n m o p.0 ∙ q.0) ∙ ap Some (nat_cmp_total.trans c d e p.1 q.1)
+      ap (λ b. within b (nat_cmp c e)) (nat_eq_equiv.congr n m o p.0 ∙ q.0)
+      ∙ ap Some (nat_cmp_total.trans c d e p.1 q.1)
 
   ties : (x y : Place) → Decides (equal x y) (order x y ≡ Some Equal)
   ties empty_place empty_place = (λ h. refl, λ h. refl)
@@ -93,4 +103,5 @@ order_partial = record { antisymm = turned; trans = chain; matches_eq = ties; co
   alike (at n s c l ls) (at m t d k ks) empty_place h = refl
   alike (at n s c l ls) (at m t d k ks) (at o u e j js) h =
       let p = parts (n == m) (c == d) h in
-      ap (λ b. within b (nat_cmp c e)) (nat_eq_equiv.congr n m o p.0) ∙ ap (λ x. within (m == o) (nat_cmp x e)) (eqb-true c d p.1)
+      ap (λ b. within b (nat_cmp c e)) (nat_eq_equiv.congr n m o p.0)
+      ∙ ap (λ x. within (m == o) (nat_cmp x e)) (eqb-true c d p.1)

@@ -14,8 +14,8 @@ pub data Owner : Type 0 where
 pub data Level : Type 0 where
   level : Owner → (passed ahead : Forest) → Level
 
--- A buffer's number, the count at the scope's end, the count of what lies before, the innermost level, and those
--- around it, the scope's last.
+-- A buffer's number, the count at the scope's end, the count of what lies before, the innermost
+-- level, and those around it, the scope's last.
 pub data Place : Type 0 where
   empty_place : Place
   at : (number scope count : ℕ) → Level → List Level → Place
@@ -26,21 +26,24 @@ start number f = at number (weight f) 0 (level whole no_trees f) []
 
 -- a group that has been passed whole is the last tree passed of the level around it
 abbrev pub absorb : Owner → Forest → Level → Level
-absorb (group_of delimiter span) passed (level owner before ahead) = level owner (tree (group delimiter (turned_onto passed no_trees) span) before) ahead
+absorb (group_of delimiter span) passed (level owner before ahead) =
+    level owner (tree (group delimiter (turned_onto passed no_trees) span) before) ahead
 absorb whole passed l = l
 
 -- a level with nothing ahead is left, unless it is the scope's
 abbrev pub settle : (number scope count : ℕ) → Level → List Level → Place
 settle number scope count l [] = at number scope count l []
-settle number scope count (level owner passed no_trees) (l ∷ ls) = settle number scope (count + 1) (absorb owner passed l) ls
-settle number scope count (level owner passed (tree t f)) (l ∷ ls) = at number scope count (level owner passed (tree t f)) (l ∷ ls)
+settle number scope count (level owner passed no_trees) (l ∷ ls) =
+    settle number scope (count + 1) (absorb owner passed l) ls
+settle number scope count (level owner passed (tree t f)) (l ∷ ls) =
+    at number scope count (level owner passed (tree t f)) (l ∷ ls)
 
 -- a place in which each level that is left has been dropped
 abbrev pub settled : Place → Place
 settled empty_place = empty_place
 settled (at number scope count l ls) = settle number scope count l ls
 
--- the front tree, and the place behind it
+-- the front tree, and the place after it
 abbrev pub front : Place → Option Tree
 front (at number scope count (level owner passed (tree t f)) ls) = Some t
 front p = None
@@ -51,7 +54,8 @@ front_leaf (at number scope count (level owner passed (tree (leaf l) f)) ls) = S
 front_leaf p = None
 
 abbrev pub pass : Place → Place
-pass (at number scope count (level owner passed (tree t f)) ls) = settle number scope (count + tree_weight t) (level owner (tree t passed) f) ls
+pass (at number scope count (level owner passed (tree t f)) ls) =
+    settle number scope (count + tree_weight t) (level owner (tree t passed) f) ls
 pass p = p
 
 abbrev pub is_at_end : Place → Bool

@@ -1,5 +1,6 @@
 -- What moves of a cursor keep, and a measure that they lower.
-use Rattle.std.specs.Prelude.{◌≡◌, ◌⊎◌, ℕ, ◌+◌, ◌<◌, ◌≤◌, true, false, IsTrue, Bool, List, [], ◌∷◌, Option, Some}
+use Rattle.std.specs.Prelude.{◌≡◌, ◌⊎◌, ℕ, ◌+◌, ◌<◌, ◌≤◌, true, false, IsTrue, Bool, List, [], ◌∷◌}
+use Rattle.std.specs.Prelude.{Option, Some}
 use Rattle.std.specs.Ordering.{partial_le}
 use Rattle.std.specs.declared.cmp.Ordering.TheVariants.{Less}
 use Rattle.tok_core.specs.declared.group.Delimiter.{Delimiter}
@@ -9,18 +10,21 @@ use Rattle.tok_buffer.specs.Descent.{descend}
 use Rattle.tok_buffer.specs.Entry.{Entered, enter, enter_any}
 use Rattle.tok_buffer.specs.Order.{equal, order, same_scope}
 use Rattle.tok_buffer.specs.Place.{Level, level, Place, empty_place, at, pass}
-use Rattle.tok_buffer.specs.Reads.{take, read_ident, read_literal, read_punct, read_word, read_keyword, read_lifetime, read_punctuation, read_tree, skip}
+use Rattle.tok_buffer.specs.Reads.{take, read_ident, read_literal, read_punct, read_word}
+use Rattle.tok_buffer.specs.Reads.{read_keyword, read_lifetime, read_punctuation, read_tree, skip}
 
 -- in the same buffer and scope and no earlier, or the empty place
 abbrev pub StaysIn : (from to : Place) → Type 0
-StaysIn from to = ((same_scope from to ≡ true) × IsTrue (partial_le order from to)) ⊎ (to ≡ empty_place)
+StaysIn from to =
+    ((same_scope from to ≡ true) × IsTrue (partial_le order from to)) ⊎ (to ≡ empty_place)
 
 -- the end of each invisible group that has been entered, and what is ahead around it
 abbrev pub remaining_around : List Level → ℕ
 remaining_around [] = 0
 remaining_around (level o p f ∷ ls) = 1 + weight f + remaining_around ls
 
--- how many openings, leaves and closings are left up to the scope's end, and one more; none at the empty place
+-- how many openings, leaves and closings are left up to the scope's end, and one more; none at the
+-- empty place
 abbrev pub remaining : Place → ℕ
 remaining empty_place = 0
 remaining (at number scope count (level o p f) ls) = weight f + remaining_around ls + 1
@@ -28,7 +32,8 @@ remaining (at number scope count (level o p f) ls) = weight f + remaining_around
 -- wherever it reads, it stays in the scope and takes something away from what remains
 pub record ReadsOn (read : Place → Option (List Tree × Place)) : Type 0 where
   pub stays : (p : Place) (ts : List Tree) (q : Place) → read p ≡ Some (ts, q) → StaysIn p q
-  pub lowers : (p : Place) (ts : List Tree) (q : Place) → read p ≡ Some (ts, q) → remaining q < remaining p
+  pub lowers : (p : Place) (ts : List Tree) (q : Place) → read p ≡ Some (ts, q) →
+      remaining q < remaining p
 
 pub record ReadsGoOn : Type 0 where
   pub idents : ReadsOn read_ident
@@ -58,7 +63,8 @@ pub record EntriesGoOn : Type 0 where
 
 -- the places after them are later
 abbrev pub Later : (Place → Option (List Tree × Place)) → Type 0
-Later read = (p : Place) (ts : List Tree) (q : Place) → read p ≡ Some (ts, q) → order p q ≡ Some Less
+Later read =
+    (p : Place) (ts : List Tree) (q : Place) → read p ≡ Some (ts, q) → order p q ≡ Some Less
 
 pub record ReadsGoLater : Type 0 where
   pub idents : Later read_ident
@@ -71,8 +77,32 @@ pub record ReadsGoLater : Type 0 where
   pub trees : Later read_tree
   pub taken : (wanted : Tree → Bool) → Later (take wanted)
   pub skips : (p q : Place) → skip p ≡ Some q → order p q ≡ Some Less
-  pub groups : (d : Delimiter) (p : Place) (e : Entered) → enter d p ≡ Some e → order p e.behind ≡ Some Less
+  pub groups : (d : Delimiter) (p : Place) (e : Entered) → enter d p ≡ Some e →
+      order p e.behind ≡ Some Less
   pub any_groups : (p : Place) (e : Entered) → enter_any p ≡ Some e → order p e.behind ≡ Some Less
+
+-- the places after them are in the scope itself, and so none of them is the empty place
+abbrev pub KeepsScope : (Place → Option (List Tree × Place)) → Type 0
+KeepsScope read =
+    (p : Place) (ts : List Tree) (q : Place) → read p ≡ Some (ts, q) → same_scope p q ≡ true
+
+-- and neither are those after several of them, one after the other
+pub record ReadsKeepScope : Type 0 where
+  pub idents : KeepsScope read_ident
+  pub literals : KeepsScope read_literal
+  pub puncts : KeepsScope read_punct
+  pub words : (wanted : List ℕ → Bool) → KeepsScope (read_word wanted)
+  pub keywords : (text : List ℕ) → KeepsScope (read_keyword text)
+  pub lifetimes : (wanted : List ℕ → Bool) → KeepsScope (read_lifetime wanted)
+  pub punctuations : (text : List ℕ) → KeepsScope (read_punctuation text)
+  pub trees : KeepsScope read_tree
+  pub taken : (wanted : Tree → Bool) → KeepsScope (take wanted)
+  pub skips : (p q : Place) → skip p ≡ Some q → same_scope p q ≡ true
+  pub groups :
+      (d : Delimiter) (p : Place) (e : Entered) → enter d p ≡ Some e → same_scope p e.behind ≡ true
+  pub any_groups : (p : Place) (e : Entered) → enter_any p ≡ Some e → same_scope p e.behind ≡ true
+  pub along :
+      (p q r : Place) → same_scope p q ≡ true → same_scope q r ≡ true → same_scope p r ≡ true
 
 -- a move that stays in the scope, and adds nothing
 pub record MovesOn (move : Place → Place) : Type 0 where
@@ -88,6 +118,9 @@ pub record StaysAlong : Type 0 where
   pub here : (p : Place) → StaysIn p p
   pub along : (p q r : Place) → StaysIn p q → StaysIn q r → StaysIn p r
 
--- nothing is added by staying in the scope, and something is taken away by going anywhere else in it
+-- nothing is added by staying in the scope, and something is taken away by going anywhere else in
+-- it
 abbrev pub LosesNone : (from to : Place) → Type 0
-LosesNone from to = StaysIn from to → (remaining to ≤ remaining from) × (equal from to ≡ false → remaining to < remaining from)
+LosesNone from to =
+    StaysIn from to → (remaining to ≤ remaining from)
+    × (equal from to ≡ false → remaining to < remaining from)

@@ -1,5 +1,6 @@
--- What is read at a place, and the place behind it.
-use Rattle.std.specs.Prelude.{ℕ, ◌==◌, ◌&&◌, not, Bool, true, false, cond, List, [], ◌∷◌, ◌++◌, length, map, Option, Some, None, option_map, bytes_eq}
+-- What is read at a place, and the place after it.
+use Rattle.std.specs.Prelude.{ℕ, ◌==◌, ◌&&◌, not, Bool, true, false, cond, List, [], ◌∷◌, ◌++◌}
+use Rattle.std.specs.Prelude.{length, map, Option, Some, None, option_map, bytes_eq}
 use Rattle.tok_core.specs.declared.punct.Spacing.TheVariants.{Joint}
 use Rattle.tok_core.specs.Clear.{is_joint_apostrophe}
 use Rattle.tok_core.specs.declared.span.Span.{Span}
@@ -20,7 +21,8 @@ take wanted p =
     ]
 
 -- one read, and then another
-abbrev pub and_then : Option (List Tree × Place) → (Place → Option (List Tree × Place)) → Option (List Tree × Place)
+abbrev pub and_then : Option (List Tree × Place) → (Place → Option (List Tree × Place)) →
+    Option (List Tree × Place)
 and_then None g = None
 and_then (Some r) g = elim (g r.1) [ Some q ↦ Some (r.0 ++ q.0, q.1) | None ↦ None ]
 
@@ -90,7 +92,8 @@ read_next c (d ∷ cs) p = take (is_joint_of c) (descend p)
 abbrev pub read_punctuation : List ℕ → Place → Option (List Tree × Place)
 read_punctuation [] p = None
 read_punctuation (c ∷ []) p = take (is_punct_of c) (descend p)
-read_punctuation (c ∷ (d ∷ cs)) p = and_then (take (is_joint_of c) (descend p)) (read_punctuation (d ∷ cs))
+read_punctuation (c ∷ (d ∷ cs)) p =
+    and_then (take (is_joint_of c) (descend p)) (read_punctuation (d ∷ cs))
 
 -- these characters where there are so many of them, and else none
 abbrev pub sized : ℕ → List ℕ → List ℕ
@@ -111,6 +114,7 @@ abbrev pub behind : Option (List Tree × Place) → Option Place
 behind None = None
 behind (Some r) = Some r.1
 
--- behind the next token: a lifetime of any text, or else the front tree alone; none at an end
+-- after the next token: a lifetime of any text, or else the front tree alone; none at an end
 abbrev pub skip : Place → Option Place
-skip p = elim (read_lifetime any_text p) [ Some r ↦ Some r.1 | None ↦ behind (read_tree (descend p)) ]
+skip p =
+    elim (read_lifetime any_text p) [ Some r ↦ Some r.1 | None ↦ behind (read_tree (descend p)) ]

@@ -15,7 +15,11 @@ stream_span p scope = cond (is_at_end p) scope (start_span p)
 
 -- a refusal at the stream: at the end the words get a front that says so
 abbrev pub at_stream : Place → Span → List ℕ → Refusal
-at_stream p scope words = record { span = stream_span p scope; words = cond (is_at_end p) (codes "unexpected end of input, " ++ words) words }
+at_stream p scope words =
+    record {
+      span = stream_span p scope;
+      words = cond (is_at_end p) (codes "unexpected end of input, " ++ words) words;
+    }
 
 -- a refusal with these words alone
 abbrev pub plain : Place → Span → List ℕ → Refusal

@@ -11,7 +11,7 @@ use std::fmt::{Formatter, Write};
 use tok_core::{DelimSpan, Delimiter, Group, Ident, Literal, Punct, Span, TokenStream, TokenTree};
 
 /// A place in a buffer, and the end of the scope that it is read in: the whole buffer or a group's content. It is cheap
-/// to copy, and a call that reads answers the cursor behind what it read. The calls `ident`, `punct`, `literal`,
+/// to copy, and a call that reads answers the cursor after what it read. The calls `ident`, `punct`, `literal`,
 /// `lifetime`, `group` with a visible delimiter, `skip` and the peeks first enter every invisible group in front; the
 /// others don't. A cursor leaves a group that it so entered where nothing of it is left.
 #[derive(Clone, Copy)]
@@ -71,7 +71,7 @@ impl<'a> Cursor<'a> {
         }
     }
 
-    /// The identifier in front, of whatever text, and the cursor behind it.
+    /// The identifier in front, of whatever text, and the cursor after it.
     pub fn ident(self) -> Option<(&'a Ident, Cursor<'a>)>
         ensures { MatchOption result
             (read_ident (place_of self.entry) ≡ None)
@@ -81,7 +81,7 @@ impl<'a> Cursor<'a> {
         Some((ident, Cursor::at(rest)))
     }
 
-    /// The punct in front, unless it is an apostrophe, and the cursor behind it.
+    /// The punct in front, unless it is an apostrophe, and the cursor after it.
     pub fn punct(self) -> Option<(Punct, Cursor<'a>)>
         ensures { MatchOption result
             (read_punct (place_of self.entry) ≡ None)
@@ -91,7 +91,7 @@ impl<'a> Cursor<'a> {
         Some((punct, Cursor::at(rest)))
     }
 
-    /// The literal in front, and the cursor behind it.
+    /// The literal in front, and the cursor after it.
     pub fn literal(self) -> Option<(&'a Literal, Cursor<'a>)>
         ensures { MatchOption result
             (read_literal (place_of self.entry) ≡ None)
@@ -101,7 +101,7 @@ impl<'a> Cursor<'a> {
         Some((literal, Cursor::at(rest)))
     }
 
-    /// The lifetime in front, of whatever text, and the cursor behind it: a joint apostrophe, and then whatever `ident`
+    /// The lifetime in front, of whatever text, and the cursor after it: a joint apostrophe, and then whatever `ident`
     /// finds there, so also across the edges of invisible groups.
     pub fn lifetime(self) -> Option<(LifetimeRef<'a>, Cursor<'a>)>
         ensures { MatchOption result
@@ -113,7 +113,7 @@ impl<'a> Cursor<'a> {
         Some((LifetimeRef { apostrophe, ident }, Cursor::at(rest)))
     }
 
-    /// The group of this delimiter in front: the cursor of its content, its span, and the cursor behind it.
+    /// The group of this delimiter in front: the cursor of its content, its span, and the cursor after it.
     pub fn group(self, delimiter: Delimiter) -> Option<(Cursor<'a>, DelimSpan, Cursor<'a>)>
         ensures { MatchOption result
             (enter delimiter (place_of self.entry) ≡ None)
@@ -128,7 +128,7 @@ impl<'a> Cursor<'a> {
         ))
     }
 
-    /// The group in front, visible or not: the cursor of its content, its delimiter, its span, and the cursor behind it.
+    /// The group in front, visible or not: the cursor of its content, its delimiter, its span, and the cursor after it.
     pub fn any_group(self) -> Option<(Cursor<'a>, Delimiter, DelimSpan, Cursor<'a>)>
         ensures { MatchOption result
             (enter_any (place_of self.entry) ≡ None)
@@ -144,7 +144,7 @@ impl<'a> Cursor<'a> {
         ))
     }
 
-    /// The group in front, visible or not, made anew in memory of `alloc`, and the cursor behind it.
+    /// The group in front, visible or not, made anew in memory of `alloc`, and the cursor after it.
     pub fn any_group_token(self, alloc: Global) -> Result<Option<(Group, Cursor<'a>)>, AllocError>
         ensures { IfOk result (λ found. MatchOption found
             (take is_group (place_of self.entry) ≡ None)
@@ -159,7 +159,7 @@ impl<'a> Cursor<'a> {
         }
     }
 
-    /// The front tree, an invisible group too, made anew in memory of `alloc`, and the cursor behind it.
+    /// The front tree, an invisible group too, made anew in memory of `alloc`, and the cursor after it.
     pub fn token_tree(self, alloc: Global) -> Result<Option<(TokenTree, Cursor<'a>)>, AllocError>
         ensures { IfOk result (λ found. MatchOption found
             (read_tree (place_of self.entry) ≡ None)
@@ -175,7 +175,7 @@ impl<'a> Cursor<'a> {
     }
 
     /// All trees that are left in the scope, made anew in memory of `alloc`: first those left in the innermost invisible
-    /// group that has been entered, then those behind it, and so on outwards.
+    /// group that has been entered, then those after it, and so on outwards.
     pub fn token_stream(self, alloc: Global) -> Result<TokenStream, AllocError>
         ensures { IfOk result (λ s. s ≡ rest (place_of self.entry)) }
     {
@@ -196,7 +196,7 @@ impl<'a> Cursor<'a> {
         }
     }
 
-    /// The cursor behind the next token: behind the lifetime that `lifetime` reads, or else behind the front tree. `None`
+    /// The cursor after the next token: after the lifetime that `lifetime` reads, or else after the front tree. `None`
     /// where nothing visible is left.
     pub fn skip(self) -> Option<Cursor<'a>>
         ensures { MatchOption result

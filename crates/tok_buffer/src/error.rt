@@ -83,7 +83,7 @@ impl Error {
     ghost use Rattle.std.specs.Ordering.{partial_le};
     ghost use Rattle.tok_core.specs.Lexical.Errors.{error_span, error_words};
     ghost use Rattle.tok_buffer.specs.Cursors.{place_of};
-    ghost use Rattle.tok_buffer.specs.Messages.{AddsMessages, error_of, refused, spans_of, first_span};
+    ghost use Rattle.tok_buffer.specs.Messages.{AddsMessages, error_of, refused, spans_of, first_span, first_text};
     ghost use Rattle.tok_buffer.specs.Order.{order};
     ghost use Rattle.tok_buffer.specs.Spans.{current_span, range_end};
     ghost use Rattle.tok_buffer.specs.Words.{stream_span, at_stream};
@@ -191,7 +191,14 @@ impl Error {
         start.join(self.first.end).unwrap_or(start)
     }
 
-    /// Puts the messages of another error behind these. Where memory is refused all stays as before, and the other error
+    /// The text of the first message.
+    pub fn as_str(&self) -> &str
+        ensures { result.now ≡ first_text self.now }
+    {
+        self.first.text.as_str()
+    }
+
+    /// Puts the messages of another error after these. Where memory is refused all stays as before, and the other error
     /// is dropped.
     pub fn combine(&mut self, another: Error) -> Result<(), AllocError>
         ensures ok { OnOk result (self.new ≡ self.old ++ another) }
@@ -238,7 +245,7 @@ impl Display for Error {
     ghost output = { λ e. Some (first_text e) };
 
     fn fmt<W: Write>(&self, f: &mut Formatter<W>) -> fmt::Result {
-        f.write_str(self.first.text.as_str())
+        f.write_str(self.as_str())
     }
 }
 

@@ -6,11 +6,13 @@ ghost use Rattle.std.specs.declared.cmp.Ordering.TheVariants.{Equal};
 ghost use Rattle.tok_core.specs.Forest.{Forest};
 ghost use Rattle.tok_buffer.specs.Cursors.{place_of, CursorsLoseNone};
 ghost use Rattle.tok_buffer.specs.Descent.{DescentsEnter};
+ghost use Rattle.tok_buffer.specs.InFront.{AheadTellsAll, AheadTellsEnds, AllAheadAtStart};
 ghost use Rattle.tok_buffer.specs.Lifetimes.{name_of};
 ghost use Rattle.tok_buffer.specs.Order.{equal, order};
 ghost use Rattle.tok_buffer.specs.Place.{Place, start};
-ghost use Rattle.tok_buffer.specs.Progress.{EntriesGoOn, MovesStay, ReadsGoLater, ReadsGoOn, SkipsGoOn, StaysAlong};
+ghost use Rattle.tok_buffer.specs.Progress.{EntriesGoOn, MovesStay, ReadsGoLater, ReadsGoOn, ReadsKeepScope, SkipsGoOn, StaysAlong};
 ghost use Rattle.tok_buffer.specs.Rest.{rest};
+ghost use Rattle.tok_buffer.specs.SameView.{CallsLeadOn, StartsAgree, ViewsDecide, ViewsTellDelimiters, ViewsTellScopes};
 
 use crate::buffer::TokenBuffer;
 use crate::cursor::Cursor;
@@ -71,6 +73,12 @@ pub fn reads_go_later()
     ensures { ReadsGoLater }
 {}
 
+/// The place after a read, a skip or the entry of a group is in the same scope, and so not the empty place; and so is the
+/// place after several, one after the other. So a stream may always advance to a fork that has read.
+pub fn reads_keep_scope()
+    ensures { ReadsKeepScope }
+{}
+
 /// A descent and a pass stay in the scope, and add nothing to what remains.
 pub fn moves_stay()
     ensures { MovesStay }
@@ -90,4 +98,30 @@ pub fn staying_adds_nothing()
 /// A descent leaves no invisible group in front, and is entering the one in front, again and again.
 pub fn descents_enter()
     ensures { DescentsEnter }
+{}
+
+/// Invisible groups do not matter to a call: what it returns depends on the view of its place alone, that is on which
+/// group its scope is, counted without invisible groups, and on the visible trees ahead. So at places of two filled
+/// forests with equal views each read, skip, end, entry of a visible group and leftover's span is the same, and the places after
+/// it have equal views again. Views also tell whether two places are in one scope, and the scope's delimiter, and the starts
+/// of two forests that differ only in invisible groups have equal views.
+pub fn views_decide()
+    ensures calls { ViewsDecide }
+    ensures scopes { ViewsTellScopes }
+    ensures delimiters { ViewsTellDelimiters }
+    ensures starts { StartsAgree }
+{}
+
+/// The place after a read, a skip or the entry of a visible group has a view, too, and so has the group's content.
+pub fn calls_lead_on()
+    ensures { CallsLeadOn }
+{}
+
+/// At every place each read, entry of a visible group and leftover's span depends on the visible trees ahead alone: the
+/// first one decides, and the others are ahead of the place after it. At the start the whole forest is ahead, and in a filled
+/// forest a place is at an end exactly where nothing visible is ahead.
+pub fn ahead_tells()
+    ensures calls { AheadTellsAll }
+    ensures ends { AheadTellsEnds }
+    ensures start { AllAheadAtStart }
 {}

@@ -39,11 +39,11 @@ pub struct LifetimeRef<'a> {
 pub enum LifetimeFault {
     /// N1: the text doesn't begin with an apostrophe.
     NoApostrophe,
-    /// N2: nothing stands behind the apostrophe, or behind `'r#`.
+    /// N2: nothing follows the apostrophe, or after `'r#`.
     Empty,
     /// N3: what stands there is no identifier.
     NotIdentifier,
-    /// N4: it is one that doesn't exist as a raw identifier: `_`, `self`, `Self`, `super` or `crate` behind `'r#`.
+    /// N4: it is one that doesn't exist as a raw identifier: `_`, `self`, `Self`, `super` or `crate` after `'r#`.
     NoRaw,
     Memory,
 }
@@ -74,7 +74,7 @@ impl std::error::Error for LifetimeFault {}
 
 impl Lifetime {
     /// The lifetime of a text as `'a` or `'r#a`, with this span for both its parts. Refuses, by the first that holds:
-    /// N1 no apostrophe in front, N2 nothing behind it or behind `'r#`, N3 no identifier there, N4 one that doesn't exist
+    /// N1 no apostrophe in front, N2 nothing after it or after `'r#`, N3 no identifier there, N4 one that doesn't exist
     /// as a raw identifier.
     pub fn new(alloc: Global, symbol: &str, span: Span) -> Result<Lifetime, LifetimeFault>
         ensures made { IfOk result (λ l. lifetime_refusal (chars symbol.now) ≡ None) }
@@ -148,7 +148,7 @@ impl ToTokens for Lifetime {
     }
 }
 
-// What stands behind an apostrophe in front.
+// What follows an apostrophe in front.
 fn past_apostrophe(symbol: &str) -> Option<&str>
     ensures chars { MatchOption result
         (lifetime_refusal (chars symbol.now) ≡ Some LifetimeFault.NoApostrophe)
@@ -160,7 +160,7 @@ fn past_apostrophe(symbol: &str) -> Option<&str>
     if first == '\'' { Some(name) } else { None }
 }
 
-// What stands behind `r#` in front.
+// What follows `r#` in front.
 fn past_raw(name: &str) -> Option<&str>
     ensures chars { MatchOption result
         (name_refusal (chars name.now) ≡ plain_refusal (chars name.now))

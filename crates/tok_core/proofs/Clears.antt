@@ -5,7 +5,7 @@ use Rattle.tok_core.specs.Forest.{Tree, Forest, tree}
 use Rattle.tok_core.specs.declared.stream.TokenTree.{TokenTree}
 use Rattle.tok_core.specs.Seen.{tree_of, trees_of}
 
--- what a loop has left to show, behind a tree that is a joint apostrophe or none
+-- what a loop has left to show, after a tree that is a joint apostrophe or none
 abbrev pub clear_behind : Bool → Forest → Bool
 clear_behind joint f = not (joint && starts_invisible f) && clear f
 

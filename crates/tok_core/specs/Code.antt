@@ -1,7 +1,9 @@
 -- How a forest is stored: a postfix list.
-use Rattle.std.specs.Prelude.{◌≡◌, ℕ, Bool, true, false, List, [], ◌∷◌, ◌++◌, ◌⊎◌, Option, Some, None, refl}
+use Rattle.std.specs.Prelude.{◌≡◌, ℕ, Bool, true, false, List, [], ◌∷◌, ◌++◌, ◌⊎◌, Option, Some}
+use Rattle.std.specs.Prelude.{None, refl}
 use Rattle.std.proofs.Common.{zero, suc, inl, inr, ap, ◌∙◌}
-use Rattle.std.specs.Coded.{Coded, code_by, coded×, coded_ℕ, coded_bool, coded_list, coded_option, coded⊎}
+use Rattle.std.specs.Coded.{Coded, code_by, coded×, coded_ℕ, coded_bool, coded_list, coded_option}
+use Rattle.std.specs.Coded.{coded⊎}
 use base.Stored.{coded_unit}
 use Rattle.tok_core.specs.declared.span.Place.{Place}
 use Rattle.tok_core.specs.declared.span.Place.TheVariants.{CallSite, Source}
@@ -84,13 +86,16 @@ leaf_of (inr (inr c)) = literal c.0 (span_of c.1)
 
 pub leaf-back : (l : Leaf) → leaf_of (leaf_code l) ≡ l
 leaf-back (ident text span) = ap (ident text) (span-back span)
-leaf-back (punct c spacing span) = ap (λ s. punct c s (span_of (span_code span))) (spacing-back spacing) ∙ ap (punct c spacing) (span-back span)
+leaf-back (punct c spacing span) =
+    ap (λ s. punct c s (span_of (span_code span))) (spacing-back spacing)
+    ∙ ap (punct c spacing) (span-back span)
 leaf-back (literal text span) = ap (literal text) (span-back span)
 
 abbrev pub encode : Forest → List ItemCode
 encode no_trees = inl tt ∷ []
 encode (tree (leaf l) f) = inr (inl (leaf_code l)) ∷ encode f
-encode (tree (group d inside span) f) = inr (inr (delimiter_code d, span_code span)) ∷ (encode inside ++ encode f)
+encode (tree (group d inside span) f) =
+    inr (inr (delimiter_code d, span_code span)) ∷ (encode inside ++ encode f)
 
 abbrev pub stack_item : ItemCode → List Forest → List Forest
 stack_item (inl u) s = no_trees ∷ s
@@ -111,16 +116,19 @@ top (f ∷ s) = f
 abbrev pub decode : List ItemCode → Forest
 decode xs = top (stack_items xs [])
 
-pub stack_items-append : (xs ys : List ItemCode) (s : List Forest) → stack_items (xs ++ ys) s ≡ stack_items xs (stack_items ys s)
+pub stack_items-append : (xs ys : List ItemCode) (s : List Forest) →
+    stack_items (xs ++ ys) s ≡ stack_items xs (stack_items ys s)
 stack_items-append [] ys s = refl
 stack_items-append (x ∷ xs) ys s = ap (stack_item x) (stack_items-append xs ys s)
 
 pub stack_items-encode : (f : Forest) (s : List Forest) → stack_items (encode f) s ≡ f ∷ s
 stack_items-encode no_trees s = refl
 stack_items-encode (tree (leaf l) f) s =
-    ap (stack_item (inr (inl (leaf_code l)))) (stack_items-encode f s) ∙ ap (λ k. tree (leaf k) f ∷ s) (leaf-back l)
+    ap (stack_item (inr (inl (leaf_code l)))) (stack_items-encode f s)
+    ∙ ap (λ k. tree (leaf k) f ∷ s) (leaf-back l)
 stack_items-encode (tree (group d c p) f) s =
-    ap (stack_item (inr (inr (delimiter_code d, span_code p)))) (stack_items-append (encode c) (encode f) s
+    ap (stack_item (inr (inr (delimiter_code d, span_code p))))
+    (stack_items-append (encode c) (encode f) s
     ∙ ap (stack_items (encode c)) (stack_items-encode f s)
     ∙ stack_items-encode c (f ∷ s))
     ∙ ap (λ e. tree (group e c (span_of (span_code p))) f ∷ s) (delimiter-back d)
@@ -134,4 +142,10 @@ coded_span = coded_option (coded× coded_ℕ (coded× coded_ℕ coded_ℕ))
 
 abbrev pub forest_code : Coded Forest
 forest_code =
-    code_by (List ItemCode) (coded_list (coded⊎ coded_unit (coded⊎ (coded⊎ (coded× (coded_list coded_ℕ) coded_span) (coded⊎ (coded× coded_ℕ (coded× coded_bool coded_span)) (coded× (coded_list coded_ℕ) coded_span))) (coded× coded_ℕ coded_span)))) encode decode decode-encode
+    code_by (List ItemCode)
+    (coded_list
+    (coded⊎ coded_unit
+    (coded⊎ (coded⊎ (coded× (coded_list coded_ℕ) coded_span)
+    (coded⊎ (coded× coded_ℕ (coded× coded_bool coded_span))
+    (coded× (coded_list coded_ℕ) coded_span)))
+    (coded× coded_ℕ coded_span)))) encode decode decode-encode

@@ -26,14 +26,15 @@ abbrev pub forest : List Tree → Forest
 forest [] = no_trees
 forest (t ∷ ts) = tree t (forest ts)
 
--- one forest behind another
+-- one forest after another
 abbrev pub joined : Forest → Forest → Forest
 joined no_trees g = g
 joined (tree t f) g = tree t (joined f g)
 
--- some of the trees of one forest, from the first on, stand behind another's
+-- some of the trees of one forest, from the first on, follow another's
 abbrev pub AppendsFront : (old added new : Forest) → Type 0
-AppendsFront old added new = (front : Forest) × (rest : Forest) × (added ≡ joined front rest) × (new ≡ joined old front)
+AppendsFront old added new =
+    (front : Forest) × (rest : Forest) × (added ≡ joined front rest) × (new ≡ joined old front)
 
 -- parts of a leaf or a group, with a default where it has none
 abbrev pub leaf_char : Leaf → ℕ
@@ -52,7 +53,7 @@ abbrev pub tree_inside : Tree → Forest
 tree_inside (group delimiter inside span) = inside
 tree_inside (leaf l) = no_trees
 
--- the last tree first, behind what stands there
+-- the last tree first, after what stands there
 abbrev pub turned_onto : Forest → Forest → Forest
 turned_onto no_trees g = g
 turned_onto (tree t f) g = turned_onto f (tree t g)

@@ -6,7 +6,8 @@ use Rattle.tok_core.specs.declared.literal.Literal.{Literal}
 use Rattle.tok_core.specs.declared.group.Group.{Group}
 use Rattle.tok_core.specs.declared.stream.TokenTree.{TokenTree}
 use Rattle.tok_core.specs.declared.stream.TokenTree.TheVariants as made
-use Rattle.tok_core.specs.Forest.{Leaf, ident, punct, literal, Tree, leaf, group, Forest, no_trees, tree}
+use Rattle.tok_core.specs.Forest.{Leaf, ident, punct, literal, Tree, leaf, group, Forest, no_trees}
+use Rattle.tok_core.specs.Forest.{tree}
 
 abbrev pub ident_of : Ident → Leaf
 ident_of i = ident i.text i.span

@@ -6,7 +6,8 @@ use Rattle.tok_core.specs.declared.group.Delimiter.TheVariants.{Parenthesis, Bra
 use Rattle.tok_core.specs.declared.punct.Spacing.{Spacing}
 use Rattle.tok_core.specs.declared.punct.Spacing.TheVariants.{Alone, Joint}
 use Rattle.tok_core.specs.Code.{delimiter_code}
-use Rattle.tok_core.specs.Forest.{Leaf, ident, punct, literal, Tree, leaf, group, Forest, no_trees, tree}
+use Rattle.tok_core.specs.Forest.{Leaf, ident, punct, literal, Tree, leaf, group, Forest, no_trees}
+use Rattle.tok_core.specs.Forest.{tree}
 use Rattle.tok_core.specs.Spans.{call_site}
 
 abbrev pub leaf_spanless : Leaf → Leaf
@@ -51,7 +52,8 @@ abbrev mutual
 
   pub tree_alike : Tree → Tree → Bool
   tree_alike (leaf l) (leaf k) = leaf_alike l k
-  tree_alike (group d inside span) (group e content other) = same_delimiter d e && alike inside content
+  tree_alike (group d inside span) (group e content other) =
+      same_delimiter d e && alike inside content
   tree_alike t u = false
 
 abbrev pub spacing_number : Spacing → ℕ
@@ -59,12 +61,15 @@ spacing_number Alone = 0
 spacing_number Joint = 1
 
 abbrev mutual
-  -- what a tree feeds to a hasher: a number for what it is, and all but its span; a group's content ends in a mark of its own
+  -- what a tree feeds to a hasher: a number for what it is, and all but its span; a group's content
+  -- ends in a mark of its own
   pub tree_input : Tree → List (List ℕ)
   tree_input (leaf (ident text span)) = fed.u8 3 ++ fed.str text
-  tree_input (leaf (punct c spacing span)) = fed.u8 1 ++ fed.char c ++ fed.u8 (spacing_number spacing)
+  tree_input (leaf (punct c spacing span)) =
+      fed.u8 1 ++ fed.char c ++ fed.u8 (spacing_number spacing)
   tree_input (leaf (literal text span)) = fed.u8 2 ++ fed.str text
-  tree_input (group delimiter inside span) = fed.u8 0 ++ fed.u8 (delimiter_code delimiter) ++ forest_input inside ++ fed.u8 255
+  tree_input (group delimiter inside span) =
+      fed.u8 0 ++ fed.u8 (delimiter_code delimiter) ++ forest_input inside ++ fed.u8 255
 
   pub forest_input : Forest → List (List ℕ)
   forest_input no_trees = []

@@ -14,14 +14,17 @@ source number start end = record { place = Source number start end }
 
 -- the first byte, the last byte; an empty range and the call site are themselves
 abbrev pub opening_span : Span → Span
-opening_span span = elim span.place [ CallSite ↦ span | Source n a b ↦ cond (nat_lt a b) (source n a (a + 1)) span ]
+opening_span span =
+    elim span.place [ CallSite ↦ span | Source n a b ↦ cond (nat_lt a b) (source n a (a + 1)) span ]
 
 abbrev pub closing_span : Span → Span
-closing_span span = elim span.place [ CallSite ↦ span | Source n a b ↦ cond (nat_lt a b) (source n (b - 1) b) span ]
+closing_span span =
+    elim span.place [ CallSite ↦ span | Source n a b ↦ cond (nat_lt a b) (source n (b - 1) b) span ]
 
 -- one span that covers both, in one source
 abbrev joined_places : Place → Place → Option Span
-joined_places (Source n a b) (Source m c d) = cond (n == m) (Some (source n (min a c) (max b d))) None
+joined_places (Source n a b) (Source m c d) =
+    cond (n == m) (Some (source n (min a c) (max b d))) None
 joined_places p q = None
 
 abbrev pub join : Span → Span → Option Span

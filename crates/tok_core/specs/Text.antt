@@ -1,9 +1,11 @@
 -- The printed text of a forest.
-use Rattle.std.specs.Prelude.{ℕ, ◌==◌, ◌&&◌, Bool, true, false, cond, List, [], ◌∷◌, ◌++◌, encode_utf8, codes}
+use Rattle.std.specs.Prelude.{ℕ, ◌==◌, ◌&&◌, Bool, true, false, cond, List, [], ◌∷◌, ◌++◌}
+use Rattle.std.specs.Prelude.{encode_utf8, codes}
 use Rattle.tok_core.specs.declared.group.Delimiter.{Delimiter}
 use Rattle.tok_core.specs.declared.group.Delimiter.TheVariants.{Parenthesis, Brace, Bracket, None}
 use Rattle.tok_core.specs.declared.punct.Spacing.TheVariants.{Joint}
-use Rattle.tok_core.specs.Forest.{Leaf, ident, punct, literal, Tree, leaf, group, Forest, no_trees, tree}
+use Rattle.tok_core.specs.Forest.{Leaf, ident, punct, literal, Tree, leaf, group, Forest, no_trees}
+use Rattle.tok_core.specs.Forest.{tree}
 
 abbrev pub opening : Delimiter → List ℕ
 opening Parenthesis = codes "("
@@ -38,9 +40,10 @@ space glued = cond glued [] (codes " ")
 abbrev mutual
   pub tree_text : Tree → List ℕ
   tree_text (leaf l) = leaf_text l
-  tree_text (group delimiter inside span) = opening delimiter ++ (text_after true inside ++ closing delimiter)
+  tree_text (group delimiter inside span) =
+      opening delimiter ++ (text_after true inside ++ closing delimiter)
 
-  -- the text of trees behind something, glued to it or not
+  -- the text of trees after something, glued to it or not
   pub text_after : Bool → Forest → List ℕ
   text_after glued no_trees = []
   text_after glued (tree t f) = space glued ++ (tree_text t ++ text_after (is_joint t) f)

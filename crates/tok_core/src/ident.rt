@@ -48,7 +48,7 @@ fn without_raw(text: &str) -> &str
 
 impl Ident {
     /// An identifier or a keyword with this text. Refuses what isn't a plain identifier: an XID_Start character or `_`, and
-    /// behind it XID_Continue characters.
+    /// after it XID_Continue characters.
     pub fn new(alloc: Global, text: &str, span: Span) -> Result<Ident, MakeFault>
         ensures made { IfOk result (λ i. ident_of i ≡ ident text.now span) }
         ensures takes { IsIdentifier (chars text.now) → IfErr result (λ fault. fault ≡ MakeFault.Memory) }

@@ -36,7 +36,7 @@ pub(crate) use words::{has_no_raw, is_identifier};
 //
 // One piece after the other is taken off the front, so the time is linear in the text: a piece is looked at a fixed number of
 // times. A rule that looks far and then doesn't fit is followed by a refusal, as an unclosed comment or string is; or what
-// it looks at is a run that no later piece goes over again: the `#` behind an `r`, the marks behind a punct.
+// it looks at is a run that no later piece goes over again: the `#` after an `r`, the marks after a punct.
 fn read(alloc: Global, source: u32, rules: &[Rule], text: &str) -> Result<TokenStream, LexFault>
     requires all { EndsInOther rules.now }
     ensures reads { IfOk result (λ stream. Reads rules.now source (chars text.now) stream) }

@@ -10,7 +10,7 @@ enum Place {
 }
 
 /// The place of a token: the call site, or a range of bytes of a numbered source. A token made by hand, with no text
-/// behind it, stands at the call site.
+/// after it, stands at the call site.
 #[derive(Clone, Copy, PartialEq, Eq, Debug)]
 pub struct Span {
     place: Place,

@@ -69,7 +69,7 @@ impl TokenStream {
         self.alloc
     }
 
-    /// Puts a tree behind the others. Where memory is refused all stays as before, and the tree is dropped.
+    /// Puts a tree after the others. Where memory is refused all stays as before, and the tree is dropped.
     pub fn append(&mut self, next: TokenTree) -> Result<(), AllocError>
         ensures ok { OnOk result (self.new ≡ joined self.old (tree (tree_of next) no_trees)) }
         ensures err { OnErr result (self.new ≡ self.old) }

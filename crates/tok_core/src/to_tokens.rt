@@ -15,7 +15,7 @@ pub trait ToTokens {
     // The trees that it is written as.
     ghost printed: { Self → Forest };
 
-    /// Puts the tokens of this value behind the others. Where memory is refused, those that were put there before
+    /// Puts the tokens of this value after the others. Where memory is refused, those that were put there before
     /// the refusal stay.
     fn to_tokens(&self, tokens: &mut TokenStream) -> Result<(), AllocError>
         ensures ok { OnOk result (tokens.new ≡ joined tokens.old (printed self.now)) }

@@ -5,7 +5,8 @@ use Rattle.tok_core.specs.declared.group.Delimiter.{Delimiter}
 use Rattle.tok_core.specs.declared.punct.Spacing.{Spacing}
 use Rattle.tok_core.specs.declared.punct.Spacing.TheVariants.{Alone, Joint}
 use Rattle.tok_core.specs.declared.span.Span.{Span}
-use Rattle.tok_core.specs.Forest.{Tree, leaf, ident, punct, group, Forest, no_trees, tree, forest, joined}
+use Rattle.tok_core.specs.Forest.{Tree, leaf, ident, punct, group, Forest, no_trees, tree, forest}
+use Rattle.tok_core.specs.Forest.{joined}
 use Rattle.tok_core.specs.Spans.{call_site}
 use Rattle.tok_core.specs.Lexical.Characters.{is_punct_or_apostrophe}
 
@@ -31,8 +32,13 @@ joint_puncts cs ss = []
 
 -- and nothing where there aren't as many spans as characters, or one of them is no punct's
 abbrev pub puncts : List ℕ → List Span → Forest
-puncts text spans = cond (length text == length spans && list_all is_punct_or_apostrophe text) (forest (joint_puncts text spans)) no_trees
+puncts text spans =
+    cond (length text == length spans && list_all is_punct_or_apostrophe text)
+    (forest (joint_puncts text spans)) no_trees
 
--- a group of what was written inside comes behind the others
-abbrev pub Surrounds : (IsWritten : Forest → Type 0) → Delimiter → Span → (old new : Forest) → Type 0
-Surrounds IsWritten delimiter span old new = (inside : Forest) × IsWritten inside × (new ≡ joined old (tree (group delimiter inside span) no_trees))
+-- a group of what was written inside comes after the others
+abbrev pub Surrounds : (IsWritten : Forest → Type 0) → Delimiter → Span → (old new : Forest) →
+    Type 0
+Surrounds IsWritten delimiter span old new =
+    (inside : Forest) × IsWritten inside
+    × (new ≡ joined old (tree (group delimiter inside span) no_trees))

@@ -1,37 +1,56 @@
 -- The texts of tokens.
-use Rattle.std.specs.Prelude.{ℕ, Bool, true, false, ◌||◌, ◌&&◌, ◌==◌, not, cond, List, [], ◌∷◌, ◌++◌, length, map, get_or, bytes_eq, codes}
+use Rattle.std.specs.Prelude.{ℕ, Bool, true, false, ◌||◌, ◌&&◌, ◌==◌, not, cond, List, [], ◌∷◌}
+use Rattle.std.specs.Prelude.{◌++◌, length, map, get_or, bytes_eq, codes}
 use Rattle.std.specs.Borrow.{Bor}
 use Rattle.std.specs.Cmp.Lexicographic.{slice_cmp}
 use Rattle.std.specs.Ordering.{is_lt, nat_cmp}
 
--- the keywords of the Rust Reference (Keywords), strict, reserved and weak, and those that only a parser of tokens names
+-- the keywords of the Rust Reference (Keywords), strict, reserved and weak, and those that only a
+-- parser of tokens names
 abbrev pub keywords : List (List ℕ)
 keywords =
-    codes "abstract" ∷ codes "as" ∷ codes "async" ∷ codes "auto" ∷ codes "await" ∷ codes "become" ∷ codes "box" ∷ codes "break" ∷ codes "const" ∷
-    codes "continue" ∷ codes "crate" ∷ codes "default" ∷ codes "do" ∷ codes "dyn" ∷ codes "else" ∷ codes "enum" ∷ codes "extern" ∷ codes "final" ∷
-    codes "fn" ∷ codes "for" ∷ codes "if" ∷ codes "impl" ∷ codes "in" ∷ codes "let" ∷ codes "loop" ∷ codes "macro" ∷ codes "match" ∷ codes "mod" ∷
-    codes "move" ∷ codes "mut" ∷ codes "override" ∷ codes "priv" ∷ codes "pub" ∷ codes "raw" ∷ codes "ref" ∷ codes "return" ∷ codes "safe" ∷
-    codes "Self" ∷ codes "self" ∷ codes "static" ∷ codes "struct" ∷ codes "super" ∷ codes "trait" ∷ codes "try" ∷ codes "type" ∷ codes "typeof" ∷
-    codes "union" ∷ codes "unsafe" ∷ codes "unsized" ∷ codes "use" ∷ codes "virtual" ∷ codes "where" ∷ codes "while" ∷ codes "yield" ∷ []
+    codes "abstract" ∷ codes "as" ∷ codes "async" ∷ codes "auto" ∷ codes "await" ∷ codes "become" ∷
+    codes "box" ∷ codes "break" ∷ codes "const" ∷
+    codes "continue" ∷ codes "crate" ∷ codes "default" ∷ codes "do" ∷ codes "dyn" ∷ codes "else" ∷
+    codes "enum" ∷ codes "extern" ∷ codes "final" ∷
+    codes "fn" ∷ codes "for" ∷ codes "if" ∷ codes "impl" ∷ codes "in" ∷ codes "let" ∷ codes "loop" ∷
+    codes "macro" ∷ codes "match" ∷ codes "mod" ∷
+    codes "move" ∷ codes "mut" ∷ codes "override" ∷ codes "priv" ∷ codes "pub" ∷ codes "raw" ∷ codes
+    "ref" ∷ codes "return" ∷ codes "safe" ∷
+    codes "Self" ∷ codes "self" ∷ codes "static" ∷ codes "struct" ∷ codes "super" ∷ codes "trait" ∷
+    codes "try" ∷ codes "type" ∷ codes "typeof" ∷
+    codes "union" ∷ codes "unsafe" ∷ codes "unsized" ∷ codes "use" ∷ codes "virtual" ∷ codes "where"
+    ∷ codes "while" ∷ codes "yield" ∷ []
 
 -- the punctuations of the Rust Reference (Tokens, Punctuation), and `<-`
 abbrev pub punctuations : List (List ℕ)
 punctuations =
-    codes "&" ∷ codes "&&" ∷ codes "&=" ∷ codes "@" ∷ codes "^" ∷ codes "^=" ∷ codes ":" ∷ codes "," ∷ codes "$" ∷ codes "." ∷ codes ".." ∷
-    codes "..." ∷ codes "..=" ∷ codes "=" ∷ codes "==" ∷ codes "=>" ∷ codes ">=" ∷ codes ">" ∷ codes "<-" ∷ codes "<=" ∷ codes "<" ∷ codes "-" ∷
-    codes "-=" ∷ codes "!=" ∷ codes "!" ∷ codes "|" ∷ codes "|=" ∷ codes "||" ∷ codes "::" ∷ codes "%" ∷ codes "%=" ∷ codes "+" ∷ codes "+=" ∷
-    codes "#" ∷ codes "?" ∷ codes "->" ∷ codes ";" ∷ codes "<<" ∷ codes "<<=" ∷ codes ">>" ∷ codes ">>=" ∷ codes "/" ∷ codes "/=" ∷ codes "*" ∷
+    codes "&" ∷ codes "&&" ∷ codes "&=" ∷ codes "@" ∷ codes "^" ∷ codes "^=" ∷ codes ":" ∷ codes ","
+    ∷ codes "$" ∷ codes "." ∷ codes ".." ∷
+    codes "..." ∷ codes "..=" ∷ codes "=" ∷ codes "==" ∷ codes "=>" ∷ codes ">=" ∷ codes ">" ∷ codes
+    "<-" ∷ codes "<=" ∷ codes "<" ∷ codes "-" ∷
+    codes "-=" ∷ codes "!=" ∷ codes "!" ∷ codes "|" ∷ codes "|=" ∷ codes "||" ∷ codes "::" ∷ codes
+    "%" ∷ codes "%=" ∷ codes "+" ∷ codes "+=" ∷
+    codes "#" ∷ codes "?" ∷ codes "->" ∷ codes ";" ∷ codes "<<" ∷ codes "<<=" ∷ codes ">>" ∷ codes
+    ">>=" ∷ codes "/" ∷ codes "/=" ∷ codes "*" ∷
     codes "*=" ∷ codes "~" ∷ []
 
--- the texts that no identifier has where one is parsed: `_`, `true`, `false`, and the keywords, strict or reserved
+-- the texts that no identifier has where one is parsed: `_`, `true`, `false`, and the keywords,
+-- strict or reserved
 abbrev pub reserved : List (List ℕ)
 reserved =
-    codes "Self" ∷ codes "_" ∷ codes "abstract" ∷ codes "as" ∷ codes "async" ∷ codes "await" ∷ codes "become" ∷ codes "box" ∷ codes "break" ∷
-    codes "const" ∷ codes "continue" ∷ codes "crate" ∷ codes "do" ∷ codes "dyn" ∷ codes "else" ∷ codes "enum" ∷ codes "extern" ∷ codes "false" ∷
-    codes "final" ∷ codes "fn" ∷ codes "for" ∷ codes "if" ∷ codes "impl" ∷ codes "in" ∷ codes "let" ∷ codes "loop" ∷ codes "macro" ∷ codes "match" ∷
-    codes "mod" ∷ codes "move" ∷ codes "mut" ∷ codes "override" ∷ codes "priv" ∷ codes "pub" ∷ codes "ref" ∷ codes "return" ∷ codes "self" ∷
-    codes "static" ∷ codes "struct" ∷ codes "super" ∷ codes "trait" ∷ codes "true" ∷ codes "try" ∷ codes "type" ∷ codes "typeof" ∷ codes "unsafe" ∷
-    codes "unsized" ∷ codes "use" ∷ codes "virtual" ∷ codes "where" ∷ codes "while" ∷ codes "yield" ∷ []
+    codes "Self" ∷ codes "_" ∷ codes "abstract" ∷ codes "as" ∷ codes "async" ∷ codes "await" ∷ codes
+    "become" ∷ codes "box" ∷ codes "break" ∷
+    codes "const" ∷ codes "continue" ∷ codes "crate" ∷ codes "do" ∷ codes "dyn" ∷ codes "else" ∷
+    codes "enum" ∷ codes "extern" ∷ codes "false" ∷
+    codes "final" ∷ codes "fn" ∷ codes "for" ∷ codes "if" ∷ codes "impl" ∷ codes "in" ∷ codes "let"
+    ∷ codes "loop" ∷ codes "macro" ∷ codes "match" ∷
+    codes "mod" ∷ codes "move" ∷ codes "mut" ∷ codes "override" ∷ codes "priv" ∷ codes "pub" ∷ codes
+    "ref" ∷ codes "return" ∷ codes "self" ∷
+    codes "static" ∷ codes "struct" ∷ codes "super" ∷ codes "trait" ∷ codes "true" ∷ codes "try" ∷
+    codes "type" ∷ codes "typeof" ∷ codes "unsafe" ∷
+    codes "unsized" ∷ codes "use" ∷ codes "virtual" ∷ codes "where" ∷ codes "while" ∷ codes "yield"
+    ∷ []
 
 -- the text of a number, and the empty text past the table
 abbrev pub keyword_text : ℕ → List ℕ

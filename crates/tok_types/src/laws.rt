@@ -2,13 +2,17 @@
 ghost use Rattle.std.specs.Prelude.{◌≡◌, ◌≤◌, length};
 ghost use Rattle.tok_types.specs.Laws.{AreEqual, WriteNothing, IsNeverFound};
 ghost use Rattle.tok_types.specs.Texts.{punctuation_text};
+ghost use Rattle.tok_types.specs.Views.{IgnoresInvisible};
 
 use crate::delimiter::{Brace, Bracket, Group, Paren};
 use crate::keyword::Keyword;
 use crate::look::Token;
 use crate::punctuation::Punctuation;
+use crate::trees::{End, IdentAny};
 use crate::underscore::Underscore;
 use std::hash::Hash;
+use tok_buffer::Lifetime;
+use tok_core::{Ident, Literal, Punct};
 
 /// A keyword past the table is never found.
 pub fn keyword_past_the_table<const K: usize>()
@@ -60,4 +64,25 @@ pub fn brackets_are_equal()
 pub fn groups_are_equal()
     ensures equal { AreEqual ⟦<Group as PartialEq>⟧.eq }
     ensures hash { WriteNothing ⟦<Group as Hash>⟧.hash_input }
+{}
+
+/// Invisible groups do not matter to a peek of a leaf, a lifetime, visible delimiters or the end: it is the same at places of
+/// filled forests with equal views.
+pub fn peeks_ignore_invisible()
+    ensures idents { IgnoresInvisible ⟦<Ident as Token>⟧.peeks }
+    ensures any_idents { IgnoresInvisible ⟦<IdentAny as Token>⟧.peeks }
+    ensures lifetimes { IgnoresInvisible ⟦<Lifetime as Token>⟧.peeks }
+    ensures literals { IgnoresInvisible ⟦<Literal as Token>⟧.peeks }
+    ensures puncts { IgnoresInvisible ⟦<Punct as Token>⟧.peeks }
+    ensures underscores { IgnoresInvisible ⟦<Underscore as Token>⟧.peeks }
+    ensures parens { IgnoresInvisible ⟦<Paren as Token>⟧.peeks }
+    ensures braces { IgnoresInvisible ⟦<Brace as Token>⟧.peeks }
+    ensures brackets { IgnoresInvisible ⟦<Bracket as Token>⟧.peeks }
+    ensures ends { IgnoresInvisible ⟦<End as Token>⟧.peeks }
+{}
+
+/// Nor to a peek of a keyword or a punctuation.
+pub fn tokens_ignore_invisible<const K: usize, const N: usize>()
+    ensures keywords { IgnoresInvisible ⟦<Keyword<K> as Token>⟧.peeks }
+    ensures punctuations { IgnoresInvisible ⟦<Punctuation<K, N> as Token>⟧.peeks }
 {}

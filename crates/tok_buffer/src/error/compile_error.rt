@@ -40,7 +40,7 @@ impl Error {
 impl Message {
     ghost use Rattle.tok_buffer.specs.CompileErrors.{compile_error};
 
-    // Puts the tokens of this message behind others.
+    // Puts the tokens of this message after others.
     fn write(&self, alloc: Global, tokens: &mut TokenStream) -> Result<(), AllocError>
         ensures { OnOk result (tokens.new ≡ joined tokens.old (compile_error self.now)) }
     {
@@ -51,7 +51,7 @@ impl Message {
     }
 }
 
-// Puts `::` and a name behind others.
+// Puts `::` and a name after others.
 fn write_segment(
     alloc: Global,
     name: &str,
@@ -67,7 +67,7 @@ fn write_segment(
     Ok(())
 }
 
-// Puts `!` and, in braces, a text as a string behind others.
+// Puts `!` and, in braces, a text as a string after others.
 fn write_invocation(
     alloc: Global,
     text: &str,

@@ -13,7 +13,7 @@ impl<'a> Spot<'a> {
     ghost use Rattle.tok_buffer.specs.Rest.{scope_delimiter};
     ghost use Rattle.tok_buffer.specs.Spans.{closing_of};
 
-    // The group in front: its content, its delimiter and span, and the spot behind it.
+    // The group in front: its content, its delimiter and span, and the spot after it.
     pub fn enter_any(self) -> Option<(Spot<'a>, Delimiter, Span, Spot<'a>)>
         ensures { MatchOption result
             (enter_any (spot_place self.entry) ≡ None)

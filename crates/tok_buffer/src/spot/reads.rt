@@ -104,7 +104,7 @@ impl<'a> Spot<'a> {
         Some((apostrophe, ident, rest))
     }
 
-    // Behind the next token: a lifetime, or the front tree.
+    // After the next token: a lifetime, or the front tree.
     pub fn skip(self) -> Option<Spot<'a>>
         ensures { MatchOption result
             (skip (spot_place self.entry) ≡ None)
@@ -116,7 +116,7 @@ impl<'a> Spot<'a> {
         }
     }
 
-    // Behind the front tree.
+    // After the front tree.
     fn behind_front(self) -> Option<Spot<'a>>
         ensures { MatchOption result
             (behind (read_tree (spot_place self.entry)) ≡ None)

@@ -100,7 +100,7 @@ pub tries_pair : (a b : ℕ) (text : List ℕ) (answer : Option (Bor (List ℕ))
 tries_pair a b text None misses = λ (piece, after, cut, one). misses after (cut ∙ ap (λ w. w ++ after) one)
 tries_pair a b text (Some rest) e = (a ∷ b ∷ [], record { cut = e; spelled = refl; longest = λ more after q s. nothing_behind a b more s })
 
--- a character, and behind it what another function tries
+-- a character, and after it what another function tries
 pub tries_behind : (k : ℕ) (S : List ℕ → Type 0) (text rest : List ℕ) (answer : Option (Bor (List ℕ))) → text ≡ k ∷ rest → Tries S rest answer → Tries (Behind k S) text answer
 tries_behind k S text rest None e misses = λ (piece, after, cut, (more, f, s)).
     let both : k ∷ rest ≡ k ∷ (more ++ after) = sym e ∙ cut ∙ ap (λ w. w ++ after) f in

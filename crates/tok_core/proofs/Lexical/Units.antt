@@ -97,7 +97,7 @@ pub tries_unit : (text rest : List ℕ) (answer : Option (Bor (List ℕ))) → t
 tries_unit text rest None e misses = λ (piece, after, cut, v). none_unit rest piece after misses v (sym e ∙ cut)
 tries_unit text rest (Some after) e (piece, cut, v) = (92 ∷ piece, e ∙ ap (λ w. 92 ∷ w) cut, escape v)
 
--- an apostrophe, what stands within, and what is tried behind it
+-- an apostrophe, what stands within, and what is tried after it
 pub tries_quoted : (Inner : List ℕ → Type 0) (text start rest inner : List ℕ) (answer : Option (Bor (List ℕ))) → IsFree Inner → text ≡ 39 ∷ start → start ≡ inner ++ rest → Inner inner → Tries (Behind 39 IsSuffix) rest answer → Tries (IsQuoted Inner) text answer
 tries_quoted Inner text start rest inner None free one two h misses = λ (piece, after, cut, (other, suffix, e, k, s)).
     let whole : 39 ∷ start ≡ 39 ∷ ((other ++ 39 ∷ suffix) ++ after) = sym one ∙ cut ∙ ap (λ w. w ++ after) e in
@@ -117,7 +117,7 @@ tries_quoted Inner text start rest inner (Some last) free one two h (piece, t) =
       },
     )
 
--- a character, and a suffix behind it
+-- a character, and a suffix after it
 pub takes_behind : (k : ℕ) (S : List ℕ → Type 0) (text rest last suffix : List ℕ) → text ≡ k ∷ rest → Takes S rest suffix last → (piece : List ℕ) × Takes (Behind k S) text piece last
 takes_behind k S text rest last suffix e t = (
   k ∷ suffix,

@@ -1,5 +1,6 @@
 -- What stands in the middle of a text: the rules tried so far, and the trees so far.
-use Rattle.std.specs.Prelude.{◌≡◌, ◌==◌, Bool, true, ℕ, suc, ◌-◌, ◌<◌, ◌≤◌, List, [], ◌∷◌, ◌++◌, length, map, Option, MatchOption, Some, slice_index_or}
+use Rattle.std.specs.Prelude.{◌≡◌, ◌==◌, Bool, true, ℕ, suc, ◌-◌, ◌<◌, ◌≤◌, List, [], ◌∷◌, ◌++◌}
+use Rattle.std.specs.Prelude.{length, map, Option, MatchOption, Some, slice_index_or}
 use Rattle.std.specs.Borrow.{Bor}
 use Rattle.std.specs.Str.{chars}
 use Rattle.tok_core.specs.Forest.{Forest}
@@ -11,14 +12,22 @@ use Rattle.tok_core.specs.Lexical.Meaning.{refusal}
 use Rattle.tok_core.specs.Lexical.Reading.{Decides}
 use Rattle.tok_core.specs.declared.group.Delimiter.{Delimiter}
 use Rattle.tok_core.specs.declared.lexer.rule.Rule.{Rule}
-use Rattle.tok_core.specs.declared.lexer.rule.Rule.TheVariants.{ByteOrderMark, Whitespace, LineComment, BlockComment, OpenComment, Opening, Closing, QuotedString, BadString, ByteChar, BadByteChar, EscapedChar, BadEscapedChar, PlainChar, Lifetime, Apostrophe, MarkedApostrophe, Based, BadBased, RawIdentifier, Other}
+use Rattle.tok_core.specs.declared.lexer.rule.Rule.TheVariants.{ByteOrderMark, Whitespace}
+use Rattle.tok_core.specs.declared.lexer.rule.Rule.TheVariants.{LineComment, BlockComment}
+use Rattle.tok_core.specs.declared.lexer.rule.Rule.TheVariants.{OpenComment, Opening, Closing}
+use Rattle.tok_core.specs.declared.lexer.rule.Rule.TheVariants.{QuotedString, BadString, ByteChar}
+use Rattle.tok_core.specs.declared.lexer.rule.Rule.TheVariants.{BadByteChar, EscapedChar}
+use Rattle.tok_core.specs.declared.lexer.rule.Rule.TheVariants.{BadEscapedChar, PlainChar, Lifetime}
+use Rattle.tok_core.specs.declared.lexer.rule.Rule.TheVariants.{Apostrophe, MarkedApostrophe, Based}
+use Rattle.tok_core.specs.declared.lexer.rule.Rule.TheVariants.{BadBased, RawIdentifier, Other}
 use Rattle.tok_core.specs.declared.lexer.error.Refusal.{Refusal}
 use Rattle.tok_core.specs.declared.lexer.error.Refusal.TheVariants.{UnexpectedClosing, DeepGroup}
 use Rattle.tok_core.specs.declared.lexer.error.LexError.{LexError}
 use Rattle.tok_core.specs.declared.lexer.nest.OpenGroup.{OpenGroup}
 use Rattle.tok_core.specs.declared.lexer.nest.Nest.{Nest}
 
--- whether a piece of the rule may begin with this character: most rules begin with one character only
+-- whether a piece of the rule may begin with this character: most rules begin with one character
+-- only
 abbrev pub may_begin : Rule → ℕ → Bool
 may_begin ByteOrderMark c = c == 0xFEFF
 may_begin LineComment c = c == 47
@@ -43,11 +52,14 @@ may_begin rule c = true
 
 -- no rule before the place fits
 pub record NoneBefore (rules : List Rule) (text : List ℕ) (i : ℕ) : Type 0 where
-  pub none : (j : ℕ) (d : Rule) → j < i → j < length rules → Fits (Spells (slice_index_or rules j d)) text → ⊥
+  pub none : (j : ℕ) (d : Rule) → j < i → j < length rules →
+      Fits (Spells (slice_index_or rules j d)) text → ⊥
 
 -- what a function that tries the rules in turn answers
 abbrev pub TriesRules : List Rule → List ℕ → Option (Rule × Bor (List ℕ)) → Type 0
-TriesRules rules text answer = MatchOption answer (NoneBefore rules text (length rules)) (λ found. (piece : List ℕ) × Decides text rules found.0 piece (chars found.1.now))
+TriesRules rules text answer =
+    MatchOption answer (NoneBefore rules text (length rules))
+    (λ found. (piece : List ℕ) × Decides text rules found.0 piece (chars found.1.now))
 
 -- the last rule takes any character
 abbrev pub EndsInOther : List Rule → Type 0
@@ -59,8 +71,11 @@ levels_of groups = map (λ g. (g.delimiter, g.start)) groups
 
 -- the items of the trees so far: before each open group, and at the innermost level
 pub data Holds (number : ℕ) : ℕ → List OpenGroup → Forest → List Item → Type 0 where
-  last : {n : ℕ} {f : Forest} {all : List Item} → depth f ≤ n → Flat number f all → Holds number n [] f all
-  outer : {n : ℕ} {g : OpenGroup} {groups : List OpenGroup} {f : Forest} {before all : List Item} → depth g.before ≤ suc n → Flat number g.before before → Holds number n groups f all → Holds number (suc n) (g ∷ groups) f (before ++ opening g.delimiter g.start ∷ all)
+  last : {n : ℕ} {f : Forest} {all : List Item} → depth f ≤ n → Flat number f all →
+      Holds number n [] f all
+  outer : {n : ℕ} {g : OpenGroup} {groups : List OpenGroup} {f : Forest} {before all : List Item} →
+      depth g.before ≤ suc n → Flat number g.before before → Holds number n groups f all →
+      Holds number (suc n) (g ∷ groups) f (before ++ opening g.delimiter g.start ∷ all)
 
 -- the open groups begin at this byte or before it
 abbrev pub Reached : List OpenGroup → ℕ → Type 0
@@ -71,20 +86,31 @@ Reached (g ∷ groups) at = (g.start ≤ at) × Reached groups at
 pub record Grows (at : ℕ) (old new : Nest) (more : List Item) : Type 0 where
   pub same_source : new.source ≡ old.source
   pub reached : Reached old.«open».items at → Reached new.«open».items at
-  pub holds : (all : List Item) → Holds old.source 256 old.«open».items old.trees all → Holds old.source 256 new.«open».items new.trees (all ++ more)
+  pub holds : (all : List Item) → Holds old.source 256 old.«open».items old.trees all →
+      Holds old.source 256 new.«open».items new.trees (all ++ more)
 
 -- why this piece is refused, with these groups open
-pub data Halts (levels : List (Delimiter × ℕ)) (rule : Rule) (at : ℕ) (piece after : List ℕ) : Refusal → Type 0 where
-  by_meaning : {why : Refusal} → refusal rule at piece after ≡ Some why → Halts levels rule at piece after why
-  unfit : (delimiter : Delimiter) → rule ≡ Closing delimiter → (IsOpenBy levels delimiter → ⊥) → Halts levels rule at piece after UnexpectedClosing
-  deep : (delimiter : Delimiter) → rule ≡ Opening delimiter → length levels ≡ 256 → Halts levels rule at piece after DeepGroup
+pub data Halts (levels : List (Delimiter × ℕ)) (rule : Rule) (at : ℕ)
+    (piece after : List ℕ) : Refusal → Type 0 where
+  by_meaning : {why : Refusal} → refusal rule at piece after ≡ Some why →
+      Halts levels rule at piece after why
+  unfit : (delimiter : Delimiter) → rule ≡ Closing delimiter → (IsOpenBy levels delimiter → ⊥) →
+      Halts levels rule at piece after UnexpectedClosing
+  deep : (delimiter : Delimiter) → rule ≡ Opening delimiter → length levels ≡ 256 →
+      Halts levels rule at piece after DeepGroup
 
 -- an error at this byte for a reason why this piece is refused
 abbrev pub HaltsAt : Nest → Rule → ℕ → List ℕ → List ℕ → LexError → Type 0
-HaltsAt nest rule at piece after error = (error.source ≡ nest.source) × (error.at ≡ at) × Halts (levels_of nest.«open».items) rule at piece after error.refusal
+HaltsAt nest rule at piece after error =
+    (error.source ≡ nest.source) × (error.at ≡ at)
+    × Halts (levels_of nest.«open».items) rule at piece after error.refusal
 
 abbrev pub IsTooDeep : Nest → ℕ → LexError → Type 0
-IsTooDeep nest at error = (error ≡ record { refusal = DeepGroup; source = nest.source; at = at }) × (length (levels_of nest.«open».items) ≡ 256)
+IsTooDeep nest at error =
+    (error ≡ record { refusal = DeepGroup; source = nest.source; at = at })
+    × (length (levels_of nest.«open».items) ≡ 256)
 
 abbrev pub IsUnfit : Nest → Delimiter → ℕ → LexError → Type 0
-IsUnfit nest delimiter at error = (error ≡ record { refusal = UnexpectedClosing; source = nest.source; at = at }) × (IsOpenBy (levels_of nest.«open».items) delimiter → ⊥)
+IsUnfit nest delimiter at error =
+    (error ≡ record { refusal = UnexpectedClosing; source = nest.source; at = at })
+    × (IsOpenBy (levels_of nest.«open».items) delimiter → ⊥)

@@ -1,15 +1,20 @@
--- White space, punctuation characters and delimiters (Rust Reference: Whitespace; Tokens, Punctuation and Delimiters).
+-- White space, punctuation characters and delimiters (Rust Reference: Whitespace; Tokens,
+-- Punctuation and Delimiters).
 use Rattle.std.specs.Prelude.{ℕ, Bool, ◌||◌, ◌&&◌, ◌==◌, nat_le}
 use Rattle.tok_core.specs.declared.group.Delimiter.{Delimiter}
 use Rattle.tok_core.specs.declared.group.Delimiter.TheVariants.{Parenthesis, Brace, Bracket, None}
 
 -- U+0009 to U+000D, space, U+0085, U+200E, U+200F, U+2028, U+2029
 abbrev pub is_whitespace : ℕ → Bool
-is_whitespace c = (nat_le 9 c && nat_le c 13) || (c == 32) || (c == 0x85) || (c == 0x200E) || (c == 0x200F) || (c == 0x2028) || (c == 0x2029)
+is_whitespace c =
+    (nat_le 9 c && nat_le c 13) || (c == 32) || (c == 0x85) || (c == 0x200E) || (c == 0x200F)
+    || (c == 0x2028) || (c == 0x2029)
 
 -- one of ! # $ % & * + , - . / : ; < = > ? @ ^ | ~
 abbrev pub is_punct : ℕ → Bool
-is_punct c = (c == 33) || (nat_le 35 c && nat_le c 38) || (nat_le 42 c && nat_le c 47) || (nat_le 58 c && nat_le c 64) || (c == 94) || (c == 124) || (c == 126)
+is_punct c =
+    (c == 33) || (nat_le 35 c && nat_le c 38) || (nat_le 42 c && nat_le c 47)
+    || (nat_le 58 c && nat_le c 64) || (c == 94) || (c == 124) || (c == 126)
 
 -- a character that a punct may have: those, and the apostrophe
 abbrev pub is_punct_or_apostrophe : ℕ → Bool

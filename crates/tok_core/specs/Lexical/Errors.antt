@@ -3,7 +3,13 @@ use Rattle.std.specs.Prelude.{ℕ, List, codes}
 use Rattle.tok_core.specs.Spans.{source}
 use Rattle.tok_core.specs.declared.span.Span.{Span}
 use Rattle.tok_core.specs.declared.lexer.error.Refusal.{Refusal}
-use Rattle.tok_core.specs.declared.lexer.error.Refusal.TheVariants.{UnknownCharacter, UnclosedGroup, UnexpectedClosing, UnclosedComment, DocComment, MalformedQuoted, PrefixedString, FloatLiteral, MalformedNumber, MissingRawIdentifier, LoneApostrophe, DeepGroup}
+use Rattle.tok_core.specs.declared.lexer.error.Refusal.TheVariants.{UnknownCharacter, UnclosedGroup}
+use Rattle.tok_core.specs.declared.lexer.error.Refusal.TheVariants.{UnexpectedClosing}
+use Rattle.tok_core.specs.declared.lexer.error.Refusal.TheVariants.{UnclosedComment, DocComment}
+use Rattle.tok_core.specs.declared.lexer.error.Refusal.TheVariants.{MalformedQuoted, PrefixedString}
+use Rattle.tok_core.specs.declared.lexer.error.Refusal.TheVariants.{FloatLiteral, MalformedNumber}
+use Rattle.tok_core.specs.declared.lexer.error.Refusal.TheVariants.{MissingRawIdentifier}
+use Rattle.tok_core.specs.declared.lexer.error.Refusal.TheVariants.{LoneApostrophe, DeepGroup}
 use Rattle.tok_core.specs.declared.lexer.error.LexError.{LexError}
 use Rattle.tok_core.specs.declared.lexer.error.LexFault.{LexFault}
 use Rattle.tok_core.specs.declared.lexer.error.LexFault.TheVariants.{Refused, Memory}
@@ -51,7 +57,7 @@ error_byte error = error.at
 abbrev pub error_span : LexError → Span
 error_span error = source error.source error.at error.at
 
--- a fault that isn't want of memory has an error of which this holds
+-- a fault that isn't an allocation failure has an error of which this holds
 abbrev pub OnRefused : LexFault → (LexError → Type 0) → Type 0
 OnRefused (Refused error) P = P error
 OnRefused Memory P = Unit {0}

@@ -1,4 +1,5 @@
--- What follows a piece: whether a punct is joint (Rust Reference: Procedural macros, on the spacing of punctuation).
+-- What follows a piece: whether a punct is joint (Rust Reference: Procedural macros, on the spacing
+-- of punctuation).
 use Rattle.std.specs.Prelude.{ℕ, List, [], ◌∷◌, Bool, false, not, ◌||◌, ◌&&◌, ◌==◌, if◌then◌else◌}
 use Rattle.tok_core.specs.Lexical.Characters.{is_punct_or_apostrophe}
 use Rattle.tok_core.specs.Lexical.Words.{is_identifier_start}
@@ -22,11 +23,12 @@ abbrev pub starts_name : List ℕ → Bool
 starts_name [] = false
 starts_name (c ∷ rest) = is_identifier_start c
 
--- the text behind the marks of invisible groups at its front
+-- the text after the marks of invisible groups at its front
 abbrev pub past_marks : List ℕ → List ℕ
 past_marks [] = []
 past_marks (c ∷ rest) = if (c == 171) || (c == 187) then past_marks rest else (c ∷ rest)
 
--- what makes an apostrophe of marked text joint: an identifier or a punctuation character follows, through marks
+-- what makes an apostrophe of marked text joint: an identifier or a punctuation character follows,
+-- through marks
 abbrev pub is_joint_apostrophe : List ℕ → Bool
 is_joint_apostrophe text = starts_name (past_marks text) || starts_punct (past_marks text)

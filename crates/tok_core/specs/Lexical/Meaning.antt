@@ -1,5 +1,6 @@
 -- What a piece means that a rule took at a byte, with a text after it: a refusal, or its items.
-use Rattle.std.specs.Prelude.{ℕ, ◌+◌, List, [], ◌∷◌, Bool, true, false, not, ◌==◌, length, map, encode_utf8_all, if◌then◌else◌, Option, Some, None}
+use Rattle.std.specs.Prelude.{ℕ, ◌+◌, List, [], ◌∷◌, Bool, true, false, not, ◌==◌, length, map}
+use Rattle.std.specs.Prelude.{encode_utf8_all, if◌then◌else◌, Option, Some, None}
 use Rattle.tok_core.specs.Forest.{ident, punct, literal}
 use Rattle.tok_core.specs.Spans.{source}
 use Rattle.tok_core.specs.Lexical.Words.{is_missing}
@@ -11,11 +12,24 @@ use Rattle.tok_core.specs.declared.group.Delimiter.{Delimiter}
 use Rattle.tok_core.specs.declared.group.Delimiter.TheVariants as delimiter
 use Rattle.tok_core.specs.declared.punct.Spacing.TheVariants.{Alone, Joint}
 use Rattle.tok_core.specs.declared.lexer.rule.Rule.{Rule}
-use Rattle.tok_core.specs.declared.lexer.rule.Rule.TheVariants.{ByteOrderMark, LineComment, BlockComment, OpenComment, Opening, Closing, QuotedString, BadString, ByteChar, BadByteChar, StringPrefix, EscapedChar, BadEscapedChar, PlainChar, Lifetime, Apostrophe, MarkedApostrophe, Based, BadBased, Decimal, RawIdentifier, Identifier, Punct, MarkedPunct, Other}
+use Rattle.tok_core.specs.declared.lexer.rule.Rule.TheVariants.{ByteOrderMark, LineComment}
+use Rattle.tok_core.specs.declared.lexer.rule.Rule.TheVariants.{BlockComment, OpenComment, Opening}
+use Rattle.tok_core.specs.declared.lexer.rule.Rule.TheVariants.{Closing, QuotedString, BadString}
+use Rattle.tok_core.specs.declared.lexer.rule.Rule.TheVariants.{ByteChar, BadByteChar, StringPrefix}
+use Rattle.tok_core.specs.declared.lexer.rule.Rule.TheVariants.{EscapedChar, BadEscapedChar}
+use Rattle.tok_core.specs.declared.lexer.rule.Rule.TheVariants.{PlainChar, Lifetime, Apostrophe}
+use Rattle.tok_core.specs.declared.lexer.rule.Rule.TheVariants.{MarkedApostrophe, Based, BadBased}
+use Rattle.tok_core.specs.declared.lexer.rule.Rule.TheVariants.{Decimal, RawIdentifier, Identifier}
+use Rattle.tok_core.specs.declared.lexer.rule.Rule.TheVariants.{Punct, MarkedPunct, Other}
 use Rattle.tok_core.specs.declared.lexer.error.Refusal.{Refusal}
-use Rattle.tok_core.specs.declared.lexer.error.Refusal.TheVariants.{UnknownCharacter, UnclosedComment, DocComment, MalformedQuoted, PrefixedString, FloatLiteral, MalformedNumber, MissingRawIdentifier, LoneApostrophe}
+use Rattle.tok_core.specs.declared.lexer.error.Refusal.TheVariants.{UnknownCharacter}
+use Rattle.tok_core.specs.declared.lexer.error.Refusal.TheVariants.{UnclosedComment, DocComment}
+use Rattle.tok_core.specs.declared.lexer.error.Refusal.TheVariants.{MalformedQuoted, PrefixedString}
+use Rattle.tok_core.specs.declared.lexer.error.Refusal.TheVariants.{FloatLiteral, MalformedNumber}
+use Rattle.tok_core.specs.declared.lexer.error.Refusal.TheVariants.{MissingRawIdentifier}
+use Rattle.tok_core.specs.declared.lexer.error.Refusal.TheVariants.{LoneApostrophe}
 
--- what is behind the first character
+-- what follows the first character
 abbrev pub behind_first : List ℕ → List ℕ
 behind_first [] = []
 behind_first (c ∷ rest) = rest
@@ -59,14 +73,17 @@ abbrev pub width : Rule → List ℕ → ℕ
 width rule piece = if is_group_mark rule then 0 else bytes piece
 
 abbrev pub ident_item : ℕ → ℕ → ℕ → List ℕ → Item
-ident_item number start end text = leaf_item (ident (encode_utf8_all text) (source number start end))
+ident_item number start end text =
+    leaf_item (ident (encode_utf8_all text) (source number start end))
 
 abbrev pub literal_item : ℕ → ℕ → ℕ → List ℕ → Item
-literal_item number start end text = leaf_item (literal (encode_utf8_all text) (source number start end))
+literal_item number start end text =
+    leaf_item (literal (encode_utf8_all text) (source number start end))
 
 -- one byte long
 abbrev pub punct_item : ℕ → ℕ → ℕ → Bool → Item
-punct_item number at c joint = leaf_item (punct c (if joint then Joint else Alone) (source number at (at + 1)))
+punct_item number at c joint =
+    leaf_item (punct c (if joint then Joint else Alone) (source number at (at + 1)))
 
 -- the items of a piece that isn't refused, in the source of this number
 abbrev pub items : ℕ → Rule → ℕ → List ℕ → List ℕ → List Item
@@ -76,12 +93,16 @@ items number QuotedString at piece after = literal_item number at (at + bytes pi
 items number ByteChar at piece after = literal_item number at (at + bytes piece) piece ∷ []
 items number EscapedChar at piece after = literal_item number at (at + bytes piece) piece ∷ []
 items number PlainChar at piece after = literal_item number at (at + bytes piece) piece ∷ []
-items number Lifetime at piece after = punct_item number at 39 true ∷ ident_item number (at + 1) (at + bytes piece) (behind_first piece) ∷ []
-items number MarkedApostrophe at piece after = punct_item number at 39 (is_joint_apostrophe after) ∷ []
+items number Lifetime at piece after =
+    punct_item number at 39 true ∷ ident_item number (at + 1) (at + bytes piece)
+    (behind_first piece) ∷ []
+items number MarkedApostrophe at piece after =
+    punct_item number at 39 (is_joint_apostrophe after) ∷ []
 items number (Based base) at piece after = literal_item number at (at + bytes piece) piece ∷ []
 items number Decimal at piece after = literal_item number at (at + bytes piece) piece ∷ []
 items number RawIdentifier at piece after = ident_item number at (at + bytes piece) piece ∷ []
 items number Identifier at piece after = ident_item number at (at + bytes piece) piece ∷ []
 items number Punct at piece after = map (λ c. punct_item number at c (is_joint after)) piece
-items number MarkedPunct at piece after = map (λ c. punct_item number at c (is_joint (past_marks after))) piece
+items number MarkedPunct at piece after =
+    map (λ c. punct_item number at c (is_joint (past_marks after))) piece
 items number rule at piece after = []

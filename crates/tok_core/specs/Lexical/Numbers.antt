@@ -29,7 +29,7 @@ abbrev pub starts_digit : List ℕ → Bool
 starts_digit [] = false
 starts_digit (c ∷ rest) = is_digit c 10
 
--- a dot follows, and behind it neither a dot, an underscore nor an XID_Start character
+-- a dot follows, and after it neither a dot, an underscore nor an XID_Start character
 abbrev pub is_fraction : List ℕ → Bool
 is_fraction [] = false
 is_fraction (c ∷ []) = c == 46
@@ -45,7 +45,9 @@ IsNumberSuffix n (c ∷ rest) = (starts_number_suffix n c ≡ true) × IsIdentif
 
 -- digits and underscores of which this holds, as many as there are, and a suffix
 abbrev pub IsNumber : ℕ → (List ℕ → Bool) → List ℕ → Type 0
-IsNumber n good piece = (digits : List ℕ) × (suffix : List ℕ) × (piece ≡ digits ++ suffix) × IsAll (is_digit_or_underscore n) digits × (good digits ≡ true) × IsNumberSuffix n suffix
+IsNumber n good piece =
+    (digits : List ℕ) × (suffix : List ℕ) × (piece ≡ digits ++ suffix)
+    × IsAll (is_digit_or_underscore n) digits × (good digits ≡ true) × IsNumberSuffix n suffix
 
 abbrev pub has_digit : ℕ → List ℕ → Bool
 has_digit n digits = list_any (λ c. is_digit c n) digits
@@ -60,14 +62,16 @@ IsDecimal = IsNumber 10 starts_digit
 abbrev pub is_bare : ℕ → List ℕ → Bool
 is_bare n digits = list_all (is_digit_or_underscore n) digits
 
--- what is behind the zero and the letter
+-- what follows the zero and the letter
 abbrev pub digits_of : List ℕ → List ℕ
 digits_of [] = []
 digits_of (c ∷ []) = []
 digits_of (c ∷ d ∷ digits) = digits
 
 abbrev pub is_malformed : Base → List ℕ → List ℕ → Bool
-is_malformed base piece after = is_bare (radix base) (digits_of piece) && (is_exponent after || (starts_digit after || is_fraction after))
+is_malformed base piece after =
+    is_bare (radix base) (digits_of piece)
+    && (is_exponent after || (starts_digit after || is_fraction after))
 
 abbrev pub is_float : List ℕ → List ℕ → Bool
 is_float piece after = is_bare 10 piece && (is_exponent after || is_fraction after)

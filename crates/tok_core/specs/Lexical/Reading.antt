@@ -9,32 +9,55 @@ use Rattle.tok_core.specs.declared.group.Delimiter.{Delimiter}
 use Rattle.tok_core.specs.declared.lexer.rule.Rule.{Rule}
 use Rattle.tok_core.specs.declared.lexer.rule.Rule.TheVariants.{Opening, Closing}
 use Rattle.tok_core.specs.declared.lexer.error.Refusal.{Refusal}
-use Rattle.tok_core.specs.declared.lexer.error.Refusal.TheVariants.{UnclosedGroup, UnexpectedClosing, DeepGroup}
+use Rattle.tok_core.specs.declared.lexer.error.Refusal.TheVariants.{UnclosedGroup}
+use Rattle.tok_core.specs.declared.lexer.error.Refusal.TheVariants.{UnexpectedClosing, DeepGroup}
 use Rattle.tok_core.specs.declared.lexer.error.LexError.{LexError}
 
--- The first of the rules that fits at the front of the text is this one, and it takes this piece, before this rest.
+-- The first of the rules that fits at the front of the text is this one, and it takes this piece,
+-- before this rest.
 pub data Decides (text : List ℕ) : List Rule → Rule → List ℕ → List ℕ → Type 0 where
-  here : {rule : Rule} {rules : List Rule} {piece rest : List ℕ} → Takes (Spells rule) text piece rest → Decides text (rule ∷ rules) rule piece rest
-  later : {other rule : Rule} {rules : List Rule} {piece rest : List ℕ} → (Fits (Spells other) text → ⊥) → Decides text rules rule piece rest → Decides text (other ∷ rules) rule piece rest
+  here : {rule : Rule} {rules : List Rule} {piece rest : List ℕ} →
+      Takes (Spells rule) text piece rest → Decides text (rule ∷ rules) rule piece rest
+  later : {other rule : Rule} {rules : List Rule} {piece rest : List ℕ} →
+      (Fits (Spells other) text → ⊥) → Decides text rules rule piece rest →
+      Decides text (other ∷ rules) rule piece rest
 
--- From the byte `at` on, a front of the text is cut into pieces that mean these items; it ends at the byte `end`, before `rest`.
+-- From the byte `at` on, a front of the text is cut into pieces that mean these items; it ends at
+-- the byte `end`, before `rest`.
 pub data Cut (rules : List Rule) (number : ℕ) : ℕ → List ℕ → List Item → ℕ → List ℕ → Type 0 where
   stop : {at : ℕ} {text : List ℕ} → Cut rules number at text [] at text
-  piece : {at end : ℕ} {text taken after rest : List ℕ} {rule : Rule} {more : List Item} → Decides text rules rule taken after → refusal rule at taken after ≡ None → Cut rules number (at + width rule taken) after more end rest → Cut rules number at text (items number rule at taken after ++ more) end rest
+  piece : {at end : ℕ} {text taken after rest : List ℕ} {rule : Rule} {more : List Item} →
+      Decides text rules rule taken after → refusal rule at taken after ≡ None →
+      Cut rules number (at + width rule taken) after more end rest →
+      Cut rules number at text (items number rule at taken after ++ more) end rest
 
--- The text of the source of this number reads as this forest: it has at most 256 levels, and the whole text is cut into pieces that mean its items.
+-- The text of the source of this number reads as this forest: it has at most 256 levels, and the
+-- whole text is cut into pieces that mean its items.
 abbrev pub Reads : List Rule → ℕ → List ℕ → Forest → Type 0
-Reads rules number text f = (depth f ≤ 256) × ((all : List Item) × Flat number f all × ((end : ℕ) × Cut rules number 0 text all end []))
+Reads rules number text f =
+    (depth f ≤ 256)
+    × ((all : List Item) × Flat number f all × ((end : ℕ) × Cut rules number 0 text all end []))
 
--- why the text is refused at `rest`, which begins at the byte `at`, with these groups open; and the byte
-pub data Refuses (rules : List Rule) (levels : List (Delimiter × ℕ)) (at : ℕ) (rest : List ℕ) : Refusal → ℕ → Type 0 where
-  by_rule : {rule : Rule} {taken after : List ℕ} {why : Refusal} → Decides rest rules rule taken after → refusal rule at taken after ≡ Some why → Refuses rules levels at rest why at
-  unclosed : {start : ℕ} (delimiter : Delimiter) (outer : List (Delimiter × ℕ)) → rest ≡ [] → levels ≡ outer ++ (delimiter, start) ∷ [] → Refuses rules levels at rest UnclosedGroup start
-  unopened : (delimiter : Delimiter) (taken after : List ℕ) → Decides rest rules (Closing delimiter) taken after → (IsOpenBy levels delimiter → ⊥) → Refuses rules levels at rest UnexpectedClosing at
-  too_deep : (delimiter : Delimiter) (taken after : List ℕ) → Decides rest rules (Opening delimiter) taken after → length levels ≡ 256 → Refuses rules levels at rest DeepGroup at
+-- why the text is refused at `rest`, which begins at the byte `at`, with these groups open; and the
+-- byte
+pub data Refuses (rules : List Rule) (levels : List (Delimiter × ℕ)) (at : ℕ)
+    (rest : List ℕ) : Refusal → ℕ → Type 0 where
+  by_rule : {rule : Rule} {taken after : List ℕ} {why : Refusal} →
+      Decides rest rules rule taken after → refusal rule at taken after ≡ Some why →
+      Refuses rules levels at rest why at
+  unclosed : {start : ℕ} (delimiter : Delimiter) (outer : List (Delimiter × ℕ)) → rest ≡ [] →
+      levels ≡ outer ++ (delimiter, start) ∷ [] → Refuses rules levels at rest UnclosedGroup start
+  unopened : (delimiter : Delimiter) (taken after : List ℕ) →
+      Decides rest rules (Closing delimiter) taken after → (IsOpenBy levels delimiter → ⊥) →
+      Refuses rules levels at rest UnexpectedClosing at
+  too_deep : (delimiter : Delimiter) (taken after : List ℕ) →
+      Decides rest rules (Opening delimiter) taken after → length levels ≡ 256 →
+      Refuses rules levels at rest DeepGroup at
 
--- A front of the text is cut, with these groups open, and the rest is refused there with this error.
+-- A front of the text is cut, with these groups open, and the rest is refused there with this
+-- error.
 abbrev pub IsRefused : List Rule → ℕ → List ℕ → LexError → Type 0
 IsRefused rules number text error = (error.source ≡ number)
     × ((all : List Item) × (end : ℕ) × (rest : List ℕ) × (levels : List (Delimiter × ℕ))
-    × Cut rules number 0 text all end rest × Opens number 256 levels all × Refuses rules levels end rest error.refusal error.at)
+    × Cut rules number 0 text all end rest × Opens number 256 levels all
+    × Refuses rules levels end rest error.refusal error.at)

@@ -1,17 +1,29 @@
--- The rules of the grammar in their order, and what each spells (Rust Reference: Tokens; Whitespace; Comments).
+-- The rules of the grammar in their order, and what each spells (Rust Reference: Tokens;
+-- Whitespace; Comments).
 use Rattle.std.specs.Prelude.{◌≡◌, ℕ, List, [], ◌∷◌, true, ◌==◌}
 use Rattle.tok_core.specs.Lexical.Characters.{is_whitespace, is_punct, opening_mark, closing_mark}
 use Rattle.tok_core.specs.Lexical.Words.{IsIdentifier, IsRawIdentifier, IsName}
 use Rattle.tok_core.specs.Lexical.Comments.{IsLineComment, IsBlockComment}
-use Rattle.tok_core.specs.Lexical.Strings.{IsString, IsQuoted, IsByte, IsEscapedChar, is_char, IsStringPrefix}
+use Rattle.tok_core.specs.Lexical.Strings.{IsString, IsQuoted, IsByte, IsEscapedChar, is_char}
+use Rattle.tok_core.specs.Lexical.Strings.{IsStringPrefix}
 use Rattle.tok_core.specs.Lexical.Numbers.{IsBased, IsDecimal, base_mark}
 use Rattle.tok_core.specs.Lexical.Pieces.{IsOne, Behind}
 use Rattle.tok_core.specs.declared.group.Delimiter.TheVariants.{Parenthesis, Brace, Bracket, None}
 use Rattle.tok_core.specs.declared.lexer.rule.Base.TheVariants.{Hexadecimal, Octal, Binary}
 use Rattle.tok_core.specs.declared.lexer.rule.Rule.{Rule}
-use Rattle.tok_core.specs.declared.lexer.rule.Rule.TheVariants.{ByteOrderMark, Whitespace, LineComment, BlockComment, OpenComment, Opening, Closing, QuotedString, BadString, ByteChar, BadByteChar, StringPrefix, EscapedChar, BadEscapedChar, PlainChar, Lifetime, Apostrophe, MarkedApostrophe, Based, BadBased, Decimal, RawIdentifier, Identifier, Punct, MarkedPunct, Other}
+use Rattle.tok_core.specs.declared.lexer.rule.Rule.TheVariants.{ByteOrderMark, Whitespace}
+use Rattle.tok_core.specs.declared.lexer.rule.Rule.TheVariants.{LineComment, BlockComment}
+use Rattle.tok_core.specs.declared.lexer.rule.Rule.TheVariants.{OpenComment, Opening, Closing}
+use Rattle.tok_core.specs.declared.lexer.rule.Rule.TheVariants.{QuotedString, BadString, ByteChar}
+use Rattle.tok_core.specs.declared.lexer.rule.Rule.TheVariants.{BadByteChar, StringPrefix}
+use Rattle.tok_core.specs.declared.lexer.rule.Rule.TheVariants.{EscapedChar, BadEscapedChar}
+use Rattle.tok_core.specs.declared.lexer.rule.Rule.TheVariants.{PlainChar, Lifetime, Apostrophe}
+use Rattle.tok_core.specs.declared.lexer.rule.Rule.TheVariants.{MarkedApostrophe, Based, BadBased}
+use Rattle.tok_core.specs.declared.lexer.rule.Rule.TheVariants.{Decimal, RawIdentifier, Identifier}
+use Rattle.tok_core.specs.declared.lexer.rule.Rule.TheVariants.{Punct, MarkedPunct, Other}
 
--- The whole piece is spelled by the rule. Behind a rule stands one that takes what begins so and isn't spelled to its end.
+-- The whole piece is spelled by the rule. After a rule stands one that takes what begins so and
+-- isn't spelled to its end.
 abbrev pub Spells : Rule → List ℕ → Type 0
 Spells ByteOrderMark = IsOne (λ c. c == 0xFEFF)
 Spells Whitespace = IsOne is_whitespace
@@ -44,19 +56,25 @@ Spells Other = IsOne (λ c. true)
 abbrev pub plain_rules : List Rule
 plain_rules =
     ByteOrderMark ∷ Whitespace ∷ LineComment ∷ BlockComment ∷ OpenComment
-    ∷ Opening Parenthesis ∷ Opening Brace ∷ Opening Bracket ∷ Closing Parenthesis ∷ Closing Brace ∷ Closing Bracket
-    ∷ QuotedString ∷ BadString ∷ ByteChar ∷ BadByteChar ∷ StringPrefix ∷ EscapedChar ∷ BadEscapedChar ∷ PlainChar
+    ∷ Opening Parenthesis ∷ Opening Brace ∷ Opening Bracket ∷ Closing Parenthesis ∷ Closing Brace ∷
+    Closing Bracket
+    ∷ QuotedString ∷ BadString ∷ ByteChar ∷ BadByteChar ∷ StringPrefix ∷ EscapedChar ∷
+    BadEscapedChar ∷ PlainChar
     ∷ Lifetime ∷ Apostrophe
-    ∷ Based Hexadecimal ∷ Based Octal ∷ Based Binary ∷ BadBased Hexadecimal ∷ BadBased Octal ∷ BadBased Binary ∷ Decimal
+    ∷ Based Hexadecimal ∷ Based Octal ∷ Based Binary ∷ BadBased Hexadecimal ∷ BadBased Octal ∷
+    BadBased Binary ∷ Decimal
     ∷ RawIdentifier ∷ Identifier ∷ Punct ∷ Other ∷ []
 
 -- the rules of marked text, in their order
 abbrev pub marked_rules : List Rule
 marked_rules =
     ByteOrderMark ∷ Whitespace ∷ LineComment ∷ BlockComment ∷ OpenComment
-    ∷ Opening Parenthesis ∷ Opening Brace ∷ Opening Bracket ∷ Closing Parenthesis ∷ Closing Brace ∷ Closing Bracket
+    ∷ Opening Parenthesis ∷ Opening Brace ∷ Opening Bracket ∷ Closing Parenthesis ∷ Closing Brace ∷
+    Closing Bracket
     ∷ Opening None ∷ Closing None
-    ∷ QuotedString ∷ BadString ∷ ByteChar ∷ BadByteChar ∷ StringPrefix ∷ EscapedChar ∷ BadEscapedChar ∷ PlainChar
+    ∷ QuotedString ∷ BadString ∷ ByteChar ∷ BadByteChar ∷ StringPrefix ∷ EscapedChar ∷
+    BadEscapedChar ∷ PlainChar
     ∷ Lifetime ∷ MarkedApostrophe
-    ∷ Based Hexadecimal ∷ Based Octal ∷ Based Binary ∷ BadBased Hexadecimal ∷ BadBased Octal ∷ BadBased Binary ∷ Decimal
+    ∷ Based Hexadecimal ∷ Based Octal ∷ Based Binary ∷ BadBased Hexadecimal ∷ BadBased Octal ∷
+    BadBased Binary ∷ Decimal
     ∷ RawIdentifier ∷ Identifier ∷ MarkedPunct ∷ Other ∷ []

@@ -1,12 +1,15 @@
--- The spellings of strings and characters (Rust Reference: Tokens, Character and string literals, Escapes, Byte literals).
-use Rattle.std.specs.Prelude.{◌≡◌, ◌≢◌, ℕ, ◌+◌, ◌*◌, ◌≤◌, ◌⊎◌, List, [], ◌∷◌, ◌++◌, Bool, true, false, ◌==◌, ◌||◌, ◌&&◌, not, nat_lt, if◌then◌else◌, fold, count_by}
+-- The spellings of strings and characters (Rust Reference: Tokens, Character and string literals,
+-- Escapes, Byte literals).
+use Rattle.std.specs.Prelude.{◌≡◌, ◌≢◌, ℕ, ◌+◌, ◌*◌, ◌≤◌, ◌⊎◌, List, [], ◌∷◌, ◌++◌, Bool, true}
+use Rattle.std.specs.Prelude.{false, ◌==◌, ◌||◌, ◌&&◌, not, nat_lt, if◌then◌else◌, fold, count_by}
 use Rattle.std.specs.Char.{is_digit, digit_value, IsScalar}
 use Rattle.tok_core.specs.Lexical.Pieces.{IsOne, Behind, IsAll}
 use Rattle.tok_core.specs.Lexical.Words.{IsSuffix}
 
 -- one of n r t \ 0 ' "
 abbrev pub is_simple_escape : ℕ → Bool
-is_simple_escape c = (c == 110) || (c == 114) || (c == 116) || (c == 92) || (c == 48) || (c == 39) || (c == 34)
+is_simple_escape c =
+    (c == 110) || (c == 114) || (c == 116) || (c == 92) || (c == 48) || (c == 39) || (c == 34)
 
 abbrev pub is_hex : ℕ → Bool
 is_hex c = is_digit c 16
@@ -20,7 +23,9 @@ hex_value digits = fold (λ n c. if is_hex c then n * 16 + digit_value c else n)
 
 -- two hexadecimal digits, the first of them below this
 abbrev pub IsHex : ℕ → List ℕ → Type 0
-IsHex top piece = (high : ℕ) × (low : ℕ) × (piece ≡ high ∷ low ∷ []) × (is_digit high top ≡ true) × (is_hex low ≡ true)
+IsHex top piece =
+    (high : ℕ) × (low : ℕ) × (piece ≡ high ∷ low ∷ []) × (is_digit high top ≡ true)
+    × (is_hex low ≡ true)
 
 -- the digits in the braces of `\u{}`: at most six, and they name a character
 pub record NamesChar (digits : List ℕ) : Type 0 where
@@ -29,12 +34,15 @@ pub record NamesChar (digits : List ℕ) : Type 0 where
 
 -- what follows `\u`
 abbrev pub IsCode : List ℕ → Type 0
-IsCode piece = (first : ℕ) × (digits : List ℕ) × (piece ≡ 123 ∷ first ∷ (digits ++ 125 ∷ [])) × (is_hex first ≡ true) × IsAll is_hex_or_underscore digits × NamesChar (first ∷ digits)
+IsCode piece =
+    (first : ℕ) × (digits : List ℕ) × (piece ≡ 123 ∷ first ∷ (digits ++ 125 ∷ []))
+    × (is_hex first ≡ true) × IsAll is_hex_or_underscore digits × NamesChar (first ∷ digits)
 
 abbrev pub IsLineEnd : List ℕ → Type 0
 IsLineEnd piece = (piece ≡ 10 ∷ []) ⊎ (piece ≡ 13 ∷ 10 ∷ [])
 
--- What follows the backslash of an escape. A line end may stand in strings alone; after `b'` no `\u` may, but `\x` goes up to FF.
+-- What follows the backslash of an escape. A line end may stand in strings alone; after `b'` no
+-- `\u` may, but `\x` goes up to FF.
 pub data IsEscape (line_ends wide : Bool) : List ℕ → Type 0 where
   simple : (c : ℕ) → is_simple_escape c ≡ true → IsEscape line_ends wide (c ∷ [])
   hex : {text : List ℕ} → IsHex (if wide then 16 else 8) text → IsEscape line_ends wide (120 ∷ text)
@@ -53,7 +61,9 @@ pub data AreUnits : List ℕ → Type 0 where
 
 -- a quote, units, a quote and a suffix
 abbrev pub IsString : List ℕ → Type 0
-IsString piece = (body : List ℕ) × (suffix : List ℕ) × (piece ≡ 34 ∷ (body ++ 34 ∷ suffix)) × AreUnits body × IsSuffix suffix
+IsString piece =
+    (body : List ℕ) × (suffix : List ℕ) × (piece ≡ 34 ∷ (body ++ 34 ∷ suffix)) × AreUnits body
+    × IsSuffix suffix
 
 -- none of ' \ tab, line feed, U+000D
 abbrev pub is_char : ℕ → Bool
@@ -70,16 +80,19 @@ IsByte inner = IsOne is_byte inner ⊎ Behind 92 (IsEscape false true) inner
 
 -- an apostrophe, what stands within, an apostrophe and a suffix
 abbrev pub IsQuoted : (List ℕ → Type 0) → List ℕ → Type 0
-IsQuoted Inner piece = (inner : List ℕ) × (suffix : List ℕ) × (piece ≡ 39 ∷ (inner ++ 39 ∷ suffix)) × Inner inner × IsSuffix suffix
+IsQuoted Inner piece =
+    (inner : List ℕ) × (suffix : List ℕ) × (piece ≡ 39 ∷ (inner ++ 39 ∷ suffix)) × Inner inner
+    × IsSuffix suffix
 
 -- any number of # and a quote
 abbrev pub IsHashes : List ℕ → Type 0
 IsHashes piece = (hashes : List ℕ) × (piece ≡ hashes ++ 34 ∷ []) × IsAll (λ c. c == 35) hashes
 
--- the start of a byte or C string, or of a raw one, behind `b` or `c`
+-- the start of a byte or C string, or of a raw one, after `b` or `c`
 abbrev pub IsPrefixed : List ℕ → Type 0
 IsPrefixed piece = (piece ≡ 34 ∷ []) ⊎ Behind 114 IsHashes piece
 
 -- `r`, `br` or `cr`, any number of # and a quote; or `b` or `c` and a quote
 abbrev pub IsStringPrefix : List ℕ → Type 0
-IsStringPrefix piece = Behind 114 IsHashes piece ⊎ (Behind 98 IsPrefixed piece ⊎ Behind 99 IsPrefixed piece)
+IsStringPrefix piece =
+    Behind 114 IsHashes piece ⊎ (Behind 98 IsPrefixed piece ⊎ Behind 99 IsPrefixed piece)

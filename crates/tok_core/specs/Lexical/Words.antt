@@ -1,5 +1,6 @@
 -- The spellings of identifiers (Rust Reference: Identifiers; Tokens, Suffixes and Lifetimes).
-use Rattle.std.specs.Prelude.{◌≡◌, ℕ, List, [], ◌∷◌, ◌⊎◌, Bool, true, false, ◌||◌, ◌&&◌, ◌==◌, codes}
+use Rattle.std.specs.Prelude.{◌≡◌, ℕ, List, [], ◌∷◌, ◌⊎◌, Bool, true, false, ◌||◌, ◌&&◌, ◌==◌}
+use Rattle.std.specs.Prelude.{codes}
 use Rattle.std.specs.List.{list_all}
 use Rattle.std.specs.Str.{bytes_eq}
 use Rattle.unicode_ident.specs.Ident.{is_xid_start, is_xid_continue}
@@ -26,7 +27,11 @@ IsName name = IsIdentifier name ⊎ IsRawIdentifier name
 
 -- the words that don't exist as raw identifiers: _ self Self super crate
 abbrev pub has_no_raw : List ℕ → Bool
-has_no_raw word = bytes_eq word (codes "_") || (bytes_eq word (codes "self") || (bytes_eq word (codes "Self") || (bytes_eq word (codes "super") || bytes_eq word (codes "crate"))))
+has_no_raw word =
+    bytes_eq word (codes "_")
+    || (bytes_eq word (codes "self")
+    || (bytes_eq word (codes "Self")
+    || (bytes_eq word (codes "super") || bytes_eq word (codes "crate"))))
 
 -- a raw identifier that does not exist
 abbrev pub is_missing : List ℕ → Bool

@@ -63,7 +63,7 @@ pub fn first_of(text: &str) -> char
     }
 }
 
-/// What is behind the first character.
+/// What follows the first character.
 pub fn past_first(text: &str) -> &str
     ensures { chars result.now ≡ behind_first (chars text.now) }
 {

@@ -1,0 +1,31 @@
+-- Invisible groups do not matter to the words of refusals.
+use Rattle.std.specs.Prelude.{◌≡◌, ℕ, List}
+use Rattle.tok_core.specs.Erase.{erase}
+use Rattle.tok_buffer.specs.Buffer.{Laid}
+use Rattle.tok_buffer.specs.Reads.{any_text, read_ident, read_lifetime}
+use Rattle.tok_buffer.specs.SameView.{SameView}
+use Rattle.syn_parse.specs.Lookahead.{Look, look_refusal}
+use Rattle.syn_parse.specs.State.{State}
+use Rattle.syn_parse.specs.Words.{ident_words, lifetime_words, punctuation_refusal, refused_at}
+
+-- two streams refuse in the same words
+pub record WordsAgree (s t : State) : Type 0 where
+  pub refused : (words : List ℕ) → (refused_at s words).words ≡ (refused_at t words).words
+  pub idents : ident_words (read_ident s.place) ≡ ident_words (read_ident t.place)
+  pub lifetimes :
+      lifetime_words (read_lifetime any_text s.place)
+      ≡ lifetime_words (read_lifetime any_text t.place)
+  pub punctuations :
+      (text : List ℕ) → (punctuation_refusal text s).words ≡ (punctuation_refusal text t).words
+
+-- so do two streams at places with equal views
+abbrev pub ViewsDecideWords : Type 0
+ViewsDecideWords =
+    (b c : Laid) (s t : State) → SameView b c s.place t.place → WordsAgree s t
+
+-- and two lookaheads there that have noted the same displays, in forests with equal erasures
+abbrev pub ViewsDecideLookaheads : Type 0
+ViewsDecideLookaheads =
+    (b c : Laid) → erase b.forest ≡ erase c.forest
+    → (l m : Look) → SameView b c l.place m.place → l.missed ≡ m.missed
+    → (look_refusal l).words ≡ (look_refusal m).words

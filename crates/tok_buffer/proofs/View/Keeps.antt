@@ -1,0 +1,255 @@
+-- A descent keeps what entering an invisible group keeps, and leaving one.
+use Rattle.std.proofs.Common.{◌≡◌, ◌∙◌, sym, ap, subst, refl, ℕ, ◌+◌, List, [], ◌∷◌, Option, Some}
+use Rattle.std.proofs.Common.{None, arith, add-zero, add_assoc}
+use Rattle.std.specs.Prelude.{MatchOption, IfSome, unwrap_or, ⊤}
+use Rattle.std.specs.Option.{option_or}
+use Rattle.tok_core.specs.declared.span.Span.{Span}
+use Rattle.tok_core.specs.declared.group.Delimiter.TheVariants as delimiter
+use Rattle.tok_core.specs.Forest.{Tree, leaf, group, Forest, no_trees, tree, turned_onto}
+use Rattle.tok_core.specs.Weight.{weight}
+use Rattle.tok_core.proofs.Facts.{turned_back}
+use Rattle.tok_buffer.specs.Descent.{into_front, descend_from, descend}
+use Rattle.tok_buffer.specs.Place.{Owner, group_of, Level, level, Place, empty_place, at, absorb}
+use Rattle.tok_buffer.specs.Place.{settle}
+
+-- P holds inside an invisible group where it holds before it, and after the group where it holds at
+-- its end
+pub record IsKept (P : Place → Type 0) : Type 0 where
+  pub into : (n s c : ℕ) (o : Owner) (p inside : Forest) (span : Span) (f : Forest)
+      (ls : List Level)
+      → P (at n s c (level o p (tree (group delimiter.None inside span) f)) ls)
+      → P (at n s (c + 1) (level (group_of delimiter.None span) no_trees inside) (level o p f ∷ ls))
+  pub out : (n s c : ℕ) (o : Owner) (p : Forest) (l : Level) (ls : List Level)
+      → P (at n s c (level o p no_trees) (l ∷ ls)) → P (at n s (c + 1) (absorb o p l) ls)
+
+module _ (P : Place → Type 0) (k : IsKept P) where
+  abbrev KeptAt : Option Place → Place → Type 0
+  KeptAt r q = MatchOption r (P q) (λ p. P p)
+
+  kept-either : (r q : Option Place) (x y : Place) → KeptAt r x → (P x → KeptAt q y)
+      → KeptAt (option_or r q) y
+  kept-either (Some p) q x y a b = a
+  kept-either None q x y a b = b a
+
+  pub kept-into_front : (f : Forest) (n s c : ℕ) (o : Owner) (p : Forest) (ls : List Level)
+      → P (at n s c (level o p f) ls)
+      → KeptAt (into_front f n s c o p ls)
+      (at n s (c + weight f) (level o (turned_onto f p) no_trees) ls)
+  kept-into_front no_trees n s c o p ls h =
+      subst (λ m. P (at n s m (level o p no_trees) ls)) (sym (add-zero c)) h
+  kept-into_front (tree (leaf l) f) n s c o p ls h = h
+  kept-into_front (tree (group delimiter.None inside span) f) n s c o p ls h =
+      let same : turned_onto (turned_onto inside no_trees) no_trees ≡ inside = turned_back inside in
+      let sums : c + 1 + weight inside + 1 ≡ c + (2 + weight inside) = omega arith in
+      let more : c + (2 + weight inside) + weight f ≡ c + (2 + weight inside + weight f) =
+      omega arith in
+      kept-either
+      (into_front inside n s (c + 1) (group_of delimiter.None span) no_trees (level o p f ∷ ls))
+      (into_front f n s (c + (2 + weight inside)) o (tree (group delimiter.None inside span) p) ls)
+      (at n s (c + 1 + weight inside)
+      (level (group_of delimiter.None span) (turned_onto inside no_trees) no_trees)
+      (level o p f ∷ ls))
+      (at n s (c + (2 + weight inside + weight f))
+      (level o (turned_onto f (tree (group delimiter.None inside span) p)) no_trees) ls)
+      (kept-into_front inside n s (c + 1) (group_of delimiter.None span) no_trees (level o p f ∷ ls)
+      (k.into n s c o p inside span f ls h))
+      (λ past.
+      let here =
+      subst
+      (λ i. P
+      (at n s (c + 1 + weight inside + 1)
+      (level o (tree (group delimiter.None i span) p) f) ls)) same
+      (k.out n s (c + 1 + weight inside) (group_of delimiter.None span)
+      (turned_onto inside no_trees) (level o p f) ls past) in
+      subst
+      (λ m. KeptAt
+      (into_front f n s (c + (2 + weight inside)) o
+      (tree (group delimiter.None inside span) p) ls)
+      (at n s m (level o (turned_onto f (tree (group delimiter.None inside span) p)) no_trees) ls))
+      more
+      (kept-into_front f n s (c + (2 + weight inside)) o (tree (group delimiter.None inside span) p)
+      ls
+      (subst (λ m. P (at n s m (level o (tree (group delimiter.None inside span) p) f) ls))
+      sums here)))
+  kept-into_front (tree (group d inside span) f) n s c o p ls h = h
+
+  kept-unwrap : (r : Option Place) (x q : Place) → KeptAt r x → (P x → P q) → P (unwrap_or r q)
+  kept-unwrap (Some p) x q a b = a
+  kept-unwrap None x q a b = b a
+
+  pub kept-descend_from : (n s c : ℕ) (l : Level) (ls : List Level) → P (at n s c l ls)
+      → P (descend_from n s c l ls)
+  kept-descend_from n s c (level o p a) [] h =
+      kept-unwrap (into_front a n s c o p [])
+      (at n s (c + weight a) (level o (turned_onto a p) no_trees) [])
+      (at n s (c + weight a) (level o (turned_onto a p) no_trees) [])
+      (kept-into_front a n s c o p [] h) (λ x. x)
+  kept-descend_from n s c (level o p a) (l ∷ ls) h =
+      kept-unwrap (into_front a n s c o p (l ∷ ls))
+      (at n s (c + weight a) (level o (turned_onto a p) no_trees) (l ∷ ls))
+      (descend_from n s (c + weight a + 1) (absorb o (turned_onto a p) l) ls)
+      (kept-into_front a n s c o p (l ∷ ls) h)
+      (λ x. kept-descend_from n s (c + weight a + 1) (absorb o (turned_onto a p) l) ls
+      (k.out n s (c + weight a) o (turned_onto a p) l ls x))
+
+  pub kept-descend : (p : Place) → P p → P (descend p)
+  kept-descend empty_place h = h
+  kept-descend (at n s c l ls) h = kept-descend_from n s c l ls h
+
+  pub kept-settle : (n s c : ℕ) (l : Level) (ls : List Level) → P (at n s c l ls)
+      → P (settle n s c l ls)
+  kept-settle n s c l [] h = h
+  kept-settle n s c (level o p no_trees) (m ∷ ls) h =
+      kept-settle n s (c + 1) (absorb o p m) ls (k.out n s c o p m ls h)
+  kept-settle n s c (level o p (tree t f)) (m ∷ ls) h = h
+
+-- After a descent a visible tree is in front, or the place is at its scope's end.
+abbrev pub IsVisible : Tree → Type 0
+IsVisible (leaf l) = ⊤
+IsVisible (group delimiter.None inside span) = ⊥
+IsVisible (group d inside span) = ⊤
+
+abbrev pub IsDescended : Place → Type 0
+IsDescended empty_place = ⊤
+IsDescended (at n s c (level o p (tree t f)) ls) = IsVisible t
+IsDescended (at n s c (level o p no_trees) []) = ⊤
+IsDescended (at n s c (level o p no_trees) (l ∷ ls)) = ⊥
+
+descended-either : (r q : Option Place) → IfSome r IsDescended → IfSome q IsDescended
+    → IfSome (option_or r q) IsDescended
+descended-either (Some p) q a b = a
+descended-either None q a b = b
+
+descended-into_front : (f : Forest) (n s c : ℕ) (o : Owner) (p : Forest) (ls : List Level)
+    → IfSome (into_front f n s c o p ls) IsDescended
+descended-into_front no_trees n s c o p ls = tt
+descended-into_front (tree (leaf l) f) n s c o p ls = tt
+descended-into_front (tree (group delimiter.None inside span) f) n s c o p ls =
+    descended-either
+    (into_front inside n s (c + 1) (group_of delimiter.None span) no_trees (level o p f ∷ ls))
+    (into_front f n s (c + (2 + weight inside)) o (tree (group delimiter.None inside span) p) ls)
+    (descended-into_front inside n s (c + 1) (group_of delimiter.None span) no_trees
+    (level o p f ∷ ls))
+    (descended-into_front f n s (c + (2 + weight inside)) o
+    (tree (group delimiter.None inside span) p) ls)
+descended-into_front (tree (group d inside span) f) n s c o p ls = tt
+
+descended-unwrap : (r : Option Place) (q : Place) → IfSome r IsDescended → IsDescended q
+    → IsDescended (unwrap_or r q)
+descended-unwrap (Some p) q a b = a
+descended-unwrap None q a b = b
+
+descended-descend_from : (n s c : ℕ) (l : Level) (ls : List Level)
+    → IsDescended (descend_from n s c l ls)
+descended-descend_from n s c (level o p a) [] =
+    descended-unwrap (into_front a n s c o p [])
+    (at n s (c + weight a) (level o (turned_onto a p) no_trees) [])
+    (descended-into_front a n s c o p []) tt
+descended-descend_from n s c (level o p a) (l ∷ ls) =
+    descended-unwrap
+    (into_front a n s c o p (l ∷ ls))
+    (descend_from n s (c + weight a + 1) (absorb o (turned_onto a p) l) ls)
+    (descended-into_front a n s c o p (l ∷ ls))
+    (descended-descend_from n s (c + weight a + 1) (absorb o (turned_onto a p) l) ls)
+
+pub descended-descend : (p : Place) → IsDescended (descend p)
+descended-descend empty_place = tt
+descended-descend (at n s c l ls) = descended-descend_from n s c l ls
+
+-- settling first does not change a descent
+pub descend-settle : (n s c : ℕ) (l : Level) (ls : List Level)
+    → descend (settle n s c l ls) ≡ descend_from n s c l ls
+descend-settle n s c l [] = refl
+descend-settle n s c (level o p no_trees) (m ∷ ls) =
+    descend-settle n s (c + 1) (absorb o p m) ls
+    ∙ ap (λ k. descend_from n s (k + 1) (absorb o p m) ls) (sym (add-zero c))
+descend-settle n s c (level o p (tree t f)) (m ∷ ls) = refl
+
+-- where a visible tree is in front nothing is entered
+pub descend-visible : (n s c : ℕ) (o : Owner) (p : Forest) (t : Tree) (f : Forest) (ls : List Level)
+    → IsVisible t
+    → descend (at n s c (level o p (tree t f)) ls) ≡ at n s c (level o p (tree t f)) ls
+descend-visible n s c o p (leaf l) f [] h = refl
+descend-visible n s c o p (leaf l) f (m ∷ ls) h = refl
+descend-visible n s c o p (group delimiter.None inside span) f ls h = absurd h
+descend-visible n s c o p (group d inside span) f [] h = refl
+descend-visible n s c o p (group d inside span) f (m ∷ ls) h = refl
+
+unwrap-either : (r q : Option Place) (p : Place)
+    → unwrap_or (option_or r q) p ≡ unwrap_or r (unwrap_or q p)
+unwrap-either (Some x) q p = refl
+unwrap-either None q p = refl
+
+module _ (n s c : ℕ) (o : Owner) (p inside : Forest) (span : Span) (f : Forest) where
+  past-first : (ls : List Level)
+      → descend_from n s c (level o p (tree (group delimiter.None inside span) f)) ls
+      ≡ unwrap_or
+      (into_front inside n s (c + 1) (group_of delimiter.None span) no_trees (level o p f ∷ ls))
+      (descend_from n s (c + (2 + weight inside))
+      (level o (tree (group delimiter.None inside span) p) f) ls)
+  past-first [] =
+      unwrap-either
+      (into_front inside n s (c + 1) (group_of delimiter.None span) no_trees (level o p f ∷ []))
+      (into_front f n s (c + (2 + weight inside)) o
+      (tree (group delimiter.None inside span) p) []) _
+      ∙ ap
+      (λ k. unwrap_or
+      (into_front inside n s (c + 1) (group_of delimiter.None span) no_trees (level o p f ∷ []))
+      (unwrap_or
+      (into_front f n s (c + (2 + weight inside)) o (tree (group delimiter.None inside span) p)
+      [])
+      (at n s k
+      (level o (turned_onto f (tree (group delimiter.None inside span) p)) no_trees)
+      [])))
+      (sym (add_assoc c (2 + weight inside) (weight f)))
+  past-first (l ∷ ls) =
+      unwrap-either
+      (into_front inside n s (c + 1) (group_of delimiter.None span) no_trees
+      (level o p f ∷ (l ∷ ls)))
+      (into_front f n s (c + (2 + weight inside)) o
+      (tree (group delimiter.None inside span) p) (l ∷ ls)) _
+      ∙ ap
+      (λ k. unwrap_or
+      (into_front inside n s (c + 1) (group_of delimiter.None span) no_trees
+      (level o p f ∷ (l ∷ ls)))
+      (unwrap_or
+      (into_front f n s (c + (2 + weight inside)) o (tree (group delimiter.None inside span) p)
+      (l ∷ ls))
+      (descend_from n s (k + 1)
+      (absorb o (turned_onto f (tree (group delimiter.None inside span) p)) l) ls)))
+      (sym (add_assoc c (2 + weight inside) (weight f)))
+
+  inside-first : (ls : List Level)
+      → descend_from n s (c + 1) (level (group_of delimiter.None span) no_trees inside)
+      (level o p f ∷ ls)
+      ≡ unwrap_or
+      (into_front inside n s (c + 1) (group_of delimiter.None span) no_trees (level o p f ∷ ls))
+      (descend_from n s (c + (2 + weight inside))
+      (level o (tree (group delimiter.None inside span) p) f) ls)
+  inside-first ls =
+      let same : turned_onto (turned_onto inside no_trees) no_trees ≡ inside = turned_back inside in
+      let sums : c + 1 + weight inside + 1 ≡ c + (2 + weight inside) = omega arith in
+      ap
+      (λ i. unwrap_or
+      (into_front inside n s (c + 1) (group_of delimiter.None span) no_trees
+      (level o p f ∷ ls))
+      (descend_from n s (c + 1 + weight inside + 1)
+      (level o (tree (group delimiter.None i span) p) f) ls)) same
+      ∙ ap
+      (λ k. unwrap_or
+      (into_front inside n s (c + 1) (group_of delimiter.None span) no_trees
+      (level o p f ∷ ls))
+      (descend_from n s k (level o (tree (group delimiter.None inside span) p) f)
+      ls)) sums
+
+  -- where an invisible group is in front, the descent goes on inside it
+  pub descend-invisible : (ls : List Level)
+      → descend (at n s c (level o p (tree (group delimiter.None inside span) f)) ls)
+      ≡ descend
+      (settle n s (c + 1) (level (group_of delimiter.None span) no_trees inside)
+      (level o p f ∷ ls))
+  descend-invisible ls =
+      past-first ls
+      ∙ sym
+      (descend-settle n s (c + 1) (level (group_of delimiter.None span) no_trees inside)
+      (level o p f ∷ ls) ∙ inside-first ls)

@@ -1,0 +1,62 @@
+-- How many trees are ahead depends on the view alone.
+use Rattle.std.proofs.Common.{◌≡◌, ◌∙◌, sym, ap, refl, ℕ, ◌+◌, Bool, List, [], ◌∷◌, length, arith}
+use Rattle.tok_core.specs.declared.group.Delimiter.TheVariants as delimiter
+use Rattle.tok_core.specs.Erase.{erase}
+use Rattle.tok_core.specs.Forest.{Tree, leaf, group, Forest, no_trees, tree, joined}
+use Rattle.tok_core.proofs.Erasures.{erase-joined}
+use Rattle.tok_buffer.specs.Ahead.{ahead}
+use Rattle.tok_buffer.specs.Place.{Level, level, Place, empty_place, at}
+use Rattle.tok_buffer.specs.View.{View, empty_view, seen, view}
+use Rattle.tok_buffer.proofs.View.Unmarked.{unmarked, unmarked_in}
+use Rattle.tok_buffer.proofs.View.Ordinals.{erase-unmarked}
+use Rattle.tok_buffer.proofs.View.Erased.{plain, plain-ahead, erased_ahead_is}
+
+abbrev pub tree_count : Forest → ℕ
+tree_count no_trees = 0
+tree_count (tree t f) = 1 + tree_count f
+
+count-joined : (f g : Forest) → tree_count (joined f g) ≡ tree_count f + tree_count g
+count-joined no_trees g = omega arith
+count-joined (tree t f) g = omega (arith, count-joined f g)
+
+count-erase : (f : Forest) → tree_count (erase f) ≡ tree_count (unmarked f)
+count-erase no_trees = refl
+count-erase (tree (leaf l) f) = omega (arith, count-erase f)
+count-erase (tree (group delimiter.None inside span) f) =
+    omega (
+      arith,
+      count-joined (erase inside) (erase f),
+      count-joined (unmarked inside) (unmarked f),
+      count-erase inside,
+      count-erase f,
+    )
+count-erase (tree (group d inside span) f) = omega (arith, count-erase f)
+
+count-levels : (ls : List Level) → tree_count (erase (unmarked_in ls)) ≡ tree_count (unmarked_in ls)
+count-levels [] = refl
+count-levels (level o p a ∷ ls) =
+    ap tree_count
+    (erase-joined (unmarked a) (unmarked_in ls)
+    ∙ ap (λ e. joined e (erase (unmarked_in ls))) (erase-unmarked a))
+    ∙ omega (
+      arith,
+      count-joined (erase a) (erase (unmarked_in ls)),
+      count-joined (unmarked a) (unmarked_in ls),
+      count-erase a,
+      count-levels ls,
+    )
+
+count-plain : (ts : List (Bool × Tree)) → length ts ≡ tree_count (plain ts)
+count-plain [] = refl
+count-plain (t ∷ ts) = omega (arith, count-plain ts)
+
+abbrev pub length_in_view : View → ℕ
+length_in_view empty_view = 0
+length_in_view (seen k f) = tree_count f
+
+pub view-length : (g : Forest) (p : Place) → length (ahead p) ≡ length_in_view (view g p)
+view-length g empty_place = refl
+view-length g (at n s c l ls) =
+    let p = at n s c l ls in
+    count-plain (ahead p) ∙ ap tree_count (plain-ahead p)
+    ∙ sym (ap tree_count (erased_ahead_is p) ∙ count-levels (l ∷ ls))
