@@ -4,7 +4,14 @@ pub mod Inserts
 pub mod IterRuns
 pub mod PairedUp
 pub mod PairsAdded
+pub mod Progress
+pub mod ReadBack
+pub mod ReadTokens
 pub mod RetainSteps
+pub mod Retold
+pub mod Runs
+pub mod Taken
 pub mod Trailing
+pub mod TreesPassed
 pub mod WithValue
 pub mod Writes

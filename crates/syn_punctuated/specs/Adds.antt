@@ -12,9 +12,10 @@ use Rattle.syn_punctuated.specs.declared.extends.PairsFault.TheVariants.{AfterEn
 use Rattle.syn_punctuated.specs.declared.punctuated.Punctuated.{Punctuated as List'}
 use Rattle.syn_punctuated.specs.Lists.{values_of, separators_of, AddsDefault, IsUnchanged}
 
--- new is old with the values xs behind it, and a default separator before each that was added behind a bare value;
--- unless xs is empty it then ends in a bare value
-pub record AddsValues {X Y : Type 0} (IsDefault : Y → Type 0) (old : List' X Y) (xs : List X) (new : List' X Y) : Type 0 where
+-- new is old with the values xs after it, and a default separator before each that was added
+-- after a bare value; unless xs is empty it then ends in a bare value
+pub record AddsValues {X Y : Type 0} (IsDefault : Y → Type 0) (old : List' X Y) (xs : List X)
+    (new : List' X Y) : Type 0 where
   pub values : values_of new ≡ values_of old ++ xs
   pub defaults : List Y
   pub are_defaults : All IsDefault defaults
@@ -41,8 +42,9 @@ module _ {X Y : Type 0} where
   separators_in (Punctuated x y ∷ ps) = y ∷ separators_in ps
   separators_in (End x ∷ ps) = separators_in ps
 
--- new is old with the pairs behind it, none of which follows one without a separator
-pub record AddsPairs {X Y : Type 0} (old : List' X Y) (pairs : List (Pair X Y)) (new : List' X Y) : Type 0 where
+-- new is old with the pairs after it, none of which follows one without a separator
+pub record AddsPairs {X Y : Type 0} (old : List' X Y) (pairs : List (Pair X Y))
+    (new : List' X Y) : Type 0 where
   pub values : values_of new ≡ values_of old ++ map value_of_pair pairs
   pub separators : separators_of new ≡ separators_of old ++ separators_in pairs
   pub are_pairs : IsPairs pairs
@@ -59,13 +61,16 @@ module _ {I A : Type 0} (steps : I → Option A → I → Type 0) where
 
 -- what a call was handed becomes an iterator that gives an item
 abbrev pub GivesAny : {U I A : Type 0} → (U → I → Type 0) → (I → Option A → I → Type 0) → U → Type 0
-GivesAny {U} {I} {A} becomes steps items = (first : I) × (taken : List A) × (rest : I) × becomes items first × Yields steps first taken rest × GoesOn steps rest
+GivesAny {U} {I} {A} becomes steps items =
+    (first : I) × (taken : List A) × (rest : I) × becomes items first
+    × Yields steps first taken rest × GoesOn steps rest
 
 -- what a call was handed becomes an iterator, of which steps are calls of `next`
 module _ {U I X Y : Type 0} (becomes : U → I → Type 0) (steps : I → Option X → I → Type 0) where
-  -- values that came of the iterator went behind old, each as `push` adds it: all of them, or those before one that
-  -- found no memory
-  pub record ExtendsWithValues (IsDefault : Y → Type 0) (items : U) (old new : List' X Y) (result : Result (Unit {0}) AllocError) : Type 0 where
+  -- values that came of the iterator went after old, each as `push` adds it: all of them, or those
+  -- before one that found no memory
+  pub record ExtendsWithValues (IsDefault : Y → Type 0) (items : U) (old new : List' X Y)
+      (result : Result (Unit {0}) AllocError) : Type 0 where
     pub first : I
     pub taken : List X
     pub rest : I
@@ -78,16 +83,20 @@ module _ {U I X Y : Type 0} (becomes : U → I → Type 0) (steps : I → Option
   abbrev pub MadeOfValues : (Y → Type 0) → U → List' X Y → Type 0
   MadeOfValues IsDefault items new =
       (it : I) × (xs : List X) × becomes items it × Drains steps it xs
-      × (values_of new ≡ xs) × All IsDefault (separators_of new) × (length (separators_of new) ≡ length xs - 1)
+      × (values_of new ≡ xs) × All IsDefault (separators_of new)
+      × (length (separators_of new) ≡ length xs - 1)
 
-module _ {U I X Y : Type 0} (becomes : U → I → Type 0) (steps : I → Option (Pair X Y) → I → Type 0) where
-  -- the pairs taken are those before one at which a fault stopped: `AfterEnd` exactly where they end bare
+module _ {U I X Y : Type 0} (becomes : U → I → Type 0)
+    (steps : I → Option (Pair X Y) → I → Type 0) where
+  -- the pairs taken are those before one at which a fault stopped: `AfterEnd` exactly where they
+  -- end bare
   abbrev pub StopsAt : List (Pair X Y) → I → PairsFault → Type 0
   StopsAt taken rest fault = GoesOn steps rest × ((fault ≡ AfterEnd) ↔ EndsBare taken)
 
-  -- pairs that came of the iterator went behind old: all of them, or those before one that follows a bare value, or
-  -- those before one that found no memory
-  pub record ExtendsWithPairs (pairs : U) (old new : List' X Y) (result : Result (Unit {0}) PairsFault) : Type 0 where
+  -- pairs that came of the iterator went after old: all of them, or those before one that follows
+  -- a bare value, or those before one that found no memory
+  pub record ExtendsWithPairs (pairs : U) (old new : List' X Y)
+      (result : Result (Unit {0}) PairsFault) : Type 0 where
     pub first : I
     pub taken : List (Pair X Y)
     pub rest : I
@@ -96,11 +105,15 @@ module _ {U I X Y : Type 0} (becomes : U → I → Type 0) (steps : I → Option
     pub adds : AddsPairs old taken new
     pub ends : MatchResult result (λ _. IsDone steps rest) (StopsAt taken rest)
 
-  -- the same behind old with a default separator behind a bare last value; where that found no memory, old stays
-  abbrev pub ExtendsAfterDefault : (Y → Type 0) → U → List' X Y → List' X Y → Result (Unit {0}) PairsFault → Type 0
+  -- the same after old with a default separator after a bare last value; where that found no
+  -- memory, old stays
+  abbrev pub ExtendsAfterDefault : (Y → Type 0) → U → List' X Y → List' X Y →
+      Result (Unit {0}) PairsFault → Type 0
   ExtendsAfterDefault IsDefault pairs old new result =
-      ((mid : List' X Y) × (values_of mid ≡ values_of old) × AddsDefault IsDefault old mid × ExtendsWithPairs pairs mid new result)
-      ⊎ ((result ≡ Err Memory) × IsUnchanged old new × (length (values_of old) ≡ length (separators_of old) + 1))
+      ((mid : List' X Y) × (values_of mid ≡ values_of old) × AddsDefault IsDefault old mid
+      × ExtendsWithPairs pairs mid new result)
+      ⊎ ((result ≡ Err Memory) × IsUnchanged old new
+      × (length (values_of old) ≡ length (separators_of old) + 1))
 
   -- a new list of the pairs that came of the iterator
   pub record MadeOfPairs (pairs : U) (new : List' X Y) : Type 0 where
@@ -112,7 +125,8 @@ module _ {U I X Y : Type 0} (becomes : U → I → Type 0) (steps : I → Option
     pub separators : separators_of new ≡ separators_in taken
     pub are_pairs : IsPairs taken
 
-  -- the iterator gives pairs, none of which follows one without a separator, and then one at which the fault stops
+  -- the iterator gives pairs, none of which follows one without a separator, and then one at which
+  -- the fault stops
   pub record RefusesPairs (pairs : U) (fault : PairsFault) : Type 0 where
     pub first : I
     pub taken : List (Pair X Y)

@@ -1,5 +1,6 @@
 -- What a list ends as, where a `&mut` to one of its values is returned.
-use Rattle.std.specs.Prelude.{◌≡◌, ℕ, Option, None, Some, OnSome, slice_get, slice_set, nat_lt, if◌then◌else◌}
+use Rattle.std.specs.Prelude.{◌≡◌, ℕ, Option, None, Some, OnSome, slice_get, slice_set, nat_lt}
+use Rattle.std.specs.Prelude.{if◌then◌else◌}
 use Rattle.std.specs.Global.{Vec, Box}
 use Rattle.std.specs.Vec.{with_item, vec_len}
 use Rattle.std.specs.Borrow.{Lends, LendsIf, LendsSo, Fml, RattleType, MutBor}
@@ -30,21 +31,28 @@ with_value list index value =
 
 -- new is old with the value at index written over
 abbrev pub WritesValue : {X Y : Type 0} → ℕ → X → Punctuated X Y → Punctuated X Y → Type 0
-WritesValue index value old new = (values_of new ≡ slice_set (values_of old) index value) × (separators_of new ≡ separators_of old)
+WritesValue index value old new =
+    (values_of new ≡ slice_set (values_of old) index value)
+    × (separators_of new ≡ separators_of old)
 
 module _ (T P : RattleType) (s : MutBor (Punctuated T.Denot P.Denot)) where
   -- once the borrow r ends, the pair at index has the last value written through r
   abbrev pub lends_pair_value : ℕ → MutBor T.Denot → Fml
-  lends_pair_value index r = Lends (the_row T P) T s r (λ w. record s.now { inner = with_pair_value s.now.inner index w })
+  lends_pair_value index r =
+      Lends (the_row T P) T s r (λ w. record s.now { inner = with_pair_value s.now.inner index w })
 
-  -- once the borrow r ends, the bare last value is the last one written through r; at `None` the list stays as it is
+  -- once the borrow r ends, the bare last value is the last one written through r; at `None` the
+  -- list stays as it is
   abbrev pub lends_last_value : Option (MutBor T.Denot) → Fml
-  lends_last_value r = LendsIf (the_row T P) T s r (λ w. record s.now { last = with_last_value s.now.last w }) s.now
+  lends_last_value r =
+      LendsIf (the_row T P) T s r (λ w. record s.now { last = with_last_value s.now.last w }) s.now
 
-  -- once the borrow r ends, the list has at index the last value written through r, and all else as before; at `None`
-  -- all is as before
+  -- once the borrow r ends, the list has at index the last value written through r, and all else as
+  -- before; at `None` all is as before
   abbrev pub LendsValue : ℕ → Option (MutBor T.Denot) → Fml
-  LendsValue index r = LendsSo (the_row T P) T s r (λ new w. OnSome r (WritesValue index w s.now new)) (λ new. IsUnchanged s.now new)
+  LendsValue index r =
+      LendsSo (the_row T P) T s r (λ new w. OnSome r (WritesValue index w s.now new))
+      (λ new. IsUnchanged s.now new)
 
   -- once the borrow r ends, the value at index is the last one written through r
   abbrev pub LendsValueAt : ℕ → MutBor T.Denot → Fml

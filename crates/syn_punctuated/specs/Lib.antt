@@ -7,5 +7,10 @@ pub mod Lists
 pub mod PairLends
 pub mod Paired
 pub mod Pairs
+pub mod Pieces
 pub mod Printed
+pub mod Progress
+pub mod ReadBack
 pub mod Retained
+pub mod Trees
+pub mod Turns

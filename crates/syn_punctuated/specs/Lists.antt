@@ -15,7 +15,8 @@ module _ {X Y : Type 0} where
 
   -- whether the list ends in a separator: it has as many as values, and isn't empty
   abbrev pub is_trailing : Punctuated X Y → Bool
-  is_trailing list = not (length (values_of list) == 0) && (length (values_of list) == length (separators_of list))
+  is_trailing list =
+      not (length (values_of list) == 0) && (length (values_of list) == length (separators_of list))
 
   -- new has the values and the separators of old
   abbrev pub IsUnchanged : Punctuated X Y → Punctuated X Y → Type 0
@@ -23,9 +24,12 @@ module _ {X Y : Type 0} where
 
   -- a default separator was added where old ended in a bare value
   pub record AddsDefault (IsDefault : Y → Type 0) (old new : Punctuated X Y) : Type 0 where
-    pub trailing : length (values_of old) ≡ length (separators_of old) → separators_of new ≡ separators_of old
-    pub bare : length (values_of old) ≡ length (separators_of old) + 1 → (d : Y) × IsDefault d × (separators_of new ≡ separators_of old ++ d ∷ [])
+    pub trailing : length (values_of old) ≡ length (separators_of old) →
+        separators_of new ≡ separators_of old
+    pub bare : length (values_of old) ≡ length (separators_of old) + 1 → (d : Y) × IsDefault d
+        × (separators_of new ≡ separators_of old ++ d ∷ [])
 
   -- a default separator was put at index
   abbrev pub InsertsDefault : (Y → Type 0) → ℕ → Punctuated X Y → Punctuated X Y → Type 0
-  InsertsDefault IsDefault index old new = (d : Y) × IsDefault d × (separators_of new ≡ insert (separators_of old) index d)
+  InsertsDefault IsDefault index old new =
+      (d : Y) × IsDefault d × (separators_of new ≡ insert (separators_of old) index d)

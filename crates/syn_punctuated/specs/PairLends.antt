@@ -20,6 +20,7 @@ module _ (T P : RattleType) (s : MutBor (Pair T.Denot P.Denot)) where
   abbrev pub LendsPairValue : MutBor T.Denot → Fml
   LendsPairValue r = Lends (the_row T P) T s r (pair_with_value s.now)
 
-  -- once the borrow r ends, the pair has the last separator written through r; at `None` it stays as it is
+  -- once the borrow r ends, the pair has the last separator written through r; at `None` it stays
+  -- as it is
   abbrev pub LendsPairSeparator : Option (MutBor P.Denot) → Fml
   LendsPairSeparator r = LendsIf (the_row T P) P s r (pair_with_separator s.now) s.now

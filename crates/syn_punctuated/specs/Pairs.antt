@@ -1,4 +1,4 @@
--- Pairs of a value and the separator behind it.
+-- Pairs of a value and the separator after it.
 use Rattle.std.specs.Prelude.{Option, None, Some}
 use Rattle.syn_punctuated.specs.declared.pair.Pair.{Pair}
 use Rattle.syn_punctuated.specs.declared.pair.Pair.TheVariants.{Punctuated, End}
@@ -15,7 +15,7 @@ module _ {X Y : Type 0} where
   separator_of_pair (Punctuated x y) = Some y
   separator_of_pair (End x) = None
 
-  -- a value with the separator behind it, and a bare value, as pairs
+  -- a value with the separator after it, and a bare value, as pairs
   abbrev pub pair_of : X × Y → Pair X Y
   pair_of both = Punctuated both.0 both.1
 

@@ -11,7 +11,7 @@ module _ {X Y : Type 0} (value : X → Forest) (separator : Y → Forest) where
   by_turns (x ∷ xs) [] = joined (value x) (by_turns xs [])
   by_turns (x ∷ xs) (y ∷ ys) = joined (value x) (joined (separator y) (by_turns xs ys))
 
-  -- a pair's value, and the separator behind it if there is one
+  -- a pair's value, and the separator after it if there is one
   abbrev pub printed_pair : Pair X Y → Forest
   printed_pair (Punctuated x y) = joined (value x) (separator y)
   printed_pair (End x) = value x

@@ -4,8 +4,8 @@ use Rattle.syn_punctuated.specs.declared.punctuated.Punctuated.{Punctuated}
 use Rattle.syn_punctuated.specs.Lists.{values_of, separators_of}
 
 module _ {S X : Type 0} (R : S → X → Bool → S → X → Type 0) where
-  -- a run of a predicate over xs in order, each value once, from its state s to t: each call R gave an answer, and left
-  -- something of the value
+  -- a run of a predicate over xs in order, each value once, from its state s to t: each call R gave
+  -- an answer, and left something of the value
   abbrev pub RunsOver : S → List X → List (Bool × X) → S → Type 0
   RunsOver s [] [] t = s ≡ t
   RunsOver s [] (z ∷ zs) t = ⊥
@@ -18,7 +18,7 @@ kept_values [] = []
 kept_values (z ∷ zs) = cond z.0 (z.1 ∷ kept_values zs) (kept_values zs)
 
 module _ {X Y : Type 0} where
-  -- the separators behind those values
+  -- the separators after those values
   abbrev pub kept_separators : List (Bool × X) → List Y → List Y
   kept_separators [] ys = []
   kept_separators (z ∷ zs) [] = []
@@ -33,14 +33,19 @@ module _ {X Y : Type 0} where
 module _ {S X Y : Type 0} (R : S → X → Bool → S → X → Type 0) where
   -- new is what a run from s to t kept of the pairs old
   abbrev pub RetainsPairs : S → List (X × Y) → List (X × Y) → S → Type 0
-  RetainsPairs s old new t = (run : List (Bool × X)) × RunsOver R s (map (λ p. p.0) old) run t × (new ≡ kept_pairs run old)
+  RetainsPairs s old new t =
+      (run : List (Bool × X)) × RunsOver R s (map (λ p. p.0) old) run t × (new ≡ kept_pairs run old)
 
-  -- new is what a run from s kept of old: the values kept, each with the separator behind it; where old ended in a
-  -- bare value the last value kept stands bare too, so the separators are one fewer than the values
+  -- new is what a run from s kept of old: the values kept, each with the separator after it; where
+  -- old ended in a bare value the last value kept stands bare too, so the separators are one fewer
+  -- than the values
   pub record Retains (s : S) (old new : Punctuated X Y) : Type 0 where
     pub run : List (Bool × X)
     pub ends : S
     pub runs : RunsOver R s (values_of old) run ends
     pub values : values_of new ≡ kept_values run
-    pub trailing : length (values_of old) ≡ length (separators_of old) → separators_of new ≡ kept_separators run (separators_of old)
-    pub bare : length (values_of old) ≡ length (separators_of old) + 1 → separators_of new ≡ take (length (kept_values run) - 1) (kept_separators run (separators_of old))
+    pub trailing : length (values_of old) ≡ length (separators_of old) →
+        separators_of new ≡ kept_separators run (separators_of old)
+    pub bare : length (values_of old) ≡ length (separators_of old) + 1 →
+        separators_of new ≡ take (length (kept_values run) - 1)
+        (kept_separators run (separators_of old))

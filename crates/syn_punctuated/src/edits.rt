@@ -25,7 +25,7 @@ impl<T: Drop, P: Drop> Punctuated<T, P> {
         Ok(())
     }
 
-    /// Adds a separator behind a bare last value. Owed: there is one.
+    /// Adds a separator after a bare last value. Owed: there is one.
     ///
     /// Where there is no memory the list stays as it was, and the separator is dropped.
     pub fn push_punct(&mut self, separator: P) -> Result<(), AllocError>
@@ -44,7 +44,7 @@ impl<T: Drop, P: Drop> Punctuated<T, P> {
         Ok(())
     }
 
-    /// Removes and gives the last value. A separator behind it is dropped; the one before it stays.
+    /// Removes and gives the last value. A separator after it is dropped; the one before it stays.
     pub fn pop(&mut self) -> Option<T>
         ensures values { values_of self.old ≡ values_of self.new ++ option_to_list result }
         ensures separators { separators_of self.new ≡ take (length (values_of self.new)) (separators_of self.old) }
@@ -88,7 +88,7 @@ impl<T: Drop, P: Drop> Punctuated<T, P> {
         }
     }
 
-    /// Removes and gives the last value with the separator behind it, if there is one.
+    /// Removes and gives the last value with the separator after it, if there is one.
     pub fn pop_pair(&mut self) -> Option<Pair<T, P>>
         ensures values { values_of self.old ≡ values_of self.new ++ option_to_list (option_map value_of_pair result) }
         ensures separators { separators_of self.old
@@ -134,7 +134,7 @@ impl<T: Drop, P: Default + Drop> Punctuated<T, P> {
         }
     }
 
-    /// Puts a value at `index`, with a default separator behind it; at the list's end it does what `push` does.
+    /// Puts a value at `index`, with a default separator after it; at the list's end it does what `push` does.
     /// Owed: `index` is at most the length.
     ///
     /// Where there is no memory the list stays as it was, and the value is dropped.

@@ -75,7 +75,7 @@ impl<T: Drop, P: Drop> Punctuated<T, P> {
         Ok(())
     }
 
-    /// A list of pairs. A pair behind one without a separator is refused, and then nothing is made.
+    /// A list of pairs. A pair after one without a separator is refused, and then nothing is made.
     pub fn from_pairs<I: IntoIterator<Item = Pair<T, P>>>(
         alloc: Global,
         pairs: I,
@@ -122,7 +122,7 @@ impl<T: Drop, P: Default + Drop> Punctuated<T, P> {
     /// Adds pairs in turn. Where the list ends in a bare value a default separator goes first, even if no pair
     /// follows.
     ///
-    /// A pair behind one without a separator is refused. At either fault what came before stays, and the pair at which
+    /// A pair after one without a separator is refused. At either fault what came before stays, and the pair at which
     /// it stopped is dropped.
     pub fn extend_pairs<I: IntoIterator<Item = Pair<T, P>> + Drop>(
         &mut self,

@@ -1,13 +1,24 @@
 //! Laws over the definitions that the contracts cite. Each stands as the contract of a function that does nothing.
-ghost use Rattle.std.specs.Prelude.{◌≡◌, ◌<◌, ◌+◌, ◌&&◌, ◌⊎◌, ℕ, length};
+ghost use Rattle.std.specs.Prelude.{◌≡◌, ◌<◌, ◌+◌, ◌&&◌, ◌⊎◌, ℕ, List, length};
 ghost use Rattle.std.specs.Cmp.Lexicographic.{pointwise};
 ghost use Rattle.std.specs.Fn.{CalledAtMut};
+ghost use Rattle.std.specs.List.{All};
+ghost use Rattle.tok_core.specs.Forest.{Tree};
+ghost use Rattle.tok_core.specs.declared.ident.Ident.{Ident};
+ghost use Rattle.tok_types.specs.declared.punctuation.Punctuation.{Punctuation};
 ghost use Rattle.syn_punctuated.specs.Lends.{with_value, WritesValue};
 ghost use Rattle.syn_punctuated.specs.Lists.{values_of, separators_of, is_trailing};
+ghost use Rattle.syn_punctuated.specs.ReadBack.{IsAccepted, IsInTable, IsReadBack, ListsAreReadBack, ReadsAgain};
 ghost use Rattle.syn_punctuated.specs.Retained.{Retains};
+ghost use Rattle.syn_punctuated.specs.Trees.{ListsHaveTheirTrees, StatesTrees, ident_sources, punctuation_sources};
 ghost use Rattle.syn_punctuated.specs.declared.punctuated.Punctuated.{Punctuated};
 
 use crate::punctuated::Punctuated;
+use std::alloc::Global;
+use syn_parse::{Parse, Result, tokens_to_parse_buffer};
+use tok_buffer::TokenBuffer;
+use tok_core::{Ident, Span, ToTokens};
+use tok_types::token::{Punctuation, Token};
 
 /// A list has as many separators as values, or one fewer.
 pub fn separators_follow_values<T, P>()
@@ -34,3 +45,54 @@ pub fn indexing_writes_one_value<T, P>()
     ensures { (list : Punctuated T P) (index : ℕ) (value : T)
         → index < length (values_of list) → WritesValue index value list (with_value list index value) }
 {}
+
+/// A list that is parsed has the values and the separators of the trees that its stream passes, in their order, where the
+/// parser of a value and that of a separator state what they read; and a terminated list leaves nothing.
+pub fn lists_have_their_trees<T: Parse, P: Parse + Token>()
+    ensures { (values : T → List (List Tree)) (separators : P → List (List Tree))
+        → ListsHaveTheirTrees values separators T.parses P.parses P.peeks }
+{}
+
+/// The parsers of identifiers and of punctuations state what they read: an identifier, and a punct for each character.
+pub fn tokens_state_trees<const K: usize, const N: usize>()
+    ensures idents { StatesTrees ⟦<Ident as Parse>⟧.parses ident_sources }
+    ensures punctuations { StatesTrees ⟦<Punctuation<K, N> as Parse>⟧.parses punctuation_sources }
+{}
+
+/// Where the values and the separators of a list are read back one by one, the list is read back as it was written, and
+/// nothing is left. An allocation failure aside.
+pub fn lists_are_read_back<T: Parse + ToTokens, P: Parse + ToTokens>()
+    ensures { ListsAreReadBack T.parses T.printed P.parses P.printed }
+{}
+
+/// An identifier that is no reserved word, and a punctuation of the table with a span for each character, are read back.
+pub fn names_and_punctuations_are_read_back<const K: usize, const N: usize>()
+    ensures names { (i : Ident) → IsAccepted i → IsReadBack ⟦<Ident as Parse>⟧.parses ⟦<Ident as ToTokens>⟧.printed i }
+    ensures punctuations { (p : Punctuation K N) → IsInTable K N → length p.spans ≡ N
+        → IsReadBack ⟦<Punctuation<K, N> as Parse>⟧.parses ⟦<Punctuation<K, N> as ToTokens>⟧.printed p }
+{}
+
+/// Writes a list of identifiers that are no reserved words, and reads it again, all of it.
+pub fn read_again<const K: usize, const N: usize>(
+    alloc: Global,
+    list: &Punctuated<Ident, Punctuation<K, N>>,
+) -> Result<Punctuated<Ident, Punctuation<K, N>>>
+    requires words { All IsAccepted (values_of list.now) }
+    requires table { IsInTable K N }
+    requires spans { All (λ p. length p.spans ≡ N) (separators_of list.now) }
+    ensures { ReadsAgain list.now result }
+{
+    let tokens = list.to_token_stream(alloc)?;
+    let buffer = TokenBuffer::new2(alloc, 0, tokens)?;
+    let mut input = tokens_to_parse_buffer(alloc, &buffer, Span::call_site());
+    match Punctuated::parse_terminated(&mut input) {
+        Ok(again) => match input.finish() {
+            Ok(()) => Ok(again),
+            Err(fault) => Err(fault),
+        },
+        Err(fault) => {
+            input.discard();
+            Err(fault)
+        }
+    }
+}

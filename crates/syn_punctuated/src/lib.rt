@@ -13,9 +13,12 @@ mod lends;
 mod pair;
 mod pairs;
 mod pairs_mut;
+mod parse;
 mod print;
 mod punctuated;
 mod retain;
+mod separated;
+mod terminated;
 
 pub use extends::PairsFault;
 pub use into_iter::IntoIter;
@@ -26,3 +29,4 @@ pub use pair::Pair;
 pub use pairs::Pairs;
 pub use pairs_mut::PairsMut;
 pub use punctuated::Punctuated;
+pub use terminated::ParseTerminated;

@@ -1,4 +1,4 @@
-//! A value with the separator behind it, or a bare last value.
+//! A value with the separator after it, or a bare last value.
 ghost use Rattle.std.specs.Prelude.{◌≡◌, Some, None, IfOk};
 ghost use Rattle.std.specs.Borrow.{sem};
 ghost use Rattle.std.specs.Option.{option_copied, option_copied_mut};
@@ -7,17 +7,17 @@ ghost use Rattle.syn_punctuated.specs.PairLends.{LendsPairValue, LendsPairSepara
 
 use std::alloc::AllocError;
 
-/// A value and the separator behind it, or a bare last value.
+/// A value and the separator after it, or a bare last value.
 #[derive(Clone, Copy, Debug, Drop, PartialEq, Eq, Hash)]
 pub enum Pair<T, P> {
-    /// A value and the separator behind it.
+    /// A value and the separator after it.
     Punctuated(T, P),
-    /// A last value with nothing behind it.
+    /// A last value with nothing after it.
     End(T),
 }
 
 impl<T, P> Pair<T, P> {
-    /// The pair of a value and what stands behind it, if anything does.
+    /// The pair of a value and what follows it, if anything does.
     pub fn new(value: T, separator: Option<P>) -> Self
         ensures value { value_of_pair result ≡ value }
         ensures separator { separator_of_pair result ≡ separator }

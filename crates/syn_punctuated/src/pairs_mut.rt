@@ -31,7 +31,7 @@ impl<T, P> Punctuated<T, P> {
     }
 }
 
-/// A value and the separator behind it.
+/// A value and the separator after it.
 fn lend_pair<'a, T, P>(pair: &'a mut (T, P)) -> Pair<&'a mut T, &'a mut P>
     ensures { deref_both_mut result ≡ pair_of pair.old }
 {

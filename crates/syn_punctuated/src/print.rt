@@ -10,7 +10,7 @@ use std::alloc::AllocError;
 use std::fmt;
 use tok_core::{ToTokens, TokenStream};
 
-/// Puts the tokens of a value, and then those of a separator, behind the others.
+/// Puts the tokens of a value, and then those of a separator, after the others.
 fn write_pair<T: ToTokens, P: ToTokens>(
     value: &T,
     separator: &P,

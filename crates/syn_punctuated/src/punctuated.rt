@@ -6,7 +6,7 @@ ghost use Rattle.syn_punctuated.specs.Lists.{values_of, separators_of, is_traili
 
 use std::alloc::Global;
 
-/// A list of values with separators between them: one behind each value but the last, which may stand bare.
+/// A list of values with separators between them: one after each value but the last, which may stand bare.
 ///
 /// It keeps the allocator that it was made with. Two lists are equal where their values are equal one by one, and
 /// their separators are too.
@@ -84,7 +84,7 @@ impl<T, P> Punctuated<T, P> {
         self.last.is_none()
     }
 
-    /// The last value, where no separator stands behind it.
+    /// The last value, where no separator follows it.
     pub(crate) fn bare_value(&self) -> Option<&T>
         ensures { option_to_list (option_copied result) ≡ boxed_values self.now.last }
     {

@@ -41,7 +41,7 @@ fn retain_pairs<T: Drop, P: Drop, F: FnMut(&mut T) -> bool>(pairs: &mut Vec<(T, 
 }
 
 impl<T: Drop, P: Drop> Punctuated<T, P> {
-    /// Keeps the values at which `f` answers true, each with the separator behind it. Where the list ended in a bare
+    /// Keeps the values at which `f` answers true, each with the separator after it. Where the list ended in a bare
     /// value, the last that is kept stands bare.
     ///
     /// `f` sees each value once, in order, and may write to it. No memory is taken: a value that becomes bare goes into

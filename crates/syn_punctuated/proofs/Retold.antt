@@ -1,0 +1,86 @@
+-- A run is one too where its values are said to be read in other words, and the state of the value
+-- parser is seen otherwise.
+use Rattle.std.proofs.Common.{◌≡◌, ◌∙◌, ap, refl, List, [], ◌∷◌, ◌++◌, map, Ok, Err}
+use Rattle.std.specs.Prelude.{Result}
+use Rattle.syn_parse.specs.Reads.{Call}
+use Rattle.syn_parse.specs.State.{State}
+use Rattle.syn_parse.specs.declared.fault.Fault.{Fault}
+use Rattle.syn_punctuated.specs.Turns.{Rule, ValueCall, Turn, turn_value, turn_separator, Chain}
+use Rattle.syn_punctuated.specs.Turns.{Holds, IsTurn, IsRun, Ending, at_end, bare, value_refused}
+use Rattle.syn_punctuated.specs.Turns.{separator_refused, value_lost, turn_lost, stuck}
+use Rattle.syn_punctuated.specs.declared.punctuated.Punctuated.{Punctuated}
+
+module _ {T P F G : Type 0} (rule : Rule) (reads : ValueCall F T) (tells : ValueCall G T)
+    (separates : Call P) (seen : F → G)
+    (retold : (f g : F) (s t : State) (r : Result T Fault) → reads f s r g t
+    → tells (seen f) s r (seen g) t) where
+  abbrev turn_seen : Turn T P F → Turn T P G
+  turn_seen turn = record {
+    value = turn.value;
+    between = turn.between;
+    parser = seen turn.parser;
+    separator = turn.separator;
+    after = turn.after;
+  }
+
+  values_seen : (turns : List (Turn T P F))
+      → map turn_value turns ≡ map turn_value (map turn_seen turns)
+  values_seen [] = refl
+  values_seen (turn ∷ turns) = ap (λ xs. turn.value ∷ xs) (values_seen turns)
+
+  separators_seen : (turns : List (Turn T P F))
+      → map turn_separator turns ≡ map turn_separator (map turn_seen turns)
+  separators_seen [] = refl
+  separators_seen (turn ∷ turns) = ap (λ xs. turn.separator ∷ xs) (separators_seen turns)
+
+  is_turn_seen : (f : F) (s : State) (turn : Turn T P F) → IsTurn rule reads separates f s turn
+      → IsTurn rule tells separates (seen f) s (turn_seen turn)
+  is_turn_seen f s turn i = record {
+    opens = (
+      i.opens.0,
+      retold f turn.parser s turn.between
+          (Ok turn.value) i.opens.1,
+    );
+    goes_on = i.goes_on;
+    closes = i.closes;
+  }
+
+  chain_seen : (turns : List (Turn T P F)) (f g : F) (s t : State)
+      → Chain rule reads separates f s turns g t
+      → Chain rule tells separates (seen f) s (map turn_seen turns) (seen g) t
+  chain_seen [] f g s t c = (ap seen c.0, c.1)
+  chain_seen (turn ∷ turns) f g s t c =
+      (is_turn_seen f s turn c.0, c.1, chain_seen turns turn.parser g turn.after t c.2)
+
+  holds_seen : (turns : List (Turn T P F)) (more : List T) (r : Result (Punctuated T P) Fault)
+      → Holds turns more r → Holds (map turn_seen turns) more r
+  holds_seen turns more (Ok list) h =
+      (h.0 ∙ ap (λ xs. xs ++ more) (values_seen turns), h.1 ∙ separators_seen turns)
+  holds_seen turns more (Err e) h = absurd h
+
+  ending_seen : (turns : List (Turn T P F)) (f : F) (s t : State)
+      (r : Result (Punctuated T P) Fault) → Ending rule reads separates f s turns r t
+      → Ending rule tells separates (seen f) s (map turn_seen turns) r t
+  ending_seen turns f s t r (at_end i q h) = at_end i q (holds_seen turns [] r h)
+  ending_seen turns f s t r (bare v g i q h) =
+      bare v (seen g) (i.0, retold f g s t (Ok v) i.1) q (holds_seen turns (v ∷ []) r h)
+  ending_seen turns f s t r (value_refused e g i q) =
+      value_refused e (seen g) (i.0, retold f g s t (Err e) i.1) q
+  ending_seen turns f s t r (separator_refused v g m e i q p h) =
+      separator_refused v (seen g) m e (i.0, retold f g s m (Ok v) i.1) q p h
+  ending_seen turns f s t r (value_lost v g e i q p h) =
+      value_lost v (seen g) e (i.0, retold f g s t (Ok v) i.1) q p h
+  ending_seen turns f s t r (turn_lost turn e i q p h) =
+      turn_lost (turn_seen turn) e (is_turn_seen f s turn i) q p h
+  ending_seen turns f s t r (stuck turn e i q p n h) =
+      stuck (turn_seen turn) e (is_turn_seen f s turn i) q p n h
+
+  pub run_seen : (f : F) (s t : State) (r : Result (Punctuated T P) Fault)
+      → IsRun rule reads separates f s r t → IsRun rule tells separates (seen f) s r t
+  run_seen f s t r i = record {
+    turns = map turn_seen i.turns;
+    parser = seen i.parser;
+    last = i.last;
+    chain = chain_seen i.turns f i.parser s i.last i.chain;
+    ending = ending_seen i.turns i.parser i.last t r i.ending;
+  }

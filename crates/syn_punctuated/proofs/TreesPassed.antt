@@ -1,0 +1,244 @@
+-- The trees that a run of a list parser passes.
+use Rattle.std.proofs.Common.{◌≡◌, ◌∙◌, inl, inr, sym, ap, refl, subst, ℕ, Bool, true, false, ◌&&◌}
+use Rattle.std.proofs.Common.{List, [], ◌∷◌, ◌++◌, map, append_assoc, Option, Some, None, Ok, Err}
+use Rattle.std.proofs.Common.{eqb-true}
+use Rattle.std.specs.Prelude.{Result, IfSome, cond, not, ◌==◌}
+use Rattle.tok_core.specs.declared.ident.Ident.{Ident}
+use Rattle.tok_core.specs.declared.punct.Spacing.{Spacing}
+use Rattle.tok_core.specs.Spans.{tree_span}
+use Rattle.tok_core.specs.declared.punct.Spacing.TheVariants.{Alone, Joint}
+use Rattle.tok_core.specs.Forest.{Tree, leaf, group, ident, punct, literal}
+use Rattle.tok_buffer.specs.Descent.{descend}
+use Rattle.tok_buffer.specs.Place.{Place, front, pass, is_at_end}
+use Rattle.tok_buffer.specs.Reads.{and_then, apostrophe, is_joint_of, is_punct_of, read_punctuation}
+use Rattle.tok_buffer.specs.Reads.{read_word}
+use Rattle.tok_buffer.specs.Reads as reads
+use Rattle.tok_buffer.specs.Words.{Refusal}
+use Rattle.tok_types.specs.Texts.{accept_as_ident, punctuation_word}
+use Rattle.tok_types.specs.declared.punctuation.Punctuation.{Punctuation}
+use Rattle.syn_parse.specs.Parses.{AreSpans, IdentParses, IsIdent, PunctuationParses}
+use Rattle.syn_parse.specs.Reads.{Call, Reads, ReadsAtOnce}
+use Rattle.syn_parse.specs.State.{State, moved}
+use Rattle.syn_parse.specs.Words.{punctuation_refusal}
+use Rattle.syn_parse.specs.declared.fault.Fault.{Fault}
+use Rattle.syn_punctuated.specs.Lists.{values_of, separators_of}
+use Rattle.syn_punctuated.specs.Trees.{AreTreesOf, IsOneOf, ListsHaveTheirTrees, Passes, PassesList}
+use Rattle.syn_punctuated.specs.Trees.{StatesTrees, ident_sources, punctuation_sources}
+use Rattle.syn_punctuated.specs.Trees.{puncts_ending, trees_ahead}
+use Rattle.syn_punctuated.specs.Turns.{Rule, ValueCall, Turn, turn_value, turn_separator, separated}
+use Rattle.syn_punctuated.specs.Turns.{terminated, Chain, Ending, IsPlainRun, at_end, bare}
+use Rattle.syn_punctuated.specs.Turns.{value_refused, separator_refused, value_lost, turn_lost}
+use Rattle.syn_punctuated.specs.Turns.{stuck}
+use Rattle.syn_punctuated.specs.declared.punctuated.Punctuated.{Punctuated}
+use Rattle.syn_punctuated.proofs.Taken.{word-taken, punctuation-taken}
+
+ok_is_no_err : {A B : Type 0} (v : A) (e : B) → Ok v ≡ Err e → ⊥
+ok_is_no_err {A} {B} v e q = subst is_ok q tt
+  where
+    is_ok : Result A B → Type 0
+    is_ok (Ok v) = Unit {0}
+    is_ok (Err v) = ⊥
+
+module _ {T P : Type 0} (sources : T → List (List Tree)) (between : P → List (List Tree))
+    (values : Call T) (separators : Call P) where
+  abbrev value_reads : ValueCall (Unit {0}) T
+  value_reads f s r g t = values s r t
+
+  abbrev TheTurn : Type 0
+  TheTurn = Turn T P (Unit {0})
+
+  module _ (rule : Rule) (told : StatesTrees values sources)
+      (parts : StatesTrees separators between) where
+    along : (a b c d : List Tree) (us vs more : List Tree) → a ≡ us ++ b → b ≡ vs ++ c
+        → c ≡ more ++ d → a ≡ (us ++ (vs ++ more)) ++ d
+    along a b c d us vs more h k i =
+        h ∙ (ap (λ z. us ++ z) (k ∙ (ap (λ z. vs ++ z) i ∙ sym (append_assoc vs more d)))
+        ∙ sym (append_assoc us (vs ++ more) d))
+
+    follow : (turns : List TheTurn) (f g : Unit {0}) (s m t : State) (more : List T)
+        (us : List Tree) → Chain rule value_reads separators f s turns g m
+        → AreTreesOf sources between more [] us → Passes us m t
+        → (ts : List Tree) × AreTreesOf sources between (map turn_value turns ++ more)
+        (map turn_separator turns) ts × Passes ts s t
+    follow [] f g s m t more us c h k = (us, h, ap (λ (z : State). trees_ahead z.place) c.1 ∙ k)
+    follow (turn ∷ turns) f g s m t more us c h k =
+        let v = told s turn.between turn.value c.0.opens.1 in
+        let p = parts turn.between turn.after turn.separator c.0.closes in
+        let rest = follow turns turn.parser g turn.after m t more us c.2 h k in (
+          v.0 ++ (p.0 ++ rest.0),
+          (v.0, p.0, rest.0, refl, v.1, p.1, rest.1),
+          along (trees_ahead s.place) (trees_ahead turn.between.place)
+              (trees_ahead turn.after.place) (trees_ahead t.place) v.0 p.0 rest.0 v.2 p.2 rest.2,
+        )
+
+    listed : (turns : List TheTurn) (more : List T) (list : Punctuated T P) (s t : State)
+        → values_of list ≡ map turn_value turns ++ more
+        → separators_of list ≡ map turn_separator turns
+        → (ts : List Tree) × AreTreesOf sources between (map turn_value turns ++ more)
+        (map turn_separator turns) ts × Passes ts s t → PassesList sources between list s t
+    listed turns more list s t v w h = (h.0, rw (v, w) h.1, h.2)
+
+    passed : (turns : List TheTurn) (f g : Unit {0}) (s m t : State) (list : Punctuated T P)
+        → Chain rule value_reads separators f s turns g m
+        → Ending rule value_reads separators g m turns (Ok list) t
+        → PassesList sources between list s t
+    passed turns f g s m t list c (at_end i q h) =
+        listed turns [] list s t h.0 h.1 (follow turns f g s m t [] [] c (refl, refl)
+        (ap (λ (z : State). trees_ahead z.place) (sym q)))
+    passed turns f g s m t list c (bare v k b i h) = let w =
+        told m t v b.1 in listed turns (v ∷ []) list s t h.0 h.1
+        (follow turns f g s m t (v ∷ []) w.0 c (refl, w.1) w.2)
+    passed turns f g s m t list c (value_refused e k b q) = absurd (ok_is_no_err list e q)
+    passed turns f g s m t list c (separator_refused v k u e b i h q) =
+        absurd (ok_is_no_err list e q)
+    passed turns f g s m t list c (value_lost v k e b i h q) = absurd (ok_is_no_err list e q)
+    passed turns f g s m t list c (turn_lost turn e i q h j) = absurd (ok_is_no_err list e j)
+    passed turns f g s m t list c (stuck turn e i q u h j) = absurd (ok_is_no_err list e j)
+
+  left : (turns : List TheTurn) (g : Unit {0}) (m t : State) (list : Punctuated T P)
+      → Ending terminated value_reads separators g m turns (Ok list) t → is_at_end t.place ≡ true
+  left turns g m t list (at_end i q h) = ap (λ (z : State). is_at_end z.place) q ∙ i
+  left turns g m t list (bare v k b i h) = i
+  left turns g m t list (value_refused e k b q) = absurd (ok_is_no_err list e q)
+  left turns g m t list (separator_refused v k u e b i h q) = absurd (ok_is_no_err list e q)
+  left turns g m t list (value_lost v k e b i h q) = absurd (ok_is_no_err list e q)
+  left turns g m t list (turn_lost turn e i q h j) = absurd (ok_is_no_err list e j)
+  left turns g m t list (stuck turn e i q u h j) = absurd (ok_is_no_err list e j)
+
+  pub lists_have_their_trees : (peeks : Place → Bool → Type 0)
+      → ListsHaveTheirTrees sources between values separators peeks
+  lists_have_their_trees peeks told parts s t list = (
+    λ run. (
+      passed terminated told parts run.turns tt run.parser s run.last t list run.chain
+          run.ending,
+      left run.turns run.parser run.last t list run.ending,
+    ),
+    λ run. passed (separated peeks) told parts run.turns tt run.parser s run.last t list run.chain
+        run.ending,
+  )
+
+-- identifiers
+ident_read : (words : Refusal) (s t : State) (i : Ident) (x : Option (List Tree × Place))
+    → IfSome x (λ r. trees_ahead s.place ≡ r.0 ++ trees_ahead r.1)
+    → Reads IsIdent x words s (Ok i) t → (ts : List Tree) × IsOneOf (ident_sources i) ts
+    × Passes ts s t
+ident_read words s t i None h k = absurd k
+ident_read words s t i (Some r) h k =
+    (r.0, inl k.0, h ∙ ap (λ (z : State). r.0 ++ trees_ahead z.place) (sym k.1))
+
+pub idents_state_trees : StatesTrees IdentParses ident_sources
+idents_state_trees s t i h = ident_read _ s t i (read_word accept_as_ident s.place)
+    (word-taken accept_as_ident s.place) h
+
+-- punctuations
+both : (a b : Bool) → (a && b) ≡ true → a ≡ true
+both true b h = refl
+both false b h = h
+
+-- the one tree that is taken
+abbrev IsTaken : (Tree → Type 0) → Option (List Tree × Place) → Type 0
+IsTaken Wanted r = IfSome r (λ x. (t : Tree) × Wanted t × (x.0 ≡ t ∷ []))
+
+taken : (wanted : Tree → Bool) (Wanted : Tree → Type 0) → ((t : Tree) → wanted t ≡ true → Wanted t)
+    → (p : Place) → IsTaken Wanted (reads.take wanted p)
+taken wanted Wanted is p = by (front p)
+  where
+    if_wanted : (t : Tree) (b : Bool) → wanted t ≡ b
+        → IsTaken Wanted (cond b (Some (t ∷ [], pass p)) None)
+    if_wanted t true e = (t, is t e, refl)
+    if_wanted t false e = tt
+
+    by : (x : Option Tree) → IsTaken Wanted (elim x [
+      | Some t ↦ cond (wanted t)
+          (Some (t ∷ [], pass p)) None
+      | None ↦ None
+    ])
+    by None = tt
+    by (Some t) = if_wanted t (wanted t) refl
+
+-- a punct of a character, alone or joint
+abbrev IsPunctOf : ℕ → Tree → Type 0
+IsPunctOf c t = (last : Spacing) × (t ≡ leaf (punct c last (tree_span t)))
+
+abbrev IsJointOf : ℕ → Tree → Type 0
+IsJointOf c t = t ≡ leaf (punct c Joint (tree_span t))
+
+of_single : (c : ℕ) (t : Tree) → is_punct_of c t ≡ true → IsPunctOf c t
+of_single c (leaf (punct k spacing span)) h = (
+  spacing,
+  ap (λ z. leaf (punct z spacing span))
+      (eqb-true k c (both (k == c) (not (k == apostrophe)) h)),
+)
+of_single c (leaf (ident text span)) h = cc
+of_single c (leaf (literal text span)) h = cc
+of_single c (group d inside span) h = cc
+
+of_joint : (c : ℕ) (t : Tree) → is_joint_of c t ≡ true → IsJointOf c t
+of_joint c (leaf (punct k Joint span)) h =
+    ap (λ z. leaf (punct z Joint span)) (eqb-true k c (both (k == c) (not (k == apostrophe)) h))
+of_joint c (leaf (punct k Alone span)) h = cc
+of_joint c (leaf (ident text span)) h = cc
+of_joint c (leaf (literal text span)) h = cc
+of_joint c (group d inside span) h = cc
+
+-- the puncts of a text
+abbrev Ends : List ℕ → List Tree → Type 0
+Ends text ts = (last : Spacing) × (ts ≡ puncts_ending last text (map tree_span ts))
+
+abbrev Spells : List ℕ → Option (List Tree × Place) → Type 0
+Spells text r = IfSome r (λ x. Ends text x.0)
+
+one_spelled : (c : ℕ) (r : Option (List Tree × Place)) → IsTaken (IsPunctOf c) r → Spells (c ∷ []) r
+one_spelled c None h = tt
+one_spelled c (Some x) h = (h.1.0, rw h.2 (ap (λ z. z ∷ []) h.1.1))
+
+more_spelled : (c d : ℕ) (cs : List ℕ) (t : Tree) (ts us whole : List Tree) → IsJointOf c t
+    → ts ≡ t ∷ [] → Ends (d ∷ cs) us → whole ≡ ts ++ us → Ends (c ∷ (d ∷ cs)) whole
+more_spelled c d cs t ts us whole j e h w =
+    let same : whole ≡ t ∷ us = w ∙ ap (λ z. z ++ us) e in
+    (h.0, rw same (ap (λ z. z ∷ us) j ∙ ap (λ z. leaf (punct c Joint (tree_span t)) ∷ z) h.1))
+
+then_spelled : (c d : ℕ) (cs : List ℕ) (x : Option (List Tree × Place))
+    (g : Place → Option (List Tree × Place)) → IsTaken (IsJointOf c) x
+    → ((q : Place) → Spells (d ∷ cs) (g q)) → Spells (c ∷ (d ∷ cs)) (and_then x g)
+then_spelled c d cs None g h k = tt
+then_spelled c d cs (Some x) g h k = go (g x.1) (k x.1) where
+  go : (y : Option (List Tree × Place)) → Spells (d ∷ cs) y
+      → Spells (c ∷ (d ∷ cs)) (elim y [ Some q ↦ Some (x.0 ++ q.0, q.1) | None ↦ None ])
+  go None e = tt
+  go (Some q) e = more_spelled c d cs h.0 x.0 q.0 (x.0 ++ q.0) h.1 h.2 e refl
+
+spelled : (text : List ℕ) (p : Place) → Spells text (read_punctuation text p)
+spelled [] p = tt
+spelled (c ∷ []) p = one_spelled c (reads.take (is_punct_of c) (descend p))
+    (taken (is_punct_of c) (IsPunctOf c) (of_single c) (descend p))
+spelled (c ∷ (d ∷ cs)) p = then_spelled c d cs (reads.take (is_joint_of c) (descend p))
+    (read_punctuation (d ∷ cs)) (taken (is_joint_of c) (IsJointOf c) (of_joint c) (descend p))
+    (spelled (d ∷ cs))
+
+module _ (k n : ℕ) where
+  is_source : (p : Punctuation k n) (ts : List Tree) → AreSpans p.spans ts
+      → Ends (punctuation_word k n) ts → IsOneOf (punctuation_sources p) ts
+  is_source p ts a e = by e.0 (e.1 ∙ ap (puncts_ending e.0 (punctuation_word k n)) (sym a))
+    where
+      by : (last : Spacing) → ts ≡ puncts_ending last (punctuation_word k n) p.spans
+          → IsOneOf (punctuation_sources p) ts
+      by Alone q = inl q
+      by Joint q = inr (inl q)
+
+  punctuation_read : (s t : State) (p : Punctuation k n) (x : Option (List Tree × Place))
+      → IfSome x (λ r. trees_ahead s.place ≡ r.0 ++ trees_ahead r.1)
+      → Spells (punctuation_word k n) x
+      → ReadsAtOnce (λ (v : Punctuation k n). AreSpans v.spans) x
+      (punctuation_refusal (punctuation_word k n) s) s (Ok p) t → (ts : List Tree)
+      × IsOneOf (punctuation_sources p) ts × Passes ts s t
+  punctuation_read s t p None h w r = absurd r
+  punctuation_read s t p (Some x) h w r =
+      (x.0, is_source p x.0 r.0 w, h ∙ ap (λ (z : State). x.0 ++ trees_ahead z.place) (sym r.1))
+
+  pub punctuations_state_trees : StatesTrees
+      (PunctuationParses (λ (p : Punctuation k n). p.spans) (punctuation_word k n)
+      (punctuation_word k n)) punctuation_sources
+  punctuations_state_trees s t p h = punctuation_read s t p (read_punctuation (punctuation_word k n)
+      s.place) (punctuation-taken (punctuation_word k n) s.place)
+      (spelled (punctuation_word k n) s.place) h

@@ -1,0 +1,36 @@
+use Rattle.std.proofs.Common.{rules}
+use Rattle.syn_punctuated.proofs.Runs.{bounded-more, so-far-more, run-bare, run-refused}
+use Rattle.syn_punctuated.proofs.Runs.{run-turn_lost, run-stuck}
+use Rattle.syn_punctuated.proofs.punctuated.Punctuated.parse_terminated_with.Goals as goal
+
+pub returns-in_err-read_terminated-clause-run : goal.returns-in_err-read_terminated-clause-run
+returns-in_err-read_terminated-clause-run g c =
+    run-refused _ _ _ _ _ _ _ _ _ _ _ _ c.loop-pairs.invariant.so_far
+    c.in_err-read_terminated.ensures (search rules)
+
+pub returns-in-Bare-clause-run : goal.returns-in-Bare-clause-run
+returns-in-Bare-clause-run g c =
+    run-bare _ _ _ _ _ _ _ _ _ _ _ _ c.with_bare.ensures c.loop-pairs.invariant.so_far
+    (rw c.in-Bare.is at c.in_ok-read_terminated.ensures)
+
+pub returns-in_err-push-in-Full-clause-run : goal.returns-in_err-push-in-Full-clause-run
+returns-in_err-push-in-Full-clause-run g c =
+    run-turn_lost _ _ _ _ _ _ _ _ _ _ _ _ _ c.loop-pairs.invariant.so_far
+    (rw c.in-Full.is at c.in_ok-read_terminated.ensures) (search rules)
+
+pub returns-in_err-start-clause-run : goal.returns-in_err-start-clause-run
+returns-in_err-start-clause-run g c =
+    run-stuck _ _ _ _ _ _ _ _ _ _ _ _ _ _ c.loop-pairs.invariant.so_far
+    (rw c.in-Full.is at c.in_ok-read_terminated.ensures)
+    (rw c.loop-pairs.invariant.here at c.in_err-start.ensures.progress) (search rules)
+
+pub loop-pairs-preserved : goal.loop-pairs-preserved
+loop-pairs-preserved g c = record {
+  so_far = so-far-more _ _ _ _ _ _ _ _ _ _ _ _ _ c.loop-pairs.invariant.so_far
+      (rw c.in-Full.is at c.in_ok-read_terminated.ensures)
+      (rw c.loop-pairs.invariant.here at c.in_ok-start.ensures.progress.1) (search rules);
+  bounded = bounded-more _ _ (c.in-Full.value, c.in-Full.separator) _ _ _
+      c.loop-pairs.invariant.bounded (search rules)
+      (rw c.loop-pairs.invariant.here at c.in_ok-start.ensures.lowers);
+  here = c.in_ok-start.ensures.progress.0;
+}
