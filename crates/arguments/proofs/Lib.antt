@@ -1,0 +1,9 @@
+pub mod Calls
+pub mod Tokens
+pub mod ValueSteps
+pub mod ArgumentSteps
+pub mod ListSteps
+pub mod Written
+pub mod Sound
+pub mod Same
+pub mod Whole

@@ -1,0 +1,58 @@
+-- Which lists of visible trees are arguments, and which arguments they are.
+use Rattle.std.specs.Prelude.{ℕ, List, [], ◌∷◌}
+use Rattle.tok_core.specs.Forest.{Tree, leaf, group, punct, Forest, no_trees, tree, forest, joined}
+use Rattle.tok_core.specs.Seen.{ident_of, literal_of}
+use Rattle.tok_core.specs.Spans.{whole_span}
+use Rattle.tok_core.specs.declared.group.Delimiter.TheVariants.{Parenthesis}
+use Rattle.tok_core.specs.declared.ident.Ident.{Ident}
+use Rattle.tok_core.specs.declared.literal.Literal.{Literal}
+use Rattle.tok_core.specs.declared.punct.Spacing.{Spacing}
+use Rattle.tok_core.specs.declared.span.Span.{Span}
+use Rattle.tok_types.specs.declared.delimiter.Paren.{Paren}
+use Rattle.syn_punctuated.specs.Lists.{values_of, separators_of}
+use Rattle.arguments.specs.Values.{Comma, Arguments, sign_at, IsName, flag, assigned, with_list}
+use Rattle.arguments.specs.declared.argument.Argument.{Argument}
+
+-- the codes of `=` and `,`
+abbrev pub equals_sign : ℕ
+equals_sign = 61
+
+abbrev pub comma : ℕ
+comma = 44
+
+-- the punct of this character, joint or alone
+abbrev pub sign : ℕ → Spacing → Span → Tree
+sign c spacing span = leaf (punct c spacing span)
+
+mutual
+  -- One argument: a name; or a name, `=` and a literal; or a name and parentheses around arguments.
+  pub data IsArgument : List Tree → Argument → Type 0 where
+    is_flag : (name : Ident) → IsName name → IsArgument (leaf (ident_of name) ∷ []) (flag name)
+    is_assigned : (name : Ident) (spacing : Spacing) (span : Span) (text : Literal) → IsName name
+        → IsArgument
+        (leaf (ident_of name) ∷ sign equals_sign spacing span ∷ leaf (literal_of text) ∷ [])
+        (assigned name (sign_at span) text)
+    is_list : (name : Ident) (inside : Forest) (paren : Paren) (inner : Arguments) → IsName name
+        → AreListed inside (values_of inner) (separators_of inner)
+        → IsArgument
+        (leaf (ident_of name) ∷ group Parenthesis inside (whole_span paren.span) ∷ [])
+        (with_list name paren inner)
+
+  -- A list of arguments and its commas: nothing; or one argument; or one, a comma and a list.
+  pub data AreListed : Forest → List Argument → List Comma → Type 0 where
+    nothing : AreListed no_trees [] []
+    last : (trees : List Tree) (argument : Argument) → IsArgument trees argument
+        → AreListed (forest trees) (argument ∷ []) []
+    and_more : (trees : List Tree) (argument : Argument) (spacing : Spacing) (span : Span)
+        (rest : Forest) (others : List Argument) (commas : List Comma) → IsArgument trees argument
+        → AreListed rest others commas
+        → AreListed (joined (forest trees) (tree (sign comma spacing span) rest))
+        (argument ∷ others) (sign_at span ∷ commas)
+
+-- these trees are these arguments
+abbrev pub AreArguments : Forest → Arguments → Type 0
+AreArguments trees arguments = AreListed trees (values_of arguments) (separators_of arguments)
+
+-- these trees are no arguments
+abbrev pub AreNoArguments : Forest → Type 0
+AreNoArguments trees = (arguments : Arguments) → AreArguments trees arguments → ⊥

@@ -1,0 +1,10 @@
+//! Laws of arguments. The functions do nothing: each one's contract is a law.
+ghost use Rattle.tok_core.specs.Forest.{Forest};
+ghost use Rattle.arguments.specs.Grammar.{AreArguments};
+ghost use Rattle.arguments.specs.Same.{SameArguments};
+ghost use Rattle.arguments.specs.Values.{Arguments};
+
+/// The same trees are never two different lists of arguments, spans included.
+pub fn arguments_once()
+    ensures { (trees : Forest) (left right : Arguments) → AreArguments trees left → AreArguments trees right → SameArguments left right }
+{}

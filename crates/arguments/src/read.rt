@@ -1,0 +1,133 @@
+// The reader.
+ghost use Rattle.std.specs.Prelude.{◌≡◌, ◌<◌, ◌≤◌, true, IfOk};
+ghost use Rattle.tok_core.specs.Erase.{erase};
+ghost use Rattle.tok_core.specs.Filled.{filled};
+ghost use Rattle.tok_core.specs.Weight.{weight};
+ghost use Rattle.tok_core.specs.declared.ident.Ident.{Ident};
+ghost use Rattle.tok_buffer.specs.View.{erased_ahead};
+ghost use Rattle.arguments.specs.Outcomes.{arguments_in};
+ghost use Rattle.arguments.specs.Reading.{AheadDecides, IsOutcome, ReadsArgument, ReadsArguments, ReadsValue};
+ghost use Rattle.arguments.specs.Results.{Agree, Parses, ParsesTo, with_fault};
+
+use crate::argument::{Argument, Arguments, Value};
+use std::alloc::{AllocError, Global};
+use syn_parse::{Fault, Parens, ParseStream, Parser, Result, parse_parens};
+use syn_punctuated::Punctuated;
+use tok_buffer::Error;
+use tok_buffer::laws::{ahead_tells, calls_lead_on};
+use tok_core::{Ident, Literal, TokenStream};
+use tok_types::token;
+
+/// Parses all of these tokens as arguments. Where they are none, the refusal is that of the first parser that refuses.
+///
+///     let list = parse_arguments(alloc, lex(alloc, 0, "a, b = 1, c(d)")?)?;
+pub fn parse_arguments(alloc: Global, tokens: TokenStream) -> Result<Arguments>
+    ensures { filled tokens ≡ true → Parses (erase tokens) result }
+{
+    parse_whole(alloc, tokens)
+}
+
+/// Parses two streams of tokens as arguments. Where they differ only in invisible groups, the lists are the same, spans
+/// included, or the refusals have the same words. Only an allocation failure takes the place of both results.
+pub fn arguments_both(
+    alloc: Global,
+    left: TokenStream,
+    right: TokenStream,
+) -> std::result::Result<
+    (
+        std::result::Result<Arguments, Error>,
+        std::result::Result<Arguments, Error>,
+    ),
+    AllocError,
+>
+    ensures left { IfOk result (λ both. filled left ≡ true → ParsesTo (erase left) both.0) }
+    ensures right { IfOk result (λ both. filled right ≡ true → ParsesTo (erase right) both.1) }
+    ensures agree { IfOk result (λ both. filled left ≡ true → filled right ≡ true → erase left ≡ erase right → Agree both.0 both.1) }
+{
+    let left = without_memory(parse_whole(alloc, left))?;
+    let right = without_memory(parse_whole(alloc, right))?;
+    Ok((left, right))
+}
+
+// The result of a parser, with an allocation failure apart.
+fn without_memory(
+    parsed: Result<Arguments>,
+) -> std::result::Result<std::result::Result<Arguments, Error>, AllocError>
+    ensures { IfOk result (λ kept. parsed ≡ with_fault kept) }
+{
+    match parsed {
+        Ok(list) => Ok(Ok(list)),
+        Err(Fault::Refused(error)) => Ok(Err(error)),
+        Err(Fault::Memory(error)) => Err(error),
+    }
+}
+
+// Parses all of these tokens, and refuses them with the words that the trees decide.
+fn parse_whole(alloc: Global, tokens: TokenStream) -> Result<Arguments>
+    ensures { filled tokens ≡ true → IsOutcome (arguments_in (erase tokens)) result }
+{
+    trees_ahead_decide();
+    read_arguments.parse2(alloc, tokens)
+}
+
+// The laws that this module is proved by.
+fn trees_ahead_decide()
+    ensures { AheadDecides }
+{
+    ahead_tells();
+    calls_lead_on();
+}
+
+// The arguments up to the end.
+#[cycle(reading)]
+fn read_arguments(input: ParseStream<'_, '_>) -> Result<Arguments>
+    ensures { ReadsArguments input.old result input.new }
+{
+    trees_ahead_decide();
+    let mut list = Punctuated::new(input.allocator());
+    loop {
+        if input.is_empty() {
+            return Ok(list);
+        }
+        let argument = read_argument(input)?;
+        list.push_value(argument)?;
+        if input.is_empty() {
+            return Ok(list);
+        }
+        let comma = input.parse::<token::Comma>()?;
+        list.push_punct(comma)?;
+    }
+}
+
+// The next argument.
+#[cycle(reading)]
+fn read_argument(input: ParseStream<'_, '_>) -> Result<Argument>
+    ensures reads { ReadsArgument input.old result input.new }
+    ensures lighter { IfOk result (λ _. weight (erased_ahead input.new.place) < weight (erased_ahead input.old.place)) }
+{
+    trees_ahead_decide();
+    let name = input.parse::<Ident>()?;
+    let value = read_value(input)?;
+    Ok(Argument { name, value })
+}
+
+// The value after a name.
+#[cycle(reading)]
+fn read_value(input: ParseStream<'_, '_>) -> Result<Value>
+    ensures reads { (name : Ident) → ReadsValue name input.old result input.new }
+    ensures no_heavier { IfOk result (λ _. weight (erased_ahead input.new.place) ≤ weight (erased_ahead input.old.place)) }
+{
+    trees_ahead_decide();
+    if input.peek::<token::Eq>() {
+        let equals = input.parse::<token::Eq>()?;
+        let literal = input.parse::<Literal>()?;
+        return Ok(Value::Literal(equals, literal));
+    }
+    if input.peek::<token::Paren>() {
+        let Parens { token, mut content } = parse_parens(input)?;
+        let list = read_arguments(&mut content);
+        input.close(content);
+        return Ok(Value::List(token, list?));
+    }
+    Ok(Value::Flag)
+}
