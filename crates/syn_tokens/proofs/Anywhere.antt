@@ -14,8 +14,8 @@ use Rattle.syn_tokens.specs.Commands as spec
 use Rattle.syn_tokens.specs.Kinds.{peek_kind, read}
 use Rattle.syn_tokens.specs.State.{State, at_rest, changed, moved_to, outermost, put, standing, stream_at}
 use Rattle.syn_tokens.specs.State as states
-use Rattle.syn_tokens.specs.Step.{Stepped, moves, on_stream, one_tree, stays}
-use Rattle.syn_tokens.specs.Turns.{pieces_of}
+use Rattle.syn_tokens.specs.Step.{Stepped, moves, on_stream, one_tree, run_list, stays}
+use Rattle.syn_tokens.specs.Turns.{Outcome, pieces_of, read_all, refused_at, separated_turns, terminated_turns, turns_left}
 use Rattle.syn_tokens.specs.Reading.{IsRead, alone, is_read}
 use Rattle.syn_tokens.specs.Stepping.{Answers, IsStepped}
 use Rattle.syn_tokens.specs.declared.report.Answer.{Answer}
@@ -67,6 +67,10 @@ module _ (st : State) (k : ℕ) (s : states.Stream) (here : stream_at st k ≡ S
   of_tree words None = of_stays _
   of_tree words (Some r) = of_moves r.1 (spec.trees (forest r.0))
 
+  of_list : (o : Outcome) → IsSame (run_list (me ∷ []) 0 o) (run_list st k o)
+  of_list (read_all parts p) = of_moves p (spec.listed parts)
+  of_list (refused_at r p) = of_moves p (spec.refused r)
+
   same_read : (c : spec.Command) → is_read c ≡ true → IsSame (alone c (at_rest s)) (on_stream c st k s)
   same_read (spec.peek n l) h = of_stays _
   same_read (spec.peek2 n l) h = of_stays _
@@ -76,8 +80,10 @@ module _ (st : State) (k : ℕ) (s : states.Stream) (here : stream_at st k ≡ S
   same_read (spec.empty n) h = of_stays _
   same_read (spec.enter n d) h = cc
   same_read (spec.enter_any n) h = cc
-  same_read (spec.terminated n kind separator) h = cc
-  same_read (spec.separated n kind separator) h = cc
+  same_read (spec.terminated n kind separator) h =
+      of_list (terminated_turns kind separator s.scope_span (turns_left s.place) s.place)
+  same_read (spec.separated n kind separator) h =
+      of_list (separated_turns kind separator s.scope_span (turns_left s.place) s.place)
   same_read (spec.lookahead n ls) h = of_stays _
   same_read (spec.fork n) h = cc
   same_read (spec.advance n f) h = cc

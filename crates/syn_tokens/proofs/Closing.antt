@@ -121,7 +121,7 @@ left_closed k i xs ys zs x all e linked open_now inside up links h =
           ∙ left_at k i xs all h;
     }
 
--- how many streams are behind
+-- how many streams are after
 abbrev pub left_to : ℕ → Option ℕ → ℕ
 left_to n None = 0
 left_to n (Some i) = n - i

@@ -54,7 +54,7 @@ read_more first behind rest line commands more number said r e j u ok c m =
       utf8 = u;
     }
 
--- the first that passes, behind those that don't
+-- the first that passes, after those that don't
 position_at : (p : List ℕ → Bool) (xs ys : List (List ℕ)) (y : List ℕ) → All (λ x. p x ≡ false) xs → p y ≡ true → position p (xs ++ y ∷ ys) ≡ Some (length xs)
 position_at p xs ys y fails passes =
     let len : length (xs ++ y ∷ ys) ≡ length xs + (length ys + 1) = length-append xs (y ∷ ys) ∙ omega arith in

@@ -34,7 +34,7 @@ pub parent_below : (xs : List Stream) (k p : ℕ) (x : Stream) → AreLinked (li
 parent_below xs k p x h e t q =
     (h k (omega (arith, length-links xs))).parent p (ap (λ l. l.parent) (links_there xs k x e t) ∙ q)
 
--- a content of k, the last of `new`, behind the contents that k has in `old`
+-- a content of k, the last of `new`, after the contents that k has in `old`
 pub record IsAppended (old new : List Links) (k : ℕ) : Type 0 where
   pub below : k < length old
   pub len : length new ≡ length old + 1
@@ -168,7 +168,7 @@ last_other old new k i a h ne =
       latest = λ m q. none_other old new k i (m + 1) a ne (last.latest m (sym e ∙ q));
     }
 
--- the next content behind one of the parent's, which is not its last
+-- the next content after one of the parent's, which is not its last
 next_kept : (old new : List Links) (k i : ℕ) (o : Option ℕ) → IsAppended old new k → AreLinked old → i < length old → IsContent old k i → (links_at old k).last ≡ o → (o ≡ Some i → ⊥) → HasNone old k (i + 1) (length old) → ⊥
 next_kept old new k i None a h t c e ne none = (last_of old k h).none e i (omega arith) t c
 next_kept old new k i (Some m) a h t c e ne none =
@@ -186,7 +186,7 @@ decide_some : (o : Option ℕ) (i : ℕ) → (o ≡ Some i) ⊎ (o ≡ Some i �
 decide_some None i = inr (λ e. cc)
 decide_some (Some m) i = elim (eqb_tells m i) [ inl e ↦ inl (ap (λ z. Some z) e.1) | inr d ↦ inr (λ e. d.1 (some_same m i e)) ]
 
--- nothing is behind the new content
+-- nothing is after the new content
 next_new : (old new : List Links) (k i p : ℕ) → IsAppended old new k → AreLinked old → i ≡ length old → IsFirstFrom new p (i + 1) (links_at new i).next
 next_new old new k i p a h s =
     let last = last_of old k h in
@@ -200,7 +200,7 @@ next_new old new k i p a h s =
       nearest = λ m q. absurd (cc);
     }
 
--- the next content behind an old one
+-- the next content after an old one
 next_old : (old new : List Links) (k i p : ℕ) → IsAppended old new k → AreLinked old → i < length old → IsContent old p i → IsFirstFrom new p (i + 1) (links_at new i).next
 next_old old new k i p a h t c =
     elim (decide_some (links_at old k).last i) [

@@ -1,7 +1,7 @@
 -- The pieces of what was read.
-use Rattle.std.proofs.Common.{◌≡◌, ◌∙◌, sym, ap, subst, refl, ℕ, ◌+◌, ◌<◌, Bool, true, false, List, [], ◌∷◌, ◌++◌, drop, get_or, length, map, arith, Option, Some, None, Ok, Err, eqb-true}
+use Rattle.std.proofs.Common.{◌≡◌, ◌∙◌, sym, ap, subst, refl, ℕ, ◌+◌, ◌<◌, ◌≤◌, ◌⊎◌, inl, inr, Bool, true, false, List, [], ◌∷◌, ◌++◌, drop, get_or, length, map, arith, Option, Some, None, Ok, Err, eqb-true}
 use Rattle.std.proofs.lemmas.Bool.{cond-true, eq-eqb}
-use Rattle.std.proofs.lemmas.List.{drop_more}
+use Rattle.std.proofs.lemmas.List.{append-nil, drop_all, drop_more}
 use Rattle.std.specs.Prelude.{◌==◌, ◌&&◌, not, cond, encode_utf8}
 use Rattle.std.specs.Global.{Vec}
 use Rattle.std.specs.Str.{chars}
@@ -87,6 +87,20 @@ taken_in wanted (Some t) p r e = go (wanted t) refl e where
 taken : (wanted : Tree → Bool) (d : Place) (r : List Tree × Place) → reads.take wanted d ≡ Some r → IsTaken wanted r.0
 taken wanted d r e = taken_in wanted (front d) (pass d) r e
 
+-- all characters with a span have become pieces
+pub all_pieces : (made whole : List spec.Piece) (text : List ℕ) (spans : List Span) (i : ℕ)
+    → (length text ≤ i) ⊎ (length spans ≤ i)
+    → made ++ punct_pieces (drop i text) (drop i spans) ≡ whole → made ≡ whole
+all_pieces made whole text spans i (inl h) e =
+    sym (append-nil made) ∙ (ap (λ z. made ++ punct_pieces z (drop i spans)) (sym (drop_all i text h)) ∙ e)
+all_pieces made whole text spans i (inr h) e =
+    sym (append-nil made)
+    ∙ (ap (λ z. made ++ z) (sym (without_spans (drop i text))) ∙ ap (λ z. made ++ punct_pieces (drop i text) z) (sym (drop_all i spans h)) ∙ e)
+  where
+    without_spans : (text : List ℕ) → punct_pieces text [] ≡ []
+    without_spans [] = refl
+    without_spans (c ∷ cs) = refl
+
 -- one read and then another
 record IsBoth (x : Option (List Tree × Place)) (g : Place → Option (List Tree × Place)) (ts : List Tree) : Type 0 where
   first : List Tree × Place
@@ -109,7 +123,7 @@ single_pieces c cs t ts more one e h =
     ap pieces_of same ∙ ap (λ z. record { text = encode_utf8 c; span = one.span } ∷ z) h ∙ ap (λ z. punct_pieces (c ∷ cs) (map tree_span z)) (sym same)
 
 -- the pieces of a punctuation are its characters
-punctuation-pieces : (text : List ℕ) (p : Place) (r : List Tree × Place) → read_punctuation text p ≡ Some r → pieces_of r.0 ≡ punct_pieces text (map tree_span r.0)
+pub punctuation-pieces : (text : List ℕ) (p : Place) (r : List Tree × Place) → read_punctuation text p ≡ Some r → pieces_of r.0 ≡ punct_pieces text (map tree_span r.0)
 punctuation-pieces [] p r e = cc
 punctuation-pieces (c ∷ []) p r e =
     let one = taken (is_punct_of c) (descend p) r e in

@@ -1,5 +1,6 @@
 -- The text of commands, a line each.
-use Rattle.std.specs.Prelude.{ℕ, ◌+◌, ◌==◌, nat_le, ◌&&◌, not, Bool, true, false, cond, bytes_eq, List, [], ◌∷◌, length, Option, Some, None, is_none, codes}
+use Rattle.std.specs.Prelude.{ℕ, ◌+◌, ◌==◌, nat_le, ◌&&◌, not, Bool, true, false, cond, bytes_eq}
+use Rattle.std.specs.Prelude.{List, [], ◌∷◌, length, Option, Some, None, is_none, codes}
 use Rattle.std.specs.List.{slice_split, filter, filter_map, position}
 use Rattle.std.specs.Option.{option_map, option_and_then}
 use Rattle.std.specs.Str.{all_ascii_digits}
@@ -9,9 +10,14 @@ use Rattle.tok_core.specs.declared.group.Delimiter.TheVariants as delimiters
 use Rattle.tok_core.specs.Text.{opening}
 use Rattle.tok_types.specs.Texts.{keywords, punctuations}
 use Rattle.syn_tokens.specs.Commands as commands
-use Rattle.syn_tokens.specs.Commands.{Command, peek, peek2, peek3, parse, optional, empty, enter, enter_any, lookahead, fork, advance, discard, close, stream_span, cursor_span, previous_span, next_tree, next_group}
+use Rattle.syn_tokens.specs.Commands.{Command, peek, peek2, peek3, parse, optional, empty, enter}
+use Rattle.syn_tokens.specs.Commands.{enter_any, terminated, separated, lookahead, fork, advance}
+use Rattle.syn_tokens.specs.Commands.{discard, close, stream_span, cursor_span, previous_span}
+use Rattle.syn_tokens.specs.Commands.{next_tree, next_group}
 use Rattle.syn_tokens.specs.Kinds as looks
-use Rattle.syn_tokens.specs.Kinds.{Kind, ident, ident_any, lifetime, lifetime_any, literal, punct, underscore, keyword, punctuation, Look, paren, brace, bracket, the_end, invisible_group, group_tree, any_tree}
+use Rattle.syn_tokens.specs.Kinds.{Kind, ident, ident_any, lifetime, lifetime_any, literal, punct}
+use Rattle.syn_tokens.specs.Kinds.{underscore, keyword, punctuation, Look, paren, brace, bracket}
+use Rattle.syn_tokens.specs.Kinds.{the_end, invisible_group, group_tree, any_tree}
 
 abbrev pub is_empty : {A : Type 0} → List A → Bool
 is_empty [] = true
@@ -34,7 +40,11 @@ number_in texts word = position (λ text. bytes_eq text word) texts
 
 -- a keyword or a punctuation, by its text
 abbrev pub token : List ℕ → Option Kind
-token word = elim (number_in keywords word) [ Some k ↦ Some (keyword k) | None ↦ option_map punctuation (number_in punctuations word) ]
+token word =
+    elim (number_in keywords word) [
+      | Some k ↦ Some (keyword k)
+      | None ↦ option_map punctuation (number_in punctuations word)
+    ]
 
 abbrev pub kind : List ℕ → Option Kind
 kind word =
@@ -59,7 +69,8 @@ look word =
 -- the looks of all words, in order
 abbrev pub all_looks : List (List ℕ) → Option (List Look)
 all_looks [] = Some []
-all_looks (word ∷ rest) = option_and_then (λ l. option_map (λ ls. l ∷ ls) (all_looks rest)) (look word)
+all_looks (word ∷ rest) =
+    option_and_then (λ l. option_map (λ ls. l ∷ ls) (all_looks rest)) (look word)
 
 abbrev pub delimiter : List ℕ → Option Delimiter
 delimiter word =
@@ -67,6 +78,20 @@ delimiter word =
     cond (bytes_eq word (codes "{")) (Some delimiters.Brace) (
     cond (bytes_eq word (codes "[")) (Some delimiters.Bracket) (
     cond (bytes_eq word (opening delimiters.None)) (Some delimiters.None) None)))
+
+-- a separator, by its text
+abbrev pub separator : List ℕ → Option (List ℕ)
+separator word =
+    cond (bytes_eq word (codes ",")) (Some (codes ",")) (
+    cond (bytes_eq word (codes ";")) (Some (codes ";")) (
+    cond (bytes_eq word (codes "+")) (Some (codes "+")) (
+    cond (bytes_eq word (codes "::")) (Some (codes "::")) None)))
+
+-- a kind of value and a separator
+abbrev pub list : List (List ℕ) → Option (Kind × List ℕ)
+list (value ∷ word ∷ []) =
+    option_and_then (λ k. option_map (λ s. (k, s)) (separator word)) (kind value)
+list ws = None
 
 -- the one word that stands there
 abbrev pub only_word : List (List ℕ) → Option (List ℕ)
@@ -80,16 +105,25 @@ alone command rest = cond (is_empty rest) (Some command) None
 -- the command of this name on a stream, with the words that it takes
 abbrev pub command_named : List ℕ → ℕ → List (List ℕ) → Option Command
 command_named name n rest =
-    cond (bytes_eq name (codes "peek")) (option_map (peek n) (option_and_then look (only_word rest))) (
-    cond (bytes_eq name (codes "peek2")) (option_map (peek2 n) (option_and_then look (only_word rest))) (
-    cond (bytes_eq name (codes "peek3")) (option_map (peek3 n) (option_and_then look (only_word rest))) (
-    cond (bytes_eq name (codes "parse")) (option_map (parse n) (option_and_then kind (only_word rest))) (
-    cond (bytes_eq name (codes "optional")) (option_map (optional n) (option_and_then kind (only_word rest))) (
+    cond (bytes_eq name (codes "peek"))
+    (option_map (peek n) (option_and_then look (only_word rest))) (
+    cond (bytes_eq name (codes "peek2"))
+    (option_map (peek2 n) (option_and_then look (only_word rest))) (
+    cond (bytes_eq name (codes "peek3"))
+    (option_map (peek3 n) (option_and_then look (only_word rest))) (
+    cond (bytes_eq name (codes "parse"))
+    (option_map (parse n) (option_and_then kind (only_word rest))) (
+    cond (bytes_eq name (codes "optional"))
+    (option_map (optional n) (option_and_then kind (only_word rest))) (
     cond (bytes_eq name (codes "empty")) (alone (empty n) rest) (
-    cond (bytes_eq name (codes "enter")) (option_map (enter n) (option_and_then delimiter (only_word rest))) (
+    cond (bytes_eq name (codes "enter"))
+    (option_map (enter n) (option_and_then delimiter (only_word rest))) (
     cond (bytes_eq name (codes "any")) (alone (enter_any n) rest) (
+    cond (bytes_eq name (codes "terminated")) (option_map (λ l. terminated n l.0 l.1) (list rest)) (
+    cond (bytes_eq name (codes "separated")) (option_map (λ l. separated n l.0 l.1) (list rest)) (
     cond (bytes_eq name (codes "fork")) (alone (fork n) rest) (
-    cond (bytes_eq name (codes "advance")) (option_map (advance n) (option_and_then number (only_word rest))) (
+    cond (bytes_eq name (codes "advance"))
+    (option_map (advance n) (option_and_then number (only_word rest))) (
     cond (bytes_eq name (codes "discard")) (alone (discard n) rest) (
     cond (bytes_eq name (codes "close")) (alone (close n) rest) (
     cond (bytes_eq name (codes "span")) (alone (stream_span n) rest) (
@@ -97,11 +131,13 @@ command_named name n rest =
     cond (bytes_eq name (codes "previous")) (alone (previous_span n) rest) (
     cond (bytes_eq name (codes "tree")) (alone (next_tree n) rest) (
     cond (bytes_eq name (codes "rest")) (alone (commands.rest n) rest) (
-    cond (bytes_eq name (codes "group")) (alone (next_group n) rest) None)))))))))))))))))
+    cond (bytes_eq name (codes "group")) (alone (next_group n) rest) None)))))))))))))))))))
 
 -- a lookahead takes any number of words
 abbrev pub command_on : List ℕ → ℕ → List (List ℕ) → Option Command
-command_on name n rest = cond (bytes_eq name (codes "lookahead")) (option_map (lookahead n) (all_looks rest)) (command_named name n rest)
+command_on name n rest =
+    cond (bytes_eq name (codes "lookahead")) (option_map (lookahead n) (all_looks rest))
+    (command_named name n rest)
 
 -- a name, a stream's number, and what the command takes
 abbrev pub command : List (List ℕ) → Option Command

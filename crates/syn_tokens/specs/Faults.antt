@@ -10,13 +10,19 @@ use Rattle.syn_tokens.specs.declared.command_text.LineFault.TheVariants as line_
 use Rattle.syn_tokens.specs.declared.fault.Fault.{Fault}
 use Rattle.syn_tokens.specs.declared.fault.Fault.TheVariants as faults
 use Rattle.syn_tokens.specs.declared.fault.Unreadable.{Unreadable}
-use Rattle.syn_tokens.specs.declared.fault.Unreadable.TheVariants.{Utf8, Parts, Text, Command}
+use Rattle.syn_tokens.specs.declared.fault.Unreadable.TheVariants.{Utf8, Parts, Text, Right}
+use Rattle.syn_tokens.specs.declared.fault.Unreadable.TheVariants.{Command}
 
 -- the printed line
 abbrev pub unreadable_text : Unreadable → List ℕ
 unreadable_text Utf8 = codes "unreadable: utf8"
 unreadable_text Parts = codes "unreadable: parts"
-unreadable_text (Text error) = codes "unreadable: L" ++ (decimal (error_number error) ++ (codes " at " ++ decimal (error_byte error)))
+unreadable_text (Text error) =
+    codes "unreadable: L"
+    ++ (decimal (error_number error) ++ (codes " at " ++ decimal (error_byte error)))
+unreadable_text (Right error) =
+    codes "unreadable: right L"
+    ++ (decimal (error_number error) ++ (codes " at " ++ decimal (error_byte error)))
 unreadable_text (Command n) = codes "unreadable: command " ++ decimal n
 
 -- what the fault of a text is for the program
@@ -24,7 +30,12 @@ abbrev pub fault_of : LexFault → Fault
 fault_of (lexical.Refused error) = faults.Unreadable (Text error)
 fault_of lexical.Memory = faults.Memory
 
--- a fault that isn't want of memory says why, of which this holds
+-- what the fault of the second of two texts is
+abbrev pub right_fault_of : LexFault → Fault
+right_fault_of (lexical.Refused error) = faults.Unreadable (Right error)
+right_fault_of lexical.Memory = faults.Memory
+
+-- a fault that isn't an allocation failure says why, of which this holds
 abbrev pub OnUnreadable : Fault → (Unreadable → Type 0) → Type 0
 OnUnreadable (faults.Unreadable why) P = P why
 OnUnreadable faults.Memory P = Unit {0}

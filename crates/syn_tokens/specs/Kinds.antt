@@ -11,7 +11,8 @@ use Rattle.tok_buffer.specs.Reads.{read_keyword}
 use Rattle.tok_types.specs.Texts.{accept_as_ident, keyword_text, punctuation_text, quoted}
 use Rattle.syn_parse.specs.Parses.{accept_as_lifetime}
 use Rattle.syn_parse.specs.State as parse
-use Rattle.syn_parse.specs.Words.{expected, ident_words, lifetime_words, punctuation_refusal, refused_at}
+use Rattle.syn_parse.specs.Words.{expected, ident_words, lifetime_words, punctuation_refusal}
+use Rattle.syn_parse.specs.Words.{refused_at}
 
 pub data Kind : Type 0 where
   ident : Kind
@@ -34,7 +35,7 @@ pub data Look : Type 0 where
   group_tree : Look
   any_tree : Look
 
--- where a kind is parsed, the trees read and the place behind them
+-- where a kind is parsed, the trees read and the place after them
 abbrev pub read : Kind → Place → Option (List Tree × Place)
 read ident p = reads.read_word accept_as_ident p
 read ident_any p = reads.read_ident p
@@ -61,14 +62,14 @@ peek invisible_group p = is_some (enter delimiter.None p)
 peek group_tree p = is_some (reads.take reads.is_group p)
 peek any_tree p = is_some (reads.read_tree p)
 
--- whether a look sees no invisible group
-abbrev pub sees_no_edges : Look → Bool
-sees_no_edges invisible_group = false
-sees_no_edges group_tree = false
-sees_no_edges any_tree = false
-sees_no_edges l = true
+-- whether invisible groups do not matter to a look
+abbrev pub ignores_invisible : Look → Bool
+ignores_invisible invisible_group = false
+ignores_invisible group_tree = false
+ignores_invisible any_tree = false
+ignores_invisible l = true
 
--- a peek behind the next token
+-- a peek after the next token
 abbrev pub peek_past : (Place → Bool) → Option Place → Bool
 peek_past q None = false
 peek_past q (Some p) = q p
@@ -79,7 +80,8 @@ peek2 l p = peek_past (peek l) (reads.skip p)
 abbrev pub peek3 : Look → Place → Bool
 peek3 l p = peek_past (peek2 l) (reads.skip p)
 
--- how a lookahead names a kind; the end is the closing delimiter of a parenthesis until an error is made of it
+-- how a lookahead names a kind; the end is the closing delimiter of a parenthesis until an error is
+-- made of it
 abbrev pub display_kind : Kind → List ℕ
 display_kind ident = codes "identifier"
 display_kind ident_any = codes "identifier"

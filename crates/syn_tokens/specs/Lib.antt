@@ -1,10 +1,14 @@
+pub mod Acceptance
+pub mod Agree
 pub mod CommandText
 pub mod Commands
+pub mod Comparison
 pub mod Entering
 pub mod Faults
 pub mod Input
 pub mod Kinds
 pub mod Links
+pub mod Outcome
 pub mod Output
 pub mod Printed
 pub mod Program
@@ -14,5 +18,6 @@ pub mod State
 pub mod Step
 pub mod Stepping
 pub mod Tracks
+pub mod Transparent
 pub mod Turns
 pub mod Walk

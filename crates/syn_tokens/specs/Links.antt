@@ -1,5 +1,6 @@
 -- How the program finds the contents of a stream.
-use Rattle.std.specs.Prelude.{◌≡◌, ℕ, ◌+◌, ◌<◌, ◌≤◌, List, [], ◌∷◌, ◌++◌, length, map, Option, Some, None}
+use Rattle.std.specs.Prelude.{◌≡◌, ℕ, ◌+◌, ◌<◌, ◌≤◌, List, [], ◌∷◌, ◌++◌, length, map, Option, Some}
+use Rattle.std.specs.Prelude.{None}
 use Rattle.std.proofs.Common.{get_or}
 use Rattle.syn_tokens.specs.declared.links.Links.{Links}
 use Rattle.syn_tokens.specs.declared.stream.Stream.{Stream}
@@ -38,8 +39,8 @@ pub record IsLast (ls : List Links) (k : ℕ) (o : Option ℕ) : Type 0 where
   pub content : (m : ℕ) → o ≡ Some m → IsContent ls k m
   pub latest : (m : ℕ) → o ≡ Some m → HasNone ls k (m + 1) (length ls)
 
--- A content has a higher number than its parent. A stream leads to its first and its last content, and each content
--- to its parent's next.
+-- A content has a higher number than its parent. A stream leads to its first and its last content,
+-- and each content to its parent's next.
 pub record IsLinked (ls : List Links) (i : ℕ) : Type 0 where
   pub parent : (p : ℕ) → IsContent ls p i → p < i
   pub first : IsFirstFrom ls i (i + 1) (links_at ls i).first

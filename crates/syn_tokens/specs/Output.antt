@@ -4,8 +4,11 @@ use Rattle.std.specs.Io.KnownBytes.{Appends}
 
 -- a front of a text went out, and no more
 abbrev pub AppendsFront : Option (List ℕ) → Option (List ℕ) → List ℕ → Type 0
-AppendsFront old new text = (front : List ℕ) × (rest : List ℕ) × (text ≡ front ++ rest) × Appends old new front
+AppendsFront old new text =
+    (front : List ℕ) × (rest : List ℕ) × (text ≡ front ++ rest) × Appends old new front
 
--- A text went out whole, with its status; or a write failed, a front of it went out, and the status is 2.
+-- A text went out whole, with its status; or a write failed, a front of it went out, and the status
+-- is 2.
 abbrev pub GoesOut : List ℕ → ℕ → ℕ → Option (List ℕ) → Option (List ℕ) → Type 0
-GoesOut text code status old new = ((status ≡ code) × Appends old new text) ⊎ ((status ≡ 2) × AppendsFront old new text)
+GoesOut text code status old new =
+    ((status ≡ code) × Appends old new text) ⊎ ((status ≡ 2) × AppendsFront old new text)

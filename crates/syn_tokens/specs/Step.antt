@@ -1,5 +1,6 @@
 -- One command on the streams.
-use Rattle.std.specs.Prelude.{ℕ, ◌+◌, ◌==◌, ◌&&◌, ◌||◌, not, Bool, true, false, cond, List, [], ◌∷◌, ◌++◌, length, Option, Some, None, codes}
+use Rattle.std.specs.Prelude.{ℕ, ◌+◌, ◌==◌, ◌&&◌, ◌||◌, not, Bool, true, false, cond, List, [], ◌∷◌}
+use Rattle.std.specs.Prelude.{◌++◌, length, Option, Some, None, codes}
 use Rattle.tok_core.specs.declared.span.Span.{Span}
 use Rattle.tok_core.specs.Forest.{Tree, forest}
 use Rattle.tok_core.specs.Spans.{closing_span}
@@ -17,9 +18,14 @@ use Rattle.syn_parse.specs.Parses.{read_group}
 use Rattle.syn_parse.specs.Words.{delimiter_words}
 use Rattle.syn_tokens.specs.Kinds.{Kind, Look, read, peek_kind, refusal}
 use Rattle.syn_tokens.specs.Commands
-use Rattle.syn_tokens.specs.Commands.{Command, Answer, truth, pieces, absent, entered, forked, listed, found, done, shown, trees, refused, unfit, Position, missing, Line}
-use Rattle.syn_tokens.specs.State.{Stream, StreamKind, content_of, a_fork, State, stream_at, at_rest, changed, moved_to, is_inside, closed, advanced, all_spent, position_of}
-use Rattle.syn_tokens.specs.Turns.{Outcome, read_all, refused_at, pieces_of, terminated_turns, separated_turns, turns_left}
+use Rattle.syn_tokens.specs.Commands.{Command, Answer, truth, pieces, absent, entered, forked}
+use Rattle.syn_tokens.specs.Commands.{listed, found, done, shown, trees, refused, unfit, Position}
+use Rattle.syn_tokens.specs.Commands.{missing, Line}
+use Rattle.syn_tokens.specs.State.{Stream, StreamKind, content_of, a_fork, State, stream_at}
+use Rattle.syn_tokens.specs.State.{at_rest, changed, moved_to, is_inside, closed, advanced}
+use Rattle.syn_tokens.specs.State.{all_spent, position_of}
+use Rattle.syn_tokens.specs.Turns.{Outcome, read_all, refused_at, pieces_of, terminated_turns}
+use Rattle.syn_tokens.specs.Turns.{separated_turns, turns_left}
 
 -- an answer with the streams after it
 pub record Stepped : Type 0 where
@@ -33,7 +39,8 @@ abbrev pub moves : State → ℕ → Place → Answer → Stepped
 moves st k p a = record { answer = a; state = changed st k (moved_to p) }
 
 abbrev pub new_stream : Place → Span → StreamKind → Stream
-new_stream p scope kind = record { place = p; scope_span = scope; kind = kind; is_open = true; note = None }
+new_stream p scope kind =
+    record { place = p; scope_span = scope; kind = kind; is_open = true; note = None }
 
 -- a read that answers, or its refusal
 abbrev pub parsed : State → ℕ → Stream → Kind → Stepped
@@ -47,7 +54,8 @@ abbrev pub into_group : State → ℕ → Stream → List ℕ → Option Entered
 into_group st k s words None = stays st (refused (at_stream s.place s.scope_span words))
 into_group st k s words (Some e) = record {
   answer = entered (length st) e.delimiter e.span;
-  state = changed st k (moved_to e.behind) ++ new_stream e.content (closing_span e.span) (content_of k) ∷ [];
+  state = changed st k (moved_to e.behind)
+      ++ new_stream e.content (closing_span e.span) (content_of k) ∷ [];
 }
 
 abbrev pub run_list : State → ℕ → Outcome → Stepped
@@ -56,8 +64,10 @@ run_list st k (refused_at r p) = moves st k p (refused r)
 
 -- the first look that is true, or the displays of all
 abbrev pub looked : ℕ → List Look → List (List ℕ) → Place → Span → Answer
-looked n [] noted p scope = refused (look_refusal (record { place = p; scope_span = scope; missed = noted }))
-looked n (l ∷ ls) noted p scope = cond (looks.peek l p) (found n) (looked (n + 1) ls (noted ++ looks.display l ∷ []) p scope)
+looked n [] noted p scope =
+    refused (look_refusal (record { place = p; scope_span = scope; missed = noted }))
+looked n (l ∷ ls) noted p scope =
+    cond (looks.peek l p) (found n) (looked (n + 1) ls (noted ++ looks.display l ∷ []) p scope)
 
 abbrev pub one_tree : State → ℕ → Stream → List ℕ → Option (List Tree × Place) → Stepped
 one_tree st k s words None = stays st (refused (at_stream s.place s.scope_span words))
@@ -73,24 +83,36 @@ on_stream (Commands.peek n l) st k s = stays st (truth (looks.peek l s.place))
 on_stream (Commands.peek2 n l) st k s = stays st (truth (looks.peek2 l s.place))
 on_stream (Commands.peek3 n l) st k s = stays st (truth (looks.peek3 l s.place))
 on_stream (Commands.parse n kind) st k s = parsed st k s kind
-on_stream (Commands.optional n kind) st k s = cond (peek_kind kind s.place) (parsed st k s kind) (stays st absent)
+on_stream (Commands.optional n kind) st k s =
+    cond (peek_kind kind s.place) (parsed st k s kind) (stays st absent)
 on_stream (Commands.empty n) st k s = stays st (truth (is_at_end s.place))
-on_stream (Commands.enter n d) st k s = into_group st k s (delimiter_words d) (entry.enter d s.place)
-on_stream (Commands.enter_any n) st k s = into_group st k s (codes "expected any delimiter") (entry.enter_any s.place)
-on_stream (Commands.terminated n kind separator) st k s = run_list st k (terminated_turns kind separator s.scope_span (turns_left s.place) s.place)
-on_stream (Commands.separated n kind separator) st k s = run_list st k (separated_turns kind separator s.scope_span (turns_left s.place) s.place)
+on_stream (Commands.enter n d) st k s =
+    into_group st k s (delimiter_words d) (entry.enter d s.place)
+on_stream (Commands.enter_any n) st k s =
+    into_group st k s (codes "expected any delimiter") (entry.enter_any s.place)
+on_stream (Commands.terminated n kind separator) st k s =
+    run_list st k (terminated_turns kind separator s.scope_span (turns_left s.place) s.place)
+on_stream (Commands.separated n kind separator) st k s =
+    run_list st k (separated_turns kind separator s.scope_span (turns_left s.place) s.place)
 on_stream (Commands.lookahead n ls) st k s = stays st (looked 0 ls [] s.place s.scope_span)
-on_stream (Commands.fork n) st k s = record { answer = forked (length st); state = st ++ new_stream s.place s.scope_span a_fork ∷ [] }
+on_stream (Commands.fork n) st k s =
+    record {
+      answer = forked (length st);
+      state = st ++ new_stream s.place s.scope_span a_fork ∷ [];
+    }
 on_stream (Commands.advance n f) st k s =
-    cond (same_scope s.place (place_of (stream_at st f)) && not (k == f || is_inside st f k)) (record { answer = done; state = advanced k f st }) (stays st (unfit 5))
+    cond (same_scope s.place (place_of (stream_at st f)) && not (k == f || is_inside st f k))
+    (record { answer = done; state = advanced k f st }) (stays st (unfit 5))
 on_stream (Commands.discard n) st k s = record { answer = done; state = all_spent k st }
 on_stream (Commands.close n) st k s = record { answer = done; state = closed k st }
 on_stream (Commands.stream_span n) st k s = stays st (shown (stream_span s.place s.scope_span))
 on_stream (Commands.cursor_span n) st k s = stays st (shown (spans.current_span s.place))
 on_stream (Commands.previous_span n) st k s = stays st (shown (spans.previous_span s.place))
-on_stream (Commands.next_tree n) st k s = one_tree st k s (codes "expected token tree") (reads.read_tree s.place)
+on_stream (Commands.next_tree n) st k s =
+    one_tree st k s (codes "expected token tree") (reads.read_tree s.place)
 on_stream (Commands.rest n) st k s = moves st k empty_place (trees (rests.rest s.place))
-on_stream (Commands.next_group n) st k s = one_tree st k s (codes "expected group token") (read_group s.place)
+on_stream (Commands.next_group n) st k s =
+    one_tree st k s (codes "expected group token") (read_group s.place)
 
 -- the streams that a command names, that which it names first in front
 abbrev pub named : Command → List ℕ
@@ -151,7 +173,9 @@ kind_refusal c st = None
 
 -- the first refusal of the streams that a command names
 abbrev pub misuse : Command → State → Option ℕ
-misuse c st = cond (any_of (is_missing st) (named c)) (Some 1) (cond (any_of (is_spent st) (named c)) (Some 2) (kind_refusal c st))
+misuse c st =
+    cond (any_of (is_missing st) (named c)) (Some 1)
+    (cond (any_of (is_spent st) (named c)) (Some 2) (kind_refusal c st))
 
 abbrev pub first_named : List ℕ → ℕ
 first_named [] = 0
@@ -162,12 +186,20 @@ step_on c st k None = stays st (unfit 1)
 step_on c st k (Some s) = on_stream c st k s
 
 abbrev pub step : Command → State → Stepped
-step c st = elim (misuse c st) [ Some n ↦ stays st (unfit n) | None ↦ step_on c st (first_named (named c)) (stream_at st (first_named (named c))) ]
+step c st =
+    elim (misuse c st) [
+      | Some n ↦ stays st (unfit n)
+      | None ↦ step_on c st (first_named (named c)) (stream_at st (first_named (named c)))
+    ]
 
 -- where the stream that a command names first stands after it; C1 is of none
 abbrev pub position_in : Command → State → State → Position
 position_in c st after =
-    cond (any_of (is_missing st) (named c)) missing (elim (stream_at after (first_named (named c))) [ None ↦ missing | Some s ↦ position_of s.place ])
+    cond (any_of (is_missing st) (named c)) missing
+    (elim (stream_at after (first_named (named c))) [
+      | None ↦ missing
+      | Some s ↦ position_of s.place
+    ])
 
 -- the line of a command, from the streams before it
 abbrev pub line : Command → State → Line

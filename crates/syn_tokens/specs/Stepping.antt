@@ -9,7 +9,8 @@ use Rattle.syn_tokens.specs.Commands.{Position, missing}
 use Rattle.syn_tokens.specs.State.{State, position_of, stream_at}
 use Rattle.syn_tokens.specs.Step.{Stepped, step, line}
 use Rattle.syn_tokens.specs.Walk.{lines_from, last_state}
-use Rattle.syn_tokens.specs.Seen.{IsAnswer, IsPlain, command_of, answer_of, line_of, refusal_of, IsOneMessage}
+use Rattle.syn_tokens.specs.Seen.{IsAnswer, IsPlain, command_of, answer_of, line_of, refusal_of}
+use Rattle.syn_tokens.specs.Seen.{IsOneMessage}
 use Rattle.syn_tokens.specs.declared.command.Command.{Command}
 use Rattle.syn_tokens.specs.declared.report.Answer.{Answer}
 use Rattle.syn_tokens.specs.declared.report.Line.{Line}
@@ -20,18 +21,23 @@ abbrev pub IsStepped : Answer → State → Stepped → Type 0
 IsStepped a st s = IsAnswer a s.answer × (st ≡ s.state)
 
 abbrev pub IsLine : Line → State → State → Command → Type 0
-IsLine l new old c = (line_of l ≡ line (command_of c) old) × IsPlain l.answer × (new ≡ (step (command_of c) old).state)
+IsLine l new old c =
+    (line_of l ≡ line (command_of c) old) × IsPlain l.answer
+    × (new ≡ (step (command_of c) old).state)
 
 -- the errors of all refusals are of one message
 abbrev pub ArePlain : List Line → Type 0
 ArePlain ls = All (λ l. IsPlain l.answer) ls
 
 abbrev pub HasRun : List Line → State → State → List Command → Type 0
-HasRun ls new old cs = (map line_of ls ≡ lines_from old (map command_of cs)) × ArePlain ls × (new ≡ last_state old (map command_of cs))
+HasRun ls new old cs =
+    (map line_of ls ≡ lines_from old (map command_of cs)) × ArePlain ls
+    × (new ≡ last_state old (map command_of cs))
 
--- a stream's fault as an answer: a refusal's error, or want of memory
+-- a stream's fault as an answer: a refusal's error, or an allocation failure
 abbrev pub Answers : Fault → Result Answer AllocError → Type 0
-Answers (Refused e) (Ok a) = (answer_of a ≡ spec.refused (refusal_of e)) × (IsOneMessage e → IsPlain a)
+Answers (Refused e) (Ok a) =
+    (answer_of a ≡ spec.refused (refusal_of e)) × (IsOneMessage e → IsPlain a)
 Answers (Refused e) (Err m) = ⊥
 Answers (Memory e) (Ok a) = ⊥
 Answers (Memory e) (Err m) = Unit {0}

@@ -7,10 +7,10 @@ ghost use Rattle.syn_tokens.specs.Commands as commands;
 ghost use Rattle.syn_tokens.specs.CommandText as spec;
 ghost use Rattle.syn_tokens.specs.Faults.{IsUnreadableLine, OnUnreadable};
 ghost use Rattle.syn_tokens.specs.Input.{lines_left};
-ghost use Rattle.syn_tokens.specs.Seen.{command_of, kind_of, look_of};
+ghost use Rattle.syn_tokens.specs.Seen.{command_of, kind_of, look_of, separator_of};
 ghost use Rattle.syn_tokens.specs.declared.fault.Unreadable.TheVariants as unreadable;
 
-use crate::command::{Command, Kind, Look};
+use crate::command::{Command, Kind, Look, Separator};
 use crate::fault::{Fault, Unreadable};
 use crate::input::first_line;
 use std::alloc::{AllocError, Global};
@@ -139,6 +139,14 @@ fn command_named(name: &str, n: usize, rest: &str) -> Option<Command>
         "empty" => alone(Command::Empty(n), rest),
         "enter" => Some(Command::Enter(n, delimiter(only_word(rest)?)?)),
         "any" => alone(Command::EnterAny(n), rest),
+        "terminated" => {
+            let (kind, separator) = list(rest)?;
+            Some(Command::Terminated(n, kind, separator))
+        }
+        "separated" => {
+            let (kind, separator) = list(rest)?;
+            Some(Command::Separated(n, kind, separator))
+        }
         "fork" => alone(Command::Fork(n), rest),
         "advance" => Some(Command::Advance(n, number(only_word(rest)?)?)),
         "discard" => alone(Command::Discard(n), rest),
@@ -180,6 +188,27 @@ fn kind(word: &str) -> Option<Kind>
         "Punct" => Some(Kind::Punct),
         "_" => Some(Kind::Underscore),
         _ => token(word),
+    }
+}
+
+// A kind of value and a separator.
+fn list(rest: &str) -> Option<(Kind, Separator)>
+    ensures { option_map (λ p. (kind_of p.0, separator_of p.1)) result ≡ spec.list (spec.words rest.now) }
+{
+    let (value, rest) = first_word(rest)?;
+    let word = only_word(rest)?;
+    Some((kind(value)?, separator(word)?))
+}
+
+fn separator(word: &str) -> Option<Separator>
+    ensures { option_map separator_of result ≡ spec.separator word.now }
+{
+    match word {
+        "," => Some(Separator::Comma),
+        ";" => Some(Separator::Semi),
+        "+" => Some(Separator::Plus),
+        "::" => Some(Separator::PathSep),
+        _ => None,
     }
 }
 
@@ -265,7 +294,7 @@ fn only_word(rest: &str) -> Option<&str>
     }
 }
 
-// The first word, and what stands behind it.
+// The first word, and what follows it.
 fn first_word(line: &str) -> Option<(&str, &str)>
     ensures words { MatchOption result
         (spec.words line.now ≡ [])

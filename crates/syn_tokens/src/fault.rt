@@ -1,6 +1,6 @@
 // Why an input has no report.
 ghost use Rattle.std.specs.Prelude.{◌≡◌, Some};
-ghost use Rattle.syn_tokens.specs.Faults.{unreadable_text, fault_of};
+ghost use Rattle.syn_tokens.specs.Faults.{fault_of, right_fault_of, unreadable_text};
 
 use std::alloc::{AllocError, AllocFailed};
 use std::fmt;
@@ -11,9 +11,11 @@ use tok_core::{LexError, LexFault};
 #[derive(Clone, Copy)]
 pub enum Unreadable {
     Utf8,
-    // Not one line ends a text.
+    // No line ends a text, or more than two do.
     Parts,
     Text(LexError),
+    // The second of two texts.
+    Right(LexError),
     // The number of the first line of the commands that is none, from 1.
     Command(usize),
 }
@@ -28,6 +30,9 @@ impl fmt::Display for Unreadable {
             Unreadable::Text(error) => {
                 write!(f, "unreadable: L{} at {}", error.number(), error.at())
             }
+            Unreadable::Right(error) => {
+                write!(f, "unreadable: right L{} at {}", error.number(), error.at())
+            }
             Unreadable::Command(number) => write!(f, "unreadable: command {number}"),
         }
     }
@@ -38,6 +43,18 @@ impl fmt::Display for Unreadable {
 pub enum Fault {
     Unreadable(Unreadable),
     Memory,
+}
+
+impl Fault {
+    // The fault of the second of two texts.
+    pub fn of_right(fault: LexFault) -> Fault
+        ensures { result ≡ right_fault_of fault }
+    {
+        match fault {
+            LexFault::Refused(error) => Fault::Unreadable(Unreadable::Right(error)),
+            LexFault::Memory => Fault::Memory,
+        }
+    }
 }
 
 impl From<LexFault> for Fault {

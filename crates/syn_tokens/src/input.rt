@@ -37,25 +37,41 @@ pub fn read_input<R: Read>(alloc: Global, input: &mut R) -> Result<Vec<u8>, Read
     Err(ReadFault::Failed)
 }
 
-// The one text of an input, and what stands behind the line that ends it. There is none where no line ends a text, or
-// two do.
-pub fn parts(input: &str) -> Option<(&str, Option<&str>)>
+// The text of an input, the second one if there are two, and what comes after the line that ends the last. There are none where
+// no line ends a text, or more than two do.
+pub fn parts(input: &str) -> Option<(&str, Option<&str>, Option<&str>)>
     ensures parts { MatchOption result
         (spec.parts_of input.now ≡ None)
-        (λ p. spec.parts_of input.now ≡ Some (p.0.now, spec.lines_left p.1)) }
-    ensures utf8 { IfSome result (λ p. IsUtf8 p.0.now × IfSome p.1 (λ rest. IsUtf8 rest.now)) }
+        (λ p. spec.parts_of input.now ≡ Some (p.0.now, spec.text_in p.1, spec.lines_left p.2)) }
+    ensures utf8 { IfSome result
+        (λ p. IsUtf8 p.0.now × IfSome p.1 (λ other. IsUtf8 other.now) × IfSome p.2 (λ rest. IsUtf8 rest.now)) }
 {
     let (text, rest) = cut(input)?;
-    let Some(lines) = rest else {
-        return Some((text, None));
+    let Some((other, lines)) = cut_rest(rest) else {
+        return Some((text, None, rest));
     };
-    match cut(lines) {
+    match cut_rest(lines) {
         Some(_) => None,
-        None => Some((text, rest)),
+        None => Some((text, Some(other), lines)),
     }
 }
 
-// What stands before the first line that ends a text, and what stands behind that line.
+// The same as `cut`, of what is left.
+fn cut_rest(rest: Option<&str>) -> Option<(&str, Option<&str>)>
+    requires { IfSome rest (λ rest. IsUtf8 rest.now) }
+    ensures parts { MatchOption result
+        (slice_split spec.is_cut (spec.lines_left rest.entry) ≡ spec.lines_left rest.entry ∷ [])
+        (λ p. (before : List (List ℕ)) × (p.0.now ≡ spec.text_of before)
+        × (slice_split spec.is_cut (spec.lines_left rest.entry) ≡ before ∷ slice_split spec.is_cut (spec.lines_left p.1))) }
+    ensures utf8 { IfSome result (λ p. IsUtf8 p.0.now × IfSome p.1 (λ rest. IsUtf8 rest.now)) }
+{
+    match rest {
+        Some(rest) => cut(rest),
+        None => None,
+    }
+}
+
+// What stands before the first line that ends a text, and what follows that line.
 fn cut(input: &str) -> Option<(&str, Option<&str>)>
     ensures parts { MatchOption result
         (slice_split spec.is_cut (spec.lines input.now) ≡ spec.lines input.now ∷ [])
@@ -74,7 +90,7 @@ fn cut(input: &str) -> Option<(&str, Option<&str>)>
     None
 }
 
-// The first line of what is left, and what is left behind its line feed.
+// The first line of what is left, and what is left after its line feed.
 pub fn first_line(rest: &str) -> (&str, Option<&str>)
     ensures lines { spec.lines rest.now ≡ result.0.now ∷ spec.lines_left result.1 }
     ensures joined { IfSome result.1 (λ behind. rest.now ≡ ended result.0.now ++ behind.now) }

@@ -1,11 +1,16 @@
 //! A list of commands, answered one by one over a token stream.
 #![tactic(auto)]
 
+mod agreement;
+mod both;
 mod command;
 mod command_text;
+mod compared;
 mod fault;
 mod input;
+pub mod laws;
 mod links;
+mod lists;
 mod output;
 mod peeks;
 mod pieces;
@@ -17,8 +22,13 @@ mod session;
 mod stream;
 mod streams;
 mod table;
+mod transparent;
 
-pub use command::{Command, Kind, Look};
+pub use agreement::agree;
+pub use arguments;
+pub use both::replay_both;
+pub use command::{Command, Kind, Look, Separator};
 pub use program::serve;
 pub use report::{Answer, Line, Piece, Position, Report, Verdict};
 pub use session::replay;
+pub use transparent::is_transparent;

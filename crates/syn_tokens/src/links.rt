@@ -30,7 +30,7 @@ impl Links {
     }
 }
 
-// Links the last stream, a content of `parent`, behind the contents that its parent has.
+// Links the last stream, a content of `parent`, after the contents that its parent has.
 pub fn link<'a>(list: &mut Vec<Stream<'a>>, parent: usize, number: usize)
     requires { IsNew (links_of list.old.items) parent number }
     ensures linked { AreLinked (links_of list.new.items) }

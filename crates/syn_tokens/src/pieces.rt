@@ -69,14 +69,13 @@ pub fn lifetime(alloc: Global, lifetime: &Lifetime) -> Result<Vec<Piece>, AllocE
     Ok(pieces)
 }
 
-/// A punctuation's characters.
+/// A punctuation's characters, as many as have a span.
 pub fn characters(alloc: Global, text: &[u8], spans: &[Span]) -> Result<Vec<Piece>, AllocError>
-    requires { length text.now ≡ length spans.now }
     ensures { IfOk result (λ ps. map piece_of ps.items ≡ punct_pieces text.now spans.now) }
 {
     let mut pieces = Vec::with_capacity(alloc, text.len())?;
     let mut index = 0;
-    while index < text.len() {
+    while index < text.len() && index < spans.len() {
         pieces.push(character(alloc, char::from(text[index]), spans[index])?)?;
         index += 1;
     }

@@ -4,7 +4,7 @@ ghost use Rattle.std.specs.Fmt.{WritesOnOk};
 ghost use Rattle.std.specs.List.{flat_map};
 ghost use Rattle.tok_core.specs.Text as text;
 ghost use Rattle.syn_tokens.specs.Printed as spec;
-ghost use Rattle.syn_tokens.specs.Seen.{piece_of, refusal_of, answer_of, position_of, line_of, verdict_of, report_of};
+ghost use Rattle.syn_tokens.specs.Seen.{piece_of, pieces_in, refusal_of, answer_of, position_of, line_of, verdict_of, report_of};
 
 use crate::report::{Answer, Line, Piece, Position, Report, Verdict};
 use std::fmt;
@@ -45,6 +45,7 @@ impl fmt::Display for Answer {
             }
             Answer::Absent => f.write_str("none"),
             Answer::Forked(number) => write!(f, "forked {number}"),
+            Answer::List(parts) => write_parts(f, parts),
             Answer::Found(index) => write!(f, "found {index}"),
             Answer::Trees(stream) => write_trees(f, stream),
             Answer::Done => f.write_str("done"),
@@ -85,12 +86,47 @@ fn write_pieces<W: Write>(f: &mut Formatter<W>, pieces: &Vec<Piece>) -> fmt::Res
     ensures { WritesOnOk W.write_str_gives f.old result (codes "read" ++ flat_map spec.piece_text (map piece_of pieces.now.items)) f.new }
 {
     f.write_str("read")?;
+    write_more(f, pieces.as_slice())
+}
+
+// Pieces after others.
+fn write_more<W: Write>(f: &mut Formatter<W>, pieces: &[Piece]) -> fmt::Result
+    ensures { WritesOnOk W.write_str_gives f.old result (flat_map spec.piece_text (map piece_of pieces.now)) f.new }
+{
     for piece in pieces {
         write_behind(f, piece.text.as_str())?;
         f.write_char(' ')?;
         write_span(f, piece.span)?;
     }
     Ok(())
+}
+
+// `list`, and each value and separator in brackets.
+fn write_parts<W: Write>(f: &mut Formatter<W>, parts: &Vec<Vec<Piece>>) -> fmt::Result
+    ensures { WritesOnOk W.write_str_gives f.old result
+        (codes "list" ++ flat_map spec.part_text (map pieces_in parts.now.items)) f.new }
+{
+    f.write_str("list")?;
+    for part in parts {
+        write_part(f, part.as_slice())?;
+    }
+    Ok(())
+}
+
+fn write_part<W: Write>(f: &mut Formatter<W>, part: &[Piece]) -> fmt::Result
+    ensures { WritesOnOk W.write_str_gives f.old result (spec.part_text (map piece_of part.now)) f.new }
+{
+    match part.split_first() {
+        None => f.write_str(" []"),
+        Some((first, rest)) => {
+            f.write_str(" [")?;
+            f.write_str(first.text.as_str())?;
+            f.write_char(' ')?;
+            write_span(f, first.span)?;
+            write_more(f, rest)?;
+            f.write_char(']')
+        }
+    }
 }
 
 // `trees`, and the text of the trees if there are any.
@@ -123,7 +159,7 @@ fn write_span<W: Write>(f: &mut Formatter<W>, span: Span) -> fmt::Result
     }
 }
 
-// A part behind others: a space parts it from them, and an empty part adds none.
+// A part after others: a space parts it from them, and an empty part adds none.
 fn write_behind<W: Write>(f: &mut Formatter<W>, part: &str) -> fmt::Result
     ensures { WritesOnOk W.write_str_gives f.old result (spec.behind part.now) f.new }
 {

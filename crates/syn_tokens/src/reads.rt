@@ -14,8 +14,8 @@ ghost use Rattle.syn_tokens.specs.Reading.{GivesAnswer, IsRead, ReadsPieces, is_
 ghost use Rattle.syn_tokens.specs.Seen.{command_of, kind_of, look_of};
 
 use crate::command::{Command, Kind, Look};
-use crate::pieces;
 use crate::report::{Answer, Piece};
+use crate::{lists, pieces};
 use std::alloc::{AllocError, Global};
 use syn_parse::{IdentExt, LifetimeExt, ParseBuffer, ParseStream, Result, parsing};
 use tok_buffer::Lifetime;
@@ -34,6 +34,8 @@ pub fn answer(input: ParseStream<'_, '_>, command: &Command) -> Result<Answer>
         Command::Parse(_, kind) => Ok(Answer::Read(parse(input, *kind)?)),
         Command::Optional(_, kind) => optional(input, *kind),
         Command::Empty(_) => Ok(Answer::Truth(input.is_empty())),
+        Command::Terminated(_, kind, separator) => lists::terminated(input, *kind, *separator),
+        Command::Separated(_, kind, separator) => lists::separated(input, *kind, *separator),
         Command::Lookahead(_, looks) => look_ahead(input, looks),
         Command::StreamSpan(_) => Ok(Answer::At(input.span())),
         Command::CursorSpan(_) => Ok(Answer::At(input.cursor().span())),
@@ -106,8 +108,8 @@ fn only(alloc: Global, tree: TokenTree) -> std::result::Result<TokenStream, Allo
     Ok(stream)
 }
 
-// A token of this kind.
-fn parse(input: ParseStream<'_, '_>, kind: Kind) -> Result<Vec<Piece>>
+/// A token of this kind.
+pub fn parse(input: ParseStream<'_, '_>, kind: Kind) -> Result<Vec<Piece>>
     ensures { ReadsPieces (spec.read (kind_of kind) input.old.place) (spec.refusal (kind_of kind) input.old) input.old result input.new }
 {
     let alloc = input.allocator();

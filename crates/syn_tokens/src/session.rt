@@ -3,6 +3,7 @@ ghost use Rattle.std.specs.Prelude.{◌≡◌, ◌<◌, ◌∷◌, length, Some,
 ghost use Rattle.syn_tokens.specs.State.{stream_at};
 ghost use Rattle.syn_tokens.specs.Step as spec;
 ghost use Rattle.syn_tokens.specs.Step.{any_of, is_missing, is_spent, first_named, named, on_stream, place_of, step, position_in};
+ghost use Rattle.syn_tokens.specs.Acceptance.{IsExact};
 ghost use Rattle.syn_tokens.specs.Walk.{walk, stream_verdict};
 ghost use Rattle.syn_tokens.specs.Reading.{is_read};
 ghost use Rattle.syn_tokens.specs.Seen.{command_of, position_of, verdict_of, report_of};
@@ -72,6 +73,8 @@ impl Command {
             Command::Empty(n) => (*n, None),
             Command::Enter(n, _) => (*n, None),
             Command::EnterAny(n) => (*n, None),
+            Command::Terminated(n, _, _) => (*n, None),
+            Command::Separated(n, _, _) => (*n, None),
             Command::Lookahead(n, _) => (*n, None),
             Command::Fork(n) => (*n, None),
             Command::Advance(n, fork) => (*n, Some(*fork)),
@@ -247,6 +250,7 @@ pub fn replay(
     commands: &[Command],
 ) -> Result<Report, AllocError>
     ensures walk { IfOk result (λ r. report_of r ≡ walk stream (map command_of commands.now)) }
+    ensures acceptance { IfOk result (λ r. IsExact stream (map command_of commands.now) (verdict_of r.verdict)) }
     ensures errors { IfOk result (λ r. ArePlain r.lines.items × IsPlainVerdict r.verdict) }
 {
     let buffer = TokenBuffer::new2(alloc, 0, stream)?;

@@ -12,7 +12,7 @@ pub struct Case<'a> {
     pub status: u8,
 }
 
-// The first case, and what stands behind it. A case is the line `case NAME INPUT OUTPUT STATUS`, in which two lengths
+// The first case, and what follows it. A case is the line `case NAME INPUT OUTPUT STATUS`, in which two lengths
 // stand, and then the bytes of the input and of the output.
 pub fn first_case(bytes: &[u8]) -> Option<(Case<'_>, &[u8])>
     ensures shorter { IfSome result (λ p. length p.1.now < length bytes.now) }

@@ -6,6 +6,7 @@ use Rattle.syn_tokens.proofs.pieces.characters.Given as goal
 abbrev pub invariant-loop-index : goal.invariant-loop-index
 invariant-loop-index l = record {
   within : l.index ≤ length l.text;
+  spans : l.index ≤ length l.spans;
   rest : map piece_of l.pieces.items ++ punct_pieces (drop l.index l.text) (drop l.index l.spans) ≡ punct_pieces l.text l.spans;
 }
 

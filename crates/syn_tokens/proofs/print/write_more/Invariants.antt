@@ -3,8 +3,8 @@ use Rattle.std.specs.Fmt.{HasWritten, IsPlainFormatter}
 use Rattle.std.specs.List.{flat_map}
 use Rattle.syn_tokens.specs.Printed.{piece_text}
 use Rattle.syn_tokens.specs.Seen.{piece_of}
-use Rattle.syn_tokens.proofs.print.write_pieces.Given as goal
+use Rattle.syn_tokens.proofs.print.write_more.Given as goal
 
 abbrev pub invariant-loop-piece : goal.invariant-loop-piece
 invariant-loop-piece g l =
-    IsPlainFormatter l.initial.f → HasWritten g.W.Write.write_str_gives l.initial.f (flat_map piece_text (map piece_of (take l.piece-index l.piece-items))) l.f
+    IsPlainFormatter l.initial.f → HasWritten g.W.Write.write_str_gives l.initial.f (flat_map piece_text (map piece_of (take l.piece-index l.pieces))) l.f

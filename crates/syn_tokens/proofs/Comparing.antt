@@ -1,0 +1,59 @@
+-- Two lists compared item by item.
+use Rattle.std.proofs.Common.{◌≡◌, ℕ, ◌+◌, ◌<◌, ◌≤◌, true, false, List, [], ◌∷◌, length, drop}
+use Rattle.std.proofs.Common.{get_or}
+use Rattle.std.proofs.Common.{sym, ap, refl, ◌∙◌, subst, arith}
+use Rattle.std.proofs.lemmas.Bool.{false≢true}
+use Rattle.std.proofs.lemmas.List.{drop_all, drop_more}
+use Rattle.std.specs.Prelude.{◌↔◌, IsTrue}
+
+-- P compares two lists, R two items
+pub record Compares {A : Type 0} (P : List A → List A → Type 0) (R : A → A → Type 0) : Type 0 where
+  pub none : P [] []
+  pub more : (x y : A) (xs ys : List A) → P (x ∷ xs) (y ∷ ys) ↔ (R x y × P xs ys)
+  pub lengths : (xs ys : List A) → P xs ys → length xs ≡ length ys
+
+-- as many items on both sides, and what is left decides
+pub record Undecided {A : Type 0} (P : List A → List A → Type 0) (i : ℕ) (xs ys : List A) : Type 0
+  where
+    pub lengths : length xs ≡ length ys
+    pub rest : P (drop i xs) (drop i ys) ↔ P xs ys
+
+module _ {A : Type 0} (P : List A → List A → Type 0) (R : A → A → Type 0) (c : Compares P R) where
+  pub at_start : (xs ys : List A) → length xs ≡ length ys → Undecided P 0 xs ys
+  at_start xs ys e = record { lengths = e; rest = (λ h. h, λ h. h) }
+
+  pub not_as_many : (xs ys : List A) → (length xs ≡ length ys → ⊥) → IsTrue false ↔ P xs ys
+  not_as_many xs ys n = (λ h. absurd (false≢true h), λ h. absurd (n (c.lengths xs ys h)))
+
+  pub all_same : (i : ℕ) (xs ys : List A) → length xs ≤ i → Undecided P i xs ys
+      → IsTrue true ↔ P xs ys
+  all_same i xs ys h s =
+      let left : drop i xs ≡ [] = drop_all i xs h in
+      let right : drop i ys ≡ [] = drop_all i ys (omega (arith, h, s.lengths)) in
+      let none : P (drop i xs) (drop i ys) =
+      subst (λ zs. P (drop i xs) zs) (sym right) (subst (λ zs. P zs []) (sym left) c.none) in
+      (λ t. s.rest.0 none, λ p. refl)
+
+  first : (i : ℕ) (zs : List A) (z : A) → i < length zs → z ≡ get_or zs i z
+      → drop i zs ≡ z ∷ drop (i + 1) zs
+  first i zs z l e =
+      drop_more zs i z l ∙ ap (λ u. u ∷ drop (i + 1) zs) (sym e)
+
+  module _ (i : ℕ) (xs ys : List A) (x y : A) (h : i < length xs) (s : Undecided P i xs ys)
+      (a : x ≡ get_or xs i x) (b : y ≡ get_or ys i y) where
+    one_more : P (drop i xs) (drop i ys) ↔ (R x y × P (drop (i + 1) xs) (drop (i + 1) ys))
+    one_more =
+        let goal = R x y × P (drop (i + 1) xs) (drop (i + 1) ys) in
+        subst (λ zs. P zs (drop i ys) ↔ goal) (sym (first i xs x h a))
+        (subst (λ zs. P (x ∷ drop (i + 1) xs) zs ↔ goal)
+        (sym (first i ys y (omega (arith, h, s.lengths)) b))
+        (c.more x y (drop (i + 1) xs) (drop (i + 1) ys)))
+
+    pub one_differs : (R x y → ⊥) → IsTrue false ↔ P xs ys
+    one_differs n = (λ t. absurd (false≢true t), λ p. absurd (n (one_more.0 (s.rest.1 p)).0))
+
+    pub goes_on : R x y → Undecided P (i + 1) xs ys
+    goes_on r = record {
+      lengths = s.lengths;
+      rest = (λ p. s.rest.0 (one_more.1 (r, p)), λ p. (one_more.0 (s.rest.1 p)).1);
+    }

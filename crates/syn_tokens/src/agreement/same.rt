@@ -1,0 +1,95 @@
+// Pieces and streams compared, spans included.
+ghost use Rattle.std.specs.Prelude.{◌≡◌, ◌↔◌, map, IsTrue};
+ghost use Rattle.tok_core.specs.Seen.{ident_of, literal_of, punct_of, tree_of};
+ghost use Rattle.syn_tokens.specs.Seen.{piece_of, pieces_in};
+
+use crate::report::Piece;
+use tok_core::{Ident, Literal, Punct, TokenStream, TokenTree};
+
+fn same_piece(left: &Piece, right: &Piece) -> bool
+    ensures { IsTrue result ↔ (piece_of left.now ≡ piece_of right.now) }
+{
+    (left.text.as_str() == right.text.as_str()) & (left.span == right.span)
+}
+
+pub fn same_pieces(left: &[Piece], right: &[Piece]) -> bool
+    ensures { IsTrue result ↔ (map piece_of left.now ≡ map piece_of right.now) }
+{
+    if left.len() != right.len() {
+        return false;
+    }
+    for i in 0..left.len() {
+        if !same_piece(&left[i], &right[i]) {
+            return false;
+        }
+    }
+    true
+}
+
+pub fn same_parts(left: &[Vec<Piece>], right: &[Vec<Piece>]) -> bool
+    ensures { IsTrue result ↔ (map pieces_in left.now ≡ map pieces_in right.now) }
+{
+    if left.len() != right.len() {
+        return false;
+    }
+    for i in 0..left.len() {
+        if !same_pieces(&left[i], &right[i]) {
+            return false;
+        }
+    }
+    true
+}
+
+#[cycle(same)]
+pub fn same_streams(left: &TokenStream, right: &TokenStream) -> bool
+    ensures { IsTrue result ↔ (left.now ≡ right.now) }
+{
+    let ours = left.trees();
+    let theirs = right.trees();
+    if ours.len() != theirs.len() {
+        return false;
+    }
+    for i in 0..ours.len() {
+        if !same_tree(&ours[i], &theirs[i]) {
+            return false;
+        }
+    }
+    true
+}
+
+#[cycle(same)]
+fn same_tree(left: &TokenTree, right: &TokenTree) -> bool
+    ensures { IsTrue result ↔ (tree_of left.now ≡ tree_of right.now) }
+{
+    match (left, right) {
+        (TokenTree::Group(left), TokenTree::Group(right)) => {
+            left.delimiter() == right.delimiter()
+                && left.span() == right.span()
+                && same_streams(left.stream(), right.stream())
+        }
+        (TokenTree::Ident(left), TokenTree::Ident(right)) => same_ident(left, right),
+        (TokenTree::Punct(left), TokenTree::Punct(right)) => same_punct(*left, *right),
+        (TokenTree::Literal(left), TokenTree::Literal(right)) => same_literal(left, right),
+        _ => false,
+    }
+}
+
+fn same_ident(left: &Ident, right: &Ident) -> bool
+    ensures { IsTrue result ↔ (ident_of left.now ≡ ident_of right.now) }
+{
+    (left.as_str() == right.as_str()) & (left.span() == right.span())
+}
+
+fn same_literal(left: &Literal, right: &Literal) -> bool
+    ensures { IsTrue result ↔ (literal_of left.now ≡ literal_of right.now) }
+{
+    (left.as_str() == right.as_str()) & (left.span() == right.span())
+}
+
+fn same_punct(left: Punct, right: Punct) -> bool
+    ensures { IsTrue result ↔ (punct_of left ≡ punct_of right) }
+{
+    (left.as_char() == right.as_char())
+        & (left.spacing() == right.spacing())
+        & (left.span() == right.span())
+}
