@@ -75,7 +75,7 @@ fn all_hold(rt: &impl Abort, facts: &[bool]) {
     }
 }
 
-// The spans in the content of `(a)`, and behind the group.
+// The spans in the content of `(a)`, and after the group.
 #[test]
 fn tells_spans(rt: HostRuntime) -> Result<(), Fail> {
     let buffer = laid(rt.alloc(), 0, "(a)")?;
@@ -466,13 +466,5 @@ fn prints_lifetimes(rt: HostRuntime) -> Result<(), Fail> {
     let printed = raw.into_token_stream(alloc)?;
     let text = printed.to_string(alloc)?;
     assert_eq!(rt; text.as_str(), "'r#fn");
-    Ok(())
-}
-
-// One request lays out an empty stream: where the first is refused nothing is made, and a second never comes.
-#[test]
-fn asks_once(rt: HostRuntime) -> Result<(), Fail> {
-    let buffer = TokenBuffer::new2(rt.alloc(), 0, TokenStream::new(rt.alloc()))?;
-    assert!(rt; buffer.begin().eof());
     Ok(())
 }

@@ -1,8 +1,8 @@
--- Looks behind the next token.
+-- Looks after the next token.
 use Rattle.std.specs.Prelude.{Bool, false, Option, Some, None}
 use Rattle.tok_buffer.specs.Place.{Place}
 
--- a test of the place behind the next token, false where there is none
+-- a test of the place after the next token, false where there is none
 abbrev pub behind_skip : (Place → Bool) → Option Place → Bool
 behind_skip test None = false
 behind_skip test (Some p) = test p

@@ -7,9 +7,11 @@ use Rattle.tok_buffer.specs.Reads.{is_punct_of, read_ident, read_tree}
 -- identifiers are read, one after the other
 pub data PassesIdents : Place → Place → Type 0 where
   none : (p : Place) → PassesIdents p p
-  one_more : (p q r : Place) (ts : List Tree) → PassesIdents p q → read_ident q ≡ Some (ts, r) → PassesIdents p r
+  one_more : (p q r : Place) (ts : List Tree) → PassesIdents p q → read_ident q ≡ Some (ts, r) →
+      PassesIdents p r
 
 -- trees are read, one after the other, none of which is an `@`, the character 64
 pub data PassesOthers : Place → Place → Type 0 where
   no_more : (p : Place) → PassesOthers p p
-  one_other : (p q r : Place) (t : Tree) → PassesOthers p q → read_tree q ≡ Some (t ∷ [], r) → is_punct_of 64 t ≡ false → PassesOthers p r
+  one_other : (p q r : Place) (t : Tree) → PassesOthers p q → read_tree q ≡ Some (t ∷ [], r) →
+      is_punct_of 64 t ≡ false → PassesOthers p r

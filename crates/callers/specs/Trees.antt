@@ -10,4 +10,5 @@ abbrev pub by_hand : Forest
 by_hand =
     let inner = forest (leaf (ident (codes "c") call_site) ∷ []) in
     let outer = forest (leaf (ident (codes "b") call_site) ∷ group None inner call_site ∷ []) in
-    forest (leaf (ident (codes "a") call_site) ∷ group Parenthesis outer call_site ∷ leaf (punct 43 Joint call_site) ∷ leaf (punct 61 Alone call_site) ∷ [])
+    forest (leaf (ident (codes "a") call_site) ∷ group Parenthesis outer call_site ∷ leaf
+    (punct 43 Joint call_site) ∷ leaf (punct 61 Alone call_site) ∷ [])

@@ -9,7 +9,7 @@ ghost use Rattle.tok_buffer.specs.Reads.{and_then, any_text, lifetime_trees, rea
 use tok_buffer::Cursor;
 use tok_core::{Ident, Span};
 
-/// Two identifiers one behind the other, across the edges of invisible groups: a walk with a cursor.
+/// Two identifiers one after the other, across the edges of invisible groups: a walk with a cursor.
 pub fn pair_of_idents<'a>(cursor: Cursor<'a>) -> Option<(&'a Ident, &'a Ident, Cursor<'a>)>
     ensures { MatchOption result
         (and_then (read_ident (place_of cursor.entry)) read_ident ≡ None)

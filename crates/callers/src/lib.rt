@@ -2,8 +2,10 @@
 #![tactic(auto)]
 
 pub mod buffer;
+pub mod lists;
 pub mod loops;
 pub mod punctuated;
 pub mod streams;
 pub mod tokens;
 pub mod trees;
+pub mod views;

@@ -6,11 +6,12 @@ ghost use Rattle.tok_buffer.specs.Reads.{read_tree};
 ghost use Rattle.syn_parse.specs.Parses.{IsTree, TreeParses};
 ghost use Rattle.syn_parse.specs.Steps.{StepReads, step_state};
 ghost use Rattle.syn_parse.specs.Words.{refused_at};
+ghost use Rattle.callers.specs.Items.{FieldParses, FieldsParse, ItemParses, OptionalFieldParses};
 ghost use Rattle.callers.specs.Streams.{ChoosesKind};
 
-use syn_parse::laws::parses_go_on;
+use syn_parse::laws::{forks_follow, parses_go_on};
 use syn_parse::{Fault, Parse, ParseStream, Result};
-use tok_buffer::laws::{entries_go_on, reads_go_on};
+use tok_buffer::laws::{entries_go_on, reads_go_on, reads_keep_scope};
 use tok_core::{Delimiter, Ident, TokenTree};
 use tok_types::token;
 
@@ -28,29 +29,43 @@ pub struct Item {
     pub fields: Vec<Field>,
 }
 
+/// Parses an item. Where an error leaves the stream isn't specified.
 impl Parse for Item {
+    ghost parses = { ItemParses };
+
     fn parse(input: ParseStream<'_, '_>) -> Result<Self> {
         let _: token::Struct = input.parse()?;
         let name = input.parse()?;
-        let (_, fields) = input.within(Delimiter::Brace, |content| fields(content))?;
+        let (_, fields) = input.within(Delimiter::Brace, fields)?;
         Ok(Item { name, fields })
     }
 }
 
 // Fields up to the end, with a comma after each but the last, and after the last too if you like.
-fn fields(input: ParseStream<'_, '_>) -> Result<Vec<Field>> {
+fn fields(input: ParseStream<'_, '_>) -> Result<Vec<Field>>
+    ensures { FieldsParse input.old result input.new }
+{
+    reads_go_on();
     parses_go_on();
     let mut fields = Vec::new(input.allocator());
     while !input.is_empty() {
-        let name: Ident = input.parse()?;
-        let _: token::Colon = input.parse()?;
-        let kind: Ident = input.parse()?;
-        fields.push(Field { name, kind })?;
+        fields.push(parse_field(input)?)?;
         if !input.is_empty() {
             let _: token::Comma = input.parse()?;
         }
     }
     Ok(fields)
+}
+
+fn parse_field(input: ParseStream<'_, '_>) -> Result<Field>
+    ensures { FieldParses input.old result input.new }
+{
+    let name = input.parse()?;
+    let _: token::Colon = input.parse()?;
+    Ok(Field {
+        name,
+        kind: input.parse()?,
+    })
 }
 
 /// What kind of item is next.
@@ -93,15 +108,15 @@ pub fn next_tree(input: ParseStream<'_, '_>) -> Result<TokenTree>
 }
 
 /// A field, or `None` where none is next, and then the stream stays: a try on a fork.
-pub fn optional_field(input: ParseStream<'_, '_>) -> Result<Option<Field>> {
+pub fn optional_field(input: ParseStream<'_, '_>) -> Result<Option<Field>>
+    ensures { OptionalFieldParses input.old result input.new }
+{
+    reads_keep_scope();
+    forks_follow();
     let mut fork = input.fork();
     match parse_field(&mut fork) {
         Ok(field) => {
-            if fork.cursor().same_scope(input.cursor()) {
-                input.advance_to(fork);
-            } else {
-                fork.discard();
-            }
+            input.advance_to(fork);
             Ok(Some(field))
         }
         Err(fault) => {
@@ -112,15 +127,6 @@ pub fn optional_field(input: ParseStream<'_, '_>) -> Result<Option<Field>> {
             }
         }
     }
-}
-
-fn parse_field(input: ParseStream<'_, '_>) -> Result<Field> {
-    let name = input.parse()?;
-    let _: token::Colon = input.parse()?;
-    Ok(Field {
-        name,
-        kind: input.parse()?,
-    })
 }
 
 /// How many names a nested list in parentheses has: 3 in `(a (b) ((c)))`. Each call takes something away from what remains.

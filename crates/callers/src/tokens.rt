@@ -36,7 +36,7 @@ pub fn either<A: Token, B: Token>(cursor: Cursor<'_>) -> bool
     first || second
 }
 
-/// Whether `pub` is in front and parentheses stand behind it, as in `pub (crate)`.
+/// Whether `pub` is in front and parentheses follow it, as in `pub (crate)`.
 pub fn is_restricted(cursor: Cursor<'_>) -> bool
     ensures { result ≡ (is_some (read_keyword (codes "pub") (place_of cursor.entry))
         && behind_skip (λ p. is_some (enter Parenthesis p)) (skip (place_of cursor.entry))) }

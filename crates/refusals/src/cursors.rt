@@ -7,7 +7,7 @@ mod lifetimes;
 use crate::outcome::{Outcome, Stop, expect, shows, worst};
 use std::alloc::Global;
 use tok_buffer::{Cursor, TokenBuffer};
-use tok_core::{Span, TokenTree, lex};
+use tok_core::{Span, TokenStream, TokenTree, lex};
 
 /// Each of them.
 pub fn calls(alloc: Global) -> Outcome {
@@ -16,6 +16,12 @@ pub fn calls(alloc: Global) -> Outcome {
         errors::calls(alloc),
         lifetimes::calls(alloc),
     ])
+}
+
+/// Lays out an empty stream: where the first request is refused nothing is made, and there is no second one.
+pub fn empty_buffer(alloc: Global) -> Outcome {
+    let buffer = TokenBuffer::new2(alloc, 0, TokenStream::new(alloc))?;
+    expect(buffer.begin().eof(), "TokenBuffer::new2")
 }
 
 fn buffers(alloc: Global) -> Outcome {

@@ -263,7 +263,7 @@ fn tokens_of_list(alloc: Global) -> Outcome {
     judge("to_tokens", was_granted, count == 6, count == 4)
 }
 
-// Behind three trees a pair of two is written, and the second finds no room.
+// After three trees a pair of two is written, and the second finds no room.
 fn tokens_of_pair(alloc: Global) -> Outcome {
     let punct = plus()?;
     let pair = Pair::Punctuated(punct, punct);

@@ -1,11 +1,30 @@
-// The program, over a run of every command.
-use crate::outcome::{Outcome, Stop};
+// The program: its first run, a run of every command, and two texts.
+use crate::outcome::{Outcome, Stop, worst};
 use std::alloc::Global;
 use std::io::{self, Write};
 use syn_tokens::serve;
 
+const FIRST: &str = "\
+(a «b»)\n\
+---\n\
+enter 0 (\n\
+parse 1 Ident\n\
+parse 1 Ident\n\
+empty 1\n\
+close 1\n\
+";
+
+const FIRST_ANSWER: &str = "\
+entered 1 ( 0..5 @6\n\
+read a 1..2 @2\n\
+read b 3..4 @5\n\
+true @5\n\
+done @5\n\
+accepted\n\
+";
+
 const INPUT: &str = "\
-fn 'a 1 += (b [c] «d») {e} _ x y\n\
+fn 'a 1 += (b [c] «d») {e} _ x y, z\n\
 ---\n\
 peek 0 fn\n\
 peek2 0 Lifetime\n\
@@ -36,6 +55,10 @@ tree 0\n\
 fork 0\n\
 parse 7 _\n\
 advance 0 7\n\
+fork 0\n\
+separated 8 Ident ,\n\
+terminated 8 Ident ,\n\
+discard 8\n\
 rest 0\n\
 close 9\n\
 close 0\n\
@@ -71,10 +94,48 @@ trees {e} @18\n\
 forked 7 @18\n\
 read _ 25..26 @19\n\
 done @19\n\
-trees x y @empty\n\
+forked 8 @19\n\
+list [x 27..28] @20\n\
+list [y 29..30] [, 30..31] [z 32..33] @23\n\
+done @23\n\
+trees x y , z @empty\n\
 refused C1 @-\n\
 refused C4 @empty\n\
 refused 15..16 unexpected token, expected `]`\n\
+";
+
+const TWO_TEXTS: &str = "\
+(a b) 'c\n\
+---\n\
+(a «b») '«c»\n\
+---\n\
+enter 0 (\n\
+parse 1 Ident\n\
+close 1\n\
+parse 0 Lifetime\n\
+lookahead 0 Ident\n\
+";
+
+const TWO_ANSWERS: &str = "\
+entered 1 ( 0..5 @4\n\
+read a 1..2 @2\n\
+done @2\n\
+read ' 6..7 c 7..8 @6\n\
+refused call unexpected end of input, expected identifier @6\n\
+refused 3..4 unexpected token, expected `)`\n\
+---\n\
+entered 1 ( 0..5 @6\n\
+read a 1..2 @2\n\
+done @2\n\
+read ' 6..7 c 7..8 @10\n\
+refused call unexpected end of input, expected identifier @10\n\
+refused 3..4 unexpected token\n\
+---\n\
+visible same\n\
+filled yes\n\
+clear no\n\
+transparent yes\n\
+agree yes\n\
 ";
 
 // Compares what is written with two texts: what is left of each, while it agrees.
@@ -109,16 +170,25 @@ fn is_whole(left: Option<&[u8]>) -> bool {
     matches!(left, Some(rest) if rest.is_empty())
 }
 
-/// Serves a run of every command: its whole answer is written, or `memory` alone.
-pub fn calls(alloc: Global) -> Outcome {
-    let mut input = INPUT.as_bytes();
+// Serves an input: its whole answer is written, with this status, or `memory` alone.
+fn serves(alloc: Global, input: &str, answer: &str, status: u8) -> Outcome {
+    let mut input = input.as_bytes();
     let mut output = Compared {
-        answer: Some(ANSWER.as_bytes()),
+        answer: Some(answer.as_bytes()),
         memory: Some(b"memory\n"),
     };
     match serve(alloc, &mut input, &mut output) {
-        1 if is_whole(output.answer) => Ok(()),
         3 if is_whole(output.memory) => Err(Stop::Refused),
+        got if got == status && is_whole(output.answer) => Ok(()),
         _ => Err(Stop::Wrong("serve")),
     }
+}
+
+/// Serves the first run of the program, a run of every command, and two texts.
+pub fn calls(alloc: Global) -> Outcome {
+    worst(&[
+        serves(alloc, FIRST, FIRST_ANSWER, 0),
+        serves(alloc, INPUT, ANSWER, 1),
+        serves(alloc, TWO_TEXTS, TWO_ANSWERS, 1),
+    ])
 }

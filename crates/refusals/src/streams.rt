@@ -1,5 +1,6 @@
 //! The calls of `syn_parse` that take memory.
 mod groups;
+mod lists;
 mod looks;
 mod own;
 mod whole;
@@ -21,6 +22,7 @@ pub fn calls(alloc: Global) -> Outcome {
         refusals_of_trees(alloc),
         refusals_of_tokens(alloc),
         groups::calls(alloc),
+        lists::calls(alloc),
         looks::calls(alloc),
         whole::calls(alloc),
     ])

@@ -92,7 +92,7 @@ fn plus() -> Result<Punct, Stop> {
     Punct::new_spanned('+', Spacing::Alone, span()).ok_or(Stop::Wrong("Punct::new_spanned"))
 }
 
-// Puts a plus behind the others. Where memory is refused the stream is as before, and takes the plus when it is put again.
+// Puts a plus after the others. Where memory is refused the stream is as before, and takes the plus when it is put again.
 fn append(stream: &mut TokenStream, before: &str, after: &str) -> Outcome {
     let call = "TokenStream::append";
     if stream.append(TokenTree::Punct(plus()?)).is_ok() {
@@ -153,7 +153,7 @@ pub fn pluses(alloc: Global) -> Result<TokenStream, Stop> {
     Ok(stream)
 }
 
-// Writes a value behind four pluses. Where memory is refused one of these fronts stands there, and else the last.
+// Writes a value after four pluses. Where memory is refused one of these fronts stands there, and else the last.
 pub fn write<T: ToTokens>(
     alloc: Global,
     value: &T,

@@ -1,6 +1,11 @@
-//! Tests of the public calls of parse streams and of `replay`, of the program, and of the callers: as in `api_tests`.
+//! Tests of the public calls of parse streams and of `replay`, of the program, of the reader of arguments, and of the
+//! callers: as in `api_tests`.
 #![tactic(auto)]
 
+#[cfg(test)]
+mod argument_lists;
+#[cfg(test)]
+mod both;
 #[cfg(test)]
 mod examples;
 #[cfg(test)]

@@ -1,5 +1,6 @@
 // What the program prints for the worked inputs.
 mod commands;
+mod pairs;
 
 use std::alloc::{AllocError, AllocGlobal, Global};
 use std::io::{self, Error, ErrorKind, Read, Write};
@@ -172,7 +173,7 @@ fn tells_what_is_unreadable(rt: HostRuntime) -> Result<(), Fail> {
     for (input, what) in [
         ("", "parts"),
         ("1.0\n", "parts"),
-        ("1.0\n---\nno\n---\n", "parts"),
+        ("1.0\n---\nno\n---\n\n---\n", "parts"),
         ("a\n---\r\n", "parts"),
         ("a\n ---\n", "parts"),
         ("a ---\n---", ""),
@@ -257,7 +258,7 @@ fn looks_into_empty_levels(rt: HostRuntime) -> Result<(), Fail> {
     )
 }
 
-// Gives a byte at a time, each after an interrupted read, and fails or ends behind them.
+// Gives a byte at a time, each after an interrupted read, and fails or ends after them.
 #[derive(Drop)]
 struct Slow<'a> {
     left: &'a [u8],

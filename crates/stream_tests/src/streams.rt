@@ -2,6 +2,7 @@
 mod examples;
 mod groups;
 mod hostile;
+mod lists;
 
 use std::alloc::Global;
 use std::process::Abort;
@@ -12,7 +13,7 @@ use tok_core::{Ident, Literal, Punct, Span, TokenStream, TokenTree};
 use tok_types::token::{self, Token};
 
 // Whether an outcome is a refusal with this range and these words.
-fn refuses<T: Drop>(alloc: Global, outcome: Result<T>, wanted: &str) -> bool {
+pub fn refuses<T: Drop>(alloc: Global, outcome: Result<T>, wanted: &str) -> bool {
     let Err(Fault::Refused(error)) = outcome else {
         return false;
     };

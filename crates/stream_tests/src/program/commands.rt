@@ -26,7 +26,7 @@ fn reports(
     wants(rt, input.as_bytes(), output.as_str(), status)
 }
 
-// Joint puncts, keywords, and what is behind a skip.
+// Joint puncts, keywords, and what follows a skip.
 #[test]
 fn peeks_at_three_places(rt: HostRuntime) -> Result<(), Fail> {
     for (text, commands, lines, status) in [
@@ -253,6 +253,60 @@ fn forks_and_advances(rt: HostRuntime) -> Result<(), Fail> {
             "forked 1 @0|entered 2 ( 0..3 @3|trees a @empty|forked 3 @0|trees (a) @empty|forked 4 @0|refused C5 @empty|trees (a) @empty|done @empty|refused C5 @empty|refused 0..3 unexpected token",
             1,
         ),
+    ] {
+        reports(&rt, text, commands, lines, status)?;
+    }
+    Ok(())
+}
+
+// Lists of identifiers, and what ends or refuses them.
+#[test]
+fn reads_lists(rt: HostRuntime) -> Result<(), Fail> {
+    for (text, commands, lines, status) in [
+        ("", "terminated 0 Ident ,", "list @0|accepted", 0),
+        (
+            "a,",
+            "terminated 0 Ident ,",
+            "list [a 0..1] [, 1..2] @2|accepted",
+            0,
+        ),
+        (
+            "a, b",
+            "terminated 0 Ident ,",
+            "list [a 0..1] [, 1..2] [b 3..4] @3|accepted",
+            0,
+        ),
+        (
+            "a, «»",
+            "terminated 0 Ident ,",
+            "refused 3..3 expected identifier @2|accepted",
+            0,
+        ),
+        (
+            "a, b c",
+            "terminated 0 Ident ,",
+            "refused 5..6 expected `,` @3|refused 5..6 unexpected token",
+            1,
+        ),
+        (
+            "a, b c",
+            "separated 0 Ident ,",
+            "list [a 0..1] [, 1..2] [b 3..4] @3|refused 5..6 unexpected token",
+            1,
+        ),
+        (
+            "a::b",
+            "separated 0 Ident ::",
+            "list [a 0..1] [: 1..2 : 2..3] [b 3..4] @4|accepted",
+            0,
+        ),
+        (
+            "a,",
+            "separated 0 Ident ,",
+            "refused call unexpected end of input, expected identifier @2|accepted",
+            0,
+        ),
+        ("a «»", "parse 0 Ident", "read a 0..1 @1|accepted", 0),
     ] {
         reports(&rt, text, commands, lines, status)?;
     }

@@ -1,5 +1,6 @@
 // The callers of streams, each run once.
 use super::refuses;
+use callers::lists::{names, parse_items};
 use callers::streams::{Item, Kind, count_names, next_kind, next_tree, optional_field};
 use syn_parse::{Parse, ParseStream, Parser, Result};
 use tok_core::TokenStream;
@@ -49,4 +50,19 @@ fn counts_names(rt: HostRuntime) {
     assert!(rt; matches!(count_names.parse_str(alloc, "(a (b) ((c)))"), Ok(3)));
     let number = count_names.parse_str(alloc, "(a 1)");
     assert!(rt; refuses(alloc, number, "3..4 expected parentheses"));
+}
+
+#[test]
+fn lists_of_names_and_of_items(rt: HostRuntime) {
+    let alloc = rt.alloc();
+    match names.parse_str(alloc, "a, b") {
+        Ok(list) => assert!(rt; list.len() == 2),
+        Err(_) => assert!(rt; false),
+    }
+    match parse_items.parse_str(alloc, "a, (b, (), c)") {
+        Ok(items) => assert!(rt; items.list.len() == 2),
+        Err(_) => assert!(rt; false),
+    }
+    let inner = parse_items.parse_str(alloc, "a, (b c)");
+    assert!(rt; refuses(alloc, inner, "6..7 expected `,`"));
 }

@@ -1,17 +1,77 @@
-use Rattle.std.proofs.Common.{arith}
+use Rattle.std.proofs.Common.{◌≡◌, ◌<◌, ◌++◌, [], ◌∷◌, true, false, rules, arith, refl, subst}
+use Rattle.tok_buffer.specs.Place.{is_at_end}
+use Rattle.tok_buffer.specs.Progress.{remaining}
+use Rattle.callers.specs.Items.{FieldsParse}
+use Rattle.callers.proofs.Fields.{GoesOn, comma_on, field_lowers, fields_end, last_on}
+use Rattle.callers.proofs.Fields.{without_comma, without_field}
+use Rattle.callers.proofs.Parts.{at_exit}
 use Rattle.callers.proofs.streams.fields.Goals as goal
 
-pub loop-input-smaller : goal.loop-input-smaller
-loop-input-smaller c =
-    let on = c.parses_go_on.ensures in
-    let name = on.idents.lowers c.loop-input.input c.in_ok-name.name c.parse.new.self c.in_ok-name.ensures in
-    let colon = (on.punctuations 6 1).lowers c.parse.new.self c.in_ok-parse.field-0 c.parse-in-loop-input.new.self c.in_ok-parse.ensures in
-    let kind = on.idents.lowers c.parse-in-loop-input.new.self c.in_ok-kind.kind c.parse-in-loop-input-2.new.self c.in_ok-kind.ensures in omega (arith, name, colon, kind)
+pub returns-in_err-parse_field : goal.returns-in_err-parse_field
+returns-in_err-parse_field c =
+    let here = c.loop-fields in
+    let left = c.parse_field.new.input in
+    let f = c.in_err-parse_field.field-0.0 in
+    let more : is_at_end here.input.place ≡ false = search rules in
+    at_exit (λ r. FieldsParse c.args.input.now r left) c.from_residual.result f
+    c.from_residual.ensures.1
+    (without_field c.args.input.now here.input here.fields.items here.invariant more f left
+    c.in_err-parse_field.ensures)
 
-pub loop-input-smaller-then-not-is_empty : goal.loop-input-smaller-then-not-is_empty
-loop-input-smaller-then-not-is_empty c =
-    let on = c.parses_go_on.ensures in
-    let name = on.idents.lowers c.loop-input.input c.in_ok-name.name c.parse.new.self c.in_ok-name.ensures in
-    let colon = (on.punctuations 6 1).lowers c.parse.new.self c.in_ok-parse.field-0 c.parse-in-loop-input.new.self c.in_ok-parse.ensures in
-    let kind = on.idents.lowers c.parse-in-loop-input.new.self c.in_ok-kind.kind c.parse-in-loop-input-2.new.self c.in_ok-kind.ensures in
-    let comma = (on.punctuations 7 1).lowers c.parse-in-loop-input-2.new.self c.in_ok-parse-2.field-0 c.parse-then-not-is_empty.new.self c.in_ok-parse-2.ensures in omega (arith, name, colon, kind, comma)
+pub returns-in_err-parse : goal.returns-in_err-parse
+returns-in_err-parse c =
+    let here = c.loop-fields in
+    let there = c.parse_field.new.input in
+    let left = c.parse.new.self in
+    let f = c.in_err-parse.field-0.0 in
+    let exit = c.from_residual-in_err-parse in
+    let more : is_at_end there.place ≡ false = search rules in
+    at_exit (λ r. FieldsParse c.args.input.now r left) exit.result f exit.ensures.1
+    (without_comma c.args.input.now here.input here.fields.items here.invariant there
+    c.in_ok-parse_field.field-0 c.in_ok-parse_field.ensures more left f c.in_err-parse.ensures)
+
+pub loop-fields-smaller : goal.loop-fields-smaller
+loop-fields-smaller c =
+    field_lowers c.reads_go_on.ensures c.loop-fields.input c.parse_field.new.input
+    c.in_ok-parse_field.field-0 c.in_ok-parse_field.ensures
+
+pub loop-fields-smaller-then-not-is_empty : goal.loop-fields-smaller-then-not-is_empty
+loop-fields-smaller-then-not-is_empty c =
+    let here = c.loop-fields.input in
+    let there = c.parse_field.new.input in
+    let field : remaining there.place < remaining here.place =
+    field_lowers c.reads_go_on.ensures here there c.in_ok-parse_field.field-0
+    c.in_ok-parse_field.ensures in
+    let comma =
+    (c.parses_go_on.ensures.punctuations 7 1).lowers there c.in_ok-parse.field-0
+    c.parse.new.self c.in_ok-parse.ensures in
+    omega (arith, field, comma)
+
+pub loop-fields-preserved : goal.loop-fields-preserved
+loop-fields-preserved c =
+    let here = c.loop-fields in
+    let there = c.parse_field.new.input in
+    let field = c.in_ok-parse_field.field-0 in
+    let ended : is_at_end there.place ≡ true = search rules in
+    let pushed : here.fields.items ++ field ∷ [] ≡ c.push.new.self.items = search rules in
+    subst (GoesOn c.args.input.now there) pushed
+    (last_on c.args.input.now here.input here.fields.items here.invariant there field
+    c.in_ok-parse_field.ensures ended)
+
+pub loop-fields-preserved-then-not-is_empty : goal.loop-fields-preserved-then-not-is_empty
+loop-fields-preserved-then-not-is_empty c =
+    let here = c.loop-fields in
+    let there = c.parse_field.new.input in
+    let left = c.parse.new.self in
+    let field = c.in_ok-parse_field.field-0 in
+    let more : is_at_end there.place ≡ false = search rules in
+    let pushed : here.fields.items ++ field ∷ [] ≡ c.push.new.self.items = search rules in
+    subst (GoesOn c.args.input.now left) pushed
+    (comma_on c.args.input.now here.input here.fields.items here.invariant there field
+    c.in_ok-parse_field.ensures more left c.in_ok-parse.field-0 c.in_ok-parse.ensures)
+
+pub returns : goal.returns
+returns c =
+    let here = c.loop-fields in
+    let ended : is_at_end here.input.place ≡ true = search rules in
+    fields_end c.args.input.now here.input here.fields.items here.invariant ended here.fields refl

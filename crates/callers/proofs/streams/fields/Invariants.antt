@@ -1,5 +1,9 @@
 use Rattle.tok_buffer.specs.Progress.{remaining}
+use Rattle.callers.proofs.Fields.{GoesOn}
 use Rattle.callers.proofs.streams.fields.Given as goal
 
-abbrev pub decreases-loop-input : goal.decreases-loop-input
-decreases-loop-input l = remaining l.input.place
+abbrev pub invariant-loop-fields : goal.invariant-loop-fields
+invariant-loop-fields l = GoesOn l.fn.input l.input l.fields.items
+
+abbrev pub decreases-loop-fields : goal.decreases-loop-fields
+decreases-loop-fields l = remaining l.input.place
