@@ -1,6 +1,7 @@
 // Parse streams.
 ghost use Rattle.std.specs.Prelude.{◌≡◌, None, true, IfSome, MatchOption, Ok};
 ghost use Rattle.std.specs.Fn.{FnOnceReturnsAtMut, FnOnceTakesAtMut};
+ghost use Rattle.tok_core.specs.Laws.{IsTheOnly};
 ghost use Rattle.tok_buffer.specs.Ahead.{left_of};
 ghost use Rattle.tok_buffer.specs.Cursors.{place_of};
 ghost use Rattle.tok_buffer.specs.Order.{same_scope};
@@ -77,8 +78,10 @@ impl<'a> ParseBuffer<'a> {
         }
     }
 
-    /// The allocator that parsers of this stream use.
-    pub fn allocator(&self) -> Global {
+    /// The allocator that parsers of this stream use. A program has one `Global`, so each stream's is the same.
+    pub fn allocator(&self) -> Global
+        ensures { IsTheOnly result }
+    {
         self.alloc
     }
 

@@ -1,5 +1,6 @@
 pub mod Depth
 pub mod Equality
+pub mod Hashes
 pub mod Inserts
 pub mod IterRuns
 pub mod PairedUp

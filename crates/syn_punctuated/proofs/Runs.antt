@@ -1,15 +1,13 @@
 -- How a run of a list parser is put together from its turns.
 use Rattle.std.proofs.Common.{◌≤◌, ◌<◌, ◌+◌, length, length-append, arith, ◌≡◌, ◌∙◌, sym, ap, refl}
 use Rattle.std.proofs.Common.{ℕ, List, [], ◌∷◌, ◌++◌, map, true, false, None, Ok, Err, inl, inr}
-use Rattle.std.proofs.lemmas.List.{length-map}
-use Rattle.std.specs.Prelude.{Result, IfOk, alloc_error}
+use Rattle.std.specs.Prelude.{Result, alloc_error}
 use Rattle.std.specs.Global.{Vec}
 use Rattle.syn_parse.specs.Faults.{Refuses}
 use Rattle.syn_parse.specs.Reads.{Call}
 use Rattle.syn_parse.specs.State.{State}
 use Rattle.syn_parse.specs.declared.fault.Fault.{Fault}
 use Rattle.syn_parse.specs.declared.fault.Fault.TheVariants.{Memory}
-use Rattle.syn_punctuated.specs.Lists.{values_of}
 use Rattle.syn_punctuated.specs.Pieces.{IsPiece, Keeps}
 use Rattle.syn_punctuated.specs.Progress.{progresses}
 use Rattle.syn_punctuated.specs.Turns.{Rule, ValueCall, Turn, turn_value, turn_separator, Chain}

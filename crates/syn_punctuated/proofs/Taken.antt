@@ -1,7 +1,7 @@
 -- Reads of leaves take the trees that they return from those ahead.
 use Rattle.std.proofs.Common.{◌≡◌, ◌∙◌, sym, ap, refl, ℕ, ◌+◌, Bool, true, false, List, [], ◌∷◌}
 use Rattle.std.proofs.Common.{◌++◌, map, append_assoc, Option, Some, None}
-use Rattle.std.proofs.lemmas.List.{append-nil, map-append}
+use Rattle.std.proofs.lemmas.List.{map-append}
 use Rattle.std.specs.Prelude.{cond, unwrap_or, IfSome}
 use Rattle.std.specs.Option.{option_or}
 use Rattle.tok_core.specs.declared.group.Delimiter.{Delimiter}
@@ -9,10 +9,10 @@ use Rattle.tok_core.specs.declared.group.Delimiter.TheVariants as delimiter
 use Rattle.tok_core.specs.declared.span.Span.{Span}
 use Rattle.tok_core.specs.Forest.{Tree, leaf, group, Forest, no_trees, tree, turned_onto}
 use Rattle.tok_core.specs.Weight.{weight}
-use Rattle.tok_buffer.specs.Ahead.{ahead, ahead_in, visible}
+use Rattle.tok_buffer.specs.Ahead.{ahead_in, visible}
 use Rattle.tok_buffer.specs.Descent.{descend, descend_from, into_front}
 use Rattle.tok_buffer.specs.Place.{Owner, whole, group_of, Level, level, Place, empty_place, at}
-use Rattle.tok_buffer.specs.Place.{absorb, pass, settle}
+use Rattle.tok_buffer.specs.Place.{absorb, settle}
 use Rattle.tok_buffer.specs.Reads.{and_then, is_ident_of, is_joint_of, is_punct_of}
 use Rattle.tok_buffer.specs.Reads.{read_punctuation, read_word}
 use Rattle.tok_buffer.specs.Reads as reads

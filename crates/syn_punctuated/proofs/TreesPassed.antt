@@ -18,15 +18,14 @@ use Rattle.tok_types.specs.Texts.{accept_as_ident, punctuation_word}
 use Rattle.tok_types.specs.declared.punctuation.Punctuation.{Punctuation}
 use Rattle.syn_parse.specs.Parses.{AreSpans, IdentParses, IsIdent, PunctuationParses}
 use Rattle.syn_parse.specs.Reads.{Call, Reads, ReadsAtOnce}
-use Rattle.syn_parse.specs.State.{State, moved}
+use Rattle.syn_parse.specs.State.{State}
 use Rattle.syn_parse.specs.Words.{punctuation_refusal}
-use Rattle.syn_parse.specs.declared.fault.Fault.{Fault}
 use Rattle.syn_punctuated.specs.Lists.{values_of, separators_of}
 use Rattle.syn_punctuated.specs.Trees.{AreTreesOf, IsOneOf, ListsHaveTheirTrees, Passes, PassesList}
 use Rattle.syn_punctuated.specs.Trees.{StatesTrees, ident_sources, punctuation_sources}
 use Rattle.syn_punctuated.specs.Trees.{puncts_ending, trees_ahead}
 use Rattle.syn_punctuated.specs.Turns.{Rule, ValueCall, Turn, turn_value, turn_separator, separated}
-use Rattle.syn_punctuated.specs.Turns.{terminated, Chain, Ending, IsPlainRun, at_end, bare}
+use Rattle.syn_punctuated.specs.Turns.{terminated, Chain, Ending, at_end, bare}
 use Rattle.syn_punctuated.specs.Turns.{value_refused, separator_refused, value_lost, turn_lost}
 use Rattle.syn_punctuated.specs.Turns.{stuck}
 use Rattle.syn_punctuated.specs.declared.punctuated.Punctuated.{Punctuated}

@@ -3,7 +3,7 @@ use Rattle.std.proofs.Common.{◌≡◌, ℕ, suc, ◌+◌, ◌<◌, List, [], �
 use Rattle.std.proofs.lemmas.List.{take-append-drop, take_more}
 use Rattle.std.specs.Global.{Box}
 use Rattle.std.specs.Prelude.{Result, Ok, Err, OnOk, OnErr}
-use Rattle.tok_core.specs.Forest.{Forest, joined, no_trees, AppendsFront}
+use Rattle.tok_core.specs.Forest.{Forest, joined, no_trees, tree, AppendsFront}
 use Rattle.tok_core.proofs.Facts.{joined-none, joined_assoc}
 use Rattle.syn_punctuated.specs.Boxes.{boxed_values}
 use Rattle.syn_punctuated.specs.Lists.{values_of, separators_of}
@@ -20,11 +20,11 @@ on_err (Err e) f h = f h
 
 -- a front of the first of two is a front of both
 pub front_first : (old f g new : Forest) → AppendsFront old f new → AppendsFront old (joined f g) new
-front_first old f g new h = (h.0, joined h.1 g, ap (λ all. joined all g) h.2 ∙ joined_assoc h.0 h.1 g, h.3)
+front_first old f g new h = (h.0, h.1, joined h.2 g, ap (λ all. joined all g) h.3 ∙ joined_assoc h.0 (tree h.1 h.2) g, h.4)
 
 -- where the first is written, a front of the second is a front of both
 pub front_second : (old f mid g new : Forest) → mid ≡ joined old f → AppendsFront mid g new → AppendsFront old (joined f g) new
-front_second old f mid g new written h = (joined f h.0, h.1, ap (joined f) h.2 ∙ sym (joined_assoc f h.0 h.1), h.3 ∙ ap (λ all. joined all h.0) written ∙ joined_assoc old f h.0)
+front_second old f mid g new written h = (joined f h.0, h.1, h.2, ap (joined f) h.3 ∙ sym (joined_assoc f h.0 (tree h.1 h.2)), h.4 ∙ ap (λ all. joined all h.0) written ∙ joined_assoc old f h.0)
 
 module _ {X Y : Type 0} (value : X → Forest) (separator : Y → Forest) where
   abbrev pub both : X × Y → Forest

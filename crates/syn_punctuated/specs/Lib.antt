@@ -1,6 +1,7 @@
 pub mod Adds
 pub mod Boxes
 pub mod Faults
+pub mod Hashed
 pub mod Lends
 pub mod Lent
 pub mod Lists

@@ -12,7 +12,7 @@ module _ {S X : Type 0} (R : S → X → Bool → S → X → Type 0) where
   RunsOver s (x ∷ xs) [] t = ⊥
   RunsOver s (x ∷ xs) (z ∷ zs) t = (u : S) × R s x z.0 u z.1 × RunsOver u xs zs t
 
--- what the run left of the values at which it answered true
+-- what the run left of the values at which it returned true
 abbrev pub kept_values : {X : Type 0} → List (Bool × X) → List X
 kept_values [] = []
 kept_values (z ∷ zs) = cond z.0 (z.1 ∷ kept_values zs) (kept_values zs)
@@ -37,7 +37,7 @@ module _ {S X Y : Type 0} (R : S → X → Bool → S → X → Type 0) where
       (run : List (Bool × X)) × RunsOver R s (map (λ p. p.0) old) run t × (new ≡ kept_pairs run old)
 
   -- new is what a run from s kept of old: the values kept, each with the separator after it; where
-  -- old ended in a bare value the last value kept stands bare too, so the separators are one fewer
+  -- old ended in a bare value the last value kept is bare too, so the separators are one fewer
   -- than the values
   pub record Retains (s : S) (old new : Punctuated X Y) : Type 0 where
     pub run : List (Bool × X)

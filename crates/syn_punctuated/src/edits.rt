@@ -61,7 +61,7 @@ impl<T: Drop, P: Drop> Punctuated<T, P> {
 
     /// Removes and gives the separator at the end. It is `None` where the list ends in a bare value or is empty.
     ///
-    /// The value that becomes bare wants memory: where there is none the list stays as it was.
+    /// The value that becomes bare takes memory: after an allocation failure the list is as it was.
     pub fn pop_punct(&mut self) -> Result<Option<P>, AllocError>
         ensures values { values_of self.new ≡ values_of self.old }
         ensures taken { IfOk result (λ taken. separators_of self.old ≡ separators_of self.new ++ option_to_list taken) }

@@ -1,4 +1,4 @@
-//! Laws over the definitions that the contracts cite. Each stands as the contract of a function that does nothing.
+//! Laws over the definitions that the contracts cite. Each is the contract of a function that does nothing.
 ghost use Rattle.std.specs.Prelude.{◌≡◌, ◌<◌, ◌+◌, ◌&&◌, ◌⊎◌, ℕ, List, length};
 ghost use Rattle.std.specs.Cmp.Lexicographic.{pointwise};
 ghost use Rattle.std.specs.Fn.{CalledAtMut};
@@ -6,6 +6,7 @@ ghost use Rattle.std.specs.List.{All};
 ghost use Rattle.tok_core.specs.Forest.{Tree};
 ghost use Rattle.tok_core.specs.declared.ident.Ident.{Ident};
 ghost use Rattle.tok_types.specs.declared.punctuation.Punctuation.{Punctuation};
+ghost use Rattle.syn_punctuated.specs.Hashed.{list_input};
 ghost use Rattle.syn_punctuated.specs.Lends.{with_value, WritesValue};
 ghost use Rattle.syn_punctuated.specs.Lists.{values_of, separators_of, is_trailing};
 ghost use Rattle.syn_punctuated.specs.ReadBack.{IsAccepted, IsInTable, IsReadBack, ListsAreReadBack, ReadsAgain};
@@ -15,6 +16,7 @@ ghost use Rattle.syn_punctuated.specs.declared.punctuated.Punctuated.{Punctuated
 
 use crate::punctuated::Punctuated;
 use std::alloc::Global;
+use std::hash::Hash;
 use syn_parse::{Parse, Result, tokens_to_parse_buffer};
 use tok_buffer::TokenBuffer;
 use tok_core::{Ident, Span, ToTokens};
@@ -32,6 +34,13 @@ pub fn equality_is_pointwise<T: PartialEq, P: PartialEq>()
     ensures { (left : Punctuated T P) (right : Punctuated T P)
         → ⟦<Punctuated<T, P> as PartialEq>⟧.eq left right
         ≡ (pointwise T.eq (values_of left) (values_of right) && pointwise P.eq (separators_of left) (separators_of right)) }
+{}
+
+/// A list feeds a hasher its values and separators: the pairs, with how many they are, and then the bare last value, or
+/// that there is none. So equal lists feed it alike.
+pub fn lists_hash_all<T: Hash, P: Hash>()
+    ensures { (list : Punctuated T P)
+        → ⟦<Punctuated<T, P> as Hash>⟧.hash_input list ≡ list_input T.hash_input P.hash_input list }
 {}
 
 /// After `retain`, a list that isn't empty ends in a separator exactly where it did before.

@@ -24,7 +24,7 @@ fn test_value<T, P, F: FnMut(&mut T) -> bool>(pair: &mut (T, P), f: &mut F) -> b
     test(&mut pair.0, f)
 }
 
-/// Keeps the pairs at whose values `f` answers true.
+/// Keeps the pairs at whose values `f` returns true.
 fn retain_pairs<T: Drop, P: Drop, F: FnMut(&mut T) -> bool>(pairs: &mut Vec<(T, P)>, f: &mut F)
     requires { F.IsAlwaysCallable f.old }
     ensures callable { F.IsAlwaysCallable f.new }
@@ -41,8 +41,8 @@ fn retain_pairs<T: Drop, P: Drop, F: FnMut(&mut T) -> bool>(pairs: &mut Vec<(T, 
 }
 
 impl<T: Drop, P: Drop> Punctuated<T, P> {
-    /// Keeps the values at which `f` answers true, each with the separator after it. Where the list ended in a bare
-    /// value, the last that is kept stands bare.
+    /// Keeps the values at which `f` returns true, each with the separator after it. Where the list ended in a bare
+    /// value, the last that is kept is bare too.
     ///
     /// `f` sees each value once, in order, and may write to it. No memory is taken: a value that becomes bare goes into
     /// the box of the one that goes.

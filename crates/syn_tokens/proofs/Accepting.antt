@@ -1,7 +1,6 @@
 -- A walk accepts exactly where nothing is left.
-use Rattle.std.proofs.Common.{◌≡◌, ◌≢◌, ◌∙◌, sym, ap, subst, refl, ℕ, zero, suc, ◌+◌, ◌<◌, ◌≤◌, Bool, true, false, List, [], ◌∷◌, ◌++◌, length, Option, Some, None, arith, inl, inr, ◌⊎◌}
-use Rattle.std.proofs.lemmas.Bool.{eq-eqb, eqb-true, ne_eqb}
-use Rattle.std.specs.Option.{option_or}
+use Rattle.std.proofs.Common.{◌≡◌, ◌≢◌, ◌∙◌, sym, ap, subst, refl, ℕ, zero, suc, ◌+◌, ◌<◌, Bool, true, false, List, [], ◌∷◌, ◌++◌, length, Option, Some, None, arith, inl, inr, ◌⊎◌}
+use Rattle.std.proofs.lemmas.Bool.{eq-eqb}
 use Rattle.std.specs.Prelude.{◌==◌, ◌&&◌, ◌||◌, not, cond}
 use Rattle.tok_core.specs.Forest.{Forest, Tree}
 use Rattle.tok_core.specs.declared.span.Span.{Span}
@@ -19,13 +18,12 @@ use Rattle.syn_tokens.specs.Acceptance.{IsShut, is_discard, Comes, begins, goes_
 use Rattle.syn_tokens.specs.Acceptance as acceptance
 use Rattle.syn_tokens.specs.Commands as commands
 use Rattle.syn_tokens.specs.Commands.{Answer, Command, done, unfit, Verdict, accepted}
-use Rattle.syn_tokens.specs.Kinds as looks
 use Rattle.syn_tokens.specs.Kinds.{Kind, read, peek_kind, refusal}
 use Rattle.syn_tokens.specs.State.{Stream, State, StreamKind, outermost, content_of, a_fork, first_state, stream_at, at_rest, put, changed, moved_to, spent, handed_note, handed_up, closed_inside, closed, advanced, taken_over, all_spent, is_inside, inside_of, contains}
-use Rattle.syn_tokens.specs.Step.{Stepped, any_of, is_content, is_fork, is_missing, is_spent, kind_refusal, misuse, moves, first_named, named, new_stream, into_group, of_kind, on_stream, one_tree, parsed, place_of, run_list, stays, step, step_on, tested}
+use Rattle.syn_tokens.specs.Step.{Stepped, any_of, is_content, is_fork, is_missing, is_spent, kind_refusal, misuse, moves, first_named, named, new_stream, into_group, on_stream, one_tree, parsed, place_of, run_list, stays, step, step_on, tested}
 use Rattle.syn_tokens.specs.Turns.{Outcome, pieces_of, read_all, refused_at, terminated_turns, separated_turns, turns_left}
-use Rattle.syn_tokens.specs.Walk.{last_state, stream_verdict, verdict, walk}
-use Rattle.syn_tokens.proofs.Notes.{Ages, AllClean, Cleans, Closed, HasNoOpen, Holds, HoldsOpen, IsClean, IsFed, IsIn, Kept, Later, Older, ShutWhen, afterwards, before, Tidy, Under, first, deeper, Up, Which, ages_on, ages_self, all_shut, clean_after, clean_before, cleans_on, inside_closed, is_shut_at, kept_on, none_either, none_of, not_both, older_on, older_self, one_stream, open_or_not, shut_first, shut_is, shut_when, tells, there_below, up, up_cleans, up_kept, which, is_it, is_parent, is_other}
+use Rattle.syn_tokens.specs.Walk.{last_state, stream_verdict, walk}
+use Rattle.syn_tokens.proofs.Notes.{Ages, AllClean, Closed, HasNoOpen, Holds, HoldsOpen, IsClean, IsFed, IsIn, Later, Older, ShutWhen, afterwards, before, Tidy, Under, first, deeper, Which, ages_self, all_shut, clean_after, clean_before, cleans_on, inside_closed, is_shut_at, kept_on, none_either, none_of, not_both, older_on, older_self, one_stream, open_or_not, shut_first, shut_is, shut_when, tells, there_below, up, up_cleans, up_kept, which, is_it, is_parent, is_other}
 use Rattle.syn_tokens.proofs.Inside.{among_either, inside_at}
 use Rattle.syn_tokens.proofs.Spending.{all_spent_at, changed_at, changed_not, discards, mapped, mirrored, spent_when}
 

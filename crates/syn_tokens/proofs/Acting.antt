@@ -5,7 +5,7 @@ use Rattle.syn_tokens.specs.Commands.{Command}
 use Rattle.syn_tokens.specs.Commands as spec
 use Rattle.syn_tokens.specs.State.{State, stream_at}
 use Rattle.syn_tokens.specs.State as states
-use Rattle.syn_tokens.specs.Step.{Stepped, any_of, first_named, is_missing, is_spent, kind_refusal, misuse, named, on_stream, stays, step, step_on, tested}
+use Rattle.syn_tokens.specs.Step.{any_of, is_missing, is_spent, kind_refusal, misuse, named, tested}
 use Rattle.syn_tokens.specs.Stepping.{with_other}
 use Rattle.syn_tokens.proofs.Tracks.{there_within}
 

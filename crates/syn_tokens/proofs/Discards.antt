@@ -1,9 +1,9 @@
 -- A stream is spent with its contents, one after the other by its list of contents.
-use Rattle.std.proofs.Common.{◌≡◌, ◌≢◌, ◌∙◌, sym, ap, subst, refl, ℕ, zero, suc, ◌+◌, ◌-◌, ◌<◌, ◌≤◌, Bool, true, false, List, [], ◌∷◌, get_or, length, Option, Some, None, arith, inl, inr}
+use Rattle.std.proofs.Common.{◌≡◌, ◌≢◌, ◌∙◌, sym, ap, subst, refl, ℕ, zero, suc, ◌+◌, ◌<◌, Bool, true, false, List, [], ◌∷◌, get_or, length, Option, Some, None, arith, inl, inr}
 use Rattle.std.proofs.lemmas.Bool.{ne_eqb, eq-eqb, cases_lt}
 use Rattle.std.proofs.lemmas.Bool.Decides.{eqb_tells}
-use Rattle.std.specs.Prelude.{◌==◌, ◌||◌, cond}
-use Rattle.syn_tokens.specs.Links.{links_of, links_at, IsContent, HasNone, IsFirstFrom, AreLinked}
+use Rattle.std.specs.Prelude.{◌==◌, ◌||◌}
+use Rattle.syn_tokens.specs.Links.{links_of, links_at, IsContent, IsFirstFrom, AreLinked}
 use Rattle.syn_tokens.specs.State.{State, stream_at, changed, spent, all_spent, is_inside}
 use Rattle.syn_tokens.specs.State as states
 use Rattle.syn_tokens.specs.Tracks.{state_of_list}
@@ -12,7 +12,7 @@ use Rattle.syn_tokens.specs.declared.stream.Stream.{Stream}
 use Rattle.syn_tokens.proofs.Closing.{next_first, left_less, left_to}
 use Rattle.syn_tokens.proofs.Inside.{inside_step, is_parent_inside}
 use Rattle.syn_tokens.proofs.Linked.{content_within, length-links, links_there}
-use Rattle.syn_tokens.proofs.Spending.{all_spent_at, all_spent_kinds, changed_at, changed_not, discards, kinds, mapped, mirrored, same_discards, same_streams, spent_false, spent_true, spent_when}
+use Rattle.syn_tokens.proofs.Spending.{all_spent_at, changed_at, changed_not, discards, kinds, mapped, mirrored, same_discards, same_streams, spent_false, spent_true, spent_when}
 use Rattle.syn_tokens.proofs.Tracks.{there_within, length-state}
 
 -- the stream of a number

@@ -1,5 +1,5 @@
 -- Each read of a leaf leaves fewer visible trees ahead.
-use Rattle.std.proofs.Common.{◌≡◌, refl, ap, ℕ, ◌+◌, ◌≤◌, Bool, true, false, List, [], ◌∷◌, ◌++◌}
+use Rattle.std.proofs.Common.{◌≡◌, refl, ℕ, ◌+◌, ◌≤◌, Bool, true, false, List, [], ◌∷◌, ◌++◌}
 use Rattle.std.proofs.Common.{length, length-append, Option, Some, None, arith}
 use Rattle.std.specs.Prelude.{cond, unwrap_or, IfSome, codes, bytes_eq}
 use Rattle.std.specs.Option.{option_or}
@@ -8,11 +8,11 @@ use Rattle.tok_core.specs.declared.group.Delimiter.{Delimiter}
 use Rattle.tok_core.specs.declared.group.Delimiter.TheVariants as delimiter
 use Rattle.tok_core.specs.declared.span.Span.{Span}
 use Rattle.tok_core.specs.Forest.{Tree, leaf, group, Forest, no_trees, tree, turned_onto}
-use Rattle.tok_core.specs.Weight.{weight, tree_weight}
+use Rattle.tok_core.specs.Weight.{weight}
 use Rattle.tok_buffer.specs.Ahead.{ahead, ahead_in, visible}
 use Rattle.tok_buffer.specs.Descent.{descend, descend_from, into_front}
 use Rattle.tok_buffer.specs.Place.{Owner, whole, group_of, Level, level, Place, empty_place, at}
-use Rattle.tok_buffer.specs.Place.{absorb, pass, settle}
+use Rattle.tok_buffer.specs.Place.{absorb, settle}
 use Rattle.tok_buffer.specs.Reads.{and_then, any_text, is_ident, is_ident_of, is_joint_of}
 use Rattle.tok_buffer.specs.Reads.{is_literal, is_punct, is_punct_of, read_keyword, read_lifetime}
 use Rattle.tok_buffer.specs.Reads.{read_punctuation, read_word}

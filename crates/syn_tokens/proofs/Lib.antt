@@ -8,6 +8,7 @@ pub mod CommandLines
 pub mod Comparing
 pub mod Discards
 pub mod Entered
+pub mod Failing
 pub mod FewerAhead
 pub mod Fronts
 pub mod Inside
@@ -25,5 +26,6 @@ pub mod Spending
 pub mod Tables
 pub mod Tracks
 pub mod TurnsEnough
+pub mod Verdicts
 pub mod Views
 pub mod WordCuts

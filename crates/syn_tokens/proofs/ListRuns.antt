@@ -1,5 +1,5 @@
 -- A run of a list parser over tokens of one kind is what the walk says of it.
-use Rattle.std.proofs.Common.{◌≡◌, ◌∙◌, sym, ap, refl, subst, ℕ, zero, suc, ◌+◌, ◌≤◌, Bool, true}
+use Rattle.std.proofs.Common.{◌≡◌, ◌∙◌, sym, ap, refl, subst, ℕ, suc, ◌≤◌, Bool, true}
 use Rattle.std.proofs.Common.{false, ◌&&◌, ◌||◌, List, [], ◌∷◌, ◌++◌, map, Option, Some, None, Ok}
 use Rattle.std.proofs.Common.{Err, arith}
 use Rattle.std.proofs.lemmas.Bool.{false≢true}
@@ -11,7 +11,7 @@ use Rattle.std.specs.declared.cmp.Ordering.{Ordering}
 use Rattle.tok_core.specs.declared.span.Span.{Span}
 use Rattle.tok_core.specs.Forest.{Tree}
 use Rattle.tok_buffer.specs.Messages as messages
-use Rattle.tok_buffer.specs.Place.{Level, Place, empty_place, at, is_at_end}
+use Rattle.tok_buffer.specs.Place.{Place, empty_place, at, is_at_end}
 use Rattle.tok_buffer.specs.Reads.{read_punctuation}
 use Rattle.tok_buffer.specs.Words.{Refusal}
 use Rattle.tok_types.specs.Looks.{Finds}

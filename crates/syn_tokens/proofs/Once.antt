@@ -18,7 +18,7 @@ use Rattle.syn_tokens.specs.Output.{GoesOut}
 use Rattle.syn_tokens.specs.Printed.{ended}
 use Rattle.syn_tokens.specs.Program.{HasParts, HasForests, IsForest, IsOther, IsUnreadable}
 use Rattle.syn_tokens.specs.Program.{IsOutcome}
-use Rattle.syn_tokens.specs.Program.{HasOutcome, Prints, Serves, ServesOnly}
+use Rattle.syn_tokens.specs.Program.{Fails, HasOutcome, Prints, PrintsOnly, Serves, ServesOnly}
 use Rattle.syn_tokens.specs.Input.{parts_of}
 use Rattle.syn_tokens.specs.declared.fault.Unreadable.{Unreadable}
 use Rattle.syn_tokens.specs.declared.fault.Unreadable.TheVariants as why
@@ -270,18 +270,42 @@ prints_once bytes printed other status code (inr (w, k, q, t)) (inr (w', k', q',
     let e = why_once bytes w w' k k' in
     (q ∙ ap (λ w. ended (unreadable_text w)) e ∙ sym q', t ∙ sym t')
 
+pub prints_only : (bytes printed : List ℕ) (status : ℕ) → Prints bytes printed status
+    → PrintsOnly bytes printed status
+prints_only bytes printed status h other code k = prints_once bytes printed other status code h k
+
 -- what comes of a run is what the program prints
-pub serves_only : (bytes : List ℕ) (status : ℕ) (old new : Option (List ℕ))
-    → Serves bytes status old new → ServesOnly bytes status old new
-serves_only bytes status old new (inl (printed, mine, h, a)) other code k =
+pub serves_only : (unread unwritten : Type 0) (bytes : List ℕ) (status : ℕ) (old new : Option (List ℕ))
+    → Serves unread unwritten bytes status old new
+    → ServesOnly unread unwritten bytes status old new
+serves_only unread unwritten bytes status old new (inl (printed, mine, h, a)) other code k =
     let (same, codes) = prints_once bytes printed other mine code h k in
     inl
-    (subst (λ text. GoesOut text code status old new) same
-    (subst (λ n. GoesOut printed n status old new) codes a))
-serves_only bytes status old new (inr failed) other code k = inr failed
+    (subst (λ text. GoesOut unwritten text code status old new) same
+    (subst (λ n. GoesOut unwritten printed n status old new) codes a))
+serves_only unread unwritten bytes status old new (inr failed) other code k = inr failed
+
+-- a run in which no read failed is one in which any might
+may_fail : (unread unwritten : Type 0) (status : ℕ) (old new : Option (List ℕ))
+    → Fails ⊥ unwritten status old new → Fails unread unwritten status old new
+may_fail unread unwritten status old new (inl told) = inl told
+may_fail unread unwritten status old new (inr (two, none, kept)) = absurd none
+
+pub serves_read : (unread unwritten : Type 0) (bytes : List ℕ) (status : ℕ) (old new : Option (List ℕ))
+    → Serves ⊥ unwritten bytes status old new
+    → Serves unread unwritten bytes status old new
+serves_read unread unwritten bytes status old new (inl served) = inl served
+serves_read unread unwritten bytes status old new (inr failed) =
+    inr (may_fail unread unwritten status old new failed)
 
 -- what holds of the bytes that were read
 pub known_read : (P : List ℕ → Type 0) (known : Option (List ℕ)) (read : List ℕ)
     → IfSome known (λ bytes. read ≡ bytes) → P read → IfSome known P
 known_read P None read e h = tt
 known_read P (Some bytes) read e h = subst P e h
+
+-- what holds of all bytes
+pub known_any : (P : List ℕ → Type 0) (known : Option (List ℕ)) → ((bytes : List ℕ) → P bytes)
+    → IfSome known P
+known_any P None h = tt
+known_any P (Some bytes) h = h bytes

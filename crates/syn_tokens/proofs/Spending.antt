@@ -1,8 +1,8 @@
 -- A fork is spent with all that is inside it.
-use Rattle.std.proofs.Common.{◌≡◌, ◌≢◌, ◌∙◌, sym, ap, subst, refl, ℕ, zero, suc, ◌+◌, ◌<◌, ◌≤◌, Bool, true, false, List, [], ◌∷◌, length, map, Option, Some, None, arith, inl, inr}
-use Rattle.std.proofs.lemmas.Bool.{ne_eqb, eq-eqb, eqb-true, cases_lt, le-ltb, lt-ltb}
+use Rattle.std.proofs.Common.{◌≡◌, ◌≢◌, ◌∙◌, sym, ap, refl, ℕ, zero, suc, ◌+◌, Bool, true, false, List, [], ◌∷◌, map, Option, Some, None, arith, inl, inr}
+use Rattle.std.proofs.lemmas.Bool.{ne_eqb, eq-eqb, eqb-true}
 use Rattle.std.proofs.lemmas.Bool.Decides.{eqb_tells}
-use Rattle.std.specs.Prelude.{◌==◌, ◌||◌, ◌&&◌, cond, nat_lt}
+use Rattle.std.specs.Prelude.{◌==◌, ◌||◌, cond}
 use Rattle.syn_tokens.specs.State.{State, StreamKind, outermost, content_of, a_fork, all_spent, changed, contains, inside_of, is_content_among, is_inside, spent, spent_with, stream_at}
 use Rattle.syn_tokens.specs.State as states
 use Rattle.syn_tokens.proofs.Inside.{at_start}

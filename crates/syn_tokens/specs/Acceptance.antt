@@ -1,5 +1,5 @@
 -- A walk accepts where nothing is left over in the streams that count.
-use Rattle.std.specs.Prelude.{◌≡◌, ℕ, Bool, true, false, List, ◌∷◌, Option, Some, None}
+use Rattle.std.specs.Prelude.{◌≡◌, ℕ, Bool, true, false, List, ◌∷◌, Some, None}
 use Rattle.tok_core.specs.Forest.{Forest}
 use Rattle.tok_buffer.specs.Ahead.{leftover}
 use Rattle.tok_buffer.specs.Place.{Place}

@@ -93,7 +93,7 @@ list (value ∷ word ∷ []) =
     option_and_then (λ k. option_map (λ s. (k, s)) (separator word)) (kind value)
 list ws = None
 
--- the one word that stands there
+-- the one word that is there
 abbrev pub only_word : List (List ℕ) → Option (List ℕ)
 only_word (word ∷ []) = Some word
 only_word ws = None

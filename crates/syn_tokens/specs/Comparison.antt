@@ -67,7 +67,7 @@ abbrev pub both_status : Verdict → Verdict → ℕ
 both_status accepted v = verdict_status v
 both_status (left_over r) v = 1
 
--- what the program answers: one report, or two that are compared
+-- what the program prints: one report, or two that are compared
 pub data Outcome : Type 0 where
   reported : Report → Outcome
   compared : Comparison → Outcome

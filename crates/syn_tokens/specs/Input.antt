@@ -5,7 +5,7 @@ use Rattle.std.specs.List.{slice_split, flat_map}
 use denote.Ref.{Bor}
 use Rattle.syn_tokens.specs.Printed.{ended}
 
--- what stands between the line feeds
+-- what is between the line feeds
 abbrev pub lines : List ℕ → List (List ℕ)
 lines bytes = slice_split (λ b. b == 10) bytes
 

@@ -115,7 +115,7 @@ refused_words underscore p = expected (codes "`_`")
 refused_words (keyword k) p = expected (quoted (keyword_text k))
 refused_words (punctuation k) p = expected (quoted (punctuation_text k))
 
--- the refusal of a kind that is not read where a stream stands
+-- the refusal of a kind that is not read at the place of a stream
 abbrev pub refusal : Kind → parse.State → Refusal
 refusal (punctuation k) s = punctuation_refusal (punctuation_text k) s
 refusal k s = refused_at s (refused_words k s.place)

@@ -4,6 +4,7 @@ pub mod CommandText
 pub mod Commands
 pub mod Comparison
 pub mod Entering
+pub mod Failures
 pub mod Faults
 pub mod Input
 pub mod Kinds

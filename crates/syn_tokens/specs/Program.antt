@@ -79,19 +79,27 @@ Prints bytes printed status =
     ((why : Unreadable) × IsUnreadable bytes why × (printed ≡ ended (unreadable_text why))
     × (status ≡ 2))
 
--- memory was refused, and one line says so with 3; or a read failed, and nothing went out
-abbrev pub Fails : ℕ → Option (List ℕ) → Option (List ℕ) → Type 0
-Fails status old new =
-    GoesOut (ended (codes "memory")) 3 status old new ⊎ ((status ≡ 2) × Keeps old new)
+-- nothing else comes of the input
+abbrev pub PrintsOnly : List ℕ → List ℕ → ℕ → Type 0
+PrintsOnly bytes printed status =
+    (other : List ℕ) (code : ℕ) → Prints bytes other code → (printed ≡ other) × (status ≡ code)
 
--- what the program prints for these bytes went out, or it failed
-abbrev pub Serves : List ℕ → ℕ → Option (List ℕ) → Option (List ℕ) → Type 0
-Serves bytes status old new =
-    ((printed : List ℕ) × (code : ℕ) × Prints bytes printed code
-    × GoesOut printed code status old new) ⊎ Fails status old new
+-- unread and unwritten say that a read failed, and that a write did
+module _ (unread unwritten : Type 0) where
+  -- memory was refused, and one line says so with 3; or a read failed, and nothing went out
+  abbrev pub Fails : ℕ → Option (List ℕ) → Option (List ℕ) → Type 0
+  Fails status old new =
+      GoesOut unwritten (ended (codes "memory")) 3 status old new
+      ⊎ ((status ≡ 2) × unread × Keeps old new)
 
--- whatever the program prints for these bytes went out, or it failed
-abbrev pub ServesOnly : List ℕ → ℕ → Option (List ℕ) → Option (List ℕ) → Type 0
-ServesOnly bytes status old new =
-    (printed : List ℕ) (code : ℕ) → Prints bytes printed code → GoesOut printed code status old new
-    ⊎ Fails status old new
+  -- what the program prints for these bytes went out, or it failed
+  abbrev pub Serves : List ℕ → ℕ → Option (List ℕ) → Option (List ℕ) → Type 0
+  Serves bytes status old new =
+      ((printed : List ℕ) × (code : ℕ) × Prints bytes printed code
+      × GoesOut unwritten printed code status old new) ⊎ Fails status old new
+
+  -- whatever the program prints for these bytes went out, or it failed
+  abbrev pub ServesOnly : List ℕ → ℕ → Option (List ℕ) → Option (List ℕ) → Type 0
+  ServesOnly bytes status old new =
+      (printed : List ℕ) (code : ℕ) → Prints bytes printed code
+      → GoesOut unwritten printed code status old new ⊎ Fails status old new

@@ -69,7 +69,7 @@ GivesAnswer x (Ok a) = IsAnswer a x
 GivesAnswer x (Err (Refused e)) = IsRefusal e x
 GivesAnswer x (Err (Memory e)) = Unit {0}
 
--- where the stream stands then; nothing is said of an allocation failure
+-- where the stream is then; nothing is said of an allocation failure
 abbrev pub LeavesAlone : Result Answer Fault → parse.State → Stepped → Type 0
 LeavesAlone (Ok a) t step = standing t outermost true ∷ [] ≡ step.state
 LeavesAlone (Err (Refused e)) t step = standing t outermost true ∷ [] ≡ step.state

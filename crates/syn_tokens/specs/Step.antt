@@ -192,7 +192,7 @@ step c st =
       | None ↦ step_on c st (first_named (named c)) (stream_at st (first_named (named c)))
     ]
 
--- where the stream that a command names first stands after it; C1 is of none
+-- where the stream that a command names first is after it; C1 is of none
 abbrev pub position_in : Command → State → State → Position
 position_in c st after =
     cond (any_of (is_missing st) (named c)) missing

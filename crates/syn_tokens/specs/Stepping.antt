@@ -51,6 +51,6 @@ abbrev pub with_other : ℕ → Option ℕ → List ℕ
 with_other n None = n ∷ []
 with_other n (Some m) = n ∷ (m ∷ [])
 
--- where a stream stands
+-- where a stream is
 abbrev pub stands : State → ℕ → Position
 stands st n = elim (stream_at st n) [ None ↦ missing | Some s ↦ position_of s.place ]

@@ -282,7 +282,7 @@ fn alone(command: Command, rest: &str) -> Option<Command>
     }
 }
 
-// The one word that stands there.
+// The one word that is there.
 fn only_word(rest: &str) -> Option<&str>
     ensures word { option_map (λ w. w.now) result ≡ spec.only_word (spec.words rest.now) }
     ensures utf8 { IfSome result (λ word. IsUtf8 word.now) }

@@ -69,7 +69,7 @@ pub fn compare(
     Ok(Comparison { left, right, facts })
 }
 
-// What the program answers an input: one report, or two that are compared.
+// What the program prints for an input: one report, or two that are compared.
 #[derive(Drop)]
 pub enum Outcome {
     Reported(Report),

@@ -38,7 +38,7 @@ impl fmt::Display for Unreadable {
     }
 }
 
-// Why there is no report: the input can't be read, or memory is refused.
+// Why there is no report: the input can't be read, or an allocation failed.
 #[derive(Clone, Copy)]
 pub enum Fault {
     Unreadable(Unreadable),

@@ -1,12 +1,14 @@
 // The program's input.
-ghost use Rattle.std.specs.Prelude.{◌≡◌, ◌∷◌, [], ◌++◌, List, ℕ, IfOk, IfSome, Some, None, MatchOption};
+ghost use Rattle.std.specs.Prelude.{◌≡◌, ◌∷◌, [], ◌++◌, List, ℕ, IfErr, IfOk, IfSome, Some, None, MatchOption};
 ghost use Rattle.std.specs.List.{slice_split};
 ghost use Rattle.std.specs.Str.{IsUtf8};
+ghost use Rattle.syn_tokens.specs.Failures.{FailsToRead};
 ghost use Rattle.syn_tokens.specs.Input as spec;
 ghost use Rattle.syn_tokens.specs.Printed.{ended};
 
+use crate::channel::Source;
 use std::alloc::Global;
-use std::io::{ErrorKind, Read};
+use std::io::ErrorKind;
 
 // Why an input could not be read.
 #[derive(Drop)]
@@ -16,14 +18,15 @@ pub enum ReadFault {
     Memory,
 }
 
-// All that a reader gives, in at most 4,294,967,295 reads. An interrupted read is made again.
-pub fn read_input<R: Read>(alloc: Global, input: &mut R) -> Result<Vec<u8>, ReadFault>
-    ensures { IfSome (R.remaining input.old) (λ bytes. IfOk result (λ v. v.items ≡ bytes)) }
+// All that a source gives, in at most 4,294,967,295 reads. An interrupted read is made again.
+pub fn read_input<S: Source>(alloc: Global, input: &mut S) -> Result<Vec<u8>, ReadFault>
+    ensures bytes { IfSome (S.remaining input.old) (λ bytes. IfOk result (λ v. v.items ≡ bytes)) }
+    ensures failed { IfErr result (λ fault. fault ≡ ReadFault.Failed → FailsToRead S.reads input.old input.new) }
 {
     let mut bytes = Vec::new(alloc);
     let mut chunk = [0u8; 4096];
     for _i in 0..u32::MAX {
-        match input.read(&mut chunk) {
+        match input.read_some(&mut chunk) {
             Ok(0) => return Ok(bytes),
             Ok(n) => {
                 if bytes.extend_from_slice(&chunk[..n]).is_err() {
@@ -71,7 +74,7 @@ fn cut_rest(rest: Option<&str>) -> Option<(&str, Option<&str>)>
     }
 }
 
-// What stands before the first line that ends a text, and what follows that line.
+// What comes before the first line that ends a text, and what follows that line.
 fn cut(input: &str) -> Option<(&str, Option<&str>)>
     ensures parts { MatchOption result
         (slice_split spec.is_cut (spec.lines input.now) ≡ spec.lines input.now ∷ [])

@@ -1,8 +1,9 @@
-//! A list of commands, answered one by one over a token stream.
+//! A list of commands, run one by one over a token stream.
 #![tactic(auto)]
 
 mod agreement;
 mod both;
+mod channel;
 mod command;
 mod command_text;
 mod compared;
@@ -27,8 +28,9 @@ mod transparent;
 pub use agreement::agree;
 pub use arguments;
 pub use both::replay_both;
+pub use channel::{Sink, Source};
 pub use command::{Command, Kind, Look, Separator};
-pub use program::serve;
+pub use program::{respond, serve};
 pub use report::{Answer, Line, Piece, Position, Report, Verdict};
 pub use session::replay;
 pub use transparent::is_transparent;

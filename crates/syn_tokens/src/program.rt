@@ -1,10 +1,12 @@
 // The program.
 ghost use Rattle.std.specs.Prelude.{◌≡◌, IfOk, IfSome, MatchResult, string_bytes};
+ghost use Rattle.syn_tokens.specs.Failures.{FailsToRead, FailsToWrite};
 ghost use Rattle.syn_tokens.specs.Faults.{OnUnreadable};
 ghost use Rattle.syn_tokens.specs.Outcome.{outcome_of};
-ghost use Rattle.syn_tokens.specs.Program.{HasOutcome, IsOther, IsUnreadable, IsUnreadableOther, Prints, Serves, ServesOnly};
+ghost use Rattle.syn_tokens.specs.Program.{HasOutcome, IsOther, IsUnreadable, IsUnreadableOther, Prints, PrintsOnly, Serves, ServesOnly};
 ghost use Rattle.syn_tokens.specs.Input.{text_in};
 
+use crate::channel::{Sink, Source};
 use crate::command_text::read_commands;
 use crate::compared::{Outcome, compare};
 use crate::fault::{Fault, Unreadable};
@@ -12,22 +14,28 @@ use crate::input::{ReadFault, parts, read_input};
 use crate::output::send;
 use crate::session::replay;
 use std::alloc::{AllocError, Global};
-use std::io::{Read, Write};
 use std::str::from_utf8;
 use tok_core::{TokenStream, lex_marked};
 
-/// Answers one input, and gives the exit status of the program. The input is a marked text, or two, each followed by a line
-/// `---`, and a command a line. The answer is a report; of two texts, the two reports and what holds of them. Nothing goes
-/// out before the whole answer is in memory.
+/// Reads one input, prints what `respond` says of it, and returns the exit status of the program. The input is a marked text, or
+/// two, each followed by a line `---`, and a command a line. What is printed is a report; of two texts, the two reports and what
+/// holds of them. Nothing is written before all of it is in memory.
 ///
 /// The status is 0 where each report accepts, 1 where one refuses, 2 for an input that can't be read, of which one line
 /// says why, and also where a read or a write fails, and 3 where an allocation fails, of which the line `memory` tells. An
 /// input that has not ended after 4,294,967,295 reads is a failed read.
-pub fn serve<R: Read, W: Write>(alloc: Global, input: &mut R, output: &mut W) -> u8
-    ensures serves { IfSome (R.remaining input.old)
-        (λ bytes. Serves bytes result (W.contents output.old) (W.contents output.new)) }
-    ensures only { IfSome (R.remaining input.old)
-        (λ bytes. ServesOnly bytes result (W.contents output.old) (W.contents output.new)) }
+///
+/// The contract says of each reader and writer which call failed where the status is 2 and not the whole text went out, by
+/// relations that `Source` and `Sink` name. It is proved for all relations.
+pub fn serve<R: Source, W: Sink>(alloc: Global, input: &mut R, output: &mut W) -> u8
+    ensures serves { let unread = FailsToRead R.reads input.old input.new in
+        let unwritten = FailsToWrite W.writes W.flushes output.old output.new in
+        IfSome (R.remaining input.old)
+        (λ bytes. Serves unread unwritten bytes result (W.contents output.old) (W.contents output.new)) }
+    ensures only { let unread = FailsToRead R.reads input.old input.new in
+        let unwritten = FailsToWrite W.writes W.flushes output.old output.new in
+        IfSome (R.remaining input.old)
+        (λ bytes. ServesOnly unread unwritten bytes result (W.contents output.old) (W.contents output.new)) }
 {
     match read_input(alloc, input) {
         Ok(bytes) => answer(alloc, &bytes, output),
@@ -36,20 +44,23 @@ pub fn serve<R: Read, W: Write>(alloc: Global, input: &mut R, output: &mut W) ->
     }
 }
 
-// Answers an input that is read.
-fn answer<W: Write>(alloc: Global, input: &[u8], output: &mut W) -> u8
-    ensures serves { Serves input.now result (W.contents output.old) (W.contents output.new) }
-    ensures only { ServesOnly input.now result (W.contents output.old) (W.contents output.new) }
+// Prints what comes of an input that is read.
+fn answer<W: Sink>(alloc: Global, input: &[u8], output: &mut W) -> u8
+    ensures serves { let unwritten = FailsToWrite W.writes W.flushes output.old output.new in
+        Serves ⊥ unwritten input.now result (W.contents output.old) (W.contents output.new) }
+    ensures only { let unwritten = FailsToWrite W.writes W.flushes output.old output.new in
+        ServesOnly ⊥ unwritten input.now result (W.contents output.old) (W.contents output.new) }
 {
-    match print(alloc, input) {
+    match respond(alloc, input) {
         Ok((text, status)) => send(output, text.as_str(), status),
         Err(AllocError) => send(output, "memory\n", 3),
     }
 }
 
-// What is printed for an input, and the status.
-fn print(alloc: Global, input: &[u8]) -> Result<(String, u8), AllocError>
-    ensures { IfOk result (λ p. Prints input.now (string_bytes p.0) p.1) }
+/// What the program prints for an input, and its status, without a reader and a writer. `serve` sends it.
+pub fn respond(alloc: Global, input: &[u8]) -> Result<(String, u8), AllocError>
+    ensures prints { IfOk result (λ p. Prints input.now (string_bytes p.0) p.1) }
+    ensures only { IfOk result (λ p. PrintsOnly input.now (string_bytes p.0) p.1) }
 {
     match outcome(alloc, input) {
         Ok(outcome) => Ok((outcome.to_string(alloc)?, outcome.status())),

@@ -1,4 +1,4 @@
-// Commands answered one by one over a stream.
+// Runs commands one by one over a stream.
 ghost use Rattle.std.specs.Prelude.{◌≡◌, ◌<◌, ◌∷◌, length, Some, None, IfOk, map, true};
 ghost use Rattle.syn_tokens.specs.State.{stream_at};
 ghost use Rattle.syn_tokens.specs.Step as spec;

@@ -57,7 +57,7 @@ impl<'a> Streams<'a> {
         self.list[0]
     }
 
-    // Stream `n` stands here now.
+    // Stream `n` is here now.
     pub fn put(&mut self, n: usize, paused: Paused<'a>)
         requires { n < length (state_of self.old) }
         ensures after { state_of self.new ≡ changed (state_of self.old) n (put (paused_state paused.entry)) }
@@ -161,7 +161,7 @@ impl<'a> Streams<'a> {
         self.list[n].is_open = false;
     }
 
-    // Closes the open contents inside a fork, takes stream `n` to where it stands, and spends it.
+    // Closes the open contents inside a fork, takes stream `n` to its place, and spends it.
     pub fn advance(&mut self, n: usize, fork: usize)
         requires stream { n < length (state_of self.old) }
         requires fork { fork < length (state_of self.old) }

@@ -83,7 +83,7 @@ pub fn enter<'a>(
     }
 }
 
-/// Makes a stream where stream `n` stands.
+/// Makes a stream at the place of stream `n`.
 pub fn fork<'a>(
     streams: &mut Streams<'a>,
     n: usize,
@@ -100,7 +100,7 @@ pub fn fork<'a>(
     Ok(Answer::Forked(number))
 }
 
-/// Takes stream `n` to where a fork stands, unless that is in another scope, or the stream is the fork or inside it.
+/// Takes stream `n` to the place of a fork, unless that is in another scope, or the stream is the fork or inside it.
 pub fn advance<'a>(streams: &mut Streams<'a>, n: usize, stream: Stream<'a>, fork: usize) -> Answer
     requires here { stream_at (state_of streams.old) n ≡ Some (stream_of stream) }
     requires fork { fork < length (state_of streams.old) }

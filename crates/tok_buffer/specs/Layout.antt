@@ -1,4 +1,4 @@
--- How a forest lies in a buffer, and which forest lies there.
+-- How a forest is laid out in a buffer, and which forest is there.
 use Rattle.std.specs.Prelude.{ℕ, ◌+◌, List, [], ◌∷◌, ◌++◌}
 use Rattle.tok_core.specs.declared.group.Delimiter.{Delimiter}
 use Rattle.tok_core.specs.declared.span.Span.{Span}
@@ -48,7 +48,7 @@ abbrev pub stack_entries : List Entry → List Forest → List Forest
 stack_entries [] s = s
 stack_entries (x ∷ xs) s = stack_entry x (stack_entries xs s)
 
--- the forest that lies in the entries
+-- the forest that is in the entries
 abbrev pub forest_in : List Entry → Forest
 forest_in xs = top (stack_entries xs [])
 

@@ -1,4 +1,4 @@
--- Equality of places is an equivalence, and their order a partial order that answers `Equal` where
+-- Equality of places is an equivalence, and their order a partial order that is `Equal` where
 -- they are equal.
 use Rattle.std.specs.Prelude.{◌≡◌, Bool, true, false, cond, ◌==◌, ◌&&◌, Option, Some, None, refl}
 use Rattle.std.specs.Prelude.{unwrap_or, is_some}

@@ -14,7 +14,7 @@ pub data Owner : Type 0 where
 pub data Level : Type 0 where
   level : Owner → (passed ahead : Forest) → Level
 
--- A buffer's number, the count at the scope's end, the count of what lies before, the innermost
+-- A buffer's number, the count at the scope's end, the count of what is before, the innermost
 -- level, and those around it, the scope's last.
 pub data Place : Type 0 where
   empty_place : Place

@@ -11,7 +11,7 @@ use std::fmt::{Formatter, Write};
 use tok_core::{DelimSpan, Delimiter, Group, Ident, Literal, Punct, Span, TokenStream, TokenTree};
 
 /// A place in a buffer, and the end of the scope that it is read in: the whole buffer or a group's content. It is cheap
-/// to copy, and a call that reads answers the cursor after what it read. The calls `ident`, `punct`, `literal`,
+/// to copy, and a call that reads returns the cursor after what it read. The calls `ident`, `punct`, `literal`,
 /// `lifetime`, `group` with a visible delimiter, `skip` and the peeks first enter every invisible group in front; the
 /// others don't. A cursor leaves a group that it so entered where nothing of it is left.
 #[derive(Clone, Copy)]

@@ -110,7 +110,7 @@ impl Error {
         ensures spans { IfOk result (λ e. spans_of e ≡ (start, end) ∷ []) }
         ensures text { IfOk result (λ e. IfSome (T.output message) (λ text. e ≡ error_of start end text)) }
     {
-        let text = Text::new(format!(in alloc; "{message}")?);
+        let text = Text::from_string(alloc, format!(in alloc; "{message}")?)?;
         Ok(Error {
             first: Message { start, end, text },
             more: Vec::new(alloc),
@@ -132,7 +132,7 @@ impl Error {
         Error::new2(alloc, start, end, message)
     }
 
-    /// An error of one message from one cursor to another, that is, to what lies directly before the second, or where
+    /// An error of one message from one cursor to another, that is, to what is directly before the second, or where
     /// the two are equal to what is there. Owed: both are of one buffer, and the first is not after the second.
     pub fn new_range<T: Display + Drop>(
         alloc: Global,
@@ -198,7 +198,7 @@ impl Error {
         self.first.text.as_str()
     }
 
-    /// Puts the messages of another error after these. Where memory is refused all stays as before, and the other error
+    /// Puts the messages of another error after these. After an allocation failure all is as before, and the other error
     /// is dropped.
     pub fn combine(&mut self, another: Error) -> Result<(), AllocError>
         ensures ok { OnOk result (self.new ≡ self.old ++ another) }
@@ -213,7 +213,7 @@ impl Error {
         }
     }
 
-    /// Combines with each of these errors in turn. Where memory is refused, what came before stays.
+    /// Combines with each of these errors in turn. After an allocation failure, what came before stays.
     pub fn extend<I: IntoIterator<Item = Error>>(&mut self, errors: I) -> Result<(), AllocError>
         requires { IsFiniteIterable I.into_iter_gives I.IntoIter.can_next I.IntoIter.remaining errors }
         ensures { ExtendsWithItems I.into_iter_gives I.IntoIter.next_gives AddsMessages errors self.old self.new result }

@@ -3,7 +3,9 @@ ghost use Rattle.std.specs.Prelude.{◌≡◌, ◌↔◌, ℕ, List, true, Some,
 ghost use Rattle.std.specs.Ordering.{nat_cmp};
 ghost use Rattle.std.specs.Cmp.Lexicographic.{slice_cmp};
 ghost use Rattle.std.specs.declared.cmp.Ordering.TheVariants.{Equal};
+ghost use Rattle.std.specs.Hash as fed;
 ghost use Rattle.tok_core.specs.Forest.{Forest};
+ghost use Rattle.tok_core.specs.Laws.{EqualBy, HashedBy, OrderAgrees, OrderedBy, text_order};
 ghost use Rattle.tok_buffer.specs.Cursors.{place_of, CursorsLoseNone};
 ghost use Rattle.tok_buffer.specs.Descent.{DescentsEnter};
 ghost use Rattle.tok_buffer.specs.InFront.{AheadTellsAll, AheadTellsEnds, AllAheadAtStart};
@@ -19,6 +21,7 @@ use crate::cursor::Cursor;
 use crate::lifetime::Lifetime;
 use std::alloc::{AllocError, Global};
 use std::cmp::Ordering;
+use std::hash::Hash;
 use tok_core::TokenStream;
 
 /// A buffer gives back the stream that it was made of, spans and invisible groups included.
@@ -52,6 +55,14 @@ pub fn lifetimes_in_order(left: &Lifetime, right: &Lifetime) -> (bool, Ordering)
 {
     (left == right, left.cmp(right))
 }
+
+/// Lifetimes are compared, ordered and hashed by their names, and their order agrees with equality.
+pub fn lifetimes_by_name()
+    ensures equal { EqualBy name_of ⟦<Lifetime as PartialEq>⟧.eq }
+    ensures order { OrderedBy name_of text_order ⟦<Lifetime as Ord>⟧.cmp }
+    ensures agree { OrderAgrees ⟦<Lifetime as PartialEq>⟧.eq ⟦<Lifetime as Ord>⟧.cmp ⟦<Lifetime as PartialOrd>⟧.partial_cmp }
+    ensures hash { HashedBy name_of fed.str ⟦<Lifetime as Hash>⟧.hash_input }
+{}
 
 /// Each read stays in the buffer and the scope of its cursor and lowers what remains, so a loop of reads ends.
 pub fn reads_go_on()

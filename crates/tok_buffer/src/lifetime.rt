@@ -34,14 +34,14 @@ pub struct LifetimeRef<'a> {
     pub ident: &'a Ident,
 }
 
-/// Why no lifetime is made of a text, or that memory is refused.
+/// Why no lifetime is made of a text, or that an allocation failed.
 #[derive(Clone, Copy, PartialEq, Eq, Debug)]
 pub enum LifetimeFault {
     /// N1: the text doesn't begin with an apostrophe.
     NoApostrophe,
     /// N2: nothing follows the apostrophe, or after `'r#`.
     Empty,
-    /// N3: what stands there is no identifier.
+    /// N3: what is there is no identifier.
     NotIdentifier,
     /// N4: it is one that doesn't exist as a raw identifier: `_`, `self`, `Self`, `super` or `crate` after `'r#`.
     NoRaw,

@@ -112,7 +112,7 @@ impl<'a> Spot<'a> {
         }
     }
 
-    // The spot after the entry that stands so far from a position.
+    // The spot after the entry that is so far from a position.
     fn past(buffer: &'a TokenBuffer, position: usize, length: usize, scope: usize) -> Spot<'a>
         requires in_buffer { scope ≤ weight buffer.now.forest }
         requires in_front { position + length + 1 ≤ scope }

@@ -1,6 +1,7 @@
 -- Erasure and filling, one tree at a time.
 use Rattle.std.proofs.Common.{◌≡◌, ◌∙◌, sym, ap, refl, Bool, true, false, ◌&&◌, ◌||◌}
 use Rattle.tok_core.specs.declared.group.Delimiter.TheVariants.{None}
+use Rattle.tok_core.specs.declared.span.Span.{Span}
 use Rattle.tok_core.specs.Erase.{erase}
 use Rattle.tok_core.specs.Filled.{filled, has_trees}
 use Rattle.tok_core.specs.Forest.{Tree, leaf, group, Forest, no_trees, tree, joined, turned_onto}
@@ -34,15 +35,27 @@ filled-tree (group d inside span) f = cases (filled inside) (filled f) where
   cases true b = refl
   cases false b = refl
 
-pub has_trees-tree : (t : Tree) (f : Forest) → has_trees (erase (tree t f)) ≡ (has_trees (erase (tree t no_trees)) || has_trees (erase f))
-has_trees-tree t f = ap has_trees (erase-tree t f) ∙ has_trees-joined (erase (tree t no_trees)) (erase f)
+-- a filled forest has a visible tree where it has any
+filled-first : (a b c : Bool) → ((a && b) && c) ≡ true → a ≡ true
+filled-first true b c e = refl
+filled-first false b c e = e
 
--- a loop over the trees stops where it has found one
-pub has_trees-found : (t : Tree) (f : Forest) → has_trees (erase (tree t no_trees)) ≡ true → has_trees (erase (tree t f)) ≡ true
-has_trees-found t f e = has_trees-tree t f ∙ ap (λ b. b || has_trees (erase f)) e
+filled-seen : (f : Forest) → filled f ≡ true → has_trees (erase f) ≡ has_trees f
+filled-seen no_trees e = refl
+filled-seen (tree (leaf l) f) e = refl
+filled-seen (tree (group None inside span) f) e =
+    has_trees-joined (erase inside) (erase f) ∙ ap (λ b. b || has_trees (erase f)) (filled-first (has_trees (erase inside)) (filled inside) (filled f) e)
+filled-seen (tree (group d inside span) f) e = refl
 
-pub has_trees-later : (t : Tree) (f : Forest) → has_trees (erase (tree t no_trees)) ≡ false → has_trees (erase (tree t f)) ≡ has_trees (erase f)
-has_trees-later t f e = has_trees-tree t f ∙ ap (λ b. b || has_trees (erase f)) e
+-- so an invisible group that is not empty is filled where its content is
+pub filled-invisible : (f : Forest) (span : Span) → has_trees f ≡ true → filled f ≡ filled (tree (group None f span) no_trees)
+filled-invisible f span seen = same (filled f) refl where
+  same : (b : Bool) → filled f ≡ b → b ≡ ((has_trees (erase f) && b) && true)
+  same true e = sym (ap (λ a. (a && true) && true) (filled-seen f e ∙ seen))
+  same false e = sym (none (has_trees (erase f))) where
+    none : (a : Bool) → ((a && false) && true) ≡ false
+    none true = refl
+    none false = refl
 
 pub filled-stops : (t : Tree) (f : Forest) → filled (tree t no_trees) ≡ false → filled (tree t f) ≡ false
 filled-stops t f e = filled-tree t f ∙ ap (λ b. b && filled f) e

@@ -1,6 +1,7 @@
 -- Lemmas on the lexical grammar and on the lexer.
 pub mod Takes
 pub mod Texts
+pub mod Scans
 pub mod Escapes
 pub mod Units
 pub mod Numbers
@@ -9,6 +10,8 @@ pub mod Prefixes
 pub mod Words
 pub mod Comments
 pub mod Quoting
+pub mod Tables
+pub mod Starts
 pub mod First
 pub mod Flat
 pub mod Nests

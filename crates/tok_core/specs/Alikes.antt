@@ -174,11 +174,11 @@ tree_alike_equivalence = by_image tree_alike tree_spanless tree_alike-decides
 
 -- what is fed to a hasher has no spans
 mutual
-  forest_input-spanless : (f : Forest) → forest_input f ≡ forest_input (spanless f)
+  pub forest_input-spanless : (f : Forest) → forest_input f ≡ forest_input (spanless f)
   forest_input-spanless no_trees = refl
   forest_input-spanless (tree t f) = λ i. tree_input-spanless t i ++ forest_input-spanless f i
 
-  tree_input-spanless : (t : Tree) → tree_input t ≡ tree_input (tree_spanless t)
+  pub tree_input-spanless : (t : Tree) → tree_input t ≡ tree_input (tree_spanless t)
   tree_input-spanless (leaf (ident s a)) = refl
   tree_input-spanless (leaf (punct c j a)) = refl
   tree_input-spanless (leaf (literal s a)) = refl

@@ -1,4 +1,4 @@
--- Forests in which no joint apostrophe stands at the edge of an invisible group.
+-- Forests in which no joint apostrophe is at the edge of an invisible group.
 use Rattle.std.specs.Prelude.{Bool, true, false, not, ◌&&◌, ◌==◌}
 use Rattle.tok_core.specs.declared.group.Delimiter.TheVariants.{None}
 use Rattle.tok_core.specs.declared.punct.Spacing.TheVariants.{Joint}
@@ -16,7 +16,7 @@ abbrev pub starts_invisible : Forest → Bool
 starts_invisible no_trees = false
 starts_invisible (tree t f) = is_invisible t
 
--- whether the last tree is a joint apostrophe; with no tree, the answer for what stands before
+-- whether the last tree is a joint apostrophe; with no tree, the value for what comes before
 abbrev pub ends_joint : Bool → Forest → Bool
 ends_joint before no_trees = before
 ends_joint before (tree t f) = ends_joint (is_joint_apostrophe t) f

@@ -1,4 +1,4 @@
--- A forest without its invisible groups: their content stands in their place, at every depth.
+-- A forest without its invisible groups: their content takes their place, at every depth.
 use Rattle.tok_core.specs.declared.group.Delimiter.TheVariants.{None}
 use Rattle.tok_core.specs.Forest.{leaf, group, Forest, no_trees, tree, joined}
 

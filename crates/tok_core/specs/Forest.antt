@@ -31,10 +31,11 @@ abbrev pub joined : Forest → Forest → Forest
 joined no_trees g = g
 joined (tree t f) g = tree t (joined f g)
 
--- some of the trees of one forest, from the first on, follow another's
+-- the trees of one forest that come before one that was refused follow another's
 abbrev pub AppendsFront : (old added new : Forest) → Type 0
 AppendsFront old added new =
-    (front : Forest) × (rest : Forest) × (added ≡ joined front rest) × (new ≡ joined old front)
+    (front : Forest) × (refused : Tree) × (rest : Forest)
+    × (added ≡ joined front (tree refused rest)) × (new ≡ joined old front)
 
 -- parts of a leaf or a group, with a default where it has none
 abbrev pub leaf_char : Leaf → ℕ
@@ -53,7 +54,7 @@ abbrev pub tree_inside : Tree → Forest
 tree_inside (group delimiter inside span) = inside
 tree_inside (leaf l) = no_trees
 
--- the last tree first, after what stands there
+-- the last tree first, after what is there
 abbrev pub turned_onto : Forest → Forest → Forest
 turned_onto no_trees g = g
 turned_onto (tree t f) g = turned_onto f (tree t g)

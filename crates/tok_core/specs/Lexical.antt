@@ -13,4 +13,5 @@ pub mod Items
 pub mod Meaning
 pub mod Reading
 pub mod Laws
+pub mod Starts
 pub mod Built

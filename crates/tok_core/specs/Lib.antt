@@ -4,6 +4,7 @@ pub mod Code
 pub mod Erase
 pub mod Filled
 pub mod Forest
+pub mod Laws
 pub mod Lexical
 pub mod Pending
 pub mod Seen
@@ -12,3 +13,4 @@ pub mod Spans
 pub mod Text
 pub mod TreeFalls
 pub mod Weight
+pub mod Kept

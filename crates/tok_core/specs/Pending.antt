@@ -1,6 +1,7 @@
 -- Trees that are still to be compared: lists of trees, of which the last one comes first.
-use Rattle.std.specs.Prelude.{ℕ, ◌+◌, ⊤, List, [], ◌∷◌}
+use Rattle.std.specs.Prelude.{ℕ, ◌+◌, ⊤, List, [], ◌∷◌, ◌++◌}
 use Rattle.std.specs.Borrow.{Bor}
+use Rattle.tok_core.specs.declared.erase.VisibleTrees.{VisibleTrees}
 use Rattle.tok_core.specs.declared.group.Delimiter.TheVariants.{None}
 use Rattle.tok_core.specs.declared.span.Span.{Span}
 use Rattle.tok_core.specs.declared.stream.TokenTree.{TokenTree}
@@ -13,6 +14,10 @@ use Rattle.tok_core.specs.Weight.{weight}
 abbrev pub pending : List (Bor (List TokenTree)) → Forest
 pending [] = no_trees
 pending (ts ∷ more) = joined (pending more) (erase (trees_of ts.now))
+
+-- those outside of the invisible groups that are entered, and those at hand
+abbrev pub all_of : VisibleTrees → List (Bor (List TokenTree))
+all_of v = v.outer.items ++ v.trees ∷ []
 
 abbrev pub pending_weight : List (Bor (List TokenTree)) → ℕ
 pending_weight [] = 0

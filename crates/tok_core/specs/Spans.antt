@@ -39,7 +39,7 @@ abbrev pub tree_span : Tree → Span
 tree_span (leaf l) = leaf_span l
 tree_span (group delimiter inside span) = span
 
--- the same tree, at another span; what stands inside a group stays
+-- the same tree, at another span; what is inside a group stays
 abbrev pub with_span : Span → Tree → Tree
 with_span span (leaf (ident text old)) = leaf (ident text span)
 with_span span (leaf (punct c spacing old)) = leaf (punct c spacing span)

@@ -33,7 +33,7 @@ abbrev pub is_joint : Tree → Bool
 is_joint (leaf (punct c Joint span)) = true
 is_joint t = false
 
--- the space that parts two trees, which none needs where nothing stands before, or a joint punct
+-- the space between two trees, which is not needed where nothing comes before, or a joint punct
 abbrev pub space : Bool → List ℕ
 space glued = cond glued [] (codes " ")
 

@@ -2,12 +2,12 @@
 ghost use Rattle.std.specs.Prelude.{◌≡◌, ◌≤◌, ◌+◌, ◌↔◌, false, IsTrue, IfOk, IfSome, MatchOption};
 ghost use Rattle.tok_core.specs.Clear.{clear, tree_clear, ends_joint, is_joint_apostrophe, is_invisible};
 ghost use Rattle.tok_core.specs.Erase.{erase};
-ghost use Rattle.tok_core.specs.Filled.{filled, has_trees};
+ghost use Rattle.tok_core.specs.Filled.{filled};
 ghost use Rattle.tok_core.specs.Forest.{no_trees, tree, joined, tree_delimiter};
 ghost use Rattle.tok_core.specs.Seen.{group_of, tree_of, ident_of, literal_of, punct_of};
 ghost use Rattle.tok_core.specs.Spans.{tree_span};
 ghost use Rattle.tok_core.specs.Weight.{tree_weight};
-ghost use Rattle.tok_core.specs.Pending.{pending, pending_weight, IsVisible, invisible};
+ghost use Rattle.tok_core.specs.Pending.{all_of, pending, pending_weight, IsVisible, invisible};
 ghost use Rattle.tok_core.specs.declared.span.Span.{Span};
 
 use crate::group::{Delimiter, Group};
@@ -36,40 +36,15 @@ fn is_tree_filled(next: &TokenTree) -> bool
 {
     match next {
         TokenTree::Group(group) => match group.delimiter() {
-            Delimiter::None => has_visible(group.stream()) && is_filled(group.stream()),
+            // What is filled and not empty has a visible tree.
+            Delimiter::None => !group.stream().is_empty() && is_filled(group.stream()),
             _ => is_filled(group.stream()),
         },
         _ => true,
     }
 }
 
-// Whether a visible tree stands in a stream, in invisible groups or outside.
-#[cycle(visible)]
-fn has_visible(stream: &TokenStream) -> bool
-    ensures { result ≡ has_trees (erase stream.now) }
-{
-    for next in stream.trees() {
-        if is_or_has_visible(next) {
-            return true;
-        }
-    }
-    false
-}
-
-#[cycle(visible)]
-fn is_or_has_visible(next: &TokenTree) -> bool
-    ensures { result ≡ has_trees (erase (tree (tree_of next.now) no_trees)) }
-{
-    match next {
-        TokenTree::Group(group) => match group.delimiter() {
-            Delimiter::None => has_visible(group.stream()),
-            _ => true,
-        },
-        _ => true,
-    }
-}
-
-/// Whether no joint apostrophe of a stream, at any depth, stands directly before an invisible group or last in one.
+/// Whether no joint apostrophe of a stream, at any depth, is directly before an invisible group or last in one.
 #[cycle(clear)]
 pub fn is_clear(stream: &TokenStream) -> bool
     ensures { result ≡ clear stream.now }
@@ -136,7 +111,7 @@ fn is_invisible(next: &TokenTree) -> bool
 
 /// Whether two streams are equal, spans included, but for their invisible groups. It compares the visible trees one by
 /// one and builds neither stream anew: the memory that it takes is a list entry for each invisible group around the
-/// trees at hand.
+/// trees at hand. Where there are none, it takes none.
 #[cycle(same)]
 pub fn same_visible(
     alloc: Global,
@@ -145,12 +120,16 @@ pub fn same_visible(
 ) -> Result<bool, AllocError>
     ensures { IfOk result (λ same. IsTrue same ↔ (erase left.now ≡ erase right.now)) }
 {
-    let mut ours = Vec::new(alloc);
-    let mut theirs = Vec::new(alloc);
-    ours.push(left.trees())?;
-    theirs.push(right.trees())?;
+    let mut ours = VisibleTrees {
+        trees: left.trees(),
+        outer: Vec::new(alloc),
+    };
+    let mut theirs = VisibleTrees {
+        trees: right.trees(),
+        outer: Vec::new(alloc),
+    };
     loop {
-        match (next_visible(&mut ours)?, next_visible(&mut theirs)?) {
+        match (ours.next()?, theirs.next()?) {
             (None, None) => return Ok(true),
             (Some(one), Some(other)) => {
                 if !same_tree(alloc, one, other)? {
@@ -222,29 +201,43 @@ fn same_punct(left: Punct, right: Punct) -> bool
         & (left.span() == right.span())
 }
 
-// Takes the next visible tree. On top of the stack lie the trees that come first; those of an invisible group come
-// before what follows it.
-fn next_visible<'a>(stack: &mut Vec<&'a [TokenTree]>) -> Result<Option<&'a TokenTree>, AllocError>
-    ensures erased { IfOk result (λ next. MatchOption next
-        (pending stack.old.items ≡ no_trees)
-        (λ t. pending stack.old.items ≡ joined (erase (tree (tree_of t.now) no_trees)) (pending stack.new.items))) }
-    ensures visible { IfOk result (λ next. IfSome next (λ t. IsVisible (tree_of t.now))) }
-    ensures smaller { IfOk result (λ next. IfSome next (λ t. tree_weight (tree_of t.now) + pending_weight stack.new.items ≤ pending_weight stack.old.items)) }
-{
-    while let Some(trees) = stack.pop() {
-        let Some((first, rest)) = trees.split_first() else {
-            continue;
-        };
-        stack.push(rest)?;
-        match invisible_content(first) {
-            Some(content) => stack.push(content.trees())?,
-            None => return Ok(Some(first)),
-        }
-    }
-    Ok(None)
+// The visible trees to come: those at hand, and after them those that follow each invisible group that is entered, the
+// innermost group last.
+#[derive(Drop)]
+struct VisibleTrees<'a> {
+    trees: &'a [TokenTree],
+    outer: Vec<&'a [TokenTree]>,
 }
 
-// What stands in an invisible group.
+impl<'a> VisibleTrees<'a> {
+    // Takes the next visible tree. Those of an invisible group come before what follows it.
+    fn next(&mut self) -> Result<Option<&'a TokenTree>, AllocError>
+        ensures erased { IfOk result (λ next. MatchOption next
+            (pending (all_of self.old) ≡ no_trees)
+            (λ t. pending (all_of self.old) ≡ joined (erase (tree (tree_of t.now) no_trees)) (pending (all_of self.new)))) }
+        ensures visible { IfOk result (λ next. IfSome next (λ t. IsVisible (tree_of t.now))) }
+        ensures smaller { IfOk result (λ next. IfSome next
+            (λ t. tree_weight (tree_of t.now) + pending_weight (all_of self.new) ≤ pending_weight (all_of self.old))) }
+    {
+        loop {
+            if let Some((first, rest)) = self.trees.split_first() {
+                self.trees = rest;
+                let Some(content) = invisible_content(first) else {
+                    return Ok(Some(first));
+                };
+                self.outer.push(rest)?;
+                self.trees = content.trees();
+            } else {
+                let Some(trees) = self.outer.pop() else {
+                    return Ok(None);
+                };
+                self.trees = trees;
+            }
+        }
+    }
+}
+
+// What is in an invisible group.
 fn invisible_content(next: &TokenTree) -> Option<&TokenStream>
     ensures { MatchOption result
         (IsVisible (tree_of next.now))

@@ -9,7 +9,7 @@ use crate::span::{DelimSpan, Span};
 use crate::stream::TokenStream;
 use std::alloc::AllocError;
 
-/// What stands around a group: `( .. )`, `{ .. }`, `[ .. ]`, or nothing that shows.
+/// What is around a group: `( .. )`, `{ .. }`, `[ .. ]`, or nothing that shows.
 #[derive(Clone, Copy, PartialEq, Eq, Debug)]
 pub enum Delimiter {
     Parenthesis,
@@ -72,7 +72,7 @@ impl Group {
         self.delimiter
     }
 
-    /// What stands inside, without the delimiters.
+    /// What is inside, without the delimiters.
     pub fn stream(&self) -> &TokenStream
         ensures { result.now ≡ tree_inside (group_of self.now) }
     {

@@ -1,5 +1,5 @@
 // Identifiers.
-ghost use Rattle.std.specs.Prelude.{◌≡◌, ◌++◌, string_bytes, codes, IfOk, IfErr, Err};
+ghost use Rattle.std.specs.Prelude.{◌≡◌, ◌++◌, codes, IfOk, IfErr, Err};
 ghost use Rattle.std.specs.Str.{chars};
 ghost use Rattle.tok_core.specs.Forest.{ident};
 ghost use Rattle.tok_core.specs.Lexical.Words.{IsIdentifier, HasRaw};
@@ -22,7 +22,7 @@ pub struct Ident {
     span: Span,
 }
 
-/// Why no identifier is made: the text is none, or memory is refused.
+/// Why no identifier is made: the text is none, or an allocation failed.
 #[derive(Clone, Copy, PartialEq, Eq, Debug)]
 pub enum MakeFault {
     Refused,
@@ -57,7 +57,7 @@ impl Ident {
         if !is_identifier(text) {
             return Err(MakeFault::Refused);
         }
-        let text = String::from_str(alloc, text)?;
+        let text = Text::from_str(alloc, text)?;
         Ok(Ident::unchecked(text, span))
     }
 
@@ -74,17 +74,14 @@ impl Ident {
         let mut raw = String::with_capacity(alloc, text.len().saturating_add(2))?;
         raw.push_str("r#")?;
         raw.push_str(text)?;
-        Ok(Ident::unchecked(raw, span))
+        Ok(Ident::unchecked(Text::from_string(alloc, raw)?, span))
     }
 
     // Without a test of the text.
-    pub(crate) fn unchecked(text: String, span: Span) -> Ident
-        ensures { ident_of result ≡ ident (string_bytes text) span }
+    pub(crate) fn unchecked(text: Text, span: Span) -> Ident
+        ensures { ident_of result ≡ ident text span }
     {
-        Ident {
-            text: Text::new(text),
-            span,
-        }
+        Ident { text, span }
     }
 
     pub fn as_str(&self) -> &str
@@ -111,7 +108,7 @@ impl Ident {
         ensures { IfOk result (λ i. ident_of i
             ≡ ident (unraw (leaf_text (ident_of self.now))) (leaf_span (ident_of self.now))) }
     {
-        let text = String::from_str(alloc, without_raw(self.as_str()))?;
+        let text = Text::from_str(alloc, without_raw(self.as_str()))?;
         Ok(Ident::unchecked(text, self.span))
     }
 

@@ -2,7 +2,7 @@
 ghost use Rattle.std.specs.Prelude.{◌≡◌, MatchResult, IfOk, IfErr};
 ghost use Rattle.std.specs.Str.{chars};
 ghost use Rattle.tok_core.specs.Forest.{Forest};
-ghost use Rattle.tok_core.specs.Lexical.Built.{EndsInOther};
+ghost use Rattle.tok_core.specs.Lexical.Starts.{rules_of};
 ghost use Rattle.tok_core.specs.Lexical.Errors.{OnRefused};
 ghost use Rattle.tok_core.specs.Lexical.Reading.{Reads, IsRefused};
 ghost use Rattle.tok_core.specs.Lexical.Rules.{plain_rules, marked_rules};
@@ -18,16 +18,18 @@ mod nest;
 mod numbers;
 mod prefixes;
 mod rule;
+mod start;
 mod strings;
 mod text;
 mod words;
 
 use crate::stream::TokenStream;
 pub(crate) use classes::is_punct_or_apostrophe;
+use classes::past_whitespace;
 use error::Refusal;
 pub use error::{LexError, LexFault};
 use nest::Nest;
-use rule::{MARKED, PLAIN, Rule, first_rule};
+use rule::{Rule, Rules, first_rule};
 use std::alloc::Global;
 use text::front_of;
 pub(crate) use words::{has_no_raw, is_identifier};
@@ -37,15 +39,20 @@ pub(crate) use words::{has_no_raw, is_identifier};
 // One piece after the other is taken off the front, so the time is linear in the text: a piece is looked at a fixed number of
 // times. A rule that looks far and then doesn't fit is followed by a refusal, as an unclosed comment or string is; or what
 // it looks at is a run that no later piece goes over again: the `#` after an `r`, the marks after a punct.
-fn read(alloc: Global, source: u32, rules: &[Rule], text: &str) -> Result<TokenStream, LexFault>
-    requires all { EndsInOther rules.now }
-    ensures reads { IfOk result (λ stream. Reads rules.now source (chars text.now) stream) }
-    ensures refuses { IfErr result (λ fault. OnRefused fault (IsRefused rules.now source (chars text.now))) }
+fn read(alloc: Global, source: u32, rules: Rules, text: &str) -> Result<TokenStream, LexFault>
+    ensures reads { IfOk result (λ stream. Reads (rules_of rules) source (chars text.now) stream) }
+    ensures refuses { IfErr result (λ fault. OnRefused fault (IsRefused (rules_of rules) source (chars text.now))) }
 {
     let mut nest = Nest::new(alloc, source);
     let mut rest = text;
     let mut at = 0usize;
     while let Some((rule, after)) = first_rule(rules, rest) {
+        if let Rule::Whitespace = rule {
+            let next = past_whitespace(after);
+            at += rest.len() - next.len();
+            rest = next;
+            continue;
+        }
         let piece = front_of(rest, after);
         let end = at + rule.width(piece);
         match nest.take_in(rule, at, end, piece, after) {
@@ -71,18 +78,18 @@ fn read(alloc: Global, source: u32, rules: &[Rule], text: &str) -> Result<TokenS
 
 /// The forest of a text, which is the source of this number.
 pub fn lex(alloc: Global, source: u32, text: &str) -> Result<TokenStream, LexFault>
-    // What is answered is what the grammar reads.
+    // What is returned is what the grammar reads.
     ensures reads { IfOk result (λ stream. Reads plain_rules source (chars text.now) stream) }
-    // What the grammar reads is answered, unless memory runs out.
+    // What the grammar reads is returned, unless an allocation fails.
     ensures only_read { (forest : Forest) → Reads plain_rules source (chars text.now) forest →
         MatchResult result (λ stream. stream ≡ forest) (λ fault. fault ≡ LexFault.Memory) }
     // A refusal is the grammar's.
     ensures refuses { IfErr result (λ fault. OnRefused fault (IsRefused plain_rules source (chars text.now))) }
-    // What the grammar refuses is refused so, unless memory runs out.
+    // What the grammar refuses is refused so, unless an allocation fails.
     ensures only_refused { (error : LexError) → IsRefused plain_rules source (chars text.now) error →
         MatchResult result (λ _. ⊥) (λ fault. OnRefused fault (λ other. other ≡ error)) }
 {
-    read(alloc, source, &PLAIN, text)
+    read(alloc, source, Rules::Plain, text)
 }
 
 /// The forest of a text in which the marks « and » open and close invisible groups. Its bytes are counted as if these
@@ -95,5 +102,5 @@ pub fn lex_marked(alloc: Global, source: u32, text: &str) -> Result<TokenStream,
     ensures only_refused { (error : LexError) → IsRefused marked_rules source (chars text.now) error →
         MatchResult result (λ _. ⊥) (λ fault. OnRefused fault (λ other. other ≡ error)) }
 {
-    read(alloc, source, &MARKED, text)
+    read(alloc, source, Rules::Marked, text)
 }

@@ -55,17 +55,15 @@ impl Literal {
             push_escaped(&mut out, c)?;
         }
         out.push('"')?;
-        Ok(Literal::unchecked(out, Span::call_site()))
+        let text = Text::from_string(alloc, out)?;
+        Ok(Literal::unchecked(text, Span::call_site()))
     }
 
     // Without a test of the text.
-    pub(crate) fn unchecked(text: String, span: Span) -> Literal
-        ensures { literal_of result ≡ literal (string_bytes text) span }
+    pub(crate) fn unchecked(text: Text, span: Span) -> Literal
+        ensures { literal_of result ≡ literal text span }
     {
-        Literal {
-            text: Text::new(text),
-            span,
-        }
+        Literal { text, span }
     }
 
     pub fn as_str(&self) -> &str

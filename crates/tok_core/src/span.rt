@@ -1,4 +1,4 @@
-// Where a token stands.
+// Where a token is.
 ghost use Rattle.std.specs.Prelude.{◌≡◌, ◌≤◌};
 ghost use Rattle.tok_core.specs.Spans as spec;
 
@@ -10,7 +10,7 @@ enum Place {
 }
 
 /// The place of a token: the call site, or a range of bytes of a numbered source. A token made by hand, with no text
-/// after it, stands at the call site.
+/// after it, is at the call site.
 #[derive(Clone, Copy, PartialEq, Eq, Debug)]
 pub struct Span {
     place: Place,
@@ -72,7 +72,7 @@ impl Span {
 }
 
 impl DelimSpan {
-    /// The span of a group that stands at `span`.
+    /// The span of a group at `span`.
     pub fn new(span: Span) -> DelimSpan
         ensures { spec.whole_span result ≡ span }
     {

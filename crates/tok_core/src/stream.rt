@@ -2,6 +2,7 @@
 ghost use Rattle.std.specs.Prelude.{◌≡◌, not, min, IfOk, OnOk, OnErr};
 ghost use Rattle.tok_core.specs.Filled.{has_trees};
 ghost use Rattle.tok_core.specs.Forest.{joined, no_trees, tree};
+ghost use Rattle.tok_core.specs.Laws.{IsTheOnly};
 ghost use Rattle.tok_core.specs.Seen.{tree_of, trees_of};
 ghost use Rattle.tok_core.specs.Spans.{tree_span, with_span};
 ghost use Rattle.tok_core.specs.Weight.{weight, tree_weight};
@@ -64,12 +65,14 @@ impl TokenStream {
         }
     }
 
-    /// The allocator that the trees' memory comes from.
-    pub fn allocator(&self) -> Global {
+    /// The allocator that the trees' memory comes from. A program has one `Global`, so each stream's is the same.
+    pub fn allocator(&self) -> Global
+        ensures { IsTheOnly result }
+    {
         self.alloc
     }
 
-    /// Puts a tree after the others. Where memory is refused all stays as before, and the tree is dropped.
+    /// Puts a tree after the others. After an allocation failure all is as before, and the tree is dropped.
     pub fn append(&mut self, next: TokenTree) -> Result<(), AllocError>
         ensures ok { OnOk result (self.new ≡ joined self.old (tree (tree_of next) no_trees)) }
         ensures err { OnErr result (self.new ≡ self.old) }

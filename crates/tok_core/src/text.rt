@@ -1,53 +1,110 @@
 // A text that contracts see as its bytes, so that a copy equals its source.
-ghost use Rattle.std.specs.Prelude.{◌≡◌, nat_eq, IfOk, Some};
+ghost use Rattle.std.specs.Prelude.{◌≡◌, ◌≤◌, length, nat_eq, string_bytes, IfOk, Some};
 ghost use Rattle.std.specs.Cmp as compared;
 ghost use Rattle.std.specs.Cmp.Lexicographic.{pointwise, slice_cmp, nat_list_eq_equiv, nat_list_cmp_total, texts_ties, texts_po};
 ghost use Rattle.std.specs.Hash as fed;
 ghost use Rattle.std.specs.Ordering.{nat_cmp};
 ghost use Rattle.std.proofs.Common.{rules};
 
-use std::alloc::AllocError;
+use std::alloc::{AllocError, Global};
 use std::cmp::Ordering;
 use std::hash::{Hash, Hasher};
 use std::marker::Model;
+use std::str::from_utf8;
 
-/// A text on the heap.
+// A text of up to 14 bytes stands in place, and a longer one on the heap.
+#[derive(Drop)]
+enum Node {
+    Short(u8, [u8; 14]),
+    Long(Box<String>),
+}
+
+/// A text. It takes 16 bytes, and memory on the heap only if it is longer than 14.
 #[derive(Drop)]
 pub struct Text {
-    inner: String,
+    node: Node,
+    alloc: Global,
 }
 
 impl Model for Text {
-    ghost use Rattle.std.specs.Prelude.{List, ℕ, string_bytes};
+    ghost use Rattle.std.specs.Prelude.{List, ℕ};
 
     ghost Value = { List ℕ };
 
-    ghost view = { λ t. string_bytes t.inner };
+    ghost use Rattle.tok_core.specs.Kept.{bytes_of, IsKept};
+
+    ghost view = { λ t. bytes_of t.node };
+
+    ghost invariant = { λ t. IsKept t.node };
 }
 
 impl Text {
-    ghost use Rattle.std.specs.Prelude.{string_bytes};
-
-    /// Takes over a string.
-    pub fn new(inner: String) -> Text
-        ensures { result ≡ string_bytes inner }
+    /// A copy of this text.
+    pub fn from_str(alloc: Global, text: &str) -> Result<Text, AllocError>
+        ensures { IfOk result (λ t. t ≡ text.now) }
     {
-        Text { inner }
+        if text.len() <= 14 {
+            return Ok(Text::short(alloc, text));
+        }
+        Text::long(alloc, String::from_str(alloc, text)?)
+    }
+
+    /// The text of a string, which a longer text takes over.
+    pub fn from_string(alloc: Global, text: String) -> Result<Text, AllocError>
+        ensures { IfOk result (λ t. t ≡ string_bytes text) }
+    {
+        if text.len() <= 14 {
+            return Ok(Text::short(alloc, text.as_str()));
+        }
+        Text::long(alloc, text)
+    }
+
+    fn short(alloc: Global, text: &str) -> Text
+        requires { length text.now ≤ 14 }
+        ensures { result ≡ text.now }
+    {
+        let mut bytes = [0u8; 14];
+        let len = text.len();
+        bytes[..len].copy_from_slice(text.as_bytes());
+        Text {
+            node: Node::Short(len as u8, bytes),
+            alloc,
+        }
+    }
+
+    fn long(alloc: Global, text: String) -> Result<Text, AllocError>
+        ensures { IfOk result (λ t. t ≡ string_bytes text) }
+    {
+        let node = Node::Long(Box::new(alloc, text)?);
+        Ok(Text { node, alloc })
     }
 
     pub fn as_str(&self) -> &str
         ensures { result.now ≡ self.now }
     {
-        self.inner.as_str()
+        match &self.node {
+            Node::Short(len, bytes) => match from_utf8(&bytes[..*len as usize]) {
+                Ok(text) => text,
+                Err(_) => unreachable!(),
+            },
+            Node::Long(text) => text.as_str(),
+        }
     }
 
-    /// A copy in memory of its own.
+    /// A copy, with memory of its own where it takes any.
     pub fn clone(&self) -> Result<Text, AllocError>
         ensures { IfOk result (λ t. t ≡ self.now) }
     {
-        Ok(Text {
-            inner: self.inner.clone()?,
-        })
+        match &self.node {
+            Node::Short(len, bytes) => Ok(Text {
+                node: Node::Short(*len, *bytes),
+                alloc: self.alloc,
+            }),
+            Node::Long(text) => Text::long(
+                self.alloc,
+                String::from_str(self.alloc, text.as_str())?,
+            ),
+        }
     }
 }
 

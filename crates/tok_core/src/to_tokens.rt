@@ -15,8 +15,8 @@ pub trait ToTokens {
     // The trees that it is written as.
     ghost printed: { Self → Forest };
 
-    /// Puts the tokens of this value after the others. Where memory is refused, those that were put there before
-    /// the refusal stay.
+    /// Puts the tokens of this value after the others. After an allocation failure, those that were put there before
+    /// the refusal stay, and at least one is missing. A leaf and a group leave all as before.
     fn to_tokens(&self, tokens: &mut TokenStream) -> Result<(), AllocError>
         ensures ok { OnOk result (tokens.new ≡ joined tokens.old (printed self.now)) }
         ensures err { OnErr result (AppendsFront tokens.old (printed self.now) tokens.new) };
@@ -30,7 +30,7 @@ pub trait ToTokens {
         Ok(tokens)
     }
 
-    /// The same, and the value is let go.
+    /// The same of a value that is handed over, whose own tokens may be taken in place of copies.
     fn into_token_stream(self, alloc: Global) -> Result<TokenStream, AllocError>
     where
         Self: Sized + Drop,
@@ -40,11 +40,24 @@ pub trait ToTokens {
     }
 }
 
+// A stream of one tree.
+fn alone(alloc: Global, only: TokenTree) -> Result<TokenStream, AllocError>
+    ensures { IfOk result (λ tokens. tokens ≡ tree (tree_of only) no_trees) }
+{
+    let mut tokens = TokenStream::new(alloc);
+    tokens.append(only)?;
+    Ok(tokens)
+}
+
 impl ToTokens for Ident {
     ghost printed = { λ i. tree (leaf (ident_of i)) no_trees };
 
     fn to_tokens(&self, tokens: &mut TokenStream) -> Result<(), AllocError> {
         tokens.append(TokenTree::Ident(self.clone()?))
+    }
+
+    fn into_token_stream(self, alloc: Global) -> Result<TokenStream, AllocError> {
+        alone(alloc, TokenTree::Ident(self))
     }
 }
 
@@ -62,6 +75,10 @@ impl ToTokens for Literal {
     fn to_tokens(&self, tokens: &mut TokenStream) -> Result<(), AllocError> {
         tokens.append(TokenTree::Literal(self.clone()?))
     }
+
+    fn into_token_stream(self, alloc: Global) -> Result<TokenStream, AllocError> {
+        alone(alloc, TokenTree::Literal(self))
+    }
 }
 
 impl ToTokens for Group {
@@ -70,6 +87,10 @@ impl ToTokens for Group {
     fn to_tokens(&self, tokens: &mut TokenStream) -> Result<(), AllocError> {
         tokens.append(TokenTree::Group(self.clone()?))
     }
+
+    fn into_token_stream(self, alloc: Global) -> Result<TokenStream, AllocError> {
+        alone(alloc, TokenTree::Group(self))
+    }
 }
 
 impl ToTokens for TokenTree {
@@ -77,6 +98,10 @@ impl ToTokens for TokenTree {
 
     fn to_tokens(&self, tokens: &mut TokenStream) -> Result<(), AllocError> {
         tokens.append(self.clone()?)
+    }
+
+    fn into_token_stream(self, alloc: Global) -> Result<TokenStream, AllocError> {
+        alone(alloc, self)
     }
 }
 
@@ -88,5 +113,10 @@ impl ToTokens for TokenStream {
             tokens.append(next.clone()?)?;
         }
         Ok(())
+    }
+
+    // No memory is needed: the stream is what it is written as.
+    fn into_token_stream(self, _alloc: Global) -> Result<TokenStream, AllocError> {
+        Ok(self)
     }
 }

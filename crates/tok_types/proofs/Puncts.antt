@@ -3,7 +3,7 @@ use Rattle.std.proofs.Common.{◌≡◌, ◌∙◌, ◌<◌, ◌≤◌, ◌+◌,
 use Rattle.std.specs.Prelude.{◌==◌}
 use Rattle.std.specs.List.{list_all}
 use Rattle.std.proofs.lemmas.Bool.{cond-true, cond-false, eq-eqb, eqb-false, ne_eqb}
-use Rattle.std.proofs.lemmas.List.{take-append-drop, take_all, take_more}
+use Rattle.std.proofs.lemmas.List.{drop_more, take-append-drop, take_all, take_more}
 use Rattle.tok_core.specs.declared.span.Span.{Span}
 use Rattle.tok_core.specs.Forest.{Tree, leaf, punct, Forest, no_trees, tree, forest, joined, AppendsFront}
 use Rattle.tok_core.specs.Spans.{call_site}
@@ -73,11 +73,19 @@ module _ (cs : List ℕ) (ss : List Span) (h : length cs ≡ length ss) (all : l
   puncts_done old new i past e =
       e ∙ ap (λ ts. joined old (forest ts)) (take_all i (joint_puncts cs ss) (omega (arith, h, past, puncts-length cs ss h))) ∙ ap (joined old) (sym whole)
 
-  -- or the first of them
-  pub puncts_stopped : (old new : Forest) (i : ℕ) → new ≡ joined old (forest (take i (joint_puncts cs ss))) → AppendsFront old (puncts cs ss) new
-  puncts_stopped old new i e =
+  -- or those before one that was refused
+  pub puncts_stopped : (old new : Forest) (i : ℕ) → i < length ss → new ≡ joined old (forest (take i (joint_puncts cs ss))) → AppendsFront old (puncts cs ss) new
+  puncts_stopped old new i low e =
       let ts = joint_puncts cs ss in
-      (forest (take i ts), forest (drop i ts), whole ∙ ap forest (sym (take-append-drop i ts)) ∙ forest-append (take i ts) (drop i ts), e)
+      let none : Tree = leaf (punct 0 (spacing true) call_site) in
+      let t : Tree = get_or ts i none in
+      let here : drop i ts ≡ t ∷ drop (i + 1) ts = drop_more ts i none (omega (arith, h, low, puncts-length cs ss h)) in (
+        forest (take i ts),
+        t,
+        forest (drop (i + 1) ts),
+        whole ∙ ap forest (sym (take-append-drop i ts)) ∙ forest-append (take i ts) (drop i ts) ∙ ap (λ us. joined (forest (take i ts)) (forest us)) here,
+        e,
+      )
 
 -- nothing is written where the lengths differ, or where a character is no punct's
 nothing : (old : Forest) (cs : List ℕ) (ss : List Span) → (length cs == length ss && list_all is_punct_or_apostrophe cs) ≡ false → old ≡ joined old (puncts cs ss)

@@ -1,17 +1,18 @@
 -- The texts of the tables are ASCII, and those of keywords are identifiers.
 use Rattle.std.proofs.Common.{◌≡◌, ◌∙◌, ◌<◌, sym, ap, subst, refl, ℕ, zero, suc, Bool, true, false, ◌&&◌, ◌||◌, cond, List, [], ◌∷◌, get_or, length, inl, inr, arith, eqb-true, encode_utf8_all}
-use Rattle.std.specs.Prelude.{codes, nat_lt, slice_index, ◌==◌}
+use Rattle.std.specs.Prelude.{codes, nat_lt, slice_index, ◌==◌, Result, OnErr}
 use Rattle.std.specs.List.{list_all}
 use Rattle.std.specs.Char.{is_ascii_alphabetic, is_ascii_alphanumeric}
 use Rattle.std.specs.Str.{chars, IsUtf8}
-use Rattle.std.proofs.lemmas.Bool.{false≢true, ltb-true}
+use Rattle.std.proofs.lemmas.Bool.{eqb-false, false≢true, ltb-true}
 use Rattle.std.proofs.lemmas.List.{get_or_past}
 use Rattle.std.proofs.lemmas.Str.{chars-IsAscii, chars-nil, encodes-chars}
 use Rattle.unicode_ident.specs.Ident.{is_xid_continue}
 use Rattle.unicode_ident.proofs.IdentLemmas.{is_xid_start-ascii, is_xid_continue-ascii}
 use Rattle.tok_core.specs.Lexical.Words.{IsIdentifier, IsSuffix}
 use Rattle.tok_core.specs.declared.span.Span.{Span}
-use Rattle.tok_core.specs.Forest.{no_trees}
+use Rattle.tok_core.specs.Forest.{AppendsFront, Forest, ident, leaf, no_trees}
+use Rattle.tok_core.proofs.Fronts.{none_appended}
 use Rattle.tok_types.specs.Printed.{word}
 use Rattle.tok_types.proofs.Searches.{below_or_not}
 use Rattle.tok_types.specs.Texts.{keywords, keyword_text, punctuations, punctuation_text, punctuation_word}
@@ -97,6 +98,11 @@ suffix-identifier t u h (inr word) = word
 pub word-empty : (t : List ℕ) (span : Span) → (length t == 0) ≡ true → word t span ≡ no_trees
 word-empty [] span h = refl
 word-empty (c ∷ cs) span h = absurd (omega (arith, eqb-true (length (c ∷ cs)) 0 h))
+
+-- where a word that is written is refused, nothing of it went out
+pub word-refused : {T E : Type 0} (r : Result T E) (t : List ℕ) (span : Span) (old new : Forest) → (length t == 0) ≡ false → OnErr r (new ≡ old) → OnErr r (AppendsFront old (word t span) new)
+word-refused r [] span old new h e = absurd (eqb-false 0 0 h refl)
+word-refused r (c ∷ cs) span old new h e = none_appended r old (leaf (ident (c ∷ cs) span)) no_trees new e
 
 pub underscore-identifier : IsIdentifier (chars (codes "_"))
 underscore-identifier = word-chars (codes "_") refl refl

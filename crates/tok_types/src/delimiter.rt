@@ -48,14 +48,14 @@ impl Paren {
         Paren { span }
     }
 
-    /// Of a group that stands at `span`.
+    /// Of a group at `span`.
     pub fn from_span(span: Span) -> Self
         ensures { whole_span result.span ≡ span }
     {
         Paren::new(DelimSpan::new(span))
     }
 
-    /// Writes a group of these delimiters round what `f` writes. Where memory is refused, or `f` answers a refusal, nothing
+    /// Writes a group of these delimiters round what `f` writes. Where an allocation fails or `f` returns an error, nothing
     /// is written.
     pub fn surround<F>(&self, tokens: &mut TokenStream, f: F) -> Result<(), AllocError>
     where
@@ -112,14 +112,14 @@ impl Brace {
         Brace { span }
     }
 
-    /// Of a group that stands at `span`.
+    /// Of a group at `span`.
     pub fn from_span(span: Span) -> Self
         ensures { whole_span result.span ≡ span }
     {
         Brace::new(DelimSpan::new(span))
     }
 
-    /// Writes a group of these delimiters round what `f` writes. Where memory is refused, or `f` answers a refusal, nothing
+    /// Writes a group of these delimiters round what `f` writes. Where an allocation fails or `f` returns an error, nothing
     /// is written.
     pub fn surround<F>(&self, tokens: &mut TokenStream, f: F) -> Result<(), AllocError>
     where
@@ -176,14 +176,14 @@ impl Bracket {
         Bracket { span }
     }
 
-    /// Of a group that stands at `span`.
+    /// Of a group at `span`.
     pub fn from_span(span: Span) -> Self
         ensures { whole_span result.span ≡ span }
     {
         Bracket::new(DelimSpan::new(span))
     }
 
-    /// Writes a group of these delimiters round what `f` writes. Where memory is refused, or `f` answers a refusal, nothing
+    /// Writes a group of these delimiters round what `f` writes. Where an allocation fails or `f` returns an error, nothing
     /// is written.
     pub fn surround<F>(&self, tokens: &mut TokenStream, f: F) -> Result<(), AllocError>
     where
@@ -240,14 +240,14 @@ impl Group {
         Group { span }
     }
 
-    /// Of a group that stands at `span`.
+    /// Of a group at `span`.
     pub fn from_span(span: Span) -> Self
         ensures { result.span ≡ span }
     {
         Group::new(span)
     }
 
-    /// Writes a group of these delimiters round what `f` writes. Where memory is refused, or `f` answers a refusal, nothing
+    /// Writes a group of these delimiters round what `f` writes. Where an allocation fails or `f` returns an error, nothing
     /// is written.
     pub fn surround<F>(&self, tokens: &mut TokenStream, f: F) -> Result<(), AllocError>
     where

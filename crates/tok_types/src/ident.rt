@@ -1,6 +1,6 @@
 // Identifiers of tokens.
 ghost use Rattle.std.specs.Prelude.{◌≡◌, codes, IfOk, OnOk, OnErr};
-ghost use Rattle.tok_core.specs.Forest.{ident, joined};
+ghost use Rattle.tok_core.specs.Forest.{AppendsFront, ident, joined};
 ghost use Rattle.tok_core.specs.Lexical.Words.{IsIdentifier, IsSuffix};
 ghost use Rattle.tok_core.specs.Seen.{ident_of};
 ghost use Rattle.std.specs.Str.{chars};
@@ -27,7 +27,7 @@ pub fn identifier(alloc: Global, text: &str, span: Span) -> Result<Ident, AllocE
 pub fn append_word(text: &str, span: Span, tokens: &mut TokenStream) -> Result<(), AllocError>
     requires { IsSuffix (chars text.now) }
     ensures ok { OnOk result (tokens.new ≡ joined tokens.old (word text.now span)) }
-    ensures err { OnErr result (tokens.new ≡ tokens.old) }
+    ensures err { OnErr result (AppendsFront tokens.old (word text.now span) tokens.new) }
 {
     if text.is_empty() {
         return Ok(());

@@ -1,4 +1,4 @@
-//! Laws of token types. Each stands as the contract of a function that does nothing.
+//! Laws of token types. Each is the contract of a function that does nothing.
 ghost use Rattle.std.specs.Prelude.{◌≡◌, ◌≤◌, length};
 ghost use Rattle.tok_types.specs.Laws.{AreEqual, WriteNothing, IsNeverFound};
 ghost use Rattle.tok_types.specs.Texts.{punctuation_text};

@@ -1,4 +1,4 @@
-// Where a cursor stands.
+// Where a cursor is.
 use crate::cursor::Cursor;
 use tok_core::{Delimiter, Span};
 
@@ -39,7 +39,7 @@ impl<'a> Cursor<'a> {
         }
     }
 
-    /// The span of what lies directly before the cursor: a leaf's, the closing span of a group that has been passed, or
+    /// The span of what is directly before the cursor: a leaf's, the closing span of a group that has been passed, or
     /// at the start of a group's content the whole group's. At the buffer's start and for the empty cursor it is `span`.
     pub fn prev_span(self) -> Span
         ensures { result ≡ previous_span (place_of self.entry) }
@@ -51,7 +51,7 @@ impl<'a> Cursor<'a> {
     }
 
     /// The first visible tree that is left: its span, a group's whole, and the delimiter that was wanted in its place.
-    /// That is the scope's, or `Delimiter::None` where the tree lies in an invisible group that has not been entered.
+    /// That is the scope's, or `Delimiter::None` where the tree is in an invisible group that has not been entered.
     pub fn leftover(self) -> Option<(Span, Delimiter)>
         ensures { left_of result ≡ leftover (place_of self.entry) }
     {

@@ -26,7 +26,7 @@ impl<'a> Spot<'a> {
         }
     }
 
-    // The first visible tree from a position on: whether it lies in a group that opens on the way, and its span.
+    // The first visible tree from a position on: whether it is in a group that opens on the way, and its span.
     fn scan(buffer: &TokenBuffer, from: usize, scope: usize) -> Option<(bool, Span)>
         requires in_buffer { scope ≤ weight buffer.now.forest }
         requires within { IsTrue (in_scope buffer.now.forest from scope) }

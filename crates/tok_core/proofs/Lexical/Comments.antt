@@ -1,7 +1,11 @@
 -- The steps of the loop over a nested comment.
 use Rattle.std.proofs.Common.{◌≡◌, ◌∙◌, ℕ, zero, suc, ◌+◌, ◌-◌, ◌<◌, List, [], ◌∷◌, ◌++◌, refl, sym, ap, subst, arith, append_assoc, true, rules, tests}
 use Rattle.std.proofs.lemmas.List.{append-nil, append_cancel_left}
-use Rattle.tok_core.specs.Lexical.Pieces.{Takes}
+use Rattle.std.proofs.Common.{Bool, false}
+use Rattle.std.specs.Prelude.{◌==◌, ◌||◌, ◌&&◌, not}
+use Rattle.std.specs.List.{list_all}
+use Rattle.std.proofs.lemmas.Bool.{false≢true, eq-eqb}
+use Rattle.tok_core.specs.Lexical.Pieces.{Takes, Skips, Stops, is_neither}
 use Rattle.tok_core.specs.Lexical.Comments.{IsPlain, Closes, done, nested, ended, plain, IsBlockComment, is_not_line_feed}
 
 -- a front of the start closes one comment just where what is left of it, at the rest, closes `depth`
@@ -68,6 +72,39 @@ step_plain start rest inner front (suc n) x l s a b e =
     let p : IsPlain (x ∷ inner) = record { opens_none = λ more f. a more (e ∙ f); closes_none = λ more f. b more (e ∙ f) } in
     step start rest front (x ∷ []) inner (suc n) (suc n) s e (λ tail after f c. plain (plain_front x inner tail after p f) c) (λ tail after f c. plain_more n tail after inner x p f c)
 
+pub neither_first : (a b c : ℕ) (cs : List ℕ) → list_all (is_neither a b) (c ∷ cs) ≡ true → (c ≡ a → ⊥) × (c ≡ b → ⊥) × (list_all (is_neither a b) cs ≡ true)
+neither_first a b c cs h = go (c == a) (c == b) refl refl h
+  where
+    go : (p q : Bool) → (c == a) ≡ p → (c == b) ≡ q → not (p || q) && list_all (is_neither a b) cs ≡ true → (c ≡ a → ⊥) × (c ≡ b → ⊥) × (list_all (is_neither a b) cs ≡ true)
+    go true q e f k = absurd (false≢true k)
+    go false true e f k = absurd (false≢true k)
+    go false false e f k = (λ i. false≢true (sym e ∙ eq-eqb c a i), λ i. false≢true (sym f ∙ eq-eqb c b i), k)
+
+-- a run of other characters
+pub step_run : (start rest inner front run : List ℕ) (depth x : ℕ) → 0 < depth → Stands start rest front depth → rest ≡ x ∷ (run ++ inner) → (x ≡ 47 → ⊥) → (x ≡ 42 → ⊥) → list_all (is_neither 42 47) run ≡ true → Stands start inner (front ++ x ∷ run) depth
+step_run start rest inner front [] depth x l s e a b h =
+    step_plain start rest inner front depth x l s (λ more f. a (heads _ _ _ _ (sym e ∙ f))) (λ more f. b (heads _ _ _ _ (sym e ∙ f))) e
+step_run start rest inner front (y ∷ run) depth x l s e a b h =
+    let one = step_plain start rest (y ∷ (run ++ inner)) front depth x l s (λ more f. a (heads _ _ _ _ (sym e ∙ f))) (λ more f. b (heads _ _ _ _ (sym e ∙ f))) e in
+    let n = neither_first 42 47 y run h in
+    subst (λ w. Stands start inner w depth) (append_assoc front (x ∷ []) (y ∷ run)) (step_run start (y ∷ (run ++ inner)) inner (front ++ x ∷ []) run depth y l one refl n.1 n.0 n.2)
+
+tails : (a b : ℕ) (x y : List ℕ) → a ∷ x ≡ b ∷ y → x ≡ y
+tails a b x y e = cc
+
+pub both_marks : (rest after inner : List ℕ) (x a b : ℕ) → rest ≡ x ∷ after → x ≡ a → after ≡ b ∷ inner → rest ≡ a ∷ b ∷ inner
+both_marks rest after inner x a b e f g = e ∙ ap (λ w. w ∷ after) f ∙ ap (λ w. a ∷ w) g
+
+-- a slash that opens none
+pub step_slash : (start rest after front : List ℕ) (depth x : ℕ) → 0 < depth → Stands start rest front depth → rest ≡ x ∷ after → x ≡ 47 → ((more : List ℕ) → after ≡ 42 ∷ more → ⊥) → Stands start after (front ++ x ∷ []) depth
+step_slash start rest after front depth x l s e f misses =
+    step_plain start rest after front depth x l s (λ more g. misses more (tails x 47 _ _ (sym e ∙ g))) (λ more g. absurd (omega (arith, heads x 42 _ _ (sym e ∙ g)))) e
+
+-- an asterisk that closes none
+pub step_asterisk : (start rest after front : List ℕ) (depth x : ℕ) → 0 < depth → Stands start rest front depth → rest ≡ x ∷ after → x ≡ 42 → ((more : List ℕ) → after ≡ 47 ∷ more → ⊥) → Stands start after (front ++ x ∷ []) depth
+step_asterisk start rest after front depth x l s e f misses =
+    step_plain start rest after front depth x l s (λ more g. absurd (omega (arith, heads x 47 _ _ (sym e ∙ g)))) (λ more g. misses more (tails x 42 _ _ (sym e ∙ g))) e
+
 closed_none : (n : ℕ) (tail : List ℕ) → n ≡ 0 → Closes n tail → tail ≡ []
 closed_none zero tail z done = refl
 closed_none (suc n) tail z c = absurd (omega arith)
@@ -89,3 +126,22 @@ takes_block text start rest front depth e z s = (
 
 pub not_line_feed : (c : ℕ) → (c ≡ 10 → ⊥) → is_not_line_feed c ≡ true
 not_line_feed c h = search (rules, tests)
+
+line_all : (cs : List ℕ) → list_all (is_neither 10 10) cs ≡ list_all is_not_line_feed cs
+line_all [] = refl
+line_all (c ∷ cs) = ap (λ b. not b && list_all (is_neither 10 10) cs) (twice (c == 10)) ∙ ap (λ b. is_not_line_feed c && b) (line_all cs)
+  where
+    twice : (b : Bool) → b || b ≡ b
+    twice true = refl
+    twice false = refl
+
+line_stops : (cs : List ℕ) → Stops (is_neither 10 10) cs → Stops is_not_line_feed cs
+line_stops [] s = tt
+line_stops (c ∷ cs) s = go (c == 10) s
+  where
+    go : (b : Bool) → not (b || b) ≡ false → not b ≡ false
+    go true s = refl
+    go false s = s
+
+pub skips_line : (text rest : List ℕ) → (front : List ℕ) × Skips (is_neither 10 10) text front rest → (front : List ℕ) × Skips is_not_line_feed text front rest
+skips_line text rest (front, s) = (front, record { cut = s.cut; pass = sym (line_all front) ∙ s.pass; stops = line_stops rest s.stops })

@@ -1,14 +1,27 @@
 -- The rule that decides, from what each try answered.
-use Rattle.std.proofs.Common.{◌≡◌, ◌∙◌, ◌++◌, refl, sym, ℕ, zero, suc, ◌+◌, ◌<◌, ◌≤◌, inl, inr, List, [], ◌∷◌, length, get_or, ap, arith, subst}
+use Rattle.std.proofs.Common.{rules, tests, ◌≡◌, ◌∙◌, ◌++◌, refl, sym, ℕ, zero, suc, ◌+◌, ◌<◌, ◌≤◌, inl, inr, List, [], ◌∷◌, length, get_or, ap, arith, subst}
 use Rattle.std.proofs.lemmas.List.{get_or_default}
-use Rattle.std.proofs.lemmas.Bool.{cases_eq, false≢true, eq-eqb, eqb-true}
-use Rattle.std.specs.Prelude.{◌==◌, true, false}
+use Rattle.std.proofs.lemmas.Bool.{cases_eq, false≢true, eqb-true}
+use Rattle.std.specs.Prelude.{◌==◌, if◌then◌else◌, Bool, true, false}
+use Rattle.std.specs.Char.{is_digit}
 use Rattle.tok_core.specs.Lexical.Pieces.{Fits, Takes}
-use Rattle.tok_core.specs.Lexical.Built.{NoneBefore, may_begin}
+use Rattle.tok_core.specs.Lexical.Built.{NoneBefore}
+use Rattle.tok_core.specs.Lexical.Starts.{may_begin, start_of, only, is_mark, is_prefix, rules_of, punct_rule}
 use Rattle.tok_core.specs.Lexical.Reading.{Decides, here, later}
-use Rattle.tok_core.specs.Lexical.Rules.{Spells}
+use Rattle.tok_core.specs.Lexical.Rules.{Spells, plain_rules, marked_rules}
 use Rattle.tok_core.specs.declared.lexer.rule.Rule.{Rule}
 use Rattle.tok_core.specs.declared.lexer.rule.Rule.TheVariants.{ByteOrderMark, Whitespace, LineComment, BlockComment, OpenComment, Opening, Closing, QuotedString, BadString, ByteChar, BadByteChar, StringPrefix, EscapedChar, BadEscapedChar, PlainChar, Lifetime, Apostrophe, MarkedApostrophe, Based, BadBased, Decimal, RawIdentifier, Identifier, Punct, MarkedPunct, Other}
+use Rattle.tok_core.specs.Lexical.Characters.{is_whitespace, is_punct, opening_mark, closing_mark}
+use Rattle.tok_core.specs.Lexical.Words.{is_identifier_start, IsIdentifier}
+use Rattle.tok_core.specs.Lexical.Numbers.{IsDecimal}
+use Rattle.tok_core.specs.declared.lexer.start.Start.{Start}
+use Rattle.tok_core.specs.declared.lexer.start.Start.TheVariants as start
+use Rattle.tok_core.specs.declared.group.Delimiter.TheVariants as delimiter
+use Rattle.tok_core.specs.declared.lexer.rule.Rules.{Rules}
+use Rattle.tok_core.specs.declared.lexer.rule.Rules.TheVariants as every
+use Rattle.tok_core.specs.Lexical.Pieces.{Skips}
+use Rattle.unicode_ident.specs.Ident.{is_xid_continue}
+use Rattle.tok_core.proofs.Lexical.Takes.{takes_one, takes_identifier}
 use Rattle.tok_core.proofs.Lexical.Unique.{spelled_one}
 
 pub decides_at : (rules : List Rule) (text piece rest : List ℕ) (i : ℕ) (d : Rule) → i < length rules → NoneBefore rules text i → Takes (Spells (get_or rules i d)) text piece rest → Decides text rules (get_or rules i d) piece rest
@@ -29,43 +42,138 @@ none_more rules text i d l before misses = record {
 pub none_at_all : (rules : List Rule) (text : List ℕ) (i : ℕ) → length rules ≤ i → NoneBefore rules text i → NoneBefore rules text (length rules)
 none_at_all rules text i l before = record { none = λ j q k m fits. before.none j q (omega arith) m fits }
 
--- a rule that doesn't begin so
-starts_not : (k c : ℕ) (text piece after tail : List ℕ) → (c == k) ≡ false → c ∷ text ≡ piece ++ after → piece ≡ k ∷ tail → ⊥
-starts_not k c text piece after tail other cut e =
+-- the start of a character that passes none of the tests before this one
+abbrev from_punct : ℕ → Start
+from_punct c = if is_punct c then start.Punct else start.Rest
+
+abbrev from_letter : ℕ → Start
+from_letter c = if is_identifier_start c then start.Letter else from_punct c
+
+abbrev from_closing_brace : ℕ → Start
+from_closing_brace c = if c == 125 then start.Closing delimiter.Brace else from_letter c
+
+abbrev from_brace : ℕ → Start
+from_brace c = if c == 123 then start.Opening delimiter.Brace else from_closing_brace c
+
+abbrev from_closing_bracket : ℕ → Start
+from_closing_bracket c = if c == 93 then start.Closing delimiter.Bracket else from_brace c
+
+abbrev from_bracket : ℕ → Start
+from_bracket c = if c == 91 then start.Opening delimiter.Bracket else from_closing_bracket c
+
+abbrev from_closing_parenthesis : ℕ → Start
+from_closing_parenthesis c = if c == 41 then start.Closing delimiter.Parenthesis else from_bracket c
+
+abbrev from_parenthesis : ℕ → Start
+from_parenthesis c = if c == 40 then start.Opening delimiter.Parenthesis else from_closing_parenthesis c
+
+abbrev from_apostrophe : ℕ → Start
+from_apostrophe c = if c == 39 then start.Apostrophe else from_parenthesis c
+
+abbrev from_quote : ℕ → Start
+from_quote c = if c == 34 then start.Quote else from_apostrophe c
+
+abbrev from_slash : ℕ → Start
+from_slash c = if c == 47 then start.Slash else from_quote c
+
+abbrev from_prefix : ℕ → Start
+from_prefix c = if is_prefix c then start.Prefix else from_slash c
+
+abbrev from_digit : ℕ → Start
+from_digit c = if is_digit c 10 then start.Digit else from_prefix c
+
+abbrev from_zero : ℕ → Start
+from_zero c = if c == 48 then start.Zero else from_digit c
+
+abbrev from_whitespace : ℕ → Start
+from_whitespace c = if is_whitespace c then start.Whitespace else from_zero c
+
+head_is : (k c : ℕ) (text piece after tail : List ℕ) → c ∷ text ≡ piece ++ after → piece ≡ k ∷ tail → c ≡ k
+head_is k c text piece after tail cut e =
     let same : c ∷ text ≡ k ∷ (tail ++ after) = cut ∙ ap (λ w. w ++ after) e in
-    let head : c ≡ k = cc in
-    false≢true (sym other ∙ ap (λ w. w == k) head ∙ eq-eqb k k refl)
+    cc
 
-starts_not_one : (k c d : ℕ) (text piece after : List ℕ) → (c == k) ≡ false → c ∷ text ≡ piece ++ after → (d == k) ≡ true → piece ≡ d ∷ [] → ⊥
-starts_not_one k c d text piece after other cut pass e = starts_not k c text piece after [] other cut (e ∙ ap (λ w. w ∷ []) (eqb-true d k pass))
+at_head : (p : Start → Bool) (k c : ℕ) (text piece after tail : List ℕ) → c ∷ text ≡ piece ++ after → piece ≡ k ∷ tail → p (start_of k) ≡ true → p (start_of c) ≡ true
+at_head p k c text piece after tail cut e good = subst (λ x. p (start_of x) ≡ true) (sym (head_is k c text piece after tail cut e)) good
 
-pub begins_not : (rule : Rule) (c : ℕ) (text : List ℕ) → may_begin rule c ≡ false → Fits (Spells rule) (c ∷ text) → ⊥
-begins_not ByteOrderMark c text other (piece, after, cut, (d, pass, e)) = starts_not_one _ c d text piece after other cut pass e
-begins_not LineComment c text other (piece, after, cut, (body, e, a)) = starts_not 47 c text piece after _ other cut e
-begins_not BlockComment c text other (piece, after, cut, (body, e, a)) = starts_not 47 c text piece after _ other cut e
-begins_not OpenComment c text other (piece, after, cut, e) = starts_not 47 c text piece after _ other cut e
-begins_not (Opening delimiter) c text other (piece, after, cut, (d, pass, e)) = starts_not_one _ c d text piece after other cut pass e
-begins_not (Closing delimiter) c text other (piece, after, cut, (d, pass, e)) = starts_not_one _ c d text piece after other cut pass e
-begins_not QuotedString c text other (piece, after, cut, (body, suffix, e, u, k)) = starts_not 34 c text piece after _ other cut e
-begins_not BadString c text other (piece, after, cut, (d, pass, e)) = starts_not_one _ c d text piece after other cut pass e
-begins_not ByteChar c text other (piece, after, cut, (more, e, s)) = starts_not 98 c text piece after _ other cut e
-begins_not BadByteChar c text other (piece, after, cut, e) = starts_not 98 c text piece after _ other cut e
-begins_not EscapedChar c text other (piece, after, cut, (inner, suffix, e, h, k)) = starts_not 39 c text piece after _ other cut e
-begins_not BadEscapedChar c text other (piece, after, cut, e) = starts_not 39 c text piece after _ other cut e
-begins_not PlainChar c text other (piece, after, cut, (inner, suffix, e, h, k)) = starts_not 39 c text piece after _ other cut e
-begins_not Lifetime c text other (piece, after, cut, (more, e, s)) = starts_not 39 c text piece after _ other cut e
-begins_not Apostrophe c text other (piece, after, cut, (d, pass, e)) = starts_not_one _ c d text piece after other cut pass e
-begins_not MarkedApostrophe c text other (piece, after, cut, (d, pass, e)) = starts_not_one _ c d text piece after other cut pass e
-begins_not (Based base) c text other (piece, after, cut, (more, e, s)) = starts_not 48 c text piece after _ other cut e
-begins_not (BadBased base) c text other (piece, after, cut, e) = starts_not 48 c text piece after _ other cut e
-begins_not RawIdentifier c text other (piece, after, cut, (more, e, s)) = starts_not 114 c text piece after _ other cut e
-begins_not Whitespace c text other fits = false≢true (sym other)
-begins_not StringPrefix c text other fits = false≢true (sym other)
-begins_not Decimal c text other fits = false≢true (sym other)
-begins_not Identifier c text other fits = false≢true (sym other)
-begins_not Punct c text other fits = false≢true (sym other)
-begins_not MarkedPunct c text other fits = false≢true (sym other)
-begins_not Other c text other fits = false≢true (sym other)
+either : (p : Start → Bool) (b : Bool) (x y : Start) → p x ≡ true → p y ≡ true → p (if b then x else y) ≡ true
+either p true x y first second = first
+either p false x y first second = second
+
+taken : (p : Start → Bool) (b : Bool) (x y : Start) → b ≡ true → p x ≡ true → p (if b then x else y) ≡ true
+taken p true x y e first = first
+taken p false x y e first = absurd (false≢true e)
+
+identifier_head : (c : ℕ) (text : List ℕ) → Fits IsIdentifier (c ∷ text) → is_identifier_start c ≡ true
+identifier_head c text ([], after, cut, s) = absurd s
+identifier_head c text (d ∷ piece, after, cut, s) = ap is_identifier_start (head_is d c text (d ∷ piece) after piece cut refl) ∙ s.0
+
+decimal_head : (c : ℕ) (text : List ℕ) → Fits IsDecimal (c ∷ text) → is_digit c 10 ≡ true
+decimal_head c text (piece, after, cut, ([], suffix, e, all, good, s)) = absurd (false≢true good)
+decimal_head c text (piece, after, cut, (d ∷ digits, suffix, e, all, good, s)) = ap (λ x. is_digit x 10) (head_is d c text piece after (digits ++ suffix) cut e) ∙ good
+
+pub begins : (rule : Rule) (c : ℕ) (text : List ℕ) → Fits (Spells rule) (c ∷ text) → may_begin rule (start_of c) ≡ true
+begins ByteOrderMark c text (piece, after, cut, (d, pass, e)) = at_head (may_begin ByteOrderMark) 0xFEFF c text piece after [] cut (e ∙ ap (λ w. w ∷ []) (eqb-true d 0xFEFF pass)) refl
+begins LineComment c text (piece, after, cut, (body, e, a)) = at_head (may_begin LineComment) 47 c text piece after _ cut e refl
+begins BlockComment c text (piece, after, cut, (body, e, a)) = at_head (may_begin BlockComment) 47 c text piece after _ cut e refl
+begins OpenComment c text (piece, after, cut, e) = at_head (may_begin OpenComment) 47 c text piece after _ cut e refl
+begins QuotedString c text (piece, after, cut, (body, suffix, e, u, k)) = at_head (may_begin QuotedString) 34 c text piece after _ cut e refl
+begins BadString c text (piece, after, cut, (d, pass, e)) = at_head (may_begin BadString) 34 c text piece after [] cut (e ∙ ap (λ w. w ∷ []) (eqb-true d 34 pass)) refl
+begins ByteChar c text (piece, after, cut, (more, e, s)) = at_head (may_begin ByteChar) 98 c text piece after _ cut e refl
+begins BadByteChar c text (piece, after, cut, e) = at_head (may_begin BadByteChar) 98 c text piece after _ cut e refl
+begins EscapedChar c text (piece, after, cut, (inner, suffix, e, h, k)) = at_head (may_begin EscapedChar) 39 c text piece after _ cut e refl
+begins BadEscapedChar c text (piece, after, cut, e) = at_head (may_begin BadEscapedChar) 39 c text piece after _ cut e refl
+begins PlainChar c text (piece, after, cut, (inner, suffix, e, h, k)) = at_head (may_begin PlainChar) 39 c text piece after _ cut e refl
+begins Lifetime c text (piece, after, cut, (more, e, s)) = at_head (may_begin Lifetime) 39 c text piece after _ cut e refl
+begins Apostrophe c text (piece, after, cut, (d, pass, e)) = at_head (may_begin Apostrophe) 39 c text piece after [] cut (e ∙ ap (λ w. w ∷ []) (eqb-true d 39 pass)) refl
+begins MarkedApostrophe c text (piece, after, cut, (d, pass, e)) = at_head (may_begin MarkedApostrophe) 39 c text piece after [] cut (e ∙ ap (λ w. w ∷ []) (eqb-true d 39 pass)) refl
+begins RawIdentifier c text (piece, after, cut, (more, e, s)) = at_head (may_begin RawIdentifier) 114 c text piece after _ cut e refl
+begins (Opening delimiter.Parenthesis) c text (piece, after, cut, (d, pass, e)) = at_head (may_begin (Opening delimiter.Parenthesis)) (opening_mark delimiter.Parenthesis) c text piece after [] cut (e ∙ ap (λ w. w ∷ []) (eqb-true d (opening_mark delimiter.Parenthesis) pass)) refl
+begins (Opening delimiter.Brace) c text (piece, after, cut, (d, pass, e)) = at_head (may_begin (Opening delimiter.Brace)) (opening_mark delimiter.Brace) c text piece after [] cut (e ∙ ap (λ w. w ∷ []) (eqb-true d (opening_mark delimiter.Brace) pass)) refl
+begins (Opening delimiter.Bracket) c text (piece, after, cut, (d, pass, e)) = at_head (may_begin (Opening delimiter.Bracket)) (opening_mark delimiter.Bracket) c text piece after [] cut (e ∙ ap (λ w. w ∷ []) (eqb-true d (opening_mark delimiter.Bracket) pass)) refl
+begins (Opening delimiter.None) c text (piece, after, cut, (d, pass, e)) = at_head (may_begin (Opening delimiter.None)) (opening_mark delimiter.None) c text piece after [] cut (e ∙ ap (λ w. w ∷ []) (eqb-true d (opening_mark delimiter.None) pass)) refl
+begins (Closing delimiter.Parenthesis) c text (piece, after, cut, (d, pass, e)) = at_head (may_begin (Closing delimiter.Parenthesis)) (closing_mark delimiter.Parenthesis) c text piece after [] cut (e ∙ ap (λ w. w ∷ []) (eqb-true d (closing_mark delimiter.Parenthesis) pass)) refl
+begins (Closing delimiter.Brace) c text (piece, after, cut, (d, pass, e)) = at_head (may_begin (Closing delimiter.Brace)) (closing_mark delimiter.Brace) c text piece after [] cut (e ∙ ap (λ w. w ∷ []) (eqb-true d (closing_mark delimiter.Brace) pass)) refl
+begins (Closing delimiter.Bracket) c text (piece, after, cut, (d, pass, e)) = at_head (may_begin (Closing delimiter.Bracket)) (closing_mark delimiter.Bracket) c text piece after [] cut (e ∙ ap (λ w. w ∷ []) (eqb-true d (closing_mark delimiter.Bracket) pass)) refl
+begins (Closing delimiter.None) c text (piece, after, cut, (d, pass, e)) = at_head (may_begin (Closing delimiter.None)) (closing_mark delimiter.None) c text piece after [] cut (e ∙ ap (λ w. w ∷ []) (eqb-true d (closing_mark delimiter.None) pass)) refl
+begins (Based base) c text (piece, after, cut, (more, e, s)) = at_head (may_begin (Based base)) 48 c text piece after _ cut e refl
+begins (BadBased base) c text (piece, after, cut, e) = at_head (may_begin (BadBased base)) 48 c text piece after _ cut e refl
+begins StringPrefix c text (piece, after, cut, inl (more, e, s)) = at_head (may_begin StringPrefix) 114 c text piece after _ cut e refl
+begins StringPrefix c text (piece, after, cut, inr (inl (more, e, s))) = at_head (may_begin StringPrefix) 98 c text piece after _ cut e refl
+begins StringPrefix c text (piece, after, cut, inr (inr (more, e, s))) = at_head (may_begin StringPrefix) 99 c text piece after _ cut e refl
+begins Whitespace c text (piece, after, cut, (d, pass, e)) = either (may_begin Whitespace) (is_mark c) start.Rest (from_whitespace c) refl (taken (may_begin Whitespace) (is_whitespace c) start.Whitespace (from_zero c) (ap is_whitespace (head_is d c text piece after [] cut e) ∙ pass) refl)
+begins Decimal c text fits = either (may_begin Decimal) (is_mark c) start.Rest (from_whitespace c) refl (either (may_begin Decimal) (is_whitespace c) start.Whitespace (from_zero c) refl (either (may_begin Decimal) (c == 48) start.Zero (from_digit c) refl (taken (may_begin Decimal) (is_digit c 10) start.Digit (from_prefix c) (decimal_head c text fits) refl)))
+begins Identifier c text fits = either (may_begin Identifier) (is_mark c) start.Rest (from_whitespace c) refl (either (may_begin Identifier) (is_whitespace c) start.Whitespace (from_zero c) refl (either (may_begin Identifier) (c == 48) start.Zero (from_digit c) refl (either (may_begin Identifier) (is_digit c 10) start.Digit (from_prefix c) refl (either (may_begin Identifier) (is_prefix c) start.Prefix (from_slash c) refl (either (may_begin Identifier) (c == 47) start.Slash (from_quote c) refl (either (may_begin Identifier) (c == 34) start.Quote (from_apostrophe c) refl (either (may_begin Identifier) (c == 39) start.Apostrophe (from_parenthesis c) refl (either (may_begin Identifier) (c == 40) (start.Opening delimiter.Parenthesis) (from_closing_parenthesis c) refl (either (may_begin Identifier) (c == 41) (start.Closing delimiter.Parenthesis) (from_bracket c) refl (either (may_begin Identifier) (c == 91) (start.Opening delimiter.Bracket) (from_closing_bracket c) refl (either (may_begin Identifier) (c == 93) (start.Closing delimiter.Bracket) (from_brace c) refl (either (may_begin Identifier) (c == 123) (start.Opening delimiter.Brace) (from_closing_brace c) refl (either (may_begin Identifier) (c == 125) (start.Closing delimiter.Brace) (from_letter c) refl (taken (may_begin Identifier) (is_identifier_start c) start.Letter (from_punct c) (identifier_head c text fits) refl))))))))))))))
+begins Punct c text fits = refl
+begins MarkedPunct c text fits = refl
+begins Other c text fits = refl
+
+pick_decides : (text piece rest : List ℕ) (rule r : Rule) (some rules : List Rule) (b : Bool) → (b ≡ false → Fits (Spells r) text → ⊥) → (Decides text some rule piece rest → Decides text rules rule piece rest) → Decides text (if b then r ∷ some else some) rule piece rest → Decides text (r ∷ rules) rule piece rest
+pick_decides text piece rest rule r some rules true misses deeper (here t) = here t
+pick_decides text piece rest rule r some rules true misses deeper (later not more) = later not (deeper more)
+pick_decides text piece rest rule r some rules false misses deeper more = later (misses refl) (deeper more)
+
+decides_only : (k : Start) (text piece rest : List ℕ) (rule : Rule) (rules : List Rule) → ((other : Rule) → Fits (Spells other) text → may_begin other k ≡ true) → Decides text (only k rules) rule piece rest → Decides text rules rule piece rest
+decides_only k text piece rest rule [] begun d = d
+decides_only k text piece rest rule (r ∷ rules) begun d =
+    pick_decides text piece rest rule r (only k rules) rules (may_begin r k) (λ e fits. false≢true (sym e ∙ begun r fits)) (decides_only k text piece rest rule rules begun) d
+
+pub decides_begun : (c : ℕ) (text more piece rest : List ℕ) (rule : Rule) (rules those : List Rule) (k : Start) → text ≡ c ∷ more → k ≡ start_of c → those ≡ only k rules → Decides text those rule piece rest → Decides text rules rule piece rest
+decides_begun c text more piece rest rule rules those k e start listed d =
+    decides_only (start_of c) text piece rest rule rules (λ other fits. begins other c more (subst (Fits (Spells other)) e fits)) (subst (λ rs. Decides text rs rule piece rest) (listed ∙ ap (λ x. only x rules) start) d)
+
+none_only : (k : Start) (text : List ℕ) (rules : List Rule) → ((other : Rule) → Fits (Spells other) text → may_begin other k ≡ true) → NoneBefore (only k rules) text (length (only k rules)) → (j : ℕ) (d : Rule) → j < length rules → Fits (Spells (get_or rules j d)) text → ⊥
+none_only k text [] begun before j d l fits = absurd (omega arith)
+none_only k text (r ∷ rules) begun before j d l fits = pick (may_begin r k) refl (λ m. none_only k text rules begun m) before j l fits
+  where
+    pick : (b : Bool) → may_begin r k ≡ b → (NoneBefore (only k rules) text (length (only k rules)) → (i : ℕ) (q : Rule) → i < length rules → Fits (Spells (get_or rules i q)) text → ⊥) → NoneBefore (if b then r ∷ only k rules else only k rules) text (length (if b then r ∷ only k rules else only k rules)) → (j : ℕ) → j < length (r ∷ rules) → Fits (Spells (get_or (r ∷ rules) j d)) text → ⊥
+    pick true e deeper none zero l fits = none.none 0 r (omega arith) (omega arith) fits
+    pick true e deeper none (suc j) l fits = deeper (record { none = λ i q m n. none.none (suc i) q (omega arith) (omega arith) }) j d (omega arith) fits
+    pick false e deeper none zero l fits = false≢true (sym e ∙ begun r fits)
+    pick false e deeper none (suc j) l fits = deeper none j d (omega arith) fits
+
+pub none_begun : (c : ℕ) (text more : List ℕ) (rules : List Rule) → text ≡ c ∷ more → NoneBefore (only (start_of c) rules) text (length (only (start_of c) rules)) → NoneBefore rules text (length rules)
+none_begun c text more rules e before = record { none = λ j d k l fits. none_only (start_of c) text rules (λ other fits. begins other c more (subst (Fits (Spells other)) e fits)) before j d l fits }
 
 -- no rule fits where nothing is left
 pub none_fits : (rules : List Rule) (text : List ℕ) (n : ℕ) → text ≡ [] → NoneBefore rules text n
@@ -74,3 +182,34 @@ none_fits rules text n e = record { none = λ j d k m fits. nothing (get_or rule
     nothing : (rule : Rule) (piece after : List ℕ) → [] ≡ piece ++ after → 0 < length piece → ⊥
     nothing rule [] after e l = absurd (omega arith)
     nothing rule (x ∷ piece) after e l = cc
+
+-- what a start says of the character
+whitespace_told : (c : ℕ) → start_of c ≡ start.Whitespace → is_whitespace c ≡ true
+whitespace_told c e = search (rules, tests)
+
+letter_told : (c : ℕ) → start_of c ≡ start.Letter → is_identifier_start c ≡ true
+letter_told c e = search (rules, tests)
+
+punct_told : (c : ℕ) → start_of c ≡ start.Punct → is_punct c ≡ true
+punct_told c e = search (rules, tests)
+
+-- the character tells the piece
+decides_first : (c : ℕ) (text more piece rest : List ℕ) (rule : Rule) (rules others : List Rule) (start : Start) → text ≡ c ∷ more → start_of c ≡ start → only start rules ≡ rule ∷ others → Takes (Spells rule) text piece rest → Decides text rules rule piece rest
+decides_first c text more piece rest rule rules others start e is listed t =
+    decides_begun c text more piece rest rule rules (rule ∷ others) start e (sym is) (sym listed) (here t)
+
+pub decides_whitespace : (c : ℕ) (text more : List ℕ) (rules : Rules) → text ≡ c ∷ more → start_of c ≡ start.Whitespace → Decides text (rules_of rules) Whitespace (c ∷ []) more
+decides_whitespace c text more every.Plain e is = decides_first c text more (c ∷ []) more Whitespace plain_rules (Decimal ∷ Identifier ∷ Punct ∷ Other ∷ []) start.Whitespace e is refl (takes_one is_whitespace text more c e (whitespace_told c is))
+decides_whitespace c text more every.Marked e is = decides_first c text more (c ∷ []) more Whitespace marked_rules (Decimal ∷ Identifier ∷ MarkedPunct ∷ Other ∷ []) start.Whitespace e is refl (takes_one is_whitespace text more c e (whitespace_told c is))
+
+pub decides_letter : (c : ℕ) (text more rest : List ℕ) (rules : Rules) → text ≡ c ∷ more → start_of c ≡ start.Letter → (front : List ℕ) × Skips is_xid_continue more front rest → (piece : List ℕ) × Decides text (rules_of rules) Identifier piece rest
+decides_letter c text more rest every.Plain e is s =
+    let t = takes_identifier text more rest c e (letter_told c is) s in
+    (t.0, decides_first c text more t.0 rest Identifier plain_rules (Punct ∷ Other ∷ []) start.Letter e is refl t.1)
+decides_letter c text more rest every.Marked e is s =
+    let t = takes_identifier text more rest c e (letter_told c is) s in
+    (t.0, decides_first c text more t.0 rest Identifier marked_rules (MarkedPunct ∷ Other ∷ []) start.Letter e is refl t.1)
+
+pub decides_punct : (c : ℕ) (text more : List ℕ) (rules : Rules) (rule : Rule) → text ≡ c ∷ more → start_of c ≡ start.Punct → rule ≡ punct_rule rules → (piece : List ℕ) × Decides text (rules_of rules) rule piece more
+decides_punct c text more every.Plain rule e is r = rw r (c ∷ [], decides_first c text more (c ∷ []) more Punct plain_rules (Other ∷ []) start.Punct e is refl (takes_one is_punct text more c e (punct_told c is)))
+decides_punct c text more every.Marked rule e is r = rw r (c ∷ [], decides_first c text more (c ∷ []) more MarkedPunct marked_rules (Other ∷ []) start.Punct e is refl (takes_one is_punct text more c e (punct_told c is)))

@@ -4,7 +4,10 @@ use Rattle.std.specs.Prelude.{◌≢◌, Option, Some, None}
 use Rattle.std.specs.Borrow.{Bor}
 use Rattle.std.specs.Str.{chars}
 use Rattle.std.proofs.lemmas.List.{append-nil, append_cancel_left}
-use Rattle.tok_core.specs.Lexical.Pieces.{Takes, Tries, Fits, Finds, Behind}
+use Rattle.std.specs.List.{list_all}
+use Rattle.tok_core.specs.Lexical.Built.{FindsUnits}
+use Rattle.tok_core.specs.Lexical.Pieces.{Takes, Tries, Fits, Finds, Behind, Skips, is_neither}
+use Rattle.tok_core.proofs.Lexical.Comments.{neither_first}
 use Rattle.tok_core.specs.Lexical.Words.{IsIdentifier, IsSuffix}
 use Rattle.tok_core.specs.Lexical.Strings.{IsEscape, IsUnit, plain, escape, AreUnits, no_unit, unit, IsString, IsQuoted}
 use Rattle.tok_core.proofs.Lexical.Takes.{IsFree}
@@ -50,6 +53,11 @@ reaches_more start rest inner front taken s u e = record {
       (b.0, a.1 ∙ ap (λ w. front ++ w) b.1 ∙ sym (append_assoc front taken b.0), b.2, b.3);
 }
 
+pub reaches_units : (start rest inner front taken : List ℕ) → Reaches start rest front → AreUnits taken → rest ≡ taken ++ inner → Reaches start inner (front ++ taken)
+reaches_units start rest inner front taken s no_unit e = subst (Reaches start inner) (sym (append-nil front)) (subst (λ w. Reaches start w front) e s)
+reaches_units start rest inner front taken s (unit {first = f} {rest = r} u us) e =
+    subst (Reaches start inner) (append_assoc front f r) (reaches_units start (r ++ inner) inner (front ++ f) r (reaches_more start rest (r ++ inner) front f s u (e ∙ append_assoc f r inner)) us refl)
+
 -- where no unit fits, the units are over
 over : (rest more after : List ℕ) → (Fits IsUnit rest → ⊥) → rest ≡ more ++ 34 ∷ after → AreUnits more → (more ≡ []) × (rest ≡ 34 ∷ after)
 over rest more after misses e no_unit = (refl, e)
@@ -86,16 +94,20 @@ takes_none text misses = record {
   longest = λ more after e s. elim s [ inl nothing ↦ nothing | inr w ↦ absurd (misses (more, after, e, w)) ];
 }
 
-pub finds_plain : (text rest : List ℕ) (kind : ℕ) → text ≡ kind ∷ rest → kind ≢ 34 → ((more : List ℕ) → text ≡ 92 ∷ more → ⊥) → (piece : List ℕ) × (text ≡ piece ++ rest) × IsUnit piece
-finds_plain text rest kind one q b = (kind ∷ [], one, plain kind q (λ k. b rest (one ∙ ap (λ w. w ∷ rest) k)))
+plain_units : (run : List ℕ) → list_all (is_neither 34 92) run ≡ true → AreUnits run
+plain_units [] h = no_unit
+plain_units (c ∷ run) h = let n = neither_first 34 92 c run h in unit (plain c n.0 n.1) (plain_units run n.2)
+
+pub finds_plain : (text rest after : List ℕ) (kind : ℕ) → text ≡ kind ∷ rest → kind ≢ 34 → ((more : List ℕ) → text ≡ 92 ∷ more → ⊥) → (front : List ℕ) × Skips (is_neither 34 92) rest front after → (piece : List ℕ) × (text ≡ piece ++ after) × AreUnits piece
+finds_plain text rest after kind one q b (front, s) = (kind ∷ front, one ∙ ap (λ w. kind ∷ w) s.cut, unit (plain kind q (λ k. b rest (one ∙ ap (λ w. w ∷ rest) k))) (plain_units front s.pass))
 
 none_unit : (rest piece after : List ℕ) → (Fits (IsEscape true false) rest → ⊥) → IsUnit piece → 92 ∷ rest ≡ piece ++ after → ⊥
 none_unit rest piece after misses (plain c p q) f = q (sym (heads _ _ _ _ f))
 none_unit rest piece after misses (escape {text = t} v) f = let g : rest ≡ t ++ after = cc in misses (t, after, g, v)
 
-pub tries_unit : (text rest : List ℕ) (answer : Option (Bor (List ℕ))) → text ≡ 92 ∷ rest → Finds (IsEscape true false) rest answer → Finds IsUnit text answer
-tries_unit text rest None e misses = λ (piece, after, cut, v). none_unit rest piece after misses v (sym e ∙ cut)
-tries_unit text rest (Some after) e (piece, cut, v) = (92 ∷ piece, e ∙ ap (λ w. 92 ∷ w) cut, escape v)
+pub tries_units : (text rest : List ℕ) (answer : Option (Bor (List ℕ))) → text ≡ 92 ∷ rest → Finds (IsEscape true false) rest answer → FindsUnits text answer
+tries_units text rest None e misses = λ (piece, after, cut, v). none_unit rest piece after misses v (sym e ∙ cut)
+tries_units text rest (Some after) e (piece, cut, v) = (92 ∷ piece, e ∙ ap (λ w. 92 ∷ w) cut, subst AreUnits (append-nil (92 ∷ piece)) (unit (escape v) no_unit))
 
 -- an apostrophe, what stands within, and what is tried after it
 pub tries_quoted : (Inner : List ℕ → Type 0) (text start rest inner : List ℕ) (answer : Option (Bor (List ℕ))) → IsFree Inner → text ≡ 39 ∷ start → start ≡ inner ++ rest → Inner inner → Tries (Behind 39 IsSuffix) rest answer → Tries (IsQuoted Inner) text answer

@@ -1,65 +1,41 @@
--- What stands in the middle of a text: the rules tried so far, and the trees so far.
-use Rattle.std.specs.Prelude.{◌≡◌, ◌==◌, Bool, true, ℕ, suc, ◌-◌, ◌<◌, ◌≤◌, List, [], ◌∷◌, ◌++◌}
-use Rattle.std.specs.Prelude.{length, map, Option, MatchOption, Some, slice_index_or}
+-- What is known in the middle of a text: the rules tried so far, and the trees so far.
+use Rattle.std.specs.Prelude.{◌≡◌, ℕ, suc, ◌-◌, ◌<◌, ◌≤◌, List, [], ◌∷◌, ◌++◌, length, map}
+use Rattle.std.specs.Prelude.{Option, MatchOption, Some, slice_index_or}
 use Rattle.std.specs.Borrow.{Bor}
 use Rattle.std.specs.Str.{chars}
 use Rattle.tok_core.specs.Forest.{Forest}
-use Rattle.tok_core.specs.Lexical.Characters.{opening_mark, closing_mark}
 use Rattle.tok_core.specs.Lexical.Pieces.{Fits}
 use Rattle.tok_core.specs.Lexical.Rules.{Spells}
+use Rattle.tok_core.specs.Lexical.Strings.{IsUnit, AreUnits}
 use Rattle.tok_core.specs.Lexical.Items.{Item, opening, Flat, depth, IsOpenBy}
 use Rattle.tok_core.specs.Lexical.Meaning.{refusal}
 use Rattle.tok_core.specs.Lexical.Reading.{Decides}
 use Rattle.tok_core.specs.declared.group.Delimiter.{Delimiter}
 use Rattle.tok_core.specs.declared.lexer.rule.Rule.{Rule}
-use Rattle.tok_core.specs.declared.lexer.rule.Rule.TheVariants.{ByteOrderMark, Whitespace}
-use Rattle.tok_core.specs.declared.lexer.rule.Rule.TheVariants.{LineComment, BlockComment}
-use Rattle.tok_core.specs.declared.lexer.rule.Rule.TheVariants.{OpenComment, Opening, Closing}
-use Rattle.tok_core.specs.declared.lexer.rule.Rule.TheVariants.{QuotedString, BadString, ByteChar}
-use Rattle.tok_core.specs.declared.lexer.rule.Rule.TheVariants.{BadByteChar, EscapedChar}
-use Rattle.tok_core.specs.declared.lexer.rule.Rule.TheVariants.{BadEscapedChar, PlainChar, Lifetime}
-use Rattle.tok_core.specs.declared.lexer.rule.Rule.TheVariants.{Apostrophe, MarkedApostrophe, Based}
-use Rattle.tok_core.specs.declared.lexer.rule.Rule.TheVariants.{BadBased, RawIdentifier, Other}
+use Rattle.tok_core.specs.declared.lexer.rule.Rule.TheVariants.{Whitespace, Opening, Closing, Other}
 use Rattle.tok_core.specs.declared.lexer.error.Refusal.{Refusal}
 use Rattle.tok_core.specs.declared.lexer.error.Refusal.TheVariants.{UnexpectedClosing, DeepGroup}
 use Rattle.tok_core.specs.declared.lexer.error.LexError.{LexError}
 use Rattle.tok_core.specs.declared.lexer.nest.OpenGroup.{OpenGroup}
 use Rattle.tok_core.specs.declared.lexer.nest.Nest.{Nest}
 
--- whether a piece of the rule may begin with this character: most rules begin with one character
--- only
-abbrev pub may_begin : Rule → ℕ → Bool
-may_begin ByteOrderMark c = c == 0xFEFF
-may_begin LineComment c = c == 47
-may_begin BlockComment c = c == 47
-may_begin OpenComment c = c == 47
-may_begin (Opening delimiter) c = c == opening_mark delimiter
-may_begin (Closing delimiter) c = c == closing_mark delimiter
-may_begin QuotedString c = c == 34
-may_begin BadString c = c == 34
-may_begin ByteChar c = c == 98
-may_begin BadByteChar c = c == 98
-may_begin EscapedChar c = c == 39
-may_begin BadEscapedChar c = c == 39
-may_begin PlainChar c = c == 39
-may_begin Lifetime c = c == 39
-may_begin Apostrophe c = c == 39
-may_begin MarkedApostrophe c = c == 39
-may_begin (Based base) c = c == 48
-may_begin (BadBased base) c = c == 48
-may_begin RawIdentifier c = c == 114
-may_begin rule c = true
-
 -- no rule before the place fits
 pub record NoneBefore (rules : List Rule) (text : List ℕ) (i : ℕ) : Type 0 where
   pub none : (j : ℕ) (d : Rule) → j < i → j < length rules →
       Fits (Spells (slice_index_or rules j d)) text → ⊥
 
--- what a function that tries the rules in turn answers
+-- what a function that tries the rules in turn returns
 abbrev pub TriesRules : List Rule → List ℕ → Option (Rule × Bor (List ℕ)) → Type 0
 TriesRules rules text answer =
     MatchOption answer (NoneBefore rules text (length rules))
     (λ found. (piece : List ℕ) × Decides text rules found.0 piece (chars found.1.now))
+
+-- what a function that looks for units of a string answers: what follows some of them, or None
+-- where there are none
+abbrev pub FindsUnits : List ℕ → Option (Bor (List ℕ)) → Type 0
+FindsUnits text answer =
+    MatchOption answer (Fits IsUnit text → ⊥)
+    (λ rest. (units : List ℕ) × (text ≡ units ++ chars rest.now) × AreUnits units)
 
 -- the last rule takes any character
 abbrev pub EndsInOther : List Rule → Type 0

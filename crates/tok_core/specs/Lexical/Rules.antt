@@ -22,7 +22,7 @@ use Rattle.tok_core.specs.declared.lexer.rule.Rule.TheVariants.{MarkedApostrophe
 use Rattle.tok_core.specs.declared.lexer.rule.Rule.TheVariants.{Decimal, RawIdentifier, Identifier}
 use Rattle.tok_core.specs.declared.lexer.rule.Rule.TheVariants.{Punct, MarkedPunct, Other}
 
--- The whole piece is spelled by the rule. After a rule stands one that takes what begins so and
+-- The whole piece is spelled by the rule. After a rule comes one that takes what begins so and
 -- isn't spelled to its end.
 abbrev pub Spells : Rule → List ℕ → Type 0
 Spells ByteOrderMark = IsOne (λ c. c == 0xFEFF)

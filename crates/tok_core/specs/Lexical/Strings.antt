@@ -78,7 +78,7 @@ IsEscapedChar = Behind 92 (IsEscape false false)
 abbrev pub IsByte : List ℕ → Type 0
 IsByte inner = IsOne is_byte inner ⊎ Behind 92 (IsEscape false true) inner
 
--- an apostrophe, what stands within, an apostrophe and a suffix
+-- an apostrophe, what is within, an apostrophe and a suffix
 abbrev pub IsQuoted : (List ℕ → Type 0) → List ℕ → Type 0
 IsQuoted Inner piece =
     (inner : List ℕ) × (suffix : List ℕ) × (piece ≡ 39 ∷ (inner ++ 39 ∷ suffix)) × Inner inner

@@ -4,20 +4,13 @@ ghost use Rattle.std.specs.Str.{chars, IsUtf8};
 ghost use Rattle.tok_core.specs.Lexical.Pieces.{Tries, Skips};
 ghost use Rattle.tok_core.specs.Lexical.Comments.{is_not_line_feed, IsLineComment, IsBlockComment, is_line_doc, is_block_doc};
 
-use crate::lexer::text::{next_char, past_pair};
+use crate::lexer::text::{next_char, past_char, past_others, past_pair};
 
 /// Up to the line feed, or to the end.
 fn past_line(text: &str) -> &str
     ensures { (front : List ℕ) × Skips is_not_line_feed (chars text.now) front (chars result.now) }
 {
-    let mut rest = text;
-    while let Some((c, after)) = next_char(rest) {
-        if c == '\n' {
-            break;
-        }
-        rest = after;
-    }
-    rest
+    past_others(text, b'\n', b'\n')
 }
 
 /// Past a `//` comment.
@@ -36,17 +29,22 @@ pub fn past_block_comment(text: &str) -> Option<&str>
     let mut rest = past_pair(text, '/', '*')?;
     let mut depth = 1usize;
     while depth > 0 {
-        if let Some(inner) = past_pair(rest, '/', '*') {
-            depth += 1;
-            rest = inner;
-        } else if let Some(outer) = past_pair(rest, '*', '/') {
-            depth -= 1;
-            rest = outer;
+        let Some((first, after)) = next_char(rest) else {
+            return None;
+        };
+        rest = after;
+        if first == '/' {
+            if let Some(inner) = past_char(after, '*') {
+                depth += 1;
+                rest = inner;
+            }
+        } else if first == '*' {
+            if let Some(outer) = past_char(after, '/') {
+                depth -= 1;
+                rest = outer;
+            }
         } else {
-            let Some((_, after)) = next_char(rest) else {
-                return None;
-            };
-            rest = after;
+            rest = past_others(after, b'*', b'/');
         }
     }
     Some(rest)

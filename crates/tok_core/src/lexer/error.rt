@@ -113,7 +113,7 @@ impl fmt::Display for LexError {
     }
 }
 
-/// Why no stream is answered: the text is refused, or memory is.
+/// Why no stream is returned: the text is refused, or an allocation failed.
 #[derive(Clone, Copy, PartialEq, Eq, Debug)]
 pub enum LexFault {
     Refused(LexError),

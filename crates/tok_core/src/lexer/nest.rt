@@ -19,6 +19,7 @@ use crate::literal::Literal;
 use crate::punct::{Punct, Spacing};
 use crate::span::Span;
 use crate::stream::{TokenStream, TokenTree};
+use crate::text::Text;
 use std::alloc::{AllocError, Global};
 use std::mem;
 
@@ -77,7 +78,7 @@ impl Nest {
         requires order { start ≤ end }
         ensures { (at : ℕ) → OnOk result (Grows at self.old self.new (ident_item self.old.source start end (chars text.now) ∷ [])) }
     {
-        let text = String::from_str(self.alloc, text)?;
+        let text = Text::from_str(self.alloc, text)?;
         let span = Span::source(self.source, start, end);
         self.trees
             .append(TokenTree::Ident(Ident::unchecked(text, span)))?;
@@ -88,7 +89,7 @@ impl Nest {
         requires order { start ≤ end }
         ensures { OnOk result (Grows start self.old self.new (literal_item self.old.source start end (chars text.now) ∷ [])) }
     {
-        let text = String::from_str(self.alloc, text)?;
+        let text = Text::from_str(self.alloc, text)?;
         let span = Span::source(self.source, start, end);
         self.trees
             .append(TokenTree::Literal(Literal::unchecked(text, span)))?;

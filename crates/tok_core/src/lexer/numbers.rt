@@ -49,10 +49,12 @@ fn past_digits(text: &str, radix: u32) -> (bool, &str)
     let mut rest = text;
     let mut found = false;
     while let Some((c, after)) = next_char(rest) {
-        if !is_digit_or_underscore(c, radix) {
+        let is_digit = c.is_digit(radix);
+        let goes_on = is_digit | (c == '_');
+        if !goes_on {
             break;
         }
-        found = found | c.is_digit(radix);
+        found = found | is_digit;
         rest = after;
     }
     (found, rest)
@@ -176,12 +178,12 @@ pub fn is_malformed(base: Base, piece: &str, after: &str) -> bool
     let Some((_, digits)) = next_char(rest) else {
         return is_exponent(after) || starts_digit(after) || is_fraction(after);
     };
-    is_bare(digits, base.radix())
-        && (is_exponent(after) || starts_digit(after) || is_fraction(after))
+    (is_exponent(after) || starts_digit(after) || is_fraction(after))
+        && is_bare(digits, base.radix())
 }
 
 pub fn is_float(piece: &str, after: &str) -> bool
     ensures { result ≡ is_float (chars piece.now) (chars after.now) }
 {
-    is_bare(piece, 10) && (is_exponent(after) || is_fraction(after))
+    (is_exponent(after) || is_fraction(after)) && is_bare(piece, 10)
 }

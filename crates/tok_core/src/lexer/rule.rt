@@ -1,10 +1,11 @@
 // The rules of the grammar, in their order, and what each takes.
 ghost use Rattle.std.specs.Prelude.{◌≡◌, IfSome};
 ghost use Rattle.std.specs.Str.{chars, IsUtf8};
-ghost use Rattle.tok_core.specs.Lexical.Built.{TriesRules, may_begin};
+ghost use Rattle.tok_core.specs.Lexical.Built.{TriesRules};
 ghost use Rattle.tok_core.specs.Lexical.Meaning.{is_group_mark, width};
 ghost use Rattle.tok_core.specs.Lexical.Pieces.{Tries};
-ghost use Rattle.tok_core.specs.Lexical.Rules.{Spells};
+ghost use Rattle.tok_core.specs.Lexical.Rules.{Spells, plain_rules, marked_rules};
+ghost use Rattle.tok_core.specs.Lexical.Starts.{only, rules_of, punct_rule};
 
 use crate::group::Delimiter;
 use crate::lexer::char_literals::{past_byte_char, past_escaped_char, past_plain_char};
@@ -12,9 +13,10 @@ use crate::lexer::classes::{closing_mark, is_invisible, is_punct, is_whitespace,
 use crate::lexer::comments::{past_block_comment, past_line_comment};
 use crate::lexer::numbers::{past_based, past_decimal};
 use crate::lexer::prefixes::past_string_prefix;
+use crate::lexer::start::Start;
 use crate::lexer::strings::past_string;
 use crate::lexer::text::{next_char, past_pair};
-use crate::lexer::words::{past_identifier, past_lifetime, past_raw_identifier};
+use crate::lexer::words::{past_continues, past_identifier, past_lifetime, past_raw_identifier};
 
 /// The bases that a number names.
 #[derive(Clone, Copy, Debug)]
@@ -56,79 +58,260 @@ pub enum Rule {
     Other,
 }
 
-/// The rules in their order: the first that fits decides.
-pub const PLAIN: [Rule; 32] = [
-    Rule::ByteOrderMark,
-    Rule::Whitespace,
-    Rule::LineComment,
-    Rule::BlockComment,
-    Rule::OpenComment,
-    Rule::Opening(Delimiter::Parenthesis),
-    Rule::Opening(Delimiter::Brace),
-    Rule::Opening(Delimiter::Bracket),
-    Rule::Closing(Delimiter::Parenthesis),
-    Rule::Closing(Delimiter::Brace),
-    Rule::Closing(Delimiter::Bracket),
-    Rule::QuotedString,
-    Rule::BadString,
-    Rule::ByteChar,
-    Rule::BadByteChar,
-    Rule::StringPrefix,
-    Rule::EscapedChar,
-    Rule::BadEscapedChar,
-    Rule::PlainChar,
-    Rule::Lifetime,
-    Rule::Apostrophe,
-    Rule::Based(Base::Hexadecimal),
-    Rule::Based(Base::Octal),
-    Rule::Based(Base::Binary),
-    Rule::BadBased(Base::Hexadecimal),
-    Rule::BadBased(Base::Octal),
-    Rule::BadBased(Base::Binary),
-    Rule::Decimal,
-    Rule::RawIdentifier,
-    Rule::Identifier,
-    Rule::Punct,
-    Rule::Other,
-];
+/// The rules of a text: with marks of invisible groups, or without.
+#[derive(Clone, Copy, Debug)]
+pub enum Rules {
+    Plain,
+    Marked,
+}
 
-/// The rules of marked text, likewise.
-pub const MARKED: [Rule; 34] = [
-    Rule::ByteOrderMark,
-    Rule::Whitespace,
-    Rule::LineComment,
-    Rule::BlockComment,
-    Rule::OpenComment,
-    Rule::Opening(Delimiter::Parenthesis),
-    Rule::Opening(Delimiter::Brace),
-    Rule::Opening(Delimiter::Bracket),
-    Rule::Closing(Delimiter::Parenthesis),
-    Rule::Closing(Delimiter::Brace),
-    Rule::Closing(Delimiter::Bracket),
-    Rule::Opening(Delimiter::None),
-    Rule::Closing(Delimiter::None),
-    Rule::QuotedString,
-    Rule::BadString,
-    Rule::ByteChar,
-    Rule::BadByteChar,
-    Rule::StringPrefix,
-    Rule::EscapedChar,
-    Rule::BadEscapedChar,
-    Rule::PlainChar,
-    Rule::Lifetime,
-    Rule::MarkedApostrophe,
-    Rule::Based(Base::Hexadecimal),
-    Rule::Based(Base::Octal),
-    Rule::Based(Base::Binary),
-    Rule::BadBased(Base::Hexadecimal),
-    Rule::BadBased(Base::Octal),
-    Rule::BadBased(Base::Binary),
-    Rule::Decimal,
-    Rule::RawIdentifier,
-    Rule::Identifier,
-    Rule::MarkedPunct,
-    Rule::Other,
-];
+// The rules that may begin so, in their order.
+fn plain_at(start: Start) -> &'static [Rule]
+    ensures { result.now ≡ only start plain_rules }
+{
+    match start {
+        Start::Rest => &[
+            Rule::ByteOrderMark,
+            Rule::Whitespace,
+            Rule::Decimal,
+            Rule::Identifier,
+            Rule::Punct,
+            Rule::Other,
+        ],
+        Start::Whitespace => &[
+            Rule::Whitespace,
+            Rule::Decimal,
+            Rule::Identifier,
+            Rule::Punct,
+            Rule::Other,
+        ],
+        Start::Zero => &[
+            Rule::Based(Base::Hexadecimal),
+            Rule::Based(Base::Octal),
+            Rule::Based(Base::Binary),
+            Rule::BadBased(Base::Hexadecimal),
+            Rule::BadBased(Base::Octal),
+            Rule::BadBased(Base::Binary),
+            Rule::Decimal,
+            Rule::Identifier,
+            Rule::Punct,
+            Rule::Other,
+        ],
+        Start::Digit => &[Rule::Decimal, Rule::Identifier, Rule::Punct, Rule::Other],
+        Start::Prefix => &[
+            Rule::ByteChar,
+            Rule::BadByteChar,
+            Rule::StringPrefix,
+            Rule::RawIdentifier,
+            Rule::Identifier,
+            Rule::Punct,
+            Rule::Other,
+        ],
+        Start::Letter => &[Rule::Identifier, Rule::Punct, Rule::Other],
+        Start::Slash => &[
+            Rule::LineComment,
+            Rule::BlockComment,
+            Rule::OpenComment,
+            Rule::Identifier,
+            Rule::Punct,
+            Rule::Other,
+        ],
+        Start::Quote => &[
+            Rule::QuotedString,
+            Rule::BadString,
+            Rule::Identifier,
+            Rule::Punct,
+            Rule::Other,
+        ],
+        Start::Apostrophe => &[
+            Rule::EscapedChar,
+            Rule::BadEscapedChar,
+            Rule::PlainChar,
+            Rule::Lifetime,
+            Rule::Apostrophe,
+            Rule::Identifier,
+            Rule::Punct,
+            Rule::Other,
+        ],
+        Start::Punct => &[Rule::Punct, Rule::Other],
+        Start::Opening(Delimiter::Parenthesis) => &[
+            Rule::Opening(Delimiter::Parenthesis),
+            Rule::Identifier,
+            Rule::Punct,
+            Rule::Other,
+        ],
+        Start::Opening(Delimiter::Brace) => &[
+            Rule::Opening(Delimiter::Brace),
+            Rule::Identifier,
+            Rule::Punct,
+            Rule::Other,
+        ],
+        Start::Opening(Delimiter::Bracket) => &[
+            Rule::Opening(Delimiter::Bracket),
+            Rule::Identifier,
+            Rule::Punct,
+            Rule::Other,
+        ],
+        Start::Opening(Delimiter::None) => &[Rule::Identifier, Rule::Punct, Rule::Other],
+        Start::Closing(Delimiter::Parenthesis) => &[
+            Rule::Closing(Delimiter::Parenthesis),
+            Rule::Identifier,
+            Rule::Punct,
+            Rule::Other,
+        ],
+        Start::Closing(Delimiter::Brace) => &[
+            Rule::Closing(Delimiter::Brace),
+            Rule::Identifier,
+            Rule::Punct,
+            Rule::Other,
+        ],
+        Start::Closing(Delimiter::Bracket) => &[
+            Rule::Closing(Delimiter::Bracket),
+            Rule::Identifier,
+            Rule::Punct,
+            Rule::Other,
+        ],
+        Start::Closing(Delimiter::None) => &[Rule::Identifier, Rule::Punct, Rule::Other],
+    }
+}
+
+// The same of marked text.
+fn marked_at(start: Start) -> &'static [Rule]
+    ensures { result.now ≡ only start marked_rules }
+{
+    match start {
+        Start::Rest => &[
+            Rule::ByteOrderMark,
+            Rule::Whitespace,
+            Rule::Opening(Delimiter::None),
+            Rule::Closing(Delimiter::None),
+            Rule::Decimal,
+            Rule::Identifier,
+            Rule::MarkedPunct,
+            Rule::Other,
+        ],
+        Start::Whitespace => &[
+            Rule::Whitespace,
+            Rule::Decimal,
+            Rule::Identifier,
+            Rule::MarkedPunct,
+            Rule::Other,
+        ],
+        Start::Zero => &[
+            Rule::Based(Base::Hexadecimal),
+            Rule::Based(Base::Octal),
+            Rule::Based(Base::Binary),
+            Rule::BadBased(Base::Hexadecimal),
+            Rule::BadBased(Base::Octal),
+            Rule::BadBased(Base::Binary),
+            Rule::Decimal,
+            Rule::Identifier,
+            Rule::MarkedPunct,
+            Rule::Other,
+        ],
+        Start::Digit => &[
+            Rule::Decimal,
+            Rule::Identifier,
+            Rule::MarkedPunct,
+            Rule::Other,
+        ],
+        Start::Prefix => &[
+            Rule::ByteChar,
+            Rule::BadByteChar,
+            Rule::StringPrefix,
+            Rule::RawIdentifier,
+            Rule::Identifier,
+            Rule::MarkedPunct,
+            Rule::Other,
+        ],
+        Start::Letter => &[Rule::Identifier, Rule::MarkedPunct, Rule::Other],
+        Start::Slash => &[
+            Rule::LineComment,
+            Rule::BlockComment,
+            Rule::OpenComment,
+            Rule::Identifier,
+            Rule::MarkedPunct,
+            Rule::Other,
+        ],
+        Start::Quote => &[
+            Rule::QuotedString,
+            Rule::BadString,
+            Rule::Identifier,
+            Rule::MarkedPunct,
+            Rule::Other,
+        ],
+        Start::Apostrophe => &[
+            Rule::EscapedChar,
+            Rule::BadEscapedChar,
+            Rule::PlainChar,
+            Rule::Lifetime,
+            Rule::MarkedApostrophe,
+            Rule::Identifier,
+            Rule::MarkedPunct,
+            Rule::Other,
+        ],
+        Start::Punct => &[Rule::MarkedPunct, Rule::Other],
+        Start::Opening(Delimiter::Parenthesis) => &[
+            Rule::Opening(Delimiter::Parenthesis),
+            Rule::Identifier,
+            Rule::MarkedPunct,
+            Rule::Other,
+        ],
+        Start::Opening(Delimiter::Brace) => &[
+            Rule::Opening(Delimiter::Brace),
+            Rule::Identifier,
+            Rule::MarkedPunct,
+            Rule::Other,
+        ],
+        Start::Opening(Delimiter::Bracket) => &[
+            Rule::Opening(Delimiter::Bracket),
+            Rule::Identifier,
+            Rule::MarkedPunct,
+            Rule::Other,
+        ],
+        Start::Opening(Delimiter::None) => &[Rule::Identifier, Rule::MarkedPunct, Rule::Other],
+        Start::Closing(Delimiter::Parenthesis) => &[
+            Rule::Closing(Delimiter::Parenthesis),
+            Rule::Identifier,
+            Rule::MarkedPunct,
+            Rule::Other,
+        ],
+        Start::Closing(Delimiter::Brace) => &[
+            Rule::Closing(Delimiter::Brace),
+            Rule::Identifier,
+            Rule::MarkedPunct,
+            Rule::Other,
+        ],
+        Start::Closing(Delimiter::Bracket) => &[
+            Rule::Closing(Delimiter::Bracket),
+            Rule::Identifier,
+            Rule::MarkedPunct,
+            Rule::Other,
+        ],
+        Start::Closing(Delimiter::None) => &[Rule::Identifier, Rule::MarkedPunct, Rule::Other],
+    }
+}
+
+impl Rules {
+    // Those that may begin so.
+    fn at(self, start: Start) -> &'static [Rule]
+        ensures { result.now ≡ only start (rules_of self) }
+    {
+        match self {
+            Rules::Plain => plain_at(start),
+            Rules::Marked => marked_at(start),
+        }
+    }
+
+    fn punct(self) -> Rule
+        ensures { result ≡ punct_rule self }
+    {
+        match self {
+            Rules::Plain => Rule::Punct,
+            Rules::Marked => Rule::MarkedPunct,
+        }
+    }
+}
 
 impl Rule {
     /// What follows the piece that this rule takes from the front of the text.
@@ -168,34 +351,6 @@ impl Rule {
         }
     }
 
-    /// Whether a piece of this rule may begin with this character.
-    fn may_begin(self, first: char) -> bool
-        ensures { result ≡ may_begin self first }
-    {
-        match self {
-            Rule::ByteOrderMark => first == '\u{FEFF}',
-            Rule::LineComment => first == '/',
-            Rule::BlockComment => first == '/',
-            Rule::OpenComment => first == '/',
-            Rule::Opening(delimiter) => first == opening_mark(delimiter),
-            Rule::Closing(delimiter) => first == closing_mark(delimiter),
-            Rule::QuotedString => first == '"',
-            Rule::BadString => first == '"',
-            Rule::ByteChar => first == 'b',
-            Rule::BadByteChar => first == 'b',
-            Rule::EscapedChar => first == '\'',
-            Rule::BadEscapedChar => first == '\'',
-            Rule::PlainChar => first == '\'',
-            Rule::Lifetime => first == '\'',
-            Rule::Apostrophe => first == '\'',
-            Rule::MarkedApostrophe => first == '\'',
-            Rule::Based(_) => first == '0',
-            Rule::BadBased(_) => first == '0',
-            Rule::RawIdentifier => first == 'r',
-            _ => true,
-        }
-    }
-
     fn is_group_mark(self) -> bool
         ensures { result ≡ is_group_mark self }
     {
@@ -215,18 +370,21 @@ impl Rule {
 }
 
 /// The first of the rules that fits at the front of the text, and what follows its piece.
-pub fn first_rule<'a>(rules: &[Rule], text: &'a str) -> Option<(Rule, &'a str)>
-    ensures tries { TriesRules rules.now (chars text.now) result }
+pub fn first_rule(rules: Rules, text: &str) -> Option<(Rule, &str)>
+    ensures tries { TriesRules (rules_of rules) (chars text.now) result }
     ensures utf8 { IfSome result (λ found. IsUtf8 found.1.now) }
 {
-    let Some((first, _)) = next_char(text) else {
-        return None;
-    };
-    for rule in rules {
-        // The first character rules most of them out, without a second look at the text.
-        if !rule.may_begin(first) {
-            continue;
-        }
+    let (first, rest) = next_char(text)?;
+    // Most pieces are told by their first character alone.
+    let start = Start::of(first);
+    match start {
+        Start::Whitespace => return Some((Rule::Whitespace, rest)),
+        Start::Letter => return Some((Rule::Identifier, past_continues(rest))),
+        Start::Punct => return Some((rules.punct(), rest)),
+        _ => {}
+    }
+    let those = rules.at(start);
+    for rule in those {
         if let Some(rest) = rule.past(text) {
             return Some((*rule, rest));
         }

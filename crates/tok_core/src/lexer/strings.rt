@@ -1,16 +1,17 @@
 // Strings.
 ghost use Rattle.std.specs.Prelude.{IfSome, length, ◌<◌};
 ghost use Rattle.std.specs.Str.{chars, IsUtf8};
-ghost use Rattle.tok_core.specs.Lexical.Pieces.{Tries, Finds};
-ghost use Rattle.tok_core.specs.Lexical.Strings.{IsUnit, IsString};
+ghost use Rattle.tok_core.specs.Lexical.Pieces.{Tries};
+ghost use Rattle.tok_core.specs.Lexical.Strings.{IsString};
+ghost use Rattle.tok_core.specs.Lexical.Built.{FindsUnits};
 
 use crate::lexer::escapes::past_escape;
-use crate::lexer::text::{next_char, past_char};
+use crate::lexer::text::{next_char, past_char, past_others};
 use crate::lexer::words::past_suffix;
 
-/// Past one character of a string, or one escape.
-fn past_unit(text: &str) -> Option<&str>
-    ensures finds { Finds IsUnit (chars text.now) result }
+/// Past one escape of a string, or past the characters up to the next one or to a quote.
+fn past_units(text: &str) -> Option<&str>
+    ensures finds { FindsUnits (chars text.now) result }
     ensures utf8 { IfSome result (λ rest. IsUtf8 rest.now) }
     ensures shorter { IfSome result (λ rest. length rest.now < length text.now) }
 {
@@ -18,7 +19,11 @@ fn past_unit(text: &str) -> Option<&str>
         return past_escape(rest, true, false);
     }
     let (first, rest) = next_char(text)?;
-    if first == '"' { None } else { Some(rest) }
+    if first == '"' {
+        None
+    } else {
+        Some(past_others(rest, b'"', b'\\'))
+    }
 }
 
 /// Past a string and its suffix.
@@ -28,7 +33,7 @@ pub fn past_string(text: &str) -> Option<&str>
 {
     let start = past_char(text, '"')?;
     let mut rest = start;
-    while let Some(after) = past_unit(rest) {
+    while let Some(after) = past_units(rest) {
         rest = after;
     }
     match past_char(rest, '"') {

@@ -1,7 +1,8 @@
 // A text, read from its front.
-ghost use Rattle.std.specs.Prelude.{◌≡◌, ℕ, ◌<◌, ◌+◌, ◌++◌, ◌∷◌, [], length, List, MatchOption, IfSome, encode_utf8, encode_utf8_all};
+ghost use Rattle.std.specs.Prelude.{◌≡◌, ℕ, ◌<◌, ◌≤◌, ◌+◌, ◌++◌, ◌∷◌, [], length, List, MatchOption, IfSome, encode_utf8, encode_utf8_all};
 ghost use Rattle.std.specs.Str.{chars, IsUtf8};
 ghost use Rattle.tok_core.specs.Lexical.Meaning.{behind_first};
+ghost use Rattle.tok_core.specs.Lexical.Pieces.{Skips, is_neither};
 
 /// The first character of a text, and what follows it.
 pub fn next_char(text: &str) -> Option<(char, &str)>
@@ -71,4 +72,23 @@ pub fn past_first(text: &str) -> &str
         Some((_, rest)) => rest,
         None => text,
     }
+}
+
+/// What follows the characters at the front that are neither of these.
+pub fn past_others(text: &str, one: u8, other: u8) -> &str
+    requires one { one < 128 }
+    requires other { other < 128 }
+    ensures skips { (front : List ℕ) × Skips (is_neither one other) (chars text.now) front (chars result.now) }
+    ensures shorter { length result.now ≤ length text.now }
+{
+    let end = match text
+        .as_bytes()
+        .iter()
+        .position(|&byte| byte == one || byte == other)
+    {
+        Some(end) => end,
+        None => text.len(),
+    };
+    let (_, rest) = text.split_at(end);
+    rest
 }

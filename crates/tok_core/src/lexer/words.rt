@@ -14,13 +14,31 @@ pub fn is_identifier_start(c: char) -> bool
     is_xid_start(c) || c == '_'
 }
 
+// Each ASCII character that may go on in an identifier stands at its own place, and a dash at every other place.
+static CONTINUES: [u8; 128] = *b"\
+    --------------------------------\
+    ----------------0123456789------\
+    -ABCDEFGHIJKLMNOPQRSTUVWXYZ----_\
+    -abcdefghijklmnopqrstuvwxyz-----";
+
+// Whether a character may go on in an identifier.
+fn goes_on(c: char) -> bool
+    ensures { result ≡ is_xid_continue c }
+{
+    if c < '\u{80}' {
+        CONTINUES[c as usize] != b'-'
+    } else {
+        is_xid_continue(c)
+    }
+}
+
 /// Past the characters at the front that may go on in an identifier.
-fn past_continues(text: &str) -> &str
+pub fn past_continues(text: &str) -> &str
     ensures { (front : List ℕ) × Skips is_xid_continue (chars text.now) front (chars result.now) }
 {
     let mut rest = text;
     while let Some((c, after)) = next_char(rest) {
-        if !is_xid_continue(c) {
+        if !goes_on(c) {
             break;
         }
         rest = after;

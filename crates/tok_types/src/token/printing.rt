@@ -10,7 +10,7 @@ use std::alloc::AllocError;
 use tok_core::{Punct, Spacing, Span, TokenStream, TokenTree};
 
 /// Writes a punct for each character of a text, each but the last joint, at the span with the same index. Writes nothing if
-/// there aren't as many spans as bytes, or if a character is no punct's. Where memory is refused, the puncts that were
+/// there aren't as many spans as bytes, or if a character is no punct's. After an allocation failure, the puncts that were
 /// written before stay.
 pub fn punct(text: &str, spans: &[Span], tokens: &mut TokenStream) -> Result<(), AllocError>
     ensures ok { OnOk result (tokens.new ≡ joined tokens.old (puncts text.now spans.now)) }

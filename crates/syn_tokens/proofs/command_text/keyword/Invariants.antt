@@ -1,4 +1,4 @@
-use Rattle.std.proofs.Common.{◌-◌, ◌≤◌}
+use Rattle.std.proofs.Common.{◌-◌}
 use Rattle.tok_types.specs.Texts.{keywords}
 use Rattle.syn_tokens.proofs.Numbers.{PassedOver}
 use Rattle.syn_tokens.proofs.command_text.keyword.Given as goal

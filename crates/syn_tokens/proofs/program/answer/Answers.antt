@@ -1,4 +1,5 @@
 use Rattle.std.proofs.Common.{rules}
+use Rattle.syn_tokens.specs.Failures.{FailsToWrite}
 use Rattle.syn_tokens.specs.Program.{Serves}
 use Rattle.syn_tokens.proofs.Once.{serves_only}
 use Rattle.syn_tokens.proofs.program.answer.Goals as goal
@@ -6,7 +7,8 @@ use Rattle.syn_tokens.proofs.program.answer.Goals as goal
 pub returns-in-Ok-clause-only : goal.returns-in-Ok-clause-only
 returns-in-Ok-clause-only g c =
     let bytes = c.args.input.now in
-    let old = g.W.Write.contents c.args.output.now in
-    let new = g.W.Write.contents c.send.new.output in
-    let served : Serves bytes c.send.result old new = search rules in
-    serves_only bytes c.send.result old new served
+    let old = g.W.Sink.contents c.args.output.now in
+    let new = g.W.Sink.contents c.send.new.output in
+    let unwritten = FailsToWrite g.W.Sink.writes g.W.Sink.flushes c.args.output.now c.send.new.output in
+    let served : Serves ⊥ unwritten bytes c.send.result old new = search rules in
+    serves_only ⊥ unwritten bytes c.send.result old new served

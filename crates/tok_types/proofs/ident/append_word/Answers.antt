@@ -1,7 +1,7 @@
-use Rattle.std.proofs.Common.{◌∙◌, sym, ap}
+use Rattle.std.proofs.Common.{◌∙◌, sym, ap, rules}
 use Rattle.tok_core.specs.Forest.{joined}
 use Rattle.tok_core.proofs.Facts.{joined-none}
-use Rattle.tok_types.proofs.Words.{suffix-identifier, word-empty}
+use Rattle.tok_types.proofs.Words.{suffix-identifier, word-empty, word-refused}
 use Rattle.tok_types.proofs.ident.append_word.Goals as goal
 
 pub returns-then-is_empty-clause-ok : goal.returns-then-is_empty-clause-ok
@@ -10,3 +10,9 @@ returns-then-is_empty-clause-ok c =
 
 pub identifier-requires : goal.identifier-requires
 identifier-requires c = suffix-identifier c.args.text.now c.utf8.text (sym c.is_empty.ensures ∙ c.if-is_empty.false) c.requires
+
+pub returns-in_err-ident-clause-err : goal.returns-in_err-ident-clause-err
+returns-in_err-ident-clause-err c = word-refused _ c.args.text.now c.args.span _ _ (sym c.is_empty.ensures ∙ c.if-is_empty.false) (search rules)
+
+pub returns-clause-err : goal.returns-clause-err
+returns-clause-err c = word-refused _ c.args.text.now c.args.span _ _ (sym c.is_empty.ensures ∙ c.if-is_empty.false) c.append.ensures.err

@@ -1,5 +1,4 @@
 use Rattle.std.proofs.Common.{◌≡◌, ◌-◌, ◌<◌, ap, sym, ◌∙◌, refl, length, Some, None, arith}
-use Rattle.syn_tokens.specs.Links.{links_of}
 use Rattle.syn_tokens.specs.Tracks.{state_of}
 use Rattle.syn_tokens.proofs.Discards.{spend_along, spend_falls, spend_first, spend_more, spend_none, spend_within}
 use Rattle.syn_tokens.proofs.Linked.{length-links}

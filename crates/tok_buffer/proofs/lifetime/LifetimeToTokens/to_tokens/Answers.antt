@@ -7,10 +7,10 @@ use Rattle.tok_buffer.proofs.Appended.{then_tree}
 use Rattle.tok_buffer.proofs.lifetime.LifetimeToTokens.to_tokens.Goals as goal
 
 pub returns-in_err-ident-clause-err : goal.returns-in_err-ident-clause-err
-returns-in_err-ident-clause-err c = none_appended _ _ _ _ (search rules)
+returns-in_err-ident-clause-err c = none_appended _ _ _ _ _ (search rules)
 
 pub returns-in_err-append-clause-err : goal.returns-in_err-append-clause-err
-returns-in_err-append-clause-err c = none_appended _ _ _ _ (search rules)
+returns-in_err-append-clause-err c = none_appended _ _ _ _ _ (search rules)
 
 pub returns-clause-ok : goal.returns-clause-ok
 returns-clause-ok c =

@@ -6,4 +6,4 @@ use Rattle.tok_core.proofs.lexer.words.past_continues.Goals as goal
 pub loop-c-preserved : goal.loop-c-preserved
 loop-c-preserved c =
     let i = c.loop-c.invariant.1 in
-    (c.in-Some.ensures.utf8, skips_more is_xid_continue _ _ _ i.0 c.in-Some.c i.1 i.2 c.in-Some.ensures.chars (sym c.is_xid_continue.ensures.value ∙ c.if-not-is_xid_continue.false))
+    (c.in-Some.ensures.utf8, skips_more is_xid_continue _ _ _ i.0 c.in-Some.c i.1 i.2 c.in-Some.ensures.chars (sym c.goes_on.ensures ∙ c.if-not-goes_on.false))

@@ -15,4 +15,4 @@ loop-c-preserved c =
 pub returns : goal.returns
 returns c =
     let text = quoted_end _ _ _ _ _ c.in-None.ensures.steps.0.0 c.loop-c.invariant.1 (c.in_ok-push-2.ensures.ascii (omega arith)) c.in_ok-push-2.ensures.bytes in
-    c.unchecked.ensures ∙ ap (λ w. literal w c.call_site.result) text ∙ ap (literal (quoted (chars c.args.text.now))) c.call_site.ensures
+    c.unchecked.ensures ∙ ap (λ w. literal w c.call_site.result) (c.in_ok-text.ensures ∙ text) ∙ ap (literal (quoted (chars c.args.text.now))) c.call_site.ensures

@@ -11,14 +11,14 @@ loop-next-init c = sym (joined-none c.args.tokens.now)
 pub returns-in_err-clone-clause-err : goal.returns-in_err-clone-clause-err
 returns-in_err-clone-clause-err c =
     let P : Forest → Type 0 = λ all. AppendsFront c.args.tokens.now all c.loop-next.tokens in
-    let stopped : P c.args.self.now = subst P c.trees-next-items.ensures (some_appended _ _ c.trees-next-items.result.now c.loop-next.next-index c.loop-next.invariant) in
+    let stopped : P c.args.self.now = subst P c.trees-next-items.ensures (some_appended _ _ c.trees-next-items.result.now c.loop-next.next-index c.next-item.result c.loop-next-test.true c.next-item.is c.loop-next.invariant) in
     search rules
 
 pub returns-in_err-append-clause-err : goal.returns-in_err-append-clause-err
 returns-in_err-append-clause-err c =
     let P : Forest → Type 0 = λ all. AppendsFront c.args.tokens.now all c.append.new.self in
     let same : c.append.new.self ≡ c.loop-next.tokens = c.in_err-append.ensures.err in
-    let stopped : P c.args.self.now = subst P c.trees-next-items.ensures (some_appended _ _ c.trees-next-items.result.now c.loop-next.next-index (same ∙ c.loop-next.invariant)) in
+    let stopped : P c.args.self.now = subst P c.trees-next-items.ensures (some_appended _ _ c.trees-next-items.result.now c.loop-next.next-index c.next-item.result c.loop-next-test.true c.next-item.is (same ∙ c.loop-next.invariant)) in
     search rules
 
 pub loop-next-preserved : goal.loop-next-preserved

@@ -1,12 +1,8 @@
 use Rattle.std.proofs.Common.{subst, sym}
 use Rattle.std.specs.Str.{chars}
-use Rattle.tok_core.proofs.Fronts.{none_appended}
 use Rattle.tok_core.specs.Lexical.Words.{IsSuffix}
 use Rattle.tok_types.proofs.Words.{keyword-suffix}
 use Rattle.tok_types.proofs.keyword.KeywordToTokens.to_tokens.Goals as goal
 
 pub append_word-requires : goal.append_word-requires
 append_word-requires g c = subst (λ t. IsSuffix (chars t)) (sym c.keyword_text.ensures) (keyword-suffix g.row.K)
-
-pub returns-clause-err : goal.returns-clause-err
-returns-clause-err g c = none_appended _ _ _ _ c.append_word.ensures.err

@@ -22,7 +22,7 @@ pub returns-in_err-append-clause-err : goal.returns-in_err-append-clause-err
 returns-in_err-append-clause-err c =
     let same : c.append.new.self ≡ c.loop-index.tokens = c.in_err-append.ensures.err in
     let stopped : AppendsFront c.args.tokens.now (puncts c.args.text.now c.args.spans.now) c.append.new.self =
-    puncts_stopped c.args.text.now c.args.spans.now c.if-text-spans.false (sym c.are_puncts.ensures ∙ c.if-not-are_puncts.false) c.args.tokens.now c.append.new.self c.loop-index.index (same ∙ c.loop-index.invariant) in
+    puncts_stopped c.args.text.now c.args.spans.now c.if-text-spans.false (sym c.are_puncts.ensures ∙ c.if-not-are_puncts.false) c.args.tokens.now c.append.new.self c.loop-index.index c.loop-index-test.true (same ∙ c.loop-index.invariant) in
     search rules
 
 pub loop-index-preserved : goal.loop-index-preserved
