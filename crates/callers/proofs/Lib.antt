@@ -2,6 +2,7 @@ pub mod Fields
 pub mod Items
 pub mod ListTrees
 pub mod Names
+pub mod Nested
 pub mod Outcomes
 pub mod Parts
 pub mod SameViews

@@ -21,7 +21,7 @@ pub fn pair_of_idents<'a>(cursor: Cursor<'a>) -> Option<(&'a Ident, &'a Ident, C
     Some((first, second, rest))
 }
 
-/// The lifetime in front, of whatever name, also where its identifier stands in an invisible group.
+/// The lifetime in front, of whatever name, even where its identifier is in an invisible group.
 pub fn any_lifetime<'a>(cursor: Cursor<'a>) -> Option<(Span, &'a Ident)>
     ensures { MatchOption result
         (read_lifetime any_text (place_of cursor.entry) ≡ None)

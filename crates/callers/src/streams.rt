@@ -7,6 +7,7 @@ ghost use Rattle.syn_parse.specs.Parses.{IsTree, TreeParses};
 ghost use Rattle.syn_parse.specs.Steps.{StepReads, step_state};
 ghost use Rattle.syn_parse.specs.Words.{refused_at};
 ghost use Rattle.callers.specs.Items.{FieldParses, FieldsParse, ItemParses, OptionalFieldParses};
+ghost use Rattle.callers.specs.Nested.{CountsEntries, CountsEntry};
 ghost use Rattle.callers.specs.Streams.{ChoosesKind};
 
 use syn_parse::laws::{forks_follow, parses_go_on};
@@ -129,10 +130,12 @@ pub fn optional_field(input: ParseStream<'_, '_>) -> Result<Option<Field>>
     }
 }
 
-/// How many names a nested list in parentheses has: 3 in `(a (b) ((c)))`. Each call takes something away from what remains.
+/// How many names one entry has, a name or a list of entries in parentheses: 3 in `(a (b) ((c)))`. It counts up to
+/// `u64::MAX` names. Where an error leaves the stream isn't specified.
 #[cycle(nested)]
 pub fn count_names(input: ParseStream<'_, '_>) -> Result<u64>
-    ensures { IfOk result (λ _. remaining input.new.place < remaining input.old.place) }
+    ensures counts { CountsEntry input.old result input.new }
+    ensures lowers { IfOk result (λ _. remaining input.new.place < remaining input.old.place) }
 {
     entries_go_on();
     parses_go_on();
@@ -140,14 +143,21 @@ pub fn count_names(input: ParseStream<'_, '_>) -> Result<u64>
         let _: Ident = input.parse()?;
         Ok(1)
     } else {
-        let (_, count) = input.within(Delimiter::Parenthesis, |content| count_all(content))?;
+        let (_, count) = input.within(
+            Delimiter::Parenthesis,
+            |content|
+                ensures { CountsEntries content.old result content.new }
+            { count_all(content) },
+        )?;
         Ok(count)
     }
 }
 
-// The names of all that is left.
+// The names of all entries that are left.
 #[cycle(nested)]
-fn count_all(input: ParseStream<'_, '_>) -> Result<u64> {
+fn count_all(input: ParseStream<'_, '_>) -> Result<u64>
+    ensures { CountsEntries input.old result input.new }
+{
     let mut count = 0u64;
     while !input.is_empty() {
         count = count.saturating_add(count_names(input)?);
