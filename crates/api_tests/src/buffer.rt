@@ -1,6 +1,7 @@
 // What no contract says: worked rows, printed texts, and that each call succeeds where memory is there.
 ghost use Rattle.std.specs.Prelude.{◌≤◌};
 
+use crate::unknown;
 use std::alloc::{AllocError, Global};
 use std::cmp::Ordering;
 use std::hash::{BuildHasher, BuildHasherDefault, FoldHasher};
@@ -103,8 +104,8 @@ fn tells_spans(rt: HostRuntime) -> Result<(), Fail> {
 #[test]
 fn compares_empty_cursors(rt: HostRuntime) -> Result<(), Fail> {
     let buffer = laid(rt.alloc(), 1, "a (b)")?;
-    let begin = buffer.begin();
-    let empty = Cursor::empty();
+    let begin = unknown(buffer.begin());
+    let empty = unknown(Cursor::empty());
     all_hold(
         &rt,
         &[
@@ -125,8 +126,8 @@ fn compares_empty_cursors(rt: HostRuntime) -> Result<(), Fail> {
 fn compares_cursors_of_two_buffers(rt: HostRuntime) -> Result<(), Fail> {
     let first = laid(rt.alloc(), 1, "a (b)")?;
     let second = laid(rt.alloc(), 2, "a (b)")?;
-    let begin = first.begin();
-    let other = second.begin();
+    let begin = unknown(first.begin());
+    let other = unknown(second.begin());
     assert!(rt; begin != other);
     assert!(rt; begin.partial_cmp(&other).is_none());
     Ok(())
@@ -135,9 +136,9 @@ fn compares_cursors_of_two_buffers(rt: HostRuntime) -> Result<(), Fail> {
 #[test]
 fn compares_scopes(rt: HostRuntime) -> Result<(), Fail> {
     let buffer = laid(rt.alloc(), 1, "a (b)")?;
-    let begin = buffer.begin();
-    let (_, group) = begin.ident().ok_or("no identifier")?;
-    let (content, _, _) = group.group(Delimiter::Parenthesis).ok_or("no group")?;
+    let begin = unknown(buffer.begin());
+    let (_, group) = unknown(begin.ident()).ok_or("no identifier")?;
+    let (content, _, _) = unknown(group.group(Delimiter::Parenthesis)).ok_or("no group")?;
     all_hold(
         &rt,
         &[
@@ -152,9 +153,9 @@ fn compares_scopes(rt: HostRuntime) -> Result<(), Fail> {
 #[test]
 fn orders_cursors(rt: HostRuntime) -> Result<(), Fail> {
     let buffer = laid(rt.alloc(), 1, "a (b)")?;
-    let begin = buffer.begin();
-    let (_, group) = begin.ident().ok_or("no identifier")?;
-    let (content, _, _) = group.group(Delimiter::Parenthesis).ok_or("no group")?;
+    let begin = unknown(buffer.begin());
+    let (_, group) = unknown(begin.ident()).ok_or("no identifier")?;
+    let (content, _, _) = unknown(group.group(Delimiter::Parenthesis)).ok_or("no group")?;
     assert!(rt; begin < group && group < content);
     assert_eq!(rt;
         laws::equal_in_order(begin, group),
@@ -166,8 +167,8 @@ fn orders_cursors(rt: HostRuntime) -> Result<(), Fail> {
 #[test]
 fn finds_the_leftover(rt: HostRuntime) -> Result<(), Fail> {
     let buffer = laid(rt.alloc(), 0, "(«a» b)")?;
-    let (content, delimiter, _, _) = buffer.begin().any_group().ok_or("no group")?;
-    let (_, rest) = content.ident().ok_or("no identifier")?;
+    let (content, delimiter, _, _) = unknown(buffer.begin().any_group()).ok_or("no group")?;
+    let (_, rest) = unknown(content.ident()).ok_or("no identifier")?;
     all_hold(
         &rt,
         &[
@@ -224,7 +225,7 @@ fn peeks_at_puncts(rt: HostRuntime) -> Result<(), Fail> {
 fn reads_puncts_with_their_spans(rt: HostRuntime) -> Result<(), Fail> {
     let buffer = laid(rt.alloc(), 0, "+«=» +")?;
     let mut spans = [Span::call_site(); 2];
-    let rest = buffer.begin().puncts("+=", &mut spans).ok_or("no puncts")?;
+    let rest = unknown(buffer.begin().puncts("+=", &mut spans)).ok_or("no puncts")?;
     all_hold(
         &rt,
         &[
@@ -314,7 +315,7 @@ fn spans_errors(rt: HostRuntime) -> Result<(), Fail> {
 fn refuses_at_a_cursor(rt: HostRuntime) -> Result<(), Fail> {
     let alloc = rt.alloc();
     let buffer = laid(alloc, 0, "(b)")?;
-    let here = Error::new_at(alloc, at(9, 9), buffer.begin(), "x")?;
+    let here = unknown(Error::new_at(alloc, at(9, 9), buffer.begin(), "x")?);
     assert_eq!(rt; here.span(), at(0, 1));
     Ok(())
 }
@@ -322,7 +323,7 @@ fn refuses_at_a_cursor(rt: HostRuntime) -> Result<(), Fail> {
 #[test]
 fn refuses_at_an_end(rt: HostRuntime) -> Result<(), Fail> {
     let alloc = rt.alloc();
-    let end = Error::new_at(alloc, at(9, 9), Cursor::empty(), "x")?;
+    let end = unknown(Error::new_at(alloc, at(9, 9), Cursor::empty(), "x")?);
     assert_eq!(rt; end.span(), at(9, 9));
     let text = end.to_string(alloc)?;
     assert_eq!(rt; text.as_str(), "unexpected end of input, x");
@@ -347,15 +348,15 @@ fn reports_what_is_not_read(rt: HostRuntime) -> Result<(), Fail> {
 
 // An error of two messages, `x` at 3..4 and `y` at 5..6.
 fn of_two(alloc: Global) -> Result<Error, AllocError> {
-    let mut error = Error::new(alloc, Span::source(0, 3, 4), "x")?;
-    error.combine(Error::new(alloc, Span::source(0, 5, 6), "y")?)?;
+    let mut error = unknown(Error::new(alloc, Span::source(0, 3, 4), "x")?);
+    error.combine(unknown(Error::new(alloc, Span::source(0, 5, 6), "y")?))?;
     Ok(error)
 }
 
 #[test]
 fn shows_an_error(rt: HostRuntime) -> Result<(), Fail> {
     let alloc = rt.alloc();
-    let one = Error::new(alloc, at(3, 4), "x")?;
+    let one = unknown(Error::new(alloc, at(3, 4), "x")?);
     let shown = format!(in alloc; "{one:?} {one}")?;
     assert_eq!(rt; shown.as_str(), "Error(\"x\") x");
     Ok(())
@@ -364,7 +365,7 @@ fn shows_an_error(rt: HostRuntime) -> Result<(), Fail> {
 #[test]
 fn shows_an_error_of_two_messages(rt: HostRuntime) -> Result<(), Fail> {
     let alloc = rt.alloc();
-    let two = of_two(alloc)?;
+    let two = unknown(of_two(alloc)?);
     let shown = format!(in alloc; "{two:?} {two}")?;
     assert_eq!(rt; shown.as_str(), "Error([\"x\", \"y\"]) x");
     Ok(())
@@ -375,7 +376,8 @@ fn lends_messages(rt: HostRuntime) -> Result<(), Fail> {
     let spans = [at(3, 4), at(5, 6)];
     let error = of_two(rt.alloc())?;
     for (row, one) in (&error).into_iter().enumerate() {
-        assert_eq!(rt; Some(one?.span()), spans.get(row).copied());
+        let one = unknown(one)?;
+        assert_eq!(rt; Some(one.span()), spans.get(row).copied());
     }
     Ok(())
 }
@@ -398,8 +400,8 @@ fn gives_messages(rt: HostRuntime) -> Result<(), Fail> {
 #[test]
 fn hands_errors_to_the_compiler(rt: HostRuntime) -> Result<(), Fail> {
     let alloc = rt.alloc();
-    let one = Error::new(alloc, at(3, 4), "x")?.to_compile_error(alloc)?;
-    let printed = one.to_string(alloc)?;
+    let one = unknown(Error::new(alloc, at(3, 4), "x")?);
+    let printed = unknown(one.to_compile_error(alloc)?).to_string(alloc)?;
     assert_eq!(rt; printed.as_str(), ":: core :: compile_error ! {\"x\"}");
     Ok(())
 }
@@ -438,9 +440,9 @@ fn refuses_lifetimes(rt: HostRuntime) -> Result<(), Fail> {
 #[test]
 fn compares_lifetimes(rt: HostRuntime) -> Result<(), Fail> {
     let alloc = rt.alloc();
-    let mut made = Lifetime::new(alloc, "'a", at(1, 3))?;
-    let raw = Lifetime::new(alloc, "'r#fn", at(4, 9))?;
-    let copy = made.clone()?;
+    let mut made = unknown(Lifetime::new(alloc, "'a", at(1, 3))?);
+    let raw = unknown(Lifetime::new(alloc, "'r#fn", at(4, 9))?);
+    let copy = unknown(made.clone()?);
     made.set_span(at(5, 6));
     made.apostrophe = at(2, 3);
     let hasher = BuildHasherDefault::<FoldHasher>::default();

@@ -1,4 +1,5 @@
 // What the makers of leaves take and refuse.
+use crate::unknown;
 use std::test::Fail;
 use tok_core::{Ident, Literal, MakeFault, Punct, Spacing, Span};
 
@@ -73,7 +74,7 @@ fn puncts(rt: HostRuntime) {
 
 #[test]
 fn strings(rt: HostRuntime) -> Result<(), Fail> {
-    let plain = Literal::string(rt.alloc(), "a\"b")?;
+    let plain = unknown(Literal::string(rt.alloc(), "a\"b")?);
     assert_eq!(rt; plain.as_str(), "\"a\\\"b\"");
     assert_eq!(rt; plain.span(), Span::call_site());
     Ok(())

@@ -13,3 +13,9 @@ mod lists;
 mod trees;
 #[cfg(test)]
 mod types;
+
+// A value of which the check of a test knows nothing: so the prover doesn't compute what the run computes.
+#[cfg(test)]
+fn unknown<T>(value: T) -> T {
+    value
+}

@@ -1,4 +1,4 @@
-// What trees and streams answer, on values made by hand.
+// What calls on trees and streams return, on values made by hand.
 use std::alloc::Global;
 use std::hash::{DefaultHasher, Hash, Hasher};
 use std::test::Fail;

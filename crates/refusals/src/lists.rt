@@ -75,7 +75,7 @@ pub fn calls(alloc: Global) -> Outcome {
     ])
 }
 
-// By whether the call was granted, what is to stand after each answer.
+// What is to be left, by whether the call succeeded.
 fn judge(call: &'static str, was_granted: bool, done: bool, as_before: bool) -> Outcome {
     let answer = if was_granted { Ok(()) } else { Err(AllocError) };
     stands(answer, done, as_before, call)

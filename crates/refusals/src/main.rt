@@ -1,13 +1,16 @@
-// Makes the calls that take memory, and looks at what each answers and at what stands afterwards.
+// Makes the calls that take memory, and looks at what each returns and at what is left afterwards.
 //
-// The status is 0 where each request for memory is granted; 3 where one is refused and all that stands is right; 1 where
+// The status is 0 where each request for memory is granted; 3 where one is refused and all that is left is right; 1 where
 // something is wrong, and then the name of the call is printed. Before the calls it makes one request for each byte of its
 // input: where always the 720th request is refused, inputs of 719 bytes and fewer bring each request of the calls there.
-// For the input `buffer` it lays out an empty stream and does nothing else.
+// For the input `buffer` it lays out an empty stream and does nothing else; for `laid out` it lays out some tokens, and for `free`
+// these same tokens, on which it then makes calls that take no memory. For the input `kept` and the name of a call it adds several
+// things by that call: where one is refused, the status is 10 and how many are there.
 #![tactic(auto)]
 
 mod argument_lists;
 mod cursors;
+mod kept;
 mod lists;
 mod outcome;
 mod replays;
@@ -15,6 +18,7 @@ mod streams;
 mod tokens;
 mod trees;
 
+use kept::Kept;
 use outcome::{Outcome, Stop};
 use std::alloc::{AllocError, Global};
 use std::io::Read;
@@ -25,10 +29,21 @@ fn main(rt: HostRuntime) -> ExitCode {
     let Ok(count) = rt.stdin().read(&mut bytes) else {
         return ExitCode::FAILURE;
     };
+    let alloc = rt.alloc();
     let outcome = if bytes.starts_with(b"buffer") {
-        cursors::empty_buffer(rt.alloc())
+        cursors::empty_buffer(alloc)
+    } else if bytes.starts_with(b"laid out") {
+        streams::free::laid_out(alloc)
+    } else if bytes.starts_with(b"free") {
+        streams::free::calls(alloc)
+    } else if bytes.starts_with(b"kept ") {
+        match kept_by(alloc, &bytes[5..], count) {
+            Ok(kept) if kept.is_refused => return ExitCode::from(status(kept.count)),
+            Ok(_) => Ok(()),
+            Err(stop) => Err(stop),
+        }
     } else {
-        run(rt.alloc(), count)
+        run(alloc, count)
     };
     match outcome {
         Ok(()) => ExitCode::SUCCESS,
@@ -38,6 +53,24 @@ fn main(rt: HostRuntime) -> ExitCode {
             ExitCode::FAILURE
         }
     }
+}
+
+// What the call of this name keeps, after so many other requests.
+fn kept_by(alloc: Global, call: &[u8], before: usize) -> Result<Kept, Stop> {
+    spend(alloc, before)?;
+    if call.starts_with(b"tokens") {
+        kept::tokens(alloc)
+    } else if call.starts_with(b"values") {
+        kept::values(alloc)
+    } else if call.starts_with(b"pairs") {
+        kept::pairs(alloc)
+    } else {
+        kept::errors(alloc)
+    }
+}
+
+fn status(count: usize) -> u8 {
+    u8::try_from(count.saturating_add(10)).unwrap_or(u8::MAX)
 }
 
 fn run(alloc: Global, before: usize) -> Outcome {

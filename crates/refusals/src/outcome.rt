@@ -9,7 +9,7 @@ use tok_core::{LexFault, MakeFault};
 /// All was granted and right, or why the calls stop.
 pub type Outcome = Result<(), Stop>;
 
-/// Memory was refused, and what stands is right; or something is wrong after this call.
+/// An allocation failed, and what is left is right; or something is wrong after this call.
 #[derive(Clone, Copy)]
 pub enum Stop {
     Refused,
@@ -73,7 +73,7 @@ pub fn expect(is_right: bool, call: &'static str) -> Outcome {
     }
 }
 
-/// Stops where what stands is wrong, after this call was granted or after it was refused.
+/// Stops where what is left is wrong, after this call succeeded or after it failed.
 pub fn stands(
     answer: Result<(), AllocError>,
     granted: bool,

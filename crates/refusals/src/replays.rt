@@ -170,7 +170,7 @@ fn is_whole(left: Option<&[u8]>) -> bool {
     matches!(left, Some(rest) if rest.is_empty())
 }
 
-// Serves an input: its whole answer is written, with this status, or `memory` alone.
+// Serves an input: all that it prints is written, with this status, or `memory` alone.
 fn serves(alloc: Global, input: &str, answer: &str, status: u8) -> Outcome {
     let mut input = input.as_bytes();
     let mut output = Compared {

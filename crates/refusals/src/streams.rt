@@ -1,4 +1,5 @@
-//! The calls of `syn_parse` that take memory.
+//! The calls of `syn_parse` that take memory, and some that take none.
+pub mod free;
 mod groups;
 mod lists;
 mod looks;

@@ -27,7 +27,7 @@ fn words(alloc: Global) -> Outcome {
     write(alloc, &underscore, &["+ + + +", "+ + + + _"], call)
 }
 
-// Of several puncts a front may stand: `printing::punct` writes them.
+// Of several puncts a front may be left: `printing::punct` writes them.
 fn marks(alloc: Global) -> Outcome {
     let mark = token::DotDotEq::from_span(span());
     let fronts = ["+ + + +", "+ + + + .", "+ + + + ..", "+ + + + ..="];

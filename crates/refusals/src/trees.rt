@@ -24,6 +24,11 @@ pub fn calls(alloc: Global) -> Outcome {
     ])
 }
 
+// Longer than what stands in place in a `Text`, so that each takes memory.
+const NAME: &str = "abcdefghijklmnop";
+
+const RAW_NAME: &str = "r#abcdefghijklmnop";
+
 // The span of all that is made here.
 pub fn span() -> Span {
     Span::source(1, 2, 4)
@@ -61,31 +66,40 @@ pub fn is_stream(stream: &TokenStream, text: &str) -> bool {
 }
 
 fn idents(alloc: Global) -> Outcome {
-    let ident = made(Ident::new(alloc, "ab", span()), "Ident::new")?;
-    expect(is_ident(&ident, "ab"), "Ident::new")?;
-    let raw = made(Ident::new_raw(alloc, "fn", span()), "Ident::new_raw")?;
-    expect(is_ident(&raw, "r#fn"), "Ident::new_raw")?;
+    let ident = made(Ident::new(alloc, NAME, span()), "Ident::new")?;
+    expect(is_ident(&ident, NAME), "Ident::new")?;
+    let raw = made(Ident::new_raw(alloc, NAME, span()), "Ident::new_raw")?;
+    expect(is_ident(&raw, RAW_NAME), "Ident::new_raw")?;
     let plain = raw.unraw(alloc);
-    expect(is_ident(&raw, "r#fn"), "Ident::unraw")?;
-    expect(is_ident(&plain?, "fn"), "Ident::unraw")?;
+    expect(is_ident(&raw, RAW_NAME), "Ident::unraw")?;
+    expect(is_ident(&plain?, NAME), "Ident::unraw")?;
     let copy = ident.clone();
-    expect(is_ident(&ident, "ab"), "Ident::clone")?;
-    expect(is_ident(&copy?, "ab"), "Ident::clone")
+    expect(is_ident(&ident, NAME), "Ident::clone")?;
+    expect(is_ident(&copy?, NAME), "Ident::clone")
 }
 
 fn literals(alloc: Global) -> Outcome {
-    let literal = Literal::string(alloc, "q\n")?;
-    expect(is_literal(&literal, "\"q\\n\""), "Literal::string")?;
+    let literal = Literal::string(alloc, "abcdefghijklm\n")?;
+    expect(
+        is_literal(&literal, "\"abcdefghijklm\\n\""),
+        "Literal::string",
+    )?;
     let copy = literal.clone();
-    expect(is_literal(&literal, "\"q\\n\""), "Literal::clone")?;
-    expect(is_literal(&copy?, "\"q\\n\""), "Literal::clone")
+    expect(
+        is_literal(&literal, "\"abcdefghijklm\\n\""),
+        "Literal::clone",
+    )?;
+    expect(is_literal(&copy?, "\"abcdefghijklm\\n\""), "Literal::clone")
 }
 
 fn texts(alloc: Global) -> Outcome {
-    let text = Text::new(String::from_str(alloc, "ab")?);
+    let text = Text::from_str(alloc, NAME)?;
+    expect(text.as_str() == NAME, "Text::from_str")?;
     let copy = text.clone();
-    expect(text.as_str() == "ab", "Text::clone")?;
-    expect(copy?.as_str() == "ab", "Text::clone")
+    expect(text.as_str() == NAME, "Text::clone")?;
+    expect(copy?.as_str() == NAME, "Text::clone")?;
+    let taken = Text::from_string(alloc, String::from_str(alloc, NAME)?)?;
+    expect(taken.as_str() == NAME, "Text::from_string")
 }
 
 fn plus() -> Result<Punct, Stop> {
@@ -115,7 +129,7 @@ fn appends(alloc: Global) -> Outcome {
 
 // A group with an identifier inside.
 fn group(alloc: Global) -> Result<Group, Stop> {
-    let ident = made(Ident::new(alloc, "ab", span()), "Ident::new")?;
+    let ident = made(Ident::new(alloc, NAME, span()), "Ident::new")?;
     let mut inside = TokenStream::new(alloc);
     inside.append(TokenTree::Ident(ident))?;
     Ok(Group::new(Delimiter::Brace, inside, span()))
@@ -124,7 +138,7 @@ fn group(alloc: Global) -> Result<Group, Stop> {
 fn is_group(group: &Group) -> bool {
     group.delimiter() == Delimiter::Brace
         && group.span() == span()
-        && is_stream(group.stream(), "ab")
+        && is_stream(group.stream(), NAME)
 }
 
 fn clones(alloc: Global) -> Outcome {
@@ -136,12 +150,21 @@ fn clones(alloc: Global) -> Outcome {
     let tree = TokenTree::Group(group);
     let copy = tree.clone();
     stream.append(tree)?;
-    expect(is_stream(&stream, "{ab}"), "TokenTree::clone")?;
+    expect(is_stream(&stream, "{abcdefghijklmnop}"), "TokenTree::clone")?;
     stream.append(copy?)?;
-    expect(is_stream(&stream, "{ab} {ab}"), "TokenTree::clone")?;
+    expect(
+        is_stream(&stream, "{abcdefghijklmnop} {abcdefghijklmnop}"),
+        "TokenTree::clone",
+    )?;
     let copy = stream.clone();
-    expect(is_stream(&stream, "{ab} {ab}"), "TokenStream::clone")?;
-    expect(is_stream(&copy?, "{ab} {ab}"), "TokenStream::clone")
+    expect(
+        is_stream(&stream, "{abcdefghijklmnop} {abcdefghijklmnop}"),
+        "TokenStream::clone",
+    )?;
+    expect(
+        is_stream(&copy?, "{abcdefghijklmnop} {abcdefghijklmnop}"),
+        "TokenStream::clone",
+    )
 }
 
 // Four pluses: so many trees have room in the memory that a stream asks for first.
@@ -153,7 +176,7 @@ pub fn pluses(alloc: Global) -> Result<TokenStream, Stop> {
     Ok(stream)
 }
 
-// Writes a value after four pluses. Where memory is refused one of these fronts stands there, and else the last.
+// Writes a value after four pluses. After an allocation failure one of these fronts is there, and else the last.
 pub fn write<T: ToTokens>(
     alloc: Global,
     value: &T,
@@ -178,36 +201,60 @@ pub fn write<T: ToTokens>(
 fn leaves_as_tokens(alloc: Global) -> Outcome {
     let call = "Punct::to_tokens";
     write(alloc, &plus()?, &["+ + + +", "+ + + + +"], call)?;
-    let ident = made(Ident::new(alloc, "ab", span()), "Ident::new")?;
+    let ident = made(Ident::new(alloc, NAME, span()), "Ident::new")?;
     let call = "Ident::to_tokens";
-    write(alloc, &ident, &["+ + + +", "+ + + + ab"], call)?;
-    let mut literal = Literal::string(alloc, "q")?;
+    write(
+        alloc,
+        &ident,
+        &["+ + + +", "+ + + + abcdefghijklmnop"],
+        call,
+    )?;
+    let mut literal = Literal::string(alloc, NAME)?;
     literal.set_span(span());
     let call = "Literal::to_tokens";
-    write(alloc, &literal, &["+ + + +", "+ + + + \"q\""], call)
+    write(
+        alloc,
+        &literal,
+        &["+ + + +", "+ + + + \"abcdefghijklmnop\""],
+        call,
+    )
 }
 
 fn trees_as_tokens(alloc: Global) -> Outcome {
     let group = group(alloc)?;
     let call = "Group::to_tokens";
-    write(alloc, &group, &["+ + + +", "+ + + + {ab}"], call)?;
+    write(
+        alloc,
+        &group,
+        &["+ + + +", "+ + + + {abcdefghijklmnop}"],
+        call,
+    )?;
     let tree = TokenTree::Group(group);
     let call = "TokenTree::to_tokens";
-    write(alloc, &tree, &["+ + + +", "+ + + + {ab}"], call)?;
+    write(
+        alloc,
+        &tree,
+        &["+ + + +", "+ + + + {abcdefghijklmnop}"],
+        call,
+    )?;
     let mut stream = TokenStream::new(alloc);
     stream.append(tree)?;
     stream.append(TokenTree::Punct(plus()?))?;
-    let fronts = ["+ + + +", "+ + + + {ab}", "+ + + + {ab} +"];
+    let fronts = [
+        "+ + + +",
+        "+ + + + {abcdefghijklmnop}",
+        "+ + + + {abcdefghijklmnop} +",
+    ];
     write(alloc, &stream, &fronts, "TokenStream::to_tokens")
 }
 
 fn own_streams(alloc: Global) -> Outcome {
-    let ident = made(Ident::new(alloc, "ab", span()), "Ident::new")?;
+    let ident = made(Ident::new(alloc, NAME, span()), "Ident::new")?;
     let tokens = ident.to_token_stream(alloc);
-    expect(is_ident(&ident, "ab"), "ToTokens::to_token_stream")?;
-    expect(is_stream(&tokens?, "ab"), "ToTokens::to_token_stream")?;
+    expect(is_ident(&ident, NAME), "ToTokens::to_token_stream")?;
+    expect(is_stream(&tokens?, NAME), "ToTokens::to_token_stream")?;
     let tokens = ident.into_token_stream(alloc)?;
-    expect(is_stream(&tokens, "ab"), "ToTokens::into_token_stream")
+    expect(is_stream(&tokens, NAME), "ToTokens::into_token_stream")
 }
 
 // A stream with nothing but an invisible group.
@@ -238,7 +285,7 @@ fn read(stream: Result<TokenStream, LexFault>, text: &str, call: &'static str) -
 }
 
 fn reads(alloc: Global) -> Outcome {
-    let text = "a += ('b [{1}] \"c\")";
+    let text = "abcdefghijklmnop += ('b [{1}] \"abcdefghijklmnop\")";
     read(lex(alloc, 0, text), text, "lex")?;
     let text = "«a «()» +»";
     read(lex_marked(alloc, 0, text), text, "lex_marked")

@@ -309,16 +309,30 @@ impl Write for Full {
 
 #[test]
 fn fails_with_its_reader(rt: HostRuntime) -> Result<(), Fail> {
-    for (fails, status, output) in [(true, 2, ""), (false, 0, "read a 0..1 @1\naccepted\n")] {
+    let text = b"a\n---\nparse 0 Ident\n".as_slice();
+    for count in 0..=20usize {
         let mut input = Slow {
-            left: b"a\n---\nparse 0 Ident\n",
+            left: text.get(..count).unwrap_or(text),
             is_ready: false,
-            fails,
+            fails: true,
         };
         let mut written = Vec::new(rt.alloc());
-        assert_eq!(rt; serve(rt.alloc(), &mut input, &mut written), status);
-        assert_eq!(rt; from_utf8(&written)?, output);
+        let status = serve(rt.alloc(), &mut input, &mut written);
+        assert!(rt; status == 2 && written.is_empty(), "after {count} bytes");
     }
+    Ok(())
+}
+
+#[test]
+fn reads_byte_by_byte(rt: HostRuntime) -> Result<(), Fail> {
+    let mut input = Slow {
+        left: b"a\n---\nparse 0 Ident\n",
+        is_ready: false,
+        fails: false,
+    };
+    let mut written = Vec::new(rt.alloc());
+    assert_eq!(rt; serve(rt.alloc(), &mut input, &mut written), 0);
+    assert_eq!(rt; from_utf8(&written)?, "read a 0..1 @1\naccepted\n");
     Ok(())
 }
 

@@ -45,7 +45,7 @@ fn entered(report: &Report) -> usize {
     count
 }
 
-// Enters 500 parentheses in a thousand groups, and reads what stands in them.
+// Enters 500 parentheses in a thousand groups, and reads what is in them.
 fn reads_within(alloc: Global) -> Result<Report, Fail> {
     let mut commands = enters(alloc, 500)?;
     commands.push(Command::Parse(500, Kind::Ident))?;

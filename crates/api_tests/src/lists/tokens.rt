@@ -2,6 +2,7 @@
 ghost use Rattle.tok_core.specs.Forest.{no_trees, tree};
 ghost use Rattle.tok_core.specs.Seen.{group_of};
 
+use crate::unknown;
 use std::alloc::{AllocError, Global};
 use std::test::Fail;
 use syn_punctuated::{Pair, Punctuated};
@@ -61,10 +62,10 @@ fn writes_values_and_separators_by_turns(rt: HostRuntime) -> Result<(), Fail> {
 #[test]
 fn writes_a_pair(rt: HostRuntime) -> Result<(), Fail> {
     let alloc = rt.alloc();
-    let pair = Pair::Punctuated(
+    let pair = unknown(Pair::Punctuated(
         empty(alloc, Delimiter::Brace),
         empty(alloc, Delimiter::Bracket),
-    );
+    ));
     assert_eq!(rt; text(alloc, &pair)?.as_str(), "{} []");
     Ok(())
 }

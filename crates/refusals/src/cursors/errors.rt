@@ -149,7 +149,7 @@ fn clone(error: &Error) -> Outcome {
     expect(count(error.clone()?, &[1, 2]) == Some(2), "Error::clone")
 }
 
-// A copy that is refused is answered as refused, and the next one comes.
+// A copy that fails is returned as an error, and the next one comes.
 fn lent(error: &Error) -> Outcome {
     let mut positions = [1, 2].as_slice();
     let mut copied = Ok(());

@@ -85,7 +85,7 @@ fn peeks_at_three_places(rt: HostRuntime) -> Result<(), Fail> {
     Ok(())
 }
 
-// What is wanted, and what stands there.
+// What is wanted, and what is there.
 #[test]
 fn refuses_in_the_words_of_a_kind(rt: HostRuntime) -> Result<(), Fail> {
     for (text, commands, lines, status) in [

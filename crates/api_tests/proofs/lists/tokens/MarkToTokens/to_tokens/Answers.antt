@@ -4,4 +4,4 @@ use Rattle.tok_core.specs.Forest.{no_trees}
 use Rattle.api_tests.proofs.lists.tokens.MarkToTokens.to_tokens.Goals as goal
 
 pub returns-then-eq-clause-err : goal.returns-then-eq-clause-err
-returns-then-eq-clause-err c = (no_trees, _, refl, sym (joined-none c.args.tokens.now))
+returns-then-eq-clause-err c = (no_trees, _, no_trees, refl, sym (joined-none c.args.tokens.now))

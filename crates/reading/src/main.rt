@@ -1,0 +1,40 @@
+// Reads a text as far as the first line of standard input says: its trees, a buffer of them, or a list of names. The text is
+// what follows that line. bench/peers compares this program with one over other libraries that does the same.
+#![tactic(auto)]
+
+use anyhow::{Context, Result, bail};
+use std::alloc::Global;
+use std::io;
+use syn_parse::Parser;
+use syn_punctuated::Punctuated;
+use tok_buffer::TokenBuffer;
+use tok_core::{Ident, TokenStream, lex};
+use tok_types::token;
+
+fn main(rt: HostRuntime) -> Result<()> {
+    let alloc = rt.alloc();
+    let input = io::read_to_string(alloc, rt.stdin())?;
+    let (goal, text) = input
+        .split_once('\n')
+        .context("no line that says how far to read")?;
+    let tokens = lex(alloc, 0, text).ok().context("lexing the text")?;
+    let count = count(alloc, goal, tokens)?;
+    println!(rt; "{count}")?;
+    Ok(())
+}
+
+// How many names a list has; 1 for trees, or a buffer, that are not empty.
+fn count(alloc: Global, goal: &str, tokens: TokenStream) -> Result<usize> {
+    match goal {
+        "trees" => Ok(usize::from(!tokens.is_empty())),
+        "buffer" => {
+            let buffer = TokenBuffer::new2(alloc, 0, tokens)?;
+            Ok(usize::from(!buffer.begin().eof()))
+        }
+        "list" => {
+            let names = Punctuated::<Ident, token::Comma>::parse_terminated.parse2(alloc, tokens);
+            Ok(names.ok().context("parsing a list of names")?.len())
+        }
+        _ => bail!("neither trees nor buffer nor list"),
+    }
+}

@@ -1,0 +1,69 @@
+// What stays of several things that are added one by one, where memory is refused for one of them.
+use crate::outcome::Stop;
+use std::alloc::Global;
+use syn_punctuated::{Pair, Punctuated};
+use tok_buffer::Error;
+use tok_core::{Ident, Span, ToTokens, TokenStream, TokenTree};
+
+/// How many are there after the call, and whether memory was refused.
+#[derive(Clone, Copy)]
+pub struct Kept {
+    pub count: usize,
+    pub is_refused: bool,
+}
+
+// An error of one message.
+fn error(alloc: Global) -> Result<Error, Stop> {
+    Ok(Error::new(alloc, Span::call_site(), "x")?)
+}
+
+/// Writes a stream of four identifiers, so long that a copy of each takes memory.
+pub fn tokens(alloc: Global) -> Result<Kept, Stop> {
+    let mut names = TokenStream::new(alloc);
+    for _ in 0..4 {
+        let name = Ident::new(alloc, "a_long_identifier", Span::call_site())?;
+        names.append(TokenTree::Ident(name))?;
+    }
+    let mut tokens = TokenStream::new(alloc);
+    let is_refused = names.to_tokens(&mut tokens).is_err();
+    Ok(Kept {
+        count: tokens.trees().len(),
+        is_refused,
+    })
+}
+
+/// Extends a list by nine values.
+pub fn values(alloc: Global) -> Result<Kept, Stop> {
+    let mut list = Punctuated::<u32, char>::new(alloc);
+    let is_refused = list.extend_values(0..9).is_err();
+    Ok(Kept {
+        count: list.len(),
+        is_refused,
+    })
+}
+
+/// Extends a list by nine pairs.
+pub fn pairs(alloc: Global) -> Result<Kept, Stop> {
+    let mut list = Punctuated::<u32, char>::new(alloc);
+    let more = (0..9).map(|value| Pair::Punctuated(value, ','));
+    let is_refused = list.extend_pairs(more).is_err();
+    Ok(Kept {
+        count: list.len(),
+        is_refused,
+    })
+}
+
+/// Extends an error by nine others.
+pub fn errors(alloc: Global) -> Result<Kept, Stop> {
+    let mut all = error(alloc)?;
+    let mut more = Vec::new(alloc);
+    for _ in 0..9 {
+        more.push(error(alloc)?)?;
+    }
+    let is_refused = all.extend(more).is_err();
+    let mut count: usize = 0;
+    for _ in all {
+        count = count.saturating_add(1);
+    }
+    Ok(Kept { count, is_refused })
+}
