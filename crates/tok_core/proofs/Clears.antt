@@ -1,34 +1,34 @@
 -- Clear forests, one tree at a time.
 use Rattle.std.proofs.Common.{◌≡◌, ◌∙◌, sym, ap, refl, ◌-◌, ◌≤◌, Bool, true, false, not, ◌&&◌, List, [], ◌∷◌, length, get_or, arith}
-use Rattle.tok_core.specs.Clear.{clear, tree_clear, ends_joint, is_invisible, is_joint_apostrophe, starts_invisible}
+use Rattle.tok_core.specs.Clear.{clear, tree_clear, ends_joint, is_invisible_group, is_joint_apostrophe, starts_invisible}
 use Rattle.tok_core.specs.Forest.{Tree, Forest, tree}
 use Rattle.tok_core.specs.declared.stream.TokenTree.{TokenTree}
 use Rattle.tok_core.specs.Seen.{tree_of, trees_of}
 
 -- what a loop has left to show, after a tree that is a joint apostrophe or none
-abbrev pub clear_behind : Bool → Forest → Bool
-clear_behind joint f = not (joint && starts_invisible f) && clear f
+abbrev pub clear_after : Bool → Forest → Bool
+clear_after joint f = not (joint && starts_invisible f) && clear f
 
 and_assoc : (a b c : Bool) → (a && b && c) ≡ (a && (b && c))
 and_assoc true b c = refl
 and_assoc false b c = refl
 
-clear-tree : (t : Tree) (f : Forest) → clear (tree t f) ≡ (tree_clear t && clear_behind (is_joint_apostrophe t) f)
+clear-tree : (t : Tree) (f : Forest) → clear (tree t f) ≡ (tree_clear t && clear_after (is_joint_apostrophe t) f)
 clear-tree t f = and_assoc (tree_clear t) (not (is_joint_apostrophe t && starts_invisible f)) (clear f)
 
-pub clear-edge : (joint : Bool) (t : Tree) (f : Forest) → (joint && is_invisible t) ≡ true → clear_behind joint (tree t f) ≡ false
+pub clear-edge : (joint : Bool) (t : Tree) (f : Forest) → (joint && is_invisible_group t) ≡ true → clear_after joint (tree t f) ≡ false
 clear-edge joint t f e = ap (λ b. not b && clear (tree t f)) e
 
-pub clear-torn : (joint : Bool) (t : Tree) (f : Forest) → tree_clear t ≡ false → clear_behind joint (tree t f) ≡ false
+pub clear-torn : (joint : Bool) (t : Tree) (f : Forest) → tree_clear t ≡ false → clear_after joint (tree t f) ≡ false
 clear-torn joint t f e =
-    ap (λ b. not (joint && is_invisible t) && b) (clear-tree t f ∙ ap (λ b. b && clear_behind (is_joint_apostrophe t) f) e) ∙ none (not (joint && is_invisible t)) where
+    ap (λ b. not (joint && is_invisible_group t) && b) (clear-tree t f ∙ ap (λ b. b && clear_after (is_joint_apostrophe t) f) e) ∙ none (not (joint && is_invisible_group t)) where
       none : (b : Bool) → (b && false) ≡ false
       none true = refl
       none false = refl
 
-pub clear-later : (joint : Bool) (t : Tree) (f : Forest) → (joint && is_invisible t) ≡ false → tree_clear t ≡ true → clear_behind (is_joint_apostrophe t) f ≡ clear_behind joint (tree t f)
+pub clear-later : (joint : Bool) (t : Tree) (f : Forest) → (joint && is_invisible_group t) ≡ false → tree_clear t ≡ true → clear_after (is_joint_apostrophe t) f ≡ clear_after joint (tree t f)
 clear-later joint t f e h =
-    sym (ap (λ b. not b && clear (tree t f)) e ∙ clear-tree t f ∙ ap (λ b. b && clear_behind (is_joint_apostrophe t) f) h)
+    sym (ap (λ b. not b && clear (tree t f)) e ∙ clear-tree t f ∙ ap (λ b. b && clear_after (is_joint_apostrophe t) f) h)
 
 -- the last tree decides, whatever stands before the first
 ends_joint-more : (before : Bool) (t u : TokenTree) (ts : List TokenTree) → ends_joint before (trees_of (t ∷ ts)) ≡ is_joint_apostrophe (tree_of (get_or (t ∷ ts) (length ts) u))

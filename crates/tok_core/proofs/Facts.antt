@@ -4,24 +4,24 @@ use Rattle.tok_core.specs.declared.group.Delimiter.TheVariants.{None}
 use Rattle.tok_core.specs.declared.span.Span.{Span}
 use Rattle.tok_core.specs.Erase.{erase}
 use Rattle.tok_core.specs.Filled.{filled, has_trees}
-use Rattle.tok_core.specs.Forest.{Tree, leaf, group, Forest, no_trees, tree, joined, turned_onto}
+use Rattle.tok_core.specs.Forest.{Tree, leaf, group, Forest, no_trees, tree, concat, turned_onto}
 
-pub joined-none : (f : Forest) → joined f no_trees ≡ f
-joined-none no_trees = refl
-joined-none (tree t f) = ap (tree t) (joined-none f)
+pub concat-none : (f : Forest) → concat f no_trees ≡ f
+concat-none no_trees = refl
+concat-none (tree t f) = ap (tree t) (concat-none f)
 
-pub joined_assoc : (f g h : Forest) → joined (joined f g) h ≡ joined f (joined g h)
+pub joined_assoc : (f g h : Forest) → concat (concat f g) h ≡ concat f (concat g h)
 joined_assoc no_trees g h = refl
 joined_assoc (tree t f) g h = ap (tree t) (joined_assoc f g h)
 
-pub erase-tree : (t : Tree) (f : Forest) → erase (tree t f) ≡ joined (erase (tree t no_trees)) (erase f)
+pub erase-tree : (t : Tree) (f : Forest) → erase (tree t f) ≡ concat (erase (tree t no_trees)) (erase f)
 erase-tree (leaf l) f = refl
-erase-tree (group None inside span) f = ap (λ g. joined g (erase f)) (sym (joined-none (erase inside)))
+erase-tree (group None inside span) f = ap (λ g. concat g (erase f)) (sym (concat-none (erase inside)))
 erase-tree (group d inside span) f = refl
 
-pub has_trees-joined : (f g : Forest) → has_trees (joined f g) ≡ (has_trees f || has_trees g)
-has_trees-joined no_trees g = refl
-has_trees-joined (tree t f) g = refl
+pub has_trees-concat : (f g : Forest) → has_trees (concat f g) ≡ (has_trees f || has_trees g)
+has_trees-concat no_trees g = refl
+has_trees-concat (tree t f) g = refl
 
 pub filled-tree : (t : Tree) (f : Forest) → filled (tree t f) ≡ (filled (tree t no_trees) && filled f)
 filled-tree (leaf l) f = refl
@@ -44,7 +44,7 @@ filled-seen : (f : Forest) → filled f ≡ true → has_trees (erase f) ≡ has
 filled-seen no_trees e = refl
 filled-seen (tree (leaf l) f) e = refl
 filled-seen (tree (group None inside span) f) e =
-    has_trees-joined (erase inside) (erase f) ∙ ap (λ b. b || has_trees (erase f)) (filled-first (has_trees (erase inside)) (filled inside) (filled f) e)
+    has_trees-concat (erase inside) (erase f) ∙ ap (λ b. b || has_trees (erase f)) (filled-first (has_trees (erase inside)) (filled inside) (filled f) e)
 filled-seen (tree (group d inside span) f) e = refl
 
 -- so an invisible group that is not empty is filled where its content is
@@ -60,9 +60,9 @@ filled-invisible f span seen = same (filled f) refl where
 pub filled-stops : (t : Tree) (f : Forest) → filled (tree t no_trees) ≡ false → filled (tree t f) ≡ false
 filled-stops t f e = filled-tree t f ∙ ap (λ b. b && filled f) e
 
-pub turned_turned : (f g h : Forest) → turned_onto (turned_onto f g) h ≡ turned_onto g (joined f h)
+pub turned_turned : (f g h : Forest) → turned_onto (turned_onto f g) h ≡ turned_onto g (concat f h)
 turned_turned no_trees g h = refl
 turned_turned (tree t f) g h = turned_turned f (tree t g) h
 
 pub turned_back : (f : Forest) → turned_onto (turned_onto f no_trees) no_trees ≡ f
-turned_back f = turned_turned f no_trees no_trees ∙ joined-none f
+turned_back f = turned_turned f no_trees no_trees ∙ concat-none f

@@ -1,5 +1,5 @@
 -- Lemmas on the lexical grammar and on the lexer.
-pub mod Takes
+pub mod Longest
 pub mod Texts
 pub mod Scans
 pub mod Escapes
@@ -13,10 +13,12 @@ pub mod Quoting
 pub mod Tables
 pub mod Starts
 pub mod First
+pub mod Slashes
 pub mod Flat
 pub mod Nests
 pub mod Steps
 pub mod Unique
+pub mod Blanks
 pub mod Cuts
 pub mod Runs
 pub mod Only

@@ -2,12 +2,12 @@
 use Rattle.std.proofs.Common.{◌≡◌, ◌∙◌, sym, ap, refl, ℕ, ◌+◌, ◌<◌, ◌≤◌, eqb, ne_eqb, not, List, [], ◌∷◌, ◌++◌, length, zero, suc, drop, get_or, arith}
 use Rattle.std.proofs.lemmas.List.{drop_more}
 use Rattle.tok_core.specs.declared.stream.TokenTree.{TokenTree}
-use Rattle.tok_core.specs.Forest.{Forest, no_trees, tree, joined}
+use Rattle.tok_core.specs.Forest.{Forest, no_trees, tree, concat}
 use Rattle.tok_core.specs.Filled.{has_trees}
 use Rattle.tok_core.specs.Seen.{tree_of, trees_of}
 use Rattle.tok_core.specs.Weight.{weight, tree_weight}
 
-pub trees_of-push : (ts : List TokenTree) (t : TokenTree) → trees_of (ts ++ t ∷ []) ≡ joined (trees_of ts) (tree (tree_of t) no_trees)
+pub trees_of-push : (ts : List TokenTree) (t : TokenTree) → trees_of (ts ++ t ∷ []) ≡ concat (trees_of ts) (tree (tree_of t) no_trees)
 trees_of-push [] t = refl
 trees_of-push (u ∷ ts) t = ap (tree (tree_of u)) (trees_of-push ts t)
 

@@ -8,13 +8,13 @@ abbrev pub is_joint_apostrophe : Tree → Bool
 is_joint_apostrophe (leaf (punct c Joint span)) = c == 39
 is_joint_apostrophe t = false
 
-abbrev pub is_invisible : Tree → Bool
-is_invisible (group None inside span) = true
-is_invisible t = false
+abbrev pub is_invisible_group : Tree → Bool
+is_invisible_group (group None inside span) = true
+is_invisible_group t = false
 
 abbrev pub starts_invisible : Forest → Bool
 starts_invisible no_trees = false
-starts_invisible (tree t f) = is_invisible t
+starts_invisible (tree t f) = is_invisible_group t
 
 -- whether the last tree is a joint apostrophe; with no tree, the value for what comes before
 abbrev pub ends_joint : Bool → Forest → Bool

@@ -5,8 +5,8 @@ use Rattle.std.proofs.Common.{zero, suc, inl, inr, ap, ◌∙◌}
 use Rattle.std.specs.Coded.{Coded, code_by, coded×, coded_ℕ, coded_bool, coded_list, coded_option}
 use Rattle.std.specs.Coded.{coded⊎}
 use base.Stored.{coded_unit}
-use Rattle.tok_core.specs.declared.span.Place.{Place}
-use Rattle.tok_core.specs.declared.span.Place.TheVariants.{CallSite, Source}
+use Rattle.tok_core.specs.declared.span.Origin.{Origin}
+use Rattle.tok_core.specs.declared.span.Origin.TheVariants.{CallSite, Source}
 use Rattle.tok_core.specs.declared.span.Span.{Span}
 use Rattle.tok_core.specs.declared.group.Delimiter.{Delimiter}
 use Rattle.tok_core.specs.declared.group.Delimiter.TheVariants as delimiter
@@ -23,26 +23,26 @@ LeafCode = (List ℕ × SpanCode) ⊎ ((ℕ × (Bool × SpanCode)) ⊎ (List ℕ
 abbrev pub ItemCode : Type 0
 ItemCode = Unit {0} ⊎ (LeafCode ⊎ (ℕ × SpanCode))
 
-abbrev pub place_code : Place → SpanCode
-place_code CallSite = None
-place_code (Source n a b) = Some (n, (a, b))
+abbrev pub origin_code : Origin → SpanCode
+origin_code CallSite = None
+origin_code (Source n a b) = Some (n, (a, b))
 
-abbrev pub place_of : SpanCode → Place
+abbrev pub place_of : SpanCode → Origin
 place_of None = CallSite
 place_of (Some c) = Source c.0 c.1.0 c.1.1
 
-pub place-back : (p : Place) → place_of (place_code p) ≡ p
-place-back CallSite = refl
-place-back (Source n a b) = refl
+pub origin-back : (p : Origin) → place_of (origin_code p) ≡ p
+origin-back CallSite = refl
+origin-back (Source n a b) = refl
 
 abbrev pub span_code : Span → SpanCode
-span_code s = place_code s.place
+span_code s = origin_code s.origin
 
 abbrev pub span_of : SpanCode → Span
-span_of c = record { place = place_of c }
+span_of c = record { origin = place_of c }
 
 pub span-back : (s : Span) → span_of (span_code s) ≡ s
-span-back s = ap (λ p. record { place = p }) (place-back s.place)
+span-back s = ap (λ p. record { origin = p }) (origin-back s.origin)
 
 abbrev pub spacing_code : Spacing → Bool
 spacing_code Alone = false

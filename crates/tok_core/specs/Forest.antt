@@ -27,15 +27,15 @@ forest [] = no_trees
 forest (t ∷ ts) = tree t (forest ts)
 
 -- one forest after another
-abbrev pub joined : Forest → Forest → Forest
-joined no_trees g = g
-joined (tree t f) g = tree t (joined f g)
+abbrev pub concat : Forest → Forest → Forest
+concat no_trees g = g
+concat (tree t f) g = tree t (concat f g)
 
 -- the trees of one forest that come before one that was refused follow another's
 abbrev pub AppendsFront : (old added new : Forest) → Type 0
 AppendsFront old added new =
     (front : Forest) × (refused : Tree) × (rest : Forest)
-    × (added ≡ joined front (tree refused rest)) × (new ≡ joined old front)
+    × (added ≡ concat front (tree refused rest)) × (new ≡ concat old front)
 
 -- parts of a leaf or a group, with a default where it has none
 abbrev pub leaf_char : Leaf → ℕ

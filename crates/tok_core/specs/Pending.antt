@@ -1,19 +1,19 @@
 -- Trees that are still to be compared: lists of trees, of which the last one comes first.
 use Rattle.std.specs.Prelude.{ℕ, ◌+◌, ⊤, List, [], ◌∷◌, ◌++◌}
 use Rattle.std.specs.Borrow.{Bor}
-use Rattle.tok_core.specs.declared.erase.VisibleTrees.{VisibleTrees}
+use Rattle.tok_core.specs.declared.invisible.VisibleTrees.{VisibleTrees}
 use Rattle.tok_core.specs.declared.group.Delimiter.TheVariants.{None}
 use Rattle.tok_core.specs.declared.span.Span.{Span}
 use Rattle.tok_core.specs.declared.stream.TokenTree.{TokenTree}
 use Rattle.tok_core.specs.Erase.{erase}
-use Rattle.tok_core.specs.Forest.{Tree, leaf, group, Forest, no_trees, joined}
+use Rattle.tok_core.specs.Forest.{Tree, leaf, group, Forest, no_trees, concat}
 use Rattle.tok_core.specs.Seen.{trees_of}
 use Rattle.tok_core.specs.Weight.{weight}
 
 -- their erasure
 abbrev pub pending : List (Bor (List TokenTree)) → Forest
 pending [] = no_trees
-pending (ts ∷ more) = joined (pending more) (erase (trees_of ts.now))
+pending (ts ∷ more) = concat (pending more) (erase (trees_of ts.now))
 
 -- those outside of the invisible groups that are entered, and those at hand
 abbrev pub all_of : VisibleTrees → List (Bor (List TokenTree))

@@ -8,6 +8,7 @@ use Rattle.tok_core.specs.declared.stream.TokenTree.{TokenTree}
 use Rattle.tok_core.specs.declared.stream.TokenTree.TheVariants as made
 use Rattle.tok_core.specs.Forest.{Leaf, ident, punct, literal, Tree, leaf, group, Forest, no_trees}
 use Rattle.tok_core.specs.Forest.{tree}
+use Rattle.tok_core.specs.Spans.{bounds_delimiter, bounds_span}
 
 abbrev pub ident_of : Ident → Leaf
 ident_of i = ident i.text i.span
@@ -19,7 +20,7 @@ abbrev pub literal_of : Literal → Leaf
 literal_of l = literal l.text l.span
 
 abbrev pub group_of : Group → Tree
-group_of g = group g.delimiter g.stream g.span
+group_of g = group (bounds_delimiter g.bounds) g.stream (bounds_span g.bounds)
 
 abbrev pub tree_of : TokenTree → Tree
 tree_of (made.Group g) = group_of g

@@ -1,34 +1,52 @@
 -- Spans, and the spans of a group's two delimiters.
 use Rattle.std.specs.Prelude.{ℕ, ◌+◌, ◌-◌, min, max, nat_lt, ◌==◌, cond, Option, Some, None}
-use Rattle.tok_core.specs.declared.span.Place.{Place}
-use Rattle.tok_core.specs.declared.span.Place.TheVariants.{CallSite, Source}
+use Rattle.tok_core.specs.declared.span.Origin.{Origin}
+use Rattle.tok_core.specs.declared.span.Origin.TheVariants.{CallSite, Source}
 use Rattle.tok_core.specs.declared.span.Span.{Span}
+use Rattle.tok_core.specs.declared.span.Bounds.{Bounds}
+use Rattle.tok_core.specs.declared.span.Bounds.TheVariants as bounds
 use Rattle.tok_core.specs.declared.span.DelimSpan.{DelimSpan}
+use Rattle.tok_core.specs.declared.group.Delimiter.{Delimiter}
 use Rattle.tok_core.specs.Forest.{Leaf, ident, punct, literal, Tree, leaf, group}
 
 abbrev pub call_site : Span
-call_site = record { place = CallSite }
+call_site = record { origin = CallSite }
 
 abbrev pub source : ℕ → ℕ → ℕ → Span
-source number start end = record { place = Source number start end }
+source number start end = record { origin = Source number start end }
+
+-- a delimiter and a span, kept in one
+abbrev pub bounds_delimiter : Bounds → Delimiter
+bounds_delimiter (bounds.CallSite delimiter) = delimiter
+bounds_delimiter (bounds.Source delimiter number start end) = delimiter
+
+abbrev pub bounds_span : Bounds → Span
+bounds_span (bounds.CallSite delimiter) = call_site
+bounds_span (bounds.Source delimiter number start end) = source number start end
 
 -- the first byte, the last byte; an empty range and the call site are themselves
 abbrev pub opening_span : Span → Span
 opening_span span =
-    elim span.place [ CallSite ↦ span | Source n a b ↦ cond (nat_lt a b) (source n a (a + 1)) span ]
+    elim span.origin [
+      | CallSite ↦ span
+      | Source n a b ↦ cond (nat_lt a b) (source n a (a + 1)) span
+    ]
 
 abbrev pub closing_span : Span → Span
 closing_span span =
-    elim span.place [ CallSite ↦ span | Source n a b ↦ cond (nat_lt a b) (source n (b - 1) b) span ]
+    elim span.origin [
+      | CallSite ↦ span
+      | Source n a b ↦ cond (nat_lt a b) (source n (b - 1) b) span
+    ]
 
 -- one span that covers both, in one source
-abbrev joined_places : Place → Place → Option Span
-joined_places (Source n a b) (Source m c d) =
+abbrev joined_origins : Origin → Origin → Option Span
+joined_origins (Source n a b) (Source m c d) =
     cond (n == m) (Some (source n (min a c) (max b d))) None
-joined_places p q = None
+joined_origins p q = None
 
 abbrev pub join : Span → Span → Option Span
-join left right = joined_places left.place right.place
+join left right = joined_origins left.origin right.origin
 
 abbrev pub leaf_span : Leaf → Span
 leaf_span (ident text span) = span
@@ -48,7 +66,7 @@ with_span span (group delimiter inside old) = group delimiter inside span
 
 -- the number of a source and the range in it
 abbrev pub range : Span → Option (ℕ × ℕ × ℕ)
-range span = elim span.place [ CallSite ↦ None | Source n a b ↦ Some (n, a, b) ]
+range span = elim span.origin [ CallSite ↦ None | Source n a b ↦ Some (n, a, b) ]
 
 abbrev pub whole_span : DelimSpan → Span
 whole_span s = s.join

@@ -5,7 +5,7 @@ ghost use Rattle.tok_core.specs.Seen.{group_of};
 ghost use Rattle.tok_core.specs.Spans.{tree_span, opening_span, closing_span, whole_span};
 ghost use Rattle.tok_core.specs.Text.{opening, closing};
 
-use crate::span::{DelimSpan, Span};
+use crate::span::{Bounds, DelimSpan, Span};
 use crate::stream::TokenStream;
 use std::alloc::AllocError;
 
@@ -49,9 +49,8 @@ impl Delimiter {
 #[cycle(trees)]
 #[derive(Drop)]
 pub struct Group {
-    delimiter: Delimiter,
+    bounds: Bounds,
     stream: TokenStream,
-    span: Span,
 }
 
 impl Group {
@@ -59,17 +58,15 @@ impl Group {
     pub fn new(delimiter: Delimiter, stream: TokenStream, span: Span) -> Group
         ensures { group_of result ≡ group delimiter stream span }
     {
-        Group {
-            delimiter,
-            stream,
-            span,
-        }
+        let bounds = Bounds::new(delimiter, span);
+        Group { bounds, stream }
     }
 
+    /// The delimiter.
     pub fn delimiter(&self) -> Delimiter
         ensures { result ≡ tree_delimiter (group_of self.now) }
     {
-        self.delimiter
+        self.bounds.delimiter()
     }
 
     /// What is inside, without the delimiters.
@@ -79,6 +76,7 @@ impl Group {
         &self.stream
     }
 
+    /// The content, moved out of the group.
     pub fn into_stream(self) -> TokenStream
         ensures { result ≡ tree_inside (group_of self) }
     {
@@ -89,13 +87,14 @@ impl Group {
     pub fn span(&self) -> Span
         ensures { result ≡ tree_span (group_of self.now) }
     {
-        self.span
+        self.bounds.span()
     }
 
+    /// The span, as that of a group: whole, opening and closing.
     pub fn delim_span(&self) -> DelimSpan
         ensures { whole_span result ≡ tree_span (group_of self.now) }
     {
-        DelimSpan::new(self.span)
+        DelimSpan::new(self.span())
     }
 
     /// The opening delimiter: the first byte of the group's span.
@@ -114,9 +113,10 @@ impl Group {
 
     /// Sets the group's own span. The spans inside stay.
     pub fn set_span(&mut self, span: Span)
-        ensures { group_of self.new ≡ group (tree_delimiter (group_of self.old)) (tree_inside (group_of self.old)) span }
+        ensures { group_of self.new
+            ≡ group (tree_delimiter (group_of self.old)) (tree_inside (group_of self.old)) span }
     {
-        self.span = span;
+        self.bounds = Bounds::new(self.delimiter(), span);
     }
 
     /// A copy in memory of its own.
@@ -126,9 +126,8 @@ impl Group {
     {
         let stream = self.stream.clone()?;
         Ok(Group {
-            delimiter: self.delimiter,
+            bounds: self.bounds,
             stream,
-            span: self.span,
         })
     }
 }

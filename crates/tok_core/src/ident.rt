@@ -51,7 +51,8 @@ impl Ident {
     /// after it XID_Continue characters.
     pub fn new(alloc: Global, text: &str, span: Span) -> Result<Ident, MakeFault>
         ensures made { IfOk result (λ i. ident_of i ≡ ident text.now span) }
-        ensures takes { IsIdentifier (chars text.now) → IfErr result (λ fault. fault ≡ MakeFault.Memory) }
+        ensures takes { IsIdentifier (chars text.now)
+            → IfErr result (λ fault. fault ≡ MakeFault.Memory) }
         ensures refuses { (IsIdentifier (chars text.now) → ⊥) → result ≡ Err MakeFault.Refused }
     {
         if !is_identifier(text) {
@@ -84,18 +85,21 @@ impl Ident {
         Ident { text, span }
     }
 
+    /// The text, with the `r#` of a raw identifier.
     pub fn as_str(&self) -> &str
         ensures { result.now ≡ leaf_text (ident_of self.now) }
     {
         self.text.as_str()
     }
 
+    /// Where it is.
     pub fn span(&self) -> Span
         ensures { result ≡ leaf_span (ident_of self.now) }
     {
         self.span
     }
 
+    /// Puts it at another span.
     pub fn set_span(&mut self, span: Span)
         ensures { ident_of self.new ≡ ident (leaf_text (ident_of self.old)) span }
     {

@@ -28,7 +28,8 @@ pub fn never_both()
 pub fn idents_by_text()
     ensures equal { EqualBy text_of ⟦<Ident as PartialEq>⟧.eq }
     ensures order { OrderedBy text_of text_order ⟦<Ident as Ord>⟧.cmp }
-    ensures agree { OrderAgrees ⟦<Ident as PartialEq>⟧.eq ⟦<Ident as Ord>⟧.cmp ⟦<Ident as PartialOrd>⟧.partial_cmp }
+    ensures agree { OrderAgrees ⟦<Ident as PartialEq>⟧.eq ⟦<Ident as Ord>⟧.cmp
+        ⟦<Ident as PartialOrd>⟧.partial_cmp }
     ensures hash { HashedBy text_of fed.str ⟦<Ident as Hash>⟧.hash_input }
 {}
 

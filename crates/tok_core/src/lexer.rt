@@ -7,6 +7,7 @@ ghost use Rattle.tok_core.specs.Lexical.Errors.{OnRefused};
 ghost use Rattle.tok_core.specs.Lexical.Reading.{Reads, IsRefused};
 ghost use Rattle.tok_core.specs.Lexical.Rules.{plain_rules, marked_rules};
 
+mod blanks;
 mod char_literals;
 mod classes;
 mod comments;
@@ -24,12 +25,12 @@ mod text;
 mod words;
 
 use crate::stream::TokenStream;
+use blanks::past_blanks;
 pub(crate) use classes::is_punct_or_apostrophe;
-use classes::past_whitespace;
-use error::Refusal;
+use error::Reason;
 pub use error::{LexError, LexFault};
-use nest::Nest;
-use rule::{Rule, Rules, first_rule};
+use nest::TreeBuilder;
+use rule::{Rules, first_rule};
 use std::alloc::Global;
 use text::front_of;
 pub(crate) use words::{has_no_raw, is_identifier};
@@ -41,35 +42,30 @@ pub(crate) use words::{has_no_raw, is_identifier};
 // it looks at is a run that no later piece goes over again: the `#` after an `r`, the marks after a punct.
 fn read(alloc: Global, source: u32, rules: Rules, text: &str) -> Result<TokenStream, LexFault>
     ensures reads { IfOk result (λ stream. Reads (rules_of rules) source (chars text.now) stream) }
-    ensures refuses { IfErr result (λ fault. OnRefused fault (IsRefused (rules_of rules) source (chars text.now))) }
+    ensures refuses { IfErr result
+        (λ fault. OnRefused fault (IsRefused (rules_of rules) source (chars text.now))) }
 {
-    let mut nest = Nest::new(alloc, source);
+    let mut nest = TreeBuilder::new(alloc, source);
     let mut rest = text;
     let mut at = 0usize;
     while let Some((rule, after)) = first_rule(rules, rest) {
-        if let Rule::Whitespace = rule {
-            let next = past_whitespace(after);
-            at += rest.len() - next.len();
-            rest = next;
-            continue;
-        }
         let piece = front_of(rest, after);
         let end = at + rule.width(piece);
         match nest.take_in(rule, at, end, piece, after) {
             Ok(()) => {}
             Err(fault) => return Err(fault),
         }
-        at = end;
-        rest = after;
+        rest = past_blanks(after);
+        at = end + (after.len() - rest.len());
     }
-    let Nest {
+    let TreeBuilder {
         mut open,
         trees,
         ..
     } = nest;
     match open.pop() {
         Some(group) => {
-            let error = LexError::new(Refusal::UnclosedGroup, source, group.start);
+            let error = LexError::new(Reason::UnclosedGroup, source, group.start);
             Err(LexFault::Refused(error))
         }
         None => Ok(trees),
@@ -84,9 +80,11 @@ pub fn lex(alloc: Global, source: u32, text: &str) -> Result<TokenStream, LexFau
     ensures only_read { (forest : Forest) → Reads plain_rules source (chars text.now) forest →
         MatchResult result (λ stream. stream ≡ forest) (λ fault. fault ≡ LexFault.Memory) }
     // A refusal is the grammar's.
-    ensures refuses { IfErr result (λ fault. OnRefused fault (IsRefused plain_rules source (chars text.now))) }
+    ensures refuses { IfErr result
+        (λ fault. OnRefused fault (IsRefused plain_rules source (chars text.now))) }
     // What the grammar refuses is refused so, unless an allocation fails.
-    ensures only_refused { (error : LexError) → IsRefused plain_rules source (chars text.now) error →
+    ensures only_refused { (error : LexError) → IsRefused plain_rules source (chars text.now) error
+        →
         MatchResult result (λ _. ⊥) (λ fault. OnRefused fault (λ other. other ≡ error)) }
 {
     read(alloc, source, Rules::Plain, text)
@@ -98,8 +96,10 @@ pub fn lex_marked(alloc: Global, source: u32, text: &str) -> Result<TokenStream,
     ensures reads { IfOk result (λ stream. Reads marked_rules source (chars text.now) stream) }
     ensures only_read { (forest : Forest) → Reads marked_rules source (chars text.now) forest →
         MatchResult result (λ stream. stream ≡ forest) (λ fault. fault ≡ LexFault.Memory) }
-    ensures refuses { IfErr result (λ fault. OnRefused fault (IsRefused marked_rules source (chars text.now))) }
-    ensures only_refused { (error : LexError) → IsRefused marked_rules source (chars text.now) error →
+    ensures refuses { IfErr result
+        (λ fault. OnRefused fault (IsRefused marked_rules source (chars text.now))) }
+    ensures only_refused { (error : LexError) → IsRefused marked_rules source (chars text.now) error
+        →
         MatchResult result (λ _. ⊥) (λ fault. OnRefused fault (λ other. other ≡ error)) }
 {
     read(alloc, source, Rules::Marked, text)

@@ -2,9 +2,9 @@
 //! forest (`specs/Forest.antt`).
 #![tactic(auto)]
 
-mod erase;
 mod group;
 mod ident;
+mod invisible;
 pub mod laws;
 mod lexer;
 mod literal;
@@ -16,9 +16,9 @@ mod text;
 mod to_tokens;
 mod tt;
 
-pub use erase::{is_clear, is_filled, same_visible};
 pub use group::{Delimiter, Group};
 pub use ident::{Ident, MakeFault};
+pub use invisible::{is_clear, is_filled, same_visible};
 pub use lexer::{LexError, LexFault, lex, lex_marked};
 pub use literal::Literal;
 pub use punct::{Punct, Spacing};

@@ -2,7 +2,7 @@
 ghost use Rattle.std.specs.Prelude.{◌≡◌, ◌++◌, string_bytes, IfOk, OnOk};
 ghost use Rattle.std.specs.Str.{chars};
 ghost use Rattle.tok_core.specs.Forest.{literal};
-ghost use Rattle.tok_core.specs.Lexical.Quoting.{escaped, quoted};
+ghost use Rattle.tok_core.specs.Lexical.Quoting.{escaped, in_quotes};
 ghost use Rattle.tok_core.specs.Seen.{literal_of};
 ghost use Rattle.tok_core.specs.Spans.{call_site, leaf_span};
 ghost use Rattle.tok_core.specs.Text.{leaf_text};
@@ -47,7 +47,7 @@ impl Literal {
     /// The string literal of this text, at the call site: in quotes, with `"`, `\`, line feed, U+000D, tab and U+0000 as
     /// `\"`, `\\`, `\n`, `\r`, `\t` and `\0`.
     pub fn string(alloc: Global, text: &str) -> Result<Literal, AllocError>
-        ensures { IfOk result (λ l. literal_of l ≡ literal (quoted (chars text.now)) call_site) }
+        ensures { IfOk result (λ l. literal_of l ≡ literal (in_quotes (chars text.now)) call_site) }
     {
         let mut out = String::with_capacity(alloc, quoted_len(text))?;
         out.push('"')?;
@@ -66,18 +66,21 @@ impl Literal {
         Literal { text, span }
     }
 
+    /// The text, as it is written, with quotes, prefix and suffix.
     pub fn as_str(&self) -> &str
         ensures { result.now ≡ leaf_text (literal_of self.now) }
     {
         self.text.as_str()
     }
 
+    /// Where it is.
     pub fn span(&self) -> Span
         ensures { result ≡ leaf_span (literal_of self.now) }
     {
         self.span
     }
 
+    /// Puts it at another span.
     pub fn set_span(&mut self, span: Span)
         ensures { literal_of self.new ≡ literal (leaf_text (literal_of self.old)) span }
     {

@@ -26,14 +26,16 @@ pub struct Punct {
 impl Punct {
     /// A punct at the call site; `None` for any character but `!#$%&*+,-./:;<=>?@^|~` and the apostrophe.
     pub fn new(ch: char, spacing: Spacing) -> Option<Punct>
-        ensures { MatchOption result (is_punct_or_apostrophe ch ≡ false) (λ p. (is_punct_or_apostrophe ch ≡ true) × (punct_of p ≡ punct ch spacing call_site)) }
+        ensures { MatchOption result (is_punct_or_apostrophe ch ≡ false)
+            (λ p. (is_punct_or_apostrophe ch ≡ true) × (punct_of p ≡ punct ch spacing call_site)) }
     {
         Punct::new_spanned(ch, spacing, Span::call_site())
     }
 
     /// The same at `span`.
     pub fn new_spanned(ch: char, spacing: Spacing, span: Span) -> Option<Punct>
-        ensures { MatchOption result (is_punct_or_apostrophe ch ≡ false) (λ p. (is_punct_or_apostrophe ch ≡ true) × (punct_of p ≡ punct ch spacing span)) }
+        ensures { MatchOption result (is_punct_or_apostrophe ch ≡ false)
+            (λ p. (is_punct_or_apostrophe ch ≡ true) × (punct_of p ≡ punct ch spacing span)) }
     {
         if is_punct_or_apostrophe(ch) {
             Some(Punct::unchecked(ch, spacing, span))
@@ -49,26 +51,31 @@ impl Punct {
         Punct { ch, spacing, span }
     }
 
+    /// The character.
     pub fn as_char(&self) -> char
         ensures { result ≡ leaf_char (punct_of self.now) }
     {
         self.ch
     }
 
+    /// Whether another punctuation character follows directly.
     pub fn spacing(&self) -> Spacing
         ensures { result ≡ leaf_spacing (punct_of self.now) }
     {
         self.spacing
     }
 
+    /// Where it is.
     pub fn span(&self) -> Span
         ensures { result ≡ leaf_span (punct_of self.now) }
     {
         self.span
     }
 
+    /// Puts it at another span.
     pub fn set_span(&mut self, span: Span)
-        ensures { punct_of self.new ≡ punct (leaf_char (punct_of self.old)) (leaf_spacing (punct_of self.old)) span }
+        ensures { punct_of self.new
+            ≡ punct (leaf_char (punct_of self.old)) (leaf_spacing (punct_of self.old)) span }
     {
         self.span = span;
     }

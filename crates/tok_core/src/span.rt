@@ -2,8 +2,10 @@
 ghost use Rattle.std.specs.Prelude.{◌≡◌, ◌≤◌};
 ghost use Rattle.tok_core.specs.Spans as spec;
 
+use crate::group::Delimiter;
+
 #[derive(Clone, Copy, PartialEq, Eq, Debug)]
-enum Place {
+enum Origin {
     CallSite,
     // The number of a source, and a range of its bytes.
     Source(u32, usize, usize),
@@ -13,7 +15,14 @@ enum Place {
 /// after it, is at the call site.
 #[derive(Clone, Copy, PartialEq, Eq, Debug)]
 pub struct Span {
-    place: Place,
+    origin: Origin,
+}
+
+// A delimiter and a span, as a group keeps them: in 24 bytes, where a span alone has room for the delimiter.
+#[derive(Clone, Copy)]
+pub(crate) enum Bounds {
+    CallSite(Delimiter),
+    Source(Delimiter, u32, usize, usize),
 }
 
 /// The span of a group: the whole of it, and its two delimiters.
@@ -28,7 +37,7 @@ impl Span {
         ensures { result ≡ spec.call_site }
     {
         Span {
-            place: Place::CallSite,
+            origin: Origin::CallSite,
         }
     }
 
@@ -38,7 +47,7 @@ impl Span {
         ensures { result ≡ spec.source number start end }
     {
         Span {
-            place: Place::Source(number, start, end),
+            origin: Origin::Source(number, start, end),
         }
     }
 
@@ -46,9 +55,9 @@ impl Span {
     pub fn as_range(&self) -> Option<(u32, usize, usize)>
         ensures { result ≡ spec.range self.now }
     {
-        match self.place {
-            Place::CallSite => None,
-            Place::Source(number, start, end) => Some((number, start, end)),
+        match self.origin {
+            Origin::CallSite => None,
+            Origin::Source(number, start, end) => Some((number, start, end)),
         }
     }
 
@@ -56,11 +65,11 @@ impl Span {
     pub fn join(self, other: Span) -> Option<Span>
         ensures { result ≡ spec.join self other }
     {
-        match (self.place, other.place) {
-            (Place::Source(left, a, b), Place::Source(right, c, d)) => {
+        match (self.origin, other.origin) {
+            (Origin::Source(left, a, b), Origin::Source(right, c, d)) => {
                 if left == right {
                     Some(Span {
-                        place: Place::Source(left, a.min(c), b.max(d)),
+                        origin: Origin::Source(left, a.min(c), b.max(d)),
                     })
                 } else {
                     None
@@ -68,6 +77,37 @@ impl Span {
             }
             _ => None,
         }
+    }
+}
+
+impl Bounds {
+    pub(crate) fn new(delimiter: Delimiter, span: Span) -> Bounds
+        ensures delimiter { spec.bounds_delimiter result ≡ delimiter }
+        ensures span { spec.bounds_span result ≡ span }
+    {
+        match span.origin {
+            Origin::CallSite => Bounds::CallSite(delimiter),
+            Origin::Source(number, start, end) => Bounds::Source(delimiter, number, start, end),
+        }
+    }
+
+    pub(crate) fn delimiter(self) -> Delimiter
+        ensures { result ≡ spec.bounds_delimiter self }
+    {
+        match self {
+            Bounds::CallSite(delimiter) => delimiter,
+            Bounds::Source(delimiter, ..) => delimiter,
+        }
+    }
+
+    pub(crate) fn span(self) -> Span
+        ensures { result ≡ spec.bounds_span self }
+    {
+        let origin = match self {
+            Bounds::CallSite(_) => Origin::CallSite,
+            Bounds::Source(_, number, start, end) => Origin::Source(number, start, end),
+        };
+        Span { origin }
     }
 }
 
@@ -90,9 +130,9 @@ impl DelimSpan {
     pub fn open(self) -> Span
         ensures { result ≡ spec.opening_span (spec.whole_span self) }
     {
-        match self.join.place {
-            Place::Source(number, start, end) if start < end => Span {
-                place: Place::Source(number, start, start + 1),
+        match self.join.origin {
+            Origin::Source(number, start, end) if start < end => Span {
+                origin: Origin::Source(number, start, start + 1),
             },
             _ => self.join,
         }
@@ -102,9 +142,9 @@ impl DelimSpan {
     pub fn close(self) -> Span
         ensures { result ≡ spec.closing_span (spec.whole_span self) }
     {
-        match self.join.place {
-            Place::Source(number, start, end) if start < end => Span {
-                place: Place::Source(number, end - 1, end),
+        match self.join.origin {
+            Origin::Source(number, start, end) if start < end => Span {
+                origin: Origin::Source(number, end - 1, end),
             },
             _ => self.join,
         }

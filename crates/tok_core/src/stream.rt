@@ -1,7 +1,7 @@
 // Streams of trees.
 ghost use Rattle.std.specs.Prelude.{◌≡◌, not, min, IfOk, OnOk, OnErr};
 ghost use Rattle.tok_core.specs.Filled.{has_trees};
-ghost use Rattle.tok_core.specs.Forest.{joined, no_trees, tree};
+ghost use Rattle.tok_core.specs.Forest.{concat, no_trees, tree};
 ghost use Rattle.tok_core.specs.Laws.{IsTheOnly};
 ghost use Rattle.tok_core.specs.Seen.{tree_of, trees_of};
 ghost use Rattle.tok_core.specs.Spans.{tree_span, with_span};
@@ -73,26 +73,30 @@ impl TokenStream {
     }
 
     /// Puts a tree after the others. After an allocation failure all is as before, and the tree is dropped.
+    #[inline(always)]
     pub fn append(&mut self, next: TokenTree) -> Result<(), AllocError>
-        ensures ok { OnOk result (self.new ≡ joined self.old (tree (tree_of next) no_trees)) }
+        ensures ok { OnOk result (self.new ≡ concat self.old (tree (tree_of next) no_trees)) }
         ensures err { OnErr result (self.new ≡ self.old) }
     {
         self.trees.push(next)?;
         Ok(())
     }
 
+    /// The trees in order, lent.
     pub fn trees(&self) -> &[TokenTree]
         ensures { trees_of result.now ≡ self.now }
     {
         self.trees.as_slice()
     }
 
+    /// The trees in order, moved out of the stream.
     pub fn into_trees(self) -> Vec<TokenTree>
         ensures { trees_of result.items ≡ self }
     {
         self.trees
     }
 
+    /// Whether there is no tree; a stream of an empty invisible group has one.
     pub fn is_empty(&self) -> bool
         ensures { has_trees self.now ≡ not result }
     {

@@ -79,6 +79,7 @@ impl Text {
         Ok(Text { node, alloc })
     }
 
+    /// The text.
     pub fn as_str(&self) -> &str
         ensures { result.now ≡ self.now }
     {

@@ -1,6 +1,6 @@
 // Values that are written as tokens.
 ghost use Rattle.std.specs.Prelude.{◌≡◌, IfOk, OnOk, OnErr};
-ghost use Rattle.tok_core.specs.Forest.{AppendsFront, Forest, joined, leaf, no_trees, tree};
+ghost use Rattle.tok_core.specs.Forest.{AppendsFront, Forest, concat, leaf, no_trees, tree};
 ghost use Rattle.tok_core.specs.Seen.{group_of, ident_of, literal_of, punct_of, tree_of};
 
 use crate::group::Group;
@@ -18,7 +18,7 @@ pub trait ToTokens {
     /// Puts the tokens of this value after the others. After an allocation failure, those that were put there before
     /// the refusal stay, and at least one is missing. A leaf and a group leave all as before.
     fn to_tokens(&self, tokens: &mut TokenStream) -> Result<(), AllocError>
-        ensures ok { OnOk result (tokens.new ≡ joined tokens.old (printed self.now)) }
+        ensures ok { OnOk result (tokens.new ≡ concat tokens.old (printed self.now)) }
         ensures err { OnErr result (AppendsFront tokens.old (printed self.now) tokens.new) };
 
     /// The tokens of this value in a stream of their own.

@@ -22,11 +22,13 @@ pub struct TokenStreamHelper<'a>(pub &'a TokenStream);
 impl<'a> PartialEq for TokenTreeHelper<'a> {
     ghost eq = { λ left right. tree_alike (tree_of left.0.now) (tree_of right.0.now) };
 
-    ghost laws = { partial_equiv_from_equiv (on_equiv (λ h. tree_of h.0.now) tree_alike_equivalence) };
+    ghost laws = { partial_equiv_from_equiv
+        (on_equiv (λ h. tree_of h.0.now) tree_alike_equivalence) };
 
     fn eq(&self, other: &Self) -> bool
         ensures eq { result ≡ tree_alike (tree_of self.now.0.now) (tree_of other.now.0.now) }
-        ensures spanless { IsTrue result ↔ (tree_spanless (tree_of self.now.0.now) ≡ tree_spanless (tree_of other.now.0.now)) }
+        ensures spanless { IsTrue result
+            ↔ (tree_spanless (tree_of self.now.0.now) ≡ tree_spanless (tree_of other.now.0.now)) }
     {
         is_alike(self.0, other.0)
     }
@@ -39,7 +41,8 @@ impl<'a> Eq for TokenTreeHelper<'a> {
 impl<'a> Hash for TokenTreeHelper<'a> {
     ghost hash_input = { λ h. tree_input (tree_of h.0.now) };
 
-    ghost respects_eq = { λ left right e. tree_input-alike (tree_of left.0.now) (tree_of right.0.now) e };
+    ghost respects_eq = { λ left right e. tree_input-alike (tree_of left.0.now)
+        (tree_of right.0.now) e };
 
     fn hash<H: Hasher>(&self, state: &mut H) {
         hash_tree(self.0, state);

@@ -6,9 +6,9 @@ use Rattle.std.specs.Str.{chars}
 use Rattle.std.specs.Borrow.{Bor}
 use Rattle.std.proofs.Math.Utf8.{scalar_cases}
 use Rattle.std.proofs.lemmas.Bool.{lt-ltb, ltb-true}
-use Rattle.tok_core.specs.Lexical.Pieces.{Fits, Finds, Skips, IsOne}
+use Rattle.tok_core.specs.Lexical.Pieces.{HasPrefix, ReadsPrefix, Skips, IsOne}
 use Rattle.tok_core.specs.Lexical.Strings.{IsEscape, IsByte, is_byte, is_hex, is_hex_or_underscore, hex_value, IsHex, NamesChar, IsCode, IsLineEnd}
-use Rattle.tok_core.proofs.Lexical.Takes.{finds_behind}
+use Rattle.tok_core.proofs.Lexical.Longest.{finds_after}
 use Rattle.tok_core.proofs.Lexical.Escapes.{heads, tails, not_backslash}
 use Rattle.tok_core.proofs.Lexical.Numbers.{not_true, all_stops}
 
@@ -22,7 +22,7 @@ one_found p text rest c e h = (c ∷ [], e, (c, h, refl))
 pub line_found : (text rest : List ℕ) → text ≡ 10 ∷ rest → (piece : List ℕ) × (text ≡ piece ++ rest) × IsLineEnd piece
 line_found text rest e = (10 ∷ [], e, inl refl)
 
-pub long_line_finds : (text : List ℕ) (answer : Option (Bor (List ℕ))) → ((more : List ℕ) → text ≡ 10 ∷ more → ⊥) → MatchOption answer ((more : List ℕ) → text ≡ 13 ∷ 10 ∷ more → ⊥) (λ rest. text ≡ 13 ∷ 10 ∷ chars rest.now) → Finds IsLineEnd text answer
+pub long_line_finds : (text : List ℕ) (answer : Option (Bor (List ℕ))) → ((more : List ℕ) → text ≡ 10 ∷ more → ⊥) → MatchOption answer ((more : List ℕ) → text ≡ 13 ∷ 10 ∷ more → ⊥) (λ rest. text ≡ 13 ∷ 10 ∷ chars rest.now) → ReadsPrefix IsLineEnd text answer
 long_line_finds text None a b = λ (piece, after, cut, h). elim h [ inl e ↦ a after (cut ∙ ap (λ w. w ++ after) e) | inr e ↦ b after (cut ∙ ap (λ w. w ++ after) e) ]
 long_line_finds text (Some rest) a e = (13 ∷ 10 ∷ [], e, inr refl)
 
@@ -90,7 +90,7 @@ code_found text start second after rest digits first one two h s e n =
     (123 ∷ first ∷ (digits ++ 125 ∷ []), one ∙ ap (λ w. 123 ∷ w) (two ∙ ap (λ w. first ∷ w) (s.cut ∙ ap (λ w. digits ++ w) e ∙ sym (append_assoc digits (125 ∷ []) rest))), (first, digits, refl, h, s.pass, n))
 
 -- what fits as a code is this
-pub code_is : (text start second after digits : List ℕ) (first : ℕ) → text ≡ 123 ∷ start → start ≡ first ∷ second → Skips is_hex_or_underscore second digits after → Fits IsCode text → (rest : List ℕ) × (is_digit first 16 ≡ true) × (after ≡ 125 ∷ rest) × NamesChar (first ∷ digits)
+pub code_is : (text start second after digits : List ℕ) (first : ℕ) → text ≡ 123 ∷ start → start ≡ first ∷ second → Skips is_hex_or_underscore second digits after → HasPrefix IsCode text → (rest : List ℕ) × (is_digit first 16 ≡ true) × (after ≡ 125 ∷ rest) × NamesChar (first ∷ digits)
 code_is text start second after digits first one two s (piece, last, cut, (c, ds, f, h, all, n)) =
     let whole : 123 ∷ first ∷ (digits ++ after) ≡ 123 ∷ c ∷ ((ds ++ 125 ∷ []) ++ last) = sym (one ∙ ap (λ w. 123 ∷ w) (two ∙ ap (λ w. first ∷ w) s.cut)) ∙ cut ∙ ap (λ w. w ++ last) f in
     let second_is : first ∷ (digits ++ after) ≡ c ∷ ((ds ++ 125 ∷ []) ++ last) = tails 123 123 _ _ whole in
@@ -100,10 +100,10 @@ code_is text start second after digits first one two s (piece, last, cut, (c, ds
     (last, ap is_hex same ∙ h, w.1, subst NamesChar (ap (λ v. v ∷ ds) (sym same) ∙ ap (λ v. first ∷ v) (sym w.0)) n)
 
 -- bytes
-pub byte_escape : (text rest : List ℕ) (c : ℕ) (answer : Option (Bor (List ℕ))) → text ≡ c ∷ rest → c ≡ 92 → Finds (IsEscape false true) rest answer → Finds IsByte text answer
+pub byte_escape : (text rest : List ℕ) (c : ℕ) (answer : Option (Bor (List ℕ))) → text ≡ c ∷ rest → c ≡ 92 → ReadsPrefix (IsEscape false true) rest answer → ReadsPrefix IsByte text answer
 byte_escape text rest c None one k misses = λ (piece, after, cut, h). elim h [
   | inl (d, p, e) ↦ not_backslash d (sym (heads c d rest after (sym one ∙ cut ∙ ap (λ w. w ++ after) e)) ∙ k) p
-  | inr s ↦ finds_behind 92 (IsEscape false true) text rest None (one ∙ ap (λ w. w ∷ rest) k) misses (piece, after, cut, s)
+  | inr s ↦ finds_after 92 (IsEscape false true) text rest None (one ∙ ap (λ w. w ∷ rest) k) misses (piece, after, cut, s)
 ]
 byte_escape text rest c (Some last) one k (piece, cut, s) = (92 ∷ piece, one ∙ ap (λ w. w ∷ rest) k ∙ ap (λ w. 92 ∷ w) cut, inr (piece, refl, s))
 
@@ -111,10 +111,10 @@ pub byte_plain : (text rest : List ℕ) (c : ℕ) → text ≡ c ∷ rest → is
 byte_plain text rest c e h = (c ∷ [], e, inl (c, h, refl))
 
 -- a code that doesn't end, or names no character
-pub code_open : (text start second after digits : List ℕ) (first : ℕ) → text ≡ 123 ∷ start → start ≡ first ∷ second → Skips is_hex_or_underscore second digits after → ((more : List ℕ) → after ≡ 125 ∷ more → ⊥) → Fits IsCode text → ⊥
+pub code_open : (text start second after digits : List ℕ) (first : ℕ) → text ≡ 123 ∷ start → start ≡ first ∷ second → Skips is_hex_or_underscore second digits after → ((more : List ℕ) → after ≡ 125 ∷ more → ⊥) → HasPrefix IsCode text → ⊥
 code_open text start second after digits first one two s misses f = let w = code_is text start second after digits first one two s f in misses w.0 w.2
 
-pub code_unnamed : (text start second after digits named : List ℕ) (first : ℕ) → text ≡ 123 ∷ start → start ≡ first ∷ second → Skips is_hex_or_underscore second digits after → named ≡ first ∷ digits → (NamesChar named → ⊥) → Fits IsCode text → ⊥
+pub code_unnamed : (text start second after digits named : List ℕ) (first : ℕ) → text ≡ 123 ∷ start → start ≡ first ∷ second → Skips is_hex_or_underscore second digits after → named ≡ first ∷ digits → (NamesChar named → ⊥) → HasPrefix IsCode text → ⊥
 code_unnamed text start second after digits named first one two s e misses f = let w = code_is text start second after digits first one two s f in misses (subst NamesChar (sym e) w.3)
 
 pub code_front : (start second after digits : List ℕ) (first : ℕ) → start ≡ first ∷ second → Skips is_hex_or_underscore second digits after → start ≡ (first ∷ digits) ++ after

@@ -1,11 +1,14 @@
 -- The steps of the loop over a nested comment.
-use Rattle.std.proofs.Common.{◌≡◌, ◌∙◌, ℕ, zero, suc, ◌+◌, ◌-◌, ◌<◌, List, [], ◌∷◌, ◌++◌, refl, sym, ap, subst, arith, append_assoc, true, rules, tests}
+use Rattle.std.proofs.Common.{◌≡◌, ◌∙◌, ℕ, zero, suc, ◌+◌, ◌-◌, ◌<◌, List, [], ◌∷◌, ◌++◌, refl, sym, ap, subst, arith, append_assoc, true}
 use Rattle.std.proofs.lemmas.List.{append-nil, append_cancel_left}
 use Rattle.std.proofs.Common.{Bool, false}
 use Rattle.std.specs.Prelude.{◌==◌, ◌||◌, ◌&&◌, not}
 use Rattle.std.specs.List.{list_all}
-use Rattle.std.proofs.lemmas.Bool.{false≢true, eq-eqb}
-use Rattle.tok_core.specs.Lexical.Pieces.{Takes, Skips, Stops, is_neither}
+use Rattle.std.proofs.lemmas.Bool.{false≢true, eq-eqb, eqb-true}
+use Rattle.std.specs.Prelude.{Option, Some, None}
+use Rattle.std.specs.Borrow.{Bor}
+use Rattle.std.specs.Str.{chars}
+use Rattle.tok_core.specs.Lexical.Pieces.{HasPrefix, IsLongestPrefix, ReadsLongest, Skips, Stops, is_neither}
 use Rattle.tok_core.specs.Lexical.Comments.{IsPlain, Closes, done, nested, ended, plain, IsBlockComment, is_not_line_feed}
 
 -- a front of the start closes one comment just where what is left of it, at the rest, closes `depth`
@@ -89,11 +92,41 @@ step_run start rest inner front (y ∷ run) depth x l s e a b h =
     let n = neither_first 42 47 y run h in
     subst (λ w. Stands start inner w depth) (append_assoc front (x ∷ []) (y ∷ run)) (step_run start (y ∷ (run ++ inner)) inner (front ++ x ∷ []) run depth y l one refl n.1 n.0 n.2)
 
+-- a run of others, of any length
+pub step_skip : (start rest inner front run : List ℕ) (depth : ℕ) → 0 < depth → Stands start rest front depth → rest ≡ run ++ inner → list_all (is_neither 42 47) run ≡ true → Stands start inner (front ++ run) depth
+step_skip start rest inner front [] depth l s e h =
+    subst (λ w. Stands start inner w depth) (sym (append-nil front)) (subst (λ w. Stands start w front depth) e s)
+step_skip start rest inner front (x ∷ run) depth l s e h =
+    let n = neither_first 42 47 x run h in
+    step_run start rest inner front run depth x l s e n.1 n.0 n.2
+
+-- such a run goes on to the end where neither follows it
+pub stops_end : (text : List ℕ) → Stops (is_neither 42 47) text → ((more : List ℕ) → text ≡ 42 ∷ more → ⊥) → ((more : List ℕ) → text ≡ 47 ∷ more → ⊥) → text ≡ []
+stops_end [] s a b = refl
+stops_end (c ∷ text) s a b = go (c == 42) (c == 47) refl refl s
+  where
+    go : (p q : Bool) → (c == 42) ≡ p → (c == 47) ≡ q → not (p || q) ≡ false → c ∷ text ≡ []
+    go true q f g k = absurd (a text (ap (λ w. w ∷ text) (eqb-true c 42 f)))
+    go false true f g k = absurd (b text (ap (λ w. w ∷ text) (eqb-true c 47 g)))
+    go false false f g k = absurd (false≢true (sym k))
+
+closes_some : (n : ℕ) (tail : List ℕ) → 0 < n → tail ≡ [] → Closes n tail → ⊥
+closes_some zero tail l e c = omega arith
+closes_some (suc n) [] l e c = elim c [ ]
+closes_some (suc n) (x ∷ tail) l e c = cc
+
+-- where the text ends, a comment that is open closes nowhere
+pub open_none : (start rest front : List ℕ) (depth : ℕ) → 0 < depth → Stands start rest front depth → rest ≡ [] → HasPrefix (Closes 1) start → ⊥
+open_none start rest front depth l s e (piece, after, cut, c) =
+    let a = s.forth piece after cut c in
+    closes_some depth a.0 l (front_nil a.0 after (sym e ∙ a.2)) a.3
+  where
+    front_nil : (xs ys : List ℕ) → [] ≡ xs ++ ys → xs ≡ []
+    front_nil [] ys f = refl
+    front_nil (x ∷ xs) ys f = cc
+
 tails : (a b : ℕ) (x y : List ℕ) → a ∷ x ≡ b ∷ y → x ≡ y
 tails a b x y e = cc
-
-pub both_marks : (rest after inner : List ℕ) (x a b : ℕ) → rest ≡ x ∷ after → x ≡ a → after ≡ b ∷ inner → rest ≡ a ∷ b ∷ inner
-both_marks rest after inner x a b e f g = e ∙ ap (λ w. w ∷ after) f ∙ ap (λ w. a ∷ w) g
 
 -- a slash that opens none
 pub step_slash : (start rest after front : List ℕ) (depth x : ℕ) → 0 < depth → Stands start rest front depth → rest ≡ x ∷ after → x ≡ 47 → ((more : List ℕ) → after ≡ 42 ∷ more → ⊥) → Stands start after (front ++ x ∷ []) depth
@@ -109,23 +142,37 @@ closed_none : (n : ℕ) (tail : List ℕ) → n ≡ 0 → Closes n tail → tail
 closed_none zero tail z done = refl
 closed_none (suc n) tail z c = absurd (omega arith)
 
-pub takes_block : (text start rest front : List ℕ) (depth : ℕ) → text ≡ 47 ∷ 42 ∷ start → depth ≡ 0 → Stands start rest front depth → (piece : List ℕ) × Takes IsBlockComment text piece rest
-takes_block text start rest front depth e z s = (
-  47 ∷ 42 ∷ front,
+pub takes_block : (start rest front : List ℕ) (depth : ℕ) → depth ≡ 0 → Stands start rest front depth → (piece : List ℕ) × IsLongestPrefix (Closes 1) start piece rest
+takes_block start rest front depth z s = (
+  front,
   record {
-    cut = e ∙ ap (λ w. 47 ∷ 42 ∷ w) s.cut;
-    spelled = (front, refl, subst (Closes 1) (append-nil front) (s.back [] rest refl (subst (λ n. Closes n []) (sym z) done)));
-    longest = λ more after f (body, g, c).
-        let body_is : body ≡ front ++ more = cc in
-        let whole : start ≡ body ++ after = s.cut ∙ ap (λ w. front ++ w) f ∙ sym (append_assoc front more after) ∙ ap (λ w. w ++ after) (sym body_is) in
-        let a = s.forth body after whole c in
+    cut = s.cut;
+    spelled = subst (Closes 1) (append-nil front) (s.back [] rest refl (subst (λ n. Closes n []) (sym z) done));
+    longest = λ more after f c.
+        let whole : start ≡ (front ++ more) ++ after = s.cut ∙ ap (λ w. front ++ w) f ∙ sym (append_assoc front more after) in
+        let a = s.forth (front ++ more) after whole c in
         let none : a.0 ≡ [] = closed_none depth a.0 z a.3 in
-        append_cancel_left front more [] (sym body_is ∙ a.1 ∙ ap (λ w. front ++ w) none);
+        append_cancel_left front more [] (a.1 ∙ ap (λ w. front ++ w) none);
   },
 )
 
-pub not_line_feed : (c : ℕ) → (c ≡ 10 → ⊥) → is_not_line_feed c ≡ true
-not_line_feed c h = search (rules, tests)
+-- a comment is its `/*` and what closes it
+pub takes_marked : (text mid rest front : List ℕ) → text ≡ 47 ∷ 42 ∷ mid → IsLongestPrefix (Closes 1) mid front rest → IsLongestPrefix IsBlockComment text (47 ∷ 42 ∷ front) rest
+takes_marked text mid rest front e t = record {
+  cut = e ∙ ap (λ w. 47 ∷ 42 ∷ w) t.cut;
+  spelled = (front, refl, t.spelled);
+  longest = λ more after f (body, g, s). let same : body ≡ front ++ more = cc in t.longest more after f (subst (Closes 1) same s);
+}
+
+pub marked_none : (text mid : List ℕ) → text ≡ 47 ∷ 42 ∷ mid → (HasPrefix (Closes 1) mid → ⊥) → HasPrefix IsBlockComment text → ⊥
+marked_none text mid e misses (piece, after, cut, (body, f, s)) =
+    let both : 47 ∷ 42 ∷ mid ≡ 47 ∷ 42 ∷ (body ++ after) = sym e ∙ cut ∙ ap (λ w. w ++ after) f in
+    let inner : mid ≡ body ++ after = cc in
+    misses (body, after, inner, s)
+
+pub tries_marked : (text mid : List ℕ) (answer : Option (Bor (List ℕ))) → text ≡ 47 ∷ 42 ∷ mid → ReadsLongest (Closes 1) mid answer → ReadsLongest IsBlockComment text answer
+tries_marked text mid None e misses = marked_none text mid e misses
+tries_marked text mid (Some rest) e (front, t) = (47 ∷ 42 ∷ front, takes_marked text mid (chars rest.now) front e t)
 
 line_all : (cs : List ℕ) → list_all (is_neither 10 10) cs ≡ list_all is_not_line_feed cs
 line_all [] = refl

@@ -4,9 +4,9 @@ use Rattle.std.specs.Prelude.{Option, Some, None, if◌then◌else◌}
 use Rattle.std.specs.Borrow.{Bor}
 use Rattle.std.specs.List.{list_all}
 use Rattle.std.proofs.lemmas.Bool.{false≢true, and_parts}
-use Rattle.tok_core.specs.Lexical.Pieces.{Fits, Finds, IsOne, Behind}
+use Rattle.tok_core.specs.Lexical.Pieces.{HasPrefix, ReadsPrefix, IsOne, After}
 use Rattle.tok_core.specs.Lexical.Strings.{is_simple_escape, is_hex_or_underscore, IsHex, IsCode, IsLineEnd, IsEscape, simple, hex, code, line_end, is_byte, IsEscapedChar, IsByte}
-use Rattle.tok_core.proofs.Lexical.Takes.{IsFree}
+use Rattle.tok_core.proofs.Lexical.Longest.{IsFree}
 
 pub heads : (a b : ℕ) (x y : List ℕ) → a ∷ x ≡ b ∷ y → a ≡ b
 heads a b x y e = cc
@@ -22,8 +22,8 @@ free_one p a b (c, h, e) (d, k, f) x y g =
     let whole : c ∷ x ≡ d ∷ y = moved a b (c ∷ []) (d ∷ []) x y e f g in
     (e ∙ ap (λ w. w ∷ []) (heads c d x y whole) ∙ sym f, tails c d x y whole)
 
-pub free_behind : (k : ℕ) (S : List ℕ → Type 0) → IsFree S → IsFree (Behind k S)
-free_behind k S free a b (more, e, s) (other, f, t) x y g =
+pub free_after : (k : ℕ) (S : List ℕ → Type 0) → IsFree S → IsFree (After k S)
+free_after k S free a b (more, e, s) (other, f, t) x y g =
     let whole : k ∷ (more ++ x) ≡ k ∷ (other ++ y) = moved a b (k ∷ more) (k ∷ other) x y e f g in
     let w = free more other s t x y (tails k k (more ++ x) (other ++ y) whole) in
     (e ∙ ap (λ v. k ∷ v) w.0 ∙ sym f, w.1)
@@ -93,7 +93,7 @@ free_escape le wide a b v w x y g = go v w x y g
     go {a = a} {b = b} (line_end l h) (line_end m k) x y e = free_line_end a b h k x y e
 
 pub free_escaped : IsFree IsEscapedChar
-free_escaped = free_behind 92 (IsEscape false false) (free_escape false false)
+free_escaped = free_after 92 (IsEscape false false) (free_escape false false)
 
 pub not_backslash : (c : ℕ) → c ≡ 92 → is_byte c ≡ true → ⊥
 not_backslash c e h = false≢true (ap is_byte (sym e) ∙ h)
@@ -102,30 +102,30 @@ pub free_byte : IsFree IsByte
 free_byte a b (inl s) (inl t) x y g = free_one is_byte a b s t x y g
 free_byte a b (inl (c, h, e)) (inr (more, f, t)) x y g = absurd (not_backslash c (heads c 92 _ _ (moved a b (c ∷ []) (92 ∷ more) x y e f g)) h)
 free_byte a b (inr (more, f, t)) (inl (c, h, e)) x y g = absurd (not_backslash c (sym (heads 92 c _ _ (moved a b (92 ∷ more) (c ∷ []) x y f e g))) h)
-free_byte a b (inr s) (inr t) x y g = free_behind 92 (IsEscape false true) (free_escape false true) a b s t x y g
+free_byte a b (inr s) (inr t) x y g = free_after 92 (IsEscape false true) (free_escape false true) a b s t x y g
 
 -- what the tries of an escape answer
-none_escape : (le wide : Bool) (kind : ℕ) (rest piece after : List ℕ) → is_simple_escape kind ≡ false → (kind ≡ 120 → Fits (IsHex (if wide then 16 else 8)) rest → ⊥) → (kind ≡ 117 → wide ≡ false → Fits IsCode rest → ⊥) → (le ≡ true → Fits IsLineEnd (kind ∷ rest) → ⊥) → IsEscape le wide piece → kind ∷ rest ≡ piece ++ after → ⊥
+none_escape : (le wide : Bool) (kind : ℕ) (rest piece after : List ℕ) → is_simple_escape kind ≡ false → (kind ≡ 120 → HasPrefix (IsHex (if wide then 16 else 8)) rest → ⊥) → (kind ≡ 117 → wide ≡ false → HasPrefix IsCode rest → ⊥) → (le ≡ true → HasPrefix IsLineEnd (kind ∷ rest) → ⊥) → IsEscape le wide piece → kind ∷ rest ≡ piece ++ after → ⊥
 none_escape le wide kind rest piece after n a b c (simple d s) e = false≢true (sym n ∙ ap is_simple_escape (heads kind d rest after e) ∙ s)
 none_escape le wide kind rest piece after n a b c (hex {text = t} h) e = a (heads kind 120 rest (t ++ after) e) (t, after, tails kind 120 rest (t ++ after) e, h)
 none_escape le wide kind rest piece after n a b c (code {text = t} w h) e = b (heads kind 117 rest (t ++ after) e) w (t, after, tails kind 117 rest (t ++ after) e, h)
 none_escape le wide kind rest piece after n a b c (line_end l h) e = c l (piece, after, e, h)
 
-no_line : (kind : ℕ) (rest : List ℕ) → 100 < kind → Fits IsLineEnd (kind ∷ rest) → ⊥
+no_line : (kind : ℕ) (rest : List ℕ) → 100 < kind → HasPrefix IsLineEnd (kind ∷ rest) → ⊥
 no_line kind rest l (piece, after, cut, h) = line_other piece kind rest after l h cut
 
 module _ (le wide : Bool) (text rest : List ℕ) (kind : ℕ) (one : text ≡ kind ∷ rest) where
   pub finds_simple : is_simple_escape kind ≡ true → (piece : List ℕ) × (text ≡ piece ++ rest) × IsEscape le wide piece
   finds_simple s = (kind ∷ [], one, simple kind s)
 
-  pub finds_hex : (answer : Option (Bor (List ℕ))) (top : ℕ) → top ≡ (if wide then 16 else 8) → is_simple_escape kind ≡ false → kind ≡ 120 → Finds (IsHex top) rest answer → Finds (IsEscape le wide) text answer
-  finds_hex None top t n k misses = λ (piece, after, cut, v). none_escape le wide kind rest piece after n (λ _ f. misses (subst (λ w. Fits (IsHex w) rest) (sym t) f)) (λ e. absurd (omega arith)) (λ _ f. no_line kind rest (omega arith) f) v (sym one ∙ cut)
+  pub finds_hex : (answer : Option (Bor (List ℕ))) (top : ℕ) → top ≡ (if wide then 16 else 8) → is_simple_escape kind ≡ false → kind ≡ 120 → ReadsPrefix (IsHex top) rest answer → ReadsPrefix (IsEscape le wide) text answer
+  finds_hex None top t n k misses = λ (piece, after, cut, v). none_escape le wide kind rest piece after n (λ _ f. misses (subst (λ w. HasPrefix (IsHex w) rest) (sym t) f)) (λ e. absurd (omega arith)) (λ _ f. no_line kind rest (omega arith) f) v (sym one ∙ cut)
   finds_hex (Some after) top t n k (piece, cut, v) = (120 ∷ piece, one ∙ ap (λ w. w ∷ rest) k ∙ ap (λ w. 120 ∷ w) cut, hex (subst (λ w. IsHex w piece) t v))
 
-  pub finds_code : (answer : Option (Bor (List ℕ))) → wide ≡ false → is_simple_escape kind ≡ false → kind ≡ 117 → Finds IsCode rest answer → Finds (IsEscape le wide) text answer
+  pub finds_code : (answer : Option (Bor (List ℕ))) → wide ≡ false → is_simple_escape kind ≡ false → kind ≡ 117 → ReadsPrefix IsCode rest answer → ReadsPrefix (IsEscape le wide) text answer
   finds_code None w n k misses = λ (piece, after, cut, v). none_escape le wide kind rest piece after n (λ e. absurd (omega arith)) (λ _ _ f. misses f) (λ _ f. no_line kind rest (omega arith) f) v (sym one ∙ cut)
   finds_code (Some after) w n k (piece, cut, v) = (117 ∷ piece, one ∙ ap (λ w. w ∷ rest) k ∙ ap (λ w. 117 ∷ w) cut, code w v)
 
-  pub finds_line : (answer : Option (Bor (List ℕ))) → le ≡ true → is_simple_escape kind ≡ false → (kind ≡ 120 → ⊥) → (kind ≡ 117 → ⊥) → Finds IsLineEnd text answer → Finds (IsEscape le wide) text answer
-  finds_line None l n a b misses = λ (piece, after, cut, v). none_escape le wide kind rest piece after n (λ e. absurd (a e)) (λ e. absurd (b e)) (λ _ f. misses (subst (λ w. Fits IsLineEnd w) (sym one) f)) v (sym one ∙ cut)
+  pub finds_line : (answer : Option (Bor (List ℕ))) → le ≡ true → is_simple_escape kind ≡ false → (kind ≡ 120 → ⊥) → (kind ≡ 117 → ⊥) → ReadsPrefix IsLineEnd text answer → ReadsPrefix (IsEscape le wide) text answer
+  finds_line None l n a b misses = λ (piece, after, cut, v). none_escape le wide kind rest piece after n (λ e. absurd (a e)) (λ e. absurd (b e)) (λ _ f. misses (subst (λ w. HasPrefix IsLineEnd w) (sym one) f)) v (sym one ∙ cut)
   finds_line (Some after) l n a b (piece, cut, v) = (piece, cut, line_end l v)

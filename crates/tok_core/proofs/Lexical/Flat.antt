@@ -2,16 +2,16 @@
 use Rattle.std.proofs.Common.{◌≡◌, ◌∙◌, ℕ, ◌≤◌, List, [], ◌∷◌, ◌++◌, refl, sym, ap, subst, arith, append_assoc}
 use Rattle.tok_core.specs.declared.group.Delimiter.{Delimiter}
 use Rattle.tok_core.specs.Spans.{source}
-use Rattle.tok_core.specs.Forest.{Leaf, leaf, group, Forest, no_trees, tree, joined}
+use Rattle.tok_core.specs.Forest.{Leaf, leaf, group, Forest, no_trees, tree, concat}
 use Rattle.tok_core.specs.Lexical.Items.{Item, leaf_item, opening, closing, Flat, no_items, leaf_first, group_first, depth}
 
-pub flat_joined : {number : ℕ} {f g : Forest} {xs ys : List Item} → Flat number f xs → Flat number g ys → Flat number (joined f g) (xs ++ ys)
+pub flat_joined : {number : ℕ} {f g : Forest} {xs ys : List Item} → Flat number f xs → Flat number g ys → Flat number (concat f g) (xs ++ ys)
 flat_joined no_items h = h
 flat_joined (leaf_first k) h = leaf_first (flat_joined k h)
 flat_joined {number} {f} {g} {xs} {ys} (group_first {inside = inside} {f = rest} {inner = inner} {items = items} delimiter start end k m) h =
-    subst (λ w. Flat number (tree (group delimiter inside (source number start end)) (joined rest g)) (opening delimiter start ∷ w)) (sym (append_assoc inner (closing delimiter end ∷ items) ys)) (group_first delimiter start end k (flat_joined m h))
+    subst (λ w. Flat number (tree (group delimiter inside (source number start end)) (concat rest g)) (opening delimiter start ∷ w)) (sym (append_assoc inner (closing delimiter end ∷ items) ys)) (group_first delimiter start end k (flat_joined m h))
 
-pub depth_joined : (n : ℕ) (f g : Forest) → depth f ≤ n → depth g ≤ n → depth (joined f g) ≤ n
+pub depth_joined : (n : ℕ) (f g : Forest) → depth f ≤ n → depth g ≤ n → depth (concat f g) ≤ n
 depth_joined n no_trees g a b = b
 depth_joined n (tree (leaf l) f) g a b = depth_joined n f g a b
 depth_joined n (tree (group delimiter inside span) f) g a b = let r = depth_joined n f g (omega arith) b in omega arith

@@ -9,11 +9,11 @@ use Rattle.tok_core.specs.declared.punct.Spacing.{Spacing}
 use Rattle.tok_core.specs.declared.punct.Spacing.TheVariants.{Alone, Joint}
 use Rattle.tok_core.specs.declared.span.Span.{Span}
 use Rattle.tok_core.specs.Lexical.Meaning.{punct_item, ident_item, literal_item}
-use Rattle.tok_core.specs.Forest.{Leaf, ident, punct, literal, Tree, leaf, group, Forest, no_trees, tree, joined}
+use Rattle.tok_core.specs.Forest.{Leaf, ident, punct, literal, Tree, leaf, group, Forest, no_trees, tree, concat}
 use Rattle.tok_core.specs.Lexical.Items.{Item, leaf_item, opening, closing, Flat, no_items, leaf_first, group_first, depth, Opens, inside, within}
 use Rattle.tok_core.specs.Lexical.Built.{Holds, last, outer, levels_of, Reached, Grows}
 use Rattle.tok_core.specs.declared.lexer.nest.OpenGroup.{OpenGroup}
-use Rattle.tok_core.specs.declared.lexer.nest.Nest.{Nest}
+use Rattle.tok_core.specs.declared.lexer.nest.TreeBuilder.{TreeBuilder}
 use Rattle.tok_core.proofs.Lexical.Flat.{flat_joined, depth_joined}
 
 -- the trees so far are a forest with groups still open
@@ -24,10 +24,10 @@ opens_of (outer {g = g} {before = before} {all = all} d k h) = within before all
 moved : (before all more : List Item) (x : Item) → before ++ x ∷ (all ++ more) ≡ (before ++ x ∷ all) ++ more
 moved before all more x = sym (append_assoc before (x ∷ all) more)
 
-pub holds_leaf : {number n : ℕ} {groups : List OpenGroup} {f : Forest} {all : List Item} (l : Leaf) → Holds number n groups f all → Holds number n groups (joined f (tree (leaf l) no_trees)) (all ++ leaf_item l ∷ [])
+pub holds_leaf : {number n : ℕ} {groups : List OpenGroup} {f : Forest} {all : List Item} (l : Leaf) → Holds number n groups f all → Holds number n groups (concat f (tree (leaf l) no_trees)) (all ++ leaf_item l ∷ [])
 holds_leaf {n = n} {f = f} l (last d k) = last (depth_joined n f (tree (leaf l) no_trees) d (omega arith)) (flat_joined k (leaf_first no_items))
 holds_leaf {number} {n} {groups} {f} l (outer {g = g} {groups = inner} {before = before} {all = all} d k h) =
-    subst (Holds number n (g ∷ inner) (joined f (tree (leaf l) no_trees))) (moved before all (leaf_item l ∷ []) (opening g.delimiter g.start)) (outer d k (holds_leaf l h))
+    subst (Holds number n (g ∷ inner) (concat f (tree (leaf l) no_trees))) (moved before all (leaf_item l ∷ []) (opening g.delimiter g.start)) (outer d k (holds_leaf l h))
 
 pub holds_open : {number n : ℕ} {groups : List OpenGroup} {f : Forest} {all : List Item} (g : OpenGroup) → g.before ≡ f → length groups < n → Holds number n groups f all → Holds number n (groups ++ g ∷ []) no_trees (all ++ opening g.delimiter g.start ∷ [])
 holds_open {n = zero} g e l (last d k) = absurd (omega arith)
@@ -35,11 +35,11 @@ holds_open {number} {n = suc n} {groups} {f} {all} g e l (last d k) = outer (sub
 holds_open {number} {n} {groups} {f} g e l (outer {g = h} {groups = inner} {before = before} {all = all} d k m) =
     subst (Holds number n (h ∷ inner ++ g ∷ []) no_trees) (moved before all (opening g.delimiter g.start ∷ []) (opening h.delimiter h.start)) (outer d k (holds_open g e (omega arith) m))
 
-holds_closed : {number n : ℕ} {f : Forest} {all : List Item} (groups : List OpenGroup) (g : OpenGroup) (end : ℕ) → Holds number n (groups ++ g ∷ []) f all → Holds number n groups (joined g.before (tree (group g.delimiter f (source number g.start end)) no_trees)) (all ++ closing g.delimiter end ∷ [])
+holds_closed : {number n : ℕ} {f : Forest} {all : List Item} (groups : List OpenGroup) (g : OpenGroup) (end : ℕ) → Holds number n (groups ++ g ∷ []) f all → Holds number n groups (concat g.before (tree (group g.delimiter f (source number g.start end)) no_trees)) (all ++ closing g.delimiter end ∷ [])
 holds_closed {number} {n} {f} [] g end (outer {before = before} {all = all} d k (last e m)) =
     last (depth_joined n g.before _ d (omega arith)) (subst (Flat number _) (moved before all (closing g.delimiter end ∷ []) (opening g.delimiter g.start)) (flat_joined k (group_first g.delimiter g.start end m no_items)))
 holds_closed {number} {n} {f} (p ∷ groups) g end (outer {before = before} {all = all} d k h) =
-    subst (Holds number n (p ∷ groups) (joined g.before (tree (group g.delimiter f (source number g.start end)) no_trees))) (moved before all (closing g.delimiter end ∷ []) (opening p.delimiter p.start)) (outer d k (holds_closed groups g end h))
+    subst (Holds number n (p ∷ groups) (concat g.before (tree (group g.delimiter f (source number g.start end)) no_trees))) (moved before all (closing g.delimiter end ∷ []) (opening p.delimiter p.start)) (outer d k (holds_closed groups g end h))
 
 pub reached_push : (groups : List OpenGroup) (g : OpenGroup) (at : ℕ) → g.start ≤ at → Reached groups at → Reached (groups ++ g ∷ []) at
 reached_push [] g at l r = (l, tt)
@@ -53,8 +53,8 @@ pub reached_later : (groups : List OpenGroup) (at end : ℕ) → at ≤ end → 
 reached_later [] at end l r = tt
 reached_later (g ∷ groups) at end l r = (let s = r.0 in omega arith, reached_later groups at end l r.1)
 
-module _ (at : ℕ) (old new : Nest) where
-  pub grows_leaf : (l : Leaf) → new.source ≡ old.source → new.«open» ≡ old.«open» → new.trees ≡ joined old.trees (tree (leaf l) no_trees) → Grows at old new (leaf_item l ∷ [])
+module _ (at : ℕ) (old new : TreeBuilder) where
+  pub grows_leaf : (l : Leaf) → new.source ≡ old.source → new.«open» ≡ old.«open» → new.trees ≡ concat old.trees (tree (leaf l) no_trees) → Grows at old new (leaf_item l ∷ [])
   grows_leaf l s o t = record {
     same_source = s;
     reached = λ r. subst (λ w. Reached w.items at) (sym o) r;
@@ -74,7 +74,7 @@ module _ (at : ℕ) (old new : Nest) where
       holds_bound (last d k) = omega arith
       holds_bound (outer d k h) = let b = holds_bound h in omega arith
 
-  pub grows_close : (g : OpenGroup) (end : ℕ) → new.source ≡ old.source → old.«open».items ≡ new.«open».items ++ g ∷ [] → new.trees ≡ joined g.before (tree (group g.delimiter old.trees (source old.source g.start end)) no_trees) → Grows at old new (closing g.delimiter end ∷ [])
+  pub grows_close : (g : OpenGroup) (end : ℕ) → new.source ≡ old.source → old.«open».items ≡ new.«open».items ++ g ∷ [] → new.trees ≡ concat g.before (tree (group g.delimiter old.trees (source old.source g.start end)) no_trees) → Grows at old new (closing g.delimiter end ∷ [])
   grows_close g end s o t = record {
     same_source = s;
     reached = λ r. (reached_pop new.«open».items g at (subst (λ w. Reached w at) o r)).0;
@@ -82,7 +82,7 @@ module _ (at : ℕ) (old new : Nest) where
   }
 
 -- one addition after the other
-pub grows_both : (at : ℕ) (old mid new : Nest) (xs ys : List Item) → Grows at old mid xs → Grows at mid new ys → Grows at old new (xs ++ ys)
+pub grows_both : (at : ℕ) (old mid new : TreeBuilder) (xs ys : List Item) → Grows at old mid xs → Grows at mid new ys → Grows at old new (xs ++ ys)
 grows_both at old mid new xs ys g h = record {
   same_source = h.same_source ∙ g.same_source;
   reached = λ r. h.reached (g.reached r);
@@ -90,9 +90,9 @@ grows_both at old mid new xs ys g h = record {
 }
 
 -- the same of what the lexer makes
-module _ (at : ℕ) (old new : Nest) (s : new.source ≡ old.source) (o : new.«open» ≡ old.«open») (made : Leaf) (t : new.trees ≡ joined old.trees (tree (leaf made) no_trees)) (span : Span) where
+module _ (at : ℕ) (old new : TreeBuilder) (s : new.source ≡ old.source) (o : new.«open» ≡ old.«open») (made : Leaf) (t : new.trees ≡ concat old.trees (tree (leaf made) no_trees)) (span : Span) where
   grows_made : (l : Leaf) → made ≡ l → Grows at old new (leaf_item l ∷ [])
-  grows_made l e = grows_leaf at old new l s o (t ∙ ap (λ w. joined old.trees (tree (leaf w) no_trees)) e)
+  grows_made l e = grows_leaf at old new l s o (t ∙ ap (λ w. concat old.trees (tree (leaf w) no_trees)) e)
 
   pub grows_punct : (from c : ℕ) (joint : Bool) (spacing : Spacing) → made ≡ punct c spacing span → spacing ≡ (if joint then Joint else Alone) → span ≡ source old.source from (from + 1) → Grows at old new (punct_item old.source from c joint ∷ [])
   grows_punct from c joint spacing m j p = grows_made _ (m ∙ ap (λ w. punct c w span) j ∙ ap (λ w. punct c (if joint then Joint else Alone) w) p)
@@ -103,15 +103,15 @@ module _ (at : ℕ) (old new : Nest) (s : new.source ≡ old.source) (o : new.«
   pub grows_literal : (start end : ℕ) (bytes text : List ℕ) → made ≡ literal bytes span → bytes ≡ text → IsUtf8 text → span ≡ source old.source start end → Grows at old new (literal_item old.source start end (chars text) ∷ [])
   grows_literal start end bytes text m b u p = grows_made _ (m ∙ ap (λ w. literal w span) (b ∙ sym (encodes-chars text u)) ∙ ap (λ w. literal (encode_utf8_all (chars text)) w) p)
 
-pub grows_opened : (at : ℕ) (old new : Nest) (delimiter : Delimiter) (before : Forest) → (length old.«open».items ≡ 256 → ⊥) → before ≡ old.trees → new.source ≡ old.source → new.«open».items ≡ old.«open».items ++ record { delimiter = delimiter; start = at; before = before } ∷ [] → new.trees ≡ no_trees → Grows at old new (opening delimiter at ∷ [])
+pub grows_opened : (at : ℕ) (old new : TreeBuilder) (delimiter : Delimiter) (before : Forest) → (length old.«open».items ≡ 256 → ⊥) → before ≡ old.trees → new.source ≡ old.source → new.«open».items ≡ old.«open».items ++ record { delimiter = delimiter; start = at; before = before } ∷ [] → new.trees ≡ no_trees → Grows at old new (opening delimiter at ∷ [])
 grows_opened at old new delimiter before few b s o t = grows_open at old new (record { delimiter = delimiter; start = at; before = before }) few b refl s o t
 
-pub grows_closed : (at : ℕ) (old new : Nest) (delimiter : Delimiter) (end : ℕ) (g : OpenGroup) (made : Tree) (inner before : Forest) (span : Span)
+pub grows_closed : (at : ℕ) (old new : TreeBuilder) (delimiter : Delimiter) (end : ℕ) (g : OpenGroup) (made : Tree) (inner before : Forest) (span : Span)
     → g.delimiter ≡ delimiter → new.source ≡ old.source → old.«open».items ≡ new.«open».items ++ g ∷ [] → inner ≡ old.trees → before ≡ g.before → span ≡ source old.source g.start end
-    → made ≡ group delimiter inner span → new.trees ≡ joined before (tree made no_trees) → Grows at old new (closing delimiter end ∷ [])
+    → made ≡ group delimiter inner span → new.trees ≡ concat before (tree made no_trees) → Grows at old new (closing delimiter end ∷ [])
 grows_closed at old new delimiter end g made inner before span d s o i b p m t =
-    subst (λ w. Grows at old new (closing w end ∷ [])) d (grows_close at old new g end s o (t ∙ ap (λ w. joined w (tree made no_trees)) b ∙ ap (λ w. joined g.before (tree w no_trees)) (m ∙ ap (λ w. group delimiter w span) i ∙ ap (λ w. group delimiter old.trees w) p ∙ ap (λ w. group w old.trees (source old.source g.start end)) (sym d))))
+    subst (λ w. Grows at old new (closing w end ∷ [])) d (grows_close at old new g end s o (t ∙ ap (λ w. concat w (tree made no_trees)) b ∙ ap (λ w. concat g.before (tree w no_trees)) (m ∙ ap (λ w. group delimiter w span) i ∙ ap (λ w. group delimiter old.trees w) p ∙ ap (λ w. group w old.trees (source old.source g.start end)) (sym d))))
 
 -- a lifetime: an apostrophe and an identifier
-pub grows_lifetime : (at : ℕ) (old mid new : Nest) (end : ℕ) (name : List ℕ) → Grows at old mid (punct_item old.source at 39 true ∷ []) → Grows at mid new (ident_item mid.source (at + 1) end name ∷ []) → Grows at old new (punct_item old.source at 39 true ∷ ident_item old.source (at + 1) end name ∷ [])
+pub grows_lifetime : (at : ℕ) (old mid new : TreeBuilder) (end : ℕ) (name : List ℕ) → Grows at old mid (punct_item old.source at 39 true ∷ []) → Grows at mid new (ident_item mid.source (at + 1) end name ∷ []) → Grows at old new (punct_item old.source at 39 true ∷ ident_item old.source (at + 1) end name ∷ [])
 grows_lifetime at old mid new end name g h = grows_both at old mid new _ _ g (subst (λ w. Grows at mid new (ident_item w (at + 1) end name ∷ [])) g.same_source h)

@@ -6,11 +6,11 @@ use Rattle.std.specs.Char.{is_digit}
 use Rattle.std.specs.Borrow.{Bor}
 use Rattle.std.proofs.lemmas.List.{append-nil}
 use Rattle.std.proofs.lemmas.Bool.{false≢true, and_parts}
-use Rattle.tok_core.specs.Lexical.Pieces.{Takes, Fits, Tries, Skips, Stops, Behind}
+use Rattle.tok_core.specs.Lexical.Pieces.{IsLongestPrefix, HasPrefix, ReadsLongest, Skips, Stops, After}
 use Rattle.tok_core.specs.Lexical.Words.{IsIdentifier}
 use Rattle.tok_core.specs.declared.lexer.rule.Base.{Base}
 use Rattle.tok_core.specs.Lexical.Numbers.{base_mark, radix, IsBased, is_digit_or_underscore, starts_digit, starts_number_suffix, IsNumberSuffix, IsNumber, has_digit, IsDecimal}
-use Rattle.tok_core.proofs.Lexical.Takes.{no_more, list_all-push, tries_behind, fronts}
+use Rattle.tok_core.proofs.Lexical.Longest.{no_more, list_all-push, tries_after, fronts}
 use Rattle.tok_core.proofs.Lexical.Escapes.{heads, tails}
 
 pub not_true : (b : Bool) → (b ≡ true → ⊥) → b ≡ false
@@ -59,7 +59,7 @@ suffix_stops : (n : ℕ) (suffix : List ℕ) → IsNumberSuffix n suffix → Sto
 suffix_stops n [] s = tt
 suffix_stops n (c ∷ suffix) (s, w) = suffix_parts (is_digit_or_underscore n c) _ s
 
-pub takes_number : (n : ℕ) (good : List ℕ → Bool) (text rest last digits suffix : List ℕ) → Skips (is_digit_or_underscore n) text digits rest → good digits ≡ true → Takes (IsNumberSuffix n) rest suffix last → (piece : List ℕ) × Takes (IsNumber n good) text piece last
+pub takes_number : (n : ℕ) (good : List ℕ → Bool) (text rest last digits suffix : List ℕ) → Skips (is_digit_or_underscore n) text digits rest → good digits ≡ true → IsLongestPrefix (IsNumberSuffix n) rest suffix last → (piece : List ℕ) × IsLongestPrefix (IsNumber n good) text piece last
 takes_number n good text rest last digits suffix s g t = (
   digits ++ suffix,
   record {
@@ -72,7 +72,7 @@ takes_number n good text rest last digits suffix s g t = (
   },
 )
 
-pub none_number : (n : ℕ) (good : List ℕ → Bool) (text rest digits : List ℕ) → ((xs ys : List ℕ) → good xs ≡ true → good (xs ++ ys) ≡ true) → Skips (is_digit_or_underscore n) text digits rest → good digits ≡ false → Fits (IsNumber n good) text → ⊥
+pub none_number : (n : ℕ) (good : List ℕ → Bool) (text rest digits : List ℕ) → ((xs ys : List ℕ) → good xs ≡ true → good (xs ++ ys) ≡ true) → Skips (is_digit_or_underscore n) text digits rest → good digits ≡ false → HasPrefix (IsNumber n good) text → ⊥
 none_number n good text rest digits grows s bad (piece, after, cut, (ds, sf, f, a, g, k)) =
     elim (fronts ds digits (sf ++ after) rest (sym (append_assoc ds sf after) ∙ ap (λ w. w ++ after) (sym f) ∙ sym cut ∙ s.cut)) [
       | inl (m, e, r) ↦ false≢true (sym bad ∙ ap good e ∙ grows ds m g)
@@ -89,7 +89,7 @@ digit_grows n (x ∷ xs) ys h =
       | false ↦ λ k. digit_grows n xs ys k
     ] h
 
-pub none_decimal : (text : List ℕ) → starts_digit text ≡ false → Fits IsDecimal text → ⊥
+pub none_decimal : (text : List ℕ) → starts_digit text ≡ false → HasPrefix IsDecimal text → ⊥
 none_decimal text bad (piece, after, cut, ([], sf, f, a, g, k)) = false≢true g
 none_decimal text bad (piece, after, cut, (d ∷ ds, sf, f, a, g, k)) =
     false≢true (sym bad ∙ ap starts_digit (cut ∙ ap (λ w. w ++ after) f) ∙ g)
@@ -103,18 +103,18 @@ digits_start text [] [] s g = absurd (false≢true (sym (ap starts_digit s.cut) 
 digits_start text (c ∷ rest) [] s g = absurd (false≢true (sym s.stops ∙ or_left (is_digit c 10) (c == 95) (sym (ap starts_digit s.cut) ∙ g)))
 digits_start text rest (d ∷ digits) s g = sym (ap starts_digit s.cut) ∙ g
 
-pub takes_no_suffix : (n : ℕ) (text : List ℕ) → ((piece after : List ℕ) → text ≡ piece ++ after → IsNumberSuffix n piece → piece ≡ []) → Takes (IsNumberSuffix n) text [] text
+pub takes_no_suffix : (n : ℕ) (text : List ℕ) → ((piece after : List ℕ) → text ≡ piece ++ after → IsNumberSuffix n piece → piece ≡ []) → IsLongestPrefix (IsNumberSuffix n) text [] text
 takes_no_suffix n text h = record { cut = refl; spelled = tt; longest = λ more after e s. h more after e s }
 
 pub no_suffix_start : (n : ℕ) (text tail : List ℕ) (c : ℕ) → text ≡ c ∷ tail → starts_number_suffix n c ≡ false → (piece after : List ℕ) → text ≡ piece ++ after → IsNumberSuffix n piece → piece ≡ []
 no_suffix_start n text tail c one bad [] after e s = refl
 no_suffix_start n text tail c one bad (d ∷ piece) after e s = absurd (false≢true (sym bad ∙ ap (starts_number_suffix n) (heads c d tail (piece ++ after) (sym one ∙ e)) ∙ s.0))
 
-pub no_suffix_word : (n : ℕ) (text : List ℕ) → (Fits IsIdentifier text → ⊥) → (piece after : List ℕ) → text ≡ piece ++ after → IsNumberSuffix n piece → piece ≡ []
+pub no_suffix_word : (n : ℕ) (text : List ℕ) → (HasPrefix IsIdentifier text → ⊥) → (piece after : List ℕ) → text ≡ piece ++ after → IsNumberSuffix n piece → piece ≡ []
 no_suffix_word n text misses [] after e s = refl
 no_suffix_word n text misses (d ∷ piece) after e s = absurd (misses (d ∷ piece, after, e, s.1))
 
-pub based_tries : (base : Base) (mark n : ℕ) (text rest : List ℕ) (answer : Option (Bor (List ℕ))) → mark ≡ base_mark base → text ≡ 48 ∷ mark ∷ rest → n ≡ radix base → Tries (IsNumber n (has_digit n)) rest answer → Tries (IsBased base) text answer
+pub based_tries : (base : Base) (mark n : ℕ) (text rest : List ℕ) (answer : Option (Bor (List ℕ))) → mark ≡ base_mark base → text ≡ 48 ∷ mark ∷ rest → n ≡ radix base → ReadsLongest (IsNumber n (has_digit n)) rest answer → ReadsLongest (IsBased base) text answer
 based_tries base mark n text rest answer m e r t =
-    tries_behind 48 (Behind (base_mark base) (IsNumber (radix base) (has_digit (radix base)))) text (base_mark base ∷ rest) answer (e ∙ ap (λ w. 48 ∷ w ∷ rest) m)
-    (tries_behind (base_mark base) (IsNumber (radix base) (has_digit (radix base))) (base_mark base ∷ rest) rest answer refl (subst (λ w. Tries (IsNumber w (has_digit w)) rest answer) r t))
+    tries_after 48 (After (base_mark base) (IsNumber (radix base) (has_digit (radix base)))) text (base_mark base ∷ rest) answer (e ∙ ap (λ w. 48 ∷ w ∷ rest) m)
+    (tries_after (base_mark base) (IsNumber (radix base) (has_digit (radix base))) (base_mark base ∷ rest) rest answer refl (subst (λ w. ReadsLongest (IsNumber w (has_digit w)) rest answer) r t))

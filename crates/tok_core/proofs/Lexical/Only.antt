@@ -4,9 +4,9 @@ use Rattle.std.specs.Prelude.{Option, Some, None}
 use Rattle.std.proofs.lemmas.List.{append-nil, reverse-append}
 use Rattle.tok_core.specs.Lexical.Items.{Item, IsForest, Opens, inside}
 use Rattle.tok_core.specs.Lexical.Meaning.{refusal, items}
-use Rattle.tok_core.specs.Lexical.Reading.{Decides, Cut, stop, piece, Refuses, by_rule, unclosed, unopened, too_deep}
+use Rattle.tok_core.specs.Lexical.Reading.{IsFirstFit, Cut, stop, piece, Refuses, by_rule, unclosed, unopened, too_deep}
 use Rattle.tok_core.specs.declared.group.Delimiter.{Delimiter}
-use Rattle.tok_core.specs.declared.lexer.error.Refusal.{Refusal}
+use Rattle.tok_core.specs.declared.lexer.error.Reason.{Reason}
 use Rattle.tok_core.specs.declared.lexer.rule.Rule.{Rule}
 use Rattle.tok_core.specs.declared.lexer.rule.Rule.TheVariants.{Opening, Closing}
 use Rattle.tok_core.proofs.Lexical.Runs.{Run, first_opens, after_front, one_left_open, first_closes}
@@ -20,27 +20,27 @@ no_both : {A : Type 0} (x : A) (r s : Option A) → r ≡ s → r ≡ None → s
 no_both x r s e a b = cc
 
 -- what a rule means, seen at another decision of the same text
-same_refusal : {rules : List Rule} {text p r q s : List ℕ} {rule other : Rule} (at : ℕ) → Decides text rules rule p r → Decides text rules other q s → refusal rule at p r ≡ refusal other at q s
+same_refusal : {rules : List Rule} {text p r q s : List ℕ} {rule other : Rule} (at : ℕ) → IsFirstFit text rules rule p r → IsFirstFit text rules other q s → refusal rule at p r ≡ refusal other at q s
 same_refusal {p = p} {r = r} {q = q} {s = s} {rule = rule} {other = other} at d e =
     let w = decides_unique d e in
     ap (λ x. refusal x at p r) w.0 ∙ ap (λ x. refusal other at x r) w.1 ∙ ap (λ x. refusal other at q x) w.2
 
-same_items : {rules : List Rule} {text p r q s : List ℕ} {rule other : Rule} (number at : ℕ) → Decides text rules rule p r → Decides text rules other q s → items number rule at p r ≡ items number other at q s
+same_items : {rules : List Rule} {text p r q s : List ℕ} {rule other : Rule} (number at : ℕ) → IsFirstFit text rules rule p r → IsFirstFit text rules other q s → items number rule at p r ≡ items number other at q s
 same_items {p = p} {r = r} {q = q} {s = s} {rule = rule} {other = other} number at d e =
     let w = decides_unique d e in
     ap (λ x. items number x at p r) w.0 ∙ ap (λ x. items number other at x r) w.1 ∙ ap (λ x. items number other at q x) w.2
 
 -- where a text is refused, no piece follows that would nest
-no_piece : {rules : List Rule} {levels : List (Delimiter × ℕ)} {at byte : ℕ} {why : Refusal} {rest p r : List ℕ} {rule : Rule} (number : ℕ) (others : List (Delimiter × ℕ)) (more : List Item) → Refuses rules levels at rest why byte → Decides rest rules rule p r → refusal rule at p r ≡ None → Run (reverse levels) (items number rule at p r ++ more) (reverse others) → ⊥
+no_piece : {rules : List Rule} {levels : List (Delimiter × ℕ)} {at byte : ℕ} {why : Reason} {rest p r : List ℕ} {rule : Rule} (number : ℕ) (others : List (Delimiter × ℕ)) (more : List Item) → Refuses rules levels at rest why byte → IsFirstFit rest rules rule p r → refusal rule at p r ≡ None → Run (reverse levels) (items number rule at p r ++ more) (reverse others) → ⊥
 no_piece {at = at} number others more (by_rule e n) d m run = no_both _ _ _ (same_refusal at d e) m n
-no_piece {rules} {p = p} {r = r} {rule = rule} number others more (unclosed delimiter outer e l) d m run = decides_nothing (subst (λ w. Decides w rules rule p r) e d)
+no_piece {rules} {p = p} {r = r} {rule = rule} number others more (unclosed delimiter outer e l) d m run = decides_nothing (subst (λ w. IsFirstFit w rules rule p r) e d)
 no_piece {levels = levels} {at = at} number others more (unopened delimiter q s e misfit) d m run =
     misfit (first_closes levels (reverse others) delimiter _ more (subst (λ w. Run (reverse levels) (w ++ more) (reverse others)) (same_items number at d e) run))
 no_piece {levels = levels} {at = at} number others more (too_deep delimiter q s e l) d m run =
     let few = first_opens levels (reverse others) delimiter at more (subst (λ w. Run (reverse levels) (w ++ more) (reverse others)) (same_items number at d e) run) in
     absurd (omega arith)
 
-no_further : {rules : List Rule} {levels others : List (Delimiter × ℕ)} {number at end byte : ℕ} {why : Refusal} {rest after : List ℕ} {some more : List Item} → Refuses rules levels at rest why byte → Opens number 256 levels some → Cut rules number at rest more end after → Opens number 256 others (some ++ more) → (more ≡ []) × (rest ≡ after) × (at ≡ end)
+no_further : {rules : List Rule} {levels others : List (Delimiter × ℕ)} {number at end byte : ℕ} {why : Reason} {rest after : List ℕ} {some more : List Item} → Refuses rules levels at rest why byte → Opens number 256 levels some → Cut rules number at rest more end after → Opens number 256 others (some ++ more) → (more ≡ []) × (rest ≡ after) × (at ≡ end)
 no_further f o stop p = (refl, refl, refl)
 no_further {others = others} {number = number} f o (piece {more = more} d m c) p = absurd (no_piece number others more f d m (after_front o p))
 
@@ -52,26 +52,26 @@ same_last A xs ys x y e =
 some_same : {A : Type 0} (x y : A) (r s : Option A) → r ≡ s → r ≡ Some x → s ≡ Some y → x ≡ y
 some_same x y r s e a b = cc
 
-one_refusal : {rules : List Rule} {levels : List (Delimiter × ℕ)} {at b c : ℕ} {n m : Refusal} {rest : List ℕ} → Refuses rules levels at rest n b → Refuses rules levels at rest m c → (n ≡ m) × (b ≡ c)
+one_refusal : {rules : List Rule} {levels : List (Delimiter × ℕ)} {at b c : ℕ} {n m : Reason} {rest : List ℕ} → Refuses rules levels at rest n b → Refuses rules levels at rest m c → (n ≡ m) × (b ≡ c)
 one_refusal {at = at} (by_rule d f) (by_rule e g) = (some_same _ _ _ _ (same_refusal at d e) f g, refl)
-one_refusal {rules} (by_rule {rule = rule} {taken = p} {after = r} d f) (unclosed delimiter outer e l) = absurd (decides_nothing (subst (λ w. Decides w rules rule p r) e d))
+one_refusal {rules} (by_rule {rule = rule} {taken = p} {after = r} d f) (unclosed delimiter outer e l) = absurd (decides_nothing (subst (λ w. IsFirstFit w rules rule p r) e d))
 one_refusal {at = at} (by_rule d f) (unopened delimiter q s e misfit) = absurd (no_both _ _ _ (sym (same_refusal at d e)) refl f)
 one_refusal {at = at} (by_rule d f) (too_deep delimiter q s e l) = absurd (no_both _ _ _ (sym (same_refusal at d e)) refl f)
-one_refusal {rules} (unclosed delimiter outer e l) (by_rule {rule = rule} {taken = p} {after = r} d f) = absurd (decides_nothing (subst (λ w. Decides w rules rule p r) e d))
+one_refusal {rules} (unclosed delimiter outer e l) (by_rule {rule = rule} {taken = p} {after = r} d f) = absurd (decides_nothing (subst (λ w. IsFirstFit w rules rule p r) e d))
 one_refusal (unclosed {start = start} delimiter outer e l) (unclosed {start = begin} delimiter' outer' e' l') =
     let same = same_last (Delimiter × ℕ) outer outer' (delimiter, start) (delimiter', begin) (sym l ∙ l') in (refl, ap (λ w. w.1) same)
-one_refusal {rules} (unclosed delimiter outer e l) (unopened delimiter' q s d misfit) = absurd (decides_nothing (subst (λ w. Decides w rules (Closing delimiter') q s) e d))
-one_refusal {rules} (unclosed delimiter outer e l) (too_deep delimiter' q s d k) = absurd (decides_nothing (subst (λ w. Decides w rules (Opening delimiter') q s) e d))
+one_refusal {rules} (unclosed delimiter outer e l) (unopened delimiter' q s d misfit) = absurd (decides_nothing (subst (λ w. IsFirstFit w rules (Closing delimiter') q s) e d))
+one_refusal {rules} (unclosed delimiter outer e l) (too_deep delimiter' q s d k) = absurd (decides_nothing (subst (λ w. IsFirstFit w rules (Opening delimiter') q s) e d))
 one_refusal {at = at} (unopened delimiter q s e misfit) (by_rule d f) = absurd (no_both _ _ _ (same_refusal at e d) refl f)
-one_refusal {rules} (unopened delimiter' q s d misfit) (unclosed delimiter outer e l) = absurd (decides_nothing (subst (λ w. Decides w rules (Closing delimiter') q s) e d))
+one_refusal {rules} (unopened delimiter' q s d misfit) (unclosed delimiter outer e l) = absurd (decides_nothing (subst (λ w. IsFirstFit w rules (Closing delimiter') q s) e d))
 one_refusal (unopened delimiter' q s d misfit) (unopened delimiter q' s' d' misfit') = (refl, refl)
 one_refusal (unopened delimiter' q s d misfit) (too_deep delimiter q' s' d' l) = let s = (decides_unique d d').0 in cc
 one_refusal {at = at} (too_deep delimiter q s e l) (by_rule d f) = absurd (no_both _ _ _ (same_refusal at e d) refl f)
-one_refusal {rules} (too_deep delimiter' q s d k) (unclosed delimiter outer e l) = absurd (decides_nothing (subst (λ w. Decides w rules (Opening delimiter') q s) e d))
+one_refusal {rules} (too_deep delimiter' q s d k) (unclosed delimiter outer e l) = absurd (decides_nothing (subst (λ w. IsFirstFit w rules (Opening delimiter') q s) e d))
 one_refusal (too_deep delimiter q' s' d' l) (unopened delimiter' q s d misfit) = let s = (decides_unique d d').0 in cc
 one_refusal (too_deep delimiter q s d l) (too_deep delimiter' q' s' d' l') = (refl, refl)
 
-at_end : {rules : List Rule} {at b : ℕ} {n : Refusal} → Refuses rules [] at [] n b → ⊥
+at_end : {rules : List Rule} {at b : ℕ} {n : Reason} → Refuses rules [] at [] n b → ⊥
 at_end (by_rule d f) = decides_nothing d
 at_end (unclosed delimiter [] e l) = cc
 at_end (unclosed delimiter (p ∷ outer) e l) = cc
@@ -86,7 +86,7 @@ one_cut {all = all} {others = others} c d =
     ]
 
 -- two fronts where the text is refused are one
-same_place : {rules : List Rule} {number at b c end : ℕ} {n m : Refusal} {rest after : List ℕ} {levels others : List (Delimiter × ℕ)} {some all more : List Item}
+same_place : {rules : List Rule} {number at b c end : ℕ} {n m : Reason} {rest after : List ℕ} {levels others : List (Delimiter × ℕ)} {some all more : List Item}
     → Refuses rules levels at rest n b → Refuses rules others end after m c → Opens number 256 levels some → Opens number 256 others all → all ≡ some ++ more → Cut rules number at rest more end after → (n ≡ m) × (b ≡ c)
 same_place {rules} {number} {at} {b} {c} {end} {n} {m} {rest} {after} {levels} {others} {some} {all} {more} f g o p same k =
     let none = no_further f o k (subst (λ w. Opens number 256 others w) same p) in
@@ -96,18 +96,18 @@ same_place {rules} {number} {at} {b} {c} {end} {n} {m} {rest} {after} {levels} {
     one_refusal f moved
 
 -- a front of the text is cut, with these groups open, and the rest is refused there
-abbrev pub IsRefusedAs : List Rule → ℕ → List ℕ → Refusal → ℕ → Type 0
+abbrev pub IsRefusedAs : List Rule → ℕ → List ℕ → Reason → ℕ → Type 0
 IsRefusedAs rules number text why byte = (all : List Item) × (end : ℕ) × (rest : List ℕ) × (levels : List (Delimiter × ℕ))
     × Cut rules number 0 text all end rest × Opens number 256 levels all × Refuses rules levels end rest why byte
 
-pub one_way : (rules : List Rule) (number : ℕ) (text : List ℕ) (n m : Refusal) (b c : ℕ) → IsRefusedAs rules number text n b → IsRefusedAs rules number text m c → (n ≡ m) × (b ≡ c)
+pub one_way : (rules : List Rule) (number : ℕ) (text : List ℕ) (n m : Reason) (b c : ℕ) → IsRefusedAs rules number text n b → IsRefusedAs rules number text m c → (n ≡ m) × (b ≡ c)
 one_way rules number text n m b c (some, end, rest, levels, k, o, f) (all, to, after, others, k', p, g) =
     elim (cuts k k') [
       | inl (more, same, j) ↦ same_place f g o p same j
       | inr (more, same, j) ↦ let w = same_place g f p o same j in (sym w.0, sym w.1)
     ]
 
-pub not_both : {rules : List Rule} {number end byte : ℕ} {text : List ℕ} {some : List Item} {why : Refusal} → IsForest number 256 some → Cut rules number 0 text some end [] → IsRefusedAs rules number text why byte → ⊥
+pub not_both : {rules : List Rule} {number end byte : ℕ} {text : List ℕ} {some : List Item} {why : Reason} → IsForest number 256 some → Cut rules number 0 text some end [] → IsRefusedAs rules number text why byte → ⊥
 not_both {rules} {number} {byte = b} {some = some} {why = n} f c (all, to, after, others, k, p, g) =
     elim (cuts c k) [
       | inl (more, same, j) ↦

@@ -5,13 +5,13 @@ use Rattle.std.specs.List.{flat_map}
 use Rattle.std.specs.Str.{chars, IsUtf8}
 use Rattle.std.proofs.lemmas.List.{append-nil}
 use Rattle.std.proofs.lemmas.Str.{chars_past_char, chars-nil}
-use Rattle.tok_core.specs.Lexical.Quoting.{escaped, quoted}
+use Rattle.tok_core.specs.Lexical.Quoting.{escaped, in_quotes}
 
 pub quoted_more : (text rest out new all : List ℕ) (c : ℕ) → IsUtf8 text → text ≡ encode_utf8 c ++ rest → new ≡ out ++ escaped c → out ++ flat_map escaped (chars text) ≡ all → new ++ flat_map escaped (chars rest) ≡ all
 quoted_more text rest out new all c u e n h =
     ap (λ w. w ++ flat_map escaped (chars rest)) n ∙ append_assoc out (escaped c) (flat_map escaped (chars rest)) ∙ ap (λ w. out ++ flat_map escaped w) (sym (chars_past_char text rest c u e)) ∙ h
 
-pub quoted_end : (text rest out new mark : List ℕ) → length rest ≡ 0 → out ++ flat_map escaped (chars rest) ≡ codes "\"" ++ flat_map escaped (chars text) → mark ≡ codes "\"" → new ≡ out ++ mark → new ≡ quoted (chars text)
+pub quoted_end : (text rest out new mark : List ℕ) → length rest ≡ 0 → out ++ flat_map escaped (chars rest) ≡ codes "\"" ++ flat_map escaped (chars text) → mark ≡ codes "\"" → new ≡ out ++ mark → new ≡ in_quotes (chars text)
 quoted_end text rest out new mark z h m n =
     let e : rest ≡ [] = none rest z in
     let done = sym (append-nil out) ∙ ap (λ w. out ++ flat_map escaped w) (sym (ap chars e ∙ chars-nil)) ∙ h in

@@ -5,27 +5,27 @@ use Rattle.std.specs.Result.{IfErr}
 use Rattle.tok_core.specs.Lexical.Built.{Halts, by_meaning, unfit, deep, HaltsAt, IsTooDeep, IsUnfit, levels_of}
 use Rattle.tok_core.specs.Lexical.Errors.{OnRefused}
 use Rattle.tok_core.specs.Lexical.Meaning.{refusal}
-use Rattle.tok_core.specs.Lexical.Pieces.{Takes}
-use Rattle.tok_core.specs.Lexical.Reading.{Decides, here, later, Refuses, by_rule, unopened, too_deep}
+use Rattle.tok_core.specs.Lexical.Pieces.{IsLongestPrefix}
+use Rattle.tok_core.specs.Lexical.Reading.{IsFirstFit, here, later, Refuses, by_rule, unopened, too_deep}
 use Rattle.tok_core.specs.Lexical.Rules.{Spells}
 use Rattle.tok_core.specs.declared.group.Delimiter.{Delimiter}
 use Rattle.tok_core.specs.declared.lexer.error.LexError.{LexError}
 use Rattle.tok_core.specs.declared.lexer.error.LexFault.{LexFault}
 use Rattle.tok_core.specs.declared.lexer.error.LexFault.TheVariants.{Refused, Memory}
-use Rattle.tok_core.specs.declared.lexer.error.Refusal.{Refusal}
-use Rattle.tok_core.specs.declared.lexer.nest.Nest.{Nest}
+use Rattle.tok_core.specs.declared.lexer.error.Reason.{Reason}
+use Rattle.tok_core.specs.declared.lexer.nest.TreeBuilder.{TreeBuilder}
 use Rattle.tok_core.specs.declared.lexer.rule.Rule.{Rule}
 use Rattle.tok_core.specs.declared.lexer.rule.Rule.TheVariants.{Opening, Closing}
 
-pub decided : {text : List ℕ} {rules : List Rule} {rule : Rule} {piece rest : List ℕ} → Decides text rules rule piece rest → Takes (Spells rule) text piece rest
+pub decided : {text : List ℕ} {rules : List Rule} {rule : Rule} {piece rest : List ℕ} → IsFirstFit text rules rule piece rest → IsLongestPrefix (Spells rule) text piece rest
 decided (here t) = t
 decided (later misses d) = decided d
 
-module _ (nest : Nest) (rule : Rule) (at : ℕ) (piece after : List ℕ) where
-  halts_at : (error : LexError) (why : Refusal) → error ≡ record { refusal = why; source = nest.source; at = at } → Halts (levels_of nest.«open».items) rule at piece after why → HaltsAt nest rule at piece after error
+module _ (nest : TreeBuilder) (rule : Rule) (at : ℕ) (piece after : List ℕ) where
+  halts_at : (error : LexError) (why : Reason) → error ≡ record { refusal = why; source = nest.source; at = at } → Halts (levels_of nest.«open».items) rule at piece after why → HaltsAt nest rule at piece after error
   halts_at error why e h = (ap (λ w. w.source) e, ap (λ w. w.at) e, subst (λ w. Halts (levels_of nest.«open».items) rule at piece after w.refusal) (sym e) h)
 
-  pub halts_meaning : (error : LexError) (why : Refusal) (found : Option Refusal) → error ≡ record { refusal = why; source = nest.source; at = at } → found ≡ refusal rule at piece after → found ≡ Some why → HaltsAt nest rule at piece after error
+  pub halts_meaning : (error : LexError) (why : Reason) (found : Option Reason) → error ≡ record { refusal = why; source = nest.source; at = at } → found ≡ refusal rule at piece after → found ≡ Some why → HaltsAt nest rule at piece after error
   halts_meaning error why found e f s = halts_at error why e (by_meaning (sym f ∙ s))
 
   pub halts_deep : {T : Type 0} (delimiter : Delimiter) (r : Result T LexFault) → rule ≡ Opening delimiter → IfErr r (λ fault. OnRefused fault (IsTooDeep nest at)) → IfErr r (λ fault. OnRefused fault (HaltsAt nest rule at piece after))
@@ -39,7 +39,7 @@ module _ (nest : Nest) (rule : Rule) (at : ℕ) (piece after : List ℕ) where
   halts_unfit delimiter (Err (Refused error)) is (e, misfit) = halts_at error _ e (unfit delimiter is misfit)
 
 -- a piece that halts refuses the text
-pub refuses : (rules : List Rule) (levels : List (Delimiter × ℕ)) (rule : Rule) (at : ℕ) (why : Refusal) (rest piece after : List ℕ) → Decides rest rules rule piece after → Halts levels rule at piece after why → Refuses rules levels at rest why at
+pub refuses : (rules : List Rule) (levels : List (Delimiter × ℕ)) (rule : Rule) (at : ℕ) (why : Reason) (rest piece after : List ℕ) → IsFirstFit rest rules rule piece after → Halts levels rule at piece after why → Refuses rules levels at rest why at
 refuses rules levels rule at why rest piece after d (by_meaning m) = by_rule d m
-refuses rules levels rule at why rest piece after d (unfit delimiter r misfit) = unopened delimiter piece after (subst (λ w. Decides rest rules w piece after) r d) misfit
-refuses rules levels rule at why rest piece after d (deep delimiter r l) = too_deep delimiter piece after (subst (λ w. Decides rest rules w piece after) r d) l
+refuses rules levels rule at why rest piece after d (unfit delimiter r misfit) = unopened delimiter piece after (subst (λ w. IsFirstFit rest rules w piece after) r d) misfit
+refuses rules levels rule at why rest piece after d (deep delimiter r l) = too_deep delimiter piece after (subst (λ w. IsFirstFit rest rules w piece after) r d) l

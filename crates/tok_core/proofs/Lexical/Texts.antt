@@ -1,11 +1,13 @@
 -- Texts and their characters.
-use Rattle.std.proofs.Common.{◌≡◌, ◌∙◌, ℕ, ◌+◌, ◌-◌, List, ◌++◌, length, take, sym, ap, subst, length-append, arith}
-use Rattle.std.specs.Str.{chars, IsUtf8, IsCharBoundary}
-use Rattle.std.specs.Prelude.{encode_utf8_all, true, false}
+use Rattle.std.proofs.Common.{◌≡◌, ◌∙◌, ℕ, zero, suc, ◌+◌, ◌-◌, ◌<◌, List, [], ◌∷◌, ◌++◌, length, take, drop, get_or, sym, ap, subst, length-append, arith, rules, tests, ◌≤◌}
+use Rattle.std.specs.Str.{chars, IsUtf8, IsAscii, IsCharBoundary}
+use Rattle.std.specs.Char.{is_ascii_graphic}
+use Rattle.std.specs.Prelude.{Bool, encode_utf8, encode_utf8_all, true, false}
 use Rattle.std.proofs.Common.{refl}
+use Rattle.tok_core.specs.Lexical.Characters.{begins_visibly}
 use Rattle.tok_core.specs.Lexical.Meaning.{width, is_group_mark}
 use Rattle.tok_core.specs.declared.lexer.rule.Rule.{Rule}
-use Rattle.std.proofs.lemmas.Str.{encodes-append, encodes-chars, chars-append, IsCharBoundary-at_seam, IsUtf8-take}
+use Rattle.std.proofs.lemmas.Str.{encodes-append, encodes-chars, chars-nil, chars-append, chars-IsAscii, byte_from_char, char_from_byte, length-encode, len_utf8_bounds, IsCharBoundary-at_seam, IsUtf8-take, IsUtf8-from_ascii}
 use Rattle.std.proofs.lemmas.List.{take_at, append_cancel_right}
 
 -- the bytes of the front and of the rest
@@ -44,3 +46,55 @@ width_plain rule bytes u m = rw m (ap length (sym (encodes-chars bytes u)))
 
 pub width_mark : (rule : Rule) (taken : List ℕ) → is_group_mark rule ≡ true → 0 ≡ width rule taken
 width_mark rule taken m = rw m refl
+
+ascii_one : (x : ℕ) → x < 128 → IsAscii (x ∷ [])
+ascii_one x l zero = l
+ascii_one x l (suc i) = omega arith
+
+-- a text whose first byte is an ASCII character, and what follows it
+pub ascii_first : (text rest : List ℕ) (c : ℕ) → IsUtf8 text → 0 < length text → c ≡ get_or text 0 0 → c < 128 → rest ≡ drop 1 text → chars text ≡ c ∷ chars rest
+ascii_first [] rest c u l e m f = absurd (omega arith)
+ascii_first (x ∷ tail) rest c u l e m f =
+    let a : IsAscii (x ∷ []) = ascii_one x (subst (λ w. w < 128) e m) in
+    chars-append (x ∷ []) tail (IsUtf8-from_ascii (x ∷ []) a)
+    ∙ ap (λ w. w ++ chars tail) (chars-IsAscii (x ∷ []) a)
+    ∙ ap (λ w. w ∷ chars tail) (sym e)
+    ∙ ap (λ w. c ∷ chars w) (sym f)
+
+-- a text whose first byte is another
+pub ascii_misses : (text : List ℕ) (c : ℕ) → IsUtf8 text → c < 128 → (get_or text 0 0 ≡ c → ⊥) → (more : List ℕ) → chars text ≡ c ∷ more → ⊥
+ascii_misses text c u l other more e =
+    other (byte_from_char text (encode_utf8_all more) c (sym (encodes-chars text u) ∙ ap encode_utf8_all e) l)
+
+pub nothing_first : (text : List ℕ) (c : ℕ) → length text ≡ 0 → (more : List ℕ) → chars text ≡ c ∷ more → ⊥
+nothing_first [] c z more e = absurd (omega (arith, ap length (sym chars-nil ∙ e)))
+nothing_first (x ∷ text) c z more e = absurd (omega arith)
+
+-- the first byte of a text, where it or the first character is ASCII
+pub first_byte : (p : ℕ → Bool) → ((x : ℕ) → p x ≡ true → x < 128) → (text rest : List ℕ) (c : ℕ) → IsUtf8 text → chars text ≡ c ∷ rest → p (get_or text 0 0) ≡ p c
+first_byte p low text rest c u e = go (p (get_or text 0 0)) (p c) refl refl
+  where
+    whole : text ≡ encode_utf8 c ++ encode_utf8_all rest
+    whole = sym (encodes-chars text u) ∙ ap encode_utf8_all e
+
+    some : 0 < length text
+    some = let l = ap length whole ∙ length-append (encode_utf8 c) (encode_utf8_all rest) in let w = length-encode c in let b = (len_utf8_bounds c).0 in omega arith
+
+    go : (a b : Bool) → p (get_or text 0 0) ≡ a → p c ≡ b → p (get_or text 0 0) ≡ p c
+    go true b f g = ap p (sym (char_from_byte text (encode_utf8_all rest) c whole (low (get_or text 0 0) f) some))
+    go false true f g = ap p (byte_from_char text (encode_utf8_all rest) c whole (low c g))
+    go false false f g = f ∙ sym g
+
+visible_low : (x : ℕ) → is_ascii_graphic x ≡ true → x < 128
+visible_low x h = let l : x ≤ 126 = search (rules, tests) in omega arith
+
+pub visible_first : (text : List ℕ) (x : ℕ) → IsUtf8 text → 0 < length text → x ≡ get_or text 0 0 → is_ascii_graphic x ≡ begins_visibly (chars text)
+visible_first text x u l e = go (chars text) refl
+  where
+    go : (cs : List ℕ) → chars text ≡ cs → is_ascii_graphic x ≡ begins_visibly cs
+    go [] f = absurd (omega (arith, ap length (sym (encodes-chars text u) ∙ ap encode_utf8_all f)))
+    go (c ∷ cs) f = ap is_ascii_graphic e ∙ first_byte is_ascii_graphic visible_low text cs c u f
+
+pub nothing_visible : (text : List ℕ) → length text ≡ 0 → begins_visibly (chars text) ≡ false
+nothing_visible [] z = ap begins_visibly chars-nil
+nothing_visible (x ∷ text) z = absurd (omega arith)

@@ -6,11 +6,11 @@ use Rattle.std.specs.Str.{chars}
 use Rattle.std.proofs.lemmas.List.{append-nil, append_cancel_left}
 use Rattle.std.specs.List.{list_all}
 use Rattle.tok_core.specs.Lexical.Built.{FindsUnits}
-use Rattle.tok_core.specs.Lexical.Pieces.{Takes, Tries, Fits, Finds, Behind, Skips, is_neither}
+use Rattle.tok_core.specs.Lexical.Pieces.{IsLongestPrefix, ReadsLongest, HasPrefix, ReadsPrefix, After, Skips, is_neither}
 use Rattle.tok_core.proofs.Lexical.Comments.{neither_first}
 use Rattle.tok_core.specs.Lexical.Words.{IsIdentifier, IsSuffix}
 use Rattle.tok_core.specs.Lexical.Strings.{IsEscape, IsUnit, plain, escape, AreUnits, no_unit, unit, IsString, IsQuoted}
-use Rattle.tok_core.proofs.Lexical.Takes.{IsFree}
+use Rattle.tok_core.proofs.Lexical.Longest.{IsFree}
 use Rattle.tok_core.proofs.Lexical.Escapes.{heads, tails, free_escape}
 
 -- no unit begins another
@@ -59,11 +59,11 @@ reaches_units start rest inner front taken s (unit {first = f} {rest = r} u us) 
     subst (Reaches start inner) (append_assoc front f r) (reaches_units start (r ++ inner) inner (front ++ f) r (reaches_more start rest (r ++ inner) front f s u (e ∙ append_assoc f r inner)) us refl)
 
 -- where no unit fits, the units are over
-over : (rest more after : List ℕ) → (Fits IsUnit rest → ⊥) → rest ≡ more ++ 34 ∷ after → AreUnits more → (more ≡ []) × (rest ≡ 34 ∷ after)
+over : (rest more after : List ℕ) → (HasPrefix IsUnit rest → ⊥) → rest ≡ more ++ 34 ∷ after → AreUnits more → (more ≡ []) × (rest ≡ 34 ∷ after)
 over rest more after misses e no_unit = (refl, e)
 over rest more after misses e (unit {first = f} {rest = r} v us) = absurd (misses (f, r ++ 34 ∷ after, e ∙ append_assoc f r (34 ∷ after), v))
 
-pub takes_string : (text start rest end after front suffix : List ℕ) → text ≡ 34 ∷ start → Reaches start rest front → (Fits IsUnit rest → ⊥) → rest ≡ 34 ∷ end → Takes IsSuffix end suffix after → Takes IsString text (34 ∷ (front ++ 34 ∷ suffix)) after
+pub takes_string : (text start rest end after front suffix : List ℕ) → text ≡ 34 ∷ start → Reaches start rest front → (HasPrefix IsUnit rest → ⊥) → rest ≡ 34 ∷ end → IsLongestPrefix IsSuffix end suffix after → IsLongestPrefix IsString text (34 ∷ (front ++ 34 ∷ suffix)) after
 takes_string text start rest end after front suffix e s misses q t = record {
   cut = e ∙ ap (λ w. 34 ∷ w) (s.cut ∙ ap (λ w. front ++ w) (q ∙ ap (λ w. 34 ∷ w) t.cut) ∙ sym (append_assoc front (34 ∷ suffix) after));
   spelled = (front, suffix, refl, s.units, t.spelled);
@@ -79,7 +79,7 @@ takes_string text start rest end after front suffix e s misses q t = record {
       t.longest more last f (subst IsSuffix tails k);
 }
 
-pub open_string : (text start rest front : List ℕ) → text ≡ 34 ∷ start → Reaches start rest front → (Fits IsUnit rest → ⊥) → ((end : List ℕ) → rest ≡ 34 ∷ end → ⊥) → Fits IsString text → ⊥
+pub open_string : (text start rest front : List ℕ) → text ≡ 34 ∷ start → Reaches start rest front → (HasPrefix IsUnit rest → ⊥) → ((end : List ℕ) → rest ≡ 34 ∷ end → ⊥) → HasPrefix IsString text → ⊥
 open_string text start rest front e s misses opened (piece, last, cut, (body, tail, g, us, k)) =
     let both : 34 ∷ start ≡ 34 ∷ ((body ++ 34 ∷ tail) ++ last) = sym e ∙ cut ∙ ap (λ w. w ++ last) g in
     let inner : start ≡ (body ++ 34 ∷ tail) ++ last = cc in
@@ -87,7 +87,7 @@ open_string text start rest front e s misses opened (piece, last, cut, (body, ta
     let b = over rest a.0 (tail ++ last) misses a.2 a.3 in
     opened (tail ++ last) b.1
 
-pub takes_none : (text : List ℕ) → (Fits IsIdentifier text → ⊥) → Takes IsSuffix text [] text
+pub takes_none : (text : List ℕ) → (HasPrefix IsIdentifier text → ⊥) → IsLongestPrefix IsSuffix text [] text
 takes_none text misses = record {
   cut = refl;
   spelled = inl refl;
@@ -101,16 +101,16 @@ plain_units (c ∷ run) h = let n = neither_first 34 92 c run h in unit (plain c
 pub finds_plain : (text rest after : List ℕ) (kind : ℕ) → text ≡ kind ∷ rest → kind ≢ 34 → ((more : List ℕ) → text ≡ 92 ∷ more → ⊥) → (front : List ℕ) × Skips (is_neither 34 92) rest front after → (piece : List ℕ) × (text ≡ piece ++ after) × AreUnits piece
 finds_plain text rest after kind one q b (front, s) = (kind ∷ front, one ∙ ap (λ w. kind ∷ w) s.cut, unit (plain kind q (λ k. b rest (one ∙ ap (λ w. w ∷ rest) k))) (plain_units front s.pass))
 
-none_unit : (rest piece after : List ℕ) → (Fits (IsEscape true false) rest → ⊥) → IsUnit piece → 92 ∷ rest ≡ piece ++ after → ⊥
+none_unit : (rest piece after : List ℕ) → (HasPrefix (IsEscape true false) rest → ⊥) → IsUnit piece → 92 ∷ rest ≡ piece ++ after → ⊥
 none_unit rest piece after misses (plain c p q) f = q (sym (heads _ _ _ _ f))
 none_unit rest piece after misses (escape {text = t} v) f = let g : rest ≡ t ++ after = cc in misses (t, after, g, v)
 
-pub tries_units : (text rest : List ℕ) (answer : Option (Bor (List ℕ))) → text ≡ 92 ∷ rest → Finds (IsEscape true false) rest answer → FindsUnits text answer
+pub tries_units : (text rest : List ℕ) (answer : Option (Bor (List ℕ))) → text ≡ 92 ∷ rest → ReadsPrefix (IsEscape true false) rest answer → FindsUnits text answer
 tries_units text rest None e misses = λ (piece, after, cut, v). none_unit rest piece after misses v (sym e ∙ cut)
 tries_units text rest (Some after) e (piece, cut, v) = (92 ∷ piece, e ∙ ap (λ w. 92 ∷ w) cut, subst AreUnits (append-nil (92 ∷ piece)) (unit (escape v) no_unit))
 
 -- an apostrophe, what stands within, and what is tried after it
-pub tries_quoted : (Inner : List ℕ → Type 0) (text start rest inner : List ℕ) (answer : Option (Bor (List ℕ))) → IsFree Inner → text ≡ 39 ∷ start → start ≡ inner ++ rest → Inner inner → Tries (Behind 39 IsSuffix) rest answer → Tries (IsQuoted Inner) text answer
+pub tries_quoted : (Inner : List ℕ → Type 0) (text start rest inner : List ℕ) (answer : Option (Bor (List ℕ))) → IsFree Inner → text ≡ 39 ∷ start → start ≡ inner ++ rest → Inner inner → ReadsLongest (After 39 IsSuffix) rest answer → ReadsLongest (IsQuoted Inner) text answer
 tries_quoted Inner text start rest inner None free one two h misses = λ (piece, after, cut, (other, suffix, e, k, s)).
     let whole : 39 ∷ start ≡ 39 ∷ ((other ++ 39 ∷ suffix) ++ after) = sym one ∙ cut ∙ ap (λ w. w ++ after) e in
     let both : inner ++ rest ≡ other ++ (39 ∷ suffix ++ after) = sym two ∙ tails 39 39 _ _ whole ∙ append_assoc other (39 ∷ suffix) after in
@@ -130,8 +130,8 @@ tries_quoted Inner text start rest inner (Some last) free one two h (piece, t) =
     )
 
 -- a character, and a suffix after it
-pub takes_behind : (k : ℕ) (S : List ℕ → Type 0) (text rest last suffix : List ℕ) → text ≡ k ∷ rest → Takes S rest suffix last → (piece : List ℕ) × Takes (Behind k S) text piece last
-takes_behind k S text rest last suffix e t = (
+pub takes_after : (k : ℕ) (S : List ℕ → Type 0) (text rest last suffix : List ℕ) → text ≡ k ∷ rest → IsLongestPrefix S rest suffix last → (piece : List ℕ) × IsLongestPrefix (After k S) text piece last
+takes_after k S text rest last suffix e t = (
   k ∷ suffix,
   record {
     cut = e ∙ ap (λ w. k ∷ w) t.cut;

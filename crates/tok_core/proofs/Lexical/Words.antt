@@ -8,7 +8,7 @@ use Rattle.std.proofs.lemmas.List.{append-nil}
 use Rattle.std.proofs.lemmas.Bool.{false≢true, ne_eqb, ltb-true}
 use Rattle.unicode_ident.specs.Ident.{is_xid_continue}
 use Rattle.unicode_ident.proofs.IdentLemmas.{is_xid_continue-ascii}
-use Rattle.tok_core.specs.Lexical.Pieces.{Takes, Fits, Tries}
+use Rattle.tok_core.specs.Lexical.Pieces.{IsLongestPrefix, HasPrefix, ReadsLongest}
 use Rattle.tok_core.specs.Lexical.Words.{IsIdentifier, IsRawIdentifier, IsName, has_no_raw}
 use Rattle.tok_core.proofs.Lexical.Numbers.{head_passes, tail_passes, not_true}
 use Rattle.std.proofs.lemmas.Str.{encodes-chars, encodes-IsAscii, chars-IsAscii, chars-nil}
@@ -19,7 +19,7 @@ use Rattle.std.proofs.lemmas.Slice.Eq.{bytes_eq-Decides}
 word_head : (name : List ℕ) → IsRawIdentifier name → (more : List ℕ) × (name ≡ 114 ∷ 35 ∷ more)
 word_head name (more, e, (last, f, w)) = (last, e ∙ ap (λ v. 114 ∷ v) f)
 
-pub name_plain : (text : List ℕ) (answer : Option (Bor (List ℕ))) → (Fits IsRawIdentifier text → ⊥) → Tries IsIdentifier text answer → Tries IsName text answer
+pub name_plain : (text : List ℕ) (answer : Option (Bor (List ℕ))) → (HasPrefix IsRawIdentifier text → ⊥) → ReadsLongest IsIdentifier text answer → ReadsLongest IsName text answer
 name_plain text None raw misses = λ (piece, after, cut, h). elim h [ inl w ↦ misses (piece, after, cut, w) | inr r ↦ raw (piece, after, cut, r) ]
 name_plain text (Some rest) raw (piece, t) = (
   piece,
@@ -40,7 +40,7 @@ raw_no_word name more r w =
     let v : IsIdentifier (114 ∷ 35 ∷ (h.0 ++ more)) = subst (λ u. IsIdentifier (u ++ more)) h.1 w in
     false≢true (sym (is_xid_continue-ascii 35 (omega arith)) ∙ head_passes is_xid_continue 35 (h.0 ++ more) v.1)
 
-pub name_raw : (text rest piece : List ℕ) → Takes IsRawIdentifier text piece rest → Takes IsName text piece rest
+pub name_raw : (text rest piece : List ℕ) → IsLongestPrefix IsRawIdentifier text piece rest → IsLongestPrefix IsName text piece rest
 name_raw text rest piece t = record {
   cut = t.cut;
   spelled = inr t.spelled;
@@ -79,14 +79,14 @@ no_raw_chars bytes u =
     (either _ _ _ _ (same_text bytes (codes "super") u refl) (same_text bytes (codes "crate") u refl))))
 
 -- a text of which all is taken, or some is left
-pub is_whole : (text rest : List ℕ) → rest ≡ [] → (piece : List ℕ) × Takes IsIdentifier text piece rest → IsIdentifier text
+pub is_whole : (text rest : List ℕ) → rest ≡ [] → (piece : List ℕ) × IsLongestPrefix IsIdentifier text piece rest → IsIdentifier text
 is_whole text rest e (piece, t) = subst IsIdentifier (sym (t.cut ∙ ap (λ w. piece ++ w) e ∙ append-nil piece)) t.spelled
 
-pub is_part : (text rest : List ℕ) → (rest ≡ [] → ⊥) → (piece : List ℕ) × Takes IsIdentifier text piece rest → IsIdentifier text → ⊥
+pub is_part : (text rest : List ℕ) → (rest ≡ [] → ⊥) → (piece : List ℕ) × IsLongestPrefix IsIdentifier text piece rest → IsIdentifier text → ⊥
 is_part text rest some (piece, t) whole = some (t.longest rest [] (sym (append-nil rest)) (subst IsIdentifier t.cut whole))
 
 -- the same of the answer
-pub whole_identifier : (text rest : List ℕ) (b : Bool) → b ≡ (length rest == 0) → IsUtf8 rest → (piece : List ℕ) × Takes IsIdentifier text piece (chars rest) → MatchBool b (IsIdentifier text) (IsIdentifier text → ⊥)
+pub whole_identifier : (text rest : List ℕ) (b : Bool) → b ≡ (length rest == 0) → IsUtf8 rest → (piece : List ℕ) × IsLongestPrefix IsIdentifier text piece (chars rest) → MatchBool b (IsIdentifier text) (IsIdentifier text → ⊥)
 whole_identifier text [] true e u t = is_whole text (chars []) chars-nil t
 whole_identifier text [] false e u t = absurd (false≢true e)
 whole_identifier text (x ∷ rest) true e u t = absurd (false≢true (sym (ne_eqb (length (x ∷ rest)) 0 (λ z. absurd (omega arith))) ∙ sym e))

@@ -1,45 +1,53 @@
 -- What is known in the middle of a text: the rules tried so far, and the trees so far.
-use Rattle.std.specs.Prelude.{◌≡◌, ℕ, suc, ◌-◌, ◌<◌, ◌≤◌, List, [], ◌∷◌, ◌++◌, length, map}
+use Rattle.std.specs.Prelude.{◌≡◌, ℕ, suc, ◌+◌, ◌-◌, ◌<◌, ◌≤◌, List, [], ◌∷◌, ◌++◌, length, map}
 use Rattle.std.specs.Prelude.{Option, MatchOption, Some, slice_index_or}
 use Rattle.std.specs.Borrow.{Bor}
 use Rattle.std.specs.Str.{chars}
 use Rattle.tok_core.specs.Forest.{Forest}
-use Rattle.tok_core.specs.Lexical.Pieces.{Fits}
+use Rattle.tok_core.specs.Lexical.Pieces.{HasPrefix}
 use Rattle.tok_core.specs.Lexical.Rules.{Spells}
 use Rattle.tok_core.specs.Lexical.Strings.{IsUnit, AreUnits}
 use Rattle.tok_core.specs.Lexical.Items.{Item, opening, Flat, depth, IsOpenBy}
 use Rattle.tok_core.specs.Lexical.Meaning.{refusal}
-use Rattle.tok_core.specs.Lexical.Reading.{Decides}
+use Rattle.tok_core.specs.Lexical.Reading.{IsFirstFit, Cut}
+use Rattle.tok_core.specs.Lexical.Starts.{rules_of}
+use Rattle.tok_core.specs.declared.lexer.rule.Rules.{Rules}
 use Rattle.tok_core.specs.declared.group.Delimiter.{Delimiter}
 use Rattle.tok_core.specs.declared.lexer.rule.Rule.{Rule}
 use Rattle.tok_core.specs.declared.lexer.rule.Rule.TheVariants.{Whitespace, Opening, Closing, Other}
-use Rattle.tok_core.specs.declared.lexer.error.Refusal.{Refusal}
-use Rattle.tok_core.specs.declared.lexer.error.Refusal.TheVariants.{UnexpectedClosing, DeepGroup}
+use Rattle.tok_core.specs.declared.lexer.error.Reason.{Reason}
+use Rattle.tok_core.specs.declared.lexer.error.Reason.TheVariants.{UnexpectedClosing, DeepGroup}
 use Rattle.tok_core.specs.declared.lexer.error.LexError.{LexError}
 use Rattle.tok_core.specs.declared.lexer.nest.OpenGroup.{OpenGroup}
-use Rattle.tok_core.specs.declared.lexer.nest.Nest.{Nest}
+use Rattle.tok_core.specs.declared.lexer.nest.TreeBuilder.{TreeBuilder}
 
 -- no rule before the place fits
 pub record NoneBefore (rules : List Rule) (text : List ℕ) (i : ℕ) : Type 0 where
   pub none : (j : ℕ) (d : Rule) → j < i → j < length rules →
-      Fits (Spells (slice_index_or rules j d)) text → ⊥
+      HasPrefix (Spells (slice_index_or rules j d)) text → ⊥
 
 -- what a function that tries the rules in turn returns
-abbrev pub TriesRules : List Rule → List ℕ → Option (Rule × Bor (List ℕ)) → Type 0
-TriesRules rules text answer =
+abbrev pub ReadsByRules : List Rule → List ℕ → Option (Rule × Bor (List ℕ)) → Type 0
+ReadsByRules rules text answer =
     MatchOption answer (NoneBefore rules text (length rules))
-    (λ found. (piece : List ℕ) × Decides text rules found.0 piece (chars found.1.now))
+    (λ found. (piece : List ℕ) × IsFirstFit text rules found.0 piece (chars found.1.now))
 
 -- what a function that looks for units of a string answers: what follows some of them, or None
 -- where there are none
 abbrev pub FindsUnits : List ℕ → Option (Bor (List ℕ)) → Type 0
 FindsUnits text answer =
-    MatchOption answer (Fits IsUnit text → ⊥)
+    MatchOption answer (HasPrefix IsUnit text → ⊥)
     (λ rest. (units : List ℕ) × (text ≡ units ++ chars rest.now) × AreUnits units)
 
 -- the last rule takes any character
 abbrev pub EndsInOther : List Rule → Type 0
 EndsInOther rules = slice_index_or rules (length rules - 1) Whitespace ≡ Other
+
+-- so many bytes at the front of the text mean nothing, by the rules of every text, and the rest is
+-- what follows them
+abbrev pub IsBlank : List ℕ → List ℕ → ℕ → Type 0
+IsBlank text rest n =
+    (rules : Rules) (number at : ℕ) → Cut (rules_of rules) number at text [] (at + n) rest
 
 -- the groups that are open, outermost first
 abbrev pub levels_of : List OpenGroup → List (Delimiter × ℕ)
@@ -59,7 +67,7 @@ Reached [] at = Unit {0}
 Reached (g ∷ groups) at = (g.start ≤ at) × Reached groups at
 
 -- a piece at this byte adds these items
-pub record Grows (at : ℕ) (old new : Nest) (more : List Item) : Type 0 where
+pub record Grows (at : ℕ) (old new : TreeBuilder) (more : List Item) : Type 0 where
   pub same_source : new.source ≡ old.source
   pub reached : Reached old.«open».items at → Reached new.«open».items at
   pub holds : (all : List Item) → Holds old.source 256 old.«open».items old.trees all →
@@ -67,8 +75,8 @@ pub record Grows (at : ℕ) (old new : Nest) (more : List Item) : Type 0 where
 
 -- why this piece is refused, with these groups open
 pub data Halts (levels : List (Delimiter × ℕ)) (rule : Rule) (at : ℕ)
-    (piece after : List ℕ) : Refusal → Type 0 where
-  by_meaning : {why : Refusal} → refusal rule at piece after ≡ Some why →
+    (piece after : List ℕ) : Reason → Type 0 where
+  by_meaning : {why : Reason} → refusal rule at piece after ≡ Some why →
       Halts levels rule at piece after why
   unfit : (delimiter : Delimiter) → rule ≡ Closing delimiter → (IsOpenBy levels delimiter → ⊥) →
       Halts levels rule at piece after UnexpectedClosing
@@ -76,17 +84,17 @@ pub data Halts (levels : List (Delimiter × ℕ)) (rule : Rule) (at : ℕ)
       Halts levels rule at piece after DeepGroup
 
 -- an error at this byte for a reason why this piece is refused
-abbrev pub HaltsAt : Nest → Rule → ℕ → List ℕ → List ℕ → LexError → Type 0
+abbrev pub HaltsAt : TreeBuilder → Rule → ℕ → List ℕ → List ℕ → LexError → Type 0
 HaltsAt nest rule at piece after error =
     (error.source ≡ nest.source) × (error.at ≡ at)
     × Halts (levels_of nest.«open».items) rule at piece after error.refusal
 
-abbrev pub IsTooDeep : Nest → ℕ → LexError → Type 0
+abbrev pub IsTooDeep : TreeBuilder → ℕ → LexError → Type 0
 IsTooDeep nest at error =
     (error ≡ record { refusal = DeepGroup; source = nest.source; at = at })
     × (length (levels_of nest.«open».items) ≡ 256)
 
-abbrev pub IsUnfit : Nest → Delimiter → ℕ → LexError → Type 0
+abbrev pub IsUnfit : TreeBuilder → Delimiter → ℕ → LexError → Type 0
 IsUnfit nest delimiter at error =
     (error ≡ record { refusal = UnexpectedClosing; source = nest.source; at = at })
     × (IsOpenBy (levels_of nest.«open».items) delimiter → ⊥)

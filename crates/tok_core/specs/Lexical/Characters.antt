@@ -1,14 +1,23 @@
 -- White space, punctuation characters and delimiters (Rust Reference: Whitespace; Tokens,
 -- Punctuation and Delimiters).
-use Rattle.std.specs.Prelude.{ℕ, Bool, ◌||◌, ◌&&◌, ◌==◌, nat_le}
+use Rattle.std.specs.Prelude.{ℕ, List, [], ◌∷◌, Bool, false, ◌||◌, ◌&&◌, ◌==◌, nat_le}
+use Rattle.std.specs.Char.{is_ascii_graphic}
 use Rattle.tok_core.specs.declared.group.Delimiter.{Delimiter}
 use Rattle.tok_core.specs.declared.group.Delimiter.TheVariants.{Parenthesis, Brace, Bracket, None}
+
+abbrev pub is_space : ℕ → Bool
+is_space c = c == 32
 
 -- U+0009 to U+000D, space, U+0085, U+200E, U+200F, U+2028, U+2029
 abbrev pub is_whitespace : ℕ → Bool
 is_whitespace c =
     (nat_le 9 c && nat_le c 13) || (c == 32) || (c == 0x85) || (c == 0x200E) || (c == 0x200F)
     || (c == 0x2028) || (c == 0x2029)
+
+-- the text begins with a visible ASCII character
+abbrev pub begins_visibly : List ℕ → Bool
+begins_visibly [] = false
+begins_visibly (c ∷ text) = is_ascii_graphic c
 
 -- one of ! # $ % & * + , - . / : ; < = > ? @ ^ | ~
 abbrev pub is_punct : ℕ → Bool

@@ -2,19 +2,19 @@
 use Rattle.std.specs.Prelude.{ℕ, List, codes}
 use Rattle.tok_core.specs.Spans.{source}
 use Rattle.tok_core.specs.declared.span.Span.{Span}
-use Rattle.tok_core.specs.declared.lexer.error.Refusal.{Refusal}
-use Rattle.tok_core.specs.declared.lexer.error.Refusal.TheVariants.{UnknownCharacter, UnclosedGroup}
-use Rattle.tok_core.specs.declared.lexer.error.Refusal.TheVariants.{UnexpectedClosing}
-use Rattle.tok_core.specs.declared.lexer.error.Refusal.TheVariants.{UnclosedComment, DocComment}
-use Rattle.tok_core.specs.declared.lexer.error.Refusal.TheVariants.{MalformedQuoted, PrefixedString}
-use Rattle.tok_core.specs.declared.lexer.error.Refusal.TheVariants.{FloatLiteral, MalformedNumber}
-use Rattle.tok_core.specs.declared.lexer.error.Refusal.TheVariants.{MissingRawIdentifier}
-use Rattle.tok_core.specs.declared.lexer.error.Refusal.TheVariants.{LoneApostrophe, DeepGroup}
+use Rattle.tok_core.specs.declared.lexer.error.Reason.{Reason}
+use Rattle.tok_core.specs.declared.lexer.error.Reason.TheVariants.{UnknownCharacter, UnclosedGroup}
+use Rattle.tok_core.specs.declared.lexer.error.Reason.TheVariants.{UnexpectedClosing}
+use Rattle.tok_core.specs.declared.lexer.error.Reason.TheVariants.{UnclosedComment, DocComment}
+use Rattle.tok_core.specs.declared.lexer.error.Reason.TheVariants.{MalformedQuoted, PrefixedString}
+use Rattle.tok_core.specs.declared.lexer.error.Reason.TheVariants.{FloatLiteral, MalformedNumber}
+use Rattle.tok_core.specs.declared.lexer.error.Reason.TheVariants.{MissingRawIdentifier}
+use Rattle.tok_core.specs.declared.lexer.error.Reason.TheVariants.{LoneApostrophe, DeepGroup}
 use Rattle.tok_core.specs.declared.lexer.error.LexError.{LexError}
 use Rattle.tok_core.specs.declared.lexer.error.LexFault.{LexFault}
 use Rattle.tok_core.specs.declared.lexer.error.LexFault.TheVariants.{Refused, Memory}
 
-abbrev pub refusal_number : Refusal → ℕ
+abbrev pub refusal_number : Reason → ℕ
 refusal_number UnknownCharacter = 1
 refusal_number UnclosedGroup = 2
 refusal_number UnexpectedClosing = 3
@@ -28,7 +28,7 @@ refusal_number MissingRawIdentifier = 10
 refusal_number LoneApostrophe = 11
 refusal_number DeepGroup = 12
 
-abbrev pub refusal_words : Refusal → List ℕ
+abbrev pub refusal_words : Reason → List ℕ
 refusal_words UnknownCharacter = codes "unknown character"
 refusal_words UnclosedGroup = codes "unclosed group"
 refusal_words UnexpectedClosing = codes "unexpected closing delimiter"

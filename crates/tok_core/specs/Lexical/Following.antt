@@ -16,8 +16,8 @@ starts_punct [] = false
 starts_punct (c ∷ rest) = is_punct_or_apostrophe c
 
 -- one that doesn't begin a comment
-abbrev pub is_joint : List ℕ → Bool
-is_joint text = starts_punct text && not (begins_comment text)
+abbrev pub makes_joint : List ℕ → Bool
+makes_joint text = starts_punct text && not (begins_comment text)
 
 abbrev pub starts_name : List ℕ → Bool
 starts_name [] = false
@@ -30,5 +30,5 @@ past_marks (c ∷ rest) = if (c == 171) || (c == 187) then past_marks rest else 
 
 -- what makes an apostrophe of marked text joint: an identifier or a punctuation character follows,
 -- through marks
-abbrev pub is_joint_apostrophe : List ℕ → Bool
-is_joint_apostrophe text = starts_name (past_marks text) || starts_punct (past_marks text)
+abbrev pub makes_joint_apostrophe : List ℕ → Bool
+makes_joint_apostrophe text = starts_name (past_marks text) || starts_punct (past_marks text)

@@ -6,7 +6,7 @@ use Rattle.tok_core.specs.Spans.{source}
 use Rattle.tok_core.specs.Lexical.Words.{is_missing}
 use Rattle.tok_core.specs.Lexical.Comments.{is_line_doc, is_block_doc}
 use Rattle.tok_core.specs.Lexical.Numbers.{is_malformed, is_float}
-use Rattle.tok_core.specs.Lexical.Following.{is_joint, is_joint_apostrophe, past_marks}
+use Rattle.tok_core.specs.Lexical.Following.{makes_joint, makes_joint_apostrophe, past_marks}
 use Rattle.tok_core.specs.Lexical.Items.{Item, leaf_item, opening, closing}
 use Rattle.tok_core.specs.declared.group.Delimiter.{Delimiter}
 use Rattle.tok_core.specs.declared.group.Delimiter.TheVariants as delimiter
@@ -21,24 +21,24 @@ use Rattle.tok_core.specs.declared.lexer.rule.Rule.TheVariants.{PlainChar, Lifet
 use Rattle.tok_core.specs.declared.lexer.rule.Rule.TheVariants.{MarkedApostrophe, Based, BadBased}
 use Rattle.tok_core.specs.declared.lexer.rule.Rule.TheVariants.{Decimal, RawIdentifier, Identifier}
 use Rattle.tok_core.specs.declared.lexer.rule.Rule.TheVariants.{Punct, MarkedPunct, Other}
-use Rattle.tok_core.specs.declared.lexer.error.Refusal.{Refusal}
-use Rattle.tok_core.specs.declared.lexer.error.Refusal.TheVariants.{UnknownCharacter}
-use Rattle.tok_core.specs.declared.lexer.error.Refusal.TheVariants.{UnclosedComment, DocComment}
-use Rattle.tok_core.specs.declared.lexer.error.Refusal.TheVariants.{MalformedQuoted, PrefixedString}
-use Rattle.tok_core.specs.declared.lexer.error.Refusal.TheVariants.{FloatLiteral, MalformedNumber}
-use Rattle.tok_core.specs.declared.lexer.error.Refusal.TheVariants.{MissingRawIdentifier}
-use Rattle.tok_core.specs.declared.lexer.error.Refusal.TheVariants.{LoneApostrophe}
+use Rattle.tok_core.specs.declared.lexer.error.Reason.{Reason}
+use Rattle.tok_core.specs.declared.lexer.error.Reason.TheVariants.{UnknownCharacter}
+use Rattle.tok_core.specs.declared.lexer.error.Reason.TheVariants.{UnclosedComment, DocComment}
+use Rattle.tok_core.specs.declared.lexer.error.Reason.TheVariants.{MalformedQuoted, PrefixedString}
+use Rattle.tok_core.specs.declared.lexer.error.Reason.TheVariants.{FloatLiteral, MalformedNumber}
+use Rattle.tok_core.specs.declared.lexer.error.Reason.TheVariants.{MissingRawIdentifier}
+use Rattle.tok_core.specs.declared.lexer.error.Reason.TheVariants.{LoneApostrophe}
 
 -- what follows the first character
-abbrev pub behind_first : List ℕ → List ℕ
-behind_first [] = []
-behind_first (c ∷ rest) = rest
+abbrev pub after_first : List ℕ → List ℕ
+after_first [] = []
+after_first (c ∷ rest) = rest
 
-abbrev refused_if : Bool → Refusal → Option Refusal
+abbrev refused_if : Bool → Reason → Option Reason
 refused_if b refusal = if b then Some refusal else None
 
 -- why the piece is refused, if it is; the byte matters to the byte order mark alone
-abbrev pub refusal : Rule → ℕ → List ℕ → List ℕ → Option Refusal
+abbrev pub refusal : Rule → ℕ → List ℕ → List ℕ → Option Reason
 refusal ByteOrderMark at piece after = refused_if (not (at == 0)) UnknownCharacter
 refusal LineComment at piece after = refused_if (is_line_doc piece) DocComment
 refusal BlockComment at piece after = refused_if (is_block_doc piece) DocComment
@@ -47,7 +47,7 @@ refusal BadString at piece after = Some MalformedQuoted
 refusal BadByteChar at piece after = Some MalformedQuoted
 refusal BadEscapedChar at piece after = Some MalformedQuoted
 refusal StringPrefix at piece after = Some PrefixedString
-refusal Lifetime at piece after = refused_if (is_missing (behind_first piece)) MissingRawIdentifier
+refusal Lifetime at piece after = refused_if (is_missing (after_first piece)) MissingRawIdentifier
 refusal Apostrophe at piece after = Some LoneApostrophe
 refusal (Based base) at piece after = refused_if (is_malformed base piece after) MalformedNumber
 refusal (BadBased base) at piece after = Some MalformedNumber
@@ -95,14 +95,14 @@ items number EscapedChar at piece after = literal_item number at (at + bytes pie
 items number PlainChar at piece after = literal_item number at (at + bytes piece) piece ∷ []
 items number Lifetime at piece after =
     punct_item number at 39 true ∷ ident_item number (at + 1) (at + bytes piece)
-    (behind_first piece) ∷ []
+    (after_first piece) ∷ []
 items number MarkedApostrophe at piece after =
-    punct_item number at 39 (is_joint_apostrophe after) ∷ []
+    punct_item number at 39 (makes_joint_apostrophe after) ∷ []
 items number (Based base) at piece after = literal_item number at (at + bytes piece) piece ∷ []
 items number Decimal at piece after = literal_item number at (at + bytes piece) piece ∷ []
 items number RawIdentifier at piece after = ident_item number at (at + bytes piece) piece ∷ []
 items number Identifier at piece after = ident_item number at (at + bytes piece) piece ∷ []
-items number Punct at piece after = map (λ c. punct_item number at c (is_joint after)) piece
+items number Punct at piece after = map (λ c. punct_item number at c (makes_joint after)) piece
 items number MarkedPunct at piece after =
-    map (λ c. punct_item number at c (is_joint (past_marks after))) piece
+    map (λ c. punct_item number at c (makes_joint (past_marks after))) piece
 items number rule at piece after = []

@@ -2,7 +2,7 @@
 use Rattle.std.specs.Prelude.{◌≡◌, ℕ, List, [], ◌∷◌, ◌++◌, Bool, true, false, ◌==◌, ◌||◌, ◌&&◌, not}
 use Rattle.std.specs.List.{list_all, list_any}
 use Rattle.std.specs.Char.{is_digit}
-use Rattle.tok_core.specs.Lexical.Pieces.{Behind, IsAll}
+use Rattle.tok_core.specs.Lexical.Pieces.{After, IsAll}
 use Rattle.tok_core.specs.Lexical.Words.{IsIdentifier, is_identifier_start}
 use Rattle.tok_core.specs.declared.lexer.rule.Base.{Base}
 use Rattle.tok_core.specs.declared.lexer.rule.Base.TheVariants.{Hexadecimal, Octal, Binary}
@@ -53,7 +53,7 @@ abbrev pub has_digit : ℕ → List ℕ → Bool
 has_digit n digits = list_any (λ c. is_digit c n) digits
 
 abbrev pub IsBased : Base → List ℕ → Type 0
-IsBased base = Behind 48 (Behind (base_mark base) (IsNumber (radix base) (has_digit (radix base))))
+IsBased base = After 48 (After (base_mark base) (IsNumber (radix base) (has_digit (radix base))))
 
 abbrev pub IsDecimal : List ℕ → Type 0
 IsDecimal = IsNumber 10 starts_digit

@@ -13,5 +13,5 @@ escaped c =
     if c == 0 then codes "\\0" else encode_utf8 c
 
 -- a quote, the characters with their escapes, a quote
-abbrev pub quoted : List ℕ → List ℕ
-quoted text = codes "\"" ++ (flat_map escaped text ++ codes "\"")
+abbrev pub in_quotes : List ℕ → List ℕ
+in_quotes text = codes "\"" ++ (flat_map escaped text ++ codes "\"")

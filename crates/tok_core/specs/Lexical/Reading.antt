@@ -1,33 +1,33 @@
 -- Which texts read as which forest, and which are refused.
 use Rattle.std.specs.Prelude.{◌≡◌, ℕ, ◌+◌, ◌≤◌, List, [], ◌∷◌, ◌++◌, length, Some, None}
 use Rattle.tok_core.specs.Forest.{Forest}
-use Rattle.tok_core.specs.Lexical.Pieces.{Fits, Takes}
+use Rattle.tok_core.specs.Lexical.Pieces.{HasPrefix, IsLongestPrefix}
 use Rattle.tok_core.specs.Lexical.Rules.{Spells}
 use Rattle.tok_core.specs.Lexical.Items.{Item, Flat, depth, Opens, IsOpenBy}
 use Rattle.tok_core.specs.Lexical.Meaning.{refusal, items, width}
 use Rattle.tok_core.specs.declared.group.Delimiter.{Delimiter}
 use Rattle.tok_core.specs.declared.lexer.rule.Rule.{Rule}
 use Rattle.tok_core.specs.declared.lexer.rule.Rule.TheVariants.{Opening, Closing}
-use Rattle.tok_core.specs.declared.lexer.error.Refusal.{Refusal}
-use Rattle.tok_core.specs.declared.lexer.error.Refusal.TheVariants.{UnclosedGroup}
-use Rattle.tok_core.specs.declared.lexer.error.Refusal.TheVariants.{UnexpectedClosing, DeepGroup}
+use Rattle.tok_core.specs.declared.lexer.error.Reason.{Reason}
+use Rattle.tok_core.specs.declared.lexer.error.Reason.TheVariants.{UnclosedGroup}
+use Rattle.tok_core.specs.declared.lexer.error.Reason.TheVariants.{UnexpectedClosing, DeepGroup}
 use Rattle.tok_core.specs.declared.lexer.error.LexError.{LexError}
 
 -- The first of the rules that fits at the front of the text is this one, and it takes this piece,
 -- before this rest.
-pub data Decides (text : List ℕ) : List Rule → Rule → List ℕ → List ℕ → Type 0 where
+pub data IsFirstFit (text : List ℕ) : List Rule → Rule → List ℕ → List ℕ → Type 0 where
   here : {rule : Rule} {rules : List Rule} {piece rest : List ℕ} →
-      Takes (Spells rule) text piece rest → Decides text (rule ∷ rules) rule piece rest
+      IsLongestPrefix (Spells rule) text piece rest → IsFirstFit text (rule ∷ rules) rule piece rest
   later : {other rule : Rule} {rules : List Rule} {piece rest : List ℕ} →
-      (Fits (Spells other) text → ⊥) → Decides text rules rule piece rest →
-      Decides text (other ∷ rules) rule piece rest
+      (HasPrefix (Spells other) text → ⊥) → IsFirstFit text rules rule piece rest →
+      IsFirstFit text (other ∷ rules) rule piece rest
 
 -- From the byte `at` on, a front of the text is cut into pieces that mean these items; it ends at
 -- the byte `end`, before `rest`.
 pub data Cut (rules : List Rule) (number : ℕ) : ℕ → List ℕ → List Item → ℕ → List ℕ → Type 0 where
   stop : {at : ℕ} {text : List ℕ} → Cut rules number at text [] at text
   piece : {at end : ℕ} {text taken after rest : List ℕ} {rule : Rule} {more : List Item} →
-      Decides text rules rule taken after → refusal rule at taken after ≡ None →
+      IsFirstFit text rules rule taken after → refusal rule at taken after ≡ None →
       Cut rules number (at + width rule taken) after more end rest →
       Cut rules number at text (items number rule at taken after ++ more) end rest
 
@@ -41,17 +41,17 @@ Reads rules number text f =
 -- why the text is refused at `rest`, which begins at the byte `at`, with these groups open; and the
 -- byte
 pub data Refuses (rules : List Rule) (levels : List (Delimiter × ℕ)) (at : ℕ)
-    (rest : List ℕ) : Refusal → ℕ → Type 0 where
-  by_rule : {rule : Rule} {taken after : List ℕ} {why : Refusal} →
-      Decides rest rules rule taken after → refusal rule at taken after ≡ Some why →
+    (rest : List ℕ) : Reason → ℕ → Type 0 where
+  by_rule : {rule : Rule} {taken after : List ℕ} {why : Reason} →
+      IsFirstFit rest rules rule taken after → refusal rule at taken after ≡ Some why →
       Refuses rules levels at rest why at
   unclosed : {start : ℕ} (delimiter : Delimiter) (outer : List (Delimiter × ℕ)) → rest ≡ [] →
       levels ≡ outer ++ (delimiter, start) ∷ [] → Refuses rules levels at rest UnclosedGroup start
   unopened : (delimiter : Delimiter) (taken after : List ℕ) →
-      Decides rest rules (Closing delimiter) taken after → (IsOpenBy levels delimiter → ⊥) →
+      IsFirstFit rest rules (Closing delimiter) taken after → (IsOpenBy levels delimiter → ⊥) →
       Refuses rules levels at rest UnexpectedClosing at
   too_deep : (delimiter : Delimiter) (taken after : List ℕ) →
-      Decides rest rules (Opening delimiter) taken after → length levels ≡ 256 →
+      IsFirstFit rest rules (Opening delimiter) taken after → length levels ≡ 256 →
       Refuses rules levels at rest DeepGroup at
 
 -- A front of the text is cut, with these groups open, and the rest is refused there with this

@@ -7,7 +7,7 @@ use Rattle.tok_core.specs.Lexical.Comments.{IsLineComment, IsBlockComment}
 use Rattle.tok_core.specs.Lexical.Strings.{IsString, IsQuoted, IsByte, IsEscapedChar, is_char}
 use Rattle.tok_core.specs.Lexical.Strings.{IsStringPrefix}
 use Rattle.tok_core.specs.Lexical.Numbers.{IsBased, IsDecimal, base_mark}
-use Rattle.tok_core.specs.Lexical.Pieces.{IsOne, Behind}
+use Rattle.tok_core.specs.Lexical.Pieces.{IsOne, After}
 use Rattle.tok_core.specs.declared.group.Delimiter.TheVariants.{Parenthesis, Brace, Bracket, None}
 use Rattle.tok_core.specs.declared.lexer.rule.Base.TheVariants.{Hexadecimal, Octal, Binary}
 use Rattle.tok_core.specs.declared.lexer.rule.Rule.{Rule}
@@ -34,13 +34,13 @@ Spells (Opening delimiter) = IsOne (λ c. c == opening_mark delimiter)
 Spells (Closing delimiter) = IsOne (λ c. c == closing_mark delimiter)
 Spells QuotedString = IsString
 Spells BadString = IsOne (λ c. c == 34)
-Spells ByteChar = Behind 98 (IsQuoted IsByte)
+Spells ByteChar = After 98 (IsQuoted IsByte)
 Spells BadByteChar = λ piece. piece ≡ 98 ∷ 39 ∷ []
 Spells StringPrefix = IsStringPrefix
 Spells EscapedChar = IsQuoted IsEscapedChar
 Spells BadEscapedChar = λ piece. piece ≡ 39 ∷ 92 ∷ []
 Spells PlainChar = IsQuoted (IsOne is_char)
-Spells Lifetime = Behind 39 IsName
+Spells Lifetime = After 39 IsName
 Spells Apostrophe = IsOne (λ c. c == 39)
 Spells MarkedApostrophe = IsOne (λ c. c == 39)
 Spells (Based base) = IsBased base

@@ -44,7 +44,8 @@ start_of c =
     else if is_punct c then Punct
     else Rest
 
--- whether a piece of the rule may begin so, as far as it goes with pieces that no earlier rule takes
+-- whether a piece of the rule may begin so, as far as it goes with pieces that no earlier rule
+-- takes
 abbrev pub may_begin : Rule → Start → Bool
 may_begin rule.ByteOrderMark Rest = true
 may_begin rule.Whitespace Rest = true
@@ -91,6 +92,14 @@ only start [] = []
 only start (rule ∷ rules) =
     if may_begin rule start then rule ∷ only start rules else only start rules
 
+-- the character tells the rule alone
+abbrev pub tells : Start → Bool
+tells Letter = true
+tells Punct = true
+tells (Opening delimiter) = true
+tells (Closing delimiter) = true
+tells start = false
+
 -- the rules of a text
 abbrev pub rules_of : Rules → List Rule
 rules_of rules.Plain = plain_rules
@@ -100,3 +109,7 @@ rules_of rules.Marked = marked_rules
 abbrev pub punct_rule : Rules → Rule
 punct_rule rules.Plain = rule.Punct
 punct_rule rules.Marked = rule.MarkedPunct
+
+-- the last three rules of a text: of them, one takes any character
+abbrev pub last_rules : Rules → List Rule
+last_rules rules = rule.Identifier ∷ punct_rule rules ∷ rule.Other ∷ []

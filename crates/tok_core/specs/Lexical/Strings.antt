@@ -3,7 +3,7 @@
 use Rattle.std.specs.Prelude.{◌≡◌, ◌≢◌, ℕ, ◌+◌, ◌*◌, ◌≤◌, ◌⊎◌, List, [], ◌∷◌, ◌++◌, Bool, true}
 use Rattle.std.specs.Prelude.{false, ◌==◌, ◌||◌, ◌&&◌, not, nat_lt, if◌then◌else◌, fold, count_by}
 use Rattle.std.specs.Char.{is_digit, digit_value, IsScalar}
-use Rattle.tok_core.specs.Lexical.Pieces.{IsOne, Behind, IsAll}
+use Rattle.tok_core.specs.Lexical.Pieces.{IsOne, After, IsAll}
 use Rattle.tok_core.specs.Lexical.Words.{IsSuffix}
 
 -- one of n r t \ 0 ' "
@@ -73,10 +73,10 @@ abbrev pub is_byte : ℕ → Bool
 is_byte c = is_char c && nat_lt c 128
 
 abbrev pub IsEscapedChar : List ℕ → Type 0
-IsEscapedChar = Behind 92 (IsEscape false false)
+IsEscapedChar = After 92 (IsEscape false false)
 
 abbrev pub IsByte : List ℕ → Type 0
-IsByte inner = IsOne is_byte inner ⊎ Behind 92 (IsEscape false true) inner
+IsByte inner = IsOne is_byte inner ⊎ After 92 (IsEscape false true) inner
 
 -- an apostrophe, what is within, an apostrophe and a suffix
 abbrev pub IsQuoted : (List ℕ → Type 0) → List ℕ → Type 0
@@ -90,9 +90,9 @@ IsHashes piece = (hashes : List ℕ) × (piece ≡ hashes ++ 34 ∷ []) × IsAll
 
 -- the start of a byte or C string, or of a raw one, after `b` or `c`
 abbrev pub IsPrefixed : List ℕ → Type 0
-IsPrefixed piece = (piece ≡ 34 ∷ []) ⊎ Behind 114 IsHashes piece
+IsPrefixed piece = (piece ≡ 34 ∷ []) ⊎ After 114 IsHashes piece
 
 -- `r`, `br` or `cr`, any number of # and a quote; or `b` or `c` and a quote
 abbrev pub IsStringPrefix : List ℕ → Type 0
 IsStringPrefix piece =
-    Behind 114 IsHashes piece ⊎ (Behind 98 IsPrefixed piece ⊎ Behind 99 IsPrefixed piece)
+    After 114 IsHashes piece ⊎ (After 98 IsPrefixed piece ⊎ After 99 IsPrefixed piece)

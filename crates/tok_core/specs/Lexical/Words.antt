@@ -4,7 +4,7 @@ use Rattle.std.specs.Prelude.{codes}
 use Rattle.std.specs.List.{list_all}
 use Rattle.std.specs.Str.{bytes_eq}
 use Rattle.unicode_ident.specs.Ident.{is_xid_start, is_xid_continue}
-use Rattle.tok_core.specs.Lexical.Pieces.{Behind}
+use Rattle.tok_core.specs.Lexical.Pieces.{After}
 
 abbrev pub is_identifier_start : ℕ → Bool
 is_identifier_start c = is_xid_start c || (c == 95)
@@ -20,7 +20,7 @@ IsSuffix suffix = (suffix ≡ []) ⊎ IsIdentifier suffix
 
 -- `r#` and a plain identifier
 abbrev pub IsRawIdentifier : List ℕ → Type 0
-IsRawIdentifier = Behind 114 (Behind 35 IsIdentifier)
+IsRawIdentifier = After 114 (After 35 IsIdentifier)
 
 abbrev pub IsName : List ℕ → Type 0
 IsName name = IsIdentifier name ⊎ IsRawIdentifier name

@@ -1,7 +1,7 @@
 // Characters and byte characters.
 ghost use Rattle.std.specs.Prelude.{◌≡◌, IfSome};
 ghost use Rattle.std.specs.Str.{chars, IsUtf8};
-ghost use Rattle.tok_core.specs.Lexical.Pieces.{IsOne, Behind, Tries, Finds};
+ghost use Rattle.tok_core.specs.Lexical.Pieces.{IsOne, After, ReadsLongest, ReadsPrefix};
 ghost use Rattle.tok_core.specs.Lexical.Words.{IsSuffix};
 ghost use Rattle.tok_core.specs.Lexical.Strings.{is_char, is_byte, IsEscapedChar, IsByte, IsQuoted};
 
@@ -23,7 +23,7 @@ fn is_byte(c: char) -> bool
 
 /// Past the apostrophe that ends a character, and its suffix.
 fn past_end(text: &str) -> Option<&str>
-    ensures tries { Tries (Behind 39 IsSuffix) (chars text.now) result }
+    ensures tries { ReadsLongest (After 39 IsSuffix) (chars text.now) result }
     ensures utf8 { IfSome result (λ rest. IsUtf8 rest.now) }
 {
     let Some(rest) = past_char(text, '\'') else {
@@ -34,7 +34,7 @@ fn past_end(text: &str) -> Option<&str>
 
 /// Past one character that may stand between apostrophes as it is.
 fn past_plain(text: &str) -> Option<&str>
-    ensures finds { Finds (IsOne is_char) (chars text.now) result }
+    ensures finds { ReadsPrefix (IsOne is_char) (chars text.now) result }
     ensures utf8 { IfSome result (λ rest. IsUtf8 rest.now) }
 {
     let (first, rest) = next_char(text)?;
@@ -43,7 +43,7 @@ fn past_plain(text: &str) -> Option<&str>
 
 /// Past an escape of a character.
 fn past_escaped(text: &str) -> Option<&str>
-    ensures finds { Finds IsEscapedChar (chars text.now) result }
+    ensures finds { ReadsPrefix IsEscapedChar (chars text.now) result }
     ensures utf8 { IfSome result (λ rest. IsUtf8 rest.now) }
 {
     let Some(rest) = past_char(text, '\\') else {
@@ -54,7 +54,7 @@ fn past_escaped(text: &str) -> Option<&str>
 
 /// Past a byte, or an escape of one.
 fn past_byte(text: &str) -> Option<&str>
-    ensures finds { Finds IsByte (chars text.now) result }
+    ensures finds { ReadsPrefix IsByte (chars text.now) result }
     ensures utf8 { IfSome result (λ rest. IsUtf8 rest.now) }
 {
     let (first, rest) = next_char(text)?;
@@ -69,7 +69,7 @@ fn past_byte(text: &str) -> Option<&str>
 
 /// Past a character with no escape, and its suffix.
 pub fn past_plain_char(text: &str) -> Option<&str>
-    ensures tries { Tries (IsQuoted (IsOne is_char)) (chars text.now) result }
+    ensures tries { ReadsLongest (IsQuoted (IsOne is_char)) (chars text.now) result }
     ensures utf8 { IfSome result (λ rest. IsUtf8 rest.now) }
 {
     let Some(start) = past_char(text, '\'') else {
@@ -83,7 +83,7 @@ pub fn past_plain_char(text: &str) -> Option<&str>
 
 /// Past a character with an escape, and its suffix.
 pub fn past_escaped_char(text: &str) -> Option<&str>
-    ensures tries { Tries (IsQuoted IsEscapedChar) (chars text.now) result }
+    ensures tries { ReadsLongest (IsQuoted IsEscapedChar) (chars text.now) result }
     ensures utf8 { IfSome result (λ rest. IsUtf8 rest.now) }
 {
     let Some(start) = past_char(text, '\'') else {
@@ -97,7 +97,7 @@ pub fn past_escaped_char(text: &str) -> Option<&str>
 
 /// Past a byte between apostrophes, and its suffix.
 fn past_quoted_byte(text: &str) -> Option<&str>
-    ensures tries { Tries (IsQuoted IsByte) (chars text.now) result }
+    ensures tries { ReadsLongest (IsQuoted IsByte) (chars text.now) result }
     ensures utf8 { IfSome result (λ rest. IsUtf8 rest.now) }
 {
     let Some(start) = past_char(text, '\'') else {
@@ -111,7 +111,7 @@ fn past_quoted_byte(text: &str) -> Option<&str>
 
 /// Past a byte character and its suffix.
 pub fn past_byte_char(text: &str) -> Option<&str>
-    ensures tries { Tries (Behind 98 (IsQuoted IsByte)) (chars text.now) result }
+    ensures tries { ReadsLongest (After 98 (IsQuoted IsByte)) (chars text.now) result }
     ensures utf8 { IfSome result (λ rest. IsUtf8 rest.now) }
 {
     let Some(start) = past_char(text, 'b') else {

@@ -1,25 +1,69 @@
 // White space, punctuation characters, and the marks of groups.
 ghost use Rattle.std.specs.Prelude.{◌≡◌, ◌≤◌, ℕ, List, length};
 ghost use Rattle.std.specs.Str.{chars};
-ghost use Rattle.tok_core.specs.Lexical.Characters.{is_whitespace, is_punct, is_punct_or_apostrophe, opening_mark, closing_mark};
+ghost use Rattle.tok_core.specs.Lexical.Characters.{is_space, is_whitespace, begins_visibly, is_punct, is_punct_or_apostrophe, opening_mark, closing_mark};
 ghost use Rattle.tok_core.specs.Lexical.Meaning.{is_invisible};
 ghost use Rattle.tok_core.specs.Lexical.Pieces.{Skips};
 
 use crate::group::Delimiter;
-use crate::lexer::text::next_char;
+use crate::lexer::text::{next_char, past_char};
 
 pub fn is_whitespace(c: char) -> bool
     ensures { result ≡ is_whitespace c }
 {
     matches!(
         c,
-        '\u{9}'..='\u{D}' | ' ' | '\u{85}' | '\u{200E}' | '\u{200F}' | '\u{2028}' | '\u{2029}'
+        ' ' | '\u{9}'..='\u{D}' | '\u{85}' | '\u{200E}' | '\u{200F}' | '\u{2028}' | '\u{2029}'
     )
 }
 
+/// Whether the text begins with a visible ASCII character.
+#[inline]
+fn begins_visibly(text: &str) -> bool
+    ensures { result ≡ begins_visibly (chars text.now) }
+{
+    match text.as_bytes().first() {
+        Some(byte) => byte.is_ascii_graphic(),
+        None => false,
+    }
+}
+
+/// Past the spaces at the front.
+#[inline]
+fn past_spaces(text: &str) -> &str
+    ensures skips { (front : List ℕ) × Skips is_space (chars text.now) front (chars result.now) }
+    ensures shorter { length result.now ≤ length text.now }
+{
+    let mut rest = text;
+    while let Some(after) = past_char(rest, ' ') {
+        rest = after;
+    }
+    rest
+}
+
 /// Past the white space at the front.
+#[inline]
 pub fn past_whitespace(text: &str) -> &str
-    ensures skips { (front : List ℕ) × Skips is_whitespace (chars text.now) front (chars result.now) }
+    ensures skips { (front : List ℕ)
+        × Skips is_whitespace (chars text.now) front (chars result.now) }
+    ensures shorter { length result.now ≤ length text.now }
+{
+    // Most of it is one space or nothing.
+    let rest = match past_char(text, ' ') {
+        Some(rest) => rest,
+        None => text,
+    };
+    if begins_visibly(rest) {
+        rest
+    } else {
+        past_any_whitespace(rest)
+    }
+}
+
+/// The same, for white space of any kind and length.
+fn past_any_whitespace(text: &str) -> &str
+    ensures skips { (front : List ℕ)
+        × Skips is_whitespace (chars text.now) front (chars result.now) }
     ensures shorter { length result.now ≤ length text.now }
 {
     let mut rest = text;
@@ -27,7 +71,7 @@ pub fn past_whitespace(text: &str) -> &str
         if !is_whitespace(c) {
             break;
         }
-        rest = after;
+        rest = past_spaces(after);
     }
     rest
 }

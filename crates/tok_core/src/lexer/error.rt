@@ -9,7 +9,7 @@ use std::fmt::{Formatter, Write};
 
 /// What the grammar refuses, in the order of its numbers.
 #[derive(Clone, Copy, PartialEq, Eq, Debug)]
-pub enum Refusal {
+pub enum Reason {
     UnknownCharacter,
     UnclosedGroup,
     UnexpectedClosing,
@@ -24,23 +24,23 @@ pub enum Refusal {
     DeepGroup,
 }
 
-impl Refusal {
+impl Reason {
     fn number(self) -> u8
         ensures { result ≡ refusal_number self }
     {
         match self {
-            Refusal::UnknownCharacter => 1,
-            Refusal::UnclosedGroup => 2,
-            Refusal::UnexpectedClosing => 3,
-            Refusal::UnclosedComment => 4,
-            Refusal::DocComment => 5,
-            Refusal::MalformedQuoted => 6,
-            Refusal::PrefixedString => 7,
-            Refusal::FloatLiteral => 8,
-            Refusal::MalformedNumber => 9,
-            Refusal::MissingRawIdentifier => 10,
-            Refusal::LoneApostrophe => 11,
-            Refusal::DeepGroup => 12,
+            Reason::UnknownCharacter => 1,
+            Reason::UnclosedGroup => 2,
+            Reason::UnexpectedClosing => 3,
+            Reason::UnclosedComment => 4,
+            Reason::DocComment => 5,
+            Reason::MalformedQuoted => 6,
+            Reason::PrefixedString => 7,
+            Reason::FloatLiteral => 8,
+            Reason::MalformedNumber => 9,
+            Reason::MissingRawIdentifier => 10,
+            Reason::LoneApostrophe => 11,
+            Reason::DeepGroup => 12,
         }
     }
 
@@ -48,18 +48,18 @@ impl Refusal {
         ensures { result.now ≡ refusal_words self }
     {
         match self {
-            Refusal::UnknownCharacter => "unknown character",
-            Refusal::UnclosedGroup => "unclosed group",
-            Refusal::UnexpectedClosing => "unexpected closing delimiter",
-            Refusal::UnclosedComment => "unclosed comment",
-            Refusal::DocComment => "doc comment",
-            Refusal::MalformedQuoted => "malformed string or character",
-            Refusal::PrefixedString => "raw, byte or C string",
-            Refusal::FloatLiteral => "float literal",
-            Refusal::MalformedNumber => "malformed number",
-            Refusal::MissingRawIdentifier => "raw identifier that does not exist",
-            Refusal::LoneApostrophe => "lone apostrophe",
-            Refusal::DeepGroup => "groups nested too deep",
+            Reason::UnknownCharacter => "unknown character",
+            Reason::UnclosedGroup => "unclosed group",
+            Reason::UnexpectedClosing => "unexpected closing delimiter",
+            Reason::UnclosedComment => "unclosed comment",
+            Reason::DocComment => "doc comment",
+            Reason::MalformedQuoted => "malformed string or character",
+            Reason::PrefixedString => "raw, byte or C string",
+            Reason::FloatLiteral => "float literal",
+            Reason::MalformedNumber => "malformed number",
+            Reason::MissingRawIdentifier => "raw identifier that does not exist",
+            Reason::LoneApostrophe => "lone apostrophe",
+            Reason::DeepGroup => "groups nested too deep",
         }
     }
 }
@@ -67,13 +67,13 @@ impl Refusal {
 /// Why a text isn't read, and where: the number of the rule, from L1 to L12, and the byte.
 #[derive(Clone, Copy, PartialEq, Eq, Debug)]
 pub struct LexError {
-    refusal: Refusal,
+    refusal: Reason,
     source: u32,
     at: usize,
 }
 
 impl LexError {
-    pub(crate) fn new(refusal: Refusal, source: u32, at: usize) -> LexError
+    pub(crate) fn new(refusal: Reason, source: u32, at: usize) -> LexError
         ensures { result ≡ record { refusal = refusal; source = source; at = at } }
     {
         LexError {

@@ -1,7 +1,7 @@
 // Escapes.
 ghost use Rattle.std.specs.Prelude.{◌≡◌, ◌≤◌, ℕ, List, IfSome, length, ◌<◌, false, if◌then◌else◌, MatchBool};
 ghost use Rattle.std.specs.Str.{chars, IsUtf8};
-ghost use Rattle.tok_core.specs.Lexical.Pieces.{Finds, Skips};
+ghost use Rattle.tok_core.specs.Lexical.Pieces.{ReadsPrefix, Skips};
 ghost use Rattle.tok_core.specs.Lexical.Strings.{is_simple_escape, is_hex_or_underscore, IsHex, NamesChar, IsCode, IsLineEnd, IsEscape};
 
 use crate::lexer::text::{front_of, next_char, past_char, past_pair};
@@ -16,7 +16,7 @@ fn is_simple_escape(c: char) -> bool
 fn past_hex(text: &str, top: u32) -> Option<&str>
     requires low { 2 ≤ top }
     requires high { top ≤ 16 }
-    ensures finds { Finds (IsHex top) (chars text.now) result }
+    ensures finds { ReadsPrefix (IsHex top) (chars text.now) result }
     ensures utf8 { IfSome result (λ rest. IsUtf8 rest.now) }
     ensures shorter { IfSome result (λ rest. length rest.now < length text.now) }
 {
@@ -36,7 +36,8 @@ fn is_hex_or_underscore(c: char) -> bool
 
 /// Past the hexadecimal digits and underscores at the front.
 fn past_hex_digits(text: &str) -> &str
-    ensures skips { (front : List ℕ) × Skips is_hex_or_underscore (chars text.now) front (chars result.now) }
+    ensures skips { (front : List ℕ)
+        × Skips is_hex_or_underscore (chars text.now) front (chars result.now) }
     ensures shorter { length result.now ≤ length text.now }
 {
     let mut rest = text;
@@ -74,7 +75,7 @@ fn names_char(digits: &str) -> bool
 
 /// Past what follows `\u`.
 fn past_code(text: &str) -> Option<&str>
-    ensures finds { Finds IsCode (chars text.now) result }
+    ensures finds { ReadsPrefix IsCode (chars text.now) result }
     ensures utf8 { IfSome result (λ rest. IsUtf8 rest.now) }
     ensures shorter { IfSome result (λ rest. length rest.now < length text.now) }
 {
@@ -98,7 +99,7 @@ fn past_code(text: &str) -> Option<&str>
 
 /// Past a line end.
 fn past_line_end(text: &str) -> Option<&str>
-    ensures finds { Finds IsLineEnd (chars text.now) result }
+    ensures finds { ReadsPrefix IsLineEnd (chars text.now) result }
     ensures utf8 { IfSome result (λ rest. IsUtf8 rest.now) }
     ensures shorter { IfSome result (λ rest. length rest.now < length text.now) }
 {
@@ -119,7 +120,7 @@ fn top_digit(wide: bool) -> u32
 
 /// Past what follows the backslash of an escape.
 pub fn past_escape(text: &str, line_ends: bool, wide: bool) -> Option<&str>
-    ensures finds { Finds (IsEscape line_ends wide) (chars text.now) result }
+    ensures finds { ReadsPrefix (IsEscape line_ends wide) (chars text.now) result }
     ensures utf8 { IfSome result (λ rest. IsUtf8 rest.now) }
     ensures shorter { IfSome result (λ rest. length rest.now < length text.now) }
 {

@@ -1,10 +1,10 @@
 // What follows a punctuation character.
 ghost use Rattle.std.specs.Prelude.{◌≡◌};
 ghost use Rattle.std.specs.Str.{chars};
-ghost use Rattle.tok_core.specs.Lexical.Following.{starts_punct, begins_comment, is_joint, is_joint_apostrophe, starts_name, past_marks};
+ghost use Rattle.tok_core.specs.Lexical.Following.{starts_punct, begins_comment, makes_joint, makes_joint_apostrophe, starts_name, past_marks};
 
 use crate::lexer::classes::is_punct_or_apostrophe;
-use crate::lexer::text::next_char;
+use crate::lexer::text::{begins_with, next_char, past_char};
 use crate::lexer::words::is_identifier_start;
 
 /// Whether a punct character follows, the apostrophe among them.
@@ -17,18 +17,19 @@ fn starts_punct(rest: &str) -> bool
     }
 }
 
-fn begins_comment(rest: &str) -> bool
+/// Whether a comment follows.
+pub fn begins_comment(rest: &str) -> bool
     ensures { result ≡ begins_comment (chars rest.now) }
 {
-    match next_char(rest) {
-        Some(('/', after)) => matches!(next_char(after), Some(('/' | '*', _))),
-        _ => false,
+    match past_char(rest, '/') {
+        Some(after) => begins_with(after, '/') || begins_with(after, '*'),
+        None => false,
     }
 }
 
 /// Whether a punct character follows that doesn't begin a comment.
-pub fn is_joint(rest: &str) -> bool
-    ensures { result ≡ is_joint (chars rest.now) }
+pub fn makes_joint(rest: &str) -> bool
+    ensures { result ≡ makes_joint (chars rest.now) }
 {
     starts_punct(rest) && !begins_comment(rest)
 }
@@ -44,8 +45,8 @@ fn starts_name(rest: &str) -> bool
 }
 
 /// Whether an identifier or a punct character follows, through marks.
-pub fn is_joint_apostrophe(after: &str) -> bool
-    ensures { result ≡ is_joint_apostrophe (chars after.now) }
+pub fn makes_joint_apostrophe(after: &str) -> bool
+    ensures { result ≡ makes_joint_apostrophe (chars after.now) }
 {
     let next = past_marks(after);
     starts_name(next) || starts_punct(next)

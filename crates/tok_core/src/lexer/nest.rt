@@ -10,8 +10,8 @@ ghost use Rattle.tok_core.specs.Lexical.Rules.{Spells};
 
 use crate::group::{Delimiter, Group};
 use crate::ident::Ident;
-use crate::lexer::error::{LexError, LexFault, Refusal};
-use crate::lexer::joint::{is_joint, is_joint_apostrophe, past_marks};
+use crate::lexer::error::{LexError, LexFault, Reason};
+use crate::lexer::joint::{makes_joint, makes_joint_apostrophe, past_marks};
 use crate::lexer::meaning::refusal;
 use crate::lexer::rule::Rule;
 use crate::lexer::text::{first_of, past_first};
@@ -33,7 +33,7 @@ pub struct OpenGroup {
 
 /// The trees so far: those of the innermost level, and the groups that are open, outermost first.
 #[derive(Drop)]
-pub struct Nest {
+pub struct TreeBuilder {
     pub alloc: Global,
     pub source: u32,
     pub open: Vec<OpenGroup>,
@@ -50,13 +50,13 @@ fn spacing(is_joint: bool) -> Spacing
     }
 }
 
-impl Nest {
-    pub fn new(alloc: Global, source: u32) -> Nest
+impl TreeBuilder {
+    pub fn new(alloc: Global, source: u32) -> TreeBuilder
         ensures source { result.source ≡ source }
         ensures open { result.«open».items ≡ [] }
         ensures trees { result.trees ≡ no_trees }
     {
-        Nest {
+        TreeBuilder {
             alloc,
             source,
             open: Vec::new(alloc),
@@ -66,7 +66,8 @@ impl Nest {
 
     fn punct(&mut self, at: usize, ch: char, is_joint: bool) -> Result<(), AllocError>
         requires fits { at + 1 < 2 ^ 64 }
-        ensures { OnOk result (Grows at self.old self.new (punct_item self.old.source at ch is_joint ∷ [])) }
+        ensures { OnOk result
+            (Grows at self.old self.new (punct_item self.old.source at ch is_joint ∷ [])) }
     {
         let span = Span::source(self.source, at, at + 1);
         let punct = Punct::unchecked(ch, spacing(is_joint), span);
@@ -76,7 +77,10 @@ impl Nest {
 
     fn ident(&mut self, start: usize, end: usize, text: &str) -> Result<(), AllocError>
         requires order { start ≤ end }
-        ensures { (at : ℕ) → OnOk result (Grows at self.old self.new (ident_item self.old.source start end (chars text.now) ∷ [])) }
+        ensures { (at : ℕ)
+            → OnOk result
+            (Grows at self.old self.new
+            (ident_item self.old.source start end (chars text.now) ∷ [])) }
     {
         let text = Text::from_str(self.alloc, text)?;
         let span = Span::source(self.source, start, end);
@@ -87,7 +91,9 @@ impl Nest {
 
     fn literal(&mut self, start: usize, end: usize, text: &str) -> Result<(), AllocError>
         requires order { start ≤ end }
-        ensures { OnOk result (Grows start self.old self.new (literal_item self.old.source start end (chars text.now) ∷ [])) }
+        ensures { OnOk result
+            (Grows start self.old self.new
+            (literal_item self.old.source start end (chars text.now) ∷ [])) }
     {
         let text = Text::from_str(self.alloc, text)?;
         let span = Span::source(self.source, start, end);
@@ -100,7 +106,10 @@ impl Nest {
     fn lifetime(&mut self, at: usize, end: usize, name: &str) -> Result<(), AllocError>
         requires fits { at + 1 < 2 ^ 64 }
         requires order { at + 1 ≤ end }
-        ensures { OnOk result (Grows at self.old self.new (punct_item self.old.source at 39 true ∷ ident_item self.old.source (at + 1) end (chars name.now) ∷ [])) }
+        ensures { OnOk result
+            (Grows at self.old self.new
+            (punct_item self.old.source at 39 true
+            ∷ ident_item self.old.source (at + 1) end (chars name.now) ∷ [])) }
     {
         self.punct(at, '\'', true)?;
         self.ident(at + 1, end, name)?;
@@ -113,7 +122,7 @@ impl Nest {
         ensures refused { IfErr result (λ fault. OnRefused fault (IsTooDeep self.old at)) }
     {
         if self.open.len() == 256 {
-            let error = LexError::new(Refusal::DeepGroup, self.source, at);
+            let error = LexError::new(Reason::DeepGroup, self.source, at);
             return Err(LexFault::Refused(error));
         }
         let before = mem::replace(&mut self.trees, TokenStream::new(self.alloc));
@@ -135,7 +144,7 @@ impl Nest {
         ensures ok { OnOk result (Grows at self.old self.new (closing delimiter end ∷ [])) }
         ensures refused { IfErr result (λ fault. OnRefused fault (IsUnfit self.old delimiter at)) }
     {
-        let error = LexError::new(Refusal::UnexpectedClosing, self.source, at);
+        let error = LexError::new(Reason::UnexpectedClosing, self.source, at);
         let Some(group) = self.open.pop() else {
             return Err(LexFault::Refused(error));
         };
@@ -168,8 +177,12 @@ impl Nest {
         requires fits { at + 1 < 2 ^ 64 }
         requires reached { Reached self.old.«open».items at }
         ensures meant { OnOk result (refusal rule at (chars piece.now) (chars after.now) ≡ None) }
-        ensures ok { OnOk result (Grows at self.old self.new (items self.old.source rule at (chars piece.now) (chars after.now))) }
-        ensures refused { IfErr result (λ fault. OnRefused fault (HaltsAt self.old rule at (chars piece.now) (chars after.now))) }
+        ensures ok { OnOk result
+            (Grows at self.old self.new
+            (items self.old.source rule at (chars piece.now) (chars after.now))) }
+        ensures refused { IfErr result
+            (λ fault. OnRefused fault
+            (HaltsAt self.old rule at (chars piece.now) (chars after.now))) }
     {
         if let Some(refusal) = refusal(rule, at, piece, after) {
             let error = LexError::new(refusal, self.source, at);
@@ -179,9 +192,9 @@ impl Nest {
             Rule::Opening(delimiter) => return self.open(delimiter, at),
             Rule::Closing(delimiter) => return self.close(delimiter, at, end),
             Rule::Lifetime => self.lifetime(at, end, past_first(piece))?,
-            Rule::MarkedApostrophe => self.punct(at, '\'', is_joint_apostrophe(after))?,
-            Rule::Punct => self.punct(at, first_of(piece), is_joint(after))?,
-            Rule::MarkedPunct => self.punct(at, first_of(piece), is_joint(past_marks(after)))?,
+            Rule::MarkedApostrophe => self.punct(at, '\'', makes_joint_apostrophe(after))?,
+            Rule::Punct => self.punct(at, first_of(piece), makes_joint(after))?,
+            Rule::MarkedPunct => self.punct(at, first_of(piece), makes_joint(past_marks(after)))?,
             Rule::RawIdentifier | Rule::Identifier => self.ident(at, end, piece)?,
             Rule::QuotedString
             | Rule::ByteChar

@@ -1,7 +1,7 @@
 // Integers.
 ghost use Rattle.std.specs.Prelude.{◌≡◌, ℕ, ◌≤◌, List, IfSome};
 ghost use Rattle.std.specs.Str.{chars, IsUtf8};
-ghost use Rattle.tok_core.specs.Lexical.Pieces.{Takes, Tries, Skips};
+ghost use Rattle.tok_core.specs.Lexical.Pieces.{IsLongestPrefix, ReadsLongest, Skips};
 ghost use Rattle.tok_core.specs.Lexical.Numbers.{base_mark, radix, is_digit_or_underscore, is_exponent, starts_digit, is_fraction, starts_number_suffix, IsNumberSuffix, IsNumber, has_digit, IsBased, IsDecimal, is_bare, is_malformed, is_float};
 
 use crate::lexer::rule::Base;
@@ -44,7 +44,9 @@ fn is_digit_or_underscore(c: char, radix: u32) -> bool
 fn past_digits(text: &str, radix: u32) -> (bool, &str)
     requires low { 2 ≤ radix }
     requires high { radix ≤ 16 }
-    ensures { (front : List ℕ) × Skips (is_digit_or_underscore radix) (chars text.now) front (chars result.1.now) × (result.0 ≡ has_digit radix front) }
+    ensures { (front : List ℕ)
+        × Skips (is_digit_or_underscore radix) (chars text.now) front (chars result.1.now)
+        × (result.0 ≡ has_digit radix front) }
 {
     let mut rest = text;
     let mut found = false;
@@ -72,7 +74,8 @@ fn starts_number_suffix(c: char, radix: u32) -> bool
 fn past_number_suffix(text: &str, radix: u32) -> &str
     requires low { 2 ≤ radix }
     requires high { radix ≤ 16 }
-    ensures { (suffix : List ℕ) × Takes (IsNumberSuffix radix) (chars text.now) suffix (chars result.now) }
+    ensures { (suffix : List ℕ)
+        × IsLongestPrefix (IsNumberSuffix radix) (chars text.now) suffix (chars result.now) }
 {
     let Some((first, _)) = next_char(text) else {
         return text;
@@ -90,7 +93,7 @@ fn past_number_suffix(text: &str, radix: u32) -> &str
 fn past_in_base(text: &str, radix: u32) -> Option<&str>
     requires low { 2 ≤ radix }
     requires high { radix ≤ 16 }
-    ensures tries { Tries (IsNumber radix (has_digit radix)) (chars text.now) result }
+    ensures tries { ReadsLongest (IsNumber radix (has_digit radix)) (chars text.now) result }
     ensures utf8 { IfSome result (λ rest. IsUtf8 rest.now) }
 {
     let (found, rest) = past_digits(text, radix);
@@ -103,7 +106,7 @@ fn past_in_base(text: &str, radix: u32) -> Option<&str>
 
 /// Past an integer that names its base.
 pub fn past_based(text: &str, base: Base) -> Option<&str>
-    ensures tries { Tries (IsBased base) (chars text.now) result }
+    ensures tries { ReadsLongest (IsBased base) (chars text.now) result }
     ensures utf8 { IfSome result (λ rest. IsUtf8 rest.now) }
 {
     let Some(digits) = past_pair(text, '0', base.mark()) else {
@@ -123,7 +126,7 @@ fn starts_digit(text: &str) -> bool
 
 /// Past a decimal integer.
 pub fn past_decimal(text: &str) -> Option<&str>
-    ensures tries { Tries IsDecimal (chars text.now) result }
+    ensures tries { ReadsLongest IsDecimal (chars text.now) result }
     ensures utf8 { IfSome result (λ rest. IsUtf8 rest.now) }
 {
     if !starts_digit(text) {

@@ -1,7 +1,7 @@
 // The starts of raw, byte and C strings.
 ghost use Rattle.std.specs.Prelude.{◌==◌, ℕ, List, IfSome};
 ghost use Rattle.std.specs.Str.{chars, IsUtf8};
-ghost use Rattle.tok_core.specs.Lexical.Pieces.{Behind, Tries, Finds, Skips};
+ghost use Rattle.tok_core.specs.Lexical.Pieces.{After, ReadsLongest, ReadsPrefix, Skips};
 ghost use Rattle.tok_core.specs.Lexical.Strings.{IsHashes, IsPrefixed, IsStringPrefix};
 
 use crate::lexer::text::{next_char, past_char};
@@ -19,7 +19,7 @@ fn past_number_signs(text: &str) -> &str
 
 /// Past any number of `#` and a quote.
 fn past_hashes(text: &str) -> Option<&str>
-    ensures finds { Finds IsHashes (chars text.now) result }
+    ensures finds { ReadsPrefix IsHashes (chars text.now) result }
     ensures utf8 { IfSome result (λ rest. IsUtf8 rest.now) }
 {
     past_char(past_number_signs(text), '"')
@@ -27,7 +27,7 @@ fn past_hashes(text: &str) -> Option<&str>
 
 /// Past `r`, any number of `#` and a quote.
 fn past_raw(text: &str) -> Option<&str>
-    ensures finds { Finds (Behind 114 IsHashes) (chars text.now) result }
+    ensures finds { ReadsPrefix (After 114 IsHashes) (chars text.now) result }
     ensures utf8 { IfSome result (λ rest. IsUtf8 rest.now) }
 {
     let Some(rest) = past_char(text, 'r') else {
@@ -38,7 +38,7 @@ fn past_raw(text: &str) -> Option<&str>
 
 /// Past a quote, with or without `r` and any number of `#` before it.
 fn past_prefixed(text: &str) -> Option<&str>
-    ensures finds { Finds IsPrefixed (chars text.now) result }
+    ensures finds { ReadsPrefix IsPrefixed (chars text.now) result }
     ensures utf8 { IfSome result (λ rest. IsUtf8 rest.now) }
 {
     match past_char(text, '"') {
@@ -49,7 +49,7 @@ fn past_prefixed(text: &str) -> Option<&str>
 
 /// Past the start of a raw, byte or C string.
 pub fn past_string_prefix(text: &str) -> Option<&str>
-    ensures tries { Tries IsStringPrefix (chars text.now) result }
+    ensures tries { ReadsLongest IsStringPrefix (chars text.now) result }
     ensures utf8 { IfSome result (λ rest. IsUtf8 rest.now) }
 {
     let (first, rest) = next_char(text)?;

@@ -1,16 +1,17 @@
 // The rules of the grammar, in their order, and what each takes.
-ghost use Rattle.std.specs.Prelude.{◌≡◌, IfSome};
+ghost use Rattle.std.specs.Prelude.{◌≡◌, ◌++◌, false, IfSome};
 ghost use Rattle.std.specs.Str.{chars, IsUtf8};
-ghost use Rattle.tok_core.specs.Lexical.Built.{TriesRules};
+ghost use Rattle.tok_core.specs.Lexical.Built.{ReadsByRules};
 ghost use Rattle.tok_core.specs.Lexical.Meaning.{is_group_mark, width};
-ghost use Rattle.tok_core.specs.Lexical.Pieces.{Tries};
-ghost use Rattle.tok_core.specs.Lexical.Rules.{Spells, plain_rules, marked_rules};
-ghost use Rattle.tok_core.specs.Lexical.Starts.{only, rules_of, punct_rule};
+ghost use Rattle.tok_core.specs.Lexical.Pieces.{ReadsLongest};
+ghost use Rattle.tok_core.specs.Lexical.Rules.{Spells};
+ghost use Rattle.tok_core.specs.Lexical.Starts.{tells, only, rules_of, last_rules, punct_rule};
 
 use crate::group::Delimiter;
 use crate::lexer::char_literals::{past_byte_char, past_escaped_char, past_plain_char};
 use crate::lexer::classes::{closing_mark, is_invisible, is_punct, is_whitespace, opening_mark};
 use crate::lexer::comments::{past_block_comment, past_line_comment};
+use crate::lexer::joint::begins_comment;
 use crate::lexer::numbers::{past_based, past_decimal};
 use crate::lexer::prefixes::past_string_prefix;
 use crate::lexer::start::Start;
@@ -65,241 +66,59 @@ pub enum Rules {
     Marked,
 }
 
-// The rules that may begin so, in their order.
-fn plain_at(start: Start) -> &'static [Rule]
-    ensures { result.now ≡ only start plain_rules }
-{
-    match start {
-        Start::Rest => &[
-            Rule::ByteOrderMark,
-            Rule::Whitespace,
-            Rule::Decimal,
-            Rule::Identifier,
-            Rule::Punct,
-            Rule::Other,
-        ],
-        Start::Whitespace => &[
-            Rule::Whitespace,
-            Rule::Decimal,
-            Rule::Identifier,
-            Rule::Punct,
-            Rule::Other,
-        ],
-        Start::Zero => &[
-            Rule::Based(Base::Hexadecimal),
-            Rule::Based(Base::Octal),
-            Rule::Based(Base::Binary),
-            Rule::BadBased(Base::Hexadecimal),
-            Rule::BadBased(Base::Octal),
-            Rule::BadBased(Base::Binary),
-            Rule::Decimal,
-            Rule::Identifier,
-            Rule::Punct,
-            Rule::Other,
-        ],
-        Start::Digit => &[Rule::Decimal, Rule::Identifier, Rule::Punct, Rule::Other],
-        Start::Prefix => &[
-            Rule::ByteChar,
-            Rule::BadByteChar,
-            Rule::StringPrefix,
-            Rule::RawIdentifier,
-            Rule::Identifier,
-            Rule::Punct,
-            Rule::Other,
-        ],
-        Start::Letter => &[Rule::Identifier, Rule::Punct, Rule::Other],
-        Start::Slash => &[
-            Rule::LineComment,
-            Rule::BlockComment,
-            Rule::OpenComment,
-            Rule::Identifier,
-            Rule::Punct,
-            Rule::Other,
-        ],
-        Start::Quote => &[
-            Rule::QuotedString,
-            Rule::BadString,
-            Rule::Identifier,
-            Rule::Punct,
-            Rule::Other,
-        ],
-        Start::Apostrophe => &[
-            Rule::EscapedChar,
-            Rule::BadEscapedChar,
-            Rule::PlainChar,
-            Rule::Lifetime,
-            Rule::Apostrophe,
-            Rule::Identifier,
-            Rule::Punct,
-            Rule::Other,
-        ],
-        Start::Punct => &[Rule::Punct, Rule::Other],
-        Start::Opening(Delimiter::Parenthesis) => &[
-            Rule::Opening(Delimiter::Parenthesis),
-            Rule::Identifier,
-            Rule::Punct,
-            Rule::Other,
-        ],
-        Start::Opening(Delimiter::Brace) => &[
-            Rule::Opening(Delimiter::Brace),
-            Rule::Identifier,
-            Rule::Punct,
-            Rule::Other,
-        ],
-        Start::Opening(Delimiter::Bracket) => &[
-            Rule::Opening(Delimiter::Bracket),
-            Rule::Identifier,
-            Rule::Punct,
-            Rule::Other,
-        ],
-        Start::Opening(Delimiter::None) => &[Rule::Identifier, Rule::Punct, Rule::Other],
-        Start::Closing(Delimiter::Parenthesis) => &[
-            Rule::Closing(Delimiter::Parenthesis),
-            Rule::Identifier,
-            Rule::Punct,
-            Rule::Other,
-        ],
-        Start::Closing(Delimiter::Brace) => &[
-            Rule::Closing(Delimiter::Brace),
-            Rule::Identifier,
-            Rule::Punct,
-            Rule::Other,
-        ],
-        Start::Closing(Delimiter::Bracket) => &[
-            Rule::Closing(Delimiter::Bracket),
-            Rule::Identifier,
-            Rule::Punct,
-            Rule::Other,
-        ],
-        Start::Closing(Delimiter::None) => &[Rule::Identifier, Rule::Punct, Rule::Other],
-    }
-}
-
-// The same of marked text.
-fn marked_at(start: Start) -> &'static [Rule]
-    ensures { result.now ≡ only start marked_rules }
-{
-    match start {
-        Start::Rest => &[
-            Rule::ByteOrderMark,
-            Rule::Whitespace,
-            Rule::Opening(Delimiter::None),
-            Rule::Closing(Delimiter::None),
-            Rule::Decimal,
-            Rule::Identifier,
-            Rule::MarkedPunct,
-            Rule::Other,
-        ],
-        Start::Whitespace => &[
-            Rule::Whitespace,
-            Rule::Decimal,
-            Rule::Identifier,
-            Rule::MarkedPunct,
-            Rule::Other,
-        ],
-        Start::Zero => &[
-            Rule::Based(Base::Hexadecimal),
-            Rule::Based(Base::Octal),
-            Rule::Based(Base::Binary),
-            Rule::BadBased(Base::Hexadecimal),
-            Rule::BadBased(Base::Octal),
-            Rule::BadBased(Base::Binary),
-            Rule::Decimal,
-            Rule::Identifier,
-            Rule::MarkedPunct,
-            Rule::Other,
-        ],
-        Start::Digit => &[
-            Rule::Decimal,
-            Rule::Identifier,
-            Rule::MarkedPunct,
-            Rule::Other,
-        ],
-        Start::Prefix => &[
-            Rule::ByteChar,
-            Rule::BadByteChar,
-            Rule::StringPrefix,
-            Rule::RawIdentifier,
-            Rule::Identifier,
-            Rule::MarkedPunct,
-            Rule::Other,
-        ],
-        Start::Letter => &[Rule::Identifier, Rule::MarkedPunct, Rule::Other],
-        Start::Slash => &[
-            Rule::LineComment,
-            Rule::BlockComment,
-            Rule::OpenComment,
-            Rule::Identifier,
-            Rule::MarkedPunct,
-            Rule::Other,
-        ],
-        Start::Quote => &[
-            Rule::QuotedString,
-            Rule::BadString,
-            Rule::Identifier,
-            Rule::MarkedPunct,
-            Rule::Other,
-        ],
-        Start::Apostrophe => &[
-            Rule::EscapedChar,
-            Rule::BadEscapedChar,
-            Rule::PlainChar,
-            Rule::Lifetime,
-            Rule::MarkedApostrophe,
-            Rule::Identifier,
-            Rule::MarkedPunct,
-            Rule::Other,
-        ],
-        Start::Punct => &[Rule::MarkedPunct, Rule::Other],
-        Start::Opening(Delimiter::Parenthesis) => &[
-            Rule::Opening(Delimiter::Parenthesis),
-            Rule::Identifier,
-            Rule::MarkedPunct,
-            Rule::Other,
-        ],
-        Start::Opening(Delimiter::Brace) => &[
-            Rule::Opening(Delimiter::Brace),
-            Rule::Identifier,
-            Rule::MarkedPunct,
-            Rule::Other,
-        ],
-        Start::Opening(Delimiter::Bracket) => &[
-            Rule::Opening(Delimiter::Bracket),
-            Rule::Identifier,
-            Rule::MarkedPunct,
-            Rule::Other,
-        ],
-        Start::Opening(Delimiter::None) => &[Rule::Identifier, Rule::MarkedPunct, Rule::Other],
-        Start::Closing(Delimiter::Parenthesis) => &[
-            Rule::Closing(Delimiter::Parenthesis),
-            Rule::Identifier,
-            Rule::MarkedPunct,
-            Rule::Other,
-        ],
-        Start::Closing(Delimiter::Brace) => &[
-            Rule::Closing(Delimiter::Brace),
-            Rule::Identifier,
-            Rule::MarkedPunct,
-            Rule::Other,
-        ],
-        Start::Closing(Delimiter::Bracket) => &[
-            Rule::Closing(Delimiter::Bracket),
-            Rule::Identifier,
-            Rule::MarkedPunct,
-            Rule::Other,
-        ],
-        Start::Closing(Delimiter::None) => &[Rule::Identifier, Rule::MarkedPunct, Rule::Other],
-    }
-}
-
 impl Rules {
-    // Those that may begin so.
+    // Those that may begin so, in their order, without the last three.
     fn at(self, start: Start) -> &'static [Rule]
-        ensures { result.now ≡ only start (rules_of self) }
+        ensures { tells start ≡ false → result.now ++ last_rules self ≡ only start (rules_of self) }
     {
-        match self {
-            Rules::Plain => plain_at(start),
-            Rules::Marked => marked_at(start),
+        match start {
+            Start::Rest => match self {
+                Rules::Plain => &[Rule::ByteOrderMark, Rule::Whitespace, Rule::Decimal],
+                Rules::Marked => &[
+                    Rule::ByteOrderMark,
+                    Rule::Whitespace,
+                    Rule::Opening(Delimiter::None),
+                    Rule::Closing(Delimiter::None),
+                    Rule::Decimal,
+                ],
+            },
+            Start::Whitespace => &[Rule::Whitespace, Rule::Decimal],
+            Start::Zero => &[
+                Rule::Based(Base::Hexadecimal),
+                Rule::Based(Base::Octal),
+                Rule::Based(Base::Binary),
+                Rule::BadBased(Base::Hexadecimal),
+                Rule::BadBased(Base::Octal),
+                Rule::BadBased(Base::Binary),
+                Rule::Decimal,
+            ],
+            Start::Digit => &[Rule::Decimal],
+            Start::Prefix => &[
+                Rule::ByteChar,
+                Rule::BadByteChar,
+                Rule::StringPrefix,
+                Rule::RawIdentifier,
+            ],
+            Start::Slash => &[Rule::LineComment, Rule::BlockComment, Rule::OpenComment],
+            Start::Quote => &[Rule::QuotedString, Rule::BadString],
+            Start::Apostrophe => match self {
+                Rules::Plain => &[
+                    Rule::EscapedChar,
+                    Rule::BadEscapedChar,
+                    Rule::PlainChar,
+                    Rule::Lifetime,
+                    Rule::Apostrophe,
+                ],
+                Rules::Marked => &[
+                    Rule::EscapedChar,
+                    Rule::BadEscapedChar,
+                    Rule::PlainChar,
+                    Rule::Lifetime,
+                    Rule::MarkedApostrophe,
+                ],
+            },
+            // Told by the first character.
+            _ => &[],
         }
     }
 
@@ -316,7 +135,7 @@ impl Rules {
 impl Rule {
     /// What follows the piece that this rule takes from the front of the text.
     fn past(self, text: &str) -> Option<&str>
-        ensures tries { Tries (Spells self) (chars text.now) result }
+        ensures tries { ReadsLongest (Spells self) (chars text.now) result }
         ensures utf8 { IfSome result (λ rest. IsUtf8 rest.now) }
     {
         let (first, rest) = next_char(text)?;
@@ -371,16 +190,18 @@ impl Rule {
 
 /// The first of the rules that fits at the front of the text, and what follows its piece.
 pub fn first_rule(rules: Rules, text: &str) -> Option<(Rule, &str)>
-    ensures tries { TriesRules (rules_of rules) (chars text.now) result }
+    ensures tries { ReadsByRules (rules_of rules) (chars text.now) result }
     ensures utf8 { IfSome result (λ found. IsUtf8 found.1.now) }
 {
     let (first, rest) = next_char(text)?;
     // Most pieces are told by their first character alone.
     let start = Start::of(first);
     match start {
-        Start::Whitespace => return Some((Rule::Whitespace, rest)),
         Start::Letter => return Some((Rule::Identifier, past_continues(rest))),
         Start::Punct => return Some((rules.punct(), rest)),
+        Start::Opening(delimiter) => return Some((Rule::Opening(delimiter), rest)),
+        Start::Closing(delimiter) => return Some((Rule::Closing(delimiter), rest)),
+        Start::Slash if !begins_comment(text) => return Some((rules.punct(), rest)),
         _ => {}
     }
     let those = rules.at(start);
@@ -389,5 +210,12 @@ pub fn first_rule(rules: Rules, text: &str) -> Option<(Rule, &str)>
             return Some((*rule, rest));
         }
     }
-    None
+    // The last three rules, of which one fits.
+    if let Some(rest) = past_identifier(text) {
+        Some((Rule::Identifier, rest))
+    } else if is_punct(first) {
+        Some((rules.punct(), rest))
+    } else {
+        Some((Rule::Other, rest))
+    }
 }

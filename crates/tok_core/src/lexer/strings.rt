@@ -1,7 +1,7 @@
 // Strings.
 ghost use Rattle.std.specs.Prelude.{IfSome, length, ◌<◌};
 ghost use Rattle.std.specs.Str.{chars, IsUtf8};
-ghost use Rattle.tok_core.specs.Lexical.Pieces.{Tries};
+ghost use Rattle.tok_core.specs.Lexical.Pieces.{ReadsLongest};
 ghost use Rattle.tok_core.specs.Lexical.Strings.{IsString};
 ghost use Rattle.tok_core.specs.Lexical.Built.{FindsUnits};
 
@@ -28,7 +28,7 @@ fn past_units(text: &str) -> Option<&str>
 
 /// Past a string and its suffix.
 pub fn past_string(text: &str) -> Option<&str>
-    ensures tries { Tries IsString (chars text.now) result }
+    ensures tries { ReadsLongest IsString (chars text.now) result }
     ensures utf8 { IfSome result (λ rest. IsUtf8 rest.now) }
 {
     let start = past_char(text, '"')?;

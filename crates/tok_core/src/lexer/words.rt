@@ -2,7 +2,7 @@
 ghost use Rattle.std.specs.Prelude.{◌≡◌, ℕ, List, IfSome, MatchBool};
 ghost use Rattle.std.specs.Str.{chars, IsUtf8};
 ghost use Rattle.unicode_ident.specs.Ident.{is_xid_continue};
-ghost use Rattle.tok_core.specs.Lexical.Pieces.{Behind, Takes, Tries, Skips};
+ghost use Rattle.tok_core.specs.Lexical.Pieces.{After, IsLongestPrefix, ReadsLongest, Skips};
 ghost use Rattle.tok_core.specs.Lexical.Words.{IsIdentifier, IsRawIdentifier, IsName, IsSuffix, is_identifier_start, has_no_raw, is_missing};
 
 use crate::lexer::text::{next_char, past_char, past_pair};
@@ -48,7 +48,7 @@ pub fn past_continues(text: &str) -> &str
 
 /// Past a plain identifier.
 pub fn past_identifier(text: &str) -> Option<&str>
-    ensures tries { Tries IsIdentifier (chars text.now) result }
+    ensures tries { ReadsLongest IsIdentifier (chars text.now) result }
     ensures utf8 { IfSome result (λ rest. IsUtf8 rest.now) }
 {
     let (first, rest) = next_char(text)?;
@@ -61,7 +61,8 @@ pub fn past_identifier(text: &str) -> Option<&str>
 
 /// Past a suffix, if one follows directly.
 pub fn past_suffix(text: &str) -> &str
-    ensures { (suffix : List ℕ) × Takes IsSuffix (chars text.now) suffix (chars result.now) }
+    ensures { (suffix : List ℕ)
+        × IsLongestPrefix IsSuffix (chars text.now) suffix (chars result.now) }
 {
     match past_identifier(text) {
         Some(rest) => rest,
@@ -71,7 +72,7 @@ pub fn past_suffix(text: &str) -> &str
 
 /// Past a raw identifier.
 pub fn past_raw_identifier(text: &str) -> Option<&str>
-    ensures tries { Tries IsRawIdentifier (chars text.now) result }
+    ensures tries { ReadsLongest IsRawIdentifier (chars text.now) result }
     ensures utf8 { IfSome result (λ rest. IsUtf8 rest.now) }
 {
     let Some(name) = past_pair(text, 'r', '#') else {
@@ -82,7 +83,7 @@ pub fn past_raw_identifier(text: &str) -> Option<&str>
 
 /// Past an identifier, plain or raw.
 pub fn past_name(text: &str) -> Option<&str>
-    ensures tries { Tries IsName (chars text.now) result }
+    ensures tries { ReadsLongest IsName (chars text.now) result }
     ensures utf8 { IfSome result (λ rest. IsUtf8 rest.now) }
 {
     match past_raw_identifier(text) {
@@ -93,7 +94,7 @@ pub fn past_name(text: &str) -> Option<&str>
 
 /// Past a lifetime.
 pub fn past_lifetime(text: &str) -> Option<&str>
-    ensures tries { Tries (Behind 39 IsName) (chars text.now) result }
+    ensures tries { ReadsLongest (After 39 IsName) (chars text.now) result }
     ensures utf8 { IfSome result (λ rest. IsUtf8 rest.now) }
 {
     let Some(name) = past_char(text, '\'') else {

@@ -1,7 +1,7 @@
-use Rattle.std.proofs.Common.{◌≡◌, ◌+◌, ◌-◌, length, refl, ap, subst, arith}
+use Rattle.std.proofs.Common.{◌+◌, refl, ap, arith}
 use Rattle.tok_core.proofs.Lexical.Steps.{decided}
-use Rattle.tok_core.proofs.Lexical.Cuts.{so_far_start, shorter, so_far_more, so_far_space, so_far_spaces, SoFar, all_tried, reads_all, refused_unclosed, none_left, fault_here, decided_piece, ends_in_other}
-use Rattle.tok_core.specs.Lexical.Starts.{rules_of}
+use Rattle.tok_core.proofs.Lexical.Blanks.{shorter}
+use Rattle.tok_core.proofs.Lexical.Cuts.{so_far_start, so_far_more, so_far_blank, all_tried, reads_all, refused_unclosed, none_left, fault_here, decided_piece, ends_in_other}
 use Rattle.tok_core.proofs.lexer.read.Goals as goal
 
 pub loop-rule-init : goal.loop-rule-init
@@ -17,35 +17,18 @@ pub returns-in-Err-clause-refuses : goal.returns-in-Err-clause-refuses
 returns-in-Err-clause-refuses c = fault_here _ _ _ c.loop-rule.rest.now _ c.loop-rule.nest c.loop-rule.invariant.1 _ _ c.in-Some.rule _ (decided_piece _ c.in-Some.rule _ _ _ _ (c.front_of-piece.ensures.is _ (decided c.in-Some.ensures.tries.1).cut) c.in-Some.ensures.tries.1) c.in-Err.ensures.refused
 
 pub loop-rule-smaller : goal.loop-rule-smaller
-loop-rule-smaller c = shorter _ c.in-Some.rule _ _ _ c.loop-rule.invariant.0 c.in-Some.ensures.utf8 c.in-Some.ensures.tries.1
+loop-rule-smaller c =
+    let l = shorter _ c.in-Some.rule _ _ _ c.loop-rule.invariant.0 c.in-Some.ensures.utf8 c.in-Some.ensures.tries.1 in
+    let m = c.past_blanks-rest.ensures.shorter in
+    omega arith
 
 pub loop-rule-preserved : goal.loop-rule-preserved
-loop-rule-preserved c = (c.in-Some.ensures.utf8, so_far_more _ _ _ c.loop-rule.rest.now c.loop-rule.at c.loop-rule.nest c.loop-rule.invariant.1 c.in-Some.after.now _ _ c.take_in.new.self c.in-Some.rule c.loop-rule.invariant.0 c.in-Some.ensures.utf8 (decided_piece _ c.in-Some.rule _ _ _ _ (c.front_of-piece.ensures.is _ (decided c.in-Some.ensures.tries.1).cut) c.in-Some.ensures.tries.1) (ap (λ w. c.loop-rule.at + w) c.width.ensures) c.in-Ok.ensures.meant c.in-Ok.ensures.ok)
+loop-rule-preserved c =
+    let here = so_far_more _ _ _ c.loop-rule.rest.now c.loop-rule.at c.loop-rule.nest c.loop-rule.invariant.1 c.in-Some.after.now _ _ c.take_in.new.self c.in-Some.rule c.loop-rule.invariant.0 c.in-Some.ensures.utf8 (decided_piece _ c.in-Some.rule _ _ _ _ (c.front_of-piece.ensures.is _ (decided c.in-Some.ensures.tries.1).cut) c.in-Some.ensures.tries.1) (ap (λ w. c.loop-rule.at + w) c.width.ensures) c.in-Ok.ensures.meant c.in-Ok.ensures.ok in
+    (c.past_blanks-rest.utf8, so_far_blank _ _ _ c.in-Some.after.now _ c.take_in.new.self here c.args.rules refl c.past_blanks-rest.result.now _ refl c.past_blanks-rest.ensures.shorter c.past_blanks-rest.ensures.blank)
 
 pub returns-in-Some-pop-clause-refuses : goal.returns-in-Some-pop-clause-refuses
 returns-in-Some-pop-clause-refuses c = refused_unclosed _ _ _ c.loop-rule.rest.now _ c.loop-rule.nest c.loop-rule.invariant.1 c.pop.new.self.items c.in-Some-pop.group c.new-error.result (all_tried _ _ (ends_in_other c.args.rules) c.in_default.ensures.tries) c.in-Some-pop.ensures.items c.new-error.ensures
 
 pub returns-clause-reads : goal.returns-clause-reads
 returns-clause-reads c = reads_all _ _ _ c.loop-rule.rest.now _ c.loop-rule.nest c.loop-rule.invariant.1 (all_tried _ _ (ends_in_other c.args.rules) c.in_default.ensures.tries) (none_left _ _ c.in-None.ensures.cases.0 c.loop-rule.nest.«open».ok.0)
-
-pub overflow_sub-at : goal.overflow_sub-at
-overflow_sub-at c =
-    let l = shorter _ c.in-Some.rule _ _ _ c.loop-rule.invariant.0 c.in-Some.ensures.utf8 c.in-Some.ensures.tries.1 in
-    let m = c.past_whitespace-next.ensures.shorter in
-    omega arith
-
-pub loop-rule-smaller-in-Whitespace : goal.loop-rule-smaller-in-Whitespace
-loop-rule-smaller-in-Whitespace c =
-    let l = shorter _ c.in-Some.rule _ _ _ c.loop-rule.invariant.0 c.in-Some.ensures.utf8 c.in-Some.ensures.tries.1 in
-    let m = c.past_whitespace-next.ensures.shorter in
-    omega arith
-
-pub loop-rule-preserved-in-Whitespace : goal.loop-rule-preserved-in-Whitespace
-loop-rule-preserved-in-Whitespace c =
-    let one = so_far_space _ _ _ c.loop-rule.rest.now c.loop-rule.at c.loop-rule.nest c.loop-rule.invariant.1 c.in-Some.after.now _ c.in-Some.rule c.in-Whitespace.is c.loop-rule.invariant.0 c.in-Some.ensures.utf8 c.in-Some.ensures.tries.1 in
-    let l = shorter _ c.in-Some.rule _ _ _ c.loop-rule.invariant.0 c.in-Some.ensures.utf8 c.in-Some.ensures.tries.1 in
-    let m = c.past_whitespace-next.ensures.shorter in
-    let run = c.past_whitespace-next.ensures.skips in
-    let at = c.loop-rule.at + (length c.loop-rule.rest.now - length c.in-Some.after.now) in
-    let end : at + (length c.in-Some.after.now - length c.past_whitespace-next.result.now) ≡ c.loop-rule.at + (length c.loop-rule.rest.now - length c.past_whitespace-next.result.now) = omega arith in
-    (c.past_whitespace-next.utf8, subst (λ w. SoFar (rules_of c.args.rules) c.args.source c.args.text.now c.past_whitespace-next.result.now w c.loop-rule.nest) end (so_far_spaces _ _ _ c.in-Some.after.now at c.loop-rule.nest one c.args.rules refl _ run.0 c.in-Some.ensures.utf8 c.past_whitespace-next.utf8 run.1))

@@ -1,11 +1,24 @@
-use Rattle.std.proofs.Common.{◌∙◌, sym, arith}
+use Rattle.std.proofs.Common.{◌∙◌, ◌∷◌, ℕ, List, sym, ap, subst}
+use Rattle.std.specs.Str.{chars}
 use Rattle.tok_core.specs.Lexical.Characters.{is_whitespace}
-use Rattle.tok_core.proofs.Lexical.Takes.{skips_more}
+use Rattle.tok_core.specs.Lexical.Pieces.{Skips}
+use Rattle.tok_core.proofs.Lexical.Longest.{skips_space, skips_nothing}
 use Rattle.tok_core.proofs.lexer.classes.past_whitespace.Goals as goal
+use Rattle.tok_core.proofs.lexer.classes.past_whitespace.Goals.{in-Some, in-None}
 
-pub loop-c-preserved : goal.loop-c-preserved
-loop-c-preserved c =
-    let i = c.loop-c.invariant.2 in
-    let b = c.loop-c.invariant.1 in
-    let s = c.in-Some.ensures.shorter in
-    (c.in-Some.ensures.utf8, omega arith, skips_more is_whitespace _ _ _ i.0 c.in-Some.c i.1 i.2 c.in-Some.ensures.chars (sym c.is_whitespace.ensures ∙ c.if-not-is_whitespace.false))
+pub returns-then-begins_visibly-clause-skips : goal.returns-then-begins_visibly-clause-skips
+returns-then-begins_visibly-clause-skips c =
+    let rest = c.match-past_char.rest in
+    let none = skips_nothing (chars rest.now) (sym c.if-begins_visibly.ensures) in
+    elim c.match-past_char.branch [
+      | in-Some w ↦ skips_space _ _ _ (w.in-Some.ensures.chars ∙ ap (λ r. 32 ∷ chars r.now) (sym w.rest-is)) none
+      | in-None w ↦ subst (λ r. (front : List ℕ) × Skips is_whitespace (chars r.now) front (chars rest.now)) w.rest-is none
+    ]
+
+pub returns-else-begins_visibly-clause-skips : goal.returns-else-begins_visibly-clause-skips
+returns-else-begins_visibly-clause-skips c =
+    let run = c.past_any_whitespace.ensures.skips in
+    elim c.match-past_char.branch [
+      | in-Some w ↦ skips_space _ _ _ (w.in-Some.ensures.chars ∙ ap (λ r. 32 ∷ chars r.now) (sym w.rest-is)) run
+      | in-None w ↦ subst (λ r. (front : List ℕ) × Skips is_whitespace (chars r.now) front (chars c.past_any_whitespace.result.now)) w.rest-is run
+    ]

@@ -1,4 +1,4 @@
-use Rattle.tok_core.proofs.Lexical.Takes.{takes_line}
+use Rattle.tok_core.proofs.Lexical.Longest.{takes_line}
 use Rattle.tok_core.proofs.lexer.comments.past_line_comment.Goals as goal
 
 pub returns-clause-tries : goal.returns-clause-tries

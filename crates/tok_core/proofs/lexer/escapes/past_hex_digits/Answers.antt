@@ -1,6 +1,6 @@
 use Rattle.std.proofs.Common.{◌∙◌, sym, arith}
 use Rattle.tok_core.specs.Lexical.Strings.{is_hex_or_underscore}
-use Rattle.tok_core.proofs.Lexical.Takes.{skips_more}
+use Rattle.tok_core.proofs.Lexical.Longest.{skips_more}
 use Rattle.tok_core.proofs.lexer.escapes.past_hex_digits.Goals as goal
 
 pub loop-c-preserved : goal.loop-c-preserved

@@ -1,6 +1,6 @@
 use Rattle.tok_core.specs.Lexical.Strings.{IsHashes}
-use Rattle.tok_core.proofs.Lexical.Takes.{finds_behind}
+use Rattle.tok_core.proofs.Lexical.Longest.{finds_after}
 use Rattle.tok_core.proofs.lexer.prefixes.past_raw.Goals as goal
 
 pub returns-clause-finds : goal.returns-clause-finds
-returns-clause-finds c = finds_behind 114 IsHashes _ _ _ c.in-Some.ensures.chars c.past_hashes.ensures.finds
+returns-clause-finds c = finds_after 114 IsHashes _ _ _ c.in-Some.ensures.chars c.past_hashes.ensures.finds

@@ -1,5 +1,5 @@
 use Rattle.tok_core.specs.Lexical.Strings.{IsStringPrefix}
-use Rattle.tok_core.proofs.Lexical.Takes.{tries_found}
+use Rattle.tok_core.proofs.Lexical.Longest.{tries_found}
 use Rattle.tok_core.proofs.Lexical.Prefixes.{free_raw_start, raw_start_byte, raw_start_c, raw_start_other}
 use Rattle.tok_core.proofs.lexer.prefixes.past_string_prefix.Goals as goal
 

@@ -1,4 +1,4 @@
-use Rattle.tok_core.proofs.Lexical.Takes.{chars_next, shorter_next}
+use Rattle.tok_core.proofs.Lexical.Longest.{chars_next, shorter_next}
 use Rattle.tok_core.proofs.lexer.text.next_char.Goals as goal
 
 pub returns-clause-chars : goal.returns-clause-chars

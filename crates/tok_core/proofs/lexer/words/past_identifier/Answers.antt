@@ -1,5 +1,5 @@
 use Rattle.std.proofs.Common.{◌∙◌, sym}
-use Rattle.tok_core.proofs.Lexical.Takes.{takes_identifier}
+use Rattle.tok_core.proofs.Lexical.Longest.{takes_identifier}
 use Rattle.tok_core.proofs.lexer.words.past_identifier.Goals as goal
 
 pub returns-then-is_identifier_start-clause-tries : goal.returns-then-is_identifier_start-clause-tries

@@ -2,7 +2,7 @@ use Rattle.std.proofs.Common.{◌∙◌, ap, arith}
 use Rattle.std.proofs.lemmas.Str.{IsUtf8-past_char}
 use Rattle.tok_core.specs.Forest.{literal}
 use Rattle.std.specs.Str.{chars}
-use Rattle.tok_core.specs.Lexical.Quoting.{quoted}
+use Rattle.tok_core.specs.Lexical.Quoting.{in_quotes}
 use Rattle.tok_core.proofs.Lexical.Quoting.{quoted_more, quoted_end}
 use Rattle.tok_core.proofs.literal.Literal.string.Goals as goal
 
@@ -15,4 +15,4 @@ loop-c-preserved c =
 pub returns : goal.returns
 returns c =
     let text = quoted_end _ _ _ _ _ c.in-None.ensures.steps.0.0 c.loop-c.invariant.1 (c.in_ok-push-2.ensures.ascii (omega arith)) c.in_ok-push-2.ensures.bytes in
-    c.unchecked.ensures ∙ ap (λ w. literal w c.call_site.result) (c.in_ok-text.ensures ∙ text) ∙ ap (literal (quoted (chars c.args.text.now))) c.call_site.ensures
+    c.unchecked.ensures ∙ ap (λ w. literal w c.call_site.result) (c.in_ok-text.ensures ∙ text) ∙ ap (literal (in_quotes (chars c.args.text.now))) c.call_site.ensures

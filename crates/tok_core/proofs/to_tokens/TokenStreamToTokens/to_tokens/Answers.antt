@@ -1,12 +1,12 @@
 use Rattle.std.proofs.Common.{◌≡◌, ◌∙◌, sym, ap, subst, rules}
-use Rattle.tok_core.specs.Forest.{AppendsFront, Forest, joined, no_trees, tree}
+use Rattle.tok_core.specs.Forest.{AppendsFront, Forest, concat, no_trees, tree}
 use Rattle.tok_core.specs.Seen.{tree_of}
-use Rattle.tok_core.proofs.Facts.{joined-none}
+use Rattle.tok_core.proofs.Facts.{concat-none}
 use Rattle.tok_core.proofs.Fronts.{some_appended, trees_of-take}
 use Rattle.tok_core.proofs.to_tokens.TokenStreamToTokens.to_tokens.Goals as goal
 
 pub loop-next-init : goal.loop-next-init
-loop-next-init c = sym (joined-none c.args.tokens.now)
+loop-next-init c = sym (concat-none c.args.tokens.now)
 
 pub returns-in_err-clone-clause-err : goal.returns-in_err-clone-clause-err
 returns-in_err-clone-clause-err c =
@@ -23,8 +23,8 @@ returns-in_err-append-clause-err c =
 
 pub loop-next-preserved : goal.loop-next-preserved
 loop-next-preserved c =
-    let added : c.append.new.self ≡ joined c.loop-next.tokens (tree (tree_of c.in_ok-clone.field-0) no_trees) = c.in_ok-append.ensures.ok in
+    let added : c.append.new.self ≡ concat c.loop-next.tokens (tree (tree_of c.in_ok-clone.field-0) no_trees) = c.in_ok-append.ensures.ok in
     added
-    ∙ ap (λ t. joined c.loop-next.tokens (tree (tree_of t) no_trees)) c.in_ok-clone.ensures
-    ∙ ap (λ f. joined f (tree (tree_of c.next-item.result) no_trees)) c.loop-next.invariant
+    ∙ ap (λ t. concat c.loop-next.tokens (tree (tree_of t) no_trees)) c.in_ok-clone.ensures
+    ∙ ap (λ f. concat f (tree (tree_of c.next-item.result) no_trees)) c.loop-next.invariant
     ∙ trees_of-take c.args.tokens.now c.trees-next-items.result.now c.loop-next.next-index c.next-item.result c.loop-next-test.true c.next-item.is

@@ -1,0 +1,58 @@
+// White space and comments between the pieces that mean something.
+ghost use Rattle.std.specs.Prelude.{◌<◌, ◌≤◌, ◌-◌, length, IfSome};
+ghost use Rattle.std.specs.Str.{chars, IsUtf8};
+ghost use Rattle.tok_core.specs.Lexical.Built.{IsBlank};
+
+use crate::lexer::classes::past_whitespace;
+use crate::lexer::comments::{opens_block_doc, opens_line_doc, past_block, past_line};
+use crate::lexer::text::past_char;
+
+/// What follows the white space and the comments at the front. A doc comment stays, and a comment that isn't closed.
+pub fn past_blanks(text: &str) -> &str
+    ensures blank { IsBlank (chars text.now) (chars result.now)
+        (length text.now - length result.now) }
+    ensures shorter { length result.now ≤ length text.now }
+{
+    let rest = past_whitespace(text);
+    match rest.as_bytes().first() {
+        Some(b'/') => past_comments(rest),
+        _ => rest,
+    }
+}
+
+/// What follows the comments at the front, with the white space after each.
+fn past_comments(text: &str) -> &str
+    ensures blank { IsBlank (chars text.now) (chars result.now)
+        (length text.now - length result.now) }
+    ensures shorter { length result.now ≤ length text.now }
+{
+    let mut rest = text;
+    while let Some(next) = past_comment(rest) {
+        rest = past_whitespace(next);
+    }
+    rest
+}
+
+/// What follows a comment at the front that is closed and no doc comment.
+fn past_comment(text: &str) -> Option<&str>
+    ensures blank { IfSome result
+        (λ rest. IsBlank (chars text.now) (chars rest.now) (length text.now - length rest.now)) }
+    ensures shorter { IfSome result (λ rest. length rest.now < length text.now) }
+    ensures utf8 { IfSome result (λ rest. IsUtf8 rest.now) }
+{
+    let after = past_char(text, '/')?;
+    if let Some(body) = past_char(after, '*') {
+        if opens_block_doc(body) {
+            None
+        } else {
+            past_block(body)
+        }
+    } else {
+        let body = past_char(after, '/')?;
+        if opens_line_doc(body) {
+            None
+        } else {
+            Some(past_line(body))
+        }
+    }
+}
