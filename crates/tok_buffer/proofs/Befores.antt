@@ -1,37 +1,35 @@
 -- The spans at a count, and what lies before it.
 use Rattle.std.proofs.Common.{◌≡◌, inl, inr, ℕ, ◌+◌, ◌<◌, List, [], ◌∷◌, length, refl, ap, sym, ◌∙◌, arith, length-append}
-use Rattle.tok_core.specs.Forest.{leaf, group, Forest, no_trees, tree}
+use Rattle.tok_core.specs.Forest.{Leaf, leaf, group, Forest, no_trees, tree}
 use Rattle.tok_core.specs.declared.span.Span.{Span}
 use Rattle.tok_core.specs.Spans.{closing_span, leaf_span}
 use Rattle.tok_core.specs.Weight.{weight}
 use Rattle.tok_buffer.specs.Spans.{owner_closing, level_span}
-use Rattle.tok_buffer.specs.Place.{whole, group_of, Level, level, at}
+use Rattle.tok_buffer.specs.Place.{whole, in_group, Level, level, at}
 use Rattle.tok_buffer.specs.Moves.{level_ahead, level_owner, move, levels_at}
-use Rattle.tok_buffer.specs.Layout.{leaf_entry, leaf_in, entries_of, entry_here}
+use Rattle.tok_buffer.specs.Layout.{leaf_entry, entries_of, entry_here}
 use Rattle.tok_buffer.specs.Spans.{current_span, previous_span}
 use Rattle.tok_buffer.specs.declared.entry.Opening.{Opening as Sort}
-use Rattle.tok_buffer.specs.declared.entry.Entry.TheVariants as entry
 use Rattle.tok_buffer.specs.declared.entry.Entry.TheVariants.{Group, End}
-use Rattle.tok_buffer.specs.declared.entry.Leaf as held
-use Rattle.tok_buffer.proofs.Layouts.{leaf_in-entry}
+use Rattle.tok_buffer.proofs.Layouts.{same_leaf, not_leaf}
 use Rattle.tok_buffer.proofs.Stacks.{At, at_all, nested, last_or, before, after, length-entries_of, levels_next}
 
 -- the span of what lies before in a level, or at its start the owner's whole span
 abbrev pub level_previous : Level → Span
 level_previous (level o (tree (leaf l) p) a) = leaf_span l
 level_previous (level o (tree (group d inside span) p) a) = closing_span span
-level_previous (level (group_of d span) no_trees a) = span
+level_previous (level (in_group d span) no_trees a) = span
 level_previous (level whole no_trees a) = level_span (level whole no_trees a)
 
 pub current_is : (k s n : ℕ) (l : Level) (us : List Level) → current_span (at k s n l us) ≡ level_span l
 current_is k s n (level o p (tree t f)) us = refl
 current_is k s n (level whole p no_trees) us = refl
-current_is k s n (level (group_of d t) p no_trees) us = refl
+current_is k s n (level (in_group d t) p no_trees) us = refl
 
 pub previous_is : (k s n : ℕ) (l : Level) (us : List Level) → previous_span (at k s n l us) ≡ level_previous l
 previous_is k s n (level o (tree (leaf i) p) a) us = refl
 previous_is k s n (level o (tree (group d c t) p) a) us = refl
-previous_is k s n (level (group_of d t) no_trees a) us = refl
+previous_is k s n (level (in_group d t) no_trees a) us = refl
 previous_is k s n (level whole no_trees no_trees) us = refl
 previous_is k s n (level whole no_trees (tree t f)) us = refl
 
@@ -40,7 +38,7 @@ previous_moves (level o p (tree (leaf i) f)) us h k = refl
 previous_moves (level o p (tree (group d c t) f)) us h k = refl
 previous_moves (level o p no_trees) [] h k = absurd (omega arith)
 previous_moves (level whole p no_trees) (u ∷ us) h k = absurd h
-previous_moves (level (group_of d s) p no_trees) (level o q g ∷ us) h k = refl
+previous_moves (level (in_group d s) p no_trees) (level o q g ∷ us) h k = refl
 
 not_last : (E : List _) (w n : ℕ) (l : Level) (us : List Level) → length E ≡ w + 1 → n < w → At E l us n → 0 < weight (level_ahead l) + length us
 not_last E w n (level o p f) us he hn (h, hw, hl) =
@@ -62,18 +60,17 @@ previous_start F = refl
 
 pub end_current : (l : Level) (k : ℕ) → entry_here l ≡ End k → owner_closing (level_owner l) ≡ level_span l
 end_current (level o p no_trees) k e = refl
-end_current (level o p (tree (leaf i) f)) k e = cc
+end_current (level o p (tree (leaf i) f)) k e = absurd (not_leaf (End k) i refl e)
 end_current (level o p (tree (group d c t) f)) k e = cc
 
-pub leaf_current : (l : Level) (i : held.Leaf) → entry_here l ≡ entry.Leaf i → leaf_span (leaf_in i) ≡ level_span l
-leaf_current (level o p no_trees) i e = cc
-leaf_current (level o p (tree (group d c t) f)) i e = cc
-leaf_current (level o p (tree (leaf j) f)) i e =
-    let h : leaf_entry j ≡ i = cc in ap leaf_span (sym (ap leaf_in h) ∙ leaf_in-entry j)
+pub leaf_current : (l : Level) (i : Leaf) → entry_here l ≡ leaf_entry i → leaf_span i ≡ level_span l
+leaf_current (level o p no_trees) i e = absurd (not_leaf _ i refl (sym e))
+leaf_current (level o p (tree (group d c t) f)) i e = absurd (not_leaf _ i refl (sym e))
+leaf_current (level o p (tree (leaf j) f)) i e = ap leaf_span (sym (same_leaf j i e))
 
 pub group_current : (l : Level) (g : Sort) (k : ℕ) → entry_here l ≡ Group g k → g.span ≡ level_span l
 group_current (level o p no_trees) g k e = cc
-group_current (level o p (tree (leaf j) f)) g k e = cc
+group_current (level o p (tree (leaf j) f)) g k e = absurd (not_leaf (Group g k) j refl e)
 group_current (level o p (tree (group d c t) f)) g k e =
     let G : Sort = record { delimiter = d; span = t } in
     let h : G ≡ g = cc in sym (ap (λ x. x.span) h)

@@ -9,7 +9,7 @@ use Rattle.tok_core.specs.Forest.{Tree, leaf, group, Forest, no_trees, tree, tur
 use Rattle.tok_core.specs.Weight.{weight}
 use Rattle.tok_core.proofs.Facts.{turned_back}
 use Rattle.tok_buffer.specs.Descent.{into_front, descend_from, descend}
-use Rattle.tok_buffer.specs.Place.{Owner, group_of, Level, level, Place, at, absorb, settle, settled}
+use Rattle.tok_buffer.specs.Place.{Owner, in_group, Level, level, Place, at, absorb, settle, settled}
 use Rattle.tok_buffer.specs.Moves.{level_ahead, advance, is_settled, invisible_front}
 
 -- a descent is one into the settled place
@@ -23,29 +23,29 @@ or-unwrap None b p = refl
 or-unwrap (Some a) b p = refl
 
 -- what follows the trees ahead
-abbrev behind : (k s n : ℕ) → Owner → (passed ahead : Forest) → List Level → Place
-behind k s n o p f [] = at k s (n + weight f) (level o (turned_onto f p) no_trees) []
-behind k s n o p f (l ∷ ls) = descend_from k s (n + weight f + 1) (absorb o (turned_onto f p) l) ls
+abbrev after : (k s n : ℕ) → Owner → (passed ahead : Forest) → List Level → Place
+after k s n o p f [] = at k s (n + weight f) (level o (turned_onto f p) no_trees) []
+after k s n o p f (l ∷ ls) = descend_from k s (n + weight f + 1) (absorb o (turned_onto f p) l) ls
 
-descend_from_is : (k s n : ℕ) (o : Owner) (p f : Forest) (ls : List Level) → descend_from k s n (level o p f) ls ≡ unwrap_or (into_front f k s n o p ls) (behind k s n o p f ls)
+descend_from_is : (k s n : ℕ) (o : Owner) (p f : Forest) (ls : List Level) → descend_from k s n (level o p f) ls ≡ unwrap_or (into_front f k s n o p ls) (after k s n o p f ls)
 descend_from_is k s n o p f [] = refl
 descend_from_is k s n o p f (l ∷ ls) = refl
 
-behind_group : (k s n m : ℕ) (o : Owner) (p : Forest) (t : Tree) (f : Forest) (ls : List Level) → m + weight f ≡ n + weight (tree t f) → behind k s m o (tree t p) f ls ≡ behind k s n o p (tree t f) ls
-behind_group k s n m o p t f [] e = ap (λ c. at k s c (level o (turned_onto f (tree t p)) no_trees) []) e
-behind_group k s n m o p t f (l ∷ ls) e = ap (λ c. descend_from k s (c + 1) (absorb o (turned_onto f (tree t p)) l) ls) e
+after_group : (k s n m : ℕ) (o : Owner) (p : Forest) (t : Tree) (f : Forest) (ls : List Level) → m + weight f ≡ n + weight (tree t f) → after k s m o (tree t p) f ls ≡ after k s n o p (tree t f) ls
+after_group k s n m o p t f [] e = ap (λ c. at k s c (level o (turned_onto f (tree t p)) no_trees) []) e
+after_group k s n m o p t f (l ∷ ls) e = ap (λ c. descend_from k s (c + 1) (absorb o (turned_onto f (tree t p)) l) ls) e
 
-into_step : (k s n : ℕ) (o : Owner) (p c : Forest) (span : Span) (f : Forest) (ls : List Level) → descend_from k s (n + 1) (level (group_of delimiter.None span) no_trees c) (level o p f ∷ ls) ≡ descend_from k s n (level o p (tree (group delimiter.None c span) f)) ls
+into_step : (k s n : ℕ) (o : Owner) (p c : Forest) (span : Span) (f : Forest) (ls : List Level) → descend_from k s (n + 1) (level (in_group delimiter.None span) no_trees c) (level o p f ∷ ls) ≡ descend_from k s n (level o p (tree (group delimiter.None c span) f)) ls
 into_step k s n o p c span f ls =
     let g = group delimiter.None c span in
-    let a = into_front c k s (n + 1) (group_of delimiter.None span) no_trees (level o p f ∷ ls) in
+    let a = into_front c k s (n + 1) (in_group delimiter.None span) no_trees (level o p f ∷ ls) in
     let m = n + 1 + weight c + 1 in
     let e : m ≡ n + (2 + weight c) = omega arith in
-    let far = behind k s n o p (tree g f) ls in
+    let far = after k s n o p (tree g f) ls in
     ap (λ z. unwrap_or a (descend_from k s m (level o (tree (group delimiter.None z span) p) f) ls)) (turned_back c)
     ∙ ap (λ z. unwrap_or a (descend_from k s z (level o (tree g p) f) ls)) e
     ∙ ap (unwrap_or a) (descend_from_is k s (n + (2 + weight c)) o (tree g p) f ls)
-    ∙ ap (λ z. unwrap_or a (unwrap_or (into_front f k s (n + (2 + weight c)) o (tree g p) ls) z)) (behind_group k s n (n + (2 + weight c)) o p g f ls (omega arith))
+    ∙ ap (λ z. unwrap_or a (unwrap_or (into_front f k s (n + (2 + weight c)) o (tree g p) ls) z)) (after_group k s n (n + (2 + weight c)) o p g f ls (omega arith))
     ∙ sym (or-unwrap a (into_front f k s (n + (2 + weight c)) o (tree g p) ls) far)
     ∙ sym (descend_from_is k s n o p (tree g f) ls)
 
@@ -54,13 +54,13 @@ pub descend_step : (k s n : ℕ) (l : Level) (us : List Level) → invisible_fro
 descend_step k s n (level o p no_trees) us h = absurd (false≢true h)
 descend_step k s n (level o p (tree (leaf i) f)) us h = absurd (false≢true h)
 descend_step k s n (level o p (tree (group delimiter.None c span) f)) us h =
-    descend-settle k s (n + 1) (level (group_of delimiter.None span) no_trees c) (level o p f ∷ us) ∙ into_step k s n o p c span f us
+    descend-settle k s (n + 1) (level (in_group delimiter.None span) no_trees c) (level o p f ∷ us) ∙ into_step k s n o p c span f us
 descend_step k s n (level o p (tree (group delimiter.Parenthesis c span) f)) us h = absurd (false≢true h)
 descend_step k s n (level o p (tree (group delimiter.Brace c span) f)) us h = absurd (false≢true h)
 descend_step k s n (level o p (tree (group delimiter.Bracket c span) f)) us h = absurd (false≢true h)
 
 visible_done : (k s n : ℕ) (o : Owner) (p f : Forest) (us : List Level) → into_front f k s n o p us ≡ Some (at k s n (level o p f) us) → descend (at k s n (level o p f) us) ≡ at k s n (level o p f) us
-visible_done k s n o p f us e = descend_from_is k s n o p f us ∙ ap (λ z. unwrap_or z (behind k s n o p f us)) e
+visible_done k s n o p f us e = descend_from_is k s n o p f us ∙ ap (λ z. unwrap_or z (after k s n o p f us)) e
 
 -- where no invisible group is in front a settled place is the descent's end
 pub descend_done : (k s n : ℕ) (l : Level) (us : List Level) → is_settled l us ≡ true → invisible_front (level_ahead l) ≡ false → descend (at k s n l us) ≡ at k s n l us

@@ -4,7 +4,7 @@ use Rattle.tok_core.specs.declared.group.Delimiter.TheVariants as delimiter
 use Rattle.tok_core.specs.Forest.{leaf, group, no_trees, tree}
 use Rattle.tok_buffer.specs.Descent.{descend, is_before_invisible, inwards, Descends, stop, enters, DescentsEnter}
 use Rattle.tok_buffer.specs.Moves.{is_settled}
-use Rattle.tok_buffer.specs.Place.{group_of, Level, level, Place, empty_place, at, absorb, settle, settled}
+use Rattle.tok_buffer.specs.Place.{in_group, Level, level, Place, empty_place, at, absorb, settle, settled}
 use Rattle.tok_buffer.specs.Progress.{remaining}
 use Rattle.tok_buffer.proofs.Descents.{descend-settle, descend_step, descend_done}
 use Rattle.tok_buffer.proofs.Onwards.{settle_remaining}
@@ -36,7 +36,7 @@ enters_down fuel (at n s c (level o p (tree (group delimiter.Bracket inside span
 enters_down zero (at n s c (level o p (tree (group delimiter.None inside span) f)) ls) h r = absurd (omega (arith, h))
 enters_down (suc k) (at n s c (level o p (tree (group delimiter.None inside span) f)) ls) h r =
     let here = at n s c (level o p (tree (group delimiter.None inside span) f)) ls in
-    let l = level (group_of delimiter.None span) no_trees inside in
+    let l = level (in_group delimiter.None span) no_trees inside in
     let us = level o p f ∷ ls in
     let e : descend (inwards here) ≡ descend here = descend_step n s c (level o p (tree (group delimiter.None inside span) f)) ls refl in
     let down = enters_down k (inwards here) (omega (arith, h, settle_remaining n s (c + 1) l us)) (settle_rests n s (c + 1) l us) in

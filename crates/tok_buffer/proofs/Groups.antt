@@ -1,16 +1,17 @@
 -- A group in front: its content, and the place after.
-use Rattle.std.proofs.Common.{◌≡◌, ℕ, ◌+◌, ◌≤◌, true, eqb, [], ◌∷◌, Option, Some, ap, sym, ◌∙◌, subst, arith, eq-eqb}
+use Rattle.std.proofs.Common.{◌≡◌, ℕ, ◌+◌, ◌≤◌, true, eqb, [], ◌∷◌, Option, Some, refl, ap, sym, ◌∙◌, subst, arith, eq-eqb}
 use Rattle.std.proofs.lemmas.Bool.{or_left, cond-true}
 use Rattle.tok_core.specs.declared.span.Span.{Span}
 use Rattle.tok_core.specs.declared.group.Delimiter.{Delimiter}
 use Rattle.tok_core.specs.Forest.{leaf, group, Forest, no_trees, tree}
 use Rattle.tok_core.specs.Weight.{weight}
 use Rattle.tok_buffer.specs.Entry.{Entered, enter_any}
-use Rattle.tok_buffer.specs.Place.{group_of, Level, level, Place, at, settle, settled}
+use Rattle.tok_buffer.specs.Place.{in_group, Level, level, Place, at, settle, settled}
 use Rattle.tok_buffer.specs.Moves.{level_ahead, level_passed, level_owner, move, levels_at, up_to, some_ends, end_of, place_at, is_settled, in_scope, settled_at}
 use Rattle.tok_buffer.specs.Layout.{entry_here}
 use Rattle.tok_buffer.specs.declared.entry.Opening.{Opening as Sort}
 use Rattle.tok_buffer.specs.declared.entry.Entry.TheVariants.{Group}
+use Rattle.tok_buffer.proofs.Layouts.{not_leaf}
 use Rattle.tok_buffer.proofs.Stacks.{levels_next, jump}
 use Rattle.tok_buffer.proofs.InScope.{ends_later, In, seen, root_settled}
 
@@ -20,7 +21,7 @@ Fronts l d t c f = l ≡ level (level_owner l) (level_passed l) (tree (group d c
 
 pub group_front : (l : Level) (g : Sort) (k : ℕ) → entry_here l ≡ Group g k → (c : Forest) × (f : Forest) × (Fronts l g.delimiter g.span c f × (k ≡ weight c + 1))
 group_front (level o p no_trees) g k e = cc
-group_front (level o p (tree (leaf i) f)) g k e = cc
+group_front (level o p (tree (leaf i) f)) g k e = absurd (not_leaf (Group g k) i refl e)
 group_front (level o p (tree (group d c t) f)) g k e =
     let G : Sort = record { delimiter = d; span = t } in
     let h : G ≡ g = cc in
@@ -32,11 +33,11 @@ module _ (F : Forest) (n s : ℕ) (d : Delimiter) (t : Span) (c f : Forest) (h :
   group_fits =
       omega (arith, ap (λ l. weight (level_ahead l)) fronts, ends_later (end_of n (levels_at F n).0) s (levels_at F n).1 h)
 
-  inside : levels_at F (n + 1) ≡ (level (group_of d t) no_trees c, level (level_owner (levels_at F n).0) (level_passed (levels_at F n).0) f ∷ (levels_at F n).1)
+  inside : levels_at F (n + 1) ≡ (level (in_group d t) no_trees c, level (level_owner (levels_at F n).0) (level_passed (levels_at F n).0) f ∷ (levels_at F n).1)
   inside = levels_next F n ∙ ap (λ l. move l (levels_at F n).1) fronts
 
-  behind : levels_at F (n + (weight c + 1) + 1) ≡ (level (level_owner (levels_at F n).0) (tree (group d c t) (level_passed (levels_at F n).0)) f, (levels_at F n).1)
-  behind =
+  after : levels_at F (n + (weight c + 1) + 1) ≡ (level (level_owner (levels_at F n).0) (tree (group d c t) (level_passed (levels_at F n).0)) f, (levels_at F n).1)
+  after =
       let q : n + (weight c + 1) + 1 ≡ n + (2 + weight c + 0) = omega arith in
       ap (levels_at F) q
       ∙ jump F (tree (group d c t) no_trees) n (level_owner (levels_at F n).0) (level_passed (levels_at F n).0) f (levels_at F n).1 (ap (λ l. (l, (levels_at F n).1)) fronts)
@@ -55,33 +56,33 @@ module _ (F : Forest) (n s : ℕ) (d : Delimiter) (t : Span) (c f : Forest) (h :
   pub inside_settled : settled_at F (n + 1) (n + (weight c + 1)) ≡ true
   inside_settled =
       ap (λ x. is_settled x.0 (up_to (end_of (n + 1) x.0) (n + (weight c + 1)) x.1)) inside
-      ∙ ap (is_settled (level (group_of d t) no_trees c)) no_outer
-      ∙ root_settled (group_of d t) no_trees c
+      ∙ ap (is_settled (level (in_group d t) no_trees c)) no_outer
+      ∙ root_settled (in_group d t) no_trees c
 
-  pub inside_place : (k : ℕ) → place_at k F (n + 1) (n + (weight c + 1)) ≡ at k (n + 1 + weight c) (n + 1) (level (group_of d t) no_trees c) []
+  pub inside_place : (k : ℕ) → place_at k F (n + 1) (n + (weight c + 1)) ≡ at k (n + 1 + weight c) (n + 1) (level (in_group d t) no_trees c) []
   inside_place k =
       let q : n + (weight c + 1) ≡ n + 1 + weight c = omega arith in
       ap (seen k (n + (weight c + 1)) (n + 1)) inside
-      ∙ ap (at k (n + (weight c + 1)) (n + 1) (level (group_of d t) no_trees c)) no_outer
-      ∙ ap (λ z. at k z (n + 1) (level (group_of d t) no_trees c) []) q
+      ∙ ap (at k (n + (weight c + 1)) (n + 1) (level (in_group d t) no_trees c)) no_outer
+      ∙ ap (λ z. at k z (n + 1) (level (in_group d t) no_trees c) []) q
 
   same_end : n + (weight c + 1) + 1 + weight f ≡ end_of n (levels_at F n).0
   same_end = omega (arith, ap (λ l. weight (level_ahead l)) fronts)
 
-  pub behind_within : in_scope F (n + (weight c + 1) + 1) s ≡ true
-  behind_within =
+  pub after_within : in_scope F (n + (weight c + 1) + 1) s ≡ true
+  after_within =
       subst
       (In (n + (weight c + 1) + 1) s)
-      (sym behind)
+      (sym after)
       (subst (λ e. some_ends e s (levels_at F n).1 ≡ true) (sym same_end) h)
 
-  pub behind_place : (k : ℕ) → place_at k F (n + (weight c + 1) + 1) s ≡ at k s (n + (2 + weight c)) (level (level_owner (levels_at F n).0) (tree (group d c t) (level_passed (levels_at F n).0)) f) (up_to (end_of n (levels_at F n).0) s (levels_at F n).1)
-  behind_place k =
+  pub after_place : (k : ℕ) → place_at k F (n + (weight c + 1) + 1) s ≡ at k s (n + (2 + weight c)) (level (level_owner (levels_at F n).0) (tree (group d c t) (level_passed (levels_at F n).0)) f) (up_to (end_of n (levels_at F n).0) s (levels_at F n).1)
+  after_place k =
       let l = levels_at F n in
       let e = n + (weight c + 1) + 1 in
       let q : e ≡ n + (2 + weight c) = omega arith in
       let m = level (level_owner l.0) (tree (group d c t) (level_passed l.0)) f in
-      ap (seen k s e) behind
+      ap (seen k s e) after
       ∙ ap (λ z. at k s e m (up_to z s l.1)) same_end
       ∙ ap (λ z. at k s z m (up_to (end_of n l.0) s l.1)) q
 
@@ -102,19 +103,19 @@ module _ (F : Forest) (n s : ℕ) (g : Sort) (k : ℕ) (h : in_scope F n s ≡ t
       let w = group_front (levels_at F n).0 g k e in
       subst (λ z. settled_at F (n + 1) (n + z) ≡ true) (sym w.2.1) (inside_settled F n s g.delimiter g.span w.0 w.1 h w.2.0)
 
-  pub held_behind : in_scope F (n + k + 1) s ≡ true
-  held_behind =
+  pub held_after : in_scope F (n + k + 1) s ≡ true
+  held_after =
       let w = group_front (levels_at F n).0 g k e in
-      subst (λ z. in_scope F (n + z + 1) s ≡ true) (sym w.2.1) (behind_within F n s g.delimiter g.span w.0 w.1 h w.2.0)
+      subst (λ z. in_scope F (n + z + 1) s ≡ true) (sym w.2.1) (after_within F n s g.delimiter g.span w.0 w.1 h w.2.0)
 
-  pub entered : (m : ℕ) (a b : Place) → a ≡ place_at m F (n + 1) (n + k) → b ≡ settled (place_at m F (n + k + 1) s) → enter_any (place_at m F n s) ≡ Some (record { delimiter = g.delimiter; span = g.span; content = a; behind = b })
+  pub entered : (m : ℕ) (a b : Place) → a ≡ place_at m F (n + 1) (n + k) → b ≡ settled (place_at m F (n + k + 1) s) → enter_any (place_at m F n s) ≡ Some (record { delimiter = g.delimiter; span = g.span; content = a; after = b })
   entered m a b ea eb =
       let w = group_front (levels_at F n).0 g k e in
       let us = up_to (end_of n (levels_at F n).0) s (levels_at F n).1 in
-      let held : Place → Place → Option Entered = λ y z. Some (record { delimiter = g.delimiter; span = g.span; content = y; behind = z }) in
+      let held : Place → Place → Option Entered = λ y z. Some (record { delimiter = g.delimiter; span = g.span; content = y; after = z }) in
       ap (λ x. enter_any (at m s n x us)) w.2.0
       ∙ ap (λ z. held z (settle m s (n + (2 + weight w.0)) (level (level_owner (levels_at F n).0) (tree (group g.delimiter w.0 g.span) (level_passed (levels_at F n).0)) w.1) us)) (sym (inside_place F n s g.delimiter g.span w.0 w.1 h w.2.0 m))
-      ∙ ap (λ z. held (place_at m F (n + 1) (n + (weight w.0 + 1))) (settled z)) (sym (behind_place F n s g.delimiter g.span w.0 w.1 h w.2.0 m))
+      ∙ ap (λ z. held (place_at m F (n + 1) (n + (weight w.0 + 1))) (settled z)) (sym (after_place F n s g.delimiter g.span w.0 w.1 h w.2.0 m))
       ∙ ap (λ z. held (place_at m F (n + 1) (n + z)) (settled (place_at m F (n + z + 1) s))) (sym w.2.1)
       ∙ ap (λ z. held z (settled (place_at m F (n + k + 1) s))) (sym ea)
       ∙ ap (held a) (sym eb)

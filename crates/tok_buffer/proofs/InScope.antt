@@ -3,7 +3,7 @@ use Rattle.std.proofs.Common.{◌≡◌, inl, inr, ℕ, ◌+◌, ◌≤◌, ◌�
 use Rattle.std.proofs.lemmas.Bool.{or_cases, or_right, false≢true, cases_eq, cond-true, cond-false}
 use Rattle.tok_core.specs.Forest.{leaf, group, Forest, no_trees, tree}
 use Rattle.tok_core.specs.Weight.{weight}
-use Rattle.tok_buffer.specs.Place.{Owner, whole, group_of, Level, level, Place, empty_place, at, absorb, settle, settled, is_at_end}
+use Rattle.tok_buffer.specs.Place.{Owner, whole, in_group, Level, level, Place, empty_place, at, absorb, settle, settled, is_at_end}
 use Rattle.tok_buffer.specs.Moves.{level_ahead, move, levels_at, up_to, some_ends, end_of, place_at, is_settled, in_scope, settled_at, at_end, advance, invisible_front}
 use Rattle.tok_buffer.proofs.Stacks.{levels_next}
 
@@ -25,7 +25,7 @@ seen k s n x = at k s n x.0 (up_to (end_of n x.0) s x.1)
 
 pub ahead-absorb : (o : Owner) (p : Forest) (u : Level) → level_ahead (absorb o p u) ≡ level_ahead u
 ahead-absorb whole p u = refl
-ahead-absorb (group_of d s) p (level o q g) = refl
+ahead-absorb (in_group d s) p (level o q g) = refl
 
 left_end : (n : ℕ) (o : Owner) (p : Forest) (u : Level) → n + 1 + weight (level_ahead (absorb o p u)) ≡ n + 0 + 1 + weight (level_ahead u)
 left_end n o p u = omega (arith, ap weight (ahead-absorb o p u))
@@ -50,7 +50,7 @@ seen_step k n s (level o p (tree (leaf i) f)) us h ne =
 seen_step k n s (level o p (tree (group d c t) f)) us h ne =
     let q : n + 1 + weight c + 1 + weight f ≡ n + (2 + weight c + weight f) = omega arith in
     let far : n + 1 + weight c ≢ s = λ x. absurd (omega (arith, ends_later _ s us h)) in
-    ap (at k s (n + 1) (level (group_of d t) no_trees c)) (cond-false (eqb (n + 1 + weight c) s) [] (level o p f ∷ up_to (n + 1 + weight c + 1 + weight f) s us) (ne_eqb _ _ far)
+    ap (at k s (n + 1) (level (in_group d t) no_trees c)) (cond-false (eqb (n + 1 + weight c) s) [] (level o p f ∷ up_to (n + 1 + weight c + 1 + weight f) s us) (ne_eqb _ _ far)
     ∙ ap (λ e. level o p f ∷ up_to e s us) q)
 seen_step k n s (level o p no_trees) [] h ne = absurd (ne (let q : n + 0 ≡ s = eqb-true (n + 0) s h in omega arith))
 seen_step k n s (level o p no_trees) (u ∷ us) h ne =

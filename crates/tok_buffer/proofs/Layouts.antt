@@ -1,22 +1,37 @@
 -- Laws of the layout.
-use Rattle.std.proofs.Common.{◌≡◌, ℕ, ◌+◌, ◌-◌, List, [], ◌∷◌, ◌++◌, length, set, refl, ap, sym, ◌∙◌, arith, append_assoc, length-append}
+use Rattle.std.proofs.Common.{◌≡◌, ℕ, ◌+◌, ◌-◌, List, [], ◌∷◌, ◌++◌, Option, Some, None, length, set, refl, ap, sym, ◌∙◌, arith, append_assoc, length-append}
 use Rattle.std.proofs.lemmas.List.{set_at}
 use Rattle.tok_core.specs.declared.span.Span.{Span}
 use Rattle.tok_core.specs.declared.group.Delimiter.{Delimiter}
 use Rattle.tok_core.specs.Code.{top}
-use Rattle.tok_core.specs.Forest.{Leaf, ident, punct, literal, Tree, leaf, group, Forest, no_trees, tree, joined, turned_onto}
+use Rattle.tok_core.specs.Forest.{Leaf, ident, punct, literal, Tree, leaf, group, Forest, no_trees, tree, concat, turned_onto}
+use Rattle.tok_core.specs.Seen.{ident_of, punct_of, literal_of}
 use Rattle.tok_core.specs.Weight.{weight}
-use Rattle.tok_core.proofs.Facts.{joined-none}
+use Rattle.tok_core.proofs.Facts.{concat-none}
 use Rattle.tok_buffer.specs.declared.entry.Entry.{Entry}
-use Rattle.tok_buffer.specs.declared.entry.Entry.TheVariants as entry
-use Rattle.tok_buffer.specs.declared.entry.Entry.TheVariants.{Group, End}
-use Rattle.tok_buffer.specs.Layout.{leaf_entry, leaf_in, opening, layout, entries_of, stack_entry, stack_entries, forest_in}
+use Rattle.tok_buffer.specs.declared.entry.Entry.TheVariants.{Ident, Punct, Literal, Group, End}
+use Rattle.tok_buffer.specs.Layout.{leaf_entry, group_entry, layout, entries_of, stack_entry, stack_entries, forest_in}
 use Rattle.tok_buffer.proofs.Forests.{turned_is}
 
-pub leaf_in-entry : (l : Leaf) → leaf_in (leaf_entry l) ≡ l
-leaf_in-entry (ident text span) = refl
-leaf_in-entry (punct c spacing span) = refl
-leaf_in-entry (literal text span) = refl
+-- the leaf that an entry is
+abbrev pub as_leaf : Entry → Option Leaf
+as_leaf (Ident i) = Some (ident_of i)
+as_leaf (Punct p) = Some (punct_of p)
+as_leaf (Literal l) = Some (literal_of l)
+as_leaf e = None
+
+pub as_leaf-entry : (l : Leaf) → as_leaf (leaf_entry l) ≡ Some l
+as_leaf-entry (ident text span) = refl
+as_leaf-entry (punct c spacing span) = refl
+as_leaf-entry (literal text span) = refl
+
+pub same_leaf : (l m : Leaf) → leaf_entry l ≡ leaf_entry m → l ≡ m
+same_leaf l m e =
+    let h : Some l ≡ Some m = sym (as_leaf-entry l) ∙ ap as_leaf e ∙ as_leaf-entry m in cc
+
+pub not_leaf : (x : Entry) (l : Leaf) → as_leaf x ≡ None → leaf_entry l ≡ x → ⊥
+not_leaf x l q e =
+    let h : Some l ≡ None = sym (as_leaf-entry l) ∙ ap as_leaf e ∙ q in cc
 
 pub length-layout : (f : Forest) → length (layout f) ≡ weight f
 length-layout no_trees = refl
@@ -24,34 +39,39 @@ length-layout (tree (leaf i) f) = omega (arith, length-layout f)
 length-layout (tree (group d c s) f) =
     omega (arith, length-layout c, length-layout f, length-append (layout c) (End (weight c + 1) ∷ layout f))
 
-pub layout-joined : (f g : Forest) → layout (joined f g) ≡ layout f ++ layout g
-layout-joined no_trees g = refl
-layout-joined (tree (leaf i) f) g = ap (λ x. entry.Leaf (leaf_entry i) ∷ x) (layout-joined f g)
-layout-joined (tree (group d c s) f) g =
-    ap (λ x. opening d s c ∷ (layout c ++ End (weight c + 1) ∷ x)) (layout-joined f g)
-    ∙ ap (λ x. opening d s c ∷ x) (sym (append_assoc (layout c) (End (weight c + 1) ∷ layout f) (layout g)))
+pub layout-concat : (f g : Forest) → layout (concat f g) ≡ layout f ++ layout g
+layout-concat no_trees g = refl
+layout-concat (tree (leaf i) f) g = ap (λ x. leaf_entry i ∷ x) (layout-concat f g)
+layout-concat (tree (group d c s) f) g =
+    ap (λ x. group_entry d s c ∷ (layout c ++ End (weight c + 1) ∷ x)) (layout-concat f g)
+    ∙ ap (λ x. group_entry d s c ∷ x) (sym (append_assoc (layout c) (End (weight c + 1) ∷ layout f) (layout g)))
 
 pub layout-turned : (f g : Forest) → layout (turned_onto f g) ≡ layout (turned_onto f no_trees) ++ layout g
-layout-turned f g = ap layout (turned_is f g) ∙ layout-joined (turned_onto f no_trees) g
+layout-turned f g = ap layout (turned_is f g) ∙ layout-concat (turned_onto f no_trees) g
 
 pub stack_entries-append : (xs ys : List Entry) (s : List Forest) → stack_entries (xs ++ ys) s ≡ stack_entries xs (stack_entries ys s)
 stack_entries-append [] ys s = refl
 stack_entries-append (x ∷ xs) ys s = ap (stack_entry x) (stack_entries-append xs ys s)
 
-pub stack_entries-layout : (f g : Forest) (s : List Forest) → stack_entries (layout f) (g ∷ s) ≡ joined f g ∷ s
+stack_leaf : (l : Leaf) (f : Forest) (s : List Forest) → stack_entry (leaf_entry l) (f ∷ s) ≡ tree (leaf l) f ∷ s
+stack_leaf (ident text span) f s = refl
+stack_leaf (punct c spacing span) f s = refl
+stack_leaf (literal text span) f s = refl
+
+pub stack_entries-layout : (f g : Forest) (s : List Forest) → stack_entries (layout f) (g ∷ s) ≡ concat f g ∷ s
 stack_entries-layout no_trees g s = refl
 stack_entries-layout (tree (leaf i) f) g s =
-    ap (stack_entry (entry.Leaf (leaf_entry i))) (stack_entries-layout f g s) ∙ ap (λ l. tree (leaf l) (joined f g) ∷ s) (leaf_in-entry i)
+    ap (stack_entry (leaf_entry i)) (stack_entries-layout f g s) ∙ stack_leaf i (concat f g) s
 stack_entries-layout (tree (group d c p) f) g s =
-    let e = stack_entry (opening d p c) in
+    let e = stack_entry (group_entry d p c) in
     ap e (stack_entries-append (layout c) (End (weight c + 1) ∷ layout f) (g ∷ s))
     ∙ ap (λ x. e (stack_entries (layout c) (no_trees ∷ x))) (stack_entries-layout f g s)
-    ∙ ap e (stack_entries-layout c no_trees (joined f g ∷ s))
-    ∙ ap (λ x. tree (group d x p) (joined f g) ∷ s) (joined-none c)
+    ∙ ap e (stack_entries-layout c no_trees (concat f g ∷ s))
+    ∙ ap (λ x. tree (group d x p) (concat f g) ∷ s) (concat-none c)
 
 pub forest_in-entries_of : (f : Forest) → forest_in (entries_of f) ≡ f
 forest_in-entries_of f =
-    ap top (stack_entries-append (layout f) (End 0 ∷ []) [] ∙ stack_entries-layout f no_trees []) ∙ joined-none f
+    ap top (stack_entries-append (layout f) (End 0 ∷ []) [] ∙ stack_entries-layout f no_trees []) ∙ concat-none f
 
 -- what filling a group leaves
 set_first : (xs ys zs : List Entry) (x y : Entry) → set (((xs ++ x ∷ []) ++ ys) ++ zs) (length xs) y ≡ xs ++ y ∷ (ys ++ zs)
@@ -73,6 +93,6 @@ pub step_lays : (new old all : List Entry) (t : Tree) (before after : Forest) �
 step_lays new old all t before after e h q =
     ap (λ z. z ++ layout after) e
     ∙ append_assoc old (layout (tree t no_trees)) (layout after)
-    ∙ ap (λ z. old ++ z) (sym (layout-joined (tree t no_trees) after))
+    ∙ ap (λ z. old ++ z) (sym (layout-concat (tree t no_trees) after))
     ∙ ap (λ z. old ++ layout z) (sym q)
     ∙ h

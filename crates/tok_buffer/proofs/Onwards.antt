@@ -15,9 +15,9 @@ use Rattle.tok_core.specs.Weight.{tree_weight, weight}
 use Rattle.tok_buffer.specs.Descent.{descend, descend_from, into_front}
 use Rattle.tok_buffer.specs.Entry.{Entered, enter, enter_any, entered_of, same_delimiter}
 use Rattle.tok_buffer.specs.Order.{order, same_scope}
-use Rattle.tok_buffer.specs.Place.{Owner, whole, group_of, Level, level, Place, empty_place, at, absorb, pass, settle}
+use Rattle.tok_buffer.specs.Place.{Owner, whole, in_group, Level, level, Place, empty_place, at, absorb, pass, settle}
 use Rattle.tok_buffer.specs.Progress.{ReadsGoLater, ReadsKeepScope, StaysIn, remaining, remaining_around, ReadsOn, ReadsGoOn, SkipsGoOn, EntersOn, EntriesGoOn, MovesStay, StaysAlong}
-use Rattle.tok_buffer.specs.Reads.{and_then, any_text, any_tree, behind, is_ident, is_ident_of, is_joint_of, is_literal, is_punct, is_punct_of, read_keyword, read_lifetime, read_punctuation, read_tree, read_word, skip}
+use Rattle.tok_buffer.specs.Reads.{and_then, any_text, any_tree, place_after, is_ident, is_ident_of, is_joint_of, is_literal, is_punct, is_punct_of, read_keyword, read_lifetime, read_punctuation, read_tree, read_word, skip}
 use Rattle.tok_buffer.specs.Reads as reads
 
 -- A place of this buffer and scope, at this count or a later one; so much at least has been taken away from what was left.
@@ -37,7 +37,7 @@ here n s c l ls = record { now = c; inner = l; outer = ls; is = refl; no_earlier
 
 absorbed : (o : Owner) (p : Forest) (n s c d : ℕ) (u : Level) (us : List Level) → remaining (at n s c (absorb o p u) us) ≤ remaining (at n s d (level o p no_trees) (u ∷ us))
 absorbed whole p n s c d (level a b f) us = omega arith
-absorbed (group_of x t) p n s c d (level a b f) us = omega arith
+absorbed (in_group x t) p n s c d (level a b f) us = omega arith
 
 settle_later : (n s c : ℕ) (l : Level) (ls : List Level) → Later n s c 0 (remaining (at n s c l ls)) (settle n s c l ls)
 settle_later n s c l [] = here n s c l []
@@ -129,7 +129,7 @@ wanted_later : (t : Tree) (p : Place) (b : Bool) (n s c m : ℕ) (ts : List Tree
 wanted_later t p true n s c m ts q h e = moved (second (t ∷ [], p) ts q e) h
 wanted_later t p false n s c m ts q h e = cc
 
-take_onwards : (wanted : Tree → Bool) → Onwards (reads.take wanted)
+take_onwards : (wanted : Tree → Bool) → Onwards (reads.read_if wanted)
 take_onwards wanted n s c (level o p no_trees) ls ts q e = cc
 take_onwards wanted n s c (level o p (tree t f)) ls ts q e = wanted_later t _ (wanted t) n s c _ ts q (passed n s c o p t f ls) e
 
@@ -154,16 +154,16 @@ then_onwards : (a b : Place → Option (List Tree × Place)) → Onwards a → O
 then_onwards a b f g n s c l ls ts q e = then_later n s c _ (a (at n s c l ls)) b (f n s c l ls) g ts q e
 
 word_onwards : (wanted : List ℕ → Bool) → Onwards (read_word wanted)
-word_onwards wanted = descended (reads.take (is_ident_of wanted)) (take_onwards (is_ident_of wanted))
+word_onwards wanted = descended (reads.read_if (is_ident_of wanted)) (take_onwards (is_ident_of wanted))
 
 lifetime_onwards : (wanted : List ℕ → Bool) → Onwards (read_lifetime wanted)
-lifetime_onwards wanted = then_onwards (λ p. reads.take is_joint_apostrophe (descend p)) (read_word wanted) (descended (reads.take is_joint_apostrophe) (take_onwards is_joint_apostrophe)) (word_onwards wanted)
+lifetime_onwards wanted = then_onwards (λ p. reads.read_if is_joint_apostrophe (descend p)) (read_word wanted) (descended (reads.read_if is_joint_apostrophe) (take_onwards is_joint_apostrophe)) (word_onwards wanted)
 
 punctuation_onwards : (text : List ℕ) → Onwards (read_punctuation text)
 punctuation_onwards [] n s c l ls ts q e = cc
-punctuation_onwards (x ∷ []) n s c l ls ts q e = descended (reads.take (is_punct_of x)) (take_onwards (is_punct_of x)) n s c l ls ts q e
+punctuation_onwards (x ∷ []) n s c l ls ts q e = descended (reads.read_if (is_punct_of x)) (take_onwards (is_punct_of x)) n s c l ls ts q e
 punctuation_onwards (x ∷ (y ∷ cs)) n s c l ls ts q e =
-    then_onwards (λ p. reads.take (is_joint_of x) (descend p)) (read_punctuation (y ∷ cs)) (descended (reads.take (is_joint_of x)) (take_onwards (is_joint_of x))) (punctuation_onwards (y ∷ cs)) n s c l ls ts q e
+    then_onwards (λ p. reads.read_if (is_joint_of x) (descend p)) (read_punctuation (y ∷ cs)) (descended (reads.read_if (is_joint_of x)) (take_onwards (is_joint_of x))) (punctuation_onwards (y ∷ cs)) n s c l ls ts q e
 
 keyword_onwards : (text : List ℕ) → Onwards (read_keyword text)
 keyword_onwards [] n s c l ls ts q e = cc
@@ -189,12 +189,12 @@ no_keyword : (text : List ℕ) → read_keyword text empty_place ≡ None
 no_keyword [] = refl
 no_keyword (c ∷ cs) = refl
 
-behind_later : (n s c m : ℕ) (x : Option (List Tree × Place)) → ((ts : List Tree) (q : Place) → x ≡ Some (ts, q) → Later n s c 1 m q) → (q : Place) → behind x ≡ Some q → Later n s c 1 m q
-behind_later n s c m None f q e = cc
-behind_later n s c m (Some r) f q e = let same : r.1 ≡ q = cc in moved same (f r.0 r.1 refl)
+after_later : (n s c m : ℕ) (x : Option (List Tree × Place)) → ((ts : List Tree) (q : Place) → x ≡ Some (ts, q) → Later n s c 1 m q) → (q : Place) → place_after x ≡ Some q → Later n s c 1 m q
+after_later n s c m None f q e = cc
+after_later n s c m (Some r) f q e = let same : r.1 ≡ q = cc in moved same (f r.0 r.1 refl)
 
-skip_later : (n s c m : ℕ) (x y : Option (List Tree × Place)) → ((ts : List Tree) (q : Place) → x ≡ Some (ts, q) → Later n s c 1 m q) → ((ts : List Tree) (q : Place) → y ≡ Some (ts, q) → Later n s c 1 m q) → (q : Place) → elim x as (λ z. Option Place) [ Some r ↦ Some r.1 | None ↦ behind y ] ≡ Some q → Later n s c 1 m q
-skip_later n s c m None y f g q e = behind_later n s c m y g q e
+skip_later : (n s c m : ℕ) (x y : Option (List Tree × Place)) → ((ts : List Tree) (q : Place) → x ≡ Some (ts, q) → Later n s c 1 m q) → ((ts : List Tree) (q : Place) → y ≡ Some (ts, q) → Later n s c 1 m q) → (q : Place) → elim x as (λ z. Option Place) [ Some r ↦ Some r.1 | None ↦ place_after y ] ≡ Some q → Later n s c 1 m q
+skip_later n s c m None y f g q e = after_later n s c m y g q e
 skip_later n s c m (Some r) y f g q e = let same : r.1 ≡ q = cc in moved same (f r.0 r.1 refl)
 
 skips_on : (p q : Place) → skip p ≡ Some q → GoesOn p q
@@ -204,15 +204,15 @@ skips_on (at n s c l ls) q e =
 
 pub reads_go_on : ReadsGoOn
 reads_go_on = record {
-  idents = reads_on _ refl (descended (reads.take is_ident) (take_onwards is_ident));
-  literals = reads_on _ refl (descended (reads.take is_literal) (take_onwards is_literal));
-  puncts = reads_on _ refl (descended (reads.take is_punct) (take_onwards is_punct));
+  idents = reads_on _ refl (descended (reads.read_if is_ident) (take_onwards is_ident));
+  literals = reads_on _ refl (descended (reads.read_if is_literal) (take_onwards is_literal));
+  puncts = reads_on _ refl (descended (reads.read_if is_punct) (take_onwards is_punct));
   words = λ wanted. reads_on (read_word wanted) refl (word_onwards wanted);
   keywords = λ text. reads_on (read_keyword text) (no_keyword text) (keyword_onwards text);
   lifetimes = λ wanted. reads_on (read_lifetime wanted) refl (lifetime_onwards wanted);
   punctuations = λ text. reads_on (read_punctuation text) (no_punctuation text) (punctuation_onwards text);
   trees = reads_on read_tree refl (take_onwards any_tree);
-  taken = λ wanted. reads_on (reads.take wanted) refl (take_onwards wanted);
+  taken = λ wanted. reads_on (reads.read_if wanted) refl (take_onwards wanted);
 }
 
 pub skips_go_on : SkipsGoOn
@@ -316,7 +316,7 @@ entered_is : (x e : Entered) → Some x ≡ Some e → x ≡ e
 entered_is x e h = ap (λ y. elim y [ Some z ↦ z | None ↦ x ]) h
 
 abbrev GoesIn : Place → Entered → Type 0
-GoesIn p e = GoesOn p e.behind × (remaining e.content < remaining p)
+GoesIn p e = GoesOn p e.after × (remaining e.content < remaining p)
 
 any_goes_in : (p : Place) (e : Entered) → enter_any p ≡ Some e → GoesIn p e
 any_goes_in empty_place e h = cc
@@ -336,7 +336,7 @@ of_any d (Some x) e h = go (same_delimiter d x.delimiter) h where
 from_descent : (p : Place) (e : Entered) → GoesIn (descend p) e → GoesIn p e
 from_descent p e g =
     let d = descents p in
-    ((chains p (descend p) e.behind d.0 g.0.0, omega (arith, d.1, g.0.1), strictly p (descend p) e.behind d.0 g.0.2), omega (arith, d.1, g.1))
+    ((chains p (descend p) e.after d.0 g.0.0, omega (arith, d.1, g.0.1), strictly p (descend p) e.after d.0 g.0.2), omega (arith, d.1, g.1))
 
 visible_goes_in : (d : Delimiter) (p : Place) (e : Entered) → entered_of d (enter_any (descend p)) ≡ Some e → GoesIn p e
 visible_goes_in d p e h = from_descent p e (any_goes_in (descend p) e (of_any d (enter_any (descend p)) e h))
@@ -362,15 +362,15 @@ read_later read none on p ts q e = (read_on read none on p ts q e).2
 
 pub reads_go_later : ReadsGoLater
 reads_go_later = record {
-  idents = read_later _ refl (descended (reads.take is_ident) (take_onwards is_ident));
-  literals = read_later _ refl (descended (reads.take is_literal) (take_onwards is_literal));
-  puncts = read_later _ refl (descended (reads.take is_punct) (take_onwards is_punct));
+  idents = read_later _ refl (descended (reads.read_if is_ident) (take_onwards is_ident));
+  literals = read_later _ refl (descended (reads.read_if is_literal) (take_onwards is_literal));
+  puncts = read_later _ refl (descended (reads.read_if is_punct) (take_onwards is_punct));
   words = λ wanted. read_later (read_word wanted) refl (word_onwards wanted);
   keywords = λ text. read_later (read_keyword text) (no_keyword text) (keyword_onwards text);
   lifetimes = λ wanted. read_later (read_lifetime wanted) refl (lifetime_onwards wanted);
   punctuations = λ text. read_later (read_punctuation text) (no_punctuation text) (punctuation_onwards text);
   trees = read_later read_tree refl (take_onwards any_tree);
-  taken = λ wanted. read_later (reads.take wanted) refl (take_onwards wanted);
+  taken = λ wanted. read_later (reads.read_if wanted) refl (take_onwards wanted);
   skips = λ p q e. (skips_on p q e).2;
   groups = λ d p e h. (goes_in d p e h).0.2;
   any_groups = λ p e h. (any_goes_in p e h).0.2;
@@ -404,18 +404,18 @@ kept_along (at n s c x xs) (at j t d l ls) (at i u e m ms) h k =
 
 pub reads_keep_scope : ReadsKeepScope
 reads_keep_scope = record {
-  idents = read_kept _ refl (descended (reads.take is_ident) (take_onwards is_ident));
-  literals = read_kept _ refl (descended (reads.take is_literal) (take_onwards is_literal));
-  puncts = read_kept _ refl (descended (reads.take is_punct) (take_onwards is_punct));
+  idents = read_kept _ refl (descended (reads.read_if is_ident) (take_onwards is_ident));
+  literals = read_kept _ refl (descended (reads.read_if is_literal) (take_onwards is_literal));
+  puncts = read_kept _ refl (descended (reads.read_if is_punct) (take_onwards is_punct));
   words = λ wanted. read_kept (read_word wanted) refl (word_onwards wanted);
   keywords = λ text. read_kept (read_keyword text) (no_keyword text) (keyword_onwards text);
   lifetimes = λ wanted. read_kept (read_lifetime wanted) refl (lifetime_onwards wanted);
   punctuations =
       λ text. read_kept (read_punctuation text) (no_punctuation text) (punctuation_onwards text);
   trees = read_kept read_tree refl (take_onwards any_tree);
-  taken = λ wanted. read_kept (reads.take wanted) refl (take_onwards wanted);
+  taken = λ wanted. read_kept (reads.read_if wanted) refl (take_onwards wanted);
   skips = λ p q e. kept p q (skips_on p q e);
-  groups = λ d p e h. kept p e.behind (goes_in d p e h).0;
-  any_groups = λ p e h. kept p e.behind (any_goes_in p e h).0;
+  groups = λ d p e h. kept p e.after (goes_in d p e h).0;
+  any_groups = λ p e h. kept p e.after (any_goes_in p e h).0;
   along = kept_along;
 }

@@ -4,20 +4,20 @@ use Rattle.std.proofs.lemmas.Bool.{cond-true}
 use Rattle.std.proofs.lemmas.List.{get_or_at}
 use Rattle.tok_core.specs.Forest.{leaf, group, Forest, no_trees, tree, turned_onto}
 use Rattle.tok_core.specs.Weight.{weight}
-use Rattle.tok_buffer.specs.Place.{Owner, whole, group_of, Level, level, absorb}
+use Rattle.tok_buffer.specs.Place.{Owner, whole, in_group, Level, level, absorb}
 use Rattle.tok_buffer.specs.Rest.{owner_delimiter, levels_delimiter, scope_delimiter}
 use Rattle.tok_buffer.specs.Moves.{level_ahead, level_owner, move, levels_at, up_to, end_of, place_at, in_scope, at_end}
-use Rattle.tok_buffer.specs.Layout.{layout, entries_of, opening, back, entry_here, entry_owner}
+use Rattle.tok_buffer.specs.Layout.{layout, entries_of, group_entry, back, entry_here, entry_owner}
 use Rattle.tok_buffer.specs.declared.entry.Entry.{Entry}
 use Rattle.tok_buffer.specs.declared.entry.Entry.TheVariants.{End}
-use Rattle.tok_buffer.proofs.Layouts.{length-layout}
+use Rattle.tok_buffer.proofs.Layouts.{length-layout, not_leaf}
 use Rattle.tok_buffer.proofs.Stacks.{At, at_all, entry_at, after, outside}
 use Rattle.tok_buffer.proofs.InScope.{place_step, In, ends_later, before_scope}
 
 absorb-delimiter : (o : Owner) (p : Forest) (u : Level) (us : List Level) → levels_delimiter (absorb o p u) us ≡ levels_delimiter u us
 absorb-delimiter whole p u us = refl
-absorb-delimiter (group_of d s) p (level o q g) [] = refl
-absorb-delimiter (group_of d s) p (level o q g) (v ∷ us) = refl
+absorb-delimiter (in_group d s) p (level o q g) [] = refl
+absorb-delimiter (in_group d s) p (level o q g) (v ∷ us) = refl
 
 delimiter_moves : (l : Level) (us : List Level) → levels_delimiter (move l us).0 (move l us).1 ≡ levels_delimiter l us
 delimiter_moves (level o p (tree (leaf i) f)) [] = refl
@@ -68,21 +68,21 @@ scope_owner k F n s h = (scope_is_end k F n s h (s - n) (omega (arith, before_sc
 reach_back : (E : List Entry) (n : ℕ) (o : Owner) (p : Forest) (us : List Level) → At E (level o p no_trees) us n → (back (level o p no_trees) ≤ n) × ((d : Entry) → get_or E n d ≡ End (back (level o p no_trees)) → entry_owner (get_or E (n - back (level o p no_trees)) d) ≡ o)
 reach_back E n whole p us a =
     (omega arith, λ d e. let q : n - 0 ≡ n = omega arith in ap (λ z. entry_owner (get_or E z d)) q ∙ ap entry_owner e)
-reach_back E n (group_of d t) p [] a = absurd a.0
-reach_back E n (group_of d t) p (level o q g ∷ us) a =
+reach_back E n (in_group d t) p [] a = absurd a.0
+reach_back E n (in_group d t) p (level o q g ∷ us) a =
     let c = turned_onto p no_trees in
     let r = outside o (turned_onto q (tree (group d c t) g)) us in
     let X = r.0 ++ layout (turned_onto q no_trees) in
-    let y = after (level (group_of d t) p no_trees) (level o q g ∷ us) in
-    let len : length X + 1 + weight c ≡ n = omega (arith, a.2, length-append (X ++ opening d t c ∷ []) (layout c), length-append X (opening d t c ∷ []), length-layout c) in (
+    let y = after (level (in_group d t) p no_trees) (level o q g ∷ us) in
+    let len : length X + 1 + weight c ≡ n = omega (arith, a.2, length-append (X ++ group_entry d t c ∷ []) (layout c), length-append X (group_entry d t c ∷ []), length-layout c) in (
       omega arith,
       λ x e. let there : length X ≡ n - (weight c + 1) = omega arith in
-          ap (λ z. entry_owner (get_or z (n - (weight c + 1)) x)) (a.1 ∙ append_assoc (X ++ opening d t c ∷ []) (layout c) y ∙ append_assoc X (opening d t c ∷ []) (layout c ++ y))
-          ∙ ap entry_owner (get_or_at X (opening d t c) (layout c ++ y) x (n - (weight c + 1)) there),
+          ap (λ z. entry_owner (get_or z (n - (weight c + 1)) x)) (a.1 ∙ append_assoc (X ++ group_entry d t c ∷ []) (layout c) y ∙ append_assoc X (group_entry d t c ∷ []) (layout c ++ y))
+          ∙ ap entry_owner (get_or_at X (group_entry d t c) (layout c ++ y) x (n - (weight c + 1)) there),
     )
 
 back_from : (E : List Entry) (n : ℕ) (l : Level) (us : List Level) → At E l us n → (k : ℕ) → entry_here l ≡ End k → (k ≤ n) × ((d : Entry) → get_or E n d ≡ End k → entry_owner (get_or E (n - k) d) ≡ level_owner l)
-back_from E n (level o p (tree (leaf i) f)) us a k e = cc
+back_from E n (level o p (tree (leaf i) f)) us a k e = absurd (not_leaf (End k) i refl e)
 back_from E n (level o p (tree (group x c t) f)) us a k e = cc
 back_from E n (level o p no_trees) us a k e =
     let q : back (level o p no_trees) ≡ k = cc in

@@ -1,11 +1,11 @@
 -- What is read, and what is in front.
 use Rattle.std.proofs.Common.{◌≡◌, ◌∙◌, sym, ap, refl, ℕ, Bool, false, cond, List, [], ◌∷◌, ◌++◌, Option, Some, None, is_some}
 use Rattle.tok_core.specs.Forest.{ident, punct, literal, Tree, leaf, group, no_trees, tree}
-use Rattle.tok_core.proofs.Facts.{joined-none}
+use Rattle.tok_core.proofs.Facts.{concat-none}
 use Rattle.tok_buffer.specs.Entry.{Entered, enter_any}
 use Rattle.tok_buffer.specs.Place.{level, Place, empty_place, at, front, pass}
 use Rattle.tok_buffer.specs.Descent.{descend}
-use Rattle.tok_buffer.specs.Reads.{and_then, behind, take, is_ident, is_ident_of, is_group, is_joint_of, read_punctuation}
+use Rattle.tok_buffer.specs.Reads.{and_then, place_after, read_if, is_ident, is_ident_of, is_group, is_joint_of, read_punctuation}
 use Rattle.tok_buffer.specs.Rest.{rest}
 
 -- a tree that is there and wanted
@@ -21,19 +21,19 @@ module _ (wanted : List ℕ → Bool) where
   no_word_in (Some (group d inside span)) p e = refl
 
   -- where no identifier is read, none of a text is
-  pub no_word : (p : Place) → take is_ident p ≡ None → is_some (take (is_ident_of wanted) p) ≡ false
+  pub no_word : (p : Place) → read_if is_ident p ≡ None → is_some (read_if (is_ident_of wanted) p) ≡ false
   no_word p e = no_word_in (front p) (pass p) e
 
 -- a group that is entered is the front tree
-pub group_read : (p : Place) (e : Entered) → enter_any p ≡ Some e → take is_group p ≡ Some (group e.delimiter (rest e.content) e.span ∷ [], e.behind)
+pub group_read : (p : Place) (e : Entered) → enter_any p ≡ Some e → read_if is_group p ≡ Some (group e.delimiter (rest e.content) e.span ∷ [], e.after)
 group_read empty_place e h = cc
 group_read (at n s c (level o p no_trees) ls) e h = cc
 group_read (at n s c (level o p (tree (leaf l) f)) ls) e h = cc
 group_read (at n s c (level o p (tree (group d inside span) f)) ls) e h =
     let place = at n s c (level o p (tree (group d inside span) f)) ls in
     let same : enter_any place ≡ Some e = h in
-    let whole : Option Entered → Option (List Tree × Place) = λ x. elim x [ None ↦ None | Some y ↦ Some (group y.delimiter (rest y.content) y.span ∷ [], y.behind) ] in
-    ap (λ i. Some (group d i span ∷ [], pass place)) (sym (joined-none inside)) ∙ ap whole same
+    let whole : Option Entered → Option (List Tree × Place) = λ x. elim x [ None ↦ None | Some y ↦ Some (group y.delimiter (rest y.content) y.span ∷ [], y.after) ] in
+    ap (λ i. Some (group d i span ∷ [], pass place)) (sym (concat-none inside)) ∙ ap whole same
 
 -- where the first punct of a punctuation is joint, the others decide
 then_is_some : (r : List Tree × Place) (g : Place → Option (List Tree × Place)) → is_some (and_then (Some r) g) ≡ is_some (g r.1)
@@ -42,13 +42,13 @@ then_is_some r g = go (g r.1) where
   go None = refl
   go (Some y) = refl
 
-behind_then : (r : Option (List Tree × Place)) (q : Place) (g : Place → Option (List Tree × Place)) → behind r ≡ Some q → is_some (and_then r g) ≡ is_some (g q)
-behind_then None q g e = cc
-behind_then (Some r) q g e =
+after_then : (r : Option (List Tree × Place)) (q : Place) (g : Place → Option (List Tree × Place)) → place_after r ≡ Some q → is_some (and_then r g) ≡ is_some (g q)
+after_then None q g e = cc
+after_then (Some r) q g e =
     let same : r.1 ≡ q = cc in then_is_some r g ∙ ap (λ p. is_some (g p)) same
 
-pub joint_then : (c d : ℕ) (cs : List ℕ) (p q : Place) → behind (take (is_joint_of c) (descend p)) ≡ Some q → is_some (read_punctuation (c ∷ (d ∷ cs)) p) ≡ is_some (read_punctuation (d ∷ cs) q)
-joint_then c d cs p q e = behind_then (take (is_joint_of c) (descend p)) q (read_punctuation (d ∷ cs)) e
+pub joint_then : (c d : ℕ) (cs : List ℕ) (p q : Place) → place_after (read_if (is_joint_of c) (descend p)) ≡ Some q → is_some (read_punctuation (c ∷ (d ∷ cs)) p) ≡ is_some (read_punctuation (d ∷ cs) q)
+joint_then c d cs p q e = after_then (read_if (is_joint_of c) (descend p)) q (read_punctuation (d ∷ cs)) e
 
 -- none is in front of the empty place
 pub no_punctuation : (cs : List ℕ) → read_punctuation cs empty_place ≡ None

@@ -11,12 +11,10 @@ use Rattle.tok_buffer.specs.Entry.{same_delimiter}
 use Rattle.tok_buffer.specs.Ahead.{first_of}
 use Rattle.tok_buffer.specs.Place.{Owner, whole, Level, level, Place, empty_place, at, absorb}
 use Rattle.tok_buffer.specs.Moves.{level_ahead, move, levels_at, up_to, end_of, in_scope}
-use Rattle.tok_buffer.specs.Layout.{leaf_entry, leaf_in, entry_here}
+use Rattle.tok_buffer.specs.Layout.{leaf_entry, entry_here}
 use Rattle.tok_buffer.specs.declared.entry.Opening.{Opening as Sort}
-use Rattle.tok_buffer.specs.declared.entry.Entry.TheVariants as entry
 use Rattle.tok_buffer.specs.declared.entry.Entry.TheVariants.{Group, End}
-use Rattle.tok_buffer.specs.declared.entry.Leaf as held
-use Rattle.tok_buffer.proofs.Layouts.{leaf_in-entry}
+use Rattle.tok_buffer.proofs.Layouts.{same_leaf, not_leaf}
 use Rattle.tok_buffer.proofs.Stacks.{levels_next}
 use Rattle.tok_buffer.proofs.InScope.{ahead-absorb, In, seen_step, outer_seen, ends_later}
 
@@ -59,7 +57,7 @@ open_seen d o p delimiter.Bracket t c f us q = absurd (false≢true q)
 -- a group opens
 scan_open : (d : ℕ) (l : Level) (us : List Level) (g : Sort) (k : ℕ) → entry_here l ≡ Group g k → same_delimiter g.delimiter delimiter.None ≡ true → shown_at (suc d) (move l us).0 (move l us).1 ≡ shown_at d l us
 scan_open d (level o p no_trees) us g k e q = cc
-scan_open d (level o p (tree (leaf i) f)) us g k e q = cc
+scan_open d (level o p (tree (leaf i) f)) us g k e q = absurd (not_leaf (Group g k) i refl e)
 scan_open d (level o p (tree (group x c t) f)) us g k e q =
     let G : Sort = record { delimiter = x; span = t } in
     let h : G ≡ g = cc in
@@ -67,7 +65,7 @@ scan_open d (level o p (tree (group x c t) f)) us g k e q =
 
 -- a group ends
 scan_close : (d : ℕ) (l u : Level) (us : List Level) (k : ℕ) → entry_here l ≡ End k → shown_at (d - 1) (move l (u ∷ us)).0 (move l (u ∷ us)).1 ≡ shown_at d l (u ∷ us)
-scan_close d (level o p (tree (leaf i) f)) u us k e = cc
+scan_close d (level o p (tree (leaf i) f)) u us k e = absurd (not_leaf (End k) i refl e)
 scan_close d (level o p (tree (group x c t) f)) u us k e = cc
 scan_close zero (level o p no_trees) u us k e = shown_at_absorb 0 o p u us ∙ unmarked_at u us
 scan_close (suc d) (level o p no_trees) u us k e =
@@ -91,16 +89,15 @@ group_first zero o p x t c f us q = ap (λ z. first_of (z ++ ahead_in us)) (visi
 group_first (suc d) o p x t c f [] q = ap first_of (visible_group true x t c f q)
 group_first (suc d) o p x t c f (u ∷ us) q = ap (λ z. first_of (z ++ shown_at d u us)) (visible_group true x t c f q)
 
-pub scan_leaf : (d : ℕ) (l : Level) (us : List Level) (i : held.Leaf) → entry_here l ≡ entry.Leaf i → first_of (shown_at d l us) ≡ Some (marked d, leaf_span (leaf_in i))
-scan_leaf d (level o p no_trees) us i e = cc
-scan_leaf d (level o p (tree (group x c t) f)) us i e = cc
+pub scan_leaf : (d : ℕ) (l : Level) (us : List Level) (i : Leaf) → entry_here l ≡ leaf_entry i → first_of (shown_at d l us) ≡ Some (marked d, leaf_span i)
+scan_leaf d (level o p no_trees) us i e = absurd (not_leaf _ i refl (sym e))
+scan_leaf d (level o p (tree (group x c t) f)) us i e = absurd (not_leaf _ i refl (sym e))
 scan_leaf d (level o p (tree (leaf j) f)) us i e =
-    let h : leaf_entry j ≡ i = cc in
-    leaf_first d o p j f us ∙ ap (λ y. Some (marked d, leaf_span y)) (sym (leaf_in-entry j) ∙ ap leaf_in h)
+    leaf_first d o p j f us ∙ ap (λ y. Some (marked d, leaf_span y)) (same_leaf j i e)
 
 pub scan_group : (d : ℕ) (l : Level) (us : List Level) (g : Sort) (k : ℕ) → entry_here l ≡ Group g k → same_delimiter g.delimiter delimiter.None ≡ false → first_of (shown_at d l us) ≡ Some (marked d, g.span)
 scan_group d (level o p no_trees) us g k e q = cc
-scan_group d (level o p (tree (leaf i) f)) us g k e q = cc
+scan_group d (level o p (tree (leaf i) f)) us g k e q = absurd (not_leaf (Group g k) i refl e)
 scan_group d (level o p (tree (group x c t) f)) us g k e q =
     let G : Sort = record { delimiter = x; span = t } in
     let h : G ≡ g = cc in
@@ -156,7 +153,7 @@ shown_open d F n s g k h ne e q =
     rw add-one (shown_next (suc d) F n s h ne ∙ scan_open d x.0 (up_to (end_of n x.0) s x.1) g k e q)
 
 close_at : (d n s : ℕ) (l : Level) (us : List Level) (k : ℕ) → In n s (l, us) → n ≢ s → entry_here l ≡ End k → shown_at (d - 1) (move l (up_to (end_of n l) s us)).0 (move l (up_to (end_of n l) s us)).1 ≡ shown_at d l (up_to (end_of n l) s us)
-close_at d n s (level o p (tree (leaf i) f)) us k h ne e = cc
+close_at d n s (level o p (tree (leaf i) f)) us k h ne e = absurd (not_leaf (End k) i refl e)
 close_at d n s (level o p (tree (group x c t) f)) us k h ne e = cc
 close_at d n s (level o p no_trees) us k h ne e =
     let w = outer_seen n s o p us h ne in

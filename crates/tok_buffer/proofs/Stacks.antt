@@ -3,31 +3,30 @@ use Rattle.std.proofs.Common.{◌≡◌, ◌⊎◌, inl, inr, ℕ, zero, suc, �
 use Rattle.std.proofs.lemmas.List.{get_or_at, append-nil}
 use Rattle.tok_core.specs.declared.span.Span.{Span}
 use Rattle.tok_core.specs.declared.group.Delimiter.{Delimiter}
-use Rattle.tok_core.specs.Forest.{Leaf, leaf, group, Forest, no_trees, tree, joined, turned_onto}
+use Rattle.tok_core.specs.Forest.{Leaf, leaf, group, Forest, no_trees, tree, concat, turned_onto}
 use Rattle.tok_core.specs.Weight.{weight}
-use Rattle.tok_core.proofs.Facts.{joined-none, turned_back}
-use Rattle.tok_buffer.specs.Place.{Owner, whole, group_of, Level, level}
+use Rattle.tok_core.proofs.Facts.{concat-none, turned_back}
+use Rattle.tok_buffer.specs.Place.{Owner, whole, in_group, Level, level}
 use Rattle.tok_buffer.specs.Moves.{move, levels_at}
 use Rattle.tok_buffer.specs.declared.entry.Entry.{Entry}
-use Rattle.tok_buffer.specs.declared.entry.Entry.TheVariants as entry
-use Rattle.tok_buffer.specs.declared.entry.Entry.TheVariants.{Group, End}
-use Rattle.tok_buffer.specs.Layout.{leaf_entry, layout, entries_of, forest_in, opening, entry_here}
+use Rattle.tok_buffer.specs.declared.entry.Entry.TheVariants.{End}
+use Rattle.tok_buffer.specs.Layout.{leaf_entry, layout, entries_of, forest_in, group_entry, entry_here}
 use Rattle.tok_buffer.proofs.Layouts.{layout-turned, length-layout}
 
 -- what lies before and after a level's content c
 abbrev pub outside : Owner → Forest → List Level → List Entry × List Entry
 outside whole c us = ([], End 0 ∷ [])
-outside (group_of d s) c [] = ([], End (weight c + 1) ∷ [])
-outside (group_of d s) c (level o p f ∷ us) = (
-  ((outside o (turned_onto p (tree (group d c s) f)) us).0 ++ layout (turned_onto p no_trees)) ++ opening d s c ∷ [],
+outside (in_group d s) c [] = ([], End (weight c + 1) ∷ [])
+outside (in_group d s) c (level o p f ∷ us) = (
+  ((outside o (turned_onto p (tree (group d c s) f)) us).0 ++ layout (turned_onto p no_trees)) ++ group_entry d s c ∷ [],
   End (weight c + 1) ∷ (layout f ++ (outside o (turned_onto p (tree (group d c s) f)) us).1),
 )
 
 abbrev pub nested : Level → List Level → Type 0
 nested (level whole p f) [] = Unit {0}
 nested (level whole p f) (u ∷ us) = ⊥
-nested (level (group_of d s) p f) [] = ⊥
-nested (level (group_of d s) p f) (u ∷ us) = nested u us
+nested (level (in_group d s) p f) [] = ⊥
+nested (level (in_group d s) p f) (u ∷ us) = nested u us
 
 abbrev pub before : Level → List Level → List Entry
 before (level o p f) us = (outside o (turned_onto p f) us).0 ++ layout (turned_onto p no_trees)
@@ -37,20 +36,20 @@ after (level o p f) us = layout f ++ (outside o (turned_onto p f) us).1
 
 pub move-nested : (l : Level) (us : List Level) → nested l us → nested (move l us).0 (move l us).1
 move-nested (level whole p no_trees) [] h = h
-move-nested (level (group_of d s) p no_trees) [] h = h
+move-nested (level (in_group d s) p no_trees) [] h = h
 move-nested (level whole p no_trees) (u ∷ us) h = absurd h
-move-nested (level (group_of d s) p no_trees) (level whole q g ∷ []) h = h
-move-nested (level (group_of d s) p no_trees) (level whole q g ∷ u ∷ us) h = h
-move-nested (level (group_of d s) p no_trees) (level (group_of e t) q g ∷ []) h = h
-move-nested (level (group_of d s) p no_trees) (level (group_of e t) q g ∷ u ∷ us) h = h
+move-nested (level (in_group d s) p no_trees) (level whole q g ∷ []) h = h
+move-nested (level (in_group d s) p no_trees) (level whole q g ∷ u ∷ us) h = h
+move-nested (level (in_group d s) p no_trees) (level (in_group e t) q g ∷ []) h = h
+move-nested (level (in_group d s) p no_trees) (level (in_group e t) q g ∷ u ∷ us) h = h
 move-nested (level whole p (tree (leaf i) f)) [] h = h
 move-nested (level whole p (tree (leaf i) f)) (u ∷ us) h = h
-move-nested (level (group_of d s) p (tree (leaf i) f)) [] h = h
-move-nested (level (group_of d s) p (tree (leaf i) f)) (u ∷ us) h = h
+move-nested (level (in_group d s) p (tree (leaf i) f)) [] h = h
+move-nested (level (in_group d s) p (tree (leaf i) f)) (u ∷ us) h = h
 move-nested (level whole p (tree (group d c s) f)) [] h = h
 move-nested (level whole p (tree (group d c s) f)) (u ∷ us) h = h
-move-nested (level (group_of e t) p (tree (group d c s) f)) [] h = h
-move-nested (level (group_of e t) p (tree (group d c s) f)) (u ∷ us) h = h
+move-nested (level (in_group e t) p (tree (group d c s) f)) [] h = h
+move-nested (level (in_group e t) p (tree (group d c s) f)) (u ∷ us) h = h
 
 -- a move goes past one entry
 abbrev pub Moves : Level → List Level → Type 0
@@ -58,17 +57,17 @@ Moves l us =
     (before (move l us).0 (move l us).1 ≡ before l us ++ entry_here l ∷ [])
     × (after l us ≡ entry_here l ∷ after (move l us).0 (move l us).1)
 
-leaf_moves : (r : List Entry × List Entry) (p : Forest) (i : Leaf) (f : Forest) → (r.0 ++ layout (turned_onto p (tree (leaf i) no_trees)) ≡ (r.0 ++ layout (turned_onto p no_trees)) ++ entry.Leaf (leaf_entry i) ∷ []) × (entry.Leaf (leaf_entry i) ∷ (layout f ++ r.1) ≡ entry.Leaf (leaf_entry i) ∷ (layout f ++ r.1))
+leaf_moves : (r : List Entry × List Entry) (p : Forest) (i : Leaf) (f : Forest) → (r.0 ++ layout (turned_onto p (tree (leaf i) no_trees)) ≡ (r.0 ++ layout (turned_onto p no_trees)) ++ leaf_entry i ∷ []) × (leaf_entry i ∷ (layout f ++ r.1) ≡ leaf_entry i ∷ (layout f ++ r.1))
 leaf_moves r p i f = (
-  ap (λ z. r.0 ++ z) (layout-turned p (tree (leaf i) no_trees)) ∙ sym (append_assoc r.0 (layout (turned_onto p no_trees)) (entry.Leaf (leaf_entry i) ∷ [])),
+  ap (λ z. r.0 ++ z) (layout-turned p (tree (leaf i) no_trees)) ∙ sym (append_assoc r.0 (layout (turned_onto p no_trees)) (leaf_entry i ∷ [])),
   refl,
 )
 
-open_moves : (r : List Entry × List Entry) (p : Forest) (d : Delimiter) (s : Span) (c f : Forest) → ((((r.0 ++ layout (turned_onto p no_trees)) ++ opening d s c ∷ []) ++ []) ≡ (r.0 ++ layout (turned_onto p no_trees)) ++ opening d s c ∷ []) × (opening d s c ∷ ((layout c ++ End (weight c + 1) ∷ layout f) ++ r.1) ≡ opening d s c ∷ (layout c ++ End (weight c + 1) ∷ (layout f ++ r.1)))
+open_moves : (r : List Entry × List Entry) (p : Forest) (d : Delimiter) (s : Span) (c f : Forest) → ((((r.0 ++ layout (turned_onto p no_trees)) ++ group_entry d s c ∷ []) ++ []) ≡ (r.0 ++ layout (turned_onto p no_trees)) ++ group_entry d s c ∷ []) × (group_entry d s c ∷ ((layout c ++ End (weight c + 1) ∷ layout f) ++ r.1) ≡ group_entry d s c ∷ (layout c ++ End (weight c + 1) ∷ (layout f ++ r.1)))
 open_moves r p d s c f =
-    (append-nil _, ap (λ x. opening d s c ∷ x) (append_assoc (layout c) (End (weight c + 1) ∷ layout f) r.1))
+    (append-nil _, ap (λ x. group_entry d s c ∷ x) (append_assoc (layout c) (End (weight c + 1) ∷ layout f) r.1))
 
-close_moves : (r : List Entry × List Entry) (q : Forest) (d : Delimiter) (s : Span) (x g : Forest) → (r.0 ++ layout (turned_onto q (tree (group d x s) no_trees)) ≡ (((r.0 ++ layout (turned_onto q no_trees)) ++ opening d s x ∷ []) ++ layout x) ++ End (weight x + 1) ∷ []) × (End (weight x + 1) ∷ (layout g ++ r.1) ≡ End (weight x + 1) ∷ (layout g ++ r.1))
+close_moves : (r : List Entry × List Entry) (q : Forest) (d : Delimiter) (s : Span) (x g : Forest) → (r.0 ++ layout (turned_onto q (tree (group d x s) no_trees)) ≡ (((r.0 ++ layout (turned_onto q no_trees)) ++ group_entry d s x ∷ []) ++ layout x) ++ End (weight x + 1) ∷ []) × (End (weight x + 1) ∷ (layout g ++ r.1) ≡ End (weight x + 1) ∷ (layout g ++ r.1))
 close_moves r q d s x g =
     (ap (λ z. r.0 ++ z) (layout-turned q (tree (group d x s) no_trees)) ∙ simp append_assoc, refl)
 
@@ -77,7 +76,7 @@ move_past o p (tree (leaf i) f) us h k = leaf_moves (outside o (turned_onto p (t
 move_past o p (tree (group d c s) f) us h k = open_moves (outside o (turned_onto p (tree (group d c s) f)) us) p d s c f
 move_past o p no_trees [] h k = absurd (omega arith)
 move_past whole p no_trees (u ∷ us) h k = absurd h
-move_past (group_of d s) p no_trees (level o q g ∷ us) h k =
+move_past (in_group d s) p no_trees (level o q g ∷ us) h k =
     let x = turned_onto p no_trees in close_moves (outside o (turned_onto q (tree (group d x s) g)) us) q d s x g
 
 abbrev pub At : List Entry → Level → List Level → ℕ → Type 0
@@ -87,7 +86,7 @@ pub last_or : (o : Owner) (p f : Forest) (us : List Level) → nested (level o p
 last_or o p (tree (leaf i) f) us h = inr (omega arith)
 last_or o p (tree (group d c s) f) us h = inr (omega arith)
 last_or whole p no_trees [] h = inl (omega arith)
-last_or (group_of d s) p no_trees [] h = absurd h
+last_or (in_group d s) p no_trees [] h = absurd h
 last_or o p no_trees (u ∷ us) h = inr (omega arith)
 
 step_at : (E : List Entry) (w n : ℕ) (l : Level) (us : List Level) → length E ≡ w + 1 → n < w → At E l us n → At E (move l us).0 (move l us).1 (suc n)
@@ -119,9 +118,9 @@ after_here : (l : Level) (us : List Level) → nested l us → (rest : List Entr
 after_here (level o p (tree (leaf i) f)) us h = (_, refl)
 after_here (level o p (tree (group d c s) f)) us h = (_, refl)
 after_here (level whole p no_trees) [] h = ([], refl)
-after_here (level (group_of d s) p no_trees) [] h = absurd h
+after_here (level (in_group d s) p no_trees) [] h = absurd h
 after_here (level whole p no_trees) (u ∷ us) h = absurd h
-after_here (level (group_of d s) p no_trees) (level o q g ∷ us) h = (_, refl)
+after_here (level (in_group d s) p no_trees) (level o q g ∷ us) h = (_, refl)
 
 entry_from : (E : List Entry) (l : Level) (us : List Level) (n : ℕ) (d : Entry) → At E l us n → get_or E n d ≡ entry_here l
 entry_from E l us n d (h, hw, hl) =
@@ -133,7 +132,7 @@ pub entry_at : (F : Forest) (n : ℕ) (d : Entry) → n ≤ weight F → get_or 
 entry_at F n d h = entry_from (entries_of F) (levels_at F n).0 (levels_at F n).1 n d (at_all F n h)
 
 -- moving past a whole forest
-pub jump : (F g : Forest) (n : ℕ) (o : Owner) (p f : Forest) (us : List Level) → levels_at F n ≡ (level o p (joined g f), us) → levels_at F (n + weight g) ≡ (level o (turned_onto g p) f, us)
+pub jump : (F g : Forest) (n : ℕ) (o : Owner) (p f : Forest) (us : List Level) → levels_at F n ≡ (level o p (concat g f), us) → levels_at F (n + weight g) ≡ (level o (turned_onto g p) f, us)
 unfolding levels_at
 jump F no_trees n o p f us e = rw add-zero e
 jump F (tree (leaf i) g) n o p f us e =
@@ -142,10 +141,10 @@ jump F (tree (leaf i) g) n o p f us e =
 jump F (tree (group d c s) g) n o p f us e =
     let q : n + (2 + weight c + weight g) ≡ suc (suc n + weight c) + weight g = omega arith in
     let inside =
-    jump F c (suc n) (group_of d s) no_trees no_trees (level o p (joined g f) ∷ us) (ap (λ x. move x.0 x.1) e ∙ ap (λ z. (level (group_of d s) no_trees z, level o p (joined g f) ∷ us)) (sym (joined-none c)))
+    jump F c (suc n) (in_group d s) no_trees no_trees (level o p (concat g f) ∷ us) (ap (λ x. move x.0 x.1) e ∙ ap (λ z. (level (in_group d s) no_trees z, level o p (concat g f) ∷ us)) (sym (concat-none c)))
     in
     ap (levels_at F) q
-    ∙ jump F g (suc (suc n + weight c)) o (tree (group d c s) p) f us (ap (λ x. move x.0 x.1) inside ∙ ap (λ z. (level o (tree (group d z s) p) (joined g f), us)) (turned_back c))
+    ∙ jump F g (suc (suc n + weight c)) o (tree (group d c s) p) f us (ap (λ x. move x.0 x.1) inside ∙ ap (λ z. (level o (tree (group d z s) p) (concat g f), us)) (turned_back c))
 
 pub levels_next : (F : Forest) (n : ℕ) → levels_at F (n + 1) ≡ move (levels_at F n).0 (levels_at F n).1
 unfolding levels_at

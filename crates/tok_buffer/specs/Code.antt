@@ -7,7 +7,7 @@ use Rattle.tok_core.specs.Code.{delimiter_of, delimiter-back, forest_code}
 use Rattle.tok_core.specs.Forest.{Forest}
 use Rattle.tok_core.specs.declared.span.Span.{Span}
 use Rattle.tok_buffer.specs.Ahead.{Leftover}
-use Rattle.tok_buffer.specs.Place.{Owner, whole, group_of, Level, level, Place, empty_place, at}
+use Rattle.tok_buffer.specs.Place.{Owner, whole, in_group, Level, level, Place, empty_place, at}
 
 abbrev pub coded_spans : Coded Span
 coded_spans = code_by SpanCode coded_span span_code span_of span-back
@@ -17,17 +17,17 @@ OwnerCode = Option (ℕ × SpanCode)
 
 abbrev pub owner_code : Owner → OwnerCode
 owner_code whole = None
-owner_code (group_of d span) = Some (delimiter_code d, span_code span)
+owner_code (in_group d span) = Some (delimiter_code d, span_code span)
 
 abbrev pub owner_of : OwnerCode → Owner
 owner_of None = whole
-owner_of (Some c) = group_of (delimiter_of c.0) (span_of c.1)
+owner_of (Some c) = in_group (delimiter_of c.0) (span_of c.1)
 
 pub owner-back : (o : Owner) → owner_of (owner_code o) ≡ o
 owner-back whole = refl
-owner-back (group_of d span) =
-    ap (λ e. group_of e (span_of (span_code span))) (delimiter-back d)
-    ∙ ap (group_of d) (span-back span)
+owner-back (in_group d span) =
+    ap (λ e. in_group e (span_of (span_code span))) (delimiter-back d)
+    ∙ ap (in_group d) (span-back span)
 
 abbrev pub coded_owner : Coded Owner
 coded_owner =

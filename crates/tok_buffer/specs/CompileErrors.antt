@@ -6,8 +6,8 @@ use Rattle.tok_core.specs.declared.group.Delimiter.TheVariants.{Brace}
 use Rattle.tok_core.specs.declared.punct.Spacing.TheVariants.{Alone, Joint}
 use Rattle.tok_core.specs.declared.span.Span.{Span}
 use Rattle.tok_core.specs.Forest.{ident, punct, literal, leaf, group, Forest, no_trees, tree}
-use Rattle.tok_core.specs.Forest.{forest, joined}
-use Rattle.tok_core.specs.Lexical.Quoting.{quoted}
+use Rattle.tok_core.specs.Forest.{forest, concat}
+use Rattle.tok_core.specs.Lexical.Quoting.{in_quotes}
 use Rattle.tok_buffer.specs.declared.error.Message.{Message}
 
 abbrev pub colon : ℕ
@@ -26,14 +26,14 @@ segment name span =
 abbrev pub invocation : (start end : Span) → List ℕ → Forest
 invocation start end text =
     forest (leaf (punct bang Alone start) ∷ group Brace
-    (tree (leaf (literal (quoted (chars text)) end)) no_trees) end ∷ [])
+    (tree (leaf (literal (in_quotes (chars text)) end)) no_trees) end ∷ [])
 
 -- the path and the `!` at the start span, the braces and the text at the end span
 abbrev pub compile_error : Message → Forest
 compile_error m =
-    joined (segment (codes "core") m.start)
-    (joined (segment (codes "compile_error") m.start) (invocation m.start m.end m.text))
+    concat (segment (codes "core") m.start)
+    (concat (segment (codes "compile_error") m.start) (invocation m.start m.end m.text))
 
 abbrev pub compile_errors : List Message → Forest
 compile_errors [] = no_trees
-compile_errors (m ∷ ms) = joined (compile_error m) (compile_errors ms)
+compile_errors (m ∷ ms) = concat (compile_error m) (compile_errors ms)

@@ -5,7 +5,7 @@ use Rattle.std.specs.Option.{option_or}
 use Rattle.tok_core.specs.declared.group.Delimiter.TheVariants as delimiter
 use Rattle.tok_core.specs.Forest.{leaf, group, Forest, no_trees, tree, turned_onto}
 use Rattle.tok_core.specs.Weight.{weight}
-use Rattle.tok_buffer.specs.Place.{Owner, group_of, Level, level, Place, empty_place, at, absorb}
+use Rattle.tok_buffer.specs.Place.{Owner, in_group, Level, level, Place, empty_place, at, absorb}
 use Rattle.tok_buffer.specs.Place.{settle, settled}
 
 -- the place at the first visible tree of these trees, which stand ahead in a level; none where they
@@ -17,7 +17,7 @@ into_front (tree (leaf l) f) number scope count owner passed ls =
     Some (at number scope count (level owner passed (tree (leaf l) f)) ls)
 into_front (tree (group delimiter.None inside span) f) number scope count owner passed ls =
     option_or
-    (into_front inside number scope (count + 1) (group_of delimiter.None span) no_trees
+    (into_front inside number scope (count + 1) (in_group delimiter.None span) no_trees
     (level owner passed f ∷ ls))
     (into_front f number scope (count + (2 + weight inside)) owner
     (tree (group delimiter.None inside span) passed) ls)
@@ -51,7 +51,7 @@ is_before_invisible p = false
 abbrev pub inwards : Place → Place
 inwards (at number scope count
     (level owner passed (tree (group delimiter.None inside span) f)) ls) =
-    settle number scope (count + 1) (level (group_of delimiter.None span) no_trees inside)
+    settle number scope (count + 1) (level (in_group delimiter.None span) no_trees inside)
     (level owner passed f ∷ ls)
 inwards p = p
 

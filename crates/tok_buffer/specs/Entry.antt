@@ -7,7 +7,7 @@ use Rattle.tok_core.specs.declared.span.Span.{Span}
 use Rattle.tok_core.specs.Forest.{group, no_trees, tree}
 use Rattle.tok_core.specs.Weight.{weight}
 use Rattle.tok_buffer.specs.Descent.{descend}
-use Rattle.tok_buffer.specs.Place.{group_of, level, Place, at, pass}
+use Rattle.tok_buffer.specs.Place.{in_group, level, Place, at, pass}
 
 abbrev pub same_delimiter : Delimiter → Delimiter → Bool
 same_delimiter Parenthesis Parenthesis = true
@@ -20,7 +20,7 @@ pub record Entered : Type 0 where
   pub delimiter : Delimiter
   pub span : Span
   pub content : Place
-  pub behind : Place
+  pub after : Place
 
 -- the group in front, of whatever delimiter
 abbrev pub enter_any : Place → Option Entered
@@ -29,8 +29,8 @@ enter_any (at n s c (level o p (tree (group d inside span) f)) ls) =
       delimiter = d;
       span = span;
       content = at n (c + 1 + weight inside) (c + 1)
-          (level (group_of d span) no_trees inside) [];
-      behind =
+          (level (in_group d span) no_trees inside) [];
+      after =
           pass (at n s c (level o p (tree (group d inside span) f)) ls);
     })
 enter_any p = None

@@ -43,7 +43,7 @@ pub record EnteredAhead : Type 0 where
   pub delimiter : Delimiter
   pub span : Span
   pub content : Forest
-  pub behind : Forest
+  pub after : Forest
 
 abbrev pub entered_ahead : Entered → EnteredAhead
 entered_ahead e =
@@ -51,7 +51,7 @@ entered_ahead e =
       delimiter = e.delimiter;
       span = e.span;
       content = erased_ahead e.content;
-      behind = erased_ahead e.behind;
+      after = erased_ahead e.after;
     }
 
 abbrev pub first_group : Delimiter → Forest → Option EnteredAhead
@@ -59,7 +59,7 @@ first_group d no_trees = None
 first_group d (tree (leaf l) f) = None
 first_group d (tree (group e inside span) f) =
     cond (same_delimiter d e)
-    (Some (record { delimiter = e; span = span; content = inside; behind = f })) None
+    (Some (record { delimiter = e; span = span; content = inside; after = f })) None
 
 abbrev pub first_tree_span : Forest → Option Span
 first_tree_span no_trees = None

@@ -5,6 +5,7 @@ pub mod CompileErrors
 pub mod Cursors
 pub mod Descent
 pub mod Entry
+pub mod Gives
 pub mod InFront
 pub mod Layout
 pub mod Lifetimes
@@ -20,4 +21,14 @@ pub mod Rest
 pub mod SameView
 pub mod Spans
 pub mod View
-pub mod Words
+pub mod Refusals
+pub use Rattle.tok_core.specs.Clear
+pub use Rattle.tok_core.specs.Forest
+pub use Rattle.tok_core.specs.Laws
+pub use Rattle.tok_core.specs.Lexical.Characters
+pub use Rattle.tok_core.specs.Lexical.Errors
+pub use Rattle.tok_core.specs.Lexical.Words as LexicalWords
+pub use Rattle.tok_core.specs.Seen
+pub use Rattle.tok_core.specs.Spans as TreeSpans
+pub use Rattle.tok_core.specs.Text
+pub use Rattle.tok_core.specs.Weight

@@ -9,7 +9,7 @@ use Rattle.tok_core.specs.declared.span.Span.{Span}
 use Rattle.tok_core.specs.Spans.{call_site}
 use Rattle.tok_buffer.specs.declared.error.Message.{Message}
 use Rattle.tok_buffer.specs.Spans.{covering}
-use Rattle.tok_buffer.specs.Words.{Refusal}
+use Rattle.tok_buffer.specs.Refusals.{Refusal}
 
 -- a message: the spans of the first and the last token that it speaks of, and its text
 abbrev pub message : (start end : Span) → List ℕ → Message
@@ -28,9 +28,9 @@ abbrev pub spans_of : List Message → List (Span × Span)
 spans_of e = map (λ m. (m.start, m.end)) e
 
 -- what an error shows: its first message
-abbrev pub first_span : List Message → Span
-first_span [] = call_site
-first_span (m ∷ ms) = covering m.start m.end
+abbrev pub first_message_span : List Message → Span
+first_message_span [] = call_site
+first_message_span (m ∷ ms) = covering m.start m.end
 
 abbrev pub first_text : List Message → List ℕ
 first_text [] = []

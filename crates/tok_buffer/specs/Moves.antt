@@ -4,7 +4,7 @@ use Rattle.tok_core.specs.declared.group.Delimiter.TheVariants as delimiter
 use Rattle.tok_core.specs.Forest.{leaf, group, Forest, no_trees, tree}
 use Rattle.tok_core.specs.Weight.{weight}
 use Rattle.tok_buffer.specs.Entry.{same_delimiter}
-use Rattle.tok_buffer.specs.Place.{Owner, whole, group_of, Level, level, Place, empty_place, at}
+use Rattle.tok_buffer.specs.Place.{Owner, whole, in_group, Level, level, Place, empty_place, at}
 use Rattle.tok_buffer.specs.Place.{absorb}
 
 abbrev pub level_ahead : Level → Forest
@@ -22,7 +22,7 @@ move (level o p no_trees) [] = (level o p no_trees, [])
 move (level o p no_trees) (u ∷ us) = (absorb o p u, us)
 move (level o p (tree (leaf l) f)) us = (level o (tree (leaf l) p) f, us)
 move (level o p (tree (group d inside span) f)) us =
-    (level (group_of d span) no_trees inside, level o p f ∷ us)
+    (level (in_group d span) no_trees inside, level o p f ∷ us)
 
 -- all levels after so many moves from the start of a forest, the innermost first
 unfoldable pub levels_at : Forest → ℕ → Level × List Level

@@ -2,13 +2,13 @@
 use Rattle.std.specs.Prelude.{ℕ, ◌+◌, Bool, true, false, List, [], ◌∷◌, Option, Some, None}
 use Rattle.tok_core.specs.declared.group.Delimiter.{Delimiter}
 use Rattle.tok_core.specs.declared.span.Span.{Span}
-use Rattle.tok_core.specs.Forest.{Leaf, Tree, leaf, group, Forest, no_trees, tree, turned_onto}
+use Rattle.tok_core.specs.Forest.{Tree, group, Forest, no_trees, tree, turned_onto}
 use Rattle.tok_core.specs.Weight.{weight, tree_weight}
 
 -- whose trees a level has: the whole forest's or a group's
 pub data Owner : Type 0 where
   whole : Owner
-  group_of : Delimiter → Span → Owner
+  in_group : Delimiter → Span → Owner
 
 -- the trees passed, the last one first, and the trees ahead
 pub data Level : Type 0 where
@@ -26,7 +26,7 @@ start number f = at number (weight f) 0 (level whole no_trees f) []
 
 -- a group that has been passed whole is the last tree passed of the level around it
 abbrev pub absorb : Owner → Forest → Level → Level
-absorb (group_of delimiter span) passed (level owner before ahead) =
+absorb (in_group delimiter span) passed (level owner before ahead) =
     level owner (tree (group delimiter (turned_onto passed no_trees) span) before) ahead
 absorb whole passed l = l
 
@@ -48,11 +48,6 @@ abbrev pub front : Place → Option Tree
 front (at number scope count (level owner passed (tree t f)) ls) = Some t
 front p = None
 
--- the leaf in front
-abbrev pub front_leaf : Place → Option Leaf
-front_leaf (at number scope count (level owner passed (tree (leaf l) f)) ls) = Some l
-front_leaf p = None
-
 abbrev pub pass : Place → Place
 pass (at number scope count (level owner passed (tree t f)) ls) =
     settle number scope (count + tree_weight t) (level owner (tree t passed) f) ls
@@ -63,6 +58,6 @@ is_at_end (at number scope count (level owner passed (tree t f)) ls) = false
 is_at_end p = true
 
 -- how many openings, leaves and closings lie before
-abbrev pub position : Place → Option ℕ
-position empty_place = None
-position (at number scope count l ls) = Some count
+abbrev pub count_before : Place → Option ℕ
+count_before empty_place = None
+count_before (at number scope count l ls) = Some count

@@ -10,7 +10,7 @@ use Rattle.tok_buffer.specs.Descent.{descend}
 use Rattle.tok_buffer.specs.Entry.{Entered, enter, enter_any}
 use Rattle.tok_buffer.specs.Order.{equal, order, same_scope}
 use Rattle.tok_buffer.specs.Place.{Level, level, Place, empty_place, at, pass}
-use Rattle.tok_buffer.specs.Reads.{take, read_ident, read_literal, read_punct, read_word}
+use Rattle.tok_buffer.specs.Reads.{read_if, read_ident, read_literal, read_punct, read_word}
 use Rattle.tok_buffer.specs.Reads.{read_keyword, read_lifetime, read_punctuation, read_tree, skip}
 
 -- in the same buffer and scope and no earlier, or the empty place
@@ -44,7 +44,7 @@ pub record ReadsGoOn : Type 0 where
   pub lifetimes : (wanted : List ℕ → Bool) → ReadsOn (read_lifetime wanted)
   pub punctuations : (text : List ℕ) → ReadsOn (read_punctuation text)
   pub trees : ReadsOn read_tree
-  pub taken : (wanted : Tree → Bool) → ReadsOn (take wanted)
+  pub taken : (wanted : Tree → Bool) → ReadsOn (read_if wanted)
 
 -- the same of a skip
 pub record SkipsGoOn : Type 0 where
@@ -53,8 +53,8 @@ pub record SkipsGoOn : Type 0 where
 
 -- the same of the place after a group that is entered; and less remains in its content, too
 pub record EntersOn (entry : Place → Option Entered) : Type 0 where
-  pub stays : (p : Place) (e : Entered) → entry p ≡ Some e → StaysIn p e.behind
-  pub lowers : (p : Place) (e : Entered) → entry p ≡ Some e → remaining e.behind < remaining p
+  pub stays : (p : Place) (e : Entered) → entry p ≡ Some e → StaysIn p e.after
+  pub lowers : (p : Place) (e : Entered) → entry p ≡ Some e → remaining e.after < remaining p
   pub inwards : (p : Place) (e : Entered) → entry p ≡ Some e → remaining e.content < remaining p
 
 pub record EntriesGoOn : Type 0 where
@@ -75,11 +75,11 @@ pub record ReadsGoLater : Type 0 where
   pub lifetimes : (wanted : List ℕ → Bool) → Later (read_lifetime wanted)
   pub punctuations : (text : List ℕ) → Later (read_punctuation text)
   pub trees : Later read_tree
-  pub taken : (wanted : Tree → Bool) → Later (take wanted)
+  pub taken : (wanted : Tree → Bool) → Later (read_if wanted)
   pub skips : (p q : Place) → skip p ≡ Some q → order p q ≡ Some Less
   pub groups : (d : Delimiter) (p : Place) (e : Entered) → enter d p ≡ Some e →
-      order p e.behind ≡ Some Less
-  pub any_groups : (p : Place) (e : Entered) → enter_any p ≡ Some e → order p e.behind ≡ Some Less
+      order p e.after ≡ Some Less
+  pub any_groups : (p : Place) (e : Entered) → enter_any p ≡ Some e → order p e.after ≡ Some Less
 
 -- the places after them are in the scope itself, and so none of them is the empty place
 abbrev pub KeepsScope : (Place → Option (List Tree × Place)) → Type 0
@@ -96,11 +96,11 @@ pub record ReadsKeepScope : Type 0 where
   pub lifetimes : (wanted : List ℕ → Bool) → KeepsScope (read_lifetime wanted)
   pub punctuations : (text : List ℕ) → KeepsScope (read_punctuation text)
   pub trees : KeepsScope read_tree
-  pub taken : (wanted : Tree → Bool) → KeepsScope (take wanted)
+  pub taken : (wanted : Tree → Bool) → KeepsScope (read_if wanted)
   pub skips : (p q : Place) → skip p ≡ Some q → same_scope p q ≡ true
   pub groups :
-      (d : Delimiter) (p : Place) (e : Entered) → enter d p ≡ Some e → same_scope p e.behind ≡ true
-  pub any_groups : (p : Place) (e : Entered) → enter_any p ≡ Some e → same_scope p e.behind ≡ true
+      (d : Delimiter) (p : Place) (e : Entered) → enter d p ≡ Some e → same_scope p e.after ≡ true
+  pub any_groups : (p : Place) (e : Entered) → enter_any p ≡ Some e → same_scope p e.after ≡ true
   pub along :
       (p q r : Place) → same_scope p q ≡ true → same_scope q r ≡ true → same_scope p r ≡ true
 

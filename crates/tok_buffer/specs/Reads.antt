@@ -13,8 +13,8 @@ abbrev pub apostrophe : ℕ
 apostrophe = 39
 
 -- the front tree, if it is wanted
-abbrev pub take : (Tree → Bool) → Place → Option (List Tree × Place)
-take wanted p =
+abbrev pub read_if : (Tree → Bool) → Place → Option (List Tree × Place)
+read_if wanted p =
     elim (front p) [
       | Some t ↦ cond (wanted t) (Some (t ∷ [], pass p)) None
       | None ↦ None
@@ -59,17 +59,17 @@ abbrev pub any_tree : Tree → Bool
 any_tree t = true
 
 abbrev pub read_ident : Place → Option (List Tree × Place)
-read_ident p = take is_ident (descend p)
+read_ident p = read_if is_ident (descend p)
 
 abbrev pub read_literal : Place → Option (List Tree × Place)
-read_literal p = take is_literal (descend p)
+read_literal p = read_if is_literal (descend p)
 
 abbrev pub read_punct : Place → Option (List Tree × Place)
-read_punct p = take is_punct (descend p)
+read_punct p = read_if is_punct (descend p)
 
 -- an identifier of which a test of its text is true
 abbrev pub read_word : (List ℕ → Bool) → Place → Option (List Tree × Place)
-read_word wanted p = take (is_ident_of wanted) (descend p)
+read_word wanted p = read_if (is_ident_of wanted) (descend p)
 
 -- an identifier of this text; the empty text is never read
 abbrev pub read_keyword : List ℕ → Place → Option (List Tree × Place)
@@ -77,7 +77,7 @@ read_keyword [] p = None
 read_keyword (c ∷ cs) p = read_word (bytes_eq (c ∷ cs)) p
 
 abbrev pub read_lifetime : (List ℕ → Bool) → Place → Option (List Tree × Place)
-read_lifetime wanted p = and_then (take is_joint_apostrophe (descend p)) (read_word wanted)
+read_lifetime wanted p = and_then (read_if is_joint_apostrophe (descend p)) (read_word wanted)
 
 -- the two trees of a lifetime
 abbrev pub lifetime_trees : Span → Leaf → List Tree
@@ -85,15 +85,15 @@ lifetime_trees span name = leaf (punct apostrophe Joint span) ∷ leaf name ∷ 
 
 -- the punct of a character, joint where more follow
 abbrev pub read_next : ℕ → List ℕ → Place → Option (List Tree × Place)
-read_next c [] p = take (is_punct_of c) (descend p)
-read_next c (d ∷ cs) p = take (is_joint_of c) (descend p)
+read_next c [] p = read_if (is_punct_of c) (descend p)
+read_next c (d ∷ cs) p = read_if (is_joint_of c) (descend p)
 
 -- the puncts of a punctuation's characters, each but the last joint; the empty text is never read
 abbrev pub read_punctuation : List ℕ → Place → Option (List Tree × Place)
 read_punctuation [] p = None
-read_punctuation (c ∷ []) p = take (is_punct_of c) (descend p)
+read_punctuation (c ∷ []) p = read_if (is_punct_of c) (descend p)
 read_punctuation (c ∷ (d ∷ cs)) p =
-    and_then (take (is_joint_of c) (descend p)) (read_punctuation (d ∷ cs))
+    and_then (read_if (is_joint_of c) (descend p)) (read_punctuation (d ∷ cs))
 
 -- these characters where there are so many of them, and else none
 abbrev pub sized : ℕ → List ℕ → List ℕ
@@ -105,16 +105,19 @@ read_spans = option_map (λ r. (map tree_span r.0, r.1))
 
 -- without a descent
 abbrev pub read_tree : Place → Option (List Tree × Place)
-read_tree = take any_tree
+read_tree = read_if any_tree
 
 abbrev pub any_text : List ℕ → Bool
 any_text s = true
 
-abbrev pub behind : Option (List Tree × Place) → Option Place
-behind None = None
-behind (Some r) = Some r.1
+abbrev pub place_after : Option (List Tree × Place) → Option Place
+place_after None = None
+place_after (Some r) = Some r.1
 
 -- after the next token: a lifetime of any text, or else the front tree alone; none at an end
 abbrev pub skip : Place → Option Place
 skip p =
-    elim (read_lifetime any_text p) [ Some r ↦ Some r.1 | None ↦ behind (read_tree (descend p)) ]
+    elim (read_lifetime any_text p) [
+      | Some r ↦ Some r.1
+      | None ↦ place_after (read_tree (descend p))
+    ]

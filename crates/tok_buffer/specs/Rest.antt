@@ -2,12 +2,12 @@
 use Rattle.std.specs.Prelude.{List, [], ◌∷◌}
 use Rattle.tok_core.specs.declared.group.Delimiter.{Delimiter}
 use Rattle.tok_core.specs.declared.group.Delimiter.TheVariants as delimiter
-use Rattle.tok_core.specs.Forest.{Forest, no_trees, joined}
-use Rattle.tok_buffer.specs.Place.{Owner, whole, group_of, Level, level, Place, empty_place, at}
+use Rattle.tok_core.specs.Forest.{Forest, no_trees, concat}
+use Rattle.tok_buffer.specs.Place.{Owner, whole, in_group, Level, level, Place, empty_place, at}
 
 abbrev pub rest_in : List Level → Forest
 rest_in [] = no_trees
-rest_in (level o p a ∷ ls) = joined a (rest_in ls)
+rest_in (level o p a ∷ ls) = concat a (rest_in ls)
 
 abbrev pub rest : Place → Forest
 rest empty_place = no_trees
@@ -15,7 +15,7 @@ rest (at n s c l ls) = rest_in (l ∷ ls)
 
 abbrev pub owner_delimiter : Owner → Delimiter
 owner_delimiter whole = delimiter.None
-owner_delimiter (group_of d span) = d
+owner_delimiter (in_group d span) = d
 
 -- that of the last level's owner
 abbrev pub levels_delimiter : Level → List Level → Delimiter

@@ -73,7 +73,7 @@ pub record LeadsOn (b : Laid) (p : Place) : Type 0 where
   pub punctuations : (text : List ℕ) → ReadLeadsOn b (read_punctuation text) p
   pub skips : IfSome (skip p) (Reached b)
   pub enters : (d : Delimiter) → IsVisibleDelimiter d
-      → IfSome (enter d p) (λ e. Reached b e.content × Reached b e.behind)
+      → IfSome (enter d p) (λ e. Reached b e.content × Reached b e.after)
 
 abbrev pub CallsLeadOn : Type 0
 CallsLeadOn = (b : Laid) (p : Place) → Reached b p → LeadsOn b p

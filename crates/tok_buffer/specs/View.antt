@@ -67,7 +67,7 @@ pub record EnteredView : Type 0 where
   pub delimiter : Delimiter
   pub span : Span
   pub content : View
-  pub behind : View
+  pub after : View
 
 abbrev pub entered_view : Forest → Entered → EnteredView
 entered_view g e =
@@ -75,7 +75,7 @@ entered_view g e =
       delimiter = e.delimiter;
       span = e.span;
       content = view g e.content;
-      behind = view g e.behind;
+      after = view g e.after;
     }
 
 abbrev pub IsVisibleDelimiter : Delimiter → Type 0

@@ -43,8 +43,9 @@ impl<'a> Cursor<'a> {
     ghost use Rattle.tok_core.specs.Text.{text};
     ghost use Rattle.tok_buffer.specs.Cursors.{place_of, spot_place};
     ghost use Rattle.tok_buffer.specs.Entry.{enter_any, enter};
+    ghost use Rattle.tok_buffer.specs.Gives.{Gives};
     ghost use Rattle.tok_buffer.specs.Place.{empty_place, is_at_end};
-    ghost use Rattle.tok_buffer.specs.Reads.{any_text, skip, take, is_group, lifetime_trees, read_ident, read_punct, read_literal, read_lifetime, read_tree, read_keyword, read_punctuation, read_spans, sized};
+    ghost use Rattle.tok_buffer.specs.Reads.{any_text, skip, read_if, is_group, lifetime_trees, read_ident, read_punct, read_literal, read_lifetime, read_tree, read_keyword, read_punctuation, read_spans, sized};
     ghost use Rattle.tok_buffer.specs.Rest.{rest};
 
     // The cursor at a spot.
@@ -73,9 +74,8 @@ impl<'a> Cursor<'a> {
 
     /// The identifier in front, of whatever text, and the cursor after it.
     pub fn ident(self) -> Option<(&'a Ident, Cursor<'a>)>
-        ensures { MatchOption result
-            (read_ident (place_of self.entry) ≡ None)
-            (λ r. read_ident (place_of self.entry) ≡ Some (leaf (ident_of r.0.now) ∷ [], place_of r.1)) }
+        ensures { Gives result (read_ident (place_of self.entry))
+            (λ r. (leaf (ident_of r.0.now) ∷ [], place_of r.1)) }
     {
         let (ident, rest) = self.spot?.ident()?;
         Some((ident, Cursor::at(rest)))
@@ -83,9 +83,8 @@ impl<'a> Cursor<'a> {
 
     /// The punct in front, unless it is an apostrophe, and the cursor after it.
     pub fn punct(self) -> Option<(Punct, Cursor<'a>)>
-        ensures { MatchOption result
-            (read_punct (place_of self.entry) ≡ None)
-            (λ r. read_punct (place_of self.entry) ≡ Some (leaf (punct_of r.0) ∷ [], place_of r.1)) }
+        ensures { Gives result (read_punct (place_of self.entry))
+            (λ r. (leaf (punct_of r.0) ∷ [], place_of r.1)) }
     {
         let (punct, rest) = self.spot?.punct()?;
         Some((punct, Cursor::at(rest)))
@@ -93,9 +92,8 @@ impl<'a> Cursor<'a> {
 
     /// The literal in front, and the cursor after it.
     pub fn literal(self) -> Option<(&'a Literal, Cursor<'a>)>
-        ensures { MatchOption result
-            (read_literal (place_of self.entry) ≡ None)
-            (λ r. read_literal (place_of self.entry) ≡ Some (leaf (literal_of r.0.now) ∷ [], place_of r.1)) }
+        ensures { Gives result (read_literal (place_of self.entry))
+            (λ r. (leaf (literal_of r.0.now) ∷ [], place_of r.1)) }
     {
         let (literal, rest) = self.spot?.literal()?;
         Some((literal, Cursor::at(rest)))
@@ -104,10 +102,8 @@ impl<'a> Cursor<'a> {
     /// The lifetime in front, of whatever text, and the cursor after it: a joint apostrophe, and then whatever `ident`
     /// finds there, so also across the edges of invisible groups.
     pub fn lifetime(self) -> Option<(LifetimeRef<'a>, Cursor<'a>)>
-        ensures { MatchOption result
-            (read_lifetime any_text (place_of self.entry) ≡ None)
-            (λ r. read_lifetime any_text (place_of self.entry)
-            ≡ Some (lifetime_trees r.0.apostrophe (ident_of r.0.ident.now), place_of r.1)) }
+        ensures { Gives result (read_lifetime any_text (place_of self.entry))
+            (λ r. (lifetime_trees r.0.apostrophe (ident_of r.0.ident.now), place_of r.1)) }
     {
         let (apostrophe, ident, rest) = self.spot?.lifetime()?;
         Some((LifetimeRef { apostrophe, ident }, Cursor::at(rest)))
@@ -115,40 +111,41 @@ impl<'a> Cursor<'a> {
 
     /// The group of this delimiter in front: the cursor of its content, its span, and the cursor after it.
     pub fn group(self, delimiter: Delimiter) -> Option<(Cursor<'a>, DelimSpan, Cursor<'a>)>
-        ensures { MatchOption result
-            (enter delimiter (place_of self.entry) ≡ None)
-            (λ r. enter delimiter (place_of self.entry)
-            ≡ Some (record { delimiter = delimiter; span = whole_span r.1; content = place_of r.0; behind = place_of r.2 })) }
+        ensures { Gives result (enter delimiter (place_of self.entry))
+            (λ r. record {
+              delimiter = delimiter;
+              span = whole_span r.1;
+              content = place_of r.0;
+              after = place_of r.2;
+            }) }
     {
-        let (content, span, behind) = self.spot?.group(delimiter)?;
-        Some((
-            Cursor::at(content),
-            DelimSpan::new(span),
-            Cursor::at(behind),
-        ))
+        let (content, span, after) = self.spot?.group(delimiter)?;
+        Some((Cursor::at(content), DelimSpan::new(span), Cursor::at(after)))
     }
 
     /// The group in front, visible or not: the cursor of its content, its delimiter, its span, and the cursor after it.
     pub fn any_group(self) -> Option<(Cursor<'a>, Delimiter, DelimSpan, Cursor<'a>)>
-        ensures { MatchOption result
-            (enter_any (place_of self.entry) ≡ None)
-            (λ r. enter_any (place_of self.entry)
-            ≡ Some (record { delimiter = r.1; span = whole_span r.2; content = place_of r.0; behind = place_of r.3 })) }
+        ensures { Gives result (enter_any (place_of self.entry))
+            (λ r. record {
+              delimiter = r.1;
+              span = whole_span r.2;
+              content = place_of r.0;
+              after = place_of r.3;
+            }) }
     {
-        let (content, delimiter, span, behind) = self.spot?.enter_any()?;
+        let (content, delimiter, span, after) = self.spot?.enter_any()?;
         Some((
             Cursor::at(content),
             delimiter,
             DelimSpan::new(span),
-            Cursor::at(behind),
+            Cursor::at(after),
         ))
     }
 
     /// The group in front, visible or not, made anew in memory of `alloc`, and the cursor after it.
     pub fn any_group_token(self, alloc: Global) -> Result<Option<(Group, Cursor<'a>)>, AllocError>
-        ensures { IfOk result (λ found. MatchOption found
-            (take is_group (place_of self.entry) ≡ None)
-            (λ r. take is_group (place_of self.entry) ≡ Some (group_of r.0 ∷ [], place_of r.1))) }
+        ensures { IfOk result (λ found. Gives found (read_if is_group (place_of self.entry))
+            (λ r. (group_of r.0 ∷ [], place_of r.1))) }
     {
         match self.spot {
             None => Ok(None),
@@ -161,9 +158,8 @@ impl<'a> Cursor<'a> {
 
     /// The front tree, an invisible group too, made anew in memory of `alloc`, and the cursor after it.
     pub fn token_tree(self, alloc: Global) -> Result<Option<(TokenTree, Cursor<'a>)>, AllocError>
-        ensures { IfOk result (λ found. MatchOption found
-            (read_tree (place_of self.entry) ≡ None)
-            (λ r. read_tree (place_of self.entry) ≡ Some (tree_of r.0 ∷ [], place_of r.1))) }
+        ensures { IfOk result (λ found. Gives found (read_tree (place_of self.entry))
+            (λ r. (tree_of r.0 ∷ [], place_of r.1))) }
     {
         match self.spot {
             None => Ok(None),
@@ -188,7 +184,8 @@ impl<'a> Cursor<'a> {
     /// Writes all trees that are left in the scope, as the stream that `token_stream` makes of them is printed. Takes no
     /// memory.
     pub fn write_ahead<W: Write>(self, f: &mut Formatter<W>) -> fmt::Result
-        ensures { WritesOnOk W.write_str_gives f.old result (text (rest (place_of self.entry))) f.new }
+        ensures { WritesOnOk W.write_str_gives f.old result
+            (text (rest (place_of self.entry))) f.new }
     {
         match self.spot {
             None => Ok(()),
@@ -199,9 +196,7 @@ impl<'a> Cursor<'a> {
     /// The cursor after the next token: after the lifetime that `lifetime` reads, or else after the front tree. `None`
     /// where nothing visible is left.
     pub fn skip(self) -> Option<Cursor<'a>>
-        ensures { MatchOption result
-            (skip (place_of self.entry) ≡ None)
-            (λ r. skip (place_of self.entry) ≡ Some (place_of r)) }
+        ensures { Gives result (skip (place_of self.entry)) place_of }
     {
         Some(Cursor::at(self.spot?.skip()?))
     }
@@ -232,8 +227,10 @@ impl<'a> Cursor<'a> {
     /// counts as empty, and the empty text is never read. Takes no memory. What `spans` holds after a `None` is not said.
     pub fn puncts(self, text: &str, spans: &mut [Span]) -> Option<Cursor<'a>>
         ensures { MatchOption result
-            (read_punctuation (sized (length spans.old) (chars text.now)) (place_of self.entry) ≡ None)
-            (λ r. read_spans (read_punctuation (sized (length spans.old) (chars text.now)) (place_of self.entry))
+            (read_punctuation (sized (length spans.old) (chars text.now)) (place_of self.entry)
+            ≡ None)
+            (λ r. read_spans
+            (read_punctuation (sized (length spans.old) (chars text.now)) (place_of self.entry))
             ≡ Some (spans.new, place_of r)) }
     {
         Some(Cursor::at(self.spot?.puncts(text, spans)?))

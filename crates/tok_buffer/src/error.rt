@@ -83,10 +83,10 @@ impl Error {
     ghost use Rattle.std.specs.Ordering.{partial_le};
     ghost use Rattle.tok_core.specs.Lexical.Errors.{error_span, error_words};
     ghost use Rattle.tok_buffer.specs.Cursors.{place_of};
-    ghost use Rattle.tok_buffer.specs.Messages.{AddsMessages, error_of, refused, spans_of, first_span, first_text};
+    ghost use Rattle.tok_buffer.specs.Messages.{AddsMessages, error_of, refused, spans_of, first_message_span, first_text};
     ghost use Rattle.tok_buffer.specs.Order.{order};
     ghost use Rattle.tok_buffer.specs.Spans.{current_span, range_end};
-    ghost use Rattle.tok_buffer.specs.Words.{stream_span, at_stream};
+    ghost use Rattle.tok_buffer.specs.Refusals.{stream_span, at_stream};
 
     /// An error of one message at a span.
     pub fn new<T: Display + Drop>(
@@ -95,7 +95,8 @@ impl Error {
         message: T,
     ) -> Result<Error, AllocError>
         ensures spans { IfOk result (λ e. spans_of e ≡ (span, span) ∷ []) }
-        ensures text { IfOk result (λ e. IfSome (T.output message) (λ text. e ≡ error_of span span text)) }
+        ensures text { IfOk result
+            (λ e. IfSome (T.output message) (λ text. e ≡ error_of span span text)) }
     {
         Error::new2(alloc, span, span, message)
     }
@@ -108,7 +109,8 @@ impl Error {
         message: T,
     ) -> Result<Error, AllocError>
         ensures spans { IfOk result (λ e. spans_of e ≡ (start, end) ∷ []) }
-        ensures text { IfOk result (λ e. IfSome (T.output message) (λ text. e ≡ error_of start end text)) }
+        ensures text { IfOk result
+            (λ e. IfSome (T.output message) (λ text. e ≡ error_of start end text)) }
     {
         let text = Text::from_string(alloc, format!(in alloc; "{message}")?)?;
         Ok(Error {
@@ -142,9 +144,14 @@ impl Error {
     ) -> Result<Error, AllocError>
         requires { IsTrue (partial_le order (place_of start) (place_of end)) }
         ensures spans { IfOk result (λ e. spans_of e
-            ≡ (current_span (place_of start.entry), range_end (place_of start.entry) (place_of end.entry)) ∷ []) }
+            ≡ (
+              current_span (place_of start.entry),
+              range_end (place_of start.entry)
+                  (place_of end.entry),
+            ) ∷ []) }
         ensures text { IfOk result (λ e. IfSome (T.output message) (λ text. e
-            ≡ error_of (current_span (place_of start.entry)) (range_end (place_of start.entry) (place_of end.entry)) text)) }
+            ≡ error_of (current_span (place_of start.entry))
+            (range_end (place_of start.entry) (place_of end.entry)) text)) }
     {
         let last = if start == end {
             end.span()
@@ -162,8 +169,12 @@ impl Error {
         cursor: Cursor<'_>,
         message: T,
     ) -> Result<Error, AllocError>
-        ensures spans { IfOk result (λ e. let span = stream_span (place_of cursor.entry) scope in spans_of e ≡ (span, span) ∷ []) }
-        ensures text { IfOk result (λ e. IfSome (T.output message) (λ words. e ≡ refused (at_stream (place_of cursor.entry) scope words))) }
+        ensures spans { IfOk result
+            (λ e. let span = stream_span (place_of cursor.entry) scope in spans_of e
+            ≡ (span, span) ∷ []) }
+        ensures text { IfOk result
+            (λ e. IfSome (T.output message)
+            (λ words. e ≡ refused (at_stream (place_of cursor.entry) scope words))) }
     {
         if cursor.eof() {
             Error::new(
@@ -178,14 +189,15 @@ impl Error {
 
     /// The error of a text that isn't read: its span and words.
     pub fn from_lex(alloc: Global, error: LexError) -> Result<Error, AllocError>
-        ensures { IfOk result (λ e. e ≡ error_of (error_span error) (error_span error) (error_words error)) }
+        ensures { IfOk result
+            (λ e. e ≡ error_of (error_span error) (error_span error) (error_words error)) }
     {
         Error::new(alloc, error.span(), error)
     }
 
     /// The span that covers the first message's two, or the first of these where none covers both.
     pub fn span(&self) -> Span
-        ensures { result ≡ first_span self.now }
+        ensures { result ≡ first_message_span self.now }
     {
         let start = self.first.start;
         start.join(self.first.end).unwrap_or(start)
@@ -215,8 +227,10 @@ impl Error {
 
     /// Combines with each of these errors in turn. After an allocation failure, what came before stays.
     pub fn extend<I: IntoIterator<Item = Error>>(&mut self, errors: I) -> Result<(), AllocError>
-        requires { IsFiniteIterable I.into_iter_gives I.IntoIter.can_next I.IntoIter.remaining errors }
-        ensures { ExtendsWithItems I.into_iter_gives I.IntoIter.next_gives AddsMessages errors self.old self.new result }
+        requires { IsFiniteIterable I.into_iter_gives I.IntoIter.can_next
+            I.IntoIter.remaining errors }
+        ensures { ExtendsWithItems I.into_iter_gives I.IntoIter.next_gives AddsMessages errors
+            self.old self.new result }
     {
         for another in errors {
             self.combine(another)?;

@@ -49,7 +49,8 @@ pub fn equal_in_order(left: Cursor<'_>, right: Cursor<'_>) -> (bool, Option<Orde
 
 /// Lifetimes are compared by name alone, and are equal exactly where their order says so.
 pub fn lifetimes_in_order(left: &Lifetime, right: &Lifetime) -> (bool, Ordering)
-    ensures names { (x : List ℕ) → (y : List ℕ) → (bytes_eq x y ≡ true) ↔ (slice_cmp nat_cmp x y ≡ Equal) }
+    ensures names { (x : List ℕ) → (y : List ℕ)
+        → (bytes_eq x y ≡ true) ↔ (slice_cmp nat_cmp x y ≡ Equal) }
     ensures equal { result.0 ≡ bytes_eq (name_of left.now) (name_of right.now) }
     ensures order { result.1 ≡ slice_cmp nat_cmp (name_of left.now) (name_of right.now) }
 {
@@ -60,7 +61,8 @@ pub fn lifetimes_in_order(left: &Lifetime, right: &Lifetime) -> (bool, Ordering)
 pub fn lifetimes_by_name()
     ensures equal { EqualBy name_of ⟦<Lifetime as PartialEq>⟧.eq }
     ensures order { OrderedBy name_of text_order ⟦<Lifetime as Ord>⟧.cmp }
-    ensures agree { OrderAgrees ⟦<Lifetime as PartialEq>⟧.eq ⟦<Lifetime as Ord>⟧.cmp ⟦<Lifetime as PartialOrd>⟧.partial_cmp }
+    ensures agree { OrderAgrees ⟦<Lifetime as PartialEq>⟧.eq ⟦<Lifetime as Ord>⟧.cmp
+        ⟦<Lifetime as PartialOrd>⟧.partial_cmp }
     ensures hash { HashedBy name_of fed.str ⟦<Lifetime as Hash>⟧.hash_input }
 {}
 

@@ -79,8 +79,10 @@ impl Lifetime {
     pub fn new(alloc: Global, symbol: &str, span: Span) -> Result<Lifetime, LifetimeFault>
         ensures made { IfOk result (λ l. lifetime_refusal (chars symbol.now) ≡ None) }
         ensures text { IfOk result (λ l. lifetime_text l ≡ symbol.now) }
-        ensures spans { IfOk result (λ l. (l.apostrophe ≡ span) × (leaf_span (ident_of l.ident) ≡ span)) }
-        ensures refused { IfErr result (λ fault. lifetime_refusal (chars symbol.now) ≡ refusal_in fault) }
+        ensures spans { IfOk result
+            (λ l. (l.apostrophe ≡ span) × (leaf_span (ident_of l.ident) ≡ span)) }
+        ensures refused { IfErr result
+            (λ fault. lifetime_refusal (chars symbol.now) ≡ refusal_in fault) }
     {
         let Some(name) = past_apostrophe(symbol) else {
             return Err(LifetimeFault::NoApostrophe);

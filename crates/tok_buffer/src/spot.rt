@@ -35,7 +35,7 @@ impl<'a> Spot<'a> {
     ghost use Rattle.tok_buffer.specs.Layout.{entry_here};
     ghost use Rattle.tok_buffer.specs.Moves.{in_scope, place_at, advance, invisible_front, levels_at, level_ahead};
     ghost use Rattle.tok_buffer.specs.Order.{equal, order, same_buffer, same_scope};
-    ghost use Rattle.tok_buffer.specs.Place.{start, is_at_end, settled, position};
+    ghost use Rattle.tok_buffer.specs.Place.{start, is_at_end, settled, count_before};
 
     pub fn begin(buffer: &'a TokenBuffer) -> Spot<'a>
         ensures { spot_place result ≡ start buffer.now.number buffer.now.forest }
@@ -54,7 +54,7 @@ impl<'a> Spot<'a> {
     }
 
     pub fn position(self) -> usize
-        ensures { Some result ≡ position (spot_place self.entry) }
+        ensures { Some result ≡ count_before (spot_place self.entry) }
     {
         self.position
     }
@@ -92,7 +92,8 @@ impl<'a> Spot<'a> {
         requires in_buffer { scope ≤ weight buffer.now.forest }
         requires within { IsTrue (in_scope buffer.now.forest position scope) }
         ensures same_buffer { result.buffer.now ≡ buffer.now }
-        ensures place { spot_place result ≡ settled (place_at buffer.now.number buffer.now.forest position scope) }
+        ensures place { spot_place result
+            ≡ settled (place_at buffer.now.number buffer.now.forest position scope) }
     {
         let mut position = position;
         while position != scope {
@@ -125,7 +126,8 @@ impl<'a> Spot<'a> {
     }
 
     fn entry(self) -> &'a Entry
-        ensures { result.now ≡ entry_here (levels_at self.entry.buffer.now.forest self.entry.position).0 }
+        ensures { result.now
+            ≡ entry_here (levels_at self.entry.buffer.now.forest self.entry.position).0 }
     {
         self.buffer.entry(self.position)
     }
@@ -141,7 +143,9 @@ impl<'a> Spot<'a> {
 
     // An invisible group is in front.
     fn at_invisible(self) -> bool
-        ensures { result ≡ invisible_front (level_ahead (levels_at self.entry.buffer.now.forest self.entry.position).0) }
+        ensures { result
+            ≡ invisible_front
+            (level_ahead (levels_at self.entry.buffer.now.forest self.entry.position).0) }
     {
         match self.entry() {
             Entry::Group(group, _) => same(group.delimiter, Delimiter::None),

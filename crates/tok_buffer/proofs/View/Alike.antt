@@ -8,7 +8,7 @@ use Rattle.tok_core.specs.Erase.{erase}
 use Rattle.tok_core.specs.Filled.{filled}
 use Rattle.tok_core.specs.Forest.{Tree, Forest}
 use Rattle.tok_core.specs.Weight.{weight}
-use Rattle.tok_core.proofs.Facts.{joined-none}
+use Rattle.tok_core.proofs.Facts.{concat-none}
 use Rattle.tok_buffer.specs.Ahead.{leftover}
 use Rattle.tok_buffer.specs.Buffer.{Laid}
 use Rattle.tok_buffer.specs.Entry.{Entered, enter}
@@ -23,7 +23,7 @@ use Rattle.tok_buffer.proofs.View.Ends.{end_in_view, view-end}
 use Rattle.tok_buffer.proofs.View.Unmarked.{unmarked}
 use Rattle.tok_buffer.proofs.View.LeafReads.{punctuation_in_view, view-punctuation}
 use Rattle.tok_buffer.proofs.View.Leftovers.{span_in_view, view-leftover}
-use Rattle.tok_buffer.proofs.View.Moves.{LeadsTo, LeadsBehind, leads-punctuation, leads-skip}
+use Rattle.tok_buffer.proofs.View.Moves.{LeadsTo, LeadsAfter, leads-punctuation, leads-skip}
 use Rattle.tok_buffer.proofs.View.Ordinals.{groups, groups-erase, length-closing_marks}
 use Rattle.tok_buffer.proofs.View.Ordinals.{erase-unmarked, entered_view, enter_in_view, view-enter}
 use Rattle.tok_buffer.proofs.View.Ordinals.{IsVisibleDelimiter}
@@ -61,7 +61,7 @@ pub record GroupsAlike (f g : Laid) (a b : Entered) : Type 0 where
   pub delimiter : a.delimiter ≡ b.delimiter
   pub span : a.span ≡ b.span
   pub content : Alike f g a.content b.content
-  pub behind : Alike f g a.behind b.behind
+  pub after : Alike f g a.after b.after
 
 abbrev pub EntriesAlike : Laid → Laid → Option Entered → Option Entered → Type 0
 EntriesAlike f g None None = ⊤
@@ -75,7 +75,7 @@ view-start number f =
     ap sum (take_all (weight f) (closing_marks f) (le_of_eq size)) ∙ sym (groups-erase f) in
     ap (λ k. seen k (erased_ahead (start number f))) all
     ∙ ap (seen (groups (erase f)))
-    (erased_ahead_is (start number f) ∙ ap erase (joined-none (unmarked f))
+    (erased_ahead_is (start number f) ∙ ap erase (concat-none (unmarked f))
     ∙ erase-unmarked f)
 
 some_same : {A : Type 0} (a b : A) → Some a ≡ Some b → a ≡ b
@@ -145,7 +145,7 @@ module _ (f g : Laid) where
       let parts = some_same (r.0, view_in f r.1) (q.0, view_in g q.1) e in
       (ap (λ x. x.0) parts, record { left = h; right = k; same = ap (λ x. x.1) parts })
 
-  alike-place : (r q : Option Place) → LeadsBehind (StandsIn f) r → LeadsBehind (StandsIn g) q
+  alike-place : (r q : Option Place) → LeadsAfter (StandsIn f) r → LeadsAfter (StandsIn g) q
       → option_map (view_in f) r ≡ option_map (view_in g) q → PlacesAlike f g r q
   alike-place None None h k e = tt
   alike-place None (Some q) h k e = absurd (cc)
@@ -165,7 +165,7 @@ module _ (f g : Laid) where
         delimiter = ap (λ x. x.delimiter) parts;
         span = ap (λ x. x.span) parts;
         content = record { left = h.0; right = k.0; same = ap (λ x. x.content) parts };
-        behind = record { left = h.1; right = k.1; same = ap (λ x. x.behind) parts };
+        after = record { left = h.1; right = k.1; same = ap (λ x. x.after) parts };
       }
 
   pub alike-punctuation : (s : List ℕ) (p q : Place) → Alike f g p q

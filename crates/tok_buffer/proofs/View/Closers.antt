@@ -8,29 +8,29 @@ use Rattle.tok_core.specs.declared.span.Span.{Span}
 use Rattle.tok_core.specs.declared.group.Delimiter.{Delimiter}
 use Rattle.tok_core.specs.declared.group.Delimiter.TheVariants as delimiter
 use Rattle.tok_core.specs.Erase.{erase}
-use Rattle.tok_core.specs.Forest.{Tree, leaf, group, Forest, no_trees, tree, joined}
+use Rattle.tok_core.specs.Forest.{Tree, leaf, group, Forest, no_trees, tree, concat}
 use Rattle.tok_core.specs.Weight.{weight}
-use Rattle.tok_buffer.specs.Place.{Owner, whole, group_of, Level, level, Place, empty_place, at}
+use Rattle.tok_buffer.specs.Place.{Owner, whole, in_group, Level, level, Place, empty_place, at}
 use Rattle.tok_buffer.specs.Place.{absorb}
 use Rattle.tok_buffer.specs.View.{closing_marks, closings, closers, delimiter_at}
 use Rattle.tok_buffer.proofs.View.Ordinals.{IsIn, groups, sum-one, sum-append, closings-front}
 use Rattle.tok_buffer.proofs.View.Ordinals.{length-closing_marks}
 
-closers-joined : (f g : Forest) → closers (joined f g) ≡ closers f ++ closers g
-closers-joined no_trees g = refl
-closers-joined (tree (leaf l) f) g = closers-joined f g
-closers-joined (tree (group delimiter.None inside span) f) g =
-    ap (λ x. closers inside ++ x) (closers-joined f g)
+closers-concat : (f g : Forest) → closers (concat f g) ≡ closers f ++ closers g
+closers-concat no_trees g = refl
+closers-concat (tree (leaf l) f) g = closers-concat f g
+closers-concat (tree (group delimiter.None inside span) f) g =
+    ap (λ x. closers inside ++ x) (closers-concat f g)
     ∙ sym (append_assoc (closers inside) (closers f) (closers g))
-closers-joined (tree (group d inside span) f) g =
-    ap (λ x. closers inside ++ (d ∷ x)) (closers-joined f g)
+closers-concat (tree (group d inside span) f) g =
+    ap (λ x. closers inside ++ (d ∷ x)) (closers-concat f g)
     ∙ sym (append_assoc (closers inside) (d ∷ closers f) (closers g))
 
 closers-erase : (f : Forest) → closers (erase f) ≡ closers f
 closers-erase no_trees = refl
 closers-erase (tree (leaf l) f) = closers-erase f
 closers-erase (tree (group delimiter.None inside span) f) =
-    closers-joined (erase inside) (erase f)
+    closers-concat (erase inside) (erase f)
     ∙ ap (λ x. x ++ closers (erase f)) (closers-erase inside)
     ∙ ap (λ x. closers inside ++ x) (closers-erase f)
 closers-erase (tree (group d inside span) f) =
@@ -101,7 +101,7 @@ module _ (g : Forest) where
       → IsIn g (at n s c (level o p (tree (group delimiter.None inside span) f)) ls)
       → HasClosers g (at n s c (level o p (tree (group delimiter.None inside span) f)) ls)
       → HasClosers g
-      (at n s (c + 1) (level (group_of delimiter.None span) no_trees inside) (level o p f ∷ ls))
+      (at n s (c + 1) (level (in_group delimiter.None span) no_trees inside) (level o p f ∷ ls))
   closers-into n s c o p inside span f ls i h = (
     h.0,
     ap (λ k. drop k (closers g)) (no_closing c _ i.1) ∙ h.1
@@ -115,7 +115,7 @@ module _ (g : Forest) where
       → HasClosers g (at n s c (absorb o p l) ls)
   closers-absorb n s c whole p (level o a b) ls rest e =
       (rest, e ∙ append_assoc (closers b) (closers_beyond ls) rest)
-  closers-absorb n s c (group_of d span) p (level o a b) ls rest e =
+  closers-absorb n s c (in_group d span) p (level o a b) ls rest e =
       (rest, e ∙ append_assoc (closers b) (closers_beyond ls) rest)
 
   pub closers-out : (n s c : ℕ) (o : Owner) (p : Forest) (l : Level) (ls : List Level)

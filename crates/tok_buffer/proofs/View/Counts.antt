@@ -4,7 +4,7 @@ use Rattle.std.specs.Prelude.{⊤}
 use Rattle.tok_core.specs.Forest.{Forest, no_trees, tree}
 use Rattle.tok_core.specs.Weight.{weight, tree_weight}
 use Rattle.tok_buffer.specs.Descent.{descend}
-use Rattle.tok_buffer.specs.Place.{Owner, whole, group_of, Level, level, Place, empty_place, at}
+use Rattle.tok_buffer.specs.Place.{Owner, whole, in_group, Level, level, Place, empty_place, at}
 use Rattle.tok_buffer.specs.Place.{start, absorb, pass}
 use Rattle.tok_buffer.proofs.View.Keeps.{IsKept, kept-settle, kept-descend}
 
@@ -30,7 +30,7 @@ count_at_end n s c o p h = omega (arith, h)
 beyond-absorb : (o : Owner) (p : Forest) (l : Level) (ls : List Level)
     → beyond (absorb o p l ∷ ls) ≡ beyond (l ∷ ls)
 beyond-absorb whole p l ls = refl
-beyond-absorb (group_of d span) p (level o q a) ls = refl
+beyond-absorb (in_group d span) p (level o q a) ls = refl
 
 counted-dropped : (n s c : ℕ) (l : Level) (ls : List Level) → c + beyond (l ∷ ls) ≡ s
     → IsCounted (at n s (c + 1) l ls)

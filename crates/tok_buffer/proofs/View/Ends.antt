@@ -5,10 +5,10 @@ use Rattle.std.specs.Prelude.{⊤}
 use Rattle.tok_core.specs.declared.group.Delimiter.TheVariants as delimiter
 use Rattle.tok_core.specs.Erase.{erase}
 use Rattle.tok_core.specs.Filled.{filled, has_trees}
-use Rattle.tok_core.specs.Forest.{leaf, group, Forest, no_trees, tree, joined}
-use Rattle.tok_core.proofs.Erasures.{erase-joined}
-use Rattle.tok_core.proofs.Facts.{has_trees-joined}
-use Rattle.tok_buffer.specs.Place.{Owner, whole, group_of, Level, level, Place, empty_place, at}
+use Rattle.tok_core.specs.Forest.{leaf, group, Forest, no_trees, tree, concat}
+use Rattle.tok_core.proofs.Erasures.{erase-concat}
+use Rattle.tok_core.proofs.Facts.{has_trees-concat}
+use Rattle.tok_buffer.specs.Place.{Owner, whole, in_group, Level, level, Place, empty_place, at}
 use Rattle.tok_buffer.specs.Place.{absorb, settle, is_at_end}
 use Rattle.tok_buffer.specs.View.{View, empty_view, seen, view}
 use Rattle.tok_buffer.proofs.View.Keeps.{IsKept}
@@ -43,7 +43,7 @@ and_parts false b h = absurd (cc)
 filled-absorb : (o : Owner) (p : Forest) (l : Level) (ls : List Level) → LevelsFilled (l ∷ ls)
     → LevelsFilled (absorb o p l ∷ ls)
 filled-absorb whole p l ls h = h
-filled-absorb (group_of d span) p (level o q a) ls h = h
+filled-absorb (in_group d span) p (level o q a) ls h = h
 
 pub kept-filled : IsKept IsFilledPlace
 kept-filled = record {
@@ -58,8 +58,8 @@ abbrev pub end_in_view : View → Bool
 end_in_view empty_view = true
 end_in_view (seen k f) = not (has_trees f)
 
-has-front : (a b : Forest) → has_trees a ≡ true → has_trees (joined a b) ≡ true
-has-front a b h = has_trees-joined a b ∙ ap (λ x. x || has_trees b) h
+has-front : (a b : Forest) → has_trees a ≡ true → has_trees (concat a b) ≡ true
+has-front a b h = has_trees-concat a b ∙ ap (λ x. x || has_trees b) h
 
 -- in a filled forest a place is at an end exactly where its view has no tree
 pub view-end : (g : Forest) (p : Place) → IsSettled p → IsFilledPlace p
@@ -73,11 +73,11 @@ view-end g (at n s c (level o p (tree (group delimiter.None inside span) f)) ls)
     let inner = and_parts (has_trees (erase inside)) (filled inside) outer.0 in
     sym (ap (λ e. not (has_trees e)) (
     erased_ahead_is (at n s c (level o p (tree (group delimiter.None inside span) f)) ls)
-    ∙ erase-joined (joined (unmarked inside) (unmarked f)) (unmarked_in ls)
-    ∙ ap (λ e. joined e (erase (unmarked_in ls))) (erase-joined (unmarked inside) (unmarked f))
+    ∙ erase-concat (concat (unmarked inside) (unmarked f)) (unmarked_in ls)
+    ∙ ap (λ e. concat e (erase (unmarked_in ls))) (erase-concat (unmarked inside) (unmarked f))
     )
     ∙ ap not
-    (has-front (joined (erase (unmarked inside)) (erase (unmarked f)))
+    (has-front (concat (erase (unmarked inside)) (erase (unmarked f)))
     (erase (unmarked_in ls))
     (has-front (erase (unmarked inside)) (erase (unmarked f))
     (ap has_trees (erase-unmarked inside) ∙ inner.0))))

@@ -3,11 +3,11 @@ use Rattle.std.proofs.Common.{◌≡◌, ◌∙◌, sym, ap, refl, ℕ, ◌+◌,
 use Rattle.std.proofs.Common.{◌∷◌, ◌++◌, map, Option, Some, None}
 use Rattle.tok_core.specs.declared.group.Delimiter.TheVariants as delimiter
 use Rattle.tok_core.specs.Erase.{erase}
-use Rattle.tok_core.specs.Forest.{Tree, leaf, group, Forest, no_trees, tree, forest, joined}
+use Rattle.tok_core.specs.Forest.{Tree, leaf, group, Forest, no_trees, tree, forest, concat}
 use Rattle.tok_buffer.specs.Ahead.{visible, ahead, ahead_in}
 use Rattle.tok_buffer.specs.Descent.{descend_from, descend}
 use Rattle.tok_buffer.specs.Place.{Level, level, Place, empty_place, at, settle, pass}
-use Rattle.tok_buffer.specs.Reads.{take, is_ident, read_ident}
+use Rattle.tok_buffer.specs.Reads.{read_if, is_ident, read_ident}
 pub use Rattle.tok_buffer.specs.View.{with_view}
 use Rattle.tok_buffer.specs.View.{erased_ahead, View, empty_view, seen, view, closings}
 use Rattle.tok_buffer.proofs.View.Unmarked.{unmarked, unmarked_in, trees_ahead, trees_ahead-descend}
@@ -19,7 +19,7 @@ use Rattle.tok_buffer.proofs.View.Keeps.{descended-descend}
 abbrev pub plain : List (Bool × Tree) → Forest
 plain ts = forest (map (λ t. t.1) ts)
 
-plain-append : (ts us : List (Bool × Tree)) → plain (ts ++ us) ≡ joined (plain ts) (plain us)
+plain-append : (ts us : List (Bool × Tree)) → plain (ts ++ us) ≡ concat (plain ts) (plain us)
 plain-append [] us = refl
 plain-append (t ∷ ts) us = ap (tree t.1) (plain-append ts us)
 
@@ -28,16 +28,16 @@ plain-visible b no_trees = refl
 plain-visible b (tree (leaf l) f) = ap (tree (leaf l)) (plain-visible b f)
 plain-visible b (tree (group delimiter.None inside span) f) =
     plain-append (visible true inside) (visible b f)
-    ∙ ap (λ g. joined g (plain (visible b f))) (plain-visible true inside)
-    ∙ ap (joined (unmarked inside)) (plain-visible b f)
+    ∙ ap (λ g. concat g (plain (visible b f))) (plain-visible true inside)
+    ∙ ap (concat (unmarked inside)) (plain-visible b f)
 plain-visible b (tree (group d inside span) f) = ap (tree (group d inside span)) (plain-visible b f)
 
 plain-ahead_in : (ls : List Level) → plain (ahead_in ls) ≡ unmarked_in ls
 plain-ahead_in [] = refl
 plain-ahead_in (level o p a ∷ ls) =
     plain-append (visible false a) (ahead_in ls)
-    ∙ ap (λ g. joined g (plain (ahead_in ls))) (plain-visible false a)
-    ∙ ap (joined (unmarked a)) (plain-ahead_in ls)
+    ∙ ap (λ g. concat g (plain (ahead_in ls))) (plain-visible false a)
+    ∙ ap (concat (unmarked a)) (plain-ahead_in ls)
 
 pub plain-ahead : (p : Place) → plain (ahead p) ≡ trees_ahead p
 plain-ahead empty_place = refl
@@ -101,7 +101,7 @@ cond_none : {A : Type 0} (b : Bool) (x : Option A) → b ≡ false → cond b x 
 cond_none b x e = ap (λ c. cond c x None) e
 
 pub view-take : (f : Forest) (wanted : Tree → Bool) → IsOfLeaves wanted → (p : Place)
-    → IsDescended p → with_view f (take wanted p) ≡ leaf_in_view wanted (view f p)
+    → IsDescended p → with_view f (read_if wanted p) ≡ leaf_in_view wanted (view f p)
 view-take f wanted leaves empty_place h = refl
 view-take f wanted leaves (at n s c (level o p (tree (leaf l) a)) ls) h =
     with_view-cond
@@ -122,7 +122,7 @@ view-take f wanted leaves (at n s c (level o p no_trees) (l ∷ ls)) h = absurd 
 
 -- a read of one leaf depends on the view alone: its trees, and the view of the place after it
 pub view-leaf : (f : Forest) (wanted : Tree → Bool) → IsOfLeaves wanted → (p : Place)
-    → with_view f (take wanted (descend p)) ≡ leaf_in_view wanted (view f p)
+    → with_view f (read_if wanted (descend p)) ≡ leaf_in_view wanted (view f p)
 view-leaf f wanted leaves p =
     view-take f wanted leaves (descend p) (descended-descend p)
     ∙ ap (leaf_in_view wanted) (view-descend f p)

@@ -9,15 +9,15 @@ use Rattle.tok_core.specs.Erase.{erase}
 use Rattle.tok_core.specs.Forest.{Tree, leaf, group, Forest, no_trees, tree}
 use Rattle.tok_core.specs.Filled.{has_trees}
 use Rattle.tok_core.specs.Weight.{weight}
-use Rattle.tok_core.proofs.Facts.{joined-none}
+use Rattle.tok_core.proofs.Facts.{concat-none}
 use Rattle.tok_buffer.specs.Descent.{descend}
 use Rattle.tok_buffer.specs.Entry.{enter, enter_any, entered_of, same_delimiter}
 use Rattle.tok_buffer.specs.InFront.{with_ahead, first_if, and_first, first_puncts, entered_ahead}
 use Rattle.tok_buffer.specs.InFront.{first_group, first_tree_span, AheadTellsAll}
 use Rattle.tok_buffer.specs.InFront.{AheadTellsEnds, AllAheadAtStart}
-use Rattle.tok_buffer.specs.Place.{Owner, group_of, Level, level, Place, empty_place, at, start}
+use Rattle.tok_buffer.specs.Place.{Owner, in_group, Level, level, Place, empty_place, at, start}
 use Rattle.tok_buffer.specs.Place.{settle}
-use Rattle.tok_buffer.specs.Reads.{take, and_then, is_ident, is_ident_of, is_literal, is_punct}
+use Rattle.tok_buffer.specs.Reads.{read_if, and_then, is_ident, is_ident_of, is_literal, is_punct}
 use Rattle.tok_buffer.specs.Reads.{is_punct_of, is_joint_of, read_punctuation}
 use Rattle.tok_buffer.specs.View.{erased_ahead, IsVisibleDelimiter, View, empty_view, seen, view}
 use Rattle.tok_buffer.proofs.View.Ends.{end_in_view, view-end}
@@ -58,9 +58,9 @@ first-view wanted (seen k no_trees) = refl
 first-view wanted (seen k (tree t f)) = first-cond (wanted t) t k f
 
 tells-leaf : (wanted : Tree → Bool) → IsOfLeaves wanted → (p : Place)
-    → with_ahead (take wanted (descend p)) ≡ first_if wanted (erased_ahead p)
+    → with_ahead (read_if wanted (descend p)) ≡ first_if wanted (erased_ahead p)
 tells-leaf wanted leaves p =
-    with_ahead-view (take wanted (descend p)) ∙ ap with_trees (view-leaf no_trees wanted leaves p)
+    with_ahead-view (read_if wanted (descend p)) ∙ ap with_trees (view-leaf no_trees wanted leaves p)
     ∙ first-view wanted (view no_trees p)
     ∙ ap (first_if wanted) (sym (trees-view p))
 
@@ -83,7 +83,7 @@ tells-punctuation : (text : List ℕ) (p : Place)
 tells-punctuation [] p = refl
 tells-punctuation (c ∷ []) p = tells-leaf (is_punct_of c) (λ d inside span. refl) p
 tells-punctuation (c ∷ (d ∷ cs)) p =
-    tells-then (take (is_joint_of c) (descend p)) (read_punctuation (d ∷ cs))
+    tells-then (read_if (is_joint_of c) (descend p)) (read_punctuation (d ∷ cs))
     (first_puncts (d ∷ cs)) (tells-punctuation (d ∷ cs))
     ∙ ap (λ r. and_first r (first_puncts (d ∷ cs)))
     (tells-leaf (is_joint_of c) (λ d inside span. refl) p)
@@ -92,17 +92,17 @@ tells-punctuation (c ∷ (d ∷ cs)) p =
 module _ (n s c : ℕ) (o : Owner) (p : Forest) (d : Delimiter) (inside : Forest) (span : Span)
     (f : Forest) (ls : List Level) where
   content_ahead : erased_ahead
-      (at n (c + 1 + weight inside) (c + 1) (level (group_of d span) no_trees inside) [])
+      (at n (c + 1 + weight inside) (c + 1) (level (in_group d span) no_trees inside) [])
       ≡ erase inside
   content_ahead =
       erased_ahead_is
-      (at n (c + 1 + weight inside) (c + 1) (level (group_of d span) no_trees inside) [])
-      ∙ ap erase (joined-none (unmarked inside)) ∙ erase-unmarked inside
+      (at n (c + 1 + weight inside) (c + 1) (level (in_group d span) no_trees inside) [])
+      ∙ ap erase (concat-none (unmarked inside)) ∙ erase-unmarked inside
 
-  behind_ahead : erased_ahead
+  after_ahead : erased_ahead
       (settle n s (c + (2 + weight inside)) (level o (tree (group d inside span) p) f) ls)
       ≡ erased_ahead (at n s c (level o p f) ls)
-  behind_ahead =
+  after_ahead =
       erased_ahead_is
       (settle n s (c + (2 + weight inside)) (level o (tree (group d inside span) p) f) ls)
       ∙ ap erase
@@ -114,8 +114,8 @@ module _ (n s c : ℕ) (o : Owner) (p : Forest) (d : Delimiter) (inside : Forest
       → option_map entered_ahead (cond b (Some (record {
         delimiter = d;
         span = span;
-        content = at n (c + 1 + weight inside) (c + 1) (level (group_of d span) no_trees inside) [];
-        behind = settle n s (c + (2 + weight inside)) (level o (tree (group d inside span) p) f) ls;
+        content = at n (c + 1 + weight inside) (c + 1) (level (in_group d span) no_trees inside) [];
+        after = settle n s (c + (2 + weight inside)) (level o (tree (group d inside span) p) f) ls;
       })) None)
       ≡ cond b
       (Some
@@ -123,7 +123,7 @@ module _ (n s c : ℕ) (o : Owner) (p : Forest) (d : Delimiter) (inside : Forest
         delimiter = d;
         span = span;
         content = erase inside;
-        behind = erased_ahead (at n s c (level o p f) ls);
+        after = erased_ahead (at n s c (level o p f) ls);
       })) None
   group-ahead true =
       ap
@@ -132,13 +132,13 @@ module _ (n s c : ℕ) (o : Owner) (p : Forest) (d : Delimiter) (inside : Forest
         delimiter = d;
         span = span;
         content = g;
-        behind =
+        after =
             erased_ahead
             (settle n s (c + (2 + weight inside))
             (level o (tree (group d inside span) p) f) ls);
       })) content_ahead
-      ∙ ap (λ g. Some (record { delimiter = d; span = span; content = erase inside; behind = g }))
-      behind_ahead
+      ∙ ap (λ g. Some (record { delimiter = d; span = span; content = erase inside; after = g }))
+      after_ahead
   group-ahead false = refl
 
 front-ahead : (d : Delimiter) (p : Place) → IsDescended p
@@ -198,4 +198,4 @@ ahead_tells_ends b i p r =
 
 pub all_ahead_at_start : AllAheadAtStart
 all_ahead_at_start number f =
-    erased_ahead_is (start number f) ∙ ap erase (joined-none (unmarked f)) ∙ erase-unmarked f
+    erased_ahead_is (start number f) ∙ ap erase (concat-none (unmarked f)) ∙ erase-unmarked f

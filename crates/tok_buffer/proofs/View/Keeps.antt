@@ -9,7 +9,7 @@ use Rattle.tok_core.specs.Forest.{Tree, leaf, group, Forest, no_trees, tree, tur
 use Rattle.tok_core.specs.Weight.{weight}
 use Rattle.tok_core.proofs.Facts.{turned_back}
 use Rattle.tok_buffer.specs.Descent.{into_front, descend_from, descend}
-use Rattle.tok_buffer.specs.Place.{Owner, group_of, Level, level, Place, empty_place, at, absorb}
+use Rattle.tok_buffer.specs.Place.{Owner, in_group, Level, level, Place, empty_place, at, absorb}
 use Rattle.tok_buffer.specs.Place.{settle}
 
 -- P holds inside an invisible group where it holds before it, and after the group where it holds at
@@ -18,7 +18,7 @@ pub record IsKept (P : Place → Type 0) : Type 0 where
   pub into : (n s c : ℕ) (o : Owner) (p inside : Forest) (span : Span) (f : Forest)
       (ls : List Level)
       → P (at n s c (level o p (tree (group delimiter.None inside span) f)) ls)
-      → P (at n s (c + 1) (level (group_of delimiter.None span) no_trees inside) (level o p f ∷ ls))
+      → P (at n s (c + 1) (level (in_group delimiter.None span) no_trees inside) (level o p f ∷ ls))
   pub out : (n s c : ℕ) (o : Owner) (p : Forest) (l : Level) (ls : List Level)
       → P (at n s c (level o p no_trees) (l ∷ ls)) → P (at n s (c + 1) (absorb o p l) ls)
 
@@ -44,14 +44,14 @@ module _ (P : Place → Type 0) (k : IsKept P) where
       let more : c + (2 + weight inside) + weight f ≡ c + (2 + weight inside + weight f) =
       omega arith in
       kept-either
-      (into_front inside n s (c + 1) (group_of delimiter.None span) no_trees (level o p f ∷ ls))
+      (into_front inside n s (c + 1) (in_group delimiter.None span) no_trees (level o p f ∷ ls))
       (into_front f n s (c + (2 + weight inside)) o (tree (group delimiter.None inside span) p) ls)
       (at n s (c + 1 + weight inside)
-      (level (group_of delimiter.None span) (turned_onto inside no_trees) no_trees)
+      (level (in_group delimiter.None span) (turned_onto inside no_trees) no_trees)
       (level o p f ∷ ls))
       (at n s (c + (2 + weight inside + weight f))
       (level o (turned_onto f (tree (group delimiter.None inside span) p)) no_trees) ls)
-      (kept-into_front inside n s (c + 1) (group_of delimiter.None span) no_trees (level o p f ∷ ls)
+      (kept-into_front inside n s (c + 1) (in_group delimiter.None span) no_trees (level o p f ∷ ls)
       (k.into n s c o p inside span f ls h))
       (λ past.
       let here =
@@ -59,7 +59,7 @@ module _ (P : Place → Type 0) (k : IsKept P) where
       (λ i. P
       (at n s (c + 1 + weight inside + 1)
       (level o (tree (group delimiter.None i span) p) f) ls)) same
-      (k.out n s (c + 1 + weight inside) (group_of delimiter.None span)
+      (k.out n s (c + 1 + weight inside) (in_group delimiter.None span)
       (turned_onto inside no_trees) (level o p f) ls past) in
       subst
       (λ m. KeptAt
@@ -126,9 +126,9 @@ descended-into_front no_trees n s c o p ls = tt
 descended-into_front (tree (leaf l) f) n s c o p ls = tt
 descended-into_front (tree (group delimiter.None inside span) f) n s c o p ls =
     descended-either
-    (into_front inside n s (c + 1) (group_of delimiter.None span) no_trees (level o p f ∷ ls))
+    (into_front inside n s (c + 1) (in_group delimiter.None span) no_trees (level o p f ∷ ls))
     (into_front f n s (c + (2 + weight inside)) o (tree (group delimiter.None inside span) p) ls)
-    (descended-into_front inside n s (c + 1) (group_of delimiter.None span) no_trees
+    (descended-into_front inside n s (c + 1) (in_group delimiter.None span) no_trees
     (level o p f ∷ ls))
     (descended-into_front f n s (c + (2 + weight inside)) o
     (tree (group delimiter.None inside span) p) ls)
@@ -184,17 +184,17 @@ module _ (n s c : ℕ) (o : Owner) (p inside : Forest) (span : Span) (f : Forest
   past-first : (ls : List Level)
       → descend_from n s c (level o p (tree (group delimiter.None inside span) f)) ls
       ≡ unwrap_or
-      (into_front inside n s (c + 1) (group_of delimiter.None span) no_trees (level o p f ∷ ls))
+      (into_front inside n s (c + 1) (in_group delimiter.None span) no_trees (level o p f ∷ ls))
       (descend_from n s (c + (2 + weight inside))
       (level o (tree (group delimiter.None inside span) p) f) ls)
   past-first [] =
       unwrap-either
-      (into_front inside n s (c + 1) (group_of delimiter.None span) no_trees (level o p f ∷ []))
+      (into_front inside n s (c + 1) (in_group delimiter.None span) no_trees (level o p f ∷ []))
       (into_front f n s (c + (2 + weight inside)) o
       (tree (group delimiter.None inside span) p) []) _
       ∙ ap
       (λ k. unwrap_or
-      (into_front inside n s (c + 1) (group_of delimiter.None span) no_trees (level o p f ∷ []))
+      (into_front inside n s (c + 1) (in_group delimiter.None span) no_trees (level o p f ∷ []))
       (unwrap_or
       (into_front f n s (c + (2 + weight inside)) o (tree (group delimiter.None inside span) p)
       [])
@@ -204,13 +204,13 @@ module _ (n s c : ℕ) (o : Owner) (p inside : Forest) (span : Span) (f : Forest
       (sym (add_assoc c (2 + weight inside) (weight f)))
   past-first (l ∷ ls) =
       unwrap-either
-      (into_front inside n s (c + 1) (group_of delimiter.None span) no_trees
+      (into_front inside n s (c + 1) (in_group delimiter.None span) no_trees
       (level o p f ∷ (l ∷ ls)))
       (into_front f n s (c + (2 + weight inside)) o
       (tree (group delimiter.None inside span) p) (l ∷ ls)) _
       ∙ ap
       (λ k. unwrap_or
-      (into_front inside n s (c + 1) (group_of delimiter.None span) no_trees
+      (into_front inside n s (c + 1) (in_group delimiter.None span) no_trees
       (level o p f ∷ (l ∷ ls)))
       (unwrap_or
       (into_front f n s (c + (2 + weight inside)) o (tree (group delimiter.None inside span) p)
@@ -220,10 +220,10 @@ module _ (n s c : ℕ) (o : Owner) (p inside : Forest) (span : Span) (f : Forest
       (sym (add_assoc c (2 + weight inside) (weight f)))
 
   inside-first : (ls : List Level)
-      → descend_from n s (c + 1) (level (group_of delimiter.None span) no_trees inside)
+      → descend_from n s (c + 1) (level (in_group delimiter.None span) no_trees inside)
       (level o p f ∷ ls)
       ≡ unwrap_or
-      (into_front inside n s (c + 1) (group_of delimiter.None span) no_trees (level o p f ∷ ls))
+      (into_front inside n s (c + 1) (in_group delimiter.None span) no_trees (level o p f ∷ ls))
       (descend_from n s (c + (2 + weight inside))
       (level o (tree (group delimiter.None inside span) p) f) ls)
   inside-first ls =
@@ -231,13 +231,13 @@ module _ (n s c : ℕ) (o : Owner) (p inside : Forest) (span : Span) (f : Forest
       let sums : c + 1 + weight inside + 1 ≡ c + (2 + weight inside) = omega arith in
       ap
       (λ i. unwrap_or
-      (into_front inside n s (c + 1) (group_of delimiter.None span) no_trees
+      (into_front inside n s (c + 1) (in_group delimiter.None span) no_trees
       (level o p f ∷ ls))
       (descend_from n s (c + 1 + weight inside + 1)
       (level o (tree (group delimiter.None i span) p) f) ls)) same
       ∙ ap
       (λ k. unwrap_or
-      (into_front inside n s (c + 1) (group_of delimiter.None span) no_trees
+      (into_front inside n s (c + 1) (in_group delimiter.None span) no_trees
       (level o p f ∷ ls))
       (descend_from n s k (level o (tree (group delimiter.None inside span) p) f)
       ls)) sums
@@ -246,10 +246,10 @@ module _ (n s c : ℕ) (o : Owner) (p inside : Forest) (span : Span) (f : Forest
   pub descend-invisible : (ls : List Level)
       → descend (at n s c (level o p (tree (group delimiter.None inside span) f)) ls)
       ≡ descend
-      (settle n s (c + 1) (level (group_of delimiter.None span) no_trees inside)
+      (settle n s (c + 1) (level (in_group delimiter.None span) no_trees inside)
       (level o p f ∷ ls))
   descend-invisible ls =
       past-first ls
       ∙ sym
-      (descend-settle n s (c + 1) (level (group_of delimiter.None span) no_trees inside)
+      (descend-settle n s (c + 1) (level (in_group delimiter.None span) no_trees inside)
       (level o p f ∷ ls) ∙ inside-first ls)

@@ -88,32 +88,32 @@ module _ (b : Laid) where
   reaching = record { down = down; past = λ p t e h. past p h; weaker = λ p h. h }
 
   -- the place after a group is the place after the tree in front
-  entry_behind : (p : Place) → IfSome (enter_any p) (λ e. e.behind ≡ pass p)
-  entry_behind empty_place = tt
-  entry_behind (at n s c (level o p no_trees) ls) = tt
-  entry_behind (at n s c (level o p (tree (leaf l) f)) ls) = tt
-  entry_behind (at n s c (level o p (tree (group d inside span) f)) ls) = refl
+  entry_after : (p : Place) → IfSome (enter_any p) (λ e. e.after ≡ pass p)
+  entry_after empty_place = tt
+  entry_after (at n s c (level o p no_trees) ls) = tt
+  entry_after (at n s c (level o p (tree (leaf l) f)) ls) = tt
+  entry_after (at n s c (level o p (tree (group d inside span) f)) ls) = refl
 
   abbrev BothReached : Entered → Type 0
-  BothReached e = Reached b e.content × Reached b e.behind
+  BothReached e = Reached b e.content × Reached b e.after
 
-  some_behind : (d : Delimiter) (p : Place) (r : Option Entered) → IfSome r (λ e. e.behind ≡ pass p)
-      → IfSome (entered_of d r) (λ e. e.behind ≡ pass p)
-  some_behind d p None h = tt
-  some_behind d p (Some e) h = go (same_delimiter d e.delimiter) where
-    go : (x : Bool) → IfSome (cond x (Some e) None) (λ y. y.behind ≡ pass p)
+  some_after : (d : Delimiter) (p : Place) (r : Option Entered) → IfSome r (λ e. e.after ≡ pass p)
+      → IfSome (entered_of d r) (λ e. e.after ≡ pass p)
+  some_after d p None h = tt
+  some_after d p (Some e) h = go (same_delimiter d e.delimiter) where
+    go : (x : Bool) → IfSome (cond x (Some e) None) (λ y. y.after ≡ pass p)
     go true = h
     go false = tt
 
-  enter_behind : (d : Delimiter) (p : Place) → IsVisibleDelimiter d
-      → IfSome (enter d p) (λ e. e.behind ≡ pass (descend p))
-  enter_behind delimiter.None p v = absurd v
-  enter_behind d p v = some_behind d (descend p) (enter_any (descend p)) (entry_behind (descend p))
+  enter_after : (d : Delimiter) (p : Place) → IsVisibleDelimiter d
+      → IfSome (enter d p) (λ e. e.after ≡ pass (descend p))
+  enter_after delimiter.None p v = absurd v
+  enter_after d p v = some_after d (descend p) (enter_any (descend p)) (entry_after (descend p))
 
   entries : (d : Delimiter) (p : Place) → IsVisibleDelimiter d → Reached b p
       → IfSome (enter d p) BothReached
-  entries d p v h = go (enter d p) refl (enter_behind d p v) where
-    go : (r : Option Entered) → enter d p ≡ r → IfSome r (λ e. e.behind ≡ pass (descend p))
+  entries d p v h = go (enter d p) refl (enter_after d p v) where
+    go : (r : Option Entered) → enter d p ≡ r → IfSome r (λ e. e.after ≡ pass (descend p))
         → IfSome r BothReached
     go None e k = tt
     go (Some x) e k = (into d p x v e h, subst (Reached b) (sym k) (past (descend p) (down p h)))

@@ -4,7 +4,7 @@ use Rattle.tok_core.specs.Clear.{is_joint_apostrophe}
 use Rattle.tok_core.specs.Forest.{Tree, Forest}
 use Rattle.tok_buffer.specs.Place.{Place}
 use Rattle.tok_buffer.specs.Descent.{descend}
-use Rattle.tok_buffer.specs.Reads.{take, and_then, is_ident_of, is_punct_of, is_joint_of}
+use Rattle.tok_buffer.specs.Reads.{read_if, and_then, is_ident_of, is_punct_of, is_joint_of}
 use Rattle.tok_buffer.specs.Reads.{read_lifetime, read_word, read_punctuation}
 use Rattle.tok_buffer.specs.View.{View, view}
 use Rattle.tok_buffer.proofs.View.Erased.{leaf_in_view, with_view, view-leaf}
@@ -45,7 +45,7 @@ module _ (g : Forest) where
   view-punctuation [] p = refl
   view-punctuation (c ∷ []) p = view-leaf g (is_punct_of c) (λ d inside span. refl) p
   view-punctuation (c ∷ (d ∷ cs)) p =
-      with-then (take (is_joint_of c) (descend p)) (read_punctuation (d ∷ cs))
+      with-then (read_if (is_joint_of c) (descend p)) (read_punctuation (d ∷ cs))
       (punctuation_in_view (d ∷ cs)) (view-punctuation (d ∷ cs))
       ∙ ap (λ r. then_in_view r (punctuation_in_view (d ∷ cs)))
       (view-leaf g (is_joint_of c) (λ d inside span. refl) p)
@@ -57,7 +57,7 @@ module _ (g : Forest) where
   pub view-lifetime : (wanted : List ℕ → Bool) (p : Place)
       → with_view g (read_lifetime wanted p) ≡ lifetime_in_view wanted (view g p)
   view-lifetime wanted p =
-      with-then (take is_joint_apostrophe (descend p)) (read_word wanted)
+      with-then (read_if is_joint_apostrophe (descend p)) (read_word wanted)
       (leaf_in_view (is_ident_of wanted)) (view-word wanted)
       ∙ ap (λ r. then_in_view r (leaf_in_view (is_ident_of wanted)))
       (view-leaf g is_joint_apostrophe (λ d inside span. refl) p)

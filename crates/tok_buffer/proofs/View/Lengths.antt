@@ -2,8 +2,8 @@
 use Rattle.std.proofs.Common.{◌≡◌, ◌∙◌, sym, ap, refl, ℕ, ◌+◌, Bool, List, [], ◌∷◌, length, arith}
 use Rattle.tok_core.specs.declared.group.Delimiter.TheVariants as delimiter
 use Rattle.tok_core.specs.Erase.{erase}
-use Rattle.tok_core.specs.Forest.{Tree, leaf, group, Forest, no_trees, tree, joined}
-use Rattle.tok_core.proofs.Erasures.{erase-joined}
+use Rattle.tok_core.specs.Forest.{Tree, leaf, group, Forest, no_trees, tree, concat}
+use Rattle.tok_core.proofs.Erasures.{erase-concat}
 use Rattle.tok_buffer.specs.Ahead.{ahead}
 use Rattle.tok_buffer.specs.Place.{Level, level, Place, empty_place, at}
 use Rattle.tok_buffer.specs.View.{View, empty_view, seen, view}
@@ -15,9 +15,9 @@ abbrev pub tree_count : Forest → ℕ
 tree_count no_trees = 0
 tree_count (tree t f) = 1 + tree_count f
 
-count-joined : (f g : Forest) → tree_count (joined f g) ≡ tree_count f + tree_count g
-count-joined no_trees g = omega arith
-count-joined (tree t f) g = omega (arith, count-joined f g)
+count-concat : (f g : Forest) → tree_count (concat f g) ≡ tree_count f + tree_count g
+count-concat no_trees g = omega arith
+count-concat (tree t f) g = omega (arith, count-concat f g)
 
 count-erase : (f : Forest) → tree_count (erase f) ≡ tree_count (unmarked f)
 count-erase no_trees = refl
@@ -25,8 +25,8 @@ count-erase (tree (leaf l) f) = omega (arith, count-erase f)
 count-erase (tree (group delimiter.None inside span) f) =
     omega (
       arith,
-      count-joined (erase inside) (erase f),
-      count-joined (unmarked inside) (unmarked f),
+      count-concat (erase inside) (erase f),
+      count-concat (unmarked inside) (unmarked f),
       count-erase inside,
       count-erase f,
     )
@@ -36,12 +36,12 @@ count-levels : (ls : List Level) → tree_count (erase (unmarked_in ls)) ≡ tre
 count-levels [] = refl
 count-levels (level o p a ∷ ls) =
     ap tree_count
-    (erase-joined (unmarked a) (unmarked_in ls)
-    ∙ ap (λ e. joined e (erase (unmarked_in ls))) (erase-unmarked a))
+    (erase-concat (unmarked a) (unmarked_in ls)
+    ∙ ap (λ e. concat e (erase (unmarked_in ls))) (erase-unmarked a))
     ∙ omega (
       arith,
-      count-joined (erase a) (erase (unmarked_in ls)),
-      count-joined (unmarked a) (unmarked_in ls),
+      count-concat (erase a) (erase (unmarked_in ls)),
+      count-concat (unmarked a) (unmarked_in ls),
       count-erase a,
       count-levels ls,
     )

@@ -7,7 +7,7 @@ use Rattle.tok_core.specs.Weight.{tree_weight}
 use Rattle.tok_core.specs.Clear.{is_joint_apostrophe}
 use Rattle.tok_buffer.specs.Descent.{descend}
 use Rattle.tok_buffer.specs.Place.{Owner, Level, level, Place, empty_place, at, front, pass}
-use Rattle.tok_buffer.specs.Reads.{take, and_then, behind, read_tree, is_ident_of, is_punct_of}
+use Rattle.tok_buffer.specs.Reads.{read_if, and_then, place_after, read_tree, is_ident_of, is_punct_of}
 use Rattle.tok_buffer.specs.Reads.{is_joint_of, any_tree, read_word, read_lifetime}
 use Rattle.tok_buffer.specs.Reads.{read_punctuation, any_text, skip}
 use Rattle.tok_buffer.proofs.View.Keeps.{IsKept, kept-settle, kept-descend}
@@ -35,8 +35,8 @@ pub record Leads (P Q : Place → Type 0) : Type 0 where
 abbrev pub LeadsTo : (Place → Type 0) → Option (List Tree × Place) → Type 0
 LeadsTo Q r = IfSome r (λ x. Q x.1)
 
-abbrev pub LeadsBehind : (Place → Type 0) → Option Place → Type 0
-LeadsBehind Q r = IfSome r Q
+abbrev pub LeadsAfter : (Place → Type 0) → Option Place → Type 0
+LeadsAfter Q r = IfSome r Q
 
 module _ (P Q : Place → Type 0) (m : Leads P Q) where
   leads-wanted : (b : Bool) (ts : List Tree) (q : Place) → Q q
@@ -44,14 +44,14 @@ module _ (P Q : Place → Type 0) (m : Leads P Q) where
   leads-wanted true ts q h = h
   leads-wanted false ts q h = tt
 
-  pub leads-take : (wanted : Tree → Bool) (p : Place) → P p → LeadsTo Q (take wanted p)
+  pub leads-take : (wanted : Tree → Bool) (p : Place) → P p → LeadsTo Q (read_if wanted p)
   leads-take wanted p h = go (front p) refl where
     go : (o : Option Tree) → front p ≡ o
         → LeadsTo Q (elim o [ Some t ↦ cond (wanted t) (Some (t ∷ [], pass p)) None | None ↦ None ])
     go None e = tt
     go (Some t) e = leads-wanted (wanted t) (t ∷ []) (pass p) (m.past p t e h)
 
-  pub leads-leaf : (wanted : Tree → Bool) (p : Place) → P p → LeadsTo Q (take wanted (descend p))
+  pub leads-leaf : (wanted : Tree → Bool) (p : Place) → P p → LeadsTo Q (read_if wanted (descend p))
   leads-leaf wanted p h = leads-take wanted (descend p) (m.down p h)
 
   leads-more : (ts : List Tree) (r : Option (List Tree × Place)) → LeadsTo Q r
@@ -68,7 +68,7 @@ module _ (P Q : Place → Type 0) (m : Leads P Q) where
   leads-punctuation [] p h = tt
   leads-punctuation (c ∷ []) p h = leads-leaf (is_punct_of c) p h
   leads-punctuation (c ∷ (d ∷ cs)) p h =
-      leads-then (take (is_joint_of c) (descend p)) (read_punctuation (d ∷ cs))
+      leads-then (read_if (is_joint_of c) (descend p)) (read_punctuation (d ∷ cs))
       (leads-leaf (is_joint_of c) p h) (leads-punctuation (d ∷ cs))
 
   pub leads-word : (wanted : List ℕ → Bool) (p : Place) → P p → LeadsTo Q (read_word wanted p)
@@ -77,23 +77,23 @@ module _ (P Q : Place → Type 0) (m : Leads P Q) where
   pub leads-lifetime : (wanted : List ℕ → Bool) (p : Place) → P p
       → LeadsTo Q (read_lifetime wanted p)
   leads-lifetime wanted p h =
-      leads-then (take is_joint_apostrophe (descend p)) (read_word wanted)
+      leads-then (read_if is_joint_apostrophe (descend p)) (read_word wanted)
       (leads-leaf is_joint_apostrophe p h) (leads-word wanted)
 
-  leads-behind : (r : Option (List Tree × Place)) → LeadsTo Q r → LeadsBehind Q (behind r)
-  leads-behind None h = tt
-  leads-behind (Some r) h = h
+  leads-after : (r : Option (List Tree × Place)) → LeadsTo Q r → LeadsAfter Q (place_after r)
+  leads-after None h = tt
+  leads-after (Some r) h = h
 
-  leads-either : (r : Option (List Tree × Place)) (x : Option Place) → LeadsTo Q r → LeadsBehind Q x
-      → LeadsBehind Q (elim r [ Some q ↦ Some q.1 | None ↦ x ])
+  leads-either : (r : Option (List Tree × Place)) (x : Option Place) → LeadsTo Q r → LeadsAfter Q x
+      → LeadsAfter Q (elim r [ Some q ↦ Some q.1 | None ↦ x ])
   leads-either None x h k = k
   leads-either (Some r) x h k = h
 
-  pub leads-skip : (p : Place) → P p → LeadsBehind Q (skip p)
+  pub leads-skip : (p : Place) → P p → LeadsAfter Q (skip p)
   leads-skip p h =
-      leads-either (read_lifetime any_text p) (behind (read_tree (descend p)))
+      leads-either (read_lifetime any_text p) (place_after (read_tree (descend p)))
       (leads-lifetime any_text p h)
-      (leads-behind (read_tree (descend p)) (leads-take any_tree (descend p) (m.down p h)))
+      (leads-after (read_tree (descend p)) (leads-take any_tree (descend p) (m.down p h)))
 
 -- a place of this scope that is no earlier
 abbrev pub IsBeyond : (number scope count : ℕ) → Place → Type 0

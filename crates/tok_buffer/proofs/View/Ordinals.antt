@@ -9,15 +9,15 @@ use Rattle.tok_core.specs.declared.span.Span.{Span}
 use Rattle.tok_core.specs.declared.group.Delimiter.{Delimiter}
 use Rattle.tok_core.specs.declared.group.Delimiter.TheVariants as delimiter
 use Rattle.tok_core.specs.Erase.{erase}
-use Rattle.tok_core.specs.Forest.{leaf, group, Forest, no_trees, tree, joined}
+use Rattle.tok_core.specs.Forest.{leaf, group, Forest, no_trees, tree, concat}
 use Rattle.tok_core.specs.Weight.{weight}
-use Rattle.tok_core.proofs.Erasures.{erase-joined}
-use Rattle.tok_core.proofs.Facts.{joined-none}
+use Rattle.tok_core.proofs.Erasures.{erase-concat}
+use Rattle.tok_core.proofs.Facts.{concat-none}
 use Rattle.tok_buffer.specs.Descent.{descend}
 use Rattle.tok_buffer.specs.Entry.{enter, enter_any, entered_of, same_delimiter}
 pub use Rattle.tok_buffer.specs.View.{IsVisibleDelimiter}
 pub use Rattle.tok_buffer.specs.View.{EnteredView, entered_view}
-use Rattle.tok_buffer.specs.Place.{Owner, whole, group_of, Level, level, Place, empty_place, at}
+use Rattle.tok_buffer.specs.Place.{Owner, whole, in_group, Level, level, Place, empty_place, at}
 use Rattle.tok_buffer.specs.Place.{absorb, settle}
 use Rattle.tok_buffer.specs.View.{erased_ahead, View, empty_view, seen, view, closings}
 use Rattle.tok_buffer.specs.View.{closing_marks}
@@ -36,24 +36,24 @@ sum-append xs ys = sum_by-append (λ x. x) xs ys
 pub sum-one : (xs : List ℕ) → sum (1 ∷ xs) ≡ 1 + sum xs
 sum-one xs = sum-append (1 ∷ []) xs
 
-pub groups-joined : (f g : Forest) → groups (joined f g) ≡ groups f + groups g
-groups-joined no_trees g = omega arith
-groups-joined (tree (leaf l) f) g = omega (arith, groups-joined f g)
-groups-joined (tree (group delimiter.None inside span) f) g =
+pub groups-concat : (f g : Forest) → groups (concat f g) ≡ groups f + groups g
+groups-concat no_trees g = omega arith
+groups-concat (tree (leaf l) f) g = omega (arith, groups-concat f g)
+groups-concat (tree (group delimiter.None inside span) f) g =
     omega (
       arith,
-      groups-joined f g,
-      sum-append (closing_marks inside) (0 ∷ closing_marks (joined f g)),
+      groups-concat f g,
+      sum-append (closing_marks inside) (0 ∷ closing_marks (concat f g)),
       sum-append
           (closing_marks inside) (0 ∷ closing_marks f),
     )
-groups-joined (tree (group d inside span) f) g =
+groups-concat (tree (group d inside span) f) g =
     omega (
       arith,
-      groups-joined f g,
-      sum-one (closing_marks (joined f g)),
+      groups-concat f g,
+      sum-one (closing_marks (concat f g)),
       sum-one (closing_marks f),
-      sum-append (closing_marks inside) (1 ∷ closing_marks (joined f g)),
+      sum-append (closing_marks inside) (1 ∷ closing_marks (concat f g)),
       sum-append
           (closing_marks inside) (1 ∷ closing_marks f),
     )
@@ -64,7 +64,7 @@ groups-erase (tree (leaf l) f) = omega (arith, groups-erase f)
 groups-erase (tree (group delimiter.None inside span) f) =
     omega (
       arith,
-      groups-joined (erase inside) (erase f),
+      groups-concat (erase inside) (erase f),
       groups-erase inside,
       groups-erase f,
       sum-append (closing_marks inside) (0 ∷ closing_marks f),
@@ -127,7 +127,7 @@ module _ (g : Forest) where
     drop_next c (closing_marks g) 0 _ e
         ∙ append_assoc (closing_marks b) (marks_beyond ls) rest,
   )
-  in-absorb n s c (group_of d span) p (level o a b) ls rest e = (
+  in-absorb n s c (in_group d span) p (level o a b) ls rest e = (
     rest,
     drop_next c (closing_marks g) 0 _ e
         ∙ append_assoc (closing_marks b) (marks_beyond ls) rest,
@@ -173,18 +173,18 @@ pub erase-unmarked : (f : Forest) → erase (unmarked f) ≡ erase f
 erase-unmarked no_trees = refl
 erase-unmarked (tree (leaf l) f) = ap (tree (leaf l)) (erase-unmarked f)
 erase-unmarked (tree (group delimiter.None inside span) f) =
-    erase-joined (unmarked inside) (unmarked f)
-    ∙ ap (λ g. joined g (erase (unmarked f))) (erase-unmarked inside)
-    ∙ ap (joined (erase inside)) (erase-unmarked f)
+    erase-concat (unmarked inside) (unmarked f)
+    ∙ ap (λ g. concat g (erase (unmarked f))) (erase-unmarked inside)
+    ∙ ap (concat (erase inside)) (erase-unmarked f)
 erase-unmarked (tree (group d inside span) f) =
     ap (tree (group d (erase inside) span)) (erase-unmarked f)
 
 groups-level : (a : Forest) (ls : List Level)
-    → groups (erase (joined (unmarked a) (unmarked_in ls))) ≡ groups a
+    → groups (erase (concat (unmarked a) (unmarked_in ls))) ≡ groups a
     + groups (erase (unmarked_in ls))
 groups-level a ls =
-    ap groups (erase-joined (unmarked a) (unmarked_in ls))
-    ∙ groups-joined (erase (unmarked a)) (erase (unmarked_in ls))
+    ap groups (erase-concat (unmarked a) (unmarked_in ls))
+    ∙ groups-concat (erase (unmarked a)) (erase (unmarked_in ls))
     ∙ ap (λ k. k + groups (erase (unmarked_in ls))) (ap groups (erase-unmarked a) ∙ groups-erase a)
 
 sum-beyond : (ls : List Level) → sum (marks_beyond ls) ≡ groups (erase (unmarked_in ls))
@@ -251,7 +251,7 @@ enter_in_view d (seen k (tree (group e inside span) f)) =
       span = span;
       content =
           seen (k - groups (tree (group e inside span) f) + groups inside) inside;
-      behind = seen k f;
+      after = seen k f;
     })) None
 
 cond_map : {A B : Type 0} (h : A → B) (b : Bool) (x : A)
@@ -263,7 +263,7 @@ module _ (g : Forest) (n s c : ℕ) (o : Owner) (p : Forest) (d : Delimiter) (in
     (span : Span) (f : Forest) (ls : List Level) where
   content_view : IsCounted (at n s c (level o p (tree (group d inside span) f)) ls)
       → IsIn g (at n s c (level o p (tree (group d inside span) f)) ls)
-      → view g (at n (c + 1 + weight inside) (c + 1) (level (group_of d span) no_trees inside) [])
+      → view g (at n (c + 1 + weight inside) (c + 1) (level (in_group d span) no_trees inside) [])
       ≡ seen
       (closings g s - groups
       (erased_ahead (at n s c (level o p (tree (group d inside span) f)) ls))
@@ -281,7 +281,7 @@ module _ (g : Forest) (n s c : ℕ) (o : Owner) (p : Forest) (d : Delimiter) (in
       ap
       (λ k. seen k
       (erased_ahead
-      (at n (c + 1 + weight inside) (c + 1) (level (group_of d span) no_trees inside)
+      (at n (c + 1 + weight inside) (c + 1) (level (in_group d span) no_trees inside)
       []))) number
       ∙ ap
       (λ v. seen
@@ -290,14 +290,14 @@ module _ (g : Forest) (n s c : ℕ) (o : Owner) (p : Forest) (d : Delimiter) (in
       + groups (erase inside)) v)
       (erased_ahead_is
       (at n (c + 1 + weight inside) (c + 1)
-      (level (group_of d span) no_trees inside) [])
-      ∙ ap erase (joined-none (unmarked inside))
+      (level (in_group d span) no_trees inside) [])
+      ∙ ap erase (concat-none (unmarked inside))
       ∙ erase-unmarked inside)
 
-  behind_view : view g
+  after_view : view g
       (settle n s (c + (2 + weight inside)) (level o (tree (group d inside span) p) f) ls)
       ≡ seen (closings g s) (erased_ahead (at n s c (level o p f) ls))
-  behind_view =
+  after_view =
       view-settle g n s (c + (2 + weight inside)) (level o (tree (group d inside span) p) f) ls
       ∙ ap (seen (closings g s)) (sym (erased_ahead_is (at n s c (level o p f) ls)))
 
@@ -306,8 +306,8 @@ module _ (g : Forest) (n s c : ℕ) (o : Owner) (p : Forest) (d : Delimiter) (in
       → option_map (entered_view g) (cond b (Some (record {
         delimiter = d;
         span = span;
-        content = at n (c + 1 + weight inside) (c + 1) (level (group_of d span) no_trees inside) [];
-        behind = settle n s (c + (2 + weight inside)) (level o (tree (group d inside span) p) f) ls;
+        content = at n (c + 1 + weight inside) (c + 1) (level (in_group d span) no_trees inside) [];
+        after = settle n s (c + (2 + weight inside)) (level o (tree (group d inside span) p) f) ls;
       })) None)
       ≡ cond b (Some (record {
         delimiter = d;
@@ -317,14 +317,14 @@ module _ (g : Forest) (n s c : ℕ) (o : Owner) (p : Forest) (d : Delimiter) (in
             (closings g s - groups
             (erased_ahead (at n s c (level o p (tree (group d inside span) f)) ls))
             + groups (erase inside)) (erase inside);
-        behind = seen (closings g s) (erased_ahead (at n s c (level o p f) ls));
+        after = seen (closings g s) (erased_ahead (at n s c (level o p f) ls));
       })) None
   group_view b k i =
       cond_map (entered_view g) b (record {
         delimiter = d;
         span = span;
-        content = at n (c + 1 + weight inside) (c + 1) (level (group_of d span) no_trees inside) [];
-        behind = settle n s (c + (2 + weight inside)) (level o (tree (group d inside span) p) f) ls;
+        content = at n (c + 1 + weight inside) (c + 1) (level (in_group d span) no_trees inside) [];
+        after = settle n s (c + (2 + weight inside)) (level o (tree (group d inside span) p) f) ls;
       })
       ∙ ap
       (λ v. cond b
@@ -333,7 +333,7 @@ module _ (g : Forest) (n s c : ℕ) (o : Owner) (p : Forest) (d : Delimiter) (in
         delimiter = d;
         span = span;
         content = v;
-        behind =
+        after =
             view g
             (settle n s (c + (2 + weight inside))
             (level o (tree (group d inside span) p) f) ls);
@@ -351,9 +351,9 @@ module _ (g : Forest) (n s c : ℕ) (o : Owner) (p : Forest) (d : Delimiter) (in
             (erased_ahead
             (at n s c (level o p (tree (group d inside span) f)) ls))
             + groups (erase inside)) (erase inside);
-        behind = v;
+        after = v;
       }))
-      None) behind_view
+      None) after_view
 
 -- the group in front after a descent
 enter-front : (g : Forest) (d : Delimiter) (p : Place) → IsDescended p → IsCounted p → IsIn g p

@@ -6,7 +6,7 @@ use Rattle.tok_core.specs.Forest.{Tree, leaf, group, Forest, no_trees, tree}
 use Rattle.tok_core.specs.Weight.{weight}
 use Rattle.tok_buffer.specs.Descent.{descend}
 use Rattle.tok_buffer.specs.Place.{Owner, Level, level, Place, empty_place, at, settle}
-use Rattle.tok_buffer.specs.Reads.{behind, read_tree, read_lifetime, skip, any_text}
+use Rattle.tok_buffer.specs.Reads.{place_after, read_tree, read_lifetime, skip, any_text}
 use Rattle.tok_buffer.specs.View.{erased_ahead, View, empty_view, seen, view, closings}
 use Rattle.tok_buffer.proofs.View.Keeps.{IsDescended, descended-descend}
 use Rattle.tok_buffer.proofs.View.LeafReads.{lifetime_in_view, view-lifetime}
@@ -30,7 +30,7 @@ module _ (g : Forest) where
       ∙ ap (seen (closings g s)) (sym (erased_ahead_is (at n s d (level o p f) ls)))
 
   view-front : (p : Place) → IsDescended p
-      → option_map (view g) (behind (read_tree p)) ≡ front_passed (view g p)
+      → option_map (view g) (place_after (read_tree p)) ≡ front_passed (view g p)
   view-front empty_place h = refl
   view-front (at n s c (level o p no_trees) []) h = refl
   view-front (at n s c (level o p no_trees) (l ∷ ls)) h = absurd h
@@ -49,7 +49,7 @@ module _ (g : Forest) where
 
   pub view-skip : (p : Place) → option_map (view g) (skip p) ≡ skip_in_view (view g p)
   view-skip p =
-      skip-either (read_lifetime any_text p) (behind (read_tree (descend p)))
+      skip-either (read_lifetime any_text p) (place_after (read_tree (descend p)))
       (front_passed (view g p))
       (view-front (descend p) (descended-descend p) ∙ ap front_passed (view-descend g p))
       ∙ ap (λ r. elim r [ Some q ↦ Some q.1 | None ↦ front_passed (view g p) ])

@@ -14,7 +14,7 @@ use Rattle.tok_core.proofs.Facts.{filled-tree}
 use Rattle.tok_buffer.specs.Descent.{descend}
 use Rattle.tok_buffer.specs.Entry.{Entered, enter, enter_any, entered_of, same_delimiter}
 use Rattle.tok_buffer.specs.Order.{same_scope}
-use Rattle.tok_buffer.specs.Place.{Owner, whole, group_of, Level, level, Place, empty_place, at}
+use Rattle.tok_buffer.specs.Place.{Owner, whole, in_group, Level, level, Place, empty_place, at}
 use Rattle.tok_buffer.specs.Place.{start, absorb, pass}
 use Rattle.tok_buffer.specs.Rest.{levels_delimiter, scope_delimiter}
 use Rattle.tok_buffer.specs.View.{closing_marks, closings, closers, delimiter_at, delimiter_in_view}
@@ -56,7 +56,7 @@ one_owner o p q a b (l ∷ ls) = refl
 absorbed_owner : (o : Owner) (p : Forest) (l : Level) (ls : List Level)
     → levels_delimiter (absorb o p l) ls ≡ levels_delimiter l ls
 absorbed_owner whole p l ls = refl
-absorbed_owner (group_of d span) p (level o q a) ls = one_owner o _ q a a ls
+absorbed_owner (in_group d span) p (level o q a) ls = one_owner o _ q a a ls
 
 drop_past : (c k : ℕ) (xs ys zs : List ℕ) → drop c xs ≡ ys ++ zs → length ys ≡ k
     → drop (c + k) xs ≡ zs
@@ -180,7 +180,7 @@ module _ (number : ℕ) (f : Forest) where
 
   -- The content of a visible group, and the place after it.
   abbrev pub BothStand : Entered → Type 0
-  BothStand e = Stands number f e.content × Stands number f e.behind
+  BothStand e = Stands number f e.content × Stands number f e.after
 
   content-stands : (n s c : ℕ) (d : Delimiter) (inside : Forest) (span : Span) (ys : List ℕ)
       (zs : List Delimiter)
@@ -189,7 +189,7 @@ module _ (number : ℕ) (f : Forest) where
       → drop c (closing_marks f) ≡ (0 ∷ closing_marks inside) ++ (1 ∷ ys)
       → drop (closings f c) (closers f) ≡ closers inside ++ (d ∷ zs)
       → Stands number f
-      (at n (c + 1 + weight inside) (c + 1) (level (group_of d span) no_trees inside) [])
+      (at n (c + 1 + weight inside) (c + 1) (level (in_group d span) no_trees inside) [])
   content-stands n s c d inside span ys zs z h e k =
       let past : drop (c + 1) (closing_marks f) ≡ closing_marks inside ++ (1 ∷ ys) =
       drop_next c (closing_marks f) 0 _ e in
@@ -201,7 +201,7 @@ module _ (number : ℕ) (f : Forest) where
       ∙ closings-front f c (1 + weight inside) (0 ∷ closing_marks inside) (1 ∷ ys) e size in
       record {
         settled =
-            is_settled n (c + 1 + weight inside) (c + 1) (level (group_of d span) no_trees inside)
+            is_settled n (c + 1 + weight inside) (c + 1) (level (in_group d span) no_trees inside)
             [];
         holds = record {
           filled = (h, tt);
@@ -253,7 +253,7 @@ module _ (number : ℕ) (f : Forest) where
       group-stands : (e : Delimiter) → IsVisibleDelimiter e
           → Stands number f (at n s c (level o p (tree (group e inside span) a)) ls)
           → Stands number f
-          (at n (c + 1 + weight inside) (c + 1) (level (group_of e span) no_trees inside) [])
+          (at n (c + 1 + weight inside) (c + 1) (level (in_group e span) no_trees inside) [])
           × Stands number f (pass (at n s c (level o p (tree (group e inside span) a)) ls))
       group-stands e v h = (
         content-stands n s c e inside span _ _ h.holds.scoped.0

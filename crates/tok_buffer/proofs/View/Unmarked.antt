@@ -3,13 +3,13 @@ use Rattle.std.proofs.Common.{◌≡◌, ◌∙◌, sym, ap, refl, ℕ, ◌+◌,
 use Rattle.std.proofs.Common.{◌∷◌, Option, Some, None}
 use Rattle.std.specs.Prelude.{option_map}
 use Rattle.tok_core.specs.declared.group.Delimiter.TheVariants as delimiter
-use Rattle.tok_core.specs.Forest.{Tree, leaf, group, Forest, no_trees, tree, joined}
+use Rattle.tok_core.specs.Forest.{Tree, leaf, group, Forest, no_trees, tree, concat}
 use Rattle.tok_core.specs.Weight.{weight}
 use Rattle.tok_core.proofs.Facts.{joined_assoc}
 use Rattle.tok_buffer.specs.Descent.{descend}
-use Rattle.tok_buffer.specs.Place.{Owner, whole, group_of, Level, level, Place, empty_place, at}
+use Rattle.tok_buffer.specs.Place.{Owner, whole, in_group, Level, level, Place, empty_place, at}
 use Rattle.tok_buffer.specs.Place.{absorb, settle, settled, pass}
-use Rattle.tok_buffer.specs.Reads.{take}
+use Rattle.tok_buffer.specs.Reads.{read_if}
 use Rattle.tok_buffer.proofs.View.Keeps.{IsKept, kept-settle, kept-descend, IsDescended}
 use Rattle.tok_buffer.proofs.View.Keeps.{descended-descend}
 
@@ -28,12 +28,12 @@ settled_settled (at n s c l ls) = settled-settle n s c l ls
 abbrev pub unmarked : Forest → Forest
 unmarked no_trees = no_trees
 unmarked (tree (leaf l) f) = tree (leaf l) (unmarked f)
-unmarked (tree (group delimiter.None inside span) f) = joined (unmarked inside) (unmarked f)
+unmarked (tree (group delimiter.None inside span) f) = concat (unmarked inside) (unmarked f)
 unmarked (tree (group d inside span) f) = tree (group d inside span) (unmarked f)
 
 abbrev pub unmarked_in : List Level → Forest
 unmarked_in [] = no_trees
-unmarked_in (level o p a ∷ ls) = joined (unmarked a) (unmarked_in ls)
+unmarked_in (level o p a ∷ ls) = concat (unmarked a) (unmarked_in ls)
 
 abbrev pub trees_ahead : Place → Forest
 trees_ahead empty_place = no_trees
@@ -42,7 +42,7 @@ trees_ahead (at n s c l ls) = unmarked_in (l ∷ ls)
 unmarked_in-absorb : (o : Owner) (p : Forest) (l : Level) (ls : List Level)
     → unmarked_in (absorb o p l ∷ ls) ≡ unmarked_in (l ∷ ls)
 unmarked_in-absorb whole p l ls = refl
-unmarked_in-absorb (group_of d span) p (level o q a) ls = refl
+unmarked_in-absorb (in_group d span) p (level o q a) ls = refl
 
 -- neither settling nor a descent changes the trees ahead
 module _ (ahead : Forest) where
@@ -80,11 +80,11 @@ read_ahead-cond true t p f e = ap (λ g. Some (t ∷ [], g)) e
 read_ahead-cond false t p f e = refl
 
 pub read_ahead-take : (wanted : Tree → Bool) (p : Place) → IsDescended p
-    → read_ahead (take wanted p) ≡ first_of wanted (trees_ahead p)
+    → read_ahead (read_if wanted p) ≡ first_of wanted (trees_ahead p)
 read_ahead-take wanted empty_place h = refl
 read_ahead-take wanted (at n s c (level o p (tree (leaf l) f)) ls) h =
     read_ahead-cond (wanted (leaf l)) (leaf l) (pass (at n s c (level o p (tree (leaf l) f)) ls))
-    (joined (unmarked f) (unmarked_in ls))
+    (concat (unmarked f) (unmarked_in ls))
     (trees_ahead-settle n s (c + 1) (level o (tree (leaf l) p) f) ls)
 read_ahead-take wanted (at n s c (level o p (tree (group delimiter.None inside span) f)) ls) h =
     absurd h
@@ -93,13 +93,13 @@ read_ahead-take wanted (at n s c (level o p (tree (group d inside span) f)) ls) 
     (wanted (group d inside span))
     (group d inside span)
     (pass (at n s c (level o p (tree (group d inside span) f)) ls))
-    (joined (unmarked f) (unmarked_in ls))
+    (concat (unmarked f) (unmarked_in ls))
     (trees_ahead-settle n s (c + (2 + weight inside)) (level o (tree (group d inside span) p) f) ls)
 read_ahead-take wanted (at n s c (level o p no_trees) []) h = refl
 read_ahead-take wanted (at n s c (level o p no_trees) (l ∷ ls)) h = absurd h
 
 pub read_ahead-descend : (wanted : Tree → Bool) (p : Place)
-    → read_ahead (take wanted (descend p)) ≡ first_of wanted (trees_ahead p)
+    → read_ahead (read_if wanted (descend p)) ≡ first_of wanted (trees_ahead p)
 read_ahead-descend wanted p =
     read_ahead-take wanted (descend p) (descended-descend p)
     ∙ ap (first_of wanted) (trees_ahead-descend p)

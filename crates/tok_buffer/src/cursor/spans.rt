@@ -6,14 +6,14 @@ impl<'a> Cursor<'a> {
     ghost use Rattle.std.specs.Prelude.{◌≡◌};
     ghost use Rattle.tok_buffer.specs.Ahead.{left_of, leftover};
     ghost use Rattle.tok_buffer.specs.Cursors.{place_of};
-    ghost use Rattle.tok_buffer.specs.Place.{position};
+    ghost use Rattle.tok_buffer.specs.Place.{count_before};
     ghost use Rattle.tok_buffer.specs.Rest.{scope_delimiter};
     ghost use Rattle.tok_buffer.specs.Spans.{current_span, start_span, previous_span};
 
     /// How many leaves, openings and closings of groups lie before the cursor in its buffer, or `None` for the empty
     /// cursor.
     pub fn position(self) -> Option<usize>
-        ensures { result ≡ position (place_of self.entry) }
+        ensures { result ≡ count_before (place_of self.entry) }
     {
         Some(self.spot?.position())
     }

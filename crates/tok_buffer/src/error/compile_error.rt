@@ -1,7 +1,7 @@
 // Errors as tokens for the compiler.
 ghost use Rattle.std.specs.Prelude.{◌≡◌, IfOk, OnOk};
 ghost use Rattle.std.specs.Str.{chars};
-ghost use Rattle.tok_core.specs.Forest.{ident, joined, punct};
+ghost use Rattle.tok_core.specs.Forest.{ident, concat, punct};
 ghost use Rattle.tok_core.specs.Lexical.Words.{IsIdentifier};
 ghost use Rattle.tok_core.specs.Seen.{ident_of};
 ghost use Rattle.tok_buffer.specs.CompileErrors.{invocation, segment};
@@ -42,7 +42,7 @@ impl Message {
 
     // Puts the tokens of this message after others.
     fn write(&self, alloc: Global, tokens: &mut TokenStream) -> Result<(), AllocError>
-        ensures { OnOk result (tokens.new ≡ joined tokens.old (compile_error self.now)) }
+        ensures { OnOk result (tokens.new ≡ concat tokens.old (compile_error self.now)) }
     {
         write_segment(alloc, "core", self.start, tokens)?;
         write_segment(alloc, "compile_error", self.start, tokens)?;
@@ -59,7 +59,7 @@ fn write_segment(
     tokens: &mut TokenStream,
 ) -> Result<(), AllocError>
     requires { IsIdentifier (chars name.now) }
-    ensures { OnOk result (tokens.new ≡ joined tokens.old (segment name.now span)) }
+    ensures { OnOk result (tokens.new ≡ concat tokens.old (segment name.now span)) }
 {
     tokens.append(TokenTree::Punct(punct(':', Spacing::Joint, span)))?;
     tokens.append(TokenTree::Punct(punct(':', Spacing::Alone, span)))?;
@@ -75,7 +75,7 @@ fn write_invocation(
     end: Span,
     tokens: &mut TokenStream,
 ) -> Result<(), AllocError>
-    ensures { OnOk result (tokens.new ≡ joined tokens.old (invocation start end text.now)) }
+    ensures { OnOk result (tokens.new ≡ concat tokens.old (invocation start end text.now)) }
 {
     let mut literal = Literal::string(alloc, text)?;
     literal.set_span(end);

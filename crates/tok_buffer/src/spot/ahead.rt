@@ -1,6 +1,6 @@
 // The first visible tree ahead of a spot.
 use crate::buffer::TokenBuffer;
-use crate::entry::{Entry, same};
+use crate::entry::{Held, same};
 use crate::spot::Spot;
 use tok_core::{Delimiter, Span};
 
@@ -30,20 +30,21 @@ impl<'a> Spot<'a> {
     fn scan(buffer: &TokenBuffer, from: usize, scope: usize) -> Option<(bool, Span)>
         requires in_buffer { scope ≤ weight buffer.now.forest }
         requires within { IsTrue (in_scope buffer.now.forest from scope) }
-        ensures { result ≡ first_of (ahead (place_at buffer.now.number buffer.now.forest from scope)) }
+        ensures { result
+            ≡ first_of (ahead (place_at buffer.now.number buffer.now.forest from scope)) }
     {
         let mut depth: usize = 0;
         let mut position = from;
         while position != scope {
-            match buffer.entry(position) {
-                Entry::Leaf(leaf) => return Some((depth > 0, leaf.span())),
-                Entry::Group(group, _) => {
+            match buffer.entry(position).held() {
+                Held::Leaf(leaf) => return Some((depth > 0, leaf.span())),
+                Held::Group(group, _) => {
                     if !same(group.delimiter, Delimiter::None) {
                         return Some((depth > 0, group.span));
                     }
                     depth += 1;
                 }
-                Entry::End(_) => depth = depth.saturating_sub(1),
+                Held::End(_) => depth = depth.saturating_sub(1),
             }
             position += 1;
         }

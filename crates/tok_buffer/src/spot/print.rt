@@ -6,7 +6,7 @@ ghost use Rattle.tok_core.specs.Text as spec;
 ghost use Rattle.tok_buffer.specs.Layout.{leaf_in};
 
 use crate::buffer::TokenBuffer;
-use crate::entry::{Entry, Leaf};
+use crate::entry::{Held, Leaf};
 use crate::spot::Spot;
 use std::fmt;
 use std::fmt::{Formatter, Write};
@@ -23,7 +23,8 @@ impl<'a> Spot<'a> {
 
     // Writes the trees ahead, as their stream is printed.
     pub fn write_ahead<W: Write>(self, f: &mut Formatter<W>) -> fmt::Result
-        ensures { WritesOnOk W.write_str_gives f.old result (text (rest (spot_place self.entry))) f.new }
+        ensures { WritesOnOk W.write_str_gives f.old result
+            (text (rest (spot_place self.entry))) f.new }
     {
         Spot::write_from(f, self.buffer, self.position, self.scope)
     }
@@ -43,30 +44,30 @@ impl<'a> Spot<'a> {
         let mut position = from;
         let mut is_glued = true;
         while position != scope {
-            match buffer.entry(position) {
-                Entry::Leaf(leaf) => {
+            match buffer.entry(position).held() {
+                Held::Leaf(leaf) => {
                     write_leaf(f, is_glued, leaf)?;
                     is_glued = leaf.is_joint();
                     position += 1;
                 }
-                Entry::Group(group, offset) => {
+                Held::Group(group, offset) => {
                     write_opening(f, is_glued, group.delimiter)?;
-                    Spot::write_from(f, buffer, position + 1, position + *offset)?;
+                    Spot::write_from(f, buffer, position + 1, position + offset)?;
                     f.write_str(group.delimiter.closing())?;
                     is_glued = false;
-                    position = position + *offset + 1;
+                    position = position + offset + 1;
                 }
-                Entry::End(_) => position += 1,
+                Held::End(_) => position += 1,
             }
         }
         Ok(())
     }
 }
 
-impl Leaf {
+impl<'a> Leaf<'a> {
     // Whether it is a joint punct.
-    fn is_joint(&self) -> bool
-        ensures { result ≡ spec.is_joint (leaf (leaf_in self.now)) }
+    fn is_joint(self) -> bool
+        ensures { result ≡ spec.is_joint (leaf (leaf_in self.entry)) }
     {
         match self {
             Leaf::Punct(punct) => match punct.spacing() {
@@ -79,9 +80,9 @@ impl Leaf {
 }
 
 // A leaf, after the space that parts it from what was written.
-fn write_leaf<W: Write>(f: &mut Formatter<W>, is_glued: bool, leaf: &Leaf) -> fmt::Result
+fn write_leaf<W: Write>(f: &mut Formatter<W>, is_glued: bool, leaf: Leaf<'_>) -> fmt::Result
     ensures { WritesOnOk W.write_str_gives f.old result
-        (spec.space is_glued ++ spec.leaf_text (leaf_in leaf.now)) f.new }
+        (spec.space is_glued ++ spec.leaf_text (leaf_in leaf.entry)) f.new }
 {
     f.write_str(space(is_glued))?;
     match leaf {

@@ -4,7 +4,7 @@ ghost use Rattle.tok_core.specs.Forest.{leaf};
 ghost use Rattle.tok_core.specs.Seen.{punct_of};
 ghost use Rattle.tok_buffer.specs.Reads as spec;
 
-use crate::entry::Leaf;
+use crate::entry::Entry;
 use crate::spot::Spot;
 use crate::text::next_char;
 use tok_core::{Punct, Spacing, Span};
@@ -16,7 +16,8 @@ impl<'a> Spot<'a> {
     ghost use Rattle.std.specs.Str.{chars};
     ghost use Rattle.tok_buffer.specs.Cursors.{spot_place};
     ghost use Rattle.tok_buffer.specs.Descent.{descend};
-    ghost use Rattle.tok_buffer.specs.Reads.{is_joint_of, is_punct_of, read_next, read_punctuation, read_spans, sized, take};
+    ghost use Rattle.tok_buffer.specs.Gives.{Gives};
+    ghost use Rattle.tok_buffer.specs.Reads.{is_joint_of, is_punct_of, read_next, read_punctuation, read_spans, sized, read_if};
 
     // The characters of this text are in front as puncts, each but the last joint.
     pub fn peek_punctuation(self, text: &str) -> bool
@@ -30,7 +31,7 @@ impl<'a> Spot<'a> {
         let mut rest = after;
         while let Some((next, after)) = next_char(rest) {
             match spot.joint(wanted) {
-                Some((_, behind)) => spot = behind,
+                Some((_, ahead)) => spot = ahead,
                 None => return false,
             }
             wanted = next;
@@ -41,13 +42,12 @@ impl<'a> Spot<'a> {
 
     // The joint punct of this character in front.
     fn joint(self, wanted: char) -> Option<(Punct, Spot<'a>)>
-        ensures { MatchOption result
-            (take (is_joint_of wanted) (descend (spot_place self.entry)) ≡ None)
-            (λ r. take (is_joint_of wanted) (descend (spot_place self.entry)) ≡ Some (leaf (punct_of r.0) ∷ [], spot_place r.1)) }
+        ensures { Gives result (read_if (is_joint_of wanted) (descend (spot_place self.entry)))
+            (λ r. (leaf (punct_of r.0) ∷ [], spot_place r.1)) }
     {
         let spot = self.ignore_none();
-        match spot.leaf() {
-            Some(Leaf::Punct(punct)) => {
+        match spot.entry() {
+            Entry::Punct(punct) => {
                 if is_joint_of(*punct, wanted) {
                     Some((*punct, spot.bump()))
                 } else {
@@ -60,13 +60,12 @@ impl<'a> Spot<'a> {
 
     // The punct of this character in front.
     fn last(self, wanted: char) -> Option<(Punct, Spot<'a>)>
-        ensures { MatchOption result
-            (take (is_punct_of wanted) (descend (spot_place self.entry)) ≡ None)
-            (λ r. take (is_punct_of wanted) (descend (spot_place self.entry)) ≡ Some (leaf (punct_of r.0) ∷ [], spot_place r.1)) }
+        ensures { Gives result (read_if (is_punct_of wanted) (descend (spot_place self.entry)))
+            (λ r. (leaf (punct_of r.0) ∷ [], spot_place r.1)) }
     {
         let spot = self.ignore_none();
-        match spot.leaf() {
-            Some(Leaf::Punct(punct)) => {
+        match spot.entry() {
+            Entry::Punct(punct) => {
                 if is_punct_of(*punct, wanted) {
                     Some((*punct, spot.bump()))
                 } else {
@@ -79,10 +78,8 @@ impl<'a> Spot<'a> {
 
     // The punct of the first of some characters in front, joint where more of them follow.
     fn next_of(self, wanted: char, rest: &str) -> Option<(Punct, Spot<'a>)>
-        ensures { MatchOption result
-            (read_next wanted (chars rest.now) (spot_place self.entry) ≡ None)
-            (λ r. read_next wanted (chars rest.now) (spot_place self.entry)
-            ≡ Some (leaf (punct_of r.0) ∷ [], spot_place r.1)) }
+        ensures { Gives result (read_next wanted (chars rest.now) (spot_place self.entry))
+            (λ r. (leaf (punct_of r.0) ∷ [], spot_place r.1)) }
     {
         match next_char(rest) {
             None => self.last(wanted),
@@ -93,8 +90,10 @@ impl<'a> Spot<'a> {
     // The puncts in front that are the characters of this text, each but the last joint, with their spans.
     pub fn puncts(self, text: &str, spans: &mut [Span]) -> Option<Spot<'a>>
         ensures { MatchOption result
-            (read_punctuation (sized (length spans.old) (chars text.now)) (spot_place self.entry) ≡ None)
-            (λ r. read_spans (read_punctuation (sized (length spans.old) (chars text.now)) (spot_place self.entry))
+            (read_punctuation (sized (length spans.old) (chars text.now)) (spot_place self.entry)
+            ≡ None)
+            (λ r. read_spans
+            (read_punctuation (sized (length spans.old) (chars text.now)) (spot_place self.entry))
             ≡ Some (spans.new, spot_place r)) }
     {
         if spans.is_empty() {
@@ -106,11 +105,11 @@ impl<'a> Spot<'a> {
             let Some((wanted, after)) = next_char(rest) else {
                 return None;
             };
-            let Some((punct, behind)) = spot.next_of(wanted, after) else {
+            let Some((punct, ahead)) = spot.next_of(wanted, after) else {
                 return None;
             };
             *span = punct.span();
-            spot = behind;
+            spot = ahead;
             rest = after;
         }
         match next_char(rest) {
@@ -121,10 +120,11 @@ impl<'a> Spot<'a> {
 
     // A punct of this character is in front.
     fn peek_char(self, wanted: char) -> bool
-        ensures { result ≡ is_some (take (is_punct_of wanted) (descend (spot_place self.entry))) }
+        ensures { result
+            ≡ is_some (read_if (is_punct_of wanted) (descend (spot_place self.entry))) }
     {
-        match self.ignore_none().leaf() {
-            Some(Leaf::Punct(punct)) => is_punct_of(*punct, wanted),
+        match self.ignore_none().entry() {
+            Entry::Punct(punct) => is_punct_of(*punct, wanted),
             _ => false,
         }
     }

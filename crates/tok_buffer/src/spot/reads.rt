@@ -4,66 +4,50 @@ ghost use Rattle.tok_core.specs.Clear.{is_joint_apostrophe};
 ghost use Rattle.tok_core.specs.Forest.{leaf};
 ghost use Rattle.tok_core.specs.Seen.{punct_of};
 
-use crate::entry::{Entry, Leaf};
+use crate::entry::Entry;
 use crate::spot::Spot;
 use tok_core::{Ident, Literal, Punct, Spacing, Span};
 
 impl<'a> Spot<'a> {
-    ghost use Rattle.std.specs.Prelude.{◌≡◌, ◌∷◌, [], MatchOption, Some, None, bytes_eq, is_some};
+    ghost use Rattle.std.specs.Prelude.{◌≡◌, ◌∷◌, [], bytes_eq, is_some};
     ghost use Rattle.tok_core.specs.Clear.{is_joint_apostrophe};
     ghost use Rattle.tok_core.specs.declared.punct.Spacing.TheVariants.{Joint};
     ghost use Rattle.tok_core.specs.Forest.{leaf, punct};
     ghost use Rattle.tok_core.specs.Seen.{ident_of, punct_of, literal_of};
     ghost use Rattle.tok_buffer.specs.Cursors.{spot_place};
     ghost use Rattle.tok_buffer.specs.Descent.{descend};
-    ghost use Rattle.tok_buffer.specs.Layout.{leaf_in};
-    ghost use Rattle.tok_buffer.specs.Place.{front_leaf};
-    ghost use Rattle.tok_buffer.specs.Reads.{any_text, apostrophe, lifetime_trees, behind, skip, take, read_ident, read_punct, read_literal, read_lifetime, read_tree, read_word};
-
-    // The leaf in front.
-    pub fn leaf(self) -> Option<&'a Leaf>
-        ensures { MatchOption result
-            (front_leaf (spot_place self.entry) ≡ None)
-            (λ l. front_leaf (spot_place self.entry) ≡ Some (leaf_in l.now)) }
-    {
-        match self.entry() {
-            Entry::Leaf(leaf) => Some(leaf),
-            _ => None,
-        }
-    }
+    ghost use Rattle.tok_buffer.specs.Gives.{Gives};
+    ghost use Rattle.tok_buffer.specs.Reads.{and_then, any_text, apostrophe, lifetime_trees, place_after, skip, read_if, read_ident, read_punct, read_literal, read_lifetime, read_tree, read_word};
 
     pub fn ident(self) -> Option<(&'a Ident, Spot<'a>)>
-        ensures { MatchOption result
-            (read_ident (spot_place self.entry) ≡ None)
-            (λ r. read_ident (spot_place self.entry) ≡ Some (leaf (ident_of r.0.now) ∷ [], spot_place r.1)) }
+        ensures { Gives result (read_ident (spot_place self.entry))
+            (λ r. (leaf (ident_of r.0.now) ∷ [], spot_place r.1)) }
     {
         let spot = self.ignore_none();
-        match spot.leaf() {
-            Some(Leaf::Ident(ident)) => Some((ident, spot.bump())),
+        match spot.entry() {
+            Entry::Ident(ident) => Some((ident, spot.bump())),
             _ => None,
         }
     }
 
     pub fn literal(self) -> Option<(&'a Literal, Spot<'a>)>
-        ensures { MatchOption result
-            (read_literal (spot_place self.entry) ≡ None)
-            (λ r. read_literal (spot_place self.entry) ≡ Some (leaf (literal_of r.0.now) ∷ [], spot_place r.1)) }
+        ensures { Gives result (read_literal (spot_place self.entry))
+            (λ r. (leaf (literal_of r.0.now) ∷ [], spot_place r.1)) }
     {
         let spot = self.ignore_none();
-        match spot.leaf() {
-            Some(Leaf::Literal(literal)) => Some((literal, spot.bump())),
+        match spot.entry() {
+            Entry::Literal(literal) => Some((literal, spot.bump())),
             _ => None,
         }
     }
 
     pub fn punct(self) -> Option<(Punct, Spot<'a>)>
-        ensures { MatchOption result
-            (read_punct (spot_place self.entry) ≡ None)
-            (λ r. read_punct (spot_place self.entry) ≡ Some (leaf (punct_of r.0) ∷ [], spot_place r.1)) }
+        ensures { Gives result (read_punct (spot_place self.entry))
+            (λ r. (leaf (punct_of r.0) ∷ [], spot_place r.1)) }
     {
         let spot = self.ignore_none();
-        match spot.leaf() {
-            Some(Leaf::Punct(punct)) => {
+        match spot.entry() {
+            Entry::Punct(punct) => {
                 if punct.as_char() == '\'' {
                     None
                 } else {
@@ -74,17 +58,15 @@ impl<'a> Spot<'a> {
         }
     }
 
-    // The joint apostrophe in front.
+    // The joint apostrophe that the next entry is.
     fn apostrophe(self) -> Option<(Span, Spot<'a>)>
-        ensures { MatchOption result
-            (take is_joint_apostrophe (descend (spot_place self.entry)) ≡ None)
-            (λ r. take is_joint_apostrophe (descend (spot_place self.entry)) ≡ Some (leaf (punct apostrophe Joint r.0) ∷ [], spot_place r.1)) }
+        ensures { Gives result (read_if is_joint_apostrophe (spot_place self.entry))
+            (λ r. (leaf (punct apostrophe Joint r.0) ∷ [], spot_place r.1)) }
     {
-        let spot = self.ignore_none();
-        match spot.leaf() {
-            Some(Leaf::Punct(punct)) => {
+        match self.entry() {
+            Entry::Punct(punct) => {
                 if is_apostrophe(*punct) {
-                    Some((punct.span(), spot.bump()))
+                    Some((punct.span(), self.bump()))
                 } else {
                     None
                 }
@@ -93,41 +75,42 @@ impl<'a> Spot<'a> {
         }
     }
 
-    pub fn lifetime(self) -> Option<(Span, &'a Ident, Spot<'a>)>
-        ensures { MatchOption result
-            (read_lifetime any_text (spot_place self.entry) ≡ None)
-            (λ r. read_lifetime any_text (spot_place self.entry)
-            ≡ Some (lifetime_trees r.0 (ident_of r.1.now), spot_place r.2)) }
+    // The lifetime whose apostrophe the next entry is.
+    fn front_lifetime(self) -> Option<(Span, &'a Ident, Spot<'a>)>
+        ensures { Gives result
+            (and_then (read_if is_joint_apostrophe (spot_place self.entry)) (read_word any_text))
+            (λ r. (lifetime_trees r.0 (ident_of r.1.now), spot_place r.2)) }
     {
         let (apostrophe, spot) = self.apostrophe()?;
         let (ident, rest) = spot.ident()?;
         Some((apostrophe, ident, rest))
     }
 
+    pub fn lifetime(self) -> Option<(Span, &'a Ident, Spot<'a>)>
+        ensures { Gives result (read_lifetime any_text (spot_place self.entry))
+            (λ r. (lifetime_trees r.0 (ident_of r.1.now), spot_place r.2)) }
+    {
+        self.ignore_none().front_lifetime()
+    }
+
     // After the next token: a lifetime, or the front tree.
     pub fn skip(self) -> Option<Spot<'a>>
-        ensures { MatchOption result
-            (skip (spot_place self.entry) ≡ None)
-            (λ r. skip (spot_place self.entry) ≡ Some (spot_place r)) }
+        ensures { Gives result (skip (spot_place self.entry)) spot_place }
     {
-        match self.lifetime() {
+        let spot = self.ignore_none();
+        match spot.front_lifetime() {
             Some((_, _, rest)) => Some(rest),
-            None => self.ignore_none().behind_front(),
+            None => spot.after_front(),
         }
     }
 
     // After the front tree.
-    fn behind_front(self) -> Option<Spot<'a>>
-        ensures { MatchOption result
-            (behind (read_tree (spot_place self.entry)) ≡ None)
-            (λ r. behind (read_tree (spot_place self.entry)) ≡ Some (spot_place r)) }
+    fn after_front(self) -> Option<Spot<'a>>
+        ensures { Gives result (place_after (read_tree (spot_place self.entry))) spot_place }
     {
         match self.enter_any() {
-            Some((_, _, _, behind)) => Some(behind),
-            None => match self.leaf() {
-                Some(_) => Some(self.bump()),
-                None => None,
-            },
+            Some((_, _, _, after)) => Some(after),
+            None => { if self.eof() { None } else { Some(self.bump()) } }
         }
     }
 

@@ -1,6 +1,6 @@
 // The spans at a spot.
 use crate::buffer::TokenBuffer;
-use crate::entry::Entry;
+use crate::entry::{Entry, Held};
 use crate::spot::Spot;
 use tok_core::{DelimSpan, Span};
 
@@ -41,10 +41,10 @@ impl<'a> Spot<'a> {
         requires { position ≤ weight buffer.now.forest }
         ensures { result ≡ level_span (levels_at buffer.now.forest position).0 }
     {
-        match buffer.entry(position) {
-            Entry::Leaf(leaf) => leaf.span(),
-            Entry::Group(group, _) => group.span,
-            Entry::End(back) => buffer.entry(position - *back).closing().1,
+        match buffer.entry(position).held() {
+            Held::Leaf(leaf) => leaf.span(),
+            Held::Group(group, _) => group.span,
+            Held::End(back) => buffer.entry(position - back).closing().1,
         }
     }
 }

@@ -7,10 +7,10 @@ use Rattle.tok_core.specs.Text.{text, text_after, leaf_text, opening, space}
 use Rattle.tok_core.specs.Weight.{weight}
 use Rattle.tok_buffer.specs.Moves.{in_scope, levels_at, place_at}
 use Rattle.tok_buffer.specs.Rest.{rest}
-use Rattle.tok_buffer.specs.Layout.{entry_here, leaf_in}
+use Rattle.tok_buffer.specs.Layout.{entry_here, entry_of, leaf_in}
 use Rattle.tok_buffer.specs.declared.entry.Entry.TheVariants.{Group}
 use Rattle.tok_buffer.proofs.InScope.{before_scope, place_step}
-use Rattle.tok_buffer.proofs.Groups.{held_fits, held_within, held_behind}
+use Rattle.tok_buffer.proofs.Groups.{held_fits, held_within, held_after}
 use Rattle.tok_buffer.proofs.Rests.{rest_at, rest_any, rest_leaf, rest_close, rest_done, rest_group}
 use Rattle.tok_buffer.proofs.spot.Spot.+write_from.Goals as goal
 
@@ -45,7 +45,7 @@ loop-position-preserved-in-Leaf g t c =
     let i = c.loop-position.invariant in
     let l = leaf_in c.in-Leaf.leaf in
     let b = c.loop-position.is_glued in
-    let here = rest_leaf F n s c.in-Leaf.leaf i.within c.loop-position-test.true (sym c.entry.ensures ∙ c.in-Leaf.is) in
+    let here = rest_leaf F n s (leaf_in c.in-Leaf.leaf) i.within c.loop-position-test.true (sym c.entry.ensures ∙ c.held.ensures ∙ ap entry_of c.in-Leaf.is) in
     record {
       within = (place_step 0 n s F i.within c.loop-position-test.true).0;
       later = omega (arith, i.later);
@@ -68,7 +68,7 @@ overflow_add-position-in-Group g t c =
 
 pub overflow_add-position-in-Group-2 : goal.overflow_add-position-in-Group-2
 overflow_add-position-in-Group-2 g t c =
-    omega (arith, held_fits c.args.buffer.now.forest c.loop-position.position c.args.scope c.in-Group.group c.in-Group.offset c.loop-position.invariant.within (sym c.entry.ensures ∙ c.in-Group.is), c.ranges.scope.fits)
+    omega (arith, held_fits c.args.buffer.now.forest c.loop-position.position c.args.scope c.in-Group.group.now c.in-Group.offset c.loop-position.invariant.within (sym c.entry.ensures ∙ c.held.ensures ∙ ap entry_of c.in-Group.is), c.ranges.scope.fits)
 
 pub write_from-requires : goal.write_from-requires
 write_from-requires g t c κs within =
@@ -76,24 +76,24 @@ write_from-requires g t c κs within =
     let k = c.in-Group.offset in
     let s = c.args.scope in
     let F = c.args.buffer.now.forest in
-    let fits = held_fits F n s c.in-Group.group k c.loop-position.invariant.within (sym c.entry.ensures ∙ c.in-Group.is) in
+    let fits = held_fits F n s c.in-Group.group.now k c.loop-position.invariant.within (sym c.entry.ensures ∙ c.held.ensures ∙ ap entry_of c.in-Group.is) in
     let later : c.args.from ≤ n = c.loop-position.invariant.later in
-    let inner : in_scope F (n + 1) (n + k) ≡ true = held_within F n s c.in-Group.group k c.loop-position.invariant.within (sym c.entry.ensures ∙ c.in-Group.is) in
+    let inner : in_scope F (n + 1) (n + k) ≡ true = held_within F n s c.in-Group.group.now k c.loop-position.invariant.within (sym c.entry.ensures ∙ c.held.ensures ∙ ap entry_of c.in-Group.is) in
     let room : n + k ≤ weight F = omega (arith, fits, c.requires.in_buffer) in
     let fewer : n + k - (n + 1) < s - c.args.from = omega (arith, fits, later) in
     search rules
 
 pub overflow_add-position-in-Group-3 : goal.overflow_add-position-in-Group-3
 overflow_add-position-in-Group-3 g t c =
-    omega (arith, held_fits c.args.buffer.now.forest c.loop-position.position c.args.scope c.in-Group.group c.in-Group.offset c.loop-position.invariant.within (sym c.entry.ensures ∙ c.in-Group.is), c.ranges.scope.fits)
+    omega (arith, held_fits c.args.buffer.now.forest c.loop-position.position c.args.scope c.in-Group.group.now c.in-Group.offset c.loop-position.invariant.within (sym c.entry.ensures ∙ c.held.ensures ∙ ap entry_of c.in-Group.is), c.ranges.scope.fits)
 
 pub overflow_add-position-in-Group-4 : goal.overflow_add-position-in-Group-4
 overflow_add-position-in-Group-4 g t c =
-    omega (arith, held_fits c.args.buffer.now.forest c.loop-position.position c.args.scope c.in-Group.group c.in-Group.offset c.loop-position.invariant.within (sym c.entry.ensures ∙ c.in-Group.is), c.ranges.scope.fits)
+    omega (arith, held_fits c.args.buffer.now.forest c.loop-position.position c.args.scope c.in-Group.group.now c.in-Group.offset c.loop-position.invariant.within (sym c.entry.ensures ∙ c.held.ensures ∙ ap entry_of c.in-Group.is), c.ranges.scope.fits)
 
 pub loop-position-smaller-in-Group : goal.loop-position-smaller-in-Group
 loop-position-smaller-in-Group g t c =
-    omega (arith, held_fits c.args.buffer.now.forest c.loop-position.position c.args.scope c.in-Group.group c.in-Group.offset c.loop-position.invariant.within (sym c.entry.ensures ∙ c.in-Group.is))
+    omega (arith, held_fits c.args.buffer.now.forest c.loop-position.position c.args.scope c.in-Group.group.now c.in-Group.offset c.loop-position.invariant.within (sym c.entry.ensures ∙ c.held.ensures ∙ ap entry_of c.in-Group.is))
 
 pub loop-position-preserved-in-Group : goal.loop-position-preserved-in-Group
 loop-position-preserved-in-Group g t c =
@@ -101,13 +101,13 @@ loop-position-preserved-in-Group g t c =
     let n = c.loop-position.position in
     let s = c.args.scope in
     let i = c.loop-position.invariant in
-    let o = c.in-Group.group in
+    let o = c.in-Group.group.now in
     let k = c.in-Group.offset in
     let b = c.loop-position.is_glued in
-    let e : entry_here (levels_at F n).0 ≡ Group o k = sym c.entry.ensures ∙ c.in-Group.is in
+    let e : entry_here (levels_at F n).0 ≡ Group o k = sym c.entry.ensures ∙ c.held.ensures ∙ ap entry_of c.in-Group.is in
     let inside = text (rest_at F (n + 1) (n + k)) in
     record {
-      within = held_behind F n s o k i.within e;
+      within = held_after F n s o k i.within e;
       later = omega (arith, i.later);
       written =
           λ plain.
@@ -141,7 +141,7 @@ loop-position-preserved g t c =
     let n = c.loop-position.position in
     let s = c.args.scope in
     let i = c.loop-position.invariant in
-    let same = rest_close F n s c.in-End.field-0 i.within c.loop-position-test.true (sym c.entry.ensures ∙ c.in-End.is) in
+    let same = rest_close F n s c.in-End.field-0 i.within c.loop-position-test.true (sym c.entry.ensures ∙ c.held.ensures ∙ ap entry_of c.in-End.is) in
     record {
       within = (place_step 0 n s F i.within c.loop-position-test.true).0;
       later = omega (arith, i.later);

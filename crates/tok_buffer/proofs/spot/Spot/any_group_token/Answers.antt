@@ -8,6 +8,6 @@ use Rattle.tok_buffer.proofs.spot.Spot.any_group_token.Goals as goal
 pub returns-in_ok-stream-in-Some : goal.returns-in_ok-stream-in-Some
 returns-in_ok-stream-in-Some c =
     let p = spot_place c.args.self in
-    let e : Entered = record { delimiter = c.in-Some.delimiter; span = c.in-Some.span; content = spot_place c.in-Some.content; behind = spot_place c.in-Some.behind } in
+    let e : Entered = record { delimiter = c.in-Some.delimiter; span = c.in-Some.span; content = spot_place c.in-Some.content; after = spot_place c.in-Some.after } in
     group_read p e c.in-Some.ensures
-    ∙ sym (ap (λ t. Some (t ∷ [], e.behind)) (c.new.ensures ∙ ap (λ f. group e.delimiter f e.span) (c.in_ok-stream-in-Some.ensures {u = tt})))
+    ∙ sym (ap (λ t. Some (t ∷ [], e.after)) (c.new.ensures ∙ ap (λ f. group e.delimiter f e.span) (c.in_ok-stream-in-Some.ensures {u = tt})))

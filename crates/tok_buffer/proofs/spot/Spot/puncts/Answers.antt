@@ -12,7 +12,7 @@ loop-span-init c = (c.utf8.text, so_far_start (chars c.args.text.now) (spot_plac
 pub loop-span-preserved : goal.loop-span-preserved
 loop-span-preserved c =
     let i = c.loop-span in
-    let more = so_far_more (chars c.args.text.now) (spot_place c.args.self) i.span-index i.spans (chars i.rest.now) (spot_place i.spot) i.invariant.1 c.in-Some.wanted (chars c.in-Some.after.now) (leaf (punct_of c.in-Some-next_of.punct)) (spot_place c.in-Some-next_of.behind) in (
+    let more = so_far_more (chars c.args.text.now) (spot_place c.args.self) i.span-index i.spans (chars i.rest.now) (spot_place i.spot) i.invariant.1 c.in-Some.wanted (chars c.in-Some.after.now) (leaf (punct_of c.in-Some-next_of.punct)) (spot_place c.in-Some-next_of.ahead) in (
       c.in-Some.ensures.utf8,
       rw c.span.ensures (more (omega (arith, c.loop-span-test.true, i.auto.spans)) c.in-Some.ensures.chars (c.in-Some-next_of.ensures {u = tt})),
     )
