@@ -8,13 +8,13 @@ use Rattle.tok_core.specs.Forest.{ident, punct, literal, Tree, leaf, group, Fore
 use Rattle.tok_buffer.specs.InFront.{AheadTells, with_ahead, first_if}
 use Rattle.tok_buffer.specs.Reads.{is_ident, is_ident_of, read_ident, read_word}
 use Rattle.tok_buffer.specs.View.{erased_ahead}
-use Rattle.tok_buffer.specs.Words.{stream_span}
+use Rattle.tok_buffer.specs.Refusals.{stream_span}
 use Rattle.tok_types.specs.Texts.{accept_as_ident}
 use Rattle.syn_parse.specs.Faults.{IsMemory, Refuses}
 use Rattle.syn_parse.specs.Parses.{IsIdent, IdentParses}
 use Rattle.syn_parse.specs.Reads.{Read}
 use Rattle.syn_parse.specs.State.{State}
-use Rattle.syn_parse.specs.Words.{ident_words, name_in, refused_at}
+use Rattle.syn_parse.specs.RefusalWords.{ident_words, name_in, refused_at}
 use Rattle.syn_parse.specs.declared.fault.Fault.{Fault}
 use Rattle.arguments.specs.Outcomes.{Outcome, Refused, arguments_in, after_name, at_end}
 use Rattle.arguments.specs.Outcomes.{no_name, reserved_name}

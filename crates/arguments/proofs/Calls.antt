@@ -14,7 +14,7 @@ use Rattle.tok_buffer.specs.InFront.{first_tree_span}
 use Rattle.tok_buffer.specs.Place.{Place, is_at_end}
 use Rattle.tok_buffer.specs.Reached.{Reached}
 use Rattle.tok_buffer.specs.View.{erased_ahead}
-use Rattle.tok_buffer.specs.Words.{Refusal}
+use Rattle.tok_buffer.specs.Refusals.{Refusal}
 use Rattle.syn_parse.specs.Faults.{IsMemory, Refuses}
 use Rattle.syn_parse.specs.Reads.{Read, Reads, ReadsAtOnce}
 use Rattle.syn_parse.specs.State.{State, moved, handed, closed}
@@ -121,11 +121,11 @@ found-ahead h None q e = ap is_some (sym e)
 found-ahead h (Some x) q e = ap is_some (sym e)
 
 entered-in : (f : Forest) (e : EnteredAhead) → first_group delimiter.Parenthesis f ≡ Some e
-    → f ≡ tree (group delimiter.Parenthesis e.content e.span) e.behind
+    → f ≡ tree (group delimiter.Parenthesis e.content e.span) e.after
 entered-in no_trees e h = absurd (cc)
 entered-in (tree (leaf l) f) e h = absurd (cc)
 entered-in (tree (group delimiter.Parenthesis inside span) f) e h =
-    ap (λ x. tree (group delimiter.Parenthesis x.content x.span) x.behind) (some-is h) where
+    ap (λ x. tree (group delimiter.Parenthesis x.content x.span) x.after) (some-is h) where
       some-is : {x y : EnteredAhead} → Some x ≡ Some y → x ≡ y
       some-is k = cc
 entered-in (tree (group delimiter.Brace inside span) f) e h = absurd (cc)
@@ -148,9 +148,9 @@ or-none (Some l) = refl
 pub record Enters (s : State) (e : Entered) : Type 0 where
   pub ahead :
       erased_ahead s.place
-      ≡ tree (group delimiter.Parenthesis (erased_ahead e.content) e.span) (erased_ahead e.behind)
+      ≡ tree (group delimiter.Parenthesis (erased_ahead e.content) e.span) (erased_ahead e.after)
   pub filled_within : IsFilled s.place → IsFilled e.content
-  pub filled_after : IsFilled s.place → IsFilled e.behind
+  pub filled_after : IsFilled s.place → IsFilled e.after
 
 module _ (law : AheadDecides) where
   pub enters : (s : State) (e : Entered) → enter delimiter.Parenthesis s.place ≡ Some e
@@ -172,9 +172,9 @@ module _ (law : AheadDecides) where
           reached = (both i.buffer i.reached).1;
         };
       } where
-        both : (b : Laid) → Reached b s.place → Reached b e.content × Reached b e.behind
+        both : (b : Laid) → Reached b s.place → Reached b e.content × Reached b e.after
         both b r =
-            subst (λ y. IfSome y (λ x. Reached b x.content × Reached b x.behind)) h
+            subst (λ y. IfSome y (λ x. Reached b x.content × Reached b x.after)) h
             ((law.leads b s.place r).enters delimiter.Parenthesis tt)
 
   -- the end of a scope

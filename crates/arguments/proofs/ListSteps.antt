@@ -12,7 +12,7 @@ use Rattle.tok_buffer.specs.Reads.{is_punct_of, read_punctuation}
 use Rattle.tok_buffer.specs.View.{erased_ahead}
 use Rattle.syn_parse.specs.Parses.{AreSpans}
 use Rattle.syn_parse.specs.State.{State}
-use Rattle.syn_parse.specs.Words.{punctuation_refusal, punctuation_span}
+use Rattle.syn_parse.specs.RefusalWords.{punctuation_refusal, punctuation_span}
 use Rattle.syn_parse.specs.declared.fault.Fault.{Fault}
 use Rattle.syn_punctuated.specs.Lists.{values_of, separators_of}
 use Rattle.arguments.specs.Forms.{Form, Forms, no_forms, next_form, one_form, joined_forms}
@@ -27,14 +27,14 @@ use Rattle.arguments.proofs.Calls.{at-once-err, ends-ahead}
 use Rattle.arguments.proofs.Tokens.{SignParses, Signed, then-moves, no-sign}
 
 -- forms and commas before an outcome, one after another
-joined-none : (fs : Forms) → joined_forms fs no_forms ≡ fs
-joined-none no_forms = refl
-joined-none (next_form f fs) = ap (next_form f) (joined-none fs)
+concat-none : (fs : Forms) → joined_forms fs no_forms ≡ fs
+concat-none no_forms = refl
+concat-none (next_form f fs) = ap (next_form f) (concat-none fs)
 
-joined-joined : (fs gs hs : Forms)
+concat-concat : (fs gs hs : Forms)
     → joined_forms (joined_forms fs gs) hs ≡ joined_forms fs (joined_forms gs hs)
-joined-joined no_forms gs hs = refl
-joined-joined (next_form f fs) gs hs = ap (next_form f) (joined-joined fs gs hs)
+concat-concat no_forms gs hs = refl
+concat-concat (next_form f fs) gs hs = ap (next_form f) (concat-concat fs gs hs)
 
 added-none : (o : Outcome) → added no_forms [] o ≡ o
 added-none (Found fs cs) = refl
@@ -43,7 +43,7 @@ added-none (Refused words) = refl
 added-added : (fs gs : Forms) (cs ds : List Comma) (o : Outcome)
     → added fs cs (added gs ds o) ≡ added (joined_forms fs gs) (cs ++ ds) o
 added-added fs gs cs ds (Found hs es) =
-    ap (λ x. Found x (cs ++ (ds ++ es))) (sym (joined-joined fs gs hs))
+    ap (λ x. Found x (cs ++ (ds ++ es))) (sym (concat-concat fs gs hs))
     ∙ ap (Found (joined_forms (joined_forms fs gs) hs)) (sym (append_assoc cs ds es))
 added-added fs gs cs ds (Refused words) = refl
 
@@ -82,7 +82,7 @@ all-read s t arguments h e =
         is =
             h.is ∙ ap (λ g. added h.forms commas (arguments_in g)) e
             ∙ added-nothing h.forms commas no_forms
-            ∙ ap (λ fs. Found fs commas) (joined-none h.forms);
+            ∙ ap (λ fs. Found fs commas) (concat-none h.forms);
       };
       ended = e;
       noted = h.moves.noted;

@@ -4,7 +4,7 @@ use Rattle.std.proofs.Common.{List, [], ◌∷◌, Ok, Err, inl, inr}
 use Rattle.std.specs.Prelude.{◌⊎◌, Result}
 use Rattle.std.proofs.lemmas.Bool.{eqb-true}
 use Rattle.tok_core.specs.Forest.{ident, punct, literal, Tree, leaf, group, Forest, no_trees, tree}
-use Rattle.tok_core.specs.Forest.{forest, joined}
+use Rattle.tok_core.specs.Forest.{forest, concat}
 use Rattle.tok_core.specs.Seen.{ident_of, literal_of}
 use Rattle.tok_core.specs.declared.group.Delimiter.TheVariants as delimiter
 use Rattle.tok_core.specs.declared.ident.Ident.{Ident}
@@ -29,9 +29,9 @@ use Rattle.arguments.specs.Values.{Comma, Arguments, IsName, sign_at}
 use Rattle.arguments.specs.declared.argument.Argument.{Argument}
 use Rattle.arguments.proofs.Written.{written}
 
-joined-none : (f : Forest) → joined f no_trees ≡ f
-joined-none no_trees = refl
-joined-none (tree t f) = ap (tree t) (joined-none f)
+concat-none : (f : Forest) → concat f no_trees ≡ f
+concat-none no_trees = refl
+concat-none (tree t f) = ap (tree t) (concat-none f)
 
 -- parts of an outcome
 abbrev pub forms_in : Outcome → Forms
@@ -108,7 +108,7 @@ last-listed ts form w _ (are_next _ argument _ _ i are_none) = last ts argument 
 
 more-listed : (ts : List Tree) (form : Form) (spacing : Spacing) (span : Span) (rest : Forest)
     (gs : Forms) (ds : List Comma) → Writes ts form → Lists rest gs ds
-    → Lists (joined (forest ts) (tree (sign comma spacing span) rest)) (next_form form gs)
+    → Lists (concat (forest ts) (tree (sign comma spacing span) rest)) (next_form form gs)
     (sign_at span ∷ ds)
 more-listed ts form spacing span rest gs ds w l _ (are_next _ argument _ others i h) =
     and_more ts argument spacing span rest others ds (w argument i) (l others h)
@@ -118,7 +118,7 @@ added-sound : (ts : List Tree) (form : Form) (spacing : Spacing) (span : Span) (
     (o : Outcome) (fs : Forms) (cs : List Comma) → Writes ts form
     → ((gs : Forms) (ds : List Comma) → o ≡ Found gs ds → Lists rest gs ds)
     → added (one_form form) (sign_at span ∷ []) o ≡ Found fs cs
-    → Lists (joined (forest ts) (tree (sign comma spacing span) rest)) fs cs
+    → Lists (concat (forest ts) (tree (sign comma spacing span) rest)) fs cs
 added-sound ts form spacing span rest (Found gs ds) fs cs w k e =
     as-found _ (next_form form gs) fs (sign_at span ∷ ds) cs e
     (more-listed ts form spacing span rest gs ds w (k gs ds refl))
@@ -127,10 +127,10 @@ added-sound ts form spacing span rest (Refused words) fs cs w k e = absurd (cc)
 -- the character is the comma
 comma-sound : (ts : List Tree) (c : ℕ) (spacing : Spacing) (span : Span) (rest : Forest)
     (fs : Forms) (cs : List Comma) → (c == comma) ≡ true
-    → Lists (joined (forest ts) (tree (sign comma spacing span) rest)) fs cs
-    → Lists (joined (forest ts) (tree (sign c spacing span) rest)) fs cs
+    → Lists (concat (forest ts) (tree (sign comma spacing span) rest)) fs cs
+    → Lists (concat (forest ts) (tree (sign c spacing span) rest)) fs cs
 comma-sound ts c spacing span rest fs cs e h =
-    subst (λ d. Lists (joined (forest ts) (tree (sign d spacing span) rest)) fs cs)
+    subst (λ d. Lists (concat (forest ts) (tree (sign d spacing span) rest)) fs cs)
     (sym (eqb-true c comma e)) h
 
 mutual
@@ -194,9 +194,9 @@ mutual
 
   argument-sound : (ts : List Tree) (form : Form) (f : Forest) (fs : Forms) (cs : List Comma)
       → Writes ts form → after_argument form f ≡ Found fs cs
-      → Lists (joined (forest ts) f) fs cs
+      → Lists (concat (forest ts) f) fs cs
   argument-sound ts form no_trees fs cs w e =
-      subst (λ g. Lists g fs cs) (sym (joined-none (forest ts)))
+      subst (λ g. Lists g fs cs) (sym (concat-none (forest ts)))
       (as-found (forest ts) (one_form form) fs [] cs e (last-listed ts form w))
   argument-sound ts form (tree (leaf (punct c spacing span)) f) fs cs w e =
       let one = added (one_form form) (sign_at span ∷ []) (arguments_in f) in

@@ -17,16 +17,15 @@ use Rattle.tok_buffer.specs.InFront.{first_if, first_group}
 use Rattle.tok_buffer.specs.Place.{Place, is_at_end}
 use Rattle.tok_buffer.specs.Reads.{is_literal, is_punct_of, read_literal, read_punctuation}
 use Rattle.tok_buffer.specs.View.{erased_ahead}
-use Rattle.tok_buffer.specs.Words.{Refusal, stream_span}
-use Rattle.tok_types.specs.declared.delimiter.Paren.{Paren}
+use Rattle.tok_buffer.specs.Refusals.{Refusal, stream_span}
 use Rattle.syn_parse.specs.Faults.{IsMemory, Refuses}
 use Rattle.syn_parse.specs.Groups as groups
 use Rattle.syn_parse.specs.Groups.{AreParts}
 use Rattle.syn_parse.specs.Parses.{LiteralParses}
 use Rattle.syn_parse.specs.State.{State, content_of, after_group, closed}
-use Rattle.syn_parse.specs.Words.{refused_at}
+use Rattle.syn_parse.specs.RefusalWords.{refused_at}
 use Rattle.syn_parse.specs.declared.fault.Fault.{Fault}
-use Rattle.syn_parse.specs.declared.group.Parens.{Parens}
+use Rattle.syn_parse.specs.declared.group.Delimited.{Delimited}
 use Rattle.syn_punctuated.specs.Lists.{separators_of}
 use Rattle.arguments.specs.Forms.{flag, assigned, with_list, Forms, one_form}
 use Rattle.arguments.specs.Forms.{of_flag, of_assigned, of_list}
@@ -36,7 +35,7 @@ use Rattle.arguments.specs.Outcomes.{after_name, after_equals, after_argument, a
 use Rattle.arguments.specs.Outcomes.{no_comma, no_literal}
 use Rattle.arguments.specs.Reading.{AheadDecides, IsFilled, IsFault, RefusesIn, Moves}
 use Rattle.arguments.specs.Reading.{ReadsArguments, ReadsValue}
-use Rattle.arguments.specs.Values.{Equals, Comma, Arguments, sign_at}
+use Rattle.arguments.specs.Values.{Equals, Comma, Arguments, sign_at, Paren}
 use Rattle.arguments.specs.declared.argument.Value.TheVariants as made
 use Rattle.arguments.proofs.Calls.{reads-err, refused-ahead, ends-ahead, enters}
 use Rattle.arguments.proofs.Calls.{hands-nothing, closed-noted}
@@ -98,7 +97,7 @@ pub record Opened (s m content : State) (paren : Paren) : Type 0 where
   pub after : m ≡ after_group entered s
 
 pub opened : (s m content : State) (paren : Paren) (x : Option Entered) (words : Refusal)
-    (parens : Parens) → enter delimiter.Parenthesis s.place ≡ x → parens.token ≡ paren
+    (parens : Delimited Paren) → enter delimiter.Parenthesis s.place ≡ x → parens.token ≡ paren
     → parens.content ≡ content
     → groups.Enters (λ p. AreParts p.token.span p.content) x words s (Ok parens) m
     → Opened s m content paren
@@ -195,7 +194,7 @@ module _ (law : AheadDecides) (name : Ident) (s m content left : State) (paren :
   e = o.entered
 
   abbrev more : Forms → List Comma → Outcome
-  more fs cs = after_argument (with_list name e.span fs cs) (erased_ahead e.behind)
+  more fs cs = after_argument (with_list name e.span fs cs) (erased_ahead e.after)
 
   opens : after_name name (erased_ahead s.place)
       ≡ and_then more (arguments_in (erased_ahead e.content))

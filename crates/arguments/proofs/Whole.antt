@@ -13,7 +13,7 @@ use Rattle.syn_parse.specs.Faults.{IsRefused}
 use Rattle.syn_parse.specs.Parsers.{Finishes, ParsesWhole, whole_stream}
 use Rattle.syn_parse.specs.Reads.{Call}
 use Rattle.syn_parse.specs.State.{State}
-use Rattle.syn_parse.specs.Words.{leftover_refusal}
+use Rattle.syn_parse.specs.RefusalWords.{leftover_refusal}
 use Rattle.syn_parse.specs.declared.fault.Fault.{Fault}
 use Rattle.syn_parse.specs.declared.fault.Fault.TheVariants as fault
 use Rattle.arguments.specs.Outcomes.{Outcome, Found, Refused, arguments_in}

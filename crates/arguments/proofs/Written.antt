@@ -1,6 +1,6 @@
 -- What the grammar has as arguments comes of reading tree by tree.
 use Rattle.std.proofs.Common.{◌≡◌, ◌∙◌, ap, refl, Bool, true, cond, List, [], ◌∷◌}
-use Rattle.tok_core.specs.Forest.{punct, Tree, leaf, Forest, no_trees, tree, forest, joined}
+use Rattle.tok_core.specs.Forest.{punct, Tree, leaf, Forest, no_trees, tree, forest, concat}
 use Rattle.tok_core.specs.Spans.{whole_span}
 use Rattle.tok_core.specs.declared.punct.Spacing.{Spacing}
 use Rattle.tok_core.specs.declared.span.Span.{Span}
@@ -21,7 +21,7 @@ record ReadsAs (ts : List Tree) (argument : Argument) : Type 0 where
   seen : IsForm form argument
   last_one : arguments_in (forest ts) ≡ Found (one_form form) []
   before : (spacing : Spacing) (span : Span) (rest : Forest)
-      → arguments_in (joined (forest ts) (tree (leaf (punct comma spacing span)) rest))
+      → arguments_in (concat (forest ts) (tree (leaf (punct comma spacing span)) rest))
       ≡ added (one_form form) (sign_at span ∷ []) (arguments_in rest)
 
 record Lists (ts : Forest) (values : List Argument) (commas : List Comma) : Type 0 where

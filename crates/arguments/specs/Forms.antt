@@ -5,10 +5,9 @@ use Rattle.tok_core.specs.Spans.{whole_span}
 use Rattle.tok_core.specs.declared.ident.Ident.{Ident}
 use Rattle.tok_core.specs.declared.literal.Literal.{Literal}
 use Rattle.tok_core.specs.declared.span.Span.{Span}
-use Rattle.tok_types.specs.declared.delimiter.Paren.{Paren}
 use Rattle.syn_punctuated.specs.Lists.{values_of, separators_of}
 use Rattle.arguments.specs.Values as values
-use Rattle.arguments.specs.Values.{Equals, Comma, Arguments}
+use Rattle.arguments.specs.Values.{Equals, Comma, Arguments, Paren}
 use Rattle.arguments.specs.declared.argument.Argument.{Argument}
 
 -- a name; a name, `=` and a literal; or a name and, in parentheses of this span, arguments

@@ -1,6 +1,6 @@
 -- Which lists of visible trees are arguments, and which arguments they are.
 use Rattle.std.specs.Prelude.{ℕ, List, [], ◌∷◌}
-use Rattle.tok_core.specs.Forest.{Tree, leaf, group, punct, Forest, no_trees, tree, forest, joined}
+use Rattle.tok_core.specs.Forest.{Tree, leaf, group, punct, Forest, no_trees, tree, forest, concat}
 use Rattle.tok_core.specs.Seen.{ident_of, literal_of}
 use Rattle.tok_core.specs.Spans.{whole_span}
 use Rattle.tok_core.specs.declared.group.Delimiter.TheVariants.{Parenthesis}
@@ -8,9 +8,9 @@ use Rattle.tok_core.specs.declared.ident.Ident.{Ident}
 use Rattle.tok_core.specs.declared.literal.Literal.{Literal}
 use Rattle.tok_core.specs.declared.punct.Spacing.{Spacing}
 use Rattle.tok_core.specs.declared.span.Span.{Span}
-use Rattle.tok_types.specs.declared.delimiter.Paren.{Paren}
 use Rattle.syn_punctuated.specs.Lists.{values_of, separators_of}
 use Rattle.arguments.specs.Values.{Comma, Arguments, sign_at, IsName, flag, assigned, with_list}
+use Rattle.arguments.specs.Values.{Paren}
 use Rattle.arguments.specs.declared.argument.Argument.{Argument}
 
 -- the codes of `=` and `,`
@@ -46,7 +46,7 @@ mutual
     and_more : (trees : List Tree) (argument : Argument) (spacing : Spacing) (span : Span)
         (rest : Forest) (others : List Argument) (commas : List Comma) → IsArgument trees argument
         → AreListed rest others commas
-        → AreListed (joined (forest trees) (tree (sign comma spacing span) rest))
+        → AreListed (concat (forest trees) (tree (sign comma spacing span) rest))
         (argument ∷ others) (sign_at span ∷ commas)
 
 -- these trees are these arguments

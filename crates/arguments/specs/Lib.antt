@@ -5,3 +5,8 @@ pub mod Results
 pub mod Forms
 pub mod Outcomes
 pub mod Reading
+pub use Rattle.tok_core.specs.Erase
+pub use Rattle.tok_core.specs.Filled
+pub use Rattle.tok_core.specs.Forest
+pub use Rattle.tok_core.specs.Weight
+pub use Rattle.tok_buffer.specs.View

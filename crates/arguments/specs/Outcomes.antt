@@ -4,8 +4,8 @@ use Rattle.std.specs.Prelude.{ℕ, ◌==◌, cond, List, [], ◌∷◌, ◌++◌
 use Rattle.tok_core.specs.Forest.{ident, punct, literal, leaf, group, Forest, no_trees, tree}
 use Rattle.tok_core.specs.declared.group.Delimiter.TheVariants.{Parenthesis}
 use Rattle.tok_core.specs.declared.ident.Ident.{Ident}
-use Rattle.tok_types.specs.Texts.{accept_as_ident, quoted}
-use Rattle.syn_parse.specs.Words.{expected}
+use Rattle.tok_types.specs.Texts.{accept_as_ident, in_backquotes}
+use Rattle.syn_parse.specs.RefusalWords.{expected}
 use Rattle.arguments.specs.Forms.{Form, flag, assigned, with_list}
 use Rattle.arguments.specs.Forms.{Forms, no_forms, one_form, joined_forms}
 use Rattle.arguments.specs.Grammar.{equals_sign, comma}
@@ -20,10 +20,10 @@ abbrev pub no_name : List ℕ
 no_name = codes "expected identifier"
 
 abbrev pub reserved_name : List ℕ → List ℕ
-reserved_name text = codes "expected identifier, found keyword " ++ quoted text
+reserved_name text = codes "expected identifier, found keyword " ++ in_backquotes text
 
 abbrev pub no_comma : List ℕ
-no_comma = expected (quoted (codes ","))
+no_comma = expected (in_backquotes (codes ","))
 
 abbrev pub no_literal : List ℕ
 no_literal = codes "expected literal token"

@@ -4,7 +4,7 @@ use Rattle.tok_core.specs.declared.ident.Ident.{Ident}
 use Rattle.tok_core.specs.declared.literal.Literal.{Literal}
 use Rattle.tok_core.specs.declared.span.Span.{Span}
 use Rattle.tok_types.specs.Texts.{accept_as_ident}
-use Rattle.tok_types.specs.declared.delimiter.Paren.{Paren}
+use Rattle.tok_types.specs.declared.delimiter.Visible.{Visible}
 use Rattle.tok_types.specs.declared.punctuation.Punctuation.{Punctuation}
 use Rattle.syn_punctuated.specs.declared.punctuated.Punctuated.{Punctuated}
 use Rattle.arguments.specs.declared.argument.Argument.{Argument}
@@ -16,6 +16,10 @@ Equals = Punctuation 13 1
 
 abbrev pub Comma : Type 0
 Comma = Punctuation 7 1
+
+-- the token `( )`, by its number among the visible delimiters
+abbrev pub Paren : Type 0
+Paren = Visible 0
 
 -- arguments and the commas between them
 abbrev pub Arguments : Type 0

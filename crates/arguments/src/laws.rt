@@ -6,5 +6,6 @@ ghost use Rattle.arguments.specs.Values.{Arguments};
 
 /// The same trees are never two different lists of arguments, spans included.
 pub fn arguments_once()
-    ensures { (trees : Forest) (left right : Arguments) → AreArguments trees left → AreArguments trees right → SameArguments left right }
+    ensures { (trees : Forest) (left right : Arguments) → AreArguments trees left
+        → AreArguments trees right → SameArguments left right }
 {}

@@ -42,7 +42,9 @@ pub fn arguments_both(
 >
     ensures left { IfOk result (λ both. filled left ≡ true → ParsesTo (erase left) both.0) }
     ensures right { IfOk result (λ both. filled right ≡ true → ParsesTo (erase right) both.1) }
-    ensures agree { IfOk result (λ both. filled left ≡ true → filled right ≡ true → erase left ≡ erase right → Agree both.0 both.1) }
+    ensures agree { IfOk result
+        (λ both. filled left ≡ true → filled right ≡ true → erase left ≡ erase right
+        → Agree both.0 both.1) }
 {
     let left = without_memory(parse_whole(alloc, left))?;
     let right = without_memory(parse_whole(alloc, right))?;
@@ -103,7 +105,8 @@ fn read_arguments(input: ParseStream<'_, '_>) -> Result<Arguments>
 #[cycle(reading)]
 fn read_argument(input: ParseStream<'_, '_>) -> Result<Argument>
     ensures reads { ReadsArgument input.old result input.new }
-    ensures lighter { IfOk result (λ _. weight (erased_ahead input.new.place) < weight (erased_ahead input.old.place)) }
+    ensures lighter { IfOk result
+        (λ _. weight (erased_ahead input.new.place) < weight (erased_ahead input.old.place)) }
 {
     trees_ahead_decide();
     let name = input.parse::<Ident>()?;
@@ -115,7 +118,8 @@ fn read_argument(input: ParseStream<'_, '_>) -> Result<Argument>
 #[cycle(reading)]
 fn read_value(input: ParseStream<'_, '_>) -> Result<Value>
     ensures reads { (name : Ident) → ReadsValue name input.old result input.new }
-    ensures no_heavier { IfOk result (λ _. weight (erased_ahead input.new.place) ≤ weight (erased_ahead input.old.place)) }
+    ensures no_heavier { IfOk result
+        (λ _. weight (erased_ahead input.new.place) ≤ weight (erased_ahead input.old.place)) }
 {
     trees_ahead_decide();
     if input.peek::<token::Eq>() {

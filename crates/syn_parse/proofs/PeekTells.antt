@@ -1,7 +1,7 @@
 -- A peek of what is read tells what the read does.
 use Rattle.std.proofs.Common.{◌≡◌, Bool, List, Some, None, Result, Ok, Err, is_some}
 use Rattle.tok_core.specs.Forest.{Tree}
-use Rattle.tok_buffer.specs.Words.{Refusal}
+use Rattle.tok_buffer.specs.Refusals.{Refusal}
 use Rattle.syn_parse.specs.Laws.{Tells}
 use Rattle.syn_parse.specs.Reads.{Read, ReadsAtOnce}
 use Rattle.syn_parse.specs.State.{State}

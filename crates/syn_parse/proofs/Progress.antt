@@ -4,11 +4,11 @@ use Rattle.tok_core.specs.Forest.{Tree}
 use Rattle.tok_buffer.specs.Place.{Place}
 use Rattle.tok_buffer.specs.Progress.{ReadsOn}
 use Rattle.tok_buffer.specs.Reads.{read_keyword}
-use Rattle.tok_buffer.specs.Words.{Refusal}
+use Rattle.tok_buffer.specs.Refusals.{Refusal}
 use Rattle.tok_core.specs.declared.span.Span.{Span}
-use Rattle.tok_types.specs.Texts.{quoted}
+use Rattle.tok_types.specs.Texts.{in_backquotes}
 use Rattle.syn_parse.specs.Parses.{IsSpanOf, WordParses}
-use Rattle.syn_parse.specs.Words.{expected, refused_at}
+use Rattle.syn_parse.specs.RefusalWords.{expected, refused_at}
 use Rattle.syn_parse.specs.Progress.{ParsesOn}
 use Rattle.syn_parse.specs.Reads.{Read, Reads, ReadsAtOnce}
 use Rattle.syn_parse.specs.State.{State}
@@ -45,4 +45,4 @@ module _ {T : Type 0} (Means : T → List Tree → Type 0) (read : Place → Rea
       }
 
 pub words_on : {T : Type 0} (span_of : T → Span) (text : List ℕ) → ReadsOn (read_keyword text) → ParsesOn (WordParses span_of text)
-words_on span_of text on = parses_on_at_once (λ v. IsSpanOf text (span_of v)) (read_keyword text) (λ s. refused_at s (expected (quoted text))) on
+words_on span_of text on = parses_on_at_once (λ v. IsSpanOf text (span_of v)) (read_keyword text) (λ s. refused_at s (expected (in_backquotes text))) on

@@ -9,7 +9,7 @@ use Rattle.tok_buffer.specs.Buffer.{Laid}
 use Rattle.tok_buffer.specs.Place.{Place, is_at_end}
 use Rattle.tok_buffer.specs.Rest.{scope_delimiter}
 use Rattle.tok_buffer.specs.Spans.{current_span}
-use Rattle.tok_buffer.specs.Words.{Refusal, at_stream}
+use Rattle.tok_buffer.specs.Refusals.{Refusal, at_stream}
 use Rattle.tok_buffer.proofs.View.Alike.{Alike, ReadsAlike, alike-end, alike-delimiter}
 use Rattle.syn_parse.specs.Lookahead.{closing_word, list_words, look_refusal, named_ends}
 use Rattle.syn_parse.specs.Lookahead.{refusal_of, unexpected}

@@ -12,11 +12,11 @@ use Rattle.tok_buffer.proofs.View.Alike.{Alike}
 use Rattle.tok_buffer.proofs.View.Laws.{calls_lead_on, views_decide}
 use Rattle.tok_buffer.proofs.View.Places.{reached_stands}
 use Rattle.tok_types.specs.Views.{IgnoresInvisible}
-use Rattle.tok_types.specs.Texts.{quoted}
+use Rattle.tok_types.specs.Texts.{in_backquotes}
 use Rattle.syn_parse.specs.Views.{ViewsDecideWords, ViewsDecideLookaheads}
 use Rattle.syn_parse.specs.Lookahead.{look_refusal}
 use Rattle.syn_parse.specs.Reads.{Peeks2, Peeks3, PeeksPast}
-use Rattle.syn_parse.specs.Words.{ident_words, lifetime_words, name_in}
+use Rattle.syn_parse.specs.RefusalWords.{ident_words, lifetime_words, name_in}
 use Rattle.syn_parse.proofs.SameWords.{alike-at_stream, alike-look}
 
 standing : (b c : Laid) (p q : Place) → SameView b c p q → Alike b c p q
@@ -51,7 +51,7 @@ views_decide_words b c s t v =
           (standing b c s.place t.place v);
       idents =
           same-words b c ident_words
-          (λ ts. codes "expected identifier, found keyword " ++ quoted (name_in ts)) (λ r. refl)
+          (λ ts. codes "expected identifier, found keyword " ++ in_backquotes (name_in ts)) (λ r. refl)
           (read_ident s.place) (read_ident t.place) calls.idents;
       lifetimes =
           same-words b c lifetime_words

@@ -1,18 +1,17 @@
 -- What holds of all streams: peeks tell what a parse does, and a fork may run in its stream's
 -- place.
-use Rattle.std.specs.Prelude.{◌≡◌, Bool, true, false, Result, Ok, Err}
-use Rattle.tok_core.specs.declared.group.Delimiter.TheVariants as delimiter
+use Rattle.std.specs.Prelude.{◌≡◌, ℕ, Bool, true, false, Result, Ok, Err}
 use Rattle.tok_buffer.specs.Entry.{enter}
 use Rattle.tok_buffer.specs.Place.{Place}
+use Rattle.tok_types.specs.Delimiters.{delimiter_at}
+use Rattle.tok_types.specs.declared.delimiter.Visible.{Visible}
 use Rattle.syn_parse.specs.Groups.{AreParts, Enters}
 use Rattle.syn_parse.specs.Reads.{Call}
 use Rattle.syn_parse.specs.State.{State, advanced, closed, forked, moved}
-use Rattle.syn_parse.specs.Words.{delimiter_words, refused_at}
+use Rattle.syn_parse.specs.RefusalWords.{delimiter_words, refused_at}
 use Rattle.syn_parse.specs.declared.fault.Fault.{Fault}
 use Rattle.syn_parse.specs.declared.fault.Fault.TheVariants.{Refused, Memory}
-use Rattle.syn_parse.specs.declared.group.Braces.{Braces}
-use Rattle.syn_parse.specs.declared.group.Brackets.{Brackets}
-use Rattle.syn_parse.specs.declared.group.Parens.{Parens}
+use Rattle.syn_parse.specs.declared.group.Delimited.{Delimited}
 
 -- a value where the peek was true, a refusal where it was false; memory aside
 abbrev pub Tells : {T : Type 0} → Bool → Result T Fault → Type 0
@@ -26,21 +25,11 @@ PeekTells {T} peeks calls =
     (s : State) (found : Bool) (r : Result T Fault) (t : State) →
     peeks s.place found → calls s r t → Tells found r
 
--- how each reader of groups enters
-abbrev pub ParensParse : Call Parens
-ParensParse s =
-    let words = refused_at s (delimiter_words delimiter.Parenthesis) in
-    Enters (λ p. AreParts p.token.span p.content) (enter delimiter.Parenthesis s.place) words s
-
-abbrev pub BracesParse : Call Braces
-BracesParse s =
-    let words = refused_at s (delimiter_words delimiter.Brace) in
-    Enters (λ p. AreParts p.token.span p.content) (enter delimiter.Brace s.place) words s
-
-abbrev pub BracketsParse : Call Brackets
-BracketsParse s =
-    let words = refused_at s (delimiter_words delimiter.Bracket) in
-    Enters (λ p. AreParts p.token.span p.content) (enter delimiter.Bracket s.place) words s
+-- how the readers of visible groups enter
+abbrev pub VisibleParses : {D : ℕ} → Call (Delimited (Visible D))
+VisibleParses {D} s =
+    let words = refused_at s (delimiter_words (delimiter_at D)) in
+    Enters (λ p. AreParts p.token.span p.content) (enter (delimiter_at D) s.place) words s
 
 -- A fork may run in its stream's place: to go where the fork went, after it has moved or closed a
 -- content, is to do the same on the stream that goes there; and a new fork is where its stream is.

@@ -8,7 +8,7 @@ use Rattle.tok_buffer.specs.Ahead.{Leftover, leftover}
 use Rattle.tok_buffer.specs.Code.{coded_leftover, coded_place, coded_spans}
 use Rattle.tok_buffer.specs.Entry.{Entered}
 use Rattle.tok_buffer.specs.Place.{Place}
-use Rattle.tok_buffer.specs.Words.{stream_span}
+use Rattle.tok_buffer.specs.Refusals.{stream_span}
 
 -- what contracts see of a stream
 pub record State : Type 0 where
@@ -54,7 +54,7 @@ content_of e = fresh e.content (closing_span e.span)
 
 -- the stream after a group that is entered
 abbrev pub after_group : Entered → State → State
-after_group e s = moved e.behind s
+after_group e s = moved e.after s
 
 -- how a stream is stored
 abbrev pub coded_state : Coded State

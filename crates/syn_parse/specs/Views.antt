@@ -6,7 +6,8 @@ use Rattle.tok_buffer.specs.Reads.{any_text, read_ident, read_lifetime}
 use Rattle.tok_buffer.specs.SameView.{SameView}
 use Rattle.syn_parse.specs.Lookahead.{Look, look_refusal}
 use Rattle.syn_parse.specs.State.{State}
-use Rattle.syn_parse.specs.Words.{ident_words, lifetime_words, punctuation_refusal, refused_at}
+use Rattle.syn_parse.specs.RefusalWords.{ident_words, lifetime_words, punctuation_refusal}
+use Rattle.syn_parse.specs.RefusalWords.{refused_at}
 
 -- two streams refuse in the same words
 pub record WordsAgree (s t : State) : Type 0 where

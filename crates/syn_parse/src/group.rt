@@ -3,9 +3,10 @@ ghost use Rattle.std.specs.Prelude.{◌≡◌, Some, IfOk, codes};
 ghost use Rattle.std.specs.Fn.{FnOnceReturnsAtMut, FnOnceTakesAtMut};
 ghost use Rattle.tok_core.specs.declared.group.Delimiter.TheVariants as delimiter;
 ghost use Rattle.tok_buffer.specs.Entry.{Entered, enter, enter_any};
+ghost use Rattle.tok_types.specs.Delimiters.{delimiter_at};
 ghost use Rattle.syn_parse.specs.Groups.{AreParts, Enters, IsAfter, RunsWithin};
 ghost use Rattle.syn_parse.specs.State.{content_of};
-ghost use Rattle.syn_parse.specs.Words.{delimiter_words, refused_at};
+ghost use Rattle.syn_parse.specs.RefusalWords.{delimiter_words, refused_at};
 
 use crate::fault::Result;
 use crate::stream::{ParseBuffer, ParseStream};
@@ -13,28 +14,37 @@ use crate::words::delimiter_words;
 use tok_core::{DelimSpan, Delimiter};
 use tok_types::token;
 
-/// Parentheses that have been entered: their token, and the stream of what is inside.
-pub struct Parens<'a> {
-    pub token: token::Paren,
+/// A group that has been entered: its token, and the stream of what is inside.
+pub struct Delimited<'a, T> {
+    pub token: T,
     pub content: ParseBuffer<'a>,
 }
 
-/// Braces that have been entered: their token, and the stream of what is inside.
-pub struct Braces<'a> {
-    pub token: token::Brace,
-    pub content: ParseBuffer<'a>,
-}
+/// Parentheses that have been entered.
+pub type Parens<'a> = Delimited<'a, token::Paren>;
 
-/// Brackets that have been entered: their token, and the stream of what is inside.
-pub struct Brackets<'a> {
-    pub token: token::Bracket,
-    pub content: ParseBuffer<'a>,
-}
+/// Braces that have been entered.
+pub type Braces<'a> = Delimited<'a, token::Brace>;
 
-/// An invisible group that has been entered: its token, and the stream of what is inside.
-pub struct Group<'a> {
-    pub token: token::Group,
-    pub content: ParseBuffer<'a>,
+/// Brackets that have been entered.
+pub type Brackets<'a> = Delimited<'a, token::Bracket>;
+
+/// An invisible group that has been entered.
+pub type Group<'a> = Delimited<'a, token::Group>;
+
+impl<'a, const D: usize> Delimited<'a, token::Visible<D>> {
+    // Enters the group of these delimiters.
+    fn enter(input: ParseStream<'_, 'a>) -> Result<Self>
+        ensures { Enters (λ p. AreParts p.token.span p.content)
+            (enter (delimiter_at D) input.old.place)
+            (refused_at input.old (delimiter_words (delimiter_at D))) input.old result input.new }
+    {
+        let (span, content) = input.enter(token::Visible::<D>::delimiter())?;
+        Ok(Delimited {
+            token: token::Visible::new(span),
+            content,
+        })
+    }
 }
 
 /// Enters parentheses, and moves the stream after them. Close the content into the stream.
@@ -44,14 +54,11 @@ pub struct Group<'a> {
 ///     input.close(content);
 ///     Ok((token, name?))
 pub fn parse_parens<'a>(input: ParseStream<'_, 'a>) -> Result<Parens<'a>>
-    ensures { Enters (λ p. AreParts p.token.span p.content) (enter delimiter.Parenthesis input.old.place)
+    ensures { Enters (λ p. AreParts p.token.span p.content)
+        (enter delimiter.Parenthesis input.old.place)
         (refused_at input.old (delimiter_words delimiter.Parenthesis)) input.old result input.new }
 {
-    let (span, content) = input.enter(Delimiter::Parenthesis)?;
-    Ok(Parens {
-        token: token::Paren::new(span),
-        content,
-    })
+    Parens::enter(input)
 }
 
 /// Enters braces, as `parse_parens` does parentheses.
@@ -59,32 +66,26 @@ pub fn parse_braces<'a>(input: ParseStream<'_, 'a>) -> Result<Braces<'a>>
     ensures { Enters (λ p. AreParts p.token.span p.content) (enter delimiter.Brace input.old.place)
         (refused_at input.old (delimiter_words delimiter.Brace)) input.old result input.new }
 {
-    let (span, content) = input.enter(Delimiter::Brace)?;
-    Ok(Braces {
-        token: token::Brace::new(span),
-        content,
-    })
+    Braces::enter(input)
 }
 
 /// Enters brackets, as `parse_parens` does parentheses.
 pub fn parse_brackets<'a>(input: ParseStream<'_, 'a>) -> Result<Brackets<'a>>
-    ensures { Enters (λ p. AreParts p.token.span p.content) (enter delimiter.Bracket input.old.place)
+    ensures { Enters (λ p. AreParts p.token.span p.content)
+        (enter delimiter.Bracket input.old.place)
         (refused_at input.old (delimiter_words delimiter.Bracket)) input.old result input.new }
 {
-    let (span, content) = input.enter(Delimiter::Bracket)?;
-    Ok(Brackets {
-        token: token::Bracket::new(span),
-        content,
-    })
+    Brackets::enter(input)
 }
 
 /// Enters an invisible group, as `parse_parens` does parentheses.
 pub fn parse_group<'a>(input: ParseStream<'_, 'a>) -> Result<Group<'a>>
-    ensures { Enters (λ p e. (p.token.span ≡ e.span) × (p.content ≡ content_of e)) (enter delimiter.None input.old.place)
+    ensures { Enters (λ p e. (p.token.span ≡ e.span) × (p.content ≡ content_of e))
+        (enter delimiter.None input.old.place)
         (refused_at input.old (delimiter_words delimiter.None)) input.old result input.new }
 {
     let (span, content) = input.enter(Delimiter::None)?;
-    Ok(Group {
+    Ok(Delimited {
         token: token::Group::new(span.join()),
         content,
     })
@@ -111,7 +112,8 @@ impl<'a> ParseBuffer<'a> {
     /// Enters the next tree if it is a group, also an invisible one: its delimiter, its span, and the stream of its
     /// content. Close the content into this stream.
     pub fn parse_any_delimiter(&mut self) -> Result<(Delimiter, DelimSpan, Self)>
-        ensures { Enters (λ p e. (p.0 ≡ e.delimiter) × AreParts p.1 p.2 e) (enter_any self.old.place)
+        ensures { Enters (λ p e. (p.0 ≡ e.delimiter) × AreParts p.1 p.2 e)
+            (enter_any self.old.place)
             (refused_at self.old (codes "expected any delimiter")) self.old result self.new }
     {
         match self.cursor().any_group() {
@@ -131,7 +133,8 @@ impl<'a> ParseBuffer<'a> {
     pub fn within<F, R>(&mut self, delimiter: Delimiter, f: F) -> Result<(DelimSpan, R)>
     where
         F: FnOnce(ParseStream<'_, 'a>) -> Result<R>,
-        requires { (e : Entered) → enter delimiter self.old.place ≡ Some e → FnOnceTakesAtMut F.FnOnce f (content_of e) }
+        requires { (e : Entered) → enter delimiter self.old.place ≡ Some e
+            → FnOnceTakesAtMut F.FnOnce f (content_of e) }
         ensures runs { RunsWithin (FnOnceReturnsAtMut F.FnOnce f) (enter delimiter self.old.place)
             (refused_at self.old (delimiter_words delimiter)) self.old result self.new }
         ensures after { IfOk result (λ _. IsAfter (enter delimiter self.old.place) self.new.place) }

@@ -1,5 +1,5 @@
 //! Laws of streams. The functions do nothing: each one's contract is a law.
-ghost use Rattle.syn_parse.specs.Laws.{BracesParse, BracketsParse, ForksFollow, ParensParse, PeekTells};
+ghost use Rattle.syn_parse.specs.Laws.{ForksFollow, PeekTells, VisibleParses};
 ghost use Rattle.syn_parse.specs.Progress.{ParsesGoOn};
 ghost use Rattle.syn_parse.specs.Reads.{Peeks2, Peeks3};
 ghost use Rattle.syn_parse.specs.Views.{ViewsDecideLookaheads, ViewsDecideWords};
@@ -8,7 +8,7 @@ ghost use Rattle.tok_types.specs.Views.{IgnoresInvisible};
 use crate::parse::Parse;
 use tok_buffer::laws::reads_go_on;
 use tok_core::{Ident, Literal, Punct, TokenTree};
-use tok_types::token::{Brace, Bracket, Keyword, Paren, Punctuation, Token, Underscore};
+use tok_types::token::{Keyword, Punctuation, Token, Underscore, Visible};
 
 /// Each parse of an identifier, lifetime, literal, punct, tree, group, keyword, punctuation or `_` that returns a value
 /// stays in the scope of its stream, and lowers what remains there. So a loop of parses ends.
@@ -30,14 +30,13 @@ pub fn peeks_tell_parses()
 /// The same of keywords and punctuations, also of those past their tables.
 pub fn peeks_tell_tokens<const K: usize, const N: usize>()
     ensures keywords { PeekTells ⟦<Keyword<K> as Token>⟧.peeks ⟦<Keyword<K> as Parse>⟧.parses }
-    ensures punctuations { PeekTells ⟦<Punctuation<K, N> as Token>⟧.peeks ⟦<Punctuation<K, N> as Parse>⟧.parses }
+    ensures punctuations { PeekTells ⟦<Punctuation<K, N> as Token>⟧.peeks
+        ⟦<Punctuation<K, N> as Parse>⟧.parses }
 {}
 
 /// A peek of parentheses, braces or brackets is true exactly where `parse_parens` and its like enter a group, memory aside.
-pub fn peeks_tell_groups()
-    ensures parens { PeekTells ⟦<Paren as Token>⟧.peeks ParensParse }
-    ensures braces { PeekTells ⟦<Brace as Token>⟧.peeks BracesParse }
-    ensures brackets { PeekTells ⟦<Bracket as Token>⟧.peeks BracketsParse }
+pub fn peeks_tell_groups<const D: usize>()
+    ensures { PeekTells ⟦<Visible<D> as Token>⟧.peeks (VisibleParses {D = D}) }
 {}
 
 /// What is done on a fork, and then taken over by `advance_to`, is what the stream would have done itself: each move and

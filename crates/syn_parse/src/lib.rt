@@ -13,7 +13,6 @@ mod lookahead;
 mod parse;
 mod parser;
 pub mod parsing;
-mod paused;
 mod step;
 mod stream;
 mod tokens;
@@ -23,12 +22,13 @@ mod words;
 pub use ext::{IdentExt, LifetimeExt};
 pub use fault::{Fault, Result};
 pub use group::{
-    Braces, Brackets, Group, Parens, parse_braces, parse_brackets, parse_group, parse_parens,
+    Braces, Brackets, Delimited, Group, Parens, parse_braces, parse_brackets, parse_group,
+    parse_parens,
 };
 pub use lookahead::Lookahead1;
 pub use parse::Parse;
 pub use parser::Parser;
-pub use paused::Paused;
 pub use step::StepCursor;
+pub use stream::paused::Paused;
 pub use stream::{ParseBuffer, ParseStream, tokens_to_parse_buffer};
 pub use tokens::Nothing;

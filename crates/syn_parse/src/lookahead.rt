@@ -39,7 +39,11 @@ impl<'a> Model for Lookahead1<'a> {
 
     ghost coded = { coded_look };
 
-    ghost view = { λ l. record { place = place_of l.cursor; scope_span = l.scope_span; missed = texts_of l.missed.items } };
+    ghost view = { λ l. record {
+      place = place_of l.cursor;
+      scope_span = l.scope_span;
+      missed = texts_of l.missed.items;
+    } };
 }
 
 impl<'a> ParseBuffer<'a> {
@@ -59,7 +63,8 @@ impl<'a> ParseBuffer<'a> {
 impl<'a> Lookahead1<'a> {
     /// Whether this token is next. If it isn't, its display is noted, for which an allocation may fail: then nothing is.
     pub fn peek<T: Token>(&mut self) -> Result<bool, AllocError>
-        ensures ok { IfOk result (λ found. T.peeks self.old.place found × Looked T.shown found self.old self.new) }
+        ensures ok { IfOk result
+            (λ found. T.peeks self.old.place found × Looked T.shown found self.old self.new) }
         ensures err { OnErr result (T.peeks self.old.place false × (self.new ≡ self.old)) }
     {
         let found = T::peek(self.cursor);
@@ -68,7 +73,8 @@ impl<'a> Lookahead1<'a> {
 
     /// Notes this display if the token wasn't found, and returns `found`: what `peek` does after its own look.
     pub fn peek_as(&mut self, found: bool, display: &'static str) -> Result<bool, AllocError>
-        ensures ok { IfOk result (λ is_found. (is_found ≡ found) × (self.new ≡ noted_as found display.now self.old)) }
+        ensures ok { IfOk result
+            (λ is_found. (is_found ≡ found) × (self.new ≡ noted_as found display.now self.old)) }
         ensures err { OnErr result ((found ≡ false) × (self.new ≡ self.old)) }
     {
         if !found {
@@ -121,7 +127,8 @@ fn names(
     closing: &'static str,
     missed: &[&'static str],
 ) -> Result<Vec<&'static str>, AllocError>
-    ensures { IfOk result (λ names. texts_of names.items ≡ named_ends closing.now (texts_of missed.now)) }
+    ensures { IfOk result
+        (λ names. texts_of names.items ≡ named_ends closing.now (texts_of missed.now)) }
 {
     let mut names = Vec::with_capacity(alloc, missed.len())?;
     for display in missed {
@@ -136,7 +143,8 @@ fn add_name(
     closing: &'static str,
     display: &'static str,
 ) -> Result<(), AllocError>
-    ensures { OnOk result (texts_of names.new.items ≡ texts_of names.old.items ++ named closing.now display.now) }
+    ensures { OnOk result
+        (texts_of names.new.items ≡ texts_of names.old.items ++ named closing.now display.now) }
 {
     if display == "`)`" {
         if !closing.is_empty() {
@@ -168,7 +176,8 @@ fn list_words(alloc: Global, names: &[&str]) -> Result<String, AllocError>
 
 // Adds further names to a list of three or more.
 fn add_words(words: &mut String, names: &[&str]) -> Result<(), AllocError>
-    ensures { OnOk result (string_bytes words.new ≡ string_bytes words.old ++ more_words (texts_of names.now)) }
+    ensures { OnOk result
+        (string_bytes words.new ≡ string_bytes words.old ++ more_words (texts_of names.now)) }
 {
     for name in names {
         words.push_str(", ")?;

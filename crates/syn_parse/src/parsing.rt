@@ -6,7 +6,7 @@ ghost use Rattle.tok_buffer.specs.Cursors.{place_of};
 ghost use Rattle.tok_buffer.specs.Reads.{read_keyword, read_punctuation, sized};
 ghost use Rattle.syn_parse.specs.Faults.{Refuses};
 ghost use Rattle.syn_parse.specs.Parses.{PunctuationParses, WordParses, ascii_chars};
-ghost use Rattle.syn_parse.specs.Words.{punctuation_refusal, punctuation_span};
+ghost use Rattle.syn_parse.specs.RefusalWords.{punctuation_refusal, punctuation_span};
 
 use crate::fault::{Fault, Result};
 use crate::stream::{ParseBuffer, ParseStream};
@@ -33,7 +33,8 @@ pub fn keyword(input: ParseStream<'_, '_>, text: &str) -> Result<Span>
 ///
 ///     let spans: [Span; 2] = parsing::punct(input, "=~")?;
 pub fn punct<const N: usize>(input: ParseStream<'_, '_>, text: &str) -> Result<[Span; N]>
-    ensures { let text = sized N text.now in PunctuationParses (λ spans. spans) (ascii_chars text) text input.old result input.new }
+    ensures { let text = sized N text.now in PunctuationParses (λ spans. spans) (ascii_chars text)
+        text input.old result input.new }
 {
     let text = if text.len() == N { text } else { "" };
     let mut spans = [Span::call_site(); N];
@@ -80,7 +81,8 @@ impl<'a> ParseBuffer<'a> {
 fn word<'a>(cursor: Cursor<'a>, text: &str) -> Option<(Span, Cursor<'a>)>
     ensures { MatchOption result
         (read_keyword text.now (place_of cursor.entry) ≡ None)
-        (λ r. read_keyword text.now (place_of cursor.entry) ≡ Some (leaf (ident text.now r.0) ∷ [], place_of r.1)) }
+        (λ r. read_keyword text.now (place_of cursor.entry)
+        ≡ Some (leaf (ident text.now r.0) ∷ [], place_of r.1)) }
 {
     if text.is_empty() {
         return None;

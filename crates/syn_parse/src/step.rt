@@ -6,7 +6,7 @@ ghost use Rattle.syn_parse.specs.Faults.{Refuses, RefusesAt};
 ghost use Rattle.syn_parse.specs.State.{forked, state_span};
 ghost use Rattle.syn_parse.specs.Steps.{step_state, StepsTo};
 ghost use Rattle.tok_buffer.specs.Progress.{StaysIn};
-ghost use Rattle.syn_parse.specs.Words.{refused_at};
+ghost use Rattle.syn_parse.specs.RefusalWords.{refused_at};
 ghost use Rattle.syn_parse.specs.declared.step.StepCursor.{StepCursor};
 
 use crate::fault::{Fault, Result};
@@ -35,7 +35,8 @@ impl<'a> StepCursor<'a> {
     /// A refusal with this message where the step begins, as `ParseBuffer::error` of the stream.
     pub fn error<T: Display + Drop>(self, message: T) -> Fault
         ensures span { RefusesAt (state_span (step_state self.entry)) result }
-        ensures words { IfSome (T.output message) (λ words. Refuses (refused_at (step_state self.entry) words) result) }
+        ensures words { IfSome (T.output message)
+            (λ words. Refuses (refused_at (step_state self.entry) words) result) }
     {
         Fault::refused(Error::new_at(self.alloc, self.scope_span, self.cursor, message))
     }
@@ -53,7 +54,8 @@ impl<'a> ParseBuffer<'a> {
     where
         F: FnOnce(StepCursor<'a>) -> Result<(R, Cursor<'a>)>,
         requires callable { (from : StepCursor) → step_state from ≡ forked self.old → F.pre f from }
-        requires stays { (from : StepCursor) (value : R) (rest : Cursor) → step_state from ≡ forked self.old
+        requires stays { (from : StepCursor) (value : R) (rest : Cursor)
+            → step_state from ≡ forked self.old
             → F.post f from (Ok (value, rest)) → StaysIn self.old.place (place_of rest) }
         ensures { (from : StepCursor) × (returned : _) × (step_state from ≡ forked self.old)
             × F.post f from returned × StepsTo self.old returned result self.new }

@@ -1,4 +1,6 @@
 // Parse streams.
+pub mod paused;
+
 ghost use Rattle.std.specs.Prelude.{◌≡◌, None, true, IfSome, MatchOption, Ok};
 ghost use Rattle.std.specs.Fn.{FnOnceReturnsAtMut, FnOnceTakesAtMut};
 ghost use Rattle.tok_core.specs.Laws.{IsTheOnly};
@@ -9,11 +11,11 @@ ghost use Rattle.tok_buffer.specs.Place.{start, is_at_end};
 ghost use Rattle.syn_parse.specs.Faults.{Refuses, RefusesAt, IsRefused};
 ghost use Rattle.syn_parse.specs.Pauses.{paused_state};
 ghost use Rattle.syn_parse.specs.State.{fresh, moved, handed, closed, forked, advanced, state_span};
-ghost use Rattle.syn_parse.specs.Words.{refused_at, leftover_refusal};
+ghost use Rattle.syn_parse.specs.RefusalWords.{refused_at, leftover_refusal};
 
 use crate::fault::{Fault, Result};
-use crate::paused::Paused;
 use crate::words::leftover_words;
+use paused::Paused;
 use std::alloc::Global;
 use std::fmt;
 use std::fmt::{Display, Formatter, Write};
@@ -44,7 +46,11 @@ impl<'a> Model for ParseBuffer<'a> {
 
     ghost coded = { coded_state };
 
-    ghost view = { λ s. record { place = place_of s.cursor; scope_span = s.scope_span; noted = left_of s.noted } };
+    ghost view = { λ s. record {
+      place = place_of s.cursor;
+      scope_span = s.scope_span;
+      noted = left_of s.noted;
+    } };
 }
 
 /// What a parser takes: it is a function `fn(ParseStream) -> Result<T>`.
@@ -68,7 +74,12 @@ impl<'a> ParseBuffer<'a> {
         scope_span: Span,
         noted: Option<(Span, Delimiter)>,
     ) -> Self
-        ensures { result ≡ record { place = place_of cursor.entry; scope_span = scope_span; noted = left_of noted } }
+        ensures { result
+            ≡ record {
+              place = place_of cursor.entry;
+              scope_span = scope_span;
+              noted = left_of noted;
+            } }
     {
         ParseBuffer {
             alloc,
@@ -128,7 +139,8 @@ impl<'a> ParseBuffer<'a> {
     ///     return Err(input.error("expected a name"));
     pub fn error<T: Display + Drop>(&self, message: T) -> Fault
         ensures span { RefusesAt (state_span self.now) result }
-        ensures words { IfSome (T.output message) (λ words. Refuses (refused_at self.now words) result) }
+        ensures words { IfSome (T.output message)
+            (λ words. Refuses (refused_at self.now words) result) }
     {
         Fault::refused(Error::new_at(self.alloc, self.scope_span, self.cursor, message))
     }
@@ -189,7 +201,8 @@ impl<'a> ParseBuffer<'a> {
 
     /// Ends a stream, and refuses the leftover that it has noted, or else the first token that it leaves unread.
     pub fn finish(self) -> Result<()>
-        ensures { MatchOption (handed self.entry) (result ≡ Ok tt) (λ left. IsRefused (leftover_refusal left) result) }
+        ensures { MatchOption (handed self.entry) (result ≡ Ok tt)
+            (λ left. IsRefused (leftover_refusal left) result) }
     {
         let alloc = self.alloc;
         let left = self.handed();

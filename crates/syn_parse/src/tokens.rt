@@ -22,7 +22,8 @@ impl<const K: usize> Parse for Keyword<K> {
 }
 
 impl<const K: usize, const N: usize> Parse for Punctuation<K, N> {
-    ghost parses = { PunctuationParses (λ p. p.spans) (punctuation_word K N) (punctuation_word K N) };
+    ghost parses = { PunctuationParses (λ p. p.spans) (punctuation_word K N)
+        (punctuation_word K N) };
 
     fn parse(input: ParseStream<'_, '_>) -> Result<Self> {
         let spans = punct(input, punctuation_text(K))?;

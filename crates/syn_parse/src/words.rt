@@ -1,6 +1,6 @@
 // The texts of refusals.
 ghost use Rattle.std.specs.Prelude.{◌≡◌};
-ghost use Rattle.syn_parse.specs.Words as spec;
+ghost use Rattle.syn_parse.specs.RefusalWords as spec;
 
 use tok_core::Delimiter;
 

@@ -10,7 +10,7 @@ use Rattle.std.specs.List.{All}
 use Rattle.std.specs.Ordering.{nat_cmp}
 use Rattle.std.specs.declared.cmp.Ordering.TheVariants.{Less}
 use Rattle.std.specs.Global.{Box}
-use Rattle.tok_core.specs.Forest.{Forest, no_trees, joined}
+use Rattle.tok_core.specs.Forest.{Forest, no_trees, concat}
 use Rattle.tok_buffer.specs.Place.{Owner, Place, is_at_end}
 use Rattle.syn_parse.specs.Faults.{IsMemory}
 use Rattle.syn_parse.specs.Reads.{Call}
@@ -92,7 +92,7 @@ module _ {T P : Type 0} (value_parses : Call T) (value_printed : T → Forest)
   -- a bare value is left
   ends_bare : (all : List (Turn T P (Unit {0}))) (x : T) (c : ℕ) (p : Forest) (f : Unit {0})
       (m t : State) (r : Result (Punctuated T P) Fault)
-      → m.place ≡ flat o n s c p (joined (value_printed x) no_trees)
+      → m.place ≡ flat o n s c p (concat (value_printed x) no_trees)
       → IsReadBack value_parses value_printed x
       → Ending terminated Reads separator_parses f m all r t → Follows all [] (x ∷ []) [] m r t
   ends_bare all x c p f m t r e good (at_end i q h) =

@@ -8,7 +8,7 @@ use Rattle.std.specs.List.{All, list_all}
 use Rattle.tok_core.specs.declared.ident.Ident.{Ident}
 use Rattle.tok_core.specs.declared.punct.Spacing.TheVariants.{Joint}
 use Rattle.tok_core.specs.declared.span.Span.{Span}
-use Rattle.tok_core.specs.Forest.{ident, punct, Tree, leaf, Forest, no_trees, tree, forest, joined}
+use Rattle.tok_core.specs.Forest.{ident, punct, Tree, leaf, Forest, no_trees, tree, forest, concat}
 use Rattle.tok_core.specs.Lexical.Characters.{is_punct_or_apostrophe}
 use Rattle.tok_core.specs.Seen.{ident_of}
 use Rattle.tok_core.specs.Spans.{tree_span, call_site}
@@ -16,7 +16,7 @@ use Rattle.tok_buffer.specs.Ahead.{Leftover}
 use Rattle.tok_core.specs.Weight.{weight}
 use Rattle.tok_buffer.specs.Place.{Owner, whole, is_at_end}
 use Rattle.tok_buffer.specs.Reads.{apostrophe, and_then, read_word, read_punctuation}
-use Rattle.tok_buffer.specs.Words.{Refusal}
+use Rattle.tok_buffer.specs.Refusals.{Refusal}
 use Rattle.tok_types.specs.Printed.{joint_puncts, puncts}
 use Rattle.tok_types.specs.Texts.{accept_as_ident, punctuations, punctuation_text, punctuation_word}
 use Rattle.tok_types.specs.declared.punctuation.Punctuation.{Punctuation}
@@ -25,7 +25,7 @@ use Rattle.syn_parse.specs.Reads.{Reads, ReadsAtOnce}
 use Rattle.syn_parse.specs.Faults.{IsMemory}
 use Rattle.syn_parse.specs.Parsers.{whole_stream}
 use Rattle.syn_parse.specs.State.{State, handed}
-use Rattle.syn_parse.specs.Words.{refused_at, ident_words, punctuation_refusal}
+use Rattle.syn_parse.specs.RefusalWords.{refused_at, ident_words, punctuation_refusal}
 use Rattle.syn_parse.specs.declared.fault.Fault.{Fault}
 use Rattle.tok_buffer.specs.Reads.{read_ident}
 use Rattle.syn_punctuated.specs.Lists.{values_of, separators_of}
@@ -114,7 +114,7 @@ spans_of_puncts (c ∷ (d ∷ cs)) (s ∷ ss) l =
 
 some_puncts : (text : List ℕ) (spans : List Span) (o : Owner) (n s c : ℕ) (p f : Forest)
     → 0 < length text → length text ≡ length spans
-    → is_at_end (flat o n s c p (joined (forest (joint_puncts text spans)) f)) ≡ false
+    → is_at_end (flat o n s c p (concat (forest (joint_puncts text spans)) f)) ≡ false
 some_puncts [] spans o n s c p f some l = absurd (omega (arith, some))
 some_puncts (x ∷ []) [] o n s c p f some l = absurd (omega (arith, l))
 some_puncts (x ∷ []) (t ∷ ts) o n s c p f some l = refl
@@ -129,7 +129,7 @@ is_itself x h = let e : (x == x) ≡ true =
 read_puncts : (text : List ℕ) (spans : List Span) (o : Owner) (n s c : ℕ) (p f : Forest)
     → 0 < length text → length text ≡ length spans → list_all is_plain text ≡ true
     → (d : ℕ) × (q : Forest) × (c < d) × (read_punctuation text
-    (flat o n s c p (joined (forest (joint_puncts text spans)) f)) ≡ Some
+    (flat o n s c p (concat (forest (joint_puncts text spans)) f)) ≡ Some
     (joint_puncts text spans, flat o n s d q f))
 read_puncts [] spans o n s c p f some l h = absurd (omega (arith, some))
 read_puncts (x ∷ []) [] o n s c p f some l h = absurd (omega (arith, l))
@@ -149,7 +149,7 @@ read_puncts (x ∷ (y ∷ xs)) (t ∷ ts) o n s c p f some l h =
           (cond-true _ (Some (
             here ∷ [],
             flat o n s (c + 1) (tree here p)
-                (joined (forest (joint_puncts (y ∷ xs) ts)) f),
+                (concat (forest (joint_puncts (y ∷ xs) ts)) f),
           )) None (is_itself x both.0))
           ∙ ap (λ found. elim found [ Some q ↦ Some (here ∷ q.0, q.1) | None ↦ None ]) more.3,
     )
@@ -189,12 +189,12 @@ module _ (k n : ℕ) (y : Punctuation k n) (some : IsInTable k n) (l : length y.
       (PunctuationParses (spans_in k n) (punctuation_word k n) (punctuation_word k n))
       (punctuation_printed k n) y
   punctuation_read_back = record {
-    some = λ o m s c p f. ap (λ g. is_at_end (flat o m s c p (joined g f))) as_puncts
+    some = λ o m s c p f. ap (λ g. is_at_end (flat o m s c p (concat g f))) as_puncts
         ∙ some_puncts text y.spans o m s c p f some long;
     reads = λ o m s c p f from to r e h.
         let w = read_puncts text y.spans o m s c p f some long (plain_word k n) in
-        let place : from.place ≡ flat o m s c p (joined (forest (joint_puncts text y.spans)) f) = e
-        ∙ ap (λ g. flat o m s c p (joined g f)) as_puncts in
+        let place : from.place ≡ flat o m s c p (concat (forest (joint_puncts text y.spans)) f) = e
+        ∙ ap (λ g. flat o m s c p (concat g f)) as_puncts in
         punctuation_reads o m s c w.0 f w.1 from to r w.2
         (subst (λ x. ReadsAtOnce Means x (punctuation_refusal text from) from r to)
         (ap (read_punctuation text) place ∙ w.3) h);

@@ -89,8 +89,8 @@ module _ {S X Y : Type 0} (R : S → X → Bool → S → X → Type 0) (s : S) 
       }
 
   pub going_swaps : (i k : ℕ) (now : List (X × Y)) (t : S) (p : X × Y) (u : S) (q : X × Y) (new : List (X × Y)) → i < length now → Going i k now t → p ≡ get_or now i p → q.1 ≡ p.1 → R t p.0 true u q.0 → SwappedAt (set now i q) new k i → Going (i + 1) (k + 1) new u
-  going_swaps i k now t p u q new lt h is behind step swapped =
-      let e : q ≡ (q.0, p.1) = λ j. (q.0, behind j) in
+  going_swaps i k now t p u q new lt h is after step swapped =
+      let e : q ≡ (q.0, p.1) = λ j. (q.0, after j) in
       let w = get_or (set now i q) k q in
       let here : get_or (set now i q) i q ≡ q = get_or-set_same now i q q lt in
       let same : k ≡ i → w ≡ (q.0, p.1) = λ at. ap (λ j. get_or (set now i q) j q) at ∙ here ∙ e in
@@ -98,8 +98,8 @@ module _ {S X Y : Type 0} (R : S → X → Bool → S → X → Type 0) (s : S) 
       subst (λ (zs : List (X × Y)). Going (i + 1) (k + 1) zs u) (sym (swapped.3 q ∙ ap (λ r. set (set (set now i q) k r) i w) here)) kept
 
   pub going_skips : (i k : ℕ) (now : List (X × Y)) (t : S) (p : X × Y) (u : S) (q : X × Y) → i < length now → Going i k now t → p ≡ get_or now i p → q.1 ≡ p.1 → R t p.0 false u q.0 → Going (i + 1) k (set now i q) u
-  going_skips i k now t p u q lt h is behind step =
-      let e : q ≡ (q.0, p.1) = λ j. (q.0, behind j) in
+  going_skips i k now t p u q lt h is after step =
+      let e : q ≡ (q.0, p.1) = λ j. (q.0, after j) in
       subst (λ (r : X × Y). Going (i + 1) k (set now i r) u) (sym e) (going_drops i k now t p u q.0 lt h is step)
 
 -- ---- from the pairs to the whole list

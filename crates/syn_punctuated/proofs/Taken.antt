@@ -11,7 +11,7 @@ use Rattle.tok_core.specs.Forest.{Tree, leaf, group, Forest, no_trees, tree, tur
 use Rattle.tok_core.specs.Weight.{weight}
 use Rattle.tok_buffer.specs.Ahead.{ahead_in, visible}
 use Rattle.tok_buffer.specs.Descent.{descend, descend_from, into_front}
-use Rattle.tok_buffer.specs.Place.{Owner, whole, group_of, Level, level, Place, empty_place, at}
+use Rattle.tok_buffer.specs.Place.{Owner, whole, in_group, Level, level, Place, empty_place, at}
 use Rattle.tok_buffer.specs.Place.{absorb, settle}
 use Rattle.tok_buffer.specs.Reads.{and_then, is_ident_of, is_joint_of, is_punct_of}
 use Rattle.tok_buffer.specs.Reads.{read_punctuation, read_word}
@@ -75,10 +75,10 @@ front_is no_trees n s c o passed ls = refl
 front_is (tree (leaf l) f) n s c o passed ls = refl
 front_is (tree (group delimiter.None inside span) f) n s c o passed ls =
     either_front (shown inside) (shown f) (shown_around ls)
-    (into_front inside n s (c + 1) (group_of delimiter.None span) no_trees (level o passed f ∷ ls))
+    (into_front inside n s (c + 1) (in_group delimiter.None span) no_trees (level o passed f ∷ ls))
     (into_front f n s (c + (2 + weight inside)) o
     (tree (group delimiter.None inside span) passed) ls)
-    (front_is inside n s (c + 1) (group_of delimiter.None span) no_trees (level o passed f ∷ ls))
+    (front_is inside n s (c + 1) (in_group delimiter.None span) no_trees (level o passed f ∷ ls))
     (front_is f n s (c + (2 + weight inside)) o (tree (group delimiter.None inside span) passed)
     ls)
 front_is (tree (group delimiter.Parenthesis inside span) f) n s c o passed ls = refl
@@ -93,7 +93,7 @@ or_else ts more (Some p) q h k = h
 absorbed : (o : Owner) (p : Forest) (l : Level) (ls : List Level)
     → shown_around (absorb o p l ∷ ls) ≡ shown_around (l ∷ ls)
 absorbed whole p (level w before b) ls = refl
-absorbed (group_of d span) p (level w before b) ls = refl
+absorbed (in_group d span) p (level w before b) ls = refl
 
 descend_is : (ls : List Level) (n s c : ℕ) (l : Level)
     → shown_at (descend_from n s c l ls) ≡ shown_around (l ∷ ls)
@@ -136,7 +136,7 @@ OfLeaves wanted = (d : Delimiter) (inside : Forest) (span : Span)
     → wanted (group d inside span) ≡ false
 
 take_is : (wanted : Tree → Bool) → OfLeaves wanted → (p : Place)
-    → Takes (shown_at p) (reads.take wanted p)
+    → Takes (shown_at p) (reads.read_if wanted p)
 take_is wanted none empty_place = tt
 take_is wanted none (at n s c (level o passed no_trees) ls) = tt
 take_is wanted none (at n s c (level o passed (tree (leaf l) f)) ls) =
@@ -151,7 +151,7 @@ takes_there ts us None e h = tt
 takes_there ts us (Some x) e h = e ∙ h
 
 taken : (wanted : Tree → Bool) → OfLeaves wanted → (p : Place)
-    → Takes (shown_at p) (reads.take wanted (descend p))
+    → Takes (shown_at p) (reads.read_if wanted (descend p))
 taken wanted none p = takes_there _ _ _ (sym (descended_is p)) (take_is wanted none (descend p))
 
 then_is : (ts : List Tree) (x : Option (List Tree × Place)) (g : Place → Option (List Tree × Place))
@@ -167,7 +167,7 @@ punctuation_is : (text : List ℕ) (p : Place) → Takes (shown_at p) (read_punc
 punctuation_is [] p = tt
 punctuation_is (c ∷ []) p = taken (is_punct_of c) (λ d f span. refl) p
 punctuation_is (c ∷ (d ∷ cs)) p =
-    then_is _ (reads.take (is_joint_of c) (descend p)) (read_punctuation (d ∷ cs))
+    then_is _ (reads.read_if (is_joint_of c) (descend p)) (read_punctuation (d ∷ cs))
     (taken (is_joint_of c) (λ d f span. refl) p) (punctuation_is (d ∷ cs))
 
 -- the same of the trees ahead

@@ -13,13 +13,13 @@ use Rattle.tok_buffer.specs.Place.{Place, front, pass, is_at_end}
 use Rattle.tok_buffer.specs.Reads.{and_then, apostrophe, is_joint_of, is_punct_of, read_punctuation}
 use Rattle.tok_buffer.specs.Reads.{read_word}
 use Rattle.tok_buffer.specs.Reads as reads
-use Rattle.tok_buffer.specs.Words.{Refusal}
+use Rattle.tok_buffer.specs.Refusals.{Refusal}
 use Rattle.tok_types.specs.Texts.{accept_as_ident, punctuation_word}
 use Rattle.tok_types.specs.declared.punctuation.Punctuation.{Punctuation}
 use Rattle.syn_parse.specs.Parses.{AreSpans, IdentParses, IsIdent, PunctuationParses}
 use Rattle.syn_parse.specs.Reads.{Call, Reads, ReadsAtOnce}
 use Rattle.syn_parse.specs.State.{State}
-use Rattle.syn_parse.specs.Words.{punctuation_refusal}
+use Rattle.syn_parse.specs.RefusalWords.{punctuation_refusal}
 use Rattle.syn_punctuated.specs.Lists.{values_of, separators_of}
 use Rattle.syn_punctuated.specs.Trees.{AreTreesOf, IsOneOf, ListsHaveTheirTrees, Passes, PassesList}
 use Rattle.syn_punctuated.specs.Trees.{StatesTrees, ident_sources, punctuation_sources}
@@ -139,7 +139,7 @@ abbrev IsTaken : (Tree → Type 0) → Option (List Tree × Place) → Type 0
 IsTaken Wanted r = IfSome r (λ x. (t : Tree) × Wanted t × (x.0 ≡ t ∷ []))
 
 taken : (wanted : Tree → Bool) (Wanted : Tree → Type 0) → ((t : Tree) → wanted t ≡ true → Wanted t)
-    → (p : Place) → IsTaken Wanted (reads.take wanted p)
+    → (p : Place) → IsTaken Wanted (reads.read_if wanted p)
 taken wanted Wanted is p = by (front p)
   where
     if_wanted : (t : Tree) (b : Bool) → wanted t ≡ b
@@ -209,9 +209,9 @@ then_spelled c d cs (Some x) g h k = go (g x.1) (k x.1) where
 
 spelled : (text : List ℕ) (p : Place) → Spells text (read_punctuation text p)
 spelled [] p = tt
-spelled (c ∷ []) p = one_spelled c (reads.take (is_punct_of c) (descend p))
+spelled (c ∷ []) p = one_spelled c (reads.read_if (is_punct_of c) (descend p))
     (taken (is_punct_of c) (IsPunctOf c) (of_single c) (descend p))
-spelled (c ∷ (d ∷ cs)) p = then_spelled c d cs (reads.take (is_joint_of c) (descend p))
+spelled (c ∷ (d ∷ cs)) p = then_spelled c d cs (reads.read_if (is_joint_of c) (descend p))
     (read_punctuation (d ∷ cs)) (taken (is_joint_of c) (IsJointOf c) (of_joint c) (descend p))
     (spelled (d ∷ cs))
 

@@ -15,3 +15,8 @@ pub mod ReadBack
 pub mod Retained
 pub mod Trees
 pub mod Turns
+pub use Rattle.tok_core.specs.Forest
+pub use Rattle.tok_buffer.specs.Cursors
+pub use Rattle.tok_buffer.specs.Progress as CursorProgress
+pub use Rattle.syn_parse.specs.Faults as StreamFaults
+pub use Rattle.syn_parse.specs.State

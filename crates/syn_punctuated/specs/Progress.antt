@@ -2,10 +2,10 @@
 use Rattle.std.specs.Prelude.{Bool, ◌&&◌, ◌||◌, not, is_some}
 use Rattle.std.specs.Ordering.{partial_lt}
 use Rattle.tok_buffer.specs.Order.{order, same_scope}
-use Rattle.tok_buffer.specs.Place.{Place, position}
+use Rattle.tok_buffer.specs.Place.{Place, count_before}
 
 -- later in the same scope, or at the empty place and not there before
 abbrev pub progresses : (from to : Place) → Bool
 progresses from to =
     (same_scope from to && partial_lt order from to)
-    || (is_some (position from) && not (is_some (position to)))
+    || (is_some (count_before from) && not (is_some (count_before to)))

@@ -1,7 +1,7 @@
 -- What is read where the trees of a value are in front.
 use Rattle.std.specs.Prelude.{◌≡◌, ℕ, ◌<◌, true, false, List, [], ◌∷◌, length, Result, Ok, Err}
 use Rattle.std.specs.List.{All}
-use Rattle.tok_core.specs.Forest.{Forest, no_trees, joined}
+use Rattle.tok_core.specs.Forest.{Forest, no_trees, concat}
 use Rattle.tok_core.specs.declared.ident.Ident.{Ident}
 use Rattle.tok_types.specs.Texts.{accept_as_ident, punctuation_word}
 use Rattle.tok_buffer.specs.Place.{Owner, level, Place, at, is_at_end}
@@ -30,9 +30,9 @@ module _ {T : Type 0} (parses : Call T) (printed : T → Forest) where
   -- Where the trees of x are in front, whatever follows them, x is read.
   pub record IsReadBack (x : T) : Type 0 where
     pub some : (o : Owner) (n s c : ℕ) (p f : Forest)
-        → is_at_end (flat o n s c p (joined (printed x) f)) ≡ false
+        → is_at_end (flat o n s c p (concat (printed x) f)) ≡ false
     pub reads : (o : Owner) (n s c : ℕ) (p f : Forest) (from to : State) (r : Result T Fault)
-        → from.place ≡ flat o n s c p (joined (printed x) f)
+        → from.place ≡ flat o n s c p (concat (printed x) f)
         → parses from r to → ReadsAs x o n s c f from r to
 
 -- as many values as separators, or one more

@@ -2,7 +2,7 @@
 use Rattle.std.specs.Prelude.{◌≡◌, Bool, true, false, List, [], ◌∷◌, ◌++◌, map, Result, Ok, Err}
 use Rattle.std.specs.Prelude.{codes}
 use Rattle.tok_buffer.specs.Place.{Place, is_at_end}
-use Rattle.tok_buffer.specs.Words.{Refusal, plain}
+use Rattle.tok_buffer.specs.Refusals.{Refusal, plain}
 use Rattle.syn_parse.specs.Faults.{IsMemory, Refuses}
 use Rattle.syn_parse.specs.Reads.{Call}
 use Rattle.syn_parse.specs.State.{State}

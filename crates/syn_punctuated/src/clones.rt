@@ -60,15 +60,15 @@ impl<T: Clone + Drop, P: Clone + Drop> Punctuated<T, P> {
 }
 
 impl<T: Clone + Drop, P: Clone + Drop> IntoIter<T, P> {
-    /// The clones of the values that are left.
+    /// The clones of the values that are left; the separators that are left with them are cloned too.
     pub fn clone(&self) -> Result<Self, AllocError>
         requires values { (x : T) (y : T) → T.is_clone x y → y ≡ x }
         requires separators { (x : P) (y : P) → P.is_clone x y → y ≡ x }
         ensures { IfOk result (λ copy. copy ≡ self.now) }
     {
-        let inner = clone_pairs(&self.inner)?;
-        let last = clone_last(*self.inner.allocator(), &self.last)?;
-        Ok(IntoIter { inner, last })
+        Ok(IntoIter {
+            pairs: self.pairs.clone()?,
+        })
     }
 }
 

@@ -30,7 +30,8 @@ impl<T: Drop, P: Drop> Punctuated<T, P> {
     /// Where there is no memory the list stays as it was, and the separator is dropped.
     pub fn push_punct(&mut self, separator: P) -> Result<(), AllocError>
         requires { length (values_of self.old) ≡ length (separators_of self.old) + 1 }
-        ensures ok { OnOk result (separators_of self.new ≡ separators_of self.old ++ separator ∷ []) }
+        ensures ok { OnOk result
+            (separators_of self.new ≡ separators_of self.old ++ separator ∷ []) }
         ensures values { values_of self.new ≡ values_of self.old }
         ensures err { OnErr result (IsUnchanged self.old self.new) }
     {
@@ -47,7 +48,8 @@ impl<T: Drop, P: Drop> Punctuated<T, P> {
     /// Removes and gives the last value. A separator after it is dropped; the one before it stays.
     pub fn pop(&mut self) -> Option<T>
         ensures values { values_of self.old ≡ values_of self.new ++ option_to_list result }
-        ensures separators { separators_of self.new ≡ take (length (values_of self.new)) (separators_of self.old) }
+        ensures separators { separators_of self.new
+            ≡ take (length (values_of self.new)) (separators_of self.old) }
         ensures none { IfNone result (values_of self.old ≡ []) }
     {
         match self.last.take() {
@@ -64,7 +66,8 @@ impl<T: Drop, P: Drop> Punctuated<T, P> {
     /// The value that becomes bare takes memory: after an allocation failure the list is as it was.
     pub fn pop_punct(&mut self) -> Result<Option<P>, AllocError>
         ensures values { values_of self.new ≡ values_of self.old }
-        ensures taken { IfOk result (λ taken. separators_of self.old ≡ separators_of self.new ++ option_to_list taken) }
+        ensures taken { IfOk result
+            (λ taken. separators_of self.old ≡ separators_of self.new ++ option_to_list taken) }
         ensures some { IfOk result (λ taken. is_some taken ≡ is_trailing self.old) }
         ensures err { OnErr result (IsUnchanged self.old self.new) }
         ensures refused { OnErr result (is_trailing self.old ≡ true) }
@@ -90,7 +93,8 @@ impl<T: Drop, P: Drop> Punctuated<T, P> {
 
     /// Removes and gives the last value with the separator after it, if there is one.
     pub fn pop_pair(&mut self) -> Option<Pair<T, P>>
-        ensures values { values_of self.old ≡ values_of self.new ++ option_to_list (option_map value_of_pair result) }
+        ensures values { values_of self.old
+            ≡ values_of self.new ++ option_to_list (option_map value_of_pair result) }
         ensures separators { separators_of self.old
             ≡ separators_of self.new ++ option_to_list (option_and_then separator_of_pair result) }
         ensures none { IfNone result (values_of self.old ≡ []) }

@@ -46,7 +46,8 @@ impl<T: Drop, P: Drop> Punctuated<T, P> {
     /// Adds a pair. Owed: the list is empty or ends in a separator.
     fn push_pair(&mut self, pair: Pair<T, P>) -> Result<(), AllocError>
         requires { length (values_of self.old) ≡ length (separators_of self.old) }
-        ensures values { OnOk result (values_of self.new ≡ values_of self.old ++ value_of_pair pair ∷ []) }
+        ensures values { OnOk result
+            (values_of self.new ≡ values_of self.old ++ value_of_pair pair ∷ []) }
         ensures separators { OnOk result (separators_of self.new
             ≡ separators_of self.old ++ option_to_list (separator_of_pair pair)) }
         ensures err { OnErr result (IsUnchanged self.old self.new) }
@@ -63,8 +64,10 @@ impl<T: Drop, P: Drop> Punctuated<T, P> {
     /// Adds pairs in turn. Owed: the list is empty or ends in a separator.
     fn push_pairs<I: IntoIterator<Item = Pair<T, P>>>(&mut self, pairs: I) -> Result<(), PairsFault>
         requires starts { length (values_of self.old) ≡ length (separators_of self.old) }
-        requires ends { IsFiniteIterable I.into_iter_gives I.IntoIter.can_next I.IntoIter.remaining pairs }
-        ensures { ExtendsWithPairs I.into_iter_gives I.IntoIter.next_gives pairs self.old self.new result }
+        requires ends { IsFiniteIterable I.into_iter_gives I.IntoIter.can_next
+            I.IntoIter.remaining pairs }
+        ensures { ExtendsWithPairs I.into_iter_gives I.IntoIter.next_gives pairs
+            self.old self.new result }
     {
         for pair in pairs {
             if self.last.is_some() {
@@ -80,7 +83,8 @@ impl<T: Drop, P: Drop> Punctuated<T, P> {
         alloc: Global,
         pairs: I,
     ) -> Result<Self, PairsFault>
-        requires { IsFiniteIterable I.into_iter_gives I.IntoIter.can_next I.IntoIter.remaining pairs }
+        requires { IsFiniteIterable I.into_iter_gives I.IntoIter.can_next
+            I.IntoIter.remaining pairs }
         ensures ok { IfOk result (MadeOfPairs I.into_iter_gives I.IntoIter.next_gives pairs) }
         ensures err { IfErr result (RefusesPairs I.into_iter_gives I.IntoIter.next_gives pairs) }
     {
@@ -95,7 +99,8 @@ impl<T: Drop, P: Default + Drop> Punctuated<T, P> {
     ///
     /// Where there is no memory for a value, those before it stay, and it is dropped.
     pub fn extend_values<I: IntoIterator<Item = T>>(&mut self, items: I) -> Result<(), AllocError>
-        requires { IsFiniteIterable I.into_iter_gives I.IntoIter.can_next I.IntoIter.remaining items }
+        requires { IsFiniteIterable I.into_iter_gives I.IntoIter.can_next
+            I.IntoIter.remaining items }
         ensures { ExtendsWithValues I.into_iter_gives I.IntoIter.next_gives P.is_default
             items self.old self.new result }
     {
@@ -110,8 +115,10 @@ impl<T: Drop, P: Default + Drop> Punctuated<T, P> {
         alloc: Global,
         items: I,
     ) -> Result<Self, AllocError>
-        requires { IsFiniteIterable I.into_iter_gives I.IntoIter.can_next I.IntoIter.remaining items }
-        ensures ok { IfOk result (MadeOfValues I.into_iter_gives I.IntoIter.next_gives P.is_default items) }
+        requires { IsFiniteIterable I.into_iter_gives I.IntoIter.can_next
+            I.IntoIter.remaining items }
+        ensures ok { IfOk result
+            (MadeOfValues I.into_iter_gives I.IntoIter.next_gives P.is_default items) }
         ensures err { OnErr result (GivesAny I.into_iter_gives I.IntoIter.next_gives items) }
     {
         let mut list = Punctuated::new(alloc);
@@ -128,7 +135,8 @@ impl<T: Drop, P: Default + Drop> Punctuated<T, P> {
         &mut self,
         pairs: I,
     ) -> Result<(), PairsFault>
-        requires { IsFiniteIterable I.into_iter_gives I.IntoIter.can_next I.IntoIter.remaining pairs }
+        requires { IsFiniteIterable I.into_iter_gives I.IntoIter.can_next
+            I.IntoIter.remaining pairs }
         ensures { ExtendsAfterDefault I.into_iter_gives I.IntoIter.next_gives P.is_default
             pairs self.old self.new result }
     {

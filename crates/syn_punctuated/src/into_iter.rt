@@ -5,8 +5,8 @@ ghost use Rattle.std.specs.Iterator.SizeHint.{IsWithinCount};
 ghost use Rattle.std.specs.Map.Iter.{TakesFirst, TakesLast, GivesInOrder, GivesInReverse};
 ghost use Rattle.syn_punctuated.specs.Lists.{values_of};
 
+use crate::into_pairs::IntoPairs;
 use crate::punctuated::Punctuated;
-use std::collections::VecDeque;
 use std::iter::FusedIterator;
 use std::marker::Model;
 
@@ -18,10 +18,8 @@ impl<T: Drop, P: Drop> IntoIterator for Punctuated<T, P> {
     ghost into_iter_gives = { λ list r. (r ≡ values_of list) × GivesInOrder T × GivesInReverse T };
 
     fn into_iter(self) -> IntoIter<T, P> {
-        let Punctuated { inner, last } = self;
         IntoIter {
-            inner: VecDeque::from_vec(inner),
-            last,
+            pairs: self.into_pairs(),
         }
     }
 }
@@ -29,20 +27,16 @@ impl<T: Drop, P: Drop> IntoIterator for Punctuated<T, P> {
 /// What iterating over a list by value gives: the values that are left.
 #[derive(Drop)]
 pub struct IntoIter<T, P> {
-    pub(crate) inner: VecDeque<(T, P)>,
-    pub(crate) last: Option<Box<T>>,
+    pub(crate) pairs: IntoPairs<T, P>,
 }
 
 impl<T, P> Model for IntoIter<T, P> {
-    ghost use Rattle.std.specs.Prelude.{◌^◌, ◌<◌, List, ◌++◌, length, map};
-    ghost use Rattle.std.specs.VecDeque.{deque_len};
-    ghost use Rattle.syn_punctuated.specs.Boxes.{boxed_values};
+    ghost use Rattle.std.specs.Prelude.{List, map};
+    ghost use Rattle.syn_punctuated.specs.Pairs.{value_of_pair};
 
     ghost Value = { List T };
 
-    ghost view = { λ a. map (λ pair. pair.0) (a.inner.items) ++ boxed_values a.last };
-
-    ghost invariant = { λ a. deque_len a.inner < 2 ^ 63 };
+    ghost view = { λ a. map value_of_pair a.pairs };
 }
 
 impl<T: Drop, P: Drop> Iterator for IntoIter<T, P> {
@@ -53,13 +47,7 @@ impl<T: Drop, P: Drop> Iterator for IntoIter<T, P> {
     ghost remaining = { λ s. at_most (length s) };
 
     fn next(&mut self) -> Option<T> {
-        match self.inner.pop_front() {
-            Some((value, _)) => Some(value),
-            None => match self.last.take() {
-                Some(value) => Some(Box::into_inner(value)),
-                None => None,
-            },
-        }
+        Some(self.pairs.next()?.into_value())
     }
 
     fn size_hint(&self) -> (usize, Option<usize>)
@@ -76,19 +64,13 @@ impl<T: Drop, P: Drop> DoubleEndedIterator for IntoIter<T, P> {
     ghost next_back_gives = { TakesLast (λ x. x) };
 
     fn next_back(&mut self) -> Option<T> {
-        if let Some(value) = self.last.take() {
-            return Some(Box::into_inner(value));
-        }
-        match self.inner.pop_back() {
-            Some((value, _)) => Some(value),
-            None => None,
-        }
+        Some(self.pairs.next_back()?.into_value())
     }
 }
 
 impl<T: Drop, P: Drop> ExactSizeIterator for IntoIter<T, P> {
     fn len(&self) -> usize {
-        self.inner.len() + if self.last.is_some() { 1 } else { 0 }
+        self.pairs.len()
     }
 }
 

@@ -5,11 +5,11 @@ ghost use Rattle.std.specs.Iterator.SizeHint.{IsWithinCount};
 ghost use Rattle.std.specs.Map.Iter.{TakesFirst, TakesLast, ShowsInOrder, ShowsInReverse, deref};
 ghost use Rattle.syn_punctuated.specs.Lists.{values_of};
 
+use crate::pairs::Pairs;
 use crate::punctuated::Punctuated;
 use std::alloc::AllocError;
 use std::iter::FusedIterator;
 use std::marker::Model;
-use std::slice;
 
 impl<T, P> Punctuated<T, P> {
     /// The values in order, lent.
@@ -19,8 +19,7 @@ impl<T, P> Punctuated<T, P> {
         ensures runs_back { ShowsInReverse (deref {X = T}) }
     {
         Iter {
-            inner: self.inner.as_slice().iter(),
-            last: self.bare_value(),
+            pairs: self.pairs(),
         }
     }
 }
@@ -41,20 +40,16 @@ impl<'a, T, P> IntoIterator for &'a Punctuated<T, P> {
 /// What `iter` gives: the values that are left, lent.
 #[derive(Drop)]
 pub struct Iter<'a, T, P> {
-    pub(crate) inner: slice::Iter<'a, (T, P)>,
-    pub(crate) last: Option<&'a T>,
+    pairs: Pairs<'a, T, P>,
 }
 
 impl<'a, T, P> Model for Iter<'a, T, P> {
-    ghost use Rattle.std.specs.Prelude.{◌^◌, ◌<◌, List, ◌++◌, length, map};
-    ghost use Rattle.std.specs.Slice.Iter.{iter_rest};
-    ghost use Rattle.std.specs.Option.{option_copied, option_to_list};
+    ghost use Rattle.std.specs.Prelude.{List, map};
+    ghost use Rattle.syn_punctuated.specs.Pairs.{value_of_pair};
 
     ghost Value = { List T };
 
-    ghost view = { λ a. map (λ pair. pair.0) (iter_rest a.inner) ++ option_to_list (option_copied a.last) };
-
-    ghost invariant = { λ a. length (iter_rest a.inner) < 2 ^ 63 };
+    ghost view = { λ a. map value_of_pair a.pairs };
 }
 
 impl<'a, T, P> Iterator for Iter<'a, T, P> {
@@ -65,10 +60,7 @@ impl<'a, T, P> Iterator for Iter<'a, T, P> {
     ghost remaining = { λ s. at_most (length s) };
 
     fn next(&mut self) -> Option<&'a T> {
-        match self.inner.next() {
-            Some(pair) => Some(&pair.0),
-            None => self.last.take(),
-        }
+        Some(self.pairs.next()?.into_value())
     }
 
     fn size_hint(&self) -> (usize, Option<usize>)
@@ -85,19 +77,13 @@ impl<'a, T, P> DoubleEndedIterator for Iter<'a, T, P> {
     ghost next_back_gives = { TakesLast deref };
 
     fn next_back(&mut self) -> Option<&'a T> {
-        if let Some(value) = self.last.take() {
-            return Some(value);
-        }
-        match self.inner.next_back() {
-            Some(pair) => Some(&pair.0),
-            None => None,
-        }
+        Some(self.pairs.next_back()?.into_value())
     }
 }
 
 impl<'a, T, P> ExactSizeIterator for Iter<'a, T, P> {
     fn len(&self) -> usize {
-        self.inner.len() + if self.last.is_some() { 1 } else { 0 }
+        self.pairs.len()
     }
 }
 
@@ -110,8 +96,7 @@ impl<'a, T, P> Clone for Iter<'a, T, P> {
 
     fn clone(&self) -> Result<Self, AllocError> {
         Ok(Iter {
-            inner: self.inner.clone()?,
-            last: self.last,
+            pairs: self.pairs.clone()?,
         })
     }
 }

@@ -1,13 +1,13 @@
 //! The iterator that lends a list's values to be written.
-ghost use Rattle.std.specs.Prelude.{◌≡◌, ◌^◌, ◌<◌, length, IfSome};
+ghost use Rattle.std.specs.Prelude.{◌≡◌, length, IfSome};
 ghost use Rattle.std.specs.Iterator.{UpTo};
 ghost use Rattle.std.specs.Iterator.SizeHint.{IsWithinCount};
-ghost use Rattle.std.specs.Slice.Iter.{iter_mut_rest};
 ghost use Rattle.syn_punctuated.specs.Lists.{values_of};
 
+use crate::pair::Pair;
+use crate::pairs_mut::PairsMut;
 use crate::punctuated::Punctuated;
 use std::iter::FusedIterator;
-use std::slice;
 
 impl<T, P> Punctuated<T, P> {
     ghost use Rattle.syn_punctuated.specs.Lent.{lent_values};
@@ -16,13 +16,8 @@ impl<T, P> Punctuated<T, P> {
     pub fn iter_mut(&mut self) -> IterMut<'_, T, P>
         ensures { lent_values result ≡ values_of self.old }
     {
-        let last = match &mut self.last {
-            Some(value) => Some(value.as_mut()),
-            None => None,
-        };
         IterMut {
-            inner: self.inner.as_mut_slice().iter_mut(),
-            last,
+            pairs: self.pairs_mut(),
         }
     }
 }
@@ -44,9 +39,7 @@ impl<'a, T, P> IntoIterator for &'a mut Punctuated<T, P> {
 /// What `iter_mut` gives: the values that are left, lent to be written.
 #[derive(Drop)]
 pub struct IterMut<'a, T, P> {
-    pub(crate) inner: slice::IterMut<'a, (T, P)>,
-    pub(crate) last: Option<&'a mut T>,
-    ghost fits: { length (iter_mut_rest inner) < 2 ^ 63 },
+    pairs: PairsMut<'a, T, P>,
 }
 
 impl<'a, T, P> Iterator for IterMut<'a, T, P> {
@@ -60,14 +53,14 @@ impl<'a, T, P> Iterator for IterMut<'a, T, P> {
     ghost remaining = { item_count lent_values };
 
     fn next(&mut self) -> Option<&'a mut T> {
-        match self.inner.next() {
-            Some(pair) => Some(&mut pair.0),
-            None => self.last.take(),
+        match self.pairs.next()? {
+            Pair::Punctuated(value, _) | Pair::End(value) => Some(value),
         }
     }
 
     fn size_hint(&self) -> (usize, Option<usize>)
-        ensures value { result ≡ (length (lent_values self.now), Some (length (lent_values self.now))) }
+        ensures value { result
+            ≡ (length (lent_values self.now), Some (length (lent_values self.now))) }
         ensures lower { IsWithinCount result.0 (item_count lent_values self.now) }
         ensures upper { IfSome result.1 (UpTo (item_count lent_values self.now)) }
     {
@@ -83,19 +76,15 @@ impl<'a, T, P> DoubleEndedIterator for IterMut<'a, T, P> {
     ghost next_back_gives = { YieldsLastMut lent_values };
 
     fn next_back(&mut self) -> Option<&'a mut T> {
-        if let Some(value) = self.last.take() {
-            return Some(value);
-        }
-        match self.inner.next_back() {
-            Some(pair) => Some(&mut pair.0),
-            None => None,
+        match self.pairs.next_back()? {
+            Pair::Punctuated(value, _) | Pair::End(value) => Some(value),
         }
     }
 }
 
 impl<'a, T, P> ExactSizeIterator for IterMut<'a, T, P> {
     fn len(&self) -> usize {
-        self.inner.len() + if self.last.is_some() { 1 } else { 0 }
+        self.pairs.len()
     }
 }
 

@@ -33,7 +33,8 @@ pub fn separators_follow_values<T, P>()
 pub fn equality_is_pointwise<T: PartialEq, P: PartialEq>()
     ensures { (left : Punctuated T P) (right : Punctuated T P)
         → ⟦<Punctuated<T, P> as PartialEq>⟧.eq left right
-        ≡ (pointwise T.eq (values_of left) (values_of right) && pointwise P.eq (separators_of left) (separators_of right)) }
+        ≡ (pointwise T.eq (values_of left) (values_of right)
+        && pointwise P.eq (separators_of left) (separators_of right)) }
 {}
 
 /// A list feeds a hasher its values and separators: the pairs, with how many they are, and then the bare last value, or
@@ -46,13 +47,15 @@ pub fn lists_hash_all<T: Hash, P: Hash>()
 /// After `retain`, a list that isn't empty ends in a separator exactly where it did before.
 pub fn retain_keeps_trailing<T, P, F: FnMut(&mut T) -> bool>()
     ensures { (f : F) (old : Punctuated T P) (new : Punctuated T P)
-        → Retains (CalledAtMut F.FnMut) f old new → 0 < length (values_of new) → is_trailing new ≡ is_trailing old }
+        → Retains (CalledAtMut F.FnMut) f old new → 0 < length (values_of new)
+        → is_trailing new ≡ is_trailing old }
 {}
 
 /// What is written to `list[index]` goes there, and all else is as before.
 pub fn indexing_writes_one_value<T, P>()
     ensures { (list : Punctuated T P) (index : ℕ) (value : T)
-        → index < length (values_of list) → WritesValue index value list (with_value list index value) }
+        → index < length (values_of list)
+        → WritesValue index value list (with_value list index value) }
 {}
 
 /// A list that is parsed has the values and the separators of the trees that its stream passes, in their order, where the
@@ -76,9 +79,11 @@ pub fn lists_are_read_back<T: Parse + ToTokens, P: Parse + ToTokens>()
 
 /// An identifier that is no reserved word, and a punctuation of the table with a span for each character, are read back.
 pub fn names_and_punctuations_are_read_back<const K: usize, const N: usize>()
-    ensures names { (i : Ident) → IsAccepted i → IsReadBack ⟦<Ident as Parse>⟧.parses ⟦<Ident as ToTokens>⟧.printed i }
+    ensures names { (i : Ident) → IsAccepted i
+        → IsReadBack ⟦<Ident as Parse>⟧.parses ⟦<Ident as ToTokens>⟧.printed i }
     ensures punctuations { (p : Punctuation K N) → IsInTable K N → length p.spans ≡ N
-        → IsReadBack ⟦<Punctuation<K, N> as Parse>⟧.parses ⟦<Punctuation<K, N> as ToTokens>⟧.printed p }
+        → IsReadBack ⟦<Punctuation<K, N> as Parse>⟧.parses
+        ⟦<Punctuation<K, N> as ToTokens>⟧.printed p }
 {}
 
 /// Writes a list of identifiers that are no reserved words, and reads it again, all of it.

@@ -21,7 +21,8 @@ impl<T, P> Punctuated<T, P> {
     /// A bare last value, to be written.
     fn last_value_mut(&mut self) -> Option<&mut T>
         ensures* writes_back { sem 𝓛 (lends_last_value T.row P.row self.entry result) }
-        ensures value { slice_get (values_of self.old) (vec_len self.old.inner) ≡ option_copied_mut result }
+        ensures value { slice_get (values_of self.old) (vec_len self.old.inner)
+            ≡ option_copied_mut result }
     {
         match &mut self.last {
             Some(value) => Some(value.as_mut()),
@@ -54,8 +55,10 @@ impl<T, P> Punctuated<T, P> {
 
     /// The last value, to be written.
     pub fn last_mut(&mut self) -> Option<&mut T>
-        ensures* writes_back { sem 𝓛 (LendsValue T.row P.row self.entry (length (values_of self.old) - 1) result) }
-        ensures value { option_copied_mut result ≡ slice_get (values_of self.old) (length (values_of self.old) - 1) }
+        ensures* writes_back { sem 𝓛
+            (LendsValue T.row P.row self.entry (length (values_of self.old) - 1) result) }
+        ensures value { option_copied_mut result
+            ≡ slice_get (values_of self.old) (length (values_of self.old) - 1) }
     {
         let last = self.len().saturating_sub(1);
         self.get_mut(last)

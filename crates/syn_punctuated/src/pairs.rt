@@ -44,7 +44,8 @@ impl<'a, T, P> Model for Pairs<'a, T, P> {
 
     ghost Value = { List (Pair T P) };
 
-    ghost view = { λ a. map pair_of (iter_rest a.inner) ++ map end_of (option_to_list (option_copied a.last)) };
+    ghost view = { λ a. map pair_of (iter_rest a.inner)
+        ++ map end_of (option_to_list (option_copied a.last)) };
 
     ghost invariant = { λ a. length (iter_rest a.inner) < 2 ^ 63 };
 }

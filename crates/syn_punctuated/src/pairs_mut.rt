@@ -76,7 +76,8 @@ impl<'a, T, P> Iterator for PairsMut<'a, T, P> {
     }
 
     fn size_hint(&self) -> (usize, Option<usize>)
-        ensures value { result ≡ (length (lent_pairs self.now), Some (length (lent_pairs self.now))) }
+        ensures value { result
+            ≡ (length (lent_pairs self.now), Some (length (lent_pairs self.now))) }
         ensures lower { IsWithinCount result.0 (item_count lent_pairs self.now) }
         ensures upper { IfSome result.1 (UpTo (item_count lent_pairs self.now)) }
     {

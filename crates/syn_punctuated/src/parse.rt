@@ -28,9 +28,12 @@ pub(crate) enum Piece<T, P> {
 /// ends for every value parser and every separator.
 pub(crate) fn next_turn<'a>(input: &ParseBuffer<'a>, start: Cursor<'a>) -> Result<Cursor<'a>>
     ensures progress { MatchResult result
-        (λ now. (place_of now ≡ input.now.place) × (progresses (place_of start.entry) input.now.place ≡ true))
-        (λ fault. (progresses (place_of start.entry) input.now.place ≡ false) × Refuses (no_progress input.now) fault) }
-    ensures lowers { IfOk result (λ _. remaining input.now.place < remaining (place_of start.entry)) }
+        (λ now. (place_of now ≡ input.now.place)
+        × (progresses (place_of start.entry) input.now.place ≡ true))
+        (λ fault. (progresses (place_of start.entry) input.now.place ≡ false)
+        × Refuses (no_progress input.now) fault) }
+    ensures lowers { IfOk result
+        (λ _. remaining input.now.place < remaining (place_of start.entry)) }
 {
     let now = input.cursor();
     if has_passed(now, start) {
@@ -43,7 +46,8 @@ pub(crate) fn next_turn<'a>(input: &ParseBuffer<'a>, start: Cursor<'a>) -> Resul
 /// Whether a cursor is later than `start` in the same scope, or is the empty one where `start` isn't.
 fn has_passed(now: Cursor<'_>, start: Cursor<'_>) -> bool
     ensures test { result ≡ progresses (place_of start.entry) (place_of now.entry) }
-    ensures lowers { result ≡ true → remaining (place_of now.entry) < remaining (place_of start.entry) }
+    ensures lowers { result ≡ true
+        → remaining (place_of now.entry) < remaining (place_of start.entry) }
 {
     staying_adds_nothing();
     start.same_scope(now) && start < now || start.position().is_some() && now.position().is_none()

@@ -1,6 +1,6 @@
 //! How lists and pairs are written, as tokens and for debugging.
 ghost use Rattle.std.specs.Prelude.{◌≡◌, OnOk, OnErr};
-ghost use Rattle.tok_core.specs.Forest.{AppendsFront, joined};
+ghost use Rattle.tok_core.specs.Forest.{AppendsFront, concat};
 ghost use Rattle.syn_punctuated.specs.Lists.{values_of, separators_of};
 ghost use Rattle.syn_punctuated.specs.Printed.{by_turns, printed_pair};
 
@@ -16,8 +16,10 @@ fn write_pair<T: ToTokens, P: ToTokens>(
     separator: &P,
     tokens: &mut TokenStream,
 ) -> Result<(), AllocError>
-    ensures ok { OnOk result (tokens.new ≡ joined tokens.old (joined (T.printed value.now) (P.printed separator.now))) }
-    ensures err { OnErr result (AppendsFront tokens.old (joined (T.printed value.now) (P.printed separator.now))
+    ensures ok { OnOk result
+        (tokens.new ≡ concat tokens.old (concat (T.printed value.now) (P.printed separator.now))) }
+    ensures err { OnErr result
+        (AppendsFront tokens.old (concat (T.printed value.now) (P.printed separator.now))
         tokens.new) }
 {
     value.to_tokens(tokens)?;

@@ -51,7 +51,8 @@ impl<T, P> Punctuated<T, P> {
 
     /// The last value.
     pub fn last(&self) -> Option<&T>
-        ensures { option_copied result ≡ slice_get (values_of self.now) (length (values_of self.now) - 1) }
+        ensures { option_copied result
+            ≡ slice_get (values_of self.now) (length (values_of self.now) - 1) }
     {
         self.get(self.len().saturating_sub(1))
     }

@@ -47,8 +47,10 @@ impl<T: Drop, P: Parse + Token + Drop> Punctuated<T, P> {
     where
         F: FnMut(ParseStream<'_, 'a>) -> Result<T>,
         requires { (f : F) (y : _) → remaining y.now.place ≤ remaining input.old.place → F.pre f y }
-        ensures run { IsRun (separated P.peeks) (CalledAtMut F.FnMut) P.parses parser input.old result input.new }
-        ensures bounded { IfOk result (λ list. length (values_of list) ≤ remaining input.old.place + 1) }
+        ensures run { IsRun (separated P.peeks) (CalledAtMut F.FnMut)
+            P.parses parser input.old result input.new }
+        ensures bounded { IfOk result
+            (λ list. length (values_of list) ≤ remaining input.old.place + 1) }
     {
         let alloc = input.allocator();
         let mut pairs = Vec::new(alloc);
@@ -75,7 +77,8 @@ impl<T: Parse + Drop, P: Parse + Token + Drop> Punctuated<T, P> {
     ///     let path: Punctuated<Ident, token::PathSep> = Punctuated::parse_separated_nonempty(input)?;
     pub fn parse_separated_nonempty(input: ParseStream<'_, '_>) -> Result<Self>
         ensures run { IsPlainRun (separated P.peeks) T.parses P.parses input.old result input.new }
-        ensures bounded { IfOk result (λ list. length (values_of list) ≤ remaining input.old.place + 1) }
+        ensures bounded { IfOk result
+            (λ list. length (values_of list) ≤ remaining input.old.place + 1) }
     {
         Self::parse_separated_nonempty_with(input, |stream| T::parse(stream))
     }

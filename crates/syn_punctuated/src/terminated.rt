@@ -19,7 +19,8 @@ fn read_terminated<'a, T: Drop, P: Parse + Drop, F>(
 where
     F: FnMut(ParseStream<'_, 'a>) -> Result<T>,
     requires { (y : _) → y.now ≡ input.old → F.pre parser.old y }
-    ensures { IsPiece terminated (CalledAtMut F.FnMut) P.parses parser.old input.old result parser.new input.new }
+    ensures { IsPiece terminated (CalledAtMut F.FnMut)
+        P.parses parser.old input.old result parser.new input.new }
 {
     if input.is_empty() {
         return Ok(Piece::End);
@@ -45,8 +46,10 @@ impl<T: Drop, P: Parse + Drop> Punctuated<T, P> {
     where
         F: FnMut(ParseStream<'_, 'a>) -> Result<T>,
         requires { (f : F) (y : _) → remaining y.now.place ≤ remaining input.old.place → F.pre f y }
-        ensures run { IsRun terminated (CalledAtMut F.FnMut) P.parses parser input.old result input.new }
-        ensures bounded { IfOk result (λ list. length (values_of list) ≤ remaining input.old.place + 1) }
+        ensures run { IsRun terminated (CalledAtMut F.FnMut)
+            P.parses parser input.old result input.new }
+        ensures bounded { IfOk result
+            (λ list. length (values_of list) ≤ remaining input.old.place + 1) }
     {
         let alloc = input.allocator();
         let mut pairs = Vec::new(alloc);
@@ -74,7 +77,8 @@ impl<T: Parse + Drop, P: Parse + Drop> Punctuated<T, P> {
     ///     let names: Punctuated<Ident, token::Comma> = Punctuated::parse_terminated(input)?;
     pub fn parse_terminated(input: ParseStream<'_, '_>) -> Result<Self>
         ensures run { IsPlainRun terminated T.parses P.parses input.old result input.new }
-        ensures bounded { IfOk result (λ list. length (values_of list) ≤ remaining input.old.place + 1) }
+        ensures bounded { IfOk result
+            (λ list. length (values_of list) ≤ remaining input.old.place + 1) }
     {
         Self::parse_terminated_with(input, |stream| T::parse(stream))
     }
@@ -93,9 +97,12 @@ pub trait ParseTerminated {
     ) -> Result<Punctuated<T, P>>
     where
         F: FnMut(ParseStream<'_, '_>) -> Result<T>,
-        requires { (f : F) (y : _) → remaining y.now.place ≤ remaining (state self.old).place → F.pre f y }
-        ensures run { IsRun terminated (CalledAtMut F.FnMut) P.parses parser (state self.old) result (state self.new) }
-        ensures bounded { IfOk result (λ list. length (values_of list) ≤ remaining (state self.old).place + 1) };
+        requires { (f : F) (y : _) → remaining y.now.place ≤ remaining (state self.old).place
+            → F.pre f y }
+        ensures run { IsRun terminated (CalledAtMut F.FnMut) P.parses parser (state self.old)
+            result (state self.new) }
+        ensures bounded { IfOk result
+            (λ list. length (values_of list) ≤ remaining (state self.old).place + 1) };
 }
 
 impl<'a> ParseTerminated for ParseBuffer<'a> {

@@ -4,13 +4,13 @@ use Rattle.tok_core.specs.declared.span.Span.{Span}
 use Rattle.tok_core.specs.Forest.{ident, punct, literal, Tree, leaf, group, no_trees, tree}
 use Rattle.tok_buffer.specs.Descent.{descend}
 use Rattle.tok_buffer.specs.Place.{level, Place, empty_place, at}
-use Rattle.tok_buffer.specs.Reads.{take, is_ident, is_ident_of, read_ident, read_word}
+use Rattle.tok_buffer.specs.Reads.{read_if, is_ident, is_ident_of, read_ident, read_word}
 
 abbrev head_text : Option (List Tree × Place) → List ℕ
 head_text (Some (leaf (ident text span) ∷ ts, r)) = text
 head_text x = []
 
-pub word_of : (w : List ℕ → Bool) (q : Place) (text : List ℕ) (span : Span) (r : Place) → take is_ident q ≡ Some (leaf (ident text span) ∷ [], r) → take (is_ident_of w) q ≡ cond (w text) (Some (leaf (ident text span) ∷ [], r)) None
+pub word_of : (w : List ℕ → Bool) (q : Place) (text : List ℕ) (span : Span) (r : Place) → read_if is_ident q ≡ Some (leaf (ident text span) ∷ [], r) → read_if (is_ident_of w) q ≡ cond (w text) (Some (leaf (ident text span) ∷ [], r)) None
 word_of w empty_place text span r e = cc
 word_of w (at k s n (level o p no_trees) us) text span r e = cc
 word_of w (at k s n (level o p (tree (group d c t) f)) us) text span r e = cc
@@ -19,7 +19,7 @@ word_of w (at k s n (level o p (tree (leaf (literal x t)) f)) us) text span r e 
 word_of w (at k s n (level o p (tree (leaf (ident x t)) f)) us) text span r e =
     ap (λ z. cond (w x) z None) e ∙ ap (λ z. cond (w z) (Some (leaf (ident text span) ∷ [], r)) None) (ap head_text e)
 
-pub word_none : (w : List ℕ → Bool) (q : Place) → take is_ident q ≡ None → take (is_ident_of w) q ≡ None
+pub word_none : (w : List ℕ → Bool) (q : Place) → read_if is_ident q ≡ None → read_if (is_ident_of w) q ≡ None
 word_none w empty_place e = refl
 word_none w (at k s n (level o p no_trees) us) e = refl
 word_none w (at k s n (level o p (tree (group d c t) f)) us) e = refl

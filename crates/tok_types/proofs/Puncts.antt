@@ -5,13 +5,13 @@ use Rattle.std.specs.List.{list_all}
 use Rattle.std.proofs.lemmas.Bool.{cond-true, cond-false, eq-eqb, eqb-false, ne_eqb}
 use Rattle.std.proofs.lemmas.List.{drop_more, take-append-drop, take_all, take_more}
 use Rattle.tok_core.specs.declared.span.Span.{Span}
-use Rattle.tok_core.specs.Forest.{Tree, leaf, punct, Forest, no_trees, tree, forest, joined, AppendsFront}
+use Rattle.tok_core.specs.Forest.{Tree, leaf, punct, Forest, no_trees, tree, forest, concat, AppendsFront}
 use Rattle.tok_core.specs.Spans.{call_site}
 use Rattle.tok_core.specs.Lexical.Characters.{is_punct_or_apostrophe}
-use Rattle.tok_core.proofs.Facts.{joined-none, joined_assoc}
+use Rattle.tok_core.proofs.Facts.{concat-none, joined_assoc}
 use Rattle.tok_types.specs.Printed.{joint_puncts, puncts, spacing}
 
-forest-append : (ts us : List Tree) → forest (ts ++ us) ≡ joined (forest ts) (forest us)
+forest-append : (ts us : List Tree) → forest (ts ++ us) ≡ concat (forest ts) (forest us)
 forest-append [] us = refl
 forest-append (t ∷ ts) us = ap (tree t) (forest-append ts us)
 
@@ -49,17 +49,17 @@ punct_of_several cs ss i = leaf (punct (get_or cs i 0) (spacing (i + 1 == length
 
 -- one punct further
 pub puncts_step : (old before new : Forest) (cs : List ℕ) (ss : List Span) (i : ℕ) → length cs ≡ length ss → i < length ss
-    → before ≡ joined old (forest (take i (joint_puncts cs ss))) → new ≡ joined before (tree (punct_of_several cs ss i) no_trees)
-    → new ≡ joined old (forest (take (i + 1) (joint_puncts cs ss)))
+    → before ≡ concat old (forest (take i (joint_puncts cs ss))) → new ≡ concat before (tree (punct_of_several cs ss i) no_trees)
+    → new ≡ concat old (forest (take (i + 1) (joint_puncts cs ss)))
 puncts_step old before new cs ss i h low was now =
     let ts = joint_puncts cs ss in
     let t : Tree = punct_of_several cs ss i in
     let more : take (i + 1) ts ≡ take i ts ++ t ∷ [] =
     take_more ts i t (omega (arith, h, low, puncts-length cs ss h)) ∙ ap (λ x. take i ts ++ x ∷ []) (at_index t call_site cs ss i (i + 1 == length ss) h low refl) in
     now
-    ∙ ap (λ f. joined f (tree t no_trees)) was
+    ∙ ap (λ f. concat f (tree t no_trees)) was
     ∙ joined_assoc old (forest (take i ts)) (tree t no_trees)
-    ∙ ap (joined old) (sym (forest-append (take i ts) (t ∷ [])) ∙ ap forest (sym more))
+    ∙ ap (concat old) (sym (forest-append (take i ts) (t ∷ [])) ∙ ap forest (sym more))
 
 module _ (cs : List ℕ) (ss : List Span) (h : length cs ≡ length ss) (all : list_all is_punct_or_apostrophe cs ≡ true) where
   both_hold : (a b : Bool) → a ≡ true → b ≡ true → (a && b) ≡ true
@@ -69,12 +69,12 @@ module _ (cs : List ℕ) (ss : List Span) (h : length cs ≡ length ss) (all : l
   whole = cond-true (length cs == length ss && list_all is_punct_or_apostrophe cs) (forest (joint_puncts cs ss)) no_trees (both_hold _ _ (eq-eqb (length cs) (length ss) h) all)
 
   -- all of them
-  pub puncts_done : (old new : Forest) (i : ℕ) → length ss ≤ i → new ≡ joined old (forest (take i (joint_puncts cs ss))) → new ≡ joined old (puncts cs ss)
+  pub puncts_done : (old new : Forest) (i : ℕ) → length ss ≤ i → new ≡ concat old (forest (take i (joint_puncts cs ss))) → new ≡ concat old (puncts cs ss)
   puncts_done old new i past e =
-      e ∙ ap (λ ts. joined old (forest ts)) (take_all i (joint_puncts cs ss) (omega (arith, h, past, puncts-length cs ss h))) ∙ ap (joined old) (sym whole)
+      e ∙ ap (λ ts. concat old (forest ts)) (take_all i (joint_puncts cs ss) (omega (arith, h, past, puncts-length cs ss h))) ∙ ap (concat old) (sym whole)
 
   -- or those before one that was refused
-  pub puncts_stopped : (old new : Forest) (i : ℕ) → i < length ss → new ≡ joined old (forest (take i (joint_puncts cs ss))) → AppendsFront old (puncts cs ss) new
+  pub puncts_stopped : (old new : Forest) (i : ℕ) → i < length ss → new ≡ concat old (forest (take i (joint_puncts cs ss))) → AppendsFront old (puncts cs ss) new
   puncts_stopped old new i low e =
       let ts = joint_puncts cs ss in
       let none : Tree = leaf (punct 0 (spacing true) call_site) in
@@ -83,18 +83,18 @@ module _ (cs : List ℕ) (ss : List Span) (h : length cs ≡ length ss) (all : l
         forest (take i ts),
         t,
         forest (drop (i + 1) ts),
-        whole ∙ ap forest (sym (take-append-drop i ts)) ∙ forest-append (take i ts) (drop i ts) ∙ ap (λ us. joined (forest (take i ts)) (forest us)) here,
+        whole ∙ ap forest (sym (take-append-drop i ts)) ∙ forest-append (take i ts) (drop i ts) ∙ ap (λ us. concat (forest (take i ts)) (forest us)) here,
         e,
       )
 
 -- nothing is written where the lengths differ, or where a character is no punct's
-nothing : (old : Forest) (cs : List ℕ) (ss : List Span) → (length cs == length ss && list_all is_punct_or_apostrophe cs) ≡ false → old ≡ joined old (puncts cs ss)
-nothing old cs ss e = sym (ap (joined old) (cond-false (length cs == length ss && list_all is_punct_or_apostrophe cs) (forest (joint_puncts cs ss)) no_trees e) ∙ joined-none old)
+nothing : (old : Forest) (cs : List ℕ) (ss : List Span) → (length cs == length ss && list_all is_punct_or_apostrophe cs) ≡ false → old ≡ concat old (puncts cs ss)
+nothing old cs ss e = sym (ap (concat old) (cond-false (length cs == length ss && list_all is_punct_or_apostrophe cs) (forest (joint_puncts cs ss)) no_trees e) ∙ concat-none old)
 
-pub not_as_many : (old : Forest) (cs : List ℕ) (ss : List Span) → (length cs ≡ length ss → ⊥) → old ≡ joined old (puncts cs ss)
+pub not_as_many : (old : Forest) (cs : List ℕ) (ss : List Span) → (length cs ≡ length ss → ⊥) → old ≡ concat old (puncts cs ss)
 not_as_many old cs ss h = nothing old cs ss (ap (λ b. b && list_all is_punct_or_apostrophe cs) (ne_eqb (length cs) (length ss) h))
 
-pub not_all_puncts : (old : Forest) (cs : List ℕ) (ss : List Span) → list_all is_punct_or_apostrophe cs ≡ false → old ≡ joined old (puncts cs ss)
+pub not_all_puncts : (old : Forest) (cs : List ℕ) (ss : List Span) → list_all is_punct_or_apostrophe cs ≡ false → old ≡ concat old (puncts cs ss)
 not_all_puncts old cs ss h = nothing old cs ss (go (length cs == length ss) (list_all is_punct_or_apostrophe cs) h) where
   go : (a b : Bool) → b ≡ false → (a && b) ≡ false
   go true b e = e

@@ -6,7 +6,7 @@ use Rattle.tok_core.specs.declared.punct.Spacing.{Spacing}
 use Rattle.tok_core.specs.declared.punct.Spacing.TheVariants.{Alone, Joint}
 use Rattle.tok_core.specs.declared.span.Span.{Span}
 use Rattle.tok_core.specs.Forest.{Tree, leaf, ident, punct, group, Forest, no_trees, tree, forest}
-use Rattle.tok_core.specs.Forest.{joined}
+use Rattle.tok_core.specs.Forest.{concat}
 use Rattle.tok_core.specs.Spans.{call_site}
 use Rattle.tok_core.specs.Lexical.Characters.{is_punct_or_apostrophe}
 
@@ -41,4 +41,4 @@ abbrev pub Surrounds : (IsWritten : Forest → Type 0) → Delimiter → Span �
     Type 0
 Surrounds IsWritten delimiter span old new =
     (inside : Forest) × IsWritten inside
-    × (new ≡ joined old (tree (group delimiter inside span) no_trees))
+    × (new ≡ concat old (tree (group delimiter inside span) no_trees))

@@ -82,5 +82,5 @@ abbrev pub accept_as_ident : List ℕ → Bool
 accept_as_ident s = not (is_among reserved s)
 
 -- a text in backquotes
-abbrev pub quoted : List ℕ → List ℕ
-quoted s = codes "`" ++ s ++ codes "`"
+abbrev pub in_backquotes : List ℕ → List ℕ
+in_backquotes s = codes "`" ++ s ++ codes "`"

@@ -1,10 +1,11 @@
 // Delimiters as tokens.
-ghost use Rattle.std.specs.Prelude.{◌≡◌, codes, Ok, OnOk, OnErr};
+ghost use Rattle.std.specs.Prelude.{◌≡◌, Ok, OnOk, OnErr};
 ghost use Rattle.std.specs.Fn.{FnOnceReturnsAtMut, FnOnceTakesAtMut};
 ghost use Rattle.tok_buffer.specs.Entry.{enter};
 ghost use Rattle.tok_core.specs.Forest.{no_trees};
 ghost use Rattle.tok_core.specs.Spans.{call_site, whole_span};
 ghost use Rattle.tok_core.specs.declared.group.Delimiter.TheVariants as delimiter;
+ghost use Rattle.tok_types.specs.Delimiters.{delimiter_at, delimiter_display};
 ghost use Rattle.tok_types.specs.Looks.{Finds, IsText};
 ghost use Rattle.tok_types.specs.Printed.{Surrounds};
 
@@ -14,6 +15,18 @@ use std::fmt;
 use std::fmt::{Debug, Formatter, Write};
 use tok_buffer::Cursor;
 use tok_core::{DelimSpan, Delimiter, Span, TokenStream, TokenTree};
+
+// How a refusal calls the delimiters of a group.
+fn delimiter_display(delimiter: Delimiter) -> &'static str
+    ensures { result.now ≡ delimiter_display delimiter }
+{
+    match delimiter {
+        Delimiter::Parenthesis => "parentheses",
+        Delimiter::Brace => "curly braces",
+        Delimiter::Bracket => "square brackets",
+        Delimiter::None => "invisible group",
+    }
+}
 
 // Writes a group round what `f` writes.
 fn surround<F>(
@@ -25,7 +38,9 @@ fn surround<F>(
 where
     F: FnOnce(&mut TokenStream) -> Result<(), AllocError>,
     requires { FnOnceTakesAtMut F.FnOnce f no_trees }
-    ensures ok { OnOk result (Surrounds (FnOnceReturnsAtMut F.FnOnce f no_trees (Ok tt)) delimiter span tokens.old tokens.new) }
+    ensures ok { OnOk result
+        (Surrounds (FnOnceReturnsAtMut F.FnOnce f no_trees (Ok tt))
+        delimiter span tokens.old tokens.new) }
     ensures err { OnErr result (tokens.new ≡ tokens.old) }
 {
     let mut inside = TokenStream::new(tokens.allocator());
@@ -33,26 +48,39 @@ where
     tokens.append(TokenTree::Group(tok_core::Group::new(delimiter, inside, span)))
 }
 
-/// `( .. )`, looked for across the edges of invisible groups. All values are equal.
+/// The delimiters of a number, looked for across the edges of invisible groups: `token::Paren` is `Visible<0>`,
+/// `token::Brace` is `Visible<1>`, and `token::Bracket` is `Visible<2>`, as is each past it. All values of a type are equal.
 #[derive(Clone, Copy)]
 #[derive_where(PartialEq, Eq, Hash)]
-pub struct Paren {
+pub struct Visible<const D: usize> {
     #[derive_where(skip(EqHashOrd))]
     pub span: DelimSpan,
 }
 
-impl Paren {
+impl<const D: usize> Visible<D> {
+    /// The delimiter of the groups that these tokens are of.
+    pub fn delimiter() -> Delimiter
+        ensures { result ≡ delimiter_at D }
+    {
+        match D {
+            0 => Delimiter::Parenthesis,
+            1 => Delimiter::Brace,
+            _ => Delimiter::Bracket,
+        }
+    }
+
+    /// Of a group with this span.
     pub fn new(span: DelimSpan) -> Self
         ensures { result.span ≡ span }
     {
-        Paren { span }
+        Visible { span }
     }
 
     /// Of a group at `span`.
     pub fn from_span(span: Span) -> Self
         ensures { whole_span result.span ≡ span }
     {
-        Paren::new(DelimSpan::new(span))
+        Visible::new(DelimSpan::new(span))
     }
 
     /// Writes a group of these delimiters round what `f` writes. Where an allocation fails or `f` returns an error, nothing
@@ -61,167 +89,47 @@ impl Paren {
     where
         F: FnOnce(&mut TokenStream) -> Result<(), AllocError>,
         requires { FnOnceTakesAtMut F.FnOnce f no_trees }
-        ensures ok { OnOk result (Surrounds (FnOnceReturnsAtMut F.FnOnce f no_trees (Ok tt)) delimiter.Parenthesis (whole_span self.now.span) tokens.old tokens.new) }
+        ensures ok { OnOk result
+            (Surrounds (FnOnceReturnsAtMut F.FnOnce f no_trees (Ok tt)) (delimiter_at D)
+            (whole_span self.now.span) tokens.old tokens.new) }
         ensures err { OnErr result (tokens.new ≡ tokens.old) }
     {
-        surround(Delimiter::Parenthesis, self.span.join(), tokens, f)
+        surround(Self::delimiter(), self.span.join(), tokens, f)
     }
 }
 
-impl Token for Paren {
-    ghost peeks = { Finds (enter delimiter.Parenthesis) };
+impl<const D: usize> Token for Visible<D> {
+    ghost peeks = { Finds (enter (delimiter_at D)) };
 
-    ghost shown = { IsText (codes "parentheses") };
+    ghost shown = { IsText (delimiter_display (delimiter_at D)) };
 
     fn peek(cursor: Cursor<'_>) -> bool {
-        cursor.group(Delimiter::Parenthesis).is_some()
+        cursor.group(Self::delimiter()).is_some()
     }
 
     fn display() -> &'static str {
-        "parentheses"
+        delimiter_display(Self::delimiter())
     }
 }
 
 /// At the call site.
-impl Default for Paren {
+impl<const D: usize> Default for Visible<D> {
     ghost is_default = { λ t. whole_span t.span ≡ call_site };
 
     fn default() -> Self {
-        Paren::from_span(Span::call_site())
+        Visible::from_span(Span::call_site())
     }
 }
 
-impl Debug for Paren {
+/// As `Paren`.
+impl<const D: usize> Debug for Visible<D> {
     fn fmt<W: Write>(&self, f: &mut Formatter<W>) -> fmt::Result {
-        f.write_str("Paren")
-    }
-}
-
-/// `{ .. }`, looked for across the edges of invisible groups. All values are equal.
-#[derive(Clone, Copy)]
-#[derive_where(PartialEq, Eq, Hash)]
-pub struct Brace {
-    #[derive_where(skip(EqHashOrd))]
-    pub span: DelimSpan,
-}
-
-impl Brace {
-    pub fn new(span: DelimSpan) -> Self
-        ensures { result.span ≡ span }
-    {
-        Brace { span }
-    }
-
-    /// Of a group at `span`.
-    pub fn from_span(span: Span) -> Self
-        ensures { whole_span result.span ≡ span }
-    {
-        Brace::new(DelimSpan::new(span))
-    }
-
-    /// Writes a group of these delimiters round what `f` writes. Where an allocation fails or `f` returns an error, nothing
-    /// is written.
-    pub fn surround<F>(&self, tokens: &mut TokenStream, f: F) -> Result<(), AllocError>
-    where
-        F: FnOnce(&mut TokenStream) -> Result<(), AllocError>,
-        requires { FnOnceTakesAtMut F.FnOnce f no_trees }
-        ensures ok { OnOk result (Surrounds (FnOnceReturnsAtMut F.FnOnce f no_trees (Ok tt)) delimiter.Brace (whole_span self.now.span) tokens.old tokens.new) }
-        ensures err { OnErr result (tokens.new ≡ tokens.old) }
-    {
-        surround(Delimiter::Brace, self.span.join(), tokens, f)
-    }
-}
-
-impl Token for Brace {
-    ghost peeks = { Finds (enter delimiter.Brace) };
-
-    ghost shown = { IsText (codes "curly braces") };
-
-    fn peek(cursor: Cursor<'_>) -> bool {
-        cursor.group(Delimiter::Brace).is_some()
-    }
-
-    fn display() -> &'static str {
-        "curly braces"
-    }
-}
-
-/// At the call site.
-impl Default for Brace {
-    ghost is_default = { λ t. whole_span t.span ≡ call_site };
-
-    fn default() -> Self {
-        Brace::from_span(Span::call_site())
-    }
-}
-
-impl Debug for Brace {
-    fn fmt<W: Write>(&self, f: &mut Formatter<W>) -> fmt::Result {
-        f.write_str("Brace")
-    }
-}
-
-/// `[ .. ]`, looked for across the edges of invisible groups. All values are equal.
-#[derive(Clone, Copy)]
-#[derive_where(PartialEq, Eq, Hash)]
-pub struct Bracket {
-    #[derive_where(skip(EqHashOrd))]
-    pub span: DelimSpan,
-}
-
-impl Bracket {
-    pub fn new(span: DelimSpan) -> Self
-        ensures { result.span ≡ span }
-    {
-        Bracket { span }
-    }
-
-    /// Of a group at `span`.
-    pub fn from_span(span: Span) -> Self
-        ensures { whole_span result.span ≡ span }
-    {
-        Bracket::new(DelimSpan::new(span))
-    }
-
-    /// Writes a group of these delimiters round what `f` writes. Where an allocation fails or `f` returns an error, nothing
-    /// is written.
-    pub fn surround<F>(&self, tokens: &mut TokenStream, f: F) -> Result<(), AllocError>
-    where
-        F: FnOnce(&mut TokenStream) -> Result<(), AllocError>,
-        requires { FnOnceTakesAtMut F.FnOnce f no_trees }
-        ensures ok { OnOk result (Surrounds (FnOnceReturnsAtMut F.FnOnce f no_trees (Ok tt)) delimiter.Bracket (whole_span self.now.span) tokens.old tokens.new) }
-        ensures err { OnErr result (tokens.new ≡ tokens.old) }
-    {
-        surround(Delimiter::Bracket, self.span.join(), tokens, f)
-    }
-}
-
-impl Token for Bracket {
-    ghost peeks = { Finds (enter delimiter.Bracket) };
-
-    ghost shown = { IsText (codes "square brackets") };
-
-    fn peek(cursor: Cursor<'_>) -> bool {
-        cursor.group(Delimiter::Bracket).is_some()
-    }
-
-    fn display() -> &'static str {
-        "square brackets"
-    }
-}
-
-/// At the call site.
-impl Default for Bracket {
-    ghost is_default = { λ t. whole_span t.span ≡ call_site };
-
-    fn default() -> Self {
-        Bracket::from_span(Span::call_site())
-    }
-}
-
-impl Debug for Bracket {
-    fn fmt<W: Write>(&self, f: &mut Formatter<W>) -> fmt::Result {
-        f.write_str("Bracket")
+        f.write_str(match Self::delimiter() {
+            Delimiter::Parenthesis => "Paren",
+            Delimiter::Brace => "Brace",
+            Delimiter::Bracket => "Bracket",
+            Delimiter::None => "Group",
+        })
     }
 }
 
@@ -234,6 +142,7 @@ pub struct Group {
 }
 
 impl Group {
+    /// Of a group at `span`.
     pub fn new(span: Span) -> Self
         ensures { result.span ≡ span }
     {
@@ -253,7 +162,9 @@ impl Group {
     where
         F: FnOnce(&mut TokenStream) -> Result<(), AllocError>,
         requires { FnOnceTakesAtMut F.FnOnce f no_trees }
-        ensures ok { OnOk result (Surrounds (FnOnceReturnsAtMut F.FnOnce f no_trees (Ok tt)) delimiter.None (self.now.span) tokens.old tokens.new) }
+        ensures ok { OnOk result
+            (Surrounds (FnOnceReturnsAtMut F.FnOnce f no_trees (Ok tt)) delimiter.None
+            (self.now.span) tokens.old tokens.new) }
         ensures err { OnErr result (tokens.new ≡ tokens.old) }
     {
         surround(Delimiter::None, self.span, tokens, f)
@@ -263,14 +174,14 @@ impl Group {
 impl Token for Group {
     ghost peeks = { Finds (enter delimiter.None) };
 
-    ghost shown = { IsText (codes "invisible group") };
+    ghost shown = { IsText (delimiter_display delimiter.None) };
 
     fn peek(cursor: Cursor<'_>) -> bool {
         cursor.group(Delimiter::None).is_some()
     }
 
     fn display() -> &'static str {
-        "invisible group"
+        delimiter_display(Delimiter::None)
     }
 }
 

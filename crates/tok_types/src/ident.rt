@@ -1,40 +1,14 @@
-// Identifiers of tokens.
-ghost use Rattle.std.specs.Prelude.{◌≡◌, codes, IfOk, OnOk, OnErr};
-ghost use Rattle.tok_core.specs.Forest.{AppendsFront, ident, joined};
-ghost use Rattle.tok_core.specs.Lexical.Words.{IsIdentifier, IsSuffix};
+// Tokens that are made into identifiers.
+ghost use Rattle.std.specs.Prelude.{◌≡◌, codes, IfOk};
+ghost use Rattle.tok_core.specs.Forest.{ident};
 ghost use Rattle.tok_core.specs.Seen.{ident_of};
-ghost use Rattle.std.specs.Str.{chars};
-ghost use Rattle.tok_types.specs.Printed.{first_span, word};
+ghost use Rattle.tok_types.specs.Printed.{first_span};
 
+use crate::names::identifier;
 use crate::token;
 use crate::underscore::Underscore;
 use std::alloc::{AllocError, Global};
-use tok_core::{Ident, MakeFault, Span, ToTokens, TokenStream, TokenTree};
-
-// An identifier of a token's text.
-pub fn identifier(alloc: Global, text: &str, span: Span) -> Result<Ident, AllocError>
-    requires { IsIdentifier (chars text.now) }
-    ensures { IfOk result (λ i. ident_of i ≡ ident text.now span) }
-{
-    match Ident::new(alloc, text, span) {
-        Ok(ident) => Ok(ident),
-        Err(MakeFault::Memory) => Err(AllocError),
-        Err(MakeFault::Refused) => unreachable!(),
-    }
-}
-
-// Writes an identifier of this text, and nothing if it is empty.
-pub fn append_word(text: &str, span: Span, tokens: &mut TokenStream) -> Result<(), AllocError>
-    requires { IsSuffix (chars text.now) }
-    ensures ok { OnOk result (tokens.new ≡ joined tokens.old (word text.now span)) }
-    ensures err { OnErr result (AppendsFront tokens.old (word text.now span) tokens.new) }
-{
-    if text.is_empty() {
-        return Ok(());
-    }
-    let ident = identifier(tokens.allocator(), text, span)?;
-    tokens.append(TokenTree::Ident(ident))
-}
+use tok_core::Ident;
 
 impl token::SelfValue {
     /// The identifier `self`.

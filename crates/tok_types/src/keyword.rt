@@ -6,10 +6,10 @@ ghost use Rattle.tok_core.specs.Spans.{call_site};
 ghost use Rattle.tok_buffer.specs.Reads.{read_keyword};
 ghost use Rattle.tok_types.specs.Looks.{Finds, IsText};
 ghost use Rattle.tok_types.specs.Printed.{word};
-ghost use Rattle.tok_types.specs.Texts.{keyword_text, quoted};
+ghost use Rattle.tok_types.specs.Texts.{keyword_text, in_backquotes};
 
-use crate::ident::{append_word, identifier};
 use crate::look::Token;
+use crate::names::{append_word, identifier};
 use crate::texts::{keyword_display, keyword_text};
 use std::alloc::{AllocError, Global};
 use std::fmt;
@@ -27,12 +27,14 @@ pub struct Keyword<const K: usize> {
 }
 
 impl<const K: usize> Keyword<K> {
+    /// The keyword at this span.
     pub fn new(span: Span) -> Self
         ensures { result.span ≡ span }
     {
         Keyword { span }
     }
 
+    /// The same, under the name that all tokens have.
     pub fn from_span(span: Span) -> Self
         ensures { result.span ≡ span }
     {
@@ -51,7 +53,7 @@ impl<const K: usize> Keyword<K> {
 impl<const K: usize> Token for Keyword<K> {
     ghost peeks = { Finds (read_keyword (keyword_text K)) };
 
-    ghost shown = { IsText (quoted (keyword_text K)) };
+    ghost shown = { IsText (in_backquotes (keyword_text K)) };
 
     fn peek(cursor: Cursor<'_>) -> bool {
         cursor.peek_keyword(keyword_text(K))

@@ -4,7 +4,7 @@ ghost use Rattle.tok_types.specs.Laws.{AreEqual, WriteNothing, IsNeverFound};
 ghost use Rattle.tok_types.specs.Texts.{punctuation_text};
 ghost use Rattle.tok_types.specs.Views.{IgnoresInvisible};
 
-use crate::delimiter::{Brace, Bracket, Group, Paren};
+use crate::delimiter::{Group, Visible};
 use crate::keyword::Keyword;
 use crate::look::Token;
 use crate::punctuation::Punctuation;
@@ -21,7 +21,8 @@ pub fn keyword_past_the_table<const K: usize>()
 
 /// A punctuation past the table, or whose text isn't of as many characters as its type says, is never found.
 pub fn punctuation_past_the_table<const K: usize, const N: usize>()
-    ensures { (length (punctuation_text K) ≡ N → N ≡ 0) → IsNeverFound ⟦<Punctuation<K, N> as Token>⟧.peeks }
+    ensures { (length (punctuation_text K) ≡ N → N ≡ 0)
+        → IsNeverFound ⟦<Punctuation<K, N> as Token>⟧.peeks }
 {}
 
 /// All keywords of one number are equal, and write nothing to a hasher.
@@ -42,22 +43,10 @@ pub fn underscores_are_equal()
     ensures hash { WriteNothing ⟦<Underscore as Hash>⟧.hash_input }
 {}
 
-/// All parentheses are equal, and write nothing to a hasher.
-pub fn parens_are_equal()
-    ensures equal { AreEqual ⟦<Paren as PartialEq>⟧.eq }
-    ensures hash { WriteNothing ⟦<Paren as Hash>⟧.hash_input }
-{}
-
-/// All braces are equal, and write nothing to a hasher.
-pub fn braces_are_equal()
-    ensures equal { AreEqual ⟦<Brace as PartialEq>⟧.eq }
-    ensures hash { WriteNothing ⟦<Brace as Hash>⟧.hash_input }
-{}
-
-/// All brackets are equal, and write nothing to a hasher.
-pub fn brackets_are_equal()
-    ensures equal { AreEqual ⟦<Bracket as PartialEq>⟧.eq }
-    ensures hash { WriteNothing ⟦<Bracket as Hash>⟧.hash_input }
+/// All delimiters of one number are equal, and write nothing to a hasher.
+pub fn delimiters_are_equal<const D: usize>()
+    ensures equal { AreEqual ⟦<Visible<D> as PartialEq>⟧.eq }
+    ensures hash { WriteNothing ⟦<Visible<D> as Hash>⟧.hash_input }
 {}
 
 /// All invisible delimiters are equal, and write nothing to a hasher.
@@ -66,7 +55,7 @@ pub fn groups_are_equal()
     ensures hash { WriteNothing ⟦<Group as Hash>⟧.hash_input }
 {}
 
-/// Invisible groups do not matter to a peek of a leaf, a lifetime, visible delimiters or the end: it is the same at places of
+/// Invisible groups do not matter to a peek of a leaf, a lifetime or the end: it is the same at places of
 /// filled forests with equal views.
 pub fn peeks_ignore_invisible()
     ensures idents { IgnoresInvisible ⟦<Ident as Token>⟧.peeks }
@@ -75,9 +64,6 @@ pub fn peeks_ignore_invisible()
     ensures literals { IgnoresInvisible ⟦<Literal as Token>⟧.peeks }
     ensures puncts { IgnoresInvisible ⟦<Punct as Token>⟧.peeks }
     ensures underscores { IgnoresInvisible ⟦<Underscore as Token>⟧.peeks }
-    ensures parens { IgnoresInvisible ⟦<Paren as Token>⟧.peeks }
-    ensures braces { IgnoresInvisible ⟦<Brace as Token>⟧.peeks }
-    ensures brackets { IgnoresInvisible ⟦<Bracket as Token>⟧.peeks }
     ensures ends { IgnoresInvisible ⟦<End as Token>⟧.peeks }
 {}
 
@@ -85,4 +71,9 @@ pub fn peeks_ignore_invisible()
 pub fn tokens_ignore_invisible<const K: usize, const N: usize>()
     ensures keywords { IgnoresInvisible ⟦<Keyword<K> as Token>⟧.peeks }
     ensures punctuations { IgnoresInvisible ⟦<Punctuation<K, N> as Token>⟧.peeks }
+{}
+
+/// Nor to a peek of visible delimiters.
+pub fn delimiters_ignore_invisible<const D: usize>()
+    ensures { IgnoresInvisible ⟦<Visible<D> as Token>⟧.peeks }
 {}

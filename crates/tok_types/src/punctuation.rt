@@ -4,7 +4,7 @@ ghost use Rattle.tok_buffer.specs.Reads.{read_punctuation};
 ghost use Rattle.tok_core.specs.Spans.{call_site};
 ghost use Rattle.tok_types.specs.Looks.{Finds, IsText};
 ghost use Rattle.tok_types.specs.Printed.{puncts};
-ghost use Rattle.tok_types.specs.Texts.{punctuation_word, quoted};
+ghost use Rattle.tok_types.specs.Texts.{punctuation_word, in_backquotes};
 
 use crate::look::Token;
 use crate::texts::{punctuation_display, punctuation_text};
@@ -27,6 +27,7 @@ pub struct Punctuation<const K: usize, const N: usize> {
 }
 
 impl<const K: usize, const N: usize> Punctuation<K, N> {
+    /// The punctuation with a span for each character.
     pub fn new(spans: [Span; N]) -> Self
         ensures { result.spans ≡ spans.entry }
     {
@@ -50,12 +51,14 @@ impl<const K: usize, const N: usize> Punctuation<K, N> {
 }
 
 impl<const K: usize> Punctuation<K, 1> {
+    /// The span of the one character.
     pub fn span(&self) -> Span
         ensures { self.now.spans ≡ result ∷ [] }
     {
         self.spans[0]
     }
 
+    /// Puts the one character at another span.
     pub fn set_span(&mut self, span: Span)
         ensures { self.new.spans ≡ span ∷ [] }
     {
@@ -66,7 +69,7 @@ impl<const K: usize> Punctuation<K, 1> {
 impl<const K: usize, const N: usize> Token for Punctuation<K, N> {
     ghost peeks = { Finds (read_punctuation (punctuation_word K N)) };
 
-    ghost shown = { IsText (quoted (punctuation_word K N)) };
+    ghost shown = { IsText (in_backquotes (punctuation_word K N)) };
 
     fn peek(cursor: Cursor<'_>) -> bool {
         cursor.peek_punct(Self::text())

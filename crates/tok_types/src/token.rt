@@ -2,7 +2,7 @@
 //! the module in, not its items: `Box`, `Eq`, `Fn` and others of these names are std's too.
 pub mod printing;
 
-pub use crate::delimiter::{Brace, Bracket, Group, Paren};
+pub use crate::delimiter::{Group, Visible};
 pub use crate::keyword::Keyword;
 pub use crate::look::Token;
 pub use crate::punctuation::Punctuation;
@@ -308,3 +308,12 @@ pub type StarEq = Punctuation<44, 2>;
 
 /// `~`
 pub type Tilde = Punctuation<45, 1>;
+
+/// `( .. )`
+pub type Paren = Visible<0>;
+
+/// `{ .. }`
+pub type Brace = Visible<1>;
+
+/// `[ .. ]`
+pub type Bracket = Visible<2>;

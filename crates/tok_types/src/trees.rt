@@ -1,7 +1,7 @@
 // Looks at trees, lifetimes and the end.
 ghost use Rattle.std.specs.Prelude.{◌≡◌, codes};
 ghost use Rattle.tok_buffer.specs.Place.{is_at_end};
-ghost use Rattle.tok_buffer.specs.Reads.{any_text, is_group, read_ident, read_lifetime, read_literal, read_punct, read_tree, read_word, take};
+ghost use Rattle.tok_buffer.specs.Reads.{any_text, is_group, read_ident, read_lifetime, read_literal, read_punct, read_tree, read_word, read_if};
 ghost use Rattle.tok_types.specs.Looks.{Finds, IsText};
 ghost use Rattle.tok_types.specs.Texts.{accept_as_ident};
 
@@ -95,7 +95,7 @@ impl Token for Punct {
 
 /// A group in front, visible or not: no invisible group is entered to find one.
 impl Token for Group {
-    ghost peeks = { Finds (take is_group) };
+    ghost peeks = { Finds (read_if is_group) };
 
     ghost shown = { IsText (codes "group token") };
 

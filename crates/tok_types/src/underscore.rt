@@ -5,8 +5,8 @@ ghost use Rattle.tok_buffer.specs.Reads.{read_keyword};
 ghost use Rattle.tok_types.specs.Looks.{Finds, IsText};
 ghost use Rattle.tok_types.specs.Printed.{first_span, word};
 
-use crate::ident::append_word;
 use crate::look::Token;
+use crate::names::append_word;
 use std::alloc::AllocError;
 use std::fmt;
 use std::fmt::{Debug, Formatter, Write};
@@ -22,24 +22,28 @@ pub struct Underscore {
 }
 
 impl Underscore {
+    /// An underscore with its span.
     pub fn new(spans: [Span; 1]) -> Self
         ensures { result.spans ≡ spans }
     {
         Underscore { spans }
     }
 
+    /// An underscore at this span.
     pub fn from_span(span: Span) -> Self
         ensures { result.spans ≡ span ∷ [] }
     {
         Underscore { spans: [span] }
     }
 
+    /// Where it is.
     pub fn span(&self) -> Span
         ensures { self.now.spans ≡ result ∷ [] }
     {
         self.spans[0]
     }
 
+    /// Puts it at another span.
     pub fn set_span(&mut self, span: Span)
         ensures { self.new.spans ≡ span ∷ [] }
     {

@@ -1,7 +1,7 @@
 //! How punctuations are written.
 ghost use Rattle.std.specs.Prelude.{◌≡◌, true, OnOk, OnErr};
 ghost use Rattle.std.specs.List.{list_all};
-ghost use Rattle.tok_core.specs.Forest.{AppendsFront, joined, punct};
+ghost use Rattle.tok_core.specs.Forest.{AppendsFront, concat, punct};
 ghost use Rattle.tok_core.specs.Lexical.Characters.{is_punct_or_apostrophe};
 ghost use Rattle.tok_core.specs.Seen.{punct_of};
 ghost use Rattle.tok_types.specs.Printed.{puncts, spacing};
@@ -13,7 +13,7 @@ use tok_core::{Punct, Spacing, Span, TokenStream, TokenTree};
 /// there aren't as many spans as bytes, or if a character is no punct's. After an allocation failure, the puncts that were
 /// written before stay.
 pub fn punct(text: &str, spans: &[Span], tokens: &mut TokenStream) -> Result<(), AllocError>
-    ensures ok { OnOk result (tokens.new ≡ joined tokens.old (puncts text.now spans.now)) }
+    ensures ok { OnOk result (tokens.new ≡ concat tokens.old (puncts text.now spans.now)) }
     ensures err { OnErr result (AppendsFront tokens.old (puncts text.now spans.now) tokens.new) }
 {
     if text.len() != spans.len() || !are_puncts(text) {

@@ -2,7 +2,7 @@ use Rattle.tok_buffer.specs.Reads.{read_punctuation}
 use Rattle.tok_types.specs.Texts.{punctuation_word}
 use Rattle.syn_parse.proofs.PeekTells.{reads_at_once_tell}
 use Rattle.syn_parse.specs.Parses.{AreSpans}
-use Rattle.syn_parse.specs.Words.{punctuation_refusal}
+use Rattle.syn_parse.specs.RefusalWords.{punctuation_refusal}
 use Rattle.syn_parse.proofs.laws.peeks_tell_tokens.Goals as goal
 
 pub returns-clause-punctuations : goal.returns-clause-punctuations

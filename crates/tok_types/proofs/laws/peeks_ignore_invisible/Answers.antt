@@ -1,8 +1,7 @@
 use Rattle.std.specs.Prelude.{codes}
-use Rattle.tok_core.specs.declared.group.Delimiter.TheVariants.{Parenthesis, Brace, Bracket}
 use Rattle.tok_buffer.specs.Reads.{any_text}
 use Rattle.tok_types.proofs.Views.{finds-ident, finds-word, finds-lifetime, finds-literal}
-use Rattle.tok_types.proofs.Views.{finds-punct, finds-keyword, finds-group, finds-end}
+use Rattle.tok_types.proofs.Views.{finds-punct, finds-keyword, finds-end}
 use Rattle.tok_types.specs.Texts.{accept_as_ident}
 use Rattle.tok_types.proofs.laws.peeks_ignore_invisible.Goals as goal
 
@@ -23,15 +22,6 @@ returns-clause-puncts c = finds-punct
 
 pub returns-clause-underscores : goal.returns-clause-underscores
 returns-clause-underscores c = finds-keyword (codes "_")
-
-pub returns-clause-parens : goal.returns-clause-parens
-returns-clause-parens c = finds-group Parenthesis tt
-
-pub returns-clause-braces : goal.returns-clause-braces
-returns-clause-braces c = finds-group Brace tt
-
-pub returns-clause-brackets : goal.returns-clause-brackets
-returns-clause-brackets c = finds-group Bracket tt
 
 pub returns-clause-ends : goal.returns-clause-ends
 returns-clause-ends c = finds-end

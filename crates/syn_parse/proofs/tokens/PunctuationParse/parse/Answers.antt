@@ -4,7 +4,7 @@ use Rattle.tok_buffer.specs.Reads.{read_punctuation, sized}
 use Rattle.tok_types.specs.Texts.{punctuation_word}
 use Rattle.tok_types.specs.declared.punctuation.Punctuation.{Punctuation}
 use Rattle.syn_parse.specs.Parses.{AreSpans, PunctuationParses, ascii_chars}
-use Rattle.syn_parse.specs.Words.{punctuation_refusal}
+use Rattle.syn_parse.specs.RefusalWords.{punctuation_refusal}
 use Rattle.tok_types.proofs.Words.{punctuation-chars}
 use Rattle.syn_parse.proofs.Puncts.{ascii_chars-same}
 use Rattle.syn_parse.proofs.Reading.{at-once-made, at-once-stops}

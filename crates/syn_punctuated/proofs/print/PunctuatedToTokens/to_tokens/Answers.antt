@@ -1,14 +1,14 @@
 use Rattle.std.proofs.Common.{rules, arith, ◌≡◌, ◌∙◌, ap, sym, subst, get_or}
 use Rattle.std.proofs.lemmas.List.{take_all}
-use Rattle.tok_core.specs.Forest.{AppendsFront, Forest, joined}
-use Rattle.tok_core.proofs.Facts.{joined-none, joined_assoc}
+use Rattle.tok_core.specs.Forest.{AppendsFront, Forest, concat}
+use Rattle.tok_core.proofs.Facts.{concat-none, joined_assoc}
 use Rattle.syn_punctuated.specs.Lists.{values_of, separators_of}
 use Rattle.syn_punctuated.specs.Printed.{by_turns}
 use Rattle.syn_punctuated.proofs.Writes.{on_ok, on_err, front_second, pairs_written, last_written, list_written, pairs_more, pairs_stop}
 use Rattle.syn_punctuated.proofs.print.PunctuatedToTokens.to_tokens.Goals as goal
 
 pub loop-pair-init : goal.loop-pair-init
-loop-pair-init g c = sym (joined-none c.args.tokens.now)
+loop-pair-init g c = sym (concat-none c.args.tokens.now)
 
 pub returns-in_err-write_pair-clause-err : goal.returns-in_err-write_pair-clause-err
 returns-in_err-write_pair-clause-err g c =
@@ -27,9 +27,9 @@ returns-in-Some-clause-ok g c =
     let separator = g.P.ToTokens.printed in
     let list = c.args.self.now in
     let pairs = pairs_written value separator list.inner.items in
-    let before : c.loop-pair.tokens ≡ joined c.args.tokens.now pairs = c.loop-pair.invariant ∙ ap (λ ps. joined c.args.tokens.now (pairs_written value separator ps)) (take_all c.loop-pair.pair-index list.inner.items (omega arith)) in
-    let all : by_turns value separator (values_of list) (separators_of list) ≡ joined pairs (value c.as_ref.result.now) = list_written value separator list ∙ ap (λ last. joined pairs (last_written value separator last)) c.in-Some.is ∙ ap (λ x. joined pairs (value x)) (sym c.as_ref.ensures) in
-    on_ok c.to_tokens.result (λ done. done ∙ ap (λ f. joined f (value c.as_ref.result.now)) before ∙ joined_assoc c.args.tokens.now pairs (value c.as_ref.result.now) ∙ ap (joined c.args.tokens.now) (sym all)) c.to_tokens.ensures.ok
+    let before : c.loop-pair.tokens ≡ concat c.args.tokens.now pairs = c.loop-pair.invariant ∙ ap (λ ps. concat c.args.tokens.now (pairs_written value separator ps)) (take_all c.loop-pair.pair-index list.inner.items (omega arith)) in
+    let all : by_turns value separator (values_of list) (separators_of list) ≡ concat pairs (value c.as_ref.result.now) = list_written value separator list ∙ ap (λ last. concat pairs (last_written value separator last)) c.in-Some.is ∙ ap (λ x. concat pairs (value x)) (sym c.as_ref.ensures) in
+    on_ok c.to_tokens.result (λ done. done ∙ ap (λ f. concat f (value c.as_ref.result.now)) before ∙ joined_assoc c.args.tokens.now pairs (value c.as_ref.result.now) ∙ ap (concat c.args.tokens.now) (sym all)) c.to_tokens.ensures.ok
 
 pub returns-in-Some-clause-err : goal.returns-in-Some-clause-err
 returns-in-Some-clause-err g c =
@@ -37,8 +37,8 @@ returns-in-Some-clause-err g c =
     let separator = g.P.ToTokens.printed in
     let list = c.args.self.now in
     let pairs = pairs_written value separator list.inner.items in
-    let before : c.loop-pair.tokens ≡ joined c.args.tokens.now pairs = c.loop-pair.invariant ∙ ap (λ ps. joined c.args.tokens.now (pairs_written value separator ps)) (take_all c.loop-pair.pair-index list.inner.items (omega arith)) in
-    let all : by_turns value separator (values_of list) (separators_of list) ≡ joined pairs (value c.as_ref.result.now) = list_written value separator list ∙ ap (λ last. joined pairs (last_written value separator last)) c.in-Some.is ∙ ap (λ x. joined pairs (value x)) (sym c.as_ref.ensures) in
+    let before : c.loop-pair.tokens ≡ concat c.args.tokens.now pairs = c.loop-pair.invariant ∙ ap (λ ps. concat c.args.tokens.now (pairs_written value separator ps)) (take_all c.loop-pair.pair-index list.inner.items (omega arith)) in
+    let all : by_turns value separator (values_of list) (separators_of list) ≡ concat pairs (value c.as_ref.result.now) = list_written value separator list ∙ ap (λ last. concat pairs (last_written value separator last)) c.in-Some.is ∙ ap (λ x. concat pairs (value x)) (sym c.as_ref.ensures) in
     on_err c.to_tokens.result (λ stopped. subst (λ (f : Forest). AppendsFront c.args.tokens.now f c.to_tokens.new.tokens) (sym all) (front_second c.args.tokens.now pairs c.loop-pair.tokens (value c.as_ref.result.now) c.to_tokens.new.tokens before stopped)) c.to_tokens.ensures.err
 
 pub returns-in-None-clause-ok : goal.returns-in-None-clause-ok
@@ -47,5 +47,5 @@ returns-in-None-clause-ok g c =
     let separator = g.P.ToTokens.printed in
     let list = c.args.self.now in
     let pairs = pairs_written value separator list.inner.items in
-    let before : c.loop-pair.tokens ≡ joined c.args.tokens.now pairs = c.loop-pair.invariant ∙ ap (λ ps. joined c.args.tokens.now (pairs_written value separator ps)) (take_all c.loop-pair.pair-index list.inner.items (omega arith)) in
-    before ∙ ap (joined c.args.tokens.now) (sym (list_written value separator list ∙ ap (λ last. joined pairs (last_written value separator last)) c.in-None.is ∙ joined-none pairs))
+    let before : c.loop-pair.tokens ≡ concat c.args.tokens.now pairs = c.loop-pair.invariant ∙ ap (λ ps. concat c.args.tokens.now (pairs_written value separator ps)) (take_all c.loop-pair.pair-index list.inner.items (omega arith)) in
+    before ∙ ap (concat c.args.tokens.now) (sym (list_written value separator list ∙ ap (λ last. concat pairs (last_written value separator last)) c.in-None.is ∙ concat-none pairs))

@@ -1,8 +1,8 @@
 use Rattle.std.proofs.Common.{◌≡◌, ◌∙◌, ◌+◌, sym, ap, length, get_or, rules}
 use Rattle.std.specs.Prelude.{◌==◌}
-use Rattle.tok_core.specs.Forest.{AppendsFront, joined, leaf, no_trees, punct, tree}
+use Rattle.tok_core.specs.Forest.{AppendsFront, concat, leaf, no_trees, punct, tree}
 use Rattle.tok_core.specs.Spans.{call_site}
-use Rattle.tok_core.proofs.Facts.{joined-none}
+use Rattle.tok_core.proofs.Facts.{concat-none}
 use Rattle.tok_types.specs.Printed.{puncts, spacing}
 use Rattle.tok_types.proofs.Puncts.{not_as_many, not_all_puncts, puncts_step, puncts_done, puncts_stopped}
 use Rattle.tok_types.proofs.token.printing.punct.Goals.{then-text-spans-via-then-text-spans, then-text-spans-via-else-text-spans+then-not-are_puncts}
@@ -16,7 +16,7 @@ returns-then-text-spans-clause-ok c =
     ]
 
 pub loop-index-init : goal.loop-index-init
-loop-index-init c = sym (joined-none c.args.tokens.now)
+loop-index-init c = sym (concat-none c.args.tokens.now)
 
 pub returns-in_err-append-clause-err : goal.returns-in_err-append-clause-err
 returns-in_err-append-clause-err c =
@@ -31,7 +31,7 @@ loop-index-preserved c =
     let ss = c.args.spans.now in
     let i = c.loop-index.index in
     let made = c.one_of.ensures ∙ ap (λ bytes. punct (get_or bytes i 0) (spacing (i + 1 == length ss)) (get_or ss i call_site)) c.as_bytes-bytes.ensures.value in
-    let added = c.in_ok-append.ensures.ok ∙ ap (λ l. joined c.loop-index.tokens (tree (leaf l) no_trees)) made in
+    let added = c.in_ok-append.ensures.ok ∙ ap (λ l. concat c.loop-index.tokens (tree (leaf l) no_trees)) made in
     puncts_step c.args.tokens.now c.loop-index.tokens c.append.new.self cs ss i c.if-text-spans.false c.loop-index-test.true c.loop-index.invariant added
 
 pub returns-clause-ok : goal.returns-clause-ok

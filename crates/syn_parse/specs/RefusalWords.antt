@@ -1,0 +1,72 @@
+-- The words of refusals.
+use Rattle.std.specs.Prelude.{ℕ, List, [], ◌∷◌, ◌++◌, Option, Some, None, codes}
+use Rattle.tok_core.specs.declared.group.Delimiter.{Delimiter}
+use Rattle.tok_core.specs.declared.group.Delimiter.TheVariants.{Parenthesis, Brace, Bracket}
+use Rattle.tok_core.specs.declared.group.Delimiter.TheVariants as delimiter
+use Rattle.tok_core.specs.declared.span.Span.{Span}
+use Rattle.tok_core.specs.Forest.{ident, Tree, leaf}
+use Rattle.tok_core.specs.Spans.{tree_span}
+use Rattle.tok_buffer.specs.Ahead.{Leftover}
+use Rattle.tok_buffer.specs.Place.{Place}
+use Rattle.tok_buffer.specs.Reads.{read_punct}
+use Rattle.tok_buffer.specs.Refusals.{Refusal, at_stream, stream_span}
+use Rattle.tok_types.specs.Delimiters.{delimiter_display}
+use Rattle.tok_types.specs.Texts.{in_backquotes}
+use Rattle.syn_parse.specs.State.{State}
+
+-- a refusal at a stream, which names the end where the stream is at its end
+abbrev pub refused_at : State → List ℕ → Refusal
+refused_at s words = at_stream s.place s.scope_span words
+
+-- the words before what is expected
+abbrev pub expected : List ℕ → List ℕ
+expected what = codes "expected " ++ what
+
+-- the text of the first identifier among the trees read
+abbrev pub name_in : List Tree → List ℕ
+name_in [] = []
+name_in (leaf (ident text span) ∷ ts) = text
+name_in (t ∷ ts) = name_in ts
+
+-- where an identifier is looked for: there is none, or one that is a keyword
+abbrev pub ident_words : Option (List Tree × Place) → List ℕ
+ident_words None = codes "expected identifier"
+ident_words (Some r) = codes "expected identifier, found keyword " ++ in_backquotes (name_in r.0)
+
+-- where a lifetime is looked for: there is none, or one whose name is a keyword
+abbrev pub lifetime_words : Option (List Tree × Place) → List ℕ
+lifetime_words None = codes "expected lifetime"
+lifetime_words (Some r) = codes "unexpected keyword lifetime \"'" ++ (name_in r.0 ++ codes "\"")
+
+-- of the puncts that are read the first one's span, and else this one
+abbrev pub punct_span : Option (List Tree × Place) → Span → Span
+punct_span None span = span
+punct_span (Some r) span = span_in r.0 where
+  span_in : List Tree → Span
+  span_in [] = span
+  span_in (t ∷ ts) = tree_span t
+
+-- the span of a punctuation's refusal: the next punct's, if there is one and the text isn't empty
+abbrev pub punctuation_span : List ℕ → State → Span
+punctuation_span [] s = stream_span s.place s.scope_span
+punctuation_span (c ∷ cs) s = punct_span (read_punct s.place) (stream_span s.place s.scope_span)
+
+-- a punctuation's refusal: at an end, too, with these words alone
+abbrev pub punctuation_refusal : List ℕ → State → Refusal
+punctuation_refusal text s =
+    record { span = punctuation_span text s; words = expected (in_backquotes text) }
+
+-- of a group that isn't there
+abbrev pub delimiter_words : Delimiter → List ℕ
+delimiter_words d = expected (delimiter_display d)
+
+-- of a tree left over in a scope
+abbrev pub leftover_words : Delimiter → List ℕ
+leftover_words Parenthesis = codes "unexpected token, expected `)`"
+leftover_words Brace = codes "unexpected token, expected `}`"
+leftover_words Bracket = codes "unexpected token, expected `]`"
+leftover_words delimiter.None = codes "unexpected token"
+
+-- a leftover's refusal
+abbrev pub leftover_refusal : Leftover → Refusal
+leftover_refusal l = record { span = l.span; words = leftover_words l.delimiter }

@@ -1,0 +1,18 @@
+-- The delimiters that are tokens, by number, and their names.
+use Rattle.std.specs.Prelude.{ℕ, zero, suc, List, codes}
+use Rattle.tok_core.specs.declared.group.Delimiter.{Delimiter}
+use Rattle.tok_core.specs.declared.group.Delimiter.TheVariants as delimiter
+use Rattle.tok_core.specs.declared.group.Delimiter.TheVariants.{Parenthesis, Brace, Bracket}
+
+-- the visible delimiter of a number
+abbrev pub delimiter_at : ℕ → Delimiter
+delimiter_at zero = Parenthesis
+delimiter_at (suc zero) = Brace
+delimiter_at (suc (suc n)) = Bracket
+
+-- how a refusal calls a group of these delimiters
+abbrev pub delimiter_display : Delimiter → List ℕ
+delimiter_display Parenthesis = codes "parentheses"
+delimiter_display Brace = codes "curly braces"
+delimiter_display Bracket = codes "square brackets"
+delimiter_display delimiter.None = codes "invisible group"

@@ -1,0 +1,35 @@
+// Identifiers of a text that is known to be one, and trees of them.
+ghost use Rattle.std.specs.Prelude.{◌≡◌, IfOk, OnOk, OnErr};
+ghost use Rattle.std.specs.Str.{chars};
+ghost use Rattle.tok_core.specs.Forest.{AppendsFront, ident, concat};
+ghost use Rattle.tok_core.specs.Lexical.Words.{IsIdentifier, IsSuffix};
+ghost use Rattle.tok_core.specs.Seen.{ident_of};
+ghost use Rattle.tok_types.specs.Printed.{word};
+
+use std::alloc::{AllocError, Global};
+use tok_core::{Ident, MakeFault, Span, ToTokens, TokenStream, TokenTree};
+
+// An identifier of a token's text.
+pub fn identifier(alloc: Global, text: &str, span: Span) -> Result<Ident, AllocError>
+    requires { IsIdentifier (chars text.now) }
+    ensures { IfOk result (λ i. ident_of i ≡ ident text.now span) }
+{
+    match Ident::new(alloc, text, span) {
+        Ok(ident) => Ok(ident),
+        Err(MakeFault::Memory) => Err(AllocError),
+        Err(MakeFault::Refused) => unreachable!(),
+    }
+}
+
+// Writes an identifier of this text, and nothing if it is empty.
+pub fn append_word(text: &str, span: Span, tokens: &mut TokenStream) -> Result<(), AllocError>
+    requires { IsSuffix (chars text.now) }
+    ensures ok { OnOk result (tokens.new ≡ concat tokens.old (word text.now span)) }
+    ensures err { OnErr result (AppendsFront tokens.old (word text.now span) tokens.new) }
+{
+    if text.is_empty() {
+        return Ok(());
+    }
+    let ident = identifier(tokens.allocator(), text, span)?;
+    tokens.append(TokenTree::Ident(ident))
+}
