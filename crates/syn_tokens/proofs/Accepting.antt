@@ -13,16 +13,16 @@ use Rattle.tok_buffer.specs.Place.{Place}
 use Rattle.tok_buffer.specs.Reads as reads
 use Rattle.syn_parse.specs.Parses.{read_group}
 use Rattle.syn_parse.specs.State as parse
-use Rattle.syn_parse.specs.Words.{leftover_refusal}
-use Rattle.syn_tokens.specs.Acceptance.{IsShut, is_discard, Comes, begins, goes_on, all_run, Closes, by_command, at_end, Advances, Counts, NothingLeft, IsExact}
-use Rattle.syn_tokens.specs.Acceptance as acceptance
+use Rattle.syn_parse.specs.RefusalWords.{leftover_refusal}
+use Rattle.syn_tokens.specs.Session.Acceptance.{IsShut, is_discard, Comes, begins, goes_on, all_run, Closes, by_command, at_end, Advances, Counts, NothingLeft, IsExact}
+use Rattle.syn_tokens.specs.Session.Acceptance as acceptance
 use Rattle.syn_tokens.specs.Commands as commands
 use Rattle.syn_tokens.specs.Commands.{Answer, Command, done, unfit, Verdict, accepted}
 use Rattle.syn_tokens.specs.Kinds.{Kind, read, peek_kind, refusal}
-use Rattle.syn_tokens.specs.State.{Stream, State, StreamKind, outermost, content_of, a_fork, first_state, stream_at, at_rest, put, changed, moved_to, spent, handed_note, handed_up, closed_inside, closed, advanced, taken_over, all_spent, is_inside, inside_of, contains}
-use Rattle.syn_tokens.specs.Step.{Stepped, any_of, is_content, is_fork, is_missing, is_spent, kind_refusal, misuse, moves, first_named, named, new_stream, into_group, on_stream, one_tree, parsed, place_of, run_list, stays, step, step_on, tested}
+use Rattle.syn_tokens.specs.Session.State.{Stream, State, StreamKind, outermost, content_of, a_fork, first_state, stream_at, at_rest, put, with_stream, moved_to, spent, handed_note, handed_up, closed_inside, closed, advanced, taken_over, all_spent, is_inside, inside_of, contains}
+use Rattle.syn_tokens.specs.Session.Step.{Stepped, any_of, is_content, is_fork, is_missing, is_spent, kind_refusal, misuse, moves, first_named, named, new_stream, into_group, on_stream, one_tree, parsed, place_of, run_list, stays, step, step_on, tested}
 use Rattle.syn_tokens.specs.Turns.{Outcome, pieces_of, read_all, refused_at, terminated_turns, separated_turns, turns_left}
-use Rattle.syn_tokens.specs.Walk.{last_state, stream_verdict, walk}
+use Rattle.syn_tokens.specs.Session.Walk.{last_state, stream_verdict, walk}
 use Rattle.syn_tokens.proofs.Notes.{Ages, AllClean, Closed, HasNoOpen, Holds, HoldsOpen, IsClean, IsFed, IsIn, Later, Older, ShutWhen, afterwards, before, Tidy, Under, first, deeper, Which, ages_self, all_shut, clean_after, clean_before, cleans_on, inside_closed, is_shut_at, kept_on, none_either, none_of, not_both, older_on, older_self, one_stream, open_or_not, shut_first, shut_is, shut_when, tells, there_below, up, up_cleans, up_kept, which, is_it, is_parent, is_other}
 use Rattle.syn_tokens.proofs.Inside.{among_either, inside_at}
 use Rattle.syn_tokens.proofs.Spending.{all_spent_at, changed_at, changed_not, discards, mapped, mirrored, spent_when}
@@ -138,17 +138,17 @@ calm X c st r tidy other quiet = record {
 }
 
 -- an open stream goes elsewhere
-quiet_moved : (st : State) (k : ℕ) (p : Place) → HoldsOpen st k → Quiet st (changed st k (moved_to p))
+quiet_moved : (st : State) (k : ℕ) (p : Place) → HoldsOpen st k → Quiet st (with_stream st k (moved_to p))
 quiet_moved st k p h = record {
   same = λ j s e. same j s e (tells j k);
   newer = λ j t e. newer j t e (tells j k);
 } where
-  same : (j : ℕ) (s : Stream) → stream_at st j ≡ Some s → (j ≡ k) ⊎ (j ≢ k) → Same s (changed st k (moved_to p)) j
+  same : (j : ℕ) (s : Stream) → stream_at st j ≡ Some s → (j ≡ k) ⊎ (j ≢ k) → Same s (with_stream st k (moved_to p)) j
   same j s e (inl q) =
       let was : h.stream ≡ s = one_stream (stream_at st k) h.stream s h.there (ap (stream_at st) (sym q) ∙ e) in
       record {
         stream = moved_to p s;
-        there = ap (stream_at (changed st k (moved_to p))) q ∙ changed_at st k (moved_to p) ∙ ap (mapped (moved_to p)) (ap (stream_at st) (sym q) ∙ e);
+        there = ap (stream_at (with_stream st k (moved_to p))) q ∙ changed_at st k (moved_to p) ∙ ap (mapped (moved_to p)) (ap (stream_at st) (sym q) ∙ e);
         kind = refl;
         is_open = refl;
         note = refl;
@@ -156,7 +156,7 @@ quiet_moved st k p h = record {
       }
   same j s e (inr d) = record { stream = s; there = changed_not st k j (moved_to p) d ∙ e; kind = refl; is_open = refl; note = refl; whole = λ c. refl }
 
-  newer : (j : ℕ) (t : Stream) → stream_at (changed st k (moved_to p)) j ≡ Some t → (j ≡ k) ⊎ (j ≢ k) → Holds st j ⊎ IsNew (changed st k (moved_to p)) j t
+  newer : (j : ℕ) (t : Stream) → stream_at (with_stream st k (moved_to p)) j ≡ Some t → (j ≡ k) ⊎ (j ≢ k) → Holds st j ⊎ IsNew (with_stream st k (moved_to p)) j t
   newer j t e (inl q) = inl (record { stream = h.stream; there = ap (stream_at st) q ∙ h.there })
   newer j t e (inr d) = inl (record { stream = t; there = sym (changed_not st k j (moved_to p) d) ∙ e })
 
@@ -213,16 +213,16 @@ quiet_tree : (o : Option (List Tree × Place)) (st : State) (k : ℕ) (s : Strea
 quiet_tree None st k s words h = quiet_self st
 quiet_tree (Some r) st k s words h = quiet_moved st k r.1 h
 
-length-changed : (st : State) (k : ℕ) (f : Stream → Stream) → length (changed st k f) ≡ length st
-length-changed [] k f = refl
-length-changed (s ∷ st) zero f = grind arith
-length-changed (s ∷ st) (suc k) f = let e = length-changed st k f in grind arith
+length-with_stream : (st : State) (k : ℕ) (f : Stream → Stream) → length (with_stream st k f) ≡ length st
+length-with_stream [] k f = refl
+length-with_stream (s ∷ st) zero f = grind arith
+length-with_stream (s ∷ st) (suc k) f = let e = length-with_stream st k f in grind arith
 
 quiet_entered : (o : Option Entered) (st : State) (k : ℕ) (s : Stream) (words : List ℕ) → HoldsOpen st k → Quiet st (into_group st k s words o).state
 quiet_entered None st k s words h = quiet_self st
 quiet_entered (Some e) st k s words h =
-    let mid = changed st k (moved_to e.behind) in
-    let moved = quiet_moved st k e.behind h in
+    let mid = with_stream st k (moved_to e.after) in
+    let moved = quiet_moved st k e.after h in
     let parent = same_open st mid k moved h in
     let below = there_below mid k parent.stream parent.there in
     let new = new_stream e.content (closing_span e.span) (content_of k) in
@@ -437,9 +437,9 @@ advance_steps X st k f s tidy h e o g apart outside =
       taken = λ t v w b clean. taken after u t v w clean;
       cleans = λ fed follows clean. take_clean X mid after k f u (follows k f refl refl) (c.cleans (λ j p q w. fed refl j p q (shut_first st mid after j p q c.kept.older older w)) clean);
     } where
-      take : (mid : State) (k f : ℕ) (x : HoldsOpen mid k) (y : HoldsOpen mid f) → y.stream.kind ≡ a_fork → k ≢ f → Take mid (changed (changed mid k (taken_over (stream_at mid f))) f spent) k f
+      take : (mid : State) (k f : ℕ) (x : HoldsOpen mid k) (y : HoldsOpen mid f) → y.stream.kind ≡ a_fork → k ≢ f → Take mid (with_stream (with_stream mid k (taken_over (stream_at mid f))) f spent) k f
       take mid k f x y kind apart =
-          let after = changed (changed mid k (taken_over (stream_at mid f))) f spent in
+          let after = with_stream (with_stream mid k (taken_over (stream_at mid f))) f spent in
           record {
             stream = x.stream;
             fork = y.stream;
@@ -448,9 +448,9 @@ advance_steps X st k f s tidy h e o g apart outside =
             there = y.there;
             fork_open = y.is_open;
             kind = kind;
-            mine = changed_not (changed mid k (taken_over (stream_at mid f))) f k spent apart ∙ changed_at mid k (taken_over (stream_at mid f)) ∙ ap (mapped (taken_over (stream_at mid f))) x.there ∙ ap (λ w. Some (taken_over w x.stream)) y.there;
-            forks = changed_at (changed mid k (taken_over (stream_at mid f))) f spent ∙ ap (mapped spent) (changed_not mid k f (taken_over (stream_at mid f)) (λ q. apart (sym q)) ∙ y.there);
-            others = λ j d w. changed_not (changed mid k (taken_over (stream_at mid f))) f j spent d ∙ changed_not mid k j (taken_over (stream_at mid f)) w;
+            mine = changed_not (with_stream mid k (taken_over (stream_at mid f))) f k spent apart ∙ changed_at mid k (taken_over (stream_at mid f)) ∙ ap (mapped (taken_over (stream_at mid f))) x.there ∙ ap (λ w. Some (taken_over w x.stream)) y.there;
+            forks = changed_at (with_stream mid k (taken_over (stream_at mid f))) f spent ∙ ap (mapped spent) (changed_not mid k f (taken_over (stream_at mid f)) (λ q. apart (sym q)) ∙ y.there);
+            others = λ j d w. changed_not (with_stream mid k (taken_over (stream_at mid f))) f j spent d ∙ changed_not mid k j (taken_over (stream_at mid f)) w;
           }
 
       shut_clean : (after : State) → Older (closed_inside f st) after → Take (closed_inside f st) after k f → Closed X st (closed_inside f st) f (f + 1) → (j p : ℕ) (q : Place) → ShutWhen st (closed_inside f st) after j p q → IsClean after p → IsClean after j × (leftover q ≡ None)

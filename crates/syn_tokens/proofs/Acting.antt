@@ -3,10 +3,10 @@ use Rattle.std.proofs.Common.{◌≡◌, ◌∙◌, ap, sym, refl, ℕ, ◌<◌,
 use Rattle.std.specs.Prelude.{◌||◌, cond}
 use Rattle.syn_tokens.specs.Commands.{Command}
 use Rattle.syn_tokens.specs.Commands as spec
-use Rattle.syn_tokens.specs.State.{State, stream_at}
-use Rattle.syn_tokens.specs.State as states
-use Rattle.syn_tokens.specs.Step.{any_of, is_missing, is_spent, kind_refusal, misuse, named, tested}
-use Rattle.syn_tokens.specs.Stepping.{with_other}
+use Rattle.syn_tokens.specs.Session.State.{State, stream_at}
+use Rattle.syn_tokens.specs.Session.State as states
+use Rattle.syn_tokens.specs.Session.Step.{any_of, is_missing, is_spent, kind_refusal, misuse, named, tested}
+use Rattle.syn_tokens.specs.Session.Stepping.{with_other}
 use Rattle.syn_tokens.proofs.Tracks.{there_within}
 
 or_left : (a b : Bool) → (a || b) ≡ false → a ≡ false

@@ -9,7 +9,7 @@ use Rattle.tok_core.specs.declared.stream.TokenTree.{TokenTree}
 use Rattle.tok_core.specs.Forest.{Tree, Forest, tree}
 use Rattle.tok_core.specs.Seen.{tree_of, trees_of}
 use Rattle.syn_tokens.specs.Agree.{AnswersAgree, LinesAgree}
-use Rattle.syn_tokens.specs.Seen.{answer_of, line_of, piece_of, pieces_in}
+use Rattle.syn_tokens.specs.Meanings.{answer_of, line_of, piece_of, pieces_in}
 use Rattle.syn_tokens.specs.declared.report.Line.{Line}
 use Rattle.syn_tokens.specs.declared.report.Piece.{Piece}
 use Rattle.syn_tokens.proofs.Comparing.{Compares}

@@ -4,7 +4,7 @@ use Rattle.std.specs.Prelude.{cond, IfOk, Result}
 use Rattle.std.specs.declared.alloc.AllocError.{AllocError}
 use Rattle.tok_core.specs.Forest.{Tree, forest}
 use Rattle.tok_buffer.specs.Place.{Place, empty_place}
-use Rattle.tok_buffer.specs.Words.{Refusal}
+use Rattle.tok_buffer.specs.Refusals.{Refusal}
 use Rattle.tok_buffer.specs.Reads as reads
 use Rattle.syn_parse.specs.Parses.{read_group}
 use Rattle.syn_parse.specs.State as parse
@@ -12,16 +12,16 @@ use Rattle.syn_parse.specs.declared.fault.Fault.{Fault}
 use Rattle.syn_parse.specs.declared.fault.Fault.TheVariants.{Refused, Memory}
 use Rattle.syn_tokens.specs.Commands as spec
 use Rattle.syn_tokens.specs.Kinds.{peek_kind, read}
-use Rattle.syn_tokens.specs.State.{State, at_rest, changed, moved_to, outermost, put, standing, stream_at}
-use Rattle.syn_tokens.specs.State as states
-use Rattle.syn_tokens.specs.Step.{Stepped, moves, on_stream, one_tree, run_list, stays}
+use Rattle.syn_tokens.specs.Session.State.{State, at_rest, with_stream, moved_to, outermost, put, standing, stream_at}
+use Rattle.syn_tokens.specs.Session.State as states
+use Rattle.syn_tokens.specs.Session.Step.{Stepped, moves, on_stream, one_tree, run_list, stays}
 use Rattle.syn_tokens.specs.Turns.{Outcome, pieces_of, read_all, refused_at, separated_turns, terminated_turns, turns_left}
-use Rattle.syn_tokens.specs.Reading.{IsRead, alone, is_read}
-use Rattle.syn_tokens.specs.Stepping.{Answers, IsStepped}
+use Rattle.syn_tokens.specs.Session.Reading.{IsRead, alone, is_read}
+use Rattle.syn_tokens.specs.Session.Stepping.{Answers, IsStepped}
 use Rattle.syn_tokens.specs.declared.report.Answer.{Answer}
 use Rattle.syn_tokens.proofs.Tracks.{changed_alike}
 
-unchanged : (st : State) (k : ℕ) → changed st k (λ s. s) ≡ st
+unchanged : (st : State) (k : ℕ) → with_stream st k (λ s. s) ≡ st
 unchanged [] k = refl
 unchanged (s ∷ st) zero = refl
 unchanged (s ∷ st) (suc k) = ap (λ z. s ∷ z) (unchanged st k)
@@ -33,7 +33,7 @@ module _ (st : State) (k : ℕ) (s : states.Stream) (here : stream_at st k ≡ S
   -- the same answer, and the stream then stands alike
   record IsSame (x y : Stepped) : Type 0 where
     answers : x.answer ≡ y.answer
-    states : (t : parse.State) → standing t outermost true ∷ [] ≡ x.state → changed st k (put t) ≡ y.state
+    states : (t : parse.State) → standing t outermost true ∷ [] ≡ x.state → with_stream st k (put t) ≡ y.state
 
   abbrev head : State → parse.State
   head [] = at_rest s
@@ -44,7 +44,7 @@ module _ (st : State) (k : ℕ) (s : states.Stream) (here : stream_at st k ≡ S
     answers = refl;
     states = λ t e.
         let same : t ≡ at_rest s = ap head e in
-        ap (λ z. changed st k (put z)) same ∙ changed_alike st k s (put (at_rest s)) (λ z. z) here refl ∙ unchanged st k;
+        ap (λ z. with_stream st k (put z)) same ∙ changed_alike st k s (put (at_rest s)) (λ z. z) here refl ∙ unchanged st k;
   }
 
   of_moves : (p : Place) (a : spec.Answer) → IsSame (moves (me ∷ []) 0 p a) (moves st k p a)
@@ -52,7 +52,7 @@ module _ (st : State) (k : ℕ) (s : states.Stream) (here : stream_at st k ≡ S
     answers = refl;
     states = λ t e.
         let same : t ≡ at_rest (moved_to p me) = ap head e in
-        ap (λ z. changed st k (put z)) same ∙ changed_alike st k s (put (at_rest (moved_to p me))) (moved_to p) here refl;
+        ap (λ z. with_stream st k (put z)) same ∙ changed_alike st k s (put (at_rest (moved_to p me))) (moved_to p) here refl;
   }
 
   of_read : (x : Option (List Tree × Place)) (words : Refusal) → IsSame (elim x [ Some r ↦ moves (me ∷ []) 0 r.1 (spec.pieces (pieces_of r.0)) | None ↦ stays (me ∷ []) (spec.refused words) ]) (elim x [ Some r ↦ moves st k r.1 (spec.pieces (pieces_of r.0)) | None ↦ stays st (spec.refused words) ])
@@ -97,11 +97,11 @@ module _ (st : State) (k : ℕ) (s : states.Stream) (here : stream_at st k ≡ S
   same_read (spec.next_group n) h = of_tree _ (read_group s.place)
 
   module _ (c : spec.Command) (is : is_read c ≡ true) where
-    pub read-answer : (a : Answer) (t : parse.State) (new : State) → IsRead c (at_rest s) (Ok a) t → new ≡ changed st k (put t) → IsStepped a new (on_stream c st k s)
+    pub read-answer : (a : Answer) (t : parse.State) (new : State) → IsRead c (at_rest s) (Ok a) t → new ≡ with_stream st k (put t) → IsStepped a new (on_stream c st k s)
     read-answer a t new h e =
         let same = same_read c is in ((h.0.0 ∙ same.answers, h.0.1), e ∙ same.states t h.1)
 
-    pub read-refusal : (f : Fault) (t : parse.State) (new : State) (result : Result Answer AllocError) → IsRead c (at_rest s) (Err f) t → new ≡ changed st k (put t) → Answers f result → IfOk result (λ a. IsStepped a new (on_stream c st k s))
+    pub read-refusal : (f : Fault) (t : parse.State) (new : State) (result : Result Answer AllocError) → IsRead c (at_rest s) (Err f) t → new ≡ with_stream st k (put t) → Answers f result → IfOk result (λ a. IsStepped a new (on_stream c st k s))
     read-refusal (Refused m) t new (Ok a) h e q =
         let same = same_read c is in ((q.0 ∙ h.0.0 ∙ same.answers, q.1 h.0.1), e ∙ same.states t h.1)
     read-refusal (Refused m) t new (Err w) h e q = tt

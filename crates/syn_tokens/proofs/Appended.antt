@@ -3,9 +3,9 @@ use Rattle.std.proofs.Common.{◌≡◌, ◌≢◌, ℕ, zero, suc, ◌+◌, ◌
 use Rattle.std.proofs.Math.Seq.{get_or-append_seam}
 use Rattle.std.proofs.lemmas.Bool.Decides.{eqb_tells}
 use Rattle.std.proofs.lemmas.List.{get_or-set_same, get_or-set_other, map-set, length-map}
-use Rattle.syn_tokens.specs.Links.{links_of, no_links, unlinked, links_at, AreLinked, IsNew}
-use Rattle.syn_tokens.specs.declared.links.Links.{Links}
-use Rattle.syn_tokens.specs.declared.stream.Stream.{Stream}
+use Rattle.syn_tokens.specs.Session.Links.{links_of, no_links, unlinked, links_at, AreLinked, IsNew}
+use Rattle.syn_tokens.specs.declared.session.links.Links.{Links}
+use Rattle.syn_tokens.specs.declared.session.stream.Stream.{Stream}
 use Rattle.syn_tokens.proofs.Linked.{links_there, linked_along, content_within, last_of, IsAppended, appended_linked}
 
 abbrev with_last : ℕ → Links → Links
@@ -105,7 +105,7 @@ next_appended ls os k m a b h above below some e q =
     let last_is : links_at new m ≡ record (links_at ls m) { next = Some c } =
     get_or-set_other (set ls m a) k m b no_links parted ∙ get_or-set_same ls m a no_links in_list ∙ e in
     let ne : c ≢ k = omega arith in
-    let behind : c ≢ m = omega arith in
+    let after : c ≢ m = omega arith in
     let parents : (j : ℕ) → (links_at new j).parent ≡ (links_at ls j).parent =
     λ j. elim (eqb_tells j k) [
       | inl s ↦ ap (λ z. (links_at new z).parent) s.1 ∙ ap (λ l. l.parent) parent_is ∙ ap (λ z. (links_at ls z).parent) (sym s.1)

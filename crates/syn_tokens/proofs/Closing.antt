@@ -2,11 +2,11 @@
 use Rattle.std.proofs.Common.{◌≡◌, ℕ, zero, suc, ◌+◌, ◌-◌, ◌≤◌, ◌<◌, Bool, true, false, List, [], ◌∷◌, length, get_or, Option, Some, None, refl, ap, sym, subst, ◌∙◌, arith}
 use Rattle.std.proofs.lemmas.Bool.{ne_eqb, eq-eqb}
 use Rattle.std.specs.Prelude.{◌&&◌}
-use Rattle.syn_tokens.specs.Links.{links_of, IsContent, HasNone, IsFirstFrom, AreLinked}
-use Rattle.syn_tokens.specs.State.{State, stream_at, is_content_of, is_open_content_of, handed_up, contents_closed, closed_inside}
-use Rattle.syn_tokens.specs.Tracks.{kind_of, state_of_list}
-use Rattle.syn_tokens.specs.declared.links.Links.{Links}
-use Rattle.syn_tokens.specs.declared.stream.Stream.{Stream}
+use Rattle.syn_tokens.specs.Session.Links.{links_of, IsContent, HasNone, IsFirstFrom, AreLinked}
+use Rattle.syn_tokens.specs.Session.State.{State, stream_at, is_content_of, is_open_content_of, handed_up, contents_closed, closed_inside}
+use Rattle.syn_tokens.specs.Session.Tracks.{kind_of, state_of_list}
+use Rattle.syn_tokens.specs.declared.session.links.Links.{Links}
+use Rattle.syn_tokens.specs.declared.session.stream.Stream.{Stream}
 use Rattle.syn_tokens.proofs.Linked.{content_within, length-links, links_there}
 use Rattle.syn_tokens.proofs.Tracks.{stream_there, contents_taken, contents_left, contents_done, length-state}
 

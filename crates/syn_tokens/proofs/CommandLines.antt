@@ -10,10 +10,10 @@ use Rattle.std.specs.List.{All, cons_option, position, position_or_len}
 use Rattle.std.specs.Option.{option_map, option_to_list}
 use Rattle.std.specs.Str.{IsUtf8}
 use Rattle.syn_tokens.specs.Commands as spec
-use Rattle.syn_tokens.specs.CommandText.{words, command, is_unreadable, unreadable_line, commands_in}
-use Rattle.syn_tokens.specs.Input.{lines, lines_left}
-use Rattle.syn_tokens.specs.Printed.{ended}
-use Rattle.syn_tokens.specs.Seen.{command_of}
+use Rattle.syn_tokens.specs.Program.CommandText.{words, command, is_unreadable, unreadable_line, commands_in}
+use Rattle.syn_tokens.specs.Program.Input.{lines, lines_left}
+use Rattle.syn_tokens.specs.ReportText.{ended}
+use Rattle.syn_tokens.specs.Meanings.{command_of}
 use Rattle.syn_tokens.specs.declared.command.Command.{Command}
 use Rattle.syn_tokens.proofs.Lines.{left_len, left_less}
 
@@ -40,13 +40,13 @@ map-option_to_list None = refl
 map-option_to_list (Some c) = refl
 
 -- a line that can be read is passed
-pub read_more : (first behind : Option (Bor (List ℕ))) (rest : Bor (List ℕ)) (line : List ℕ) (commands more : List Command) (number : ℕ) (said : Option Command) → AreRead first (Some rest) commands number → lines rest.now ≡ line ∷ lines_left behind → IfSome behind (λ b. rest.now ≡ ended line ++ b.now) → IfSome behind (λ b. IsUtf8 b.now) → is_unreadable line ≡ false → command (words line) ≡ option_map command_of said → more ≡ commands ++ option_to_list said → AreRead first behind more (number + 1)
-read_more first behind rest line commands more number said r e j u ok c m =
-    let less : left_len behind < left_len (Some rest) = left_less line rest behind j in
+pub read_more : (first others : Option (Bor (List ℕ))) (rest : Bor (List ℕ)) (line : List ℕ) (commands more : List Command) (number : ℕ) (said : Option Command) → AreRead first (Some rest) commands number → lines rest.now ≡ line ∷ lines_left others → IfSome others (λ b. rest.now ≡ ended line ++ b.now) → IfSome others (λ b. IsUtf8 b.now) → is_unreadable line ≡ false → command (words line) ≡ option_map command_of said → more ≡ commands ++ option_to_list said → AreRead first others more (number + 1)
+read_more first others rest line commands more number said r e j u ok c m =
+    let less : left_len others < left_len (Some rest) = left_less line rest others j in
     let one : map command_of (option_to_list said) ≡ option_to_list (command (words line)) = map-option_to_list said ∙ ap option_to_list (sym c) in record {
       passed = r.passed ++ line ∷ [];
       readable = All-append (λ l. is_unreadable l ≡ false) r.passed (line ∷ []) r.readable (All-cons (λ l. is_unreadable l ≡ false) line [] ok (λ k d inside. absurd (omega arith)));
-      all = r.all ∙ ap (λ z. r.passed ++ z) e ∙ sym (append_assoc r.passed (line ∷ []) (lines_left behind));
+      all = r.all ∙ ap (λ z. r.passed ++ z) e ∙ sym (append_assoc r.passed (line ∷ []) (lines_left others));
       count = length-append r.passed (line ∷ []) ∙ ap (λ n. n + 1) r.count;
       said = ap (map command_of) m ∙ map-append command_of commands (option_to_list said) ∙ ap (λ z. z ++ map command_of (option_to_list said)) r.said
           ∙ ap (λ z. commands_in r.passed ++ z) one ∙ sym (commands_in-push r.passed line);
@@ -68,10 +68,10 @@ position_none p xs fails =
     let past : length xs ≤ position_or_len p xs = omega (arith, at) in cond-false _ _ _ (le-ltb _ _ past)
 
 -- the first line that can't be read
-pub read_stop : (first behind : Option (Bor (List ℕ))) (rest : Bor (List ℕ)) (line : List ℕ) (commands : List Command) (number : ℕ) → AreRead first (Some rest) commands number → lines rest.now ≡ line ∷ lines_left behind → is_unreadable line ≡ true → unreadable_line (lines_left first) ≡ Some (number + 1)
-read_stop first behind rest line commands number r e bad =
+pub read_stop : (first others : Option (Bor (List ℕ))) (rest : Bor (List ℕ)) (line : List ℕ) (commands : List Command) (number : ℕ) → AreRead first (Some rest) commands number → lines rest.now ≡ line ∷ lines_left others → is_unreadable line ≡ true → unreadable_line (lines_left first) ≡ Some (number + 1)
+read_stop first others rest line commands number r e bad =
     ap unreadable_line (r.all ∙ ap (λ z. r.passed ++ z) e)
-    ∙ ap (option_map (λ i. i + 1)) (position_at is_unreadable r.passed (lines_left behind) line r.readable bad)
+    ∙ ap (option_map (λ i. i + 1)) (position_at is_unreadable r.passed (lines_left others) line r.readable bad)
     ∙ ap (λ n. Some (n + 1)) r.count
 
 pub read_done : (first : Option (Bor (List ℕ))) (commands : List Command) (number : ℕ) → AreRead first None commands number → (unreadable_line (lines_left first) ≡ None) × (map command_of commands ≡ commands_in (lines_left first))

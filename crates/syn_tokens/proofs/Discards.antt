@@ -3,12 +3,12 @@ use Rattle.std.proofs.Common.{◌≡◌, ◌≢◌, ◌∙◌, sym, ap, subst, r
 use Rattle.std.proofs.lemmas.Bool.{ne_eqb, eq-eqb, cases_lt}
 use Rattle.std.proofs.lemmas.Bool.Decides.{eqb_tells}
 use Rattle.std.specs.Prelude.{◌==◌, ◌||◌}
-use Rattle.syn_tokens.specs.Links.{links_of, links_at, IsContent, IsFirstFrom, AreLinked}
-use Rattle.syn_tokens.specs.State.{State, stream_at, changed, spent, all_spent, is_inside}
-use Rattle.syn_tokens.specs.State as states
-use Rattle.syn_tokens.specs.Tracks.{state_of_list}
-use Rattle.syn_tokens.specs.declared.links.Links.{Links}
-use Rattle.syn_tokens.specs.declared.stream.Stream.{Stream}
+use Rattle.syn_tokens.specs.Session.Links.{links_of, links_at, IsContent, IsFirstFrom, AreLinked}
+use Rattle.syn_tokens.specs.Session.State.{State, stream_at, with_stream, spent, all_spent, is_inside}
+use Rattle.syn_tokens.specs.Session.State as states
+use Rattle.syn_tokens.specs.Session.Tracks.{state_of_list}
+use Rattle.syn_tokens.specs.declared.session.links.Links.{Links}
+use Rattle.syn_tokens.specs.declared.session.stream.Stream.{Stream}
 use Rattle.syn_tokens.proofs.Closing.{next_first, left_less, left_to}
 use Rattle.syn_tokens.proofs.Inside.{inside_step, is_parent_inside}
 use Rattle.syn_tokens.proofs.Linked.{content_within, length-links, links_there}
@@ -181,9 +181,9 @@ settled false true f g = g refl
 settled false false f g = refl
 
 -- all contents are spent, and then the stream itself
-pub spend_none : (k : ℕ) (old xs : List Stream) (us : State) → AreLinked (links_of old) → us ≡ changed (state_of_list xs) k spent → LeftToSpend k old xs None → us ≡ all_spent k (state_of_list old)
+pub spend_none : (k : ℕ) (old xs : List Stream) (us : State) → AreLinked (links_of old) → us ≡ with_stream (state_of_list xs) k spent → LeftToSpend k old xs None → us ≡ all_spent k (state_of_list old)
 spend_none k old xs us linked e h =
-    e ∙ same_streams (changed (state_of_list xs) k spent) (all_spent k (state_of_list old)) (λ j. at j ∙ sym (all_spent_at k (state_of_list old) j)) where
+    e ∙ same_streams (with_stream (state_of_list xs) k spent) (all_spent k (state_of_list old)) (λ j. at j ∙ sym (all_spent_at k (state_of_list old) j)) where
       other : (j : ℕ) (o : Option states.Stream) → j ≢ k → stream_at (state_of_list old) j ≡ o → spent_when (h.each j).was o ≡ spent_when (discards (state_of_list old) k j) o
       other j None ne s = refl
       other j (Some x) ne s =
@@ -198,12 +198,12 @@ spend_none k old xs us linked e h =
           ] in
           ap (λ z. spent_when z (Some x)) (settled (h.each j).was (is_inside st k j) ((h.each j).inside t) reached ∙ ap (λ z. z || is_inside st k j) (sym out))
 
-      at : (j : ℕ) → stream_at (changed (state_of_list xs) k spent) j ≡ spent_when (discards (state_of_list old) k j) (stream_at (state_of_list old) j)
+      at : (j : ℕ) → stream_at (with_stream (state_of_list xs) k spent) j ≡ spent_when (discards (state_of_list old) k j) (stream_at (state_of_list old) j)
       at j =
           let st = state_of_list old in
           elim (eqb_tells j k) [
             | inl s ↦
-                let P : ℕ → Type 0 = λ z. stream_at (changed (state_of_list xs) k spent) z ≡ spent_when (discards st k z) (stream_at st z) in
+                let P : ℕ → Type 0 = λ z. stream_at (with_stream (state_of_list xs) k spent) z ≡ spent_when (discards st k z) (stream_at st z) in
                 subst P (sym s.1) (
                 changed_at (state_of_list xs) k spent
                 ∙ ap (mapped spent) (h.each k).stream

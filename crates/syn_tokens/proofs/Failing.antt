@@ -3,7 +3,7 @@ use Rattle.std.proofs.Common.{◌≡◌, ◌≢◌, ◌∙◌, refl, inl, inr, �
 use Rattle.std.specs.IoError.{error_kind}
 use Rattle.std.specs.declared.io.Error.{Error}
 use Rattle.std.specs.declared.io.ErrorKind.TheVariants.{Interrupted}
-use Rattle.syn_tokens.specs.Failures.{Calls, FailsToRead, FailsToWrite}
+use Rattle.syn_tokens.specs.Program.Failures.{Calls, FailsToRead, FailsToWrite}
 
 module _ {S : Type 0} (calls : S → Result ℕ Error → S → Type 0) (s : S) where
   -- so many calls, of which the loop has counted each

@@ -11,7 +11,7 @@ use Rattle.tok_core.specs.Forest.{Tree, leaf, group, Forest, no_trees, tree, tur
 use Rattle.tok_core.specs.Weight.{weight}
 use Rattle.tok_buffer.specs.Ahead.{ahead, ahead_in, visible}
 use Rattle.tok_buffer.specs.Descent.{descend, descend_from, into_front}
-use Rattle.tok_buffer.specs.Place.{Owner, whole, group_of, Level, level, Place, empty_place, at}
+use Rattle.tok_buffer.specs.Place.{Owner, whole, in_group, Level, level, Place, empty_place, at}
 use Rattle.tok_buffer.specs.Place.{absorb, settle}
 use Rattle.tok_buffer.specs.Reads.{and_then, any_text, is_ident, is_ident_of, is_joint_of}
 use Rattle.tok_buffer.specs.Reads.{is_literal, is_punct, is_punct_of, read_keyword, read_lifetime}
@@ -90,11 +90,11 @@ front_few : (f : Forest) (n s c : ℕ) (o : Owner) (passed : Forest) (ls : List 
 front_few no_trees n s c o passed ls = tt
 front_few (tree (leaf l) f) n s c o passed ls = omega arith
 front_few (tree (group delimiter.None inside span) f) n s c o passed ls =
-    few_or _ (into_front inside n s (c + 1) (group_of delimiter.None span) no_trees
+    few_or _ (into_front inside n s (c + 1) (in_group delimiter.None span) no_trees
     (level o passed f ∷ ls)) (into_front f n s (c + (2 + weight inside)) o
     (tree (group delimiter.None inside span) passed) ls)
     (few_more (count inside + count_around (level o passed f ∷ ls)) _ _ (omega arith)
-    (front_few inside n s (c + 1) (group_of delimiter.None span) no_trees
+    (front_few inside n s (c + 1) (in_group delimiter.None span) no_trees
     (level o passed f ∷ ls)))
     (few_more (count f + count_around ls) _ _ (omega arith)
     (front_few f n s (c + (2 + weight inside)) o
@@ -106,7 +106,7 @@ front_few (tree (group delimiter.Bracket inside span) f) n s c o passed ls = ome
 absorbed : (o : Owner) (p : Forest) (l : Level) (ls : List Level)
     → count_around (absorb o p l ∷ ls) ≡ count_around (l ∷ ls)
 absorbed whole p (level w before b) ls = refl
-absorbed (group_of d span) p (level w before b) ls = refl
+absorbed (in_group d span) p (level w before b) ls = refl
 
 level_few : (n s c : ℕ) (l : Level) (ls : List Level)
     → count_at (at n s c l ls) ≡ count_around (l ∷ ls)
@@ -164,7 +164,7 @@ OfLeaves wanted = (d : Delimiter) (inside : Forest) (span : Span)
     → wanted (group d inside span) ≡ false
 
 take_few : (wanted : Tree → Bool) → OfLeaves wanted → (p : Place)
-    → Leaves (count_at p) (reads.take wanted p)
+    → Leaves (count_at p) (reads.read_if wanted p)
 take_few wanted none empty_place = tt
 take_few wanted none (at n s c (level o passed no_trees) ls) = tt
 take_few wanted none (at n s c (level o passed (tree (leaf l) f)) ls) =
@@ -174,7 +174,7 @@ take_few wanted none (at n s c (level o passed (tree (group d inside span) f)) l
     rw (none d inside span) tt
 
 taken : (wanted : Tree → Bool) → OfLeaves wanted → (p : Place)
-    → Leaves (count_at p) (reads.take wanted (descend p))
+    → Leaves (count_at p) (reads.read_if wanted (descend p))
 taken wanted none p = leaves_more _ _ _ (descended_few p) (take_few wanted none (descend p))
 
 then_few : (bound : ℕ) (x : Option (List Tree × Place)) (g : Place → Option (List Tree × Place))
@@ -195,14 +195,14 @@ keyword_few (c ∷ cs) p = word_few (bytes_eq (c ∷ cs)) p
 
 lifetime_few : (wanted : List ℕ → Bool) (p : Place) → Leaves (count_at p) (read_lifetime wanted p)
 lifetime_few wanted p =
-    then_few _ (reads.take is_joint_apostrophe (descend p)) (read_word wanted)
+    then_few _ (reads.read_if is_joint_apostrophe (descend p)) (read_word wanted)
     (taken is_joint_apostrophe (λ d f span. refl) p) (word_few wanted)
 
 punctuation_few : (text : List ℕ) (p : Place) → Leaves (count_at p) (read_punctuation text p)
 punctuation_few [] p = tt
 punctuation_few (c ∷ []) p = taken (is_punct_of c) (λ d f span. refl) p
 punctuation_few (c ∷ (d ∷ cs)) p =
-    then_few _ (reads.take (is_joint_of c) (descend p)) (read_punctuation (d ∷ cs))
+    then_few _ (reads.read_if (is_joint_of c) (descend p)) (read_punctuation (d ∷ cs))
     (taken (is_joint_of c) (λ d f span. refl) p) (punctuation_few (d ∷ cs))
 
 read_few : (kind : Kind) (p : Place) → Leaves (count_at p) (read kind p)

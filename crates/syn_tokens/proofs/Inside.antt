@@ -2,11 +2,11 @@
 use Rattle.std.proofs.Common.{◌≡◌, ◌∙◌, sym, ap, refl, ℕ, zero, suc, ◌+◌, ◌<◌, Bool, true, false, List, [], ◌∷◌, get_or, length, Option, Some, None, arith}
 use Rattle.std.proofs.lemmas.Bool.{ne_eqb, eq-eqb}
 use Rattle.std.specs.Prelude.{◌==◌, ◌||◌, cond}
-use Rattle.syn_tokens.specs.State.{State, StreamKind, outermost, content_of, a_fork, stream_at, contains, is_content_among, inside_of, is_inside}
-use Rattle.syn_tokens.specs.State as states
-use Rattle.syn_tokens.specs.Links.{links_of, AreLinked}
-use Rattle.syn_tokens.specs.Tracks.{kind_of, stream_of, state_of_list}
-use Rattle.syn_tokens.specs.declared.stream.Stream.{Stream}
+use Rattle.syn_tokens.specs.Session.State.{State, StreamKind, outermost, content_of, a_fork, stream_at, contains, is_content_among, inside_of, is_inside}
+use Rattle.syn_tokens.specs.Session.State as states
+use Rattle.syn_tokens.specs.Session.Links.{links_of, AreLinked}
+use Rattle.syn_tokens.specs.Session.Tracks.{kind_of, stream_of, state_of_list}
+use Rattle.syn_tokens.specs.declared.session.stream.Stream.{Stream}
 use Rattle.syn_tokens.proofs.Linked.{parent_below}
 use Rattle.syn_tokens.proofs.Tracks.{stream_there}
 

@@ -12,8 +12,8 @@ use Rattle.std.proofs.lemmas.List.Splits.{length-slice_split}
 use Rattle.std.proofs.lemmas.Str.Pattern.{IsSplitOnceResult, split_once_first, split_parts}
 use Rattle.std.specs.List.{All, slice_split, after_first, position_or_len}
 use Rattle.std.specs.Str.{IsUtf8}
-use Rattle.syn_tokens.specs.Input.{lines, is_cut, text_of, texts_in, parts_of, lines_left}
-use Rattle.syn_tokens.specs.Printed.{ended}
+use Rattle.syn_tokens.specs.Program.Input.{lines, is_cut, text_of, texts_in, parts_of, lines_left}
+use Rattle.syn_tokens.specs.ReportText.{ended}
 
 -- `split_once` at a byte cuts off the first part
 pub split_some : (c : ℕ) (bs : List ℕ) (x : Bor (List ℕ) × Bor (List ℕ))
@@ -35,8 +35,8 @@ split_none c bs h small =
 pub split_joined : (c : ℕ) (bs : List ℕ) (x : Bor (List ℕ) × Bor (List ℕ))
     → IsSplitOnceResult c bs (Some x) → c < 128 → bs ≡ (x.0.now ++ c ∷ []) ++ x.1.now
 split_joined c bs x h small =
-    let (joined, apart) = split_parts c bs (Some x) h small in
-    joined ∙ sym (append_assoc x.0.now (c ∷ []) x.1.now)
+    let (concat, apart) = split_parts c bs (Some x) h small in
+    concat ∙ sym (append_assoc x.0.now (c ∷ []) x.1.now)
 
 -- the lines before what is left hold no cut
 pub record IsPast (input : List ℕ) (left : Option (Bor (List ℕ))) : Type 0 where
@@ -56,17 +56,17 @@ uncut_push ls l h e =
     (All-cons (λ line. is_cut line ≡ false) l [] e (λ k d inside. absurd (omega arith)))
 
 -- a line that is no cut is passed
-pub past_more : (input line : List ℕ) (rest : Bor (List ℕ)) (behind : Option (Bor (List ℕ)))
-    → IsPast input (Some rest) → lines rest.now ≡ line ∷ lines_left behind
-    → IfSome behind (λ b. rest.now ≡ ended line ++ b.now) → IfSome behind (λ b. IsUtf8 b.now)
-    → is_cut line ≡ false → IsPast input behind
-past_more input line rest behind past e j u uncut = record {
+pub past_more : (input line : List ℕ) (rest : Bor (List ℕ)) (others : Option (Bor (List ℕ)))
+    → IsPast input (Some rest) → lines rest.now ≡ line ∷ lines_left others
+    → IfSome others (λ b. rest.now ≡ ended line ++ b.now) → IfSome others (λ b. IsUtf8 b.now)
+    → is_cut line ≡ false → IsPast input others
+past_more input line rest others past e j u uncut = record {
   passed = past.passed ++ line ∷ [];
   uncut = uncut_push past.passed line past.uncut uncut;
   all =
       past.all ∙ ap (λ z. past.passed ++ z) e
-      ∙ sym (append_assoc past.passed (line ∷ []) (lines_left behind));
-  seam = seam behind j u;
+      ∙ sym (append_assoc past.passed (line ∷ []) (lines_left others));
+  seam = seam others j u;
 } where
   seam : (b : Option (Bor (List ℕ))) → IfSome b (λ b. rest.now ≡ ended line ++ b.now)
       → IfSome b (λ b. IsUtf8 b.now)
@@ -80,21 +80,21 @@ past_more input line rest behind past e j u uncut = record {
   )
 
 -- a cut line ends the text
-pub past_cut : (input line text : List ℕ) (rest : Bor (List ℕ)) (behind : Option (Bor (List ℕ)))
-    → IsPast input (Some rest) → lines rest.now ≡ line ∷ lines_left behind → is_cut line ≡ true
+pub past_cut : (input line text : List ℕ) (rest : Bor (List ℕ)) (others : Option (Bor (List ℕ)))
+    → IsPast input (Some rest) → lines rest.now ≡ line ∷ lines_left others → is_cut line ≡ true
     → text ≡ take (length input - length rest.now) input → (before : List (List ℕ))
     × (text ≡ text_of before)
     ×
     (slice_split is_cut (lines input) ≡ before
-    ∷ slice_split is_cut (lines_left behind))
-past_cut input line text rest behind past e found t =
+    ∷ slice_split is_cut (lines_left others))
+past_cut input line text rest others past e found t =
     let len : length input - length rest.now ≡ length (text_of past.passed) =
     omega (arith, ap length past.seam.0, length-append (text_of past.passed) rest.now) in (
       past.passed,
       t ∙ ap (λ n. take n input) len ∙ ap (take (length (text_of past.passed))) past.seam.0
           ∙ take-append_seam (text_of past.passed) rest.now,
       ap (slice_split is_cut) (past.all ∙ ap (λ z. past.passed ++ z) e)
-          ∙ slice_split_at is_cut past.passed line (lines_left behind) past.uncut found,
+          ∙ slice_split_at is_cut past.passed line (lines_left others) past.uncut found,
     )
 
 -- without a cut the input is one part
@@ -110,8 +110,8 @@ abbrev pub left_len : Option (Bor (List ℕ)) → ℕ
 left_len None = 0
 left_len (Some rest) = length rest.now + 1
 
-pub left_less : (line : List ℕ) (rest : Bor (List ℕ)) (behind : Option (Bor (List ℕ)))
-    → IfSome behind (λ b. rest.now ≡ ended line ++ b.now) → left_len behind < left_len (Some rest)
+pub left_less : (line : List ℕ) (rest : Bor (List ℕ)) (others : Option (Bor (List ℕ)))
+    → IfSome others (λ b. rest.now ≡ ended line ++ b.now) → left_len others < left_len (Some rest)
 left_less line rest None j = omega arith
 left_less line rest (Some b) j =
     omega (arith, ap length j, length-append (ended line) b.now, length-append line (10 ∷ []))

@@ -5,9 +5,9 @@ use Rattle.std.proofs.lemmas.Bool.Decides.{eqb_tells}
 use Rattle.std.proofs.lemmas.Bool.{cases_lt}
 use Rattle.std.proofs.lemmas.List.{get_or-map, length-map, map-append}
 use Rattle.std.specs.Prelude.{cond}
-use Rattle.syn_tokens.specs.Links.{links_of, no_links, links_at, IsContent, HasNone, IsFirstFrom, IsLast, AreLinked}
-use Rattle.syn_tokens.specs.declared.links.Links.{Links}
-use Rattle.syn_tokens.specs.declared.stream.Stream.{Stream}
+use Rattle.syn_tokens.specs.Session.Links.{links_of, no_links, links_at, IsContent, HasNone, IsFirstFrom, IsLast, AreLinked}
+use Rattle.syn_tokens.specs.declared.session.links.Links.{Links}
+use Rattle.syn_tokens.specs.declared.session.stream.Stream.{Stream}
 
 pub links_there : (xs : List Stream) (i : ℕ) (x : Stream) → x ≡ get_or xs i x → i < length xs → links_at (links_of xs) i ≡ x.links
 links_there xs i x e h = get_or-map (λ s. s.links) xs i x no_links h ∙ ap (λ s. s.links) (sym e)

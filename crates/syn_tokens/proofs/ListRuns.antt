@@ -13,7 +13,7 @@ use Rattle.tok_core.specs.Forest.{Tree}
 use Rattle.tok_buffer.specs.Messages as messages
 use Rattle.tok_buffer.specs.Place.{Place, empty_place, at, is_at_end}
 use Rattle.tok_buffer.specs.Reads.{read_punctuation}
-use Rattle.tok_buffer.specs.Words.{Refusal}
+use Rattle.tok_buffer.specs.Refusals.{Refusal}
 use Rattle.tok_types.specs.Looks.{Finds}
 use Rattle.tok_types.specs.Texts.{punctuation_text, punctuation_word}
 use Rattle.tok_types.specs.declared.punctuation.Punctuation.{Punctuation}
@@ -21,7 +21,7 @@ use Rattle.syn_parse.specs.Faults.{IsMemory, Refuses}
 use Rattle.syn_parse.specs.Parses.{AreSpans, PunctuationParses}
 use Rattle.syn_parse.specs.Reads.{Call, ReadsAtOnce}
 use Rattle.syn_parse.specs.State.{State, fresh, moved}
-use Rattle.syn_parse.specs.Words.{punctuation_refusal}
+use Rattle.syn_parse.specs.RefusalWords.{punctuation_refusal}
 use Rattle.syn_parse.specs.declared.fault.Fault.{Fault}
 use Rattle.syn_parse.specs.declared.fault.Fault.TheVariants.{Refused, Memory}
 use Rattle.syn_punctuated.specs.Lists.{values_of, separators_of}
@@ -36,11 +36,11 @@ use Rattle.syn_punctuated.specs.declared.punctuated.Punctuated.{Punctuated}
 use Rattle.syn_tokens.specs.Commands as spec
 use Rattle.syn_tokens.specs.Kinds.{Kind, ident, ident_any, lifetime, lifetime_any, literal, punct}
 use Rattle.syn_tokens.specs.Kinds.{underscore, keyword, punctuation, read, refusal}
-use Rattle.syn_tokens.specs.Reading.{IsRead, ReadsPieces, BehindPieces, GivesAnswer, LeavesAlone}
-use Rattle.syn_tokens.specs.Reading.{pair_parts, punct_pieces}
-use Rattle.syn_tokens.specs.Seen.{pieces_in, refusal_of}
-use Rattle.syn_tokens.specs.State.{outermost, standing}
-use Rattle.syn_tokens.specs.Step.{Stepped, run_list}
+use Rattle.syn_tokens.specs.Session.Reading.{IsRead, ReadsPieces, AfterPieces, GivesAnswer, LeavesAlone}
+use Rattle.syn_tokens.specs.Session.Reading.{pair_parts, punct_pieces}
+use Rattle.syn_tokens.specs.Meanings.{pieces_in, refusal_of}
+use Rattle.syn_tokens.specs.Session.State.{outermost, standing}
+use Rattle.syn_tokens.specs.Session.Step.{Stepped, run_list}
 use Rattle.syn_tokens.specs.Turns.{Outcome, read_all, refused_at, with_parts, is_later, no_progress}
 use Rattle.syn_tokens.specs.Turns.{pieces_of, separator_refusal, terminated_turns, separated_turns}
 use Rattle.syn_tokens.specs.Turns.{turns_left}
@@ -162,7 +162,7 @@ module _ {F : Type 0} (k n : ℕ) (kind : Kind) (reads : ValueCall F (Vec Piece)
     pieces : pieces_of trees ≡ pieces_in v
     then : t ≡ moved t.place s
 
-  value_in : (s t : State) (v : Vec Piece) → BehindPieces (read kind s.place) s v t → IsValue s t v
+  value_in : (s t : State) (v : Vec Piece) → AfterPieces (read kind s.place) s v t → IsValue s t v
   value_in s t v h =
       let q : h.0.1 ≡ t.place = sym (ap (λ (u : State). u.place) h.3) in
       record {

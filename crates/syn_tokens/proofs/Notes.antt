@@ -6,9 +6,9 @@ use Rattle.std.specs.Option.{option_or}
 use Rattle.std.specs.Prelude.{◌&&◌, not, cond}
 use Rattle.tok_buffer.specs.Ahead.{Leftover, leftover}
 use Rattle.tok_buffer.specs.Place.{Place}
-use Rattle.syn_tokens.specs.Acceptance.{IsShut}
-use Rattle.syn_tokens.specs.State.{Stream, State, StreamKind, outermost, content_of, a_fork, stream_at, changed, spent, noted, handed_note, is_content_of, is_open_content_of, noted_on_parent, handed_up, contents_closed, closed_inside}
-use Rattle.syn_tokens.specs.Step.{is_spent, tested}
+use Rattle.syn_tokens.specs.Session.Acceptance.{IsShut}
+use Rattle.syn_tokens.specs.Session.State.{Stream, State, StreamKind, outermost, content_of, a_fork, stream_at, with_stream, spent, noted, handed_note, is_content_of, is_open_content_of, noted_on_parent, handed_up, contents_closed, closed_inside}
+use Rattle.syn_tokens.specs.Session.Step.{is_spent, tested}
 use Rattle.syn_tokens.proofs.Spending.{changed_at, changed_not, mapped}
 
 -- what may become of a stream: it may be noted and spent, and once it is spent it stays as it is
@@ -237,11 +237,11 @@ pub record Up (st after : State) (k p : ℕ) : Type 0 where
   pub noted_there : stream_at after p ≡ Some (noted (handed_note stream) parent)
   pub others : (j : ℕ) → j ≢ k → j ≢ p → stream_at after j ≡ stream_at st j
 
-up_state : (o : Option Stream) (s : Stream) (st : State) (k p : ℕ) → o ≡ Some s → s.kind ≡ content_of p → ◌≡◌ {A = State} (elim o [ None ↦ st | Some z ↦ changed (noted_on_parent z.kind (handed_note z) st) k spent ]) (changed (changed st p (noted (handed_note s))) k spent)
+up_state : (o : Option Stream) (s : Stream) (st : State) (k p : ℕ) → o ≡ Some s → s.kind ≡ content_of p → ◌≡◌ {A = State} (elim o [ None ↦ st | Some z ↦ with_stream (noted_on_parent z.kind (handed_note z) st) k spent ]) (with_stream (with_stream st p (noted (handed_note s))) k spent)
 up_state None s st k p e f = cc
 up_state (Some t) s st k p e f =
     let same : t ≡ s = cc in
-    ap (λ z. changed (noted_on_parent z.kind (handed_note z) st) k spent) same ∙ ap (λ kind. changed (noted_on_parent kind (handed_note s) st) k spent) f
+    ap (λ z. with_stream (noted_on_parent z.kind (handed_note z) st) k spent) same ∙ ap (λ kind. with_stream (noted_on_parent kind (handed_note s) st) k spent) f
 
 pub up : (st : State) (k p : ℕ) (s : Stream) → Tidy st → stream_at st k ≡ Some s → s.is_open ≡ true → s.kind ≡ content_of p → Up st (handed_up k st) k p
 up st k p s tidy e o f =
@@ -249,8 +249,8 @@ up st k p s tidy e o f =
     let below = in_parent.below in
     let t = in_parent.parent in
     let h = handed_note s in
-    let mid = changed st p (noted h) in
-    let same : handed_up k st ≡ changed mid k spent = up_state (stream_at st k) s st k p e f in
+    let mid = with_stream st p (noted h) in
+    let same : handed_up k st ≡ with_stream mid k spent = up_state (stream_at st k) s st k p e f in
     let apart : k ≢ p = λ q. omega (arith, q, below) in
     let apart_back : p ≢ k = λ q. omega (arith, q, below) in
     record {

@@ -6,7 +6,7 @@ use Rattle.std.proofs.lemmas.List.Sums.{position_or_len_is}
 use Rattle.std.proofs.lemmas.Slice.Eq.{bytes_eq-Decides}
 use Rattle.std.specs.List.{position_or_len}
 use Rattle.std.specs.Prelude.{bytes_eq}
-use Rattle.syn_tokens.specs.CommandText.{number_in}
+use Rattle.syn_tokens.specs.Program.CommandText.{number_in}
 
 -- none of the first n is this text
 abbrev pub PassedOver : List (List ℕ) → List ℕ → ℕ → Type 0

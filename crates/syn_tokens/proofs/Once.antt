@@ -9,19 +9,19 @@ use Rattle.tok_core.specs.Lexical.Reading.{IsRefused}
 use Rattle.tok_core.specs.Lexical.Rules.{marked_rules}
 use Rattle.tok_core.specs.declared.lexer.error.LexError.{LexError}
 use Rattle.tok_core.proofs.Lexical.Laws.{forest_once, refused_once, never_both}
-use Rattle.syn_tokens.specs.CommandText.{unreadable_line, commands_in}
+use Rattle.syn_tokens.specs.Program.CommandText.{unreadable_line, commands_in}
 use Rattle.syn_tokens.specs.Commands.{Command}
-use Rattle.syn_tokens.specs.Comparison.{AreFacts, Facts, Comparison, Compares, Outcome, reported}
-use Rattle.syn_tokens.specs.Comparison.{compared, outcome_text, outcome_status}
-use Rattle.syn_tokens.specs.Faults.{unreadable_text}
-use Rattle.syn_tokens.specs.Output.{GoesOut}
-use Rattle.syn_tokens.specs.Printed.{ended}
+use Rattle.syn_tokens.specs.Program.Comparison.{AreFacts, Facts, Comparison, Compares, Outcome, reported}
+use Rattle.syn_tokens.specs.Program.Comparison.{compared, outcome_text, outcome_status}
+use Rattle.syn_tokens.specs.Program.Faults.{unreadable_text}
+use Rattle.syn_tokens.specs.Program.Output.{GoesOut}
+use Rattle.syn_tokens.specs.ReportText.{ended}
 use Rattle.syn_tokens.specs.Program.{HasParts, HasForests, IsForest, IsOther, IsUnreadable}
 use Rattle.syn_tokens.specs.Program.{IsOutcome}
 use Rattle.syn_tokens.specs.Program.{Fails, HasOutcome, Prints, PrintsOnly, Serves, ServesOnly}
-use Rattle.syn_tokens.specs.Input.{parts_of}
-use Rattle.syn_tokens.specs.declared.fault.Unreadable.{Unreadable}
-use Rattle.syn_tokens.specs.declared.fault.Unreadable.TheVariants as why
+use Rattle.syn_tokens.specs.Program.Input.{parts_of}
+use Rattle.syn_tokens.specs.declared.program.fault.Unreadable.{Unreadable}
+use Rattle.syn_tokens.specs.declared.program.fault.Unreadable.TheVariants as why
 
 some_once : {A : Type 0} (a b : A) (o : Option A) → o ≡ Some a → o ≡ Some b → a ≡ b
 some_once a b o h k = let e : Some a ≡ Some b = sym h ∙ k in cc

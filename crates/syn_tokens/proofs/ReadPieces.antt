@@ -14,35 +14,35 @@ use Rattle.tok_buffer.specs.Descent.{descend}
 use Rattle.tok_buffer.specs.Place.{Place, front, pass}
 use Rattle.tok_buffer.specs.Reads.{and_then, apostrophe, is_joint_of, is_punct_of, read_punctuation, sized}
 use Rattle.tok_buffer.specs.Reads as reads
-use Rattle.tok_buffer.specs.Words.{Refusal}
+use Rattle.tok_buffer.specs.Refusals.{Refusal}
 use Rattle.syn_parse.specs.Parses.{AreSpans, PunctuationParses, ascii_chars}
 use Rattle.syn_parse.specs.Reads.{Reads, ReadsAtOnce}
 use Rattle.syn_parse.specs.State.{State}
-use Rattle.syn_parse.specs.Words.{punctuation_refusal}
+use Rattle.syn_parse.specs.RefusalWords.{punctuation_refusal}
 use Rattle.syn_parse.specs.declared.fault.Fault.{Fault}
 use Rattle.syn_parse.specs.declared.fault.Fault.TheVariants.{Refused, Memory}
 use Rattle.syn_tokens.specs.Commands as spec
 use Rattle.syn_tokens.specs.Turns.{pieces_of}
-use Rattle.syn_tokens.specs.Reading.{ArePieces, BehindPieces, ReadsPieces, punct_pieces}
-use Rattle.syn_tokens.specs.Seen.{piece_of}
+use Rattle.syn_tokens.specs.Session.Reading.{ArePieces, AfterPieces, ReadsPieces, punct_pieces}
+use Rattle.syn_tokens.specs.Meanings.{piece_of}
 use Rattle.syn_tokens.specs.declared.report.Piece.{Piece}
 
 module _ {T : Type 0} (Means : T → List Tree → Type 0) (words : Refusal) (s : State) where
   -- a value that is read, as its pieces
-  read-pieces : (x : Option (List Tree × Place)) (v : T) (ps : Vec Piece) (t : State) → ((ts : List Tree) → Means v ts → ArePieces ts ps) → Reads Means x words s (Ok v) t → BehindPieces x s ps t
+  read-pieces : (x : Option (List Tree × Place)) (v : T) (ps : Vec Piece) (t : State) → ((ts : List Tree) → Means v ts → ArePieces ts ps) → Reads Means x words s (Ok v) t → AfterPieces x s ps t
   read-pieces None v ps t made h = absurd h
   read-pieces (Some r) v ps t made h = (r, refl, made r.0 h.0, h.1)
 
-  at-once-pieces : (x : Option (List Tree × Place)) (v : T) (ps : Vec Piece) (t : State) → ((ts : List Tree) → Means v ts → x ≡ Some (ts, t.place) → ArePieces ts ps) → ReadsAtOnce Means x words s (Ok v) t → BehindPieces x s ps t
+  at-once-pieces : (x : Option (List Tree × Place)) (v : T) (ps : Vec Piece) (t : State) → ((ts : List Tree) → Means v ts → x ≡ Some (ts, t.place) → ArePieces ts ps) → ReadsAtOnce Means x words s (Ok v) t → AfterPieces x s ps t
   at-once-pieces None v ps t made h = absurd h
   at-once-pieces (Some r) v ps t made h = (r, refl, made r.0 h.0 (ap (λ u. Some (r.0, u.place)) (sym h.1)), h.1)
 
 -- the same of a value that stands for its trees
-pub value-pieces : {T : Type 0} (trees_of : T → List Tree) (words : Refusal) (s : State) (x : Option (List Tree × Place)) (v : T) (ps : Vec Piece) (t : State) → Reads (λ v ts. ts ≡ trees_of v) x words s (Ok v) t → ArePieces (trees_of v) ps → BehindPieces x s ps t
+pub value-pieces : {T : Type 0} (trees_of : T → List Tree) (words : Refusal) (s : State) (x : Option (List Tree × Place)) (v : T) (ps : Vec Piece) (t : State) → Reads (λ v ts. ts ≡ trees_of v) x words s (Ok v) t → ArePieces (trees_of v) ps → AfterPieces x s ps t
 value-pieces trees_of words s x v ps t h made =
     read-pieces (λ v ts. ts ≡ trees_of v) words s x v ps t (λ ts m. made ∙ ap pieces_of (sym m)) h
 
-pub value-pieces-at-once : {T : Type 0} (trees_of : T → List Tree) (words : Refusal) (s : State) (x : Option (List Tree × Place)) (v : T) (ps : Vec Piece) (t : State) → ReadsAtOnce (λ v ts. ts ≡ trees_of v) x words s (Ok v) t → ArePieces (trees_of v) ps → BehindPieces x s ps t
+pub value-pieces-at-once : {T : Type 0} (trees_of : T → List Tree) (words : Refusal) (s : State) (x : Option (List Tree × Place)) (v : T) (ps : Vec Piece) (t : State) → ReadsAtOnce (λ v ts. ts ≡ trees_of v) x words s (Ok v) t → ArePieces (trees_of v) ps → AfterPieces x s ps t
 value-pieces-at-once trees_of words s x v ps t h made =
     at-once-pieces (λ v ts. ts ≡ trees_of v) words s x v ps t (λ ts m _. made ∙ ap pieces_of (sym m)) h
 
@@ -84,7 +84,7 @@ taken_in wanted (Some t) p r e = go (wanted t) refl e where
   go true w h = let same : (t ∷ [], p) ≡ r = cc in record { one = t; is_wanted = w; whole = ap (λ z. z.0) (sym same) }
   go false w h = cc
 
-taken : (wanted : Tree → Bool) (d : Place) (r : List Tree × Place) → reads.take wanted d ≡ Some r → IsTaken wanted r.0
+taken : (wanted : Tree → Bool) (d : Place) (r : List Tree × Place) → reads.read_if wanted d ≡ Some r → IsTaken wanted r.0
 taken wanted d r e = taken_in wanted (front d) (pass d) r e
 
 -- all characters with a span have become pieces
@@ -129,7 +129,7 @@ punctuation-pieces (c ∷ []) p r e =
     let one = taken (is_punct_of c) (descend p) r e in
     single_pieces c [] one.one r.0 [] (of_single c one.one one.is_wanted) one.whole refl
 punctuation-pieces (c ∷ (d ∷ cs)) p r e =
-    let parts = both_read (reads.take (is_joint_of c) (descend p)) (read_punctuation (d ∷ cs)) r e in
+    let parts = both_read (reads.read_if (is_joint_of c) (descend p)) (read_punctuation (d ∷ cs)) r e in
     let one = taken (is_joint_of c) (descend p) parts.first parts.is_first in
     single_pieces c (d ∷ cs) one.one r.0 parts.second.0 (of_joint c one.one one.is_wanted) (parts.whole ∙ ap (λ z. z ++ parts.second.0) one.whole) (punctuation-pieces (d ∷ cs) parts.first.1 parts.second parts.is_second)
 
@@ -142,7 +142,7 @@ module _ (n : ℕ) (text : List ℕ) (same : sized n text ≡ text) (ascii : cha
       ∙ cond-true (length text == length text) text [] (eq-eqb (length text) (length text) refl)
 
   -- a punctuation that is read
-  pub sized-pieces : (s : State) (spans : List Span) (ps : Vec Piece) (t : State) → PunctuationParses (λ v. v) (ascii_chars (sized n text)) (sized n text) s (Ok spans) t → map piece_of ps.items ≡ punct_pieces text spans → BehindPieces (read_punctuation text s.place) s ps t
+  pub sized-pieces : (s : State) (spans : List Span) (ps : Vec Piece) (t : State) → PunctuationParses (λ v. v) (ascii_chars (sized n text)) (sized n text) s (Ok spans) t → map piece_of ps.items ≡ punct_pieces text spans → AfterPieces (read_punctuation text s.place) s ps t
   sized-pieces s spans ps t h made =
       let P : List ℕ → Type 0 = λ z. PunctuationParses (λ v. v) z (sized n text) s (Ok spans) t in
       let Q : List ℕ → Type 0 = λ z. PunctuationParses (λ v. v) text z s (Ok spans) t in

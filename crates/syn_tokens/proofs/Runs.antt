@@ -3,11 +3,11 @@ use Rattle.std.proofs.Common.{◌≡◌, ◌∙◌, ℕ, zero, suc, ◌+◌, ◌
 use Rattle.std.proofs.Math.Seq.{drop-cons}
 use Rattle.std.proofs.lemmas.List.{map-append}
 use Rattle.std.proofs.lemmas.List.Elements.{All-append}
-use Rattle.syn_tokens.specs.Step.{line}
-use Rattle.syn_tokens.specs.State.{State}
-use Rattle.syn_tokens.specs.Walk.{lines_from, last_state}
-use Rattle.syn_tokens.specs.Seen.{command_of, line_of, IsPlain}
-use Rattle.syn_tokens.specs.Stepping.{ArePlain, IsLine}
+use Rattle.syn_tokens.specs.Session.Step.{line}
+use Rattle.syn_tokens.specs.Session.State.{State}
+use Rattle.syn_tokens.specs.Session.Walk.{lines_from, last_state}
+use Rattle.syn_tokens.specs.Meanings.{command_of, line_of, IsPlain}
+use Rattle.syn_tokens.specs.Session.Stepping.{ArePlain, IsLine}
 use Rattle.syn_tokens.specs.declared.report.Line.{Line}
 use Rattle.syn_tokens.specs.declared.command.Command.{Command}
 

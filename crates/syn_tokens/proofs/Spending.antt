@@ -3,8 +3,8 @@ use Rattle.std.proofs.Common.{◌≡◌, ◌≢◌, ◌∙◌, sym, ap, refl, �
 use Rattle.std.proofs.lemmas.Bool.{ne_eqb, eq-eqb, eqb-true}
 use Rattle.std.proofs.lemmas.Bool.Decides.{eqb_tells}
 use Rattle.std.specs.Prelude.{◌==◌, ◌||◌, cond}
-use Rattle.syn_tokens.specs.State.{State, StreamKind, outermost, content_of, a_fork, all_spent, changed, contains, inside_of, is_content_among, is_inside, spent, spent_with, stream_at}
-use Rattle.syn_tokens.specs.State as states
+use Rattle.syn_tokens.specs.Session.State.{State, StreamKind, outermost, content_of, a_fork, all_spent, with_stream, contains, inside_of, is_content_among, is_inside, spent, spent_with, stream_at}
+use Rattle.syn_tokens.specs.Session.State as states
 use Rattle.syn_tokens.proofs.Inside.{at_start}
 
 -- a stream, spent or as it was
@@ -91,12 +91,12 @@ abbrev pub mapped : (states.Stream → states.Stream) → Option states.Stream �
 mapped f None = None
 mapped f (Some s) = Some (f s)
 
-pub changed_at : (st : State) (n : ℕ) (f : states.Stream → states.Stream) → stream_at (changed st n f) n ≡ mapped f (stream_at st n)
+pub changed_at : (st : State) (n : ℕ) (f : states.Stream → states.Stream) → stream_at (with_stream st n f) n ≡ mapped f (stream_at st n)
 changed_at [] n f = refl
 changed_at (s ∷ st) zero f = refl
 changed_at (s ∷ st) (suc n) f = changed_at st n f
 
-pub changed_not : (st : State) (n i : ℕ) (f : states.Stream → states.Stream) → i ≢ n → stream_at (changed st n f) i ≡ stream_at st i
+pub changed_not : (st : State) (n i : ℕ) (f : states.Stream → states.Stream) → i ≢ n → stream_at (with_stream st n f) i ≡ stream_at st i
 changed_not [] n i f h = refl
 changed_not (s ∷ st) zero zero f h = absurd (h refl)
 changed_not (s ∷ st) zero (suc i) f h = refl

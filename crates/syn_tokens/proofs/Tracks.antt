@@ -4,12 +4,12 @@ use Rattle.std.proofs.Math.Seq.{map-set_same}
 use Rattle.std.proofs.lemmas.List.{length-map}
 use Rattle.std.proofs.lemmas.Bool.{cond-true, cond-false}
 use Rattle.std.specs.Prelude.{cond}
-use Rattle.syn_tokens.specs.State.{State, stream_at, changed, spent, handed_note, noted_on_parent, is_open_content_of, handed_up, contents_closed, closed_inside, StreamKind, outermost, content_of, a_fork}
-use Rattle.syn_tokens.specs.Step.{place_of}
-use Rattle.syn_tokens.specs.State as states
+use Rattle.syn_tokens.specs.Session.State.{State, stream_at, with_stream, spent, handed_note, noted_on_parent, is_open_content_of, handed_up, contents_closed, closed_inside, StreamKind, outermost, content_of, a_fork}
+use Rattle.syn_tokens.specs.Session.Step.{place_of}
+use Rattle.syn_tokens.specs.Session.State as states
 use Rattle.tok_buffer.specs.Ahead.{Leftover}
-use Rattle.syn_tokens.specs.Tracks.{kind_of, stream_of, state_of_list}
-use Rattle.syn_tokens.specs.declared.stream.Stream.{Stream}
+use Rattle.syn_tokens.specs.Session.Tracks.{kind_of, stream_of, state_of_list}
+use Rattle.syn_tokens.specs.declared.session.stream.Stream.{Stream}
 
 pub stream_there : (xs : List Stream) (n : ℕ) (x : Stream) → x ≡ get_or xs n x → n < length xs → stream_at (state_of_list xs) n ≡ Some (stream_of x)
 stream_there [] n x e h = absurd (omega arith)
@@ -21,7 +21,7 @@ stream_past [] n h = refl
 stream_past (y ∷ ys) zero h = absurd (omega arith)
 stream_past (y ∷ ys) (suc n) h = stream_past ys n (omega arith)
 
-pub changed_there : (xs : List Stream) (n : ℕ) (x y : Stream) (f : states.Stream → states.Stream) → x ≡ get_or xs n x → n < length xs → stream_of y ≡ f (stream_of x) → state_of_list (set xs n y) ≡ changed (state_of_list xs) n f
+pub changed_there : (xs : List Stream) (n : ℕ) (x y : Stream) (f : states.Stream → states.Stream) → x ≡ get_or xs n x → n < length xs → stream_of y ≡ f (stream_of x) → state_of_list (set xs n y) ≡ with_stream (state_of_list xs) n f
 changed_there [] n x y f e h q = absurd (omega arith)
 changed_there (z ∷ zs) zero x y f e h q = ap (λ s. s ∷ state_of_list zs) (q ∙ ap (λ w. f (stream_of w)) e)
 changed_there (z ∷ zs) (suc n) x y f e h q = ap (λ s. stream_of z ∷ s) (changed_there zs n x y f e (omega arith) q)
@@ -50,24 +50,24 @@ pub state_kept : (xs : List Stream) (n : ℕ) (x y : Stream) → x ≡ get_or xs
 state_kept xs n x y e q = map-set_same stream_of xs n y x (q ∙ ap stream_of e)
 
 -- two changes that are the same at the stream that is there
-pub changed_alike : (st : State) (n : ℕ) (s : states.Stream) (f g : states.Stream → states.Stream) → stream_at st n ≡ Some s → f s ≡ g s → changed st n f ≡ changed st n g
+pub changed_alike : (st : State) (n : ℕ) (s : states.Stream) (f g : states.Stream → states.Stream) → stream_at st n ≡ Some s → f s ≡ g s → with_stream st n f ≡ with_stream st n g
 changed_alike [] n s f g e h = refl
 changed_alike (x ∷ st) zero s f g e h =
     let same : x ≡ s = cc in ap (λ z. z ∷ st) (ap f same ∙ h ∙ ap g (sym same))
 changed_alike (x ∷ st) (suc n) s f g e h = ap (λ z. x ∷ z) (changed_alike st n s f g e h)
 
-pub changed-append : (st us : State) (n : ℕ) (f : states.Stream → states.Stream) → n < length st → changed (st ++ us) n f ≡ changed st n f ++ us
-changed-append [] us n f h = absurd (omega arith)
-changed-append (s ∷ st) us zero f h = refl
-changed-append (s ∷ st) us (suc n) f h = ap (λ z. s ∷ z) (changed-append st us n f (omega arith))
+pub with_stream-append : (st us : State) (n : ℕ) (f : states.Stream → states.Stream) → n < length st → with_stream (st ++ us) n f ≡ with_stream st n f ++ us
+with_stream-append [] us n f h = absurd (omega arith)
+with_stream-append (s ∷ st) us zero f h = refl
+with_stream-append (s ∷ st) us (suc n) f h = ap (λ z. s ∷ z) (with_stream-append st us n f (omega arith))
 
 -- a stream hands up
 abbrev handed_with : ℕ → State → Option states.Stream → State
-handed_with k st o = elim o [ None ↦ st | Some s ↦ changed (noted_on_parent s.kind (handed_note s) st) k spent ]
+handed_with k st o = elim o [ None ↦ st | Some s ↦ with_stream (noted_on_parent s.kind (handed_note s) st) k spent ]
 
-pub handed_there : (k : ℕ) (st us vs : State) (s : states.Stream) → stream_at st k ≡ Some s → us ≡ noted_on_parent s.kind (handed_note s) st → vs ≡ changed us k spent → vs ≡ handed_up k st
+pub handed_there : (k : ℕ) (st us vs : State) (s : states.Stream) → stream_at st k ≡ Some s → us ≡ noted_on_parent s.kind (handed_note s) st → vs ≡ with_stream us k spent → vs ≡ handed_up k st
 handed_there k st us vs s e q r =
-    r ∙ ap (λ z. changed z k spent) q ∙ ap (handed_with k st) (sym e)
+    r ∙ ap (λ z. with_stream z k spent) q ∙ ap (handed_with k st) (sym e)
 
 pub length-along : (xs ys : List Stream) → state_of_list xs ≡ state_of_list ys → length xs ≡ length ys
 length-along xs ys e = sym (length-state xs) ∙ ap length e ∙ length-state ys
@@ -85,7 +85,7 @@ noted_apart f (Some p) n st e = cc
 
 -- nothing that is closed, noted or spent moves
 module _ (j : ℕ) where
-  changed_place : (st : State) (n i : ℕ) (f : states.Stream → states.Stream) → ((s : states.Stream) → (f s).place ≡ s.place) → place_of (stream_at (changed st n f) i) ≡ place_of (stream_at st i)
+  changed_place : (st : State) (n i : ℕ) (f : states.Stream → states.Stream) → ((s : states.Stream) → (f s).place ≡ s.place) → place_of (stream_at (with_stream st n f) i) ≡ place_of (stream_at st i)
   changed_place [] n i f h = refl
   changed_place (s ∷ st) zero zero f h = h s
   changed_place (s ∷ st) zero (suc i) f h = refl

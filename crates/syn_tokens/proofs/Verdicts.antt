@@ -4,12 +4,12 @@ use Rattle.std.specs.Prelude.{Option, Some, None, MatchOption}
 use Rattle.tok_buffer.specs.Messages as messages
 use Rattle.syn_parse.specs.Faults.{IsRefused}
 use Rattle.tok_buffer.specs.Ahead.{Leftover}
-use Rattle.syn_parse.specs.Words.{leftover_refusal}
+use Rattle.syn_parse.specs.RefusalWords.{leftover_refusal}
 use Rattle.syn_parse.specs.declared.fault.Fault.{Fault}
 use Rattle.syn_parse.specs.declared.fault.Fault.TheVariants.{Refused}
 use Rattle.tok_buffer.specs.declared.error.Error.{Error}
 use Rattle.syn_tokens.specs.Commands.{accepted, left_over}
-use Rattle.syn_tokens.specs.Seen.{refusal_of, IsOneMessage}
+use Rattle.syn_tokens.specs.Meanings.{refusal_of, IsOneMessage}
 use Rattle.syn_tokens.proofs.Refusals.{refusal_of-refused}
 
 pub verdict_refused : {T : Type 0} (left : Option Leftover) (r : Result T Fault) (v : T) (e : Error) → MatchOption left (r ≡ Ok v) (λ l. IsRefused (leftover_refusal l) r) → r ≡ Err (Refused e) → (left_over (refusal_of e) ≡ elim left [ None ↦ accepted | Some l ↦ left_over (leftover_refusal l) ]) × IsOneMessage e

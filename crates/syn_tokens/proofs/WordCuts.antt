@@ -9,7 +9,7 @@ use Rattle.std.specs.Prelude.{not}
 use Rattle.std.specs.Result.{result_ok}
 use Rattle.std.specs.Str.{all_ascii_digits}
 use Rattle.std.specs.Str.Parse.{ParsesUnsigned, digits_value}
-use Rattle.syn_tokens.specs.CommandText.{is_empty, words, is_number, number}
+use Rattle.syn_tokens.specs.Program.CommandText.{is_empty, words, is_number, number}
 use Rattle.syn_tokens.proofs.Lines.{split_some, split_none}
 
 pub is_empty_len : (xs : List ℕ) → eqb (length xs) 0 ≡ is_empty xs

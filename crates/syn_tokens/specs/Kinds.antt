@@ -6,13 +6,13 @@ use Rattle.tok_core.specs.Forest.{Tree}
 use Rattle.tok_buffer.specs.Entry.{enter}
 use Rattle.tok_buffer.specs.Place.{Place, is_at_end}
 use Rattle.tok_buffer.specs.Reads as reads
-use Rattle.tok_buffer.specs.Words.{Refusal}
+use Rattle.tok_buffer.specs.Refusals.{Refusal}
 use Rattle.tok_buffer.specs.Reads.{read_keyword}
-use Rattle.tok_types.specs.Texts.{accept_as_ident, keyword_text, punctuation_text, quoted}
+use Rattle.tok_types.specs.Texts.{accept_as_ident, keyword_text, punctuation_text, in_backquotes}
 use Rattle.syn_parse.specs.Parses.{accept_as_lifetime}
 use Rattle.syn_parse.specs.State as parse
-use Rattle.syn_parse.specs.Words.{expected, ident_words, lifetime_words, punctuation_refusal}
-use Rattle.syn_parse.specs.Words.{refused_at}
+use Rattle.syn_parse.specs.RefusalWords.{expected, ident_words, lifetime_words, punctuation_refusal}
+use Rattle.syn_parse.specs.RefusalWords.{refused_at}
 
 pub data Kind : Type 0 where
   ident : Kind
@@ -59,7 +59,7 @@ peek brace p = is_some (enter Brace p)
 peek bracket p = is_some (enter Bracket p)
 peek the_end p = is_at_end p
 peek invisible_group p = is_some (enter delimiter.None p)
-peek group_tree p = is_some (reads.take reads.is_group p)
+peek group_tree p = is_some (reads.read_if reads.is_group p)
 peek any_tree p = is_some (reads.read_tree p)
 
 -- whether invisible groups do not matter to a look
@@ -90,8 +90,8 @@ display_kind lifetime_any = codes "lifetime"
 display_kind literal = codes "literal"
 display_kind punct = codes "punctuation token"
 display_kind underscore = codes "`_`"
-display_kind (keyword k) = quoted (keyword_text k)
-display_kind (punctuation k) = quoted (punctuation_text k)
+display_kind (keyword k) = in_backquotes (keyword_text k)
+display_kind (punctuation k) = in_backquotes (punctuation_text k)
 
 abbrev pub display : Look → List ℕ
 display (kind k) = display_kind k
@@ -112,8 +112,8 @@ refused_words lifetime_any p = codes "expected lifetime"
 refused_words literal p = codes "expected literal token"
 refused_words punct p = codes "expected punctuation token"
 refused_words underscore p = expected (codes "`_`")
-refused_words (keyword k) p = expected (quoted (keyword_text k))
-refused_words (punctuation k) p = expected (quoted (punctuation_text k))
+refused_words (keyword k) p = expected (in_backquotes (keyword_text k))
+refused_words (punctuation k) p = expected (in_backquotes (punctuation_text k))
 
 -- the refusal of a kind that is not read at the place of a stream
 abbrev pub refusal : Kind → parse.State → Refusal

@@ -1,22 +1,29 @@
 -- What the program prints for an input, and its status.
+pub mod CommandText
+pub mod Comparison
+pub mod Failures
+pub mod Faults
+pub mod Input
+pub mod Outcomes
+pub mod Output
 use Rattle.std.specs.Prelude.{◌≡◌, ◌⊎◌, ⊤, ℕ, List, Option, Some, None, codes}
 use Rattle.std.specs.Io.KnownBytes.{Keeps}
 use Rattle.std.specs.Str.{IsUtf8, chars}
 use Rattle.tok_core.specs.Forest.{Forest}
 use Rattle.tok_core.specs.Lexical.Reading.{Reads, IsRefused}
 use Rattle.tok_core.specs.Lexical.Rules.{marked_rules}
-use Rattle.syn_tokens.specs.CommandText.{unreadable_line, commands_in}
+use Rattle.syn_tokens.specs.Program.CommandText.{unreadable_line, commands_in}
 use Rattle.syn_tokens.specs.Commands.{Command}
-use Rattle.syn_tokens.specs.Comparison.{Compares, Outcome, reported, compared, outcome_text}
-use Rattle.syn_tokens.specs.Comparison.{outcome_status}
-use Rattle.syn_tokens.specs.Faults.{unreadable_text}
-use Rattle.syn_tokens.specs.Input.{parts_of}
-use Rattle.syn_tokens.specs.Output.{GoesOut}
-use Rattle.syn_tokens.specs.Printed.{ended}
-use Rattle.syn_tokens.specs.Walk.{walk}
-use Rattle.syn_tokens.specs.declared.fault.Unreadable.{Unreadable}
-use Rattle.syn_tokens.specs.declared.fault.Unreadable.TheVariants.{Utf8, Parts, Text, Right}
-use Rattle.syn_tokens.specs.declared.fault.Unreadable.TheVariants as unreadable
+use Rattle.syn_tokens.specs.Program.Comparison.{Compares, Outcome, reported, compared, outcome_text}
+use Rattle.syn_tokens.specs.Program.Comparison.{outcome_status}
+use Rattle.syn_tokens.specs.Program.Faults.{unreadable_text}
+use Rattle.syn_tokens.specs.Program.Input.{parts_of}
+use Rattle.syn_tokens.specs.Program.Output.{GoesOut}
+use Rattle.syn_tokens.specs.ReportText.{ended}
+use Rattle.syn_tokens.specs.Session.Walk.{walk}
+use Rattle.syn_tokens.specs.declared.program.fault.Unreadable.{Unreadable}
+use Rattle.syn_tokens.specs.declared.program.fault.Unreadable.TheVariants.{Utf8, Parts, Text, Right}
+use Rattle.syn_tokens.specs.declared.program.fault.Unreadable.TheVariants as unreadable
 
 -- the input is UTF-8 and holds these texts, the second of which may be missing, and these lines of
 -- commands

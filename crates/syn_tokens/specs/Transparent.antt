@@ -9,7 +9,7 @@ use Rattle.syn_tokens.specs.Agree.{ReportsAgree}
 use Rattle.syn_tokens.specs.Commands
 use Rattle.syn_tokens.specs.Commands.{Command}
 use Rattle.syn_tokens.specs.Kinds.{Look, ignores_invisible}
-use Rattle.syn_tokens.specs.Walk.{walk}
+use Rattle.syn_tokens.specs.Session.Walk.{walk}
 
 abbrev pub all_ignore_invisible : List Look → Bool
 all_ignore_invisible looks = list_all ignores_invisible looks

@@ -1,9 +1,11 @@
 // Reports that agree.
+pub mod both;
 mod same;
+pub mod transparent;
 
 ghost use Rattle.std.specs.Prelude.{◌↔◌, map, IsTrue};
 ghost use Rattle.syn_tokens.specs.Agree.{AnswersAgree, LinesAgree, ReportsAgree, VerdictsAgree};
-ghost use Rattle.syn_tokens.specs.Seen.{answer_of, line_of, report_of, verdict_of};
+ghost use Rattle.syn_tokens.specs.Meanings.{answer_of, line_of, report_of, verdict_of};
 
 use crate::report::{Answer, Line, Report, Verdict};
 use same::{same_parts, same_pieces, same_streams};
@@ -17,7 +19,7 @@ fn answers_agree(left: &Answer, right: &Answer) -> bool
         (Answer::Read(left), Answer::Read(right)) => same_pieces(left, right),
         (Answer::Absent, Answer::Absent) => true,
         (Answer::Entered(n, delimiter, span), Answer::Entered(m, other, place)) => {
-            (*n == *m) & (*delimiter == *other) & (span.join() == place.join())
+            *n == *m && *delimiter == *other && span.join() == place.join()
         }
         (Answer::Forked(n), Answer::Forked(m)) => *n == *m,
         (Answer::List(left), Answer::List(right)) => same_parts(left, right),

@@ -1,17 +1,24 @@
 // The program.
-ghost use Rattle.std.specs.Prelude.{◌≡◌, IfOk, IfSome, MatchResult, string_bytes};
-ghost use Rattle.syn_tokens.specs.Failures.{FailsToRead, FailsToWrite};
-ghost use Rattle.syn_tokens.specs.Faults.{OnUnreadable};
-ghost use Rattle.syn_tokens.specs.Outcome.{outcome_of};
-ghost use Rattle.syn_tokens.specs.Program.{HasOutcome, IsOther, IsUnreadable, IsUnreadableOther, Prints, PrintsOnly, Serves, ServesOnly};
-ghost use Rattle.syn_tokens.specs.Input.{text_in};
+pub mod channel;
+pub mod command_text;
+pub mod compared;
+pub mod fault;
+pub mod input;
+pub mod output;
 
-use crate::channel::{Sink, Source};
-use crate::command_text::read_commands;
-use crate::compared::{Outcome, compare};
-use crate::fault::{Fault, Unreadable};
-use crate::input::{ReadFault, parts, read_input};
-use crate::output::send;
+ghost use Rattle.std.specs.Prelude.{◌≡◌, IfOk, IfSome, MatchResult, string_bytes};
+ghost use Rattle.syn_tokens.specs.Program.Failures.{FailsToRead, FailsToWrite};
+ghost use Rattle.syn_tokens.specs.Program.Faults.{OnUnreadable};
+ghost use Rattle.syn_tokens.specs.Program.Outcomes.{outcome_of};
+ghost use Rattle.syn_tokens.specs.Program.{HasOutcome, IsOther, IsUnreadable, IsUnreadableOther, Prints, PrintsOnly, Serves, ServesOnly};
+ghost use Rattle.syn_tokens.specs.Program.Input.{text_in};
+
+use crate::program::channel::{Sink, Source};
+use crate::program::command_text::read_commands;
+use crate::program::compared::{Outcome, compare};
+use crate::program::fault::{Fault, Unreadable};
+use crate::program::input::{ReadFault, parts, read_input};
+use crate::program::output::send;
 use crate::session::replay;
 use std::alloc::{AllocError, Global};
 use std::str::from_utf8;
@@ -31,11 +38,13 @@ pub fn serve<R: Source, W: Sink>(alloc: Global, input: &mut R, output: &mut W) -
     ensures serves { let unread = FailsToRead R.reads input.old input.new in
         let unwritten = FailsToWrite W.writes W.flushes output.old output.new in
         IfSome (R.remaining input.old)
-        (λ bytes. Serves unread unwritten bytes result (W.contents output.old) (W.contents output.new)) }
+        (λ bytes. Serves unread unwritten bytes result (W.contents output.old)
+        (W.contents output.new)) }
     ensures only { let unread = FailsToRead R.reads input.old input.new in
         let unwritten = FailsToWrite W.writes W.flushes output.old output.new in
         IfSome (R.remaining input.old)
-        (λ bytes. ServesOnly unread unwritten bytes result (W.contents output.old) (W.contents output.new)) }
+        (λ bytes. ServesOnly unread unwritten bytes result (W.contents output.old)
+        (W.contents output.new)) }
 {
     match read_input(alloc, input) {
         Ok(bytes) => answer(alloc, &bytes, output),

@@ -1,20 +1,28 @@
 // Runs commands one by one over a stream.
+pub mod links;
+pub mod lists;
+pub mod peeks;
+pub mod pieces;
+pub mod reads;
+pub mod stream;
+pub mod streams;
+pub mod table;
+
 ghost use Rattle.std.specs.Prelude.{◌≡◌, ◌<◌, ◌∷◌, length, Some, None, IfOk, map, true};
-ghost use Rattle.syn_tokens.specs.State.{stream_at};
-ghost use Rattle.syn_tokens.specs.Step as spec;
-ghost use Rattle.syn_tokens.specs.Step.{any_of, is_missing, is_spent, first_named, named, on_stream, place_of, step, position_in};
-ghost use Rattle.syn_tokens.specs.Acceptance.{IsExact};
-ghost use Rattle.syn_tokens.specs.Walk.{walk, stream_verdict};
-ghost use Rattle.syn_tokens.specs.Reading.{is_read};
-ghost use Rattle.syn_tokens.specs.Seen.{command_of, position_of, verdict_of, report_of};
-ghost use Rattle.syn_tokens.specs.Stepping.{IsStepped, IsLine, HasRun, IsPlainVerdict, ArePlain, stands, with_other};
-ghost use Rattle.syn_tokens.specs.Tracks.{stream_of, state_of};
+ghost use Rattle.syn_tokens.specs.Session.State.{stream_at};
+ghost use Rattle.syn_tokens.specs.Session.Step as spec;
+ghost use Rattle.syn_tokens.specs.Session.Step.{any_of, is_missing, is_spent, first_named, named, on_stream, place_of, step, position_in};
+ghost use Rattle.syn_tokens.specs.Session.Acceptance.{IsExact};
+ghost use Rattle.syn_tokens.specs.Session.Walk.{walk, stream_verdict};
+ghost use Rattle.syn_tokens.specs.Session.Reading.{is_read};
+ghost use Rattle.syn_tokens.specs.Meanings.{command_of, position_of, verdict_of, report_of};
+ghost use Rattle.syn_tokens.specs.Session.Stepping.{IsStepped, IsLine, HasRun, IsPlainVerdict, ArePlain, stands, with_other};
+ghost use Rattle.syn_tokens.specs.Session.Tracks.{stream_of, state_of};
 
 use crate::command::Command;
 use crate::report::{Answer, Line, Position, Report, Verdict};
-use crate::stream::Stream;
-use crate::streams::Streams;
-use crate::{reads, table};
+use crate::session::stream::Stream;
+use crate::session::streams::Streams;
 use std::alloc::{AllocError, Global};
 use syn_parse::{Fault, tokens_to_parse_buffer};
 use tok_buffer::TokenBuffer;
@@ -30,7 +38,8 @@ fn read<'a>(
     requires here { stream_at (state_of streams.old) n ≡ Some (stream_of stream) }
     requires read { is_read (command_of command.now) ≡ true }
     ensures { IfOk result
-        (λ a. IsStepped a (state_of streams.new) (on_stream (command_of command.now) (state_of streams.old) n (stream_of stream.entry))) }
+        (λ a. IsStepped a (state_of streams.new)
+        (on_stream (command_of command.now) (state_of streams.old) n (stream_of stream.entry))) }
 {
     let mut input = stream.paused.resume();
     let answer = reads::answer(&mut input, command);
@@ -44,7 +53,9 @@ fn read<'a>(
 // A command whose streams are open, and of the kinds that it asks for.
 fn act<'a>(streams: &mut Streams<'a>, command: &Command) -> Result<Answer, AllocError>
     requires { spec.misuse (command_of command.now) (state_of streams.old) ≡ None }
-    ensures { IfOk result (λ a. IsStepped a (state_of streams.new) (step (command_of command.now) (state_of streams.old))) }
+    ensures { IfOk result
+        (λ a. IsStepped a (state_of streams.new)
+        (step (command_of command.now) (state_of streams.old))) }
 {
     let (n, _) = command.streams();
     let stream = streams.at(n);
@@ -65,27 +76,27 @@ impl Command {
         ensures { named (command_of self.now) ≡ with_other result.0 result.1 }
     {
         match self {
-            Command::Peek(n, _) => (*n, None),
-            Command::Peek2(n, _) => (*n, None),
-            Command::Peek3(n, _) => (*n, None),
-            Command::Parse(n, _) => (*n, None),
-            Command::Optional(n, _) => (*n, None),
-            Command::Empty(n) => (*n, None),
-            Command::Enter(n, _) => (*n, None),
-            Command::EnterAny(n) => (*n, None),
-            Command::Terminated(n, _, _) => (*n, None),
-            Command::Separated(n, _, _) => (*n, None),
-            Command::Lookahead(n, _) => (*n, None),
-            Command::Fork(n) => (*n, None),
             Command::Advance(n, fork) => (*n, Some(*fork)),
-            Command::Discard(n) => (*n, None),
-            Command::Close(n) => (*n, None),
-            Command::StreamSpan(n) => (*n, None),
-            Command::CursorSpan(n) => (*n, None),
-            Command::PreviousSpan(n) => (*n, None),
-            Command::Tree(n) => (*n, None),
-            Command::Rest(n) => (*n, None),
-            Command::GroupTree(n) => (*n, None),
+            Command::Peek(n, _)
+            | Command::Peek2(n, _)
+            | Command::Peek3(n, _)
+            | Command::Parse(n, _)
+            | Command::Optional(n, _)
+            | Command::Empty(n)
+            | Command::Enter(n, _)
+            | Command::EnterAny(n)
+            | Command::Terminated(n, _, _)
+            | Command::Separated(n, _, _)
+            | Command::Lookahead(n, _)
+            | Command::Fork(n)
+            | Command::Discard(n)
+            | Command::Close(n)
+            | Command::StreamSpan(n)
+            | Command::CursorSpan(n)
+            | Command::PreviousSpan(n)
+            | Command::Tree(n)
+            | Command::Rest(n)
+            | Command::GroupTree(n) => (*n, None),
         }
     }
 }
@@ -142,14 +153,7 @@ fn kind_refusal<'a>(streams: &Streams<'a>, command: &Command) -> Option<u8>
     ensures { result ≡ spec.kind_refusal (command_of command.now) (state_of streams.now) }
 {
     match command {
-        Command::Advance(_, fork) => {
-            if is_fork(streams, *fork) {
-                None
-            } else {
-                Some(3)
-            }
-        }
-        Command::Discard(fork) => {
+        Command::Advance(_, fork) | Command::Discard(fork) => {
             if is_fork(streams, *fork) {
                 None
             } else {
@@ -182,7 +186,9 @@ fn misuse<'a>(streams: &Streams<'a>, command: &Command) -> Option<u8>
 }
 
 fn answer_to<'a>(streams: &mut Streams<'a>, command: &Command) -> Result<Answer, AllocError>
-    ensures { IfOk result (λ a. IsStepped a (state_of streams.new) (step (command_of command.now) (state_of streams.old))) }
+    ensures { IfOk result
+        (λ a. IsStepped a (state_of streams.new)
+        (step (command_of command.now) (state_of streams.old))) }
 {
     match misuse(streams, command) {
         Some(number) => Ok(Answer::Unfit(number)),
@@ -203,7 +209,8 @@ fn position<'a>(streams: &Streams<'a>, n: usize) -> Position
 }
 
 fn line<'a>(streams: &mut Streams<'a>, command: &Command) -> Result<Line, AllocError>
-    ensures { IfOk result (λ l. IsLine l (state_of streams.new) (state_of streams.old) command.now) }
+    ensures { IfOk result
+        (λ l. IsLine l (state_of streams.new) (state_of streams.old) command.now) }
 {
     let (n, other) = command.streams();
     let is_missing = any_missing(streams, n, other);
@@ -221,7 +228,8 @@ fn run<'a>(
     streams: &mut Streams<'a>,
     commands: &[Command],
 ) -> Result<Vec<Line>, AllocError>
-    ensures { IfOk result (λ ls. HasRun ls.items (state_of streams.new) (state_of streams.old) commands.now) }
+    ensures { IfOk result
+        (λ ls. HasRun ls.items (state_of streams.new) (state_of streams.old) commands.now) }
 {
     let mut lines = Vec::with_capacity(alloc, commands.len())?;
     for command in commands {
@@ -231,7 +239,9 @@ fn run<'a>(
 }
 
 fn verdict<'a>(streams: &Streams<'a>) -> Result<Verdict, AllocError>
-    ensures { IfOk result (λ v. (verdict_of v ≡ stream_verdict (stream_at (state_of streams.now) 0)) × IsPlainVerdict v) }
+    ensures { IfOk result
+        (λ v. (verdict_of v ≡ stream_verdict (stream_at (state_of streams.now) 0))
+        × IsPlainVerdict v) }
 {
     match streams.whole().paused.resume().finish() {
         Ok(()) => Ok(Verdict::Accepted),
@@ -250,7 +260,8 @@ pub fn replay(
     commands: &[Command],
 ) -> Result<Report, AllocError>
     ensures walk { IfOk result (λ r. report_of r ≡ walk stream (map command_of commands.now)) }
-    ensures acceptance { IfOk result (λ r. IsExact stream (map command_of commands.now) (verdict_of r.verdict)) }
+    ensures acceptance { IfOk result
+        (λ r. IsExact stream (map command_of commands.now) (verdict_of r.verdict)) }
     ensures errors { IfOk result (λ r. ArePlain r.lines.items × IsPlainVerdict r.verdict) }
 {
     let buffer = TokenBuffer::new2(alloc, 0, stream)?;

@@ -13,9 +13,9 @@ use Rattle.tok_buffer.specs.View.{IsVisibleDelimiter}
 use Rattle.tok_buffer.proofs.View.Alike.{Alike, StandsIn, ReadsAlike, PlacesAlike, EntriesAlike}
 use Rattle.tok_buffer.proofs.View.Alike.{alike-read, alike-skip, alike-end, alike-enter}
 use Rattle.tok_buffer.proofs.View.Standing.{leads-standing}
-use Rattle.tok_types.specs.Texts.{quoted}
+use Rattle.tok_types.specs.Texts.{in_backquotes}
 use Rattle.syn_parse.specs.State as parse
-use Rattle.syn_parse.specs.Words.{ident_words, lifetime_words, name_in, refused_at}
+use Rattle.syn_parse.specs.RefusalWords.{ident_words, lifetime_words, name_in, refused_at}
 use Rattle.syn_parse.proofs.SameWords.{alike-words, alike-at_stream}
 use Rattle.syn_tokens.specs.Kinds.{Kind, ident, ident_any, lifetime, lifetime_any, punctuation}
 use Rattle.syn_tokens.specs.Kinds.{read, peek_kind, Look, kind, paren, brace, bracket, the_end}
@@ -82,7 +82,7 @@ module _ (f g : Laid) where
 
   -- The words of refusals.
   abbrev name_words : List Tree → List ℕ
-  name_words ts = codes "expected identifier, found keyword " ++ quoted (name_in ts)
+  name_words ts = codes "expected identifier, found keyword " ++ in_backquotes (name_in ts)
 
   abbrev lifetime_name_words : List Tree → List ℕ
   lifetime_name_words ts = codes "unexpected keyword lifetime \"'" ++ (name_in ts ++ codes "\"")

@@ -17,7 +17,7 @@ use Rattle.tok_buffer.proofs.View.Alike.{alike-empty, alike-enter}
 use Rattle.tok_buffer.specs.View.{IsVisibleDelimiter}
 use Rattle.syn_tokens.specs.Kinds.{Kind, Look, read, peek, peek2, peek3, peek_kind, display}
 use Rattle.syn_tokens.specs.Kinds.{ignores_invisible, refusal}
-use Rattle.syn_parse.specs.Words.{delimiter_words}
+use Rattle.syn_parse.specs.RefusalWords.{delimiter_words}
 use Rattle.syn_parse.proofs.SameWords.{alike-at_stream, alike-look}
 use Rattle.syn_tokens.proofs.Views.KindsAlike.{alike-kind, alike-peek, alike-peek2, alike-peek3}
 use Rattle.syn_tokens.proofs.Views.KindsAlike.{alike-peek_kind, alike-refusal}
@@ -26,18 +26,18 @@ use Rattle.syn_tokens.specs.Transparent.{all_ignore_invisible, is_transparent}
 use Rattle.syn_tokens.specs.Commands
 use Rattle.syn_tokens.specs.Commands.{Command, Answer, truth, pieces, absent, entered, forked}
 use Rattle.syn_tokens.specs.Commands.{listed, found, done, refused, unfit}
-use Rattle.syn_tokens.specs.State.{Stream, StreamKind, content_of, a_fork, State, stream_at}
-use Rattle.syn_tokens.specs.State.{at_rest, changed, moved_to, is_inside}
-use Rattle.syn_tokens.specs.Step.{Stepped, stays, moves, new_stream, parsed, into_group, run_list}
-use Rattle.syn_tokens.specs.Step.{looked, place_of, tested, on_stream, named, is_missing, is_spent}
-use Rattle.syn_tokens.specs.Step.{any_of, is_fork, is_content, of_kind, kind_refusal, misuse}
-use Rattle.syn_tokens.specs.Step.{first_named, step_on, step}
+use Rattle.syn_tokens.specs.Session.State.{Stream, StreamKind, content_of, a_fork, State, stream_at}
+use Rattle.syn_tokens.specs.Session.State.{at_rest, with_stream, moved_to, is_inside}
+use Rattle.syn_tokens.specs.Session.Step.{Stepped, stays, moves, new_stream, parsed, into_group, run_list}
+use Rattle.syn_tokens.specs.Session.Step.{looked, place_of, tested, on_stream, named, is_missing, is_spent}
+use Rattle.syn_tokens.specs.Session.Step.{any_of, is_fork, is_content, of_kind, kind_refusal, misuse}
+use Rattle.syn_tokens.specs.Session.Step.{first_named, step_on, step}
 use Rattle.syn_tokens.specs.Turns.{Outcome, read_all, refused_at, pieces_of, terminated_turns}
 use Rattle.syn_tokens.specs.Turns.{separated_turns, turns_left}
 use Rattle.syn_tokens.proofs.Views.ListTurns.{OutcomesAlike, alike-terminated, alike-separated}
 use Rattle.syn_tokens.proofs.Views.ListTurns.{alike-turns_left}
 use Rattle.syn_tokens.proofs.Views.Streams.{StreamsAlike, BothAlike, StatesAlike, alike-stream_at}
-use Rattle.syn_tokens.proofs.Views.Streams.{alike-length, alike-append, alike-changed, alike-moved}
+use Rattle.syn_tokens.proofs.Views.Streams.{alike-length, alike-append, alike-with_stream, alike-moved}
 use Rattle.syn_tokens.proofs.Views.Streams.{alike-closed, alike-advanced, alike-spent_with}
 use Rattle.syn_tokens.proofs.Views.Streams.{same-inside}
 
@@ -57,8 +57,8 @@ module _ (f g : Laid) (visible : erase f.forest ≡ erase g.forest) where
   module _ (st su : State) (h : StatesAlike f g st su) (k : ℕ) (s t : Stream)
       (i : StreamsAlike f g s t) where
     moved : (p q : Place) → Alike f g p q
-        → StatesAlike f g (changed st k (moved_to p)) (changed su k (moved_to q))
-    moved p q j = alike-changed f g st su k (moved_to p) (moved_to q) (alike-moved f g p q j) h
+        → StatesAlike f g (with_stream st k (moved_to p)) (with_stream su k (moved_to q))
+    moved p q j = alike-with_stream f g st su k (moved_to p) (moved_to q) (alike-moved f g p q j) h
 
     told : (x y : Bool) → x ≡ y → StepsAlike (stays st (truth x)) (stays su (truth y))
     told x y e = record { answer = ap truth e; state = h }
@@ -104,10 +104,10 @@ module _ (f g : Laid) (visible : erase f.forest ≡ erase g.forest) where
               ap (λ x. entered x a.delimiter a.span) size
               ∙ ap₂ (λ x y. entered (length su) x y) j.delimiter j.span;
           state =
-              alike-append f g (changed st k (moved_to a.behind)) (changed su k (moved_to b.behind))
+              alike-append f g (with_stream st k (moved_to a.after)) (with_stream su k (moved_to b.after))
               (new_stream a.content (closing_span a.span) (content_of k))
               (new_stream b.content (closing_span b.span) (content_of k))
-              (moved a.behind b.behind j.behind)
+              (moved a.after b.after j.after)
               (record {
                 place = j.content;
                 scope_span = ap closing_span j.span;

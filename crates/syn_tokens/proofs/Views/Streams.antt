@@ -10,11 +10,11 @@ use Rattle.tok_buffer.specs.Buffer.{Laid}
 use Rattle.tok_buffer.specs.Ahead.{Leftover, leftover}
 use Rattle.tok_buffer.specs.Place.{Place}
 use Rattle.tok_buffer.proofs.View.Alike.{Alike, alike-leftover}
-use Rattle.syn_tokens.specs.State.{Stream, StreamKind, outermost, content_of, a_fork, State}
-use Rattle.syn_tokens.specs.State.{stream_at, changed, moved_to, spent, noted, is_content_of}
-use Rattle.syn_tokens.specs.State.{is_open_content_of, contains, is_content_among, inside_of}
-use Rattle.syn_tokens.specs.State.{is_inside, spent_with, handed_note, noted_on_parent, handed_up}
-use Rattle.syn_tokens.specs.State.{contents_closed, closed_inside, closed, taken_over, advanced}
+use Rattle.syn_tokens.specs.Session.State.{Stream, StreamKind, outermost, content_of, a_fork, State}
+use Rattle.syn_tokens.specs.Session.State.{stream_at, with_stream, moved_to, spent, noted, is_content_of}
+use Rattle.syn_tokens.specs.Session.State.{is_open_content_of, contains, is_content_among, inside_of}
+use Rattle.syn_tokens.specs.Session.State.{is_inside, spent_with, handed_note, noted_on_parent, handed_up}
+use Rattle.syn_tokens.specs.Session.State.{contents_closed, closed_inside, closed, taken_over, advanced}
 
 -- a leftover is compared by its span alone
 abbrev pub span_of : Option Leftover → Option Span
@@ -70,13 +70,13 @@ module _ (f g : Laid) where
   abbrev pub ChangesAlike : (Stream → Stream) → (Stream → Stream) → Type 0
   ChangesAlike a b = (s t : Stream) → StreamsAlike s t → StreamsAlike (a s) (b t)
 
-  pub alike-changed : (st su : State) (k : ℕ) (a b : Stream → Stream) → ChangesAlike a b
-      → StatesAlike st su → StatesAlike (changed st k a) (changed su k b)
-  alike-changed [] [] k a b c h = tt
-  alike-changed [] (t ∷ su) k a b c h = absurd h
-  alike-changed (s ∷ st) [] k a b c h = absurd h
-  alike-changed (s ∷ st) (t ∷ su) zero a b c h = (c s t h.0, h.1)
-  alike-changed (s ∷ st) (t ∷ su) (suc k) a b c h = (h.0, alike-changed st su k a b c h.1)
+  pub alike-with_stream : (st su : State) (k : ℕ) (a b : Stream → Stream) → ChangesAlike a b
+      → StatesAlike st su → StatesAlike (with_stream st k a) (with_stream su k b)
+  alike-with_stream [] [] k a b c h = tt
+  alike-with_stream [] (t ∷ su) k a b c h = absurd h
+  alike-with_stream (s ∷ st) [] k a b c h = absurd h
+  alike-with_stream (s ∷ st) (t ∷ su) zero a b c h = (c s t h.0, h.1)
+  alike-with_stream (s ∷ st) (t ∷ su) (suc k) a b c h = (h.0, alike-with_stream st su k a b c h.1)
 
   pub alike-moved : (p q : Place) → Alike f g p q → ChangesAlike (moved_to p) (moved_to q)
   alike-moved p q h s t k =
@@ -126,7 +126,7 @@ module _ (f g : Laid) where
       → StatesAlike st su → StatesAlike (noted_on_parent k n st) (noted_on_parent k m su)
   noted-kind outermost n m st su e h = h
   noted-kind (content_of p) n m st su e h =
-      alike-changed st su p (noted n) (noted m) (alike-noted n m e) h
+      alike-with_stream st su p (noted n) (noted m) (alike-noted n m e) h
   noted-kind a_fork n m st su e h = h
 
   noted-parent : (k j : StreamKind) (n m : Option Leftover) (st su : State) → k ≡ j
@@ -142,14 +142,14 @@ module _ (f g : Laid) where
     go : (a b : Option Stream) → BothAlike a b
         → StatesAlike
         (elim a
-        [ None ↦ st | Some s ↦ changed (noted_on_parent s.kind (handed_note s) st) k spent ])
+        [ None ↦ st | Some s ↦ with_stream (noted_on_parent s.kind (handed_note s) st) k spent ])
         (elim b
-        [ None ↦ su | Some s ↦ changed (noted_on_parent s.kind (handed_note s) su) k spent ])
+        [ None ↦ su | Some s ↦ with_stream (noted_on_parent s.kind (handed_note s) su) k spent ])
     go None None i = h
     go None (Some t) i = absurd i
     go (Some s) None i = absurd i
     go (Some s) (Some t) i =
-        alike-changed (noted_on_parent s.kind (handed_note s) st)
+        alike-with_stream (noted_on_parent s.kind (handed_note s) st)
         (noted_on_parent t.kind (handed_note t) su) k spent spent alike-spent
         (noted-parent s.kind t.kind (handed_note s) (handed_note t) st su i.kind
         (alike-handed s t i) h)
@@ -204,8 +204,8 @@ module _ (f g : Laid) where
       → StatesAlike (advanced k n st) (advanced k n su)
   alike-advanced k n st su h =
       let now = alike-closed_inside n st su h in
-      alike-changed _ _ n spent spent alike-spent
-      (alike-changed (closed_inside n st) (closed_inside n su) k
+      alike-with_stream _ _ n spent spent alike-spent
+      (alike-with_stream (closed_inside n st) (closed_inside n su) k
       (taken_over (stream_at (closed_inside n st) n))
       (taken_over (stream_at (closed_inside n su) n))
       (alike-taken (stream_at (closed_inside n st) n) (stream_at (closed_inside n su) n)

@@ -5,15 +5,15 @@ use Rattle.tok_core.specs.Forest.{Forest}
 use Rattle.tok_buffer.specs.Buffer.{Laid}
 use Rattle.tok_buffer.specs.Ahead.{Leftover}
 use Rattle.tok_buffer.proofs.View.Alike.{alike-start}
-use Rattle.syn_parse.specs.Words.{leftover_refusal}
+use Rattle.syn_parse.specs.RefusalWords.{leftover_refusal}
 use Rattle.syn_tokens.specs.Agree.{LinesAgree, VerdictsAgree}
 use Rattle.syn_tokens.specs.Commands.{Command, accepted, left_over}
 use Rattle.syn_tokens.specs.Transparent.{is_transparent, all_transparent, DifferInInvisibleGroups}
 use Rattle.syn_tokens.specs.Transparent.{InvisibleGroupsDoNotMatter}
-use Rattle.syn_tokens.specs.State.{Stream, State, first_state, stream_at, closed_inside}
-use Rattle.syn_tokens.specs.State.{handed_note}
-use Rattle.syn_tokens.specs.Step.{step}
-use Rattle.syn_tokens.specs.Walk.{lines_from, last_state, stream_verdict, verdict}
+use Rattle.syn_tokens.specs.Session.State.{Stream, State, first_state, stream_at, closed_inside}
+use Rattle.syn_tokens.specs.Session.State.{handed_note}
+use Rattle.syn_tokens.specs.Session.Step.{step}
+use Rattle.syn_tokens.specs.Session.Walk.{lines_from, last_state, stream_verdict, verdict}
 use Rattle.syn_tokens.proofs.Views.Steps.{alike-step}
 use Rattle.syn_tokens.proofs.Views.Streams.{BothAlike, StatesAlike, span_of, alike-handed}
 use Rattle.syn_tokens.proofs.Views.Streams.{alike-stream_at, alike-closed_inside}

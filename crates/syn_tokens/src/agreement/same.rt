@@ -1,7 +1,7 @@
 // Pieces and streams compared, spans included.
 ghost use Rattle.std.specs.Prelude.{◌≡◌, ◌↔◌, map, IsTrue};
 ghost use Rattle.tok_core.specs.Seen.{ident_of, literal_of, punct_of, tree_of};
-ghost use Rattle.syn_tokens.specs.Seen.{piece_of, pieces_in};
+ghost use Rattle.syn_tokens.specs.Meanings.{piece_of, pieces_in};
 
 use crate::report::Piece;
 use tok_core::{Ident, Literal, Punct, TokenStream, TokenTree};
@@ -9,9 +9,10 @@ use tok_core::{Ident, Literal, Punct, TokenStream, TokenTree};
 fn same_piece(left: &Piece, right: &Piece) -> bool
     ensures { IsTrue result ↔ (piece_of left.now ≡ piece_of right.now) }
 {
-    (left.text.as_str() == right.text.as_str()) & (left.span == right.span)
+    left.text.as_str() == right.text.as_str() && left.span == right.span
 }
 
+/// Whether the texts of leaves are the same, one by one.
 pub fn same_pieces(left: &[Piece], right: &[Piece]) -> bool
     ensures { IsTrue result ↔ (map piece_of left.now ≡ map piece_of right.now) }
 {
@@ -26,6 +27,7 @@ pub fn same_pieces(left: &[Piece], right: &[Piece]) -> bool
     true
 }
 
+/// Whether the parts of lists are the same, one by one.
 pub fn same_parts(left: &[Vec<Piece>], right: &[Vec<Piece>]) -> bool
     ensures { IsTrue result ↔ (map pieces_in left.now ≡ map pieces_in right.now) }
 {
@@ -41,6 +43,7 @@ pub fn same_parts(left: &[Vec<Piece>], right: &[Vec<Piece>]) -> bool
 }
 
 #[cycle(same)]
+/// Whether two streams are equal, spans included.
 pub fn same_streams(left: &TokenStream, right: &TokenStream) -> bool
     ensures { IsTrue result ↔ (left.now ≡ right.now) }
 {
@@ -77,19 +80,19 @@ fn same_tree(left: &TokenTree, right: &TokenTree) -> bool
 fn same_ident(left: &Ident, right: &Ident) -> bool
     ensures { IsTrue result ↔ (ident_of left.now ≡ ident_of right.now) }
 {
-    (left.as_str() == right.as_str()) & (left.span() == right.span())
+    left.as_str() == right.as_str() && left.span() == right.span()
 }
 
 fn same_literal(left: &Literal, right: &Literal) -> bool
     ensures { IsTrue result ↔ (literal_of left.now ≡ literal_of right.now) }
 {
-    (left.as_str() == right.as_str()) & (left.span() == right.span())
+    left.as_str() == right.as_str() && left.span() == right.span()
 }
 
 fn same_punct(left: Punct, right: Punct) -> bool
     ensures { IsTrue result ↔ (punct_of left ≡ punct_of right) }
 {
-    (left.as_char() == right.as_char())
-        & (left.spacing() == right.spacing())
-        & (left.span() == right.span())
+    left.as_char() == right.as_char()
+        && left.spacing() == right.spacing()
+        && left.span() == right.span()
 }

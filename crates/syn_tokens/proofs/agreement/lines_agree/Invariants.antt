@@ -1,6 +1,6 @@
 use Rattle.std.proofs.Common.{map}
 use Rattle.syn_tokens.specs.Agree.{LinesAgree}
-use Rattle.syn_tokens.specs.Seen.{line_of}
+use Rattle.syn_tokens.specs.Meanings.{line_of}
 use Rattle.syn_tokens.proofs.Comparing.{Undecided}
 use Rattle.syn_tokens.proofs.agreement.lines_agree.Given as goal
 

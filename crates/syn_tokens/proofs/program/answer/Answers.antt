@@ -1,5 +1,5 @@
 use Rattle.std.proofs.Common.{rules}
-use Rattle.syn_tokens.specs.Failures.{FailsToWrite}
+use Rattle.syn_tokens.specs.Program.Failures.{FailsToWrite}
 use Rattle.syn_tokens.specs.Program.{Serves}
 use Rattle.syn_tokens.proofs.Once.{serves_only}
 use Rattle.syn_tokens.proofs.program.answer.Goals as goal

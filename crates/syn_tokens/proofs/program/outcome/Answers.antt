@@ -8,15 +8,15 @@ use Rattle.tok_core.specs.Lexical.Reading.{IsRefused}
 use Rattle.tok_core.specs.Lexical.Rules.{marked_rules}
 use Rattle.tok_core.specs.declared.lexer.error.LexFault.{LexFault}
 use Rattle.tok_core.specs.declared.lexer.error.LexFault.TheVariants.{Refused, Memory}
-use Rattle.syn_tokens.specs.Faults.{OnUnreadable, fault_of}
-use Rattle.syn_tokens.specs.Input.{lines_left, parts_of, text_in}
-use Rattle.syn_tokens.specs.Outcome.{outcome_of}
+use Rattle.syn_tokens.specs.Program.Faults.{OnUnreadable, fault_of}
+use Rattle.syn_tokens.specs.Program.Input.{lines_left, parts_of, text_in}
+use Rattle.syn_tokens.specs.Program.Outcomes.{outcome_of}
 use Rattle.syn_tokens.specs.Program.{HasOutcome, HasParts, IsForest}
 use Rattle.syn_tokens.specs.Program.{IsUnreadable, IsUnreadableOther}
-use Rattle.syn_tokens.specs.declared.compared.Outcome.{Outcome}
-use Rattle.syn_tokens.specs.declared.fault.Fault.{Fault}
-use Rattle.syn_tokens.specs.declared.fault.Fault.TheVariants as faults
-use Rattle.syn_tokens.specs.declared.fault.Unreadable.TheVariants as why
+use Rattle.syn_tokens.specs.declared.program.compared.Outcome.{Outcome}
+use Rattle.syn_tokens.specs.declared.program.fault.Fault.{Fault}
+use Rattle.syn_tokens.specs.declared.program.fault.Fault.TheVariants as faults
+use Rattle.syn_tokens.specs.declared.program.fault.Unreadable.TheVariants as why
 use Rattle.syn_tokens.proofs.program.outcome.Goals as goal
 
 module _ (bytes text : List ℕ) (other : Option (List ℕ)) (lines : List (List ℕ))

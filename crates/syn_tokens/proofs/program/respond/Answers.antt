@@ -1,5 +1,5 @@
 use Rattle.std.proofs.Common.{inl, rules}
-use Rattle.syn_tokens.specs.Outcome.{outcome_of}
+use Rattle.syn_tokens.specs.Program.Outcomes.{outcome_of}
 use Rattle.syn_tokens.proofs.Once.{prints_only}
 use Rattle.syn_tokens.proofs.program.respond.Goals as goal
 

@@ -1,6 +1,6 @@
 use Rattle.std.proofs.Common.{List, ℕ, inr, refl, subst}
 use Rattle.std.proofs.KnownBytes.{Keeps-refl}
-use Rattle.syn_tokens.specs.Failures.{FailsToRead, FailsToWrite}
+use Rattle.syn_tokens.specs.Program.Failures.{FailsToRead, FailsToWrite}
 use Rattle.syn_tokens.specs.Program.{Serves, ServesOnly}
 use Rattle.syn_tokens.proofs.Once.{known_any, known_read, serves_only, serves_read}
 use Rattle.syn_tokens.proofs.program.serve.Goals as goal

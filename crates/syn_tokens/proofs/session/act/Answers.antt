@@ -1,6 +1,6 @@
 use Rattle.std.proofs.Common.{ap}
-use Rattle.syn_tokens.specs.Seen.{command_of}
-use Rattle.syn_tokens.specs.Tracks.{state_of}
+use Rattle.syn_tokens.specs.Meanings.{command_of}
+use Rattle.syn_tokens.specs.Session.Tracks.{state_of}
 use Rattle.syn_tokens.proofs.Acting.{fork_there, named_there}
 use Rattle.syn_tokens.proofs.session.act.Goals as goal
 

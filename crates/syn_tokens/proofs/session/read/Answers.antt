@@ -1,8 +1,8 @@
 use Rattle.std.proofs.Common.{◌∙◌, ap, subst, Ok, Err}
-use Rattle.syn_tokens.specs.State.{changed, put}
-use Rattle.syn_tokens.specs.Reading.{IsRead}
-use Rattle.syn_tokens.specs.Seen.{command_of}
-use Rattle.syn_tokens.specs.Tracks.{stream_of, state_of}
+use Rattle.syn_tokens.specs.Session.State.{with_stream, put}
+use Rattle.syn_tokens.specs.Session.Reading.{IsRead}
+use Rattle.syn_tokens.specs.Meanings.{command_of}
+use Rattle.syn_tokens.specs.Session.Tracks.{stream_of, state_of}
 use Rattle.syn_tokens.proofs.Anywhere.{read-answer, read-refusal}
 use Rattle.syn_tokens.proofs.Tracks.{there_within}
 use Rattle.syn_tokens.proofs.session.read.Goals as goal
@@ -16,7 +16,7 @@ returns-in-Ok c =
     let t = c.answer-answer.new.input in
     let what = command_of c.args.command.now in
     let read = subst (λ s. IsRead what s (Ok c.in-Ok.answer) t) c.resume-input.ensures c.in-Ok.ensures in
-    read-answer st c.args.n (stream_of c.args.stream) c.requires.here what c.requires.read c.in-Ok.answer t (state_of c.put.new.self) read (c.put.ensures.after ∙ ap (λ z. changed st c.args.n (put z)) c.pause.ensures)
+    read-answer st c.args.n (stream_of c.args.stream) c.requires.here what c.requires.read c.in-Ok.answer t (state_of c.put.new.self) read (c.put.ensures.after ∙ ap (λ z. with_stream st c.args.n (put z)) c.pause.ensures)
 
 pub returns-in-Err : goal.returns-in-Err
 returns-in-Err c =
@@ -24,4 +24,4 @@ returns-in-Err c =
     let t = c.answer-answer.new.input in
     let what = command_of c.args.command.now in
     let read = subst (λ s. IsRead what s (Err c.in-Err.fault) t) c.resume-input.ensures c.in-Err.ensures in
-    read-refusal st c.args.n (stream_of c.args.stream) c.requires.here what c.requires.read c.in-Err.fault t (state_of c.put.new.self) c.refused.result read (c.put.ensures.after ∙ ap (λ z. changed st c.args.n (put z)) c.pause.ensures) c.refused.ensures
+    read-refusal st c.args.n (stream_of c.args.stream) c.requires.here what c.requires.read c.in-Err.fault t (state_of c.put.new.self) c.refused.result read (c.put.ensures.after ∙ ap (λ z. with_stream st c.args.n (put z)) c.pause.ensures) c.refused.ensures

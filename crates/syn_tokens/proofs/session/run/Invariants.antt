@@ -1,5 +1,5 @@
 use Rattle.std.proofs.Common.{drop}
-use Rattle.syn_tokens.specs.Tracks.{state_of}
+use Rattle.syn_tokens.specs.Session.Tracks.{state_of}
 use Rattle.syn_tokens.proofs.Runs.{RunsOn}
 use Rattle.syn_tokens.proofs.session.run.Given as goal
 

@@ -2,8 +2,8 @@ use Rattle.std.proofs.Common.{◌≡◌, ◌∙◌, sym, ap, subst, Ok, Err}
 use Rattle.std.specs.Prelude.{MatchOption}
 use Rattle.syn_parse.specs.Faults.{IsRefused}
 use Rattle.syn_parse.specs.State.{handed}
-use Rattle.syn_parse.specs.Words.{leftover_refusal}
-use Rattle.syn_tokens.specs.Walk.{stream_verdict}
+use Rattle.syn_parse.specs.RefusalWords.{leftover_refusal}
+use Rattle.syn_tokens.specs.Session.Walk.{stream_verdict}
 use Rattle.syn_tokens.proofs.Verdicts.{verdict_refused}
 use Rattle.syn_tokens.proofs.session.verdict.Goals as goal
 

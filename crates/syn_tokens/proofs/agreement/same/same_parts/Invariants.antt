@@ -1,5 +1,5 @@
 use Rattle.std.proofs.Common.{◌≡◌, map}
-use Rattle.syn_tokens.specs.Seen.{pieces_in}
+use Rattle.syn_tokens.specs.Meanings.{pieces_in}
 use Rattle.syn_tokens.proofs.Comparing.{Undecided}
 use Rattle.syn_tokens.proofs.agreement.same.same_parts.Given as goal
 

@@ -1,5 +1,5 @@
 use Rattle.std.proofs.Common.{◌≡◌, map}
-use Rattle.syn_tokens.specs.Seen.{piece_of}
+use Rattle.syn_tokens.specs.Meanings.{piece_of}
 use Rattle.syn_tokens.proofs.Comparing.{Undecided}
 use Rattle.syn_tokens.proofs.agreement.same.same_pieces.Given as goal
 

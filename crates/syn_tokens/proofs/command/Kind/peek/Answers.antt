@@ -4,7 +4,7 @@ use Rattle.std.specs.Str.{chars}
 use Rattle.tok_buffer.specs.Cursors.{place_of}
 use Rattle.tok_buffer.specs.Reads.{read_punctuation}
 use Rattle.syn_tokens.specs.Kinds.{peek_kind}
-use Rattle.syn_tokens.specs.Seen.{kind_of}
+use Rattle.syn_tokens.specs.Meanings.{kind_of}
 use Rattle.syn_tokens.proofs.Tables.{punctuation-text-chars}
 use Rattle.syn_tokens.proofs.command.Kind.peek.Goals as goal
 

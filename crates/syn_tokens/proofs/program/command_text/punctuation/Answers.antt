@@ -1,0 +1,18 @@
+use Rattle.std.proofs.Common.{ap, sym, ◌∙◌}
+use Rattle.std.specs.Prelude.{bytes_eq}
+use Rattle.tok_types.specs.Texts.{punctuations}
+use Rattle.syn_tokens.proofs.Numbers.{found_at, not_found, passed_more}
+use Rattle.syn_tokens.proofs.program.command_text.punctuation.Goals as goal
+
+pub returns-then-eq : goal.returns-then-eq
+returns-then-eq c =
+    let word = c.args.word.now in
+    found_at punctuations word c.loop-k.k c.loop-k.invariant c.loop-k-test.true (ap (λ z. bytes_eq z word) (sym c.punctuation_text.ensures) ∙ sym c.eq.ensures ∙ c.if-eq.true)
+
+pub loop-k-preserved : goal.loop-k-preserved
+loop-k-preserved c =
+    let word = c.args.word.now in
+    passed_more punctuations word c.loop-k.k c.loop-k.invariant (ap (λ z. bytes_eq z word) (sym c.punctuation_text.ensures) ∙ sym c.eq.ensures ∙ c.if-eq.false)
+
+pub returns : goal.returns
+returns c = not_found punctuations c.args.word.now c.loop-k.k c.loop-k.invariant c.loop-k-test.false

@@ -1,0 +1,81 @@
+-- Two texts under one list of commands: the reports, and five facts.
+use Rattle.std.specs.Prelude.{◌≡◌, ◌↔◌, ◌&&◌, IsTrue, ℕ, Bool, true, false, List, ◌++◌, codes}
+use Rattle.tok_core.specs.Clear.{clear}
+use Rattle.tok_core.specs.Erase.{erase}
+use Rattle.tok_core.specs.Filled.{filled}
+use Rattle.tok_core.specs.Forest.{Forest}
+use Rattle.syn_tokens.specs.Agree.{ReportsAgree}
+use Rattle.syn_tokens.specs.Commands.{Command, Verdict, accepted, left_over, Report}
+use Rattle.syn_tokens.specs.ReportText.{ended, report_text}
+use Rattle.syn_tokens.specs.Transparent.{all_transparent}
+use Rattle.syn_tokens.specs.Session.Walk.{walk}
+
+pub record Facts : Type 0 where
+  pub visible : Bool
+  pub filled : Bool
+  pub clear : Bool
+  pub transparent : Bool
+  pub agree : Bool
+
+-- the facts of two forests and a list of commands
+pub record AreFacts (left right : Forest) (commands : List Command) (facts : Facts) : Type 0 where
+  pub visible : IsTrue facts.visible ↔ (erase left ≡ erase right)
+  pub filled : facts.filled ≡ (filled left && filled right)
+  pub clear : facts.clear ≡ (clear left && clear right)
+  pub transparent : facts.transparent ≡ all_transparent commands
+  pub agree : IsTrue facts.agree ↔ ReportsAgree (walk left commands) (walk right commands)
+
+pub record Comparison : Type 0 where
+  pub left : Report
+  pub right : Report
+  pub facts : Facts
+
+-- the walks of two forests, and their facts
+pub record Compares (f g : Forest) (commands : List Command) (c : Comparison) : Type 0 where
+  pub left : c.left ≡ walk f commands
+  pub right : c.right ≡ walk g commands
+  pub facts : AreFacts f g commands c.facts
+
+-- The printed text.
+abbrev pub yes_or_no : Bool → List ℕ
+yes_or_no true = codes "yes"
+yes_or_no false = codes "no"
+
+abbrev pub same_or_different : Bool → List ℕ
+same_or_different true = codes "same"
+same_or_different false = codes "different"
+
+abbrev pub facts_text : Facts → List ℕ
+facts_text f =
+    ended (codes "visible " ++ same_or_different f.visible)
+    ++ (ended (codes "filled " ++ yes_or_no f.filled)
+    ++ (ended (codes "clear " ++ yes_or_no f.clear)
+    ++ (ended (codes "transparent " ++ yes_or_no f.transparent)
+    ++ ended (codes "agree " ++ yes_or_no f.agree))))
+
+abbrev pub comparison_text : Comparison → List ℕ
+comparison_text c =
+    report_text c.left
+    ++ (ended (codes "---") ++ (report_text c.right ++ (ended (codes "---") ++ facts_text c.facts)))
+
+-- 0 where a verdict accepts, 1 where it refuses; of two, 1 where one refuses
+abbrev pub verdict_status : Verdict → ℕ
+verdict_status accepted = 0
+verdict_status (left_over r) = 1
+
+abbrev pub both_status : Verdict → Verdict → ℕ
+both_status accepted v = verdict_status v
+both_status (left_over r) v = 1
+
+-- what the program prints: one report, or two that are compared
+pub data Outcome : Type 0 where
+  reported : Report → Outcome
+  compared : Comparison → Outcome
+
+abbrev pub outcome_text : Outcome → List ℕ
+outcome_text (reported r) = report_text r
+outcome_text (compared c) = comparison_text c
+
+abbrev pub outcome_status : Outcome → ℕ
+outcome_status (reported r) = verdict_status r.verdict
+outcome_status (compared c) = both_status c.left.verdict c.right.verdict

@@ -1,0 +1,15 @@
+-- Which group is entered, and the words where none is.
+use Rattle.std.specs.Prelude.{ℕ, List, Option, Some, None, codes}
+use Rattle.tok_core.specs.declared.group.Delimiter.{Delimiter}
+use Rattle.tok_buffer.specs.Entry.{Entered, enter, enter_any}
+use Rattle.tok_buffer.specs.Place.{Place}
+use Rattle.syn_parse.specs.RefusalWords.{delimiter_words}
+
+-- the group of the delimiter that is wanted, or any
+abbrev pub entered_by : Option Delimiter → Place → Option Entered
+entered_by None p = enter_any p
+entered_by (Some d) p = enter d p
+
+abbrev pub entering_words : Option Delimiter → List ℕ
+entering_words None = codes "expected any delimiter"
+entering_words (Some d) = delimiter_words d

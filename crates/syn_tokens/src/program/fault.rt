@@ -1,0 +1,89 @@
+// Why an input has no report.
+ghost use Rattle.std.specs.Prelude.{◌≡◌, Some};
+ghost use Rattle.syn_tokens.specs.Program.Faults.{fault_of, right_fault_of, unreadable_text};
+
+use std::alloc::{AllocError, AllocFailed};
+use std::fmt;
+use std::fmt::{Formatter, Write};
+use tok_core::{LexError, LexFault};
+
+// Why an input can't be read.
+#[derive(Clone, Copy)]
+pub enum Unreadable {
+    Utf8,
+    // No line ends a text, or more than two do.
+    Parts,
+    Text(LexError),
+    // The second of two texts.
+    Right(LexError),
+    // The number of the first line of the commands that is none, from 1.
+    Command(usize),
+}
+
+impl fmt::Display for Unreadable {
+    ghost output = { λ why. Some (unreadable_text why) };
+
+    fn fmt<W: Write>(&self, f: &mut Formatter<W>) -> fmt::Result {
+        match self {
+            Unreadable::Utf8 => f.write_str("unreadable: utf8"),
+            Unreadable::Parts => f.write_str("unreadable: parts"),
+            Unreadable::Text(error) => {
+                write!(f, "unreadable: L{} at {}", error.number(), error.at())
+            }
+            Unreadable::Right(error) => {
+                write!(f, "unreadable: right L{} at {}", error.number(), error.at())
+            }
+            Unreadable::Command(number) => write!(f, "unreadable: command {number}"),
+        }
+    }
+}
+
+// Why there is no report: the input can't be read, or an allocation failed.
+#[derive(Clone, Copy)]
+pub enum Fault {
+    Unreadable(Unreadable),
+    Memory,
+}
+
+impl Fault {
+    // The fault of the second of two texts.
+    pub fn of_right(fault: LexFault) -> Fault
+        ensures { result ≡ right_fault_of fault }
+    {
+        match fault {
+            LexFault::Refused(error) => Fault::Unreadable(Unreadable::Right(error)),
+            LexFault::Memory => Fault::Memory,
+        }
+    }
+}
+
+impl From<LexFault> for Fault {
+    ghost from_gives = { λ fault result. result ≡ fault_of fault };
+
+    fn from(fault: LexFault) -> Fault {
+        match fault {
+            LexFault::Refused(error) => Fault::Unreadable(Unreadable::Text(error)),
+            LexFault::Memory => Fault::Memory,
+        }
+    }
+}
+
+impl From<AllocError> for Fault {
+    ghost use Rattle.syn_tokens.specs.declared.program.fault.Fault.TheVariants.{Memory};
+
+    ghost from_gives = { λ _ fault. fault ≡ Memory };
+
+    fn from(_: AllocError) -> Fault {
+        Fault::Memory
+    }
+}
+
+impl<T: Drop> From<AllocFailed<T>> for Fault {
+    ghost use Rattle.syn_tokens.specs.declared.program.fault.Fault.TheVariants.{Memory};
+
+    ghost from_gives = { λ _ fault. fault ≡ Memory };
+
+    fn from(_: AllocFailed<T>) -> Fault {
+        Fault::Memory
+    }
+}

@@ -1,0 +1,110 @@
+// The program's input.
+ghost use Rattle.std.specs.Prelude.{◌≡◌, ◌∷◌, [], ◌++◌, List, ℕ, IfErr, IfOk, IfSome, Some, None, MatchOption};
+ghost use Rattle.std.specs.List.{slice_split};
+ghost use Rattle.std.specs.Str.{IsUtf8};
+ghost use Rattle.syn_tokens.specs.Program.Failures.{FailsToRead};
+ghost use Rattle.syn_tokens.specs.Program.Input as spec;
+ghost use Rattle.syn_tokens.specs.ReportText.{ended};
+
+use crate::program::channel::Source;
+use std::alloc::Global;
+use std::io::ErrorKind;
+
+// Why an input could not be read.
+#[derive(Drop)]
+pub enum ReadFault {
+    // A read failed, or the input had no end.
+    Failed,
+    Memory,
+}
+
+// All that a source gives, in at most 4,294,967,295 reads. An interrupted read is made again.
+pub fn read_input<S: Source>(alloc: Global, input: &mut S) -> Result<Vec<u8>, ReadFault>
+    ensures bytes { IfSome (S.remaining input.old) (λ bytes. IfOk result (λ v. v.items ≡ bytes)) }
+    ensures failed { IfErr result
+        (λ fault. fault ≡ ReadFault.Failed → FailsToRead S.reads input.old input.new) }
+{
+    let mut bytes = Vec::new(alloc);
+    let mut chunk = [0u8; 4096];
+    for _i in 0..u32::MAX {
+        match input.read_some(&mut chunk) {
+            Ok(0) => return Ok(bytes),
+            Ok(n) => {
+                if bytes.extend_from_slice(&chunk[..n]).is_err() {
+                    return Err(ReadFault::Memory);
+                }
+            }
+            Err(error) if error.kind() == ErrorKind::Interrupted => {}
+            Err(_) => return Err(ReadFault::Failed),
+        }
+    }
+    Err(ReadFault::Failed)
+}
+
+// The text of an input, the second one if there are two, and what comes after the line that ends the last. There are none where
+// no line ends a text, or more than two do.
+pub fn parts(input: &str) -> Option<(&str, Option<&str>, Option<&str>)>
+    ensures parts { MatchOption result
+        (spec.parts_of input.now ≡ None)
+        (λ p. spec.parts_of input.now ≡ Some (p.0.now, spec.text_in p.1, spec.lines_left p.2)) }
+    ensures utf8 { IfSome result
+        (λ p. IsUtf8 p.0.now × IfSome p.1 (λ other. IsUtf8 other.now)
+        × IfSome p.2 (λ rest. IsUtf8 rest.now)) }
+{
+    let (text, rest) = cut(input)?;
+    let Some((other, lines)) = cut_rest(rest) else {
+        return Some((text, None, rest));
+    };
+    match cut_rest(lines) {
+        Some(_) => None,
+        None => Some((text, Some(other), lines)),
+    }
+}
+
+// The same as `cut`, of what is left.
+fn cut_rest(rest: Option<&str>) -> Option<(&str, Option<&str>)>
+    requires { IfSome rest (λ rest. IsUtf8 rest.now) }
+    ensures parts { MatchOption result
+        (slice_split spec.is_cut (spec.lines_left rest.entry) ≡ spec.lines_left rest.entry ∷ [])
+        (λ p. (before : List (List ℕ)) × (p.0.now ≡ spec.text_of before)
+        × (slice_split spec.is_cut (spec.lines_left rest.entry)
+        ≡ before ∷ slice_split spec.is_cut (spec.lines_left p.1))) }
+    ensures utf8 { IfSome result (λ p. IsUtf8 p.0.now × IfSome p.1 (λ rest. IsUtf8 rest.now)) }
+{
+    match rest {
+        Some(rest) => cut(rest),
+        None => None,
+    }
+}
+
+// What comes before the first line that ends a text, and what follows that line.
+fn cut(input: &str) -> Option<(&str, Option<&str>)>
+    ensures parts { MatchOption result
+        (slice_split spec.is_cut (spec.lines input.now) ≡ spec.lines input.now ∷ [])
+        (λ p. (before : List (List ℕ)) × (p.0.now ≡ spec.text_of before)
+        × (slice_split spec.is_cut (spec.lines input.now)
+        ≡ before ∷ slice_split spec.is_cut (spec.lines_left p.1))) }
+    ensures utf8 { IfSome result (λ p. IsUtf8 p.0.now × IfSome p.1 (λ rest. IsUtf8 rest.now)) }
+{
+    let mut left = Some(input);
+    while let Some(rest) = left {
+        let (line, after) = first_line(rest);
+        if line == "---" {
+            return Some((&input[..input.len() - rest.len()], after));
+        }
+        left = after;
+    }
+    None
+}
+
+// The first line of what is left, and what is left after its line feed.
+pub fn first_line(rest: &str) -> (&str, Option<&str>)
+    ensures lines { spec.lines rest.now ≡ result.0.now ∷ spec.lines_left result.1 }
+    ensures concat { IfSome result.1 (λ after. rest.now ≡ ended result.0.now ++ after.now) }
+    ensures utf8 { IsUtf8 result.0.now × IfSome result.1 (λ after. IsUtf8 after.now) }
+{
+    match rest.split_once('\n') {
+        Some((line, after)) => (line, Some(after)),
+        None => (rest, None),
+    }
+}

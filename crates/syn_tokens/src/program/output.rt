@@ -1,0 +1,47 @@
+// The program's output.
+ghost use Rattle.std.specs.Bool.{MatchBool};
+ghost use Rattle.std.specs.Prelude.{◌≡◌, false};
+ghost use Rattle.std.specs.Io.KnownBytes.{Appends};
+ghost use Rattle.syn_tokens.specs.Program.Failures.{FailsToWrite};
+ghost use Rattle.syn_tokens.specs.Program.Output.{AppendsFront, GoesOut};
+
+use crate::program::channel::Sink;
+use std::io::ErrorKind;
+
+// Sends a text, and gives the status, or 2 where the text doesn't go out whole.
+pub fn send<S: Sink>(output: &mut S, text: &str, status: u8) -> u8
+    ensures { GoesOut (FailsToWrite S.writes S.flushes output.old output.new) text.now status result
+        (S.contents output.old) (S.contents output.new) }
+{
+    if write_whole(output, text.as_bytes()) {
+        status
+    } else {
+        2
+    }
+}
+
+// Whether all bytes are written, in at most 2^64 - 1 writes. An interrupted write is made again. It takes the place of std's
+// `write_all`, which doesn't tell what went out where it fails.
+fn write_whole<S: Sink>(output: &mut S, bytes: &[u8]) -> bool
+    ensures bytes { MatchBool result
+        (Appends (S.contents output.old) (S.contents output.new) bytes.now)
+        (AppendsFront (S.contents output.old) (S.contents output.new) bytes.now) }
+    ensures failed { result ≡ false → FailsToWrite S.writes S.flushes output.old output.new }
+{
+    let mut rest = bytes;
+    for _i in 0..u64::MAX {
+        if rest.is_empty() {
+            return match output.flush_all() {
+                Ok(()) => true,
+                Err(_) => false,
+            };
+        }
+        match output.write_some(rest) {
+            Ok(0) => return false,
+            Ok(n) => rest = &rest[n..],
+            Err(error) if error.kind() == ErrorKind::Interrupted => {}
+            Err(_) => return false,
+        }
+    }
+    false
+}
