@@ -54,7 +54,7 @@ fn raw_idents(rt: HostRuntime) {
 #[test]
 fn puncts(rt: HostRuntime) {
     for ch in "&@^:,$.=><-!|%+#?;/*~'".chars() {
-        match Punct::new(ch, Spacing::Joint) {
+        match unknown(Punct::new(ch, Spacing::Joint)) {
             Some(punct) => {
                 assert_eq!(rt; punct.as_char(), ch);
                 assert_eq!(rt; punct.spacing(), Spacing::Joint);
@@ -66,7 +66,7 @@ fn puncts(rt: HostRuntime) {
     for ch in "_\"\\`()a1 «é".chars() {
         assert!(rt; Punct::new(ch, Spacing::Alone).is_none());
     }
-    match Punct::new_spanned('+', Spacing::Alone, Span::source(1, 2, 3)) {
+    match unknown(Punct::new_spanned('+', Spacing::Alone, Span::source(1, 2, 3))) {
         Some(punct) => assert_eq!(rt; punct.span(), Span::source(1, 2, 3)),
         None => assert!(rt; false),
     }

@@ -12,8 +12,8 @@ use Rattle.tok_buffer.specs.Descent.{descend}
 use Rattle.tok_buffer.specs.Order.{same_scope}
 use Rattle.tok_buffer.specs.Place.{Place, is_at_end}
 use Rattle.tok_buffer.specs.Progress.{ReadsGoOn, ReadsKeepScope, remaining}
-use Rattle.tok_buffer.specs.Reads.{and_then, behind, is_punct_of}
-use Rattle.tok_buffer.specs.Words.{Refusal}
+use Rattle.tok_buffer.specs.Reads.{and_then, place_after, is_punct_of}
+use Rattle.tok_buffer.specs.Refusals.{Refusal}
 use Rattle.tok_types.specs.declared.punctuation.Punctuation.{Punctuation}
 use Rattle.tok_types.specs.Texts.{accept_as_ident}
 use Rattle.syn_parse.specs.declared.fault.Fault.{Fault}
@@ -23,7 +23,7 @@ use Rattle.syn_parse.specs.Parses.{AreSpans, IdentParses, IsIdent}
 use Rattle.syn_parse.specs.Progress.{PunctuationTypeParses}
 use Rattle.syn_parse.specs.Reads.{Read}
 use Rattle.syn_parse.specs.State.{State, moved}
-use Rattle.syn_parse.specs.Words.{punctuation_refusal}
+use Rattle.syn_parse.specs.RefusalWords.{punctuation_refusal}
 use Rattle.syn_parse.proofs.Reading.{reads-value, reads-refused, reads-memory}
 use Rattle.callers.specs.declared.streams.Field.{Field}
 use Rattle.callers.specs.Items.{AreFields, FieldParses, FieldsParse, FieldsRefused, IsField}
@@ -216,12 +216,12 @@ module _ (start here : State) (xs : List Field) (g : GoesOn start here xs) where
 
     past :
         (r : Read) → read_comma there.place ≡ r → (b : Bool) → is_at_end there.place ≡ b →
-        past_comma field.0.1 ≡ cond b (Some field.0.1) (behind r)
+        past_comma field.0.1 ≡ cond b (Some field.0.1) (place_after r)
     past r e b h =
         ap (λ z. past_comma z.place) (sym field.3)
-        ∙ ap (λ c. cond c (Some there.place) (behind (read_comma there.place))) h
-        ∙ ap (λ z. cond b (Some there.place) (behind z)) e
-        ∙ ap (λ z. cond b (Some z.place) (behind r)) field.3
+        ∙ ap (λ c. cond c (Some there.place) (place_after (read_comma there.place))) h
+        ∙ ap (λ z. cond b (Some there.place) (place_after z)) e
+        ∙ ap (λ z. cond b (Some z.place) (place_after r)) field.3
 
     pub last_on : is_at_end there.place ≡ true → GoesOn start there (xs ++ x ∷ [])
     last_on h =

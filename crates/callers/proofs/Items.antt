@@ -11,9 +11,9 @@ use Rattle.tok_core.specs.declared.span.DelimSpan.{DelimSpan}
 use Rattle.tok_core.specs.Forest.{Tree, leaf, ident}
 use Rattle.tok_core.specs.Seen.{ident_of}
 use Rattle.tok_buffer.specs.Entry.{Entered, enter}
-use Rattle.tok_buffer.specs.Words.{Refusal}
+use Rattle.tok_buffer.specs.Refusals.{Refusal}
 use Rattle.tok_types.specs.declared.keyword.Keyword.{Keyword}
-use Rattle.tok_types.specs.Texts.{quoted}
+use Rattle.tok_types.specs.Texts.{in_backquotes}
 use Rattle.syn_parse.specs.declared.fault.Fault.{Fault}
 use Rattle.syn_parse.specs.Faults.{Refuses}
 use Rattle.syn_parse.specs.Groups.{RunsWithin, SpanWith}
@@ -21,7 +21,7 @@ use Rattle.syn_parse.specs.Parses.{IdentParses, IsIdent, IsSpanOf}
 use Rattle.syn_parse.specs.Progress.{KeywordParses}
 use Rattle.syn_parse.specs.Reads.{Call}
 use Rattle.syn_parse.specs.State.{State, after_group, closed, content_of, moved}
-use Rattle.syn_parse.specs.Words.{delimiter_words, expected, refused_at}
+use Rattle.syn_parse.specs.RefusalWords.{delimiter_words, expected, refused_at}
 use Rattle.callers.specs.declared.streams.Field.{Field}
 use Rattle.callers.specs.declared.streams.Item.{Item}
 use Rattle.callers.specs.Items.{FieldsParse, ItemParses, name_refusal, read_head, read_name}
@@ -53,7 +53,7 @@ abbrev IsStruct : Keyword 40 → List Tree → Type 0
 IsStruct k = IsSpanOf (codes "struct") k.span
 
 abbrev struct_refusal : State → Refusal
-struct_refusal s = refused_at s (expected (quoted (codes "struct")))
+struct_refusal s = refused_at s (expected (in_backquotes (codes "struct")))
 
 abbrev brace_refusal : State → Refusal
 brace_refusal s = refused_at s (delimiter_words Brace)

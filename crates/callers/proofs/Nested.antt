@@ -9,13 +9,13 @@ use Rattle.tok_core.specs.declared.ident.Ident.{Ident}
 use Rattle.tok_core.specs.declared.span.DelimSpan.{DelimSpan}
 use Rattle.tok_buffer.specs.Entry.{Entered, enter}
 use Rattle.tok_buffer.specs.Place.{is_at_end}
-use Rattle.tok_buffer.specs.Words.{Refusal}
+use Rattle.tok_buffer.specs.Refusals.{Refusal}
 use Rattle.syn_parse.specs.declared.fault.Fault.{Fault}
 use Rattle.syn_parse.specs.Groups.{RunsWithin, SpanWith}
 use Rattle.syn_parse.specs.Parses.{IdentParses, IsIdent}
 use Rattle.syn_parse.specs.Reads.{Call}
 use Rattle.syn_parse.specs.State.{State, after_group, closed, content_of}
-use Rattle.syn_parse.specs.Words.{delimiter_words, refused_at}
+use Rattle.syn_parse.specs.RefusalWords.{delimiter_words, refused_at}
 use Rattle.callers.specs.Items.{name_refusal, read_name}
 use Rattle.callers.specs.Nested.{AreEntries, CountsEntries, CountsEntry, EntriesRefused}
 use Rattle.callers.specs.Nested.{IsEntry, capped, here, later, list, name, neither}

@@ -6,8 +6,8 @@ use Rattle.std.specs.Prelude.{◌⊎◌, Result, cond}
 use Rattle.std.specs.Result.{IsErrAnd}
 use Rattle.tok_core.specs.Forest.{Tree}
 use Rattle.tok_buffer.specs.Place.{Place, front, pass}
-use Rattle.tok_buffer.specs.Reads.{and_then, take}
-use Rattle.tok_buffer.specs.Words.{Refusal}
+use Rattle.tok_buffer.specs.Reads.{and_then, read_if}
+use Rattle.tok_buffer.specs.Refusals.{Refusal}
 use Rattle.syn_parse.specs.Faults.{IsMemory, Refuses}
 use Rattle.syn_parse.specs.Reads.{Read, Reads, ReadsAtOnce}
 use Rattle.syn_parse.specs.State.{State, moved}
@@ -91,5 +91,5 @@ module _ (wanted : Tree → Bool) (p q : Place) (ts : List Tree) where
   is_one None h = cc
   is_one (Some t) h = if_wanted t (wanted t) h
 
-  pub one_taken : take wanted p ≡ Some (ts, q) → IsOne
+  pub one_taken : read_if wanted p ≡ Some (ts, q) → IsOne
   one_taken e = is_one (front p) e

@@ -7,15 +7,17 @@ use Rattle.tok_core.specs.Forest.{Tree, leaf}
 use Rattle.tok_core.specs.Seen.{ident_of}
 use Rattle.tok_buffer.specs.Entry.{Entered, enter}
 use Rattle.tok_buffer.specs.Place.{Place, is_at_end}
-use Rattle.tok_buffer.specs.Reads.{and_then, behind, read_ident, read_keyword, read_punctuation}
+use Rattle.tok_buffer.specs.Reads.{and_then, place_after, read_ident, read_keyword}
+use Rattle.tok_buffer.specs.Reads.{read_punctuation}
 use Rattle.tok_buffer.specs.Reads.{read_word}
-use Rattle.tok_buffer.specs.Words.{Refusal}
-use Rattle.tok_types.specs.Texts.{accept_as_ident, quoted}
+use Rattle.tok_buffer.specs.Refusals.{Refusal}
+use Rattle.tok_types.specs.Texts.{accept_as_ident, in_backquotes}
 use Rattle.syn_parse.specs.Faults.{IsMemory, Refuses}
 use Rattle.syn_parse.specs.Reads.{Call, Read, Reads}
 use Rattle.syn_parse.specs.State.{State, closed, content_of, moved}
-use Rattle.syn_parse.specs.Words.{delimiter_words, expected, ident_words, punctuation_refusal}
-use Rattle.syn_parse.specs.Words.{refused_at}
+use Rattle.syn_parse.specs.RefusalWords.{delimiter_words, expected, ident_words}
+use Rattle.syn_parse.specs.RefusalWords.{punctuation_refusal}
+use Rattle.syn_parse.specs.RefusalWords.{refused_at}
 use Rattle.syn_parse.specs.declared.fault.Fault.{Fault}
 use Rattle.callers.specs.declared.streams.Field.{Field}
 use Rattle.callers.specs.declared.streams.Item.{Item}
@@ -70,7 +72,7 @@ OptionalFieldParses s (Err f) t = IsMemory f × (t ≡ s)
 
 -- after a field's comma; at the end none is needed
 abbrev pub past_comma : Place → Option Place
-past_comma p = cond (is_at_end p) (Some p) (behind (read_comma p))
+past_comma p = cond (is_at_end p) (Some p) (place_after (read_comma p))
 
 -- fields up to the end, with a comma after each, which the last one may lack
 pub data AreFields : Place → List Field → Place → Type 0 where
@@ -114,7 +116,7 @@ IsHead item ts = (word : Tree) × (ts ≡ word ∷ leaf (ident_of item.name) ∷
 pub data ItemRefused : State → Refusal → Type 0 where
   no_struct :
       (s : State) → read_struct s.place ≡ None →
-      ItemRefused s (refused_at s (expected (quoted (codes "struct"))))
+      ItemRefused s (refused_at s (expected (in_backquotes (codes "struct"))))
   no_name :
       (s : State) (p : Place) (ts : List Tree) → read_struct s.place ≡ Some (ts, p) →
       read_name p ≡ None → ItemRefused s (name_refusal (moved p s))
@@ -136,7 +138,7 @@ pub record IsItem (s : State) (item : Item) (t : State) : Type 0 where
   pub name : IsHead item trees
   pub entered : enter Brace before_braces ≡ Some braces
   pub fields : AreFields braces.content item.fields.items end
-  pub after : t ≡ closed (moved end (content_of braces)) (moved braces.behind s)
+  pub after : t ≡ closed (moved end (content_of braces)) (moved braces.after s)
 
 -- an item; where an error leaves the stream isn't said
 abbrev pub ItemParses : Call Item

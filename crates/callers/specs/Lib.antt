@@ -1,4 +1,5 @@
 pub mod Items
+pub mod Lists
 pub mod Looks
 pub mod Loops
 pub mod Nested

@@ -3,6 +3,6 @@ use Rattle.std.specs.Prelude.{Bool, false, Option, Some, None}
 use Rattle.tok_buffer.specs.Place.{Place}
 
 -- a test of the place after the next token, false where there is none
-abbrev pub behind_skip : (Place → Bool) → Option Place → Bool
-behind_skip test None = false
-behind_skip test (Some p) = test p
+abbrev pub after_skip : (Place → Bool) → Option Place → Bool
+after_skip test None = false
+after_skip test (Some p) = test p

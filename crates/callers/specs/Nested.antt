@@ -4,10 +4,10 @@ use Rattle.tok_core.specs.declared.group.Delimiter.TheVariants.{Parenthesis}
 use Rattle.tok_core.specs.Forest.{Tree}
 use Rattle.tok_buffer.specs.Entry.{Entered, enter}
 use Rattle.tok_buffer.specs.Place.{Place, is_at_end}
-use Rattle.tok_buffer.specs.Words.{Refusal}
+use Rattle.tok_buffer.specs.Refusals.{Refusal}
 use Rattle.syn_parse.specs.Reads.{Call}
 use Rattle.syn_parse.specs.State.{State, after_group, closed, content_of, moved}
-use Rattle.syn_parse.specs.Words.{delimiter_words, refused_at}
+use Rattle.syn_parse.specs.RefusalWords.{delimiter_words, refused_at}
 use Rattle.callers.specs.Items.{IsFault, read_name}
 
 mutual

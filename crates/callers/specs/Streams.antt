@@ -4,7 +4,7 @@ use Rattle.tok_buffer.specs.Reads.{read_keyword}
 use Rattle.syn_parse.specs.Faults.{IsMemory, Refuses}
 use Rattle.syn_parse.specs.Reads.{Call}
 use Rattle.syn_parse.specs.State.{State}
-use Rattle.syn_parse.specs.Words.{refused_at}
+use Rattle.syn_parse.specs.RefusalWords.{refused_at}
 use Rattle.syn_parse.specs.declared.fault.Fault.{Fault}
 use Rattle.callers.specs.declared.streams.Kind.{Kind}
 use Rattle.callers.specs.declared.streams.Kind.TheVariants.{Function, Structure}

@@ -16,8 +16,8 @@ pub fn pair_of_idents<'a>(cursor: Cursor<'a>) -> Option<(&'a Ident, &'a Ident, C
         (λ r. and_then (read_ident (place_of cursor.entry)) read_ident
         ≡ Some (leaf (ident_of r.0.now) ∷ leaf (ident_of r.1.now) ∷ [], place_of r.2)) }
 {
-    let (first, behind) = cursor.ident()?;
-    let (second, rest) = behind.ident()?;
+    let (first, after) = cursor.ident()?;
+    let (second, rest) = after.ident()?;
     Some((first, second, rest))
 }
 
@@ -25,7 +25,9 @@ pub fn pair_of_idents<'a>(cursor: Cursor<'a>) -> Option<(&'a Ident, &'a Ident, C
 pub fn any_lifetime<'a>(cursor: Cursor<'a>) -> Option<(Span, &'a Ident)>
     ensures { MatchOption result
         (read_lifetime any_text (place_of cursor.entry) ≡ None)
-        (λ r. (p : Place) × (read_lifetime any_text (place_of cursor.entry) ≡ Some (lifetime_trees r.0 (ident_of r.1.now), p))) }
+        (λ r. (p : Place)
+        × (read_lifetime any_text (place_of cursor.entry)
+        ≡ Some (lifetime_trees r.0 (ident_of r.1.now), p))) }
 {
     let (lifetime, _) = cursor.lifetime()?;
     Some((lifetime.apostrophe, lifetime.ident))

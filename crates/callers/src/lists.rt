@@ -1,6 +1,7 @@
 //! Callers of the list parsers: names between commas, and items within items.
 ghost use Rattle.std.specs.Prelude.{◌≡◌, true, IfOk};
 ghost use Rattle.tok_buffer.specs.Place.{is_at_end};
+ghost use Rattle.callers.specs.Lists.{IsItem};
 ghost use Rattle.syn_punctuated.specs.Trees.{PassesList, ident_sources, punctuation_sources};
 
 use syn_parse::{ParseStream, Result};
@@ -16,7 +17,8 @@ pub type Names = Punctuated<Ident, token::Comma>;
 /// The names that are left: the visible trees that are left are these names and commas, by turns, in groups that macros
 /// have made or not. Nothing is left after them.
 pub fn names(input: ParseStream<'_, '_>) -> Result<Names>
-    ensures trees { IfOk result (λ list. PassesList ident_sources punctuation_sources list input.old input.new) }
+    ensures trees { IfOk result
+        (λ list. PassesList ident_sources punctuation_sources list input.old input.new) }
     ensures end { IfOk result (λ _. is_at_end input.new.place ≡ true) }
 {
     lists_have_their_trees::<Ident, token::Comma>();
@@ -39,19 +41,28 @@ pub struct Items {
     pub list: Punctuated<Item, token::Comma>,
 }
 
-/// The items that are left.
+/// The items that are left. Nothing is left after them.
 #[cycle(parsing)]
-pub fn parse_items(input: ParseStream<'_, '_>) -> Result<Items> {
+pub fn parse_items(input: ParseStream<'_, '_>) -> Result<Items>
+    ensures { IfOk result (λ _. is_at_end input.new.place ≡ true) }
+{
     let list = Punctuated::parse_terminated_with(input, |stream| parse_item(stream))?;
     Ok(Items { list })
 }
 
 /// One item. Less remains within a group than before it, so items within items end.
 #[cycle(parsing)]
-pub fn parse_item(input: ParseStream<'_, '_>) -> Result<Item> {
+pub fn parse_item(input: ParseStream<'_, '_>) -> Result<Item>
+    ensures { IfOk result (λ item. IsItem input.old item input.new) }
+{
     entries_go_on();
     if input.peek::<token::Paren>() {
-        let (span, items) = input.within(Delimiter::Parenthesis, |content| parse_items(content))?;
+        let (span, items) = input.within(
+            Delimiter::Parenthesis,
+            |content|
+                ensures { IfOk result (λ _. is_at_end content.new.place ≡ true) }
+            { parse_items(content) },
+        )?;
         Ok(Item::List(token::Paren::new(span), items))
     } else {
         Ok(Item::Name(input.parse()?))

@@ -36,8 +36,10 @@ pub fn past_sign<'a>(alloc: Global, cursor: Cursor<'a>) -> Result<Option<Cursor<
     ensures finds { IfOk result (λ found. (p : Place) × PassesOthers (place_of cursor.entry) p
         × MatchOption found
         (read_tree p ≡ None)
-        (λ rest. (t : Tree) × (read_tree p ≡ Some (t ∷ [], place_of rest)) × (is_punct_of 64 t ≡ true))) }
-    ensures stays { IfOk result (λ found. IfSome found (λ rest. StaysIn (place_of cursor.entry) (place_of rest))) }
+        (λ rest. (t : Tree) × (read_tree p ≡ Some (t ∷ [], place_of rest))
+        × (is_punct_of 64 t ≡ true))) }
+    ensures stays { IfOk result
+        (λ found. IfSome found (λ rest. StaysIn (place_of cursor.entry) (place_of rest))) }
 {
     reads_go_on();
     stays_along();

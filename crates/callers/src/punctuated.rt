@@ -35,7 +35,8 @@ pub fn raise_first(list: &mut Numbers)
 /// Writes 8 over the last value, if there is one, and says whether there was.
 pub fn raise_last(list: &mut Numbers) -> bool
     ensures any { OnTrue result (0 < length (values_of list.old)) }
-    ensures written { OnTrue result (values_of list.new ≡ slice_set (values_of list.old) (length (values_of list.old) - 1) 8) }
+    ensures written { OnTrue result
+        (values_of list.new ≡ slice_set (values_of list.old) (length (values_of list.old) - 1) 8) }
     ensures none { OnFalse result (values_of list.old ≡ []) }
     ensures kept { OnFalse result (IsUnchanged list.old list.new) }
     ensures separators { separators_of list.new ≡ separators_of list.old }
@@ -68,7 +69,8 @@ pub fn total(list: &Numbers) -> u32
 
 /// Values and separators by turns, as a text.
 pub fn written(alloc: Global, list: &Numbers) -> Result<String, AllocError>
-    ensures { IfOk result (λ text. string_bytes text ≡ text_of (values_of list.now) (separators_of list.now)) }
+    ensures { IfOk result
+        (λ text. string_bytes text ≡ text_of (values_of list.now) (separators_of list.now)) }
 {
     let mut text = String::new(alloc);
     for pair in list.pairs() {

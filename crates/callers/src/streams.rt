@@ -5,7 +5,7 @@ ghost use Rattle.tok_buffer.specs.Progress.{remaining};
 ghost use Rattle.tok_buffer.specs.Reads.{read_tree};
 ghost use Rattle.syn_parse.specs.Parses.{IsTree, TreeParses};
 ghost use Rattle.syn_parse.specs.Steps.{StepReads, step_state};
-ghost use Rattle.syn_parse.specs.Words.{refused_at};
+ghost use Rattle.syn_parse.specs.RefusalWords.{refused_at};
 ghost use Rattle.callers.specs.Items.{FieldParses, FieldsParse, ItemParses, OptionalFieldParses};
 ghost use Rattle.callers.specs.Nested.{CountsEntries, CountsEntry};
 ghost use Rattle.callers.specs.Streams.{ChoosesKind};
@@ -98,7 +98,8 @@ pub fn next_tree(input: ParseStream<'_, '_>) -> Result<TokenTree>
     let alloc = input.allocator();
     input.step(
         |from|
-            ensures { StepReads IsTree (read_tree (step_state from.entry).place) (refused_at (step_state from.entry) (codes "expected token tree")) result }
+            ensures { StepReads IsTree (read_tree (step_state from.entry).place)
+                (refused_at (step_state from.entry) (codes "expected token tree")) result }
         {
             match from.cursor().token_tree(alloc)? {
                 Some((next, rest)) => Ok((next, rest)),

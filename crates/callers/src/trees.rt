@@ -14,7 +14,8 @@ use tok_core::{Delimiter, Group, Ident, MakeFault, Punct, Spacing, Span, TokenSt
 
 fn name(alloc: Global, text: &str) -> Result<TokenTree, MakeFault>
     ensures made { IfOk result (λ t. tree_of t ≡ leaf (ident text.now call_site)) }
-    ensures taken { IsIdentifier (chars text.now) → IfErr result (λ fault. fault ≡ MakeFault.Memory) }
+    ensures taken { IsIdentifier (chars text.now)
+        → IfErr result (λ fault. fault ≡ MakeFault.Memory) }
 {
     let ident = Ident::new(alloc, text, Span::call_site())?;
     Ok(TokenTree::Ident(ident))

@@ -1,4 +1,5 @@
 // Two streams under one list of commands, by the calls.
+use crate::unknown;
 use std::alloc::Global;
 use std::test::Fail;
 use syn_tokens::{Command, Kind, Look, agree, is_transparent, replay_both};
@@ -13,7 +14,8 @@ fn read(alloc: Global, text: &str) -> Result<TokenStream, Fail> {
 
 // Whether the reports on both texts agree.
 fn agrees(alloc: Global, left: &str, right: &str, commands: &[Command]) -> Result<bool, Fail> {
-    let (left, right) = replay_both(alloc, read(alloc, left)?, read(alloc, right)?, commands)?;
+    let reports = replay_both(alloc, read(alloc, left)?, read(alloc, right)?, commands)?;
+    let (left, right) = unknown(reports);
     Ok(agree(&left, &right))
 }
 

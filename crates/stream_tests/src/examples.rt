@@ -33,8 +33,8 @@ fn reads_a_lifetime_across_an_edge(rt: HostRuntime) -> Result<(), Fail> {
 fn reads_two_idents_across_edges(rt: HostRuntime) -> Result<(), Fail> {
     let alloc = rt.alloc();
     let buffer = TokenBuffer::new2(alloc, 0, lex_marked(alloc, 0, "'«a» b «c» d")?)?;
-    let behind = buffer.begin().skip().ok_or("nothing to skip")?;
-    let (first, second, rest) = pair_of_idents(behind).ok_or("no two identifiers")?;
+    let after = buffer.begin().skip().ok_or("nothing to skip")?;
+    let (first, second, rest) = pair_of_idents(after).ok_or("no two identifiers")?;
     assert!(rt; first.as_str() == "b");
     assert!(rt; second.as_str() == "c");
     assert!(rt; pair_of_idents(rest).is_none());

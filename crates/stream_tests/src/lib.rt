@@ -9,8 +9,16 @@ mod both;
 #[cfg(test)]
 mod examples;
 #[cfg(test)]
+mod front;
+#[cfg(test)]
 mod program;
 #[cfg(test)]
 mod session;
 #[cfg(test)]
 mod streams;
+
+// A value of which the check of a test knows nothing: so the prover doesn't compute what the run computes.
+#[cfg(test)]
+fn unknown<T>(value: T) -> T {
+    value
+}

@@ -1,4 +1,5 @@
 // Streams built by hand.
+use crate::unknown;
 use std::alloc::{AllocError, Global};
 use std::test::Fail;
 use syn_tokens::{Answer, Command, Kind, Position, Report, Verdict, replay};
@@ -50,7 +51,7 @@ fn reads_within(alloc: Global) -> Result<Report, Fail> {
     let mut commands = enters(alloc, 500)?;
     commands.push(Command::Parse(500, Kind::Ident))?;
     commands.push(Command::Empty(500))?;
-    Ok(replay(alloc, nested(alloc, 1000)?, &commands)?)
+    Ok(unknown(replay(alloc, nested(alloc, 1000)?, &commands)?))
 }
 
 #[test]
@@ -77,7 +78,7 @@ fn reads_in_a_thousand_groups(rt: HostRuntime) -> Result<(), Fail> {
 fn leaves_a_thousand_groups_unread(rt: HostRuntime) -> Result<(), Fail> {
     let alloc = rt.alloc();
     let commands = enters(alloc, 500)?;
-    let report = replay(alloc, nested(alloc, 1000)?, &commands)?;
+    let report = unknown(replay(alloc, nested(alloc, 1000)?, &commands)?);
     assert!(rt; matches!(&report.verdict, Verdict::Refused(_)));
     Ok(())
 }
@@ -86,7 +87,7 @@ fn leaves_a_thousand_groups_unread(rt: HostRuntime) -> Result<(), Fail> {
 fn positions_of_no_stream(rt: HostRuntime) -> Result<(), Fail> {
     let alloc = rt.alloc();
     let commands = [Command::Empty(3), Command::Empty(0), Command::Close(0)];
-    let report = replay(alloc, TokenStream::new(alloc), &commands)?;
+    let report = unknown(replay(alloc, TokenStream::new(alloc), &commands)?);
     assert_eq!(rt; report.lines.len(), 3);
     assert!(rt; matches!(&report.lines[0].answer, Answer::Unfit(1)));
     assert_eq!(rt; report.lines[0].position, Position::Missing);
@@ -111,7 +112,8 @@ fn scopes_are_told_by_place(rt: HostRuntime) -> Result<(), Fail> {
         Command::Advance(2, 3),
         Command::Advance(1, 3),
     ];
-    let report = replay(alloc, stream, &commands)?;
+    let report = unknown(replay(alloc, stream, &commands)?);
+    assert_eq!(rt; report.lines.len(), 5);
     assert!(rt; matches!(&report.lines[2].answer, Answer::Forked(3)));
     assert!(rt; matches!(&report.lines[3].answer, Answer::Unfit(5)));
     assert!(rt; matches!(&report.lines[4].answer, Answer::Done));

@@ -4,6 +4,7 @@ mod groups;
 mod hostile;
 mod lists;
 
+use crate::unknown;
 use std::alloc::Global;
 use std::process::Abort;
 use std::test::Fail;
@@ -34,7 +35,7 @@ fn reads<T: Drop>(outcome: Result<T>) -> bool {
 #[test]
 fn identifiers(rt: HostRuntime) {
     let alloc = rt.alloc();
-    let ident = |text| Ident::parse.parse_str(alloc, text);
+    let ident = |text| unknown(Ident::parse.parse_str(alloc, text));
     let keyword = "0..2 expected identifier, found keyword `fn`";
     let end = "call unexpected end of input, expected identifier";
     assert!(rt; reads(ident("a")));
@@ -43,33 +44,33 @@ fn identifiers(rt: HostRuntime) {
     assert!(rt; refuses(alloc, ident(""), end));
     assert!(rt; refuses(alloc, ident("(a) {b}"), "0..1 expected identifier"));
     assert!(rt; refuses(alloc, ident("a b"), "2..3 unexpected token"));
-    assert!(rt; reads(Ident::parse_any.parse_str(alloc, "fn")));
+    assert!(rt; reads(unknown(Ident::parse_any.parse_str(alloc, "fn"))));
 }
 
 #[test]
 fn leaves(rt: HostRuntime) {
     let alloc = rt.alloc();
-    let lifetime = |text| Lifetime::parse.parse_str(alloc, text);
+    let lifetime = |text| unknown(Lifetime::parse.parse_str(alloc, text));
     let keyword = "0..1 unexpected keyword lifetime \"'fn\"";
     assert!(rt; reads(lifetime("'static")));
     assert!(rt; refuses(alloc, lifetime("'fn"), keyword));
-    let literal = Literal::parse.parse_str(alloc, "a");
+    let literal = unknown(Literal::parse.parse_str(alloc, "a"));
     assert!(rt; refuses(alloc, literal, "0..1 expected literal token"));
-    let punct = Punct::parse.parse_str(alloc, "a");
+    let punct = unknown(Punct::parse.parse_str(alloc, "a"));
     assert!(rt; refuses(alloc, punct, "0..1 expected punctuation token"));
-    let nothing = Nothing::parse.parse_str(alloc, "asdf");
+    let nothing = unknown(Nothing::parse.parse_str(alloc, "asdf"));
     assert!(rt; refuses(alloc, nothing, "0..4 unexpected token"));
 }
 
 #[test]
 fn tokens(rt: HostRuntime) {
     let alloc = rt.alloc();
-    assert!(rt; reads(token::Fn::parse.parse_str(alloc, "fn")));
-    assert!(rt; reads(token::PlusEq::parse.parse_str(alloc, "+=")));
-    assert!(rt; reads(token::Underscore::parse.parse_str(alloc, "_")));
-    let arrow = token::RArrow::parse.parse_str(alloc, "- >");
+    assert!(rt; reads(unknown(token::Fn::parse.parse_str(alloc, "fn"))));
+    assert!(rt; reads(unknown(token::PlusEq::parse.parse_str(alloc, "+="))));
+    assert!(rt; reads(unknown(token::Underscore::parse.parse_str(alloc, "_"))));
+    let arrow = unknown(token::RArrow::parse.parse_str(alloc, "- >"));
     assert!(rt; refuses(alloc, arrow, "0..1 expected `->`"));
-    let comma = token::Comma::parse.parse_str(alloc, "");
+    let comma = unknown(token::Comma::parse.parse_str(alloc, ""));
     assert!(rt; refuses(alloc, comma, "call expected `,`"));
 }
 
@@ -80,13 +81,13 @@ fn two_spans(input: ParseStream<'_, '_>) -> Result<[Span; 2]> {
 #[test]
 fn tokens_without_a_text(rt: HostRuntime) {
     let alloc = rt.alloc();
-    let keyword = token::Keyword::<54>::parse.parse_str(alloc, "");
+    let keyword = unknown(token::Keyword::<54>::parse.parse_str(alloc, ""));
     let words = "call unexpected end of input, expected ``";
     assert!(rt; refuses(alloc, keyword, words));
     assert!(rt; token::Keyword::<54>::display() == "``");
-    let punctuation = token::Punctuation::<7, 2>::parse.parse_str(alloc, "");
+    let punctuation = unknown(token::Punctuation::<7, 2>::parse.parse_str(alloc, ""));
     assert!(rt; refuses(alloc, punctuation, "call expected ``"));
-    let two = two_spans.parse_str(alloc, ",");
+    let two = unknown(two_spans.parse_str(alloc, ","));
     assert!(rt; refuses(alloc, two, "0..1 expected ``"));
 }
 
@@ -114,7 +115,7 @@ fn after_at(input: ParseStream<'_, '_>) -> Result<TokenStream> {
 #[test]
 fn the_rest_after_a_punct(rt: HostRuntime) -> std::result::Result<(), Fail> {
     let alloc = rt.alloc();
-    match after_at.parse_str(alloc, "a @ b c") {
+    match unknown(after_at.parse_str(alloc, "a @ b c")) {
         Ok(rest) => {
             let text = rest.to_string(alloc)?;
             assert!(rt; text.as_str() == "b c");
@@ -122,7 +123,7 @@ fn the_rest_after_a_punct(rt: HostRuntime) -> std::result::Result<(), Fail> {
         Err(_) => assert!(rt; false),
     }
     let words = "call unexpected end of input, expected token tree";
-    assert!(rt; refuses(alloc, after_at.parse_str(alloc, "a b"), words));
+    assert!(rt; refuses(alloc, unknown(after_at.parse_str(alloc, "a b")), words));
     Ok(())
 }
 

@@ -17,7 +17,7 @@ fn main(rt: HostRuntime) -> Result<()> {
     let mut passed = 0u32;
     let mut failed = 0u32;
     while !rest.is_empty() {
-        let (case, behind) = first_case(rest).context("a case is malformed")?;
+        let (case, after) = first_case(rest).context("a case is malformed")?;
         if passes(rt.alloc(), &case) {
             passed = passed.saturating_add(1);
         } else {
@@ -25,7 +25,7 @@ fn main(rt: HostRuntime) -> Result<()> {
             let name = case.name;
             println!(rt; "failed {name}")?;
         }
-        rest = behind;
+        rest = after;
     }
     println!(rt; "{passed} passed, {failed} failed")?;
     ensure!(failed == 0, "{failed} failed");

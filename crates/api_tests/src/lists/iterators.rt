@@ -3,6 +3,7 @@ ghost use Rattle.std.specs.Prelude.{◌≡◌, length};
 ghost use Rattle.syn_punctuated.specs.Lists.{values_of};
 
 use super::{Mark, numbers, wants};
+use crate::unknown;
 use std::test::Fail;
 use syn_punctuated::{Pair, Punctuated};
 
@@ -85,15 +86,16 @@ fn goes_over_values(rt: HostRuntime) -> Result<(), Fail> {
 
 #[test]
 fn gives_values_from_both_ends(rt: HostRuntime) -> Result<(), Fail> {
-    let mut owned = numbers(rt.alloc(), "7,4;9")?.into_iter();
-    assert_eq!(rt; counts(&owned), (3, (3, Some(3))));
-    assert_eq!(rt; owned.next(), Some(7));
-    assert_eq!(rt; last(&mut owned), Some(9));
-    let mut copy = owned.clone()?;
-    assert_eq!(rt; last(&mut owned), Some(4));
-    assert_eq!(rt; owned.next(), None);
-    assert_eq!(rt; counts(&copy), (1, (1, Some(1))));
-    assert_eq!(rt; copy.next_back(), Some(4));
+    let mut owned = unknown(numbers(rt.alloc(), "7,4;9")?.into_iter());
+    assert_eq!(rt; unknown(counts(&owned)), (3, (3, Some(3))));
+    assert_eq!(rt; unknown(owned.next()), Some(7));
+    assert_eq!(rt; unknown(last(&mut owned)), Some(9));
+    let mut owned = unknown(owned);
+    let mut copy = unknown(owned.clone()?);
+    assert_eq!(rt; unknown(last(&mut owned)), Some(4));
+    assert_eq!(rt; unknown(owned.next()), None);
+    assert_eq!(rt; unknown(counts(&copy)), (1, (1, Some(1))));
+    assert_eq!(rt; unknown(copy.next_back()), Some(4));
     Ok(())
 }
 
@@ -142,13 +144,17 @@ fn lends_pairs_to_write(rt: HostRuntime) -> Result<(), Fail> {
 
 #[test]
 fn gives_pairs_from_both_ends(rt: HostRuntime) -> Result<(), Fail> {
-    let mut owned = numbers(rt.alloc(), "5+3;6")?.into_pairs();
-    assert_eq!(rt; counts(&owned), (3, (3, Some(3))));
-    let mut copy = owned.clone()?;
-    assert_eq!(rt; owned.next(), Some(Pair::Punctuated(5, Mark('+'))));
-    assert_eq!(rt; last(&mut owned), Some(Pair::End(6)));
-    assert_eq!(rt; last(&mut owned), Some(Pair::Punctuated(3, Mark(';'))));
-    assert_eq!(rt; owned.next(), None);
-    assert_eq!(rt; copy.next_back(), Some(Pair::End(6)));
+    let mut owned = unknown(numbers(rt.alloc(), "5+3;6")?.into_pairs());
+    assert_eq!(rt; unknown(counts(&owned)), (3, (3, Some(3))));
+    let mut copy = unknown(owned.clone()?);
+    assert_eq!(rt; unknown(owned.next()), Some(Pair::Punctuated(5, Mark('+'))));
+    assert_eq!(rt; unknown(last(&mut owned)), Some(Pair::End(6)));
+    let mut owned = unknown(owned);
+    assert_eq!(rt;
+        unknown(last(&mut owned)),
+        Some(Pair::Punctuated(3, Mark(';')))
+    );
+    assert_eq!(rt; unknown(owned.next()), None);
+    assert_eq!(rt; unknown(copy.next_back()), Some(Pair::End(6)));
     Ok(())
 }

@@ -59,10 +59,13 @@ fn finds_what_lies_within(rt: HostRuntime) -> Result<(), Fail> {
     let argument = nested(alloc)?;
     assert!(rt; has(&argument, 1) && has(&argument, 3) && !has(&argument, 4));
     assert!(rt; argument == nested(alloc)? && argument != flag(1));
-    assert_eq!(rt;
-        format!(in alloc; "{:?}", flag(1))?.as_str(),
-        "Argument { name: 1, value: Flag }"
-    );
+    Ok(())
+}
+
+#[test]
+fn shows_for_debugging(rt: HostRuntime) -> Result<(), Fail> {
+    let text = format!(in rt.alloc(); "{:?}", flag(1))?;
+    assert_eq!(rt; text.as_str(), "Argument { name: 1, value: Flag }");
     Ok(())
 }
 

@@ -1,5 +1,6 @@
 // The list parsers, with parsers that read nothing, go back or put another stream in the place of theirs.
 use super::refuses;
+use crate::unknown;
 use std::alloc::Global;
 use syn_parse::{Nothing, Parse, ParseStream, Parser, Paused, Result, tokens_to_parse_buffer};
 use syn_punctuated::{ParseTerminated, Punctuated};
@@ -34,16 +35,16 @@ fn has(outcome: Result<Names>, values: usize, trailing: bool) -> bool {
 #[test]
 fn lists_of_names(rt: HostRuntime) {
     let alloc = rt.alloc();
-    assert!(rt; has(terminated.parse_str(alloc, ""), 0, false));
-    assert!(rt; has(terminated.parse_str(alloc, "a, b,"), 2, true));
-    assert!(rt; has(by_stream.parse_str(alloc, "a, b"), 2, false));
-    assert!(rt; has(separated.parse_str(alloc, "a, b"), 2, false));
+    assert!(rt; has(unknown(terminated.parse_str(alloc, "")), 0, false));
+    assert!(rt; has(unknown(terminated.parse_str(alloc, "a, b,")), 2, true));
+    assert!(rt; has(unknown(by_stream.parse_str(alloc, "a, b")), 2, false));
+    assert!(rt; has(unknown(separated.parse_str(alloc, "a, b")), 2, false));
     let next = "5..6 expected `,`";
-    assert!(rt; refuses(alloc, terminated.parse_str(alloc, "a, b c"), next));
+    assert!(rt; refuses(alloc, unknown(terminated.parse_str(alloc, "a, b c")), next));
     let left = "5..6 unexpected token";
-    assert!(rt; refuses(alloc, separated.parse_str(alloc, "a, b c"), left));
+    assert!(rt; refuses(alloc, unknown(separated.parse_str(alloc, "a, b c")), left));
     let end = "call unexpected end of input, expected identifier";
-    assert!(rt; refuses(alloc, separated.parse_str(alloc, "a,"), end));
+    assert!(rt; refuses(alloc, unknown(separated.parse_str(alloc, "a,")), end));
 }
 
 fn nothing_by_nothing(input: ParseStream<'_, '_>) -> Result<Punctuated<Nothing, Nothing>> {
@@ -93,10 +94,10 @@ fn has_two_trees(outcome: Result<Punctuated<TokenStream, Nothing>>) -> bool {
 #[test]
 fn parsers_that_read_nothing(rt: HostRuntime) {
     let alloc = rt.alloc();
-    let stuck = nothing_by_nothing.parse_str(alloc, "asdf");
+    let stuck = unknown(nothing_by_nothing.parse_str(alloc, "asdf"));
     assert!(rt; refuses(alloc, stuck, "0..4 parser made no progress"));
-    assert!(rt; has_two_trees(one_rest.parse_str(alloc, "a b")));
-    let empty = rests.parse_str(alloc, "a b");
+    assert!(rt; has_two_trees(unknown(one_rest.parse_str(alloc, "a b"))));
+    let empty = unknown(rests.parse_str(alloc, "a b"));
     assert!(rt; refuses(alloc, empty, "call parser made no progress"));
 }
 
@@ -122,7 +123,7 @@ fn from_start(input: ParseStream<'_, '_>) -> Result<Blanks> {
 #[test]
 fn a_parser_that_goes_back(rt: HostRuntime) {
     let alloc = rt.alloc();
-    let stuck = from_start.parse_str(alloc, ", , x");
+    let stuck = unknown(from_start.parse_str(alloc, ", , x"));
     assert!(rt; refuses(alloc, stuck, "2..3 parser made no progress"));
 }
 
