@@ -12,7 +12,7 @@ use Rattle.tok_core.specs.declared.ident.MakeFault.TheVariants.{Refused, Memory}
 use Rattle.tok_buffer.specs.Lifetimes.{is_identifier, plain_refusal, raw_refusal, name_fault, refusal_in}
 use Rattle.tok_buffer.specs.declared.lifetime.LifetimeFault.TheVariants.{Empty, NotIdentifier}
 
-no_text : (bs : List ℕ) → (length bs == 0) ≡ true → bs ≡ []
+pub no_text : (bs : List ℕ) → (length bs == 0) ≡ true → bs ≡ []
 no_text [] h = refl
 no_text (b ∷ bs) h = absurd (omega (arith, eqb-true (length (b ∷ bs)) 0 h))
 

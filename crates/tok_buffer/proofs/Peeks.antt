@@ -1,12 +1,19 @@
 -- What is read, and what is in front.
-use Rattle.std.proofs.Common.{◌≡◌, ◌∙◌, sym, ap, refl, ℕ, Bool, false, cond, List, [], ◌∷◌, ◌++◌, Option, Some, None, is_some}
+use Rattle.std.proofs.Common.{◌≡◌, ◌∙◌, sym, ap, refl, ℕ, Bool, true, false, cond, List, [], ◌∷◌, ◌++◌, length, bytes_eq, encode_utf8_all, Option, Some, None, is_some}
+use Rattle.std.proofs.lemmas.Bool.{false≢true}
+use Rattle.std.proofs.lemmas.Str.{chars-nil, encodes-chars}
+use Rattle.std.specs.Prelude.{◌==◌}
+use Rattle.std.specs.Str.{chars, IsUtf8}
+use Rattle.tok_core.specs.declared.punct.Spacing.TheVariants.{Alone}
+use Rattle.tok_core.specs.declared.span.Span.{Span}
 use Rattle.tok_core.specs.Forest.{ident, punct, literal, Tree, leaf, group, no_trees, tree}
 use Rattle.tok_core.proofs.Facts.{concat-none}
 use Rattle.tok_buffer.specs.Entry.{Entered, enter_any}
 use Rattle.tok_buffer.specs.Place.{level, Place, empty_place, at, front, pass}
 use Rattle.tok_buffer.specs.Descent.{descend}
-use Rattle.tok_buffer.specs.Reads.{and_then, place_after, read_if, is_ident, is_ident_of, is_group, is_joint_of, read_punctuation}
+use Rattle.tok_buffer.specs.Reads.{and_then, place_after, read_if, is_ident, is_ident_of, is_group, is_joint_of, is_next_of, is_punct_of, read_keyword, read_punctuation, read_word}
 use Rattle.tok_buffer.specs.Rest.{rest}
+use Rattle.tok_buffer.proofs.Names.{no_text}
 
 -- a tree that is there and wanted
 abbrev taken : (Tree → Bool) → Option Tree → Place → Option (List Tree × Place)
@@ -24,6 +31,14 @@ module _ (wanted : List ℕ → Bool) where
   pub no_word : (p : Place) → read_if is_ident p ≡ None → is_some (read_if (is_ident_of wanted) p) ≡ false
   no_word p e = no_word_in (front p) (pass p) e
 
+-- a keyword is read where it has a text
+pub no_keyword : (text : List ℕ) (p : Place) → (length text == 0) ≡ true → is_some (read_keyword text p) ≡ false
+no_keyword text p e = ap (λ bs. is_some (read_keyword bs p)) (no_text text e)
+
+pub keyword_word : (text : List ℕ) (p : Place) → (length text == 0) ≡ false → read_keyword text p ≡ read_word (bytes_eq text) p
+keyword_word [] p e = absurd (false≢true (sym e))
+keyword_word (c ∷ cs) p e = refl
+
 -- a group that is entered is the front tree
 pub group_read : (p : Place) (e : Entered) → enter_any p ≡ Some e → read_if is_group p ≡ Some (group e.delimiter (rest e.content) e.span ∷ [], e.after)
 group_read empty_place e h = cc
@@ -34,6 +49,18 @@ group_read (at n s c (level o p (tree (group d inside span) f)) ls) e h =
     let same : enter_any place ≡ Some e = h in
     let whole : Option Entered → Option (List Tree × Place) = λ x. elim x [ None ↦ None | Some y ↦ Some (group y.delimiter (rest y.content) y.span ∷ [], y.after) ] in
     ap (λ i. Some (group d i span ∷ [], pass place)) (sym (concat-none inside)) ∙ ap whole same
+
+-- no more follow the last character, and before others an alone punct is not wanted
+module _ (c : ℕ) where
+  pub last_next : (text : List ℕ) (t : Tree) → (length text == 0) ≡ true → is_next_of c (chars text) t ≡ is_punct_of c t
+  last_next text t e = ap (λ bs. is_next_of c (chars bs) t) (no_text text e) ∙ ap (λ cs. is_next_of c cs t) chars-nil
+
+  alone_before : (cs text : List ℕ) (d : ℕ) (span : Span) → encode_utf8_all cs ≡ text → (length text == 0) ≡ false → is_next_of c cs (leaf (punct d Alone span)) ≡ false
+  alone_before [] text d span e h = absurd (false≢true (sym h ∙ ap (λ bs. length bs == 0) (sym e)))
+  alone_before (x ∷ xs) text d span e h = refl
+
+  pub alone_next : (text : List ℕ) (d : ℕ) (span : Span) → IsUtf8 text → (length text == 0) ≡ false → is_next_of c (chars text) (leaf (punct d Alone span)) ≡ false
+  alone_next text d span u h = alone_before (chars text) text d span (encodes-chars text u) h
 
 -- where the first punct of a punctuation is joint, the others decide
 then_is_some : (r : List Tree × Place) (g : Place → Option (List Tree × Place)) → is_some (and_then (Some r) g) ≡ is_some (g r.1)

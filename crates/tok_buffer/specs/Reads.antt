@@ -84,9 +84,12 @@ abbrev pub lifetime_trees : Span → Leaf → List Tree
 lifetime_trees span name = leaf (punct apostrophe Joint span) ∷ leaf name ∷ []
 
 -- the punct of a character, joint where more follow
+abbrev pub is_next_of : ℕ → List ℕ → Tree → Bool
+is_next_of c [] = is_punct_of c
+is_next_of c (d ∷ cs) = is_joint_of c
+
 abbrev pub read_next : ℕ → List ℕ → Place → Option (List Tree × Place)
-read_next c [] p = read_if (is_punct_of c) (descend p)
-read_next c (d ∷ cs) p = read_if (is_joint_of c) (descend p)
+read_next c cs p = read_if (is_next_of c cs) (descend p)
 
 -- the puncts of a punctuation's characters, each but the last joint; the empty text is never read
 abbrev pub read_punctuation : List ℕ → Place → Option (List Tree × Place)

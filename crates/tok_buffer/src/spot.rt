@@ -1,91 +1,31 @@
 // A position in a buffer, and the end of its scope.
-mod ahead;
-mod groups;
-mod print;
-mod puncts;
-mod reads;
-mod rebuild;
-mod spans;
-
 ghost use Rattle.std.specs.Prelude.{◌≤◌, IsTrue};
 ghost use Rattle.tok_core.specs.Weight.{weight};
 ghost use Rattle.tok_buffer.specs.Moves.{in_scope, settled_at};
 
 use crate::buffer::TokenBuffer;
 use crate::entry::{Entry, same};
-use std::cmp::Ordering;
 use tok_core::Delimiter;
 
 /// A cursor's place: no group ends at the position, but that of the scope.
 #[derive(Clone, Copy)]
 pub struct Spot<'a> {
-    buffer: &'a TokenBuffer,
-    position: usize,
-    scope: usize,
+    pub buffer: &'a TokenBuffer,
+    pub position: usize,
+    pub scope: usize,
     ghost in_buffer: { scope ≤ weight buffer.now.forest },
     ghost within: { IsTrue (in_scope buffer.now.forest position scope) },
     ghost settled: { IsTrue (settled_at buffer.now.forest position scope) },
 }
 
 impl<'a> Spot<'a> {
-    ghost use Rattle.std.specs.Prelude.{◌≡◌, ◌≤◌, ◌+◌, IsTrue, false, Some};
+    ghost use Rattle.std.specs.Prelude.{◌≡◌, ◌≤◌, ◌+◌, IsTrue, false};
     ghost use Rattle.tok_core.specs.Weight.{weight};
     ghost use Rattle.tok_buffer.specs.Cursors.{spot_place};
     ghost use Rattle.tok_buffer.specs.Descent.{descend};
     ghost use Rattle.tok_buffer.specs.Layout.{entry_here};
     ghost use Rattle.tok_buffer.specs.Moves.{in_scope, place_at, advance, invisible_front, levels_at, level_ahead};
-    ghost use Rattle.tok_buffer.specs.Order.{equal, order, same_buffer, same_scope};
-    ghost use Rattle.tok_buffer.specs.Place.{start, is_at_end, settled, count_before};
-
-    pub fn begin(buffer: &'a TokenBuffer) -> Spot<'a>
-        ensures { spot_place result ≡ start buffer.now.number buffer.now.forest }
-    {
-        Spot {
-            buffer,
-            position: 0,
-            scope: buffer.last(),
-        }
-    }
-
-    pub fn eof(self) -> bool
-        ensures { result ≡ is_at_end (spot_place self.entry) }
-    {
-        self.position == self.scope
-    }
-
-    pub fn position(self) -> usize
-        ensures { Some result ≡ count_before (spot_place self.entry) }
-    {
-        self.position
-    }
-
-    pub fn is_equal(self, other: Spot<'_>) -> bool
-        ensures { result ≡ equal (spot_place self.entry) (spot_place other.entry) }
-    {
-        self.same_buffer(other) && self.position == other.position
-    }
-
-    pub fn order(self, other: Spot<'_>) -> Option<Ordering>
-        ensures { result ≡ order (spot_place self.entry) (spot_place other.entry) }
-    {
-        if self.same_buffer(other) {
-            Some(self.position.cmp(&other.position))
-        } else {
-            None
-        }
-    }
-
-    pub fn same_buffer(self, other: Spot<'_>) -> bool
-        ensures { result ≡ same_buffer (spot_place self.entry) (spot_place other.entry) }
-    {
-        self.buffer.number() == other.buffer.number()
-    }
-
-    pub fn same_scope(self, other: Spot<'_>) -> bool
-        ensures { result ≡ same_scope (spot_place self.entry) (spot_place other.entry) }
-    {
-        self.same_buffer(other) && self.scope == other.scope
-    }
+    ghost use Rattle.tok_buffer.specs.Place.{is_at_end, settled};
 
     // The spot at a position, after the ends that stand there.
     fn create(buffer: &'a TokenBuffer, position: usize, scope: usize) -> Spot<'a>
@@ -114,7 +54,7 @@ impl<'a> Spot<'a> {
     }
 
     // The spot after the entry that is so far from a position.
-    fn past(buffer: &'a TokenBuffer, position: usize, length: usize, scope: usize) -> Spot<'a>
+    pub fn past(buffer: &'a TokenBuffer, position: usize, length: usize, scope: usize) -> Spot<'a>
         requires in_buffer { scope ≤ weight buffer.now.forest }
         requires in_front { position + length + 1 ≤ scope }
         requires within { IsTrue (in_scope buffer.now.forest (position + length + 1) scope) }
@@ -125,7 +65,24 @@ impl<'a> Spot<'a> {
         Spot::create(buffer, position + length + 1, scope)
     }
 
-    fn entry(self) -> &'a Entry
+    // The content of the group that opens at a position.
+    pub fn inside(buffer: &'a TokenBuffer, position: usize, offset: usize, scope: usize) -> Spot<'a>
+        requires in_buffer { scope ≤ weight buffer.now.forest }
+        requires in_front { position + offset + 1 ≤ scope }
+        requires within { IsTrue (in_scope buffer.now.forest (position + 1) (position + offset)) }
+        requires settled { IsTrue
+            (settled_at buffer.now.forest (position + 1) (position + offset)) }
+        ensures { spot_place result
+            ≡ place_at buffer.now.number buffer.now.forest (position + 1) (position + offset) }
+    {
+        Spot {
+            buffer,
+            position: position + 1,
+            scope: position + offset,
+        }
+    }
+
+    pub fn entry(self) -> &'a Entry
         ensures { result.now
             ≡ entry_here (levels_at self.entry.buffer.now.forest self.entry.position).0 }
     {
@@ -133,7 +90,7 @@ impl<'a> Spot<'a> {
     }
 
     // One entry on, into a group.
-    fn bump(self) -> Spot<'a>
+    pub fn bump(self) -> Spot<'a>
         requires { is_at_end (spot_place self) ≡ false }
         ensures same_buffer { result.buffer.now ≡ self.entry.buffer.now }
         ensures place { spot_place result ≡ settled (advance (spot_place self.entry)) }
@@ -154,7 +111,7 @@ impl<'a> Spot<'a> {
     }
 
     // The spot past the openings of invisible groups in front.
-    fn ignore_none(self) -> Spot<'a>
+    pub fn ignore_none(self) -> Spot<'a>
         ensures same_buffer { result.buffer.now ≡ self.entry.buffer.now }
         ensures place { spot_place result ≡ descend (spot_place self.entry) }
     {

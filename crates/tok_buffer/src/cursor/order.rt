@@ -13,7 +13,7 @@ impl<'a> Cursor<'a> {
     {
         match (self.spot, other.spot) {
             (None, None) => true,
-            (Some(left), Some(right)) => left.same_buffer(right),
+            (Some(left), Some(right)) => left.buffer.number() == right.buffer.number(),
             _ => false,
         }
     }
@@ -25,7 +25,7 @@ impl<'a> Cursor<'a> {
     {
         match (self.spot, other.spot) {
             (None, None) => true,
-            (Some(left), Some(right)) => left.same_scope(right),
+            (Some(left), Some(right)) => self.same_buffer(other) && left.scope == right.scope,
             _ => false,
         }
     }
@@ -45,7 +45,8 @@ impl<'a> PartialEq for Cursor<'a> {
     fn eq(&self, other: &Cursor<'a>) -> bool {
         match (self.spot, other.spot) {
             (None, None) => true,
-            (Some(left), Some(right)) => left.is_equal(right),
+            (Some(left), Some(right)) => self.same_buffer(*other)
+                && left.position == right.position,
             _ => false,
         }
     }
@@ -76,7 +77,13 @@ impl<'a> PartialOrd for Cursor<'a> {
     fn partial_cmp(&self, other: &Cursor<'a>) -> Option<Ordering> {
         match (self.spot, other.spot) {
             (None, None) => Some(Ordering::Equal),
-            (Some(left), Some(right)) => left.order(right),
+            (Some(left), Some(right)) => {
+                if self.same_buffer(*other) {
+                    Some(left.position.cmp(&right.position))
+                } else {
+                    None
+                }
+            }
             _ => None,
         }
     }

@@ -1,9 +1,18 @@
-use Rattle.std.proofs.Common.{length}
+use Rattle.std.proofs.Common.{arith}
 use Rattle.std.specs.Str.{chars}
-use Rattle.tok_buffer.specs.Reads.{sized}
-use Rattle.tok_buffer.proofs.Peeks.{no_punctuation}
+use Rattle.tok_core.specs.Forest.{leaf}
+use Rattle.tok_core.specs.Seen.{punct_of}
+use Rattle.tok_buffer.specs.Cursors.{place_of}
+use Rattle.tok_buffer.proofs.PunctRuns.{so_far_start, so_far_more}
 use Rattle.tok_buffer.proofs.cursor.Cursor.puncts.Goals as goal
 
-pub returns-in_err-self : goal.returns-in_err-self
-returns-in_err-self c =
-    rw (c.from_residual.ensures, c.in_err-self.was) (no_punctuation (sized (length c.args.spans.now) (chars c.args.text.now)))
+pub loop-span-init : goal.loop-span-init
+loop-span-init c = (c.utf8.text, so_far_start (chars c.args.text.now) (place_of c.args.self) c.args.spans.now)
+
+pub loop-span-preserved : goal.loop-span-preserved
+loop-span-preserved c =
+    let i = c.loop-span in
+    let more = so_far_more (chars c.args.text.now) (place_of c.args.self) i.span-index i.spans (chars i.rest.now) (place_of i.cursor) i.invariant.1 c.in-Some.wanted (chars c.in-Some.after.now) (leaf (punct_of c.in-Some-next_of.punct)) (place_of c.in-Some-next_of.ahead) in (
+      c.in-Some.ensures.utf8,
+      rw c.span.ensures (more (omega (arith, c.loop-span-test.true, i.auto.spans)) c.in-Some.ensures.chars (c.in-Some-next_of.ensures {u = tt})),
+    )

@@ -1,0 +1,39 @@
+use Rattle.std.proofs.Common.{◌≡◌, ◌∙◌, sym}
+use Rattle.tok_buffer.specs.Cursors.{spot_place}
+use Rattle.tok_buffer.specs.Moves.{levels_at}
+use Rattle.tok_buffer.specs.Layout.{entry_here}
+use Rattle.tok_buffer.specs.declared.entry.Entry.TheVariants.{Group}
+use Rattle.tok_buffer.proofs.Groups.{held_fits, held_within, held_settled, held_after, entered}
+use Rattle.tok_buffer.proofs.cursor.Cursor.any_group.Goals as goal
+
+pub inside-content-requires : goal.inside-content-requires
+inside-content-requires c =
+    let s = c.in_ok-spot.spot in
+    let F = s.buffer.now.forest in
+    let e : entry_here (levels_at F s.position).0 ≡ Group c.in-Group.group c.in-Group.offset = sym c.entry.ensures ∙ c.in-Group.is in
+    record {
+      in_buffer = s.in_buffer;
+      in_front = held_fits F s.position s.scope c.in-Group.group c.in-Group.offset s.within e;
+      within = held_within F s.position s.scope c.in-Group.group c.in-Group.offset s.within e;
+      settled = held_settled F s.position s.scope c.in-Group.group c.in-Group.offset s.within e;
+    }
+
+pub past-after-requires : goal.past-after-requires
+past-after-requires c =
+    let s = c.in_ok-spot.spot in
+    let F = s.buffer.now.forest in
+    let e : entry_here (levels_at F s.position).0 ≡ Group c.in-Group.group c.in-Group.offset = sym c.entry.ensures ∙ c.in-Group.is in
+    record {
+      in_buffer = s.in_buffer;
+      in_front = held_fits F s.position s.scope c.in-Group.group c.in-Group.offset s.within e;
+      within = held_after F s.position s.scope c.in-Group.group c.in-Group.offset s.within e;
+    }
+
+pub returns-in-Group : goal.returns-in-Group
+returns-in-Group c =
+    let s = c.in_ok-spot.spot in
+    let F = s.buffer.now.forest in
+    let g = c.in-Group.group in
+    let e : entry_here (levels_at F s.position).0 ≡ Group g c.in-Group.offset = sym c.entry.ensures ∙ c.in-Group.is in
+    rw (c.in_ok-spot.was, c.new.ensures, c.at.ensures, c.at-in-Group.ensures)
+    (entered F s.position s.scope g c.in-Group.offset s.within e s.buffer.now.number (spot_place c.inside-content.result) (spot_place c.past-after.result) c.inside-content.ensures c.past-after.ensures.place)

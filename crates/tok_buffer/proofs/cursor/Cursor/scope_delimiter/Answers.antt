@@ -1,0 +1,12 @@
+use Rattle.std.proofs.Common.{◌∙◌, sym, ap}
+use Rattle.tok_buffer.proofs.Owners.{scope_ends, scope_owner}
+use Rattle.tok_buffer.proofs.cursor.Cursor.scope_delimiter.Goals as goal
+
+pub owner_at-requires-clause-is_end : goal.owner_at-requires-clause-is_end
+owner_at-requires-clause-is_end c =
+    let s = c.in-Some.spot in scope_ends s.buffer.now.forest s.position s.scope s.within
+
+pub returns-in-Some : goal.returns-in-Some
+returns-in-Some c =
+    let s = c.in-Some.spot in
+    rw c.in-Some.is (ap (λ r. r.0) c.owner_at.ensures ∙ sym (scope_owner s.buffer.now.number s.buffer.now.forest s.position s.scope s.within))

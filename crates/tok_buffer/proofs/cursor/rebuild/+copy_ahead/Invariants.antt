@@ -1,0 +1,18 @@
+use Rattle.std.proofs.Common.{◌≡◌, ◌-◌, ◌≤◌, true}
+use Rattle.tok_core.specs.Forest.{concat}
+use Rattle.tok_buffer.specs.Moves.{in_scope}
+use Rattle.tok_buffer.proofs.Rests.{rest_at}
+use Rattle.tok_buffer.proofs.cursor.rebuild.+copy_ahead.Given as goal
+
+abbrev pub decreases-copy_ahead : goal.decreases-copy_ahead
+decreases-copy_ahead l = l.scope - l.from
+
+abbrev pub invariant-loop-position : goal.invariant-loop-position
+invariant-loop-position l = record {
+  within : in_scope l.buffer.forest l.position l.scope ≡ true;
+  later : l.from ≤ l.position;
+  same : concat l.stream (rest_at l.buffer.forest l.position l.scope) ≡ concat l.fn.stream (rest_at l.buffer.forest l.from l.scope);
+}
+
+abbrev pub decreases-loop-position : goal.decreases-loop-position
+decreases-loop-position l = l.scope - l.position

@@ -1,0 +1,117 @@
+// The text of the trees ahead of a cursor.
+ghost use Rattle.std.specs.Prelude.{◌≡◌, ◌≤◌, ◌++◌, IsTrue};
+ghost use Rattle.std.specs.Fmt.{WritesOnOk};
+ghost use Rattle.tok_core.specs.Forest.{leaf};
+ghost use Rattle.tok_core.specs.Text as spec;
+ghost use Rattle.tok_core.specs.Text.{text};
+ghost use Rattle.tok_core.specs.Weight.{weight};
+ghost use Rattle.tok_buffer.specs.Layout.{leaf_in};
+ghost use Rattle.tok_buffer.specs.Moves.{in_scope, place_at};
+ghost use Rattle.tok_buffer.specs.Rest.{rest};
+
+use crate::buffer::TokenBuffer;
+use crate::cursor::Cursor;
+use crate::entry::{Held, Leaf};
+use std::fmt;
+use std::fmt::{Formatter, Write};
+use tok_core::{Delimiter, Spacing};
+
+impl<'a> Cursor<'a> {
+    ghost use Rattle.std.specs.Fmt.{WritesOnOk};
+    ghost use Rattle.tok_core.specs.Text.{text};
+    ghost use Rattle.tok_buffer.specs.Cursors.{place_of};
+    ghost use Rattle.tok_buffer.specs.Rest.{rest};
+
+    /// Writes all trees that are left in the scope, as the stream that `token_stream` makes of them is printed. Takes no
+    /// memory.
+    pub fn write_ahead<W: Write>(self, f: &mut Formatter<W>) -> fmt::Result
+        ensures { WritesOnOk W.write_str_gives f.old result
+            (text (rest (place_of self.entry))) f.new }
+    {
+        match self.spot {
+            None => Ok(()),
+            Some(spot) => write_from(f, spot.buffer, spot.position, spot.scope),
+        }
+    }
+}
+
+// Writes the trees from a position to the scope's end.
+fn write_from<W: Write>(
+    f: &mut Formatter<W>,
+    buffer: &TokenBuffer,
+    from: usize,
+    scope: usize,
+) -> fmt::Result
+    requires in_buffer { scope ≤ weight buffer.now.forest }
+    requires within { IsTrue (in_scope buffer.now.forest from scope) }
+    ensures { WritesOnOk W.write_str_gives f.old result
+        (text (rest (place_at buffer.now.number buffer.now.forest from scope))) f.new }
+{
+    let mut position = from;
+    let mut is_glued = true;
+    while position != scope {
+        match buffer.entry(position).held() {
+            Held::Leaf(leaf) => {
+                write_leaf(f, is_glued, leaf)?;
+                is_glued = leaf.is_joint();
+                position += 1;
+            }
+            Held::Group(group, offset) => {
+                write_opening(f, is_glued, group.delimiter)?;
+                write_from(f, buffer, position + 1, position + offset)?;
+                f.write_str(group.delimiter.closing())?;
+                is_glued = false;
+                position = position + offset + 1;
+            }
+            Held::End(_) => position += 1,
+        }
+    }
+    Ok(())
+}
+
+impl<'a> Leaf<'a> {
+    // Whether it is a joint punct.
+    fn is_joint(self) -> bool
+        ensures { result ≡ spec.is_joint (leaf (leaf_in self.entry)) }
+    {
+        match self {
+            Leaf::Punct(punct) => match punct.spacing() {
+                Spacing::Joint => true,
+                Spacing::Alone => false,
+            },
+            _ => false,
+        }
+    }
+}
+
+// A leaf, after the space that parts it from what was written.
+fn write_leaf<W: Write>(f: &mut Formatter<W>, is_glued: bool, leaf: Leaf<'_>) -> fmt::Result
+    ensures { WritesOnOk W.write_str_gives f.old result
+        (spec.space is_glued ++ spec.leaf_text (leaf_in leaf.entry)) f.new }
+{
+    f.write_str(space(is_glued))?;
+    match leaf {
+        Leaf::Ident(ident) => f.write_str(ident.as_str()),
+        Leaf::Punct(punct) => f.write_char(punct.as_char()),
+        Leaf::Literal(literal) => f.write_str(literal.as_str()),
+    }
+}
+
+// The start of a group, after the space that parts it from what was written.
+fn write_opening<W: Write>(
+    f: &mut Formatter<W>,
+    is_glued: bool,
+    delimiter: Delimiter,
+) -> fmt::Result
+    ensures { WritesOnOk W.write_str_gives f.old result
+        (spec.space is_glued ++ spec.opening delimiter) f.new }
+{
+    f.write_str(space(is_glued))?;
+    f.write_str(delimiter.opening())
+}
+
+fn space(is_glued: bool) -> &'static str
+    ensures { result.now ≡ spec.space is_glued }
+{
+    if is_glued { "" } else { " " }
+}

@@ -1,0 +1,124 @@
+// The puncts of a punctuation.
+ghost use Rattle.std.specs.Prelude.{◌≡◌};
+ghost use Rattle.std.specs.Str.{chars};
+ghost use Rattle.tok_core.specs.Forest.{leaf};
+ghost use Rattle.tok_core.specs.Seen.{punct_of};
+ghost use Rattle.tok_buffer.specs.Reads as spec;
+
+use crate::cursor::Cursor;
+use crate::entry::Entry;
+use crate::text::next_char;
+use tok_core::{Punct, Spacing, Span};
+
+impl<'a> Cursor<'a> {
+    ghost use Rattle.std.specs.Prelude.{◌≡◌, ◌∷◌, [], length, MatchOption, Some, None, is_some};
+    ghost use Rattle.std.specs.Str.{chars};
+    ghost use Rattle.tok_core.specs.Forest.{leaf};
+    ghost use Rattle.tok_core.specs.Seen.{punct_of};
+    ghost use Rattle.tok_buffer.specs.Cursors.{place_of};
+    ghost use Rattle.tok_buffer.specs.Descent.{descend};
+    ghost use Rattle.tok_buffer.specs.Gives.{Gives};
+    ghost use Rattle.tok_buffer.specs.Reads.{is_punct_of, read_if, read_next, read_punctuation, read_spans, sized};
+
+    /// Whether the puncts in front are the characters of this text, each but the last joint. False for the empty text
+    /// and for one with an apostrophe.
+    pub fn peek_punct(self, text: &str) -> bool
+        ensures { result ≡ is_some (read_punctuation (chars text.now) (place_of self.entry)) }
+    {
+        let Some((first, after)) = next_char(text) else {
+            return false;
+        };
+        let mut cursor = self;
+        let mut wanted = first;
+        let mut rest = after;
+        while let Some((next, after)) = next_char(rest) {
+            match cursor.next_of(wanted, rest) {
+                Some((_, ahead)) => cursor = ahead,
+                None => return false,
+            }
+            wanted = next;
+            rest = after;
+        }
+        cursor.peek_char(wanted)
+    }
+
+    // A punct of this character is in front.
+    fn peek_char(self, wanted: char) -> bool
+        ensures { result ≡ is_some (read_if (is_punct_of wanted) (descend (place_of self.entry))) }
+    {
+        match self.spot {
+            None => false,
+            Some(spot) => match spot.ignore_none().entry() {
+                Entry::Punct(punct) => is_punct_of(*punct, wanted),
+                _ => false,
+            },
+        }
+    }
+
+    /// Reads the puncts in front that are the characters of this text, each but the last joint: writes a span for each
+    /// into `spans`, and returns the cursor after them. A text of another number of characters than there are spans
+    /// counts as empty, and the empty text is never read. Takes no memory. What `spans` holds after a `None` is not said.
+    pub fn puncts(self, text: &str, spans: &mut [Span]) -> Option<Cursor<'a>>
+        ensures { MatchOption result
+            (read_punctuation (sized (length spans.old) (chars text.now)) (place_of self.entry)
+            ≡ None)
+            (λ r. read_spans
+            (read_punctuation (sized (length spans.old) (chars text.now)) (place_of self.entry))
+            ≡ Some (spans.new, place_of r)) }
+    {
+        if spans.is_empty() {
+            return None;
+        }
+        let mut cursor = self;
+        let mut rest = text;
+        for span in spans.iter_mut() {
+            let Some((wanted, after)) = next_char(rest) else {
+                return None;
+            };
+            let Some((punct, ahead)) = cursor.next_of(wanted, after) else {
+                return None;
+            };
+            *span = punct.span();
+            cursor = ahead;
+            rest = after;
+        }
+        match next_char(rest) {
+            None => Some(cursor),
+            Some(_) => None,
+        }
+    }
+
+    // The punct of the first of some characters in front, joint where more of them follow.
+    fn next_of(self, wanted: char, rest: &str) -> Option<(Punct, Cursor<'a>)>
+        ensures { Gives result (read_next wanted (chars rest.now) (place_of self.entry))
+            (λ r. (leaf (punct_of r.0) ∷ [], place_of r.1)) }
+    {
+        let spot = self.spot?.ignore_none();
+        match spot.entry() {
+            Entry::Punct(punct) => {
+                if is_next_of(*punct, wanted, rest) {
+                    Some((*punct, Cursor::at(spot.bump())))
+                } else {
+                    None
+                }
+            }
+            _ => None,
+        }
+    }
+}
+
+// A punct of this character, joint where more characters follow.
+fn is_next_of(punct: Punct, wanted: char, rest: &str) -> bool
+    ensures { result ≡ spec.is_next_of wanted (chars rest.now) (leaf (punct_of punct)) }
+{
+    match punct.spacing() {
+        Spacing::Joint => is_punct_of(punct, wanted),
+        Spacing::Alone => rest.is_empty() && is_punct_of(punct, wanted),
+    }
+}
+
+fn is_punct_of(punct: Punct, wanted: char) -> bool
+    ensures { result ≡ spec.is_punct_of wanted (leaf (punct_of punct)) }
+{
+    punct.as_char() == wanted && punct.as_char() != '\''
+}
