@@ -31,8 +31,7 @@ impl<'a> Spot<'a> {
     fn create(buffer: &'a TokenBuffer, position: usize, scope: usize) -> Spot<'a>
         requires in_buffer { scope ≤ weight buffer.now.forest }
         requires within { IsTrue (in_scope buffer.now.forest position scope) }
-        ensures same_buffer { result.buffer.now ≡ buffer.now }
-        ensures place { spot_place result
+        ensures { spot_place result
             ≡ settled (place_at buffer.now.number buffer.now.forest position scope) }
     {
         let mut position = position;
@@ -58,8 +57,7 @@ impl<'a> Spot<'a> {
         requires in_buffer { scope ≤ weight buffer.now.forest }
         requires in_front { position + length + 1 ≤ scope }
         requires within { IsTrue (in_scope buffer.now.forest (position + length + 1) scope) }
-        ensures same_buffer { result.buffer.now ≡ buffer.now }
-        ensures place { spot_place result
+        ensures { spot_place result
             ≡ settled (place_at buffer.now.number buffer.now.forest (position + length + 1) scope) }
     {
         Spot::create(buffer, position + length + 1, scope)
@@ -92,8 +90,7 @@ impl<'a> Spot<'a> {
     // One entry on, into a group.
     pub fn bump(self) -> Spot<'a>
         requires { is_at_end (spot_place self) ≡ false }
-        ensures same_buffer { result.buffer.now ≡ self.entry.buffer.now }
-        ensures place { spot_place result ≡ settled (advance (spot_place self.entry)) }
+        ensures { spot_place result ≡ settled (advance (spot_place self.entry)) }
     {
         Spot::past(self.buffer, self.position, 0, self.scope)
     }
@@ -112,8 +109,7 @@ impl<'a> Spot<'a> {
 
     // The spot past the openings of invisible groups in front.
     pub fn ignore_none(self) -> Spot<'a>
-        ensures same_buffer { result.buffer.now ≡ self.entry.buffer.now }
-        ensures place { spot_place result ≡ descend (spot_place self.entry) }
+        ensures { spot_place result ≡ descend (spot_place self.entry) }
     {
         let mut spot = self;
         while spot.at_invisible() {

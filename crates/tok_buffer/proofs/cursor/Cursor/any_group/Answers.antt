@@ -36,4 +36,4 @@ returns-in-Group c =
     let g = c.in-Group.group in
     let e : entry_here (levels_at F s.position).0 ≡ Group g c.in-Group.offset = sym c.entry.ensures ∙ c.in-Group.is in
     rw (c.in_ok-spot.was, c.new.ensures, c.at.ensures, c.at-in-Group.ensures)
-    (entered F s.position s.scope g c.in-Group.offset s.within e s.buffer.now.number (spot_place c.inside-content.result) (spot_place c.past-after.result) c.inside-content.ensures c.past-after.ensures.place)
+    (entered F s.position s.scope g c.in-Group.offset s.within e s.buffer.now.number (spot_place c.inside-content.result) (spot_place c.past-after.result) c.inside-content.ensures c.past-after.ensures)
