@@ -27,32 +27,7 @@ impl<'a> Spot<'a> {
     ghost use Rattle.tok_buffer.specs.Moves.{in_scope, place_at, advance, invisible_front, levels_at, level_ahead};
     ghost use Rattle.tok_buffer.specs.Place.{is_at_end, settled};
 
-    // The spot at a position, after the ends that stand there.
-    fn create(buffer: &'a TokenBuffer, position: usize, scope: usize) -> Spot<'a>
-        requires in_buffer { scope ≤ weight buffer.now.forest }
-        requires within { IsTrue (in_scope buffer.now.forest position scope) }
-        ensures { spot_place result
-            ≡ settled (place_at buffer.now.number buffer.now.forest position scope) }
-    {
-        let mut position = position;
-        while position != scope {
-            if !buffer.ends_at(position) {
-                return Spot {
-                    buffer,
-                    position,
-                    scope,
-                };
-            }
-            position += 1;
-        }
-        Spot {
-            buffer,
-            position,
-            scope,
-        }
-    }
-
-    // The spot after the entry that is so far from a position.
+    // The spot after the entry that is so far from a position, and after the ends that stand there.
     pub fn past(buffer: &'a TokenBuffer, position: usize, length: usize, scope: usize) -> Spot<'a>
         requires in_buffer { scope ≤ weight buffer.now.forest }
         requires in_front { position + length + 1 ≤ scope }
@@ -60,7 +35,15 @@ impl<'a> Spot<'a> {
         ensures { spot_place result
             ≡ settled (place_at buffer.now.number buffer.now.forest (position + length + 1) scope) }
     {
-        Spot::create(buffer, position + length + 1, scope)
+        let mut position = position + length + 1;
+        while position != scope && buffer.ends_at(position) {
+            position += 1;
+        }
+        Spot {
+            buffer,
+            position,
+            scope,
+        }
     }
 
     // The content of the group that opens at a position.
