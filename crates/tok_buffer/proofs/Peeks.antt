@@ -1,35 +1,19 @@
 -- What is read, and what is in front.
-use Rattle.std.proofs.Common.{◌≡◌, ◌∙◌, sym, ap, refl, ℕ, Bool, true, false, cond, List, [], ◌∷◌, ◌++◌, length, bytes_eq, encode_utf8_all, Option, Some, None, is_some}
+use Rattle.std.proofs.Common.{◌≡◌, ◌∙◌, sym, ap, refl, ℕ, true, false, List, [], ◌∷◌, ◌++◌, length, bytes_eq, encode_utf8_all, Option, Some, None, is_some}
 use Rattle.std.proofs.lemmas.Bool.{false≢true}
 use Rattle.std.proofs.lemmas.Str.{chars-nil, encodes-chars}
 use Rattle.std.specs.Prelude.{◌==◌}
 use Rattle.std.specs.Str.{chars, IsUtf8}
 use Rattle.tok_core.specs.declared.punct.Spacing.TheVariants.{Alone}
 use Rattle.tok_core.specs.declared.span.Span.{Span}
-use Rattle.tok_core.specs.Forest.{ident, punct, literal, Tree, leaf, group, no_trees, tree}
+use Rattle.tok_core.specs.Forest.{punct, Tree, leaf, group, no_trees, tree}
 use Rattle.tok_core.proofs.Facts.{concat-none}
 use Rattle.tok_buffer.specs.Entry.{Entered, enter_any}
-use Rattle.tok_buffer.specs.Place.{level, Place, empty_place, at, front, pass}
+use Rattle.tok_buffer.specs.Place.{level, Place, empty_place, at, pass}
 use Rattle.tok_buffer.specs.Descent.{descend}
-use Rattle.tok_buffer.specs.Reads.{and_then, place_after, read_if, is_ident, is_ident_of, is_group, is_joint_of, is_next_of, is_punct_of, read_keyword, read_punctuation, read_word}
+use Rattle.tok_buffer.specs.Reads.{and_then, place_after, read_if, is_group, is_joint_of, is_next_of, is_punct_of, read_keyword, read_punctuation, read_word}
 use Rattle.tok_buffer.specs.Rest.{rest}
 use Rattle.tok_buffer.proofs.Names.{no_text}
-
--- a tree that is there and wanted
-abbrev taken : (Tree → Bool) → Option Tree → Place → Option (List Tree × Place)
-taken wanted x p = elim x [ Some t ↦ cond (wanted t) (Some (t ∷ [], p)) None | None ↦ None ]
-
-module _ (wanted : List ℕ → Bool) where
-  no_word_in : (x : Option Tree) (p : Place) → taken is_ident x p ≡ None → is_some (taken (is_ident_of wanted) x p) ≡ false
-  no_word_in None p e = refl
-  no_word_in (Some (leaf (ident text span))) p e = cc
-  no_word_in (Some (leaf (punct c spacing span))) p e = refl
-  no_word_in (Some (leaf (literal text span))) p e = refl
-  no_word_in (Some (group d inside span)) p e = refl
-
-  -- where no identifier is read, none of a text is
-  pub no_word : (p : Place) → read_if is_ident p ≡ None → is_some (read_if (is_ident_of wanted) p) ≡ false
-  no_word p e = no_word_in (front p) (pass p) e
 
 -- a keyword is read where it has a text
 pub no_keyword : (text : List ℕ) (p : Place) → (length text == 0) ≡ true → is_some (read_keyword text p) ≡ false
@@ -76,9 +60,3 @@ after_then (Some r) q g e =
 
 pub joint_then : (c d : ℕ) (cs : List ℕ) (p q : Place) → place_after (read_if (is_joint_of c) (descend p)) ≡ Some q → is_some (read_punctuation (c ∷ (d ∷ cs)) p) ≡ is_some (read_punctuation (d ∷ cs) q)
 joint_then c d cs p q e = after_then (read_if (is_joint_of c) (descend p)) q (read_punctuation (d ∷ cs)) e
-
--- none is in front of the empty place
-pub no_punctuation : (cs : List ℕ) → read_punctuation cs empty_place ≡ None
-no_punctuation [] = refl
-no_punctuation (c ∷ []) = refl
-no_punctuation (c ∷ (d ∷ cs)) = refl
