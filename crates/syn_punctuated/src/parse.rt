@@ -1,21 +1,72 @@
-//! What the two list parsers share.
-ghost use Rattle.std.specs.Prelude.{◌≡◌, ◌<◌, false, true, IfOk, MatchResult};
+//! The parser of lists, whose rule says when a list goes on.
+ghost use Rattle.std.specs.Prelude.{◌≡◌, ◌+◌, ◌<◌, ◌≤◌, false, true, length, IfOk, MatchResult};
+ghost use Rattle.std.specs.Fn.{CalledAtMut};
 ghost use Rattle.tok_buffer.specs.Cursors.{place_of};
 ghost use Rattle.tok_buffer.specs.Progress.{remaining};
 ghost use Rattle.syn_parse.specs.Faults.{Refuses};
-ghost use Rattle.syn_punctuated.specs.Pieces.{Keeps};
+ghost use Rattle.syn_punctuated.specs.Lists.{values_of};
+ghost use Rattle.syn_punctuated.specs.Pieces.{IsPiece, Keeps};
 ghost use Rattle.syn_punctuated.specs.Progress.{progresses};
-ghost use Rattle.syn_punctuated.specs.Turns.{no_progress};
+ghost use Rattle.syn_punctuated.specs.Turns.{Rule, IsRun, no_progress};
 
 use crate::punctuated::Punctuated;
 use std::alloc::Global;
-use syn_parse::{Fault, ParseBuffer, Result};
+use syn_parse::{Fault, Parse, ParseBuffer, ParseStream, Result};
 use tok_buffer::laws::staying_adds_nothing;
 use tok_buffer::{Cursor, Error};
 
+/// When a list with separators of type `P` goes on.
+pub(crate) trait ListRule<P> {
+    ghost rule: { Rule };
+
+    /// Whether another turn begins here. If not, the list ends.
+    fn begins(input: &ParseBuffer<'_>) -> bool
+        ensures begins { result ≡ true → rule.begins input.now.place }
+        ensures ends { result ≡ false → rule.ends input.now.place };
+
+    /// Whether a separator follows the value before this place. If not, the list ends with the value.
+    fn goes_on(input: &ParseBuffer<'_>) -> bool
+        ensures goes_on { result ≡ true → rule.goes_on input.now.place }
+        ensures stops { result ≡ false → rule.stops input.now.place };
+}
+
+/// Reads a list by this rule, whose values `parser` reads.
+pub(crate) fn parse_list<'a, R, T, P, F>(
+    input: ParseStream<'_, 'a>,
+    mut parser: F,
+) -> Result<Punctuated<T, P>>
+where
+    R: ListRule<P>,
+    T: Drop,
+    P: Parse + Drop,
+    F: FnMut(ParseStream<'_, 'a>) -> Result<T>,
+    requires { (f : F) (y : _) → remaining y.now.place ≤ remaining input.old.place → F.pre f y }
+    ensures run { IsRun R.rule (CalledAtMut F.FnMut)
+        P.parses parser input.old result input.new }
+    ensures bounded { IfOk result
+        (λ list. length (values_of list) ≤ remaining input.old.place + 1) }
+{
+    let alloc = input.allocator();
+    let mut pairs = Vec::new(alloc);
+    let mut start = input.cursor();
+    loop {
+        match read_turn::<R, T, P, F>(input, &mut parser)? {
+            Piece::End => {
+                return Ok(Punctuated {
+                    inner: pairs,
+                    last: None,
+                });
+            }
+            Piece::Bare(value) => return with_bare(alloc, pairs, value),
+            Piece::Full(value, separator) => pairs.push((value, separator))?,
+        }
+        start = next_turn(input, start)?;
+    }
+}
+
 /// What one turn gives.
 #[derive(Drop)]
-pub(crate) enum Piece<T, P> {
+enum Piece<T, P> {
     /// The list ends without another value.
     End,
     /// The last value, which no separator follows.
@@ -24,9 +75,31 @@ pub(crate) enum Piece<T, P> {
     Full(T, P),
 }
 
+/// One turn.
+fn read_turn<'a, R, T, P, F>(input: ParseStream<'_, 'a>, parser: &mut F) -> Result<Piece<T, P>>
+where
+    R: ListRule<P>,
+    T: Drop,
+    P: Parse + Drop,
+    F: FnMut(ParseStream<'_, 'a>) -> Result<T>,
+    requires { (y : _) → y.now ≡ input.old → F.pre parser.old y }
+    ensures { IsPiece R.rule (CalledAtMut F.FnMut)
+        P.parses parser.old input.old result parser.new input.new }
+{
+    if !R::begins(input) {
+        return Ok(Piece::End);
+    }
+    let value = parser(input)?;
+    if !R::goes_on(input) {
+        return Ok(Piece::Bare(value));
+    }
+    let separator = input.parse()?;
+    Ok(Piece::Full(value, separator))
+}
+
 /// Where the next turn begins, after one that began at `start`. A turn that made no progress is refused, so that a run
 /// ends for every value parser and every separator.
-pub(crate) fn next_turn<'a>(input: &ParseBuffer<'a>, start: Cursor<'a>) -> Result<Cursor<'a>>
+fn next_turn<'a>(input: &ParseBuffer<'a>, start: Cursor<'a>) -> Result<Cursor<'a>>
     ensures progress { MatchResult result
         (λ now. (place_of now ≡ input.now.place)
         × (progresses (place_of start.entry) input.now.place ≡ true))
@@ -64,7 +137,7 @@ fn no_progress(input: &ParseBuffer<'_>) -> Fault
 }
 
 /// A list of these pairs, and of a last value that no separator follows.
-pub(crate) fn with_bare<T: Drop, P: Drop>(
+fn with_bare<T: Drop, P: Drop>(
     alloc: Global,
     pairs: Vec<(T, P)>,
     value: T,

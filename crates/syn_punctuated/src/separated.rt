@@ -1,33 +1,28 @@
 //! The parser of separated lists.
-ghost use Rattle.std.specs.Prelude.{◌≡◌, ◌+◌, ◌≤◌, length, IfOk};
+ghost use Rattle.std.specs.Prelude.{◌+◌, ◌≤◌, length, IfOk};
 ghost use Rattle.std.specs.Fn.{CalledAtMut};
 ghost use Rattle.tok_buffer.specs.Progress.{remaining};
 ghost use Rattle.syn_punctuated.specs.Lists.{values_of};
-ghost use Rattle.syn_punctuated.specs.Pieces.{IsPiece};
 ghost use Rattle.syn_punctuated.specs.Turns.{separated, IsRun, IsPlainRun};
 
-use crate::parse::{Piece, next_turn, with_bare};
+use crate::parse::{ListRule, parse_list};
 use crate::punctuated::Punctuated;
-use syn_parse::{Parse, ParseStream, Result};
+use syn_parse::{Parse, ParseBuffer, ParseStream, Result};
 use tok_types::token::Token;
 
-/// One turn.
-fn read_separated<'a, T: Drop, P: Parse + Token + Drop, F>(
-    input: ParseStream<'_, 'a>,
-    parser: &mut F,
-) -> Result<Piece<T, P>>
-where
-    F: FnMut(ParseStream<'_, 'a>) -> Result<T>,
-    requires { (y : _) → y.now ≡ input.old → F.pre parser.old y }
-    ensures { IsPiece (separated P.peeks) (CalledAtMut F.FnMut) P.parses
-        parser.old input.old result parser.new input.new }
-{
-    let value = parser(input)?;
-    if !input.peek::<P>() {
-        return Ok(Piece::Bare(value));
+/// A value, and another one after each separator that is next.
+pub(crate) enum Separated {}
+
+impl<P: Token> ListRule<P> for Separated {
+    ghost rule = { separated P.peeks };
+
+    fn begins(_: &ParseBuffer<'_>) -> bool {
+        true
     }
-    let separator = input.parse()?;
-    Ok(Piece::Full(value, separator))
+
+    fn goes_on(input: &ParseBuffer<'_>) -> bool {
+        input.peek::<P>()
+    }
 }
 
 impl<T: Drop, P: Parse + Token + Drop> Punctuated<T, P> {
@@ -42,7 +37,7 @@ impl<T: Drop, P: Parse + Token + Drop> Punctuated<T, P> {
     ///         Punctuated::parse_separated_nonempty_with(input, |input| Ident::parse_any(input))?;
     pub fn parse_separated_nonempty_with<'a, F>(
         input: ParseStream<'_, 'a>,
-        mut parser: F,
+        parser: F,
     ) -> Result<Self>
     where
         F: FnMut(ParseStream<'_, 'a>) -> Result<T>,
@@ -52,22 +47,7 @@ impl<T: Drop, P: Parse + Token + Drop> Punctuated<T, P> {
         ensures bounded { IfOk result
             (λ list. length (values_of list) ≤ remaining input.old.place + 1) }
     {
-        let alloc = input.allocator();
-        let mut pairs = Vec::new(alloc);
-        let mut start = input.cursor();
-        loop {
-            match read_separated(input, &mut parser)? {
-                Piece::End => {
-                    return Ok(Punctuated {
-                        inner: pairs,
-                        last: None,
-                    });
-                }
-                Piece::Bare(value) => return with_bare(alloc, pairs, value),
-                Piece::Full(value, separator) => pairs.push((value, separator))?,
-            }
-            start = next_turn(input, start)?;
-        }
+        parse_list::<Separated, T, P, F>(input, parser)
     }
 }
 

@@ -1,36 +1,28 @@
 //! The parser of terminated lists.
-ghost use Rattle.std.specs.Prelude.{◌≡◌, ◌+◌, ◌≤◌, length, IfOk};
+ghost use Rattle.std.specs.Prelude.{◌+◌, ◌≤◌, length, IfOk};
 ghost use Rattle.std.specs.Fn.{CalledAtMut};
 ghost use Rattle.tok_buffer.specs.Progress.{remaining};
 ghost use Rattle.syn_parse.specs.State.{State};
 ghost use Rattle.syn_punctuated.specs.Lists.{values_of};
-ghost use Rattle.syn_punctuated.specs.Pieces.{IsPiece};
 ghost use Rattle.syn_punctuated.specs.Turns.{terminated, IsRun, IsPlainRun};
 
-use crate::parse::{Piece, next_turn, with_bare};
+use crate::parse::{ListRule, parse_list};
 use crate::punctuated::Punctuated;
 use syn_parse::{Parse, ParseBuffer, ParseStream, Result};
 
-/// One turn.
-fn read_terminated<'a, T: Drop, P: Parse + Drop, F>(
-    input: ParseStream<'_, 'a>,
-    parser: &mut F,
-) -> Result<Piece<T, P>>
-where
-    F: FnMut(ParseStream<'_, 'a>) -> Result<T>,
-    requires { (y : _) → y.now ≡ input.old → F.pre parser.old y }
-    ensures { IsPiece terminated (CalledAtMut F.FnMut)
-        P.parses parser.old input.old result parser.new input.new }
-{
-    if input.is_empty() {
-        return Ok(Piece::End);
+/// A separator after each value, until nothing is left. The last one may be missing.
+pub(crate) enum Terminated {}
+
+impl<P> ListRule<P> for Terminated {
+    ghost rule = { terminated };
+
+    fn begins(input: &ParseBuffer<'_>) -> bool {
+        !input.is_empty()
     }
-    let value = parser(input)?;
-    if input.is_empty() {
-        return Ok(Piece::Bare(value));
+
+    fn goes_on(input: &ParseBuffer<'_>) -> bool {
+        !input.is_empty()
     }
-    let separator = input.parse()?;
-    Ok(Piece::Full(value, separator))
 }
 
 impl<T: Drop, P: Parse + Drop> Punctuated<T, P> {
@@ -42,7 +34,7 @@ impl<T: Drop, P: Parse + Drop> Punctuated<T, P> {
     ///
     ///     let names: Punctuated<Ident, token::Comma> =
     ///         Punctuated::parse_terminated_with(input, |input| Ident::parse_any(input))?;
-    pub fn parse_terminated_with<'a, F>(input: ParseStream<'_, 'a>, mut parser: F) -> Result<Self>
+    pub fn parse_terminated_with<'a, F>(input: ParseStream<'_, 'a>, parser: F) -> Result<Self>
     where
         F: FnMut(ParseStream<'_, 'a>) -> Result<T>,
         requires { (f : F) (y : _) → remaining y.now.place ≤ remaining input.old.place → F.pre f y }
@@ -51,22 +43,7 @@ impl<T: Drop, P: Parse + Drop> Punctuated<T, P> {
         ensures bounded { IfOk result
             (λ list. length (values_of list) ≤ remaining input.old.place + 1) }
     {
-        let alloc = input.allocator();
-        let mut pairs = Vec::new(alloc);
-        let mut start = input.cursor();
-        loop {
-            match read_terminated(input, &mut parser)? {
-                Piece::End => {
-                    return Ok(Punctuated {
-                        inner: pairs,
-                        last: None,
-                    });
-                }
-                Piece::Bare(value) => return with_bare(alloc, pairs, value),
-                Piece::Full(value, separator) => pairs.push((value, separator))?,
-            }
-            start = next_turn(input, start)?;
-        }
+        parse_list::<Terminated, T, P, F>(input, parser)
     }
 }
 

@@ -64,8 +64,14 @@ fn act<'a>(streams: &mut Streams<'a>, command: &Command) -> Result<Answer, Alloc
         Command::EnterAny(_) => table::enter(streams, n, stream, None),
         Command::Fork(_) => table::fork(streams, n, stream),
         Command::Advance(_, fork) => Ok(table::advance(streams, n, stream, *fork)),
-        Command::Discard(_) => Ok(table::discard(streams, n, stream)),
-        Command::Close(_) => Ok(table::close(streams, n, stream)),
+        Command::Discard(_) => {
+            streams.discard(n);
+            Ok(Answer::Done)
+        }
+        Command::Close(_) => {
+            streams.close(n);
+            Ok(Answer::Done)
+        }
         _ => read(streams, n, stream, command),
     }
 }

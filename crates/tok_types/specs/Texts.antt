@@ -72,6 +72,13 @@ is_among (t ∷ ts) s = bytes_eq t s || is_among ts s
 abbrev pub texts_of : List (Bor (List ℕ)) → List (List ℕ)
 texts_of = map (λ (t : Bor (List ℕ)). t.now)
 
+-- the text in a row of a table, and the same in backquotes
+abbrev pub text_in : Bor (List ℕ) × Bor (List ℕ) → List ℕ
+text_in row = row.0.now
+
+abbrev pub display_in : Bor (List ℕ) × Bor (List ℕ) → List ℕ
+display_in row = row.1.now
+
 -- no text is below the one before it, by its bytes
 abbrev pub is_ascending : List (List ℕ) → Bool
 is_ascending [] = true

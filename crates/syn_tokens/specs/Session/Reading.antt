@@ -16,12 +16,15 @@ use Rattle.syn_punctuated.specs.declared.pair.Pair.{Pair}
 use Rattle.syn_punctuated.specs.declared.pair.Pair.TheVariants.{Punctuated, End}
 use Rattle.tok_types.specs.declared.punctuation.Punctuation.{Punctuation}
 use Rattle.syn_tokens.specs.Commands as spec
+use Rattle.syn_tokens.specs.Kinds.{Kind}
 use Rattle.syn_tokens.specs.Session.State.{outermost, standing}
 use Rattle.syn_tokens.specs.Session.Step.{Stepped, on_stream}
 use Rattle.syn_tokens.specs.Turns.{pieces_of}
 use Rattle.syn_tokens.specs.Meanings.{IsAnswer, IsOneMessage, piece_of, pieces_in, refusal_of}
 use Rattle.syn_tokens.specs.declared.report.Answer.{Answer}
 use Rattle.syn_tokens.specs.declared.report.Piece.{Piece}
+use Rattle.syn_tokens.specs.declared.session.lists.Form.{Form}
+use Rattle.syn_tokens.specs.declared.session.lists.Form.TheVariants.{Terminated, Separated}
 
 -- the pieces of the trees read
 abbrev pub ArePieces : List Tree → Vec Piece → Type 0
@@ -77,6 +80,11 @@ LeavesAlone (Err (Memory e)) t step = Unit {0}
 
 abbrev pub IsRead : spec.Command → parse.State → Result Answer Fault → parse.State → Type 0
 IsRead c s result t = GivesAnswer (alone c s).answer result × LeavesAlone result t (alone c s)
+
+-- the command that reads a list of this form
+abbrev pub list_command : Form → Kind → List ℕ → spec.Command
+list_command Terminated = spec.terminated 0
+list_command Separated = spec.separated 0
 
 -- a command that concerns no other stream
 abbrev pub is_read : spec.Command → Bool

@@ -51,46 +51,32 @@ pub fn parts(input: &str) -> Option<(&str, Option<&str>, Option<&str>)>
         (λ p. IsUtf8 p.0.now × IfSome p.1 (λ other. IsUtf8 other.now)
         × IfSome p.2 (λ rest. IsUtf8 rest.now)) }
 {
-    let (text, rest) = cut(input)?;
-    let Some((other, lines)) = cut_rest(rest) else {
+    let (text, rest) = cut(Some(input))?;
+    let Some((other, lines)) = cut(rest) else {
         return Some((text, None, rest));
     };
-    match cut_rest(lines) {
+    match cut(lines) {
         Some(_) => None,
         None => Some((text, Some(other), lines)),
     }
 }
 
-// The same as `cut`, of what is left.
-fn cut_rest(rest: Option<&str>) -> Option<(&str, Option<&str>)>
-    requires { IfSome rest (λ rest. IsUtf8 rest.now) }
-    ensures parts { MatchOption result
-        (slice_split spec.is_cut (spec.lines_left rest.entry) ≡ spec.lines_left rest.entry ∷ [])
-        (λ p. (before : List (List ℕ)) × (p.0.now ≡ spec.text_of before)
-        × (slice_split spec.is_cut (spec.lines_left rest.entry)
-        ≡ before ∷ slice_split spec.is_cut (spec.lines_left p.1))) }
-    ensures utf8 { IfSome result (λ p. IsUtf8 p.0.now × IfSome p.1 (λ rest. IsUtf8 rest.now)) }
-{
-    match rest {
-        Some(rest) => cut(rest),
-        None => None,
-    }
-}
-
 // What comes before the first line that ends a text, and what follows that line.
-fn cut(input: &str) -> Option<(&str, Option<&str>)>
+fn cut(input: Option<&str>) -> Option<(&str, Option<&str>)>
+    requires { IfSome input (λ input. IsUtf8 input.now) }
     ensures parts { MatchOption result
-        (slice_split spec.is_cut (spec.lines input.now) ≡ spec.lines input.now ∷ [])
+        (slice_split spec.is_cut (spec.lines_left input.entry) ≡ spec.lines_left input.entry ∷ [])
         (λ p. (before : List (List ℕ)) × (p.0.now ≡ spec.text_of before)
-        × (slice_split spec.is_cut (spec.lines input.now)
+        × (slice_split spec.is_cut (spec.lines_left input.entry)
         ≡ before ∷ slice_split spec.is_cut (spec.lines_left p.1))) }
     ensures utf8 { IfSome result (λ p. IsUtf8 p.0.now × IfSome p.1 (λ rest. IsUtf8 rest.now)) }
 {
-    let mut left = Some(input);
+    let text = input?;
+    let mut left = input;
     while let Some(rest) = left {
         let (line, after) = first_line(rest);
         if line == "---" {
-            return Some((&input[..input.len() - rest.len()], after));
+            return Some((&text[..text.len() - rest.len()], after));
         }
         left = after;
     }

@@ -15,7 +15,8 @@ ghost use Rattle.syn_tokens.specs.Meanings.{command_of, kind_of, look_of};
 
 use crate::command::{Command, Kind, Look};
 use crate::report::{Answer, Piece};
-use crate::session::{lists, pieces};
+use crate::session::lists::{self, Form};
+use crate::session::pieces;
 use std::alloc::{AllocError, Global};
 use syn_parse::{IdentExt, LifetimeExt, ParseBuffer, ParseStream, Result, parsing};
 use tok_buffer::Lifetime;
@@ -34,8 +35,12 @@ pub fn answer(input: ParseStream<'_, '_>, command: &Command) -> Result<Answer>
         Command::Parse(_, kind) => Ok(Answer::Read(parse(input, *kind)?)),
         Command::Optional(_, kind) => optional(input, *kind),
         Command::Empty(_) => Ok(Answer::Truth(input.is_empty())),
-        Command::Terminated(_, kind, separator) => lists::terminated(input, *kind, *separator),
-        Command::Separated(_, kind, separator) => lists::separated(input, *kind, *separator),
+        Command::Terminated(_, kind, separator) => {
+            lists::read(input, Form::Terminated, *kind, *separator)
+        }
+        Command::Separated(_, kind, separator) => {
+            lists::read(input, Form::Separated, *kind, *separator)
+        }
         Command::Lookahead(_, looks) => look_ahead(input, looks),
         Command::StreamSpan(_) => Ok(Answer::At(input.span())),
         Command::CursorSpan(_) => Ok(Answer::At(input.cursor().span())),

@@ -118,23 +118,3 @@ pub fn advance<'a>(streams: &mut Streams<'a>, n: usize, stream: Stream<'a>, fork
         Answer::Unfit(5)
     }
 }
-
-/// Closes a content.
-pub fn close<'a>(streams: &mut Streams<'a>, n: usize, stream: Stream<'a>) -> Answer
-    requires { stream_at (state_of streams.old) n ≡ Some (stream_of stream) }
-    ensures { IsStepped result (state_of streams.new)
-        (on_stream (commands.close n) (state_of streams.old) n (stream_of stream.entry)) }
-{
-    streams.close(n);
-    Answer::Done
-}
-
-/// Discards a fork.
-pub fn discard<'a>(streams: &mut Streams<'a>, n: usize, stream: Stream<'a>) -> Answer
-    requires { stream_at (state_of streams.old) n ≡ Some (stream_of stream) }
-    ensures { IsStepped result (state_of streams.new)
-        (on_stream (commands.discard n) (state_of streams.old) n (stream_of stream.entry)) }
-{
-    streams.discard(n);
-    Answer::Done
-}

@@ -2,10 +2,10 @@ use Rattle.syn_tokens.specs.Program.Input.{lines_left}
 use Rattle.syn_tokens.proofs.Lines.{parts_cut_again}
 use Rattle.syn_tokens.proofs.program.input.parts.Goals as goal
 
-pub returns-in-Some-cut_rest-clause-parts : goal.returns-in-Some-cut_rest-clause-parts
-returns-in-Some-cut_rest-clause-parts c =
+pub returns-in-Some-cut-clause-parts : goal.returns-in-Some-cut-clause-parts
+returns-in-Some-cut-clause-parts c =
     let (before, _, first) = c.in_ok-text.ensures.parts in
     let (middle, _, second) = c.in-Some.ensures.parts in
-    let (third, _, last) = c.in-Some-cut_rest.ensures.parts in
+    let (third, _, last) = c.in-Some-cut.ensures.parts in
     parts_cut_again c.args.input.now before (lines_left c.in_ok-text.rest) first middle
-    (lines_left c.in-Some.lines) second third (lines_left c.in-Some-cut_rest.field-0.1) last
+    (lines_left c.in-Some.lines) second third (lines_left c.in-Some-cut.field-0.1) last
