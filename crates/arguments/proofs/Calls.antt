@@ -3,7 +3,7 @@ use Rattle.std.proofs.Common.{◌≡◌, ◌∙◌, sym, ap, subst, refl, not, B
 use Rattle.std.proofs.Common.{List, [], ◌∷◌, Option, Some, None, Ok, Err, inl, inr}
 use Rattle.std.specs.Prelude.{◌⊎◌, IfSome, option_map, is_some}
 use Rattle.std.specs.Option.{option_or}
-use Rattle.tok_core.specs.declared.group.Delimiter.TheVariants as delimiter
+use Rattle.tok_lexical.specs.declared.delimiter.Delimiter.TheVariants as delimiter
 use Rattle.tok_core.specs.Filled.{has_trees}
 use Rattle.tok_core.specs.Forest.{Tree, leaf, group, Forest, no_trees, tree}
 use Rattle.tok_buffer.specs.Ahead.{Leftover, leftover}

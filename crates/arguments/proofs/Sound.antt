@@ -6,7 +6,7 @@ use Rattle.std.proofs.lemmas.Bool.{eqb-true}
 use Rattle.tok_core.specs.Forest.{ident, punct, literal, Tree, leaf, group, Forest, no_trees, tree}
 use Rattle.tok_core.specs.Forest.{forest, concat}
 use Rattle.tok_core.specs.Seen.{ident_of, literal_of}
-use Rattle.tok_core.specs.declared.group.Delimiter.TheVariants as delimiter
+use Rattle.tok_lexical.specs.declared.delimiter.Delimiter.TheVariants as delimiter
 use Rattle.tok_core.specs.declared.ident.Ident.{Ident}
 use Rattle.tok_core.specs.declared.literal.Literal.{Literal}
 use Rattle.tok_core.specs.declared.punct.Spacing.{Spacing}

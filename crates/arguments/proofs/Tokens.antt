@@ -3,7 +3,7 @@ use Rattle.std.proofs.Common.{◌≡◌, ◌∙◌, sym, ap, refl, ℕ, ◌+◌,
 use Rattle.std.proofs.Common.{true, false, [], ◌∷◌, map, Ok}
 use Rattle.std.specs.Prelude.{is_some, Result}
 use Rattle.std.proofs.lemmas.Bool.{eqb-true}
-use Rattle.tok_core.specs.declared.group.Delimiter.TheVariants as delimiter
+use Rattle.tok_lexical.specs.declared.delimiter.Delimiter.TheVariants as delimiter
 use Rattle.tok_core.specs.declared.ident.Ident.{Ident}
 use Rattle.tok_core.specs.declared.literal.Literal.{Literal}
 use Rattle.tok_core.specs.declared.punct.Spacing.{Spacing}

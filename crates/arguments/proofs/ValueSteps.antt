@@ -4,7 +4,7 @@ use Rattle.std.proofs.Common.{true, false, cond, List, [], ◌∷◌, Option, So
 use Rattle.std.proofs.Common.{arith, inl, inr}
 use Rattle.std.specs.Prelude.{◌⊎◌, is_some}
 use Rattle.std.proofs.lemmas.Bool.{eqb-true}
-use Rattle.tok_core.specs.declared.group.Delimiter.TheVariants as delimiter
+use Rattle.tok_lexical.specs.declared.delimiter.Delimiter.TheVariants as delimiter
 use Rattle.tok_core.specs.declared.ident.Ident.{Ident}
 use Rattle.tok_core.specs.declared.literal.Literal.{Literal}
 use Rattle.tok_core.specs.declared.span.Span.{Span}

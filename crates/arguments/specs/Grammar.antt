@@ -3,7 +3,7 @@ use Rattle.std.specs.Prelude.{ℕ, List, [], ◌∷◌}
 use Rattle.tok_core.specs.Forest.{Tree, leaf, group, punct, Forest, no_trees, tree, forest, concat}
 use Rattle.tok_core.specs.Seen.{ident_of, literal_of}
 use Rattle.tok_core.specs.Spans.{whole_span}
-use Rattle.tok_core.specs.declared.group.Delimiter.TheVariants.{Parenthesis}
+use Rattle.tok_lexical.specs.declared.delimiter.Delimiter.TheVariants.{Parenthesis}
 use Rattle.tok_core.specs.declared.ident.Ident.{Ident}
 use Rattle.tok_core.specs.declared.literal.Literal.{Literal}
 use Rattle.tok_core.specs.declared.punct.Spacing.{Spacing}

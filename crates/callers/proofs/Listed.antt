@@ -4,7 +4,7 @@ use Rattle.std.proofs.lemmas.Bool.{false≢true}
 use Rattle.std.specs.Borrow.{MutBor}
 use Rattle.std.specs.Fn.{FnOnceReturnsAtMut, Once}
 use Rattle.std.specs.Prelude.{Result, IfOk, is_some}
-use Rattle.tok_core.specs.declared.group.Delimiter.TheVariants.{Parenthesis}
+use Rattle.tok_lexical.specs.declared.delimiter.Delimiter.TheVariants.{Parenthesis}
 use Rattle.tok_core.specs.declared.span.DelimSpan.{DelimSpan}
 use Rattle.tok_core.specs.Spans.{whole_span}
 use Rattle.tok_buffer.specs.Entry.{Entered, enter}

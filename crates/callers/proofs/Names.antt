@@ -5,7 +5,7 @@ use Rattle.std.specs.Char.{is_ascii_alphabetic}
 use Rattle.std.specs.Str.{chars}
 use Rattle.std.proofs.lemmas.Str.{chars-IsAscii}
 use Rattle.unicode_ident.proofs.IdentLemmas.{is_xid_start-ascii}
-use Rattle.tok_core.specs.Lexical.Words.{IsIdentifier}
+use Rattle.tok_lexical.specs.Words.{IsIdentifier}
 
 ascii_at : (c : ℕ) → c < 128 → (i : ℕ) → slice_index (c ∷ []) i < 128
 ascii_at c h zero = h

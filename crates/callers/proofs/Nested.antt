@@ -4,7 +4,7 @@ use Rattle.std.proofs.Common.{Option, Some, None, Ok, Err}
 use Rattle.std.specs.Borrow.{MutBor}
 use Rattle.std.specs.Fn.{FnOnceReturnsAtMut, Once}
 use Rattle.std.specs.Prelude.{Result}
-use Rattle.tok_core.specs.declared.group.Delimiter.TheVariants.{Parenthesis}
+use Rattle.tok_lexical.specs.declared.delimiter.Delimiter.TheVariants.{Parenthesis}
 use Rattle.tok_core.specs.declared.ident.Ident.{Ident}
 use Rattle.tok_core.specs.declared.span.DelimSpan.{DelimSpan}
 use Rattle.tok_buffer.specs.Entry.{Entered, enter}

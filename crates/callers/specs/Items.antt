@@ -2,7 +2,7 @@
 use Rattle.std.specs.Prelude.{◌≡◌, ◌⊎◌, true, false, cond, List, [], ◌∷◌, codes}
 use Rattle.std.specs.Prelude.{Option, Some, None, Ok, Err}
 use Rattle.std.specs.Global.{Vec}
-use Rattle.tok_core.specs.declared.group.Delimiter.TheVariants.{Brace}
+use Rattle.tok_lexical.specs.declared.delimiter.Delimiter.TheVariants.{Brace}
 use Rattle.tok_core.specs.Forest.{Tree, leaf}
 use Rattle.tok_core.specs.Seen.{ident_of}
 use Rattle.tok_buffer.specs.Entry.{Entered, enter}

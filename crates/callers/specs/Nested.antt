@@ -1,6 +1,6 @@
 -- Nested lists of names, as `(a (b) ((c)))`, and how many names they have.
 use Rattle.std.specs.Prelude.{◌≡◌, ◌+◌, ◌^◌, ◌-◌, ℕ, min, true, false, List, Some, None, Ok, Err}
-use Rattle.tok_core.specs.declared.group.Delimiter.TheVariants.{Parenthesis}
+use Rattle.tok_lexical.specs.declared.delimiter.Delimiter.TheVariants.{Parenthesis}
 use Rattle.tok_core.specs.Forest.{Tree}
 use Rattle.tok_buffer.specs.Entry.{Entered, enter}
 use Rattle.tok_buffer.specs.Place.{Place, is_at_end}

@@ -1,6 +1,6 @@
 -- Trees that a caller builds.
 use Rattle.std.specs.Prelude.{[], ◌∷◌, codes}
-use Rattle.tok_core.specs.declared.group.Delimiter.TheVariants.{Parenthesis, None}
+use Rattle.tok_lexical.specs.declared.delimiter.Delimiter.TheVariants.{Parenthesis, None}
 use Rattle.tok_core.specs.declared.punct.Spacing.TheVariants.{Alone, Joint}
 use Rattle.tok_core.specs.Forest.{ident, punct, leaf, group, Forest, forest}
 use Rattle.tok_core.specs.Spans.{call_site}

@@ -2,7 +2,7 @@
 ghost use Rattle.std.specs.Prelude.{◌≡◌, ◌||◌, ◌&&◌, Bool, codes, is_some, OnOk};
 ghost use Rattle.tok_core.specs.Forest.{group, ident, concat, leaf, no_trees, tree};
 ghost use Rattle.tok_core.specs.Spans.{call_site};
-ghost use Rattle.tok_core.specs.declared.group.Delimiter.TheVariants.{Parenthesis};
+ghost use Rattle.tok_lexical.specs.declared.delimiter.Delimiter.TheVariants.{Parenthesis};
 ghost use Rattle.tok_buffer.specs.Cursors.{place_of};
 ghost use Rattle.tok_buffer.specs.Entry.{enter};
 ghost use Rattle.tok_buffer.specs.Reads.{read_keyword, skip};

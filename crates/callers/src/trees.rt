@@ -2,8 +2,8 @@
 ghost use Rattle.std.specs.Prelude.{◌≡◌, true, IfErr, IfOk, IsOk, string_bytes};
 ghost use Rattle.std.specs.Str.{chars};
 ghost use Rattle.tok_core.specs.Forest.{group, ident, leaf, punct};
-ghost use Rattle.tok_core.specs.Lexical.Characters.{is_punct_or_apostrophe};
-ghost use Rattle.tok_core.specs.Lexical.Words.{IsIdentifier};
+ghost use Rattle.tok_lexical.specs.Characters.{is_punct_or_apostrophe};
+ghost use Rattle.tok_lexical.specs.Words.{IsIdentifier};
 ghost use Rattle.tok_core.specs.Seen.{tree_of};
 ghost use Rattle.tok_core.specs.Spans.{call_site};
 ghost use Rattle.tok_core.specs.Text.{text};

@@ -1,7 +1,7 @@
 // Entering groups.
 ghost use Rattle.std.specs.Prelude.{◌≡◌, Some, IfOk, codes};
 ghost use Rattle.std.specs.Fn.{FnOnceReturnsAtMut, FnOnceTakesAtMut};
-ghost use Rattle.tok_core.specs.declared.group.Delimiter.TheVariants as delimiter;
+ghost use Rattle.tok_lexical.specs.declared.delimiter.Delimiter.TheVariants as delimiter;
 ghost use Rattle.tok_buffer.specs.Entry.{Entered, enter, enter_any};
 ghost use Rattle.tok_types.specs.Delimiters.{delimiter_at};
 ghost use Rattle.syn_parse.specs.Groups.{AreParts, Enters, IsAfter, RunsWithin};

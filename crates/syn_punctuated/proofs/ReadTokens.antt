@@ -9,7 +9,7 @@ use Rattle.tok_core.specs.declared.ident.Ident.{Ident}
 use Rattle.tok_core.specs.declared.punct.Spacing.TheVariants.{Joint}
 use Rattle.tok_core.specs.declared.span.Span.{Span}
 use Rattle.tok_core.specs.Forest.{ident, punct, Tree, leaf, Forest, no_trees, tree, forest, concat}
-use Rattle.tok_core.specs.Lexical.Characters.{is_punct_or_apostrophe}
+use Rattle.tok_lexical.specs.Characters.{is_punct_or_apostrophe}
 use Rattle.tok_core.specs.Seen.{ident_of}
 use Rattle.tok_core.specs.Spans.{tree_span, call_site}
 use Rattle.tok_buffer.specs.Ahead.{Leftover}

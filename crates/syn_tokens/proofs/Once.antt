@@ -6,7 +6,7 @@ use Rattle.std.specs.Prelude.{◌↔◌, IsTrue}
 use Rattle.std.specs.Str.{chars}
 use Rattle.tok_core.specs.Forest.{Forest}
 use Rattle.tok_core.specs.Lexical.Reading.{IsRefused}
-use Rattle.tok_core.specs.Lexical.Rules.{marked_rules}
+use Rattle.tok_lexical.specs.Rules.{marked_rules}
 use Rattle.tok_core.specs.declared.lexer.error.LexError.{LexError}
 use Rattle.tok_core.proofs.Lexical.Laws.{forest_once, refused_once, never_both}
 use Rattle.syn_tokens.specs.Program.CommandText.{unreadable_line, commands_in}

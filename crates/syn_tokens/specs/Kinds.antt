@@ -1,7 +1,7 @@
 -- The kinds of token that commands name: how each is read, looked for, shown and refused.
 use Rattle.std.specs.Prelude.{ℕ, Bool, true, false, List, Option, Some, None, is_some, codes}
-use Rattle.tok_core.specs.declared.group.Delimiter.TheVariants.{Parenthesis, Brace, Bracket}
-use Rattle.tok_core.specs.declared.group.Delimiter.TheVariants as delimiter
+use Rattle.tok_lexical.specs.declared.delimiter.Delimiter.TheVariants.{Parenthesis, Brace, Bracket}
+use Rattle.tok_lexical.specs.declared.delimiter.Delimiter.TheVariants as delimiter
 use Rattle.tok_core.specs.Forest.{Tree}
 use Rattle.tok_buffer.specs.Entry.{enter}
 use Rattle.tok_buffer.specs.Place.{Place, is_at_end}

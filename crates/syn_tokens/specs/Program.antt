@@ -11,7 +11,7 @@ use Rattle.std.specs.Io.KnownBytes.{Keeps}
 use Rattle.std.specs.Str.{IsUtf8, chars}
 use Rattle.tok_core.specs.Forest.{Forest}
 use Rattle.tok_core.specs.Lexical.Reading.{Reads, IsRefused}
-use Rattle.tok_core.specs.Lexical.Rules.{marked_rules}
+use Rattle.tok_lexical.specs.Rules.{marked_rules}
 use Rattle.syn_tokens.specs.Program.CommandText.{unreadable_line, commands_in}
 use Rattle.syn_tokens.specs.Commands.{Command}
 use Rattle.syn_tokens.specs.Program.Comparison.{Compares, Outcome, reported, compared, outcome_text}

@@ -6,7 +6,8 @@ use Rattle.tok_core.specs.declared.span.Span.{Span}
 use Rattle.tok_core.specs.Filled.{has_trees}
 use Rattle.tok_core.specs.Forest.{Forest}
 use Rattle.tok_core.specs.Spans.{range}
-use Rattle.tok_core.specs.Text.{opening, text}
+use Rattle.tok_lexical.specs.Delimiters.{opening}
+use Rattle.tok_core.specs.Text.{text}
 use Rattle.tok_buffer.specs.Refusals.{Refusal}
 use Rattle.syn_tokens.specs.Commands.{Piece, Answer, truth, pieces, absent, entered, forked, listed}
 use Rattle.syn_tokens.specs.Commands.{found, done, shown, trees, refused, unfit, Position}

@@ -1,6 +1,6 @@
 -- A descent is entering, again and again.
 use Rattle.std.proofs.Common.{◌≡◌, ℕ, zero, suc, ◌+◌, ◌≤◌, Bool, true, false, List, [], ◌∷◌, refl, sym, subst, arith}
-use Rattle.tok_core.specs.declared.group.Delimiter.TheVariants as delimiter
+use Rattle.tok_lexical.specs.declared.delimiter.Delimiter.TheVariants as delimiter
 use Rattle.tok_core.specs.Forest.{leaf, group, no_trees, tree}
 use Rattle.tok_buffer.specs.Descent.{descend, is_before_invisible, inwards, Descends, stop, enters, DescentsEnter}
 use Rattle.tok_buffer.specs.Moves.{is_settled}

@@ -8,8 +8,8 @@ use Rattle.std.specs.Ordering.{is_le, is_lt, is_some_and, nat_cmp, MatchOrdering
 use Rattle.std.specs.declared.cmp.Ordering.{Ordering}
 use Rattle.std.specs.declared.cmp.Ordering.TheVariants.{Less, Equal, Greater}
 use Rattle.tok_core.specs.Clear.{is_joint_apostrophe}
-use Rattle.tok_core.specs.declared.group.Delimiter.{Delimiter}
-use Rattle.tok_core.specs.declared.group.Delimiter.TheVariants as delimiter
+use Rattle.tok_lexical.specs.declared.delimiter.Delimiter.{Delimiter}
+use Rattle.tok_lexical.specs.declared.delimiter.Delimiter.TheVariants as delimiter
 use Rattle.tok_core.specs.Forest.{leaf, group, Tree, Forest, no_trees, tree, turned_onto}
 use Rattle.tok_core.specs.Weight.{tree_weight, weight}
 use Rattle.tok_buffer.specs.Descent.{descend, descend_from, into_front}

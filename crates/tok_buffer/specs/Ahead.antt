@@ -1,7 +1,7 @@
 -- The visible trees from a place to its scope's end, and the leftover.
 use Rattle.std.specs.Prelude.{Bool, true, false, cond, List, [], ◌∷◌, ◌++◌, Option, Some, None}
-use Rattle.tok_core.specs.declared.group.Delimiter.{Delimiter}
-use Rattle.tok_core.specs.declared.group.Delimiter.TheVariants as delimiter
+use Rattle.tok_lexical.specs.declared.delimiter.Delimiter.{Delimiter}
+use Rattle.tok_lexical.specs.declared.delimiter.Delimiter.TheVariants as delimiter
 use Rattle.tok_core.specs.declared.span.Span.{Span}
 use Rattle.tok_core.specs.Forest.{Tree, leaf, group, Forest, no_trees, tree}
 use Rattle.tok_core.specs.Spans.{tree_span}

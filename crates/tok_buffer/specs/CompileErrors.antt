@@ -2,7 +2,7 @@
 -- `::core::compile_error!{"text"}`.
 use Rattle.std.specs.Prelude.{ℕ, List, [], ◌∷◌, codes}
 use Rattle.std.specs.Str.{chars}
-use Rattle.tok_core.specs.declared.group.Delimiter.TheVariants.{Brace}
+use Rattle.tok_lexical.specs.declared.delimiter.Delimiter.TheVariants.{Brace}
 use Rattle.tok_core.specs.declared.punct.Spacing.TheVariants.{Alone, Joint}
 use Rattle.tok_core.specs.declared.span.Span.{Span}
 use Rattle.tok_core.specs.Forest.{ident, punct, literal, leaf, group, Forest, no_trees, tree}

@@ -1,6 +1,6 @@
 -- How a forest is laid out in a buffer, and which forest is there.
 use Rattle.std.specs.Prelude.{ℕ, ◌+◌, List, [], ◌∷◌, ◌++◌}
-use Rattle.tok_core.specs.declared.group.Delimiter.{Delimiter}
+use Rattle.tok_lexical.specs.declared.delimiter.Delimiter.{Delimiter}
 use Rattle.tok_core.specs.declared.span.Span.{Span}
 use Rattle.tok_core.specs.Code.{top}
 use Rattle.tok_core.specs.Forest.{ident, punct, literal, Tree, leaf, group}

@@ -25,9 +25,9 @@ pub mod Refusals
 pub use Rattle.tok_core.specs.Clear
 pub use Rattle.tok_core.specs.Forest
 pub use Rattle.tok_core.specs.Laws
-pub use Rattle.tok_core.specs.Lexical.Characters
+pub use Rattle.tok_lexical.specs.Characters
 pub use Rattle.tok_core.specs.Lexical.Errors
-pub use Rattle.tok_core.specs.Lexical.Words as LexicalWords
+pub use Rattle.tok_lexical.specs.Words as LexicalWords
 pub use Rattle.tok_core.specs.Seen
 pub use Rattle.tok_core.specs.Spans as TreeSpans
 pub use Rattle.tok_core.specs.Text

@@ -4,7 +4,7 @@ use Rattle.std.specs.Prelude.{codes}
 use Rattle.std.specs.List.{list_all}
 use Rattle.unicode_ident.specs.Ident.{is_xid_continue}
 use Rattle.tok_core.specs.Forest.{Forest, forest}
-use Rattle.tok_core.specs.Lexical.Words.{is_identifier_start, has_no_raw}
+use Rattle.tok_lexical.specs.Words.{is_identifier_start, has_no_raw}
 use Rattle.tok_core.specs.Seen.{ident_of}
 use Rattle.tok_core.specs.Text.{leaf_text}
 use Rattle.tok_core.specs.declared.ident.MakeFault.{MakeFault}

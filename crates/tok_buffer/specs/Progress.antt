@@ -3,7 +3,7 @@ use Rattle.std.specs.Prelude.{◌≡◌, ◌⊎◌, ℕ, ◌+◌, ◌<◌, ◌�
 use Rattle.std.specs.Prelude.{Option, Some}
 use Rattle.std.specs.Ordering.{partial_le}
 use Rattle.std.specs.declared.cmp.Ordering.TheVariants.{Less}
-use Rattle.tok_core.specs.declared.group.Delimiter.{Delimiter}
+use Rattle.tok_lexical.specs.declared.delimiter.Delimiter.{Delimiter}
 use Rattle.tok_core.specs.Forest.{Tree}
 use Rattle.tok_core.specs.Weight.{weight}
 use Rattle.tok_buffer.specs.Descent.{descend}

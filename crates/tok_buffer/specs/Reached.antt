@@ -1,6 +1,6 @@
 -- The places of a buffer that have a view.
 use Rattle.std.specs.Prelude.{◌≡◌, Some}
-use Rattle.tok_core.specs.declared.group.Delimiter.{Delimiter}
+use Rattle.tok_lexical.specs.declared.delimiter.Delimiter.{Delimiter}
 use Rattle.tok_buffer.specs.Buffer.{Laid}
 use Rattle.tok_buffer.specs.Descent.{descend}
 use Rattle.tok_buffer.specs.Entry.{Entered, enter}

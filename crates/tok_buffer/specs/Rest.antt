@@ -1,7 +1,7 @@
 -- All trees ahead, and a scope's delimiter.
 use Rattle.std.specs.Prelude.{List, [], ◌∷◌}
-use Rattle.tok_core.specs.declared.group.Delimiter.{Delimiter}
-use Rattle.tok_core.specs.declared.group.Delimiter.TheVariants as delimiter
+use Rattle.tok_lexical.specs.declared.delimiter.Delimiter.{Delimiter}
+use Rattle.tok_lexical.specs.declared.delimiter.Delimiter.TheVariants as delimiter
 use Rattle.tok_core.specs.Forest.{Forest, no_trees, concat}
 use Rattle.tok_buffer.specs.Place.{Owner, whole, in_group, Level, level, Place, empty_place, at}
 

@@ -2,7 +2,7 @@
 ghost use Rattle.std.specs.Prelude.{◌≡◌, ◌++◌, ◌∷◌, codes, None, MatchOption, IfSome, IfOk, IfErr, Some};
 ghost use Rattle.std.specs.Str.{chars, IsUtf8};
 ghost use Rattle.tok_core.specs.Forest.{ident};
-ghost use Rattle.tok_core.specs.Lexical.Words.{has_no_raw};
+ghost use Rattle.tok_lexical.specs.Words.{has_no_raw};
 ghost use Rattle.tok_core.specs.Seen.{ident_of};
 ghost use Rattle.tok_core.specs.Spans.{leaf_span};
 ghost use Rattle.tok_core.specs.Text.{leaf_text};

@@ -1,7 +1,7 @@
 // Puncts of known characters.
 ghost use Rattle.std.specs.Prelude.{◌≡◌, true};
 ghost use Rattle.tok_core.specs.Forest.{punct};
-ghost use Rattle.tok_core.specs.Lexical.Characters.{is_punct_or_apostrophe};
+ghost use Rattle.tok_lexical.specs.Characters.{is_punct_or_apostrophe};
 ghost use Rattle.tok_core.specs.Seen.{punct_of};
 
 use tok_core::{Punct, Spacing, Span};

@@ -1,6 +1,6 @@
 -- The erasure of two joined forests.
 use Rattle.std.proofs.Common.{◌≡◌, ◌∙◌, sym, ap, refl}
-use Rattle.tok_core.specs.declared.group.Delimiter.TheVariants.{None}
+use Rattle.tok_lexical.specs.declared.delimiter.Delimiter.TheVariants.{None}
 use Rattle.tok_core.specs.Erase.{erase}
 use Rattle.tok_core.specs.Forest.{leaf, group, Forest, no_trees, tree, concat}
 use Rattle.tok_core.proofs.Facts.{joined_assoc}

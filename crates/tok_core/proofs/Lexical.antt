@@ -1,19 +1,5 @@
 -- Lemmas on the lexical grammar and on the lexer.
-pub mod Longest
-pub mod Texts
-pub mod Scans
-pub mod Escapes
-pub mod Units
-pub mod Numbers
-pub mod Codes
-pub mod Prefixes
-pub mod Words
-pub mod Comments
 pub mod Quoting
-pub mod Tables
-pub mod Starts
-pub mod First
-pub mod Slashes
 pub mod Flat
 pub mod Nests
 pub mod Steps

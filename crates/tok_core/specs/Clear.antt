@@ -1,6 +1,6 @@
 -- Forests in which no joint apostrophe is at the edge of an invisible group.
 use Rattle.std.specs.Prelude.{Bool, true, false, not, ◌&&◌, ◌==◌}
-use Rattle.tok_core.specs.declared.group.Delimiter.TheVariants.{None}
+use Rattle.tok_lexical.specs.declared.delimiter.Delimiter.TheVariants.{None}
 use Rattle.tok_core.specs.declared.punct.Spacing.TheVariants.{Joint}
 use Rattle.tok_core.specs.Forest.{punct, Tree, leaf, group, Forest, no_trees, tree}
 

@@ -8,8 +8,8 @@ use base.Stored.{coded_unit}
 use Rattle.tok_core.specs.declared.span.Origin.{Origin}
 use Rattle.tok_core.specs.declared.span.Origin.TheVariants.{CallSite, Source}
 use Rattle.tok_core.specs.declared.span.Span.{Span}
-use Rattle.tok_core.specs.declared.group.Delimiter.{Delimiter}
-use Rattle.tok_core.specs.declared.group.Delimiter.TheVariants as delimiter
+use Rattle.tok_lexical.specs.declared.delimiter.Delimiter.{Delimiter}
+use Rattle.tok_lexical.specs.declared.delimiter.Delimiter.TheVariants as delimiter
 use Rattle.tok_core.specs.declared.punct.Spacing.{Spacing}
 use Rattle.tok_core.specs.declared.punct.Spacing.TheVariants.{Alone, Joint}
 use Rattle.tok_core.specs.Forest.{Leaf, ident, punct, literal, leaf, group, Forest, no_trees, tree}

@@ -1,5 +1,5 @@
 -- A forest without its invisible groups: their content takes their place, at every depth.
-use Rattle.tok_core.specs.declared.group.Delimiter.TheVariants.{None}
+use Rattle.tok_lexical.specs.declared.delimiter.Delimiter.TheVariants.{None}
 use Rattle.tok_core.specs.Forest.{leaf, group, Forest, no_trees, tree, concat}
 
 abbrev pub erase : Forest → Forest

@@ -1,6 +1,6 @@
 -- Forests in which each invisible group holds a visible tree.
 use Rattle.std.specs.Prelude.{Bool, true, false, ◌&&◌}
-use Rattle.tok_core.specs.declared.group.Delimiter.TheVariants.{None}
+use Rattle.tok_lexical.specs.declared.delimiter.Delimiter.TheVariants.{None}
 use Rattle.tok_core.specs.Erase.{erase}
 use Rattle.tok_core.specs.Forest.{leaf, group, Forest, no_trees, tree}
 

@@ -6,7 +6,7 @@ use Rattle.tok_core.specs.declared.span.Span.{Span}
 use Rattle.tok_core.specs.declared.span.Bounds.{Bounds}
 use Rattle.tok_core.specs.declared.span.Bounds.TheVariants as bounds
 use Rattle.tok_core.specs.declared.span.DelimSpan.{DelimSpan}
-use Rattle.tok_core.specs.declared.group.Delimiter.{Delimiter}
+use Rattle.tok_lexical.specs.declared.delimiter.Delimiter.{Delimiter}
 use Rattle.tok_core.specs.Forest.{Leaf, ident, punct, literal, Tree, leaf, group}
 
 abbrev pub call_site : Span

@@ -1,23 +1,10 @@
 -- The printed text of a forest.
 use Rattle.std.specs.Prelude.{ℕ, ◌==◌, ◌&&◌, Bool, true, false, cond, List, [], ◌∷◌, ◌++◌}
 use Rattle.std.specs.Prelude.{encode_utf8, codes}
-use Rattle.tok_core.specs.declared.group.Delimiter.{Delimiter}
-use Rattle.tok_core.specs.declared.group.Delimiter.TheVariants.{Parenthesis, Brace, Bracket, None}
+use Rattle.tok_lexical.specs.Delimiters.{opening, closing}
 use Rattle.tok_core.specs.declared.punct.Spacing.TheVariants.{Joint}
 use Rattle.tok_core.specs.Forest.{Leaf, ident, punct, literal, Tree, leaf, group, Forest, no_trees}
 use Rattle.tok_core.specs.Forest.{tree}
-
-abbrev pub opening : Delimiter → List ℕ
-opening Parenthesis = codes "("
-opening Brace = codes "{"
-opening Bracket = codes "["
-opening None = 0xc2 ∷ 0xab ∷ []
-
-abbrev pub closing : Delimiter → List ℕ
-closing Parenthesis = codes ")"
-closing Brace = codes "}"
-closing Bracket = codes "]"
-closing None = 0xc2 ∷ 0xbb ∷ []
 
 abbrev pub leaf_text : Leaf → List ℕ
 leaf_text (ident text span) = text

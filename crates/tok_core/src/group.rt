@@ -3,47 +3,11 @@ ghost use Rattle.std.specs.Prelude.{◌≡◌, IfOk};
 ghost use Rattle.tok_core.specs.Forest.{tree_delimiter, tree_inside, group};
 ghost use Rattle.tok_core.specs.Seen.{group_of};
 ghost use Rattle.tok_core.specs.Spans.{tree_span, opening_span, closing_span, whole_span};
-ghost use Rattle.tok_core.specs.Text.{opening, closing};
 
 use crate::span::{Bounds, DelimSpan, Span};
 use crate::stream::TokenStream;
 use std::alloc::AllocError;
-
-/// What is around a group: `( .. )`, `{ .. }`, `[ .. ]`, or nothing that shows.
-#[derive(Clone, Copy, PartialEq, Eq, Debug)]
-pub enum Delimiter {
-    Parenthesis,
-    Brace,
-    Bracket,
-    /// An invisible group, as macros leave round what they put in.
-    None,
-}
-
-impl Delimiter {
-    /// What is printed at the start of such a group: `«` of an invisible one.
-    pub fn opening(self) -> &'static str
-        ensures { result.now ≡ opening self }
-    {
-        match self {
-            Delimiter::Parenthesis => "(",
-            Delimiter::Brace => "{",
-            Delimiter::Bracket => "[",
-            Delimiter::None => "«",
-        }
-    }
-
-    /// What is printed at the end of such a group: `»` of an invisible one.
-    pub fn closing(self) -> &'static str
-        ensures { result.now ≡ closing self }
-    {
-        match self {
-            Delimiter::Parenthesis => ")",
-            Delimiter::Brace => "}",
-            Delimiter::Bracket => "]",
-            Delimiter::None => "»",
-        }
-    }
-}
+use tok_lexical::Delimiter;
 
 /// A delimited stream.
 #[cycle(trees)]

@@ -2,15 +2,15 @@
 ghost use Rattle.std.specs.Prelude.{◌≡◌, ◌++◌, codes, IfOk, IfErr, Err};
 ghost use Rattle.std.specs.Str.{chars};
 ghost use Rattle.tok_core.specs.Forest.{ident};
-ghost use Rattle.tok_core.specs.Lexical.Words.{IsIdentifier, HasRaw};
+ghost use Rattle.tok_lexical.specs.Words.{IsIdentifier, HasRaw};
 ghost use Rattle.tok_core.specs.Seen.{ident_of};
 ghost use Rattle.tok_core.specs.Spans.{leaf_span};
 ghost use Rattle.tok_core.specs.Text.{leaf_text, unraw};
 
-use crate::lexer::{has_no_raw, is_identifier};
 use crate::span::Span;
 use crate::text::Text;
 use std::alloc::{AllocError, Global};
+use tok_lexical::words::{has_no_raw, is_identifier};
 
 /// An identifier or a keyword. The text of a raw one begins with `r#`. Identifiers are compared, ordered and hashed by
 /// their texts alone.

@@ -10,7 +10,8 @@ ghost use Rattle.tok_core.specs.Weight.{tree_weight};
 ghost use Rattle.tok_core.specs.Pending.{all_of, pending, pending_weight, IsVisible, invisible};
 ghost use Rattle.tok_core.specs.declared.span.Span.{Span};
 
-use crate::group::{Delimiter, Group};
+use crate::group::Group;
+use tok_lexical::Delimiter;
 use crate::ident::Ident;
 use crate::literal::Literal;
 use crate::punct::{Punct, Spacing};

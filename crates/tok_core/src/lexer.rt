@@ -2,38 +2,22 @@
 ghost use Rattle.std.specs.Prelude.{◌≡◌, MatchResult, IfOk, IfErr};
 ghost use Rattle.std.specs.Str.{chars};
 ghost use Rattle.tok_core.specs.Forest.{Forest};
-ghost use Rattle.tok_core.specs.Lexical.Starts.{rules_of};
+ghost use Rattle.tok_lexical.specs.Starts.{rules_of};
 ghost use Rattle.tok_core.specs.Lexical.Errors.{OnRefused};
 ghost use Rattle.tok_core.specs.Lexical.Reading.{Reads, IsRefused};
-ghost use Rattle.tok_core.specs.Lexical.Rules.{plain_rules, marked_rules};
+ghost use Rattle.tok_lexical.specs.Rules.{plain_rules, marked_rules};
 
 mod blanks;
-mod char_literals;
-mod classes;
-mod comments;
 mod error;
-mod escapes;
-mod joint;
-mod meaning;
 mod nest;
-mod numbers;
-mod prefixes;
-mod rule;
-mod start;
-mod strings;
-mod text;
-mod words;
 
 use crate::stream::TokenStream;
 use blanks::past_blanks;
-pub(crate) use classes::is_punct_or_apostrophe;
-use error::Reason;
 pub use error::{LexError, LexFault};
 use nest::TreeBuilder;
-use rule::{Rules, first_rule};
 use std::alloc::Global;
-use text::front_of;
-pub(crate) use words::{has_no_raw, is_identifier};
+use tok_lexical::text::front_of;
+use tok_lexical::{Reason, Rules, first_rule};
 
 // The forest of a text by these rules, of which the last takes any character.
 //

@@ -16,7 +16,7 @@ mod text;
 mod to_tokens;
 mod tt;
 
-pub use group::{Delimiter, Group};
+pub use group::Group;
 pub use ident::{Ident, MakeFault};
 pub use invisible::{is_clear, is_filled, same_visible};
 pub use lexer::{LexError, LexFault, lex, lex_marked};
@@ -26,4 +26,5 @@ pub use span::{DelimSpan, Span};
 pub use stream::{TokenStream, TokenTree};
 pub use text::Text;
 pub use to_tokens::ToTokens;
+pub use tok_lexical::Delimiter;
 pub use tt::{TokenStreamHelper, TokenTreeHelper};

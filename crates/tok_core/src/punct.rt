@@ -1,12 +1,12 @@
 // Puncts.
 ghost use Rattle.std.specs.Prelude.{◌≡◌, MatchOption, true, false};
 ghost use Rattle.tok_core.specs.Forest.{leaf_char, leaf_spacing, punct};
-ghost use Rattle.tok_core.specs.Lexical.Characters.{is_punct_or_apostrophe};
+ghost use Rattle.tok_lexical.specs.Characters.{is_punct_or_apostrophe};
 ghost use Rattle.tok_core.specs.Seen.{punct_of};
 ghost use Rattle.tok_core.specs.Spans.{call_site, leaf_span};
 
-use crate::lexer::is_punct_or_apostrophe;
 use crate::span::Span;
+use tok_lexical::classes::is_punct_or_apostrophe;
 
 /// Whether another punct follows directly: `+` is joint in `+=`, and alone in `+ =`.
 #[derive(Clone, Copy, PartialEq, Eq, Debug)]

@@ -2,7 +2,7 @@
 ghost use Rattle.std.specs.Prelude.{◌≡◌, ◌≤◌};
 ghost use Rattle.tok_core.specs.Spans as spec;
 
-use crate::group::Delimiter;
+use tok_lexical::Delimiter;
 
 #[derive(Clone, Copy, PartialEq, Eq, Debug)]
 enum Origin {

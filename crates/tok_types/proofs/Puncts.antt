@@ -7,7 +7,7 @@ use Rattle.std.proofs.lemmas.List.{drop_more, take-append-drop, take_all, take_m
 use Rattle.tok_core.specs.declared.span.Span.{Span}
 use Rattle.tok_core.specs.Forest.{Tree, leaf, punct, Forest, no_trees, tree, forest, concat, AppendsFront}
 use Rattle.tok_core.specs.Spans.{call_site}
-use Rattle.tok_core.specs.Lexical.Characters.{is_punct_or_apostrophe}
+use Rattle.tok_lexical.specs.Characters.{is_punct_or_apostrophe}
 use Rattle.tok_core.proofs.Facts.{concat-none, joined_assoc}
 use Rattle.tok_types.specs.Printed.{joint_puncts, puncts, spacing}
 

@@ -1,8 +1,8 @@
 -- The delimiters that are tokens, by number, and their names.
 use Rattle.std.specs.Prelude.{ℕ, zero, suc, List, codes}
-use Rattle.tok_core.specs.declared.group.Delimiter.{Delimiter}
-use Rattle.tok_core.specs.declared.group.Delimiter.TheVariants as delimiter
-use Rattle.tok_core.specs.declared.group.Delimiter.TheVariants.{Parenthesis, Brace, Bracket}
+use Rattle.tok_lexical.specs.declared.delimiter.Delimiter.{Delimiter}
+use Rattle.tok_lexical.specs.declared.delimiter.Delimiter.TheVariants as delimiter
+use Rattle.tok_lexical.specs.declared.delimiter.Delimiter.TheVariants.{Parenthesis, Brace, Bracket}
 
 -- the visible delimiter of a number
 abbrev pub delimiter_at : ℕ → Delimiter

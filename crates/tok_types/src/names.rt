@@ -2,7 +2,7 @@
 ghost use Rattle.std.specs.Prelude.{◌≡◌, IfOk, OnOk, OnErr};
 ghost use Rattle.std.specs.Str.{chars};
 ghost use Rattle.tok_core.specs.Forest.{AppendsFront, ident, concat};
-ghost use Rattle.tok_core.specs.Lexical.Words.{IsIdentifier, IsSuffix};
+ghost use Rattle.tok_lexical.specs.Words.{IsIdentifier, IsSuffix};
 ghost use Rattle.tok_core.specs.Seen.{ident_of};
 ghost use Rattle.tok_types.specs.Printed.{word};
 

@@ -5,9 +5,9 @@ use Rattle.std.specs.List.{slice_split, filter, filter_map, position}
 use Rattle.std.specs.Option.{option_map, option_and_then}
 use Rattle.std.specs.Str.{all_ascii_digits}
 use Rattle.std.specs.Str.Parse.{digits_value}
-use Rattle.tok_core.specs.declared.group.Delimiter.{Delimiter}
-use Rattle.tok_core.specs.declared.group.Delimiter.TheVariants as delimiters
-use Rattle.tok_core.specs.Text.{opening}
+use Rattle.tok_lexical.specs.declared.delimiter.Delimiter.{Delimiter}
+use Rattle.tok_lexical.specs.declared.delimiter.Delimiter.TheVariants as delimiters
+use Rattle.tok_lexical.specs.Delimiters.{opening}
 use Rattle.tok_types.specs.Texts.{keywords, punctuations}
 use Rattle.syn_tokens.specs.Commands as commands
 use Rattle.syn_tokens.specs.Commands.{Command, peek, peek2, peek3, parse, optional, empty, enter}

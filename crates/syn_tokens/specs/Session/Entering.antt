@@ -1,6 +1,6 @@
 -- Which group is entered, and the words where none is.
 use Rattle.std.specs.Prelude.{ℕ, List, Option, Some, None, codes}
-use Rattle.tok_core.specs.declared.group.Delimiter.{Delimiter}
+use Rattle.tok_lexical.specs.declared.delimiter.Delimiter.{Delimiter}
 use Rattle.tok_buffer.specs.Entry.{Entered, enter, enter_any}
 use Rattle.tok_buffer.specs.Place.{Place}
 use Rattle.syn_parse.specs.RefusalWords.{delimiter_words}

@@ -2,7 +2,7 @@
 use Rattle.std.proofs.Common.{◌≡◌, ◌∙◌, sym, ap, refl, ℕ, ◌+◌, Bool, true, false, ◌&&◌, ◌||◌, not}
 use Rattle.std.proofs.Common.{List, [], ◌∷◌}
 use Rattle.std.specs.Prelude.{⊤}
-use Rattle.tok_core.specs.declared.group.Delimiter.TheVariants as delimiter
+use Rattle.tok_lexical.specs.declared.delimiter.Delimiter.TheVariants as delimiter
 use Rattle.tok_core.specs.Erase.{erase}
 use Rattle.tok_core.specs.Filled.{filled, has_trees}
 use Rattle.tok_core.specs.Forest.{leaf, group, Forest, no_trees, tree, concat}

@@ -1,6 +1,6 @@
 -- How many trees are ahead depends on the view alone.
 use Rattle.std.proofs.Common.{◌≡◌, ◌∙◌, sym, ap, refl, ℕ, ◌+◌, Bool, List, [], ◌∷◌, length, arith}
-use Rattle.tok_core.specs.declared.group.Delimiter.TheVariants as delimiter
+use Rattle.tok_lexical.specs.declared.delimiter.Delimiter.TheVariants as delimiter
 use Rattle.tok_core.specs.Erase.{erase}
 use Rattle.tok_core.specs.Forest.{Tree, leaf, group, Forest, no_trees, tree, concat}
 use Rattle.tok_core.proofs.Erasures.{erase-concat}

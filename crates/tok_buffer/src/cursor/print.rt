@@ -3,6 +3,7 @@ ghost use Rattle.std.specs.Prelude.{◌≡◌, ◌≤◌, ◌++◌, IsTrue};
 ghost use Rattle.std.specs.Fmt.{WritesOnOk};
 ghost use Rattle.tok_core.specs.Forest.{leaf};
 ghost use Rattle.tok_core.specs.Text as spec;
+ghost use Rattle.tok_lexical.specs.Delimiters as delimiters;
 ghost use Rattle.tok_core.specs.Text.{text};
 ghost use Rattle.tok_core.specs.Weight.{weight};
 ghost use Rattle.tok_buffer.specs.Layout.{leaf_in};
@@ -104,7 +105,7 @@ fn write_opening<W: Write>(
     delimiter: Delimiter,
 ) -> fmt::Result
     ensures { WritesOnOk W.write_str_gives f.old result
-        (spec.space is_glued ++ spec.opening delimiter) f.new }
+        (spec.space is_glued ++ delimiters.opening delimiter) f.new }
 {
     f.write_str(space(is_glued))?;
     f.write_str(delimiter.opening())

@@ -2,7 +2,7 @@
 ghost use Rattle.std.specs.Prelude.{◌≡◌, IfOk, OnOk};
 ghost use Rattle.std.specs.Str.{chars};
 ghost use Rattle.tok_core.specs.Forest.{ident, concat, punct};
-ghost use Rattle.tok_core.specs.Lexical.Words.{IsIdentifier};
+ghost use Rattle.tok_lexical.specs.Words.{IsIdentifier};
 ghost use Rattle.tok_core.specs.Seen.{ident_of};
 ghost use Rattle.tok_buffer.specs.CompileErrors.{invocation, segment};
 

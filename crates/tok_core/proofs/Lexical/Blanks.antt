@@ -4,29 +4,32 @@ use Rattle.std.proofs.lemmas.List.{append-nil}
 use Rattle.std.proofs.lemmas.Str.{length-le-encodes}
 use Rattle.std.specs.Borrow.{Bor}
 use Rattle.std.specs.Str.{chars, IsUtf8}
-use Rattle.tok_core.proofs.Lexical.Unique.{spelled_one}
-use Rattle.tok_core.specs.Lexical.Characters.{is_whitespace}
+use Rattle.tok_lexical.proofs.Lexical.Fits.{spelled_one}
+use Rattle.tok_lexical.specs.Characters.{is_whitespace}
 use Rattle.tok_core.specs.Lexical.Items.{Item}
-use Rattle.tok_core.specs.Lexical.Pieces.{HasPrefix, Skips, ReadsLongest}
-use Rattle.tok_core.specs.Lexical.Reading.{IsFirstFit, here, later, Cut, stop, piece}
-use Rattle.tok_core.specs.Lexical.Starts.{rules_of}
-use Rattle.tok_core.specs.declared.lexer.rule.Rules.{Rules}
-use Rattle.tok_core.specs.declared.lexer.rule.Rules.TheVariants.{Plain, Marked}
-use Rattle.tok_core.proofs.Lexical.Slashes.{decides_line, decides_block}
-use Rattle.tok_core.proofs.Lexical.Steps.{decided}
-use Rattle.tok_core.proofs.Lexical.Longest.{takes_one}
-use Rattle.tok_core.proofs.Lexical.Texts.{cut_length}
+use Rattle.tok_lexical.specs.Pieces.{HasPrefix, Skips, ReadsLongest}
+use Rattle.tok_lexical.specs.Fits.{IsFirstFit, here, later}
+use Rattle.tok_core.specs.Lexical.Reading.{Cut, stop, piece}
+use Rattle.tok_lexical.specs.Starts.{rules_of}
+use Rattle.tok_lexical.specs.declared.rule.Rules.{Rules}
+use Rattle.tok_lexical.specs.declared.rule.Rules.TheVariants.{Plain, Marked}
+use Rattle.tok_lexical.proofs.Lexical.Slashes.{decides_line, decides_block}
+use Rattle.tok_lexical.proofs.Lexical.Fits.{decided}
+use Rattle.tok_lexical.proofs.Lexical.Longest.{takes_one}
+use Rattle.tok_lexical.proofs.Lexical.Texts.{cut_length}
 use Rattle.std.proofs.lemmas.Bool.{false≢true, eqb-true}
 use Rattle.std.specs.Prelude.{Bool, true, false, not, ◌==◌, ◌||◌, ◌&&◌, Option, Some, None, IfSome, encode_utf8, encode_utf8_all}
 use Rattle.std.specs.List.{list_all}
 use Rattle.tok_core.specs.Lexical.Built.{IsBlank}
-use Rattle.tok_core.specs.Lexical.Comments.{is_line_doc, is_block_doc, is_not_line_feed, opens_line_doc, opens_block_doc, Closes, plain}
-use Rattle.tok_core.specs.Lexical.Meaning.{refusal, items, width}
-use Rattle.tok_core.specs.Lexical.Pieces.{IsLongestPrefix}
-use Rattle.tok_core.specs.Lexical.Rules.{Spells}
-use Rattle.tok_core.specs.declared.lexer.rule.Rule.{Rule}
-use Rattle.tok_core.specs.declared.lexer.rule.Rule.TheVariants.{ByteOrderMark, Whitespace, LineComment, BlockComment, OpenComment, Opening, Closing, QuotedString, BadString, ByteChar, BadByteChar, StringPrefix, EscapedChar, BadEscapedChar, PlainChar, Lifetime, Apostrophe, MarkedApostrophe, Based, BadBased, Decimal, RawIdentifier, Identifier, Punct, MarkedPunct, Other}
-use Rattle.tok_core.proofs.Lexical.Longest.{list_all-push}
+use Rattle.tok_lexical.specs.Comments.{is_line_doc, is_block_doc, is_not_line_feed, opens_line_doc, opens_block_doc, Closes, plain}
+use Rattle.tok_lexical.specs.Refusals.{refusal}
+use Rattle.tok_core.specs.Lexical.Meaning.{items}
+use Rattle.tok_lexical.specs.Widths.{width}
+use Rattle.tok_lexical.specs.Pieces.{IsLongestPrefix}
+use Rattle.tok_lexical.specs.Rules.{Spells}
+use Rattle.tok_lexical.specs.declared.rule.Rule.{Rule}
+use Rattle.tok_lexical.specs.declared.rule.Rule.TheVariants.{ByteOrderMark, Whitespace, LineComment, BlockComment, OpenComment, Opening, Closing, QuotedString, BadString, ByteChar, BadByteChar, StringPrefix, EscapedChar, BadEscapedChar, PlainChar, Lifetime, Apostrophe, MarkedApostrophe, Based, BadBased, Decimal, RawIdentifier, Identifier, Punct, MarkedPunct, Other}
+use Rattle.tok_lexical.proofs.Lexical.Longest.{list_all-push}
 
 -- white space and comments, doc comments aside
 abbrev is_blank : Rule → List ℕ → Bool

@@ -4,28 +4,33 @@ use Rattle.std.specs.Prelude.{Bool, encode_utf8_all, ◌-◌, true, false, None}
 use Rattle.std.specs.Str.{chars, IsUtf8}
 use Rattle.std.proofs.lemmas.List.{append-nil, map-append}
 use Rattle.tok_core.specs.Forest.{Forest, no_trees}
-use Rattle.tok_core.specs.Lexical.Built.{NoneBefore, EndsInOther, IsBlank, levels_of, Holds, last, outer, Reached, Grows, HaltsAt}
-use Rattle.tok_core.specs.Lexical.Starts.{rules_of}
+use Rattle.tok_lexical.specs.Fits.{NoneBefore}
+use Rattle.tok_core.specs.Lexical.Built.{EndsInOther, IsBlank, levels_of, Holds, last, outer, Reached, Grows, HaltsAt}
+use Rattle.tok_lexical.specs.Starts.{rules_of}
 use Rattle.tok_core.specs.Lexical.Errors.{OnRefused}
 use Rattle.tok_core.specs.Lexical.Items.{Item, no_items}
-use Rattle.tok_core.specs.Lexical.Meaning.{refusal, items, width, is_group_mark}
-use Rattle.tok_core.specs.Lexical.Pieces.{HasPrefix}
-use Rattle.tok_core.specs.Lexical.Reading.{IsFirstFit, Cut, stop, piece, Reads, Refuses, unclosed, IsRefused}
-use Rattle.tok_core.specs.Lexical.Rules.{Spells}
+use Rattle.tok_lexical.specs.Refusals.{refusal}
+use Rattle.tok_core.specs.Lexical.Meaning.{items}
+use Rattle.tok_lexical.specs.Widths.{width, is_group_mark}
+use Rattle.tok_lexical.specs.Pieces.{HasPrefix}
+use Rattle.tok_lexical.specs.Fits.{IsFirstFit}
+use Rattle.tok_core.specs.Lexical.Reading.{Cut, stop, piece, Reads, Refuses, unclosed, IsRefused}
+use Rattle.tok_lexical.specs.Rules.{Spells}
 use Rattle.tok_core.specs.declared.lexer.error.LexError.{LexError}
 use Rattle.tok_core.specs.declared.lexer.error.LexFault.{LexFault}
 use Rattle.tok_core.specs.declared.lexer.error.LexFault.TheVariants.{Refused, Memory}
-use Rattle.tok_core.specs.declared.lexer.error.Reason.TheVariants.{UnclosedGroup}
+use Rattle.tok_lexical.specs.declared.reason.Reason.TheVariants.{UnclosedGroup}
 use Rattle.tok_core.specs.declared.lexer.nest.OpenGroup.{OpenGroup}
 use Rattle.tok_core.specs.declared.lexer.nest.TreeBuilder.{TreeBuilder}
-use Rattle.tok_core.specs.declared.lexer.rule.Rules.{Rules}
-use Rattle.tok_core.specs.declared.lexer.rule.Rules.TheVariants.{Plain, Marked}
-use Rattle.tok_core.specs.declared.lexer.rule.Rule.{Rule}
-use Rattle.tok_core.specs.declared.lexer.rule.Rule.TheVariants.{Whitespace}
+use Rattle.tok_lexical.specs.declared.rule.Rules.{Rules}
+use Rattle.tok_lexical.specs.declared.rule.Rules.TheVariants.{Plain, Marked}
+use Rattle.tok_lexical.specs.declared.rule.Rule.{Rule}
+use Rattle.tok_lexical.specs.declared.rule.Rule.TheVariants.{Whitespace}
 use Rattle.tok_core.proofs.Lexical.Blanks.{recut}
 use Rattle.tok_core.proofs.Lexical.Nests.{opens_of, reached_later}
-use Rattle.tok_core.proofs.Lexical.Steps.{decided, refuses}
-use Rattle.tok_core.proofs.Lexical.Texts.{cut_length}
+use Rattle.tok_lexical.proofs.Lexical.Fits.{decided}
+use Rattle.tok_core.proofs.Lexical.Steps.{refuses}
+use Rattle.tok_lexical.proofs.Lexical.Texts.{cut_length}
 
 cut_more : {rules : List Rule} {number at end : ℕ} {text rest taken after : List ℕ} {rule : Rule} {some : List Item} → Cut rules number at text some end rest → IsFirstFit rest rules rule taken after → refusal rule end taken after ≡ None → Cut rules number at text (some ++ items number rule end taken after) (end + width rule taken) after
 cut_more {number = number} {end = end} {taken = taken} {after = after} {rule = rule} stop d m = recut (append-nil (items number rule end taken after)) refl refl (piece d m stop)

@@ -1,6 +1,6 @@
 -- A forest and its items.
 use Rattle.std.proofs.Common.{◌≡◌, ◌∙◌, ℕ, ◌≤◌, List, [], ◌∷◌, ◌++◌, refl, sym, ap, subst, arith, append_assoc}
-use Rattle.tok_core.specs.declared.group.Delimiter.{Delimiter}
+use Rattle.tok_lexical.specs.declared.delimiter.Delimiter.{Delimiter}
 use Rattle.tok_core.specs.Spans.{source}
 use Rattle.tok_core.specs.Forest.{Leaf, leaf, group, Forest, no_trees, tree, concat}
 use Rattle.tok_core.specs.Lexical.Items.{Item, leaf_item, opening, closing, Flat, no_items, leaf_first, group_first, depth}

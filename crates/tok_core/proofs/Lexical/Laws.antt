@@ -8,7 +8,7 @@ use Rattle.tok_core.specs.Lexical.Reading.{Reads, IsRefused}
 use Rattle.tok_core.specs.declared.lexer.error.LexError.{LexError}
 use Rattle.tok_core.specs.declared.lexer.error.LexFault.{LexFault}
 use Rattle.tok_core.specs.declared.lexer.error.LexFault.TheVariants.{Refused, Memory}
-use Rattle.tok_core.specs.declared.lexer.rule.Rule.{Rule}
+use Rattle.tok_lexical.specs.declared.rule.Rule.{Rule}
 use Rattle.tok_core.proofs.Lexical.Flat.{one_forest}
 use Rattle.tok_core.proofs.Lexical.Only.{one_cut, one_way, not_both}
 

@@ -3,14 +3,17 @@ use Rattle.std.proofs.Common.{◌≡◌, ◌∙◌, ℕ, inl, inr, List, [], ◌
 use Rattle.std.specs.Prelude.{Option, Some, None}
 use Rattle.std.proofs.lemmas.List.{append-nil, reverse-append}
 use Rattle.tok_core.specs.Lexical.Items.{Item, IsForest, Opens, inside}
-use Rattle.tok_core.specs.Lexical.Meaning.{refusal, items}
-use Rattle.tok_core.specs.Lexical.Reading.{IsFirstFit, Cut, stop, piece, Refuses, by_rule, unclosed, unopened, too_deep}
-use Rattle.tok_core.specs.declared.group.Delimiter.{Delimiter}
-use Rattle.tok_core.specs.declared.lexer.error.Reason.{Reason}
-use Rattle.tok_core.specs.declared.lexer.rule.Rule.{Rule}
-use Rattle.tok_core.specs.declared.lexer.rule.Rule.TheVariants.{Opening, Closing}
+use Rattle.tok_lexical.specs.Refusals.{refusal}
+use Rattle.tok_core.specs.Lexical.Meaning.{items}
+use Rattle.tok_lexical.specs.Fits.{IsFirstFit}
+use Rattle.tok_core.specs.Lexical.Reading.{Cut, stop, piece, Refuses, by_rule, unclosed, unopened, too_deep}
+use Rattle.tok_lexical.specs.declared.delimiter.Delimiter.{Delimiter}
+use Rattle.tok_lexical.specs.declared.reason.Reason.{Reason}
+use Rattle.tok_lexical.specs.declared.rule.Rule.{Rule}
+use Rattle.tok_lexical.specs.declared.rule.Rule.TheVariants.{Opening, Closing}
 use Rattle.tok_core.proofs.Lexical.Runs.{Run, first_opens, after_front, one_left_open, first_closes}
-use Rattle.tok_core.proofs.Lexical.Unique.{decides_unique, decides_nothing, cuts}
+use Rattle.tok_lexical.proofs.Lexical.Fits.{decides_unique, decides_nothing}
+use Rattle.tok_core.proofs.Lexical.Unique.{cuts}
 
 cut_nil : {rules : List Rule} {number at end : ℕ} {rest : List ℕ} {all : List Item} → Cut rules number at [] all end rest → (all ≡ []) × (rest ≡ [])
 cut_nil stop = (refl, refl)

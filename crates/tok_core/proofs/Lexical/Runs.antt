@@ -3,7 +3,7 @@ use Rattle.std.proofs.Common.{◌≡◌, ◌∙◌, ℕ, ◌+◌, ◌<◌, ◌�
 use Rattle.std.proofs.lemmas.List.{append-nil, length-reverse, reverse-append, reverse-reverse}
 use Rattle.tok_core.specs.Forest.{Leaf, Forest}
 use Rattle.tok_core.specs.Lexical.Items.{Item, leaf_item, opening, closing, Flat, no_items, leaf_first, group_first, depth, Opens, inside, within, IsOpenBy}
-use Rattle.tok_core.specs.declared.group.Delimiter.{Delimiter}
+use Rattle.tok_lexical.specs.declared.delimiter.Delimiter.{Delimiter}
 
 abbrev pub Levels : Type 0
 Levels = List (Delimiter × ℕ)

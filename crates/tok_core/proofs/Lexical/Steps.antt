@@ -4,22 +4,17 @@ use Rattle.std.specs.Prelude.{Option, Some}
 use Rattle.std.specs.Result.{IfErr}
 use Rattle.tok_core.specs.Lexical.Built.{Halts, by_meaning, unfit, deep, HaltsAt, IsTooDeep, IsUnfit, levels_of}
 use Rattle.tok_core.specs.Lexical.Errors.{OnRefused}
-use Rattle.tok_core.specs.Lexical.Meaning.{refusal}
-use Rattle.tok_core.specs.Lexical.Pieces.{IsLongestPrefix}
-use Rattle.tok_core.specs.Lexical.Reading.{IsFirstFit, here, later, Refuses, by_rule, unopened, too_deep}
-use Rattle.tok_core.specs.Lexical.Rules.{Spells}
-use Rattle.tok_core.specs.declared.group.Delimiter.{Delimiter}
+use Rattle.tok_lexical.specs.Refusals.{refusal}
+use Rattle.tok_lexical.specs.Fits.{IsFirstFit}
+use Rattle.tok_core.specs.Lexical.Reading.{Refuses, by_rule, unopened, too_deep}
+use Rattle.tok_lexical.specs.declared.delimiter.Delimiter.{Delimiter}
 use Rattle.tok_core.specs.declared.lexer.error.LexError.{LexError}
 use Rattle.tok_core.specs.declared.lexer.error.LexFault.{LexFault}
 use Rattle.tok_core.specs.declared.lexer.error.LexFault.TheVariants.{Refused, Memory}
-use Rattle.tok_core.specs.declared.lexer.error.Reason.{Reason}
+use Rattle.tok_lexical.specs.declared.reason.Reason.{Reason}
 use Rattle.tok_core.specs.declared.lexer.nest.TreeBuilder.{TreeBuilder}
-use Rattle.tok_core.specs.declared.lexer.rule.Rule.{Rule}
-use Rattle.tok_core.specs.declared.lexer.rule.Rule.TheVariants.{Opening, Closing}
-
-pub decided : {text : List ℕ} {rules : List Rule} {rule : Rule} {piece rest : List ℕ} → IsFirstFit text rules rule piece rest → IsLongestPrefix (Spells rule) text piece rest
-decided (here t) = t
-decided (later misses d) = decided d
+use Rattle.tok_lexical.specs.declared.rule.Rule.{Rule}
+use Rattle.tok_lexical.specs.declared.rule.Rule.TheVariants.{Opening, Closing}
 
 module _ (nest : TreeBuilder) (rule : Rule) (at : ℕ) (piece after : List ℕ) where
   halts_at : (error : LexError) (why : Reason) → error ≡ record { refusal = why; source = nest.source; at = at } → Halts (levels_of nest.«open».items) rule at piece after why → HaltsAt nest rule at piece after error

@@ -1,43 +1,20 @@
 -- What is known in the middle of a text: the rules tried so far, and the trees so far.
 use Rattle.std.specs.Prelude.{◌≡◌, ℕ, suc, ◌+◌, ◌-◌, ◌<◌, ◌≤◌, List, [], ◌∷◌, ◌++◌, length, map}
 use Rattle.std.specs.Prelude.{Option, MatchOption, Some, slice_index_or}
-use Rattle.std.specs.Borrow.{Bor}
-use Rattle.std.specs.Str.{chars}
 use Rattle.tok_core.specs.Forest.{Forest}
-use Rattle.tok_core.specs.Lexical.Pieces.{HasPrefix}
-use Rattle.tok_core.specs.Lexical.Rules.{Spells}
-use Rattle.tok_core.specs.Lexical.Strings.{IsUnit, AreUnits}
 use Rattle.tok_core.specs.Lexical.Items.{Item, opening, Flat, depth, IsOpenBy}
-use Rattle.tok_core.specs.Lexical.Meaning.{refusal}
-use Rattle.tok_core.specs.Lexical.Reading.{IsFirstFit, Cut}
-use Rattle.tok_core.specs.Lexical.Starts.{rules_of}
-use Rattle.tok_core.specs.declared.lexer.rule.Rules.{Rules}
-use Rattle.tok_core.specs.declared.group.Delimiter.{Delimiter}
-use Rattle.tok_core.specs.declared.lexer.rule.Rule.{Rule}
-use Rattle.tok_core.specs.declared.lexer.rule.Rule.TheVariants.{Whitespace, Opening, Closing, Other}
-use Rattle.tok_core.specs.declared.lexer.error.Reason.{Reason}
-use Rattle.tok_core.specs.declared.lexer.error.Reason.TheVariants.{UnexpectedClosing, DeepGroup}
+use Rattle.tok_lexical.specs.Refusals.{refusal}
+use Rattle.tok_core.specs.Lexical.Reading.{Cut}
+use Rattle.tok_lexical.specs.Starts.{rules_of}
+use Rattle.tok_lexical.specs.declared.rule.Rules.{Rules}
+use Rattle.tok_lexical.specs.declared.delimiter.Delimiter.{Delimiter}
+use Rattle.tok_lexical.specs.declared.rule.Rule.{Rule}
+use Rattle.tok_lexical.specs.declared.rule.Rule.TheVariants.{Whitespace, Opening, Closing, Other}
+use Rattle.tok_lexical.specs.declared.reason.Reason.{Reason}
+use Rattle.tok_lexical.specs.declared.reason.Reason.TheVariants.{UnexpectedClosing, DeepGroup}
 use Rattle.tok_core.specs.declared.lexer.error.LexError.{LexError}
 use Rattle.tok_core.specs.declared.lexer.nest.OpenGroup.{OpenGroup}
 use Rattle.tok_core.specs.declared.lexer.nest.TreeBuilder.{TreeBuilder}
-
--- no rule before the place fits
-pub record NoneBefore (rules : List Rule) (text : List ℕ) (i : ℕ) : Type 0 where
-  pub none : (j : ℕ) (d : Rule) → j < i → j < length rules →
-      HasPrefix (Spells (slice_index_or rules j d)) text → ⊥
-
--- what a function that tries the rules in turn returns
-abbrev pub ReadsByRules : List Rule → List ℕ → Option (Rule × Bor (List ℕ)) → Type 0
-ReadsByRules rules text answer =
-    MatchOption answer (NoneBefore rules text (length rules))
-    (λ found. (piece : List ℕ) × IsFirstFit text rules found.0 piece (chars found.1.now))
-
--- what a function that looks for units of a string answers: what follows some of them, or None
--- where there are none
-abbrev pub FindsUnits : List ℕ → Option (Bor (List ℕ)) → Type 0
-FindsUnits text answer =
-    MatchOption answer (HasPrefix IsUnit text → ⊥)
-    (λ rest. (units : List ℕ) × (text ≡ units ++ chars rest.now) × AreUnits units)
 
 -- the last rule takes any character
 abbrev pub EndsInOther : List Rule → Type 0

@@ -2,7 +2,7 @@
 use Rattle.std.specs.Prelude.{◌≡◌, ◌≤◌, ℕ, suc, max, List, [], ◌∷◌, ◌++◌}
 use Rattle.tok_core.specs.Forest.{Leaf, leaf, group, Forest, no_trees, tree}
 use Rattle.tok_core.specs.Spans.{source}
-use Rattle.tok_core.specs.declared.group.Delimiter.{Delimiter}
+use Rattle.tok_lexical.specs.declared.delimiter.Delimiter.{Delimiter}
 
 -- a leaf, the opening of a group at a byte, or the end of a group at a byte
 pub data Item : Type 0 where

@@ -4,7 +4,7 @@ use Rattle.std.specs.Prelude.{◌≡◌, ℕ, List}
 use Rattle.tok_core.specs.Forest.{Forest}
 use Rattle.tok_core.specs.Lexical.Reading.{Reads, IsRefused}
 use Rattle.tok_core.specs.declared.lexer.error.LexError.{LexError}
-use Rattle.tok_core.specs.declared.lexer.rule.Rule.{Rule}
+use Rattle.tok_lexical.specs.declared.rule.Rule.{Rule}
 
 abbrev pub IsReadOnce : Type 0
 IsReadOnce =

@@ -1,26 +1,18 @@
 -- Which texts read as which forest, and which are refused.
 use Rattle.std.specs.Prelude.{◌≡◌, ℕ, ◌+◌, ◌≤◌, List, [], ◌∷◌, ◌++◌, length, Some, None}
+use Rattle.tok_lexical.specs.Fits.{IsFirstFit}
 use Rattle.tok_core.specs.Forest.{Forest}
-use Rattle.tok_core.specs.Lexical.Pieces.{HasPrefix, IsLongestPrefix}
-use Rattle.tok_core.specs.Lexical.Rules.{Spells}
 use Rattle.tok_core.specs.Lexical.Items.{Item, Flat, depth, Opens, IsOpenBy}
-use Rattle.tok_core.specs.Lexical.Meaning.{refusal, items, width}
-use Rattle.tok_core.specs.declared.group.Delimiter.{Delimiter}
-use Rattle.tok_core.specs.declared.lexer.rule.Rule.{Rule}
-use Rattle.tok_core.specs.declared.lexer.rule.Rule.TheVariants.{Opening, Closing}
-use Rattle.tok_core.specs.declared.lexer.error.Reason.{Reason}
-use Rattle.tok_core.specs.declared.lexer.error.Reason.TheVariants.{UnclosedGroup}
-use Rattle.tok_core.specs.declared.lexer.error.Reason.TheVariants.{UnexpectedClosing, DeepGroup}
+use Rattle.tok_lexical.specs.Refusals.{refusal}
+use Rattle.tok_core.specs.Lexical.Meaning.{items}
+use Rattle.tok_lexical.specs.Widths.{width}
+use Rattle.tok_lexical.specs.declared.delimiter.Delimiter.{Delimiter}
+use Rattle.tok_lexical.specs.declared.rule.Rule.{Rule}
+use Rattle.tok_lexical.specs.declared.rule.Rule.TheVariants.{Opening, Closing}
+use Rattle.tok_lexical.specs.declared.reason.Reason.{Reason}
+use Rattle.tok_lexical.specs.declared.reason.Reason.TheVariants.{UnclosedGroup}
+use Rattle.tok_lexical.specs.declared.reason.Reason.TheVariants.{UnexpectedClosing, DeepGroup}
 use Rattle.tok_core.specs.declared.lexer.error.LexError.{LexError}
-
--- The first of the rules that fits at the front of the text is this one, and it takes this piece,
--- before this rest.
-pub data IsFirstFit (text : List ℕ) : List Rule → Rule → List ℕ → List ℕ → Type 0 where
-  here : {rule : Rule} {rules : List Rule} {piece rest : List ℕ} →
-      IsLongestPrefix (Spells rule) text piece rest → IsFirstFit text (rule ∷ rules) rule piece rest
-  later : {other rule : Rule} {rules : List Rule} {piece rest : List ℕ} →
-      (HasPrefix (Spells other) text → ⊥) → IsFirstFit text rules rule piece rest →
-      IsFirstFit text (other ∷ rules) rule piece rest
 
 -- From the byte `at` on, a front of the text is cut into pieces that mean these items; it ends at
 -- the byte `end`, before `rest`.

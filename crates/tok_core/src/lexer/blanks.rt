@@ -3,9 +3,9 @@ ghost use Rattle.std.specs.Prelude.{◌<◌, ◌≤◌, ◌-◌, length, IfSome}
 ghost use Rattle.std.specs.Str.{chars, IsUtf8};
 ghost use Rattle.tok_core.specs.Lexical.Built.{IsBlank};
 
-use crate::lexer::classes::past_whitespace;
-use crate::lexer::comments::{opens_block_doc, opens_line_doc, past_block, past_line};
-use crate::lexer::text::past_char;
+use tok_lexical::classes::past_whitespace;
+use tok_lexical::comments::{opens_block_doc, opens_line_doc, past_block, past_line};
+use tok_lexical::text::past_char;
 
 /// What follows the white space and the comments at the front. A doc comment stays, and a comment that isn't closed.
 pub fn past_blanks(text: &str) -> &str

@@ -1,68 +1,12 @@
 // Why a text isn't read.
 ghost use Rattle.std.specs.Prelude.{◌≡◌, Some};
-ghost use Rattle.tok_core.specs.Lexical.Errors.{refusal_number, refusal_words, error_number, error_byte, error_span, error_words};
+ghost use Rattle.tok_core.specs.Lexical.Errors.{error_number, error_byte, error_span, error_words};
 
 use crate::span::Span;
 use std::alloc::AllocError;
 use std::fmt;
 use std::fmt::{Formatter, Write};
-
-/// What the grammar refuses, in the order of its numbers.
-#[derive(Clone, Copy, PartialEq, Eq, Debug)]
-pub enum Reason {
-    UnknownCharacter,
-    UnclosedGroup,
-    UnexpectedClosing,
-    UnclosedComment,
-    DocComment,
-    MalformedQuoted,
-    PrefixedString,
-    FloatLiteral,
-    MalformedNumber,
-    MissingRawIdentifier,
-    LoneApostrophe,
-    DeepGroup,
-}
-
-impl Reason {
-    fn number(self) -> u8
-        ensures { result ≡ refusal_number self }
-    {
-        match self {
-            Reason::UnknownCharacter => 1,
-            Reason::UnclosedGroup => 2,
-            Reason::UnexpectedClosing => 3,
-            Reason::UnclosedComment => 4,
-            Reason::DocComment => 5,
-            Reason::MalformedQuoted => 6,
-            Reason::PrefixedString => 7,
-            Reason::FloatLiteral => 8,
-            Reason::MalformedNumber => 9,
-            Reason::MissingRawIdentifier => 10,
-            Reason::LoneApostrophe => 11,
-            Reason::DeepGroup => 12,
-        }
-    }
-
-    fn words(self) -> &'static str
-        ensures { result.now ≡ refusal_words self }
-    {
-        match self {
-            Reason::UnknownCharacter => "unknown character",
-            Reason::UnclosedGroup => "unclosed group",
-            Reason::UnexpectedClosing => "unexpected closing delimiter",
-            Reason::UnclosedComment => "unclosed comment",
-            Reason::DocComment => "doc comment",
-            Reason::MalformedQuoted => "malformed string or character",
-            Reason::PrefixedString => "raw, byte or C string",
-            Reason::FloatLiteral => "float literal",
-            Reason::MalformedNumber => "malformed number",
-            Reason::MissingRawIdentifier => "raw identifier that does not exist",
-            Reason::LoneApostrophe => "lone apostrophe",
-            Reason::DeepGroup => "groups nested too deep",
-        }
-    }
-}
+use tok_lexical::Reason;
 
 /// Why a text isn't read, and where: the number of the rule, from L1 to L12, and the byte.
 #[derive(Clone, Copy, PartialEq, Eq, Debug)]

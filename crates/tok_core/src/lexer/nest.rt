@@ -5,16 +5,14 @@ ghost use Rattle.tok_core.specs.Forest.{no_trees};
 ghost use Rattle.tok_core.specs.Lexical.Built.{Grows, Reached, HaltsAt, IsTooDeep, IsUnfit};
 ghost use Rattle.tok_core.specs.Lexical.Errors.{OnRefused};
 ghost use Rattle.tok_core.specs.Lexical.Items.{opening, closing};
-ghost use Rattle.tok_core.specs.Lexical.Meaning.{refusal, items, width, ident_item, literal_item, punct_item};
-ghost use Rattle.tok_core.specs.Lexical.Rules.{Spells};
+ghost use Rattle.tok_lexical.specs.Refusals.{refusal};
+ghost use Rattle.tok_core.specs.Lexical.Meaning.{items, ident_item, literal_item, punct_item};
+ghost use Rattle.tok_lexical.specs.Widths.{width};
+ghost use Rattle.tok_lexical.specs.Rules.{Spells};
 
-use crate::group::{Delimiter, Group};
+use crate::group::Group;
 use crate::ident::Ident;
-use crate::lexer::error::{LexError, LexFault, Reason};
-use crate::lexer::joint::{makes_joint, makes_joint_apostrophe, past_marks};
-use crate::lexer::meaning::refusal;
-use crate::lexer::rule::Rule;
-use crate::lexer::text::{first_of, past_first};
+use crate::lexer::error::{LexError, LexFault};
 use crate::literal::Literal;
 use crate::punct::{Punct, Spacing};
 use crate::span::Span;
@@ -22,6 +20,9 @@ use crate::stream::{TokenStream, TokenTree};
 use crate::text::Text;
 use std::alloc::{AllocError, Global};
 use std::mem;
+use tok_lexical::joint::{makes_joint, makes_joint_apostrophe, past_marks};
+use tok_lexical::text::{first_of, past_first};
+use tok_lexical::{Delimiter, Reason, Rule, refusal};
 
 /// A group that isn't closed yet, and the trees before it at its level.
 #[derive(Drop)]

@@ -2,7 +2,7 @@
 ghost use Rattle.std.specs.Prelude.{◌≡◌, true, OnOk, OnErr};
 ghost use Rattle.std.specs.List.{list_all};
 ghost use Rattle.tok_core.specs.Forest.{AppendsFront, concat, punct};
-ghost use Rattle.tok_core.specs.Lexical.Characters.{is_punct_or_apostrophe};
+ghost use Rattle.tok_lexical.specs.Characters.{is_punct_or_apostrophe};
 ghost use Rattle.tok_core.specs.Seen.{punct_of};
 ghost use Rattle.tok_types.specs.Printed.{puncts, spacing};
 

@@ -1,5 +1,5 @@
 use Rattle.std.proofs.Common.{arith, ap, refl}
-use Rattle.tok_core.specs.declared.group.Delimiter.TheVariants.{Parenthesis}
+use Rattle.tok_lexical.specs.declared.delimiter.Delimiter.TheVariants.{Parenthesis}
 use Rattle.syn_parse.specs.State.{State}
 use Rattle.tok_buffer.specs.Progress.{remaining}
 use Rattle.tok_buffer.specs.Entry.{enter}

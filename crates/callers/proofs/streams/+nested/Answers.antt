@@ -1,5 +1,5 @@
 use Rattle.std.proofs.Common.{◌≡◌, ◌∙◌, ◌<◌, ap, refl, arith, rules, false, None}
-use Rattle.tok_core.specs.declared.group.Delimiter.TheVariants.{Parenthesis}
+use Rattle.tok_lexical.specs.declared.delimiter.Delimiter.TheVariants.{Parenthesis}
 use Rattle.tok_buffer.specs.Place.{is_at_end}
 use Rattle.tok_buffer.specs.Progress.{remaining}
 use Rattle.callers.specs.Items.{read_name}

@@ -1,5 +1,5 @@
 use Rattle.std.proofs.Common.{◌≡◌, ◌∙◌, sym, ap, codes, ℕ, List}
-use Rattle.tok_core.specs.declared.group.Delimiter.TheVariants.{Parenthesis}
+use Rattle.tok_lexical.specs.declared.delimiter.Delimiter.TheVariants.{Parenthesis}
 use Rattle.tok_core.specs.declared.span.Span.{Span}
 use Rattle.tok_core.specs.Forest.{Forest, group, ident, concat, leaf, no_trees, tree}
 use Rattle.tok_core.specs.Spans.{call_site}

@@ -5,7 +5,7 @@ use Rattle.std.specs.Str.{chars}
 use Rattle.tok_core.specs.Forest.{Forest}
 use Rattle.tok_core.specs.Lexical.Errors.{OnRefused}
 use Rattle.tok_core.specs.Lexical.Reading.{IsRefused}
-use Rattle.tok_core.specs.Lexical.Rules.{marked_rules}
+use Rattle.tok_lexical.specs.Rules.{marked_rules}
 use Rattle.tok_core.specs.declared.lexer.error.LexFault.{LexFault}
 use Rattle.tok_core.specs.declared.lexer.error.LexFault.TheVariants.{Refused, Memory}
 use Rattle.syn_tokens.specs.Program.Faults.{OnUnreadable, fault_of}

@@ -1,6 +1,6 @@
 use Rattle.std.proofs.Common.{◌≡◌, ◌≤◌, ap, sym, ◌∙◌, not, true, rules}
 use Rattle.tok_core.specs.Filled.{filled, has_trees}
-use Rattle.tok_core.specs.declared.group.Delimiter.TheVariants.{None}
+use Rattle.tok_lexical.specs.declared.delimiter.Delimiter.TheVariants.{None}
 use Rattle.tok_core.specs.Forest.{group, no_trees, tree}
 use Rattle.tok_core.specs.Spans.{bounds_delimiter, bounds_span}
 use Rattle.tok_core.specs.Seen.{tree_of}

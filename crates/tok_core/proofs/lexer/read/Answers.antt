@@ -1,5 +1,5 @@
 use Rattle.std.proofs.Common.{◌+◌, refl, ap, arith}
-use Rattle.tok_core.proofs.Lexical.Steps.{decided}
+use Rattle.tok_lexical.proofs.Lexical.Fits.{decided}
 use Rattle.tok_core.proofs.Lexical.Blanks.{shorter}
 use Rattle.tok_core.proofs.Lexical.Cuts.{so_far_start, so_far_more, so_far_blank, all_tried, reads_all, refused_unclosed, none_left, fault_here, decided_piece, ends_in_other}
 use Rattle.tok_core.proofs.lexer.read.Goals as goal

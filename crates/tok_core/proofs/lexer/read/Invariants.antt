@@ -2,7 +2,7 @@ use Rattle.std.proofs.Common.{length}
 use denote.Text.{Utf8}
 use denote.Shadow.{shadow}
 use Rattle.tok_core.proofs.Lexical.Cuts.{SoFar}
-use Rattle.tok_core.specs.Lexical.Starts.{rules_of}
+use Rattle.tok_lexical.specs.Starts.{rules_of}
 use Rattle.tok_core.proofs.lexer.read.Given as goal
 
 abbrev pub invariant-loop-rule : goal.invariant-loop-rule

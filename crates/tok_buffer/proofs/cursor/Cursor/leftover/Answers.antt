@@ -1,5 +1,5 @@
 use Rattle.std.proofs.Common.{◌∙◌, Some, cond, sym, ap}
-use Rattle.tok_core.specs.declared.group.Delimiter.TheVariants as delimiter
+use Rattle.tok_lexical.specs.declared.delimiter.Delimiter.TheVariants as delimiter
 use Rattle.tok_buffer.specs.Ahead.{ahead, left_of}
 use Rattle.tok_buffer.specs.Cursors.{place_of}
 use Rattle.tok_buffer.specs.Rest.{scope_delimiter}

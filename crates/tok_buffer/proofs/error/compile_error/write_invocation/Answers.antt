@@ -3,7 +3,7 @@ use Rattle.tok_core.specs.Forest.{Forest, leaf, literal, group, concat, tree, no
 use Rattle.tok_core.specs.Seen.{tree_of}
 use Rattle.tok_core.specs.declared.stream.TokenTree.TheVariants.{Literal}
 use Rattle.tok_core.specs.Text.{leaf_text}
-use Rattle.tok_core.specs.declared.group.Delimiter.TheVariants.{Brace}
+use Rattle.tok_lexical.specs.declared.delimiter.Delimiter.TheVariants.{Brace}
 use Rattle.tok_core.proofs.Facts.{concat-none}
 use Rattle.tok_buffer.proofs.Appended.{first_tree, then_tree}
 use Rattle.tok_buffer.proofs.error.compile_error.write_invocation.Goals as goal

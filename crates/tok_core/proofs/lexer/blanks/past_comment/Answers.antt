@@ -1,7 +1,7 @@
 use Rattle.std.proofs.Common.{sym}
-use Rattle.tok_core.specs.Lexical.Starts.{rules_of}
-use Rattle.tok_core.specs.declared.lexer.rule.Rule.TheVariants.{LineComment}
-use Rattle.tok_core.specs.declared.lexer.rule.Rules.TheVariants.{Plain}
+use Rattle.tok_lexical.specs.Starts.{rules_of}
+use Rattle.tok_lexical.specs.declared.rule.Rule.TheVariants.{LineComment}
+use Rattle.tok_lexical.specs.declared.rule.Rules.TheVariants.{Plain}
 use Rattle.tok_core.proofs.Lexical.Blanks.{blank_line, blank_block, line_front, shorter, shorter_block}
 use Rattle.tok_core.proofs.lexer.blanks.past_comment.Goals as goal
 

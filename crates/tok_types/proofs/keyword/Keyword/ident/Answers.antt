@@ -1,6 +1,6 @@
 use Rattle.std.proofs.Common.{subst, sym}
 use Rattle.std.specs.Str.{chars}
-use Rattle.tok_core.specs.Lexical.Words.{IsIdentifier}
+use Rattle.tok_lexical.specs.Words.{IsIdentifier}
 use Rattle.tok_types.proofs.Words.{keyword-identifier}
 use Rattle.tok_types.proofs.keyword.Keyword.ident.Goals as goal
 

@@ -1,6 +1,6 @@
 use Rattle.std.proofs.Common.{subst, sym}
 use Rattle.std.specs.Str.{chars}
-use Rattle.tok_core.specs.Lexical.Words.{IsSuffix}
+use Rattle.tok_lexical.specs.Words.{IsSuffix}
 use Rattle.tok_types.proofs.Words.{keyword-suffix}
 use Rattle.tok_types.proofs.keyword.KeywordToTokens.to_tokens.Goals as goal
 

@@ -1,6 +1,0 @@
-use Rattle.tok_core.specs.Lexical.Strings.{IsByte, IsQuoted}
-use Rattle.tok_core.proofs.Lexical.Longest.{tries_after}
-use Rattle.tok_core.proofs.lexer.char_literals.past_byte_char.Goals as goal
-
-pub returns-clause-tries : goal.returns-clause-tries
-returns-clause-tries c = tries_after 98 (IsQuoted IsByte) _ _ _ c.in-Some.ensures.chars c.past_quoted_byte.ensures.tries

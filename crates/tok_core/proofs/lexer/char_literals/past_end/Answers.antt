@@ -1,6 +1,0 @@
-use Rattle.tok_core.specs.Lexical.Words.{IsSuffix}
-use Rattle.tok_core.proofs.Lexical.Units.{takes_after}
-use Rattle.tok_core.proofs.lexer.char_literals.past_end.Goals as goal
-
-pub returns-clause-tries : goal.returns-clause-tries
-returns-clause-tries c = takes_after 39 IsSuffix _ _ _ _ c.in-Some.ensures.chars c.past_suffix.ensures.1

@@ -1,7 +1,0 @@
-use Rattle.tok_core.specs.Lexical.Strings.{IsEscape}
-use Rattle.std.proofs.Common.{false}
-use Rattle.tok_core.proofs.Lexical.Longest.{finds_after}
-use Rattle.tok_core.proofs.lexer.char_literals.past_escaped.Goals as goal
-
-pub returns-clause-finds : goal.returns-clause-finds
-returns-clause-finds c = finds_after 92 (IsEscape false false) _ _ _ c.in-Some.ensures.chars c.past_escape.ensures.finds

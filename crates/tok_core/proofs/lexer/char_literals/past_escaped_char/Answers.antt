@@ -1,7 +1,0 @@
-use Rattle.tok_core.specs.Lexical.Strings.{IsEscapedChar}
-use Rattle.tok_core.proofs.Lexical.Escapes.{free_escaped}
-use Rattle.tok_core.proofs.Lexical.Units.{tries_quoted}
-use Rattle.tok_core.proofs.lexer.char_literals.past_escaped_char.Goals as goal
-
-pub returns-clause-tries : goal.returns-clause-tries
-returns-clause-tries c = tries_quoted IsEscapedChar _ _ _ _ _ free_escaped c.in-Some.ensures.chars c.in-Some-past_escaped.ensures.finds.1 c.in-Some-past_escaped.ensures.finds.2 c.past_end.ensures.tries

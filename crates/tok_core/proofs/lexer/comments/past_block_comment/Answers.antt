@@ -1,5 +1,0 @@
-use Rattle.tok_core.proofs.Lexical.Comments.{tries_marked}
-use Rattle.tok_core.proofs.lexer.comments.past_block_comment.Goals as goal
-
-pub returns-clause-tries : goal.returns-clause-tries
-returns-clause-tries c = tries_marked _ _ _ c.in_ok-past_pair.ensures.chars c.past_block.ensures.tries

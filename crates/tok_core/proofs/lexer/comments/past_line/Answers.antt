@@ -1,5 +1,0 @@
-use Rattle.tok_core.proofs.Lexical.Comments.{skips_line}
-use Rattle.tok_core.proofs.lexer.comments.past_line.Goals as goal
-
-pub returns : goal.returns
-returns c = skips_line _ _ c.past_others.ensures.skips

@@ -1,5 +1,0 @@
-use Rattle.tok_core.proofs.Lexical.Longest.{takes_line}
-use Rattle.tok_core.proofs.lexer.comments.past_line_comment.Goals as goal
-
-pub returns-clause-tries : goal.returns-clause-tries
-returns-clause-tries c = takes_line _ _ _ c.in_ok-past_pair.ensures.chars c.past_line.ensures

@@ -1,6 +1,0 @@
-use Rattle.tok_core.specs.Lexical.Words.{IsName}
-use Rattle.tok_core.proofs.Lexical.Longest.{tries_after}
-use Rattle.tok_core.proofs.lexer.words.past_lifetime.Goals as goal
-
-pub returns-clause-tries : goal.returns-clause-tries
-returns-clause-tries c = tries_after 39 IsName _ _ _ c.in-Some.ensures.chars c.past_name.ensures.tries

@@ -1,8 +1,0 @@
-use Rattle.std.proofs.Common.{◌∷◌, refl}
-use Rattle.tok_core.specs.Lexical.Pieces.{After}
-use Rattle.tok_core.specs.Lexical.Words.{IsIdentifier}
-use Rattle.tok_core.proofs.Lexical.Longest.{tries_after}
-use Rattle.tok_core.proofs.lexer.words.past_raw_identifier.Goals as goal
-
-pub returns-clause-tries : goal.returns-clause-tries
-returns-clause-tries c = tries_after 114 (After 35 IsIdentifier) _ _ _ c.in-Some.ensures.chars (tries_after 35 IsIdentifier (35 ∷ _) _ _ refl c.past_identifier.ensures.tries)

@@ -1,0 +1,196 @@
+-- Lemmas on pieces: lists alone.
+use Rattle.std.proofs.Common.{◌≡◌, ◌∙◌, ◌⊎◌, inl, inr, ℕ, ◌+◌, ◌<◌, List, [], ◌∷◌, ◌++◌, length, refl, sym, ap, subst, Bool, true, false, ◌&&◌, append_assoc, arith, length-append, rules, tests}
+use Rattle.std.proofs.lemmas.List.{append_cancel_left, append-nil}
+use Rattle.std.proofs.lemmas.List.Folds.{list_all-append}
+use Rattle.std.specs.Prelude.{◌==◌}
+use Rattle.std.specs.List.{list_all}
+use Rattle.std.specs.Str.{chars, IsUtf8}
+use Rattle.std.specs.Char.{encode_utf8}
+use Rattle.std.proofs.lemmas.Str.{chars_past_char, length-encode, len_utf8_bounds}
+use Rattle.std.proofs.lemmas.Bool.{false≢true, eqb-true}
+use Rattle.tok_lexical.specs.Pieces.{IsLongestPrefix, ReadsLongest, ReadsPrefix, Stops, Skips, IsOne, After}
+use Rattle.std.specs.Prelude.{Option, Some, None, MatchOption}
+use Rattle.std.specs.Borrow.{Bor}
+use Rattle.tok_lexical.specs.Characters.{is_space, is_whitespace, begins_visibly}
+use Rattle.tok_lexical.specs.Comments.{is_not_line_feed, IsLineComment}
+use Rattle.tok_lexical.specs.Words.{IsIdentifier, is_identifier_start}
+use Rattle.unicode_ident.specs.Ident.{is_xid_continue}
+
+pub chars_next : (text start mid rest : List ℕ) (c : ℕ) → IsUtf8 text → start ≡ text → start ≡ encode_utf8 c ++ mid → rest ≡ mid → chars text ≡ c ∷ chars rest
+chars_next text start mid rest c u e g h = rw h (chars_past_char text mid c u (sym e ∙ g))
+
+pub shorter_next : (text start mid rest : List ℕ) (c : ℕ) → start ≡ text → start ≡ encode_utf8 c ++ mid → rest ≡ mid → length rest < length text
+shorter_next text start mid rest c e g h =
+    let l : length text ≡ length (encode_utf8 c) + length mid = ap length (sym e ∙ g) ∙ length-append (encode_utf8 c) mid in
+    let b = length-encode c in
+    let p = (len_utf8_bounds c).0 in
+    let q : length rest ≡ length mid = ap length h in
+    omega arith
+
+-- a list that goes on past one element
+pub one_and_more : (c d : ℕ) (more : List ℕ) → (c ∷ []) ++ more ≡ d ∷ [] → more ≡ []
+one_and_more c d [] e = refl
+one_and_more c d (m ∷ more) e = cc
+
+pub takes_one : (p : ℕ → Bool) (text rest : List ℕ) (c : ℕ) → text ≡ c ∷ rest → p c ≡ true → IsLongestPrefix (IsOne p) text (c ∷ []) rest
+takes_one p text rest c e h = record {
+  cut = e;
+  spelled = (c, h, refl);
+  longest = λ more after q s. one_and_more c s.0 more s.2;
+}
+
+pub list_all-push : (p : ℕ → Bool) (xs : List ℕ) (c : ℕ) → list_all p xs ≡ true → p c ≡ true → list_all p (xs ++ c ∷ []) ≡ true
+list_all-push p [] c a h = rw h refl
+list_all-push p (x ∷ xs) c a h =
+    elim (p x) as (λ b. b && list_all p xs ≡ true → b && list_all p (xs ++ c ∷ []) ≡ true) [
+      | true ↦ λ k. list_all-push p xs c k h
+      | false ↦ λ k. absurd (false≢true k)
+    ] a
+
+-- one more character that passes
+pub skips_more : (p : ℕ → Bool) (text mid rest front : List ℕ) (c : ℕ) → text ≡ front ++ mid → list_all p front ≡ true → mid ≡ c ∷ rest → p c ≡ true → (longer : List ℕ) × (text ≡ longer ++ rest) × (list_all p longer ≡ true)
+skips_more p text mid rest front c e a g h =
+    (front ++ c ∷ [], e ∙ ap (λ w. front ++ w) g ∙ sym (append_assoc front (c ∷ []) rest), list_all-push p front c a h)
+
+-- a run of spaces after one of white space
+spaces_pass : (cs : List ℕ) → list_all is_space cs ≡ true → list_all is_whitespace cs ≡ true
+spaces_pass [] h = refl
+spaces_pass (c ∷ cs) h = go (c == 32) refl h (spaces_pass cs)
+  where
+    go : (b : Bool) → (c == 32) ≡ b → b && list_all is_space cs ≡ true → (list_all is_space cs ≡ true → list_all is_whitespace cs ≡ true) → list_all is_whitespace (c ∷ cs) ≡ true
+    go true e k more = ap (λ d. is_whitespace d && list_all is_whitespace cs) (eqb-true c 32 e) ∙ more k
+    go false e k more = absurd (false≢true k)
+
+pub skips_spaces : (text mid rest front : List ℕ) → text ≡ front ++ mid → list_all is_whitespace front ≡ true → (run : List ℕ) × Skips is_space mid run rest → (longer : List ℕ) × (text ≡ longer ++ rest) × (list_all is_whitespace longer ≡ true)
+skips_spaces text mid rest front e a (run, s) = (
+  front ++ run,
+  e ∙ ap (λ w. front ++ w) s.cut ∙ sym (append_assoc front run rest),
+  list_all-append is_whitespace front run ∙ ap (λ b. b && list_all is_whitespace run) a ∙ spaces_pass run s.pass,
+)
+
+-- a space and white space after it
+pub skips_space : (text mid rest : List ℕ) → text ≡ 32 ∷ mid → (front : List ℕ) × Skips is_whitespace mid front rest → (longer : List ℕ) × Skips is_whitespace text longer rest
+skips_space text mid rest e (front, s) = (32 ∷ front, record { cut = e ∙ ap (λ w. 32 ∷ w) s.cut; pass = s.pass; stops = s.stops })
+
+-- no white space at the front
+pub skips_nothing : (text : List ℕ) → begins_visibly text ≡ true → (front : List ℕ) × Skips is_whitespace text front text
+skips_nothing text visible = ([], record { cut = refl; pass = refl; stops = visible_stops text visible })
+  where
+    visible_stops : (cs : List ℕ) → begins_visibly cs ≡ true → Stops is_whitespace cs
+    visible_stops [] h = tt
+    visible_stops (c ∷ cs) h = search (rules, tests)
+
+all_after : (p : ℕ → Bool) (xs ys : List ℕ) → list_all p (xs ++ ys) ≡ true → list_all p ys ≡ true
+all_after p [] ys h = h
+all_after p (x ∷ xs) ys h =
+    elim (p x) as (λ b. b && list_all p (xs ++ ys) ≡ true → list_all p ys ≡ true) [
+      | true ↦ λ k. all_after p xs ys k
+      | false ↦ λ k. absurd (false≢true k)
+    ] h
+
+-- what stops doesn't go on
+pub no_more : (p : ℕ → Bool) (rest more after front : List ℕ) → Stops p rest → rest ≡ more ++ after → list_all p (front ++ more) ≡ true → more ≡ []
+no_more p rest [] after front s e a = refl
+no_more p [] (m ∷ more) after front s e a = cc
+no_more p (c ∷ rest) (m ∷ more) after front s e a =
+    let same : c ≡ m = cc in
+    let all = all_after p front (m ∷ more) a in
+    absurd (elim (p m) as (λ b. p m ≡ b → b && list_all p more ≡ true → ⊥) [
+      | true ↦ λ k q. false≢true (sym s ∙ ap p same ∙ k)
+      | false ↦ λ k q. false≢true q
+    ] refl all)
+
+pub takes_identifier : (text mid rest : List ℕ) (c : ℕ) → text ≡ c ∷ mid → is_identifier_start c ≡ true → (front : List ℕ) × Skips is_xid_continue mid front rest → (piece : List ℕ) × IsLongestPrefix IsIdentifier text piece rest
+takes_identifier text mid rest c e h (front, s) = (
+  c ∷ front,
+  record {
+    cut = e ∙ ap (λ w. c ∷ w) s.cut;
+    spelled = (h, s.pass);
+    longest = λ more after q w. no_more is_xid_continue rest more after front s.stops q w.1;
+  },
+)
+
+-- two characters, and then all that pass
+pub takes_line : (text mid rest : List ℕ) → text ≡ 47 ∷ 47 ∷ mid → (front : List ℕ) × Skips is_not_line_feed mid front rest → (piece : List ℕ) × IsLongestPrefix IsLineComment text piece rest
+takes_line text mid rest e (front, s) = (
+  47 ∷ 47 ∷ front,
+  record {
+    cut = e ∙ ap (λ w. 47 ∷ 47 ∷ w) s.cut;
+    spelled = (front, refl, s.pass);
+    longest = λ more after q (body, g, a).
+        let same : body ≡ front ++ more = cc in
+        no_more is_not_line_feed rest more after front s.stops q (ap (list_all is_not_line_feed) (sym same) ∙ a);
+  },
+)
+
+nothing_after : (a b : ℕ) (more : List ℕ) → (a ∷ b ∷ []) ++ more ≡ a ∷ b ∷ [] → more ≡ []
+nothing_after a b more e = append_cancel_left (a ∷ b ∷ []) more [] e
+
+-- a spelling of just two characters
+pub tries_pair : (a b : ℕ) (text : List ℕ) (answer : Option (Bor (List ℕ))) → MatchOption answer ((more : List ℕ) → text ≡ a ∷ b ∷ more → ⊥) (λ rest. text ≡ a ∷ b ∷ chars rest.now) → ReadsLongest (λ p. p ≡ a ∷ b ∷ []) text answer
+tries_pair a b text None misses = λ (piece, after, cut, one). misses after (cut ∙ ap (λ w. w ++ after) one)
+tries_pair a b text (Some rest) e = (a ∷ b ∷ [], record { cut = e; spelled = refl; longest = λ more after q s. nothing_after a b more s })
+
+-- a character, and after it what another function tries
+pub tries_after : (k : ℕ) (S : List ℕ → Type 0) (text rest : List ℕ) (answer : Option (Bor (List ℕ))) → text ≡ k ∷ rest → ReadsLongest S rest answer → ReadsLongest (After k S) text answer
+tries_after k S text rest None e misses = λ (piece, after, cut, (more, f, s)).
+    let both : k ∷ rest ≡ k ∷ (more ++ after) = sym e ∙ cut ∙ ap (λ w. w ++ after) f in
+    let inner : rest ≡ more ++ after = cc in
+    misses (more, after, inner, s)
+tries_after k S text rest (Some after) e (piece, t) = (
+  k ∷ piece,
+  record {
+    cut = e ∙ ap (λ w. k ∷ w) t.cut;
+    spelled = (piece, refl, t.spelled);
+    longest = λ more after f (q, g, s). let same : q ≡ piece ++ more = cc in t.longest more after f (subst S same s);
+  },
+)
+
+pub finds_after : (k : ℕ) (S : List ℕ → Type 0) (text rest : List ℕ) (answer : Option (Bor (List ℕ))) → text ≡ k ∷ rest → ReadsPrefix S rest answer → ReadsPrefix (After k S) text answer
+finds_after k S text rest None e misses = λ (piece, after, cut, (more, f, s)).
+    let both : k ∷ rest ≡ k ∷ (more ++ after) = sym e ∙ cut ∙ ap (λ w. w ++ after) f in
+    let inner : rest ≡ more ++ after = cc in
+    misses (more, after, inner, s)
+finds_after k S text rest (Some after) e (piece, cut, s) = (k ∷ piece, e ∙ ap (λ w. k ∷ w) cut, (piece, refl, s))
+
+-- of a spelling of which none begins another, what is found is taken
+abbrev pub IsFree : (List ℕ → Type 0) → Type 0
+IsFree S = (a b : List ℕ) → S a → S b → (x y : List ℕ) → a ++ x ≡ b ++ y → (a ≡ b) × (x ≡ y)
+
+pub tries_found : (S : List ℕ → Type 0) (text : List ℕ) (answer : Option (Bor (List ℕ))) → IsFree S → ReadsPrefix S text answer → ReadsLongest S text answer
+tries_found S text None free misses = misses
+tries_found S text (Some rest) free (piece, cut, s) = (
+  piece,
+  record {
+    cut = cut;
+    spelled = s;
+    longest = λ more after f longer. append_cancel_left piece more [] (sym (free piece (piece ++ more) s longer more [] (sym (append-nil (piece ++ more)))).0 ∙ sym (append-nil piece));
+  },
+)
+
+pub tries_two : (a b mark : ℕ) (text : List ℕ) (answer : Option (Bor (List ℕ))) → mark ≡ b → MatchOption answer ((more : List ℕ) → text ≡ a ∷ mark ∷ more → ⊥) (λ rest. text ≡ a ∷ mark ∷ chars rest.now) → ReadsLongest (λ p. p ≡ a ∷ b ∷ []) text answer
+tries_two a b mark text answer e h = tries_pair a b text answer (subst (λ w. MatchOption answer ((more : List ℕ) → text ≡ a ∷ w ∷ more → ⊥) (λ rest. text ≡ a ∷ w ∷ chars rest.now)) e h)
+
+-- two fronts of one text: one goes on from the other
+pub fronts : (p q r s : List ℕ) → p ++ r ≡ q ++ s → ((m : List ℕ) × (q ≡ p ++ m) × (r ≡ m ++ s)) ⊎ ((m : List ℕ) × (p ≡ q ++ m) × (s ≡ m ++ r))
+fronts [] q r s e = inl (q, refl, e)
+fronts (x ∷ p) [] r s e = inr (x ∷ p, refl, sym e)
+fronts (x ∷ p) (y ∷ q) r s e =
+    let head : x ≡ y = cc in
+    let tail : p ++ r ≡ q ++ s = cc in
+    elim (fronts p q r s tail) [
+      | inl (m, a, b) ↦ inl (m, cc, b)
+      | inr (m, a, b) ↦ inr (m, cc, b)
+    ]
+
+longer_none : (S : List ℕ → Type 0) (text p r q s m : List ℕ) → IsLongestPrefix S text p r → IsLongestPrefix S text q s → q ≡ p ++ m → r ≡ m ++ s → (p ≡ q) × (r ≡ s)
+longer_none S text p r q s m t u a b =
+    let nothing : m ≡ [] = t.longest m s b (subst S a u.spelled) in
+    (sym (a ∙ ap (λ w. p ++ w) nothing ∙ append-nil p), b ∙ ap (λ w. w ++ s) nothing)
+
+pub takes_unique : (S : List ℕ → Type 0) (text p r q s : List ℕ) → IsLongestPrefix S text p r → IsLongestPrefix S text q s → (p ≡ q) × (r ≡ s)
+takes_unique S text p r q s t u =
+    elim (fronts p q r s (sym t.cut ∙ u.cut)) [
+      | inl (m, a, b) ↦ longer_none S text p r q s m t u a b
+      | inr (m, a, b) ↦ let w = longer_none S text q s p r m u t a b in (sym w.0, sym w.1)
+    ]

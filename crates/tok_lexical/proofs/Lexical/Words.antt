@@ -1,0 +1,93 @@
+-- Identifiers, plain and raw.
+use Rattle.std.proofs.Common.{◌≡◌, ◌∙◌, ℕ, ◌<◌, inl, inr, List, [], ◌∷◌, ◌++◌, refl, sym, ap, subst, arith, append_assoc, true, false, Bool, zero, suc}
+use Rattle.std.specs.Prelude.{◌==◌, ◌||◌, Option, Some, None, length, MatchBool, codes, nat_lt, slice_index, encode_utf8_all}
+use Rattle.std.specs.List.{list_all}
+use Rattle.std.specs.Str.{chars, IsUtf8, bytes_eq}
+use Rattle.std.specs.Borrow.{Bor}
+use Rattle.std.proofs.lemmas.List.{append-nil}
+use Rattle.std.proofs.lemmas.Bool.{false≢true, ne_eqb, ltb-true}
+use Rattle.unicode_ident.specs.Ident.{is_xid_continue}
+use Rattle.unicode_ident.proofs.IdentLemmas.{is_xid_continue-ascii}
+use Rattle.tok_lexical.specs.Pieces.{IsLongestPrefix, HasPrefix, ReadsLongest}
+use Rattle.tok_lexical.specs.Words.{IsIdentifier, IsRawIdentifier, IsName, has_no_raw}
+use Rattle.tok_lexical.proofs.Lexical.Numbers.{head_passes, tail_passes, not_true}
+use Rattle.std.proofs.lemmas.Str.{encodes-chars, encodes-IsAscii, chars-IsAscii, chars-nil}
+use Rattle.std.proofs.lemmas.Str.Ascii.{IsAscii-nil}
+use Rattle.std.proofs.lemmas.Slice.Eq.{bytes_eq-Decides}
+
+-- identifiers, plain or raw
+word_head : (name : List ℕ) → IsRawIdentifier name → (more : List ℕ) × (name ≡ 114 ∷ 35 ∷ more)
+word_head name (more, e, (last, f, w)) = (last, e ∙ ap (λ v. 114 ∷ v) f)
+
+pub name_plain : (text : List ℕ) (answer : Option (Bor (List ℕ))) → (HasPrefix IsRawIdentifier text → ⊥) → ReadsLongest IsIdentifier text answer → ReadsLongest IsName text answer
+name_plain text None raw misses = λ (piece, after, cut, h). elim h [ inl w ↦ misses (piece, after, cut, w) | inr r ↦ raw (piece, after, cut, r) ]
+name_plain text (Some rest) raw (piece, t) = (
+  piece,
+  record {
+    cut = t.cut;
+    spelled = inl t.spelled;
+    longest = λ more after e h. elim h [
+      | inl w ↦ t.longest more after e w
+      | inr r ↦ absurd (raw (piece ++ more, after, t.cut ∙ ap (λ w. piece ++ w) e ∙ sym (append_assoc piece more after), r))
+    ];
+  },
+)
+
+-- a word has no number sign
+raw_no_word : (name more : List ℕ) → IsRawIdentifier name → IsIdentifier (name ++ more) → ⊥
+raw_no_word name more r w =
+    let h = word_head name r in
+    let v : IsIdentifier (114 ∷ 35 ∷ (h.0 ++ more)) = subst (λ u. IsIdentifier (u ++ more)) h.1 w in
+    false≢true (sym (is_xid_continue-ascii 35 (omega arith)) ∙ head_passes is_xid_continue 35 (h.0 ++ more) v.1)
+
+pub name_raw : (text rest piece : List ℕ) → IsLongestPrefix IsRawIdentifier text piece rest → IsLongestPrefix IsName text piece rest
+name_raw text rest piece t = record {
+  cut = t.cut;
+  spelled = inr t.spelled;
+  longest = λ more after e h. elim h [
+    | inl w ↦ absurd (raw_no_word piece more t.spelled w)
+    | inr r ↦ t.longest more after e r
+  ];
+}
+
+ascii_at : (t : List ℕ) (i : ℕ) → list_all (λ c. nat_lt c 128) t ≡ true → slice_index t i < 128
+ascii_at [] i h = IsAscii-nil i
+ascii_at (x ∷ t) zero h = ltb-true x 128 (head_passes (λ c. nat_lt c 128) x t h)
+ascii_at (x ∷ t) (suc i) h = ascii_at t i (tail_passes (λ c. nat_lt c 128) x t h)
+
+same_text : (bytes t : List ℕ) → IsUtf8 bytes → list_all (λ c. nat_lt c 128) t ≡ true → bytes_eq bytes t ≡ bytes_eq (chars bytes) t
+same_text bytes t u h = go (bytes_eq bytes t) refl
+  where
+    go : (b : Bool) → bytes_eq bytes t ≡ b → bytes_eq bytes t ≡ bytes_eq (chars bytes) t
+    go true e =
+        let same : bytes ≡ t = (bytes_eq-Decides bytes t).0 e in
+        e ∙ sym ((bytes_eq-Decides (chars bytes) t).1 (ap chars same ∙ chars-IsAscii t (λ i. ascii_at t i h)))
+    go false e = e ∙ sym (not_true (bytes_eq (chars bytes) t) (λ f.
+        let same : chars bytes ≡ t = (bytes_eq-Decides (chars bytes) t).0 f in
+        let back : bytes ≡ t = sym (encodes-chars bytes u) ∙ ap encode_utf8_all same ∙ encodes-IsAscii t (λ i. ascii_at t i h) in
+        false≢true (sym e ∙ (bytes_eq-Decides bytes t).1 back)))
+
+either : (a b c d : Bool) → a ≡ b → c ≡ d → (a || c) ≡ (b || d)
+either a b c d e f = ap (λ w. w || c) e ∙ ap (λ w. b || w) f
+
+-- the same word, by its bytes and by its characters
+pub no_raw_chars : (bytes : List ℕ) → IsUtf8 bytes → has_no_raw bytes ≡ has_no_raw (chars bytes)
+no_raw_chars bytes u =
+    either _ _ _ _ (same_text bytes (codes "_") u refl)
+    (either _ _ _ _ (same_text bytes (codes "self") u refl)
+    (either _ _ _ _ (same_text bytes (codes "Self") u refl)
+    (either _ _ _ _ (same_text bytes (codes "super") u refl) (same_text bytes (codes "crate") u refl))))
+
+-- a text of which all is taken, or some is left
+pub is_whole : (text rest : List ℕ) → rest ≡ [] → (piece : List ℕ) × IsLongestPrefix IsIdentifier text piece rest → IsIdentifier text
+is_whole text rest e (piece, t) = subst IsIdentifier (sym (t.cut ∙ ap (λ w. piece ++ w) e ∙ append-nil piece)) t.spelled
+
+pub is_part : (text rest : List ℕ) → (rest ≡ [] → ⊥) → (piece : List ℕ) × IsLongestPrefix IsIdentifier text piece rest → IsIdentifier text → ⊥
+is_part text rest some (piece, t) whole = some (t.longest rest [] (sym (append-nil rest)) (subst IsIdentifier t.cut whole))
+
+-- the same of the answer
+pub whole_identifier : (text rest : List ℕ) (b : Bool) → b ≡ (length rest == 0) → IsUtf8 rest → (piece : List ℕ) × IsLongestPrefix IsIdentifier text piece (chars rest) → MatchBool b (IsIdentifier text) (IsIdentifier text → ⊥)
+whole_identifier text [] true e u t = is_whole text (chars []) chars-nil t
+whole_identifier text [] false e u t = absurd (false≢true e)
+whole_identifier text (x ∷ rest) true e u t = absurd (false≢true (sym (ne_eqb (length (x ∷ rest)) 0 (λ z. absurd (omega arith))) ∙ sym e))
+whole_identifier text (x ∷ rest) false e u t = is_part text (chars (x ∷ rest)) (λ none. let bytes : x ∷ rest ≡ [] = sym (encodes-chars (x ∷ rest) u) ∙ ap encode_utf8_all none in cc) t

@@ -1,0 +1,7 @@
+use Rattle.tok_lexical.specs.Strings.{IsByte}
+use Rattle.tok_lexical.proofs.Lexical.Escapes.{free_byte}
+use Rattle.tok_lexical.proofs.Lexical.Units.{tries_quoted}
+use Rattle.tok_lexical.proofs.char_literals.past_quoted_byte.Goals as goal
+
+pub returns-clause-tries : goal.returns-clause-tries
+returns-clause-tries c = tries_quoted IsByte _ _ _ _ _ free_byte c.in-Some.ensures.chars c.in-Some-past_byte.ensures.finds.1 c.in-Some-past_byte.ensures.finds.2 c.past_end.ensures.tries

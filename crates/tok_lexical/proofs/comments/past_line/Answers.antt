@@ -1,0 +1,5 @@
+use Rattle.tok_lexical.proofs.Lexical.Comments.{skips_line}
+use Rattle.tok_lexical.proofs.comments.past_line.Goals as goal
+
+pub returns : goal.returns
+returns c = skips_line _ _ c.past_others.ensures.skips

@@ -1,0 +1,15 @@
+use Rattle.std.proofs.Common.{[]}
+use Rattle.tok_lexical.proofs.Lexical.Units.{reaches_first, reaches_units, takes_string, open_string}
+use Rattle.tok_lexical.proofs.strings.past_string.Goals as goal
+
+pub loop-after-init : goal.loop-after-init
+loop-after-init c = (c.in_ok-start.ensures.utf8, (_, [], c.in_ok-start.ensures.chars, reaches_first _))
+
+pub loop-after-preserved : goal.loop-after-preserved
+loop-after-preserved c = let i = c.loop-after.invariant.1 in (c.in-Some.ensures.utf8, (i.0, _, i.2, reaches_units i.0 _ _ i.1 _ i.3 c.in-Some.ensures.finds.2 c.in-Some.ensures.finds.1))
+
+pub returns-in-Some-past_char-clause-tries : goal.returns-in-Some-past_char-clause-tries
+returns-in-Some-past_char-clause-tries c = let i = c.loop-after.invariant.1 in (_, takes_string _ i.0 _ _ _ i.1 _ i.2 i.3 c.in_default.ensures.finds c.in-Some-past_char.ensures.chars c.past_suffix.ensures.1)
+
+pub returns-in-None-clause-tries : goal.returns-in-None-clause-tries
+returns-in-None-clause-tries c = let i = c.loop-after.invariant.1 in open_string _ i.0 _ i.1 i.2 i.3 c.in_default.ensures.finds c.in-None.ensures.chars

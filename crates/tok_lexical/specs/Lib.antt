@@ -1,0 +1,13 @@
+pub mod Characters
+pub mod Comments
+pub mod Delimiters
+pub mod Fits
+pub mod Following
+pub mod Numbers
+pub mod Pieces
+pub mod Refusals
+pub mod Rules
+pub mod Starts
+pub mod Strings
+pub mod Widths
+pub mod Words

@@ -1,0 +1,77 @@
+-- The spellings of integers (Rust Reference: Tokens, Integer literals).
+use Rattle.std.specs.Prelude.{◌≡◌, ℕ, List, [], ◌∷◌, ◌++◌, Bool, true, false, ◌==◌, ◌||◌, ◌&&◌, not}
+use Rattle.std.specs.List.{list_all, list_any}
+use Rattle.std.specs.Char.{is_digit}
+use Rattle.tok_lexical.specs.Pieces.{After, IsAll}
+use Rattle.tok_lexical.specs.Words.{IsIdentifier, is_identifier_start}
+use Rattle.tok_lexical.specs.declared.numbers.Base.{Base}
+use Rattle.tok_lexical.specs.declared.numbers.Base.TheVariants.{Hexadecimal, Octal, Binary}
+
+abbrev pub base_mark : Base → ℕ
+base_mark Hexadecimal = 120
+base_mark Octal = 111
+base_mark Binary = 98
+
+abbrev pub radix : Base → ℕ
+radix Hexadecimal = 16
+radix Octal = 8
+radix Binary = 2
+
+-- a digit below the radix, or an underscore
+abbrev pub is_digit_or_underscore : ℕ → ℕ → Bool
+is_digit_or_underscore n c = is_digit c n || (c == 95)
+
+abbrev pub is_exponent : List ℕ → Bool
+is_exponent [] = false
+is_exponent (c ∷ rest) = (c == 101) || (c == 69)
+
+abbrev pub starts_digit : List ℕ → Bool
+starts_digit [] = false
+starts_digit (c ∷ rest) = is_digit c 10
+
+-- a dot follows, and after it neither a dot, an underscore nor an XID_Start character
+abbrev pub is_fraction : List ℕ → Bool
+is_fraction [] = false
+is_fraction (c ∷ []) = c == 46
+is_fraction (c ∷ d ∷ rest) = (c == 46) && not ((d == 46) || is_identifier_start d)
+
+-- what may be a suffix: it goes on neither with digits nor with an exponent
+abbrev pub starts_number_suffix : ℕ → ℕ → Bool
+starts_number_suffix n c = not (is_digit_or_underscore n c || ((c == 101) || (c == 69)))
+
+abbrev pub IsNumberSuffix : ℕ → List ℕ → Type 0
+IsNumberSuffix n [] = Unit {0}
+IsNumberSuffix n (c ∷ rest) = (starts_number_suffix n c ≡ true) × IsIdentifier (c ∷ rest)
+
+-- digits and underscores of which this holds, as many as there are, and a suffix
+abbrev pub IsNumber : ℕ → (List ℕ → Bool) → List ℕ → Type 0
+IsNumber n good piece =
+    (digits : List ℕ) × (suffix : List ℕ) × (piece ≡ digits ++ suffix)
+    × IsAll (is_digit_or_underscore n) digits × (good digits ≡ true) × IsNumberSuffix n suffix
+
+abbrev pub has_digit : ℕ → List ℕ → Bool
+has_digit n digits = list_any (λ c. is_digit c n) digits
+
+abbrev pub IsBased : Base → List ℕ → Type 0
+IsBased base = After 48 (After (base_mark base) (IsNumber (radix base) (has_digit (radix base))))
+
+abbrev pub IsDecimal : List ℕ → Type 0
+IsDecimal = IsNumber 10 starts_digit
+
+-- digits with no suffix
+abbrev pub is_bare : ℕ → List ℕ → Bool
+is_bare n digits = list_all (is_digit_or_underscore n) digits
+
+-- what follows the zero and the letter
+abbrev pub digits_of : List ℕ → List ℕ
+digits_of [] = []
+digits_of (c ∷ []) = []
+digits_of (c ∷ d ∷ digits) = digits
+
+abbrev pub is_malformed : Base → List ℕ → List ℕ → Bool
+is_malformed base piece after =
+    is_bare (radix base) (digits_of piece)
+    && (is_exponent after || (starts_digit after || is_fraction after))
+
+abbrev pub is_float : List ℕ → List ℕ → Bool
+is_float piece after = is_bare 10 piece && (is_exponent after || is_fraction after)

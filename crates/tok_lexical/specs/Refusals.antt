@@ -1,0 +1,71 @@
+-- Which pieces are refused, and why: the reasons, their numbers and words.
+use Rattle.std.specs.Prelude.{ℕ, List, codes, ◌==◌, Bool, not, if◌then◌else◌, Option, Some, None}
+use Rattle.tok_lexical.specs.Comments.{is_line_doc, is_block_doc}
+use Rattle.tok_lexical.specs.Numbers.{is_malformed, is_float}
+use Rattle.tok_lexical.specs.Pieces.{after_first}
+use Rattle.tok_lexical.specs.Words.{is_missing}
+use Rattle.tok_lexical.specs.declared.reason.Reason.{Reason}
+use Rattle.tok_lexical.specs.declared.reason.Reason.TheVariants.{UnknownCharacter, UnclosedGroup}
+use Rattle.tok_lexical.specs.declared.reason.Reason.TheVariants.{UnexpectedClosing, UnclosedComment}
+use Rattle.tok_lexical.specs.declared.reason.Reason.TheVariants.{DocComment, MalformedQuoted}
+use Rattle.tok_lexical.specs.declared.reason.Reason.TheVariants.{PrefixedString, FloatLiteral}
+use Rattle.tok_lexical.specs.declared.reason.Reason.TheVariants.{MalformedNumber}
+use Rattle.tok_lexical.specs.declared.reason.Reason.TheVariants.{MissingRawIdentifier}
+use Rattle.tok_lexical.specs.declared.reason.Reason.TheVariants.{LoneApostrophe, DeepGroup}
+use Rattle.tok_lexical.specs.declared.rule.Rule.{Rule}
+use Rattle.tok_lexical.specs.declared.rule.Rule.TheVariants.{ByteOrderMark, LineComment}
+use Rattle.tok_lexical.specs.declared.rule.Rule.TheVariants.{BlockComment, OpenComment, BadString}
+use Rattle.tok_lexical.specs.declared.rule.Rule.TheVariants.{BadByteChar, BadEscapedChar}
+use Rattle.tok_lexical.specs.declared.rule.Rule.TheVariants.{StringPrefix, Lifetime, Apostrophe}
+use Rattle.tok_lexical.specs.declared.rule.Rule.TheVariants.{Based, BadBased, Decimal}
+use Rattle.tok_lexical.specs.declared.rule.Rule.TheVariants.{RawIdentifier, Other}
+
+abbrev pub refusal_number : Reason → ℕ
+refusal_number UnknownCharacter = 1
+refusal_number UnclosedGroup = 2
+refusal_number UnexpectedClosing = 3
+refusal_number UnclosedComment = 4
+refusal_number DocComment = 5
+refusal_number MalformedQuoted = 6
+refusal_number PrefixedString = 7
+refusal_number FloatLiteral = 8
+refusal_number MalformedNumber = 9
+refusal_number MissingRawIdentifier = 10
+refusal_number LoneApostrophe = 11
+refusal_number DeepGroup = 12
+
+abbrev pub refusal_words : Reason → List ℕ
+refusal_words UnknownCharacter = codes "unknown character"
+refusal_words UnclosedGroup = codes "unclosed group"
+refusal_words UnexpectedClosing = codes "unexpected closing delimiter"
+refusal_words UnclosedComment = codes "unclosed comment"
+refusal_words DocComment = codes "doc comment"
+refusal_words MalformedQuoted = codes "malformed string or character"
+refusal_words PrefixedString = codes "raw, byte or C string"
+refusal_words FloatLiteral = codes "float literal"
+refusal_words MalformedNumber = codes "malformed number"
+refusal_words MissingRawIdentifier = codes "raw identifier that does not exist"
+refusal_words LoneApostrophe = codes "lone apostrophe"
+refusal_words DeepGroup = codes "groups nested too deep"
+
+abbrev refused_if : Bool → Reason → Option Reason
+refused_if b refusal = if b then Some refusal else None
+
+-- why the piece is refused, if it is; the byte matters to the byte order mark alone
+abbrev pub refusal : Rule → ℕ → List ℕ → List ℕ → Option Reason
+refusal ByteOrderMark at piece after = refused_if (not (at == 0)) UnknownCharacter
+refusal LineComment at piece after = refused_if (is_line_doc piece) DocComment
+refusal BlockComment at piece after = refused_if (is_block_doc piece) DocComment
+refusal OpenComment at piece after = Some UnclosedComment
+refusal BadString at piece after = Some MalformedQuoted
+refusal BadByteChar at piece after = Some MalformedQuoted
+refusal BadEscapedChar at piece after = Some MalformedQuoted
+refusal StringPrefix at piece after = Some PrefixedString
+refusal Lifetime at piece after = refused_if (is_missing (after_first piece)) MissingRawIdentifier
+refusal Apostrophe at piece after = Some LoneApostrophe
+refusal (Based base) at piece after = refused_if (is_malformed base piece after) MalformedNumber
+refusal (BadBased base) at piece after = Some MalformedNumber
+refusal Decimal at piece after = refused_if (is_float piece after) FloatLiteral
+refusal RawIdentifier at piece after = refused_if (is_missing piece) MissingRawIdentifier
+refusal Other at piece after = Some UnknownCharacter
+refusal rule at piece after = None

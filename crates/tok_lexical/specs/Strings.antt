@@ -1,0 +1,108 @@
+-- The spellings of strings and characters (Rust Reference: Tokens, Character and string literals,
+-- Escapes, Byte literals).
+use Rattle.std.specs.Prelude.{◌≡◌, ◌≢◌, ℕ, ◌+◌, ◌*◌, ◌≤◌, ◌⊎◌, List, [], ◌∷◌, ◌++◌, Bool, true}
+use Rattle.std.specs.Prelude.{false, ◌==◌, ◌||◌, ◌&&◌, not, nat_lt, if◌then◌else◌, fold, count_by}
+use Rattle.std.specs.Char.{is_digit, digit_value, IsScalar}
+use Rattle.std.specs.Prelude.{Option, MatchOption}
+use Rattle.std.specs.Borrow.{Bor}
+use Rattle.std.specs.Str.{chars}
+use Rattle.tok_lexical.specs.Pieces.{HasPrefix, IsOne, After, IsAll}
+use Rattle.tok_lexical.specs.Words.{IsSuffix}
+
+-- one of n r t \ 0 ' "
+abbrev pub is_simple_escape : ℕ → Bool
+is_simple_escape c =
+    (c == 110) || (c == 114) || (c == 116) || (c == 92) || (c == 48) || (c == 39) || (c == 34)
+
+abbrev pub is_hex : ℕ → Bool
+is_hex c = is_digit c 16
+
+abbrev pub is_hex_or_underscore : ℕ → Bool
+is_hex_or_underscore c = is_hex c || (c == 95)
+
+-- the number that the digits write, underscores aside
+abbrev pub hex_value : List ℕ → ℕ
+hex_value digits = fold (λ n c. if is_hex c then n * 16 + digit_value c else n) 0 digits
+
+-- two hexadecimal digits, the first of them below this
+abbrev pub IsHex : ℕ → List ℕ → Type 0
+IsHex top piece =
+    (high : ℕ) × (low : ℕ) × (piece ≡ high ∷ low ∷ []) × (is_digit high top ≡ true)
+    × (is_hex low ≡ true)
+
+-- the digits in the braces of `\u{}`: at most six, and they name a character
+pub record NamesChar (digits : List ℕ) : Type 0 where
+  pub few : count_by is_hex digits ≤ 6
+  pub scalar : IsScalar (hex_value digits)
+
+-- what follows `\u`
+abbrev pub IsCode : List ℕ → Type 0
+IsCode piece =
+    (first : ℕ) × (digits : List ℕ) × (piece ≡ 123 ∷ first ∷ (digits ++ 125 ∷ []))
+    × (is_hex first ≡ true) × IsAll is_hex_or_underscore digits × NamesChar (first ∷ digits)
+
+abbrev pub IsLineEnd : List ℕ → Type 0
+IsLineEnd piece = (piece ≡ 10 ∷ []) ⊎ (piece ≡ 13 ∷ 10 ∷ [])
+
+-- What follows the backslash of an escape. A line end may stand in strings alone; after `b'` no
+-- `\u` may, but `\x` goes up to FF.
+pub data IsEscape (line_ends wide : Bool) : List ℕ → Type 0 where
+  simple : (c : ℕ) → is_simple_escape c ≡ true → IsEscape line_ends wide (c ∷ [])
+  hex : {text : List ℕ} → IsHex (if wide then 16 else 8) text → IsEscape line_ends wide (120 ∷ text)
+  code : {text : List ℕ} → wide ≡ false → IsCode text → IsEscape line_ends wide (117 ∷ text)
+  line_end : {text : List ℕ} → line_ends ≡ true → IsLineEnd text → IsEscape line_ends wide text
+
+-- one character of a string, or one escape
+pub data IsUnit : List ℕ → Type 0 where
+  plain : (c : ℕ) → c ≢ 34 → c ≢ 92 → IsUnit (c ∷ [])
+  escape : {text : List ℕ} → IsEscape true false text → IsUnit (92 ∷ text)
+
+-- one unit after the other
+pub data AreUnits : List ℕ → Type 0 where
+  no_unit : AreUnits []
+  unit : {first rest : List ℕ} → IsUnit first → AreUnits rest → AreUnits (first ++ rest)
+
+-- a quote, units, a quote and a suffix
+abbrev pub IsString : List ℕ → Type 0
+IsString piece =
+    (body : List ℕ) × (suffix : List ℕ) × (piece ≡ 34 ∷ (body ++ 34 ∷ suffix)) × AreUnits body
+    × IsSuffix suffix
+
+-- none of ' \ tab, line feed, U+000D
+abbrev pub is_char : ℕ → Bool
+is_char c = not ((c == 39) || (c == 92) || (c == 9) || (c == 10) || (c == 13))
+
+abbrev pub is_byte : ℕ → Bool
+is_byte c = is_char c && nat_lt c 128
+
+abbrev pub IsEscapedChar : List ℕ → Type 0
+IsEscapedChar = After 92 (IsEscape false false)
+
+abbrev pub IsByte : List ℕ → Type 0
+IsByte inner = IsOne is_byte inner ⊎ After 92 (IsEscape false true) inner
+
+-- an apostrophe, what is within, an apostrophe and a suffix
+abbrev pub IsQuoted : (List ℕ → Type 0) → List ℕ → Type 0
+IsQuoted Inner piece =
+    (inner : List ℕ) × (suffix : List ℕ) × (piece ≡ 39 ∷ (inner ++ 39 ∷ suffix)) × Inner inner
+    × IsSuffix suffix
+
+-- any number of # and a quote
+abbrev pub IsHashes : List ℕ → Type 0
+IsHashes piece = (hashes : List ℕ) × (piece ≡ hashes ++ 34 ∷ []) × IsAll (λ c. c == 35) hashes
+
+-- the start of a byte or C string, or of a raw one, after `b` or `c`
+abbrev pub IsPrefixed : List ℕ → Type 0
+IsPrefixed piece = (piece ≡ 34 ∷ []) ⊎ After 114 IsHashes piece
+
+-- `r`, `br` or `cr`, any number of # and a quote; or `b` or `c` and a quote
+abbrev pub IsStringPrefix : List ℕ → Type 0
+IsStringPrefix piece =
+    After 114 IsHashes piece ⊎ (After 98 IsPrefixed piece ⊎ After 99 IsPrefixed piece)
+
+-- what a function that looks for units of a string answers: what follows some of them, or None
+-- where there are none
+abbrev pub FindsUnits : List ℕ → Option (Bor (List ℕ)) → Type 0
+FindsUnits text answer =
+    MatchOption answer (HasPrefix IsUnit text → ⊥)
+    (λ rest. (units : List ℕ) × (text ≡ units ++ chars rest.now) × AreUnits units)

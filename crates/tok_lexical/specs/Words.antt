@@ -1,0 +1,44 @@
+-- The spellings of identifiers (Rust Reference: Identifiers; Tokens, Suffixes and Lifetimes).
+use Rattle.std.specs.Prelude.{◌≡◌, ℕ, List, [], ◌∷◌, ◌⊎◌, Bool, true, false, ◌||◌, ◌&&◌, ◌==◌}
+use Rattle.std.specs.Prelude.{codes}
+use Rattle.std.specs.List.{list_all}
+use Rattle.std.specs.Str.{bytes_eq}
+use Rattle.unicode_ident.specs.Ident.{is_xid_start, is_xid_continue}
+use Rattle.tok_lexical.specs.Pieces.{After}
+
+abbrev pub is_identifier_start : ℕ → Bool
+is_identifier_start c = is_xid_start c || (c == 95)
+
+-- a plain identifier
+abbrev pub IsIdentifier : List ℕ → Type 0
+IsIdentifier [] = ⊥
+IsIdentifier (c ∷ cs) = (is_identifier_start c ≡ true) × (list_all is_xid_continue cs ≡ true)
+
+-- nothing, or a plain identifier
+abbrev pub IsSuffix : List ℕ → Type 0
+IsSuffix suffix = (suffix ≡ []) ⊎ IsIdentifier suffix
+
+-- `r#` and a plain identifier
+abbrev pub IsRawIdentifier : List ℕ → Type 0
+IsRawIdentifier = After 114 (After 35 IsIdentifier)
+
+abbrev pub IsName : List ℕ → Type 0
+IsName name = IsIdentifier name ⊎ IsRawIdentifier name
+
+-- the words that don't exist as raw identifiers: _ self Self super crate
+abbrev pub has_no_raw : List ℕ → Bool
+has_no_raw word =
+    bytes_eq word (codes "_")
+    || (bytes_eq word (codes "self")
+    || (bytes_eq word (codes "Self")
+    || (bytes_eq word (codes "super") || bytes_eq word (codes "crate"))))
+
+-- a raw identifier that does not exist
+abbrev pub is_missing : List ℕ → Bool
+is_missing [] = false
+is_missing (c ∷ []) = false
+is_missing (c ∷ d ∷ word) = (c == 114) && ((d == 35) && has_no_raw word)
+
+-- a plain identifier that exists as a raw one
+abbrev pub HasRaw : List ℕ → Type 0
+HasRaw word = IsIdentifier word × (has_no_raw word ≡ false)

@@ -1,0 +1,121 @@
+// Characters and byte characters.
+ghost use Rattle.std.specs.Prelude.{◌≡◌, IfSome};
+ghost use Rattle.std.specs.Str.{chars, IsUtf8};
+ghost use Rattle.tok_lexical.specs.Pieces.{IsOne, After, ReadsLongest, ReadsPrefix};
+ghost use Rattle.tok_lexical.specs.Words.{IsSuffix};
+ghost use Rattle.tok_lexical.specs.Strings.{is_char, is_byte, IsEscapedChar, IsByte, IsQuoted};
+
+use crate::escapes::past_escape;
+use crate::text::{next_char, past_char};
+use crate::words::past_suffix;
+
+fn is_char(c: char) -> bool
+    ensures { result ≡ is_char c }
+{
+    !matches!(c, '\'' | '\\' | '\t' | '\n' | '\r')
+}
+
+fn is_byte(c: char) -> bool
+    ensures { result ≡ is_byte c }
+{
+    is_char(c) && c < '\u{80}'
+}
+
+/// Past the apostrophe that ends a character, and its suffix.
+fn past_end(text: &str) -> Option<&str>
+    ensures tries { ReadsLongest (After 39 IsSuffix) (chars text.now) result }
+    ensures utf8 { IfSome result (λ rest. IsUtf8 rest.now) }
+{
+    let Some(rest) = past_char(text, '\'') else {
+        return None;
+    };
+    Some(past_suffix(rest))
+}
+
+/// Past one character that may stand between apostrophes as it is.
+fn past_plain(text: &str) -> Option<&str>
+    ensures finds { ReadsPrefix (IsOne is_char) (chars text.now) result }
+    ensures utf8 { IfSome result (λ rest. IsUtf8 rest.now) }
+{
+    let (first, rest) = next_char(text)?;
+    if is_char(first) { Some(rest) } else { None }
+}
+
+/// Past an escape of a character.
+fn past_escaped(text: &str) -> Option<&str>
+    ensures finds { ReadsPrefix IsEscapedChar (chars text.now) result }
+    ensures utf8 { IfSome result (λ rest. IsUtf8 rest.now) }
+{
+    let Some(rest) = past_char(text, '\\') else {
+        return None;
+    };
+    past_escape(rest, false, false)
+}
+
+/// Past a byte, or an escape of one.
+fn past_byte(text: &str) -> Option<&str>
+    ensures finds { ReadsPrefix IsByte (chars text.now) result }
+    ensures utf8 { IfSome result (λ rest. IsUtf8 rest.now) }
+{
+    let (first, rest) = next_char(text)?;
+    if first == '\\' {
+        past_escape(rest, false, true)
+    } else if is_byte(first) {
+        Some(rest)
+    } else {
+        None
+    }
+}
+
+/// Past a character with no escape, and its suffix.
+pub fn past_plain_char(text: &str) -> Option<&str>
+    ensures tries { ReadsLongest (IsQuoted (IsOne is_char)) (chars text.now) result }
+    ensures utf8 { IfSome result (λ rest. IsUtf8 rest.now) }
+{
+    let Some(start) = past_char(text, '\'') else {
+        return None;
+    };
+    let Some(end) = past_plain(start) else {
+        return None;
+    };
+    past_end(end)
+}
+
+/// Past a character with an escape, and its suffix.
+pub fn past_escaped_char(text: &str) -> Option<&str>
+    ensures tries { ReadsLongest (IsQuoted IsEscapedChar) (chars text.now) result }
+    ensures utf8 { IfSome result (λ rest. IsUtf8 rest.now) }
+{
+    let Some(start) = past_char(text, '\'') else {
+        return None;
+    };
+    let Some(end) = past_escaped(start) else {
+        return None;
+    };
+    past_end(end)
+}
+
+/// Past a byte between apostrophes, and its suffix.
+fn past_quoted_byte(text: &str) -> Option<&str>
+    ensures tries { ReadsLongest (IsQuoted IsByte) (chars text.now) result }
+    ensures utf8 { IfSome result (λ rest. IsUtf8 rest.now) }
+{
+    let Some(start) = past_char(text, '\'') else {
+        return None;
+    };
+    let Some(end) = past_byte(start) else {
+        return None;
+    };
+    past_end(end)
+}
+
+/// Past a byte character and its suffix.
+pub fn past_byte_char(text: &str) -> Option<&str>
+    ensures tries { ReadsLongest (After 98 (IsQuoted IsByte)) (chars text.now) result }
+    ensures utf8 { IfSome result (λ rest. IsUtf8 rest.now) }
+{
+    let Some(start) = past_char(text, 'b') else {
+        return None;
+    };
+    past_quoted_byte(start)
+}

@@ -1,0 +1,121 @@
+// White space, punctuation characters, and the marks of groups.
+ghost use Rattle.std.specs.Prelude.{◌≡◌, ◌≤◌, ℕ, List, length};
+ghost use Rattle.std.specs.Str.{chars};
+ghost use Rattle.tok_lexical.specs.Characters.{is_space, is_whitespace, begins_visibly, is_punct, is_punct_or_apostrophe, opening_mark, closing_mark};
+ghost use Rattle.tok_lexical.specs.Delimiters.{is_invisible};
+ghost use Rattle.tok_lexical.specs.Pieces.{Skips};
+
+use crate::delimiter::Delimiter;
+use crate::text::{next_char, past_char};
+
+pub fn is_whitespace(c: char) -> bool
+    ensures { result ≡ is_whitespace c }
+{
+    matches!(
+        c,
+        ' ' | '\u{9}'..='\u{D}' | '\u{85}' | '\u{200E}' | '\u{200F}' | '\u{2028}' | '\u{2029}'
+    )
+}
+
+/// Whether the text begins with a visible ASCII character.
+#[inline]
+fn begins_visibly(text: &str) -> bool
+    ensures { result ≡ begins_visibly (chars text.now) }
+{
+    match text.as_bytes().first() {
+        Some(byte) => byte.is_ascii_graphic(),
+        None => false,
+    }
+}
+
+/// Past the spaces at the front.
+#[inline]
+fn past_spaces(text: &str) -> &str
+    ensures skips { (front : List ℕ) × Skips is_space (chars text.now) front (chars result.now) }
+    ensures shorter { length result.now ≤ length text.now }
+{
+    let mut rest = text;
+    while let Some(after) = past_char(rest, ' ') {
+        rest = after;
+    }
+    rest
+}
+
+/// Past the white space at the front.
+#[inline]
+pub fn past_whitespace(text: &str) -> &str
+    ensures skips { (front : List ℕ)
+        × Skips is_whitespace (chars text.now) front (chars result.now) }
+    ensures shorter { length result.now ≤ length text.now }
+{
+    // Most of it is one space or nothing.
+    let rest = match past_char(text, ' ') {
+        Some(rest) => rest,
+        None => text,
+    };
+    if begins_visibly(rest) {
+        rest
+    } else {
+        past_any_whitespace(rest)
+    }
+}
+
+/// The same, for white space of any kind and length.
+fn past_any_whitespace(text: &str) -> &str
+    ensures skips { (front : List ℕ)
+        × Skips is_whitespace (chars text.now) front (chars result.now) }
+    ensures shorter { length result.now ≤ length text.now }
+{
+    let mut rest = text;
+    while let Some((c, after)) = next_char(rest) {
+        if !is_whitespace(c) {
+            break;
+        }
+        rest = past_spaces(after);
+    }
+    rest
+}
+
+pub fn is_punct(c: char) -> bool
+    ensures { result ≡ is_punct c }
+{
+    matches!(c, '!' | '#'..='&' | '*'..='/' | ':'..='@' | '^' | '|' | '~')
+}
+
+/// Whether a punct may have this character.
+pub fn is_punct_or_apostrophe(c: char) -> bool
+    ensures { result ≡ is_punct_or_apostrophe c }
+{
+    is_punct(c) || c == '\''
+}
+
+pub fn opening_mark(delimiter: Delimiter) -> char
+    ensures { result ≡ opening_mark delimiter }
+{
+    match delimiter {
+        Delimiter::Parenthesis => '(',
+        Delimiter::Brace => '{',
+        Delimiter::Bracket => '[',
+        Delimiter::None => '\u{AB}',
+    }
+}
+
+pub fn closing_mark(delimiter: Delimiter) -> char
+    ensures { result ≡ closing_mark delimiter }
+{
+    match delimiter {
+        Delimiter::Parenthesis => ')',
+        Delimiter::Brace => '}',
+        Delimiter::Bracket => ']',
+        Delimiter::None => '\u{BB}',
+    }
+}
+
+pub fn is_invisible(delimiter: Delimiter) -> bool
+    ensures { result ≡ is_invisible delimiter }
+{
+    match delimiter {
+        Delimiter::None => true,
+        _ => false,
+    }
+}

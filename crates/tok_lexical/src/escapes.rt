@@ -1,0 +1,139 @@
+// Escapes.
+ghost use Rattle.std.specs.Prelude.{◌≡◌, ◌≤◌, ℕ, List, IfSome, length, ◌<◌, false, if◌then◌else◌, MatchBool};
+ghost use Rattle.std.specs.Str.{chars, IsUtf8};
+ghost use Rattle.tok_lexical.specs.Pieces.{ReadsPrefix, Skips};
+ghost use Rattle.tok_lexical.specs.Strings.{is_simple_escape, is_hex_or_underscore, IsHex, NamesChar, IsCode, IsLineEnd, IsEscape};
+
+use crate::text::{front_of, next_char, past_char, past_pair};
+
+fn is_simple_escape(c: char) -> bool
+    ensures { result ≡ is_simple_escape c }
+{
+    matches!(c, 'n' | 'r' | 't' | '\\' | '0' | '\'' | '"')
+}
+
+/// Past two hexadecimal digits, the first of them below `top`.
+fn past_hex(text: &str, top: u32) -> Option<&str>
+    requires low { 2 ≤ top }
+    requires high { top ≤ 16 }
+    ensures finds { ReadsPrefix (IsHex top) (chars text.now) result }
+    ensures utf8 { IfSome result (λ rest. IsUtf8 rest.now) }
+    ensures shorter { IfSome result (λ rest. length rest.now < length text.now) }
+{
+    let (high, rest) = next_char(text)?;
+    let (low, rest) = next_char(rest)?;
+    if !high.is_digit(top) {
+        return None;
+    }
+    if low.is_digit(16) { Some(rest) } else { None }
+}
+
+fn is_hex_or_underscore(c: char) -> bool
+    ensures { result ≡ is_hex_or_underscore c }
+{
+    c.is_digit(16) || c == '_'
+}
+
+/// Past the hexadecimal digits and underscores at the front.
+fn past_hex_digits(text: &str) -> &str
+    ensures skips { (front : List ℕ)
+        × Skips is_hex_or_underscore (chars text.now) front (chars result.now) }
+    ensures shorter { length result.now ≤ length text.now }
+{
+    let mut rest = text;
+    while let Some((c, after)) = next_char(rest) {
+        if !is_hex_or_underscore(c) {
+            break;
+        }
+        rest = after;
+    }
+    rest
+}
+
+/// Whether at most six digits, underscores aside, name a character.
+fn names_char(digits: &str) -> bool
+    ensures { MatchBool result (NamesChar (chars digits.now)) (NamesChar (chars digits.now) → ⊥) }
+{
+    let mut rest = digits;
+    let mut value = 0u32;
+    let mut count = 0u32;
+    while let Some((c, after)) = next_char(rest) {
+        if let Some(digit) = c.to_digit(16) {
+            if count == 6 {
+                return false;
+            }
+            if value > 0x10_FFFF {
+                return false;
+            }
+            count += 1;
+            value = value * 16 + digit;
+        }
+        rest = after;
+    }
+    char::from_u32(value).is_some()
+}
+
+/// Past what follows `\u`.
+fn past_code(text: &str) -> Option<&str>
+    ensures finds { ReadsPrefix IsCode (chars text.now) result }
+    ensures utf8 { IfSome result (λ rest. IsUtf8 rest.now) }
+    ensures shorter { IfSome result (λ rest. length rest.now < length text.now) }
+{
+    let Some(start) = past_char(text, '{') else {
+        return None;
+    };
+    let (first, second) = next_char(start)?;
+    if !first.is_digit(16) {
+        return None;
+    }
+    let after = past_hex_digits(second);
+    let Some(rest) = past_char(after, '}') else {
+        return None;
+    };
+    if names_char(front_of(start, after)) {
+        Some(rest)
+    } else {
+        None
+    }
+}
+
+/// Past a line end.
+fn past_line_end(text: &str) -> Option<&str>
+    ensures finds { ReadsPrefix IsLineEnd (chars text.now) result }
+    ensures utf8 { IfSome result (λ rest. IsUtf8 rest.now) }
+    ensures shorter { IfSome result (λ rest. length rest.now < length text.now) }
+{
+    match past_char(text, '\n') {
+        Some(rest) => Some(rest),
+        None => past_pair(text, '\r', '\n'),
+    }
+}
+
+/// What the first digit of a hexadecimal escape is below.
+fn top_digit(wide: bool) -> u32
+    ensures value { result ≡ (if wide then 16 else 8) }
+    ensures low { 2 ≤ result }
+    ensures high { result ≤ 16 }
+{
+    if wide { 16 } else { 8 }
+}
+
+/// Past what follows the backslash of an escape.
+pub fn past_escape(text: &str, line_ends: bool, wide: bool) -> Option<&str>
+    ensures finds { ReadsPrefix (IsEscape line_ends wide) (chars text.now) result }
+    ensures utf8 { IfSome result (λ rest. IsUtf8 rest.now) }
+    ensures shorter { IfSome result (λ rest. length rest.now < length text.now) }
+{
+    let (kind, rest) = next_char(text)?;
+    if is_simple_escape(kind) {
+        Some(rest)
+    } else if kind == 'x' {
+        past_hex(rest, top_digit(wide))
+    } else if kind == 'u' {
+        if wide { None } else { past_code(rest) }
+    } else if line_ends {
+        past_line_end(text)
+    } else {
+        None
+    }
+}

@@ -1,0 +1,67 @@
+// What follows a punctuation character.
+ghost use Rattle.std.specs.Prelude.{◌≡◌};
+ghost use Rattle.std.specs.Str.{chars};
+ghost use Rattle.tok_lexical.specs.Following.{starts_punct, begins_comment, makes_joint, makes_joint_apostrophe, starts_name, past_marks};
+
+use crate::classes::is_punct_or_apostrophe;
+use crate::text::{begins_with, next_char, past_char};
+use crate::words::is_identifier_start;
+
+/// Whether a punct character follows, the apostrophe among them.
+fn starts_punct(rest: &str) -> bool
+    ensures { result ≡ starts_punct (chars rest.now) }
+{
+    match next_char(rest) {
+        Some((first, _)) => is_punct_or_apostrophe(first),
+        None => false,
+    }
+}
+
+/// Whether a comment follows.
+pub fn begins_comment(rest: &str) -> bool
+    ensures { result ≡ begins_comment (chars rest.now) }
+{
+    match past_char(rest, '/') {
+        Some(after) => begins_with(after, '/') || begins_with(after, '*'),
+        None => false,
+    }
+}
+
+/// Whether a punct character follows that doesn't begin a comment.
+pub fn makes_joint(rest: &str) -> bool
+    ensures { result ≡ makes_joint (chars rest.now) }
+{
+    starts_punct(rest) && !begins_comment(rest)
+}
+
+/// Whether an identifier follows.
+fn starts_name(rest: &str) -> bool
+    ensures { result ≡ starts_name (chars rest.now) }
+{
+    match next_char(rest) {
+        Some((first, _)) => is_identifier_start(first),
+        None => false,
+    }
+}
+
+/// Whether an identifier or a punct character follows, through marks.
+pub fn makes_joint_apostrophe(after: &str) -> bool
+    ensures { result ≡ makes_joint_apostrophe (chars after.now) }
+{
+    let next = past_marks(after);
+    starts_name(next) || starts_punct(next)
+}
+
+/// Past the marks of invisible groups at the front.
+pub fn past_marks(text: &str) -> &str
+    ensures { chars result.now ≡ past_marks (chars text.now) }
+{
+    let mut rest = text;
+    while let Some((c, after)) = next_char(rest) {
+        if !matches!(c, '\u{AB}' | '\u{BB}') {
+            break;
+        }
+        rest = after;
+    }
+    rest
+}

@@ -1,0 +1,25 @@
+//! The front of a text: which piece it begins with, by the rules of the grammar in their order, and why a piece is refused.
+//! The grammar is `specs/`; it knows no trees.
+#![tactic(auto)]
+
+mod char_literals;
+pub mod classes;
+pub mod comments;
+mod delimiter;
+mod escapes;
+pub mod joint;
+mod numbers;
+mod prefixes;
+mod reason;
+mod refusals;
+mod rule;
+mod start;
+mod strings;
+pub mod text;
+pub mod words;
+
+pub use delimiter::Delimiter;
+pub use numbers::Base;
+pub use reason::Reason;
+pub use refusals::refusal;
+pub use rule::{Rule, Rules, first_rule};

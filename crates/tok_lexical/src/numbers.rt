@@ -1,0 +1,199 @@
+// Integers.
+ghost use Rattle.std.specs.Prelude.{◌≡◌, ℕ, ◌≤◌, List, IfSome};
+ghost use Rattle.std.specs.Str.{chars, IsUtf8};
+ghost use Rattle.tok_lexical.specs.Pieces.{IsLongestPrefix, ReadsLongest, Skips};
+ghost use Rattle.tok_lexical.specs.Numbers.{base_mark, radix, is_digit_or_underscore, is_exponent, starts_digit, is_fraction, starts_number_suffix, IsNumberSuffix, IsNumber, has_digit, IsBased, IsDecimal, is_bare, is_malformed, is_float};
+
+use crate::text::{next_char, past_pair};
+use crate::words::{is_identifier_start, past_identifier};
+
+/// The bases that a number names.
+#[derive(Clone, Copy, Debug)]
+pub enum Base {
+    Hexadecimal,
+    Octal,
+    Binary,
+}
+
+impl Base {
+    pub fn mark(self) -> char
+        ensures { result ≡ base_mark self }
+    {
+        match self {
+            Base::Hexadecimal => 'x',
+            Base::Octal => 'o',
+            Base::Binary => 'b',
+        }
+    }
+
+    fn radix(self) -> u32
+        ensures value { result ≡ radix self }
+        ensures low { 2 ≤ result }
+        ensures high { result ≤ 16 }
+    {
+        match self {
+            Base::Hexadecimal => 16,
+            Base::Octal => 8,
+            Base::Binary => 2,
+        }
+    }
+}
+
+fn is_digit_or_underscore(c: char, radix: u32) -> bool
+    requires low { 2 ≤ radix }
+    requires high { radix ≤ 16 }
+    ensures { result ≡ is_digit_or_underscore radix c }
+{
+    c.is_digit(radix) || c == '_'
+}
+
+/// Past the digits and underscores at the front, and whether there is a digit.
+fn past_digits(text: &str, radix: u32) -> (bool, &str)
+    requires low { 2 ≤ radix }
+    requires high { radix ≤ 16 }
+    ensures { (front : List ℕ)
+        × Skips (is_digit_or_underscore radix) (chars text.now) front (chars result.1.now)
+        × (result.0 ≡ has_digit radix front) }
+{
+    let mut rest = text;
+    let mut found = false;
+    while let Some((c, after)) = next_char(rest) {
+        let is_digit = c.is_digit(radix);
+        let goes_on = is_digit | (c == '_');
+        if !goes_on {
+            break;
+        }
+        found = found | is_digit;
+        rest = after;
+    }
+    (found, rest)
+}
+
+fn starts_number_suffix(c: char, radix: u32) -> bool
+    requires low { 2 ≤ radix }
+    requires high { radix ≤ 16 }
+    ensures { result ≡ starts_number_suffix radix c }
+{
+    !(is_digit_or_underscore(c, radix) || c == 'e' || c == 'E')
+}
+
+/// Past a number's suffix, if one follows directly.
+fn past_number_suffix(text: &str, radix: u32) -> &str
+    requires low { 2 ≤ radix }
+    requires high { radix ≤ 16 }
+    ensures { (suffix : List ℕ)
+        × IsLongestPrefix (IsNumberSuffix radix) (chars text.now) suffix (chars result.now) }
+{
+    let Some((first, _)) = next_char(text) else {
+        return text;
+    };
+    if !starts_number_suffix(first, radix) {
+        return text;
+    }
+    match past_identifier(text) {
+        Some(rest) => rest,
+        None => text,
+    }
+}
+
+/// Past digits of a base and a suffix.
+fn past_in_base(text: &str, radix: u32) -> Option<&str>
+    requires low { 2 ≤ radix }
+    requires high { radix ≤ 16 }
+    ensures tries { ReadsLongest (IsNumber radix (has_digit radix)) (chars text.now) result }
+    ensures utf8 { IfSome result (λ rest. IsUtf8 rest.now) }
+{
+    let (found, rest) = past_digits(text, radix);
+    if found {
+        Some(past_number_suffix(rest, radix))
+    } else {
+        None
+    }
+}
+
+/// Past an integer that names its base.
+pub fn past_based(text: &str, base: Base) -> Option<&str>
+    ensures tries { ReadsLongest (IsBased base) (chars text.now) result }
+    ensures utf8 { IfSome result (λ rest. IsUtf8 rest.now) }
+{
+    let Some(digits) = past_pair(text, '0', base.mark()) else {
+        return None;
+    };
+    past_in_base(digits, base.radix())
+}
+
+fn starts_digit(text: &str) -> bool
+    ensures { result ≡ starts_digit (chars text.now) }
+{
+    match next_char(text) {
+        Some((first, _)) => first.is_digit(10),
+        None => false,
+    }
+}
+
+/// Past a decimal integer.
+pub fn past_decimal(text: &str) -> Option<&str>
+    ensures tries { ReadsLongest IsDecimal (chars text.now) result }
+    ensures utf8 { IfSome result (λ rest. IsUtf8 rest.now) }
+{
+    if !starts_digit(text) {
+        return None;
+    }
+    let (_, rest) = past_digits(text, 10);
+    Some(past_number_suffix(rest, 10))
+}
+
+fn is_exponent(text: &str) -> bool
+    ensures { result ≡ is_exponent (chars text.now) }
+{
+    match next_char(text) {
+        Some((first, _)) => first == 'e' || first == 'E',
+        None => false,
+    }
+}
+
+/// Whether a dot follows that is followed by neither a dot nor an identifier.
+fn is_fraction(text: &str) -> bool
+    ensures { result ≡ is_fraction (chars text.now) }
+{
+    match next_char(text) {
+        Some(('.', rest)) => match next_char(rest) {
+            Some((second, _)) => !(second == '.' || is_identifier_start(second)),
+            None => true,
+        },
+        _ => false,
+    }
+}
+
+/// Whether these are digits alone.
+fn is_bare(text: &str, radix: u32) -> bool
+    requires low { 2 ≤ radix }
+    requires high { radix ≤ 16 }
+    ensures { result ≡ is_bare radix (chars text.now) }
+{
+    let (_, rest) = past_digits(text, radix);
+    match next_char(rest) {
+        Some(_) => false,
+        None => true,
+    }
+}
+
+/// Whether a number with this text after it would go on.
+pub fn is_malformed(base: Base, piece: &str, after: &str) -> bool
+    ensures { result ≡ is_malformed base (chars piece.now) (chars after.now) }
+{
+    let Some((_, rest)) = next_char(piece) else {
+        return is_exponent(after) || starts_digit(after) || is_fraction(after);
+    };
+    let Some((_, digits)) = next_char(rest) else {
+        return is_exponent(after) || starts_digit(after) || is_fraction(after);
+    };
+    (is_exponent(after) || starts_digit(after) || is_fraction(after))
+        && is_bare(digits, base.radix())
+}
+
+pub fn is_float(piece: &str, after: &str) -> bool
+    ensures { result ≡ is_float (chars piece.now) (chars after.now) }
+{
+    (is_exponent(after) || is_fraction(after)) && is_bare(piece, 10)
+}

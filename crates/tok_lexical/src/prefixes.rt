@@ -1,0 +1,63 @@
+// The starts of raw, byte and C strings.
+ghost use Rattle.std.specs.Prelude.{◌==◌, ℕ, List, IfSome};
+ghost use Rattle.std.specs.Str.{chars, IsUtf8};
+ghost use Rattle.tok_lexical.specs.Pieces.{After, ReadsLongest, ReadsPrefix, Skips};
+ghost use Rattle.tok_lexical.specs.Strings.{IsHashes, IsPrefixed, IsStringPrefix};
+
+use crate::text::{next_char, past_char};
+
+/// Past the `#` at the front.
+fn past_number_signs(text: &str) -> &str
+    ensures { (front : List ℕ) × Skips (λ c. c == 35) (chars text.now) front (chars result.now) }
+{
+    let mut rest = text;
+    while let Some(after) = past_char(rest, '#') {
+        rest = after;
+    }
+    rest
+}
+
+/// Past any number of `#` and a quote.
+fn past_hashes(text: &str) -> Option<&str>
+    ensures finds { ReadsPrefix IsHashes (chars text.now) result }
+    ensures utf8 { IfSome result (λ rest. IsUtf8 rest.now) }
+{
+    past_char(past_number_signs(text), '"')
+}
+
+/// Past `r`, any number of `#` and a quote.
+fn past_raw(text: &str) -> Option<&str>
+    ensures finds { ReadsPrefix (After 114 IsHashes) (chars text.now) result }
+    ensures utf8 { IfSome result (λ rest. IsUtf8 rest.now) }
+{
+    let Some(rest) = past_char(text, 'r') else {
+        return None;
+    };
+    past_hashes(rest)
+}
+
+/// Past a quote, with or without `r` and any number of `#` before it.
+fn past_prefixed(text: &str) -> Option<&str>
+    ensures finds { ReadsPrefix IsPrefixed (chars text.now) result }
+    ensures utf8 { IfSome result (λ rest. IsUtf8 rest.now) }
+{
+    match past_char(text, '"') {
+        Some(rest) => Some(rest),
+        None => past_raw(text),
+    }
+}
+
+/// Past the start of a raw, byte or C string.
+pub fn past_string_prefix(text: &str) -> Option<&str>
+    ensures tries { ReadsLongest IsStringPrefix (chars text.now) result }
+    ensures utf8 { IfSome result (λ rest. IsUtf8 rest.now) }
+{
+    let (first, rest) = next_char(text)?;
+    if first == 'b' {
+        past_prefixed(rest)
+    } else if first == 'c' {
+        past_prefixed(rest)
+    } else {
+        past_raw(text)
+    }
+}

@@ -1,0 +1,82 @@
+// What the first character of a text tells.
+ghost use Rattle.std.specs.Prelude.{◌≡◌, ◌≤◌};
+ghost use Rattle.tok_lexical.specs.Starts.{start_of, is_mark};
+
+use crate::classes::is_whitespace;
+use crate::delimiter::Delimiter;
+use crate::words::is_identifier_start;
+
+/// What the first character of a text tells of the rules that may take its front.
+#[derive(Clone, Copy, Debug)]
+pub enum Start {
+    Whitespace,
+    Zero,
+    Digit,
+    /// `b`, `c` or `r`, which begin literals and raw identifiers too.
+    Prefix,
+    Letter,
+    Slash,
+    Quote,
+    Apostrophe,
+    Opening(Delimiter),
+    Closing(Delimiter),
+    Punct,
+    Rest,
+}
+
+// For each ASCII character one that begins the same pieces.
+static ASCII: [u8; 128] = *b"\
+    ?????????     ??????????????????\
+    \x20+\"++++'()+++++/0111111111++++++\
+    +aaaaaaaaaaaaaaaaaaaaaaaaaa[?]+a\
+    ?abbaaaaaaaaaaaaaabaaaaaaaa{+}+?";
+
+fn is_mark(c: char) -> bool
+    ensures { result ≡ is_mark c }
+{
+    matches!(c, '\u{FEFF}' | '\u{AB}' | '\u{BB}')
+}
+
+impl Start {
+    pub fn of(c: char) -> Start
+        ensures { result ≡ start_of c }
+    {
+        if c >= '\u{80}' {
+            return Start::of_other(c);
+        }
+        match ASCII[c as usize] {
+            b' ' => Start::Whitespace,
+            b'0' => Start::Zero,
+            b'1' => Start::Digit,
+            b'b' => Start::Prefix,
+            b'a' => Start::Letter,
+            b'/' => Start::Slash,
+            b'"' => Start::Quote,
+            b'\'' => Start::Apostrophe,
+            b'(' => Start::Opening(Delimiter::Parenthesis),
+            b')' => Start::Closing(Delimiter::Parenthesis),
+            b'[' => Start::Opening(Delimiter::Bracket),
+            b']' => Start::Closing(Delimiter::Bracket),
+            b'{' => Start::Opening(Delimiter::Brace),
+            b'}' => Start::Closing(Delimiter::Brace),
+            b'+' => Start::Punct,
+            _ => Start::Rest,
+        }
+    }
+
+    // Beyond ASCII.
+    fn of_other(c: char) -> Start
+        requires { 128 ≤ c }
+        ensures { result ≡ start_of c }
+    {
+        if is_mark(c) {
+            Start::Rest
+        } else if is_whitespace(c) {
+            Start::Whitespace
+        } else if is_identifier_start(c) {
+            Start::Letter
+        } else {
+            Start::Rest
+        }
+    }
+}

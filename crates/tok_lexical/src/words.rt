@@ -1,0 +1,138 @@
+// Identifiers.
+ghost use Rattle.std.specs.Prelude.{◌≡◌, ℕ, List, IfSome, MatchBool};
+ghost use Rattle.std.specs.Str.{chars, IsUtf8};
+ghost use Rattle.unicode_ident.specs.Ident.{is_xid_continue};
+ghost use Rattle.tok_lexical.specs.Pieces.{After, IsLongestPrefix, ReadsLongest, Skips};
+ghost use Rattle.tok_lexical.specs.Words.{IsIdentifier, IsRawIdentifier, IsName, IsSuffix, is_identifier_start, has_no_raw, is_missing};
+
+use crate::text::{next_char, past_char, past_pair};
+use unicode_ident::{is_xid_continue, is_xid_start};
+
+pub fn is_identifier_start(c: char) -> bool
+    ensures { result ≡ is_identifier_start c }
+{
+    is_xid_start(c) || c == '_'
+}
+
+// Each ASCII character that may go on in an identifier stands at its own place, and a dash at every other place.
+static CONTINUES: [u8; 128] = *b"\
+    --------------------------------\
+    ----------------0123456789------\
+    -ABCDEFGHIJKLMNOPQRSTUVWXYZ----_\
+    -abcdefghijklmnopqrstuvwxyz-----";
+
+// Whether a character may go on in an identifier.
+fn goes_on(c: char) -> bool
+    ensures { result ≡ is_xid_continue c }
+{
+    if c < '\u{80}' {
+        CONTINUES[c as usize] != b'-'
+    } else {
+        is_xid_continue(c)
+    }
+}
+
+/// Past the characters at the front that may go on in an identifier.
+pub fn past_continues(text: &str) -> &str
+    ensures { (front : List ℕ) × Skips is_xid_continue (chars text.now) front (chars result.now) }
+{
+    let mut rest = text;
+    while let Some((c, after)) = next_char(rest) {
+        if !goes_on(c) {
+            break;
+        }
+        rest = after;
+    }
+    rest
+}
+
+/// Past a plain identifier.
+pub fn past_identifier(text: &str) -> Option<&str>
+    ensures tries { ReadsLongest IsIdentifier (chars text.now) result }
+    ensures utf8 { IfSome result (λ rest. IsUtf8 rest.now) }
+{
+    let (first, rest) = next_char(text)?;
+    if is_identifier_start(first) {
+        Some(past_continues(rest))
+    } else {
+        None
+    }
+}
+
+/// Past a suffix, if one follows directly.
+pub fn past_suffix(text: &str) -> &str
+    ensures { (suffix : List ℕ)
+        × IsLongestPrefix IsSuffix (chars text.now) suffix (chars result.now) }
+{
+    match past_identifier(text) {
+        Some(rest) => rest,
+        None => text,
+    }
+}
+
+/// Past a raw identifier.
+pub fn past_raw_identifier(text: &str) -> Option<&str>
+    ensures tries { ReadsLongest IsRawIdentifier (chars text.now) result }
+    ensures utf8 { IfSome result (λ rest. IsUtf8 rest.now) }
+{
+    let Some(name) = past_pair(text, 'r', '#') else {
+        return None;
+    };
+    past_identifier(name)
+}
+
+/// Past an identifier, plain or raw.
+pub fn past_name(text: &str) -> Option<&str>
+    ensures tries { ReadsLongest IsName (chars text.now) result }
+    ensures utf8 { IfSome result (λ rest. IsUtf8 rest.now) }
+{
+    match past_raw_identifier(text) {
+        Some(rest) => Some(rest),
+        None => past_identifier(text),
+    }
+}
+
+/// Past a lifetime.
+pub fn past_lifetime(text: &str) -> Option<&str>
+    ensures tries { ReadsLongest (After 39 IsName) (chars text.now) result }
+    ensures utf8 { IfSome result (λ rest. IsUtf8 rest.now) }
+{
+    let Some(name) = past_char(text, '\'') else {
+        return None;
+    };
+    past_name(name)
+}
+
+// The same of the bytes.
+fn is_never_raw(word: &str) -> bool
+    ensures { result ≡ has_no_raw word.now }
+{
+    matches!(word, "_" | "self" | "Self" | "super" | "crate")
+}
+
+/// Whether a word doesn't exist as a raw identifier.
+pub fn has_no_raw(word: &str) -> bool
+    ensures { result ≡ has_no_raw (chars word.now) }
+{
+    is_never_raw(word)
+}
+
+/// Whether this is a raw identifier that does not exist.
+pub fn is_missing(name: &str) -> bool
+    ensures { result ≡ is_missing (chars name.now) }
+{
+    match past_pair(name, 'r', '#') {
+        Some(word) => has_no_raw(word),
+        None => false,
+    }
+}
+
+/// Whether the whole text is a plain identifier.
+pub fn is_identifier(text: &str) -> bool
+    ensures { MatchBool result (IsIdentifier (chars text.now)) (IsIdentifier (chars text.now) → ⊥) }
+{
+    match past_identifier(text) {
+        Some(rest) => rest.is_empty(),
+        None => false,
+    }
+}
