@@ -7,9 +7,7 @@ mod entry;
 pub mod error;
 pub mod laws;
 mod lifetime;
-mod puncts;
 mod spot;
-mod text;
 
 pub use buffer::TokenBuffer;
 pub use cursor::Cursor;

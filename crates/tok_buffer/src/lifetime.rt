@@ -10,12 +10,13 @@ ghost use Rattle.tok_buffer.specs.Lifetimes.{fault_words, lifetime_forest, lifet
 ghost use Rattle.tok_buffer.specs.Reads.{apostrophe};
 ghost use Rattle.tok_buffer.specs.Spans.{covering};
 
-use crate::puncts::punct;
-use crate::text::next_char;
 use std::alloc::{AllocError, Global};
 use std::fmt;
 use std::fmt::{Display, Formatter, Write};
+use tok_core::known::punct;
 use tok_core::{Ident, MakeFault, Spacing, Span, ToTokens, TokenStream, TokenTree};
+use tok_lexical::text::next_char;
+use tok_lexical::words::has_no_raw;
 
 /// A lifetime: an apostrophe and an identifier, which may be a keyword or raw. Lifetimes are compared, ordered and hashed
 /// by their identifiers alone.
@@ -229,18 +230,4 @@ fn name_fault(fault: MakeFault) -> LifetimeFault
         MakeFault::Refused => LifetimeFault::NotIdentifier,
         MakeFault::Memory => LifetimeFault::Memory,
     }
-}
-
-// Whether a word doesn't exist as a raw identifier.
-fn has_no_raw(word: &str) -> bool
-    ensures { result ≡ has_no_raw (chars word.now) }
-{
-    is_never_raw(word)
-}
-
-// The same of the bytes.
-fn is_never_raw(word: &str) -> bool
-    ensures { result ≡ has_no_raw word.now }
-{
-    matches!(word, "_" | "self" | "Self" | "super" | "crate")
 }

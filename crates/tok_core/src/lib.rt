@@ -5,6 +5,7 @@
 mod group;
 mod ident;
 mod invisible;
+pub mod known;
 pub mod laws;
 mod lexer;
 mod literal;

@@ -4,7 +4,7 @@ ghost use Rattle.tok_core.specs.Forest.{ident};
 ghost use Rattle.tok_core.specs.Seen.{ident_of};
 ghost use Rattle.tok_types.specs.Printed.{first_span};
 
-use crate::names::identifier;
+use tok_core::known::identifier;
 use crate::token;
 use crate::underscore::Underscore;
 use std::alloc::{AllocError, Global};

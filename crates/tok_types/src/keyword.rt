@@ -9,7 +9,8 @@ ghost use Rattle.tok_types.specs.Printed.{word};
 ghost use Rattle.tok_types.specs.Texts.{keyword_text, in_backquotes};
 
 use crate::look::Token;
-use crate::names::{append_word, identifier};
+use crate::names::append_word;
+use tok_core::known::identifier;
 use crate::texts::{keyword_display, keyword_text};
 use std::alloc::{AllocError, Global};
 use std::fmt;

@@ -7,19 +7,8 @@ ghost use Rattle.tok_core.specs.Seen.{ident_of};
 ghost use Rattle.tok_types.specs.Printed.{word};
 
 use std::alloc::{AllocError, Global};
-use tok_core::{Ident, MakeFault, Span, ToTokens, TokenStream, TokenTree};
-
-// An identifier of a token's text.
-pub fn identifier(alloc: Global, text: &str, span: Span) -> Result<Ident, AllocError>
-    requires { IsIdentifier (chars text.now) }
-    ensures { IfOk result (λ i. ident_of i ≡ ident text.now span) }
-{
-    match Ident::new(alloc, text, span) {
-        Ok(ident) => Ok(ident),
-        Err(MakeFault::Memory) => Err(AllocError),
-        Err(MakeFault::Refused) => unreachable!(),
-    }
-}
+use tok_core::known::identifier;
+use tok_core::{Ident, Span, ToTokens, TokenStream, TokenTree};
 
 // Writes an identifier of this text, and nothing if it is empty.
 pub fn append_word(text: &str, span: Span, tokens: &mut TokenStream) -> Result<(), AllocError>

@@ -7,8 +7,8 @@ ghost use Rattle.tok_buffer.specs.Reads as spec;
 
 use crate::cursor::Cursor;
 use crate::entry::Entry;
-use crate::text::next_char;
 use tok_core::{Punct, Spacing, Span};
+use tok_lexical::text::next_char;
 
 impl<'a> Cursor<'a> {
     ghost use Rattle.std.specs.Prelude.{◌≡◌, ◌∷◌, [], length, MatchOption, Some, None, is_some};

@@ -7,10 +7,10 @@ ghost use Rattle.tok_core.specs.Seen.{ident_of};
 ghost use Rattle.tok_buffer.specs.CompileErrors.{invocation, segment};
 
 use crate::error::{Error, Message};
-use crate::puncts::punct;
 use std::alloc::{AllocError, Global};
+use tok_core::known::{identifier, punct};
 use tok_core::{
-    Delimiter, Group, Ident, Literal, MakeFault, Spacing, Span, TokenStream, TokenTree,
+    Delimiter, Group, Literal, Spacing, Span, TokenStream, TokenTree,
 };
 
 impl Error {
@@ -85,15 +85,4 @@ fn write_invocation(
     let group = Group::new(Delimiter::Brace, inside, end);
     tokens.append(TokenTree::Group(group))?;
     Ok(())
-}
-
-fn identifier(alloc: Global, name: &str, span: Span) -> Result<Ident, AllocError>
-    requires { IsIdentifier (chars name.now) }
-    ensures { IfOk result (λ i. ident_of i ≡ ident name.now span) }
-{
-    match Ident::new(alloc, name, span) {
-        Ok(ident) => Ok(ident),
-        Err(MakeFault::Memory) => Err(AllocError),
-        Err(MakeFault::Refused) => unreachable!(),
-    }
 }

@@ -7,6 +7,7 @@ ghost use Rattle.tok_core.specs.Seen.{punct_of};
 ghost use Rattle.tok_types.specs.Printed.{puncts, spacing};
 
 use std::alloc::AllocError;
+use tok_core::known;
 use tok_core::{Punct, Spacing, Span, TokenStream, TokenTree};
 
 /// Writes a punct for each character of a text, each but the last joint, at the span with the same index. Writes nothing if
@@ -37,10 +38,7 @@ fn one_of(byte: u8, is_last: bool, span: Span) -> Punct
     } else {
         Spacing::Joint
     };
-    match Punct::new_spanned(char::from(byte), spacing, span) {
-        Some(punct) => punct,
-        None => unreachable!(),
-    }
+    known::punct(char::from(byte), spacing, span)
 }
 
 // Whether each character is one that a punct may have.

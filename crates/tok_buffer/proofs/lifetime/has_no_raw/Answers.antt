@@ -1,6 +1,0 @@
-use Rattle.std.proofs.Common.{◌∙◌}
-use Rattle.tok_lexical.proofs.Lexical.Words.{no_raw_chars}
-use Rattle.tok_buffer.proofs.lifetime.has_no_raw.Goals as goal
-
-pub returns : goal.returns
-returns c = c.is_never_raw.ensures ∙ no_raw_chars c.args.word.now c.utf8.word

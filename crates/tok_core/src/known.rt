@@ -1,0 +1,30 @@
+//! Leaves of texts that are known to name them: no text is tested, and none is refused.
+ghost use Rattle.std.specs.Prelude.{◌≡◌, true, IfOk};
+ghost use Rattle.std.specs.Str.{chars};
+ghost use Rattle.tok_core.specs.Forest.{ident, punct};
+ghost use Rattle.tok_core.specs.Seen.{ident_of, punct_of};
+ghost use Rattle.tok_lexical.specs.Characters.{is_punct_or_apostrophe};
+ghost use Rattle.tok_lexical.specs.Words.{IsIdentifier};
+
+use crate::ident::Ident;
+use crate::punct::{Punct, Spacing};
+use crate::span::Span;
+use crate::text::Text;
+use std::alloc::{AllocError, Global};
+
+/// An identifier of a text that is one.
+pub fn identifier(alloc: Global, text: &str, span: Span) -> Result<Ident, AllocError>
+    requires { IsIdentifier (chars text.now) }
+    ensures { IfOk result (λ i. ident_of i ≡ ident text.now span) }
+{
+    let text = Text::from_str(alloc, text)?;
+    Ok(Ident::unchecked(text, span))
+}
+
+/// A punct of a character that one may have.
+pub fn punct(ch: char, spacing: Spacing, span: Span) -> Punct
+    requires { is_punct_or_apostrophe ch ≡ true }
+    ensures { punct_of result ≡ punct ch spacing span }
+{
+    Punct::unchecked(ch, spacing, span)
+}
