@@ -16,9 +16,9 @@ use Rattle.syn_parse.specs.Reads.{Read}
 use Rattle.syn_parse.specs.State.{State}
 use Rattle.syn_parse.specs.RefusalWords.{ident_words, name_in, refused_at}
 use Rattle.syn_parse.specs.declared.fault.Fault.{Fault}
-use Rattle.arguments.specs.Outcomes.{Outcome, Refused, arguments_in, after_name, at_end}
-use Rattle.arguments.specs.Outcomes.{no_name, reserved_name}
-use Rattle.arguments.specs.Reading.{AheadDecides, IsFault, ReadsArgument, ReadsValue}
+use Rattle.arguments.specs.Private.Outcomes.{Outcome, Refused, arguments_in, after_name, at_end}
+use Rattle.arguments.specs.Private.Outcomes.{no_name, reserved_name}
+use Rattle.arguments.specs.Private.Reading.{AheadDecides, IsFault, ReadsArgument, ReadsValue}
 use Rattle.arguments.specs.declared.argument.Value.{Value}
 use Rattle.arguments.proofs.Calls.{reads-err, refused-ahead, ends-ahead}
 use Rattle.arguments.proofs.Tokens.{fault-memory, then-moves, ident-parsed}

@@ -19,7 +19,7 @@ use Rattle.syn_parse.specs.Faults.{IsMemory, Refuses}
 use Rattle.syn_parse.specs.Reads.{Read, Reads, ReadsAtOnce}
 use Rattle.syn_parse.specs.State.{State, moved, handed, closed}
 use Rattle.syn_parse.specs.declared.fault.Fault.{Fault}
-use Rattle.arguments.specs.Reading.{AheadDecides, IsFilled, Moves}
+use Rattle.arguments.specs.Private.Reading.{AheadDecides, IsFilled, Moves}
 
 -- the trees that were read, and the place after them
 abbrev pub Taken : Type 0

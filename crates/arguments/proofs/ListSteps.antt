@@ -15,12 +15,12 @@ use Rattle.syn_parse.specs.State.{State}
 use Rattle.syn_parse.specs.RefusalWords.{punctuation_refusal, punctuation_span}
 use Rattle.syn_parse.specs.declared.fault.Fault.{Fault}
 use Rattle.syn_punctuated.specs.Lists.{values_of, separators_of}
-use Rattle.arguments.specs.Forms.{Form, Forms, no_forms, next_form, one_form, joined_forms}
-use Rattle.arguments.specs.Forms.{IsForm, AreForms, are_none, are_next}
+use Rattle.arguments.specs.Private.Forms.{Form, Forms, no_forms, next_form, one_form, joined_forms}
+use Rattle.arguments.specs.Private.Forms.{IsForm, AreForms, are_none, are_next}
 use Rattle.arguments.specs.Grammar.{comma}
-use Rattle.arguments.specs.Outcomes.{Outcome, Found, Refused, added, arguments_in, after_argument}
-use Rattle.arguments.specs.Outcomes.{no_comma}
-use Rattle.arguments.specs.Reading.{AheadDecides, IsFilled, IsFault, Moves, ReadsOne, ReadsAll}
+use Rattle.arguments.specs.Private.Outcomes.{Outcome, Found, Refused, added, arguments_in, after_argument}
+use Rattle.arguments.specs.Private.Outcomes.{no_comma}
+use Rattle.arguments.specs.Private.Reading.{AheadDecides, IsFilled, IsFault, Moves, ReadsOne, ReadsAll}
 use Rattle.arguments.specs.Values.{Comma, Arguments, sign_at}
 use Rattle.arguments.specs.declared.argument.Argument.{Argument}
 use Rattle.arguments.proofs.Calls.{at-once-err, ends-ahead}

@@ -2,11 +2,11 @@
 use Rattle.std.proofs.Common.{◌≡◌, ◌∙◌, sym, ap, subst, List}
 use Rattle.tok_core.specs.Forest.{Forest}
 use Rattle.syn_punctuated.specs.Lists.{values_of, separators_of}
-use Rattle.arguments.specs.Forms.{Form, Forms, IsForm, AreForms}
-use Rattle.arguments.specs.Forms.{of_flag, of_assigned, of_list, are_none, are_next}
+use Rattle.arguments.specs.Private.Forms.{Form, Forms, IsForm, AreForms}
+use Rattle.arguments.specs.Private.Forms.{of_flag, of_assigned, of_list, are_none, are_next}
 use Rattle.arguments.specs.Grammar.{AreArguments}
-use Rattle.arguments.specs.Outcomes.{Outcome, Found}
-use Rattle.arguments.specs.Reading.{Gives}
+use Rattle.arguments.specs.Private.Outcomes.{Outcome, Found}
+use Rattle.arguments.specs.Private.Reading.{Gives}
 use Rattle.arguments.specs.Same as same
 use Rattle.arguments.specs.Same.{SameArgument, SameValues, SameArguments}
 use Rattle.arguments.specs.Same.{same_flag, same_assigned, same_list, no_values}

@@ -14,15 +14,15 @@ use Rattle.tok_core.specs.declared.span.Span.{Span}
 use Rattle.tok_types.specs.Texts.{accept_as_ident}
 use Rattle.syn_parse.specs.declared.fault.Fault.{Fault}
 use Rattle.syn_punctuated.specs.Lists.{values_of, separators_of}
-use Rattle.arguments.specs.Forms.{Form, flag, assigned, with_list, Forms, no_forms, next_form}
-use Rattle.arguments.specs.Forms.{one_form, IsForm, AreForms, of_flag, of_assigned, of_list}
-use Rattle.arguments.specs.Forms.{are_none, are_next}
+use Rattle.arguments.specs.Private.Forms.{Form, flag, assigned, with_list, Forms, no_forms, next_form}
+use Rattle.arguments.specs.Private.Forms.{one_form, IsForm, AreForms, of_flag, of_assigned, of_list}
+use Rattle.arguments.specs.Private.Forms.{are_none, are_next}
 use Rattle.arguments.specs.Grammar.{comma, equals_sign, sign, IsArgument, is_flag, is_assigned}
 use Rattle.arguments.specs.Grammar.{is_list, AreListed, nothing, last, and_more, AreNoArguments}
-use Rattle.arguments.specs.Outcomes.{Outcome, Found, Refused, added, and_then, arguments_in}
-use Rattle.arguments.specs.Outcomes.{after_name, after_equals, after_argument}
-use Rattle.arguments.specs.Outcomes.{no_comma, reserved_name}
-use Rattle.arguments.specs.Reading.{IsOutcome}
+use Rattle.arguments.specs.Private.Outcomes.{Outcome, Found, Refused, added, and_then, arguments_in}
+use Rattle.arguments.specs.Private.Outcomes.{after_name, after_equals, after_argument}
+use Rattle.arguments.specs.Private.Outcomes.{no_comma, reserved_name}
+use Rattle.arguments.specs.Private.Reading.{IsOutcome}
 use Rattle.arguments.specs.Results.{Parses}
 use Rattle.arguments.specs.Values as values
 use Rattle.arguments.specs.Values.{Comma, Arguments, IsName, sign_at}

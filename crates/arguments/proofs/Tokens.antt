@@ -24,8 +24,8 @@ use Rattle.syn_parse.specs.Parses.{AreSpans, IdentParses, LiteralParses, Punctua
 use Rattle.syn_parse.specs.State.{State}
 use Rattle.syn_parse.specs.declared.fault.Fault.{Fault}
 use Rattle.syn_parse.specs.declared.fault.Fault.TheVariants as fault
-use Rattle.arguments.specs.Outcomes.{Outcome, Found, Refused}
-use Rattle.arguments.specs.Reading.{AheadDecides, IsFault, Moves}
+use Rattle.arguments.specs.Private.Outcomes.{Outcome, Found, Refused}
+use Rattle.arguments.specs.Private.Reading.{AheadDecides, IsFault, Moves}
 use Rattle.arguments.specs.Values.{sign_at}
 use Rattle.arguments.proofs.Calls.{Passes, passes, first-read, reads-ok, at-once-ok, found-ahead}
 

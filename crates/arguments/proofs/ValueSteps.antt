@@ -27,14 +27,14 @@ use Rattle.syn_parse.specs.RefusalWords.{refused_at}
 use Rattle.syn_parse.specs.declared.fault.Fault.{Fault}
 use Rattle.syn_parse.specs.declared.group.Delimited.{Delimited}
 use Rattle.syn_punctuated.specs.Lists.{separators_of}
-use Rattle.arguments.specs.Forms.{flag, assigned, with_list, Forms, one_form}
-use Rattle.arguments.specs.Forms.{of_flag, of_assigned, of_list}
+use Rattle.arguments.specs.Private.Forms.{flag, assigned, with_list, Forms, one_form}
+use Rattle.arguments.specs.Private.Forms.{of_flag, of_assigned, of_list}
 use Rattle.arguments.specs.Grammar.{comma, equals_sign}
-use Rattle.arguments.specs.Outcomes.{Outcome, Found, Refused, added, and_then, arguments_in}
-use Rattle.arguments.specs.Outcomes.{after_name, after_equals, after_argument, at_end}
-use Rattle.arguments.specs.Outcomes.{no_comma, no_literal}
-use Rattle.arguments.specs.Reading.{AheadDecides, IsFilled, IsFault, RefusesIn, Moves}
-use Rattle.arguments.specs.Reading.{ReadsArguments, ReadsValue}
+use Rattle.arguments.specs.Private.Outcomes.{Outcome, Found, Refused, added, and_then, arguments_in}
+use Rattle.arguments.specs.Private.Outcomes.{after_name, after_equals, after_argument, at_end}
+use Rattle.arguments.specs.Private.Outcomes.{no_comma, no_literal}
+use Rattle.arguments.specs.Private.Reading.{AheadDecides, IsFilled, IsFault, RefusesIn, Moves}
+use Rattle.arguments.specs.Private.Reading.{ReadsArguments, ReadsValue}
 use Rattle.arguments.specs.Values.{Equals, Comma, Arguments, sign_at, Paren}
 use Rattle.arguments.specs.declared.argument.Value.TheVariants as made
 use Rattle.arguments.proofs.Calls.{reads-err, refused-ahead, ends-ahead, enters}

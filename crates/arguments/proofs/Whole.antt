@@ -16,8 +16,8 @@ use Rattle.syn_parse.specs.State.{State}
 use Rattle.syn_parse.specs.RefusalWords.{leftover_refusal}
 use Rattle.syn_parse.specs.declared.fault.Fault.{Fault}
 use Rattle.syn_parse.specs.declared.fault.Fault.TheVariants as fault
-use Rattle.arguments.specs.Outcomes.{Outcome, Found, Refused, arguments_in}
-use Rattle.arguments.specs.Reading.{AheadDecides, IsFilled, IsFault, IsOutcome, ReadsArguments}
+use Rattle.arguments.specs.Private.Outcomes.{Outcome, Found, Refused, arguments_in}
+use Rattle.arguments.specs.Private.Reading.{AheadDecides, IsFilled, IsFault, IsOutcome, ReadsArguments}
 use Rattle.arguments.specs.Results.{Agree, Parses, ParsesTo, with_fault}
 use Rattle.arguments.specs.Values.{Arguments}
 use Rattle.arguments.proofs.Calls.{hands-nothing}

@@ -5,13 +5,13 @@ use Rattle.tok_core.specs.Spans.{whole_span}
 use Rattle.tok_core.specs.declared.punct.Spacing.{Spacing}
 use Rattle.tok_core.specs.declared.span.Span.{Span}
 use Rattle.syn_punctuated.specs.Lists.{separators_of}
-use Rattle.arguments.specs.Forms.{Form, flag, assigned, with_list, Forms, no_forms, next_form}
-use Rattle.arguments.specs.Forms.{one_form, IsForm, AreForms, of_flag, of_assigned, of_list}
-use Rattle.arguments.specs.Forms.{are_none, are_next}
+use Rattle.arguments.specs.Private.Forms.{Form, flag, assigned, with_list, Forms, no_forms, next_form}
+use Rattle.arguments.specs.Private.Forms.{one_form, IsForm, AreForms, of_flag, of_assigned, of_list}
+use Rattle.arguments.specs.Private.Forms.{are_none, are_next}
 use Rattle.arguments.specs.Grammar.{comma, IsArgument, is_flag, is_assigned, is_list}
 use Rattle.arguments.specs.Grammar.{AreListed, nothing, last, and_more, AreArguments}
-use Rattle.arguments.specs.Outcomes.{Outcome, Found, added, and_then, arguments_in, after_argument}
-use Rattle.arguments.specs.Reading.{Gives}
+use Rattle.arguments.specs.Private.Outcomes.{Outcome, Found, added, and_then, arguments_in, after_argument}
+use Rattle.arguments.specs.Private.Reading.{Gives}
 use Rattle.arguments.specs.Values.{Comma, Arguments, sign_at}
 use Rattle.arguments.specs.declared.argument.Argument.{Argument}
 

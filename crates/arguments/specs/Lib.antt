@@ -2,9 +2,7 @@ pub mod Values
 pub mod Grammar
 pub mod Same
 pub mod Results
-pub mod Forms
-pub mod Outcomes
-pub mod Reading
+pub mod Private
 pub use Rattle.tok_core.specs.Erase
 pub use Rattle.tok_core.specs.Filled
 pub use Rattle.tok_core.specs.Forest

@@ -5,8 +5,8 @@ ghost use Rattle.tok_core.specs.Filled.{filled};
 ghost use Rattle.tok_core.specs.Weight.{weight};
 ghost use Rattle.tok_core.specs.declared.ident.Ident.{Ident};
 ghost use Rattle.tok_buffer.specs.View.{erased_ahead};
-ghost use Rattle.arguments.specs.Outcomes.{arguments_in};
-ghost use Rattle.arguments.specs.Reading.{AheadDecides, IsOutcome, ReadsArgument, ReadsArguments, ReadsValue};
+ghost use Rattle.arguments.specs.Private.Outcomes.{arguments_in};
+ghost use Rattle.arguments.specs.Private.Reading.{AheadDecides, IsOutcome, ReadsArgument, ReadsArguments, ReadsValue};
 ghost use Rattle.arguments.specs.Results.{Agree, Parses, ParsesTo, with_fault};
 
 use crate::argument::{Argument, Arguments, Value};

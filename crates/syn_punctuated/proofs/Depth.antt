@@ -5,7 +5,7 @@ use Rattle.std.specs.Global.{Box}
 use denote.Param.Weighed.{most, most-append}
 use Rattle.syn_punctuated.specs.declared.punctuated.Punctuated.{Punctuated}
 use Rattle.syn_punctuated.specs.Lists.{values_of}
-use Rattle.syn_punctuated.specs.Boxes.{boxed_values}
+use Rattle.syn_punctuated.specs.Private.Boxes.{boxed_values}
 
 module _ {X : Type 0} (μ : X → ℕ) where
   pub most_first : {Y : Type 0} (pairs : List (X × Y)) → most μ (map (λ pair. pair.0) pairs) ≡ most (λ pair. max (μ pair.0) 0) pairs

@@ -3,7 +3,7 @@ use Rattle.std.proofs.Common.{◌≡◌, ◌&&◌, Bool, true, false, List, [], 
 use Rattle.std.specs.Cmp.Lexicographic.{pointwise}
 use Rattle.std.specs.Global.{Box}
 use Rattle.std.specs.Option.{option_eq}
-use Rattle.syn_punctuated.specs.Boxes.{boxed_values}
+use Rattle.syn_punctuated.specs.Private.Boxes.{boxed_values}
 
 and-true-true : (a : Bool) → a ≡ ((a && true) && true)
 and-true-true true = refl

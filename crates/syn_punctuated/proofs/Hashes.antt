@@ -5,7 +5,7 @@ use Rattle.std.specs.Hash as fed
 use Rattle.std.specs.Hash.{HashWrites}
 use Rattle.std.specs.List.{zip}
 use Rattle.std.specs.Prelude.{option_map, slice_get}
-use Rattle.syn_punctuated.specs.Boxes.{boxed_values}
+use Rattle.syn_punctuated.specs.Private.Boxes.{boxed_values}
 use Rattle.syn_punctuated.specs.Hashed.{list_input}
 use Rattle.syn_punctuated.specs.declared.punctuated.Punctuated.{Punctuated}
 

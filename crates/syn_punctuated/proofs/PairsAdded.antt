@@ -7,7 +7,7 @@ use Rattle.std.specs.Global.{Box}
 use Rattle.syn_punctuated.specs.declared.punctuated.Punctuated.{Punctuated as List'}
 use Rattle.syn_punctuated.specs.declared.pair.Pair.{Pair}
 use Rattle.syn_punctuated.specs.declared.pair.Pair.TheVariants.{Punctuated, End}
-use Rattle.syn_punctuated.specs.Boxes.{boxed_values}
+use Rattle.syn_punctuated.specs.Private.Boxes.{boxed_values}
 use Rattle.syn_punctuated.specs.Lists.{values_of, separators_of}
 use Rattle.syn_punctuated.specs.Pairs.{value_of_pair, separator_of_pair}
 use Rattle.syn_punctuated.specs.Adds.{AddsPairs, IsPairs, EndsBare, separators_in}

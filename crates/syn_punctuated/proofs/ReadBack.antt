@@ -16,7 +16,7 @@ use Rattle.syn_parse.specs.Faults.{IsMemory}
 use Rattle.syn_parse.specs.Reads.{Call}
 use Rattle.syn_parse.specs.State.{State, moved}
 use Rattle.syn_parse.specs.declared.fault.Fault.{Fault}
-use Rattle.syn_punctuated.specs.Boxes.{boxed_values}
+use Rattle.syn_punctuated.specs.Private.Boxes.{boxed_values}
 use Rattle.syn_punctuated.specs.Lists.{values_of, separators_of}
 use Rattle.syn_punctuated.specs.Printed.{by_turns}
 use Rattle.syn_punctuated.specs.Progress.{progresses}

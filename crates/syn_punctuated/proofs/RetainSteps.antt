@@ -5,7 +5,7 @@ use Rattle.std.proofs.lemmas.Grind.{drop_more_same}
 use Rattle.std.specs.List.{SwappedAt}
 use Rattle.std.specs.Option.{option_to_list}
 use Rattle.std.specs.Global.{Box}
-use Rattle.syn_punctuated.specs.Boxes.{boxed_values}
+use Rattle.syn_punctuated.specs.Private.Boxes.{boxed_values}
 use Rattle.syn_punctuated.specs.Lists.{values_of, separators_of}
 use Rattle.syn_punctuated.specs.declared.punctuated.Punctuated.{Punctuated}
 use Rattle.syn_punctuated.specs.Retained.{RunsOver, kept_pairs, kept_values, kept_separators, RetainsPairs, Retains}

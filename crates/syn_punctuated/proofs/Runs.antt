@@ -8,7 +8,7 @@ use Rattle.syn_parse.specs.Reads.{Call}
 use Rattle.syn_parse.specs.State.{State}
 use Rattle.syn_parse.specs.declared.fault.Fault.{Fault}
 use Rattle.syn_parse.specs.declared.fault.Fault.TheVariants.{Memory}
-use Rattle.syn_punctuated.specs.Pieces.{IsPiece, Keeps}
+use Rattle.syn_punctuated.specs.Private.Pieces.{IsPiece, Keeps}
 use Rattle.syn_punctuated.specs.Progress.{progresses}
 use Rattle.syn_punctuated.specs.Turns.{Rule, ValueCall, Turn, turn_value, turn_separator, Chain}
 use Rattle.syn_punctuated.specs.Turns.{IsTurn, IsRun, at_end, bare, value_refused}

@@ -5,7 +5,7 @@ use Rattle.std.proofs.Common.{length-append, append-nil}
 use Rattle.std.proofs.lemmas.List.{length-map, length-take-le}
 use Rattle.std.specs.Global.{Box}
 use Rattle.syn_punctuated.proofs.RetainSteps.{runs_long}
-use Rattle.syn_punctuated.specs.Boxes.{boxed_values}
+use Rattle.syn_punctuated.specs.Private.Boxes.{boxed_values}
 use Rattle.syn_punctuated.specs.Lists.{values_of, separators_of, is_trailing}
 use Rattle.syn_punctuated.specs.Retained.{kept_values, kept_separators, Retains}
 use Rattle.syn_punctuated.specs.declared.punctuated.Punctuated.{Punctuated}

@@ -5,7 +5,7 @@ use Rattle.std.specs.Global.{Box}
 use Rattle.std.specs.Prelude.{Result, Ok, Err, OnOk, OnErr}
 use Rattle.tok_core.specs.Forest.{Forest, concat, no_trees, tree, AppendsFront}
 use Rattle.tok_core.proofs.Facts.{concat-none, joined_assoc}
-use Rattle.syn_punctuated.specs.Boxes.{boxed_values}
+use Rattle.syn_punctuated.specs.Private.Boxes.{boxed_values}
 use Rattle.syn_punctuated.specs.Lists.{values_of, separators_of}
 use Rattle.syn_punctuated.specs.Printed.{by_turns}
 use Rattle.syn_punctuated.specs.declared.punctuated.Punctuated.{Punctuated}

@@ -1,5 +1,4 @@
 pub mod Adds
-pub mod Boxes
 pub mod Faults
 pub mod Hashed
 pub mod Lends
@@ -8,13 +7,13 @@ pub mod Lists
 pub mod PairLends
 pub mod Paired
 pub mod Pairs
-pub mod Pieces
 pub mod Printed
 pub mod Progress
 pub mod ReadBack
 pub mod Retained
 pub mod Trees
 pub mod Turns
+pub mod Private
 pub use Rattle.tok_core.specs.Forest
 pub use Rattle.tok_buffer.specs.Cursors
 pub use Rattle.tok_buffer.specs.Progress as CursorProgress

@@ -1,7 +1,7 @@
 -- A punctuated list as its values and its separators.
 use Rattle.std.specs.Prelude.{◌≡◌, ℕ, ◌+◌, ◌==◌, ◌&&◌, Bool, not, length, List, [], ◌∷◌, ◌++◌, map}
 use Rattle.std.specs.List.{insert}
-use Rattle.syn_punctuated.specs.Boxes.{boxed_values}
+use Rattle.syn_punctuated.specs.Private.Boxes.{boxed_values}
 use Rattle.syn_punctuated.specs.declared.punctuated.Punctuated.{Punctuated}
 
 module _ {X Y : Type 0} where

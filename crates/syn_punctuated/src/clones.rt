@@ -1,6 +1,6 @@
 //! Clones of what owns values. Each call is owed that a clone of a value, and of a separator, equals its source.
 ghost use Rattle.std.specs.Prelude.{◌≡◌, IfOk};
-ghost use Rattle.syn_punctuated.specs.Boxes.{boxed_values};
+ghost use Rattle.syn_punctuated.specs.Private.Boxes.{boxed_values};
 ghost use Rattle.syn_punctuated.specs.Lists.{values_of, separators_of};
 
 use crate::into_iter::IntoIter;

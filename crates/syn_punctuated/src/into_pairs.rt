@@ -38,7 +38,7 @@ pub struct IntoPairs<T, P> {
 impl<T, P> Model for IntoPairs<T, P> {
     ghost use Rattle.std.specs.Prelude.{◌^◌, ◌<◌, List, ◌++◌, length, map};
     ghost use Rattle.std.specs.VecDeque.{deque_len};
-    ghost use Rattle.syn_punctuated.specs.Boxes.{boxed_values};
+    ghost use Rattle.syn_punctuated.specs.Private.Boxes.{boxed_values};
     ghost use Rattle.syn_punctuated.specs.declared.pair.Pair.{Pair};
     ghost use Rattle.syn_punctuated.specs.Pairs.{pair_of, end_of};
 

@@ -5,7 +5,7 @@ ghost use Rattle.tok_buffer.specs.Cursors.{place_of};
 ghost use Rattle.tok_buffer.specs.Progress.{remaining};
 ghost use Rattle.syn_parse.specs.Faults.{Refuses};
 ghost use Rattle.syn_punctuated.specs.Lists.{values_of};
-ghost use Rattle.syn_punctuated.specs.Pieces.{IsPiece, Keeps};
+ghost use Rattle.syn_punctuated.specs.Private.Pieces.{IsPiece, Keeps};
 ghost use Rattle.syn_punctuated.specs.Progress.{progresses};
 ghost use Rattle.syn_punctuated.specs.Turns.{Rule, IsRun, no_progress};
 

@@ -1,7 +1,7 @@
 //! The list, and what it says of itself.
 ghost use Rattle.std.specs.Prelude.{◌≡◌, [], ◌-◌, ◌==◌, length, slice_get};
 ghost use Rattle.std.specs.Option.{option_copied, option_to_list};
-ghost use Rattle.syn_punctuated.specs.Boxes.{boxed_values};
+ghost use Rattle.syn_punctuated.specs.Private.Boxes.{boxed_values};
 ghost use Rattle.syn_punctuated.specs.Lists.{values_of, separators_of, is_trailing};
 
 use std::alloc::Global;

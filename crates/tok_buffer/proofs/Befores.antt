@@ -7,7 +7,7 @@ use Rattle.tok_core.specs.Weight.{weight}
 use Rattle.tok_buffer.specs.Spans.{owner_closing, level_span}
 use Rattle.tok_buffer.specs.Place.{whole, in_group, Level, level, at}
 use Rattle.tok_buffer.specs.Moves.{level_ahead, level_owner, move, levels_at}
-use Rattle.tok_buffer.specs.Layout.{leaf_entry, entries_of, entry_here}
+use Rattle.tok_buffer.specs.Private.Layout.{leaf_entry, entries_of, entry_here}
 use Rattle.tok_buffer.specs.Spans.{current_span, previous_span}
 use Rattle.tok_buffer.specs.declared.entry.Opening.{Opening as Sort}
 use Rattle.tok_buffer.specs.declared.entry.Entry.TheVariants.{Group, End}

@@ -8,7 +8,7 @@ use Rattle.tok_core.specs.Weight.{weight}
 use Rattle.tok_buffer.specs.Entry.{Entered, enter_any}
 use Rattle.tok_buffer.specs.Place.{in_group, Level, level, Place, at, settle, settled}
 use Rattle.tok_buffer.specs.Moves.{level_ahead, level_passed, level_owner, move, levels_at, up_to, some_ends, end_of, place_at, is_settled, in_scope, settled_at}
-use Rattle.tok_buffer.specs.Layout.{entry_here}
+use Rattle.tok_buffer.specs.Private.Layout.{entry_here}
 use Rattle.tok_buffer.specs.declared.entry.Opening.{Opening as Sort}
 use Rattle.tok_buffer.specs.declared.entry.Entry.TheVariants.{Group}
 use Rattle.tok_buffer.proofs.Layouts.{not_leaf}

@@ -10,7 +10,7 @@ use Rattle.tok_core.specs.Weight.{weight}
 use Rattle.tok_core.proofs.Facts.{concat-none}
 use Rattle.tok_buffer.specs.declared.entry.Entry.{Entry}
 use Rattle.tok_buffer.specs.declared.entry.Entry.TheVariants.{Ident, Punct, Literal, Group, End}
-use Rattle.tok_buffer.specs.Layout.{leaf_entry, group_entry, layout, entries_of, stack_entry, stack_entries, forest_in}
+use Rattle.tok_buffer.specs.Private.Layout.{leaf_entry, group_entry, layout, entries_of, stack_entry, stack_entries, forest_in}
 use Rattle.tok_buffer.proofs.Forests.{turned_is}
 
 -- the leaf that an entry is

@@ -7,7 +7,7 @@ use Rattle.tok_core.specs.Weight.{weight}
 use Rattle.tok_buffer.specs.Place.{Owner, whole, in_group, Level, level, absorb}
 use Rattle.tok_buffer.specs.Rest.{owner_delimiter, levels_delimiter, scope_delimiter}
 use Rattle.tok_buffer.specs.Moves.{level_ahead, level_owner, move, levels_at, up_to, end_of, place_at, in_scope, at_end}
-use Rattle.tok_buffer.specs.Layout.{layout, entries_of, group_entry, back, entry_here, entry_owner}
+use Rattle.tok_buffer.specs.Private.Layout.{layout, entries_of, group_entry, back, entry_here, entry_owner}
 use Rattle.tok_buffer.specs.declared.entry.Entry.{Entry}
 use Rattle.tok_buffer.specs.declared.entry.Entry.TheVariants.{End}
 use Rattle.tok_buffer.proofs.Layouts.{length-layout, not_leaf}

@@ -6,7 +6,7 @@ use Rattle.tok_core.proofs.Facts.{concat-none, joined_assoc}
 use Rattle.tok_buffer.specs.Place.{Level, level, at}
 use Rattle.tok_buffer.specs.Moves.{level_ahead, move, levels_at, up_to, end_of, place_at, in_scope}
 use Rattle.tok_buffer.specs.Rest.{rest_in, rest}
-use Rattle.tok_buffer.specs.Layout.{leaf_entry, entry_here}
+use Rattle.tok_buffer.specs.Private.Layout.{leaf_entry, entry_here}
 use Rattle.tok_buffer.specs.declared.entry.Opening.{Opening as Sort}
 use Rattle.tok_buffer.specs.declared.entry.Entry.TheVariants.{Group, End}
 use Rattle.tok_buffer.proofs.Layouts.{same_leaf, not_leaf}

@@ -11,7 +11,7 @@ use Rattle.tok_buffer.specs.Entry.{same_delimiter}
 use Rattle.tok_buffer.specs.Ahead.{first_of}
 use Rattle.tok_buffer.specs.Place.{Owner, whole, Level, level, Place, empty_place, at, absorb}
 use Rattle.tok_buffer.specs.Moves.{level_ahead, move, levels_at, up_to, end_of, in_scope}
-use Rattle.tok_buffer.specs.Layout.{leaf_entry, entry_here}
+use Rattle.tok_buffer.specs.Private.Layout.{leaf_entry, entry_here}
 use Rattle.tok_buffer.specs.declared.entry.Opening.{Opening as Sort}
 use Rattle.tok_buffer.specs.declared.entry.Entry.TheVariants.{Group, End}
 use Rattle.tok_buffer.proofs.Layouts.{same_leaf, not_leaf}

@@ -10,7 +10,7 @@ use Rattle.tok_buffer.specs.Place.{Owner, whole, in_group, Level, level}
 use Rattle.tok_buffer.specs.Moves.{move, levels_at}
 use Rattle.tok_buffer.specs.declared.entry.Entry.{Entry}
 use Rattle.tok_buffer.specs.declared.entry.Entry.TheVariants.{End}
-use Rattle.tok_buffer.specs.Layout.{leaf_entry, layout, entries_of, forest_in, group_entry, entry_here}
+use Rattle.tok_buffer.specs.Private.Layout.{leaf_entry, layout, entries_of, forest_in, group_entry, entry_here}
 use Rattle.tok_buffer.proofs.Layouts.{layout-turned, length-layout}
 
 -- what lies before and after a level's content c

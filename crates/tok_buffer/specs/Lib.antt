@@ -7,12 +7,10 @@ pub mod Descent
 pub mod Entry
 pub mod Gives
 pub mod InFront
-pub mod Layout
 pub mod Lifetimes
 pub mod Messages
 pub mod Moves
 pub mod Order
-pub mod OrderLaws
 pub mod Place
 pub mod Progress
 pub mod Reached
@@ -22,6 +20,7 @@ pub mod SameView
 pub mod Spans
 pub mod View
 pub mod Refusals
+pub mod Private
 pub use Rattle.tok_core.specs.Clear
 pub use Rattle.tok_core.specs.Forest
 pub use Rattle.tok_core.specs.Laws

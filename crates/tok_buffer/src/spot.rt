@@ -23,7 +23,7 @@ impl<'a> Spot<'a> {
     ghost use Rattle.tok_core.specs.Weight.{weight};
     ghost use Rattle.tok_buffer.specs.Cursors.{spot_place};
     ghost use Rattle.tok_buffer.specs.Descent.{descend};
-    ghost use Rattle.tok_buffer.specs.Layout.{entry_here};
+    ghost use Rattle.tok_buffer.specs.Private.Layout.{entry_here};
     ghost use Rattle.tok_buffer.specs.Moves.{in_scope, place_at, advance, invisible_front, levels_at, level_ahead};
     ghost use Rattle.tok_buffer.specs.Place.{is_at_end, settled};
 

@@ -5,7 +5,7 @@ use Rattle.tok_core.specs.declared.span.Span.{Span}
 use Rattle.tok_core.specs.declared.stream.TokenTree.{TokenTree}
 use Rattle.tok_core.specs.Erase.{erase}
 use Rattle.tok_core.specs.Forest.{Tree, group, Forest, no_trees, tree, concat}
-use Rattle.tok_core.specs.Pending.{pending, pending_weight}
+use Rattle.tok_core.specs.Private.Pending.{pending, pending_weight}
 use Rattle.tok_core.specs.Seen.{tree_of, trees_of}
 use Rattle.tok_core.specs.Weight.{weight, tree_weight}
 use Rattle.tok_core.proofs.Facts.{concat-none, joined_assoc, erase-tree}

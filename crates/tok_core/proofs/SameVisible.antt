@@ -7,7 +7,7 @@ use Rattle.tok_lexical.specs.declared.delimiter.Delimiter.TheVariants.{Parenthes
 use Rattle.tok_core.specs.declared.span.Span.{Span}
 use Rattle.tok_core.specs.Erase.{erase}
 use Rattle.tok_core.specs.Forest.{group, Forest, no_trees, tree}
-use Rattle.tok_core.specs.Pending.{IsVisible}
+use Rattle.tok_core.specs.Private.Pending.{IsVisible}
 
 -- the first two are equal exactly where the others are
 pub record SameAs (p q f g : Forest) : Type 0 where

@@ -5,4 +5,3 @@ pub mod Items
 pub mod Meaning
 pub mod Reading
 pub mod Laws
-pub mod Built

@@ -1,4 +1,3 @@
-pub mod Alikes
 pub mod Clear
 pub mod Code
 pub mod Erase
@@ -6,11 +5,9 @@ pub mod Filled
 pub mod Forest
 pub mod Laws
 pub mod Lexical
-pub mod Pending
 pub mod Seen
 pub mod Spanless
 pub mod Spans
 pub mod Text
-pub mod TreeFalls
 pub mod Weight
-pub mod Kept
+pub mod Private

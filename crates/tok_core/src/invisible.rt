@@ -7,7 +7,7 @@ ghost use Rattle.tok_core.specs.Forest.{no_trees, tree, concat, tree_delimiter};
 ghost use Rattle.tok_core.specs.Seen.{group_of, tree_of, ident_of, literal_of, punct_of};
 ghost use Rattle.tok_core.specs.Spans.{tree_span};
 ghost use Rattle.tok_core.specs.Weight.{tree_weight};
-ghost use Rattle.tok_core.specs.Pending.{all_of, pending, pending_weight, IsVisible, invisible};
+ghost use Rattle.tok_core.specs.Private.Pending.{all_of, pending, pending_weight, IsVisible, invisible};
 ghost use Rattle.tok_core.specs.declared.span.Span.{Span};
 
 use crate::group::Group;

@@ -49,7 +49,7 @@ impl Model for TokenStream {
 
     ghost size = { weight };
 
-    ghost use Rattle.tok_core.specs.TreeFalls.{most_le_weight};
+    ghost use Rattle.tok_core.specs.Private.TreeFalls.{most_le_weight};
 
     ghost size_decreases = { λ a h. omega (arith, most_le_weight a.trees.items) };
 }

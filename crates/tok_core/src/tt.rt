@@ -4,7 +4,7 @@ ghost use Rattle.std.specs.Cmp.{partial_equiv_from_equiv, on_equiv};
 ghost use Rattle.tok_core.specs.Code.{delimiter_code};
 ghost use Rattle.tok_core.specs.Seen.{tree_of};
 ghost use Rattle.tok_core.specs.Spanless.{alike, spanless, tree_alike, tree_spanless, same_delimiter, same_spacing, spacing_number, tree_input, forest_input};
-ghost use Rattle.tok_core.specs.Alikes.{alike_equivalence, tree_alike_equivalence, forest_input-alike, tree_input-alike};
+ghost use Rattle.tok_core.specs.Private.Alikes.{alike_equivalence, tree_alike_equivalence, forest_input-alike, tree_input-alike};
 
 use tok_lexical::Delimiter;
 use crate::punct::Spacing;

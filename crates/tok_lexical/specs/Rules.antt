@@ -8,7 +8,8 @@ use Rattle.tok_lexical.specs.Strings.{IsString, IsQuoted, IsByte, IsEscapedChar,
 use Rattle.tok_lexical.specs.Strings.{IsStringPrefix}
 use Rattle.tok_lexical.specs.Numbers.{IsBased, IsDecimal, base_mark}
 use Rattle.tok_lexical.specs.Pieces.{IsOne, After}
-use Rattle.tok_lexical.specs.declared.delimiter.Delimiter.TheVariants.{Parenthesis, Brace, Bracket, None}
+use Rattle.tok_lexical.specs.declared.delimiter.Delimiter.TheVariants.{Parenthesis, Brace, Bracket}
+use Rattle.tok_lexical.specs.declared.delimiter.Delimiter.TheVariants.{None}
 use Rattle.tok_lexical.specs.declared.numbers.Base.TheVariants.{Hexadecimal, Octal, Binary}
 use Rattle.tok_lexical.specs.declared.rule.Rule.{Rule}
 use Rattle.tok_lexical.specs.declared.rule.Rule.TheVariants.{ByteOrderMark, Whitespace}

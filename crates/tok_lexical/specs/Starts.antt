@@ -5,7 +5,8 @@ use Rattle.std.specs.Char.{is_digit}
 use Rattle.tok_lexical.specs.Characters.{is_whitespace, is_punct}
 use Rattle.tok_lexical.specs.Words.{is_identifier_start}
 use Rattle.tok_lexical.specs.Rules.{plain_rules, marked_rules}
-use Rattle.tok_lexical.specs.declared.delimiter.Delimiter.TheVariants.{Parenthesis, Brace, Bracket, None}
+use Rattle.tok_lexical.specs.declared.delimiter.Delimiter.TheVariants.{Parenthesis, Brace, Bracket}
+use Rattle.tok_lexical.specs.declared.delimiter.Delimiter.TheVariants.{None}
 use Rattle.tok_lexical.specs.declared.rule.Rule.{Rule}
 use Rattle.tok_lexical.specs.declared.rule.Rule.TheVariants as rule
 use Rattle.tok_lexical.specs.declared.rule.Rules.{Rules}

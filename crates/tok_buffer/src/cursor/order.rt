@@ -38,7 +38,7 @@ impl<'a> PartialEq for Cursor<'a> {
     ghost use Rattle.std.specs.Ordering.{on};
     ghost use Rattle.tok_buffer.specs.Cursors.{place_of};
     ghost use Rattle.tok_buffer.specs.Order.{equal};
-    ghost use Rattle.tok_buffer.specs.OrderLaws.{equal_equiv};
+    ghost use Rattle.tok_buffer.specs.Private.OrderLaws.{equal_equiv};
 
     ghost eq = { on place_of equal };
 
@@ -57,7 +57,7 @@ impl<'a> PartialEq for Cursor<'a> {
 impl<'a> Eq for Cursor<'a> {
     ghost use Rattle.std.specs.Cmp.{on_equiv};
     ghost use Rattle.tok_buffer.specs.Cursors.{place_of};
-    ghost use Rattle.tok_buffer.specs.OrderLaws.{equal_equiv};
+    ghost use Rattle.tok_buffer.specs.Private.OrderLaws.{equal_equiv};
 
     ghost laws = { on_equiv place_of equal_equiv };
 }
@@ -70,7 +70,7 @@ impl<'a> PartialOrd for Cursor<'a> {
     ghost use Rattle.std.specs.Ordering.{on};
     ghost use Rattle.tok_buffer.specs.Cursors.{place_of};
     ghost use Rattle.tok_buffer.specs.Order.{order};
-    ghost use Rattle.tok_buffer.specs.OrderLaws.{order_partial};
+    ghost use Rattle.tok_buffer.specs.Private.OrderLaws.{order_partial};
 
     ghost partial_cmp = { on place_of order };
 

@@ -6,7 +6,7 @@ ghost use Rattle.tok_core.specs.Text as spec;
 ghost use Rattle.tok_lexical.specs.Delimiters as delimiters;
 ghost use Rattle.tok_core.specs.Text.{text};
 ghost use Rattle.tok_core.specs.Weight.{weight};
-ghost use Rattle.tok_buffer.specs.Layout.{leaf_in};
+ghost use Rattle.tok_buffer.specs.Private.Layout.{leaf_in};
 ghost use Rattle.tok_buffer.specs.Moves.{in_scope, place_at};
 ghost use Rattle.tok_buffer.specs.Rest.{rest};
 

@@ -20,7 +20,7 @@ use Rattle.tok_lexical.proofs.Lexical.Texts.{cut_length}
 use Rattle.std.proofs.lemmas.Bool.{false≢true, eqb-true}
 use Rattle.std.specs.Prelude.{Bool, true, false, not, ◌==◌, ◌||◌, ◌&&◌, Option, Some, None, IfSome, encode_utf8, encode_utf8_all}
 use Rattle.std.specs.List.{list_all}
-use Rattle.tok_core.specs.Lexical.Built.{IsBlank}
+use Rattle.tok_core.specs.Private.Built.{IsBlank}
 use Rattle.tok_lexical.specs.Comments.{is_line_doc, is_block_doc, is_not_line_feed, opens_line_doc, opens_block_doc, Closes, plain}
 use Rattle.tok_lexical.specs.Refusals.{refusal}
 use Rattle.tok_core.specs.Lexical.Meaning.{items}

@@ -5,7 +5,7 @@ use Rattle.std.specs.Str.{chars, IsUtf8}
 use Rattle.std.proofs.lemmas.List.{append-nil, map-append}
 use Rattle.tok_core.specs.Forest.{Forest, no_trees}
 use Rattle.tok_lexical.specs.Fits.{NoneBefore}
-use Rattle.tok_core.specs.Lexical.Built.{EndsInOther, IsBlank, levels_of, Holds, last, outer, Reached, Grows, HaltsAt}
+use Rattle.tok_core.specs.Private.Built.{EndsInOther, IsBlank, levels_of, Holds, last, outer, Reached, Grows, HaltsAt}
 use Rattle.tok_lexical.specs.Starts.{rules_of}
 use Rattle.tok_core.specs.Lexical.Errors.{OnRefused}
 use Rattle.tok_core.specs.Lexical.Items.{Item, no_items}

@@ -11,7 +11,7 @@ use Rattle.tok_core.specs.declared.span.Span.{Span}
 use Rattle.tok_core.specs.Lexical.Meaning.{punct_item, ident_item, literal_item}
 use Rattle.tok_core.specs.Forest.{Leaf, ident, punct, literal, Tree, leaf, group, Forest, no_trees, tree, concat}
 use Rattle.tok_core.specs.Lexical.Items.{Item, leaf_item, opening, closing, Flat, no_items, leaf_first, group_first, depth, Opens, inside, within}
-use Rattle.tok_core.specs.Lexical.Built.{Holds, last, outer, levels_of, Reached, Grows}
+use Rattle.tok_core.specs.Private.Built.{Holds, last, outer, levels_of, Reached, Grows}
 use Rattle.tok_core.specs.declared.lexer.nest.OpenGroup.{OpenGroup}
 use Rattle.tok_core.specs.declared.lexer.nest.TreeBuilder.{TreeBuilder}
 use Rattle.tok_core.proofs.Lexical.Flat.{flat_joined, depth_joined}

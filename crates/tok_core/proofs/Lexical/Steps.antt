@@ -2,7 +2,7 @@
 use Rattle.std.proofs.Common.{◌≡◌, ◌∙◌, ℕ, List, sym, ap, subst, Ok, Err, Result}
 use Rattle.std.specs.Prelude.{Option, Some}
 use Rattle.std.specs.Result.{IfErr}
-use Rattle.tok_core.specs.Lexical.Built.{Halts, by_meaning, unfit, deep, HaltsAt, IsTooDeep, IsUnfit, levels_of}
+use Rattle.tok_core.specs.Private.Built.{Halts, by_meaning, unfit, deep, HaltsAt, IsTooDeep, IsUnfit, levels_of}
 use Rattle.tok_core.specs.Lexical.Errors.{OnRefused}
 use Rattle.tok_lexical.specs.Refusals.{refusal}
 use Rattle.tok_lexical.specs.Fits.{IsFirstFit}

@@ -1,7 +1,7 @@
 // White space and comments between the pieces that mean something.
 ghost use Rattle.std.specs.Prelude.{◌<◌, ◌≤◌, ◌-◌, length, IfSome};
 ghost use Rattle.std.specs.Str.{chars, IsUtf8};
-ghost use Rattle.tok_core.specs.Lexical.Built.{IsBlank};
+ghost use Rattle.tok_core.specs.Private.Built.{IsBlank};
 
 use tok_lexical::classes::past_whitespace;
 use tok_lexical::comments::{opens_block_doc, opens_line_doc, past_block, past_line};

@@ -2,7 +2,7 @@
 ghost use Rattle.std.specs.Prelude.{◌≡◌, ℕ, ◌+◌, ◌<◌, ◌≤◌, ◌^◌, ◌∷◌, [], IfErr, OnOk, None, if◌then◌else◌, true};
 ghost use Rattle.std.specs.Str.{chars};
 ghost use Rattle.tok_core.specs.Forest.{no_trees};
-ghost use Rattle.tok_core.specs.Lexical.Built.{Grows, Reached, HaltsAt, IsTooDeep, IsUnfit};
+ghost use Rattle.tok_core.specs.Private.Built.{Grows, Reached, HaltsAt, IsTooDeep, IsUnfit};
 ghost use Rattle.tok_core.specs.Lexical.Errors.{OnRefused};
 ghost use Rattle.tok_core.specs.Lexical.Items.{opening, closing};
 ghost use Rattle.tok_lexical.specs.Refusals.{refusal};

@@ -1,7 +1,7 @@
 use Rattle.std.proofs.Common.{arith, refl, ◌∙◌, sym, ap, length, length-append, ◌++◌, ◌∷◌, []}
 use Rattle.std.proofs.lemmas.Result.{err_from_is_err_and}
 use Rattle.arguments.specs.Grammar.{comma, equals_sign}
-use Rattle.arguments.specs.Outcomes.{arguments_in}
+use Rattle.arguments.specs.Private.Outcomes.{arguments_in}
 use Rattle.tok_core.specs.Weight.{weight}
 use Rattle.tok_buffer.specs.View.{erased_ahead}
 use Rattle.syn_punctuated.specs.Lists.{values_of, separators_of}

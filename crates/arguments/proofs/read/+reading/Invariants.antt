@@ -2,7 +2,7 @@ use Rattle.std.proofs.Common.{◌+◌, ◌*◌, ◌≡◌, ◌≤◌, length}
 use Rattle.tok_core.specs.Weight.{weight}
 use Rattle.tok_buffer.specs.View.{erased_ahead}
 use Rattle.syn_punctuated.specs.Lists.{values_of, separators_of}
-use Rattle.arguments.specs.Reading.{IsFilled}
+use Rattle.arguments.specs.Private.Reading.{IsFilled}
 use Rattle.arguments.proofs.ListSteps.{SoFar}
 use Rattle.arguments.proofs.read.+reading.Given as goal
 

@@ -1,7 +1,7 @@
 use Rattle.std.proofs.Common.{sym, subst}
 use Rattle.tok_core.specs.Erase.{erase}
-use Rattle.arguments.specs.Outcomes.{arguments_in}
-use Rattle.arguments.specs.Reading.{IsOutcome}
+use Rattle.arguments.specs.Private.Outcomes.{arguments_in}
+use Rattle.arguments.specs.Private.Reading.{IsOutcome}
 use Rattle.arguments.specs.Results.{with_fault}
 use Rattle.arguments.proofs.Whole.{agree, parses-to}
 use Rattle.arguments.proofs.read.arguments_both.Goals as goal

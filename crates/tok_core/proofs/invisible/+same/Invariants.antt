@@ -1,6 +1,6 @@
 use Rattle.std.proofs.Common.{◌+◌, ◌≤◌}
 use Rattle.tok_core.specs.Erase.{erase}
-use Rattle.tok_core.specs.Pending.{all_of, pending, pending_weight}
+use Rattle.tok_core.specs.Private.Pending.{all_of, pending, pending_weight}
 use Rattle.tok_core.specs.Seen.{tree_of}
 use Rattle.tok_core.specs.Weight.{weight, tree_weight}
 use Rattle.tok_core.proofs.SameVisible.{SameAs}

@@ -1,4 +1,4 @@
-use Rattle.tok_core.specs.Alikes.{alike-decides, forest_input-spanless}
+use Rattle.tok_core.specs.Private.Alikes.{alike-decides, forest_input-spanless}
 use Rattle.tok_core.proofs.laws.streams_without_spans.Goals as goal
 
 pub returns-clause-equal : goal.returns-clause-equal

@@ -1,4 +1,4 @@
-use Rattle.tok_core.specs.Alikes.{tree_alike-decides, tree_input-spanless}
+use Rattle.tok_core.specs.Private.Alikes.{tree_alike-decides, tree_input-spanless}
 use Rattle.tok_core.specs.Seen.{tree_of}
 use Rattle.tok_core.proofs.laws.trees_without_spans.Goals as goal
 

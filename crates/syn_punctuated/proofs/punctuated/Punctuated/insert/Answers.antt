@@ -1,7 +1,7 @@
 use Rattle.std.proofs.Common.{arith, ◌≤◌, length}
 use Rattle.syn_punctuated.proofs.Inserts.{insert_in_front, insert_map}
 use Rattle.syn_punctuated.proofs.WithValue.{values_at_most}
-use Rattle.syn_punctuated.specs.Boxes.{boxed_values}
+use Rattle.syn_punctuated.specs.Private.Boxes.{boxed_values}
 use Rattle.syn_punctuated.proofs.punctuated.Punctuated.insert.Goals as goal
 
 pub returns-in_ok-insert-clause-ok : goal.returns-in_ok-insert-clause-ok

@@ -1,6 +1,6 @@
 use Rattle.std.proofs.Common.{ap, ◌∙◌, map, ◌++◌}
 use Rattle.syn_punctuated.proofs.IterRuns.{gives_in_order, gives_in_reverse}
-use Rattle.syn_punctuated.specs.Boxes.{boxed_values}
+use Rattle.syn_punctuated.specs.Private.Boxes.{boxed_values}
 use Rattle.syn_punctuated.specs.Pairs.{pair_of, end_of}
 use Rattle.syn_punctuated.proofs.PairedUp.{paired_up}
 use Rattle.syn_punctuated.proofs.punctuated.Punctuated.into_pairs.Goals as goal

@@ -1,6 +1,6 @@
 use Rattle.std.proofs.Common.{rules}
 use Rattle.syn_punctuated.proofs.IterRuns.{shows_in_order, shows_in_reverse}
-use Rattle.syn_punctuated.specs.Boxes.{boxed_values}
+use Rattle.syn_punctuated.specs.Private.Boxes.{boxed_values}
 use Rattle.syn_punctuated.specs.Pairs.{deref_both}
 use Rattle.syn_punctuated.proofs.PairedUp.{paired_up}
 use Rattle.syn_punctuated.proofs.punctuated.Punctuated.pairs.Goals as goal

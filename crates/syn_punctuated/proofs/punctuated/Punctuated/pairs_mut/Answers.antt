@@ -1,5 +1,5 @@
 use Rattle.std.proofs.Common.{rules}
-use Rattle.syn_punctuated.specs.Boxes.{boxed_values}
+use Rattle.syn_punctuated.specs.Private.Boxes.{boxed_values}
 use Rattle.syn_punctuated.proofs.PairedUp.{paired_up}
 use Rattle.syn_punctuated.proofs.punctuated.Punctuated.pairs_mut.Goals as goal
 

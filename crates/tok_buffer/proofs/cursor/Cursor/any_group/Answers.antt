@@ -1,7 +1,7 @@
 use Rattle.std.proofs.Common.{◌≡◌, ◌∙◌, sym}
 use Rattle.tok_buffer.specs.Cursors.{spot_place}
 use Rattle.tok_buffer.specs.Moves.{levels_at}
-use Rattle.tok_buffer.specs.Layout.{entry_here}
+use Rattle.tok_buffer.specs.Private.Layout.{entry_here}
 use Rattle.tok_buffer.specs.declared.entry.Entry.TheVariants.{Group}
 use Rattle.tok_buffer.proofs.Groups.{held_fits, held_within, held_settled, held_after, entered}
 use Rattle.tok_buffer.proofs.cursor.Cursor.any_group.Goals as goal

@@ -8,7 +8,7 @@ use Rattle.tok_lexical.specs.Delimiters.{opening}
 use Rattle.tok_core.specs.Weight.{weight}
 use Rattle.tok_buffer.specs.Moves.{in_scope, levels_at, place_at}
 use Rattle.tok_buffer.specs.Rest.{rest}
-use Rattle.tok_buffer.specs.Layout.{entry_here, entry_of, leaf_in}
+use Rattle.tok_buffer.specs.Private.Layout.{entry_here, entry_of, leaf_in}
 use Rattle.tok_buffer.specs.declared.entry.Entry.TheVariants.{Group}
 use Rattle.tok_buffer.proofs.InScope.{before_scope, place_step}
 use Rattle.tok_buffer.proofs.Groups.{held_fits, held_within, held_after}

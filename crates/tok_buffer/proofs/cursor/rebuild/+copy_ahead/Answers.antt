@@ -4,7 +4,7 @@ use Rattle.tok_core.specs.Seen.{tree_of}
 use Rattle.tok_core.specs.declared.stream.TokenTree.TheVariants as made
 use Rattle.tok_core.proofs.Facts.{concat-none}
 use Rattle.tok_buffer.specs.Moves.{levels_at}
-use Rattle.tok_buffer.specs.Layout.{entry_here, entry_of, leaf_in}
+use Rattle.tok_buffer.specs.Private.Layout.{entry_here, entry_of, leaf_in}
 use Rattle.tok_buffer.specs.declared.entry.Entry.TheVariants.{Group}
 use Rattle.tok_buffer.proofs.InScope.{before_scope, place_step}
 use Rattle.tok_buffer.proofs.Groups.{held_fits, held_within, held_after}

@@ -1,6 +1,6 @@
 use Rattle.std.proofs.Common.{◌∙◌, sym, ap}
 use Rattle.tok_buffer.specs.Spans.{closing_of}
-use Rattle.tok_buffer.specs.Layout.{entry_owner}
+use Rattle.tok_buffer.specs.Private.Layout.{entry_owner}
 use Rattle.tok_buffer.proofs.Owners.{owner_entry}
 use Rattle.tok_buffer.proofs.cursor.spans.owner_at.Goals as goal
 

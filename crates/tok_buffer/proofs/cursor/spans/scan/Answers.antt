@@ -1,7 +1,7 @@
 use Rattle.std.proofs.Common.{◌∙◌, ◌+◌, Some, sym, ap, arith}
 use Rattle.tok_buffer.specs.Moves.{levels_at, up_to, end_of}
 use Rattle.tok_buffer.specs.Ahead.{first_of}
-use Rattle.tok_buffer.specs.Layout.{entry_of, leaf_in}
+use Rattle.tok_buffer.specs.Private.Layout.{entry_of, leaf_in}
 use Rattle.tok_buffer.proofs.InScope.{before_scope, place_step}
 use Rattle.tok_buffer.proofs.Scans.{shown_from, shown_is, shown_done, shown_open, shown_close, scan_leaf, scan_group, marked, marked_is}
 use Rattle.tok_buffer.proofs.cursor.spans.scan.Goals as goal

@@ -1,7 +1,7 @@
 use Rattle.std.proofs.Common.{◌≡◌, ◌∙◌, sym, ap}
 use Rattle.tok_buffer.specs.Spans.{owner_closing}
 use Rattle.tok_buffer.specs.Moves.{levels_at}
-use Rattle.tok_buffer.specs.Layout.{entry_here, entry_of, entry_owner, leaf_in}
+use Rattle.tok_buffer.specs.Private.Layout.{entry_here, entry_of, entry_owner, leaf_in}
 use Rattle.tok_buffer.specs.declared.entry.Entry.TheVariants.{End}
 use Rattle.tok_buffer.proofs.Owners.{owner_entry}
 use Rattle.tok_buffer.proofs.Befores.{end_current, leaf_current, group_current}

@@ -1,6 +1,6 @@
 use Rattle.std.proofs.Common.{◌∙◌, sym, ap, refl, [], ◌∷◌, ◌++◌, length, arith}
 use Rattle.std.proofs.lemmas.List.{length-append}
-use Rattle.tok_core.specs.Pending.{all_of, pending, pending_weight}
+use Rattle.tok_core.specs.Private.Pending.{all_of, pending, pending_weight}
 use Rattle.tok_core.specs.Seen.{tree_of}
 use Rattle.tok_core.proofs.Pendings.{popped_none, taken, entered}
 use Rattle.tok_core.proofs.invisible.VisibleTrees.next.Goals as goal

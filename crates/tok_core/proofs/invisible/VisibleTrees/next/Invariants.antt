@@ -1,5 +1,5 @@
 use Rattle.std.proofs.Common.{◌≡◌, ◌+◌, ◌≤◌, length}
-use Rattle.tok_core.specs.Pending.{all_of, pending, pending_weight}
+use Rattle.tok_core.specs.Private.Pending.{all_of, pending, pending_weight}
 use Rattle.tok_core.proofs.invisible.VisibleTrees.next.Given as goal
 
 abbrev pub decreases-loop-first : goal.decreases-loop-first

@@ -2,7 +2,7 @@ use Rattle.std.proofs.Common.{◌-◌, ◌≤◌, length}
 use denote.Text.{Utf8}
 use denote.Shadow.{shadow}
 use Rattle.std.specs.Str.{chars}
-use Rattle.tok_core.specs.Lexical.Built.{IsBlank}
+use Rattle.tok_core.specs.Private.Built.{IsBlank}
 use Rattle.tok_core.proofs.lexer.blanks.past_comments.Given as goal
 
 abbrev pub invariant-loop-next : goal.invariant-loop-next

@@ -1,7 +1,7 @@
 use Rattle.std.proofs.Common.{◌∙◌, sym, ap, subst}
 use Rattle.std.proofs.lemmas.Str.{IsUtf8-from_is_utf8}
 use Rattle.std.specs.Prelude.{string_bytes}
-use Rattle.tok_core.specs.Kept.{IsKept, bytes_of}
+use Rattle.tok_core.specs.Private.Kept.{IsKept, bytes_of}
 use Rattle.tok_core.proofs.text.Text.as_str.Goals as goal
 
 pub unreachable-requires : goal.unreachable-requires

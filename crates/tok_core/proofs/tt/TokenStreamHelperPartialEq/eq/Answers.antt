@@ -1,5 +1,5 @@
 use Rattle.std.proofs.Common.{sym, ◌∙◌}
-use Rattle.tok_core.specs.Alikes.{alike-decides}
+use Rattle.tok_core.specs.Private.Alikes.{alike-decides}
 use Rattle.tok_core.proofs.tt.TokenStreamHelperPartialEq.eq.Goals as goal
 
 pub returns-clause-spanless : goal.returns-clause-spanless

@@ -1,5 +1,5 @@
 use Rattle.std.proofs.Common.{sym, ◌∙◌}
-use Rattle.tok_core.specs.Alikes.{tree_alike-decides}
+use Rattle.tok_core.specs.Private.Alikes.{tree_alike-decides}
 use Rattle.tok_core.specs.Seen.{tree_of}
 use Rattle.tok_core.proofs.tt.TokenTreeHelperPartialEq.eq.Goals as goal
 

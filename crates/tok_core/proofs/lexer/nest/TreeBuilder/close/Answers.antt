@@ -1,5 +1,5 @@
 use Rattle.std.proofs.Common.{◌≡◌, subst, refl, rules, arith}
-use Rattle.tok_core.specs.Lexical.Built.{Reached}
+use Rattle.tok_core.specs.Private.Built.{Reached}
 use Rattle.tok_core.proofs.Lexical.Nests.{grows_closed, reached_pop}
 use Rattle.tok_core.proofs.lexer.nest.TreeBuilder.close.Goals as goal
 

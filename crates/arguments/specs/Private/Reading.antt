@@ -14,9 +14,9 @@ use Rattle.syn_parse.specs.Faults.{IsMemory, Refuses}
 use Rattle.syn_parse.specs.State.{State}
 use Rattle.syn_parse.specs.declared.fault.Fault.{Fault}
 use Rattle.syn_punctuated.specs.Lists.{values_of, separators_of}
-use Rattle.arguments.specs.Forms.{Form, Forms, IsForm, AreForms}
-use Rattle.arguments.specs.Outcomes.{Outcome, Found, Refused, arguments_in, after_name}
-use Rattle.arguments.specs.Outcomes.{after_argument}
+use Rattle.arguments.specs.Private.Forms.{Form, Forms, IsForm, AreForms}
+use Rattle.arguments.specs.Private.Outcomes.{Outcome, Found, Refused, arguments_in, after_name}
+use Rattle.arguments.specs.Private.Outcomes.{after_argument}
 use Rattle.arguments.specs.Values.{Arguments}
 use Rattle.arguments.specs.declared.argument.Argument.{Argument}
 use Rattle.arguments.specs.declared.argument.Value.{Value}

@@ -6,8 +6,8 @@ use Rattle.tok_lexical.specs.declared.delimiter.Delimiter.TheVariants.{Parenthes
 use Rattle.tok_core.specs.declared.ident.Ident.{Ident}
 use Rattle.tok_types.specs.Texts.{accept_as_ident, in_backquotes}
 use Rattle.syn_parse.specs.RefusalWords.{expected}
-use Rattle.arguments.specs.Forms.{Form, flag, assigned, with_list}
-use Rattle.arguments.specs.Forms.{Forms, no_forms, one_form, joined_forms}
+use Rattle.arguments.specs.Private.Forms.{Form, flag, assigned, with_list}
+use Rattle.arguments.specs.Private.Forms.{Forms, no_forms, one_form, joined_forms}
 use Rattle.arguments.specs.Grammar.{equals_sign, comma}
 use Rattle.arguments.specs.Values.{Equals, Comma, sign_at}
 
