@@ -11,12 +11,12 @@ ghost use Rattle.tok_core.specs.Private.Pending.{all_of, pending, pending_weight
 ghost use Rattle.tok_core.specs.declared.span.Span.{Span};
 
 use crate::group::Group;
-use tok_lexical::Delimiter;
 use crate::ident::Ident;
 use crate::literal::Literal;
 use crate::punct::{Punct, Spacing};
 use crate::stream::{TokenStream, TokenTree};
 use std::alloc::{AllocError, Global};
+use tok_lexical::Delimiter;
 
 /// Whether each invisible group of a stream, at any depth, holds a visible tree.
 #[cycle(filled)]

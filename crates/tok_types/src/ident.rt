@@ -4,11 +4,11 @@ ghost use Rattle.tok_core.specs.Forest.{ident};
 ghost use Rattle.tok_core.specs.Seen.{ident_of};
 ghost use Rattle.tok_types.specs.Printed.{first_span};
 
-use tok_core::known::identifier;
 use crate::token;
 use crate::underscore::Underscore;
 use std::alloc::{AllocError, Global};
 use tok_core::Ident;
+use tok_core::known::identifier;
 
 impl token::SelfValue {
     /// The identifier `self`.

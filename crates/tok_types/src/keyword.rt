@@ -10,12 +10,12 @@ ghost use Rattle.tok_types.specs.Texts.{keyword_text, in_backquotes};
 
 use crate::look::Token;
 use crate::names::append_word;
-use tok_core::known::identifier;
 use crate::texts::{keyword_display, keyword_text};
 use std::alloc::{AllocError, Global};
 use std::fmt;
 use std::fmt::{Debug, Formatter, Write};
 use tok_buffer::Cursor;
+use tok_core::known::identifier;
 use tok_core::{Ident, Span, ToTokens, TokenStream};
 
 /// The keyword of the number `K` in the table of keywords: `token::Fn` is `Keyword<18>`. Past the table it has no text, is

@@ -9,9 +9,7 @@ ghost use Rattle.tok_buffer.specs.CompileErrors.{invocation, segment};
 use crate::error::{Error, Message};
 use std::alloc::{AllocError, Global};
 use tok_core::known::{identifier, punct};
-use tok_core::{
-    Delimiter, Group, Literal, Spacing, Span, TokenStream, TokenTree,
-};
+use tok_core::{Delimiter, Group, Literal, Spacing, Span, TokenStream, TokenTree};
 
 impl Error {
     ghost use Rattle.tok_buffer.specs.CompileErrors.{compile_errors};

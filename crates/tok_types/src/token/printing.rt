@@ -7,8 +7,7 @@ ghost use Rattle.tok_core.specs.Seen.{punct_of};
 ghost use Rattle.tok_types.specs.Printed.{puncts, spacing};
 
 use std::alloc::AllocError;
-use tok_core::known;
-use tok_core::{Punct, Spacing, Span, TokenStream, TokenTree};
+use tok_core::{Punct, Spacing, Span, TokenStream, TokenTree, known};
 
 /// Writes a punct for each character of a text, each but the last joint, at the span with the same index. Writes nothing if
 /// there aren't as many spans as bytes, or if a character is no punct's. After an allocation failure, the puncts that were
