@@ -7,6 +7,7 @@ pub mod reads;
 pub mod stream;
 pub mod streams;
 pub mod table;
+pub mod tokens;
 
 ghost use Rattle.std.specs.Prelude.{◌≡◌, ◌<◌, ◌∷◌, length, Some, None, IfOk, map, true};
 ghost use Rattle.syn_tokens.specs.Session.State.{stream_at};

@@ -9,7 +9,7 @@ ghost use Rattle.syn_tokens.specs.Meanings.{kind_of, pieces_in, separator_of};
 
 use crate::command::{Kind, Separator};
 use crate::report::{Answer, Piece};
-use crate::session::{pieces, reads};
+use crate::session::{pieces, tokens};
 use std::alloc::{AllocError, Global};
 use syn_parse::{ParseStream, Result};
 use syn_punctuated::Punctuated;
@@ -54,7 +54,7 @@ fn list_by<const K: usize, const N: usize>(
     ensures { IsRead (list_command form (kind_of kind) text.now) input.old result input.new }
 {
     let alloc = input.allocator();
-    let token = |stream: ParseStream<'_, '_>| reads::parse(stream, kind);
+    let token = |stream: ParseStream<'_, '_>| tokens::parse(stream, kind);
     let list: Punctuated<Vec<Piece>, Punctuation<K, N>> = match form {
         Form::Terminated => Punctuated::parse_terminated_with(input, token)?,
         Form::Separated => Punctuated::parse_separated_nonempty_with(input, token)?,

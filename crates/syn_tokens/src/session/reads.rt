@@ -1,27 +1,19 @@
 // Commands on one stream.
-ghost use Rattle.std.specs.Prelude.{◌≡◌, ◌≤◌, ◌∷◌, [], true, length, map, IfOk};
-ghost use Rattle.std.specs.Str.{chars};
+ghost use Rattle.std.specs.Prelude.{◌≡◌, ◌∷◌, [], true, map, IfOk};
 ghost use Rattle.tok_core.specs.Forest.{forest};
 ghost use Rattle.tok_core.specs.Seen.{tree_of};
-ghost use Rattle.tok_buffer.specs.Reads.{read_punctuation};
-ghost use Rattle.tok_buffer.specs.Reads.{read_keyword};
-ghost use Rattle.tok_types.specs.Texts.{in_backquotes};
-ghost use Rattle.syn_parse.specs.RefusalWords.{expected, refused_at, punctuation_refusal};
 ghost use Rattle.syn_tokens.specs.Commands as commands;
-ghost use Rattle.syn_tokens.specs.Kinds as spec;
 ghost use Rattle.syn_tokens.specs.Session.Step.{looked};
-ghost use Rattle.syn_tokens.specs.Session.Reading.{GivesAnswer, IsRead, ReadsPieces, is_read};
+ghost use Rattle.syn_tokens.specs.Session.Reading.{GivesAnswer, IsRead, is_read};
 ghost use Rattle.syn_tokens.specs.Meanings.{command_of, kind_of, look_of};
 
 use crate::command::{Command, Kind, Look};
-use crate::report::{Answer, Piece};
+use crate::report::Answer;
 use crate::session::lists::{self, Form};
-use crate::session::pieces;
+use crate::session::tokens;
 use std::alloc::{AllocError, Global};
-use syn_parse::{IdentExt, LifetimeExt, ParseBuffer, ParseStream, Result, parsing};
-use tok_buffer::Lifetime;
-use tok_core::{Group, Ident, Literal, Punct, TokenStream, TokenTree};
-use tok_types::token::{keyword_text, punctuation_text};
+use syn_parse::{ParseBuffer, ParseStream, Result};
+use tok_core::{Group, TokenStream, TokenTree};
 
 /// Answers a command that concerns no other stream.
 pub fn answer(input: ParseStream<'_, '_>, command: &Command) -> Result<Answer>
@@ -32,7 +24,7 @@ pub fn answer(input: ParseStream<'_, '_>, command: &Command) -> Result<Answer>
         Command::Peek(_, look) => Ok(Answer::Truth(look.peek(input.cursor()))),
         Command::Peek2(_, look) => Ok(Answer::Truth(look.peek2(input.cursor()))),
         Command::Peek3(_, look) => Ok(Answer::Truth(look.peek3(input.cursor()))),
-        Command::Parse(_, kind) => Ok(Answer::Read(parse(input, *kind)?)),
+        Command::Parse(_, kind) => Ok(Answer::Read(tokens::parse(input, *kind)?)),
         Command::Optional(_, kind) => optional(input, *kind),
         Command::Empty(_) => Ok(Answer::Truth(input.is_empty())),
         Command::Terminated(_, kind, separator) => {
@@ -63,7 +55,7 @@ fn optional(input: ParseStream<'_, '_>, kind: Kind) -> Result<Answer>
     ensures { IsRead (commands.optional 0 (kind_of kind)) input.old result input.new }
 {
     if kind.peek(input.cursor()) {
-        Ok(Answer::Read(parse(input, kind)?))
+        Ok(Answer::Read(tokens::parse(input, kind)?))
     } else {
         Ok(Answer::Absent)
     }
@@ -112,75 +104,4 @@ fn only(alloc: Global, tree: TokenTree) -> std::result::Result<TokenStream, Allo
     let mut stream = TokenStream::new(alloc);
     stream.append(tree)?;
     Ok(stream)
-}
-
-/// A token of this kind.
-pub fn parse(input: ParseStream<'_, '_>, kind: Kind) -> Result<Vec<Piece>>
-    ensures { ReadsPieces (spec.read (kind_of kind) input.old.place)
-        (spec.refusal (kind_of kind) input.old) input.old result input.new }
-{
-    let alloc = input.allocator();
-    match kind {
-        Kind::Ident => {
-            let ident = input.parse::<Ident>()?;
-            Ok(pieces::ident(alloc, &ident)?)
-        }
-        Kind::IdentAny => {
-            let ident = Ident::parse_any(input)?;
-            Ok(pieces::ident(alloc, &ident)?)
-        }
-        Kind::Lifetime => {
-            let lifetime = input.parse::<Lifetime>()?;
-            Ok(pieces::lifetime(alloc, &lifetime)?)
-        }
-        Kind::LifetimeAny => {
-            let lifetime = Lifetime::parse_any(input)?;
-            Ok(pieces::lifetime(alloc, &lifetime)?)
-        }
-        Kind::Literal => {
-            let literal = input.parse::<Literal>()?;
-            Ok(pieces::literal(alloc, &literal)?)
-        }
-        Kind::Punct => {
-            let punct = input.parse::<Punct>()?;
-            Ok(pieces::punct(alloc, punct)?)
-        }
-        Kind::Underscore => keyword(input, "_"),
-        Kind::Keyword(k) => keyword(input, keyword_text(k)),
-        Kind::Punctuation(k) => punctuation(input, punctuation_text(k)),
-    }
-}
-
-// The identifier of this text.
-fn keyword(input: ParseStream<'_, '_>, text: &str) -> Result<Vec<Piece>>
-    ensures { ReadsPieces (read_keyword text.now input.old.place)
-        (refused_at input.old (expected (in_backquotes text.now))) input.old result input.new }
-{
-    let alloc = input.allocator();
-    let span = parsing::keyword(input, text)?;
-    Ok(pieces::word(alloc, text, span)?)
-}
-
-// The puncts of this text, which is ASCII, of three characters at most.
-fn punctuation(input: ParseStream<'_, '_>, text: &str) -> Result<Vec<Piece>>
-    requires short { length text.now ≤ 3 }
-    requires ascii { chars text.now ≡ text.now }
-    ensures { ReadsPieces (read_punctuation text.now input.old.place)
-        (punctuation_refusal text.now input.old) input.old result input.new }
-{
-    let alloc = input.allocator();
-    match text.len() {
-        3 => {
-            let spans = parsing::punct::<3>(input, text)?;
-            Ok(pieces::characters(alloc, text.as_bytes(), &spans)?)
-        }
-        2 => {
-            let spans = parsing::punct::<2>(input, text)?;
-            Ok(pieces::characters(alloc, text.as_bytes(), &spans)?)
-        }
-        _ => {
-            let spans = parsing::punct::<1>(input, text)?;
-            Ok(pieces::characters(alloc, text.as_bytes(), &spans)?)
-        }
-    }
 }

@@ -2,7 +2,7 @@ use Rattle.std.proofs.Common.{◌≡◌, ◌<◌, ◌∙◌, ap, map, length, ru
 use Rattle.syn_tokens.specs.Session.Reading.{punct_pieces}
 use Rattle.syn_tokens.specs.Meanings.{piece_of}
 use Rattle.syn_tokens.proofs.ReadPieces.{sized-pieces, sized-refused, sized_same, sized_short}
-use Rattle.syn_tokens.proofs.session.reads.punctuation.Goals as goal
+use Rattle.syn_tokens.proofs.session.tokens.punctuation.Goals as goal
 
 pub returns-in_err-spans-in_default : goal.returns-in_err-spans-in_default
 returns-in_err-spans-in_default c =

@@ -9,7 +9,7 @@ use Rattle.syn_tokens.specs.declared.command.Kind.TheVariants.{Ident, IdentAny, 
 use Rattle.syn_tokens.specs.Kinds.{read}
 use Rattle.syn_tokens.proofs.ReadPieces.{value-pieces, value-pieces-at-once}
 use Rattle.syn_tokens.proofs.Tables.{punctuation-short, punctuation-text-chars}
-use Rattle.syn_tokens.proofs.session.reads.parse.Goals as goal
+use Rattle.syn_tokens.proofs.session.tokens.parse.Goals as goal
 
 pub punctuation-requires-clause-short : goal.punctuation-requires-clause-short
 punctuation-requires-clause-short c =
