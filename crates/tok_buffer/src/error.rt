@@ -2,7 +2,7 @@
 mod compile_error;
 mod iter;
 
-ghost use Rattle.std.specs.Prelude.{◌≡◌, ◌<◌, ◌≤◌, ◌+◌, [], ◌∷◌, ◌++◌, IfOk, vec_len, vec_capacity};
+ghost use Rattle.std.specs.Prelude.{◌≡◌, [], ◌∷◌, ◌++◌, IfOk};
 ghost use Rattle.tok_core.specs.Seen.{trees_of};
 ghost use Rattle.tok_buffer.specs.Spans.{spanned};
 
@@ -51,19 +51,6 @@ impl Message {
             end: self.end,
             text: self.text.clone()?,
         })
-    }
-}
-
-// A push where there is room.
-fn put(messages: &mut Vec<Message>, message: Message)
-    requires { vec_len messages.old < vec_capacity messages.old }
-    ensures items { messages.new.items ≡ messages.old.items ++ message ∷ [] }
-    ensures len { vec_len messages.new ≡ vec_len messages.old + 1 }
-    ensures room { vec_capacity messages.old ≤ vec_capacity messages.new }
-{
-    match messages.push(message) {
-        Ok(()) => {}
-        Err(_) => unreachable!(),
     }
 }
 
@@ -218,7 +205,7 @@ impl Error {
     {
         let Error { first, mut more } = another;
         self.more.reserve(more.len().saturating_add(1))?;
-        put(&mut self.more, first);
+        self.more.push_reserved(first);
         match self.more.append(&mut more) {
             Ok(()) => Ok(()),
             Err(_) => unreachable!(),
