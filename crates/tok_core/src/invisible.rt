@@ -4,16 +4,15 @@ ghost use Rattle.tok_core.specs.Clear.{clear, tree_clear, ends_joint, is_joint_a
 ghost use Rattle.tok_core.specs.Erase.{erase};
 ghost use Rattle.tok_core.specs.Filled.{filled};
 ghost use Rattle.tok_core.specs.Forest.{no_trees, tree, concat, tree_delimiter};
-ghost use Rattle.tok_core.specs.Seen.{group_of, tree_of, ident_of, literal_of, punct_of};
+ghost use Rattle.tok_core.specs.Seen.{group_of, tree_of};
 ghost use Rattle.tok_core.specs.Spans.{tree_span};
 ghost use Rattle.tok_core.specs.Weight.{tree_weight};
 ghost use Rattle.tok_core.specs.Private.Pending.{all_of, pending, pending_weight, IsVisible, invisible};
 ghost use Rattle.tok_core.specs.declared.span.Span.{Span};
 
 use crate::group::Group;
-use crate::ident::Ident;
-use crate::literal::Literal;
-use crate::punct::{Punct, Spacing};
+use crate::punct::Spacing;
+use crate::same::{same_ident, same_literal, same_punct};
 use crate::stream::{TokenStream, TokenTree};
 use std::alloc::{AllocError, Global};
 use tok_lexical::Delimiter;
@@ -184,26 +183,6 @@ fn same_edges(left: &Group, right: &Group) -> bool
         × (tree_span (group_of left.now) ≡ tree_span (group_of right.now))) }
 {
     left.delimiter() == right.delimiter() && left.span() == right.span()
-}
-
-fn same_ident(left: &Ident, right: &Ident) -> bool
-    ensures { IsTrue result ↔ (ident_of left.now ≡ ident_of right.now) }
-{
-    left.as_str() == right.as_str() && left.span() == right.span()
-}
-
-fn same_literal(left: &Literal, right: &Literal) -> bool
-    ensures { IsTrue result ↔ (literal_of left.now ≡ literal_of right.now) }
-{
-    left.as_str() == right.as_str() && left.span() == right.span()
-}
-
-fn same_punct(left: Punct, right: Punct) -> bool
-    ensures { IsTrue result ↔ (punct_of left ≡ punct_of right) }
-{
-    left.as_char() == right.as_char()
-        && left.spacing() == right.spacing()
-        && left.span() == right.span()
 }
 
 // The visible trees to come: those at hand, and after them those that follow each invisible group that is entered, the

@@ -11,6 +11,7 @@ mod lexer;
 mod literal;
 mod print;
 mod punct;
+pub mod same;
 mod span;
 mod stream;
 mod text;

@@ -1,10 +1,11 @@
 // Pieces and streams compared, spans included.
 ghost use Rattle.std.specs.Prelude.{◌≡◌, ◌↔◌, map, IsTrue};
-ghost use Rattle.tok_core.specs.Seen.{ident_of, literal_of, punct_of, tree_of};
+ghost use Rattle.tok_core.specs.Seen.{tree_of};
 ghost use Rattle.syn_tokens.specs.Meanings.{piece_of, pieces_in};
 
 use crate::report::Piece;
-use tok_core::{Ident, Literal, Punct, TokenStream, TokenTree};
+use tok_core::same::{same_ident, same_literal, same_punct};
+use tok_core::{TokenStream, TokenTree};
 
 fn same_piece(left: &Piece, right: &Piece) -> bool
     ensures { IsTrue result ↔ (piece_of left.now ≡ piece_of right.now) }
@@ -75,24 +76,4 @@ fn same_tree(left: &TokenTree, right: &TokenTree) -> bool
         (TokenTree::Literal(left), TokenTree::Literal(right)) => same_literal(left, right),
         _ => false,
     }
-}
-
-fn same_ident(left: &Ident, right: &Ident) -> bool
-    ensures { IsTrue result ↔ (ident_of left.now ≡ ident_of right.now) }
-{
-    left.as_str() == right.as_str() && left.span() == right.span()
-}
-
-fn same_literal(left: &Literal, right: &Literal) -> bool
-    ensures { IsTrue result ↔ (literal_of left.now ≡ literal_of right.now) }
-{
-    left.as_str() == right.as_str() && left.span() == right.span()
-}
-
-fn same_punct(left: Punct, right: Punct) -> bool
-    ensures { IsTrue result ↔ (punct_of left ≡ punct_of right) }
-{
-    left.as_char() == right.as_char()
-        && left.spacing() == right.spacing()
-        && left.span() == right.span()
 }
