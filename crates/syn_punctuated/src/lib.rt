@@ -9,7 +9,6 @@ mod into_pairs;
 mod iter;
 mod iter_mut;
 pub mod laws;
-mod lends;
 mod pair;
 mod pairs;
 mod pairs_mut;
@@ -19,6 +18,7 @@ mod punctuated;
 mod retain;
 mod separated;
 mod terminated;
+mod values_mut;
 
 pub use extends::PairsFault;
 pub use into_iter::IntoIter;

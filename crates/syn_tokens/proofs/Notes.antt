@@ -7,7 +7,7 @@ use Rattle.std.specs.Prelude.{◌&&◌, not, cond}
 use Rattle.tok_buffer.specs.Ahead.{Leftover, leftover}
 use Rattle.tok_buffer.specs.Place.{Place}
 use Rattle.syn_tokens.specs.Session.Acceptance.{IsShut}
-use Rattle.syn_tokens.specs.Session.State.{Stream, State, StreamKind, outermost, content_of, a_fork, stream_at, with_stream, spent, noted, handed_note, is_content_of, is_open_content_of, noted_on_parent, handed_up, contents_closed, closed_inside}
+use Rattle.syn_tokens.specs.Session.State.{Stream, State, StreamKind, outermost, content_of, a_fork, stream_at, with_stream, spent, with_note, handed_note, is_content_of, is_open_content_of, with_note_on_parent, handed_up, contents_closed, closed_inside}
 use Rattle.syn_tokens.specs.Session.Step.{is_spent, tested}
 use Rattle.syn_tokens.proofs.Spending.{changed_at, changed_not, mapped}
 
@@ -234,14 +234,14 @@ pub record Up (st after : State) (k p : ℕ) : Type 0 where
   pub there : stream_at st p ≡ Some parent
   pub parent_open : parent.is_open ≡ true
   pub mine : stream_at after k ≡ Some (spent stream)
-  pub noted_there : stream_at after p ≡ Some (noted (handed_note stream) parent)
+  pub noted_there : stream_at after p ≡ Some (with_note (handed_note stream) parent)
   pub others : (j : ℕ) → j ≢ k → j ≢ p → stream_at after j ≡ stream_at st j
 
-up_state : (o : Option Stream) (s : Stream) (st : State) (k p : ℕ) → o ≡ Some s → s.kind ≡ content_of p → ◌≡◌ {A = State} (elim o [ None ↦ st | Some z ↦ with_stream (noted_on_parent z.kind (handed_note z) st) k spent ]) (with_stream (with_stream st p (noted (handed_note s))) k spent)
+up_state : (o : Option Stream) (s : Stream) (st : State) (k p : ℕ) → o ≡ Some s → s.kind ≡ content_of p → ◌≡◌ {A = State} (elim o [ None ↦ st | Some z ↦ with_stream (with_note_on_parent z.kind (handed_note z) st) k spent ]) (with_stream (with_stream st p (with_note (handed_note s))) k spent)
 up_state None s st k p e f = cc
 up_state (Some t) s st k p e f =
     let same : t ≡ s = cc in
-    ap (λ z. with_stream (noted_on_parent z.kind (handed_note z) st) k spent) same ∙ ap (λ kind. with_stream (noted_on_parent kind (handed_note s) st) k spent) f
+    ap (λ z. with_stream (with_note_on_parent z.kind (handed_note z) st) k spent) same ∙ ap (λ kind. with_stream (with_note_on_parent kind (handed_note s) st) k spent) f
 
 pub up : (st : State) (k p : ℕ) (s : Stream) → Tidy st → stream_at st k ≡ Some s → s.is_open ≡ true → s.kind ≡ content_of p → Up st (handed_up k st) k p
 up st k p s tidy e o f =
@@ -249,7 +249,7 @@ up st k p s tidy e o f =
     let below = in_parent.below in
     let t = in_parent.parent in
     let h = handed_note s in
-    let mid = with_stream st p (noted h) in
+    let mid = with_stream st p (with_note h) in
     let same : handed_up k st ≡ with_stream mid k spent = up_state (stream_at st k) s st k p e f in
     let apart : k ≢ p = λ q. omega (arith, q, below) in
     let apart_back : p ≢ k = λ q. omega (arith, q, below) in
@@ -262,9 +262,9 @@ up st k p s tidy e o f =
       below = below;
       there = t.there;
       parent_open = t.is_open;
-      mine = ap (λ z. stream_at z k) same ∙ changed_at mid k spent ∙ ap (mapped spent) (changed_not st p k (noted h) apart ∙ e);
-      noted_there = ap (λ z. stream_at z p) same ∙ changed_not mid k p spent apart_back ∙ changed_at st p (noted h) ∙ ap (mapped (noted h)) t.there;
-      others = λ j d g. ap (λ z. stream_at z j) same ∙ changed_not mid k j spent d ∙ changed_not st p j (noted h) g;
+      mine = ap (λ z. stream_at z k) same ∙ changed_at mid k spent ∙ ap (mapped spent) (changed_not st p k (with_note h) apart ∙ e);
+      noted_there = ap (λ z. stream_at z p) same ∙ changed_not mid k p spent apart_back ∙ changed_at st p (with_note h) ∙ ap (mapped (with_note h)) t.there;
+      others = λ j d g. ap (λ z. stream_at z j) same ∙ changed_not mid k j spent d ∙ changed_not st p j (with_note h) g;
     }
 
 ages_spent : (s : Stream) → s.is_open ≡ true → Ages s (spent s)
@@ -274,7 +274,7 @@ pub none_of : (a b : Option Leftover) → option_or a b ≡ None → (a ≡ None
 none_of None b h = (refl, h)
 none_of (Some x) b h = cc
 
-ages_noted : (n : Option Leftover) (s : Stream) → s.is_open ≡ true → Ages s (noted n s)
+ages_noted : (n : Option Leftover) (s : Stream) → s.is_open ≡ true → Ages s (with_note n s)
 ages_noted n s h = record { kind = refl; open_before = λ q. q; note_before = λ q. (none_of s.note n q).0; whole = λ q. absurd (not_both s.is_open h q) }
 
 pub tells : (j k : ℕ) → (j ≡ k) ⊎ (j ≢ k)
@@ -301,7 +301,7 @@ up_older st after k p u j s e = go (which k p j) where
       record { stream = spent u.stream; there = ap (stream_at after) q ∙ u.mine; ages = subst (λ z. Ages z (spent u.stream)) same (ages_spent u.stream u.is_open) }
   go (is_parent q) =
       let same : u.parent ≡ s = one_stream (stream_at st p) u.parent s u.there (ap (stream_at st) (sym q) ∙ e) in
-      record { stream = noted (handed_note u.stream) u.parent; there = ap (stream_at after) q ∙ u.noted_there; ages = subst (λ z. Ages z (noted (handed_note u.stream) u.parent)) same (ages_noted (handed_note u.stream) u.parent u.parent_open) }
+      record { stream = with_note (handed_note u.stream) u.parent; there = ap (stream_at after) q ∙ u.noted_there; ages = subst (λ z. Ages z (with_note (handed_note u.stream) u.parent)) same (ages_noted (handed_note u.stream) u.parent u.parent_open) }
   go (is_other d g) = record { stream = s; there = u.others j d g ∙ e; ages = ages_self s }
 
 -- a stream has no open content
@@ -324,7 +324,7 @@ up_places st after k p u j s t e f = go (which k p j) where
       ap (λ z. z.place) (sym new) ∙ ap (λ z. z.place) old
   go (is_parent q) =
       let old : u.parent ≡ s = one_stream (stream_at st p) u.parent s u.there (ap (stream_at st) (sym q) ∙ e) in
-      let new : noted (handed_note u.stream) u.parent ≡ t = one_stream (stream_at after p) (noted (handed_note u.stream) u.parent) t u.noted_there (ap (stream_at after) (sym q) ∙ f) in
+      let new : with_note (handed_note u.stream) u.parent ≡ t = one_stream (stream_at after p) (with_note (handed_note u.stream) u.parent) t u.noted_there (ap (stream_at after) (sym q) ∙ f) in
       ap (λ z. z.place) (sym new) ∙ ap (λ z. z.place) old
   go (is_other d g) = ap (λ z. z.place) (one_stream (stream_at after j) t s f (u.others j d g ∙ e))
 
@@ -333,7 +333,7 @@ up_open : (st after : State) (k p j : ℕ) → Up st after k p → HoldsOpen st 
 up_open st after k p j u h apart = go (which k p j) where
   go : Which k p j → HoldsOpen after j
   go (is_it q) = absurd (apart q)
-  go (is_parent q) = record { stream = noted (handed_note u.stream) u.parent; there = ap (stream_at after) q ∙ u.noted_there; is_open = u.parent_open }
+  go (is_parent q) = record { stream = with_note (handed_note u.stream) u.parent; there = ap (stream_at after) q ∙ u.noted_there; is_open = u.parent_open }
   go (is_other d g) = record { stream = h.stream; there = u.others j d g ∙ h.there; is_open = h.is_open }
 
 up_tidy : (st after : State) (k p : ℕ) → Tidy st → HasNoOpen st k → Up st after k p → Tidy after
@@ -359,7 +359,7 @@ up_only : (st after : State) (k p j r : ℕ) (q : Place) → Up st after k p →
 up_only st after k p j r q u h = go (which k p j) where
   go : Which k p j → j ≡ k
   go (is_it e) = e
-  go (is_parent e) = absurd (not_both u.parent.is_open u.parent_open (is_shut_at after p (noted (handed_note u.stream) u.parent) u.noted_there (ap (is_spent after) (sym e) ∙ h.is_shut)))
+  go (is_parent e) = absurd (not_both u.parent.is_open u.parent_open (is_shut_at after p (with_note (handed_note u.stream) u.parent) u.noted_there (ap (is_spent after) (sym e) ∙ h.is_shut)))
   go (is_other d g) = absurd (not_both h.stream.is_open h.was_open (is_shut_at after j h.stream (u.others j d g ∙ h.here) h.is_shut))
 
 -- what is shut is the content that was handed up
@@ -381,7 +381,7 @@ up_is st after k p j r q u h =
 up_shut_clean : (st after : State) (k p : ℕ) → Up st after k p → (j r : ℕ) (q : Place) → IsShut st after j r q → IsClean after r → IsClean after j × (leftover q ≡ None)
 up_shut_clean st after k p u j r q h c =
     let i = up_is st after k p j r q u h in
-    let handed = (none_of u.parent.note (handed_note u.stream) (c (noted (handed_note u.stream) u.parent) (ap (stream_at after) i.parent ∙ u.noted_there))).1 in
+    let handed = (none_of u.parent.note (handed_note u.stream) (c (with_note (handed_note u.stream) u.parent) (ap (stream_at after) i.parent ∙ u.noted_there))).1 in
     let nothing = none_of u.stream.note (leftover u.stream.place) handed in
     (λ s e. ap (λ z. z.note) (one_stream (stream_at after k) s (spent u.stream) (ap (stream_at after) (sym i.number) ∙ e) u.mine) ∙ nothing.0, ap leftover i.place ∙ nothing.1)
 
@@ -406,7 +406,7 @@ up_cleans X st after k p u fed clean j x s e = go (which k p j) where
   go (is_parent q) =
       let (mine, nothing) = fed k p u.stream.place (up_shut st after k p u) (subst X q x) in
       let handed = none_either u.stream.note (leftover u.stream.place) (clean k mine u.stream u.here) nothing in
-      ap (λ z. z.note) (one_stream (stream_at after p) s (noted (handed_note u.stream) u.parent) (ap (stream_at after) (sym q) ∙ e) u.noted_there)
+      ap (λ z. z.note) (one_stream (stream_at after p) s (with_note (handed_note u.stream) u.parent) (ap (stream_at after) (sym q) ∙ e) u.noted_there)
       ∙ none_either u.parent.note (handed_note u.stream) (clean j x u.parent (ap (stream_at st) q ∙ u.there)) handed
   go (is_other d g) = clean j x s (sym (u.others j d g) ∙ e)
 

@@ -4,7 +4,7 @@ use Rattle.std.proofs.Math.Seq.{map-set_same}
 use Rattle.std.proofs.lemmas.List.{length-map}
 use Rattle.std.proofs.lemmas.Bool.{cond-true, cond-false}
 use Rattle.std.specs.Prelude.{cond}
-use Rattle.syn_tokens.specs.Session.State.{State, stream_at, with_stream, spent, handed_note, noted_on_parent, is_open_content_of, handed_up, contents_closed, closed_inside, StreamKind, outermost, content_of, a_fork}
+use Rattle.syn_tokens.specs.Session.State.{State, stream_at, with_stream, spent, handed_note, with_note_on_parent, is_open_content_of, handed_up, contents_closed, closed_inside, StreamKind, outermost, content_of, a_fork}
 use Rattle.syn_tokens.specs.Session.Step.{place_of}
 use Rattle.syn_tokens.specs.Session.State as states
 use Rattle.tok_buffer.specs.Ahead.{Leftover}
@@ -63,9 +63,9 @@ with_stream-append (s ∷ st) us (suc n) f h = ap (λ z. s ∷ z) (with_stream-a
 
 -- a stream hands up
 abbrev handed_with : ℕ → State → Option states.Stream → State
-handed_with k st o = elim o [ None ↦ st | Some s ↦ with_stream (noted_on_parent s.kind (handed_note s) st) k spent ]
+handed_with k st o = elim o [ None ↦ st | Some s ↦ with_stream (with_note_on_parent s.kind (handed_note s) st) k spent ]
 
-pub handed_there : (k : ℕ) (st us vs : State) (s : states.Stream) → stream_at st k ≡ Some s → us ≡ noted_on_parent s.kind (handed_note s) st → vs ≡ with_stream us k spent → vs ≡ handed_up k st
+pub handed_there : (k : ℕ) (st us vs : State) (s : states.Stream) → stream_at st k ≡ Some s → us ≡ with_note_on_parent s.kind (handed_note s) st → vs ≡ with_stream us k spent → vs ≡ handed_up k st
 handed_there k st us vs s e q r =
     r ∙ ap (λ z. with_stream z k spent) q ∙ ap (handed_with k st) (sym e)
 
@@ -78,7 +78,7 @@ there_within (x ∷ st) zero s e = omega arith
 there_within (x ∷ st) (suc n) s e = let t : n < length st = there_within st n s e in omega arith
 
 -- one that is no content notes on none
-pub noted_apart : (is_fork : Bool) (o : Option ℕ) (n : Option Leftover) (st : State) → o ≡ None → st ≡ noted_on_parent (kind_of is_fork o) n st
+pub noted_apart : (is_fork : Bool) (o : Option ℕ) (n : Option Leftover) (st : State) → o ≡ None → st ≡ with_note_on_parent (kind_of is_fork o) n st
 noted_apart true None n st e = refl
 noted_apart false None n st e = refl
 noted_apart f (Some p) n st e = cc
@@ -92,14 +92,14 @@ module _ (j : ℕ) where
   changed_place (s ∷ st) (suc n) zero f h = refl
   changed_place (s ∷ st) (suc n) (suc i) f h = changed_place st n i f h
 
-  noted_place : (kind : StreamKind) (n : Option Leftover) (st : State) → place_of (stream_at (noted_on_parent kind n st) j) ≡ place_of (stream_at st j)
+  noted_place : (kind : StreamKind) (n : Option Leftover) (st : State) → place_of (stream_at (with_note_on_parent kind n st) j) ≡ place_of (stream_at st j)
   noted_place outermost n st = refl
   noted_place a_fork n st = refl
   noted_place (content_of p) n st = changed_place st p j (states.noted n) (λ s. refl)
 
   handed_place : (k : ℕ) (st : State) (o : Option states.Stream) → place_of (stream_at (handed_with k st o) j) ≡ place_of (stream_at st j)
   handed_place k st None = refl
-  handed_place k st (Some s) = changed_place (noted_on_parent s.kind (handed_note s) st) k j spent (λ s. refl) ∙ noted_place s.kind (handed_note s) st
+  handed_place k st (Some s) = changed_place (with_note_on_parent s.kind (handed_note s) st) k j spent (λ s. refl) ∙ noted_place s.kind (handed_note s) st
 
   closed_place : (room stream next : ℕ) (st : State) → place_of (stream_at (contents_closed room stream next st) j) ≡ place_of (stream_at st j)
   closed_place zero stream next st = refl

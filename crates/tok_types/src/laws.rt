@@ -8,7 +8,7 @@ use crate::delimiter::{Group, Visible};
 use crate::keyword::Keyword;
 use crate::look::Token;
 use crate::punctuation::Punctuation;
-use crate::trees::{End, IdentAny};
+use crate::tree_tokens::{End, IdentAny};
 use crate::underscore::Underscore;
 use std::hash::Hash;
 use tok_buffer::Lifetime;

@@ -11,9 +11,9 @@ use Rattle.tok_buffer.specs.Ahead.{Leftover, leftover}
 use Rattle.tok_buffer.specs.Place.{Place}
 use Rattle.tok_buffer.proofs.View.Alike.{Alike, alike-leftover}
 use Rattle.syn_tokens.specs.Session.State.{Stream, StreamKind, outermost, content_of, a_fork, State}
-use Rattle.syn_tokens.specs.Session.State.{stream_at, with_stream, moved_to, spent, noted, is_content_of}
+use Rattle.syn_tokens.specs.Session.State.{stream_at, with_stream, moved_to, spent, with_note, is_content_of}
 use Rattle.syn_tokens.specs.Session.State.{is_open_content_of, contains, is_content_among, inside_of}
-use Rattle.syn_tokens.specs.Session.State.{is_inside, spent_with, handed_note, noted_on_parent, handed_up}
+use Rattle.syn_tokens.specs.Session.State.{is_inside, spent_with, handed_note, with_note_on_parent, handed_up}
 use Rattle.syn_tokens.specs.Session.State.{contents_closed, closed_inside, closed, taken_over, advanced}
 
 -- a leftover is compared by its span alone
@@ -105,7 +105,7 @@ module _ (f g : Laid) where
   note-or (Some x) None n m e k = absurd (cc)
   note-or (Some x) (Some y) n m e k = e
 
-  alike-noted : (n m : Option Leftover) → span_of n ≡ span_of m → ChangesAlike (noted n) (noted m)
+  alike-noted : (n m : Option Leftover) → span_of n ≡ span_of m → ChangesAlike (with_note n) (with_note m)
   alike-noted n m e s t k =
       record {
         place = k.place;
@@ -123,17 +123,17 @@ module _ (f g : Laid) where
 
   -- Closing.
   noted-kind : (k : StreamKind) (n m : Option Leftover) (st su : State) → span_of n ≡ span_of m
-      → StatesAlike st su → StatesAlike (noted_on_parent k n st) (noted_on_parent k m su)
+      → StatesAlike st su → StatesAlike (with_note_on_parent k n st) (with_note_on_parent k m su)
   noted-kind outermost n m st su e h = h
   noted-kind (content_of p) n m st su e h =
-      alike-with_stream st su p (noted n) (noted m) (alike-noted n m e) h
+      alike-with_stream st su p (with_note n) (with_note m) (alike-noted n m e) h
   noted-kind a_fork n m st su e h = h
 
   noted-parent : (k j : StreamKind) (n m : Option Leftover) (st su : State) → k ≡ j
       → span_of n ≡ span_of m → StatesAlike st su
-      → StatesAlike (noted_on_parent k n st) (noted_on_parent j m su)
+      → StatesAlike (with_note_on_parent k n st) (with_note_on_parent j m su)
   noted-parent k j n m st su e i h =
-      subst (λ x. StatesAlike (noted_on_parent k n st) (noted_on_parent x m su)) e
+      subst (λ x. StatesAlike (with_note_on_parent k n st) (with_note_on_parent x m su)) e
       (noted-kind k n m st su i h)
 
   pub alike-handed_up : (k : ℕ) (st su : State) → StatesAlike st su
@@ -142,15 +142,15 @@ module _ (f g : Laid) where
     go : (a b : Option Stream) → BothAlike a b
         → StatesAlike
         (elim a
-        [ None ↦ st | Some s ↦ with_stream (noted_on_parent s.kind (handed_note s) st) k spent ])
+        [ None ↦ st | Some s ↦ with_stream (with_note_on_parent s.kind (handed_note s) st) k spent ])
         (elim b
-        [ None ↦ su | Some s ↦ with_stream (noted_on_parent s.kind (handed_note s) su) k spent ])
+        [ None ↦ su | Some s ↦ with_stream (with_note_on_parent s.kind (handed_note s) su) k spent ])
     go None None i = h
     go None (Some t) i = absurd i
     go (Some s) None i = absurd i
     go (Some s) (Some t) i =
-        alike-with_stream (noted_on_parent s.kind (handed_note s) st)
-        (noted_on_parent t.kind (handed_note t) su) k spent spent alike-spent
+        alike-with_stream (with_note_on_parent s.kind (handed_note s) st)
+        (with_note_on_parent t.kind (handed_note t) su) k spent spent alike-spent
         (noted-parent s.kind t.kind (handed_note s) (handed_note t) st su i.kind
         (alike-handed s t i) h)
 

@@ -76,8 +76,8 @@ abbrev pub spent : Stream → Stream
 spent s = record s { is_open = false }
 
 -- a note goes only where there is none
-abbrev pub noted : Option Leftover → Stream → Stream
-noted n s = record s { note = option_or s.note n }
+abbrev pub with_note : Option Leftover → Stream → Stream
+with_note n s = record s { note = option_or s.note n }
 
 abbrev pub is_content_of : ℕ → StreamKind → Bool
 is_content_of parent outermost = false
@@ -92,17 +92,17 @@ is_open_content_of parent (Some s) = s.is_open && is_content_of parent s.kind
 abbrev pub handed_note : Stream → Option Leftover
 handed_note s = option_or s.note (leftover s.place)
 
-abbrev pub noted_on_parent : StreamKind → Option Leftover → State → State
-noted_on_parent outermost n st = st
-noted_on_parent (content_of p) n st = with_stream st p (noted n)
-noted_on_parent a_fork n st = st
+abbrev pub with_note_on_parent : StreamKind → Option Leftover → State → State
+with_note_on_parent outermost n st = st
+with_note_on_parent (content_of p) n st = with_stream st p (with_note n)
+with_note_on_parent a_fork n st = st
 
 -- a stream notes on its parent what it hands up, and is spent
 abbrev pub handed_up : ℕ → State → State
 handed_up k st =
     elim (stream_at st k) [
       | None ↦ st
-      | Some s ↦ with_stream (noted_on_parent s.kind (handed_note s) st) k spent
+      | Some s ↦ with_stream (with_note_on_parent s.kind (handed_note s) st) k spent
     ]
 
 -- Closes the open contents whose parent is this stream, by number, among so many streams from one

@@ -2,7 +2,7 @@ use Rattle.std.proofs.Common.{◌≡◌, ap, sym, ◌∙◌, refl, false, ◌<�
 use Rattle.syn_parse.specs.Pauses.{paused_state}
 use Rattle.syn_parse.specs.State.{closed}
 use Rattle.syn_tokens.specs.Session.Links.{links_of, AreLinked}
-use Rattle.syn_tokens.specs.Session.State.{handed_note, noted_on_parent, with_stream, noted, put, spent}
+use Rattle.syn_tokens.specs.Session.State.{handed_note, with_note_on_parent, with_stream, with_note, put, spent}
 use Rattle.syn_tokens.specs.Session.Tracks.{kind_of, stream_of, state_of}
 use Rattle.syn_tokens.specs.declared.session.stream.Stream.{Stream}
 use Rattle.syn_tokens.proofs.Linked.{linked_kept, links_kept, length-links, parent_below}
@@ -44,7 +44,7 @@ returns-clause-after c =
     let y : Stream = record z { is_open = false } in
     let s = stream_of x in
     let within : k < length xs = omega (arith, length-state xs, c.requires) in
-    let us : state_of c.match-stream.self ≡ noted_on_parent s.kind (handed_note s) st =
+    let us : state_of c.match-stream.self ≡ with_note_on_parent s.kind (handed_note s) st =
     elim c.match-stream.branch [
       | in-Some w ↦
           let p = w.in-Some.parent in
@@ -52,8 +52,8 @@ returns-clause-after c =
           let there = parent_within xs k p x c.args.self.now.linked c.index-stream.ensures within w.in-Some.is in
           ap state_of w.self-is ∙ w.put.ensures.after
           ∙ ap (λ t. with_stream st p (put t)) (w.pause.ensures ∙ w.close.ensures ∙ ap (λ t. closed t w.resume-input.result) w.resume.ensures ∙ ap (closed (paused_state x.paused)) w.resume-input.ensures)
-          ∙ changed_alike st p (stream_of y) (put (closed (paused_state x.paused) (paused_state y.paused))) (noted (handed_note s)) (stream_there xs p y w.index.ensures there) refl
-          ∙ ap (λ p. noted_on_parent (kind_of x.is_fork p) (handed_note s) st) (sym w.in-Some.is)
+          ∙ changed_alike st p (stream_of y) (put (closed (paused_state x.paused) (paused_state y.paused))) (with_note (handed_note s)) (stream_there xs p y w.index.ensures there) refl
+          ∙ ap (λ p. with_note_on_parent (kind_of x.is_fork p) (handed_note s) st) (sym w.in-Some.is)
       | in_default w ↦
           ap state_of w.self-is ∙ noted_apart x.is_fork x.links.parent (handed_note s) st w.in_default.is
     ] in

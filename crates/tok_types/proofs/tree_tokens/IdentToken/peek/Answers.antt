@@ -2,7 +2,7 @@ use Rattle.std.proofs.Common.{◌∙◌, ap, sym}
 use Rattle.tok_buffer.specs.Cursors.{place_of}
 use Rattle.tok_types.specs.Texts.{accept_as_ident}
 use Rattle.tok_types.proofs.Identifiers.{word_wanted}
-use Rattle.tok_types.proofs.trees.IdentToken.peek.Goals as goal
+use Rattle.tok_types.proofs.tree_tokens.IdentToken.peek.Goals as goal
 
 pub returns-in-Some : goal.returns-in-Some
 returns-in-Some c =
