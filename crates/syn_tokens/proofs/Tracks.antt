@@ -95,7 +95,7 @@ module _ (j : ℕ) where
   noted_place : (kind : StreamKind) (n : Option Leftover) (st : State) → place_of (stream_at (with_note_on_parent kind n st) j) ≡ place_of (stream_at st j)
   noted_place outermost n st = refl
   noted_place a_fork n st = refl
-  noted_place (content_of p) n st = changed_place st p j (states.noted n) (λ s. refl)
+  noted_place (content_of p) n st = changed_place st p j (states.with_note n) (λ s. refl)
 
   handed_place : (k : ℕ) (st : State) (o : Option states.Stream) → place_of (stream_at (handed_with k st o) j) ≡ place_of (stream_at st j)
   handed_place k st None = refl
