@@ -2,9 +2,10 @@
 use Rattle.std.proofs.Common.{◌≡◌, ◌∙◌, sym, ap, subst, refl, ℕ, not, Bool, true, false, cond}
 use Rattle.std.proofs.Common.{List, [], ◌∷◌, Option, Some, None, Ok, Err, inl, inr}
 use Rattle.std.specs.Prelude.{◌⊎◌, option_map}
-use Rattle.tok_core.specs.declared.ident.Ident.{Ident}
+use Rattle.tok_leaves.specs.declared.ident.Ident.{Ident}
 use Rattle.tok_core.specs.Filled.{has_trees}
-use Rattle.tok_core.specs.Forest.{ident, punct, literal, Tree, leaf, group, Forest, no_trees, tree}
+use Rattle.tok_leaves.specs.Leaves.{ident, punct, literal}
+use Rattle.tok_core.specs.Forest.{Tree, leaf, group, Forest, no_trees, tree}
 use Rattle.tok_buffer.specs.InFront.{AheadTells, with_ahead, first_if}
 use Rattle.tok_buffer.specs.Reads.{is_ident, is_ident_of, read_ident, read_word}
 use Rattle.tok_buffer.specs.View.{erased_ahead}

@@ -5,7 +5,8 @@ use Rattle.std.specs.Prelude.{is_some}
 use Rattle.std.proofs.lemmas.Bool.{eqb-true}
 use Rattle.std.proofs.lemmas.List.{append_assoc, append-nil}
 use Rattle.tok_core.specs.Filled.{has_trees}
-use Rattle.tok_core.specs.Forest.{ident, punct, literal, Tree, leaf, group, Forest, no_trees, tree}
+use Rattle.tok_leaves.specs.Leaves.{ident, punct, literal}
+use Rattle.tok_core.specs.Forest.{Tree, leaf, group, Forest, no_trees, tree}
 use Rattle.tok_buffer.specs.InFront.{first_if}
 use Rattle.tok_buffer.specs.Place.{is_at_end}
 use Rattle.tok_buffer.specs.Reads.{is_punct_of, read_punctuation}

@@ -4,13 +4,13 @@ use Rattle.std.proofs.Common.{true, false, [], ◌∷◌, map, Ok}
 use Rattle.std.specs.Prelude.{is_some, Result}
 use Rattle.std.proofs.lemmas.Bool.{eqb-true}
 use Rattle.tok_lexical.specs.declared.delimiter.Delimiter.TheVariants as delimiter
-use Rattle.tok_core.specs.declared.ident.Ident.{Ident}
-use Rattle.tok_core.specs.declared.literal.Literal.{Literal}
-use Rattle.tok_core.specs.declared.punct.Spacing.{Spacing}
-use Rattle.tok_core.specs.declared.span.Span.{Span}
-use Rattle.tok_core.specs.Forest.{ident, punct, literal, Leaf, Tree, leaf, group, Forest, tree}
-use Rattle.tok_core.specs.Seen.{ident_of, literal_of}
-use Rattle.tok_core.specs.Spans.{call_site, tree_span}
+use Rattle.tok_leaves.specs.declared.ident.Ident.{Ident}
+use Rattle.tok_leaves.specs.declared.literal.Literal.{Literal}
+use Rattle.tok_leaves.specs.declared.punct.Spacing.{Spacing}
+use Rattle.tok_leaves.specs.declared.span.Span.{Span}
+use Rattle.tok_leaves.specs.Leaves.{ident, punct, literal, Leaf, ident_of, literal_of}
+use Rattle.tok_core.specs.Forest.{Tree, leaf, group, Forest, tree, tree_span}
+use Rattle.tok_leaves.specs.Spans.{call_site}
 use Rattle.tok_core.specs.Weight.{weight}
 use Rattle.tok_buffer.specs.Entry.{enter}
 use Rattle.tok_buffer.specs.InFront.{first_if, entered_ahead, first_group}

@@ -4,7 +4,7 @@ use Rattle.std.specs.Prelude.{Result, List, MatchOption}
 use Rattle.tok_core.specs.Erase.{erase}
 use Rattle.tok_core.specs.Filled.{filled}
 use Rattle.tok_core.specs.Forest.{Forest}
-use Rattle.tok_core.specs.Spans.{call_site}
+use Rattle.tok_leaves.specs.Spans.{call_site}
 use Rattle.tok_buffer.specs.Messages.{first_text}
 use Rattle.tok_buffer.specs.Reached.{begin}
 use Rattle.tok_buffer.specs.View.{erased_ahead}

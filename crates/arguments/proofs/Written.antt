@@ -1,9 +1,10 @@
 -- What the grammar has as arguments comes of reading tree by tree.
 use Rattle.std.proofs.Common.{◌≡◌, ◌∙◌, ap, refl, Bool, true, cond, List, [], ◌∷◌}
-use Rattle.tok_core.specs.Forest.{punct, Tree, leaf, Forest, no_trees, tree, forest, concat}
-use Rattle.tok_core.specs.Spans.{whole_span}
-use Rattle.tok_core.specs.declared.punct.Spacing.{Spacing}
-use Rattle.tok_core.specs.declared.span.Span.{Span}
+use Rattle.tok_leaves.specs.Leaves.{punct}
+use Rattle.tok_core.specs.Forest.{Tree, leaf, Forest, no_trees, tree, forest, concat}
+use Rattle.tok_leaves.specs.Spans.{whole_span}
+use Rattle.tok_leaves.specs.declared.punct.Spacing.{Spacing}
+use Rattle.tok_leaves.specs.declared.span.Span.{Span}
 use Rattle.syn_punctuated.specs.Lists.{separators_of}
 use Rattle.arguments.specs.Private.Forms.{Form, flag, assigned, with_list, Forms, no_forms, next_form}
 use Rattle.arguments.specs.Private.Forms.{one_form, IsForm, AreForms, of_flag, of_assigned, of_list}

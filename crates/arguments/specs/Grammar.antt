@@ -1,13 +1,13 @@
 -- Which lists of visible trees are arguments, and which arguments they are.
 use Rattle.std.specs.Prelude.{ℕ, List, [], ◌∷◌}
-use Rattle.tok_core.specs.Forest.{Tree, leaf, group, punct, Forest, no_trees, tree, forest, concat}
-use Rattle.tok_core.specs.Seen.{ident_of, literal_of}
-use Rattle.tok_core.specs.Spans.{whole_span}
+use Rattle.tok_core.specs.Forest.{Tree, leaf, group, Forest, no_trees, tree, forest, concat}
+use Rattle.tok_leaves.specs.Leaves.{punct, ident_of, literal_of}
+use Rattle.tok_leaves.specs.Spans.{whole_span}
 use Rattle.tok_lexical.specs.declared.delimiter.Delimiter.TheVariants.{Parenthesis}
-use Rattle.tok_core.specs.declared.ident.Ident.{Ident}
-use Rattle.tok_core.specs.declared.literal.Literal.{Literal}
-use Rattle.tok_core.specs.declared.punct.Spacing.{Spacing}
-use Rattle.tok_core.specs.declared.span.Span.{Span}
+use Rattle.tok_leaves.specs.declared.ident.Ident.{Ident}
+use Rattle.tok_leaves.specs.declared.literal.Literal.{Literal}
+use Rattle.tok_leaves.specs.declared.punct.Spacing.{Spacing}
+use Rattle.tok_leaves.specs.declared.span.Span.{Span}
 use Rattle.syn_punctuated.specs.Lists.{values_of, separators_of}
 use Rattle.arguments.specs.Values.{Comma, Arguments, sign_at, IsName, flag, assigned, with_list}
 use Rattle.arguments.specs.Values.{Paren}

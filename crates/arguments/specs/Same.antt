@@ -1,8 +1,8 @@
 -- When two lists of arguments are the same, spans included.
 use Rattle.std.specs.Prelude.{◌≡◌, List, [], ◌∷◌}
-use Rattle.tok_core.specs.Spans.{whole_span}
-use Rattle.tok_core.specs.declared.ident.Ident.{Ident}
-use Rattle.tok_core.specs.declared.literal.Literal.{Literal}
+use Rattle.tok_leaves.specs.Spans.{whole_span}
+use Rattle.tok_leaves.specs.declared.ident.Ident.{Ident}
+use Rattle.tok_leaves.specs.declared.literal.Literal.{Literal}
 use Rattle.syn_punctuated.specs.Lists.{values_of, separators_of}
 use Rattle.arguments.specs.Values.{Equals, Arguments, flag, assigned, with_list, Paren}
 use Rattle.arguments.specs.declared.argument.Argument.{Argument}

@@ -1,8 +1,8 @@
 -- What contracts see of arguments.
 use Rattle.std.specs.Prelude.{◌≡◌, ℕ, true, [], ◌∷◌}
-use Rattle.tok_core.specs.declared.ident.Ident.{Ident}
-use Rattle.tok_core.specs.declared.literal.Literal.{Literal}
-use Rattle.tok_core.specs.declared.span.Span.{Span}
+use Rattle.tok_leaves.specs.declared.ident.Ident.{Ident}
+use Rattle.tok_leaves.specs.declared.literal.Literal.{Literal}
+use Rattle.tok_leaves.specs.declared.span.Span.{Span}
 use Rattle.tok_types.specs.Texts.{accept_as_ident}
 use Rattle.tok_types.specs.declared.delimiter.Visible.{Visible}
 use Rattle.tok_types.specs.declared.punctuation.Punctuation.{Punctuation}

@@ -3,7 +3,7 @@ ghost use Rattle.std.specs.Prelude.{◌≡◌, ◌<◌, ◌≤◌, true, IfOk};
 ghost use Rattle.tok_core.specs.Erase.{erase};
 ghost use Rattle.tok_core.specs.Filled.{filled};
 ghost use Rattle.tok_core.specs.Weight.{weight};
-ghost use Rattle.tok_core.specs.declared.ident.Ident.{Ident};
+ghost use Rattle.tok_leaves.specs.declared.ident.Ident.{Ident};
 ghost use Rattle.tok_buffer.specs.View.{erased_ahead};
 ghost use Rattle.arguments.specs.Private.Outcomes.{arguments_in};
 ghost use Rattle.arguments.specs.Private.Reading.{AheadDecides, IsOutcome, ReadsArgument, ReadsArguments, ReadsValue};

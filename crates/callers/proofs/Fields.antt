@@ -4,9 +4,9 @@ use Rattle.std.proofs.Common.{true, false, List, [], ◌∷◌, ◌++◌, Some, 
 use Rattle.std.proofs.Common.{append_assoc, append-nil}
 use Rattle.std.specs.Global.{Vec}
 use Rattle.std.specs.Prelude.{codes, cond}
-use Rattle.tok_core.specs.declared.ident.Ident.{Ident}
+use Rattle.tok_leaves.specs.declared.ident.Ident.{Ident}
 use Rattle.tok_core.specs.Forest.{Tree, leaf}
-use Rattle.tok_core.specs.Seen.{ident_of}
+use Rattle.tok_leaves.specs.Leaves.{ident_of}
 use Rattle.tok_buffer.specs.declared.error.Error.{Error}
 use Rattle.tok_buffer.specs.Descent.{descend}
 use Rattle.tok_buffer.specs.Order.{same_scope}

@@ -6,10 +6,10 @@ use Rattle.std.specs.Fn.{FnOnceReturnsAtMut, Once}
 use Rattle.std.specs.Global.{Vec}
 use Rattle.std.specs.Prelude.{Result, codes}
 use Rattle.tok_lexical.specs.declared.delimiter.Delimiter.TheVariants.{Brace}
-use Rattle.tok_core.specs.declared.ident.Ident.{Ident}
-use Rattle.tok_core.specs.declared.span.DelimSpan.{DelimSpan}
-use Rattle.tok_core.specs.Forest.{Tree, leaf, ident}
-use Rattle.tok_core.specs.Seen.{ident_of}
+use Rattle.tok_leaves.specs.declared.ident.Ident.{Ident}
+use Rattle.tok_leaves.specs.declared.span.DelimSpan.{DelimSpan}
+use Rattle.tok_core.specs.Forest.{Tree, leaf}
+use Rattle.tok_leaves.specs.Leaves.{ident, ident_of}
 use Rattle.tok_buffer.specs.Entry.{Entered, enter}
 use Rattle.tok_buffer.specs.Refusals.{Refusal}
 use Rattle.tok_types.specs.declared.keyword.Keyword.{Keyword}

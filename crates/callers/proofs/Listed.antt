@@ -5,8 +5,8 @@ use Rattle.std.specs.Borrow.{MutBor}
 use Rattle.std.specs.Fn.{FnOnceReturnsAtMut, Once}
 use Rattle.std.specs.Prelude.{Result, IfOk, is_some}
 use Rattle.tok_lexical.specs.declared.delimiter.Delimiter.TheVariants.{Parenthesis}
-use Rattle.tok_core.specs.declared.span.DelimSpan.{DelimSpan}
-use Rattle.tok_core.specs.Spans.{whole_span}
+use Rattle.tok_leaves.specs.declared.span.DelimSpan.{DelimSpan}
+use Rattle.tok_leaves.specs.Spans.{whole_span}
 use Rattle.tok_buffer.specs.Entry.{Entered, enter}
 use Rattle.tok_buffer.specs.Place.{is_at_end}
 use Rattle.tok_types.specs.declared.delimiter.Visible.{Visible}

@@ -4,7 +4,7 @@ use Rattle.std.specs.Prelude.{Option, Some, None, Ok, Err}
 use Rattle.std.specs.Global.{Vec}
 use Rattle.tok_lexical.specs.declared.delimiter.Delimiter.TheVariants.{Brace}
 use Rattle.tok_core.specs.Forest.{Tree, leaf}
-use Rattle.tok_core.specs.Seen.{ident_of}
+use Rattle.tok_leaves.specs.Leaves.{ident_of}
 use Rattle.tok_buffer.specs.Entry.{Entered, enter}
 use Rattle.tok_buffer.specs.Place.{Place, is_at_end}
 use Rattle.tok_buffer.specs.Reads.{and_then, place_after, read_ident, read_keyword}

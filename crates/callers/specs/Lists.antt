@@ -1,8 +1,8 @@
 -- Items between commas, within one another.
 use Rattle.std.specs.Prelude.{◌≡◌, true, Some, None, Ok}
 use Rattle.tok_lexical.specs.declared.delimiter.Delimiter.TheVariants.{Parenthesis}
-use Rattle.tok_core.specs.declared.ident.Ident.{Ident}
-use Rattle.tok_core.specs.Spans.{whole_span}
+use Rattle.tok_leaves.specs.declared.ident.Ident.{Ident}
+use Rattle.tok_leaves.specs.Spans.{whole_span}
 use Rattle.tok_buffer.specs.Entry.{Entered, enter}
 use Rattle.tok_buffer.specs.Place.{is_at_end}
 use Rattle.tok_types.specs.declared.delimiter.Visible.{Visible}

@@ -1,9 +1,10 @@
 -- Trees that a caller builds.
 use Rattle.std.specs.Prelude.{[], ◌∷◌, codes}
 use Rattle.tok_lexical.specs.declared.delimiter.Delimiter.TheVariants.{Parenthesis, None}
-use Rattle.tok_core.specs.declared.punct.Spacing.TheVariants.{Alone, Joint}
-use Rattle.tok_core.specs.Forest.{ident, punct, leaf, group, Forest, forest}
-use Rattle.tok_core.specs.Spans.{call_site}
+use Rattle.tok_leaves.specs.declared.punct.Spacing.TheVariants.{Alone, Joint}
+use Rattle.tok_leaves.specs.Leaves.{ident, punct}
+use Rattle.tok_core.specs.Forest.{leaf, group, Forest, forest}
+use Rattle.tok_leaves.specs.Spans.{call_site}
 
 -- `a (b «c») +=`, at the call site
 abbrev pub by_hand : Forest

@@ -1,7 +1,7 @@
 //! Callers of `tok_buffer`: a walk with a cursor, and a lifetime read across an edge.
 ghost use Rattle.std.specs.Prelude.{◌≡◌, ◌∷◌, [], MatchOption, Some, None};
 ghost use Rattle.tok_core.specs.Forest.{leaf};
-ghost use Rattle.tok_core.specs.Seen.{ident_of};
+ghost use Rattle.tok_leaves.specs.Leaves.{ident_of};
 ghost use Rattle.tok_buffer.specs.Cursors.{place_of};
 ghost use Rattle.tok_buffer.specs.Place.{Place};
 ghost use Rattle.tok_buffer.specs.Reads.{and_then, any_text, lifetime_trees, read_ident, read_lifetime};

@@ -1,7 +1,8 @@
 //! Callers of `tok_types`: a token of the caller's own, a look at two tokens, and tokens that are written.
 ghost use Rattle.std.specs.Prelude.{◌≡◌, ◌||◌, ◌&&◌, Bool, codes, is_some, OnOk};
-ghost use Rattle.tok_core.specs.Forest.{group, ident, concat, leaf, no_trees, tree};
-ghost use Rattle.tok_core.specs.Spans.{call_site};
+ghost use Rattle.tok_core.specs.Forest.{group, concat, leaf, no_trees, tree};
+ghost use Rattle.tok_leaves.specs.Leaves.{ident};
+ghost use Rattle.tok_leaves.specs.Spans.{call_site};
 ghost use Rattle.tok_lexical.specs.declared.delimiter.Delimiter.TheVariants.{Parenthesis};
 ghost use Rattle.tok_buffer.specs.Cursors.{place_of};
 ghost use Rattle.tok_buffer.specs.Entry.{enter};

@@ -1,11 +1,12 @@
 //! A caller of `tok_core`: it builds `a (b «c») +=` by hand, and prints it.
 ghost use Rattle.std.specs.Prelude.{◌≡◌, true, IfErr, IfOk, IsOk, string_bytes};
 ghost use Rattle.std.specs.Str.{chars};
-ghost use Rattle.tok_core.specs.Forest.{group, ident, leaf, punct};
+ghost use Rattle.tok_core.specs.Forest.{group, leaf};
+ghost use Rattle.tok_leaves.specs.Leaves.{ident, punct};
 ghost use Rattle.tok_lexical.specs.Characters.{is_punct_or_apostrophe};
 ghost use Rattle.tok_lexical.specs.Words.{IsIdentifier};
 ghost use Rattle.tok_core.specs.Seen.{tree_of};
-ghost use Rattle.tok_core.specs.Spans.{call_site};
+ghost use Rattle.tok_leaves.specs.Spans.{call_site};
 ghost use Rattle.tok_core.specs.Text.{text};
 ghost use Rattle.callers.specs.Trees.{by_hand};
 

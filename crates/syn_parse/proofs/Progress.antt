@@ -5,7 +5,7 @@ use Rattle.tok_buffer.specs.Place.{Place}
 use Rattle.tok_buffer.specs.Progress.{ReadsOn}
 use Rattle.tok_buffer.specs.Reads.{read_keyword}
 use Rattle.tok_buffer.specs.Refusals.{Refusal}
-use Rattle.tok_core.specs.declared.span.Span.{Span}
+use Rattle.tok_leaves.specs.declared.span.Span.{Span}
 use Rattle.tok_types.specs.Texts.{in_backquotes}
 use Rattle.syn_parse.specs.Parses.{IsSpanOf, WordParses}
 use Rattle.syn_parse.specs.RefusalWords.{expected, refused_at}

@@ -2,8 +2,8 @@
 use Rattle.std.specs.Prelude.{Option, None, refl}
 use Rattle.std.specs.Coded.{Coded, code_by, coded×, coded_option}
 use Rattle.std.specs.Option.{option_or}
-use Rattle.tok_core.specs.declared.span.Span.{Span}
-use Rattle.tok_core.specs.Spans.{closing_span}
+use Rattle.tok_leaves.specs.declared.span.Span.{Span}
+use Rattle.tok_leaves.specs.Spans.{closing_span}
 use Rattle.tok_buffer.specs.Ahead.{Leftover, leftover}
 use Rattle.tok_buffer.specs.Code.{coded_leftover, coded_place, coded_spans}
 use Rattle.tok_buffer.specs.Entry.{Entered}

@@ -2,7 +2,7 @@
 ghost use Rattle.std.specs.Prelude.{Result};
 ghost use Rattle.std.specs.Str.{chars};
 ghost use Rattle.std.specs.Fn.{FnOnceReturnsAtMut};
-ghost use Rattle.tok_core.specs.Spans.{call_site};
+ghost use Rattle.tok_leaves.specs.Spans.{call_site};
 ghost use Rattle.syn_parse.specs.Parsers.{Finishes, IsUnread, ParsesText, ParsesWhole, whole_stream};
 ghost use Rattle.syn_parse.specs.State.{State};
 ghost use Rattle.syn_parse.specs.declared.fault.Fault.{Fault};

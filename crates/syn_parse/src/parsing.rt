@@ -1,7 +1,8 @@
 //! Parsers of tokens that are given by their text.
 ghost use Rattle.std.specs.Prelude.{◌≡◌, ◌∷◌, [], Some, None, MatchOption, is_some};
 ghost use Rattle.std.specs.Str.{chars};
-ghost use Rattle.tok_core.specs.Forest.{leaf, ident};
+ghost use Rattle.tok_core.specs.Forest.{leaf};
+ghost use Rattle.tok_leaves.specs.Leaves.{ident};
 ghost use Rattle.tok_buffer.specs.Cursors.{place_of};
 ghost use Rattle.tok_buffer.specs.Reads.{read_keyword, read_punctuation, sized};
 ghost use Rattle.syn_parse.specs.Faults.{Refuses};

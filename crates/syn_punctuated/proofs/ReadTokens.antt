@@ -5,13 +5,13 @@ use Rattle.std.proofs.Common.{Option, Some, None, Ok, Err, subst}
 use Rattle.std.proofs.lemmas.Bool.{and_parts, cond-true, cond_both}
 use Rattle.std.specs.Prelude.{Result, MatchOption, not, ◌==◌}
 use Rattle.std.specs.List.{All, list_all}
-use Rattle.tok_core.specs.declared.ident.Ident.{Ident}
-use Rattle.tok_core.specs.declared.punct.Spacing.TheVariants.{Joint}
-use Rattle.tok_core.specs.declared.span.Span.{Span}
-use Rattle.tok_core.specs.Forest.{ident, punct, Tree, leaf, Forest, no_trees, tree, forest, concat}
+use Rattle.tok_leaves.specs.declared.ident.Ident.{Ident}
+use Rattle.tok_leaves.specs.declared.punct.Spacing.TheVariants.{Joint}
+use Rattle.tok_leaves.specs.declared.span.Span.{Span}
+use Rattle.tok_leaves.specs.Leaves.{ident, punct, ident_of}
+use Rattle.tok_core.specs.Forest.{Tree, leaf, Forest, no_trees, tree, forest, concat, tree_span}
 use Rattle.tok_lexical.specs.Characters.{is_punct_or_apostrophe}
-use Rattle.tok_core.specs.Seen.{ident_of}
-use Rattle.tok_core.specs.Spans.{tree_span, call_site}
+use Rattle.tok_leaves.specs.Spans.{call_site}
 use Rattle.tok_buffer.specs.Ahead.{Leftover}
 use Rattle.tok_core.specs.Weight.{weight}
 use Rattle.tok_buffer.specs.Place.{Owner, whole, is_at_end}

@@ -3,11 +3,11 @@ use Rattle.std.proofs.Common.{◌≡◌, ◌∙◌, inl, inr, sym, ap, refl, sub
 use Rattle.std.proofs.Common.{List, [], ◌∷◌, ◌++◌, map, append_assoc, Option, Some, None, Ok, Err}
 use Rattle.std.proofs.Common.{eqb-true}
 use Rattle.std.specs.Prelude.{Result, IfSome, cond, not, ◌==◌}
-use Rattle.tok_core.specs.declared.ident.Ident.{Ident}
-use Rattle.tok_core.specs.declared.punct.Spacing.{Spacing}
-use Rattle.tok_core.specs.Spans.{tree_span}
-use Rattle.tok_core.specs.declared.punct.Spacing.TheVariants.{Alone, Joint}
-use Rattle.tok_core.specs.Forest.{Tree, leaf, group, ident, punct, literal}
+use Rattle.tok_leaves.specs.declared.ident.Ident.{Ident}
+use Rattle.tok_leaves.specs.declared.punct.Spacing.{Spacing}
+use Rattle.tok_core.specs.Forest.{tree_span, Tree, leaf, group}
+use Rattle.tok_leaves.specs.declared.punct.Spacing.TheVariants.{Alone, Joint}
+use Rattle.tok_leaves.specs.Leaves.{ident, punct, literal}
 use Rattle.tok_buffer.specs.Descent.{descend}
 use Rattle.tok_buffer.specs.Place.{Place, front, pass, is_at_end}
 use Rattle.tok_buffer.specs.Reads.{and_then, apostrophe, is_joint_of, is_punct_of, read_punctuation}

@@ -2,7 +2,7 @@
 use Rattle.std.specs.Prelude.{◌≡◌, ℕ, ◌<◌, true, false, List, [], ◌∷◌, length, Result, Ok, Err}
 use Rattle.std.specs.List.{All}
 use Rattle.tok_core.specs.Forest.{Forest, no_trees, concat}
-use Rattle.tok_core.specs.declared.ident.Ident.{Ident}
+use Rattle.tok_leaves.specs.declared.ident.Ident.{Ident}
 use Rattle.tok_types.specs.Texts.{accept_as_ident, punctuation_word}
 use Rattle.tok_buffer.specs.Place.{Owner, level, Place, at, is_at_end}
 use Rattle.syn_parse.specs.Faults.{IsMemory}

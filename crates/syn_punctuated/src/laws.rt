@@ -4,7 +4,7 @@ ghost use Rattle.std.specs.Cmp.Lexicographic.{pointwise};
 ghost use Rattle.std.specs.Fn.{CalledAtMut};
 ghost use Rattle.std.specs.List.{All};
 ghost use Rattle.tok_core.specs.Forest.{Tree};
-ghost use Rattle.tok_core.specs.declared.ident.Ident.{Ident};
+ghost use Rattle.tok_leaves.specs.declared.ident.Ident.{Ident};
 ghost use Rattle.tok_types.specs.declared.punctuation.Punctuation.{Punctuation};
 ghost use Rattle.syn_punctuated.specs.Hashed.{list_input};
 ghost use Rattle.syn_punctuated.specs.Lends.{with_value, WritesValue};

@@ -3,8 +3,8 @@ use Rattle.std.proofs.Common.{◌≡◌, ◌∙◌, ap, sym, refl, ℕ, List, []
 use Rattle.std.specs.Prelude.{true, length, IfOk, Result}
 use Rattle.std.specs.declared.alloc.AllocError.{AllocError}
 use Rattle.tok_lexical.specs.declared.delimiter.Delimiter.{Delimiter}
-use Rattle.tok_core.specs.declared.span.DelimSpan.{DelimSpan}
-use Rattle.tok_core.specs.Spans.{whole_span}
+use Rattle.tok_leaves.specs.declared.span.DelimSpan.{DelimSpan}
+use Rattle.tok_leaves.specs.Spans.{whole_span}
 use Rattle.tok_buffer.specs.Entry.{Entered}
 use Rattle.tok_buffer.specs.Messages as messages
 use Rattle.tok_buffer.specs.Refusals.{Refusal}

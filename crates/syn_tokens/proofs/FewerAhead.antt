@@ -6,7 +6,7 @@ use Rattle.std.specs.Option.{option_or}
 use Rattle.tok_core.specs.Clear.{is_joint_apostrophe}
 use Rattle.tok_lexical.specs.declared.delimiter.Delimiter.{Delimiter}
 use Rattle.tok_lexical.specs.declared.delimiter.Delimiter.TheVariants as delimiter
-use Rattle.tok_core.specs.declared.span.Span.{Span}
+use Rattle.tok_leaves.specs.declared.span.Span.{Span}
 use Rattle.tok_core.specs.Forest.{Tree, leaf, group, Forest, no_trees, tree, turned_onto}
 use Rattle.tok_core.specs.Weight.{weight}
 use Rattle.tok_buffer.specs.Ahead.{ahead, ahead_in, visible}

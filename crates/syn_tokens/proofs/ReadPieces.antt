@@ -5,11 +5,11 @@ use Rattle.std.proofs.lemmas.List.{append-nil, drop_all}
 use Rattle.std.specs.Prelude.{◌==◌, ◌&&◌, not, cond, encode_utf8}
 use Rattle.std.specs.Global.{Vec}
 use Rattle.std.specs.Str.{chars}
-use Rattle.tok_core.specs.declared.punct.Spacing.{Spacing}
-use Rattle.tok_core.specs.declared.punct.Spacing.TheVariants.{Alone, Joint}
-use Rattle.tok_core.specs.declared.span.Span.{Span}
-use Rattle.tok_core.specs.Forest.{ident, punct, literal, Tree, leaf, group}
-use Rattle.tok_core.specs.Spans.{tree_span}
+use Rattle.tok_leaves.specs.declared.punct.Spacing.{Spacing}
+use Rattle.tok_leaves.specs.declared.punct.Spacing.TheVariants.{Alone, Joint}
+use Rattle.tok_leaves.specs.declared.span.Span.{Span}
+use Rattle.tok_leaves.specs.Leaves.{ident, punct, literal}
+use Rattle.tok_core.specs.Forest.{Tree, leaf, group, tree_span}
 use Rattle.tok_buffer.specs.Descent.{descend}
 use Rattle.tok_buffer.specs.Place.{Place, front, pass}
 use Rattle.tok_buffer.specs.Reads.{and_then, apostrophe, is_joint_of, is_punct_of, read_punctuation, sized}

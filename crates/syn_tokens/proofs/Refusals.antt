@@ -2,10 +2,10 @@
 use Rattle.std.proofs.Common.{◌≡◌, ◌∙◌, ap, refl, ℕ, arith}
 use Rattle.std.specs.Prelude.{◌==◌, min, max, true, None, unwrap_or}
 use Rattle.std.proofs.lemmas.Bool.{cond-true}
-use Rattle.tok_core.specs.declared.span.Origin.TheVariants.{CallSite, Source}
-use Rattle.tok_core.specs.declared.span.Origin.{Origin}
-use Rattle.tok_core.specs.declared.span.Span.{Span}
-use Rattle.tok_core.specs.Spans.{join, source}
+use Rattle.tok_leaves.specs.declared.span.Origin.TheVariants.{CallSite, Source}
+use Rattle.tok_leaves.specs.declared.span.Origin.{Origin}
+use Rattle.tok_leaves.specs.declared.span.Span.{Span}
+use Rattle.tok_leaves.specs.Spans.{join, source}
 use Rattle.tok_buffer.specs.Messages.{refused}
 use Rattle.tok_buffer.specs.Refusals.{Refusal}
 use Rattle.syn_tokens.specs.Meanings.{refusal_of}

@@ -7,6 +7,7 @@ pub mod Meanings
 pub mod Session
 pub mod Transparent
 pub mod Turns
+pub use Rattle.tok_leaves.specs.Leaves
 pub use Rattle.tok_core.specs.Forest
 pub use Rattle.tok_core.specs.Seen as TreeSeen
 pub use Rattle.tok_core.specs.Text

@@ -1,7 +1,7 @@
 -- What commands, answers and reports of the program stand for.
 use Rattle.std.specs.Prelude.{◌≡◌, ℕ, List, map, codes, string_bytes}
 use Rattle.std.specs.Global.{Vec}
-use Rattle.tok_core.specs.Spans.{whole_span}
+use Rattle.tok_leaves.specs.Spans.{whole_span}
 use Rattle.tok_buffer.specs.Messages.{first_message_span, first_text}
 use Rattle.tok_buffer.specs.Messages as messages
 use Rattle.tok_buffer.specs.Refusals.{Refusal}

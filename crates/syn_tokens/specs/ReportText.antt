@@ -2,10 +2,10 @@
 use Rattle.std.specs.Prelude.{ℕ, true, false, cond, List, [], ◌∷◌, ◌++◌, Some, None, codes}
 use Rattle.std.specs.Fmt.{decimal}
 use Rattle.std.specs.List.{flat_map}
-use Rattle.tok_core.specs.declared.span.Span.{Span}
+use Rattle.tok_leaves.specs.declared.span.Span.{Span}
 use Rattle.tok_core.specs.Filled.{has_trees}
 use Rattle.tok_core.specs.Forest.{Forest}
-use Rattle.tok_core.specs.Spans.{range}
+use Rattle.tok_leaves.specs.Spans.{range}
 use Rattle.tok_lexical.specs.Delimiters.{opening}
 use Rattle.tok_core.specs.Text.{text}
 use Rattle.tok_buffer.specs.Refusals.{Refusal}

@@ -1,8 +1,9 @@
 -- The spans at a count, and what lies before it.
 use Rattle.std.proofs.Common.{◌≡◌, inl, inr, ℕ, ◌+◌, ◌<◌, List, [], ◌∷◌, length, refl, ap, sym, ◌∙◌, arith, length-append}
-use Rattle.tok_core.specs.Forest.{Leaf, leaf, group, Forest, no_trees, tree}
-use Rattle.tok_core.specs.declared.span.Span.{Span}
-use Rattle.tok_core.specs.Spans.{closing_span, leaf_span}
+use Rattle.tok_leaves.specs.Leaves.{Leaf, leaf_span}
+use Rattle.tok_core.specs.Forest.{leaf, group, Forest, no_trees, tree}
+use Rattle.tok_leaves.specs.declared.span.Span.{Span}
+use Rattle.tok_leaves.specs.Spans.{closing_span}
 use Rattle.tok_core.specs.Weight.{weight}
 use Rattle.tok_buffer.specs.Spans.{owner_closing, level_span}
 use Rattle.tok_buffer.specs.Place.{whole, in_group, Level, level, at}

@@ -1,7 +1,7 @@
 -- A group in front: its content, and the place after.
 use Rattle.std.proofs.Common.{◌≡◌, ℕ, ◌+◌, ◌≤◌, true, eqb, [], ◌∷◌, Option, Some, refl, ap, sym, ◌∙◌, subst, arith, eq-eqb}
 use Rattle.std.proofs.lemmas.Bool.{or_left, cond-true}
-use Rattle.tok_core.specs.declared.span.Span.{Span}
+use Rattle.tok_leaves.specs.declared.span.Span.{Span}
 use Rattle.tok_lexical.specs.declared.delimiter.Delimiter.{Delimiter}
 use Rattle.tok_core.specs.Forest.{leaf, group, Forest, no_trees, tree}
 use Rattle.tok_core.specs.Weight.{weight}

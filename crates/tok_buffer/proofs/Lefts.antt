@@ -1,10 +1,9 @@
 -- The leftover, from the first visible tree.
 use Rattle.std.proofs.Common.{◌≡◌, Bool, cond, List, [], ◌∷◌, Some, sym, ap}
-use Rattle.tok_core.specs.declared.span.Span.{Span}
+use Rattle.tok_leaves.specs.declared.span.Span.{Span}
 use Rattle.tok_lexical.specs.declared.delimiter.Delimiter.{Delimiter}
 use Rattle.tok_lexical.specs.declared.delimiter.Delimiter.TheVariants as delimiter
-use Rattle.tok_core.specs.Forest.{Tree}
-use Rattle.tok_core.specs.Spans.{tree_span}
+use Rattle.tok_core.specs.Forest.{Tree, tree_span}
 use Rattle.tok_buffer.specs.Ahead.{first_left}
 use Rattle.tok_buffer.specs.Ahead.{first_of, left_of}
 

@@ -7,8 +7,8 @@ use Rattle.unicode_ident.specs.Ident.{is_xid_continue}
 use Rattle.std.proofs.lemmas.Bool.{cond-true, cond-false, false≢true}
 use Rattle.std.proofs.lemmas.Str.{chars-nil, encodes-chars}
 use Rattle.tok_lexical.specs.Words.{IsIdentifier, HasRaw, has_no_raw}
-use Rattle.tok_core.specs.declared.ident.MakeFault.{MakeFault}
-use Rattle.tok_core.specs.declared.ident.MakeFault.TheVariants.{Refused, Memory}
+use Rattle.tok_leaves.specs.declared.ident.MakeFault.{MakeFault}
+use Rattle.tok_leaves.specs.declared.ident.MakeFault.TheVariants.{Refused, Memory}
 use Rattle.tok_buffer.specs.Lifetimes.{is_identifier, plain_refusal, raw_refusal, name_fault, refusal_in}
 use Rattle.tok_buffer.specs.declared.lifetime.LifetimeFault.TheVariants.{Empty, NotIdentifier}
 

@@ -1,7 +1,8 @@
 -- The trees ahead, entry by entry.
 use Rattle.std.proofs.Common.{◌≡◌, ℕ, ◌+◌, ◌≢◌, true, eqb, List, [], ◌∷◌, refl, ap, sym, ◌∙◌, subst, arith, eq-eqb}
 use Rattle.std.proofs.lemmas.Bool.{cond-true}
-use Rattle.tok_core.specs.Forest.{Leaf, Tree, leaf, group, Forest, no_trees, tree, concat}
+use Rattle.tok_leaves.specs.Leaves.{Leaf}
+use Rattle.tok_core.specs.Forest.{Tree, leaf, group, Forest, no_trees, tree, concat}
 use Rattle.tok_core.proofs.Facts.{concat-none, joined_assoc}
 use Rattle.tok_buffer.specs.Place.{Level, level, at}
 use Rattle.tok_buffer.specs.Moves.{level_ahead, move, levels_at, up_to, end_of, place_at, in_scope}

@@ -1,11 +1,11 @@
 -- One scan forward finds the first visible tree.
 use Rattle.std.proofs.Common.{◌≡◌, ℕ, zero, suc, ◌+◌, ◌-◌, ◌≢◌, Bool, true, false, eqb, List, [], ◌∷◌, ◌++◌, Some, refl, ap, sym, ◌∙◌, subst, arith, append_assoc, add-one, ltb, eq-eqb, lt-ltb}
 use Rattle.std.proofs.lemmas.Bool.{false≢true, cond-true}
-use Rattle.tok_core.specs.declared.span.Span.{Span}
+use Rattle.tok_leaves.specs.declared.span.Span.{Span}
 use Rattle.tok_lexical.specs.declared.delimiter.Delimiter.{Delimiter}
 use Rattle.tok_lexical.specs.declared.delimiter.Delimiter.TheVariants as delimiter
-use Rattle.tok_core.specs.Forest.{Leaf, Tree, leaf, group, Forest, no_trees, tree}
-use Rattle.tok_core.specs.Spans.{leaf_span}
+use Rattle.tok_leaves.specs.Leaves.{Leaf, leaf_span}
+use Rattle.tok_core.specs.Forest.{Tree, leaf, group, Forest, no_trees, tree}
 use Rattle.tok_buffer.specs.Ahead.{visible, ahead_in, ahead}
 use Rattle.tok_buffer.specs.Entry.{same_delimiter}
 use Rattle.tok_buffer.specs.Ahead.{first_of}

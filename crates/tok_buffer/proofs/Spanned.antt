@@ -2,7 +2,7 @@
 use Rattle.std.proofs.Common.{◌≡◌, ◌∙◌, ap, ℕ, zero, suc, ◌-◌, List, [], ◌∷◌, length, Some, slice_get, arith}
 use Rattle.tok_core.specs.declared.stream.TokenTree.{TokenTree}
 use Rattle.tok_core.specs.Seen.{tree_of, trees_of}
-use Rattle.tok_core.specs.Spans.{tree_span}
+use Rattle.tok_core.specs.Forest.{tree_span}
 use Rattle.tok_buffer.specs.Spans.{spanned, last_span}
 
 last_is : (t b : TokenTree) (ts : List TokenTree) (k : ℕ) → k ≡ length ts → slice_get (t ∷ ts) k ≡ Some b → last_span (tree_span (tree_of t)) (trees_of ts) ≡ tree_span (tree_of b)

@@ -1,9 +1,10 @@
 -- The levels at a count, against the entries.
 use Rattle.std.proofs.Common.{◌≡◌, ◌⊎◌, inl, inr, ℕ, zero, suc, ◌+◌, ◌≤◌, ◌<◌, List, [], ◌∷◌, ◌++◌, length, get_or, refl, ap, sym, ◌∙◌, arith, append_assoc, length-append, add-zero, add-one}
 use Rattle.std.proofs.lemmas.List.{get_or_at, append-nil}
-use Rattle.tok_core.specs.declared.span.Span.{Span}
+use Rattle.tok_leaves.specs.declared.span.Span.{Span}
 use Rattle.tok_lexical.specs.declared.delimiter.Delimiter.{Delimiter}
-use Rattle.tok_core.specs.Forest.{Leaf, leaf, group, Forest, no_trees, tree, concat, turned_onto}
+use Rattle.tok_leaves.specs.Leaves.{Leaf}
+use Rattle.tok_core.specs.Forest.{leaf, group, Forest, no_trees, tree, concat, turned_onto}
 use Rattle.tok_core.specs.Weight.{weight}
 use Rattle.tok_core.proofs.Facts.{concat-none, turned_back}
 use Rattle.tok_buffer.specs.Place.{Owner, whole, in_group, Level, level}

@@ -5,7 +5,7 @@ use Rattle.std.specs.Coded.{Coded, code_by, coded×, coded_ℕ, coded_list, code
 use Rattle.tok_core.specs.Code.{SpanCode, span_code, span_of, span-back, coded_span, delimiter_code}
 use Rattle.tok_core.specs.Code.{delimiter_of, delimiter-back, forest_code}
 use Rattle.tok_core.specs.Forest.{Forest}
-use Rattle.tok_core.specs.declared.span.Span.{Span}
+use Rattle.tok_leaves.specs.declared.span.Span.{Span}
 use Rattle.tok_buffer.specs.Ahead.{Leftover}
 use Rattle.tok_buffer.specs.Place.{Owner, whole, in_group, Level, level, Place, empty_place, at}
 

@@ -3,11 +3,11 @@
 use Rattle.std.specs.Prelude.{ℕ, List, [], ◌∷◌, codes}
 use Rattle.std.specs.Str.{chars}
 use Rattle.tok_lexical.specs.declared.delimiter.Delimiter.TheVariants.{Brace}
-use Rattle.tok_core.specs.declared.punct.Spacing.TheVariants.{Alone, Joint}
-use Rattle.tok_core.specs.declared.span.Span.{Span}
-use Rattle.tok_core.specs.Forest.{ident, punct, literal, leaf, group, Forest, no_trees, tree}
-use Rattle.tok_core.specs.Forest.{forest, concat}
-use Rattle.tok_core.specs.Lexical.Quoting.{in_quotes}
+use Rattle.tok_leaves.specs.declared.punct.Spacing.TheVariants.{Alone, Joint}
+use Rattle.tok_leaves.specs.declared.span.Span.{Span}
+use Rattle.tok_leaves.specs.Leaves.{ident, punct, literal}
+use Rattle.tok_core.specs.Forest.{leaf, group, Forest, no_trees, tree, forest, concat}
+use Rattle.tok_leaves.specs.Quoting.{in_quotes}
 use Rattle.tok_buffer.specs.declared.error.Message.{Message}
 
 abbrev pub colon : ℕ

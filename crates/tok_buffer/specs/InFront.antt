@@ -2,11 +2,10 @@
 use Rattle.std.specs.Prelude.{◌≡◌, ℕ, Bool, true, cond, not, List, [], ◌∷◌, ◌++◌}
 use Rattle.std.specs.Prelude.{Option, Some, None, option_map}
 use Rattle.tok_lexical.specs.declared.delimiter.Delimiter.{Delimiter}
-use Rattle.tok_core.specs.declared.span.Span.{Span}
+use Rattle.tok_leaves.specs.declared.span.Span.{Span}
 use Rattle.tok_core.specs.Erase.{erase}
 use Rattle.tok_core.specs.Filled.{filled, has_trees}
-use Rattle.tok_core.specs.Forest.{Tree, leaf, group, Forest, no_trees, tree}
-use Rattle.tok_core.specs.Spans.{tree_span}
+use Rattle.tok_core.specs.Forest.{Tree, leaf, group, Forest, no_trees, tree, tree_span}
 use Rattle.tok_buffer.specs.Buffer.{Laid}
 use Rattle.tok_buffer.specs.Entry.{Entered, enter, same_delimiter}
 use Rattle.tok_buffer.specs.Place.{Place, start, is_at_end}

@@ -22,12 +22,13 @@ pub mod View
 pub mod Refusals
 pub mod Private
 pub use Rattle.tok_core.specs.Clear
+pub use Rattle.tok_leaves.specs.Leaves
 pub use Rattle.tok_core.specs.Forest
-pub use Rattle.tok_core.specs.Laws
+pub use Rattle.tok_leaves.specs.Laws
 pub use Rattle.tok_lexical.specs.Characters
 pub use Rattle.tok_core.specs.Lexical.Errors
 pub use Rattle.tok_lexical.specs.Words as LexicalWords
 pub use Rattle.tok_core.specs.Seen
-pub use Rattle.tok_core.specs.Spans as TreeSpans
+pub use Rattle.tok_leaves.specs.Spans as TreeSpans
 pub use Rattle.tok_core.specs.Text
 pub use Rattle.tok_core.specs.Weight

@@ -5,11 +5,10 @@ use Rattle.std.specs.List.{list_all}
 use Rattle.unicode_ident.specs.Ident.{is_xid_continue}
 use Rattle.tok_core.specs.Forest.{Forest, forest}
 use Rattle.tok_lexical.specs.Words.{is_identifier_start, has_no_raw}
-use Rattle.tok_core.specs.Seen.{ident_of}
-use Rattle.tok_core.specs.Text.{leaf_text}
-use Rattle.tok_core.specs.declared.ident.MakeFault.{MakeFault}
-use Rattle.tok_core.specs.declared.ident.MakeFault.TheVariants as made
-use Rattle.tok_core.specs.declared.ident.MakeFault.TheVariants.{Refused}
+use Rattle.tok_leaves.specs.Leaves.{ident_of, leaf_text}
+use Rattle.tok_leaves.specs.declared.ident.MakeFault.{MakeFault}
+use Rattle.tok_leaves.specs.declared.ident.MakeFault.TheVariants as made
+use Rattle.tok_leaves.specs.declared.ident.MakeFault.TheVariants.{Refused}
 use Rattle.tok_buffer.specs.Reads.{apostrophe, lifetime_trees}
 use Rattle.tok_buffer.specs.declared.lifetime.Lifetime.{Lifetime}
 use Rattle.tok_buffer.specs.declared.lifetime.LifetimeFault.{LifetimeFault}

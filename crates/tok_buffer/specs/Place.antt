@@ -1,7 +1,7 @@
 -- Places in a forest, level by level.
 use Rattle.std.specs.Prelude.{ℕ, ◌+◌, Bool, true, false, List, [], ◌∷◌, Option, Some, None}
 use Rattle.tok_lexical.specs.declared.delimiter.Delimiter.{Delimiter}
-use Rattle.tok_core.specs.declared.span.Span.{Span}
+use Rattle.tok_leaves.specs.declared.span.Span.{Span}
 use Rattle.tok_core.specs.Forest.{Tree, group, Forest, no_trees, tree, turned_onto}
 use Rattle.tok_core.specs.Weight.{weight, tree_weight}
 

@@ -1,6 +1,6 @@
 -- The words and the span of a refusal.
 use Rattle.std.specs.Prelude.{ℕ, cond, List, ◌++◌, codes}
-use Rattle.tok_core.specs.declared.span.Span.{Span}
+use Rattle.tok_leaves.specs.declared.span.Span.{Span}
 use Rattle.tok_buffer.specs.Place.{Place, is_at_end}
 use Rattle.tok_buffer.specs.Spans.{start_span}
 

@@ -1,7 +1,7 @@
 -- Invisible groups do not matter to a single call.
 use Rattle.std.specs.Prelude.{◌≡◌, ℕ, Bool, true, List, IfSome, Option, option_map}
 use Rattle.tok_lexical.specs.declared.delimiter.Delimiter.{Delimiter}
-use Rattle.tok_core.specs.declared.span.Span.{Span}
+use Rattle.tok_leaves.specs.declared.span.Span.{Span}
 use Rattle.tok_core.specs.Erase.{erase}
 use Rattle.tok_core.specs.Filled.{filled}
 use Rattle.tok_core.specs.Forest.{Tree, Forest}

@@ -3,7 +3,7 @@ use Rattle.std.specs.Prelude.{⊤, Option, option_map, ℕ, ◌==◌, Bool, true
 use Rattle.std.specs.Prelude.{◌++◌, map, sum, take, get_or}
 use Rattle.tok_lexical.specs.declared.delimiter.Delimiter.{Delimiter}
 use Rattle.tok_lexical.specs.declared.delimiter.Delimiter.TheVariants as delimiter
-use Rattle.tok_core.specs.declared.span.Span.{Span}
+use Rattle.tok_leaves.specs.declared.span.Span.{Span}
 use Rattle.tok_core.specs.Erase.{erase}
 use Rattle.tok_core.specs.Forest.{Tree, leaf, group, Forest, no_trees, tree, forest}
 use Rattle.tok_buffer.specs.Ahead.{ahead}

@@ -2,7 +2,7 @@
 ghost use Rattle.std.specs.Prelude.{◌≡◌, IfOk};
 ghost use Rattle.tok_core.specs.Forest.{leaf};
 ghost use Rattle.tok_core.specs.Seen.{tree_of};
-ghost use Rattle.tok_core.specs.Spans.{leaf_span};
+ghost use Rattle.tok_leaves.specs.Leaves.{leaf_span};
 ghost use Rattle.tok_buffer.specs.Entry.{same_delimiter};
 ghost use Rattle.tok_buffer.specs.Private.Layout.{entry_owner, entry_of, leaf_in};
 ghost use Rattle.tok_buffer.specs.Spans.{closing_of};

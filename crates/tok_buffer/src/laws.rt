@@ -5,7 +5,7 @@ ghost use Rattle.std.specs.Cmp.Lexicographic.{slice_cmp};
 ghost use Rattle.std.specs.declared.cmp.Ordering.TheVariants.{Equal};
 ghost use Rattle.std.specs.Hash as fed;
 ghost use Rattle.tok_core.specs.Forest.{Forest};
-ghost use Rattle.tok_core.specs.Laws.{EqualBy, HashedBy, OrderAgrees, OrderedBy, text_order};
+ghost use Rattle.tok_leaves.specs.Laws.{EqualBy, HashedBy, OrderAgrees, OrderedBy, text_order};
 ghost use Rattle.tok_buffer.specs.Cursors.{place_of, CursorsLoseNone};
 ghost use Rattle.tok_buffer.specs.Descent.{DescentsEnter};
 ghost use Rattle.tok_buffer.specs.InFront.{AheadTellsAll, AheadTellsEnds, AllAheadAtStart};

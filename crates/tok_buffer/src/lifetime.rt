@@ -1,11 +1,8 @@
 // Lifetimes.
 ghost use Rattle.std.specs.Prelude.{◌≡◌, ◌++◌, ◌∷◌, codes, None, MatchOption, IfSome, IfOk, IfErr, Some};
 ghost use Rattle.std.specs.Str.{chars, IsUtf8};
-ghost use Rattle.tok_core.specs.Forest.{ident};
+ghost use Rattle.tok_leaves.specs.Leaves.{ident, ident_of, leaf_span, leaf_text};
 ghost use Rattle.tok_lexical.specs.Words.{has_no_raw};
-ghost use Rattle.tok_core.specs.Seen.{ident_of};
-ghost use Rattle.tok_core.specs.Spans.{leaf_span};
-ghost use Rattle.tok_core.specs.Text.{leaf_text};
 ghost use Rattle.tok_buffer.specs.Lifetimes.{fault_words, lifetime_forest, lifetime_refusal, lifetime_text, name_fault, name_refusal, plain_refusal, raw_refusal, refusal_in};
 ghost use Rattle.tok_buffer.specs.Reads.{apostrophe};
 ghost use Rattle.tok_buffer.specs.Spans.{covering};

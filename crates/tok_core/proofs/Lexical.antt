@@ -1,5 +1,4 @@
 -- Lemmas on the lexical grammar and on the lexer.
-pub mod Quoting
 pub mod Flat
 pub mod Nests
 pub mod Steps

@@ -1,7 +1,7 @@
 -- Trees still to be compared.
 use Rattle.std.proofs.Common.{◌≡◌, ◌∙◌, sym, ap, refl, ◌+◌, List, [], ◌∷◌, ◌++◌, length, Bor, arith}
 use Rattle.tok_lexical.specs.declared.delimiter.Delimiter.TheVariants.{None}
-use Rattle.tok_core.specs.declared.span.Span.{Span}
+use Rattle.tok_leaves.specs.declared.span.Span.{Span}
 use Rattle.tok_core.specs.declared.stream.TokenTree.{TokenTree}
 use Rattle.tok_core.specs.Erase.{erase}
 use Rattle.tok_core.specs.Forest.{Tree, group, Forest, no_trees, tree, concat}

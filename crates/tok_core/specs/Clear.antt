@@ -1,8 +1,9 @@
 -- Forests in which no joint apostrophe is at the edge of an invisible group.
 use Rattle.std.specs.Prelude.{Bool, true, false, not, ◌&&◌, ◌==◌}
 use Rattle.tok_lexical.specs.declared.delimiter.Delimiter.TheVariants.{None}
-use Rattle.tok_core.specs.declared.punct.Spacing.TheVariants.{Joint}
-use Rattle.tok_core.specs.Forest.{punct, Tree, leaf, group, Forest, no_trees, tree}
+use Rattle.tok_leaves.specs.declared.punct.Spacing.TheVariants.{Joint}
+use Rattle.tok_leaves.specs.Leaves.{punct}
+use Rattle.tok_core.specs.Forest.{Tree, leaf, group, Forest, no_trees, tree}
 
 abbrev pub is_joint_apostrophe : Tree → Bool
 is_joint_apostrophe (leaf (punct c Joint span)) = c == 39

@@ -5,14 +5,15 @@ use Rattle.std.proofs.Common.{zero, suc, inl, inr, ap, ◌∙◌}
 use Rattle.std.specs.Coded.{Coded, code_by, coded×, coded_ℕ, coded_bool, coded_list, coded_option}
 use Rattle.std.specs.Coded.{coded⊎}
 use base.Stored.{coded_unit}
-use Rattle.tok_core.specs.declared.span.Origin.{Origin}
-use Rattle.tok_core.specs.declared.span.Origin.TheVariants.{CallSite, Source}
-use Rattle.tok_core.specs.declared.span.Span.{Span}
+use Rattle.tok_leaves.specs.declared.span.Origin.{Origin}
+use Rattle.tok_leaves.specs.declared.span.Origin.TheVariants.{CallSite, Source}
+use Rattle.tok_leaves.specs.declared.span.Span.{Span}
 use Rattle.tok_lexical.specs.declared.delimiter.Delimiter.{Delimiter}
 use Rattle.tok_lexical.specs.declared.delimiter.Delimiter.TheVariants as delimiter
-use Rattle.tok_core.specs.declared.punct.Spacing.{Spacing}
-use Rattle.tok_core.specs.declared.punct.Spacing.TheVariants.{Alone, Joint}
-use Rattle.tok_core.specs.Forest.{Leaf, ident, punct, literal, leaf, group, Forest, no_trees, tree}
+use Rattle.tok_leaves.specs.declared.punct.Spacing.{Spacing}
+use Rattle.tok_leaves.specs.declared.punct.Spacing.TheVariants.{Alone, Joint}
+use Rattle.tok_leaves.specs.Leaves.{Leaf, ident, punct, literal}
+use Rattle.tok_core.specs.Forest.{leaf, group, Forest, no_trees, tree}
 
 abbrev pub SpanCode : Type 0
 SpanCode = Option (ℕ × (ℕ × ℕ))

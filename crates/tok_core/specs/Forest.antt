@@ -1,16 +1,9 @@
 -- Trees and forests, as contracts see them.
-use Rattle.std.specs.Prelude.{◌≡◌, ℕ, List, [], ◌∷◌}
-use Rattle.tok_core.specs.declared.span.Span.{Span}
+use Rattle.std.specs.Prelude.{◌≡◌, List, [], ◌∷◌}
 use Rattle.tok_lexical.specs.declared.delimiter.Delimiter.{Delimiter}
 use Rattle.tok_lexical.specs.declared.delimiter.Delimiter.TheVariants.{None}
-use Rattle.tok_core.specs.declared.punct.Spacing.{Spacing}
-use Rattle.tok_core.specs.declared.punct.Spacing.TheVariants.{Alone}
-
--- a leaf: a text is the list of its bytes, a character its code
-pub data Leaf : Type 0 where
-  ident : List ℕ → Span → Leaf
-  punct : ℕ → Spacing → Span → Leaf
-  literal : List ℕ → Span → Leaf
+use Rattle.tok_leaves.specs.declared.span.Span.{Span}
+use Rattle.tok_leaves.specs.Leaves.{Leaf, ident, punct, literal, leaf_span}
 
 -- a forest is a list of trees
 mutual
@@ -37,15 +30,7 @@ AppendsFront old added new =
     (front : Forest) × (refused : Tree) × (rest : Forest)
     × (added ≡ concat front (tree refused rest)) × (new ≡ concat old front)
 
--- parts of a leaf or a group, with a default where it has none
-abbrev pub leaf_char : Leaf → ℕ
-leaf_char (punct c spacing span) = c
-leaf_char l = 0
-
-abbrev pub leaf_spacing : Leaf → Spacing
-leaf_spacing (punct c spacing span) = spacing
-leaf_spacing l = Alone
-
+-- parts of a group, with a default where a tree is none
 abbrev pub tree_delimiter : Tree → Delimiter
 tree_delimiter (group delimiter inside span) = delimiter
 tree_delimiter (leaf l) = None
@@ -53,6 +38,17 @@ tree_delimiter (leaf l) = None
 abbrev pub tree_inside : Tree → Forest
 tree_inside (group delimiter inside span) = inside
 tree_inside (leaf l) = no_trees
+
+abbrev pub tree_span : Tree → Span
+tree_span (leaf l) = leaf_span l
+tree_span (group delimiter inside span) = span
+
+-- the same tree, at another span; what is inside a group stays
+abbrev pub with_span : Span → Tree → Tree
+with_span span (leaf (ident text old)) = leaf (ident text span)
+with_span span (leaf (punct c spacing old)) = leaf (punct c spacing span)
+with_span span (leaf (literal text old)) = leaf (literal text span)
+with_span span (group delimiter inside old) = group delimiter inside span
 
 -- the last tree first, after what is there
 abbrev pub turned_onto : Forest → Forest → Forest

@@ -1,5 +1,4 @@
 -- The lexical grammar: which texts read as which forest, and which are refused, where and why.
-pub mod Quoting
 pub mod Errors
 pub mod Items
 pub mod Meaning

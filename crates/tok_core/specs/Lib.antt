@@ -7,7 +7,6 @@ pub mod Laws
 pub mod Lexical
 pub mod Seen
 pub mod Spanless
-pub mod Spans
 pub mod Text
 pub mod Weight
 pub mod Private

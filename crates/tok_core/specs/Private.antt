@@ -1,6 +1,5 @@
 -- Definitions that only contracts of private items cite.
 pub mod Alikes
 pub mod Built
-pub mod Kept
 pub mod Pending
 pub mod TreeFalls

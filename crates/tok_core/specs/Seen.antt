@@ -1,23 +1,11 @@
 -- What the trees of the program stand for. A stream is a forest.
 use Rattle.std.specs.Prelude.{List, [], ◌∷◌}
-use Rattle.tok_core.specs.declared.ident.Ident.{Ident}
-use Rattle.tok_core.specs.declared.punct.Punct.{Punct}
-use Rattle.tok_core.specs.declared.literal.Literal.{Literal}
 use Rattle.tok_core.specs.declared.group.Group.{Group}
 use Rattle.tok_core.specs.declared.stream.TokenTree.{TokenTree}
 use Rattle.tok_core.specs.declared.stream.TokenTree.TheVariants as made
-use Rattle.tok_core.specs.Forest.{Leaf, ident, punct, literal, Tree, leaf, group, Forest, no_trees}
-use Rattle.tok_core.specs.Forest.{tree}
-use Rattle.tok_core.specs.Spans.{bounds_delimiter, bounds_span}
-
-abbrev pub ident_of : Ident → Leaf
-ident_of i = ident i.text i.span
-
-abbrev pub punct_of : Punct → Leaf
-punct_of p = punct p.ch p.spacing p.span
-
-abbrev pub literal_of : Literal → Leaf
-literal_of l = literal l.text l.span
+use Rattle.tok_core.specs.Forest.{Tree, leaf, group, Forest, no_trees, tree}
+use Rattle.tok_leaves.specs.Leaves.{ident_of, punct_of, literal_of}
+use Rattle.tok_leaves.specs.Spans.{bounds_delimiter, bounds_span}
 
 abbrev pub group_of : Group → Tree
 group_of g = group (bounds_delimiter g.bounds) g.stream (bounds_span g.bounds)

@@ -4,12 +4,12 @@ use Rattle.std.specs.Hash as fed
 use Rattle.tok_lexical.specs.declared.delimiter.Delimiter.{Delimiter}
 use Rattle.tok_lexical.specs.declared.delimiter.Delimiter.TheVariants.{Parenthesis, Brace, Bracket}
 use Rattle.tok_lexical.specs.declared.delimiter.Delimiter.TheVariants.{None}
-use Rattle.tok_core.specs.declared.punct.Spacing.{Spacing}
-use Rattle.tok_core.specs.declared.punct.Spacing.TheVariants.{Alone, Joint}
+use Rattle.tok_leaves.specs.declared.punct.Spacing.{Spacing}
+use Rattle.tok_leaves.specs.declared.punct.Spacing.TheVariants.{Alone, Joint}
 use Rattle.tok_core.specs.Code.{delimiter_code}
-use Rattle.tok_core.specs.Forest.{Leaf, ident, punct, literal, Tree, leaf, group, Forest, no_trees}
-use Rattle.tok_core.specs.Forest.{tree}
-use Rattle.tok_core.specs.Spans.{call_site}
+use Rattle.tok_leaves.specs.Leaves.{Leaf, ident, punct, literal}
+use Rattle.tok_core.specs.Forest.{Tree, leaf, group, Forest, no_trees, tree}
+use Rattle.tok_leaves.specs.Spans.{call_site}
 
 abbrev pub leaf_spanless : Leaf → Leaf
 leaf_spanless (ident text span) = ident text call_site

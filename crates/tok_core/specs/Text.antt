@@ -1,20 +1,9 @@
 -- The printed text of a forest.
-use Rattle.std.specs.Prelude.{ℕ, ◌==◌, ◌&&◌, Bool, true, false, cond, List, [], ◌∷◌, ◌++◌}
-use Rattle.std.specs.Prelude.{encode_utf8, codes}
+use Rattle.std.specs.Prelude.{Bool, true, false, cond, ℕ, List, [], ◌++◌, codes}
 use Rattle.tok_lexical.specs.Delimiters.{opening, closing}
-use Rattle.tok_core.specs.declared.punct.Spacing.TheVariants.{Joint}
-use Rattle.tok_core.specs.Forest.{Leaf, ident, punct, literal, Tree, leaf, group, Forest, no_trees}
-use Rattle.tok_core.specs.Forest.{tree}
-
-abbrev pub leaf_text : Leaf → List ℕ
-leaf_text (ident text span) = text
-leaf_text (punct c spacing span) = encode_utf8 c
-leaf_text (literal text span) = text
-
--- an identifier's text without a leading `r#`
-abbrev pub unraw : List ℕ → List ℕ
-unraw (c ∷ (d ∷ word)) = cond (c == 114 && d == 35) word (c ∷ (d ∷ word))
-unraw text = text
+use Rattle.tok_leaves.specs.declared.punct.Spacing.TheVariants.{Joint}
+use Rattle.tok_leaves.specs.Leaves.{punct, leaf_text}
+use Rattle.tok_core.specs.Forest.{Tree, leaf, group, Forest, no_trees, tree}
 
 abbrev pub is_joint : Tree → Bool
 is_joint (leaf (punct c Joint span)) = true

@@ -1,13 +1,12 @@
 // Groups.
 ghost use Rattle.std.specs.Prelude.{◌≡◌, IfOk};
-ghost use Rattle.tok_core.specs.Forest.{tree_delimiter, tree_inside, group};
+ghost use Rattle.tok_core.specs.Forest.{tree_delimiter, tree_inside, group, tree_span};
 ghost use Rattle.tok_core.specs.Seen.{group_of};
-ghost use Rattle.tok_core.specs.Spans.{tree_span, opening_span, closing_span, whole_span};
+ghost use Rattle.tok_leaves.specs.Spans.{opening_span, closing_span, whole_span};
 
-use crate::span::{Bounds, DelimSpan, Span};
 use crate::stream::TokenStream;
 use std::alloc::AllocError;
-use tok_lexical::Delimiter;
+use tok_leaves::{Bounds, DelimSpan, Delimiter, Span};
 
 /// A delimited stream.
 #[cycle(trees)]

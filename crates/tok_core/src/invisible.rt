@@ -3,19 +3,17 @@ ghost use Rattle.std.specs.Prelude.{◌≡◌, ◌≤◌, ◌+◌, ◌↔◌, fa
 ghost use Rattle.tok_core.specs.Clear.{clear, tree_clear, ends_joint, is_joint_apostrophe, is_invisible_group};
 ghost use Rattle.tok_core.specs.Erase.{erase};
 ghost use Rattle.tok_core.specs.Filled.{filled};
-ghost use Rattle.tok_core.specs.Forest.{no_trees, tree, concat, tree_delimiter};
+ghost use Rattle.tok_core.specs.Forest.{no_trees, tree, concat, tree_delimiter, tree_span};
 ghost use Rattle.tok_core.specs.Seen.{group_of, tree_of};
-ghost use Rattle.tok_core.specs.Spans.{tree_span};
 ghost use Rattle.tok_core.specs.Weight.{tree_weight};
 ghost use Rattle.tok_core.specs.Private.Pending.{all_of, pending, pending_weight, IsVisible, invisible};
-ghost use Rattle.tok_core.specs.declared.span.Span.{Span};
+ghost use Rattle.tok_leaves.specs.declared.span.Span.{Span};
 
 use crate::group::Group;
-use crate::punct::Spacing;
-use crate::same::{same_ident, same_literal, same_punct};
 use crate::stream::{TokenStream, TokenTree};
 use std::alloc::{AllocError, Global};
-use tok_lexical::Delimiter;
+use tok_leaves::same::{same_ident, same_literal, same_punct};
+use tok_leaves::{Delimiter, Spacing};
 
 /// Whether each invisible group of a stream, at any depth, holds a visible tree.
 #[cycle(filled)]

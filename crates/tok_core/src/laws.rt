@@ -1,13 +1,14 @@
 //! Laws of the definitions that the contracts cite, and of comparing, ordering and hashing. The functions do nothing: each
 //! one's contract is a law.
-ghost use Rattle.std.specs.Hash as fed;
-ghost use Rattle.tok_core.specs.Laws.{EqualBy, HashedBy, OrderAgrees, OrderedBy, stream_shown, text_of, text_order, tree_shown};
+ghost use Rattle.tok_leaves.specs.Laws.{EqualBy, HashedBy};
+ghost use Rattle.tok_core.specs.Laws.{stream_shown, tree_shown};
 ghost use Rattle.tok_core.specs.Lexical.Laws.{IsReadOnce, IsRefusedOnce, IsNeverBoth};
 ghost use Rattle.tok_core.specs.Spanless.{forest_input, tree_input};
 
-use crate::ident::Ident;
 use crate::tt::{TokenStreamHelper, TokenTreeHelper};
 use std::hash::Hash;
+
+pub use tok_leaves::laws::idents_by_text;
 
 /// A text reads as one forest at most.
 pub fn forest_once()
@@ -22,15 +23,6 @@ pub fn refused_once()
 /// No text is both read and refused.
 pub fn never_both()
     ensures { IsNeverBoth }
-{}
-
-/// Identifiers are compared, ordered and hashed by their texts, and their order agrees with equality.
-pub fn idents_by_text()
-    ensures equal { EqualBy text_of ⟦<Ident as PartialEq>⟧.eq }
-    ensures order { OrderedBy text_of text_order ⟦<Ident as Ord>⟧.cmp }
-    ensures agree { OrderAgrees ⟦<Ident as PartialEq>⟧.eq ⟦<Ident as Ord>⟧.cmp
-        ⟦<Ident as PartialOrd>⟧.partial_cmp }
-    ensures hash { HashedBy text_of fed.str ⟦<Ident as Hash>⟧.hash_input }
 {}
 
 /// Streams are compared and hashed without spans, so those that are equal but for spans feed a hasher alike.

@@ -4,10 +4,10 @@ ghost use Rattle.std.specs.Fmt.{WritesOnOk};
 ghost use Rattle.tok_core.specs.Seen.{tree_of};
 ghost use Rattle.tok_core.specs.Text as spec;
 
-use crate::punct::Spacing;
 use crate::stream::{TokenStream, TokenTree};
 use std::fmt;
 use std::fmt::{Formatter, Write};
+use tok_leaves::Spacing;
 
 impl fmt::Display for TokenStream {
     ghost output = { λ s. Some (spec.text s) };

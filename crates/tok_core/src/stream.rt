@@ -1,19 +1,15 @@
 // Streams of trees.
 ghost use Rattle.std.specs.Prelude.{◌≡◌, not, min, IfOk, OnOk, OnErr};
 ghost use Rattle.tok_core.specs.Filled.{has_trees};
-ghost use Rattle.tok_core.specs.Forest.{concat, no_trees, tree};
+ghost use Rattle.tok_core.specs.Forest.{concat, no_trees, tree, tree_span, with_span};
 ghost use Rattle.tok_core.specs.Laws.{IsTheOnly};
 ghost use Rattle.tok_core.specs.Seen.{tree_of, trees_of};
-ghost use Rattle.tok_core.specs.Spans.{tree_span, with_span};
 ghost use Rattle.tok_core.specs.Weight.{weight, tree_weight};
 
 use crate::group::Group;
-use crate::ident::Ident;
-use crate::literal::Literal;
-use crate::punct::Punct;
-use crate::span::Span;
 use std::alloc::{AllocError, Global};
 use std::marker::Model;
+use tok_leaves::{Ident, Literal, Punct, Span};
 
 /// A list of trees, which grows in memory of its own allocator. In contracts it is a forest.
 #[cycle(trees)]

@@ -1,14 +1,13 @@
 // Values that are written as tokens.
 ghost use Rattle.std.specs.Prelude.{◌≡◌, IfOk, OnOk, OnErr};
 ghost use Rattle.tok_core.specs.Forest.{AppendsFront, Forest, concat, leaf, no_trees, tree};
-ghost use Rattle.tok_core.specs.Seen.{group_of, ident_of, literal_of, punct_of, tree_of};
+ghost use Rattle.tok_core.specs.Seen.{group_of, tree_of};
+ghost use Rattle.tok_leaves.specs.Leaves.{ident_of, literal_of, punct_of};
 
 use crate::group::Group;
-use crate::ident::Ident;
-use crate::literal::Literal;
-use crate::punct::Punct;
 use crate::stream::{TokenStream, TokenTree};
 use std::alloc::{AllocError, Global};
+use tok_leaves::{Ident, Literal, Punct};
 
 /// A value that is written as tokens.
 pub trait ToTokens {

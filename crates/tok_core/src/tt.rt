@@ -6,10 +6,9 @@ ghost use Rattle.tok_core.specs.Seen.{tree_of};
 ghost use Rattle.tok_core.specs.Spanless.{alike, spanless, tree_alike, tree_spanless, same_delimiter, same_spacing, spacing_number, tree_input, forest_input};
 ghost use Rattle.tok_core.specs.Private.Alikes.{alike_equivalence, tree_alike_equivalence, forest_input-alike, tree_input-alike};
 
-use crate::punct::Spacing;
 use crate::stream::{TokenStream, TokenTree};
 use std::hash::{Hash, Hasher};
-use tok_lexical::Delimiter;
+use tok_leaves::{Delimiter, Spacing};
 
 /// A tree that is compared and hashed without spans.
 #[derive(Clone, Copy)]

@@ -1,7 +1,8 @@
 -- A word where an identifier is read.
 use Rattle.std.proofs.Common.{◌≡◌, ◌∙◌, ap, refl, ℕ, Bool, true, false, cond, List, [], ◌∷◌, Option, Some, None, is_some}
-use Rattle.tok_core.specs.declared.span.Span.{Span}
-use Rattle.tok_core.specs.Forest.{ident, punct, literal, Tree, leaf, group, no_trees, tree}
+use Rattle.tok_leaves.specs.declared.span.Span.{Span}
+use Rattle.tok_leaves.specs.Leaves.{ident, punct, literal}
+use Rattle.tok_core.specs.Forest.{Tree, leaf, group, no_trees, tree}
 use Rattle.tok_buffer.specs.Descent.{descend}
 use Rattle.tok_buffer.specs.Place.{level, Place, empty_place, at}
 use Rattle.tok_buffer.specs.Reads.{read_if, is_ident, is_ident_of, read_ident, read_word}

@@ -4,9 +4,10 @@ use Rattle.std.specs.Prelude.{◌==◌}
 use Rattle.std.specs.List.{list_all}
 use Rattle.std.proofs.lemmas.Bool.{cond-true, cond-false, eq-eqb, eqb-false, ne_eqb}
 use Rattle.std.proofs.lemmas.List.{drop_more, take-append-drop, take_all, take_more}
-use Rattle.tok_core.specs.declared.span.Span.{Span}
-use Rattle.tok_core.specs.Forest.{Tree, leaf, punct, Forest, no_trees, tree, forest, concat, AppendsFront}
-use Rattle.tok_core.specs.Spans.{call_site}
+use Rattle.tok_leaves.specs.declared.span.Span.{Span}
+use Rattle.tok_core.specs.Forest.{Tree, leaf, Forest, no_trees, tree, forest, concat, AppendsFront}
+use Rattle.tok_leaves.specs.Leaves.{punct}
+use Rattle.tok_leaves.specs.Spans.{call_site}
 use Rattle.tok_lexical.specs.Characters.{is_punct_or_apostrophe}
 use Rattle.tok_core.proofs.Facts.{concat-none, joined_assoc}
 use Rattle.tok_types.specs.Printed.{joint_puncts, puncts, spacing}

@@ -10,8 +10,9 @@ use Rattle.std.proofs.lemmas.Str.{chars-IsAscii, chars-nil, encodes-chars}
 use Rattle.unicode_ident.specs.Ident.{is_xid_continue}
 use Rattle.unicode_ident.proofs.IdentLemmas.{is_xid_start-ascii, is_xid_continue-ascii}
 use Rattle.tok_lexical.specs.Words.{IsIdentifier, IsSuffix}
-use Rattle.tok_core.specs.declared.span.Span.{Span}
-use Rattle.tok_core.specs.Forest.{AppendsFront, Forest, ident, leaf, no_trees}
+use Rattle.tok_leaves.specs.declared.span.Span.{Span}
+use Rattle.tok_core.specs.Forest.{AppendsFront, Forest, leaf, no_trees}
+use Rattle.tok_leaves.specs.Leaves.{ident}
 use Rattle.tok_core.proofs.Fronts.{none_appended}
 use Rattle.tok_types.specs.Printed.{word}
 use Rattle.tok_types.proofs.Searches.{below_or_not}

@@ -2,12 +2,12 @@
 use Rattle.std.specs.Prelude.{◌≡◌, ℕ, Bool, true, false, ◌==◌, ◌&&◌, cond, List, [], ◌∷◌, length}
 use Rattle.std.specs.List.{list_all}
 use Rattle.tok_lexical.specs.declared.delimiter.Delimiter.{Delimiter}
-use Rattle.tok_core.specs.declared.punct.Spacing.{Spacing}
-use Rattle.tok_core.specs.declared.punct.Spacing.TheVariants.{Alone, Joint}
-use Rattle.tok_core.specs.declared.span.Span.{Span}
-use Rattle.tok_core.specs.Forest.{Tree, leaf, ident, punct, group, Forest, no_trees, tree, forest}
-use Rattle.tok_core.specs.Forest.{concat}
-use Rattle.tok_core.specs.Spans.{call_site}
+use Rattle.tok_leaves.specs.declared.punct.Spacing.{Spacing}
+use Rattle.tok_leaves.specs.declared.punct.Spacing.TheVariants.{Alone, Joint}
+use Rattle.tok_leaves.specs.declared.span.Span.{Span}
+use Rattle.tok_core.specs.Forest.{Tree, leaf, group, Forest, no_trees, tree, forest, concat}
+use Rattle.tok_leaves.specs.Leaves.{ident, punct}
+use Rattle.tok_leaves.specs.Spans.{call_site}
 use Rattle.tok_lexical.specs.Characters.{is_punct_or_apostrophe}
 
 -- an identifier of this text, and nothing for the empty one

@@ -3,7 +3,7 @@ ghost use Rattle.std.specs.Prelude.{◌≡◌, Ok, OnOk, OnErr};
 ghost use Rattle.std.specs.Fn.{FnOnceReturnsAtMut, FnOnceTakesAtMut};
 ghost use Rattle.tok_buffer.specs.Entry.{enter};
 ghost use Rattle.tok_core.specs.Forest.{no_trees};
-ghost use Rattle.tok_core.specs.Spans.{call_site, whole_span};
+ghost use Rattle.tok_leaves.specs.Spans.{call_site, whole_span};
 ghost use Rattle.tok_lexical.specs.declared.delimiter.Delimiter.TheVariants as delimiter;
 ghost use Rattle.tok_types.specs.Delimiters.{delimiter_at, delimiter_display};
 ghost use Rattle.tok_types.specs.Looks.{Finds, IsText};

@@ -1,7 +1,6 @@
 // Tokens that are made into identifiers.
 ghost use Rattle.std.specs.Prelude.{◌≡◌, codes, IfOk};
-ghost use Rattle.tok_core.specs.Forest.{ident};
-ghost use Rattle.tok_core.specs.Seen.{ident_of};
+ghost use Rattle.tok_leaves.specs.Leaves.{ident, ident_of};
 ghost use Rattle.tok_types.specs.Printed.{first_span};
 
 use crate::token;

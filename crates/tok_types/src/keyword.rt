@@ -1,8 +1,7 @@
 // Keywords.
 ghost use Rattle.std.specs.Prelude.{◌≡◌, ◌<◌, IfOk};
-ghost use Rattle.tok_core.specs.Forest.{ident};
-ghost use Rattle.tok_core.specs.Seen.{ident_of};
-ghost use Rattle.tok_core.specs.Spans.{call_site};
+ghost use Rattle.tok_leaves.specs.Leaves.{ident, ident_of};
+ghost use Rattle.tok_leaves.specs.Spans.{call_site};
 ghost use Rattle.tok_buffer.specs.Reads.{read_keyword};
 ghost use Rattle.tok_types.specs.Looks.{Finds, IsText};
 ghost use Rattle.tok_types.specs.Printed.{word};

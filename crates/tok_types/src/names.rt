@@ -1,9 +1,9 @@
 // Identifiers of a text that is known to be one, and trees of them.
 ghost use Rattle.std.specs.Prelude.{◌≡◌, IfOk, OnOk, OnErr};
 ghost use Rattle.std.specs.Str.{chars};
-ghost use Rattle.tok_core.specs.Forest.{AppendsFront, ident, concat};
+ghost use Rattle.tok_core.specs.Forest.{AppendsFront, concat};
+ghost use Rattle.tok_leaves.specs.Leaves.{ident, ident_of};
 ghost use Rattle.tok_lexical.specs.Words.{IsIdentifier, IsSuffix};
-ghost use Rattle.tok_core.specs.Seen.{ident_of};
 ghost use Rattle.tok_types.specs.Printed.{word};
 
 use std::alloc::{AllocError, Global};

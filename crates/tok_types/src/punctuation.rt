@@ -1,7 +1,7 @@
 // Punctuations.
 ghost use Rattle.std.specs.Prelude.{◌≡◌, [], ◌∷◌, replicate};
 ghost use Rattle.tok_buffer.specs.Reads.{read_punctuation};
-ghost use Rattle.tok_core.specs.Spans.{call_site};
+ghost use Rattle.tok_leaves.specs.Spans.{call_site};
 ghost use Rattle.tok_types.specs.Looks.{Finds, IsText};
 ghost use Rattle.tok_types.specs.Printed.{puncts};
 ghost use Rattle.tok_types.specs.Texts.{punctuation_word, in_backquotes};

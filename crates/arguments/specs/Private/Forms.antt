@@ -1,10 +1,10 @@
 -- The form of arguments: all that they are but how the program keeps a list of them. The proof of
 -- the reader goes by forms.
 use Rattle.std.specs.Prelude.{◌≡◌, List, [], ◌∷◌}
-use Rattle.tok_core.specs.Spans.{whole_span}
-use Rattle.tok_core.specs.declared.ident.Ident.{Ident}
-use Rattle.tok_core.specs.declared.literal.Literal.{Literal}
-use Rattle.tok_core.specs.declared.span.Span.{Span}
+use Rattle.tok_leaves.specs.Spans.{whole_span}
+use Rattle.tok_leaves.specs.declared.ident.Ident.{Ident}
+use Rattle.tok_leaves.specs.declared.literal.Literal.{Literal}
+use Rattle.tok_leaves.specs.declared.span.Span.{Span}
 use Rattle.syn_punctuated.specs.Lists.{values_of, separators_of}
 use Rattle.arguments.specs.Values as values
 use Rattle.arguments.specs.Values.{Equals, Comma, Arguments, Paren}

@@ -1,9 +1,10 @@
 -- What comes of reading arguments tree by tree: their forms, or the words of the refusal. It is the
 -- grammar again, as a function, with the words that the grammar leaves out.
 use Rattle.std.specs.Prelude.{ℕ, ◌==◌, cond, List, [], ◌∷◌, ◌++◌, codes}
-use Rattle.tok_core.specs.Forest.{ident, punct, literal, leaf, group, Forest, no_trees, tree}
+use Rattle.tok_leaves.specs.Leaves.{ident, punct, literal}
+use Rattle.tok_core.specs.Forest.{leaf, group, Forest, no_trees, tree}
 use Rattle.tok_lexical.specs.declared.delimiter.Delimiter.TheVariants.{Parenthesis}
-use Rattle.tok_core.specs.declared.ident.Ident.{Ident}
+use Rattle.tok_leaves.specs.declared.ident.Ident.{Ident}
 use Rattle.tok_types.specs.Texts.{accept_as_ident, in_backquotes}
 use Rattle.syn_parse.specs.RefusalWords.{expected}
 use Rattle.arguments.specs.Private.Forms.{Form, flag, assigned, with_list}

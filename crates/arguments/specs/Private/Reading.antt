@@ -2,8 +2,8 @@
 use Rattle.std.specs.Prelude.{◌≡◌, ℕ, true, false, List, Result, Ok, Err}
 use Rattle.tok_core.specs.Filled.{filled}
 use Rattle.tok_core.specs.Forest.{no_trees}
-use Rattle.tok_core.specs.declared.ident.Ident.{Ident}
-use Rattle.tok_core.specs.declared.span.Span.{Span}
+use Rattle.tok_leaves.specs.declared.ident.Ident.{Ident}
+use Rattle.tok_leaves.specs.declared.span.Span.{Span}
 use Rattle.tok_buffer.specs.Buffer.{Laid}
 use Rattle.tok_buffer.specs.InFront.{AheadTellsAll, AheadTellsEnds, AllAheadAtStart}
 use Rattle.tok_buffer.specs.Place.{Place, is_at_end}

@@ -1,7 +1,7 @@
 -- No list parser runs out of turns: more than are allowed change nothing.
 use Rattle.std.proofs.Common.{◌≡◌, ap, refl, ℕ, zero, suc, ◌+◌, ◌≤◌, cond, List, [], ◌∷◌, length}
 use Rattle.std.proofs.Common.{Option, Some, None, arith, le_refl}
-use Rattle.tok_core.specs.declared.span.Span.{Span}
+use Rattle.tok_leaves.specs.declared.span.Span.{Span}
 use Rattle.tok_core.specs.Forest.{Tree}
 use Rattle.tok_buffer.specs.Ahead.{ahead}
 use Rattle.tok_buffer.specs.Place.{Place, is_at_end}

@@ -5,7 +5,7 @@ use Rattle.std.proofs.Common.{Bool, true, false, cond, List, [], ◌∷◌, ◌+
 use Rattle.std.proofs.Common.{None}
 use Rattle.std.specs.Prelude.{⊤, option_map}
 use Rattle.std.specs.Option.{option_or}
-use Rattle.tok_core.specs.declared.span.Span.{Span}
+use Rattle.tok_leaves.specs.declared.span.Span.{Span}
 use Rattle.tok_buffer.specs.Buffer.{Laid}
 use Rattle.tok_buffer.specs.Ahead.{Leftover, leftover}
 use Rattle.tok_buffer.specs.Place.{Place}

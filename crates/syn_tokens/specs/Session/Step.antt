@@ -1,9 +1,9 @@
 -- One command on the streams.
 use Rattle.std.specs.Prelude.{ℕ, ◌+◌, ◌==◌, ◌&&◌, ◌||◌, not, Bool, true, false, cond, List, [], ◌∷◌}
 use Rattle.std.specs.Prelude.{◌++◌, length, Option, Some, None, codes}
-use Rattle.tok_core.specs.declared.span.Span.{Span}
+use Rattle.tok_leaves.specs.declared.span.Span.{Span}
 use Rattle.tok_core.specs.Forest.{Tree, forest}
-use Rattle.tok_core.specs.Spans.{closing_span}
+use Rattle.tok_leaves.specs.Spans.{closing_span}
 use Rattle.tok_buffer.specs.Entry.{Entered}
 use Rattle.tok_buffer.specs.Entry as entry
 use Rattle.tok_buffer.specs.Order.{same_scope}

@@ -2,7 +2,7 @@
 ghost use Rattle.std.specs.Prelude.{◌≡◌, ◌<◌, ◌∷◌, [], length, map, IfOk, encode_utf8, take, string_bytes};
 ghost use Rattle.std.specs.Str.{chars};
 ghost use Rattle.tok_core.specs.Forest.{leaf};
-ghost use Rattle.tok_core.specs.Seen.{ident_of, literal_of, punct_of};
+ghost use Rattle.tok_leaves.specs.Leaves.{ident_of, literal_of, punct_of};
 ghost use Rattle.tok_buffer.specs.Reads.{lifetime_trees};
 ghost use Rattle.syn_tokens.specs.Session.Reading.{ArePieces, punct_pieces};
 ghost use Rattle.syn_tokens.specs.Meanings.{piece_of};

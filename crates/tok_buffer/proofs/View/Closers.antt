@@ -4,7 +4,7 @@ use Rattle.std.proofs.Common.{drop, sum, arith, append_assoc, length-append, dro
 use Rattle.std.proofs.Common.{add-zero, get_or-drop, take_all, le_of_eq}
 use Rattle.std.specs.Prelude.{⊤}
 use Rattle.std.proofs.Math.Seq.{get_or-append_seam}
-use Rattle.tok_core.specs.declared.span.Span.{Span}
+use Rattle.tok_leaves.specs.declared.span.Span.{Span}
 use Rattle.tok_lexical.specs.declared.delimiter.Delimiter.{Delimiter}
 use Rattle.tok_lexical.specs.declared.delimiter.Delimiter.TheVariants as delimiter
 use Rattle.tok_core.specs.Erase.{erase}

@@ -1,12 +1,10 @@
 -- How a forest is laid out in a buffer, and which forest is there.
 use Rattle.std.specs.Prelude.{ℕ, ◌+◌, List, [], ◌∷◌, ◌++◌}
 use Rattle.tok_lexical.specs.declared.delimiter.Delimiter.{Delimiter}
-use Rattle.tok_core.specs.declared.span.Span.{Span}
+use Rattle.tok_leaves.specs.declared.span.Span.{Span}
 use Rattle.tok_core.specs.Code.{top}
-use Rattle.tok_core.specs.Forest.{ident, punct, literal, Tree, leaf, group}
-use Rattle.tok_core.specs.Forest.{Forest, no_trees, tree, turned_onto}
-use Rattle.tok_core.specs.Forest as spec
-use Rattle.tok_core.specs.Seen.{ident_of, punct_of, literal_of}
+use Rattle.tok_leaves.specs.Leaves.{Leaf, ident, punct, literal, ident_of, punct_of, literal_of}
+use Rattle.tok_core.specs.Forest.{Tree, leaf, group, Forest, no_trees, tree, turned_onto}
 use Rattle.tok_core.specs.Weight.{weight}
 use Rattle.tok_buffer.specs.Place.{Owner, whole, in_group, Level, level}
 use Rattle.tok_buffer.specs.declared.entry.Entry.{Entry}
@@ -16,13 +14,13 @@ use Rattle.tok_buffer.specs.declared.entry.Held.TheVariants as held
 use Rattle.tok_buffer.specs.declared.entry.Leaf.{Leaf as Lent}
 use Rattle.tok_buffer.specs.declared.entry.Leaf.TheVariants as lent
 
-abbrev pub leaf_entry : spec.Leaf → Entry
+abbrev pub leaf_entry : Leaf → Entry
 leaf_entry (ident text span) = Ident (record { text = text; span = span })
 leaf_entry (punct c spacing span) = Punct (record { ch = c; spacing = spacing; span = span })
 leaf_entry (literal text span) = Literal (record { text = text; span = span })
 
 -- the leaf that is lent from an entry
-abbrev pub leaf_in : Lent → spec.Leaf
+abbrev pub leaf_in : Lent → Leaf
 leaf_in (lent.Ident i) = ident_of i.now
 leaf_in (lent.Punct p) = punct_of p.now
 leaf_in (lent.Literal l) = literal_of l.now

@@ -6,7 +6,7 @@ use tok_core::{DelimSpan, Delimiter};
 
 impl<'a> Cursor<'a> {
     ghost use Rattle.std.specs.Prelude.{◌≡◌};
-    ghost use Rattle.tok_core.specs.Spans.{whole_span};
+    ghost use Rattle.tok_leaves.specs.Spans.{whole_span};
     ghost use Rattle.tok_buffer.specs.Cursors.{place_of};
     ghost use Rattle.tok_buffer.specs.Entry.{enter_any, entered_of, enter};
     ghost use Rattle.tok_buffer.specs.Gives.{Gives};

@@ -3,6 +3,7 @@ ghost use Rattle.std.specs.Prelude.{◌≡◌, ◌≤◌, ◌++◌, IsTrue};
 ghost use Rattle.std.specs.Fmt.{WritesOnOk};
 ghost use Rattle.tok_core.specs.Forest.{leaf};
 ghost use Rattle.tok_core.specs.Text as spec;
+ghost use Rattle.tok_leaves.specs.Leaves.{leaf_text};
 ghost use Rattle.tok_lexical.specs.Delimiters as delimiters;
 ghost use Rattle.tok_core.specs.Text.{text};
 ghost use Rattle.tok_core.specs.Weight.{weight};
@@ -88,7 +89,7 @@ impl<'a> Leaf<'a> {
 // A leaf, after the space that parts it from what was written.
 fn write_leaf<W: Write>(f: &mut Formatter<W>, is_glued: bool, leaf: Leaf<'_>) -> fmt::Result
     ensures { WritesOnOk W.write_str_gives f.old result
-        (spec.space is_glued ++ spec.leaf_text (leaf_in leaf.entry)) f.new }
+        (spec.space is_glued ++ leaf_text (leaf_in leaf.entry)) f.new }
 {
     f.write_str(space(is_glued))?;
     match leaf {

@@ -2,7 +2,7 @@
 ghost use Rattle.std.specs.Prelude.{◌≡◌};
 ghost use Rattle.std.specs.Str.{chars};
 ghost use Rattle.tok_core.specs.Forest.{leaf};
-ghost use Rattle.tok_core.specs.Seen.{punct_of};
+ghost use Rattle.tok_leaves.specs.Leaves.{punct_of};
 ghost use Rattle.tok_buffer.specs.Reads as spec;
 
 use crate::cursor::Cursor;
@@ -14,7 +14,7 @@ impl<'a> Cursor<'a> {
     ghost use Rattle.std.specs.Prelude.{◌≡◌, ◌∷◌, [], length, MatchOption, Some, None, is_some};
     ghost use Rattle.std.specs.Str.{chars};
     ghost use Rattle.tok_core.specs.Forest.{leaf};
-    ghost use Rattle.tok_core.specs.Seen.{punct_of};
+    ghost use Rattle.tok_leaves.specs.Leaves.{punct_of};
     ghost use Rattle.tok_buffer.specs.Cursors.{place_of};
     ghost use Rattle.tok_buffer.specs.Descent.{descend};
     ghost use Rattle.tok_buffer.specs.Gives.{Gives};

@@ -1,9 +1,9 @@
 // Errors as tokens for the compiler.
 ghost use Rattle.std.specs.Prelude.{◌≡◌, IfOk, OnOk};
 ghost use Rattle.std.specs.Str.{chars};
-ghost use Rattle.tok_core.specs.Forest.{ident, concat, punct};
+ghost use Rattle.tok_leaves.specs.Leaves.{ident, punct, ident_of};
+ghost use Rattle.tok_core.specs.Forest.{concat};
 ghost use Rattle.tok_lexical.specs.Words.{IsIdentifier};
-ghost use Rattle.tok_core.specs.Seen.{ident_of};
 ghost use Rattle.tok_buffer.specs.CompileErrors.{invocation, segment};
 
 use crate::error::{Error, Message};

@@ -1,8 +1,9 @@
 -- A forest and its items.
 use Rattle.std.proofs.Common.{◌≡◌, ◌∙◌, ℕ, ◌≤◌, List, [], ◌∷◌, ◌++◌, refl, sym, ap, subst, arith, append_assoc}
 use Rattle.tok_lexical.specs.declared.delimiter.Delimiter.{Delimiter}
-use Rattle.tok_core.specs.Spans.{source}
-use Rattle.tok_core.specs.Forest.{Leaf, leaf, group, Forest, no_trees, tree, concat}
+use Rattle.tok_leaves.specs.Spans.{source}
+use Rattle.tok_leaves.specs.Leaves.{Leaf}
+use Rattle.tok_core.specs.Forest.{leaf, group, Forest, no_trees, tree, concat}
 use Rattle.tok_core.specs.Lexical.Items.{Item, leaf_item, opening, closing, Flat, no_items, leaf_first, group_first, depth}
 
 pub flat_joined : {number : ℕ} {f g : Forest} {xs ys : List Item} → Flat number f xs → Flat number g ys → Flat number (concat f g) (xs ++ ys)

@@ -1,7 +1,8 @@
 -- Items taken one after the other, with the groups that they leave open, innermost first: one list of items leads to one list of groups.
 use Rattle.std.proofs.Common.{◌≡◌, ◌∙◌, ℕ, ◌+◌, ◌<◌, ◌≤◌, List, [], ◌∷◌, ◌++◌, length, refl, sym, ap, subst, arith, append_assoc, reverse}
 use Rattle.std.proofs.lemmas.List.{append-nil, length-reverse, reverse-append, reverse-reverse}
-use Rattle.tok_core.specs.Forest.{Leaf, Forest}
+use Rattle.tok_leaves.specs.Leaves.{Leaf}
+use Rattle.tok_core.specs.Forest.{Forest}
 use Rattle.tok_core.specs.Lexical.Items.{Item, leaf_item, opening, closing, Flat, no_items, leaf_first, group_first, depth, Opens, inside, within, IsOpenBy}
 use Rattle.tok_lexical.specs.declared.delimiter.Delimiter.{Delimiter}
 

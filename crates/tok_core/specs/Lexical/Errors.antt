@@ -1,8 +1,8 @@
 -- Refusals: their numbers and words, and where they are.
 use Rattle.std.specs.Prelude.{ℕ, List, codes}
 use Rattle.tok_lexical.specs.Refusals.{refusal_number, refusal_words}
-use Rattle.tok_core.specs.Spans.{source}
-use Rattle.tok_core.specs.declared.span.Span.{Span}
+use Rattle.tok_leaves.specs.Spans.{source}
+use Rattle.tok_leaves.specs.declared.span.Span.{Span}
 use Rattle.tok_core.specs.declared.lexer.error.LexError.{LexError}
 use Rattle.tok_core.specs.declared.lexer.error.LexFault.{LexFault}
 use Rattle.tok_core.specs.declared.lexer.error.LexFault.TheVariants.{Refused, Memory}

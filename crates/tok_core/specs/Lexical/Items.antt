@@ -1,7 +1,8 @@
 -- The flat list of a forest: its leaves, openings and closings in reading order.
 use Rattle.std.specs.Prelude.{◌≡◌, ◌≤◌, ℕ, suc, max, List, [], ◌∷◌, ◌++◌}
-use Rattle.tok_core.specs.Forest.{Leaf, leaf, group, Forest, no_trees, tree}
-use Rattle.tok_core.specs.Spans.{source}
+use Rattle.tok_leaves.specs.Leaves.{Leaf}
+use Rattle.tok_core.specs.Forest.{leaf, group, Forest, no_trees, tree}
+use Rattle.tok_leaves.specs.Spans.{source}
 use Rattle.tok_lexical.specs.declared.delimiter.Delimiter.{Delimiter}
 
 -- a leaf, the opening of a group at a byte, or the end of a group at a byte

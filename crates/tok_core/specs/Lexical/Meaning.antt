@@ -3,11 +3,11 @@ use Rattle.std.specs.Prelude.{ℕ, ◌+◌, List, [], ◌∷◌, Bool, true, fal
 use Rattle.std.specs.Prelude.{encode_utf8_all, if◌then◌else◌, Option, Some, None}
 use Rattle.tok_lexical.specs.Pieces.{after_first}
 use Rattle.tok_lexical.specs.Widths.{bytes, width}
-use Rattle.tok_core.specs.Forest.{ident, punct, literal}
-use Rattle.tok_core.specs.Spans.{source}
+use Rattle.tok_leaves.specs.Leaves.{ident, punct, literal}
+use Rattle.tok_leaves.specs.Spans.{source}
 use Rattle.tok_lexical.specs.Following.{makes_joint, makes_joint_apostrophe, past_marks}
 use Rattle.tok_core.specs.Lexical.Items.{Item, leaf_item, opening, closing}
-use Rattle.tok_core.specs.declared.punct.Spacing.TheVariants.{Alone, Joint}
+use Rattle.tok_leaves.specs.declared.punct.Spacing.TheVariants.{Alone, Joint}
 use Rattle.tok_lexical.specs.declared.rule.Rule.{Rule}
 use Rattle.tok_lexical.specs.declared.rule.Rule.TheVariants.{Opening}
 use Rattle.tok_lexical.specs.declared.rule.Rule.TheVariants.{Closing, QuotedString}

@@ -8,12 +8,12 @@ use Rattle.std.specs.Hash as fed
 use Rattle.tok_lexical.specs.declared.delimiter.Delimiter.{Delimiter}
 use Rattle.tok_lexical.specs.declared.delimiter.Delimiter.TheVariants.{Parenthesis, Brace, Bracket}
 use Rattle.tok_lexical.specs.declared.delimiter.Delimiter.TheVariants.{None}
-use Rattle.tok_core.specs.declared.punct.Spacing.{Spacing}
-use Rattle.tok_core.specs.declared.punct.Spacing.TheVariants.{Alone, Joint}
+use Rattle.tok_leaves.specs.declared.punct.Spacing.{Spacing}
+use Rattle.tok_leaves.specs.declared.punct.Spacing.TheVariants.{Alone, Joint}
 use Rattle.tok_core.specs.Code.{delimiter_code}
-use Rattle.tok_core.specs.Forest.{Leaf, ident, punct, literal, Tree, leaf, group, Forest, no_trees}
-use Rattle.tok_core.specs.Forest.{tree}
-use Rattle.tok_core.specs.Spans.{call_site}
+use Rattle.tok_leaves.specs.Leaves.{Leaf, ident, punct, literal}
+use Rattle.tok_core.specs.Forest.{Tree, leaf, group, Forest, no_trees, tree}
+use Rattle.tok_leaves.specs.Spans.{call_site}
 use Rattle.tok_core.specs.Spanless.{leaf_spanless, spanless, tree_spanless, same_delimiter}
 use Rattle.tok_core.specs.Spanless.{same_spacing, leaf_alike, alike, tree_alike, tree_input}
 use Rattle.tok_core.specs.Spanless.{forest_input}

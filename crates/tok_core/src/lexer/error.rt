@@ -2,10 +2,10 @@
 ghost use Rattle.std.specs.Prelude.{◌≡◌, Some};
 ghost use Rattle.tok_core.specs.Lexical.Errors.{error_number, error_byte, error_span, error_words};
 
-use crate::span::Span;
 use std::alloc::AllocError;
 use std::fmt;
 use std::fmt::{Formatter, Write};
+use tok_leaves::Span;
 use tok_lexical::Reason;
 
 /// Why a text isn't read, and where: the number of the rule, from L1 to L12, and the byte.

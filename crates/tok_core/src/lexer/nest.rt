@@ -11,15 +11,11 @@ ghost use Rattle.tok_lexical.specs.Widths.{width};
 ghost use Rattle.tok_lexical.specs.Rules.{Spells};
 
 use crate::group::Group;
-use crate::ident::Ident;
 use crate::lexer::error::{LexError, LexFault};
-use crate::literal::Literal;
-use crate::punct::{Punct, Spacing};
-use crate::span::Span;
 use crate::stream::{TokenStream, TokenTree};
-use crate::text::Text;
 use std::alloc::{AllocError, Global};
 use std::mem;
+use tok_leaves::{Spacing, Span, Text, unchecked};
 use tok_lexical::joint::{makes_joint, makes_joint_apostrophe, past_marks};
 use tok_lexical::text::{first_of, past_first};
 use tok_lexical::{Delimiter, Reason, Rule, refusal};
@@ -71,7 +67,7 @@ impl TreeBuilder {
             (Grows at self.old self.new (punct_item self.old.source at ch is_joint ∷ [])) }
     {
         let span = Span::source(self.source, at, at + 1);
-        let punct = Punct::unchecked(ch, spacing(is_joint), span);
+        let punct = unchecked::punct(ch, spacing(is_joint), span);
         self.trees.append(TokenTree::Punct(punct))?;
         Ok(())
     }
@@ -86,7 +82,7 @@ impl TreeBuilder {
         let text = Text::from_str(self.alloc, text)?;
         let span = Span::source(self.source, start, end);
         self.trees
-            .append(TokenTree::Ident(Ident::unchecked(text, span)))?;
+            .append(TokenTree::Ident(unchecked::ident(text, span)))?;
         Ok(())
     }
 
@@ -99,7 +95,7 @@ impl TreeBuilder {
         let text = Text::from_str(self.alloc, text)?;
         let span = Span::source(self.source, start, end);
         self.trees
-            .append(TokenTree::Literal(Literal::unchecked(text, span)))?;
+            .append(TokenTree::Literal(unchecked::literal(text, span)))?;
         Ok(())
     }
 

@@ -1,9 +1,9 @@
 //! How punctuations are written.
 ghost use Rattle.std.specs.Prelude.{◌≡◌, true, OnOk, OnErr};
 ghost use Rattle.std.specs.List.{list_all};
-ghost use Rattle.tok_core.specs.Forest.{AppendsFront, concat, punct};
+ghost use Rattle.tok_core.specs.Forest.{AppendsFront, concat};
+ghost use Rattle.tok_leaves.specs.Leaves.{punct, punct_of};
 ghost use Rattle.tok_lexical.specs.Characters.{is_punct_or_apostrophe};
-ghost use Rattle.tok_core.specs.Seen.{punct_of};
 ghost use Rattle.tok_types.specs.Printed.{puncts, spacing};
 
 use std::alloc::AllocError;

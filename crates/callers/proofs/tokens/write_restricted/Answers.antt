@@ -1,8 +1,9 @@
 use Rattle.std.proofs.Common.{◌≡◌, ◌∙◌, sym, ap, codes, ℕ, List}
 use Rattle.tok_lexical.specs.declared.delimiter.Delimiter.TheVariants.{Parenthesis}
-use Rattle.tok_core.specs.declared.span.Span.{Span}
-use Rattle.tok_core.specs.Forest.{Forest, group, ident, concat, leaf, no_trees, tree}
-use Rattle.tok_core.specs.Spans.{call_site}
+use Rattle.tok_leaves.specs.declared.span.Span.{Span}
+use Rattle.tok_core.specs.Forest.{Forest, group, concat, leaf, no_trees, tree}
+use Rattle.tok_leaves.specs.Leaves.{ident}
+use Rattle.tok_leaves.specs.Spans.{call_site}
 use Rattle.tok_core.proofs.Facts.{joined_assoc}
 use Rattle.callers.proofs.Outcomes.{then_on_ok}
 use Rattle.callers.proofs.tokens.write_restricted.Goals as goal

@@ -1,6 +1,6 @@
 use Rattle.std.proofs.Common.{◌∙◌, sym, ap}
 use Rattle.tok_core.specs.Seen.{tree_of}
-use Rattle.tok_core.specs.Spans.{tree_span}
+use Rattle.tok_core.specs.Forest.{tree_span}
 use Rattle.tok_buffer.proofs.Spanned.{ends_are}
 use Rattle.tok_buffer.proofs.error.ends.Goals as goal
 

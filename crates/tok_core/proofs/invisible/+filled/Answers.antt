@@ -2,7 +2,7 @@ use Rattle.std.proofs.Common.{◌≡◌, ◌≤◌, ap, sym, ◌∙◌, not, tru
 use Rattle.tok_core.specs.Filled.{filled, has_trees}
 use Rattle.tok_lexical.specs.declared.delimiter.Delimiter.TheVariants.{None}
 use Rattle.tok_core.specs.Forest.{group, no_trees, tree}
-use Rattle.tok_core.specs.Spans.{bounds_delimiter, bounds_span}
+use Rattle.tok_leaves.specs.Spans.{bounds_delimiter, bounds_span}
 use Rattle.tok_core.specs.Seen.{tree_of}
 use Rattle.tok_core.specs.Weight.{weight, tree_weight}
 use Rattle.tok_core.proofs.Facts.{filled-invisible, filled-stops}

@@ -2,7 +2,7 @@ use Rattle.std.proofs.Common.{◌≡◌, ◌∙◌, sym, ap, subst}
 use Rattle.tok_core.specs.Erase.{erase}
 use Rattle.tok_core.specs.Forest.{Tree, Forest, tree, no_trees}
 use Rattle.tok_core.specs.Private.Pending.{IsVisible}
-use Rattle.tok_core.specs.Spans.{bounds_delimiter, bounds_span}
+use Rattle.tok_leaves.specs.Spans.{bounds_delimiter, bounds_span}
 use Rattle.tok_core.specs.Seen.{tree_of, group_of}
 use Rattle.tok_core.proofs.SameVisible.{group_same, group_content, answered}
 use Rattle.tok_core.proofs.invisible.+same.Goals as goal

@@ -1,7 +1,7 @@
 use Rattle.std.proofs.Common.{◌∙◌, sym, ap}
 use Rattle.tok_core.specs.Forest.{group}
 use Rattle.tok_core.specs.Private.Pending.{invisible}
-use Rattle.tok_core.specs.Spans.{bounds_span}
+use Rattle.tok_leaves.specs.Spans.{bounds_span}
 use Rattle.tok_core.specs.Seen.{tree_of}
 use Rattle.tok_core.proofs.invisible.invisible_content.Goals as goal
 

@@ -1,5 +1,5 @@
 use Rattle.std.proofs.Common.{refl, ◌∙◌}
-use Rattle.tok_core.specs.declared.span.DelimSpan.{DelimSpan}
+use Rattle.tok_leaves.specs.declared.span.DelimSpan.{DelimSpan}
 use Rattle.syn_parse.specs.Groups.{AreParts}
 use Rattle.syn_parse.specs.State.{State}
 use Rattle.syn_parse.proofs.Entering.{entered}

@@ -1,6 +1,6 @@
 use Rattle.std.proofs.Common.{◌∙◌, sym, ap, Some, [], ◌∷◌}
 use Rattle.tok_core.specs.Forest.{group}
-use Rattle.tok_core.specs.Spans.{whole_span}
+use Rattle.tok_leaves.specs.Spans.{whole_span}
 use Rattle.tok_buffer.specs.Cursors.{place_of}
 use Rattle.tok_buffer.specs.Entry.{Entered}
 use Rattle.tok_buffer.proofs.Peeks.{group_read}

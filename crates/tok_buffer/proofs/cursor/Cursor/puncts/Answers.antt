@@ -1,7 +1,7 @@
 use Rattle.std.proofs.Common.{arith}
 use Rattle.std.specs.Str.{chars}
 use Rattle.tok_core.specs.Forest.{leaf}
-use Rattle.tok_core.specs.Seen.{punct_of}
+use Rattle.tok_leaves.specs.Leaves.{punct_of}
 use Rattle.tok_buffer.specs.Cursors.{place_of}
 use Rattle.tok_buffer.proofs.PunctRuns.{so_far_start, so_far_more}
 use Rattle.tok_buffer.proofs.cursor.Cursor.puncts.Goals as goal

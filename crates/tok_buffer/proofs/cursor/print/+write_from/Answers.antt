@@ -3,7 +3,8 @@ use Rattle.std.proofs.Output.{has_written_append}
 use Rattle.std.proofs.lemmas.Grind.{put_four}
 use Rattle.std.proofs.lemmas.List.{append-nil}
 use Rattle.std.specs.Fmt.{HasWritten}
-use Rattle.tok_core.specs.Text.{text, text_after, leaf_text, space}
+use Rattle.tok_core.specs.Text.{text, text_after, space}
+use Rattle.tok_leaves.specs.Leaves.{leaf_text}
 use Rattle.tok_lexical.specs.Delimiters.{opening}
 use Rattle.tok_core.specs.Weight.{weight}
 use Rattle.tok_buffer.specs.Moves.{in_scope, levels_at, place_at}

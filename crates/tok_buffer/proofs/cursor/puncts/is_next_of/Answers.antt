@@ -1,7 +1,7 @@
 use Rattle.std.proofs.Common.{◌≡◌, ◌∙◌, sym}
-use Rattle.tok_core.specs.declared.punct.Spacing.TheVariants.{Alone}
+use Rattle.tok_leaves.specs.declared.punct.Spacing.TheVariants.{Alone}
 use Rattle.tok_core.specs.Forest.{leaf}
-use Rattle.tok_core.specs.Seen.{punct_of}
+use Rattle.tok_leaves.specs.Leaves.{punct_of}
 use Rattle.tok_buffer.proofs.Peeks.{last_next, alone_next}
 use Rattle.tok_buffer.proofs.cursor.puncts.is_next_of.Goals as goal
 

@@ -1,8 +1,8 @@
 use Rattle.std.proofs.Common.{◌∙◌, ap, sym}
-use Rattle.tok_core.specs.Forest.{Forest, leaf, literal, group, concat, tree, no_trees}
+use Rattle.tok_core.specs.Forest.{Forest, leaf, group, concat, tree, no_trees}
+use Rattle.tok_leaves.specs.Leaves.{literal, leaf_text}
 use Rattle.tok_core.specs.Seen.{tree_of}
 use Rattle.tok_core.specs.declared.stream.TokenTree.TheVariants.{Literal}
-use Rattle.tok_core.specs.Text.{leaf_text}
 use Rattle.tok_lexical.specs.declared.delimiter.Delimiter.TheVariants.{Brace}
 use Rattle.tok_core.proofs.Facts.{concat-none}
 use Rattle.tok_buffer.proofs.Appended.{first_tree, then_tree}

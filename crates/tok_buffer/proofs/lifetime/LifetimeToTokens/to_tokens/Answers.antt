@@ -2,7 +2,7 @@ use Rattle.std.proofs.Common.{sym, ap, rules}
 use Rattle.tok_core.specs.Forest.{Forest, leaf}
 use Rattle.tok_core.proofs.Facts.{concat-none}
 use Rattle.tok_core.proofs.Fronts.{none_appended}
-use Rattle.tok_core.specs.Seen.{ident_of}
+use Rattle.tok_leaves.specs.Leaves.{ident_of}
 use Rattle.tok_buffer.proofs.Appended.{then_tree}
 use Rattle.tok_buffer.proofs.lifetime.LifetimeToTokens.to_tokens.Goals as goal
 

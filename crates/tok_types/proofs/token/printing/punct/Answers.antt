@@ -1,7 +1,8 @@
 use Rattle.std.proofs.Common.{◌≡◌, ◌∙◌, ◌+◌, sym, ap, length, get_or, rules}
 use Rattle.std.specs.Prelude.{◌==◌}
-use Rattle.tok_core.specs.Forest.{AppendsFront, concat, leaf, no_trees, punct, tree}
-use Rattle.tok_core.specs.Spans.{call_site}
+use Rattle.tok_core.specs.Forest.{AppendsFront, concat, leaf, no_trees, tree}
+use Rattle.tok_leaves.specs.Leaves.{punct}
+use Rattle.tok_leaves.specs.Spans.{call_site}
 use Rattle.tok_core.proofs.Facts.{concat-none}
 use Rattle.tok_types.specs.Printed.{puncts, spacing}
 use Rattle.tok_types.proofs.Puncts.{not_as_many, not_all_puncts, puncts_step, puncts_done, puncts_stopped}

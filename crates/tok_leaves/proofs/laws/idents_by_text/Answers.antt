@@ -1,7 +1,7 @@
 use Rattle.std.proofs.Common.{◌∙◌, sym, refl, nat_cmp}
 use Rattle.std.specs.Cmp.{Equal-is}
 use Rattle.std.specs.Cmp.Lexicographic.{slice_cmp, texts_ties}
-use Rattle.tok_core.proofs.laws.idents_by_text.Goals as goal
+use Rattle.tok_leaves.proofs.laws.idents_by_text.Goals as goal
 
 pub returns-clause-agree : goal.returns-clause-agree
 returns-clause-agree c left right = (

@@ -1,9 +1,8 @@
 // Puncts.
 ghost use Rattle.std.specs.Prelude.{◌≡◌, MatchOption, true, false};
-ghost use Rattle.tok_core.specs.Forest.{leaf_char, leaf_spacing, punct};
+ghost use Rattle.tok_leaves.specs.Leaves.{leaf_char, leaf_spacing, punct, punct_of, leaf_span};
 ghost use Rattle.tok_lexical.specs.Characters.{is_punct_or_apostrophe};
-ghost use Rattle.tok_core.specs.Seen.{punct_of};
-ghost use Rattle.tok_core.specs.Spans.{call_site, leaf_span};
+ghost use Rattle.tok_leaves.specs.Spans.{call_site};
 
 use crate::span::Span;
 use tok_lexical::classes::is_punct_or_apostrophe;

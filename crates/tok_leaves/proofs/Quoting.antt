@@ -5,7 +5,7 @@ use Rattle.std.specs.List.{flat_map}
 use Rattle.std.specs.Str.{chars, IsUtf8}
 use Rattle.std.proofs.lemmas.List.{append-nil}
 use Rattle.std.proofs.lemmas.Str.{chars_past_char, chars-nil}
-use Rattle.tok_core.specs.Lexical.Quoting.{escaped, in_quotes}
+use Rattle.tok_leaves.specs.Quoting.{escaped, in_quotes}
 
 pub quoted_more : (text rest out new all : List ℕ) (c : ℕ) → IsUtf8 text → text ≡ encode_utf8 c ++ rest → new ≡ out ++ escaped c → out ++ flat_map escaped (chars text) ≡ all → new ++ flat_map escaped (chars rest) ≡ all
 quoted_more text rest out new all c u e n h =

@@ -1,8 +1,8 @@
 -- A text as it lies in memory: in place with its length, or on the heap.
 use Rattle.std.specs.Prelude.{◌≡◌, ℕ, ◌≤◌, List, take, true, string_bytes, box_value}
 use Rattle.std.specs.Str.{is_utf8}
-use Rattle.tok_core.specs.declared.text.Node.{Node}
-use Rattle.tok_core.specs.declared.text.Node.TheVariants.{Short, Long}
+use Rattle.tok_leaves.specs.declared.text.Node.{Node}
+use Rattle.tok_leaves.specs.declared.text.Node.TheVariants.{Short, Long}
 
 -- the bytes of the text
 abbrev pub bytes_of : Node → List ℕ

@@ -1,11 +1,9 @@
 // Literals.
 ghost use Rattle.std.specs.Prelude.{◌≡◌, ◌++◌, string_bytes, IfOk, OnOk};
 ghost use Rattle.std.specs.Str.{chars};
-ghost use Rattle.tok_core.specs.Forest.{literal};
-ghost use Rattle.tok_core.specs.Lexical.Quoting.{escaped, in_quotes};
-ghost use Rattle.tok_core.specs.Seen.{literal_of};
-ghost use Rattle.tok_core.specs.Spans.{call_site, leaf_span};
-ghost use Rattle.tok_core.specs.Text.{leaf_text};
+ghost use Rattle.tok_leaves.specs.Leaves.{literal, literal_of, leaf_span, leaf_text};
+ghost use Rattle.tok_leaves.specs.Quoting.{escaped, in_quotes};
+ghost use Rattle.tok_leaves.specs.Spans.{call_site};
 
 use crate::span::Span;
 use crate::text::Text;

@@ -3,8 +3,8 @@ use Rattle.std.specs.List.{flat_map}
 use Rattle.std.specs.Str.{chars}
 use Rattle.std.specs.Prelude.{codes}
 use Rattle.std.specs.Str.Iter.{chars_rest}
-use Rattle.tok_core.specs.Lexical.Quoting.{escaped}
-use Rattle.tok_core.proofs.literal.Literal.string.Given as goal
+use Rattle.tok_leaves.specs.Quoting.{escaped}
+use Rattle.tok_leaves.proofs.literal.Literal.string.Given as goal
 
 abbrev pub invariant-loop-c : goal.invariant-loop-c
 invariant-loop-c l =

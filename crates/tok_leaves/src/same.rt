@@ -1,6 +1,6 @@
 //! Leaves compared, spans included.
 ghost use Rattle.std.specs.Prelude.{◌≡◌, ◌↔◌, IsTrue};
-ghost use Rattle.tok_core.specs.Seen.{ident_of, literal_of, punct_of};
+ghost use Rattle.tok_leaves.specs.Leaves.{ident_of, literal_of, punct_of};
 
 use crate::ident::Ident;
 use crate::literal::Literal;

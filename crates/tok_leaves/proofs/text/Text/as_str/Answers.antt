@@ -1,8 +1,8 @@
 use Rattle.std.proofs.Common.{◌∙◌, sym, ap, subst}
 use Rattle.std.proofs.lemmas.Str.{IsUtf8-from_is_utf8}
 use Rattle.std.specs.Prelude.{string_bytes}
-use Rattle.tok_core.specs.Private.Kept.{IsKept, bytes_of}
-use Rattle.tok_core.proofs.text.Text.as_str.Goals as goal
+use Rattle.tok_leaves.specs.Private.Kept.{IsKept, bytes_of}
+use Rattle.tok_leaves.proofs.text.Text.as_str.Goals as goal
 
 pub unreachable-requires : goal.unreachable-requires
 unreachable-requires c = c.in-Err.ensures.cases.0 (IsUtf8-from_is_utf8 _ (subst IsKept c.in-Short.is c.self.invariant).1)

@@ -1,10 +1,10 @@
 use Rattle.std.proofs.Common.{◌∙◌, ap, arith}
 use Rattle.std.proofs.lemmas.Str.{IsUtf8-past_char}
-use Rattle.tok_core.specs.Forest.{literal}
+use Rattle.tok_leaves.specs.Leaves.{literal}
 use Rattle.std.specs.Str.{chars}
-use Rattle.tok_core.specs.Lexical.Quoting.{in_quotes}
-use Rattle.tok_core.proofs.Lexical.Quoting.{quoted_more, quoted_end}
-use Rattle.tok_core.proofs.literal.Literal.string.Goals as goal
+use Rattle.tok_leaves.specs.Quoting.{in_quotes}
+use Rattle.tok_leaves.proofs.Quoting.{quoted_more, quoted_end}
+use Rattle.tok_leaves.proofs.literal.Literal.string.Goals as goal
 
 pub loop-c-preserved : goal.loop-c-preserved
 loop-c-preserved c =

@@ -1,11 +1,8 @@
 // Identifiers.
 ghost use Rattle.std.specs.Prelude.{◌≡◌, ◌++◌, codes, IfOk, IfErr, Err};
 ghost use Rattle.std.specs.Str.{chars};
-ghost use Rattle.tok_core.specs.Forest.{ident};
+ghost use Rattle.tok_leaves.specs.Leaves.{ident, ident_of, leaf_span, leaf_text, unraw};
 ghost use Rattle.tok_lexical.specs.Words.{IsIdentifier, HasRaw};
-ghost use Rattle.tok_core.specs.Seen.{ident_of};
-ghost use Rattle.tok_core.specs.Spans.{leaf_span};
-ghost use Rattle.tok_core.specs.Text.{leaf_text, unraw};
 
 use crate::span::Span;
 use crate::text::Text;
@@ -30,7 +27,7 @@ pub enum MakeFault {
 }
 
 impl From<AllocError> for MakeFault {
-    ghost use Rattle.tok_core.specs.declared.ident.MakeFault.TheVariants.{Memory};
+    ghost use Rattle.tok_leaves.specs.declared.ident.MakeFault.TheVariants.{Memory};
 
     ghost from_gives = { λ _ fault. fault ≡ Memory };
 

@@ -1,6 +1,6 @@
 // Where a token is.
 ghost use Rattle.std.specs.Prelude.{◌≡◌, ◌≤◌};
-ghost use Rattle.tok_core.specs.Spans as spec;
+ghost use Rattle.tok_leaves.specs.Spans as spec;
 
 use tok_lexical::Delimiter;
 
@@ -18,9 +18,9 @@ pub struct Span {
     origin: Origin,
 }
 
-// A delimiter and a span, as a group keeps them: in 24 bytes, where a span alone has room for the delimiter.
+/// A delimiter and a span, as a group keeps them: in 24 bytes, where a span alone has room for the delimiter.
 #[derive(Clone, Copy)]
-pub(crate) enum Bounds {
+pub enum Bounds {
     CallSite(Delimiter),
     Source(Delimiter, u32, usize, usize),
 }
@@ -81,7 +81,8 @@ impl Span {
 }
 
 impl Bounds {
-    pub(crate) fn new(delimiter: Delimiter, span: Span) -> Bounds
+    /// This delimiter and this span.
+    pub fn new(delimiter: Delimiter, span: Span) -> Bounds
         ensures delimiter { spec.bounds_delimiter result ≡ delimiter }
         ensures span { spec.bounds_span result ≡ span }
     {
@@ -91,7 +92,8 @@ impl Bounds {
         }
     }
 
-    pub(crate) fn delimiter(self) -> Delimiter
+    /// The delimiter.
+    pub fn delimiter(self) -> Delimiter
         ensures { result ≡ spec.bounds_delimiter self }
     {
         match self {
@@ -100,7 +102,8 @@ impl Bounds {
         }
     }
 
-    pub(crate) fn span(self) -> Span
+    /// The span.
+    pub fn span(self) -> Span
         ensures { result ≡ spec.bounds_span self }
     {
         let origin = match self {

@@ -31,7 +31,7 @@ impl Model for Text {
 
     ghost Value = { List ℕ };
 
-    ghost use Rattle.tok_core.specs.Private.Kept.{bytes_of, IsKept};
+    ghost use Rattle.tok_leaves.specs.Private.Kept.{bytes_of, IsKept};
 
     ghost view = { λ t. bytes_of t.node };
 

@@ -1,13 +1,12 @@
 -- Spans, and the spans of a group's two delimiters.
 use Rattle.std.specs.Prelude.{ℕ, ◌+◌, ◌-◌, min, max, nat_lt, ◌==◌, cond, Option, Some, None}
-use Rattle.tok_core.specs.declared.span.Origin.{Origin}
-use Rattle.tok_core.specs.declared.span.Origin.TheVariants.{CallSite, Source}
-use Rattle.tok_core.specs.declared.span.Span.{Span}
-use Rattle.tok_core.specs.declared.span.Bounds.{Bounds}
-use Rattle.tok_core.specs.declared.span.Bounds.TheVariants as bounds
-use Rattle.tok_core.specs.declared.span.DelimSpan.{DelimSpan}
+use Rattle.tok_leaves.specs.declared.span.Origin.{Origin}
+use Rattle.tok_leaves.specs.declared.span.Origin.TheVariants.{CallSite, Source}
+use Rattle.tok_leaves.specs.declared.span.Span.{Span}
+use Rattle.tok_leaves.specs.declared.span.Bounds.{Bounds}
+use Rattle.tok_leaves.specs.declared.span.Bounds.TheVariants as bounds
+use Rattle.tok_leaves.specs.declared.span.DelimSpan.{DelimSpan}
 use Rattle.tok_lexical.specs.declared.delimiter.Delimiter.{Delimiter}
-use Rattle.tok_core.specs.Forest.{Leaf, ident, punct, literal, Tree, leaf, group}
 
 abbrev pub call_site : Span
 call_site = record { origin = CallSite }
@@ -47,22 +46,6 @@ joined_origins p q = None
 
 abbrev pub join : Span → Span → Option Span
 join left right = joined_origins left.origin right.origin
-
-abbrev pub leaf_span : Leaf → Span
-leaf_span (ident text span) = span
-leaf_span (punct c spacing span) = span
-leaf_span (literal text span) = span
-
-abbrev pub tree_span : Tree → Span
-tree_span (leaf l) = leaf_span l
-tree_span (group delimiter inside span) = span
-
--- the same tree, at another span; what is inside a group stays
-abbrev pub with_span : Span → Tree → Tree
-with_span span (leaf (ident text old)) = leaf (ident text span)
-with_span span (leaf (punct c spacing old)) = leaf (punct c spacing span)
-with_span span (leaf (literal text old)) = leaf (literal text span)
-with_span span (group delimiter inside old) = group delimiter inside span
 
 -- the number of a source and the range in it
 abbrev pub range : Span → Option (ℕ × ℕ × ℕ)

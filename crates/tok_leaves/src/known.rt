@@ -1,8 +1,7 @@
 //! Leaves of texts that are known to name them: no text is tested, and none is refused.
 ghost use Rattle.std.specs.Prelude.{◌≡◌, true, IfOk};
 ghost use Rattle.std.specs.Str.{chars};
-ghost use Rattle.tok_core.specs.Forest.{ident, punct};
-ghost use Rattle.tok_core.specs.Seen.{ident_of, punct_of};
+ghost use Rattle.tok_leaves.specs.Leaves.{ident, punct, ident_of, punct_of};
 ghost use Rattle.tok_lexical.specs.Characters.{is_punct_or_apostrophe};
 ghost use Rattle.tok_lexical.specs.Words.{IsIdentifier};
 

@@ -1,0 +1,48 @@
+-- Leaves, as contracts see them, and their parts.
+use Rattle.std.specs.Prelude.{ℕ, ◌==◌, ◌&&◌, cond, List, ◌∷◌, encode_utf8}
+use Rattle.tok_leaves.specs.declared.span.Span.{Span}
+use Rattle.tok_leaves.specs.declared.ident.Ident.{Ident}
+use Rattle.tok_leaves.specs.declared.punct.Punct.{Punct}
+use Rattle.tok_leaves.specs.declared.punct.Spacing.{Spacing}
+use Rattle.tok_leaves.specs.declared.punct.Spacing.TheVariants.{Alone}
+use Rattle.tok_leaves.specs.declared.literal.Literal.{Literal}
+
+-- a text is the list of its bytes, a character its code
+pub data Leaf : Type 0 where
+  ident : List ℕ → Span → Leaf
+  punct : ℕ → Spacing → Span → Leaf
+  literal : List ℕ → Span → Leaf
+
+-- what the leaves of the program stand for
+abbrev pub ident_of : Ident → Leaf
+ident_of i = ident i.text i.span
+
+abbrev pub punct_of : Punct → Leaf
+punct_of p = punct p.ch p.spacing p.span
+
+abbrev pub literal_of : Literal → Leaf
+literal_of l = literal l.text l.span
+
+abbrev pub leaf_text : Leaf → List ℕ
+leaf_text (ident text span) = text
+leaf_text (punct c spacing span) = encode_utf8 c
+leaf_text (literal text span) = text
+
+abbrev pub leaf_span : Leaf → Span
+leaf_span (ident text span) = span
+leaf_span (punct c spacing span) = span
+leaf_span (literal text span) = span
+
+-- the character and the spacing of a punct, with a default where it is none
+abbrev pub leaf_char : Leaf → ℕ
+leaf_char (punct c spacing span) = c
+leaf_char l = 0
+
+abbrev pub leaf_spacing : Leaf → Spacing
+leaf_spacing (punct c spacing span) = spacing
+leaf_spacing l = Alone
+
+-- an identifier's text without a leading `r#`
+abbrev pub unraw : List ℕ → List ℕ
+unraw (c ∷ (d ∷ word)) = cond (c == 114 && d == 35) word (c ∷ (d ∷ word))
+unraw text = text

@@ -1,0 +1,5 @@
+pub mod Laws
+pub mod Leaves
+pub mod Quoting
+pub mod Spans
+pub mod Private
