@@ -2,5 +2,6 @@
 pub mod Errors
 pub mod Items
 pub mod Meaning
+pub mod Outcome
 pub mod Reading
 pub mod Laws

@@ -7,7 +7,6 @@ ghost use Rattle.tok_core.specs.Spanless.{forest_input, tree_input};
 
 use crate::tt::{TokenStreamHelper, TokenTreeHelper};
 use std::hash::Hash;
-
 pub use tok_leaves::laws::idents_by_text;
 
 /// A text reads as one forest at most.

@@ -1,9 +1,9 @@
 // Text to trees.
-ghost use Rattle.std.specs.Prelude.{◌≡◌, MatchResult, IfOk, IfErr};
+ghost use Rattle.std.specs.Prelude.{IfOk, IfErr};
 ghost use Rattle.std.specs.Str.{chars};
-ghost use Rattle.tok_core.specs.Forest.{Forest};
 ghost use Rattle.tok_lexical.specs.Starts.{rules_of};
 ghost use Rattle.tok_core.specs.Lexical.Errors.{OnRefused};
+ghost use Rattle.tok_core.specs.Lexical.Outcome.{FollowsGrammar};
 ghost use Rattle.tok_core.specs.Lexical.Reading.{Reads, IsRefused};
 ghost use Rattle.tok_lexical.specs.Rules.{plain_rules, marked_rules};
 
@@ -58,18 +58,7 @@ fn read(alloc: Global, source: u32, rules: Rules, text: &str) -> Result<TokenStr
 
 /// The forest of a text, which is the source of this number.
 pub fn lex(alloc: Global, source: u32, text: &str) -> Result<TokenStream, LexFault>
-    // What is returned is what the grammar reads.
-    ensures reads { IfOk result (λ stream. Reads plain_rules source (chars text.now) stream) }
-    // What the grammar reads is returned, unless an allocation fails.
-    ensures only_read { (forest : Forest) → Reads plain_rules source (chars text.now) forest →
-        MatchResult result (λ stream. stream ≡ forest) (λ fault. fault ≡ LexFault.Memory) }
-    // A refusal is the grammar's.
-    ensures refuses { IfErr result
-        (λ fault. OnRefused fault (IsRefused plain_rules source (chars text.now))) }
-    // What the grammar refuses is refused so, unless an allocation fails.
-    ensures only_refused { (error : LexError) → IsRefused plain_rules source (chars text.now) error
-        →
-        MatchResult result (λ _. ⊥) (λ fault. OnRefused fault (λ other. other ≡ error)) }
+    ensures { FollowsGrammar plain_rules source (chars text.now) result }
 {
     read(alloc, source, Rules::Plain, text)
 }
@@ -77,14 +66,7 @@ pub fn lex(alloc: Global, source: u32, text: &str) -> Result<TokenStream, LexFau
 /// The forest of a text in which the marks « and » open and close invisible groups. Its bytes are counted as if these
 /// marks weren't there.
 pub fn lex_marked(alloc: Global, source: u32, text: &str) -> Result<TokenStream, LexFault>
-    ensures reads { IfOk result (λ stream. Reads marked_rules source (chars text.now) stream) }
-    ensures only_read { (forest : Forest) → Reads marked_rules source (chars text.now) forest →
-        MatchResult result (λ stream. stream ≡ forest) (λ fault. fault ≡ LexFault.Memory) }
-    ensures refuses { IfErr result
-        (λ fault. OnRefused fault (IsRefused marked_rules source (chars text.now))) }
-    ensures only_refused { (error : LexError) → IsRefused marked_rules source (chars text.now) error
-        →
-        MatchResult result (λ _. ⊥) (λ fault. OnRefused fault (λ other. other ≡ error)) }
+    ensures { FollowsGrammar marked_rules source (chars text.now) result }
 {
     read(alloc, source, Rules::Marked, text)
 }

@@ -1,9 +1,10 @@
--- The laws of reading, and what alone can be answered.
+-- The laws of reading: what is read so and refused so follows the grammar.
 use Rattle.std.proofs.Common.{◌≡◌, ◌∙◌, ℕ, List, ap, sym, Ok, Err, Result, refl, subst}
 use Rattle.std.specs.Result.{IfOk, IfErr, MatchResult}
 use Rattle.tok_core.specs.Forest.{Forest}
 use Rattle.tok_core.specs.Lexical.Errors.{OnRefused}
 use Rattle.tok_core.specs.Lexical.Items.{Flat}
+use Rattle.tok_core.specs.Lexical.Outcome.{FollowsGrammar}
 use Rattle.tok_core.specs.Lexical.Reading.{Reads, IsRefused}
 use Rattle.tok_core.specs.declared.lexer.error.LexError.{LexError}
 use Rattle.tok_core.specs.declared.lexer.error.LexFault.{LexFault}
@@ -27,7 +28,7 @@ module _ (rules : List Rule) (number : ℕ) (text : List ℕ) where
   never_both forest error (d, (all, k, (end, c))) (e, r) = not_both (forest, d, k) c r
 
   module _ (answer : Result Forest LexFault) (reads : IfOk answer (Reads rules number text)) (refuses : IfErr answer (λ fault. OnRefused fault (IsRefused rules number text))) where
-    pub only_read : (forest : Forest) → Reads rules number text forest → MatchResult answer (λ stream. stream ≡ forest) (λ fault. fault ≡ Memory)
+    only_read : (forest : Forest) → Reads rules number text forest → MatchResult answer (λ stream. stream ≡ forest) (λ fault. fault ≡ Memory)
     only_read forest h = go answer reads refuses
       where
         go : (r : Result Forest LexFault) → IfOk r (Reads rules number text) → IfErr r (λ fault. OnRefused fault (IsRefused rules number text)) → MatchResult r (λ stream. stream ≡ forest) (λ fault. fault ≡ Memory)
@@ -35,10 +36,13 @@ module _ (rules : List Rule) (number : ℕ) (text : List ℕ) where
         go (Err (Refused error)) a b = absurd (never_both forest error h b)
         go (Err Memory) a b = refl
 
-    pub only_refused : (error : LexError) → IsRefused rules number text error → MatchResult answer (λ _. ⊥) (λ fault. OnRefused fault (λ other. other ≡ error))
+    only_refused : (error : LexError) → IsRefused rules number text error → MatchResult answer (λ _. ⊥) (λ fault. OnRefused fault (λ other. other ≡ error))
     only_refused error h = go answer reads refuses
       where
         go : (r : Result Forest LexFault) → IfOk r (Reads rules number text) → IfErr r (λ fault. OnRefused fault (IsRefused rules number text)) → MatchResult r (λ _. ⊥) (λ fault. OnRefused fault (λ other. other ≡ error))
         go (Ok stream) a b = never_both stream error a h
         go (Err (Refused other)) a b = refused_once other error b h
         go (Err Memory) a b = tt
+
+    pub follows : FollowsGrammar rules number text answer
+    follows = record { reads = reads; only_read = only_read; refuses = refuses; only_refused = only_refused }
