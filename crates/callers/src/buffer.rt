@@ -4,7 +4,8 @@ ghost use Rattle.tok_core.specs.Forest.{leaf};
 ghost use Rattle.tok_leaves.specs.Leaves.{ident_of};
 ghost use Rattle.tok_buffer.specs.Cursors.{place_of};
 ghost use Rattle.tok_buffer.specs.Place.{Place};
-ghost use Rattle.tok_buffer.specs.Reads.{and_then, any_text, lifetime_trees, read_ident, read_lifetime};
+ghost use Rattle.tok_buffer.specs.Reads.{and_then, any_text, read_ident, read_lifetime};
+ghost use Rattle.tok_core.specs.Seen.{lifetime_trees};
 
 use tok_buffer::Cursor;
 use tok_core::{Ident, Span};

@@ -8,14 +8,14 @@ use Rattle.std.specs.List.{All, list_all}
 use Rattle.tok_leaves.specs.declared.ident.Ident.{Ident}
 use Rattle.tok_leaves.specs.declared.punct.Spacing.TheVariants.{Joint}
 use Rattle.tok_leaves.specs.declared.span.Span.{Span}
-use Rattle.tok_leaves.specs.Leaves.{ident, punct, ident_of}
+use Rattle.tok_leaves.specs.Leaves.{ident, punct, ident_of, apostrophe}
 use Rattle.tok_core.specs.Forest.{Tree, leaf, Forest, no_trees, tree, forest, concat, tree_span}
 use Rattle.tok_lexical.specs.Characters.{is_punct_or_apostrophe}
 use Rattle.tok_leaves.specs.Spans.{call_site}
 use Rattle.tok_buffer.specs.Ahead.{Leftover}
 use Rattle.tok_core.specs.Weight.{weight}
 use Rattle.tok_buffer.specs.Place.{Owner, whole, is_at_end}
-use Rattle.tok_buffer.specs.Reads.{apostrophe, and_then, read_word, read_punctuation}
+use Rattle.tok_buffer.specs.Reads.{and_then, read_word, read_punctuation, read_ident}
 use Rattle.tok_buffer.specs.Refusals.{Refusal}
 use Rattle.tok_types.specs.Printed.{joint_puncts, puncts}
 use Rattle.tok_types.specs.Texts.{accept_as_ident, punctuations, punctuation_text, punctuation_word}
@@ -27,7 +27,6 @@ use Rattle.syn_parse.specs.Parsers.{whole_stream}
 use Rattle.syn_parse.specs.State.{State, handed}
 use Rattle.syn_parse.specs.RefusalWords.{refused_at, ident_words, punctuation_refusal}
 use Rattle.syn_parse.specs.declared.fault.Fault.{Fault}
-use Rattle.tok_buffer.specs.Reads.{read_ident}
 use Rattle.syn_punctuated.specs.Lists.{values_of, separators_of}
 use Rattle.syn_punctuated.specs.Printed.{by_turns}
 use Rattle.syn_punctuated.specs.ReadBack.{flat, ReadsAs, IsReadBack, ReadsList, IsAccepted}

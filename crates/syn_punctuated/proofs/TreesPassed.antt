@@ -7,11 +7,10 @@ use Rattle.tok_leaves.specs.declared.ident.Ident.{Ident}
 use Rattle.tok_leaves.specs.declared.punct.Spacing.{Spacing}
 use Rattle.tok_core.specs.Forest.{tree_span, Tree, leaf, group}
 use Rattle.tok_leaves.specs.declared.punct.Spacing.TheVariants.{Alone, Joint}
-use Rattle.tok_leaves.specs.Leaves.{ident, punct, literal}
+use Rattle.tok_leaves.specs.Leaves.{ident, punct, literal, apostrophe}
 use Rattle.tok_buffer.specs.Descent.{descend}
 use Rattle.tok_buffer.specs.Place.{Place, front, pass, is_at_end}
-use Rattle.tok_buffer.specs.Reads.{and_then, apostrophe, is_joint_of, is_punct_of, read_punctuation}
-use Rattle.tok_buffer.specs.Reads.{read_word}
+use Rattle.tok_buffer.specs.Reads.{and_then, is_joint_of, is_punct_of, read_punctuation, read_word}
 use Rattle.tok_buffer.specs.Reads as reads
 use Rattle.tok_buffer.specs.Refusals.{Refusal}
 use Rattle.tok_types.specs.Texts.{accept_as_ident, punctuation_word}

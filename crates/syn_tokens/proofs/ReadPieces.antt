@@ -8,11 +8,11 @@ use Rattle.std.specs.Str.{chars}
 use Rattle.tok_leaves.specs.declared.punct.Spacing.{Spacing}
 use Rattle.tok_leaves.specs.declared.punct.Spacing.TheVariants.{Alone, Joint}
 use Rattle.tok_leaves.specs.declared.span.Span.{Span}
-use Rattle.tok_leaves.specs.Leaves.{ident, punct, literal}
+use Rattle.tok_leaves.specs.Leaves.{ident, punct, literal, apostrophe}
 use Rattle.tok_core.specs.Forest.{Tree, leaf, group, tree_span}
 use Rattle.tok_buffer.specs.Descent.{descend}
 use Rattle.tok_buffer.specs.Place.{Place, front, pass}
-use Rattle.tok_buffer.specs.Reads.{and_then, apostrophe, is_joint_of, is_punct_of, read_punctuation, sized}
+use Rattle.tok_buffer.specs.Reads.{and_then, is_joint_of, is_punct_of, read_punctuation, sized}
 use Rattle.tok_buffer.specs.Reads as reads
 use Rattle.tok_buffer.specs.Refusals.{Refusal}
 use Rattle.syn_parse.specs.Parses.{AreSpans, PunctuationParses, ascii_chars}

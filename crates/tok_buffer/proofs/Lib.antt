@@ -1,4 +1,3 @@
-pub mod Appended
 pub mod Befores
 pub mod CompileErrorLoops
 pub mod Descents
@@ -9,7 +8,6 @@ pub mod InScope
 pub mod Layouts
 pub mod Lefts
 pub mod Measured
-pub mod Names
 pub mod NextChars
 pub mod Onwards
 pub mod Owners

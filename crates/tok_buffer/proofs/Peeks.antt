@@ -14,7 +14,7 @@ use Rattle.tok_buffer.specs.Place.{level, Place, empty_place, at, pass}
 use Rattle.tok_buffer.specs.Descent.{descend}
 use Rattle.tok_buffer.specs.Reads.{and_then, place_after, read_if, is_group, is_joint_of, is_next_of, is_punct_of, read_keyword, read_punctuation, read_word}
 use Rattle.tok_buffer.specs.Rest.{rest}
-use Rattle.tok_buffer.proofs.Names.{no_text}
+use Rattle.tok_leaves.proofs.Names.{no_text}
 
 -- a keyword is read where it has a text
 pub no_keyword : (text : List ℕ) (p : Place) → (length text == 0) ≡ true → is_some (read_keyword text p) ≡ false

@@ -7,7 +7,6 @@ pub mod Descent
 pub mod Entry
 pub mod Gives
 pub mod InFront
-pub mod Lifetimes
 pub mod Messages
 pub mod Moves
 pub mod Order

@@ -6,9 +6,8 @@ use Rattle.std.specs.Coded.{Coded, code_by, coded×, coded_ℕ, coded_list}
 use Rattle.std.proofs.Common.{ap, ◌∙◌}
 use Rattle.tok_core.specs.Code.{SpanCode, span_code, span_of, span-back, coded_span}
 use Rattle.tok_leaves.specs.declared.span.Span.{Span}
-use Rattle.tok_leaves.specs.Spans.{call_site}
+use Rattle.tok_leaves.specs.Spans.{call_site, covering}
 use Rattle.tok_buffer.specs.declared.error.Message.{Message}
-use Rattle.tok_buffer.specs.Spans.{covering}
 use Rattle.tok_buffer.specs.Refusals.{Refusal}
 
 -- a message: the spans of the first and the last token that it speaks of, and its text

@@ -9,9 +9,6 @@ use Rattle.tok_core.specs.Forest.{Tree, leaf, group, tree_span}
 use Rattle.tok_buffer.specs.Descent.{descend}
 use Rattle.tok_buffer.specs.Place.{Place, front, pass}
 
-abbrev pub apostrophe : ℕ
-apostrophe = 39
-
 -- the front tree, if it is wanted
 abbrev pub read_if : (Tree → Bool) → Place → Option (List Tree × Place)
 read_if wanted p =
@@ -78,10 +75,6 @@ read_keyword (c ∷ cs) p = read_word (bytes_eq (c ∷ cs)) p
 
 abbrev pub read_lifetime : (List ℕ → Bool) → Place → Option (List Tree × Place)
 read_lifetime wanted p = and_then (read_if is_joint_apostrophe (descend p)) (read_word wanted)
-
--- the two trees of a lifetime
-abbrev pub lifetime_trees : Span → Leaf → List Tree
-lifetime_trees span name = leaf (punct apostrophe Joint span) ∷ leaf name ∷ []
 
 -- the punct of a character, joint where more follow
 abbrev pub is_next_of : ℕ → List ℕ → Tree → Bool

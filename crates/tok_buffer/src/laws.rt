@@ -1,15 +1,10 @@
-//! Laws: small functions whose contracts say what holds of every buffer, cursor and lifetime.
-ghost use Rattle.std.specs.Prelude.{◌≡◌, ◌↔◌, ℕ, List, true, Some, IfOk, bytes_eq};
-ghost use Rattle.std.specs.Ordering.{nat_cmp};
-ghost use Rattle.std.specs.Cmp.Lexicographic.{slice_cmp};
+//! Laws: small functions whose contracts say what holds of every buffer and cursor.
+ghost use Rattle.std.specs.Prelude.{◌≡◌, ◌↔◌, true, Some, IfOk};
 ghost use Rattle.std.specs.declared.cmp.Ordering.TheVariants.{Equal};
-ghost use Rattle.std.specs.Hash as fed;
 ghost use Rattle.tok_core.specs.Forest.{Forest};
-ghost use Rattle.tok_leaves.specs.Laws.{EqualBy, HashedBy, OrderAgrees, OrderedBy, text_order};
 ghost use Rattle.tok_buffer.specs.Cursors.{place_of, CursorsLoseNone};
 ghost use Rattle.tok_buffer.specs.Descent.{DescentsEnter};
 ghost use Rattle.tok_buffer.specs.InFront.{AheadTellsAll, AheadTellsEnds, AllAheadAtStart};
-ghost use Rattle.tok_buffer.specs.Lifetimes.{name_of};
 ghost use Rattle.tok_buffer.specs.Order.{equal, order};
 ghost use Rattle.tok_buffer.specs.Place.{Place, start};
 ghost use Rattle.tok_buffer.specs.Progress.{EntriesGoOn, MovesStay, ReadsGoLater, ReadsGoOn, ReadsKeepScope, SkipsGoOn, StaysAlong};
@@ -18,11 +13,11 @@ ghost use Rattle.tok_buffer.specs.SameView.{CallsLeadOn, StartsAgree, ViewsDecid
 
 use crate::buffer::TokenBuffer;
 use crate::cursor::Cursor;
-use crate::lifetime::Lifetime;
 use std::alloc::{AllocError, Global};
 use std::cmp::Ordering;
-use std::hash::Hash;
 use tok_core::TokenStream;
+
+pub use tok_leaves::laws::{lifetimes_by_name, lifetimes_in_order};
 
 /// A buffer gives back the stream that it was made of, spans and invisible groups included.
 pub fn same_stream(
@@ -46,25 +41,6 @@ pub fn equal_in_order(left: Cursor<'_>, right: Cursor<'_>) -> (bool, Option<Orde
 {
     (left == right, left.partial_cmp(&right))
 }
-
-/// Lifetimes are compared by name alone, and are equal exactly where their order says so.
-pub fn lifetimes_in_order(left: &Lifetime, right: &Lifetime) -> (bool, Ordering)
-    ensures names { (x : List ℕ) → (y : List ℕ)
-        → (bytes_eq x y ≡ true) ↔ (slice_cmp nat_cmp x y ≡ Equal) }
-    ensures equal { result.0 ≡ bytes_eq (name_of left.now) (name_of right.now) }
-    ensures order { result.1 ≡ slice_cmp nat_cmp (name_of left.now) (name_of right.now) }
-{
-    (left == right, left.cmp(right))
-}
-
-/// Lifetimes are compared, ordered and hashed by their names, and their order agrees with equality.
-pub fn lifetimes_by_name()
-    ensures equal { EqualBy name_of ⟦<Lifetime as PartialEq>⟧.eq }
-    ensures order { OrderedBy name_of text_order ⟦<Lifetime as Ord>⟧.cmp }
-    ensures agree { OrderAgrees ⟦<Lifetime as PartialEq>⟧.eq ⟦<Lifetime as Ord>⟧.cmp
-        ⟦<Lifetime as PartialOrd>⟧.partial_cmp }
-    ensures hash { HashedBy name_of fed.str ⟦<Lifetime as Hash>⟧.hash_input }
-{}
 
 /// Each read stays in the buffer and the scope of its cursor and lowers what remains, so a loop of reads ends.
 pub fn reads_go_on()

@@ -12,4 +12,5 @@ mod spot;
 pub use buffer::TokenBuffer;
 pub use cursor::Cursor;
 pub use error::Error;
-pub use lifetime::{Lifetime, LifetimeFault, LifetimeRef};
+pub use lifetime::LifetimeRef;
+pub use tok_core::{Lifetime, LifetimeFault};

@@ -3,8 +3,11 @@ use Rattle.std.specs.Prelude.{List, [], ◌∷◌}
 use Rattle.tok_core.specs.declared.group.Group.{Group}
 use Rattle.tok_core.specs.declared.stream.TokenTree.{TokenTree}
 use Rattle.tok_core.specs.declared.stream.TokenTree.TheVariants as made
-use Rattle.tok_core.specs.Forest.{Tree, leaf, group, Forest, no_trees, tree}
-use Rattle.tok_leaves.specs.Leaves.{ident_of, punct_of, literal_of}
+use Rattle.tok_core.specs.Forest.{Tree, leaf, group, Forest, no_trees, tree, forest}
+use Rattle.tok_leaves.specs.declared.lifetime.Lifetime.{Lifetime}
+use Rattle.tok_leaves.specs.declared.punct.Spacing.TheVariants.{Joint}
+use Rattle.tok_leaves.specs.declared.span.Span.{Span}
+use Rattle.tok_leaves.specs.Leaves.{Leaf, punct, ident_of, punct_of, literal_of, apostrophe}
 use Rattle.tok_leaves.specs.Spans.{bounds_delimiter, bounds_span}
 
 abbrev pub group_of : Group → Tree
@@ -20,3 +23,11 @@ tree_of (made.Literal l) = leaf (literal_of l)
 abbrev pub trees_of : List TokenTree → Forest
 trees_of [] = no_trees
 trees_of (t ∷ ts) = tree (tree_of t) (trees_of ts)
+
+-- the two trees of a lifetime
+abbrev pub lifetime_trees : Span → Leaf → List Tree
+lifetime_trees span name = leaf (punct apostrophe Joint span) ∷ leaf name ∷ []
+
+-- the same in a forest of their own
+abbrev pub lifetime_forest : Lifetime → Forest
+lifetime_forest l = forest (lifetime_trees l.apostrophe (ident_of l.ident))

@@ -17,6 +17,7 @@ pub use lexer::{LexError, LexFault, lex, lex_marked};
 pub use stream::{TokenStream, TokenTree};
 pub use to_tokens::ToTokens;
 pub use tok_leaves::{
-    DelimSpan, Delimiter, Ident, Literal, MakeFault, Punct, Spacing, Span, Text, known, same,
+    DelimSpan, Delimiter, Ident, Lifetime, LifetimeFault, Literal, MakeFault, Punct, Spacing, Span,
+    Text, known, same,
 };
 pub use tt::{TokenStreamHelper, TokenTreeHelper};

@@ -1,13 +1,14 @@
 // Values that are written as tokens.
 ghost use Rattle.std.specs.Prelude.{◌≡◌, IfOk, OnOk, OnErr};
 ghost use Rattle.tok_core.specs.Forest.{AppendsFront, Forest, concat, leaf, no_trees, tree};
-ghost use Rattle.tok_core.specs.Seen.{group_of, tree_of};
+ghost use Rattle.tok_core.specs.Seen.{group_of, lifetime_forest, tree_of};
 ghost use Rattle.tok_leaves.specs.Leaves.{ident_of, literal_of, punct_of};
 
 use crate::group::Group;
 use crate::stream::{TokenStream, TokenTree};
 use std::alloc::{AllocError, Global};
-use tok_leaves::{Ident, Literal, Punct};
+use tok_leaves::known::punct;
+use tok_leaves::{Ident, Lifetime, Literal, Punct, Spacing};
 
 /// A value that is written as tokens.
 pub trait ToTokens {
@@ -77,6 +78,19 @@ impl ToTokens for Literal {
 
     fn into_token_stream(self, alloc: Global) -> Result<TokenStream, AllocError> {
         alone(alloc, TokenTree::Literal(self))
+    }
+}
+
+/// Writes a joint apostrophe and the identifier.
+impl ToTokens for Lifetime {
+    ghost printed = { lifetime_forest };
+
+    fn to_tokens(&self, tokens: &mut TokenStream) -> Result<(), AllocError> {
+        let ident = self.ident.clone()?;
+        let mark = punct('\'', Spacing::Joint, self.apostrophe);
+        tokens.append(TokenTree::Punct(mark))?;
+        tokens.append(TokenTree::Ident(ident))?;
+        Ok(())
     }
 }
 

@@ -46,3 +46,6 @@ leaf_spacing l = Alone
 abbrev pub unraw : List ℕ → List ℕ
 unraw (c ∷ (d ∷ word)) = cond (c == 114 && d == 35) word (c ∷ (d ∷ word))
 unraw text = text
+
+abbrev pub apostrophe : ℕ
+apostrophe = 39

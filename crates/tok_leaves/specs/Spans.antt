@@ -1,5 +1,6 @@
 -- Spans, and the spans of a group's two delimiters.
-use Rattle.std.specs.Prelude.{ℕ, ◌+◌, ◌-◌, min, max, nat_lt, ◌==◌, cond, Option, Some, None}
+use Rattle.std.specs.Prelude.{ℕ, ◌+◌, ◌-◌, min, max, nat_lt, ◌==◌, cond}
+use Rattle.std.specs.Prelude.{Option, Some, None, unwrap_or}
 use Rattle.tok_leaves.specs.declared.span.Origin.{Origin}
 use Rattle.tok_leaves.specs.declared.span.Origin.TheVariants.{CallSite, Source}
 use Rattle.tok_leaves.specs.declared.span.Span.{Span}
@@ -46,6 +47,10 @@ joined_origins p q = None
 
 abbrev pub join : Span → Span → Option Span
 join left right = joined_origins left.origin right.origin
+
+-- the same, or the first where none covers both
+abbrev pub covering : Span → Span → Span
+covering start end = unwrap_or (join start end) start
 
 -- the number of a source and the range in it
 abbrev pub range : Span → Option (ℕ × ℕ × ℕ)

@@ -3,7 +3,7 @@ ghost use Rattle.std.specs.Prelude.{◌≡◌, ◌<◌, ◌∷◌, [], length, m
 ghost use Rattle.std.specs.Str.{chars};
 ghost use Rattle.tok_core.specs.Forest.{leaf};
 ghost use Rattle.tok_leaves.specs.Leaves.{ident_of, literal_of, punct_of};
-ghost use Rattle.tok_buffer.specs.Reads.{lifetime_trees};
+ghost use Rattle.tok_core.specs.Seen.{lifetime_trees};
 ghost use Rattle.syn_tokens.specs.Session.Reading.{ArePieces, punct_pieces};
 ghost use Rattle.syn_tokens.specs.Meanings.{piece_of};
 

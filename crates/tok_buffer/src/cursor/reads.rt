@@ -14,10 +14,11 @@ impl<'a> Cursor<'a> {
     ghost use Rattle.tok_core.specs.Clear.{is_joint_apostrophe};
     ghost use Rattle.tok_leaves.specs.declared.punct.Spacing.TheVariants.{Joint};
     ghost use Rattle.tok_core.specs.Forest.{leaf};
-    ghost use Rattle.tok_leaves.specs.Leaves.{punct, ident_of, punct_of, literal_of};
+    ghost use Rattle.tok_leaves.specs.Leaves.{punct, ident_of, punct_of, literal_of, apostrophe};
     ghost use Rattle.tok_buffer.specs.Cursors.{place_of};
     ghost use Rattle.tok_buffer.specs.Gives.{Gives};
-    ghost use Rattle.tok_buffer.specs.Reads.{and_then, any_text, apostrophe, lifetime_trees, place_after, skip, read_if, read_ident, read_keyword, read_punct, read_literal, read_lifetime, read_tree, read_word};
+    ghost use Rattle.tok_buffer.specs.Reads.{and_then, any_text, place_after, skip, read_if, read_ident, read_keyword, read_punct, read_literal, read_lifetime, read_tree, read_word};
+    ghost use Rattle.tok_core.specs.Seen.{lifetime_trees};
 
     /// The identifier in front, of whatever text, and the cursor after it.
     pub fn ident(self) -> Option<(&'a Ident, Cursor<'a>)>

@@ -2,7 +2,7 @@ use Rattle.std.proofs.Common.{◌≡◌, sym, subst, ◌≤◌, [], ◌∷◌, l
 use Rattle.std.specs.Str.{chars}
 use Rattle.tok_core.specs.Forest.{leaf}
 use Rattle.tok_leaves.specs.Leaves.{ident_of, literal_of, punct_of}
-use Rattle.tok_buffer.specs.Reads.{lifetime_trees}
+use Rattle.tok_core.specs.Seen.{lifetime_trees}
 use Rattle.syn_tokens.specs.Session.Reading.{AfterPieces}
 use Rattle.syn_tokens.specs.Meanings.{kind_of}
 use Rattle.syn_tokens.specs.declared.command.Kind.TheVariants.{Ident, IdentAny, Lifetime, LifetimeAny, Literal, Punct}

@@ -4,7 +4,7 @@ use Rattle.unicode_ident.specs.Ident.{is_xid_start, is_xid_continue}
 use Rattle.unicode_ident.proofs.Computing.{unicode_ident}
 use Rattle.tok_core.specs.Forest.{concat}
 use Rattle.tok_buffer.specs.CompileErrors.{segment, invocation}
-use Rattle.tok_buffer.proofs.Appended.{then_forest}
+use Rattle.tok_core.proofs.Appended.{then_forest}
 use Rattle.tok_buffer.proofs.error.Message.write.Goals as goal
 
 pub write_segment-requires : goal.write_segment-requires

@@ -5,7 +5,7 @@ use Rattle.tok_core.specs.Seen.{tree_of}
 use Rattle.tok_core.specs.declared.stream.TokenTree.TheVariants.{Literal}
 use Rattle.tok_lexical.specs.declared.delimiter.Delimiter.TheVariants.{Brace}
 use Rattle.tok_core.proofs.Facts.{concat-none}
-use Rattle.tok_buffer.proofs.Appended.{first_tree, then_tree}
+use Rattle.tok_core.proofs.Appended.{first_tree, then_tree}
 use Rattle.tok_buffer.proofs.error.compile_error.write_invocation.Goals as goal
 
 pub returns : goal.returns

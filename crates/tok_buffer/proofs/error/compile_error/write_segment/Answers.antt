@@ -1,7 +1,7 @@
 use Rattle.std.proofs.Common.{ap, sym}
 use Rattle.tok_core.specs.Forest.{Forest, leaf}
 use Rattle.tok_core.proofs.Facts.{concat-none}
-use Rattle.tok_buffer.proofs.Appended.{then_tree}
+use Rattle.tok_core.proofs.Appended.{then_tree}
 use Rattle.tok_buffer.proofs.error.compile_error.write_segment.Goals as goal
 
 pub returns : goal.returns

@@ -1,8 +1,8 @@
 use Rattle.std.proofs.Common.{◌∙◌, sym, refl, nat_cmp}
 use Rattle.std.specs.Cmp.{Equal-is}
 use Rattle.std.specs.Cmp.Lexicographic.{slice_cmp, texts_ties}
-use Rattle.tok_buffer.specs.Lifetimes.{name_of}
-use Rattle.tok_buffer.proofs.laws.lifetimes_by_name.Goals as goal
+use Rattle.tok_leaves.specs.Lifetimes.{name_of}
+use Rattle.tok_leaves.proofs.laws.lifetimes_by_name.Goals as goal
 
 pub returns-clause-agree : goal.returns-clause-agree
 returns-clause-agree c left right = (

@@ -3,22 +3,16 @@ use Rattle.std.specs.Prelude.{ℕ, ◌==◌, ◌&&◌, Bool, false, cond, List, 
 use Rattle.std.specs.Prelude.{codes}
 use Rattle.std.specs.List.{list_all}
 use Rattle.unicode_ident.specs.Ident.{is_xid_continue}
-use Rattle.tok_core.specs.Forest.{Forest, forest}
 use Rattle.tok_lexical.specs.Words.{is_identifier_start, has_no_raw}
-use Rattle.tok_leaves.specs.Leaves.{ident_of, leaf_text}
+use Rattle.tok_leaves.specs.Leaves.{apostrophe, ident_of, leaf_text}
 use Rattle.tok_leaves.specs.declared.ident.MakeFault.{MakeFault}
 use Rattle.tok_leaves.specs.declared.ident.MakeFault.TheVariants as made
 use Rattle.tok_leaves.specs.declared.ident.MakeFault.TheVariants.{Refused}
-use Rattle.tok_buffer.specs.Reads.{apostrophe, lifetime_trees}
-use Rattle.tok_buffer.specs.declared.lifetime.Lifetime.{Lifetime}
-use Rattle.tok_buffer.specs.declared.lifetime.LifetimeFault.{LifetimeFault}
-use Rattle.tok_buffer.specs.declared.lifetime.LifetimeFault.TheVariants.{NoApostrophe, Empty}
-use Rattle.tok_buffer.specs.declared.lifetime.LifetimeFault.TheVariants.{NotIdentifier, NoRaw}
-use Rattle.tok_buffer.specs.declared.lifetime.LifetimeFault.TheVariants.{Memory}
-
--- the trees that a lifetime is written as
-abbrev pub lifetime_forest : Lifetime → Forest
-lifetime_forest l = forest (lifetime_trees l.apostrophe (ident_of l.ident))
+use Rattle.tok_leaves.specs.declared.lifetime.Lifetime.{Lifetime}
+use Rattle.tok_leaves.specs.declared.lifetime.LifetimeFault.{LifetimeFault}
+use Rattle.tok_leaves.specs.declared.lifetime.LifetimeFault.TheVariants.{NoApostrophe, Empty}
+use Rattle.tok_leaves.specs.declared.lifetime.LifetimeFault.TheVariants.{NotIdentifier, NoRaw}
+use Rattle.tok_leaves.specs.declared.lifetime.LifetimeFault.TheVariants.{Memory}
 
 -- the identifier's text
 abbrev pub name_of : Lifetime → List ℕ

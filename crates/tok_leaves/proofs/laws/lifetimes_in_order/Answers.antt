@@ -1,7 +1,7 @@
 use Rattle.std.proofs.Common.{◌∙◌, sym, nat_cmp}
 use Rattle.std.specs.Cmp.{Equal-is}
 use Rattle.std.specs.Cmp.Lexicographic.{slice_cmp, texts_ties}
-use Rattle.tok_buffer.proofs.laws.lifetimes_in_order.Goals as goal
+use Rattle.tok_leaves.proofs.laws.lifetimes_in_order.Goals as goal
 
 pub returns-clause-names : goal.returns-clause-names
 returns-clause-names c x y = (

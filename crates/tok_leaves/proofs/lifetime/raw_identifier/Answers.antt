@@ -1,7 +1,7 @@
 use Rattle.std.proofs.Common.{◌∙◌, sym, ap}
-use Rattle.tok_buffer.specs.Lifetimes.{refusal_in}
-use Rattle.tok_buffer.proofs.Names.{empty_raw, raw_fault}
-use Rattle.tok_buffer.proofs.lifetime.raw_identifier.Goals as goal
+use Rattle.tok_leaves.specs.Lifetimes.{refusal_in}
+use Rattle.tok_leaves.proofs.Names.{empty_raw, raw_fault}
+use Rattle.tok_leaves.proofs.lifetime.raw_identifier.Goals as goal
 
 pub returns-then-is_empty-clause-refused : goal.returns-then-is_empty-clause-refused
 returns-then-is_empty-clause-refused c =

@@ -3,8 +3,8 @@ use Rattle.tok_core.specs.Forest.{Forest, leaf}
 use Rattle.tok_core.proofs.Facts.{concat-none}
 use Rattle.tok_core.proofs.Fronts.{none_appended}
 use Rattle.tok_leaves.specs.Leaves.{ident_of}
-use Rattle.tok_buffer.proofs.Appended.{then_tree}
-use Rattle.tok_buffer.proofs.lifetime.LifetimeToTokens.to_tokens.Goals as goal
+use Rattle.tok_core.proofs.Appended.{then_tree}
+use Rattle.tok_core.proofs.to_tokens.LifetimeToTokens.to_tokens.Goals as goal
 
 pub returns-in_err-ident-clause-err : goal.returns-in_err-ident-clause-err
 returns-in_err-ident-clause-err c = none_appended _ _ _ _ _ (search rules)

@@ -9,8 +9,8 @@ use Rattle.std.proofs.lemmas.Str.{chars-nil, encodes-chars}
 use Rattle.tok_lexical.specs.Words.{IsIdentifier, HasRaw, has_no_raw}
 use Rattle.tok_leaves.specs.declared.ident.MakeFault.{MakeFault}
 use Rattle.tok_leaves.specs.declared.ident.MakeFault.TheVariants.{Refused, Memory}
-use Rattle.tok_buffer.specs.Lifetimes.{is_identifier, plain_refusal, raw_refusal, name_fault, refusal_in}
-use Rattle.tok_buffer.specs.declared.lifetime.LifetimeFault.TheVariants.{Empty, NotIdentifier}
+use Rattle.tok_leaves.specs.Lifetimes.{is_identifier, plain_refusal, raw_refusal, name_fault, refusal_in}
+use Rattle.tok_leaves.specs.declared.lifetime.LifetimeFault.TheVariants.{Empty, NotIdentifier}
 
 pub no_text : (bs : List ℕ) → (length bs == 0) ≡ true → bs ≡ []
 no_text [] h = refl

@@ -1,0 +1,207 @@
+// Lifetimes.
+ghost use Rattle.std.specs.Prelude.{◌≡◌, ◌++◌, ◌∷◌, codes, None, MatchOption, IfSome, IfOk, IfErr, Some};
+ghost use Rattle.std.specs.Str.{chars, IsUtf8};
+ghost use Rattle.tok_leaves.specs.Leaves.{ident, ident_of, leaf_span, leaf_text, apostrophe};
+ghost use Rattle.tok_lexical.specs.Words.{has_no_raw};
+ghost use Rattle.tok_leaves.specs.Lifetimes.{fault_words, lifetime_refusal, lifetime_text, name_fault, name_refusal, plain_refusal, raw_refusal, refusal_in};
+ghost use Rattle.tok_leaves.specs.Spans.{covering};
+
+use crate::ident::{Ident, MakeFault};
+use crate::span::Span;
+use std::alloc::{AllocError, Global};
+use std::fmt;
+use std::fmt::{Display, Formatter, Write};
+use tok_lexical::text::next_char;
+use tok_lexical::words::has_no_raw;
+
+/// A lifetime: an apostrophe and an identifier, which may be a keyword or raw. Lifetimes are compared, ordered and hashed
+/// by their identifiers alone.
+#[derive(Drop)]
+#[derive_where(PartialEq, Eq, PartialOrd, Ord, Hash)]
+pub struct Lifetime {
+    #[derive_where(skip(EqHashOrd))]
+    pub apostrophe: Span,
+    pub ident: Ident,
+}
+
+/// Why no lifetime is made of a text, or that an allocation failed.
+#[derive(Clone, Copy, PartialEq, Eq, Debug)]
+pub enum LifetimeFault {
+    /// N1: the text doesn't begin with an apostrophe.
+    NoApostrophe,
+    /// N2: nothing follows the apostrophe, or after `'r#`.
+    Empty,
+    /// N3: what is there is no identifier.
+    NotIdentifier,
+    /// N4: it is one that doesn't exist as a raw identifier: `_`, `self`, `Self`, `super` or `crate` after `'r#`.
+    NoRaw,
+    Memory,
+}
+
+impl LifetimeFault {
+    fn words(self) -> &'static str
+        ensures { result.now ≡ fault_words self }
+    {
+        match self {
+            LifetimeFault::NoApostrophe => "lifetime without an apostrophe",
+            LifetimeFault::Empty => "lifetime without a name",
+            LifetimeFault::NotIdentifier => "lifetime whose name is no identifier",
+            LifetimeFault::NoRaw => "lifetime whose raw name does not exist",
+            LifetimeFault::Memory => "out of memory",
+        }
+    }
+}
+
+impl Display for LifetimeFault {
+    ghost output = { λ fault. Some (fault_words fault) };
+
+    fn fmt<W: Write>(&self, f: &mut Formatter<W>) -> fmt::Result {
+        f.write_str(self.words())
+    }
+}
+
+impl std::error::Error for LifetimeFault {}
+
+impl Lifetime {
+    /// The lifetime of a text as `'a` or `'r#a`, with this span for both its parts. Refuses, by the first that holds:
+    /// N1 no apostrophe in front, N2 nothing after it or after `'r#`, N3 no identifier there, N4 one that doesn't exist
+    /// as a raw identifier.
+    pub fn new(alloc: Global, symbol: &str, span: Span) -> Result<Lifetime, LifetimeFault>
+        ensures made { IfOk result (λ l. lifetime_refusal (chars symbol.now) ≡ None) }
+        ensures text { IfOk result (λ l. lifetime_text l ≡ symbol.now) }
+        ensures spans { IfOk result
+            (λ l. (l.apostrophe ≡ span) × (leaf_span (ident_of l.ident) ≡ span)) }
+        ensures refused { IfErr result
+            (λ fault. lifetime_refusal (chars symbol.now) ≡ refusal_in fault) }
+    {
+        let Some(name) = past_apostrophe(symbol) else {
+            return Err(LifetimeFault::NoApostrophe);
+        };
+        Ok(Lifetime {
+            apostrophe: span,
+            ident: identifier(alloc, name, span)?,
+        })
+    }
+
+    /// The span from the apostrophe to the identifier, or the apostrophe's where none covers both.
+    pub fn span(&self) -> Span
+        ensures { result ≡ covering self.now.apostrophe (leaf_span (ident_of self.now.ident)) }
+    {
+        self.apostrophe
+            .join(self.ident.span())
+            .unwrap_or(self.apostrophe)
+    }
+
+    /// Sets the spans of both parts.
+    pub fn set_span(&mut self, span: Span)
+        ensures apostrophe { self.new.apostrophe ≡ span }
+        ensures ident { ident_of self.new.ident ≡ ident (leaf_text (ident_of self.old.ident)) span }
+    {
+        self.apostrophe = span;
+        self.ident.set_span(span);
+    }
+
+    /// A copy in memory of its own.
+    pub fn clone(&self) -> Result<Lifetime, AllocError>
+        ensures { IfOk result (λ l. l ≡ self.now) }
+    {
+        Ok(Lifetime {
+            apostrophe: self.apostrophe,
+            ident: self.ident.clone()?,
+        })
+    }
+}
+
+/// Writes the apostrophe and the identifier's text.
+impl Display for Lifetime {
+    ghost use Rattle.std.specs.Prelude.{Some};
+    ghost use Rattle.tok_leaves.specs.Lifetimes.{lifetime_text};
+
+    ghost output = { λ l. Some (lifetime_text l) };
+
+    fn fmt<W: Write>(&self, f: &mut Formatter<W>) -> fmt::Result {
+        f.write_str("'")?;
+        f.write_str(self.ident.as_str())
+    }
+}
+
+// What follows an apostrophe in front.
+fn past_apostrophe(symbol: &str) -> Option<&str>
+    ensures chars { MatchOption result
+        (lifetime_refusal (chars symbol.now) ≡ Some LifetimeFault.NoApostrophe)
+        (λ name. lifetime_refusal (chars symbol.now) ≡ name_refusal (chars name.now)) }
+    ensures bytes { IfSome result (λ name. symbol.now ≡ apostrophe ∷ name.now) }
+    ensures utf8 { IfSome result (λ name. IsUtf8 name.now) }
+{
+    let (first, name) = next_char(symbol)?;
+    if first == '\'' { Some(name) } else { None }
+}
+
+// What follows `r#` in front.
+fn past_raw(name: &str) -> Option<&str>
+    ensures chars { MatchOption result
+        (name_refusal (chars name.now) ≡ plain_refusal (chars name.now))
+        (λ word. name_refusal (chars name.now) ≡ raw_refusal (chars word.now)) }
+    ensures bytes { IfSome result (λ word. name.now ≡ codes "r#" ++ word.now) }
+    ensures utf8 { IfSome result (λ word. IsUtf8 word.now) }
+{
+    let (first, after) = next_char(name)?;
+    let (second, word) = next_char(after)?;
+    if first == 'r' && second == '#' {
+        Some(word)
+    } else {
+        None
+    }
+}
+
+fn identifier(alloc: Global, name: &str, span: Span) -> Result<Ident, LifetimeFault>
+    ensures made { IfOk result (λ i. name_refusal (chars name.now) ≡ None) }
+    ensures value { IfOk result (λ i. ident_of i ≡ ident name.now span) }
+    ensures refused { IfErr result (λ fault. name_refusal (chars name.now) ≡ refusal_in fault) }
+{
+    match past_raw(name) {
+        Some(word) => raw_identifier(alloc, word, span),
+        None => plain_identifier(alloc, name, span),
+    }
+}
+
+fn plain_identifier(alloc: Global, name: &str, span: Span) -> Result<Ident, LifetimeFault>
+    ensures made { IfOk result (λ i. plain_refusal (chars name.now) ≡ None) }
+    ensures value { IfOk result (λ i. ident_of i ≡ ident name.now span) }
+    ensures refused { IfErr result (λ fault. plain_refusal (chars name.now) ≡ refusal_in fault) }
+{
+    if name.is_empty() {
+        return Err(LifetimeFault::Empty);
+    }
+    match Ident::new(alloc, name, span) {
+        Ok(ident) => Ok(ident),
+        Err(fault) => Err(name_fault(fault)),
+    }
+}
+
+fn raw_identifier(alloc: Global, word: &str, span: Span) -> Result<Ident, LifetimeFault>
+    ensures made { IfOk result (λ i. raw_refusal (chars word.now) ≡ None) }
+    ensures value { IfOk result (λ i. ident_of i ≡ ident (codes "r#" ++ word.now) span) }
+    ensures refused { IfErr result (λ fault. raw_refusal (chars word.now) ≡ refusal_in fault) }
+{
+    if has_no_raw(word) {
+        return Err(LifetimeFault::NoRaw);
+    }
+    if word.is_empty() {
+        return Err(LifetimeFault::Empty);
+    }
+    match Ident::new_raw(alloc, word, span) {
+        Ok(ident) => Ok(ident),
+        Err(fault) => Err(name_fault(fault)),
+    }
+}
+
+// A maker's fault, at a name that isn't empty and may be raw.
+fn name_fault(fault: MakeFault) -> LifetimeFault
+    ensures { result ≡ name_fault fault }
+{
+    match fault {
+        MakeFault::Refused => LifetimeFault::NotIdentifier,
+        MakeFault::Memory => LifetimeFault::Memory,
+    }
+}
