@@ -9,10 +9,9 @@ pub use program::channel::{Sink, Source};
 pub use program::{respond, serve};
 pub use syn_parse::{Fault, Result};
 pub use syn_punctuated as punctuated;
-pub use syn_replay::laws;
 pub use syn_replay::{
     Answer, Command, Kind, Line, Look, Piece, Position, Report, Separator, Verdict, agree,
-    is_transparent, replay, replay_both,
+    is_transparent, laws, replay, replay_both,
 };
 pub use tok_buffer::{Error, Lifetime, LifetimeFault, error};
 pub use tok_core::{
