@@ -9,12 +9,12 @@ use Rattle.std.proofs.lemmas.List.Sums.{position_or_len_is}
 use Rattle.std.specs.List.{All, cons_option, position, position_or_len}
 use Rattle.std.specs.Option.{option_map, option_to_list}
 use Rattle.std.specs.Str.{IsUtf8}
-use Rattle.syn_tokens.specs.Commands as spec
+use Rattle.syn_replay.specs.Commands as spec
 use Rattle.syn_tokens.specs.Program.CommandText.{words, command, is_unreadable, unreadable_line, commands_in}
 use Rattle.syn_tokens.specs.Program.Input.{lines, lines_left}
-use Rattle.syn_tokens.specs.ReportText.{ended}
-use Rattle.syn_tokens.specs.Meanings.{command_of}
-use Rattle.syn_tokens.specs.declared.command.Command.{Command}
+use Rattle.syn_replay.specs.ReportText.{ended}
+use Rattle.syn_replay.specs.Meanings.{command_of}
+use Rattle.syn_replay.specs.declared.command.Command.{Command}
 use Rattle.syn_tokens.proofs.Lines.{left_len, left_less}
 
 -- the lines before what is left are read

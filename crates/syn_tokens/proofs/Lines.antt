@@ -13,7 +13,7 @@ use Rattle.std.proofs.lemmas.Str.Pattern.{IsSplitOnceResult, split_once_first, s
 use Rattle.std.specs.List.{All, slice_split, after_first, position_or_len}
 use Rattle.std.specs.Str.{IsUtf8}
 use Rattle.syn_tokens.specs.Program.Input.{lines, is_cut, text_of, texts_in, parts_of, lines_left}
-use Rattle.syn_tokens.specs.ReportText.{ended}
+use Rattle.syn_replay.specs.ReportText.{ended}
 
 -- `split_once` at a byte cuts off the first part
 pub split_some : (c : ℕ) (bs : List ℕ) (x : Bor (List ℕ) × Bor (List ℕ))

@@ -2,7 +2,7 @@
 use Rattle.std.proofs.Common.{◌≡◌, ℕ, List, [], ◌∷◌, ◌++◌, Option, Some, None, refl, ap, sym, ◌∙◌, append_assoc}
 use Rattle.std.specs.Option.{option_map, option_and_then}
 use Rattle.syn_tokens.specs.Program.CommandText.{look, all_looks}
-use Rattle.syn_tokens.specs.Kinds.{Look}
+use Rattle.syn_replay.specs.Kinds.{Look}
 
 concat : (before : List Look) (l : Look) (o : Option (List Look)) → option_map (λ ls. (before ++ l ∷ []) ++ ls) o ≡ option_map (λ ls. before ++ ls) (option_map (λ ls. l ∷ ls) o)
 concat before l None = refl

@@ -10,12 +10,12 @@ use Rattle.tok_lexical.specs.Rules.{marked_rules}
 use Rattle.tok_core.specs.declared.lexer.error.LexError.{LexError}
 use Rattle.tok_core.proofs.Lexical.Laws.{forest_once, refused_once, never_both}
 use Rattle.syn_tokens.specs.Program.CommandText.{unreadable_line, commands_in}
-use Rattle.syn_tokens.specs.Commands.{Command}
+use Rattle.syn_replay.specs.Commands.{Command}
 use Rattle.syn_tokens.specs.Program.Comparison.{AreFacts, Facts, Comparison, Compares, Outcome, reported}
 use Rattle.syn_tokens.specs.Program.Comparison.{compared, outcome_text, outcome_status}
 use Rattle.syn_tokens.specs.Program.Faults.{unreadable_text}
 use Rattle.syn_tokens.specs.Program.Output.{GoesOut}
-use Rattle.syn_tokens.specs.ReportText.{ended}
+use Rattle.syn_replay.specs.ReportText.{ended}
 use Rattle.syn_tokens.specs.Program.{HasParts, HasForests, IsForest, IsOther, IsUnreadable}
 use Rattle.syn_tokens.specs.Program.{IsOutcome}
 use Rattle.syn_tokens.specs.Program.{Fails, HasOutcome, Prints, PrintsOnly, Serves, ServesOnly}

@@ -1,13 +1,12 @@
-pub mod Agree
-pub mod Commands
-pub mod Kinds
-pub mod ReportText
 pub mod Program
-pub mod Meanings
-pub mod Session
-pub mod Transparent
-pub mod Turns
-pub use Rattle.tok_leaves.specs.Leaves
+pub use Rattle.syn_replay.specs.Agree
+pub use Rattle.syn_replay.specs.Commands
+pub use Rattle.syn_replay.specs.Kinds
+pub use Rattle.syn_replay.specs.ReportText
+pub use Rattle.syn_replay.specs.Meanings
+pub use Rattle.syn_replay.specs.Session
+pub use Rattle.syn_replay.specs.Transparent
+pub use Rattle.syn_replay.specs.Turns
 pub use Rattle.tok_core.specs.Forest
 pub use Rattle.tok_core.specs.Seen as TreeSeen
 pub use Rattle.tok_core.specs.Text

@@ -13,14 +13,14 @@ use Rattle.tok_core.specs.Forest.{Forest}
 use Rattle.tok_core.specs.Lexical.Reading.{Reads, IsRefused}
 use Rattle.tok_lexical.specs.Rules.{marked_rules}
 use Rattle.syn_tokens.specs.Program.CommandText.{unreadable_line, commands_in}
-use Rattle.syn_tokens.specs.Commands.{Command}
+use Rattle.syn_replay.specs.Commands.{Command}
 use Rattle.syn_tokens.specs.Program.Comparison.{Compares, Outcome, reported, compared, outcome_text}
 use Rattle.syn_tokens.specs.Program.Comparison.{outcome_status}
 use Rattle.syn_tokens.specs.Program.Faults.{unreadable_text}
 use Rattle.syn_tokens.specs.Program.Input.{parts_of}
 use Rattle.syn_tokens.specs.Program.Output.{GoesOut}
-use Rattle.syn_tokens.specs.ReportText.{ended}
-use Rattle.syn_tokens.specs.Session.Walk.{walk}
+use Rattle.syn_replay.specs.ReportText.{ended}
+use Rattle.syn_replay.specs.Session.Walk.{walk}
 use Rattle.syn_tokens.specs.declared.program.fault.Unreadable.{Unreadable}
 use Rattle.syn_tokens.specs.declared.program.fault.Unreadable.TheVariants.{Utf8, Parts, Text, Right}
 use Rattle.syn_tokens.specs.declared.program.fault.Unreadable.TheVariants as unreadable

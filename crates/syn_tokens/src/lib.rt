@@ -1,25 +1,18 @@
 //! The front of the library: all public items of the crates below, under the paths of `syn`, so that a user names one
-//! crate; and `replay`, which runs a list of commands, one by one, over a token stream.
+//! crate; and `serve`, the program over any reader and writer.
 #![tactic(auto)]
 
-mod agreement;
-mod command;
-pub mod laws;
 mod program;
-mod report;
-mod session;
 
-pub use agreement::agree;
-pub use agreement::both::replay_both;
-pub use agreement::transparent::is_transparent;
 pub use arguments;
-pub use command::{Command, Kind, Look, Separator};
 pub use program::channel::{Sink, Source};
 pub use program::{respond, serve};
-pub use report::{Answer, Line, Piece, Position, Report, Verdict};
-pub use session::replay;
 pub use syn_parse::{Fault, Result};
 pub use syn_punctuated as punctuated;
+pub use syn_replay::{
+    Answer, Command, Kind, Line, Look, Piece, Position, Report, Separator, Verdict, agree,
+    is_transparent, laws, replay, replay_both,
+};
 pub use tok_buffer::{Error, Lifetime, LifetimeFault, error};
 pub use tok_core::{
     DelimSpan, Delimiter, Group, Ident, LexError, LexFault, Literal, MakeFault, Punct, Spacing,

@@ -19,9 +19,9 @@ use crate::program::compared::{Outcome, compare};
 use crate::program::fault::{Fault, Unreadable};
 use crate::program::input::{ReadFault, parts, read_input};
 use crate::program::output::send;
-use crate::session::replay;
 use std::alloc::{AllocError, Global};
 use std::str::from_utf8;
+use syn_replay::replay;
 use tok_core::{TokenStream, lex_marked};
 
 /// Reads one input, prints what `respond` says of it, and returns the exit status of the program. The input is a marked text, or

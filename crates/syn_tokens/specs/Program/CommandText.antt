@@ -9,15 +9,15 @@ use Rattle.tok_lexical.specs.declared.delimiter.Delimiter.{Delimiter}
 use Rattle.tok_lexical.specs.declared.delimiter.Delimiter.TheVariants as delimiters
 use Rattle.tok_lexical.specs.Delimiters.{opening}
 use Rattle.tok_types.specs.Texts.{keywords, punctuations}
-use Rattle.syn_tokens.specs.Commands as commands
-use Rattle.syn_tokens.specs.Commands.{Command, peek, peek2, peek3, parse, optional, empty, enter}
-use Rattle.syn_tokens.specs.Commands.{enter_any, terminated, separated, lookahead, fork, advance}
-use Rattle.syn_tokens.specs.Commands.{discard, close, stream_span, cursor_span, previous_span}
-use Rattle.syn_tokens.specs.Commands.{next_tree, next_group}
-use Rattle.syn_tokens.specs.Kinds as looks
-use Rattle.syn_tokens.specs.Kinds.{Kind, ident, ident_any, lifetime, lifetime_any, literal, punct}
-use Rattle.syn_tokens.specs.Kinds.{underscore, keyword, punctuation, Look, paren, brace, bracket}
-use Rattle.syn_tokens.specs.Kinds.{the_end, invisible_group, group_tree, any_tree}
+use Rattle.syn_replay.specs.Commands as commands
+use Rattle.syn_replay.specs.Commands.{Command, peek, peek2, peek3, parse, optional, empty, enter}
+use Rattle.syn_replay.specs.Commands.{enter_any, terminated, separated, lookahead, fork, advance}
+use Rattle.syn_replay.specs.Commands.{discard, close, stream_span, cursor_span, previous_span}
+use Rattle.syn_replay.specs.Commands.{next_tree, next_group}
+use Rattle.syn_replay.specs.Kinds as looks
+use Rattle.syn_replay.specs.Kinds.{Kind, ident, ident_any, lifetime, lifetime_any, literal, punct}
+use Rattle.syn_replay.specs.Kinds.{underscore, keyword, punctuation, Look, paren, brace, bracket}
+use Rattle.syn_replay.specs.Kinds.{the_end, invisible_group, group_tree, any_tree}
 
 abbrev pub is_empty : {A : Type 0} → List A → Bool
 is_empty [] = true

@@ -4,11 +4,11 @@ use Rattle.tok_core.specs.Clear.{clear}
 use Rattle.tok_core.specs.Erase.{erase}
 use Rattle.tok_core.specs.Filled.{filled}
 use Rattle.tok_core.specs.Forest.{Forest}
-use Rattle.syn_tokens.specs.Agree.{ReportsAgree}
-use Rattle.syn_tokens.specs.Commands.{Command, Verdict, accepted, left_over, Report}
-use Rattle.syn_tokens.specs.ReportText.{ended, report_text}
-use Rattle.syn_tokens.specs.Transparent.{all_transparent}
-use Rattle.syn_tokens.specs.Session.Walk.{walk}
+use Rattle.syn_replay.specs.Agree.{ReportsAgree}
+use Rattle.syn_replay.specs.Commands.{Command, Verdict, accepted, left_over, Report}
+use Rattle.syn_replay.specs.ReportText.{ended, report_text}
+use Rattle.syn_replay.specs.Transparent.{all_transparent}
+use Rattle.syn_replay.specs.Session.Walk.{walk}
 
 pub record Facts : Type 0 where
   pub visible : Bool

@@ -3,7 +3,7 @@ use Rattle.std.specs.Prelude.{ℕ, ◌==◌, Bool, bytes_eq, List, [], ◌∷◌
 use Rattle.std.specs.Prelude.{option_map, codes}
 use Rattle.std.specs.List.{slice_split, flat_map}
 use denote.Ref.{Bor}
-use Rattle.syn_tokens.specs.ReportText.{ended}
+use Rattle.syn_replay.specs.ReportText.{ended}
 
 -- what is between the line feeds
 abbrev pub lines : List ℕ → List (List ℕ)

@@ -1,6 +1,6 @@
 -- What the program's outcomes stand for.
 use Rattle.syn_tokens.specs.Program.Comparison as spec
-use Rattle.syn_tokens.specs.Meanings.{report_of}
+use Rattle.syn_replay.specs.Meanings.{report_of}
 use Rattle.syn_tokens.specs.declared.program.compared.Comparison.{Comparison}
 use Rattle.syn_tokens.specs.declared.program.compared.Facts.{Facts}
 use Rattle.syn_tokens.specs.declared.program.compared.Outcome.{Outcome}

@@ -3,17 +3,17 @@ ghost use Rattle.std.specs.Prelude.{◌≡◌, ◌∷◌, [], IfOk, IfSome, Matc
 ghost use Rattle.std.specs.Option.{ForSome, option_map};
 ghost use Rattle.std.specs.Str.{IsUtf8};
 ghost use Rattle.tok_types.specs.Texts.{keywords, punctuations};
-ghost use Rattle.syn_tokens.specs.Commands as commands;
+ghost use Rattle.syn_replay.specs.Commands as commands;
 ghost use Rattle.syn_tokens.specs.Program.CommandText as spec;
 ghost use Rattle.syn_tokens.specs.Program.Faults.{IsUnreadableLine, OnUnreadable};
 ghost use Rattle.syn_tokens.specs.Program.Input.{lines_left};
-ghost use Rattle.syn_tokens.specs.Meanings.{command_of, kind_of, look_of, separator_of};
+ghost use Rattle.syn_replay.specs.Meanings.{command_of, kind_of, look_of, separator_of};
 ghost use Rattle.syn_tokens.specs.declared.program.fault.Unreadable.TheVariants as unreadable;
 
-use crate::command::{Command, Kind, Look, Separator};
 use crate::program::fault::{Fault, Unreadable};
 use crate::program::input::first_line;
 use std::alloc::{AllocError, Global};
+use syn_replay::{Command, Kind, Look, Separator};
 use tok_core::Delimiter;
 use tok_types::token::{keyword_text, punctuation_text};
 

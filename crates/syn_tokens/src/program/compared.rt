@@ -2,17 +2,13 @@
 ghost use Rattle.std.specs.Prelude.{◌≡◌, Some, IfOk, map};
 ghost use Rattle.syn_tokens.specs.Program.Comparison as spec;
 ghost use Rattle.syn_tokens.specs.Program.Outcomes.{comparison_of};
-ghost use Rattle.syn_tokens.specs.Meanings.{command_of, verdict_of};
-ghost use Rattle.syn_tokens.specs.Transparent as transparent;
+ghost use Rattle.syn_replay.specs.Meanings.{command_of, verdict_of};
+ghost use Rattle.syn_replay.specs.Transparent as transparent;
 
-use crate::agreement::agree;
-use crate::agreement::both::replay_both;
-use crate::agreement::transparent::is_transparent;
-use crate::command::Command;
-use crate::report::{Report, Verdict};
 use std::alloc::{AllocError, Global};
 use std::fmt;
 use std::fmt::{Formatter, Write};
+use syn_replay::{Command, Report, Verdict, agree, is_transparent, replay_both};
 use tok_core::{TokenStream, is_clear, is_filled, same_visible};
 
 // What is said of two texts and the commands. Each fact is of both texts, or of all commands.

@@ -4,7 +4,7 @@ ghost use Rattle.std.specs.List.{slice_split};
 ghost use Rattle.std.specs.Str.{IsUtf8};
 ghost use Rattle.syn_tokens.specs.Program.Failures.{FailsToRead};
 ghost use Rattle.syn_tokens.specs.Program.Input as spec;
-ghost use Rattle.syn_tokens.specs.ReportText.{ended};
+ghost use Rattle.syn_replay.specs.ReportText.{ended};
 
 use crate::program::channel::Source;
 use std::alloc::Global;

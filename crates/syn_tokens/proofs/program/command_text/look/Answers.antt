@@ -2,8 +2,8 @@ use Rattle.std.proofs.Common.{◌≡◌, ap, sym, ◌∙◌}
 use Rattle.std.proofs.lemmas.Bool.{cond-false}
 use Rattle.std.specs.Option.{option_map}
 use Rattle.syn_tokens.specs.Program.CommandText as spec
-use Rattle.syn_tokens.specs.Kinds as looks
-use Rattle.syn_tokens.specs.Meanings.{look_of}
+use Rattle.syn_replay.specs.Kinds as looks
+use Rattle.syn_replay.specs.Meanings.{look_of}
 use Rattle.syn_tokens.proofs.Numbers.{differs}
 use Rattle.syn_tokens.proofs.program.command_text.look.Goals as goal
 

@@ -2,7 +2,7 @@ use Rattle.std.proofs.Common.{◌∙◌, ◌++◌, ap, sym, map}
 use Rattle.std.proofs.lemmas.List.{map-append}
 use Rattle.std.specs.Option.{option_map}
 use Rattle.syn_tokens.specs.Program.CommandText.{all_looks, words}
-use Rattle.syn_tokens.specs.Meanings.{look_of}
+use Rattle.syn_replay.specs.Meanings.{look_of}
 use Rattle.syn_tokens.proofs.Looks.{looks_more}
 use Rattle.syn_tokens.proofs.program.command_text.looks.Goals as goal
 

@@ -3,7 +3,7 @@ use denote.Text.{Utf8}
 use denote.Shadow.{shadow}
 use Rattle.std.specs.Option.{option_map}
 use Rattle.syn_tokens.specs.Program.CommandText.{all_looks, words}
-use Rattle.syn_tokens.specs.Meanings.{look_of}
+use Rattle.syn_replay.specs.Meanings.{look_of}
 use Rattle.syn_tokens.proofs.program.command_text.looks.Given as goal
 
 abbrev pub invariant-loop-word : goal.invariant-loop-word

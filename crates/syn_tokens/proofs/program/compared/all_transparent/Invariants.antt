@@ -1,6 +1,6 @@
 use Rattle.std.proofs.Common.{◌≡◌, drop, map}
-use Rattle.syn_tokens.specs.Meanings.{command_of}
-use Rattle.syn_tokens.specs.Transparent.{all_transparent}
+use Rattle.syn_replay.specs.Meanings.{command_of}
+use Rattle.syn_replay.specs.Transparent.{all_transparent}
 use Rattle.syn_tokens.proofs.program.compared.all_transparent.Given as goal
 
 abbrev pub invariant-loop-command : goal.invariant-loop-command

@@ -1,0 +1,77 @@
+-- No list parser runs out of turns: more than are allowed change nothing.
+use Rattle.std.proofs.Common.{◌≡◌, ap, refl, ℕ, zero, suc, ◌+◌, ◌≤◌, cond, List, [], ◌∷◌, length}
+use Rattle.std.proofs.Common.{Option, Some, None, arith, le_refl}
+use Rattle.tok_leaves.specs.declared.span.Span.{Span}
+use Rattle.tok_core.specs.Forest.{Tree}
+use Rattle.tok_buffer.specs.Ahead.{ahead}
+use Rattle.tok_buffer.specs.Place.{Place, is_at_end}
+use Rattle.tok_buffer.specs.Reads.{read_punctuation}
+use Rattle.tok_buffer.proofs.View.Shortens.{LeavesFewer, fewer-punctuation}
+use Rattle.syn_replay.specs.Kinds.{Kind, read, refusal}
+use Rattle.syn_parse.specs.State.{fresh}
+use Rattle.syn_replay.proofs.Views.KindReads.{fewer-read}
+use Rattle.syn_replay.specs.Commands.{Piece}
+use Rattle.syn_replay.specs.Turns.{Outcome, read_all, refused_at, with_parts, is_later, no_progress}
+use Rattle.syn_replay.specs.Turns.{after, after_value, separator_refusal, pieces_of}
+use Rattle.syn_replay.specs.Turns.{terminated_turns, separated_turns, turns_left}
+use Rattle.syn_replay.specs.Turns.{MoreTurnsChangeNothing}
+
+-- as many turns as there are visible trees ahead, and one more
+abbrev pub IsEnough : ℕ → Place → Type 0
+IsEnough n p = length (ahead p) + 1 ≤ n
+
+after_fewer : (p : Place) (u : Outcome) (a b : List Piece → Place → Outcome)
+    (r : Option (List Tree × Place))
+    → LeavesFewer p r
+    → ((x : List Piece) (q : Place) → length (ahead q) + 1 ≤ length (ahead p) → a x q ≡ b x q)
+    → after u a r ≡ after u b r
+after_fewer p u a b None h e = refl
+after_fewer p u a b (Some r) h e = e (pieces_of r.0) r.1 h
+
+module _ (kind : Kind) (separator : List ℕ) (scope : Span) where
+  more_turns : (n m : ℕ) (a b : Place → Outcome)
+      → ((q : Place) → IsEnough n q → IsEnough m q → a q ≡ b q)
+      → (p q : Place) (x : List Piece) (u : Outcome)
+      → length (ahead q) ≤ n
+      → length (ahead q) ≤ m
+      → after_value kind separator scope p x u a q ≡ after_value kind separator scope p x u b q
+  more_turns n m a b same p q x u h k =
+      after_fewer q u _ _ (read_punctuation separator q) (fewer-punctuation separator q)
+      (λ s r f. ap
+      (λ o. with_parts (x ∷ (s ∷ []))
+      (cond (is_later p r) o (refused_at (no_progress r scope) r)))
+      (same r (omega (arith, h, f)) (omega (arith, k, f))))
+
+  pub enough-terminated : (n m : ℕ) (p : Place) → IsEnough n p → IsEnough m p
+      → terminated_turns kind separator scope n p ≡ terminated_turns kind separator scope m p
+  enough-terminated zero m p h k = absurd (omega (arith, h))
+  enough-terminated (suc n) zero p h k = absurd (omega (arith, k))
+  enough-terminated (suc n) (suc m) p h k =
+      let again = enough-terminated n m in
+      ap (λ o. cond (is_at_end p) (read_all [] p) o)
+      (after_fewer p (refused_at (refusal kind (fresh p scope)) p) _ _ (read kind p)
+      (fewer-read kind p)
+      (λ x q f.
+      ap (λ o. cond (is_at_end q) (read_all (x ∷ []) q) o)
+      (more_turns n m (terminated_turns kind separator scope n)
+      (terminated_turns kind separator scope m) again p q x
+      (refused_at (separator_refusal kind separator scope q) q) (omega (arith, h, f))
+      (omega (arith, k, f)))))
+
+  pub enough-separated : (n m : ℕ) (p : Place) → IsEnough n p → IsEnough m p
+      → separated_turns kind separator scope n p ≡ separated_turns kind separator scope m p
+  enough-separated zero m p h k = absurd (omega (arith, h))
+  enough-separated (suc n) zero p h k = absurd (omega (arith, k))
+  enough-separated (suc n) (suc m) p h k =
+      let again = enough-separated n m in
+      after_fewer p (refused_at (refusal kind (fresh p scope)) p) _ _ (read kind p)
+      (fewer-read kind p)
+      (λ x q f. more_turns n m (separated_turns kind separator scope n)
+      (separated_turns kind separator scope m) again p q x (read_all (x ∷ []) q)
+      (omega (arith, h, f)) (omega (arith, k, f)))
+
+pub more_turns_change_nothing : MoreTurnsChangeNothing
+more_turns_change_nothing kind separator scope n p h = (
+  enough-terminated kind separator scope n (turns_left p) p h (le_refl (turns_left p)),
+  enough-separated kind separator scope n (turns_left p) p h (le_refl (turns_left p)),
+)

@@ -1,0 +1,155 @@
+-- List parsers at places with equal views.
+use Rattle.std.proofs.Common.{◌≡◌, ◌∙◌, sym, ap, subst, refl, ℕ, zero, suc, ◌+◌, ◌≤◌, ◌==◌, ◌&&◌}
+use Rattle.std.proofs.Common.{nat_lt, Bool, true, false, cond, List, [], ◌∷◌, Option, Some, None}
+use Rattle.std.proofs.Common.{arith, le_refl}
+use Rattle.std.proofs.lemmas.Bool.Decides.{nat_tests}
+use Rattle.tok_leaves.specs.declared.span.Span.{Span}
+use Rattle.tok_core.specs.Forest.{Tree}
+use Rattle.tok_buffer.specs.Buffer.{Laid}
+use Rattle.tok_buffer.specs.Place.{Place, empty_place, at, is_at_end}
+use Rattle.tok_buffer.specs.Reads.{read_punctuation}
+use Rattle.tok_buffer.proofs.View.Alike.{Alike, ReadsAlike, alike-end, alike-punctuation}
+use Rattle.tok_buffer.proofs.View.Lengths.{length_in_view, view-length}
+use Rattle.tok_buffer.proofs.View.Moves.{LeadsTo, IsBeyond, IsEmpty, IsNone, leads-nowhere}
+use Rattle.tok_buffer.proofs.View.Moves.{leads-later, leads-punctuation, weaker-beyond}
+use Rattle.syn_replay.specs.Kinds.{Kind, read, refusal}
+use Rattle.syn_parse.specs.State.{fresh}
+use Rattle.syn_replay.proofs.Views.KindReads.{leads-read}
+use Rattle.syn_replay.proofs.Views.KindsAlike.{alike-kind, alike-refusal}
+use Rattle.syn_replay.specs.Commands.{Piece}
+use Rattle.syn_replay.specs.Turns.{Outcome, read_all, refused_at, with_parts, is_later, no_progress}
+use Rattle.syn_replay.specs.Turns.{after, after_value, next_turn, separator_refusal, pieces_of}
+use Rattle.syn_replay.specs.Turns.{terminated_turns, separated_turns, turns_left}
+
+-- each read leads to a later place of the same scope
+abbrev pub IsLaterThan : Place → Place → Type 0
+IsLaterThan empty_place q = ⊥
+IsLaterThan (at n s c l ls) q = IsBeyond n s (c + 1) q
+
+later-read : (k : Kind) (p : Place) → LeadsTo (IsLaterThan p) (read k p)
+later-read k empty_place = leads-read IsEmpty IsNone leads-nowhere k empty_place tt
+later-read k (at n s c l ls) =
+    leads-read (IsBeyond n s c) (IsBeyond n s (c + 1)) (leads-later n s c) k (at n s c l ls)
+    (refl, refl, le_refl c)
+
+later-separator : (s : List ℕ) (p v : Place) → IsLaterThan p v
+    → LeadsTo (IsLaterThan p) (read_punctuation s v)
+later-separator x empty_place v h = absurd h
+later-separator x (at n s c l ls) v h =
+    leads-punctuation (IsBeyond n s c) (IsBeyond n s (c + 1)) (leads-later n s c) x v
+    (weaker-beyond n s c v h)
+
+later_test : (n m s t c d : ℕ) → m ≡ n → t ≡ s → c + 1 ≤ d
+    → ((n == m && s == t) && nat_lt c d) ≡ true
+later_test n m s t c d e h k = grind (arith, nat_tests)
+
+is_later_there : (p q : Place) → IsLaterThan p q → is_later p q ≡ true
+is_later_there empty_place q h = absurd h
+is_later_there (at n s c l ls) empty_place h = absurd h
+is_later_there (at n s c l ls) (at m t d k ks) h = later_test n m s t c d h.0 h.1 h.2
+
+module _ (f g : Laid) where
+  abbrev pub OutcomesAlike : Outcome → Outcome → Type 0
+  OutcomesAlike (read_all a p) (read_all b q) = (a ≡ b) × Alike f g p q
+  OutcomesAlike (refused_at r p) (refused_at s q) = (r.words ≡ s.words) × Alike f g p q
+  OutcomesAlike x y = ⊥
+
+  either-outcome : (a b : Bool) (x y z w : Outcome) → a ≡ b → OutcomesAlike x y → OutcomesAlike z w
+      → OutcomesAlike (cond a x z) (cond b y w)
+  either-outcome true true x y z w e h k = h
+  either-outcome true false x y z w e h k = absurd (cc)
+  either-outcome false true x y z w e h k = absurd (cc)
+  either-outcome false false x y z w e h k = k
+
+  with-parts : (a b : List (List Piece)) (x y : Outcome) → a ≡ b → OutcomesAlike x y
+      → OutcomesAlike (with_parts a x) (with_parts b y)
+  with-parts a b (read_all m p) (read_all n q) e h = (cc h.0, h.1)
+  with-parts a b (read_all m p) (refused_at r q) e h = absurd h
+  with-parts a b (refused_at r p) (read_all n q) e h = absurd h
+  with-parts a b (refused_at r p) (refused_at s q) e h = h
+
+  module _ (kind : Kind) (separator : List ℕ) (left right : Span) where
+    next-turn : (p q v w : Place) (a b : Place → Outcome) → IsLaterThan p v → IsLaterThan q w
+        → OutcomesAlike (a v) (b w)
+        → OutcomesAlike (next_turn kind separator left p v a) (next_turn kind separator right q w b)
+    next-turn p q v w a b h k i =
+        go (is_later p v) (is_later q w) (is_later_there p v h) (is_later_there q w k) where
+          go : (x y : Bool) → x ≡ true → y ≡ true
+              → OutcomesAlike (cond x (a v) (refused_at (no_progress v left) v))
+              (cond y (b w) (refused_at (no_progress w right) w))
+          go true true e j = i
+          go true false e j = absurd (cc)
+          go false y e j = absurd (cc)
+
+    after-read : (p q : Place) (u v : Outcome) (a b : List Piece → Place → Outcome)
+        (r s : Option (List Tree × Place))
+        → OutcomesAlike u v
+        →
+        ((x : List Piece) (i j : Place) → Alike f g i j → IsLaterThan p i → IsLaterThan q j
+        → OutcomesAlike (a x i) (b x j))
+        → ReadsAlike f g r s
+        → LeadsTo (IsLaterThan p) r
+        → LeadsTo (IsLaterThan q) s
+        → OutcomesAlike (after u a r) (after v b s)
+    after-read p q u v a b None None e m h i j = e
+    after-read p q u v a b None (Some s) e m h i j = absurd h
+    after-read p q u v a b (Some r) None e m h i j = absurd h
+    after-read p q u v a b (Some r) (Some s) e m h i j =
+        subst (λ x. OutcomesAlike (a (pieces_of r.0) r.1) (b x s.1)) (ap pieces_of h.0)
+        (m (pieces_of r.0) r.1 s.1 h.1 i j)
+
+    after-value : (p q : Place) (x : List Piece) (u v : Outcome) (a b : Place → Outcome)
+        (i j : Place)
+        → OutcomesAlike u v
+        → ((y z : Place) → Alike f g y z → OutcomesAlike (a y) (b z))
+        → Alike f g i j
+        → IsLaterThan p i
+        → IsLaterThan q j
+        → OutcomesAlike (after_value kind separator left p x u a i)
+        (after_value kind separator right q x v b j)
+    after-value p q x u v a b i j e again h k m =
+        after-read p q u v _ _ (read_punctuation separator i) (read_punctuation separator j) e
+        (λ s y z l n o. with-parts (x ∷ (s ∷ [])) (x ∷ (s ∷ [])) _ _ refl
+        (next-turn p q y z a b n o (again y z l)))
+        (alike-punctuation f g separator i j h) (later-separator separator p i k)
+        (later-separator separator q j m)
+
+    pub alike-terminated : (n : ℕ) (p q : Place) → Alike f g p q
+        → OutcomesAlike (terminated_turns kind separator left n p)
+        (terminated_turns kind separator right n q)
+    alike-terminated zero p q h = (refl, h)
+    alike-terminated (suc n) p q h =
+        let again = alike-terminated n in
+        either-outcome (is_at_end p) (is_at_end q) (read_all [] p) (read_all [] q) _ _
+        (alike-end f g p q h) (refl, h)
+        (after-read p q (refused_at (refusal kind (fresh p left)) p)
+        (refused_at (refusal kind (fresh q right)) q) _ _ (read kind p) (read kind q)
+        (alike-refusal f g kind (fresh p left) (fresh q right) h, h)
+        (λ x i j k l m.
+        either-outcome (is_at_end i) (is_at_end j) (read_all (x ∷ []) i) (read_all (x ∷ []) j) _ _
+        (alike-end f g i j k) (refl, k)
+        (after-value p q x (refused_at (separator_refusal kind separator left i) i)
+        (refused_at (separator_refusal kind separator right j) j)
+        (terminated_turns kind separator left n) (terminated_turns kind separator right n) i
+        j (refl, k) again k l m))
+        (alike-kind f g kind p q h) (later-read kind p) (later-read kind q))
+
+    pub alike-separated : (n : ℕ) (p q : Place) → Alike f g p q
+        → OutcomesAlike (separated_turns kind separator left n p)
+        (separated_turns kind separator right n q)
+    alike-separated zero p q h = (refl, h)
+    alike-separated (suc n) p q h =
+        let again = alike-separated n in
+        after-read p q (refused_at (refusal kind (fresh p left)) p)
+        (refused_at (refusal kind (fresh q right)) q) _ _ (read kind p) (read kind q)
+        (alike-refusal f g kind (fresh p left) (fresh q right) h, h)
+        (λ x i j k l m. after-value p q x (read_all (x ∷ []) i) (read_all (x ∷ []) j)
+        (separated_turns kind separator left n) (separated_turns kind separator right n) i j
+        (refl, k) again k l m)
+        (alike-kind f g kind p q h) (later-read kind p) (later-read kind q)
+
+  -- as many turns are allowed at both places
+  pub alike-turns_left : (p q : Place) → Alike f g p q → turns_left p ≡ turns_left q
+  alike-turns_left p q h =
+      ap (λ k. k + 1)
+      (view-length f.forest p ∙ ap length_in_view h.same ∙ sym (view-length g.forest q))

@@ -1,0 +1,93 @@
+-- Invisible groups do not matter to walks: the proof.
+use Rattle.std.proofs.Common.{◌≡◌, refl, Bool, true, false, ◌&&◌, List, [], ◌∷◌, Option, Some, None}
+use Rattle.tok_core.specs.Erase.{erase}
+use Rattle.tok_core.specs.Forest.{Forest}
+use Rattle.tok_buffer.specs.Buffer.{Laid}
+use Rattle.tok_buffer.specs.Ahead.{Leftover}
+use Rattle.tok_buffer.proofs.View.Alike.{alike-start}
+use Rattle.syn_parse.specs.RefusalWords.{leftover_refusal}
+use Rattle.syn_replay.specs.Agree.{LinesAgree, VerdictsAgree}
+use Rattle.syn_replay.specs.Commands.{Command, accepted, left_over}
+use Rattle.syn_replay.specs.Transparent.{is_transparent, all_transparent, DifferInInvisibleGroups}
+use Rattle.syn_replay.specs.Transparent.{InvisibleGroupsDoNotMatter}
+use Rattle.syn_replay.specs.Session.State.{Stream, State, first_state, stream_at, closed_inside}
+use Rattle.syn_replay.specs.Session.State.{handed_note}
+use Rattle.syn_replay.specs.Session.Step.{step}
+use Rattle.syn_replay.specs.Session.Walk.{lines_from, last_state, stream_verdict, verdict}
+use Rattle.syn_replay.proofs.Views.Steps.{alike-step}
+use Rattle.syn_replay.proofs.Views.Streams.{BothAlike, StatesAlike, span_of, alike-handed}
+use Rattle.syn_replay.proofs.Views.Streams.{alike-stream_at, alike-closed_inside}
+
+both_true : (a b : Bool) → (a && b) ≡ true → (a ≡ true) × (b ≡ true)
+both_true true b e = (refl, e)
+both_true false b e = absurd (cc)
+
+module _ (f g : Laid) (visible : erase f.forest ≡ erase g.forest) where
+  lines-agree : (cs : List Command) → all_transparent cs ≡ true → (st su : State)
+      → StatesAlike f g st su → LinesAgree (lines_from st cs) (lines_from su cs)
+  lines-agree [] e st su h = tt
+  lines-agree (c ∷ cs) e st su h =
+      let parts = both_true (is_transparent c) (all_transparent cs) e in
+      let next = alike-step f g visible st su h c parts.0 in
+      (next.answer, lines-agree cs parts.1 (step c st).state (step c su).state next.state)
+
+  alike-last : (cs : List Command) → all_transparent cs ≡ true → (st su : State)
+      → StatesAlike f g st su → StatesAlike f g (last_state st cs) (last_state su cs)
+  alike-last [] e st su h = h
+  alike-last (c ∷ cs) e st su h =
+      let parts = both_true (is_transparent c) (all_transparent cs) e in
+      alike-last cs parts.1 (step c st).state (step c su).state
+      (alike-step f g visible st su h c parts.0).state
+
+  left-agree : (a b : Option Leftover) → span_of a ≡ span_of b
+      → VerdictsAgree (elim a [ None ↦ accepted | Some l ↦ left_over (leftover_refusal l) ])
+      (elim b [ None ↦ accepted | Some l ↦ left_over (leftover_refusal l) ])
+  left-agree None None e = tt
+  left-agree None (Some l) e = absurd (cc)
+  left-agree (Some l) None e = absurd (cc)
+  left-agree (Some l) (Some k) e = cc
+
+  stream-agrees : (a b : Option Stream) → BothAlike f g a b
+      → VerdictsAgree (stream_verdict a) (stream_verdict b)
+  stream-agrees None None h = tt
+  stream-agrees None (Some t) h = absurd h
+  stream-agrees (Some s) None h = absurd h
+  stream-agrees (Some s) (Some t) h =
+      left-agree (handed_note s) (handed_note t) (alike-handed f g s t h)
+
+  verdicts-agree : (st su : State) → StatesAlike f g st su → VerdictsAgree (verdict st) (verdict su)
+  verdicts-agree st su h =
+      stream-agrees (stream_at (closed_inside 0 st) 0) (stream_at (closed_inside 0 su) 0)
+      (alike-stream_at f g (closed_inside 0 st) (closed_inside 0 su) 0
+      (alike-closed_inside f g 0 st su h))
+
+-- a forest under the buffer number of a walk
+abbrev laid : Forest → Laid
+laid f = record { number = 0; forest = f }
+
+alike-first : (f g : Forest) → DifferInInvisibleGroups f g
+    → StatesAlike (laid f) (laid g) (first_state f) (first_state g)
+alike-first f g d = (
+  record {
+    place = alike-start (laid f) (laid g) d.left_filled d.right_filled d.visible;
+    scope_span = refl;
+    kind = refl;
+    is_open = refl;
+    note = refl;
+  },
+  tt,
+)
+
+-- the walks of two forests that differ only in invisible groups agree
+pub invisible_groups_do_not_matter : InvisibleGroupsDoNotMatter
+invisible_groups_do_not_matter f g cs d e =
+    let b = laid f in
+    let c = laid g in
+    let first = alike-first f g d in
+    record {
+      lines = lines-agree b c d.visible cs e (first_state f) (first_state g) first;
+      verdicts =
+          verdicts-agree b c d.visible (last_state (first_state f) cs)
+          (last_state (first_state g) cs)
+          (alike-last b c d.visible cs e (first_state f) (first_state g) first);
+    }

@@ -1,0 +1,18 @@
+use Rattle.std.proofs.Common.{◌≡◌, ◌-◌, length}
+use Rattle.syn_replay.specs.Session.Links.{links_of}
+use Rattle.syn_replay.specs.Session.State.{closed_inside}
+use Rattle.syn_replay.specs.Session.Tracks.{state_of_list}
+use Rattle.syn_replay.proofs.Closing.{LeftToClose, left_to}
+use Rattle.syn_replay.proofs.session.streams.Streams.+close_contents.Given as goal
+
+abbrev pub decreases-close_contents : goal.decreases-close_contents
+decreases-close_contents l = length l.self.now.list.items - l.k
+
+abbrev pub invariant-loop-next : goal.invariant-loop-next
+invariant-loop-next l = record {
+  links : links_of l.self.list.items ≡ links_of l.fn.self.list.items;
+  left : LeftToClose l.k l.self.list.items l.next (closed_inside l.k (state_of_list l.fn.self.list.items));
+}
+
+abbrev pub decreases-loop-next : goal.decreases-loop-next
+decreases-loop-next l = left_to (length l.self.list.items) l.next

@@ -1,0 +1,23 @@
+-- Reports that agree.
+use Rattle.std.specs.Prelude.{◌≡◌, List, ⊤}
+use Rattle.std.specs.List.{AllZip}
+use Rattle.syn_replay.specs.Commands.{Answer, refused, Line, Verdict, accepted, left_over, Report}
+
+-- refusals agree where their words are equal, other answers where they are equal
+abbrev pub AnswersAgree : Answer → Answer → Type 0
+AnswersAgree (refused r) (refused q) = r.words ≡ q.words
+AnswersAgree a b = a ≡ b
+
+-- as many lines, and line by line answers that agree, whatever the positions
+abbrev pub LinesAgree : List Line → List Line → Type 0
+LinesAgree left right = AllZip (λ l k. AnswersAgree l.answer k.answer) left right
+
+-- verdicts that both accept, or both refuse at equal spans
+abbrev pub VerdictsAgree : Verdict → Verdict → Type 0
+VerdictsAgree accepted accepted = ⊤
+VerdictsAgree (left_over r) (left_over q) = r.span ≡ q.span
+VerdictsAgree v w = ⊥
+
+pub record ReportsAgree (left right : Report) : Type 0 where
+  pub lines : LinesAgree left.lines right.lines
+  pub verdicts : VerdictsAgree left.verdict right.verdict

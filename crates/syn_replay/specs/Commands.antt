@@ -1,0 +1,66 @@
+-- Commands, and what a report holds.
+use Rattle.std.specs.Prelude.{ℕ, Bool, List}
+use Rattle.tok_lexical.specs.declared.delimiter.Delimiter.{Delimiter}
+use Rattle.tok_leaves.specs.declared.span.Span.{Span}
+use Rattle.tok_core.specs.Forest.{Forest}
+use Rattle.syn_replay.specs.Kinds.{Kind, Look}
+use Rattle.tok_buffer.specs.Refusals.{Refusal}
+
+pub data Command : Type 0 where
+  peek : ℕ → Look → Command
+  peek2 : ℕ → Look → Command
+  peek3 : ℕ → Look → Command
+  parse : ℕ → Kind → Command
+  optional : ℕ → Kind → Command
+  empty : ℕ → Command
+  enter : ℕ → Delimiter → Command
+  enter_any : ℕ → Command
+  terminated : ℕ → Kind → (separator : List ℕ) → Command
+  separated : ℕ → Kind → (separator : List ℕ) → Command
+  lookahead : ℕ → List Look → Command
+  fork : ℕ → Command
+  advance : ℕ → (fork : ℕ) → Command
+  discard : ℕ → Command
+  close : ℕ → Command
+  stream_span : ℕ → Command
+  cursor_span : ℕ → Command
+  previous_span : ℕ → Command
+  next_tree : ℕ → Command
+  rest : ℕ → Command
+  next_group : ℕ → Command
+
+-- one leaf read: its text and span
+pub record Piece : Type 0 where
+  pub text : List ℕ
+  pub span : Span
+
+pub data Answer : Type 0 where
+  truth : Bool → Answer
+  pieces : List Piece → Answer
+  absent : Answer
+  entered : ℕ → Delimiter → Span → Answer
+  forked : ℕ → Answer
+  listed : List (List Piece) → Answer
+  found : ℕ → Answer
+  done : Answer
+  shown : Span → Answer
+  trees : Forest → Answer
+  refused : Refusal → Answer
+  unfit : ℕ → Answer
+
+pub data Position : Type 0 where
+  stands_at : ℕ → Position
+  at_empty : Position
+  missing : Position
+
+pub record Line : Type 0 where
+  pub answer : Answer
+  pub position : Position
+
+pub data Verdict : Type 0 where
+  accepted : Verdict
+  left_over : Refusal → Verdict
+
+pub record Report : Type 0 where
+  pub lines : List Line
+  pub verdict : Verdict

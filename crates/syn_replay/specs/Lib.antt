@@ -1,0 +1,21 @@
+pub mod Agree
+pub mod Commands
+pub mod Kinds
+pub mod ReportText
+pub mod Meanings
+pub mod Session
+pub mod Transparent
+pub mod Turns
+pub use Rattle.tok_leaves.specs.Leaves
+pub use Rattle.tok_core.specs.Forest
+pub use Rattle.tok_core.specs.Seen as TreeSeen
+pub use Rattle.tok_core.specs.Text
+pub use Rattle.tok_buffer.specs.Cursors
+pub use Rattle.tok_buffer.specs.Order
+pub use Rattle.tok_buffer.specs.Reads
+pub use Rattle.tok_types.specs.Texts
+pub use Rattle.syn_parse.specs.Groups
+pub use Rattle.syn_parse.specs.Pauses
+pub use Rattle.syn_parse.specs.RefusalWords
+pub use Rattle.syn_punctuated.specs.Lists
+pub use Rattle.syn_punctuated.specs.Paired

@@ -1,0 +1,130 @@
+-- What commands, answers and reports of the program stand for.
+use Rattle.std.specs.Prelude.{◌≡◌, ℕ, List, map, codes, string_bytes}
+use Rattle.std.specs.Global.{Vec}
+use Rattle.tok_leaves.specs.Spans.{whole_span}
+use Rattle.tok_buffer.specs.Messages.{first_message_span, first_text}
+use Rattle.tok_buffer.specs.Messages as messages
+use Rattle.tok_buffer.specs.Refusals.{Refusal}
+use Rattle.tok_buffer.specs.declared.error.Message.{Message}
+use Rattle.syn_replay.specs.Commands as spec
+use Rattle.syn_replay.specs.Kinds as kinds
+use Rattle.syn_replay.specs.declared.command.Command as program
+use Rattle.syn_replay.specs.declared.command.Command.TheVariants as command
+use Rattle.syn_replay.specs.declared.command.Kind.{Kind}
+use Rattle.syn_replay.specs.declared.command.Kind.TheVariants as kind
+use Rattle.syn_replay.specs.declared.command.Look.{Look}
+use Rattle.syn_replay.specs.declared.command.Look.TheVariants as look
+use Rattle.syn_replay.specs.declared.command.Separator.{Separator}
+use Rattle.syn_replay.specs.declared.command.Separator.TheVariants as separator
+use Rattle.syn_replay.specs.declared.report.Piece as pieces
+use Rattle.syn_replay.specs.declared.report.Answer as answers
+use Rattle.syn_replay.specs.declared.report.Answer.TheVariants as answer
+use Rattle.syn_replay.specs.declared.report.Position as positions
+use Rattle.syn_replay.specs.declared.report.Position.TheVariants as position
+use Rattle.syn_replay.specs.declared.report.Line as lines
+use Rattle.syn_replay.specs.declared.report.Verdict as verdicts
+use Rattle.syn_replay.specs.declared.report.Verdict.TheVariants as verdict
+use Rattle.syn_replay.specs.declared.report.Report as reports
+
+-- what an error shows
+abbrev pub refusal_of : List Message → Refusal
+refusal_of e = record { span = first_message_span e; words = first_text e }
+
+-- an error is one message, that which it shows
+abbrev pub IsOneMessage : List Message → Type 0
+IsOneMessage e = e ≡ messages.refused (refusal_of e)
+
+abbrev pub kind_of : Kind → kinds.Kind
+kind_of kind.Ident = kinds.ident
+kind_of kind.IdentAny = kinds.ident_any
+kind_of kind.Lifetime = kinds.lifetime
+kind_of kind.LifetimeAny = kinds.lifetime_any
+kind_of kind.Literal = kinds.literal
+kind_of kind.Punct = kinds.punct
+kind_of kind.Underscore = kinds.underscore
+kind_of (kind.Keyword k) = kinds.keyword k
+kind_of (kind.Punctuation k) = kinds.punctuation k
+
+abbrev pub look_of : Look → kinds.Look
+look_of (look.Kind k) = kinds.kind (kind_of k)
+look_of look.Paren = kinds.paren
+look_of look.Brace = kinds.brace
+look_of look.Bracket = kinds.bracket
+look_of look.End = kinds.the_end
+look_of look.Group = kinds.invisible_group
+look_of look.GroupTree = kinds.group_tree
+look_of look.Tree = kinds.any_tree
+
+-- the text of a separator
+abbrev pub separator_of : Separator → List ℕ
+separator_of separator.Comma = codes ","
+separator_of separator.Semi = codes ";"
+separator_of separator.Plus = codes "+"
+separator_of separator.PathSep = codes "::"
+
+abbrev pub command_of : program.Command → spec.Command
+command_of (command.Peek n l) = spec.peek n (look_of l)
+command_of (command.Peek2 n l) = spec.peek2 n (look_of l)
+command_of (command.Peek3 n l) = spec.peek3 n (look_of l)
+command_of (command.Parse n k) = spec.parse n (kind_of k)
+command_of (command.Optional n k) = spec.optional n (kind_of k)
+command_of (command.Empty n) = spec.empty n
+command_of (command.Enter n d) = spec.enter n d
+command_of (command.EnterAny n) = spec.enter_any n
+command_of (command.Terminated n k s) = spec.terminated n (kind_of k) (separator_of s)
+command_of (command.Separated n k s) = spec.separated n (kind_of k) (separator_of s)
+command_of (command.Lookahead n ls) = spec.lookahead n (map look_of ls.items)
+command_of (command.Fork n) = spec.fork n
+command_of (command.Advance n f) = spec.advance n f
+command_of (command.Discard n) = spec.discard n
+command_of (command.Close n) = spec.close n
+command_of (command.StreamSpan n) = spec.stream_span n
+command_of (command.CursorSpan n) = spec.cursor_span n
+command_of (command.PreviousSpan n) = spec.previous_span n
+command_of (command.Tree n) = spec.next_tree n
+command_of (command.Rest n) = spec.rest n
+command_of (command.GroupTree n) = spec.next_group n
+
+abbrev pub piece_of : pieces.Piece → spec.Piece
+piece_of p = record { text = string_bytes p.text; span = p.span }
+
+abbrev pub pieces_in : Vec pieces.Piece → List spec.Piece
+pieces_in ps = map piece_of ps.items
+
+abbrev pub answer_of : answers.Answer → spec.Answer
+answer_of (answer.Truth b) = spec.truth b
+answer_of (answer.Read ps) = spec.pieces (map piece_of ps.items)
+answer_of answer.Absent = spec.absent
+answer_of (answer.Entered n d s) = spec.entered n d (whole_span s)
+answer_of (answer.Forked n) = spec.forked n
+answer_of (answer.List parts) = spec.listed (map pieces_in parts.items)
+answer_of (answer.Found n) = spec.found n
+answer_of answer.Done = spec.done
+answer_of (answer.At s) = spec.shown s
+answer_of (answer.Trees f) = spec.trees f
+answer_of (answer.Refused e) = spec.refused (refusal_of e)
+answer_of (answer.Unfit n) = spec.unfit n
+
+-- a refusal's error is one message
+abbrev pub IsPlain : answers.Answer → Type 0
+IsPlain (answer.Refused e) = IsOneMessage e
+IsPlain a = Unit {0}
+
+-- the program's answer is this one
+abbrev pub IsAnswer : answers.Answer → spec.Answer → Type 0
+IsAnswer a x = (answer_of a ≡ x) × IsPlain a
+
+abbrev pub position_of : positions.Position → spec.Position
+position_of (position.At n) = spec.stands_at n
+position_of position.Empty = spec.at_empty
+position_of position.Missing = spec.missing
+
+abbrev pub line_of : lines.Line → spec.Line
+line_of l = record { answer = answer_of l.answer; position = position_of l.position }
+
+abbrev pub verdict_of : verdicts.Verdict → spec.Verdict
+verdict_of verdict.Accepted = spec.accepted
+verdict_of (verdict.Refused e) = spec.left_over (refusal_of e)
+
+abbrev pub report_of : reports.Report → spec.Report
+report_of r = record { lines = map line_of r.lines.items; verdict = verdict_of r.verdict }

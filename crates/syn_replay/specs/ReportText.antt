@@ -1,0 +1,81 @@
+-- The printed text of a report.
+use Rattle.std.specs.Prelude.{ℕ, true, false, cond, List, [], ◌∷◌, ◌++◌, Some, None, codes}
+use Rattle.std.specs.Fmt.{decimal}
+use Rattle.std.specs.List.{flat_map}
+use Rattle.tok_leaves.specs.declared.span.Span.{Span}
+use Rattle.tok_core.specs.Filled.{has_trees}
+use Rattle.tok_core.specs.Forest.{Forest}
+use Rattle.tok_leaves.specs.Spans.{range}
+use Rattle.tok_lexical.specs.Delimiters.{opening}
+use Rattle.tok_core.specs.Text.{text}
+use Rattle.tok_buffer.specs.Refusals.{Refusal}
+use Rattle.syn_replay.specs.Commands.{Piece, Answer, truth, pieces, absent, entered, forked, listed}
+use Rattle.syn_replay.specs.Commands.{found, done, shown, trees, refused, unfit, Position}
+use Rattle.syn_replay.specs.Commands.{stands_at, at_empty, missing, Line, Verdict, accepted}
+use Rattle.syn_replay.specs.Commands.{left_over, Report}
+
+-- a line, with its line feed
+abbrev pub ended : List ℕ → List ℕ
+ended line = line ++ 10 ∷ []
+
+-- a part after others: a space parts it from them, and an empty part adds none
+abbrev pub spaced : List ℕ → List ℕ
+spaced [] = []
+spaced (b ∷ bs) = codes " " ++ b ∷ bs
+
+-- the range of bytes, or `call` for the call site; the number of the source isn't printed
+abbrev pub span_text : Span → List ℕ
+span_text span =
+    elim (range span) [ None ↦ codes "call" | Some r ↦ decimal r.1 ++ (codes ".." ++ decimal r.2) ]
+
+-- a refusal's span and words, which are never empty
+abbrev pub refusal_text : Refusal → List ℕ
+refusal_text r = codes "refused " ++ (span_text r.span ++ (codes " " ++ r.words))
+
+-- a piece after others
+abbrev pub piece_text : Piece → List ℕ
+piece_text p = spaced p.text ++ (codes " " ++ span_text p.span)
+
+-- a value or a separator after others, in brackets
+abbrev pub part_text : List Piece → List ℕ
+part_text [] = codes " []"
+part_text (p ∷ ps) =
+    codes " ["
+    ++ (p.text ++ (codes " " ++ (span_text p.span ++ (flat_map piece_text ps ++ codes "]"))))
+
+-- trees after others: a space parts them from these, and no trees add none
+abbrev pub trees_text : Forest → List ℕ
+trees_text f = cond (has_trees f) (codes " " ++ text f) []
+
+abbrev pub answer_text : Answer → List ℕ
+answer_text (truth true) = codes "true"
+answer_text (truth false) = codes "false"
+answer_text (pieces ps) = codes "read" ++ flat_map piece_text ps
+answer_text (entered n delimiter span) =
+    codes "entered "
+    ++ (decimal n ++ (codes " " ++ (opening delimiter ++ (codes " " ++ span_text span))))
+answer_text absent = codes "none"
+answer_text (forked n) = codes "forked " ++ decimal n
+answer_text (listed parts) = codes "list" ++ flat_map part_text parts
+answer_text (found n) = codes "found " ++ decimal n
+answer_text (trees f) = codes "trees" ++ trees_text f
+answer_text done = codes "done"
+answer_text (shown span) = codes "span " ++ span_text span
+answer_text (refused r) = refusal_text r
+answer_text (unfit n) = codes "refused C" ++ decimal n
+
+abbrev pub position_text : Position → List ℕ
+position_text (stands_at n) = codes "@" ++ decimal n
+position_text at_empty = codes "@empty"
+position_text missing = codes "@-"
+
+-- an answer and the position after it
+abbrev pub line_text : Line → List ℕ
+line_text l = answer_text l.answer ++ (codes " " ++ position_text l.position)
+
+abbrev pub verdict_text : Verdict → List ℕ
+verdict_text accepted = codes "accepted"
+verdict_text (left_over r) = refusal_text r
+
+abbrev pub report_text : Report → List ℕ
+report_text r = flat_map (λ l. ended (line_text l)) r.lines ++ ended (verdict_text r.verdict)

@@ -1,0 +1,70 @@
+-- A walk accepts where nothing is left over in the streams that count.
+use Rattle.std.specs.Prelude.{◌≡◌, ℕ, Bool, true, false, List, ◌∷◌, Some, None}
+use Rattle.tok_core.specs.Forest.{Forest}
+use Rattle.tok_buffer.specs.Ahead.{leftover}
+use Rattle.tok_buffer.specs.Place.{Place}
+use Rattle.syn_replay.specs.Commands as commands
+use Rattle.syn_replay.specs.Commands.{Command, done, Verdict, accepted}
+use Rattle.syn_replay.specs.Session.State.{Stream, content_of, State, first_state, stream_at}
+use Rattle.syn_replay.specs.Session.State.{closed_inside}
+use Rattle.syn_replay.specs.Session.Step.{is_spent, step}
+use Rattle.syn_replay.specs.Session.Walk.{last_state}
+
+-- a content of this parent was open, at this place, and is spent afterwards
+pub record IsShut (before after : State) (content parent : ℕ) (p : Place) : Type 0 where
+  pub stream : Stream
+  pub here : stream_at before content ≡ Some stream
+  pub was_open : stream.is_open ≡ true
+  pub inside : stream.kind ≡ content_of parent
+  pub at_place : stream.place ≡ p
+  pub is_shut : is_spent after content ≡ true
+
+abbrev pub is_discard : Command → Bool
+is_discard (commands.discard n) = true
+is_discard c = false
+
+-- of the walk over this forest by these commands
+module _ (f : Forest) (cs : List Command) where
+  -- it comes to these streams, with these commands still to run
+  pub data Comes : State → List Command → Type 0 where
+    begins : Comes (first_state f) cs
+    goes_on : (st : State) (c : Command) (rest : List Command) →
+        Comes st (c ∷ rest) → Comes (step c st).state rest
+
+  -- the streams after all commands
+  abbrev pub all_run : State
+  all_run = last_state (first_state f) cs
+
+  -- a content is closed into its parent, at this place: by a command other than a discard, or at
+  -- the end
+  pub data Closes (content parent : ℕ) (p : Place) : Type 0 where
+    by_command : (st : State) (c : Command) (rest : List Command) →
+        Comes st (c ∷ rest) → is_discard c ≡ false →
+        IsShut st (step c st).state content parent p → Closes content parent p
+    at_end : IsShut all_run (closed_inside 0 all_run) content parent p → Closes content parent p
+
+  -- a stream advances to a fork
+  pub record Advances (stream fork : ℕ) : Type 0 where
+    pub before : State
+    pub rest : List Command
+    pub comes : Comes before (commands.advance stream fork ∷ rest)
+    pub advances : (step (commands.advance stream fork) before).answer ≡ done
+
+  -- stream 0 counts, a content that is closed into a stream that counts, and a fork to which one
+  -- advances
+  pub data Counts : ℕ → Type 0 where
+    whole : Counts 0
+    content : (k parent : ℕ) (p : Place) → Closes k parent p → Counts parent → Counts k
+    fork : (stream k : ℕ) → Advances stream k → Counts stream → Counts k
+
+  -- nothing is left at the end of stream 0, nor in a content that is closed into a stream that
+  -- counts
+  pub record NothingLeft : Type 0 where
+    pub whole_read : (s : Stream) → stream_at all_run 0 ≡ Some s → leftover s.place ≡ None
+    pub contents_read : (k parent : ℕ) (p : Place) →
+        Closes k parent p → Counts parent → leftover p ≡ None
+
+  -- the verdict accepts exactly there
+  pub record IsExact (v : Verdict) : Type 0 where
+    pub only : v ≡ accepted → NothingLeft
+    pub wherever : NothingLeft → v ≡ accepted

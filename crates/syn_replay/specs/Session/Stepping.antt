@@ -1,0 +1,56 @@
+-- What the parts of a replay promise.
+use Rattle.std.specs.Prelude.{◌≡◌, ℕ, List, [], ◌∷◌, map, Option, Some, None, Result, Ok, Err}
+use Rattle.std.specs.List.{All}
+use Rattle.std.specs.declared.alloc.AllocError.{AllocError}
+use Rattle.syn_parse.specs.declared.fault.Fault.{Fault}
+use Rattle.syn_parse.specs.declared.fault.Fault.TheVariants.{Refused, Memory}
+use Rattle.syn_replay.specs.Commands as spec
+use Rattle.syn_replay.specs.Commands.{Position, missing}
+use Rattle.syn_replay.specs.Session.State.{State, position_of, stream_at}
+use Rattle.syn_replay.specs.Session.Step.{Stepped, step, line}
+use Rattle.syn_replay.specs.Session.Walk.{lines_from, last_state}
+use Rattle.syn_replay.specs.Meanings.{IsAnswer, IsPlain, command_of, answer_of, line_of, refusal_of}
+use Rattle.syn_replay.specs.Meanings.{IsOneMessage}
+use Rattle.syn_replay.specs.declared.command.Command.{Command}
+use Rattle.syn_replay.specs.declared.report.Answer.{Answer}
+use Rattle.syn_replay.specs.declared.report.Line.{Line}
+use Rattle.syn_replay.specs.declared.report.Verdict.{Verdict}
+use Rattle.syn_replay.specs.declared.report.Verdict.TheVariants as verdict
+
+abbrev pub IsStepped : Answer → State → Stepped → Type 0
+IsStepped a st s = IsAnswer a s.answer × (st ≡ s.state)
+
+abbrev pub IsLine : Line → State → State → Command → Type 0
+IsLine l new old c =
+    (line_of l ≡ line (command_of c) old) × IsPlain l.answer
+    × (new ≡ (step (command_of c) old).state)
+
+-- the errors of all refusals are of one message
+abbrev pub ArePlain : List Line → Type 0
+ArePlain ls = All (λ l. IsPlain l.answer) ls
+
+abbrev pub HasRun : List Line → State → State → List Command → Type 0
+HasRun ls new old cs =
+    (map line_of ls ≡ lines_from old (map command_of cs)) × ArePlain ls
+    × (new ≡ last_state old (map command_of cs))
+
+-- a stream's fault as an answer: a refusal's error, or an allocation failure
+abbrev pub Answers : Fault → Result Answer AllocError → Type 0
+Answers (Refused e) (Ok a) =
+    (answer_of a ≡ spec.refused (refusal_of e)) × (IsOneMessage e → IsPlain a)
+Answers (Refused e) (Err m) = ⊥
+Answers (Memory e) (Ok a) = ⊥
+Answers (Memory e) (Err m) = Unit {0}
+
+abbrev pub IsPlainVerdict : Verdict → Type 0
+IsPlainVerdict verdict.Accepted = Unit {0}
+IsPlainVerdict (verdict.Refused e) = IsOneMessage e
+
+-- a stream, and another if there is one
+abbrev pub with_other : ℕ → Option ℕ → List ℕ
+with_other n None = n ∷ []
+with_other n (Some m) = n ∷ (m ∷ [])
+
+-- where a stream is
+abbrev pub stands : State → ℕ → Position
+stands st n = elim (stream_at st n) [ None ↦ missing | Some s ↦ position_of s.place ]

@@ -1,0 +1,89 @@
+-- The two list parsers, turn by turn.
+use Rattle.std.specs.Prelude.{◌≡◌, ◌≤◌, ℕ, zero, suc, ◌+◌, ◌&&◌, nat_lt, Bool, true, false, cond}
+use Rattle.std.specs.Prelude.{List, [], ◌∷◌, ◌++◌, length, Option, Some, None, codes}
+use Rattle.tok_leaves.specs.declared.span.Span.{Span}
+use Rattle.tok_core.specs.Forest.{Tree, leaf}
+use Rattle.tok_leaves.specs.Leaves.{leaf_span, leaf_text}
+use Rattle.tok_buffer.specs.Ahead.{ahead}
+use Rattle.tok_buffer.specs.Order.{same_scope}
+use Rattle.tok_buffer.specs.Place.{Place, empty_place, at, is_at_end}
+use Rattle.tok_buffer.specs.Reads as reads
+use Rattle.tok_buffer.specs.Refusals.{Refusal, plain}
+use Rattle.syn_parse.specs.State.{fresh}
+use Rattle.syn_parse.specs.RefusalWords.{punctuation_refusal}
+use Rattle.syn_replay.specs.Kinds.{Kind, read, refusal}
+use Rattle.syn_replay.specs.Commands.{Piece}
+
+-- the leaves among the trees read
+abbrev pub pieces_of : List Tree → List Piece
+pieces_of [] = []
+pieces_of (leaf l ∷ ts) = record { text = leaf_text l; span = leaf_span l } ∷ pieces_of ts
+pieces_of (t ∷ ts) = pieces_of ts
+
+-- a list read with the place after it, or the refusal and the place at which it came
+pub data Outcome : Type 0 where
+  read_all : List (List Piece) → Place → Outcome
+  refused_at : Refusal → Place → Outcome
+
+abbrev pub with_parts : List (List Piece) → Outcome → Outcome
+with_parts parts (read_all more p) = read_all (parts ++ more) p
+with_parts parts (refused_at r p) = refused_at r p
+
+-- what follows a read, or the outcome where nothing is read
+abbrev pub after : Outcome → (List Piece → Place → Outcome) → Option (List Tree × Place) → Outcome
+after none some None = none
+after none some (Some r) = some (pieces_of r.0) r.1
+
+-- the next turn begins later in the same scope, or newly at the empty place
+abbrev pub is_later : Place → Place → Bool
+is_later (at n s c l ls) (at m t d k ks) = same_scope (at n s c l ls) (at m t d k ks) && nat_lt c d
+is_later (at n s c l ls) empty_place = true
+is_later empty_place q = false
+
+abbrev pub no_progress : Place → Span → Refusal
+no_progress p scope = plain p scope (codes "parser made no progress")
+
+module _ (kind : Kind) (separator : List ℕ) (scope : Span) where
+  abbrev pub separator_refusal : Place → Refusal
+  separator_refusal p = punctuation_refusal separator (fresh p scope)
+
+  -- what follows a separator: another turn, unless nothing was passed
+  abbrev pub next_turn : Place → Place → (Place → Outcome) → Outcome
+  next_turn before after go =
+      cond (is_later before after) (go after) (refused_at (no_progress after scope) after)
+
+  -- a separator, and then another turn
+  abbrev pub after_value : Place → List Piece → Outcome → (Place → Outcome) → Place → Outcome
+  after_value before v bare go p =
+      after bare (λ s q. with_parts (v ∷ (s ∷ [])) (next_turn before q go))
+      (reads.read_punctuation separator p)
+
+  -- the turns of a terminated list, as many at most as are allowed
+  abbrev pub terminated_turns : ℕ → Place → Outcome
+  terminated_turns zero p = refused_at (no_progress p scope) p
+  terminated_turns (suc n) p =
+      cond (is_at_end p) (read_all [] p)
+      (after (refused_at (refusal kind (fresh p scope)) p)
+      (λ v q. cond (is_at_end q) (read_all (v ∷ []) q)
+      (after_value p v (refused_at (separator_refusal q) q) (terminated_turns n) q))
+      (read kind p))
+
+  abbrev pub separated_turns : ℕ → Place → Outcome
+  separated_turns zero p = refused_at (no_progress p scope) p
+  separated_turns (suc n) p =
+      after (refused_at (refusal kind (fresh p scope)) p)
+      (λ v q. after_value p v (read_all (v ∷ []) q) (separated_turns n) q) (read kind p)
+
+-- a turn that is followed by another reads a tree of the list ahead, so one more than are ahead is
+-- enough
+abbrev pub turns_left : Place → ℕ
+turns_left p = length (ahead p) + 1
+
+-- more turns than are allowed change nothing
+abbrev pub MoreTurnsChangeNothing : Type 0
+MoreTurnsChangeNothing =
+    (kind : Kind) (separator : List ℕ) (scope : Span) (n : ℕ) (p : Place) → turns_left p ≤ n
+    → (terminated_turns kind separator scope n p ≡ terminated_turns kind separator scope
+    (turns_left p) p)
+    × (separated_turns kind separator scope n p ≡ separated_turns kind separator scope
+    (turns_left p) p)

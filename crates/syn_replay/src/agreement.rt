@@ -1,0 +1,66 @@
+// Reports that agree.
+pub mod both;
+mod same;
+pub mod transparent;
+
+ghost use Rattle.std.specs.Prelude.{◌↔◌, map, IsTrue};
+ghost use Rattle.syn_replay.specs.Agree.{AnswersAgree, LinesAgree, ReportsAgree, VerdictsAgree};
+ghost use Rattle.syn_replay.specs.Meanings.{answer_of, line_of, report_of, verdict_of};
+
+use crate::report::{Answer, Line, Report, Verdict};
+use same::{same_parts, same_pieces, same_streams};
+
+// Refusals agree where their words are equal, other answers where they are equal.
+fn answers_agree(left: &Answer, right: &Answer) -> bool
+    ensures { IsTrue result ↔ AnswersAgree (answer_of left.now) (answer_of right.now) }
+{
+    match (left, right) {
+        (Answer::Truth(left), Answer::Truth(right)) => *left == *right,
+        (Answer::Read(left), Answer::Read(right)) => same_pieces(left, right),
+        (Answer::Absent, Answer::Absent) => true,
+        (Answer::Entered(n, delimiter, span), Answer::Entered(m, other, place)) => {
+            *n == *m && *delimiter == *other && span.join() == place.join()
+        }
+        (Answer::Forked(n), Answer::Forked(m)) => *n == *m,
+        (Answer::List(left), Answer::List(right)) => same_parts(left, right),
+        (Answer::Found(n), Answer::Found(m)) => *n == *m,
+        (Answer::Done, Answer::Done) => true,
+        (Answer::At(left), Answer::At(right)) => *left == *right,
+        (Answer::Trees(left), Answer::Trees(right)) => same_streams(left, right),
+        (Answer::Refused(left), Answer::Refused(right)) => left.as_str() == right.as_str(),
+        (Answer::Unfit(n), Answer::Unfit(m)) => *n == *m,
+        _ => false,
+    }
+}
+
+fn lines_agree(left: &[Line], right: &[Line]) -> bool
+    ensures { IsTrue result ↔ LinesAgree (map line_of left.now) (map line_of right.now) }
+{
+    if left.len() != right.len() {
+        return false;
+    }
+    for i in 0..left.len() {
+        if !answers_agree(&left[i].answer, &right[i].answer) {
+            return false;
+        }
+    }
+    true
+}
+
+fn verdicts_agree(left: &Verdict, right: &Verdict) -> bool
+    ensures { IsTrue result ↔ VerdictsAgree (verdict_of left.now) (verdict_of right.now) }
+{
+    match (left, right) {
+        (Verdict::Accepted, Verdict::Accepted) => true,
+        (Verdict::Refused(left), Verdict::Refused(right)) => left.span() == right.span(),
+        _ => false,
+    }
+}
+
+/// Whether two reports agree: they have as many lines, line by line equal answers or refusals of equal words, and verdicts
+/// that both accept, or both refuse at equal spans. Positions aren't compared, nor the spans of refusals in lines.
+pub fn agree(left: &Report, right: &Report) -> bool
+    ensures { IsTrue result ↔ ReportsAgree (report_of left.now) (report_of right.now) }
+{
+    lines_agree(&left.lines, &right.lines) && verdicts_agree(&left.verdict, &right.verdict)
+}

@@ -1,0 +1,36 @@
+// Two streams under one list of commands.
+ghost use Rattle.std.specs.Prelude.{◌≡◌, true, IfOk, map};
+ghost use Rattle.syn_replay.specs.Agree.{ReportsAgree};
+ghost use Rattle.syn_replay.specs.Meanings.{command_of, report_of};
+ghost use Rattle.syn_replay.specs.Session.Stepping.{ArePlain, IsPlainVerdict};
+ghost use Rattle.syn_replay.specs.Transparent.{DifferInInvisibleGroups, all_transparent};
+ghost use Rattle.syn_replay.specs.Session.Walk.{walk};
+
+use crate::command::Command;
+use crate::report::Report;
+use crate::session::replay;
+use std::alloc::{AllocError, Global};
+use tok_core::TokenStream;
+
+/// Answers the commands over each of two streams, as `replay` does. Where the streams differ only in invisible groups, none
+/// of which is empty, and each command is transparent, the reports agree: equal answers, equally worded refusals, and
+/// verdicts that both accept, or both refuse at equal spans.
+pub fn replay_both(
+    alloc: Global,
+    left: TokenStream,
+    right: TokenStream,
+    commands: &[Command],
+) -> Result<(Report, Report), AllocError>
+    ensures left { IfOk result (λ r. report_of r.0 ≡ walk left (map command_of commands.now)) }
+    ensures right { IfOk result (λ r. report_of r.1 ≡ walk right (map command_of commands.now)) }
+    ensures agree { DifferInInvisibleGroups left right
+        → all_transparent (map command_of commands.now) ≡ true
+        → IfOk result (λ r. ReportsAgree (report_of r.0) (report_of r.1)) }
+    ensures errors { IfOk result
+        (λ r. ArePlain r.0.lines.items × IsPlainVerdict r.0.verdict × ArePlain r.1.lines.items
+        × IsPlainVerdict r.1.verdict) }
+{
+    let left = replay(alloc, left, commands)?;
+    let right = replay(alloc, right, commands)?;
+    Ok((left, right))
+}

@@ -1,0 +1,15 @@
+//! `replay`, which runs a list of commands, one by one, over a token stream; what it reports, and whether two reports agree.
+#![tactic(auto)]
+
+mod agreement;
+mod command;
+pub mod laws;
+mod report;
+mod session;
+
+pub use agreement::agree;
+pub use agreement::both::replay_both;
+pub use agreement::transparent::is_transparent;
+pub use command::{Command, Kind, Look, Separator};
+pub use report::{Answer, Line, Piece, Position, Report, Verdict};
+pub use session::replay;

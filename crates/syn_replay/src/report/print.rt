@@ -1,0 +1,182 @@
+// The printed text of a report.
+ghost use Rattle.std.specs.Prelude.{◌≡◌, ◌++◌, Some, codes, map};
+ghost use Rattle.std.specs.Fmt.{WritesOnOk};
+ghost use Rattle.std.specs.List.{flat_map};
+ghost use Rattle.syn_replay.specs.ReportText as spec;
+ghost use Rattle.syn_replay.specs.Meanings.{piece_of, pieces_in, refusal_of, answer_of, position_of, line_of, verdict_of, report_of};
+
+use crate::report::{Answer, Line, Piece, Position, Report, Verdict};
+use std::fmt;
+use std::fmt::{Formatter, Write};
+use tok_buffer::Error;
+use tok_core::{Span, TokenStream};
+
+impl fmt::Display for Report {
+    ghost output = { λ r. Some (spec.report_text (report_of r)) };
+
+    fn fmt<W: Write>(&self, f: &mut Formatter<W>) -> fmt::Result {
+        for line in &self.lines {
+            writeln!(f, "{line}")?;
+        }
+        writeln!(f, "{}", self.verdict)
+    }
+}
+
+impl fmt::Display for Line {
+    ghost output = { λ l. Some (spec.line_text (line_of l)) };
+
+    fn fmt<W: Write>(&self, f: &mut Formatter<W>) -> fmt::Result {
+        write!(f, "{} {}", self.answer, self.position)
+    }
+}
+
+impl fmt::Display for Answer {
+    ghost output = { λ a. Some (spec.answer_text (answer_of a)) };
+
+    fn fmt<W: Write>(&self, f: &mut Formatter<W>) -> fmt::Result {
+        match self {
+            Answer::Truth(true) => f.write_str("true"),
+            Answer::Truth(false) => f.write_str("false"),
+            Answer::Read(pieces) => write_pieces(f, pieces),
+            Answer::Entered(number, delimiter, span) => {
+                write!(f, "entered {number} {} ", delimiter.opening())?;
+                write_span(f, span.join())
+            }
+            Answer::Absent => f.write_str("none"),
+            Answer::Forked(number) => write!(f, "forked {number}"),
+            Answer::List(parts) => write_parts(f, parts),
+            Answer::Found(index) => write!(f, "found {index}"),
+            Answer::Trees(stream) => write_trees(f, stream),
+            Answer::Done => f.write_str("done"),
+            Answer::At(span) => {
+                f.write_str("span ")?;
+                write_span(f, *span)
+            }
+            Answer::Refused(error) => write_refusal(f, error),
+            Answer::Unfit(number) => write!(f, "refused C{number}"),
+        }
+    }
+}
+
+/// As `Display`.
+impl fmt::Debug for Answer {
+    fn fmt<W: Write>(&self, f: &mut Formatter<W>) -> fmt::Result {
+        write!(f, "{self}")
+    }
+}
+
+impl fmt::Display for Position {
+    ghost output = { λ p. Some (spec.position_text (position_of p)) };
+
+    fn fmt<W: Write>(&self, f: &mut Formatter<W>) -> fmt::Result {
+        match self {
+            Position::At(n) => write!(f, "@{n}"),
+            Position::Empty => f.write_str("@empty"),
+            Position::Missing => f.write_str("@-"),
+        }
+    }
+}
+
+impl fmt::Display for Verdict {
+    ghost output = { λ v. Some (spec.verdict_text (verdict_of v)) };
+
+    fn fmt<W: Write>(&self, f: &mut Formatter<W>) -> fmt::Result {
+        match self {
+            Verdict::Accepted => f.write_str("accepted"),
+            Verdict::Refused(error) => write_refusal(f, error),
+        }
+    }
+}
+
+fn write_pieces<W: Write>(f: &mut Formatter<W>, pieces: &Vec<Piece>) -> fmt::Result
+    ensures { WritesOnOk W.write_str_gives f.old result
+        (codes "read" ++ flat_map spec.piece_text (map piece_of pieces.now.items)) f.new }
+{
+    f.write_str("read")?;
+    write_more(f, pieces.as_slice())
+}
+
+// Pieces after others.
+fn write_more<W: Write>(f: &mut Formatter<W>, pieces: &[Piece]) -> fmt::Result
+    ensures { WritesOnOk W.write_str_gives f.old result
+        (flat_map spec.piece_text (map piece_of pieces.now)) f.new }
+{
+    for piece in pieces {
+        write_spaced(f, piece.text.as_str())?;
+        f.write_char(' ')?;
+        write_span(f, piece.span)?;
+    }
+    Ok(())
+}
+
+// `list`, and each value and separator in brackets.
+fn write_parts<W: Write>(f: &mut Formatter<W>, parts: &Vec<Vec<Piece>>) -> fmt::Result
+    ensures { WritesOnOk W.write_str_gives f.old result
+        (codes "list" ++ flat_map spec.part_text (map pieces_in parts.now.items)) f.new }
+{
+    f.write_str("list")?;
+    for part in parts {
+        write_part(f, part.as_slice())?;
+    }
+    Ok(())
+}
+
+fn write_part<W: Write>(f: &mut Formatter<W>, part: &[Piece]) -> fmt::Result
+    ensures { WritesOnOk W.write_str_gives f.old result
+        (spec.part_text (map piece_of part.now)) f.new }
+{
+    match part.split_first() {
+        None => f.write_str(" []"),
+        Some((first, rest)) => {
+            f.write_str(" [")?;
+            f.write_str(first.text.as_str())?;
+            f.write_char(' ')?;
+            write_span(f, first.span)?;
+            write_more(f, rest)?;
+            f.write_char(']')
+        }
+    }
+}
+
+// `trees`, and the text of the trees if there are any.
+fn write_trees<W: Write>(f: &mut Formatter<W>, stream: &TokenStream) -> fmt::Result
+    ensures { WritesOnOk W.write_str_gives f.old result
+        (codes "trees" ++ spec.trees_text stream.now) f.new }
+{
+    f.write_str("trees")?;
+    if stream.is_empty() {
+        Ok(())
+    } else {
+        write!(f, " {stream}")
+    }
+}
+
+// `refused`, the span and the words.
+fn write_refusal<W: Write>(f: &mut Formatter<W>, error: &Error) -> fmt::Result
+    ensures { WritesOnOk W.write_str_gives f.old result
+        (spec.refusal_text (refusal_of error.now)) f.new }
+{
+    f.write_str("refused ")?;
+    write_span(f, error.span())?;
+    write!(f, " {error}")
+}
+
+fn write_span<W: Write>(f: &mut Formatter<W>, span: Span) -> fmt::Result
+    ensures { WritesOnOk W.write_str_gives f.old result (spec.span_text span) f.new }
+{
+    match span.as_range() {
+        None => f.write_str("call"),
+        Some((_, start, end)) => write!(f, "{start}..{end}"),
+    }
+}
+
+// A part after others: a space parts it from them, and an empty part adds none.
+fn write_spaced<W: Write>(f: &mut Formatter<W>, part: &str) -> fmt::Result
+    ensures { WritesOnOk W.write_str_gives f.old result (spec.spaced part.now) f.new }
+{
+    if part.is_empty() {
+        Ok(())
+    } else {
+        write!(f, " {part}")
+    }
+}

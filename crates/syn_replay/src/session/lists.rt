@@ -1,0 +1,85 @@
+// Lists of tokens of one kind.
+ghost use Rattle.std.specs.Prelude.{◌≡◌, map, IfOk};
+ghost use Rattle.std.specs.List.{flat_map};
+ghost use Rattle.tok_types.specs.Texts.{punctuation_word};
+ghost use Rattle.syn_punctuated.specs.Lists.{values_of, separators_of};
+ghost use Rattle.syn_punctuated.specs.Paired.{paired};
+ghost use Rattle.syn_replay.specs.Session.Reading.{IsRead, list_command, pair_parts};
+ghost use Rattle.syn_replay.specs.Meanings.{kind_of, pieces_in, separator_of};
+
+use crate::command::{Kind, Separator};
+use crate::report::{Answer, Piece};
+use crate::session::{pieces, tokens};
+use std::alloc::{AllocError, Global};
+use syn_parse::{ParseStream, Result};
+use syn_punctuated::Punctuated;
+use tok_types::token::{self, Punctuation};
+
+/// When a list ends.
+#[derive(Clone, Copy)]
+pub enum Form {
+    // At the stream's end. The last separator may be missing.
+    Terminated,
+    // Where no separator is next.
+    Separated,
+}
+
+/// Tokens of this kind, with this separator between them.
+pub fn read(
+    input: ParseStream<'_, '_>,
+    form: Form,
+    kind: Kind,
+    separator: Separator,
+) -> Result<Answer>
+    ensures { IsRead (list_command form (kind_of kind) (separator_of separator))
+        input.old result input.new }
+{
+    match separator {
+        Separator::Comma => list_by(input, form, kind, ",", token::Comma::default()),
+        Separator::Semi => list_by(input, form, kind, ";", token::Semi::default()),
+        Separator::Plus => list_by(input, form, kind, "+", token::Plus::default()),
+        Separator::PathSep => list_by(input, form, kind, "::", token::PathSep::default()),
+    }
+}
+
+// The separator's type is that of the last argument, and its text is `text`.
+fn list_by<const K: usize, const N: usize>(
+    input: ParseStream<'_, '_>,
+    form: Form,
+    kind: Kind,
+    text: &str,
+    _: Punctuation<K, N>,
+) -> Result<Answer>
+    requires { text.now ≡ punctuation_word K N }
+    ensures { IsRead (list_command form (kind_of kind) text.now) input.old result input.new }
+{
+    let alloc = input.allocator();
+    let token = |stream: ParseStream<'_, '_>| tokens::parse(stream, kind);
+    let list: Punctuated<Vec<Piece>, Punctuation<K, N>> = match form {
+        Form::Terminated => Punctuated::parse_terminated_with(input, token)?,
+        Form::Separated => Punctuated::parse_separated_nonempty_with(input, token)?,
+    };
+    Ok(Answer::List(parts(alloc, text, list)?))
+}
+
+// The values and the separators by turns.
+fn parts<const K: usize, const N: usize>(
+    alloc: Global,
+    text: &str,
+    list: Punctuated<Vec<Piece>, Punctuation<K, N>>,
+) -> std::result::Result<Vec<Vec<Piece>>, AllocError>
+    ensures { IfOk result (λ ps. map pieces_in ps.items
+        ≡ flat_map (pair_parts text.now)
+        (paired (values_of list.entry) (separators_of list.entry))) }
+{
+    let mut parts = Vec::new(alloc);
+    let mut pairs = list.into_pairs();
+    while let Some(pair) = pairs.next() {
+        let (value, separator) = pair.into_tuple();
+        parts.push(value)?;
+        if let Some(separator) = separator {
+            parts.push(pieces::characters(alloc, text.as_bytes(), &separator.spans)?)?;
+        }
+    }
+    Ok(parts)
+}

@@ -1,0 +1,85 @@
+// The leaves that were read, as pieces.
+ghost use Rattle.std.specs.Prelude.{◌≡◌, ◌<◌, ◌∷◌, [], length, map, IfOk, encode_utf8, take, string_bytes};
+ghost use Rattle.std.specs.Str.{chars};
+ghost use Rattle.tok_core.specs.Forest.{leaf};
+ghost use Rattle.tok_leaves.specs.Leaves.{ident_of, literal_of, punct_of};
+ghost use Rattle.tok_core.specs.Seen.{lifetime_trees};
+ghost use Rattle.syn_replay.specs.Session.Reading.{ArePieces, punct_pieces};
+ghost use Rattle.syn_replay.specs.Meanings.{piece_of};
+
+use crate::report::Piece;
+use std::alloc::{AllocError, Global};
+use tok_buffer::Lifetime;
+use tok_core::{Ident, Literal, Punct, Span};
+
+fn piece(alloc: Global, text: &str, span: Span) -> Result<Piece, AllocError>
+    ensures { IfOk result (λ p. piece_of p ≡ record { text = text.now; span = span }) }
+{
+    Ok(Piece {
+        text: String::from_str(alloc, text)?,
+        span,
+    })
+}
+
+/// One piece of this text.
+pub fn word(alloc: Global, text: &str, span: Span) -> Result<Vec<Piece>, AllocError>
+    ensures { IfOk result
+        (λ ps. map piece_of ps.items ≡ record { text = text.now; span = span } ∷ []) }
+{
+    let mut pieces = Vec::new(alloc);
+    pieces.push(piece(alloc, text, span)?)?;
+    Ok(pieces)
+}
+
+pub fn ident(alloc: Global, ident: &Ident) -> Result<Vec<Piece>, AllocError>
+    ensures { IfOk result (ArePieces (leaf (ident_of ident.now) ∷ [])) }
+{
+    word(alloc, ident.as_str(), ident.span())
+}
+
+pub fn literal(alloc: Global, literal: &Literal) -> Result<Vec<Piece>, AllocError>
+    ensures { IfOk result (ArePieces (leaf (literal_of literal.now) ∷ [])) }
+{
+    word(alloc, literal.as_str(), literal.span())
+}
+
+// One character.
+fn character(alloc: Global, c: char, span: Span) -> Result<Piece, AllocError>
+    ensures { IfOk result (λ p. piece_of p ≡ record { text = encode_utf8 c; span = span }) }
+{
+    let mut text = String::new(alloc);
+    text.push(c)?;
+    Ok(Piece { text, span })
+}
+
+pub fn punct(alloc: Global, punct: Punct) -> Result<Vec<Piece>, AllocError>
+    ensures { IfOk result (ArePieces (leaf (punct_of punct) ∷ [])) }
+{
+    let mut pieces = Vec::new(alloc);
+    pieces.push(character(alloc, punct.as_char(), punct.span())?)?;
+    Ok(pieces)
+}
+
+/// A lifetime's apostrophe and its name.
+pub fn lifetime(alloc: Global, lifetime: &Lifetime) -> Result<Vec<Piece>, AllocError>
+    ensures { IfOk result
+        (ArePieces (lifetime_trees lifetime.now.apostrophe (ident_of lifetime.now.ident))) }
+{
+    let mut pieces = Vec::new(alloc);
+    pieces.push(character(alloc, '\'', lifetime.apostrophe)?)?;
+    pieces.push(piece(alloc, lifetime.ident.as_str(), lifetime.ident.span())?)?;
+    Ok(pieces)
+}
+
+/// A punctuation's characters, as many as have a span.
+pub fn characters(alloc: Global, text: &[u8], spans: &[Span]) -> Result<Vec<Piece>, AllocError>
+    ensures { IfOk result (λ ps. map piece_of ps.items ≡ punct_pieces text.now spans.now) }
+{
+    let mut pieces = Vec::with_capacity(alloc, text.len())?;
+    let mut index = 0;
+    while index < text.len() && index < spans.len() {
+        pieces.push(character(alloc, char::from(text[index]), spans[index])?)?;
+        index += 1;
+    }
+    Ok(pieces)
+}

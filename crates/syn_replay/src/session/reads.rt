@@ -1,0 +1,107 @@
+// Commands on one stream.
+ghost use Rattle.std.specs.Prelude.{◌≡◌, ◌∷◌, [], true, map, IfOk};
+ghost use Rattle.tok_core.specs.Forest.{forest};
+ghost use Rattle.tok_core.specs.Seen.{tree_of};
+ghost use Rattle.syn_replay.specs.Commands as commands;
+ghost use Rattle.syn_replay.specs.Session.Step.{looked};
+ghost use Rattle.syn_replay.specs.Session.Reading.{GivesAnswer, IsRead, is_read};
+ghost use Rattle.syn_replay.specs.Meanings.{command_of, kind_of, look_of};
+
+use crate::command::{Command, Kind, Look};
+use crate::report::Answer;
+use crate::session::lists::{self, Form};
+use crate::session::tokens;
+use std::alloc::{AllocError, Global};
+use syn_parse::{ParseBuffer, ParseStream, Result};
+use tok_core::{Group, TokenStream, TokenTree};
+
+/// Answers a command that concerns no other stream.
+pub fn answer(input: ParseStream<'_, '_>, command: &Command) -> Result<Answer>
+    requires { is_read (command_of command.now) ≡ true }
+    ensures { IsRead (command_of command.now) input.old result input.new }
+{
+    match command {
+        Command::Peek(_, look) => Ok(Answer::Truth(look.peek(input.cursor()))),
+        Command::Peek2(_, look) => Ok(Answer::Truth(look.peek2(input.cursor()))),
+        Command::Peek3(_, look) => Ok(Answer::Truth(look.peek3(input.cursor()))),
+        Command::Parse(_, kind) => Ok(Answer::Read(tokens::parse(input, *kind)?)),
+        Command::Optional(_, kind) => optional(input, *kind),
+        Command::Empty(_) => Ok(Answer::Truth(input.is_empty())),
+        Command::Terminated(_, kind, separator) => {
+            lists::read(input, Form::Terminated, *kind, *separator)
+        }
+        Command::Separated(_, kind, separator) => {
+            lists::read(input, Form::Separated, *kind, *separator)
+        }
+        Command::Lookahead(_, looks) => look_ahead(input, looks),
+        Command::StreamSpan(_) => Ok(Answer::At(input.span())),
+        Command::CursorSpan(_) => Ok(Answer::At(input.cursor().span())),
+        Command::PreviousSpan(_) => Ok(Answer::At(input.cursor().prev_span())),
+        Command::Tree(_) => tree(input),
+        Command::Rest(_) => Ok(Answer::Trees(input.parse::<TokenStream>()?)),
+        Command::GroupTree(_) => group(input),
+        // Those that concern other streams.
+        Command::Enter(_, _)
+        | Command::EnterAny(_)
+        | Command::Fork(_)
+        | Command::Advance(_, _)
+        | Command::Discard(_)
+        | Command::Close(_) => Ok(Answer::Done),
+    }
+}
+
+// A token of this kind, if one is in front.
+fn optional(input: ParseStream<'_, '_>, kind: Kind) -> Result<Answer>
+    ensures { IsRead (commands.optional 0 (kind_of kind)) input.old result input.new }
+{
+    if kind.peek(input.cursor()) {
+        Ok(Answer::Read(tokens::parse(input, kind)?))
+    } else {
+        Ok(Answer::Absent)
+    }
+}
+
+// The first of these that is in front, or a refusal that names them all.
+fn look_ahead(input: &ParseBuffer<'_>, looks: &[Look]) -> Result<Answer>
+    ensures { GivesAnswer
+        (looked 0 (map look_of looks.now) [] input.now.place input.now.scope_span) result }
+{
+    let cursor = input.cursor();
+    let mut lookahead = input.lookahead1();
+    let mut index = 0;
+    while index < looks.len() {
+        let look = looks[index];
+        if lookahead.peek_as(look.peek(cursor), look.display())? {
+            return Ok(Answer::Found(index));
+        }
+        index += 1;
+    }
+    Err(lookahead.error())
+}
+
+// The tree in front.
+fn tree(input: ParseStream<'_, '_>) -> Result<Answer>
+    ensures { IsRead (commands.next_tree 0) input.old result input.new }
+{
+    let alloc = input.allocator();
+    let tree = input.parse::<TokenTree>()?;
+    Ok(Answer::Trees(only(alloc, tree)?))
+}
+
+// The visible group in front.
+fn group(input: ParseStream<'_, '_>) -> Result<Answer>
+    ensures { IsRead (commands.next_group 0) input.old result input.new }
+{
+    let alloc = input.allocator();
+    let group = input.parse::<Group>()?;
+    Ok(Answer::Trees(only(alloc, TokenTree::Group(group))?))
+}
+
+// A stream of one tree.
+fn only(alloc: Global, tree: TokenTree) -> std::result::Result<TokenStream, AllocError>
+    ensures { IfOk result (λ f. f ≡ forest (tree_of tree ∷ [])) }
+{
+    let mut stream = TokenStream::new(alloc);
+    stream.append(tree)?;
+    Ok(stream)
+}

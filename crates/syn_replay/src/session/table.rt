@@ -1,0 +1,120 @@
+// Commands on the table of streams.
+ghost use Rattle.std.specs.Prelude.{◌≡◌, ◌<◌, length, Some, IfOk};
+ghost use Rattle.syn_parse.specs.Groups.{AreParts, Enters};
+ghost use Rattle.syn_parse.specs.RefusalWords.{refused_at};
+ghost use Rattle.syn_replay.specs.Commands as commands;
+ghost use Rattle.syn_replay.specs.Session.State.{stream_at};
+ghost use Rattle.syn_replay.specs.Session.Step.{into_group, on_stream};
+ghost use Rattle.syn_replay.specs.Session.Entering.{entered_by, entering_words};
+ghost use Rattle.syn_replay.specs.Session.Stepping.{Answers, IsStepped};
+ghost use Rattle.syn_replay.specs.Session.Tracks.{stream_of, state_of};
+
+use crate::report::Answer;
+use crate::session::stream::Stream;
+use crate::session::streams::Streams;
+use std::alloc::AllocError;
+use syn_parse::{
+    Braces, Brackets, Fault, Group, Parens, ParseBuffer, ParseStream, parse_braces, parse_brackets,
+    parse_group, parse_parens,
+};
+use tok_core::{DelimSpan, Delimiter};
+
+/// The answer to a command that a stream refuses.
+pub fn refused(fault: Fault) -> Result<Answer, AllocError>
+    ensures { Answers fault result }
+{
+    match fault {
+        Fault::Refused(error) => Ok(Answer::Refused(error)),
+        Fault::Memory(error) => Err(error),
+    }
+}
+
+// Enters the group in front, if it has the delimiter that is wanted: its delimiter, its span, and the stream of its content.
+fn enter_group<'a>(
+    input: ParseStream<'_, 'a>,
+    wanted: Option<Delimiter>,
+) -> syn_parse::Result<(Delimiter, DelimSpan, ParseBuffer<'a>)>
+    ensures { Enters (λ p e. (p.0 ≡ e.delimiter) × AreParts p.1 p.2 e)
+        (entered_by wanted input.old.place)
+        (refused_at input.old (entering_words wanted)) input.old result input.new }
+{
+    match wanted {
+        None => input.parse_any_delimiter(),
+        Some(Delimiter::Parenthesis) => {
+            let Parens { token, content } = parse_parens(input)?;
+            Ok((Delimiter::Parenthesis, token.span, content))
+        }
+        Some(Delimiter::Brace) => {
+            let Braces { token, content } = parse_braces(input)?;
+            Ok((Delimiter::Brace, token.span, content))
+        }
+        Some(Delimiter::Bracket) => {
+            let Brackets { token, content } = parse_brackets(input)?;
+            Ok((Delimiter::Bracket, token.span, content))
+        }
+        Some(Delimiter::None) => {
+            let Group { token, content } = parse_group(input)?;
+            Ok((Delimiter::None, DelimSpan::new(token.span), content))
+        }
+    }
+}
+
+/// Enters the group in front of stream `n`, if it has the delimiter that is wanted.
+pub fn enter<'a>(
+    streams: &mut Streams<'a>,
+    n: usize,
+    stream: Stream<'a>,
+    wanted: Option<Delimiter>,
+) -> Result<Answer, AllocError>
+    requires { stream_at (state_of streams.old) n ≡ Some (stream_of stream) }
+    ensures { IfOk result
+        (λ a. IsStepped a (state_of streams.new)
+        (into_group (state_of streams.old) n (stream_of stream.entry) (entering_words wanted)
+        (entered_by wanted (stream_of stream.entry).place))) }
+{
+    let mut input = stream.paused.resume();
+    match enter_group(&mut input, wanted) {
+        Ok((delimiter, span, content)) => {
+            let number = streams.enter(n, content.pause(), input.pause())?;
+            Ok(Answer::Entered(number, delimiter, span))
+        }
+        Err(fault) => {
+            input.discard();
+            refused(fault)
+        }
+    }
+}
+
+/// Makes a stream at the place of stream `n`.
+pub fn fork<'a>(
+    streams: &mut Streams<'a>,
+    n: usize,
+    stream: Stream<'a>,
+) -> Result<Answer, AllocError>
+    requires { stream_at (state_of streams.old) n ≡ Some (stream_of stream) }
+    ensures { IfOk result
+        (λ a. IsStepped a (state_of streams.new)
+        (on_stream (commands.fork n) (state_of streams.old) n (stream_of stream.entry))) }
+{
+    let input = stream.paused.resume();
+    let fork = input.fork();
+    input.discard();
+    let number = streams.fork(fork.pause())?;
+    Ok(Answer::Forked(number))
+}
+
+/// Takes stream `n` to the place of a fork, unless that is in another scope, or the stream is the fork or inside it.
+pub fn advance<'a>(streams: &mut Streams<'a>, n: usize, stream: Stream<'a>, fork: usize) -> Answer
+    requires here { stream_at (state_of streams.old) n ≡ Some (stream_of stream) }
+    requires fork { fork < length (state_of streams.old) }
+    ensures { IsStepped result (state_of streams.new)
+        (on_stream (commands.advance n fork) (state_of streams.old) n (stream_of stream.entry)) }
+{
+    let other = streams.at(fork);
+    if stream.cursor().same_scope(other.cursor()) && !streams.is_or_inside(fork, n) {
+        streams.advance(n, fork);
+        Answer::Done
+    } else {
+        Answer::Unfit(5)
+    }
+}

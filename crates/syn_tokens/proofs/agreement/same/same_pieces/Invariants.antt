@@ -1,7 +1,0 @@
-use Rattle.std.proofs.Common.{◌≡◌, map}
-use Rattle.syn_tokens.specs.Meanings.{piece_of}
-use Rattle.syn_tokens.proofs.Comparing.{Undecided}
-use Rattle.syn_tokens.proofs.agreement.same.same_pieces.Given as goal
-
-abbrev pub invariant-loop-i : goal.invariant-loop-i
-invariant-loop-i l = Undecided (λ xs ys. map piece_of xs ≡ map piece_of ys) l.i l.left l.right

@@ -1,5 +1,0 @@
-use Rattle.syn_tokens.proofs.Views.Whole.{invisible_groups_do_not_matter}
-use Rattle.syn_tokens.proofs.laws.invisible_groups_do_not_matter.Goals as goal
-
-pub returns : goal.returns
-returns c = invisible_groups_do_not_matter
