@@ -10,7 +10,7 @@ ghost use Rattle.syn_parse.specs.RefusalWords.{delimiter_words, refused_at};
 
 use crate::fault::Result;
 use crate::stream::{ParseBuffer, ParseStream};
-use crate::words::delimiter_words;
+use crate::words::words_of;
 use tok_core::{DelimSpan, Delimiter};
 use tok_types::token;
 
@@ -105,7 +105,7 @@ impl<'a> ParseBuffer<'a> {
                     ParseBuffer::made(self.allocator(), content, span.close(), None),
                 ))
             }
-            None => Err(self.error(delimiter_words(delimiter))),
+            None => Err(self.error(words_of(delimiter).0)),
         }
     }
 

@@ -14,7 +14,7 @@ ghost use Rattle.syn_parse.specs.State.{fresh, moved, handed, closed, forked, ad
 ghost use Rattle.syn_parse.specs.RefusalWords.{refused_at, leftover_refusal};
 
 use crate::fault::{Fault, Result};
-use crate::words::leftover_words;
+use crate::words::words_of;
 use paused::Paused;
 use std::alloc::Global;
 use std::fmt;
@@ -210,7 +210,7 @@ impl<'a> ParseBuffer<'a> {
         match left {
             None => Ok(()),
             Some((span, delimiter)) => {
-                let error = Error::new(alloc, span, leftover_words(delimiter));
+                let error = Error::new(alloc, span, words_of(delimiter).1);
                 Err(Fault::refused(error))
             }
         }

@@ -1,29 +1,18 @@
 // The texts of refusals.
 ghost use Rattle.std.specs.Prelude.{◌≡◌};
-ghost use Rattle.syn_parse.specs.RefusalWords as spec;
+ghost use Rattle.syn_parse.specs.RefusalWords.{delimiter_words, leftover_words};
 
 use tok_core::Delimiter;
 
-// Where a group of this delimiter is expected.
-pub fn delimiter_words(delimiter: Delimiter) -> &'static str
-    ensures { result.now ≡ spec.delimiter_words delimiter }
+// Where a group of this delimiter is expected, and where a token is left over in a scope of it.
+pub fn words_of(delimiter: Delimiter) -> (&'static str, &'static str)
+    ensures expected { result.0.now ≡ delimiter_words delimiter }
+    ensures leftover { result.1.now ≡ leftover_words delimiter }
 {
     match delimiter {
-        Delimiter::Parenthesis => "expected parentheses",
-        Delimiter::Brace => "expected curly braces",
-        Delimiter::Bracket => "expected square brackets",
-        Delimiter::None => "expected invisible group",
-    }
-}
-
-// Where a token is left over in a scope of this delimiter.
-pub fn leftover_words(delimiter: Delimiter) -> &'static str
-    ensures { result.now ≡ spec.leftover_words delimiter }
-{
-    match delimiter {
-        Delimiter::Parenthesis => "unexpected token, expected `)`",
-        Delimiter::Brace => "unexpected token, expected `}`",
-        Delimiter::Bracket => "unexpected token, expected `]`",
-        Delimiter::None => "unexpected token",
+        Delimiter::Parenthesis => ("expected parentheses", "unexpected token, expected `)`"),
+        Delimiter::Brace => ("expected curly braces", "unexpected token, expected `}`"),
+        Delimiter::Bracket => ("expected square brackets", "unexpected token, expected `]`"),
+        Delimiter::None => ("expected invisible group", "unexpected token"),
     }
 }

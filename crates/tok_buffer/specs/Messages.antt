@@ -1,5 +1,6 @@
 -- An error as the list of its messages.
-use Rattle.std.specs.Prelude.{◌≡◌, ℕ, List, [], ◌∷◌, ◌++◌, map, Option, MatchOption, Result, IfOk}
+use Rattle.std.specs.Prelude.{◌≡◌, ℕ, List, [], ◌∷◌, ◌++◌, map, Option, MatchOption, Result}
+use Rattle.std.specs.Prelude.{IfOk, IfSome}
 use Rattle.std.specs.declared.alloc.AllocError.{AllocError}
 use Rattle.std.specs.List.{flat_map}
 use Rattle.std.specs.Coded.{Coded, code_by, coded×, coded_ℕ, coded_list}
@@ -25,6 +26,11 @@ refused r = error_of r.span r.span r.words
 -- the two spans of each message
 abbrev pub spans_of : List Message → List (Span × Span)
 spans_of e = map (λ m. (m.start, m.end)) e
+
+-- one message over these two spans, and of this text where it is known what is written
+abbrev pub HasMessage : Span × Span → Option (List ℕ) → List Message → Type 0
+HasMessage spans written e =
+    (spans_of e ≡ spans ∷ []) × IfSome written (λ text. e ≡ error_of spans.0 spans.1 text)
 
 -- what an error shows: its first message
 abbrev pub first_message_span : List Message → Span

@@ -70,7 +70,7 @@ impl Error {
     ghost use Rattle.std.specs.Ordering.{partial_le};
     ghost use Rattle.tok_core.specs.Lexical.Errors.{error_span, error_words};
     ghost use Rattle.tok_buffer.specs.Cursors.{place_of};
-    ghost use Rattle.tok_buffer.specs.Messages.{AddsMessages, error_of, refused, spans_of, first_message_span, first_text};
+    ghost use Rattle.tok_buffer.specs.Messages.{AddsMessages, HasMessage, error_of, refused, spans_of, first_message_span, first_text};
     ghost use Rattle.tok_buffer.specs.Order.{order};
     ghost use Rattle.tok_buffer.specs.Spans.{current_span, range_end};
     ghost use Rattle.tok_buffer.specs.Refusals.{stream_span, at_stream};
@@ -81,9 +81,7 @@ impl Error {
         span: Span,
         message: T,
     ) -> Result<Error, AllocError>
-        ensures spans { IfOk result (λ e. spans_of e ≡ (span, span) ∷ []) }
-        ensures text { IfOk result
-            (λ e. IfSome (T.output message) (λ text. e ≡ error_of span span text)) }
+        ensures { IfOk result (HasMessage (span, span) (T.output message)) }
     {
         Error::new2(alloc, span, span, message)
     }
@@ -95,9 +93,7 @@ impl Error {
         end: Span,
         message: T,
     ) -> Result<Error, AllocError>
-        ensures spans { IfOk result (λ e. spans_of e ≡ (start, end) ∷ []) }
-        ensures text { IfOk result
-            (λ e. IfSome (T.output message) (λ text. e ≡ error_of start end text)) }
+        ensures { IfOk result (HasMessage (start, end) (T.output message)) }
     {
         let text = Text::from_string(alloc, format!(in alloc; "{message}")?)?;
         Ok(Error {
@@ -112,9 +108,7 @@ impl Error {
         tokens: S,
         message: T,
     ) -> Result<Error, AllocError>
-        ensures spans { IfOk result (λ e. spans_of e ≡ spanned (S.printed tokens) ∷ []) }
-        ensures text { IfOk result (λ e. IfSome (T.output message) (λ text.
-            let spans = spanned (S.printed tokens) in e ≡ error_of spans.0 spans.1 text)) }
+        ensures { IfOk result (HasMessage (spanned (S.printed tokens)) (T.output message)) }
     {
         let stream = tokens.into_token_stream(alloc)?;
         let (start, end) = ends(stream.trees());
@@ -130,15 +124,9 @@ impl Error {
         message: T,
     ) -> Result<Error, AllocError>
         requires { IsTrue (partial_le order (place_of start) (place_of end)) }
-        ensures spans { IfOk result (λ e. spans_of e
-            ≡ (
-              current_span (place_of start.entry),
-              range_end (place_of start.entry)
-                  (place_of end.entry),
-            ) ∷ []) }
-        ensures text { IfOk result (λ e. IfSome (T.output message) (λ text. e
-            ≡ error_of (current_span (place_of start.entry))
-            (range_end (place_of start.entry) (place_of end.entry)) text)) }
+        ensures { let from = place_of start.entry in IfOk result
+            (HasMessage (current_span from, range_end from (place_of end.entry))
+            (T.output message)) }
     {
         let last = if start == end {
             end.span()

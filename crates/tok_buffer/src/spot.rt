@@ -19,12 +19,11 @@ pub struct Spot<'a> {
 }
 
 impl<'a> Spot<'a> {
-    ghost use Rattle.std.specs.Prelude.{◌≡◌, ◌≤◌, ◌+◌, IsTrue, false};
-    ghost use Rattle.tok_core.specs.Weight.{weight};
+    ghost use Rattle.std.specs.Prelude.{◌≡◌, ◌+◌, false};
     ghost use Rattle.tok_buffer.specs.Cursors.{spot_place};
     ghost use Rattle.tok_buffer.specs.Descent.{descend};
     ghost use Rattle.tok_buffer.specs.Private.Layout.{entry_here};
-    ghost use Rattle.tok_buffer.specs.Moves.{in_scope, place_at, advance, invisible_front, levels_at, level_ahead};
+    ghost use Rattle.tok_buffer.specs.Moves.{place_at, advance, invisible_front, levels_at, level_ahead};
     ghost use Rattle.tok_buffer.specs.Place.{is_at_end, settled};
 
     // The spot after the entry that is so far from a position, and after the ends that stand there.

@@ -1,9 +1,10 @@
 // Escapes.
-ghost use Rattle.std.specs.Prelude.{◌≡◌, ◌≤◌, ℕ, List, IfSome, length, ◌<◌, false, if◌then◌else◌, MatchBool};
+ghost use Rattle.std.specs.Prelude.{◌≡◌, ◌≤◌, IfSome, length, ◌<◌, false, if◌then◌else◌, MatchBool};
 ghost use Rattle.std.specs.Str.{chars, IsUtf8};
-ghost use Rattle.tok_lexical.specs.Pieces.{ReadsPrefix, Skips};
-ghost use Rattle.tok_lexical.specs.Strings.{is_simple_escape, is_hex_or_underscore, IsHex, NamesChar, IsCode, IsLineEnd, IsEscape};
+ghost use Rattle.tok_lexical.specs.Pieces.{ReadsPrefix};
+ghost use Rattle.tok_lexical.specs.Strings.{is_simple_escape, IsHex, NamesChar, IsCode, IsLineEnd, IsEscape};
 
+use crate::numbers::past_digits;
 use crate::text::{front_of, next_char, past_char, past_pair};
 
 fn is_simple_escape(c: char) -> bool
@@ -26,28 +27,6 @@ fn past_hex(text: &str, top: u32) -> Option<&str>
         return None;
     }
     if low.is_digit(16) { Some(rest) } else { None }
-}
-
-fn is_hex_or_underscore(c: char) -> bool
-    ensures { result ≡ is_hex_or_underscore c }
-{
-    c.is_digit(16) || c == '_'
-}
-
-/// Past the hexadecimal digits and underscores at the front.
-fn past_hex_digits(text: &str) -> &str
-    ensures skips { (front : List ℕ)
-        × Skips is_hex_or_underscore (chars text.now) front (chars result.now) }
-    ensures shorter { length result.now ≤ length text.now }
-{
-    let mut rest = text;
-    while let Some((c, after)) = next_char(rest) {
-        if !is_hex_or_underscore(c) {
-            break;
-        }
-        rest = after;
-    }
-    rest
 }
 
 /// Whether at most six digits, underscores aside, name a character.
@@ -86,7 +65,7 @@ fn past_code(text: &str) -> Option<&str>
     if !first.is_digit(16) {
         return None;
     }
-    let after = past_hex_digits(second);
+    let (_, after) = past_digits(second, 16);
     let Some(rest) = past_char(after, '}') else {
         return None;
     };

@@ -1,5 +1,5 @@
 // Integers.
-ghost use Rattle.std.specs.Prelude.{◌≡◌, ℕ, ◌≤◌, List, IfSome};
+ghost use Rattle.std.specs.Prelude.{◌≡◌, ℕ, ◌≤◌, List, IfSome, length};
 ghost use Rattle.std.specs.Str.{chars, IsUtf8};
 ghost use Rattle.tok_lexical.specs.Pieces.{IsLongestPrefix, ReadsLongest, Skips};
 ghost use Rattle.tok_lexical.specs.Numbers.{base_mark, radix, is_digit_or_underscore, is_exponent, starts_digit, is_fraction, starts_number_suffix, IsNumberSuffix, IsNumber, has_digit, IsBased, IsDecimal, is_bare, is_malformed, is_float};
@@ -48,12 +48,13 @@ fn is_digit_or_underscore(c: char, radix: u32) -> bool
 }
 
 /// Past the digits and underscores at the front, and whether there is a digit.
-fn past_digits(text: &str, radix: u32) -> (bool, &str)
+pub fn past_digits(text: &str, radix: u32) -> (bool, &str)
     requires low { 2 ≤ radix }
     requires high { radix ≤ 16 }
-    ensures { (front : List ℕ)
+    ensures skips { (front : List ℕ)
         × Skips (is_digit_or_underscore radix) (chars text.now) front (chars result.1.now)
         × (result.0 ≡ has_digit radix front) }
+    ensures shorter { length result.1.now ≤ length text.now }
 {
     let mut rest = text;
     let mut found = false;

@@ -11,8 +11,7 @@ ghost use Rattle.tok_types.specs.Printed.{Surrounds};
 
 use crate::look::Token;
 use std::alloc::AllocError;
-use std::fmt;
-use std::fmt::{Debug, Formatter, Write};
+use std::fmt::{self, Debug, Formatter, Write};
 use tok_buffer::Cursor;
 use tok_core::{DelimSpan, Delimiter, Span, TokenStream, TokenTree};
 

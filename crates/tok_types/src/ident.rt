@@ -1,13 +1,26 @@
 // Tokens that are made into identifiers.
-ghost use Rattle.std.specs.Prelude.{◌≡◌, codes, IfOk};
+ghost use Rattle.std.specs.Prelude.{◌≡◌, ◌<◌, codes, IfOk};
 ghost use Rattle.tok_leaves.specs.Leaves.{ident, ident_of};
 ghost use Rattle.tok_types.specs.Printed.{first_span};
+ghost use Rattle.tok_types.specs.Texts.{keyword_text};
 
+use crate::keyword::Keyword;
+use crate::texts::keyword_text;
 use crate::token;
 use crate::underscore::Underscore;
 use std::alloc::{AllocError, Global};
 use tok_core::Ident;
 use tok_core::known::identifier;
+
+impl<const K: usize> Keyword<K> {
+    // The identifier of a keyword in the table.
+    fn ident(self, alloc: Global) -> Result<Ident, AllocError>
+        requires { K < 54 }
+        ensures { IfOk result (λ i. ident_of i ≡ ident (keyword_text K) self.entry.span) }
+    {
+        identifier(alloc, keyword_text(K), self.span)
+    }
+}
 
 impl token::SelfValue {
     /// The identifier `self`.

@@ -1,6 +1,5 @@
 // Keywords.
-ghost use Rattle.std.specs.Prelude.{◌≡◌, ◌<◌, IfOk};
-ghost use Rattle.tok_leaves.specs.Leaves.{ident, ident_of};
+ghost use Rattle.std.specs.Prelude.{◌≡◌};
 ghost use Rattle.tok_leaves.specs.Spans.{call_site};
 ghost use Rattle.tok_buffer.specs.Reads.{read_keyword};
 ghost use Rattle.tok_types.specs.Looks.{Finds, IsText};
@@ -10,12 +9,10 @@ ghost use Rattle.tok_types.specs.Texts.{keyword_text, in_backquotes};
 use crate::look::Token;
 use crate::names::append_word;
 use crate::texts::{keyword_display, keyword_text};
-use std::alloc::{AllocError, Global};
-use std::fmt;
-use std::fmt::{Debug, Formatter, Write};
+use std::alloc::AllocError;
+use std::fmt::{self, Debug, Formatter, Write};
 use tok_buffer::Cursor;
-use tok_core::known::identifier;
-use tok_core::{Ident, Span, ToTokens, TokenStream};
+use tok_core::{Span, ToTokens, TokenStream};
 
 /// The keyword of the number `K` in the table of keywords: `token::Fn` is `Keyword<18>`. Past the table it has no text, is
 /// never found, and is written as nothing. All values of a type are equal.
@@ -39,14 +36,6 @@ impl<const K: usize> Keyword<K> {
         ensures { result.span ≡ span }
     {
         Keyword::new(span)
-    }
-
-    // The identifier of a keyword in the table.
-    pub(crate) fn ident(self, alloc: Global) -> Result<Ident, AllocError>
-        requires { K < 54 }
-        ensures { IfOk result (λ i. ident_of i ≡ ident (keyword_text K) self.entry.span) }
-    {
-        identifier(alloc, keyword_text(K), self.span)
     }
 }
 

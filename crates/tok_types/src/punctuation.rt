@@ -1,7 +1,7 @@
 // Punctuations.
 ghost use Rattle.std.specs.Prelude.{◌≡◌, [], ◌∷◌, replicate};
-ghost use Rattle.tok_buffer.specs.Reads.{read_punctuation};
 ghost use Rattle.tok_leaves.specs.Spans.{call_site};
+ghost use Rattle.tok_buffer.specs.Reads.{read_punctuation};
 ghost use Rattle.tok_types.specs.Looks.{Finds, IsText};
 ghost use Rattle.tok_types.specs.Printed.{puncts};
 ghost use Rattle.tok_types.specs.Texts.{punctuation_word, in_backquotes};
@@ -10,8 +10,7 @@ use crate::look::Token;
 use crate::texts::{punctuation_display, punctuation_text};
 use crate::token::printing;
 use std::alloc::AllocError;
-use std::fmt;
-use std::fmt::{Debug, Formatter, Write};
+use std::fmt::{self, Debug, Formatter, Write};
 use tok_buffer::Cursor;
 use tok_core::{Span, ToTokens, TokenStream};
 

@@ -8,8 +8,7 @@ ghost use Rattle.tok_types.specs.Printed.{first_span, word};
 use crate::look::Token;
 use crate::names::append_word;
 use std::alloc::AllocError;
-use std::fmt;
-use std::fmt::{Debug, Formatter, Write};
+use std::fmt::{self, Debug, Formatter, Write};
 use tok_buffer::Cursor;
 use tok_core::{Span, ToTokens, TokenStream};
 

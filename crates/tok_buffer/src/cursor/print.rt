@@ -19,10 +19,7 @@ use std::fmt::{Formatter, Write};
 use tok_core::{Delimiter, Spacing};
 
 impl<'a> Cursor<'a> {
-    ghost use Rattle.std.specs.Fmt.{WritesOnOk};
-    ghost use Rattle.tok_core.specs.Text.{text};
     ghost use Rattle.tok_buffer.specs.Cursors.{place_of};
-    ghost use Rattle.tok_buffer.specs.Rest.{rest};
 
     /// Writes all trees that are left in the scope, as the stream that `token_stream` makes of them is printed. Takes no
     /// memory.

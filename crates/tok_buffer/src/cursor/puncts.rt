@@ -11,10 +11,7 @@ use tok_core::{Punct, Spacing, Span};
 use tok_lexical::text::next_char;
 
 impl<'a> Cursor<'a> {
-    ghost use Rattle.std.specs.Prelude.{◌≡◌, ◌∷◌, [], length, MatchOption, Some, None, is_some};
-    ghost use Rattle.std.specs.Str.{chars};
-    ghost use Rattle.tok_core.specs.Forest.{leaf};
-    ghost use Rattle.tok_leaves.specs.Leaves.{punct_of};
+    ghost use Rattle.std.specs.Prelude.{◌∷◌, [], length, MatchOption, Some, None, is_some};
     ghost use Rattle.tok_buffer.specs.Cursors.{place_of};
     ghost use Rattle.tok_buffer.specs.Descent.{descend};
     ghost use Rattle.tok_buffer.specs.Gives.{Gives};

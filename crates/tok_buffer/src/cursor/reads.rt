@@ -10,11 +10,9 @@ use crate::lifetime::LifetimeRef;
 use tok_core::{Ident, Literal, Punct, Spacing, Span};
 
 impl<'a> Cursor<'a> {
-    ghost use Rattle.std.specs.Prelude.{◌≡◌, ◌∷◌, [], is_some};
-    ghost use Rattle.tok_core.specs.Clear.{is_joint_apostrophe};
+    ghost use Rattle.std.specs.Prelude.{◌∷◌, [], is_some};
     ghost use Rattle.tok_leaves.specs.declared.punct.Spacing.TheVariants.{Joint};
-    ghost use Rattle.tok_core.specs.Forest.{leaf};
-    ghost use Rattle.tok_leaves.specs.Leaves.{punct, ident_of, punct_of, literal_of, apostrophe};
+    ghost use Rattle.tok_leaves.specs.Leaves.{apostrophe, punct, ident_of, literal_of};
     ghost use Rattle.tok_buffer.specs.Cursors.{place_of};
     ghost use Rattle.tok_buffer.specs.Gives.{Gives};
     ghost use Rattle.tok_buffer.specs.Reads.{and_then, any_text, place_after, skip, read_if, read_ident, read_keyword, read_punct, read_literal, read_lifetime, read_tree, read_word};

@@ -12,12 +12,11 @@ use std::alloc::{AllocError, Global};
 use tok_core::{Group, TokenStream, TokenTree};
 
 impl<'a> Cursor<'a> {
-    ghost use Rattle.std.specs.Prelude.{◌≡◌, ◌∷◌, [], IfOk};
+    ghost use Rattle.std.specs.Prelude.{◌∷◌, [], IfOk};
     ghost use Rattle.tok_core.specs.Seen.{group_of, tree_of};
     ghost use Rattle.tok_buffer.specs.Cursors.{place_of};
     ghost use Rattle.tok_buffer.specs.Gives.{Gives};
     ghost use Rattle.tok_buffer.specs.Reads.{is_group, read_if, read_tree};
-    ghost use Rattle.tok_buffer.specs.Rest.{rest};
 
     /// The group in front, visible or not, made anew in memory of `alloc`, and the cursor after it.
     pub fn any_group_token(self, alloc: Global) -> Result<Option<(Group, Cursor<'a>)>, AllocError>

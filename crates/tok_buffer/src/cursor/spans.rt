@@ -11,7 +11,6 @@ use crate::entry::{Entry, Held, same};
 use tok_core::{DelimSpan, Delimiter, Span};
 
 impl<'a> Cursor<'a> {
-    ghost use Rattle.std.specs.Prelude.{◌≡◌};
     ghost use Rattle.tok_buffer.specs.Ahead.{left_of, leftover};
     ghost use Rattle.tok_buffer.specs.Cursors.{place_of};
     ghost use Rattle.tok_buffer.specs.Place.{count_before};

@@ -7,4 +7,4 @@ pub returns-then-not-starts_digit-clause-tries : goal.returns-then-not-starts_di
 returns-then-not-starts_digit-clause-tries c = none_decimal _ (sym c.starts_digit.ensures ∙ c.if-not-starts_digit.true)
 
 pub returns-clause-tries : goal.returns-clause-tries
-returns-clause-tries c = takes_number 10 starts_digit _ _ _ c.past_digits.ensures.0 _ c.past_digits.ensures.1 (digits_start _ _ _ c.past_digits.ensures.1 (sym c.starts_digit.ensures ∙ c.if-not-starts_digit.false)) c.past_number_suffix.ensures.1
+returns-clause-tries c = takes_number 10 starts_digit _ _ _ c.past_digits.ensures.skips.0 _ c.past_digits.ensures.skips.1 (digits_start _ _ _ c.past_digits.ensures.skips.1 (sym c.starts_digit.ensures ∙ c.if-not-starts_digit.false)) c.past_number_suffix.ensures.1
