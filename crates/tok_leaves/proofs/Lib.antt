@@ -1,3 +1,4 @@
+pub mod ByText
 pub mod Kept
 pub mod Names
 pub mod Quoting

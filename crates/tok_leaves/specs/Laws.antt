@@ -2,6 +2,7 @@
 use Rattle.std.specs.Prelude.{◌≡◌, ◌↔◌, ℕ, Bool, true, List, Option, Some}
 use Rattle.std.specs.Cmp.Lexicographic.{slice_cmp}
 use Rattle.std.specs.Ordering.{nat_cmp}
+use Rattle.std.specs.Hash as fed
 use Rattle.std.specs.declared.cmp.Ordering.{Ordering}
 use Rattle.std.specs.declared.cmp.Ordering.TheVariants.{Equal}
 use Rattle.tok_leaves.specs.declared.ident.Ident.{Ident}
@@ -20,7 +21,7 @@ module _ {A B : Type 0} (shown : A → B) where
 
   -- a value feeds a hasher what it shows, and nothing else; so equal values feed it alike
   abbrev pub HashedBy : (B → List (List ℕ)) → (A → List (List ℕ)) → Type 0
-  HashedBy input fed = (value : A) → fed value ≡ input (shown value)
+  HashedBy input feeds = (value : A) → feeds value ≡ input (shown value)
 
 -- two values are equal exactly where neither comes first, and any two are in order
 abbrev pub OrderAgrees : {A : Type 0} → (A → A → Bool) → (A → A → Ordering) →
@@ -32,6 +33,16 @@ OrderAgrees {A} equal compare partial =
 -- the order of texts: that of the first bytes that differ, and a front of a text before the text
 abbrev pub text_order : List ℕ → List ℕ → Ordering
 text_order = slice_cmp nat_cmp
+
+-- values are compared, ordered and hashed by the text that they show, and their order agrees with
+-- equality
+pub record IsByText {A : Type 0} (shown : A → List ℕ) (eq : A → A → Bool)
+    (cmp : A → A → Ordering) (partial_cmp : A → A → Option Ordering)
+    (hash_input : A → List (List ℕ)) : Type 0 where
+  pub equal : EqualBy shown eq
+  pub order : OrderedBy shown text_order cmp
+  pub agree : OrderAgrees eq cmp partial_cmp
+  pub hash : HashedBy shown fed.str hash_input
 
 -- an identifier's text
 abbrev pub text_of : Ident → List ℕ

@@ -3,8 +3,7 @@ ghost use Rattle.std.specs.Prelude.{◌≡◌, ◌↔◌, ℕ, List, true, bytes
 ghost use Rattle.std.specs.Ordering.{nat_cmp};
 ghost use Rattle.std.specs.Cmp.Lexicographic.{slice_cmp};
 ghost use Rattle.std.specs.declared.cmp.Ordering.TheVariants.{Equal};
-ghost use Rattle.std.specs.Hash as fed;
-ghost use Rattle.tok_leaves.specs.Laws.{EqualBy, HashedBy, OrderAgrees, OrderedBy, text_of, text_order};
+ghost use Rattle.tok_leaves.specs.Laws.{IsByText, text_of};
 ghost use Rattle.tok_leaves.specs.Lifetimes.{name_of};
 
 use crate::ident::Ident;
@@ -14,11 +13,8 @@ use std::hash::Hash;
 
 /// Identifiers are compared, ordered and hashed by their texts, and their order agrees with equality.
 pub fn idents_by_text()
-    ensures equal { EqualBy text_of ⟦<Ident as PartialEq>⟧.eq }
-    ensures order { OrderedBy text_of text_order ⟦<Ident as Ord>⟧.cmp }
-    ensures agree { OrderAgrees ⟦<Ident as PartialEq>⟧.eq ⟦<Ident as Ord>⟧.cmp
-        ⟦<Ident as PartialOrd>⟧.partial_cmp }
-    ensures hash { HashedBy text_of fed.str ⟦<Ident as Hash>⟧.hash_input }
+    ensures { IsByText text_of ⟦<Ident as PartialEq>⟧.eq ⟦<Ident as Ord>⟧.cmp
+        ⟦<Ident as PartialOrd>⟧.partial_cmp ⟦<Ident as Hash>⟧.hash_input }
 {}
 
 /// Lifetimes are compared by name alone, and are equal exactly where their order says so.
@@ -33,9 +29,6 @@ pub fn lifetimes_in_order(left: &Lifetime, right: &Lifetime) -> (bool, Ordering)
 
 /// Lifetimes are compared, ordered and hashed by their names, and their order agrees with equality.
 pub fn lifetimes_by_name()
-    ensures equal { EqualBy name_of ⟦<Lifetime as PartialEq>⟧.eq }
-    ensures order { OrderedBy name_of text_order ⟦<Lifetime as Ord>⟧.cmp }
-    ensures agree { OrderAgrees ⟦<Lifetime as PartialEq>⟧.eq ⟦<Lifetime as Ord>⟧.cmp
-        ⟦<Lifetime as PartialOrd>⟧.partial_cmp }
-    ensures hash { HashedBy name_of fed.str ⟦<Lifetime as Hash>⟧.hash_input }
+    ensures { IsByText name_of ⟦<Lifetime as PartialEq>⟧.eq ⟦<Lifetime as Ord>⟧.cmp
+        ⟦<Lifetime as PartialOrd>⟧.partial_cmp ⟦<Lifetime as Hash>⟧.hash_input }
 {}
