@@ -29,12 +29,6 @@ module _ {T : Type 0} (Means : T → List Tree → Type 0) (words : Refusal) (s 
   pub reads-stops : (x : Option (List Tree × Place)) (r : Result T Fault) (e : AllocError) → IsErrAnd r (λ f. f ≡ Memory e) → Reads Means x words s r s
   reads-stops x r e h = let p = err_from_is_err_and r h in rw (p.1, p.2) (reads-memory x (Memory e) tt)
 
-  pub reads-at-once : (x : Option (List Tree × Place)) (v : T) (ts : List Tree) (q : Place) → x ≡ Some (ts, q) → Means v ts → ReadsAtOnce Means x words s (Ok v) (moved q s)
-  reads-at-once x v ts q e m = rw e (m, refl)
-
-  pub refused-at-once : (x : Option (List Tree × Place)) (f : Fault) → x ≡ None → Refuses words f → ReadsAtOnce Means x words s (Err f) s
-  refused-at-once x f e r = rw e (r, refl)
-
 module _ {T U : Type 0} (Means : T → List Tree → Type 0) (Tells : U → List Tree → Type 0) (words : Refusal) (s : State) where
   -- the same read, by a value that is made of the first
   pub at-once-made : (x : Option (List Tree × Place)) (v : T) (u : U) (t : State) → ((ts : List Tree) → Means v ts → Tells u ts) → ReadsAtOnce Means x words s (Ok v) t → ReadsAtOnce Tells x words s (Ok u) t

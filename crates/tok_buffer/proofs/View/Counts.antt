@@ -1,12 +1,12 @@
 -- Counts against weights.
 use Rattle.std.proofs.Common.{◌≡◌, refl, ℕ, ◌+◌, List, [], ◌∷◌, arith}
 use Rattle.std.specs.Prelude.{⊤}
-use Rattle.tok_core.specs.Forest.{Forest, no_trees, tree}
-use Rattle.tok_core.specs.Weight.{weight, tree_weight}
+use Rattle.tok_core.specs.Forest.{Forest}
+use Rattle.tok_core.specs.Weight.{weight}
 use Rattle.tok_buffer.specs.Descent.{descend}
 use Rattle.tok_buffer.specs.Place.{Owner, whole, in_group, Level, level, Place, empty_place, at}
-use Rattle.tok_buffer.specs.Place.{start, absorb, pass}
-use Rattle.tok_buffer.proofs.View.Keeps.{IsKept, kept-settle, kept-descend}
+use Rattle.tok_buffer.specs.Place.{start, absorb}
+use Rattle.tok_buffer.proofs.View.Keeps.{IsKept, kept-descend}
 
 -- what the levels around have ahead: their trees, and the closing of each invisible group that has
 -- been entered
@@ -21,11 +21,6 @@ IsCounted (at n s c (level o p a) ls) = c + weight a + beyond ls ≡ s
 
 pub counted-start : (n : ℕ) (f : Forest) → IsCounted (start n f)
 counted-start n f = omega arith
-
--- at the scope's end the count is the scope's number
-pub count_at_end : (n s c : ℕ) (o : Owner) (p : Forest)
-    → IsCounted (at n s c (level o p no_trees) []) → c ≡ s
-count_at_end n s c o p h = omega (arith, h)
 
 beyond-absorb : (o : Owner) (p : Forest) (l : Level) (ls : List Level)
     → beyond (absorb o p l ∷ ls) ≡ beyond (l ∷ ls)
@@ -43,13 +38,6 @@ counted = record {
       λ n s c o p l ls h. counted-dropped n s c (absorb o p l) ls
       (omega (arith, h, beyond-absorb o p l ls));
 }
-
-pub counted-pass : (p : Place) → IsCounted p → IsCounted (pass p)
-counted-pass empty_place h = tt
-counted-pass (at n s c (level o p no_trees) ls) h = h
-counted-pass (at n s c (level o p (tree t f)) ls) h =
-    kept-settle IsCounted counted n s (c + tree_weight t) (level o (tree t p) f) ls
-    (omega (arith, h))
 
 pub counted-descend : (p : Place) → IsCounted p → IsCounted (descend p)
 counted-descend = kept-descend IsCounted counted

@@ -1,17 +1,13 @@
 -- The visible trees ahead as a forest.
-use Rattle.std.proofs.Common.{◌≡◌, ◌∙◌, sym, ap, refl, ℕ, ◌+◌, Bool, true, false, cond, List, []}
-use Rattle.std.proofs.Common.{◌∷◌, Option, Some, None}
-use Rattle.std.specs.Prelude.{option_map}
+use Rattle.std.proofs.Common.{◌≡◌, ◌∙◌, sym, refl, ℕ, ◌+◌, List, []}
+use Rattle.std.proofs.Common.{◌∷◌, None}
 use Rattle.tok_lexical.specs.declared.delimiter.Delimiter.TheVariants as delimiter
-use Rattle.tok_core.specs.Forest.{Tree, leaf, group, Forest, no_trees, tree, concat}
-use Rattle.tok_core.specs.Weight.{weight}
+use Rattle.tok_core.specs.Forest.{leaf, group, Forest, no_trees, tree, concat}
 use Rattle.tok_core.proofs.Facts.{joined_assoc}
 use Rattle.tok_buffer.specs.Descent.{descend}
 use Rattle.tok_buffer.specs.Place.{Owner, whole, in_group, Level, level, Place, empty_place, at}
-use Rattle.tok_buffer.specs.Place.{absorb, settle, settled, pass}
-use Rattle.tok_buffer.specs.Reads.{read_if}
-use Rattle.tok_buffer.proofs.View.Keeps.{IsKept, kept-settle, kept-descend, IsDescended}
-use Rattle.tok_buffer.proofs.View.Keeps.{descended-descend}
+use Rattle.tok_buffer.specs.Place.{absorb, settle, settled}
+use Rattle.tok_buffer.proofs.View.Keeps.{IsKept, kept-settle, kept-descend}
 
 -- settling twice is settling once
 pub settled-settle : (n s c : ℕ) (l : Level) (ls : List Level)
@@ -19,10 +15,6 @@ pub settled-settle : (n s c : ℕ) (l : Level) (ls : List Level)
 settled-settle n s c l [] = refl
 settled-settle n s c (level o p no_trees) (m ∷ ls) = settled-settle n s (c + 1) (absorb o p m) ls
 settled-settle n s c (level o p (tree t f)) (m ∷ ls) = refl
-
-pub settled_settled : (p : Place) → settled (settled p) ≡ settled p
-settled_settled empty_place = refl
-settled_settled (at n s c l ls) = settled-settle n s c l ls
 
 -- The visible trees ahead, without marks.
 abbrev pub unmarked : Forest → Forest
@@ -65,41 +57,3 @@ trees_ahead-settle n s c l ls =
 
 pub trees_ahead-descend : (p : Place) → trees_ahead (descend p) ≡ trees_ahead p
 trees_ahead-descend p = kept-descend (HasAhead (trees_ahead p)) (kept-ahead (trees_ahead p)) p refl
-
--- A read of one tree, in the trees ahead.
-abbrev pub first_of : (Tree → Bool) → Forest → Option (List Tree × Forest)
-first_of wanted no_trees = None
-first_of wanted (tree t f) = cond (wanted t) (Some (t ∷ [], f)) None
-
-abbrev pub read_ahead : Option (List Tree × Place) → Option (List Tree × Forest)
-read_ahead r = option_map (λ q. (q.0, trees_ahead q.1)) r
-
-read_ahead-cond : (b : Bool) (t : Tree) (p : Place) (f : Forest) → trees_ahead p ≡ f
-    → read_ahead (cond b (Some (t ∷ [], p)) None) ≡ cond b (Some (t ∷ [], f)) None
-read_ahead-cond true t p f e = ap (λ g. Some (t ∷ [], g)) e
-read_ahead-cond false t p f e = refl
-
-pub read_ahead-take : (wanted : Tree → Bool) (p : Place) → IsDescended p
-    → read_ahead (read_if wanted p) ≡ first_of wanted (trees_ahead p)
-read_ahead-take wanted empty_place h = refl
-read_ahead-take wanted (at n s c (level o p (tree (leaf l) f)) ls) h =
-    read_ahead-cond (wanted (leaf l)) (leaf l) (pass (at n s c (level o p (tree (leaf l) f)) ls))
-    (concat (unmarked f) (unmarked_in ls))
-    (trees_ahead-settle n s (c + 1) (level o (tree (leaf l) p) f) ls)
-read_ahead-take wanted (at n s c (level o p (tree (group delimiter.None inside span) f)) ls) h =
-    absurd h
-read_ahead-take wanted (at n s c (level o p (tree (group d inside span) f)) ls) h =
-    read_ahead-cond
-    (wanted (group d inside span))
-    (group d inside span)
-    (pass (at n s c (level o p (tree (group d inside span) f)) ls))
-    (concat (unmarked f) (unmarked_in ls))
-    (trees_ahead-settle n s (c + (2 + weight inside)) (level o (tree (group d inside span) p) f) ls)
-read_ahead-take wanted (at n s c (level o p no_trees) []) h = refl
-read_ahead-take wanted (at n s c (level o p no_trees) (l ∷ ls)) h = absurd h
-
-pub read_ahead-descend : (wanted : Tree → Bool) (p : Place)
-    → read_ahead (read_if wanted (descend p)) ≡ first_of wanted (trees_ahead p)
-read_ahead-descend wanted p =
-    read_ahead-take wanted (descend p) (descended-descend p)
-    ∙ ap (first_of wanted) (trees_ahead-descend p)
