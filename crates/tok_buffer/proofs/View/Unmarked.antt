@@ -1,6 +1,6 @@
 -- The visible trees ahead as a forest.
 use Rattle.std.proofs.Common.{◌≡◌, ◌∙◌, sym, refl, ℕ, ◌+◌, List, []}
-use Rattle.std.proofs.Common.{◌∷◌, None}
+use Rattle.std.proofs.Common.{◌∷◌}
 use Rattle.tok_lexical.specs.declared.delimiter.Delimiter.TheVariants as delimiter
 use Rattle.tok_core.specs.Forest.{leaf, group, Forest, no_trees, tree, concat}
 use Rattle.tok_core.proofs.Facts.{joined_assoc}
