@@ -16,7 +16,6 @@ use crate::cursor::Cursor;
 use std::alloc::{AllocError, Global};
 use std::cmp::Ordering;
 use tok_core::TokenStream;
-
 pub use tok_leaves::laws::{lifetimes_by_name, lifetimes_in_order};
 
 /// A buffer gives back the stream that it was made of, spans and invisible groups included.
