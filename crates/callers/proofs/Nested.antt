@@ -31,16 +31,6 @@ pub record GoesOn (start there : State) (n : ℕ) : Type 0 where
 abbrev pub CountsOn : (start there : State) → ℕ → Type 0
 CountsOn start there count = (n : ℕ) × (count ≡ capped n) × GoesOn start there n
 
-pub at_first : (s : State) → CountsOn s s 0
-at_first s = (
-  0,
-  refl,
-  record {
-    more = λ m end h. subst (λ z. AreEntries s z end) (omega arith) h;
-    refused = λ words h. h;
-  },
-)
-
 module _ (start there : State) (count : ℕ) (g : CountsOn start there count) where
   pub entries_end : is_at_end there.place ≡ true → CountsEntries start (Ok count) there
   entries_end h = (

@@ -37,14 +37,6 @@ module _ {T P F : Type 0} (rule : Rule) (reads : ValueCall F T) (separates : Cal
   map-snoc g [] x = refl
   map-snoc g (y ∷ xs) x = ap (λ ys. g y ∷ ys) (map-snoc g xs x)
 
-  pub so-far-none : (f : F) (s : State) (pairs : List (T × P)) → pairs ≡ [] → SoFar f s pairs f s
-  so-far-none f s pairs e = rw e (record {
-    turns = [];
-    chain = (refl, refl);
-    values = refl;
-    separators = refl;
-  })
-
   pub so-far-more : (f h g : F) (s m t : State) (pairs more : List (T × P)) (v : T) (p : P)
       → SoFar f s pairs h m
       → IsPiece rule reads separates h m (Ok (Full v p)) g t → progresses m.place t.place ≡ true
@@ -68,17 +60,6 @@ module _ {T P F : Type 0} (rule : Rule) (reads : ValueCall F T) (separates : Cal
             ∙ (ap (λ xs. xs ++ p ∷ []) so.separators
             ∙ sym (map-snoc turn_separator so.turns turn)));
       }
-
-  pub run-at_end : (f h g : F) (s m t : State) (pairs : Vec (T × P)) → SoFar f s pairs.items h m
-      → IsPiece rule reads separates h m (Ok End) g t
-      → IsRun rule reads separates f s (Ok (record { inner = pairs; last = None })) t
-  run-at_end f h g s m t pairs so i = record {
-    turns = so.turns;
-    parser = h;
-    last = m;
-    chain = so.chain;
-    ending = at_end i.0 i.2 (ap (λ xs. xs ++ []) so.values, so.separators);
-  }
 
   pub run-bare : (f h g : F) (s m t : State) (pairs : List (T × P)) (v : T)
       (r : Result (Punctuated T P) Fault) → Keeps pairs v r → SoFar f s pairs h m

@@ -17,31 +17,6 @@ use Rattle.syn_replay.proofs.Comparing.{Compares}
 heads : {A : Type 0} (x y : A) (xs ys : List A) → x ∷ xs ≡ y ∷ ys → (x ≡ y) × (xs ≡ ys)
 heads x y xs ys e = (cc, cc)
 
-pub compares_pieces : Compares (λ (xs ys : List Piece). map piece_of xs ≡ map piece_of ys)
-    (λ x y. piece_of x ≡ piece_of y)
-compares_pieces = record {
-  none = refl;
-  more =
-      λ x y xs ys. (
-        λ e. heads (piece_of x) (piece_of y) (map piece_of xs) (map piece_of ys) e,
-        λ h. ap₂ (λ p ps. p ∷ ps) h.0 h.1,
-      );
-  lengths = λ xs ys e. sym (length-map xs piece_of) ∙ ap length e ∙ length-map ys piece_of;
-}
-
-pub compares_parts : Compares
-    (λ (xs ys : List (Vec Piece)). map pieces_in xs ≡ map pieces_in ys)
-    (λ x y. pieces_in x ≡ pieces_in y)
-compares_parts = record {
-  none = refl;
-  more =
-      λ x y xs ys. (
-        λ e. heads (pieces_in x) (pieces_in y) (map pieces_in xs) (map pieces_in ys) e,
-        λ h. ap₂ (λ p ps. p ∷ ps) h.0 h.1,
-      );
-  lengths = λ xs ys e. sym (length-map xs pieces_in) ∙ ap length e ∙ length-map ys pieces_in;
-}
-
 first_trees : (t u : Tree) (f g : Forest) → tree t f ≡ tree u g → (t ≡ u) × (f ≡ g)
 first_trees t u f g e = (cc, cc)
 
@@ -69,13 +44,3 @@ compares_trees = record {
 pub of_streams : (b : Bool) (xs ys : List TokenTree) (f g : Forest) → trees_of xs ≡ f
     → trees_of ys ≡ g → IsTrue b ↔ (trees_of xs ≡ trees_of ys) → IsTrue b ↔ (f ≡ g)
 of_streams b xs ys f g l r h = (λ t. sym l ∙ h.0 t ∙ r, λ e. h.1 (l ∙ e ∙ sym r))
-
-pub compares_lines : Compares (λ (xs ys : List Line). LinesAgree (map line_of xs) (map line_of ys))
-    (λ x y. AnswersAgree (answer_of x.answer) (answer_of y.answer))
-compares_lines = record {
-  none = tt;
-  more = λ x y xs ys. (λ h. h, λ h. h);
-  lengths =
-      λ xs ys h. sym (length-map xs line_of) ∙ length_all_zip _ (map line_of xs) (map line_of ys) h
-      ∙ length-map ys line_of;
-}

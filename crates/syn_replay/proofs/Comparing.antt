@@ -25,15 +25,6 @@ module _ {A : Type 0} (P : List A → List A → Type 0) (R : A → A → Type 0
   pub not_as_many : (xs ys : List A) → (length xs ≡ length ys → ⊥) → IsTrue false ↔ P xs ys
   not_as_many xs ys n = (λ h. absurd (false≢true h), λ h. absurd (n (c.lengths xs ys h)))
 
-  pub all_same : (i : ℕ) (xs ys : List A) → length xs ≤ i → Undecided P i xs ys
-      → IsTrue true ↔ P xs ys
-  all_same i xs ys h s =
-      let left : drop i xs ≡ [] = drop_all i xs h in
-      let right : drop i ys ≡ [] = drop_all i ys (omega (arith, h, s.lengths)) in
-      let none : P (drop i xs) (drop i ys) =
-      subst (λ zs. P (drop i xs) zs) (sym right) (subst (λ zs. P zs []) (sym left) c.none) in
-      (λ t. s.rest.0 none, λ p. refl)
-
   first : (i : ℕ) (zs : List A) (z : A) → i < length zs → z ≡ get_or zs i z
       → drop i zs ≡ z ∷ drop (i + 1) zs
   first i zs z l e =
@@ -48,9 +39,6 @@ module _ {A : Type 0} (P : List A → List A → Type 0) (R : A → A → Type 0
         (subst (λ zs. P (x ∷ drop (i + 1) xs) zs ↔ goal)
         (sym (first i ys y (omega (arith, h, s.lengths)) b))
         (c.more x y (drop (i + 1) xs) (drop (i + 1) ys)))
-
-    pub one_differs : (R x y → ⊥) → IsTrue false ↔ P xs ys
-    one_differs n = (λ t. absurd (false≢true t), λ p. absurd (n (one_more.0 (s.rest.1 p)).0))
 
     pub goes_on : R x y → Undecided P (i + 1) xs ys
     goes_on r = record {

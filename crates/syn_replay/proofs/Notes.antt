@@ -57,9 +57,6 @@ pub data Under (st : State) (outer : ℕ) : ℕ → Type 0 where
 pub one_stream : (o : Option Stream) (s t : Stream) → o ≡ Some s → o ≡ Some t → s ≡ t
 one_stream o s t e f = let q : Some s ≡ Some t = sym e ∙ f in cc
 
-pub no_stream : (o : Option Stream) (s : Stream) → o ≡ None → o ≡ Some s → ⊥
-no_stream o s e f = let q : ◌≡◌ {A = Option Stream} None (Some s) = sym e ∙ f in cc
-
 pub ages_self : (s : Stream) → Ages s s
 ages_self s = record { kind = refl; open_before = λ h. h; note_before = λ h. h; whole = λ h. refl }
 

@@ -13,7 +13,3 @@ pub looks_more : (before : List Look) (word : List ℕ) (rest : List (List ℕ))
 looks_more before word rest l e =
     concat before l (all_looks rest)
     ∙ ap (λ o. option_map (λ ls. before ++ ls) (option_and_then (λ l. option_map (λ ls. l ∷ ls) (all_looks rest)) o)) (sym e)
-
--- a word that is none
-pub looks_none : (before : List Look) (word : List ℕ) (rest : List (List ℕ)) → look word ≡ None → None ≡ option_map (λ ls. before ++ ls) (all_looks (word ∷ rest))
-looks_none before word rest e = ap (λ o. option_map (λ ls. before ++ ls) (option_and_then (λ l. option_map (λ ls. l ∷ ls) (all_looks rest)) o)) (sym e)

@@ -12,9 +12,6 @@ use Rattle.syn_tokens.specs.Program.CommandText.{number_in}
 abbrev pub PassedOver : List (List ℕ) → List ℕ → ℕ → Type 0
 PassedOver texts word n = (j : ℕ) → j < n → bytes_eq (get_or texts j []) word ≡ false
 
-pub passed_none : (texts : List (List ℕ)) (word : List ℕ) → PassedOver texts word 0
-passed_none texts word j h = absurd (omega arith)
-
 pub passed_more : (texts : List (List ℕ)) (word : List ℕ) (n : ℕ) → PassedOver texts word n → bytes_eq (get_or texts n []) word ≡ false → PassedOver texts word (n + 1)
 passed_more texts word n h e j small =
     elim (eqb_tells j n) [

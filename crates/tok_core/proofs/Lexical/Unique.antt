@@ -1,5 +1,5 @@
 -- A text is cut in one way only.
-use Rattle.std.proofs.Common.{◌≡◌, ◌∙◌, ℕ, ◌+◌, ◌<◌, ◌⊎◌, inl, inr, List, [], ◌∷◌, ◌++◌, length, refl, sym, ap, subst, arith, append_assoc}
+use Rattle.std.proofs.Common.{◌≡◌, ◌∙◌, ℕ, ◌+◌, ◌⊎◌, inl, inr, List, ◌++◌, refl, sym, ap, subst, append_assoc}
 use Rattle.tok_lexical.proofs.Lexical.Fits.{decides_unique}
 use Rattle.tok_core.specs.Lexical.Items.{Item}
 use Rattle.tok_core.specs.Lexical.Meaning.{items}

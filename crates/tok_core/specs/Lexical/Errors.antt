@@ -1,5 +1,5 @@
 -- Refusals: their numbers and words, and where they are.
-use Rattle.std.specs.Prelude.{ℕ, List, codes}
+use Rattle.std.specs.Prelude.{ℕ, List}
 use Rattle.tok_lexical.specs.Refusals.{refusal_number, refusal_words}
 use Rattle.tok_leaves.specs.Spans.{source}
 use Rattle.tok_leaves.specs.declared.span.Span.{Span}

@@ -1,6 +1,6 @@
 -- What a piece means that a rule took at a byte, with a text after it: a refusal, or its items.
-use Rattle.std.specs.Prelude.{ℕ, ◌+◌, List, [], ◌∷◌, Bool, true, false, not, ◌==◌, length, map}
-use Rattle.std.specs.Prelude.{encode_utf8_all, if◌then◌else◌, Option, Some, None}
+use Rattle.std.specs.Prelude.{ℕ, ◌+◌, List, [], ◌∷◌, Bool, true, map}
+use Rattle.std.specs.Prelude.{encode_utf8_all, if◌then◌else◌}
 use Rattle.tok_lexical.specs.Pieces.{after_first}
 use Rattle.tok_lexical.specs.Widths.{bytes, width}
 use Rattle.tok_leaves.specs.Leaves.{ident, punct, literal}
