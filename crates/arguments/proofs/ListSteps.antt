@@ -1,9 +1,7 @@
 -- The arguments up to the end, one after another.
 use Rattle.std.proofs.Common.{◌≡◌, ◌∙◌, sym, ap, subst, refl, ℕ, ◌==◌, ◌&&◌, not, Bool, true, false}
-use Rattle.std.proofs.Common.{cond, List, [], ◌∷◌, ◌++◌, Some, None, Err}
-use Rattle.std.specs.Prelude.{is_some}
-use Rattle.std.proofs.lemmas.Bool.{eqb-true}
-use Rattle.std.proofs.lemmas.List.{append_assoc, append-nil}
+use Rattle.std.proofs.Common.{cond, List, [], ◌∷◌, ◌++◌, Some, None, Err, is_some, eqb-true}
+use Rattle.std.proofs.Common.{append_assoc, append-nil}
 use Rattle.tok_core.specs.Filled.{has_trees}
 use Rattle.tok_leaves.specs.Leaves.{ident, punct, literal}
 use Rattle.tok_core.specs.Forest.{Tree, leaf, group, Forest, no_trees, tree}

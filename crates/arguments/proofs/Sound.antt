@@ -1,8 +1,6 @@
 -- What comes of reading tree by tree, the grammar has as arguments.
 use Rattle.std.proofs.Common.{◌≡◌, ◌∙◌, sym, ap, subst, refl, ℕ, ◌==◌, Bool, true, false, cond}
-use Rattle.std.proofs.Common.{List, [], ◌∷◌, Ok, Err, inl, inr}
-use Rattle.std.specs.Prelude.{◌⊎◌, Result}
-use Rattle.std.proofs.lemmas.Bool.{eqb-true}
+use Rattle.std.proofs.Common.{List, [], ◌∷◌, Ok, Err, inl, inr, ◌⊎◌, Result, eqb-true}
 use Rattle.tok_leaves.specs.Leaves.{ident, punct, literal, ident_of, literal_of}
 use Rattle.tok_core.specs.Forest.{Tree, leaf, group, Forest, no_trees, tree, forest, concat}
 use Rattle.tok_lexical.specs.declared.delimiter.Delimiter.TheVariants as delimiter

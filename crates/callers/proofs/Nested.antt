@@ -17,9 +17,8 @@ use Rattle.syn_parse.specs.Reads.{Call}
 use Rattle.syn_parse.specs.State.{State, after_group, closed, content_of}
 use Rattle.syn_parse.specs.RefusalWords.{delimiter_words, refused_at}
 use Rattle.callers.specs.Items.{name_refusal, read_name}
-use Rattle.callers.specs.Nested.{AreEntries, CountsEntries, CountsEntry, EntriesRefused}
-use Rattle.callers.specs.Nested.{IsEntry, capped, here, later, list, name, neither}
-use Rattle.callers.specs.Nested.{none, one_more, within}
+use Rattle.callers.specs.Nested.{AreEntries, CountsEntries, CountsEntry, EntriesRefused, IsEntry}
+use Rattle.callers.specs.Nested.{capped, here, later, list, name, neither, none, one_more, within}
 use Rattle.callers.proofs.Parts.{was_read}
 
 -- what is read at `there` goes on from this many names, which were read from `start` to there

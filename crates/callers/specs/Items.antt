@@ -8,16 +8,14 @@ use Rattle.tok_leaves.specs.Leaves.{ident_of}
 use Rattle.tok_buffer.specs.Entry.{Entered, enter}
 use Rattle.tok_buffer.specs.Place.{Place, is_at_end}
 use Rattle.tok_buffer.specs.Reads.{and_then, place_after, read_ident, read_keyword}
-use Rattle.tok_buffer.specs.Reads.{read_punctuation}
-use Rattle.tok_buffer.specs.Reads.{read_word}
+use Rattle.tok_buffer.specs.Reads.{read_punctuation, read_word}
 use Rattle.tok_buffer.specs.Refusals.{Refusal}
 use Rattle.tok_types.specs.Texts.{accept_as_ident, in_backquotes}
 use Rattle.syn_parse.specs.Faults.{IsMemory, Refuses}
 use Rattle.syn_parse.specs.Reads.{Call, Read, Reads}
 use Rattle.syn_parse.specs.State.{State, closed, content_of, moved}
 use Rattle.syn_parse.specs.RefusalWords.{delimiter_words, expected, ident_words}
-use Rattle.syn_parse.specs.RefusalWords.{punctuation_refusal}
-use Rattle.syn_parse.specs.RefusalWords.{refused_at}
+use Rattle.syn_parse.specs.RefusalWords.{punctuation_refusal, refused_at}
 use Rattle.syn_parse.specs.declared.fault.Fault.{Fault}
 use Rattle.callers.specs.declared.streams.Field.{Field}
 use Rattle.callers.specs.declared.streams.Item.{Item}

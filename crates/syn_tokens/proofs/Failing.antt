@@ -1,9 +1,7 @@
--- Calls, one more, and the one that failed.
-use Rattle.std.proofs.Common.{◌≡◌, ◌≢◌, ◌∙◌, refl, inl, inr, ℕ, suc, ◌+◌, Result, Ok, Err, arith}
-use Rattle.std.specs.IoError.{error_kind}
+-- Calls, and one more.
+use Rattle.std.proofs.Common.{◌≡◌, ℕ, suc, ◌+◌, Result, arith}
 use Rattle.std.specs.declared.io.Error.{Error}
-use Rattle.std.specs.declared.io.ErrorKind.TheVariants.{Interrupted}
-use Rattle.syn_tokens.specs.Program.Failures.{Calls, FailsToRead, FailsToWrite}
+use Rattle.syn_tokens.specs.Program.Failures.{Calls}
 
 module _ {S : Type 0} (calls : S → Result ℕ Error → S → Type 0) (s : S) where
   -- so many calls, of which the loop has counted each
@@ -12,5 +10,3 @@ module _ {S : Type 0} (calls : S → Result ℕ Error → S → Type 0) (s : S) 
 
   pub one_more : (i : ℕ) (mid : S) (r : Result ℕ Error) (t : S) → Counted i mid → calls mid r t → Counted (i + 1) t
   one_more i mid r t h call = (suc h.0, omega (arith, h.1), (mid, r, h.2, call))
-
-  module _ (flushes : S → Result (Unit {0}) Error → S → Type 0) where
