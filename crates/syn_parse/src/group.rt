@@ -105,7 +105,10 @@ impl<'a> ParseBuffer<'a> {
                     ParseBuffer::made(self.allocator(), content, span.close(), None),
                 ))
             }
-            None => Err(self.error(words_of(delimiter).0)),
+            None => {
+                let (expected, _) = words_of(delimiter);
+                Err(self.error(expected))
+            }
         }
     }
 

@@ -210,7 +210,8 @@ impl<'a> ParseBuffer<'a> {
         match left {
             None => Ok(()),
             Some((span, delimiter)) => {
-                let error = Error::new(alloc, span, words_of(delimiter).1);
+                let (_, leftover) = words_of(delimiter);
+                let error = Error::new(alloc, span, leftover);
                 Err(Fault::refused(error))
             }
         }

@@ -1,8 +1,7 @@
 -- How a run of a list parser is put together from its turns.
 use Rattle.std.proofs.Common.{◌≤◌, ◌<◌, ◌+◌, length, length-append, arith, ◌≡◌, ◌∙◌, sym, ap, refl}
-use Rattle.std.proofs.Common.{ℕ, List, [], ◌∷◌, ◌++◌, map, true, false, None, Ok, Err, inl, inr}
+use Rattle.std.proofs.Common.{ℕ, List, [], ◌∷◌, ◌++◌, map, true, false, Ok, Err, inl, inr}
 use Rattle.std.specs.Prelude.{Result, alloc_error}
-use Rattle.std.specs.Global.{Vec}
 use Rattle.syn_parse.specs.Faults.{Refuses}
 use Rattle.syn_parse.specs.Reads.{Call}
 use Rattle.syn_parse.specs.State.{State}
@@ -11,9 +10,9 @@ use Rattle.syn_parse.specs.declared.fault.Fault.TheVariants.{Memory}
 use Rattle.syn_punctuated.specs.Private.Pieces.{IsPiece, Keeps}
 use Rattle.syn_punctuated.specs.Progress.{progresses}
 use Rattle.syn_punctuated.specs.Turns.{Rule, ValueCall, Turn, turn_value, turn_separator, Chain}
-use Rattle.syn_punctuated.specs.Turns.{IsTurn, IsRun, at_end, bare, value_refused}
+use Rattle.syn_punctuated.specs.Turns.{IsTurn, IsRun, bare, value_refused}
 use Rattle.syn_punctuated.specs.Turns.{separator_refused, value_lost, turn_lost, stuck, no_progress}
-use Rattle.syn_punctuated.specs.declared.parse.Piece.TheVariants.{End, Bare, Full}
+use Rattle.syn_punctuated.specs.declared.parse.Piece.TheVariants.{Bare, Full}
 use Rattle.syn_punctuated.specs.declared.punctuated.Punctuated.{Punctuated}
 
 module _ {T P F : Type 0} (rule : Rule) (reads : ValueCall F T) (separates : Call P) where

@@ -54,10 +54,7 @@ impl<T: Drop, P: Drop> Punctuated<T, P> {
     {
         match self.last.take() {
             Some(value) => Some(Box::into_inner(value)),
-            None => match self.inner.pop() {
-                Some((value, _)) => Some(value),
-                None => None,
-            },
+            None => self.inner.pop().map(|(value, _)| value),
         }
     }
 
@@ -101,10 +98,10 @@ impl<T: Drop, P: Drop> Punctuated<T, P> {
     {
         match self.last.take() {
             Some(value) => Some(Pair::End(Box::into_inner(value))),
-            None => match self.inner.pop() {
-                Some((value, separator)) => Some(Pair::Punctuated(value, separator)),
-                None => None,
-            },
+            None => self
+                .inner
+                .pop()
+                .map(|(value, separator)| Pair::Punctuated(value, separator)),
         }
     }
 

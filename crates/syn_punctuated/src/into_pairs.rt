@@ -59,10 +59,10 @@ impl<T: Drop, P: Drop> Iterator for IntoPairs<T, P> {
     fn next(&mut self) -> Option<Pair<T, P>> {
         match self.inner.pop_front() {
             Some((value, separator)) => Some(Pair::Punctuated(value, separator)),
-            None => match self.last.take() {
-                Some(value) => Some(Pair::End(Box::into_inner(value))),
-                None => None,
-            },
+            None => self
+                .last
+                .take()
+                .map(|value| Pair::End(Box::into_inner(value))),
         }
     }
 
@@ -83,10 +83,9 @@ impl<T: Drop, P: Drop> DoubleEndedIterator for IntoPairs<T, P> {
         if let Some(value) = self.last.take() {
             return Some(Pair::End(Box::into_inner(value)));
         }
-        match self.inner.pop_back() {
-            Some((value, separator)) => Some(Pair::Punctuated(value, separator)),
-            None => None,
-        }
+        self.inner
+            .pop_back()
+            .map(|(value, separator)| Pair::Punctuated(value, separator))
     }
 }
 

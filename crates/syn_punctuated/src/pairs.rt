@@ -84,10 +84,9 @@ impl<'a, T, P> DoubleEndedIterator for Pairs<'a, T, P> {
         if let Some(value) = self.last.take() {
             return Some(Pair::End(value));
         }
-        match self.inner.next_back() {
-            Some(pair) => Some(Pair::Punctuated(&pair.0, &pair.1)),
-            None => None,
-        }
+        self.inner
+            .next_back()
+            .map(|pair| Pair::Punctuated(&pair.0, &pair.1))
     }
 }
 

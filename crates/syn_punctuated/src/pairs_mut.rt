@@ -20,13 +20,9 @@ impl<T, P> Punctuated<T, P> {
     pub fn pairs_mut(&mut self) -> PairsMut<'_, T, P>
         ensures { lent_pairs result ≡ paired (values_of self.old) (separators_of self.old) }
     {
-        let last = match &mut self.last {
-            Some(value) => Some(value.as_mut()),
-            None => None,
-        };
         PairsMut {
             inner: self.inner.as_mut_slice().iter_mut(),
-            last,
+            last: self.last.as_deref_mut(),
         }
     }
 }
@@ -97,10 +93,7 @@ impl<'a, T, P> DoubleEndedIterator for PairsMut<'a, T, P> {
         if self.last.is_some() {
             return lend_last(self.last.take());
         }
-        match self.inner.next_back() {
-            Some(pair) => Some(lend_pair(pair)),
-            None => None,
-        }
+        self.inner.next_back().map(lend_pair)
     }
 }
 

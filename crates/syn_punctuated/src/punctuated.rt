@@ -89,9 +89,6 @@ impl<T, P> Punctuated<T, P> {
     pub(crate) fn bare_value(&self) -> Option<&T>
         ensures { option_to_list (option_copied result) ≡ boxed_values self.now.last }
     {
-        match &self.last {
-            Some(value) => Some(value.as_ref()),
-            None => None,
-        }
+        self.last.as_deref()
     }
 }

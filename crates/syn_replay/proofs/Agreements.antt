@@ -1,17 +1,10 @@
 -- Pieces, streams and lines compared one by one.
-use Rattle.std.proofs.Common.{suc, Bool, ◌≡◌, ap, ap₂, refl, ◌∙◌, sym, List, [], ◌∷◌, map}
+use Rattle.std.proofs.Common.{suc, Bool, ◌≡◌, ap, ap₂, refl, ◌∙◌, sym, List, [], ◌∷◌}
 use Rattle.std.proofs.Common.{length}
-use Rattle.std.proofs.lemmas.List.{length-map}
-use Rattle.std.proofs.lemmas.List.Elements.{length_all_zip}
-use Rattle.std.specs.Global.{Vec}
 use Rattle.std.specs.Prelude.{◌↔◌, IsTrue}
 use Rattle.tok_core.specs.declared.stream.TokenTree.{TokenTree}
 use Rattle.tok_core.specs.Forest.{Tree, Forest, tree}
 use Rattle.tok_core.specs.Seen.{tree_of, trees_of}
-use Rattle.syn_replay.specs.Agree.{AnswersAgree, LinesAgree}
-use Rattle.syn_replay.specs.Meanings.{answer_of, line_of, piece_of, pieces_in}
-use Rattle.syn_replay.specs.declared.report.Line.{Line}
-use Rattle.syn_replay.specs.declared.report.Piece.{Piece}
 use Rattle.syn_replay.proofs.Comparing.{Compares}
 
 heads : {A : Type 0} (x y : A) (xs ys : List A) → x ∷ xs ≡ y ∷ ys → (x ≡ y) × (xs ≡ ys)

@@ -3,7 +3,10 @@ use Rattle.std.proofs.Common.{◌≡◌, ◌∙◌, sym, ap, ℕ, ◌+◌, ◌<�
 use Rattle.std.proofs.lemmas.List.{append_assoc, map-append, take_more_set}
 use Rattle.tok_leaves.specs.declared.span.Span.{Span}
 use Rattle.tok_core.specs.Forest.{Tree, tree_span}
-use Rattle.tok_buffer.specs.Place.{Place}
+use Rattle.tok_buffer.specs.declared.cursor.Cursor.{Cursor}
+use Rattle.tok_buffer.specs.declared.spot.Spot.{Spot}
+use Rattle.tok_buffer.specs.Cursors.{place_of, spot_place}
+use Rattle.tok_buffer.specs.Place.{Place, empty_place}
 use Rattle.tok_buffer.specs.Reads.{and_then, read_next, read_punctuation}
 
 abbrev Read : Type 0
@@ -47,3 +50,18 @@ module _ (text : List ℕ) (start : Place) (i : ℕ) (spans : List Span) (left :
     kept = take_more_set spans i (tree_span t) low ∙ ap (λ xs. xs ++ tree_span t ∷ []) so.kept ∙ sym (map-append tree_span so.done (t ∷ []));
     reads = so.reads ∙ ap (after so.done) (ap (λ x. read_all x here) e ∙ one_more c cs here q t h) ∙ after-after so.done t (read_all cs q);
   }
+
+-- the place of a spot, if there is one
+abbrev placed : Option Spot → Place
+placed spot = elim spot [ None ↦ empty_place | Some s ↦ spot_place s ]
+
+pub at_spot : (cursor : Cursor) (spot : Spot) → cursor.spot ≡ Some spot → place_of cursor ≡ spot_place spot
+at_spot cursor spot e = ap placed e
+
+pub nothing_at_empty : (cs : List ℕ) → read_punctuation cs empty_place ≡ None
+nothing_at_empty [] = refl
+nothing_at_empty (c ∷ []) = refl
+nothing_at_empty (c ∷ (d ∷ cs)) = refl
+
+pub nothing_without_spot : (cursor : Cursor) (cs : List ℕ) → cursor.spot ≡ None → read_punctuation cs (place_of cursor) ≡ None
+nothing_without_spot cursor cs e = ap (λ s. read_punctuation cs (placed s)) e ∙ nothing_at_empty cs

@@ -49,7 +49,7 @@ pub fn is_clear(stream: &TokenStream) -> bool
 {
     let mut joint = false;
     for next in stream.trees() {
-        if joint & is_invisible_group(next) {
+        if joint && is_invisible_group(next) {
             return false;
         }
         if !is_tree_clear(next) {

@@ -26,9 +26,7 @@ fn past_end(text: &str) -> Option<&str>
     ensures tries { ReadsLongest (After 39 IsSuffix) (chars text.now) result }
     ensures utf8 { IfSome result (λ rest. IsUtf8 rest.now) }
 {
-    let Some(rest) = past_char(text, '\'') else {
-        return None;
-    };
+    let rest = past_char(text, '\'')?;
     Some(past_suffix(rest))
 }
 
@@ -46,9 +44,7 @@ fn past_escaped(text: &str) -> Option<&str>
     ensures finds { ReadsPrefix IsEscapedChar (chars text.now) result }
     ensures utf8 { IfSome result (λ rest. IsUtf8 rest.now) }
 {
-    let Some(rest) = past_char(text, '\\') else {
-        return None;
-    };
+    let rest = past_char(text, '\\')?;
     past_escape(rest, false, false)
 }
 
@@ -72,12 +68,8 @@ pub fn past_plain_char(text: &str) -> Option<&str>
     ensures tries { ReadsLongest (IsQuoted (IsOne is_char)) (chars text.now) result }
     ensures utf8 { IfSome result (λ rest. IsUtf8 rest.now) }
 {
-    let Some(start) = past_char(text, '\'') else {
-        return None;
-    };
-    let Some(end) = past_plain(start) else {
-        return None;
-    };
+    let start = past_char(text, '\'')?;
+    let end = past_plain(start)?;
     past_end(end)
 }
 
@@ -86,12 +78,8 @@ pub fn past_escaped_char(text: &str) -> Option<&str>
     ensures tries { ReadsLongest (IsQuoted IsEscapedChar) (chars text.now) result }
     ensures utf8 { IfSome result (λ rest. IsUtf8 rest.now) }
 {
-    let Some(start) = past_char(text, '\'') else {
-        return None;
-    };
-    let Some(end) = past_escaped(start) else {
-        return None;
-    };
+    let start = past_char(text, '\'')?;
+    let end = past_escaped(start)?;
     past_end(end)
 }
 
@@ -100,12 +88,8 @@ fn past_quoted_byte(text: &str) -> Option<&str>
     ensures tries { ReadsLongest (IsQuoted IsByte) (chars text.now) result }
     ensures utf8 { IfSome result (λ rest. IsUtf8 rest.now) }
 {
-    let Some(start) = past_char(text, '\'') else {
-        return None;
-    };
-    let Some(end) = past_byte(start) else {
-        return None;
-    };
+    let start = past_char(text, '\'')?;
+    let end = past_byte(start)?;
     past_end(end)
 }
 
@@ -114,8 +98,6 @@ pub fn past_byte_char(text: &str) -> Option<&str>
     ensures tries { ReadsLongest (After 98 (IsQuoted IsByte)) (chars text.now) result }
     ensures utf8 { IfSome result (λ rest. IsUtf8 rest.now) }
 {
-    let Some(start) = past_char(text, 'b') else {
-        return None;
-    };
+    let start = past_char(text, 'b')?;
     past_quoted_byte(start)
 }

@@ -58,17 +58,13 @@ fn past_code(text: &str) -> Option<&str>
     ensures utf8 { IfSome result (λ rest. IsUtf8 rest.now) }
     ensures shorter { IfSome result (λ rest. length rest.now < length text.now) }
 {
-    let Some(start) = past_char(text, '{') else {
-        return None;
-    };
+    let start = past_char(text, '{')?;
     let (first, second) = next_char(start)?;
     if !first.is_digit(16) {
         return None;
     }
     let (_, after) = past_digits(second, 16);
-    let Some(rest) = past_char(after, '}') else {
-        return None;
-    };
+    let rest = past_char(after, '}')?;
     if names_char(front_of(start, after)) {
         Some(rest)
     } else {

@@ -60,11 +60,10 @@ pub fn past_digits(text: &str, radix: u32) -> (bool, &str)
     let mut found = false;
     while let Some((c, after)) = next_char(rest) {
         let is_digit = c.is_digit(radix);
-        let goes_on = is_digit | (c == '_');
-        if !goes_on {
+        if !is_digit && c != '_' {
             break;
         }
-        found = found | is_digit;
+        found |= is_digit;
         rest = after;
     }
     (found, rest)
@@ -117,9 +116,7 @@ pub fn past_based(text: &str, base: Base) -> Option<&str>
     ensures tries { ReadsLongest (IsBased base) (chars text.now) result }
     ensures utf8 { IfSome result (λ rest. IsUtf8 rest.now) }
 {
-    let Some(digits) = past_pair(text, '0', base.mark()) else {
-        return None;
-    };
+    let digits = past_pair(text, '0', base.mark())?;
     past_in_base(digits, base.radix())
 }
 

@@ -30,9 +30,7 @@ fn past_raw(text: &str) -> Option<&str>
     ensures finds { ReadsPrefix (After 114 IsHashes) (chars text.now) result }
     ensures utf8 { IfSome result (λ rest. IsUtf8 rest.now) }
 {
-    let Some(rest) = past_char(text, 'r') else {
-        return None;
-    };
+    let rest = past_char(text, 'r')?;
     past_hashes(rest)
 }
 

@@ -75,9 +75,7 @@ pub fn past_raw_identifier(text: &str) -> Option<&str>
     ensures tries { ReadsLongest IsRawIdentifier (chars text.now) result }
     ensures utf8 { IfSome result (λ rest. IsUtf8 rest.now) }
 {
-    let Some(name) = past_pair(text, 'r', '#') else {
-        return None;
-    };
+    let name = past_pair(text, 'r', '#')?;
     past_identifier(name)
 }
 
@@ -97,9 +95,7 @@ pub fn past_lifetime(text: &str) -> Option<&str>
     ensures tries { ReadsLongest (After 39 IsName) (chars text.now) result }
     ensures utf8 { IfSome result (λ rest. IsUtf8 rest.now) }
 {
-    let Some(name) = past_char(text, '\'') else {
-        return None;
-    };
+    let name = past_char(text, '\'')?;
     past_name(name)
 }
 

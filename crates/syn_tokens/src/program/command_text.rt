@@ -229,12 +229,10 @@ fn token(word: &str) -> Option<Kind>
 fn keyword(word: &str) -> Option<usize>
     ensures { result ≡ spec.number_in keywords word.now }
 {
-    let mut k = 0;
-    while k < KEYWORDS {
+    for k in 0..KEYWORDS {
         if keyword_text(k) == word {
             return Some(k);
         }
-        k += 1;
     }
     None
 }
@@ -243,12 +241,10 @@ fn keyword(word: &str) -> Option<usize>
 fn punctuation(word: &str) -> Option<usize>
     ensures { result ≡ spec.number_in punctuations word.now }
 {
-    let mut k = 0;
-    while k < PUNCTUATIONS {
+    for k in 0..PUNCTUATIONS {
         if punctuation_text(k) == word {
             return Some(k);
         }
-        k += 1;
     }
     None
 }

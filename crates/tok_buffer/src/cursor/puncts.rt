@@ -7,6 +7,7 @@ ghost use Rattle.tok_buffer.specs.Reads as spec;
 
 use crate::cursor::Cursor;
 use crate::entry::Entry;
+use crate::spot::Spot;
 use tok_core::{Punct, Spacing, Span};
 use tok_lexical::text::next_char;
 
@@ -22,34 +23,23 @@ impl<'a> Cursor<'a> {
     pub fn peek_punct(self, text: &str) -> bool
         ensures { result ≡ is_some (read_punctuation (chars text.now) (place_of self.entry)) }
     {
+        let Some(mut spot) = self.spot else {
+            return false;
+        };
         let Some((first, after)) = next_char(text) else {
             return false;
         };
-        let mut cursor = self;
         let mut wanted = first;
         let mut rest = after;
         while let Some((next, after)) = next_char(rest) {
-            match cursor.next_of(wanted, rest) {
-                Some((_, ahead)) => cursor = ahead,
+            match spot.next_of(wanted, rest) {
+                Some((_, ahead)) => spot = ahead,
                 None => return false,
             }
             wanted = next;
             rest = after;
         }
-        cursor.peek_char(wanted)
-    }
-
-    // A punct of this character is in front.
-    fn peek_char(self, wanted: char) -> bool
-        ensures { result ≡ is_some (read_if (is_punct_of wanted) (descend (place_of self.entry))) }
-    {
-        match self.spot {
-            None => false,
-            Some(spot) => match spot.ignore_none().entry() {
-                Entry::Punct(punct) => is_punct_of(*punct, wanted),
-                _ => false,
-            },
-        }
+        spot.peek_char(wanted)
     }
 
     /// Reads the puncts in front that are the characters of this text, each but the last joint: writes a span for each
@@ -66,40 +56,58 @@ impl<'a> Cursor<'a> {
         if spans.is_empty() {
             return None;
         }
-        let mut cursor = self;
+        let mut spot = self.spot?;
         let mut rest = text;
         for span in spans.iter_mut() {
             let Some((wanted, after)) = next_char(rest) else {
                 return None;
             };
-            let Some((punct, ahead)) = cursor.next_of(wanted, after) else {
+            let Some((punct, ahead)) = spot.next_of(wanted, after) else {
                 return None;
             };
             *span = punct.span();
-            cursor = ahead;
+            spot = ahead;
             rest = after;
         }
         match next_char(rest) {
-            None => Some(cursor),
+            None => Some(Cursor::at(spot)),
             Some(_) => None,
         }
     }
+}
+
+impl<'a> Spot<'a> {
+    ghost use Rattle.std.specs.Prelude.{◌∷◌, [], is_some};
+    ghost use Rattle.tok_buffer.specs.Cursors.{spot_place};
+    ghost use Rattle.tok_buffer.specs.Descent.{descend};
+    ghost use Rattle.tok_buffer.specs.Gives.{Gives};
+    ghost use Rattle.tok_buffer.specs.Reads.{is_punct_of, read_if, read_next};
 
     // The punct of the first of some characters in front, joint where more of them follow.
-    fn next_of(self, wanted: char, rest: &str) -> Option<(Punct, Cursor<'a>)>
-        ensures { Gives result (read_next wanted (chars rest.now) (place_of self.entry))
-            (λ r. (leaf (punct_of r.0) ∷ [], place_of r.1)) }
+    fn next_of(self, wanted: char, rest: &str) -> Option<(&'a Punct, Spot<'a>)>
+        ensures { Gives result (read_next wanted (chars rest.now) (spot_place self.entry))
+            (λ r. (leaf (punct_of r.0.now) ∷ [], spot_place r.1)) }
     {
-        let spot = self.spot?.ignore_none();
+        let spot = self.ignore_none();
         match spot.entry() {
             Entry::Punct(punct) => {
                 if is_next_of(*punct, wanted, rest) {
-                    Some((*punct, Cursor::at(spot.bump())))
+                    Some((punct, spot.bump()))
                 } else {
                     None
                 }
             }
             _ => None,
+        }
+    }
+
+    // A punct of this character is in front.
+    fn peek_char(self, wanted: char) -> bool
+        ensures { result ≡ is_some (read_if (is_punct_of wanted) (descend (spot_place self.entry))) }
+    {
+        match self.ignore_none().entry() {
+            Entry::Punct(punct) => is_punct_of(*punct, wanted),
+            _ => false,
         }
     }
 }

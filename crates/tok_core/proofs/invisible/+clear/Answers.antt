@@ -5,16 +5,17 @@ use Rattle.tok_core.specs.Weight.{weight, tree_weight}
 use Rattle.tok_core.proofs.Clears.{clear_after, clear-edge, clear-torn, clear-later}
 use Rattle.tok_core.proofs.Trees.{trees_of-drop, weight-here}
 use Rattle.tok_core.proofs.invisible.+clear.Goals as goal
+use Rattle.tok_core.proofs.invisible.+clear.Goals.{is_clear-else-joint-via-then-joint+else-is_invisible_group, is_clear-else-joint-via-else-joint}
 
 pub is_clear-is_tree_clear-requires : goal.is_clear-is_tree_clear-requires
 is_clear-is_tree_clear-requires t c =
     let small : tree_weight (tree_of c.next-item.result) ≤ weight c.args.stream.now = weight-here c.trees-next-items.result.now c.loop-next.next-index c.next-item.result _ c.trees-next-items.ensures c.loop-next-test.true c.next-item.is in
     search rules
 
-pub is_clear-returns-then-joint-is_invisible_group : goal.is_clear-returns-then-joint-is_invisible_group
-is_clear-returns-then-joint-is_invisible_group t c =
+pub is_clear-returns-then-is_invisible_group : goal.is_clear-returns-then-is_invisible_group
+is_clear-returns-then-is_invisible_group t c =
     let here = trees_of-drop c.trees-next-items.result.now c.loop-next.next-index c.next-item.result c.loop-next-test.true c.next-item.is in
-    let edge : (c.loop-next.joint && is_invisible_group (tree_of c.next-item.result)) ≡ true = ap (λ b. c.loop-next.joint && b) (sym c.is_invisible_group.ensures) ∙ c.if-joint-is_invisible_group.true in
+    let edge : (c.loop-next.joint && is_invisible_group (tree_of c.next-item.result)) ≡ true = search rules in
     sym (ap clear (sym c.trees-next-items.ensures) ∙ sym c.loop-next.invariant ∙ ap (clear_after c.loop-next.joint) here ∙ clear-edge c.loop-next.joint (tree_of c.next-item.result) _ edge)
 
 pub is_clear-returns-then-not-is_tree_clear : goal.is_clear-returns-then-not-is_tree_clear
@@ -26,7 +27,7 @@ is_clear-returns-then-not-is_tree_clear t c =
 pub is_clear-loop-next-preserved : goal.is_clear-loop-next-preserved
 is_clear-loop-next-preserved t c =
     let here = trees_of-drop c.trees-next-items.result.now c.loop-next.next-index c.next-item.result c.loop-next-test.true c.next-item.is in
-    let no_edge : (c.loop-next.joint && is_invisible_group (tree_of c.next-item.result)) ≡ false = ap (λ b. c.loop-next.joint && b) (sym c.is_invisible_group.ensures) ∙ c.if-joint-is_invisible_group.false in
+    let no_edge : (c.loop-next.joint && is_invisible_group (tree_of c.next-item.result)) ≡ false = elim c.else-joint.branch [ is_clear-else-joint-via-then-joint+else-is_invisible_group w ↦ search rules | is_clear-else-joint-via-else-joint w ↦ search rules ] in
     ap (λ b. clear_after b (trees_of (drop (c.loop-next.next-index + 1) c.trees-next-items.result.now))) c.is_joint_apostrophe-joint.ensures
     ∙ clear-later c.loop-next.joint (tree_of c.next-item.result) _ no_edge (sym c.is_tree_clear.ensures ∙ c.if-not-is_tree_clear.false)
     ∙ ap (clear_after c.loop-next.joint) (sym here) ∙ c.loop-next.invariant

@@ -1,10 +1,6 @@
-use Rattle.std.proofs.Common.{◌-◌}
 use Rattle.tok_types.specs.Texts.{keywords}
 use Rattle.syn_tokens.proofs.Numbers.{PassedOver}
 use Rattle.syn_tokens.proofs.program.command_text.keyword.Given as goal
 
 abbrev pub invariant-loop-k : goal.invariant-loop-k
 invariant-loop-k l = PassedOver keywords l.word l.k
-
-abbrev pub decreases-loop-k : goal.decreases-loop-k
-decreases-loop-k l = 54 - l.k
