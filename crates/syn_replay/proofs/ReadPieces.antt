@@ -1,7 +1,7 @@
 -- The pieces of what was read.
-use Rattle.std.proofs.Common.{◌≡◌, ◌∙◌, sym, ap, subst, refl, ℕ, ◌<◌, ◌≤◌, ◌⊎◌, inl, inr, Bool, true, false, List, [], ◌∷◌, ◌++◌, drop, length, map, arith, Option, Some, None, Ok, Err, eqb-true}
+use Rattle.std.proofs.Common.{◌≡◌, ◌∙◌, sym, ap, subst, refl, ℕ, ◌<◌, ◌⊎◌, inl, inr, Bool, true, false, List, [], ◌∷◌, ◌++◌, length, map, arith, Option, Some, None, Ok, Err, eqb-true}
 use Rattle.std.proofs.lemmas.Bool.{cond-true, eq-eqb}
-use Rattle.std.proofs.lemmas.List.{append-nil, drop_all}
+use Rattle.std.proofs.lemmas.List.{append-nil, append_assoc, map-append}
 use Rattle.std.specs.Prelude.{◌==◌, ◌&&◌, not, cond, encode_utf8}
 use Rattle.std.specs.Global.{Vec}
 use Rattle.std.specs.Str.{chars}
@@ -87,19 +87,25 @@ taken_in wanted (Some t) p r e = go (wanted t) refl e where
 taken : (wanted : Tree → Bool) (d : Place) (r : List Tree × Place) → reads.read_if wanted d ≡ Some r → IsTaken wanted r.0
 taken wanted d r e = taken_in wanted (front d) (pass d) r e
 
--- all characters with a span have become pieces
-pub all_pieces : (made whole : List spec.Piece) (text : List ℕ) (spans : List Span) (i : ℕ)
-    → (length text ≤ i) ⊎ (length spans ≤ i)
-    → made ++ punct_pieces (drop i text) (drop i spans) ≡ whole → made ≡ whole
-all_pieces made whole text spans i (inl h) e =
-    sym (append-nil made) ∙ (ap (λ z. made ++ punct_pieces z (drop i spans)) (sym (drop_all i text h)) ∙ e)
-all_pieces made whole text spans i (inr h) e =
-    sym (append-nil made)
-    ∙ (ap (λ z. made ++ z) (sym (without_spans (drop i text))) ∙ ap (λ z. made ++ punct_pieces (drop i text) z) (sym (drop_all i spans h)) ∙ e)
-  where
-    without_spans : (text : List ℕ) → punct_pieces text [] ≡ []
-    without_spans [] = refl
-    without_spans (c ∷ cs) = refl
+-- no character is left, or no span: all have become pieces
+pub all_pieces : (made whole : List spec.Piece) (text : List ℕ) (spans : List Span) → (text ≡ []) ⊎ (spans ≡ []) → made ++ punct_pieces text spans ≡ whole → made ≡ whole
+all_pieces made whole text spans none e = sym (append-nil made) ∙ ap (λ z. made ++ z) (sym (nothing text spans none)) ∙ e where
+  nothing : (text : List ℕ) (spans : List Span) → (text ≡ []) ⊎ (spans ≡ []) → punct_pieces text spans ≡ []
+  nothing [] spans none = refl
+  nothing (c ∷ cs) [] none = refl
+  nothing (c ∷ cs) (s ∷ spans) (inl h) = cc
+  nothing (c ∷ cs) (s ∷ spans) (inr h) = cc
+
+-- one more character has become a piece
+pub one_more_piece : (items : List Piece) (piece : Piece) (whole : List spec.Piece) (text after : List ℕ) (spans others : List Span) (c : ℕ) (span : Span)
+    → piece_of piece ≡ record { text = encode_utf8 c; span = span } → text ≡ c ∷ after → spans ≡ span ∷ others
+    → map piece_of items ++ punct_pieces text spans ≡ whole → map piece_of (items ++ piece ∷ []) ++ punct_pieces after others ≡ whole
+one_more_piece items piece whole text after spans others c span made t s e =
+    ap (λ z. z ++ punct_pieces after others) (map-append piece_of items (piece ∷ []))
+    ∙ append_assoc (map piece_of items) (piece_of piece ∷ []) (punct_pieces after others)
+    ∙ ap (λ z. map piece_of items ++ z ∷ punct_pieces after others) made
+    ∙ ap (λ z. map piece_of items ++ punct_pieces z (span ∷ others)) (sym t)
+    ∙ ap (λ z. map piece_of items ++ punct_pieces text z) (sym s) ∙ e
 
 -- one read and then another
 record IsBoth (x : Option (List Tree × Place)) (g : Place → Option (List Tree × Place)) (ts : List Tree) : Type 0 where

@@ -4,7 +4,8 @@ use Rattle.std.proofs.lemmas.Bool.{false≢true}
 use Rattle.std.proofs.lemmas.Str.{chars-nil, encodes-chars}
 use Rattle.std.specs.Prelude.{◌==◌}
 use Rattle.std.specs.Str.{chars, IsUtf8}
-use Rattle.tok_leaves.specs.declared.punct.Spacing.TheVariants.{Alone}
+use Rattle.tok_leaves.specs.declared.punct.Spacing.{Spacing}
+use Rattle.tok_leaves.specs.declared.punct.Spacing.TheVariants.{Alone, Joint}
 use Rattle.tok_leaves.specs.declared.span.Span.{Span}
 use Rattle.tok_leaves.specs.Leaves.{punct}
 use Rattle.tok_core.specs.Forest.{Tree, leaf, group, no_trees, tree}
@@ -34,6 +35,11 @@ group_read (at n s c (level o p (tree (group d inside span) f)) ls) e h =
     let same : enter_any place ≡ Some e = h in
     let whole : Option Entered → Option (List Tree × Place) = λ x. elim x [ None ↦ None | Some y ↦ Some (group y.delimiter (rest y.content) y.span ∷ [], y.after) ] in
     ap (λ i. Some (group d i span ∷ [], pass place)) (sym (concat-none inside)) ∙ ap whole same
+
+-- a punct that is not joint is alone
+pub is_alone : (spacing : Spacing) → (spacing ≡ Joint → ⊥) → spacing ≡ Alone
+is_alone Joint apart = absurd (apart refl)
+is_alone Alone apart = refl
 
 -- no more follow the last character, and before others an alone punct is not wanted
 module _ (c : ℕ) where

@@ -1,4 +1,4 @@
-//! Leaves compared, spans included.
+//! Leaves compared, spans included. The calls are inlined, since two texts that are compared call one of them for each leaf.
 ghost use Rattle.std.specs.Prelude.{◌≡◌, ◌↔◌, IsTrue};
 ghost use Rattle.tok_leaves.specs.Leaves.{ident_of, literal_of, punct_of};
 
@@ -7,6 +7,7 @@ use crate::literal::Literal;
 use crate::punct::Punct;
 
 /// Whether two identifiers have one text and one span.
+#[inline(always)]
 pub fn same_ident(one: &Ident, other: &Ident) -> bool
     ensures { IsTrue result ↔ (ident_of one.now ≡ ident_of other.now) }
 {
@@ -14,6 +15,7 @@ pub fn same_ident(one: &Ident, other: &Ident) -> bool
 }
 
 /// Whether two literals have one text and one span.
+#[inline(always)]
 pub fn same_literal(left: &Literal, right: &Literal) -> bool
     ensures { IsTrue result ↔ (literal_of left.now ≡ literal_of right.now) }
 {
@@ -21,6 +23,7 @@ pub fn same_literal(left: &Literal, right: &Literal) -> bool
 }
 
 /// Whether two puncts have one character, one spacing and one span.
+#[inline(always)]
 pub fn same_punct(left: Punct, right: Punct) -> bool
     ensures { IsTrue result ↔ (punct_of left ≡ punct_of right) }
 {

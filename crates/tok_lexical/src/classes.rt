@@ -49,10 +49,7 @@ pub fn past_whitespace(text: &str) -> &str
     ensures shorter { length result.now ≤ length text.now }
 {
     // Most of it is one space or nothing.
-    let rest = match past_char(text, ' ') {
-        Some(rest) => rest,
-        None => text,
-    };
+    let rest = past_char(text, ' ').unwrap_or(text);
     if begins_visibly(rest) {
         rest
     } else {

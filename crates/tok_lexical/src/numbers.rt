@@ -90,10 +90,7 @@ fn past_number_suffix(text: &str, radix: u32) -> &str
     if !starts_number_suffix(first, radix) {
         return text;
     }
-    match past_identifier(text) {
-        Some(rest) => rest,
-        None => text,
-    }
+    past_identifier(text).unwrap_or(text)
 }
 
 /// Past digits of a base and a suffix.

@@ -2,8 +2,7 @@
 ghost use Rattle.std.specs.Prelude.{IfSome, length, ◌<◌};
 ghost use Rattle.std.specs.Str.{chars, IsUtf8};
 ghost use Rattle.tok_lexical.specs.Pieces.{ReadsLongest};
-ghost use Rattle.tok_lexical.specs.Strings.{IsString};
-ghost use Rattle.tok_lexical.specs.Strings.{FindsUnits};
+ghost use Rattle.tok_lexical.specs.Strings.{IsString, FindsUnits};
 
 use crate::escapes::past_escape;
 use crate::text::{next_char, past_char, past_others};
@@ -36,8 +35,6 @@ pub fn past_string(text: &str) -> Option<&str>
     while let Some(after) = past_units(rest) {
         rest = after;
     }
-    match past_char(rest, '"') {
-        Some(end) => Some(past_suffix(end)),
-        None => None,
-    }
+    let end = past_char(rest, '"')?;
+    Some(past_suffix(end))
 }

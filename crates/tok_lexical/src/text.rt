@@ -1,8 +1,7 @@
 // A text, read from its front.
 ghost use Rattle.std.specs.Prelude.{◌≡◌, ℕ, ◌<◌, ◌≤◌, ◌+◌, ◌++◌, ◌∷◌, [], length, List, MatchOption, IfSome, encode_utf8, encode_utf8_all};
 ghost use Rattle.std.specs.Str.{chars, IsUtf8};
-ghost use Rattle.tok_lexical.specs.Pieces.{after_first};
-ghost use Rattle.tok_lexical.specs.Pieces.{Skips, begins_with, is_neither};
+ghost use Rattle.tok_lexical.specs.Pieces.{after_first, Skips, begins_with, is_neither};
 
 /// The first character of a text, and what follows it.
 pub fn next_char(text: &str) -> Option<(char, &str)>

@@ -64,10 +64,7 @@ pub fn past_suffix(text: &str) -> &str
     ensures { (suffix : List ℕ)
         × IsLongestPrefix IsSuffix (chars text.now) suffix (chars result.now) }
 {
-    match past_identifier(text) {
-        Some(rest) => rest,
-        None => text,
-    }
+    past_identifier(text).unwrap_or(text)
 }
 
 /// Past a raw identifier.

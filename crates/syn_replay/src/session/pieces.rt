@@ -26,7 +26,7 @@ pub fn word(alloc: Global, text: &str, span: Span) -> Result<Vec<Piece>, AllocEr
     ensures { IfOk result
         (λ ps. map piece_of ps.items ≡ record { text = text.now; span = span } ∷ []) }
 {
-    let mut pieces = Vec::new(alloc);
+    let mut pieces = Vec::with_capacity(alloc, 1)?;
     pieces.push(piece(alloc, text, span)?)?;
     Ok(pieces)
 }
@@ -55,7 +55,7 @@ fn character(alloc: Global, c: char, span: Span) -> Result<Piece, AllocError>
 pub fn punct(alloc: Global, punct: Punct) -> Result<Vec<Piece>, AllocError>
     ensures { IfOk result (ArePieces (leaf (punct_of punct) ∷ [])) }
 {
-    let mut pieces = Vec::new(alloc);
+    let mut pieces = Vec::with_capacity(alloc, 1)?;
     pieces.push(character(alloc, punct.as_char(), punct.span())?)?;
     Ok(pieces)
 }
@@ -65,7 +65,7 @@ pub fn lifetime(alloc: Global, lifetime: &Lifetime) -> Result<Vec<Piece>, AllocE
     ensures { IfOk result
         (ArePieces (lifetime_trees lifetime.now.apostrophe (ident_of lifetime.now.ident))) }
 {
-    let mut pieces = Vec::new(alloc);
+    let mut pieces = Vec::with_capacity(alloc, 2)?;
     pieces.push(character(alloc, '\'', lifetime.apostrophe)?)?;
     pieces.push(piece(alloc, lifetime.ident.as_str(), lifetime.ident.span())?)?;
     Ok(pieces)
@@ -76,10 +76,8 @@ pub fn characters(alloc: Global, text: &[u8], spans: &[Span]) -> Result<Vec<Piec
     ensures { IfOk result (λ ps. map piece_of ps.items ≡ punct_pieces text.now spans.now) }
 {
     let mut pieces = Vec::with_capacity(alloc, text.len())?;
-    let mut index = 0;
-    while index < text.len() && index < spans.len() {
-        pieces.push(character(alloc, char::from(text[index]), spans[index])?)?;
-        index += 1;
+    for (&byte, &span) in text.iter().zip(spans) {
+        pieces.push(character(alloc, char::from(byte), span)?)?;
     }
     Ok(pieces)
 }

@@ -68,13 +68,10 @@ fn look_ahead(input: &ParseBuffer<'_>, looks: &[Look]) -> Result<Answer>
 {
     let cursor = input.cursor();
     let mut lookahead = input.lookahead1();
-    let mut index = 0;
-    while index < looks.len() {
-        let look = looks[index];
+    for (index, look) in looks.iter().enumerate() {
         if lookahead.peek_as(look.peek(cursor), look.display())? {
             return Ok(Answer::Found(index));
         }
-        index += 1;
     }
     Err(lookahead.error())
 }

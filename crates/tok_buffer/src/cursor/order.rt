@@ -1,12 +1,16 @@
 // Cursors against each other.
+ghost use Rattle.std.specs.Prelude.{◌≡◌, Some};
+ghost use Rattle.std.specs.Cmp.{on_per, partial_equiv_from_equiv, on_equiv, on_po};
+ghost use Rattle.std.specs.Ordering.{on};
+ghost use Rattle.std.specs.declared.cmp.Ordering.TheVariants.{Equal};
+ghost use Rattle.tok_buffer.specs.Cursors.{place_of};
+ghost use Rattle.tok_buffer.specs.Order.{same_buffer, same_scope, equal, order};
+ghost use Rattle.tok_buffer.specs.Private.OrderLaws.{equal_equiv, order_partial};
+
 use crate::cursor::Cursor;
 use std::cmp::Ordering;
 
 impl<'a> Cursor<'a> {
-    ghost use Rattle.std.specs.Prelude.{◌≡◌};
-    ghost use Rattle.tok_buffer.specs.Cursors.{place_of};
-    ghost use Rattle.tok_buffer.specs.Order.{same_buffer, same_scope};
-
     /// Whether both are of buffers with one number. Two empty cursors are in one buffer, which no other cursor is in.
     pub fn same_buffer(self, other: Cursor<'_>) -> bool
         ensures { result ≡ same_buffer (place_of self.entry) (place_of other.entry) }
@@ -34,12 +38,6 @@ impl<'a> Cursor<'a> {
 /// Cursors are equal by the numbers of their buffers and by position, whatever their scopes. The empty cursor equals
 /// itself alone.
 impl<'a> PartialEq for Cursor<'a> {
-    ghost use Rattle.std.specs.Cmp.{on_per, partial_equiv_from_equiv};
-    ghost use Rattle.std.specs.Ordering.{on};
-    ghost use Rattle.tok_buffer.specs.Cursors.{place_of};
-    ghost use Rattle.tok_buffer.specs.Order.{equal};
-    ghost use Rattle.tok_buffer.specs.Private.OrderLaws.{equal_equiv};
-
     ghost eq = { on place_of equal };
 
     fn eq(&self, other: &Cursor<'a>) -> bool {
@@ -55,23 +53,11 @@ impl<'a> PartialEq for Cursor<'a> {
 }
 
 impl<'a> Eq for Cursor<'a> {
-    ghost use Rattle.std.specs.Cmp.{on_equiv};
-    ghost use Rattle.tok_buffer.specs.Cursors.{place_of};
-    ghost use Rattle.tok_buffer.specs.Private.OrderLaws.{equal_equiv};
-
     ghost laws = { on_equiv place_of equal_equiv };
 }
 
 /// Cursors of buffers with one number are ordered by position. The empty cursor is unordered against others.
 impl<'a> PartialOrd for Cursor<'a> {
-    ghost use Rattle.std.specs.Prelude.{Some};
-    ghost use Rattle.std.specs.declared.cmp.Ordering.TheVariants.{Equal};
-    ghost use Rattle.std.specs.Cmp.{on_po};
-    ghost use Rattle.std.specs.Ordering.{on};
-    ghost use Rattle.tok_buffer.specs.Cursors.{place_of};
-    ghost use Rattle.tok_buffer.specs.Order.{order};
-    ghost use Rattle.tok_buffer.specs.Private.OrderLaws.{order_partial};
-
     ghost partial_cmp = { on place_of order };
 
     fn partial_cmp(&self, other: &Cursor<'a>) -> Option<Ordering> {

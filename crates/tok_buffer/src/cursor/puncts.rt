@@ -1,8 +1,12 @@
 // The puncts of a punctuation.
-ghost use Rattle.std.specs.Prelude.{◌≡◌};
+ghost use Rattle.std.specs.Prelude.{◌≡◌, ◌∷◌, [], length, MatchOption, Some, None, is_some};
 ghost use Rattle.std.specs.Str.{chars};
-ghost use Rattle.tok_core.specs.Forest.{leaf};
 ghost use Rattle.tok_leaves.specs.Leaves.{punct_of};
+ghost use Rattle.tok_core.specs.Forest.{leaf};
+ghost use Rattle.tok_buffer.specs.Cursors.{place_of, spot_place};
+ghost use Rattle.tok_buffer.specs.Descent.{descend};
+ghost use Rattle.tok_buffer.specs.Gives.{Gives};
+ghost use Rattle.tok_buffer.specs.Reads.{is_punct_of, read_if, read_next, read_punctuation, read_spans, sized};
 ghost use Rattle.tok_buffer.specs.Reads as spec;
 
 use crate::cursor::Cursor;
@@ -12,12 +16,6 @@ use tok_core::{Punct, Spacing, Span};
 use tok_lexical::text::next_char;
 
 impl<'a> Cursor<'a> {
-    ghost use Rattle.std.specs.Prelude.{◌∷◌, [], length, MatchOption, Some, None, is_some};
-    ghost use Rattle.tok_buffer.specs.Cursors.{place_of};
-    ghost use Rattle.tok_buffer.specs.Descent.{descend};
-    ghost use Rattle.tok_buffer.specs.Gives.{Gives};
-    ghost use Rattle.tok_buffer.specs.Reads.{is_punct_of, read_if, read_next, read_punctuation, read_spans, sized};
-
     /// Whether the puncts in front are the characters of this text, each but the last joint. False for the empty text
     /// and for one with an apostrophe.
     pub fn peek_punct(self, text: &str) -> bool
@@ -77,12 +75,6 @@ impl<'a> Cursor<'a> {
 }
 
 impl<'a> Spot<'a> {
-    ghost use Rattle.std.specs.Prelude.{◌∷◌, [], is_some};
-    ghost use Rattle.tok_buffer.specs.Cursors.{spot_place};
-    ghost use Rattle.tok_buffer.specs.Descent.{descend};
-    ghost use Rattle.tok_buffer.specs.Gives.{Gives};
-    ghost use Rattle.tok_buffer.specs.Reads.{is_punct_of, read_if, read_next};
-
     // The punct of the first of some characters in front, joint where more of them follow.
     fn next_of(self, wanted: char, rest: &str) -> Option<(&'a Punct, Spot<'a>)>
         ensures { Gives result (read_next wanted (chars rest.now) (spot_place self.entry))
@@ -116,10 +108,7 @@ impl<'a> Spot<'a> {
 fn is_next_of(punct: Punct, wanted: char, rest: &str) -> bool
     ensures { result ≡ spec.is_next_of wanted (chars rest.now) (leaf (punct_of punct)) }
 {
-    match punct.spacing() {
-        Spacing::Joint => is_punct_of(punct, wanted),
-        Spacing::Alone => rest.is_empty() && is_punct_of(punct, wanted),
-    }
+    is_punct_of(punct, wanted) && (rest.is_empty() || matches!(punct.spacing(), Spacing::Joint))
 }
 
 fn is_punct_of(punct: Punct, wanted: char) -> bool

@@ -1,8 +1,13 @@
 // Leaves in front of a cursor.
-ghost use Rattle.std.specs.Prelude.{◌≡◌};
+ghost use Rattle.std.specs.Prelude.{◌≡◌, ◌∷◌, [], is_some};
+ghost use Rattle.tok_leaves.specs.Leaves.{punct_of, apostrophe, punct, ident_of, literal_of};
+ghost use Rattle.tok_leaves.specs.declared.punct.Spacing.TheVariants.{Joint};
 ghost use Rattle.tok_core.specs.Clear.{is_joint_apostrophe};
 ghost use Rattle.tok_core.specs.Forest.{leaf};
-ghost use Rattle.tok_leaves.specs.Leaves.{punct_of};
+ghost use Rattle.tok_core.specs.Seen.{lifetime_trees};
+ghost use Rattle.tok_buffer.specs.Cursors.{place_of};
+ghost use Rattle.tok_buffer.specs.Gives.{Gives};
+ghost use Rattle.tok_buffer.specs.Reads.{and_then, any_text, place_after, skip, read_if, read_ident, read_keyword, read_punct, read_literal, read_lifetime, read_tree, read_word};
 
 use crate::cursor::Cursor;
 use crate::entry::Entry;
@@ -10,14 +15,6 @@ use crate::lifetime::LifetimeRef;
 use tok_core::{Ident, Literal, Punct, Spacing, Span};
 
 impl<'a> Cursor<'a> {
-    ghost use Rattle.std.specs.Prelude.{◌∷◌, [], is_some};
-    ghost use Rattle.tok_leaves.specs.declared.punct.Spacing.TheVariants.{Joint};
-    ghost use Rattle.tok_leaves.specs.Leaves.{apostrophe, punct, ident_of, literal_of};
-    ghost use Rattle.tok_buffer.specs.Cursors.{place_of};
-    ghost use Rattle.tok_buffer.specs.Gives.{Gives};
-    ghost use Rattle.tok_buffer.specs.Reads.{and_then, any_text, place_after, skip, read_if, read_ident, read_keyword, read_punct, read_literal, read_lifetime, read_tree, read_word};
-    ghost use Rattle.tok_core.specs.Seen.{lifetime_trees};
-
     /// The identifier in front, of whatever text, and the cursor after it.
     pub fn ident(self) -> Option<(&'a Ident, Cursor<'a>)>
         ensures { Gives result (read_ident (place_of self.entry))

@@ -1,9 +1,13 @@
 // Trees made anew from the entries.
-ghost use Rattle.std.specs.Prelude.{◌≡◌, ◌≤◌, IsTrue, OnOk};
+ghost use Rattle.std.specs.Prelude.{◌≡◌, ◌≤◌, IsTrue, OnOk, ◌∷◌, [], IfOk};
 ghost use Rattle.tok_core.specs.Forest.{concat};
 ghost use Rattle.tok_core.specs.Weight.{weight};
+ghost use Rattle.tok_core.specs.Seen.{group_of, tree_of};
 ghost use Rattle.tok_buffer.specs.Moves.{in_scope, place_at};
 ghost use Rattle.tok_buffer.specs.Rest.{rest};
+ghost use Rattle.tok_buffer.specs.Cursors.{place_of};
+ghost use Rattle.tok_buffer.specs.Gives.{Gives};
+ghost use Rattle.tok_buffer.specs.Reads.{is_group, read_if, read_tree};
 
 use crate::buffer::TokenBuffer;
 use crate::cursor::Cursor;
@@ -12,12 +16,6 @@ use std::alloc::{AllocError, Global};
 use tok_core::{Group, TokenStream, TokenTree};
 
 impl<'a> Cursor<'a> {
-    ghost use Rattle.std.specs.Prelude.{◌∷◌, [], IfOk};
-    ghost use Rattle.tok_core.specs.Seen.{group_of, tree_of};
-    ghost use Rattle.tok_buffer.specs.Cursors.{place_of};
-    ghost use Rattle.tok_buffer.specs.Gives.{Gives};
-    ghost use Rattle.tok_buffer.specs.Reads.{is_group, read_if, read_tree};
-
     /// The group in front, visible or not, made anew in memory of `alloc`, and the cursor after it.
     pub fn any_group_token(self, alloc: Global) -> Result<Option<(Group, Cursor<'a>)>, AllocError>
         ensures { IfOk result (λ found. Gives found (read_if is_group (place_of self.entry))

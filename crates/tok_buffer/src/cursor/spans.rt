@@ -1,9 +1,12 @@
 // Where a cursor is.
 ghost use Rattle.std.specs.Prelude.{◌≡◌, ◌≤◌, IsTrue, true};
 ghost use Rattle.tok_core.specs.Weight.{weight};
-ghost use Rattle.tok_buffer.specs.Ahead.{ahead, first_of};
+ghost use Rattle.tok_buffer.specs.Ahead.{ahead, first_of, left_of, leftover};
 ghost use Rattle.tok_buffer.specs.Moves.{in_scope, place_at, levels_at, level_ahead, level_owner, at_end};
-ghost use Rattle.tok_buffer.specs.Spans.{closing_of, level_span};
+ghost use Rattle.tok_buffer.specs.Spans.{closing_of, level_span, current_span, start_span, previous_span};
+ghost use Rattle.tok_buffer.specs.Cursors.{place_of};
+ghost use Rattle.tok_buffer.specs.Place.{count_before};
+ghost use Rattle.tok_buffer.specs.Rest.{scope_delimiter};
 
 use crate::buffer::TokenBuffer;
 use crate::cursor::Cursor;
@@ -11,12 +14,6 @@ use crate::entry::{Entry, Held, same};
 use tok_core::{DelimSpan, Delimiter, Span};
 
 impl<'a> Cursor<'a> {
-    ghost use Rattle.tok_buffer.specs.Ahead.{left_of, leftover};
-    ghost use Rattle.tok_buffer.specs.Cursors.{place_of};
-    ghost use Rattle.tok_buffer.specs.Place.{count_before};
-    ghost use Rattle.tok_buffer.specs.Rest.{scope_delimiter};
-    ghost use Rattle.tok_buffer.specs.Spans.{current_span, start_span, previous_span};
-
     /// How many leaves, openings and closings of groups lie before the cursor in its buffer, or `None` for the empty
     /// cursor.
     pub fn position(self) -> Option<usize>

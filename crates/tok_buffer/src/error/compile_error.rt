@@ -1,10 +1,10 @@
 // Errors as tokens for the compiler.
 ghost use Rattle.std.specs.Prelude.{◌≡◌, IfOk, OnOk};
 ghost use Rattle.std.specs.Str.{chars};
+ghost use Rattle.tok_lexical.specs.Words.{IsIdentifier};
 ghost use Rattle.tok_leaves.specs.Leaves.{ident, punct, ident_of};
 ghost use Rattle.tok_core.specs.Forest.{concat};
-ghost use Rattle.tok_lexical.specs.Words.{IsIdentifier};
-ghost use Rattle.tok_buffer.specs.CompileErrors.{invocation, segment};
+ghost use Rattle.tok_buffer.specs.CompileErrors.{invocation, segment, compile_errors, compile_error};
 
 use crate::error::{Error, Message};
 use std::alloc::{AllocError, Global};
@@ -12,8 +12,6 @@ use tok_core::known::{identifier, punct};
 use tok_core::{Delimiter, Group, Literal, Spacing, Span, TokenStream, TokenTree};
 
 impl Error {
-    ghost use Rattle.tok_buffer.specs.CompileErrors.{compile_errors};
-
     /// The messages as tokens that make the compiler refuse them: for each `::core::compile_error!{"text"}`, the path and
     /// the `!` at the message's first span, the braces and the text at its last.
     pub fn to_compile_error(&self, alloc: Global) -> Result<TokenStream, AllocError>
@@ -36,8 +34,6 @@ impl Error {
 }
 
 impl Message {
-    ghost use Rattle.tok_buffer.specs.CompileErrors.{compile_error};
-
     // Puts the tokens of this message after others.
     fn write(&self, alloc: Global, tokens: &mut TokenStream) -> Result<(), AllocError>
         ensures { OnOk result (tokens.new ≡ concat tokens.old (compile_error self.now)) }

@@ -9,7 +9,7 @@ use Rattle.std.specs.Char.{encode_utf8}
 use Rattle.std.proofs.lemmas.Str.{chars_past_char, length-encode, len_utf8_bounds}
 use Rattle.std.proofs.lemmas.Bool.{false≢true, eqb-true}
 use Rattle.tok_lexical.specs.Pieces.{IsLongestPrefix, ReadsLongest, ReadsPrefix, Stops, Skips, IsOne, After}
-use Rattle.std.specs.Prelude.{Option, Some, None, MatchOption}
+use Rattle.std.specs.Prelude.{Option, Some, None, MatchOption, unwrap_or}
 use Rattle.std.specs.Borrow.{Bor}
 use Rattle.tok_lexical.specs.Characters.{is_space, is_whitespace, begins_visibly}
 use Rattle.tok_lexical.specs.Comments.{is_not_line_feed, IsLineComment}
@@ -71,6 +71,11 @@ skips_spaces text mid rest front e a (run, s) = (
 -- a space and white space after it
 pub skips_space : (text mid rest : List ℕ) → text ≡ 32 ∷ mid → (front : List ℕ) × Skips is_whitespace mid front rest → (longer : List ℕ) × Skips is_whitespace text longer rest
 skips_space text mid rest e (front, s) = (32 ∷ front, record { cut = e ∙ ap (λ w. 32 ∷ w) s.cut; pass = s.pass; stops = s.stops })
+
+-- after a space at the front, if there is one
+pub skips_first_space : (text : Bor (List ℕ)) (found : Option (Bor (List ℕ))) (next : Bor (List ℕ)) (rest : List ℕ) → next ≡ unwrap_or found text → MatchOption found ((more : List ℕ) → chars text.now ≡ 32 ∷ more → ⊥) (λ after. chars text.now ≡ 32 ∷ chars after.now) → (front : List ℕ) × Skips is_whitespace (chars next.now) front rest → (longer : List ℕ) × Skips is_whitespace (chars text.now) longer rest
+skips_first_space text None next rest e none skips = subst (λ w. (front : List ℕ) × Skips is_whitespace (chars w.now) front rest) e skips
+skips_first_space text (Some after) next rest e one skips = skips_space (chars text.now) (chars after.now) rest one (subst (λ w. (front : List ℕ) × Skips is_whitespace (chars w.now) front rest) e skips)
 
 -- no white space at the front
 pub skips_nothing : (text : List ℕ) → begins_visibly text ≡ true → (front : List ℕ) × Skips is_whitespace text front text

@@ -1,6 +1,7 @@
 -- Digits and suffixes.
 use Rattle.std.proofs.Common.{◌≡◌, ◌∙◌, ℕ, inl, inr, List, [], ◌∷◌, ◌++◌, refl, sym, ap, subst, append_assoc, true, false, Bool}
-use Rattle.std.specs.Prelude.{◌==◌, ◌||◌, not, Option}
+use Rattle.std.specs.Prelude.{◌==◌, ◌||◌, not, Option, Some, None, unwrap_or}
+use Rattle.std.specs.Str.{chars}
 use Rattle.std.specs.List.{list_all, list_any}
 use Rattle.std.specs.Char.{is_digit}
 use Rattle.std.specs.Borrow.{Bor}
@@ -113,6 +114,19 @@ no_suffix_start n text tail c one bad (d ∷ piece) after e s = absurd (false≢
 pub no_suffix_word : (n : ℕ) (text : List ℕ) → (HasPrefix IsIdentifier text → ⊥) → (piece after : List ℕ) → text ≡ piece ++ after → IsNumberSuffix n piece → piece ≡ []
 no_suffix_word n text misses [] after e s = refl
 no_suffix_word n text misses (d ∷ piece) after e s = absurd (misses (d ∷ piece, after, e, s.1))
+
+number_word : (n c : ℕ) (tail text word rest : List ℕ) → text ≡ c ∷ tail → starts_number_suffix n c ≡ true → IsLongestPrefix IsIdentifier text word rest → IsLongestPrefix (IsNumberSuffix n) text word rest
+number_word n c tail text [] rest one starts taken = absurd taken.spelled
+number_word n c tail text (d ∷ word) rest one starts taken = record {
+  cut = taken.cut;
+  spelled = (sym (ap (starts_number_suffix n) (heads c d tail (word ++ rest) (sym one ∙ taken.cut))) ∙ starts, taken.spelled);
+  longest = λ more after e s. taken.longest more after e s.1;
+}
+
+-- past an identifier that begins as a suffix does, or past nothing
+pub takes_number_suffix : (n c : ℕ) (tail : List ℕ) (text : Bor (List ℕ)) (found : Option (Bor (List ℕ))) → chars text.now ≡ c ∷ tail → starts_number_suffix n c ≡ true → ReadsLongest IsIdentifier (chars text.now) found → (suffix : List ℕ) × IsLongestPrefix (IsNumberSuffix n) (chars text.now) suffix (chars (unwrap_or found text).now)
+takes_number_suffix n c tail text None one starts misses = ([], takes_no_suffix n (chars text.now) (no_suffix_word n (chars text.now) misses))
+takes_number_suffix n c tail text (Some rest) one starts (word, taken) = (word, number_word n c tail (chars text.now) word (chars rest.now) one starts taken)
 
 pub based_tries : (base : Base) (mark n : ℕ) (text rest : List ℕ) (answer : Option (Bor (List ℕ))) → mark ≡ base_mark base → text ≡ 48 ∷ mark ∷ rest → n ≡ radix base → ReadsLongest (IsNumber n (has_digit n)) rest answer → ReadsLongest (IsBased base) text answer
 based_tries base mark n text rest answer m e r t =

@@ -1,6 +1,6 @@
 -- Strings: units, quotes and suffixes.
-use Rattle.std.proofs.Common.{◌≡◌, ◌∙◌, ℕ, inl, inr, List, [], ◌∷◌, ◌++◌, refl, sym, ap, subst, arith, append_assoc, true, false}
-use Rattle.std.specs.Prelude.{◌≢◌, Option, Some, None}
+use Rattle.std.proofs.Common.{◌≡◌, ◌∙◌, ℕ, inl, inr, List, [], ◌∷◌, ◌++◌, length, refl, sym, ap, subst, arith, append_assoc, true, false}
+use Rattle.std.specs.Prelude.{◌≢◌, Option, Some, None, unwrap_or}
 use Rattle.std.specs.Borrow.{Bor}
 use Rattle.std.specs.Str.{chars}
 use Rattle.std.proofs.lemmas.List.{append-nil, append_cancel_left}
@@ -93,6 +93,22 @@ takes_none text misses = record {
   spelled = inl refl;
   longest = λ more after e s. elim s [ inl nothing ↦ nothing | inr w ↦ absurd (misses (more, after, e, w)) ];
 }
+
+no_back : (front back : List ℕ) → front ++ back ≡ [] → back ≡ []
+no_back [] back e = e
+no_back (c ∷ front) back e = let n : length (c ∷ (front ++ back)) ≡ 0 = ap length e in absurd (omega (arith, n))
+
+-- past an identifier as a suffix, or past nothing
+pub takes_suffix : (text : Bor (List ℕ)) (found : Option (Bor (List ℕ))) → ReadsLongest IsIdentifier (chars text.now) found → (suffix : List ℕ) × IsLongestPrefix IsSuffix (chars text.now) suffix (chars (unwrap_or found text).now)
+takes_suffix text None misses = ([], takes_none (chars text.now) misses)
+takes_suffix text (Some rest) (word, taken) = (
+  word,
+  record {
+    cut = taken.cut;
+    spelled = inr taken.spelled;
+    longest = λ more after e s. elim s [ inl nothing ↦ no_back word more nothing | inr w ↦ taken.longest more after e w ];
+  },
+)
 
 plain_units : (run : List ℕ) → list_all (is_neither 34 92) run ≡ true → AreUnits run
 plain_units [] h = no_unit

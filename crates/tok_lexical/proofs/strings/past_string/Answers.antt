@@ -1,4 +1,7 @@
-use Rattle.std.proofs.Common.{[]}
+use Rattle.std.proofs.Common.{[], subst, sym}
+use Rattle.std.specs.Str.{chars}
+use Rattle.tok_lexical.specs.Pieces.{ReadsLongest}
+use Rattle.tok_lexical.specs.Strings.{IsString}
 use Rattle.tok_lexical.proofs.Lexical.Units.{reaches_first, reaches_units, takes_string, open_string}
 use Rattle.tok_lexical.proofs.strings.past_string.Goals as goal
 
@@ -8,8 +11,8 @@ loop-after-init c = (c.in_ok-start.ensures.utf8, (_, [], c.in_ok-start.ensures.c
 pub loop-after-preserved : goal.loop-after-preserved
 loop-after-preserved c = let i = c.loop-after.invariant.1 in (c.in-Some.ensures.utf8, (i.0, _, i.2, reaches_units i.0 _ _ i.1 _ i.3 c.in-Some.ensures.finds.2 c.in-Some.ensures.finds.1))
 
-pub returns-in-Some-past_char-clause-tries : goal.returns-in-Some-past_char-clause-tries
-returns-in-Some-past_char-clause-tries c = let i = c.loop-after.invariant.1 in (_, takes_string _ i.0 _ _ _ i.1 _ i.2 i.3 c.in_default.ensures.finds c.in-Some-past_char.ensures.chars c.past_suffix.ensures.1)
+pub returns-clause-tries : goal.returns-clause-tries
+returns-clause-tries c = let i = c.loop-after.invariant.1 in (_, takes_string _ i.0 _ _ _ i.1 _ i.2 i.3 c.in_default.ensures.finds c.in_ok-end.ensures.chars c.past_suffix.ensures.1)
 
-pub returns-in-None-clause-tries : goal.returns-in-None-clause-tries
-returns-in-None-clause-tries c = let i = c.loop-after.invariant.1 in open_string _ i.0 _ i.1 i.2 i.3 c.in_default.ensures.finds c.in-None.ensures.chars
+pub returns-in_err-end-clause-tries : goal.returns-in_err-end-clause-tries
+returns-in_err-end-clause-tries c = let i = c.loop-after.invariant.1 in subst (ReadsLongest IsString (chars c.args.text.now)) (sym c.from_residual-in_err-end.ensures) (open_string _ i.0 _ i.1 i.2 i.3 c.in_default.ensures.finds c.in_err-end.ensures.chars)

@@ -1,6 +1,9 @@
-use Rattle.std.proofs.Common.{[]}
-use Rattle.tok_lexical.proofs.Lexical.Units.{takes_none}
+use Rattle.std.proofs.Common.{List, ℕ, sym, subst}
+use Rattle.std.specs.Str.{chars}
+use Rattle.tok_lexical.specs.Pieces.{IsLongestPrefix}
+use Rattle.tok_lexical.specs.Words.{IsSuffix}
+use Rattle.tok_lexical.proofs.Lexical.Units.{takes_suffix}
 use Rattle.tok_lexical.proofs.words.past_suffix.Goals as goal
 
-pub returns-in-None : goal.returns-in-None
-returns-in-None c = ([], takes_none _ c.in-None.ensures.tries)
+pub returns : goal.returns
+returns c = subst (λ rest. (suffix : List ℕ) × IsLongestPrefix IsSuffix (chars c.args.text.now) suffix (chars rest.now)) (sym c.unwrap_or.ensures) (takes_suffix c.args.text c.past_identifier.result c.past_identifier.ensures.tries)

@@ -1,14 +1,13 @@
-use Rattle.std.proofs.Common.{arith, inl, inr}
-use Rattle.syn_replay.proofs.ReadPieces.{all_pieces}
-use Rattle.syn_replay.proofs.session.pieces.characters.Goals.{then-loop-index-test+else-index-spans}
-use Rattle.syn_replay.proofs.session.pieces.characters.Goals.{else-loop-index-test}
+use Rattle.std.proofs.Common.{rules}
+use Rattle.std.proofs.lemmas.Slice.Zip.{Zip-more, either_empty_from_Zip}
+use Rattle.syn_replay.proofs.ReadPieces.{all_pieces, one_more_piece}
 use Rattle.syn_replay.proofs.session.pieces.characters.Goals as goal
+
+pub loop-byte-preserved : goal.loop-byte-preserved
+loop-byte-preserved c =
+    let more = Zip-more c.loop-byte.byte-iterator c.next.new.self c.next.result (c.in-Some.field-0-0, c.in-Some.field-0-1) c.in-Some.is c.next.ensures.steps in
+    rw c.in_ok-push.ensures.items (one_more_piece c.loop-byte.pieces.items c.in_ok-character.field-0 _ _ _ _ _ c.in-Some.field-0-0.now c.in-Some.field-0-1.now (search rules) more.0 more.1 c.loop-byte.invariant)
 
 pub returns : goal.returns
 returns c =
-    elim c.loop-index-test.branch [
-      | then-loop-index-test+else-index-spans w ↦ all_pieces _ _ c.args.text.now c.args.spans.now
-          c.loop-index.index (inr (omega (arith, w.if-index-spans))) c.loop-index.invariant.rest
-      | else-loop-index-test w ↦ all_pieces _ _ c.args.text.now c.args.spans.now c.loop-index.index
-          (inl (omega (arith, w.loop-index-test))) c.loop-index.invariant.rest
-    ]
+    all_pieces _ _ _ _ (either_empty_from_Zip c.loop-byte.byte-iterator c.next.new.self c.next.result c.in-None.is c.next.ensures.steps) c.loop-byte.invariant

@@ -1,14 +1,10 @@
-use Rattle.std.proofs.Common.{◌≡◌, ◌-◌, ◌++◌, ◌≤◌, length, drop, map}
+use Rattle.std.proofs.Common.{◌≡◌, ◌++◌, map}
+use Rattle.std.specs.Iterator.Adapters.{zip_first, zip_second}
+use Rattle.std.specs.Slice.Iter.{iter_rest}
 use Rattle.syn_replay.specs.Session.Reading.{punct_pieces}
 use Rattle.syn_replay.specs.Meanings.{piece_of}
 use Rattle.syn_replay.proofs.session.pieces.characters.Given as goal
 
-abbrev pub invariant-loop-index : goal.invariant-loop-index
-invariant-loop-index l = record {
-  within : l.index ≤ length l.text;
-  spans : l.index ≤ length l.spans;
-  rest : map piece_of l.pieces.items ++ punct_pieces (drop l.index l.text) (drop l.index l.spans) ≡ punct_pieces l.text l.spans;
-}
-
-abbrev pub decreases-loop-index : goal.decreases-loop-index
-decreases-loop-index l = length l.text - l.index
+abbrev pub invariant-loop-byte : goal.invariant-loop-byte
+invariant-loop-byte l =
+    map piece_of l.pieces.items ++ punct_pieces (iter_rest (zip_first l.byte-iterator)) (iter_rest (zip_second l.byte-iterator)) ≡ punct_pieces l.text l.spans
