@@ -4,7 +4,7 @@ ghost use Rattle.tok_core.specs.Filled.{has_trees};
 ghost use Rattle.tok_core.specs.Forest.{concat, no_trees, tree, tree_span, with_span};
 ghost use Rattle.tok_core.specs.Laws.{IsTheOnly};
 ghost use Rattle.tok_core.specs.Seen.{tree_of, trees_of};
-ghost use Rattle.tok_core.specs.Weight.{weight, tree_weight};
+ghost use Rattle.tok_core.specs.Weight.{weight};
 
 use crate::group::Group;
 use std::alloc::{AllocError, Global};
@@ -100,13 +100,18 @@ impl TokenStream {
     }
 
     /// How many openings, leaves and closings there are, or `usize::MAX` if there are more.
-    #[cycle(weights)]
+    #[tactic(auto, using(crate::proofs::Weights::weight_counted))]
     pub fn weight(&self) -> usize
         ensures { result ≡ min (weight self.now) usize.MAX }
     {
-        let mut sum: usize = 0;
+        // each tree counts one, and only groups count more: leaves, which are most trees, need no call
+        let mut sum = self.trees.len();
         for next in &self.trees {
-            sum = sum.saturating_add(next.weight());
+            if let TokenTree::Group(group) = next {
+                sum = sum
+                    .saturating_add(group.stream().weight())
+                    .saturating_add(1);
+            }
         }
         sum
     }
@@ -128,16 +133,6 @@ impl TokenStream {
 }
 
 impl TokenTree {
-    #[cycle(weights)]
-    fn weight(&self) -> usize
-        ensures { result ≡ min (tree_weight (tree_of self.now)) usize.MAX }
-    {
-        match self {
-            TokenTree::Group(group) => group.stream().weight().saturating_add(2),
-            _ => 1,
-        }
-    }
-
     /// The span of a leaf, or of a whole group.
     pub fn span(&self) -> Span
         ensures { result ≡ tree_span (tree_of self.now) }

@@ -1,0 +1,20 @@
+-- The weight of a list of trees, once its trees have been counted.
+use Rattle.std.proofs.Common.{◌≡◌, List, [], ◌∷◌, ℕ, ◌+◌, length, arith}
+use Rattle.tok_core.specs.declared.stream.TokenTree.{TokenTree}
+use Rattle.tok_core.specs.declared.stream.TokenTree.TheVariants as made
+use Rattle.tok_core.specs.Forest.{Forest, no_trees, tree, leaf, group}
+use Rattle.tok_core.specs.Seen.{trees_of}
+use Rattle.tok_core.specs.Weight.{weight}
+
+-- how much more a forest weighs than it has trees
+abbrev pub excess : Forest → ℕ
+excess no_trees = 0
+excess (tree (leaf l) f) = excess f
+excess (tree (group delimiter inside span) f) = weight inside + 1 + excess f
+
+pub weight_counted : (ts : List TokenTree) → weight (trees_of ts) ≡ length ts + excess (trees_of ts)
+weight_counted [] = omega arith
+weight_counted (made.Group g ∷ ts) = omega (arith, weight_counted ts)
+weight_counted (made.Ident i ∷ ts) = omega (arith, weight_counted ts)
+weight_counted (made.Punct p ∷ ts) = omega (arith, weight_counted ts)
+weight_counted (made.Literal l ∷ ts) = omega (arith, weight_counted ts)
