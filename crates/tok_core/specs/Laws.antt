@@ -1,4 +1,5 @@
--- What the helpers of streams and trees compare and hash, and what it is to be the one value of a type.
+-- What the helpers of streams and trees compare and hash, and what it is to be the one value
+-- of a type.
 use Rattle.std.specs.Prelude.{◌≡◌}
 use Rattle.tok_core.specs.declared.tt.TokenStreamHelper.{TokenStreamHelper}
 use Rattle.tok_core.specs.declared.tt.TokenTreeHelper.{TokenTreeHelper}

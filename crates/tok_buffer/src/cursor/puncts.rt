@@ -95,7 +95,8 @@ impl<'a> Spot<'a> {
 
     // A punct of this character is in front.
     fn peek_char(self, wanted: char) -> bool
-        ensures { result ≡ is_some (read_if (is_punct_of wanted) (descend (spot_place self.entry))) }
+        ensures { result
+            ≡ is_some (read_if (is_punct_of wanted) (descend (spot_place self.entry))) }
     {
         match self.ignore_none().entry() {
             Entry::Punct(punct) => is_punct_of(*punct, wanted),
