@@ -1,16 +1,9 @@
 -- The weight of a list of trees, once its trees have been counted.
-use Rattle.std.proofs.Common.{◌≡◌, List, [], ◌∷◌, ℕ, ◌+◌, length, arith}
+use Rattle.std.proofs.Common.{◌≡◌, List, [], ◌∷◌, ◌+◌, length, arith}
 use Rattle.tok_core.specs.declared.stream.TokenTree.{TokenTree}
 use Rattle.tok_core.specs.declared.stream.TokenTree.TheVariants as made
-use Rattle.tok_core.specs.Forest.{Forest, no_trees, tree, leaf, group}
 use Rattle.tok_core.specs.Seen.{trees_of}
-use Rattle.tok_core.specs.Weight.{weight}
-
--- how much more a forest weighs than it has trees
-abbrev pub excess : Forest → ℕ
-excess no_trees = 0
-excess (tree (leaf l) f) = excess f
-excess (tree (group delimiter inside span) f) = weight inside + 1 + excess f
+use Rattle.tok_core.specs.Weight.{weight, excess}
 
 pub weight_counted : (ts : List TokenTree) → weight (trees_of ts) ≡ length ts + excess (trees_of ts)
 weight_counted [] = omega arith

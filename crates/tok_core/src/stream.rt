@@ -1,10 +1,10 @@
 // Streams of trees.
-ghost use Rattle.std.specs.Prelude.{◌≡◌, not, min, IfOk, OnOk, OnErr};
+ghost use Rattle.std.specs.Prelude.{◌≡◌, ◌+◌, not, min, IfOk, OnOk, OnErr};
 ghost use Rattle.tok_core.specs.Filled.{has_trees};
 ghost use Rattle.tok_core.specs.Forest.{concat, no_trees, tree, tree_span, with_span};
 ghost use Rattle.tok_core.specs.Laws.{IsTheOnly};
 ghost use Rattle.tok_core.specs.Seen.{tree_of, trees_of};
-ghost use Rattle.tok_core.specs.Weight.{weight};
+ghost use Rattle.tok_core.specs.Weight.{weight, excess};
 
 use crate::group::Group;
 use std::alloc::{AllocError, Global};
@@ -104,13 +104,18 @@ impl TokenStream {
     pub fn weight(&self) -> usize
         ensures { result ≡ min (weight self.now) usize.MAX }
     {
-        // each tree counts one, and only groups count more: leaves, which are most trees, need no call
-        let mut sum = self.trees.len();
+        self.add_excess(self.trees.len())
+    }
+
+    // What the groups add to a number in which each tree of this stream has been counted. Leaves, which are most trees, add nothing.
+    fn add_excess(&self, counted: usize) -> usize
+        ensures { result ≡ min (counted + excess self.now) usize.MAX }
+    {
+        let mut sum = counted;
         for next in &self.trees {
             if let TokenTree::Group(group) = next {
-                sum = sum
-                    .saturating_add(group.stream().weight())
-                    .saturating_add(1);
+                let inside = group.stream();
+                sum = inside.add_excess(sum.saturating_add(inside.trees.len() + 1));
             }
         }
         sum
