@@ -3,8 +3,9 @@ ghost use Rattle.std.specs.Prelude.{◌≡◌, ◌+◌, not, min, IfOk, OnOk, On
 ghost use Rattle.tok_core.specs.Filled.{has_trees};
 ghost use Rattle.tok_core.specs.Forest.{concat, no_trees, tree, tree_span, with_span};
 ghost use Rattle.tok_core.specs.Laws.{IsTheOnly};
+ghost use Rattle.tok_core.specs.Private.Excess.{excess};
 ghost use Rattle.tok_core.specs.Seen.{tree_of, trees_of};
-ghost use Rattle.tok_core.specs.Weight.{weight, excess};
+ghost use Rattle.tok_core.specs.Weight.{weight};
 
 use crate::group::Group;
 use std::alloc::{AllocError, Global};

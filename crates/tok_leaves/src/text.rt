@@ -72,6 +72,8 @@ impl Text {
         }
     }
 
+    // Kept out of line: long texts are rare, and inlining their allocation makes callers save more registers.
+    #[inline(never)]
     fn long(alloc: Global, text: String) -> Result<Text, AllocError>
         ensures { IfOk result (λ t. t ≡ string_bytes text) }
     {

@@ -72,6 +72,8 @@ impl TreeBuilder {
         Ok(())
     }
 
+    // Inlined: most pieces are identifiers, and a call would save and restore registers for each.
+    #[inline(always)]
     fn ident(&mut self, start: usize, end: usize, text: &str) -> Result<(), AllocError>
         requires order { start ≤ end }
         ensures { (at : ℕ)
@@ -100,6 +102,8 @@ impl TreeBuilder {
     }
 
     /// A lifetime's two trees.
+    // Kept out of line: lifetimes are rare, and inlining them takes registers from the loop over pieces.
+    #[inline(never)]
     fn lifetime(&mut self, at: usize, end: usize, name: &str) -> Result<(), AllocError>
         requires fits { at + 1 < 2 ^ 64 }
         requires order { at + 1 ≤ end }

@@ -1,7 +1,7 @@
 use Rattle.std.proofs.Common.{rules, ap, drop, ◌+◌}
 use Rattle.tok_core.specs.Forest.{tree}
 use Rattle.tok_core.specs.Seen.{tree_of, trees_of}
-use Rattle.tok_core.specs.Weight.{excess}
+use Rattle.tok_core.specs.Private.Excess.{excess}
 use Rattle.tok_core.proofs.Trees.{trees_of-drop}
 use Rattle.tok_core.proofs.Weights.{weight_counted}
 use Rattle.tok_core.proofs.stream.TokenStream.+add_excess.Goals as goal

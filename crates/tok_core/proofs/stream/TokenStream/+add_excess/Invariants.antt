@@ -1,6 +1,6 @@
 use Rattle.std.proofs.Common.{◌≡◌, ◌+◌, ◌≤◌, min, drop}
 use Rattle.tok_core.specs.Seen.{trees_of}
-use Rattle.tok_core.specs.Weight.{excess}
+use Rattle.tok_core.specs.Private.Excess.{excess}
 use Rattle.tok_core.proofs.stream.TokenStream.+add_excess.Given as goal
 
 abbrev pub invariant-loop-next : goal.invariant-loop-next
