@@ -28,6 +28,8 @@ pub fn begins_comment(rest: &str) -> bool
 }
 
 /// Whether a punct character follows that doesn't begin a comment.
+// Inlined: the loop over pieces asks this after each punct.
+#[inline(always)]
 pub fn makes_joint(rest: &str) -> bool
     ensures { result ≡ makes_joint (chars rest.now) }
 {

@@ -139,6 +139,8 @@ impl TreeBuilder {
     }
 
     /// Closes the innermost group, if the delimiter is its own.
+    // Inlined: every group is closed, and a call would save and restore registers for each.
+    #[inline(always)]
     fn close(&mut self, delimiter: Delimiter, at: usize, end: usize) -> Result<(), LexFault>
         requires order { at ≤ end }
         requires reached { Reached self.old.«open».items at }
