@@ -37,15 +37,15 @@ refused_is text other error e h = subst (λ z. IsRefused marked_rules 0 (chars z
 -- a text reads as one forest, is refused with one error, and never both
 one_forest : (text : List ℕ) (forest other : Forest) → IsForest text forest → IsForest text other
     → forest ≡ other
-one_forest text forest other h k = forest_once marked_rules 0 (chars text) forest other h k
+one_forest text forest other h k = forest_once 0 marked_rules 0 (chars text) forest other h k
 
 one_error : (text : List ℕ) (error other : LexError) → IsRefused marked_rules 0 (chars text) error
     → IsRefused marked_rules 0 (chars text) other → error ≡ other
-one_error text error other h k = refused_once marked_rules 0 (chars text) error other h k
+one_error text error other h k = refused_once 0 marked_rules 0 (chars text) error other h k
 
 not_read : (text : List ℕ) (forest : Forest) (error : LexError) → IsForest text forest
     → IsRefused marked_rules 0 (chars text) error → ⊥
-not_read text forest error h k = never_both marked_rules 0 (chars text) forest error h k
+not_read text forest error h k = never_both 0 marked_rules 0 (chars text) forest error h k
 
 abbrev Parts : Type 0
 Parts = List ℕ × Option (List ℕ) × List (List ℕ)

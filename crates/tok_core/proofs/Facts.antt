@@ -14,6 +14,12 @@ pub joined_assoc : (f g h : Forest) → concat (concat f g) h ≡ concat f (conc
 joined_assoc no_trees g h = refl
 joined_assoc (tree t f) g h = ap (tree t) (joined_assoc f g h)
 
+-- three parts, one after the other
+pub three_parts : (old one two new b : Forest) (mark made first last : Tree) → one ≡ concat old (tree made no_trees) → made ≡ mark → two ≡ concat one b → new ≡ concat two (tree first no_trees) → first ≡ last → new ≡ concat old (tree mark (concat b (tree last no_trees)))
+three_parts old one two new b mark made first last e m f g l =
+    g ∙ ap (λ w. concat w (tree first no_trees)) (f ∙ ap (λ w. concat w b) (e ∙ ap (λ w. concat old (tree w no_trees)) m)) ∙ ap (λ w. concat (concat (concat old (tree mark no_trees)) b) (tree w no_trees)) l
+    ∙ joined_assoc (concat old (tree mark no_trees)) b (tree last no_trees) ∙ joined_assoc old (tree mark no_trees) (concat b (tree last no_trees))
+
 pub erase-tree : (t : Tree) (f : Forest) → erase (tree t f) ≡ concat (erase (tree t no_trees)) (erase f)
 erase-tree (leaf l) f = refl
 erase-tree (group None inside span) f = ap (λ g. concat g (erase f)) (sym (concat-none (erase inside)))

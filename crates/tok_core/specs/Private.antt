@@ -1,5 +1,6 @@
 -- Definitions that only contracts of private items cite.
 pub mod Alikes
+pub mod Attribute
 pub mod Built
 pub mod Excess
 pub mod Pending

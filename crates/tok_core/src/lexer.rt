@@ -1,12 +1,13 @@
 // Text to trees.
-ghost use Rattle.std.specs.Prelude.{IfOk, IfErr};
+ghost use Rattle.std.specs.Prelude.{IfOk, IfErr, ◌+◌, ◌<◌, ◌^◌, length};
 ghost use Rattle.std.specs.Str.{chars};
 ghost use Rattle.tok_lexical.specs.Starts.{rules_of};
 ghost use Rattle.tok_core.specs.Lexical.Errors.{OnRefused};
-ghost use Rattle.tok_core.specs.Lexical.Outcome.{FollowsGrammar};
-ghost use Rattle.tok_core.specs.Lexical.Reading.{Reads, IsRefused};
+ghost use Rattle.tok_core.specs.Lexical.Outcome.{FollowsGrammar, FollowsSource};
+ghost use Rattle.tok_core.specs.Lexical.Reading.{ReadsFrom, IsRefusedFrom};
 ghost use Rattle.tok_lexical.specs.Rules.{plain_rules, marked_rules};
 
+mod attribute;
 mod blanks;
 mod error;
 mod nest;
@@ -16,22 +17,32 @@ use blanks::past_blanks;
 pub use error::{LexError, LexFault};
 use nest::TreeBuilder;
 use std::alloc::Global;
+use tok_lexical::source::past_start;
 use tok_lexical::text::front_of;
 use tok_lexical::{Reason, Rules, first_rule};
 
-// The forest of a text by these rules, of which the last takes any character.
+// The forest of a text that begins at this byte, by these rules, of which the last takes any character.
 //
 // One piece after the other is taken off the front, so the time is linear in the text: a piece is looked at a fixed number of
 // times. A rule that looks far and then doesn't fit is followed by a refusal, as an unclosed comment or string is; or what
 // it looks at is a run that no later piece goes over again: the `#` after an `r`, the marks after a punct.
-fn read(alloc: Global, source: u32, rules: Rules, text: &str) -> Result<TokenStream, LexFault>
-    ensures reads { IfOk result (λ stream. Reads (rules_of rules) source (chars text.now) stream) }
+fn read(
+    alloc: Global,
+    source: u32,
+    rules: Rules,
+    start: usize,
+    text: &str,
+) -> Result<TokenStream, LexFault>
+    requires fits { start + length text.now < 2 ^ 64 }
+    ensures reads { IfOk result
+        (λ stream. ReadsFrom start (rules_of rules) source (chars text.now) stream) }
     ensures refuses { IfErr result
-        (λ fault. OnRefused fault (IsRefused (rules_of rules) source (chars text.now))) }
+        (λ fault. OnRefused fault
+        (IsRefusedFrom start (rules_of rules) source (chars text.now))) }
 {
     let mut nest = TreeBuilder::new(alloc, source);
     let mut rest = text;
-    let mut at = 0usize;
+    let mut at = start;
     while let Some((rule, after)) = first_rule(rules, rest) {
         let piece = front_of(rest, after);
         let end = at + rule.width(piece);
@@ -60,7 +71,7 @@ fn read(alloc: Global, source: u32, rules: Rules, text: &str) -> Result<TokenStr
 pub fn lex(alloc: Global, source: u32, text: &str) -> Result<TokenStream, LexFault>
     ensures { FollowsGrammar plain_rules source (chars text.now) result }
 {
-    read(alloc, source, Rules::Plain, text)
+    read(alloc, source, Rules::Plain, 0, text)
 }
 
 /// The forest of a text in which the marks « and » open and close invisible groups. Its bytes are counted as if these
@@ -68,5 +79,15 @@ pub fn lex(alloc: Global, source: u32, text: &str) -> Result<TokenStream, LexFau
 pub fn lex_marked(alloc: Global, source: u32, text: &str) -> Result<TokenStream, LexFault>
     ensures { FollowsGrammar marked_rules source (chars text.now) result }
 {
-    read(alloc, source, Rules::Marked, text)
+    read(alloc, source, Rules::Marked, 0, text)
+}
+
+/// The forest of a whole Rust source, of the edition of 2021. A doc comment stands for an attribute; a byte order mark and a
+/// shebang line at the start mean nothing.
+pub fn lex_source(alloc: Global, source: u32, text: &str) -> Result<TokenStream, LexFault>
+    ensures { FollowsSource source (chars text.now) result }
+{
+    let rest = past_start(text);
+    let start = text.len() - rest.len();
+    read(alloc, source, Rules::Source, start, rest)
 }

@@ -1,14 +1,20 @@
 -- Lemmas on the lexical grammar and on the functions that read by it.
 pub mod Codes
 pub mod Comments
+pub mod Contents
+pub mod Docs
 pub mod Escapes
 pub mod First
+pub mod Floats
+pub mod Fronts
 pub mod Fits
 pub mod Longest
 pub mod Numbers
 pub mod Prefixes
+pub mod Raw
 pub mod Scans
 pub mod Slashes
+pub mod Sources
 pub mod Starts
 pub mod Tables
 pub mod Texts

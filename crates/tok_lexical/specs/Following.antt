@@ -1,6 +1,6 @@
 -- What follows a piece: whether a punct is joint (Rust Reference: Procedural macros, on the spacing
 -- of punctuation).
-use Rattle.std.specs.Prelude.{ℕ, List, [], ◌∷◌, Bool, false, not, ◌||◌, ◌&&◌, ◌==◌, if◌then◌else◌}
+use Rattle.std.specs.Prelude.{ℕ, List, [], ◌∷◌, Bool, true, false, not, ◌||◌, ◌&&◌, ◌==◌, if◌then◌else◌}
 use Rattle.tok_lexical.specs.Characters.{is_punct_or_apostrophe}
 use Rattle.tok_lexical.specs.Words.{is_identifier_start}
 
@@ -32,3 +32,8 @@ past_marks (c ∷ rest) = if (c == 171) || (c == 187) then past_marks rest else 
 -- through marks
 abbrev pub makes_joint_apostrophe : List ℕ → Bool
 makes_joint_apostrophe text = starts_name (past_marks text) || starts_punct (past_marks text)
+
+-- what follows a dot directly after digits leaves it to a float
+abbrev pub takes_point : List ℕ → Bool
+takes_point [] = true
+takes_point (c ∷ rest) = not ((c == 46) || is_identifier_start c)

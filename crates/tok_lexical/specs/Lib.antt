@@ -1,12 +1,17 @@
 pub mod Characters
 pub mod Comments
+pub mod Contents
 pub mod Delimiters
+pub mod Docs
 pub mod Fits
+pub mod Floats
 pub mod Following
 pub mod Numbers
 pub mod Pieces
+pub mod Raw
 pub mod Refusals
 pub mod Rules
+pub mod Sources
 pub mod Starts
 pub mod Strings
 pub mod Widths

@@ -43,11 +43,15 @@ abbrev pub IsNumberSuffix : ℕ → List ℕ → Type 0
 IsNumberSuffix n [] = Unit {0}
 IsNumberSuffix n (c ∷ rest) = (starts_number_suffix n c ≡ true) × IsIdentifier (c ∷ rest)
 
--- digits and underscores of which this holds, as many as there are, and a suffix
+-- digits and underscores of which this holds, as many as there are, and what follows them
+abbrev pub IsRun : ℕ → (List ℕ → Bool) → (List ℕ → Type 0) → List ℕ → Type 0
+IsRun n good Tail piece =
+    (digits : List ℕ) × (tail : List ℕ) × (piece ≡ digits ++ tail)
+    × IsAll (is_digit_or_underscore n) digits × (good digits ≡ true) × Tail tail
+
+-- the same with a suffix after them
 abbrev pub IsNumber : ℕ → (List ℕ → Bool) → List ℕ → Type 0
-IsNumber n good piece =
-    (digits : List ℕ) × (suffix : List ℕ) × (piece ≡ digits ++ suffix)
-    × IsAll (is_digit_or_underscore n) digits × (good digits ≡ true) × IsNumberSuffix n suffix
+IsNumber n good = IsRun n good (IsNumberSuffix n)
 
 abbrev pub has_digit : ℕ → List ℕ → Bool
 has_digit n digits = list_any (λ c. is_digit c n) digits

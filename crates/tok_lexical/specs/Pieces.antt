@@ -1,6 +1,6 @@
 -- What it is to take a piece off the front of a text. Texts are lists of characters, and a spelling
 -- is a fact on whole texts.
-use Rattle.std.specs.Prelude.{◌≡◌, ◌==◌, ◌||◌, not, ℕ, List, [], ◌∷◌, ◌++◌, Bool, true, false}
+use Rattle.std.specs.Prelude.{◌≡◌, ◌==◌, ◌||◌, not, if◌then◌else◌, ℕ, List, [], ◌∷◌, ◌++◌, Bool, true, false}
 use Rattle.std.specs.Prelude.{Option, MatchOption}
 use Rattle.std.specs.List.{list_all}
 use Rattle.std.specs.Str.{chars}
@@ -67,3 +67,13 @@ pub record Skips (p : ℕ → Bool) (text front rest : List ℕ) : Type 0 where
 abbrev pub after_first : List ℕ → List ℕ
 after_first [] = []
 after_first (c ∷ rest) = rest
+
+-- up to the first of these characters
+abbrev pub up_to : ℕ → List ℕ → List ℕ
+up_to a [] = []
+up_to a (c ∷ rest) = if c == a then [] else c ∷ up_to a rest
+
+-- the first of these characters and what follows it
+abbrev pub from_first : ℕ → List ℕ → List ℕ
+from_first a [] = []
+from_first a (c ∷ rest) = if c == a then c ∷ rest else from_first a rest

@@ -1,9 +1,11 @@
 -- Which pieces are refused, and why: the reasons, their numbers and words.
-use Rattle.std.specs.Prelude.{ℕ, List, codes, ◌==◌, Bool, not, if◌then◌else◌, Option, Some, None}
+use Rattle.std.specs.Prelude.{ℕ, List, codes, ◌==◌, ◌||◌, ◌&&◌, Bool, not, if◌then◌else◌, Option, Some, None}
 use Rattle.tok_lexical.specs.Comments.{is_line_doc, is_block_doc}
-use Rattle.tok_lexical.specs.Numbers.{is_malformed, is_float}
-use Rattle.tok_lexical.specs.Pieces.{after_first}
-use Rattle.tok_lexical.specs.Words.{is_missing}
+use Rattle.tok_lexical.specs.Numbers.{is_exponent, is_malformed, is_float}
+use Rattle.tok_lexical.specs.Contents.{has_bare_return, is_unfit, is_wrong}
+use Rattle.tok_lexical.specs.Docs.{breaks_line}
+use Rattle.tok_lexical.specs.Pieces.{after_first, begins_with}
+use Rattle.tok_lexical.specs.Words.{is_missing, is_plain}
 use Rattle.tok_lexical.specs.declared.reason.Reason.{Reason}
 use Rattle.tok_lexical.specs.declared.reason.Reason.TheVariants.{UnknownCharacter, UnclosedGroup}
 use Rattle.tok_lexical.specs.declared.reason.Reason.TheVariants.{UnexpectedClosing, UnclosedComment}
@@ -11,7 +13,8 @@ use Rattle.tok_lexical.specs.declared.reason.Reason.TheVariants.{DocComment, Mal
 use Rattle.tok_lexical.specs.declared.reason.Reason.TheVariants.{PrefixedString, FloatLiteral}
 use Rattle.tok_lexical.specs.declared.reason.Reason.TheVariants.{MalformedNumber}
 use Rattle.tok_lexical.specs.declared.reason.Reason.TheVariants.{MissingRawIdentifier}
-use Rattle.tok_lexical.specs.declared.reason.Reason.TheVariants.{LoneApostrophe, DeepGroup}
+use Rattle.tok_lexical.specs.declared.reason.Reason.TheVariants.{LoneApostrophe, DeepGroup, ReservedPrefix}
+use Rattle.tok_lexical.specs.declared.reason.Reason.TheVariants.{BareReturn}
 use Rattle.tok_lexical.specs.declared.rule.Rule.{Rule}
 use Rattle.tok_lexical.specs.declared.rule.Rule.TheVariants.{ByteOrderMark, LineComment}
 use Rattle.tok_lexical.specs.declared.rule.Rule.TheVariants.{BlockComment, OpenComment, BadString}
@@ -19,6 +22,9 @@ use Rattle.tok_lexical.specs.declared.rule.Rule.TheVariants.{BadByteChar, BadEsc
 use Rattle.tok_lexical.specs.declared.rule.Rule.TheVariants.{StringPrefix, Lifetime, Apostrophe}
 use Rattle.tok_lexical.specs.declared.rule.Rule.TheVariants.{Based, BadBased, Decimal}
 use Rattle.tok_lexical.specs.declared.rule.Rule.TheVariants.{RawIdentifier, Other}
+use Rattle.tok_lexical.specs.declared.rule.Rule.TheVariants.{SourceString, RawString, BadPrefixed}
+use Rattle.tok_lexical.specs.declared.rule.Rule.TheVariants.{SourceIdentifier, SourceLifetime, Float}
+use Rattle.tok_lexical.specs.declared.rule.Rule.TheVariants.{SourceDecimal, SourceLineComment, SourceBlockComment}
 
 abbrev pub refusal_number : Reason → ℕ
 refusal_number UnknownCharacter = 1
@@ -33,6 +39,8 @@ refusal_number MalformedNumber = 9
 refusal_number MissingRawIdentifier = 10
 refusal_number LoneApostrophe = 11
 refusal_number DeepGroup = 12
+refusal_number ReservedPrefix = 13
+refusal_number BareReturn = 14
 
 abbrev pub refusal_words : Reason → List ℕ
 refusal_words UnknownCharacter = codes "unknown character"
@@ -47,25 +55,50 @@ refusal_words MalformedNumber = codes "malformed number"
 refusal_words MissingRawIdentifier = codes "raw identifier that does not exist"
 refusal_words LoneApostrophe = codes "lone apostrophe"
 refusal_words DeepGroup = codes "groups nested too deep"
+refusal_words ReservedPrefix = codes "reserved prefix"
+refusal_words BareReturn = codes "bare carriage return in a doc comment"
 
 abbrev refused_if : Bool → Reason → Option Reason
 refused_if b refusal = if b then Some refusal else None
+
+-- what follows an identifier makes it a prefix that the edition of 2021 reserves
+abbrev pub is_reserved : List ℕ → Bool
+is_reserved after = begins_with 34 after || (begins_with 39 after || begins_with 35 after)
+
+-- of a lifetime of a source: `'ab'` is no character, and an identifier with `#` is reserved
+abbrev pub lifetime_refusal : List ℕ → List ℕ → Option Reason
+lifetime_refusal name after =
+    if is_missing name then Some MissingRawIdentifier
+    else if begins_with 39 after then Some MalformedQuoted
+    else refused_if (is_plain name && begins_with 35 after) ReservedPrefix
 
 -- why the piece is refused, if it is; the byte matters to the byte order mark alone
 abbrev pub refusal : Rule → ℕ → List ℕ → List ℕ → Option Reason
 refusal ByteOrderMark at piece after = refused_if (not (at == 0)) UnknownCharacter
 refusal LineComment at piece after = refused_if (is_line_doc piece) DocComment
 refusal BlockComment at piece after = refused_if (is_block_doc piece) DocComment
+refusal SourceLineComment at piece after =
+    refused_if (is_line_doc piece && breaks_line piece after) BareReturn
+refusal SourceBlockComment at piece after =
+    refused_if (is_block_doc piece && has_bare_return piece) BareReturn
 refusal OpenComment at piece after = Some UnclosedComment
 refusal BadString at piece after = Some MalformedQuoted
 refusal BadByteChar at piece after = Some MalformedQuoted
 refusal BadEscapedChar at piece after = Some MalformedQuoted
 refusal StringPrefix at piece after = Some PrefixedString
+refusal (SourceString contents) at piece after =
+    refused_if (is_wrong contents piece) MalformedQuoted
+refusal (RawString contents) at piece after = refused_if (is_unfit contents piece) MalformedQuoted
+refusal BadPrefixed at piece after = Some MalformedQuoted
 refusal Lifetime at piece after = refused_if (is_missing (after_first piece)) MissingRawIdentifier
+refusal SourceLifetime at piece after = lifetime_refusal (after_first piece) after
 refusal Apostrophe at piece after = Some LoneApostrophe
 refusal (Based base) at piece after = refused_if (is_malformed base piece after) MalformedNumber
 refusal (BadBased base) at piece after = Some MalformedNumber
 refusal Decimal at piece after = refused_if (is_float piece after) FloatLiteral
+refusal Float at piece after = refused_if (is_exponent after) MalformedNumber
+refusal SourceDecimal at piece after = refused_if (is_exponent after) MalformedNumber
 refusal RawIdentifier at piece after = refused_if (is_missing piece) MissingRawIdentifier
+refusal SourceIdentifier at piece after = refused_if (is_reserved after) ReservedPrefix
 refusal Other at piece after = Some UnknownCharacter
 refusal rule at piece after = None

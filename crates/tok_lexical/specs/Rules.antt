@@ -6,6 +6,8 @@ use Rattle.tok_lexical.specs.Words.{IsIdentifier, IsRawIdentifier, IsName}
 use Rattle.tok_lexical.specs.Comments.{IsLineComment, IsBlockComment}
 use Rattle.tok_lexical.specs.Strings.{IsString, IsQuoted, IsByte, IsEscapedChar, is_char}
 use Rattle.tok_lexical.specs.Strings.{IsStringPrefix}
+use Rattle.tok_lexical.specs.Raw.{IsRawString}
+use Rattle.tok_lexical.specs.Floats.{IsFloat, IsPointed}
 use Rattle.tok_lexical.specs.Numbers.{IsBased, IsDecimal, base_mark}
 use Rattle.tok_lexical.specs.Pieces.{IsOne, After}
 use Rattle.tok_lexical.specs.declared.delimiter.Delimiter.TheVariants.{Parenthesis, Brace, Bracket}
@@ -22,6 +24,11 @@ use Rattle.tok_lexical.specs.declared.rule.Rule.TheVariants.{PlainChar, Lifetime
 use Rattle.tok_lexical.specs.declared.rule.Rule.TheVariants.{MarkedApostrophe, Based, BadBased}
 use Rattle.tok_lexical.specs.declared.rule.Rule.TheVariants.{Decimal, RawIdentifier, Identifier}
 use Rattle.tok_lexical.specs.declared.rule.Rule.TheVariants.{Punct, MarkedPunct, Other}
+use Rattle.tok_lexical.specs.declared.rule.Rule.TheVariants.{SourceString, RawString, BadPrefixed}
+use Rattle.tok_lexical.specs.declared.rule.Rule.TheVariants.{SourceIdentifier, SourceLifetime, Float}
+use Rattle.tok_lexical.specs.declared.rule.Rule.TheVariants.{PointedDecimal, SourceDecimal, SourceLineComment}
+use Rattle.tok_lexical.specs.declared.rule.Rule.TheVariants.{SourceBlockComment}
+use Rattle.tok_lexical.specs.declared.contents.Contents.TheVariants.{Text, Bytes, C}
 
 -- The whole piece is spelled by the rule. After a rule comes one that takes what begins so and
 -- isn't spelled to its end.
@@ -30,25 +37,37 @@ Spells ByteOrderMark = IsOne (λ c. c == 0xFEFF)
 Spells Whitespace = IsOne is_whitespace
 Spells LineComment = IsLineComment
 Spells BlockComment = IsBlockComment
+Spells SourceLineComment = IsLineComment
+Spells SourceBlockComment = IsBlockComment
 Spells OpenComment = λ piece. piece ≡ 47 ∷ 42 ∷ []
 Spells (Opening delimiter) = IsOne (λ c. c == opening_mark delimiter)
 Spells (Closing delimiter) = IsOne (λ c. c == closing_mark delimiter)
-Spells QuotedString = IsString
+Spells QuotedString = IsString Text
 Spells BadString = IsOne (λ c. c == 34)
 Spells ByteChar = After 98 (IsQuoted IsByte)
 Spells BadByteChar = λ piece. piece ≡ 98 ∷ 39 ∷ []
 Spells StringPrefix = IsStringPrefix
+Spells (SourceString Text) = IsString Text
+Spells (SourceString Bytes) = After 98 (IsString Bytes)
+Spells (SourceString C) = After 99 (IsString C)
+Spells (RawString contents) = IsRawString contents
+Spells BadPrefixed = IsStringPrefix
 Spells EscapedChar = IsQuoted IsEscapedChar
 Spells BadEscapedChar = λ piece. piece ≡ 39 ∷ 92 ∷ []
 Spells PlainChar = IsQuoted (IsOne is_char)
 Spells Lifetime = After 39 IsName
+Spells SourceLifetime = After 39 IsName
 Spells Apostrophe = IsOne (λ c. c == 39)
 Spells MarkedApostrophe = IsOne (λ c. c == 39)
 Spells (Based base) = IsBased base
 Spells (BadBased base) = λ piece. piece ≡ 48 ∷ base_mark base ∷ []
 Spells Decimal = IsDecimal
+Spells Float = IsFloat
+Spells PointedDecimal = IsPointed
+Spells SourceDecimal = IsDecimal
 Spells RawIdentifier = IsRawIdentifier
 Spells Identifier = IsIdentifier
+Spells SourceIdentifier = IsIdentifier
 Spells Punct = IsOne is_punct
 Spells MarkedPunct = IsOne is_punct
 Spells Other = IsOne (λ c. true)
@@ -79,3 +98,19 @@ marked_rules =
     ∷ Based Hexadecimal ∷ Based Octal ∷ Based Binary ∷ BadBased Hexadecimal ∷ BadBased Octal ∷
     BadBased Binary ∷ Decimal
     ∷ RawIdentifier ∷ Identifier ∷ MarkedPunct ∷ Other ∷ []
+
+-- the rules of a whole source, in their order
+abbrev pub source_rules : List Rule
+source_rules =
+    ByteOrderMark ∷ Whitespace ∷ SourceLineComment ∷ SourceBlockComment ∷ OpenComment
+    ∷ Opening Parenthesis ∷ Opening Brace ∷ Opening Bracket ∷ Closing Parenthesis ∷ Closing Brace ∷
+    Closing Bracket
+    ∷ SourceString Text ∷ BadString ∷ ByteChar ∷ BadByteChar
+    ∷ SourceString Bytes ∷ SourceString C
+    ∷ RawString Text ∷ RawString Bytes ∷ RawString C ∷ BadPrefixed
+    ∷ EscapedChar ∷ BadEscapedChar ∷ PlainChar
+    ∷ SourceLifetime ∷ Apostrophe
+    ∷ Based Hexadecimal ∷ Based Octal ∷ Based Binary ∷ BadBased Hexadecimal ∷ BadBased Octal ∷
+    BadBased Binary
+    ∷ Float ∷ PointedDecimal ∷ SourceDecimal
+    ∷ RawIdentifier ∷ SourceIdentifier ∷ Punct ∷ Other ∷ []

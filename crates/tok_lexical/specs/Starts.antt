@@ -4,9 +4,10 @@ use Rattle.std.specs.Prelude.{List, [], ◌∷◌}
 use Rattle.std.specs.Char.{is_digit}
 use Rattle.tok_lexical.specs.Characters.{is_whitespace, is_punct}
 use Rattle.tok_lexical.specs.Words.{is_identifier_start}
-use Rattle.tok_lexical.specs.Rules.{plain_rules, marked_rules}
+use Rattle.tok_lexical.specs.Rules.{plain_rules, marked_rules, source_rules}
 use Rattle.tok_lexical.specs.declared.delimiter.Delimiter.TheVariants.{Parenthesis, Brace, Bracket}
 use Rattle.tok_lexical.specs.declared.delimiter.Delimiter.TheVariants.{None}
+use Rattle.tok_lexical.specs.declared.contents.Contents.TheVariants.{Text, Bytes, C}
 use Rattle.tok_lexical.specs.declared.rule.Rule.{Rule}
 use Rattle.tok_lexical.specs.declared.rule.Rule.TheVariants as rule
 use Rattle.tok_lexical.specs.declared.rule.Rules.{Rules}
@@ -53,6 +54,8 @@ may_begin rule.Whitespace Rest = true
 may_begin rule.Whitespace Whitespace = true
 may_begin rule.LineComment Slash = true
 may_begin rule.BlockComment Slash = true
+may_begin rule.SourceLineComment Slash = true
+may_begin rule.SourceBlockComment Slash = true
 may_begin rule.OpenComment Slash = true
 may_begin (rule.Opening None) Rest = true
 may_begin (rule.Opening Parenthesis) (Opening Parenthesis) = true
@@ -67,10 +70,16 @@ may_begin rule.BadString Quote = true
 may_begin rule.ByteChar Prefix = true
 may_begin rule.BadByteChar Prefix = true
 may_begin rule.StringPrefix Prefix = true
+may_begin (rule.SourceString Text) Quote = true
+may_begin (rule.SourceString Bytes) Prefix = true
+may_begin (rule.SourceString C) Prefix = true
+may_begin (rule.RawString contents) Prefix = true
+may_begin rule.BadPrefixed Prefix = true
 may_begin rule.EscapedChar Apostrophe = true
 may_begin rule.BadEscapedChar Apostrophe = true
 may_begin rule.PlainChar Apostrophe = true
 may_begin rule.Lifetime Apostrophe = true
+may_begin rule.SourceLifetime Apostrophe = true
 may_begin rule.Apostrophe Apostrophe = true
 may_begin rule.MarkedApostrophe Apostrophe = true
 may_begin (rule.Based base) Zero = true
@@ -79,9 +88,17 @@ may_begin rule.Decimal Rest = true
 may_begin rule.Decimal Whitespace = true
 may_begin rule.Decimal Zero = true
 may_begin rule.Decimal Digit = true
+may_begin rule.Float Zero = true
+may_begin rule.Float Digit = true
+may_begin rule.PointedDecimal Zero = true
+may_begin rule.PointedDecimal Digit = true
+may_begin rule.SourceDecimal Zero = true
+may_begin rule.SourceDecimal Digit = true
 may_begin rule.RawIdentifier Prefix = true
 may_begin rule.Identifier Punct = false
 may_begin rule.Identifier start = true
+may_begin rule.SourceIdentifier Punct = false
+may_begin rule.SourceIdentifier start = true
 may_begin rule.Punct start = true
 may_begin rule.MarkedPunct start = true
 may_begin rule.Other start = true
@@ -105,12 +122,27 @@ tells start = false
 abbrev pub rules_of : Rules → List Rule
 rules_of rules.Plain = plain_rules
 rules_of rules.Marked = marked_rules
+rules_of rules.Source = source_rules
+
+-- the rules of comments
+abbrev pub line_rule : Rules → Rule
+line_rule rules.Source = rule.SourceLineComment
+line_rule other = rule.LineComment
+
+abbrev pub block_rule : Rules → Rule
+block_rule rules.Source = rule.SourceBlockComment
+block_rule other = rule.BlockComment
+
+-- the rule of an identifier
+abbrev pub identifier_rule : Rules → Rule
+identifier_rule rules.Source = rule.SourceIdentifier
+identifier_rule other = rule.Identifier
 
 -- the rule of a punct
 abbrev pub punct_rule : Rules → Rule
-punct_rule rules.Plain = rule.Punct
 punct_rule rules.Marked = rule.MarkedPunct
+punct_rule other = rule.Punct
 
 -- the last three rules of a text: of them, one takes any character
 abbrev pub last_rules : Rules → List Rule
-last_rules rules = rule.Identifier ∷ punct_rule rules ∷ rule.Other ∷ []
+last_rules rules = identifier_rule rules ∷ punct_rule rules ∷ rule.Other ∷ []

@@ -8,6 +8,8 @@ use Rattle.std.specs.Borrow.{Bor}
 use Rattle.std.specs.Str.{chars}
 use Rattle.tok_lexical.specs.Pieces.{HasPrefix, IsOne, After, IsAll}
 use Rattle.tok_lexical.specs.Words.{IsSuffix}
+use Rattle.tok_lexical.specs.declared.contents.Contents.{Contents}
+use Rattle.tok_lexical.specs.declared.contents.Contents.TheVariants.{Text, Bytes, C}
 
 -- one of n r t \ 0 ' "
 abbrev pub is_simple_escape : ℕ → Bool
@@ -52,21 +54,32 @@ pub data IsEscape (line_ends wide : Bool) : List ℕ → Type 0 where
   code : {text : List ℕ} → wide ≡ false → IsCode text → IsEscape line_ends wide (117 ∷ text)
   line_end : {text : List ℕ} → line_ends ≡ true → IsLineEnd text → IsEscape line_ends wide text
 
+-- in a C string `\x` goes up to FF, and `\u` may stand too
+abbrev pub IsCEscape : List ℕ → Type 0
+IsCEscape text = IsEscape true true text ⊎ After 117 IsCode text
+
+-- the escapes of each kind of string
+abbrev pub EscapeOf : Contents → List ℕ → Type 0
+EscapeOf Text = IsEscape true false
+EscapeOf Bytes = IsEscape true true
+EscapeOf C = IsCEscape
+
 -- one character of a string, or one escape
-pub data IsUnit : List ℕ → Type 0 where
-  plain : (c : ℕ) → c ≢ 34 → c ≢ 92 → IsUnit (c ∷ [])
-  escape : {text : List ℕ} → IsEscape true false text → IsUnit (92 ∷ text)
+pub data IsUnit (contents : Contents) : List ℕ → Type 0 where
+  plain : (c : ℕ) → c ≢ 34 → c ≢ 92 → IsUnit contents (c ∷ [])
+  escape : {text : List ℕ} → EscapeOf contents text → IsUnit contents (92 ∷ text)
 
 -- one unit after the other
-pub data AreUnits : List ℕ → Type 0 where
-  no_unit : AreUnits []
-  unit : {first rest : List ℕ} → IsUnit first → AreUnits rest → AreUnits (first ++ rest)
+pub data AreUnits (contents : Contents) : List ℕ → Type 0 where
+  no_unit : AreUnits contents []
+  unit : {first rest : List ℕ} → IsUnit contents first → AreUnits contents rest →
+      AreUnits contents (first ++ rest)
 
 -- a quote, units, a quote and a suffix
-abbrev pub IsString : List ℕ → Type 0
-IsString piece =
-    (body : List ℕ) × (suffix : List ℕ) × (piece ≡ 34 ∷ (body ++ 34 ∷ suffix)) × AreUnits body
-    × IsSuffix suffix
+abbrev pub IsString : Contents → List ℕ → Type 0
+IsString contents piece =
+    (body : List ℕ) × (suffix : List ℕ) × (piece ≡ 34 ∷ (body ++ 34 ∷ suffix))
+    × AreUnits contents body × IsSuffix suffix
 
 -- none of ' \ tab, line feed, U+000D
 abbrev pub is_char : ℕ → Bool
@@ -102,7 +115,7 @@ IsStringPrefix piece =
 
 -- what a function that looks for units of a string answers: what follows some of them, or None
 -- where there are none
-abbrev pub FindsUnits : List ℕ → Option (Bor (List ℕ)) → Type 0
-FindsUnits text answer =
-    MatchOption answer (HasPrefix IsUnit text → ⊥)
-    (λ rest. (units : List ℕ) × (text ≡ units ++ chars rest.now) × AreUnits units)
+abbrev pub FindsUnits : Contents → List ℕ → Option (Bor (List ℕ)) → Type 0
+FindsUnits contents text answer =
+    MatchOption answer (HasPrefix (IsUnit contents) text → ⊥)
+    (λ rest. (units : List ℕ) × (text ≡ units ++ chars rest.now) × AreUnits contents units)

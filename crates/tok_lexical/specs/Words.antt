@@ -1,5 +1,5 @@
 -- The spellings of identifiers (Rust Reference: Identifiers; Tokens, Suffixes and Lifetimes).
-use Rattle.std.specs.Prelude.{◌≡◌, ℕ, List, [], ◌∷◌, ◌⊎◌, Bool, true, false, ◌||◌, ◌&&◌, ◌==◌}
+use Rattle.std.specs.Prelude.{◌≡◌, ℕ, List, [], ◌∷◌, ◌⊎◌, Bool, true, false, not, ◌||◌, ◌&&◌, ◌==◌}
 use Rattle.std.specs.Prelude.{codes}
 use Rattle.std.specs.List.{list_all}
 use Rattle.std.specs.Str.{bytes_eq}
@@ -38,6 +38,12 @@ abbrev pub is_missing : List ℕ → Bool
 is_missing [] = false
 is_missing (c ∷ []) = false
 is_missing (c ∷ d ∷ word) = (c == 114) && ((d == 35) && has_no_raw word)
+
+-- not `r#` in front
+abbrev pub is_plain : List ℕ → Bool
+is_plain [] = true
+is_plain (c ∷ []) = true
+is_plain (c ∷ d ∷ word) = not ((c == 114) && (d == 35))
 
 -- a plain identifier that exists as a raw one
 abbrev pub HasRaw : List ℕ → Type 0

@@ -64,6 +64,7 @@ fn past_byte(text: &str) -> Option<&str>
 }
 
 /// Past a character with no escape, and its suffix.
+#[inline(always)]
 pub fn past_plain_char(text: &str) -> Option<&str>
     ensures tries { ReadsLongest (IsQuoted (IsOne is_char)) (chars text.now) result }
     ensures utf8 { IfSome result (λ rest. IsUtf8 rest.now) }
@@ -74,6 +75,7 @@ pub fn past_plain_char(text: &str) -> Option<&str>
 }
 
 /// Past a character with an escape, and its suffix.
+#[inline(always)]
 pub fn past_escaped_char(text: &str) -> Option<&str>
     ensures tries { ReadsLongest (IsQuoted IsEscapedChar) (chars text.now) result }
     ensures utf8 { IfSome result (λ rest. IsUtf8 rest.now) }
@@ -94,6 +96,7 @@ fn past_quoted_byte(text: &str) -> Option<&str>
 }
 
 /// Past a byte character and its suffix.
+#[inline(always)]
 pub fn past_byte_char(text: &str) -> Option<&str>
     ensures tries { ReadsLongest (After 98 (IsQuoted IsByte)) (chars text.now) result }
     ensures utf8 { IfSome result (λ rest. IsUtf8 rest.now) }

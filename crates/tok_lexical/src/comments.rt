@@ -1,10 +1,13 @@
 // Comments.
-ghost use Rattle.std.specs.Prelude.{◌≡◌, ℕ, List, IfSome};
+ghost use Rattle.std.specs.Prelude.{◌≡◌, ℕ, ◌∷◌, ◌++◌, [], List, IfSome};
 ghost use Rattle.std.specs.Str.{chars, IsUtf8};
 ghost use Rattle.tok_lexical.specs.Pieces.{ReadsLongest, Skips};
 ghost use Rattle.tok_lexical.specs.Comments.{is_not_line_feed, IsLineComment, IsBlockComment, Closes, is_line_doc, is_block_doc, opens_line_doc, opens_block_doc};
+ghost use Rattle.tok_lexical.specs.Docs.{is_inner_doc, line_doc_text, breaks_line, block_doc_text};
 
-use crate::text::{begins_with, past_char, past_first, past_others, past_pair};
+use crate::text::{
+    begins_with, front_of, next_char, past_char, past_first, past_others, past_pair, up_to,
+};
 
 /// Up to the line feed, or to the end.
 pub fn past_line(text: &str) -> &str
@@ -14,6 +17,7 @@ pub fn past_line(text: &str) -> &str
 }
 
 /// Past a `//` comment.
+#[inline(always)]
 pub fn past_line_comment(text: &str) -> Option<&str>
     ensures tries { ReadsLongest IsLineComment (chars text.now) result }
     ensures utf8 { IfSome result (λ rest. IsUtf8 rest.now) }
@@ -22,6 +26,7 @@ pub fn past_line_comment(text: &str) -> Option<&str>
 }
 
 /// Past a `/*` comment, with those inside it.
+#[inline(always)]
 pub fn past_block_comment(text: &str) -> Option<&str>
     ensures tries { ReadsLongest IsBlockComment (chars text.now) result }
     ensures utf8 { IfSome result (λ rest. IsUtf8 rest.now) }
@@ -93,4 +98,43 @@ pub fn is_block_doc(piece: &str) -> bool
     ensures { result ≡ is_block_doc (chars piece.now) }
 {
     opens_block_doc(past_first(past_first(piece)))
+}
+
+/// Whether a doc comment is about what it stands in: `!` is its third character.
+pub fn is_inner_doc(piece: &str) -> bool
+    ensures { result ≡ is_inner_doc (chars piece.now) }
+{
+    begins_with(past_first(past_first(piece)), '!')
+}
+
+/// What a `///` or `//!` comment says. A U+000D at its end belongs to the end of the line.
+pub fn line_doc_text(piece: &str) -> &str
+    ensures { chars result.now ≡ line_doc_text (chars piece.now) }
+{
+    let text = past_first(past_first(past_first(piece)));
+    up_to(text, b'\r')
+}
+
+/// Whether a line comment has a U+000D that isn't part of its line's end.
+#[inline(never)]
+pub fn breaks_line(piece: &str, after: &str) -> bool
+    ensures { result ≡ breaks_line (chars piece.now) (chars after.now) }
+{
+    match next_char(past_others(piece, b'\r', b'\r')) {
+        Some((_, rest)) => match next_char(rest) {
+            Some(_) => true,
+            None => !begins_with(after, '\n'),
+        },
+        None => false,
+    }
+}
+
+/// What a `/**` or `/*!` comment says.
+pub fn block_doc_text(piece: &str) -> &str
+    requires { (c : ℕ) × (front : List ℕ)
+        × (chars piece.now ≡ 47 ∷ 42 ∷ c ∷ (front ++ 42 ∷ 47 ∷ [])) }
+    ensures { chars result.now ≡ block_doc_text (chars piece.now) }
+{
+    let text = past_first(past_first(past_first(piece)));
+    front_of(text, "*/")
 }

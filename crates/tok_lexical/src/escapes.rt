@@ -2,7 +2,7 @@
 ghost use Rattle.std.specs.Prelude.{◌≡◌, ◌≤◌, IfSome, length, ◌<◌, false, if◌then◌else◌, MatchBool};
 ghost use Rattle.std.specs.Str.{chars, IsUtf8};
 ghost use Rattle.tok_lexical.specs.Pieces.{ReadsPrefix};
-ghost use Rattle.tok_lexical.specs.Strings.{is_simple_escape, IsHex, NamesChar, IsCode, IsLineEnd, IsEscape};
+ghost use Rattle.tok_lexical.specs.Strings.{is_simple_escape, IsHex, NamesChar, IsCode, IsLineEnd, IsEscape, IsCEscape};
 
 use crate::numbers::past_digits;
 use crate::text::{front_of, next_char, past_char, past_pair};
@@ -110,5 +110,17 @@ pub fn past_escape(text: &str, line_ends: bool, wide: bool) -> Option<&str>
         past_line_end(text)
     } else {
         None
+    }
+}
+
+/// The same in a C string.
+pub fn past_c_escape(text: &str) -> Option<&str>
+    ensures finds { ReadsPrefix IsCEscape (chars text.now) result }
+    ensures utf8 { IfSome result (λ rest. IsUtf8 rest.now) }
+    ensures shorter { IfSome result (λ rest. length rest.now < length text.now) }
+{
+    match past_char(text, 'u') {
+        Some(rest) => past_code(rest),
+        None => past_escape(text, true, true),
     }
 }

@@ -1,7 +1,7 @@
 // What follows a punctuation character.
 ghost use Rattle.std.specs.Prelude.{◌≡◌};
 ghost use Rattle.std.specs.Str.{chars};
-ghost use Rattle.tok_lexical.specs.Following.{starts_punct, begins_comment, makes_joint, makes_joint_apostrophe, starts_name, past_marks};
+ghost use Rattle.tok_lexical.specs.Following.{starts_punct, begins_comment, makes_joint, makes_joint_apostrophe, starts_name, past_marks, takes_point};
 
 use crate::classes::is_punct_or_apostrophe;
 use crate::text::{begins_with, next_char, past_char};
@@ -66,4 +66,14 @@ pub fn past_marks(text: &str) -> &str
         rest = after;
     }
     rest
+}
+
+/// Whether a dot that comes before, directly after digits, belongs to a float: no other dot and no identifier follows.
+pub fn takes_point(after: &str) -> bool
+    ensures { result ≡ takes_point (chars after.now) }
+{
+    match next_char(after) {
+        Some((first, _)) => !(first == '.' || is_identifier_start(first)),
+        None => true,
+    }
 }

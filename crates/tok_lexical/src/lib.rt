@@ -5,19 +5,24 @@
 mod char_literals;
 pub mod classes;
 pub mod comments;
+mod contents;
 mod delimiter;
 mod escapes;
+mod floats;
 pub mod joint;
 mod numbers;
 mod prefixes;
+mod raw;
 mod reason;
 mod refusals;
 mod rule;
+pub mod source;
 mod start;
 mod strings;
 pub mod text;
 pub mod words;
 
+pub use contents::Contents;
 pub use delimiter::Delimiter;
 pub use numbers::Base;
 pub use reason::Reason;

@@ -117,7 +117,8 @@ pub fn past_based(text: &str, base: Base) -> Option<&str>
     past_in_base(digits, base.radix())
 }
 
-fn starts_digit(text: &str) -> bool
+#[inline(always)]
+pub fn starts_digit(text: &str) -> bool
     ensures { result ≡ starts_digit (chars text.now) }
 {
     match next_char(text) {
@@ -127,6 +128,7 @@ fn starts_digit(text: &str) -> bool
 }
 
 /// Past a decimal integer.
+#[inline(always)]
 pub fn past_decimal(text: &str) -> Option<&str>
     ensures tries { ReadsLongest IsDecimal (chars text.now) result }
     ensures utf8 { IfSome result (λ rest. IsUtf8 rest.now) }
@@ -138,7 +140,8 @@ pub fn past_decimal(text: &str) -> Option<&str>
     Some(past_number_suffix(rest, 10))
 }
 
-fn is_exponent(text: &str) -> bool
+#[inline(always)]
+pub fn is_exponent(text: &str) -> bool
     ensures { result ≡ is_exponent (chars text.now) }
 {
     match next_char(text) {

@@ -7,7 +7,7 @@ ghost use Rattle.tok_lexical.specs.Strings.{IsHashes, IsPrefixed, IsStringPrefix
 use crate::text::{next_char, past_char};
 
 /// Past the `#` at the front.
-fn past_number_signs(text: &str) -> &str
+pub fn past_number_signs(text: &str) -> &str
     ensures { (front : List ℕ) × Skips (λ c. c == 35) (chars text.now) front (chars result.now) }
 {
     let mut rest = text;
@@ -46,6 +46,7 @@ fn past_prefixed(text: &str) -> Option<&str>
 }
 
 /// Past the start of a raw, byte or C string.
+#[inline(always)]
 pub fn past_string_prefix(text: &str) -> Option<&str>
     ensures tries { ReadsLongest IsStringPrefix (chars text.now) result }
     ensures utf8 { IfSome result (λ rest. IsUtf8 rest.now) }

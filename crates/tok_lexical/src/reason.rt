@@ -17,10 +17,12 @@ pub enum Reason {
     MissingRawIdentifier,
     LoneApostrophe,
     DeepGroup,
+    ReservedPrefix,
+    BareReturn,
 }
 
 impl Reason {
-    /// The number of the rule: 1 for L1, to 12 for L12.
+    /// The number of the rule: 1 for L1, to 14 for L14.
     pub fn number(self) -> u8
         ensures { result ≡ refusal_number self }
     {
@@ -37,6 +39,8 @@ impl Reason {
             Reason::MissingRawIdentifier => 10,
             Reason::LoneApostrophe => 11,
             Reason::DeepGroup => 12,
+            Reason::ReservedPrefix => 13,
+            Reason::BareReturn => 14,
         }
     }
 
@@ -57,6 +61,8 @@ impl Reason {
             Reason::MissingRawIdentifier => "raw identifier that does not exist",
             Reason::LoneApostrophe => "lone apostrophe",
             Reason::DeepGroup => "groups nested too deep",
+            Reason::ReservedPrefix => "reserved prefix",
+            Reason::BareReturn => "bare carriage return in a doc comment",
         }
     }
 }

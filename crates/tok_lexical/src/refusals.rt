@@ -1,19 +1,43 @@
 // Which pieces are refused.
 ghost use Rattle.std.specs.Prelude.{◌≡◌, if◌then◌else◌, Some, None};
 ghost use Rattle.std.specs.Str.{chars};
-ghost use Rattle.tok_lexical.specs.Refusals.{refusal};
+ghost use Rattle.tok_lexical.specs.Refusals.{refusal, is_reserved, lifetime_refusal};
 
-use crate::comments::{is_block_doc, is_line_doc};
-use crate::numbers::{is_float, is_malformed};
+use crate::comments::{breaks_line, is_block_doc, is_line_doc};
+use crate::contents::{has_bare_return, is_unfit, is_wrong};
+use crate::numbers::{is_exponent, is_float, is_malformed};
 use crate::reason::Reason;
 use crate::rule::Rule;
-use crate::text::past_first;
-use crate::words::is_missing;
+use crate::text::{begins_with, past_first};
+use crate::words::{is_missing, is_plain};
 
 fn refused_if(is_refused: bool, refusal: Reason) -> Option<Reason>
     ensures { result ≡ (if is_refused then Some refusal else None) }
 {
     if is_refused { Some(refusal) } else { None }
+}
+
+/// Whether what follows an identifier makes it a prefix that the edition of 2021 reserves.
+fn is_reserved(after: &str) -> bool
+    ensures { result ≡ is_reserved (chars after.now) }
+{
+    begins_with(after, '"') || begins_with(after, '\'') || begins_with(after, '#')
+}
+
+/// Why a lifetime of a source is refused, if it is: it has no such name, or a quote or a number sign follows.
+#[inline(never)]
+fn lifetime_refusal(name: &str, after: &str) -> Option<Reason>
+    ensures { result ≡ lifetime_refusal (chars name.now) (chars after.now) }
+{
+    if is_missing(name) {
+        Some(Reason::MissingRawIdentifier)
+    } else if begins_with(after, '\'') {
+        Some(Reason::MalformedQuoted)
+    } else if is_plain(name) && begins_with(after, '#') {
+        Some(Reason::ReservedPrefix)
+    } else {
+        None
+    }
 }
 
 /// Why a piece that the rule took at this byte is refused, if it is.
@@ -24,17 +48,40 @@ pub fn refusal(rule: Rule, at: usize, piece: &str, after: &str) -> Option<Reason
         Rule::ByteOrderMark => refused_if(at != 0, Reason::UnknownCharacter),
         Rule::LineComment => refused_if(is_line_doc(piece), Reason::DocComment),
         Rule::BlockComment => refused_if(is_block_doc(piece), Reason::DocComment),
+        Rule::SourceLineComment => {
+            refused_if(
+                is_line_doc(piece) && breaks_line(piece, after),
+                Reason::BareReturn,
+            )
+        }
+        Rule::SourceBlockComment => {
+            refused_if(
+                is_block_doc(piece) && has_bare_return(piece),
+                Reason::BareReturn,
+            )
+        }
         Rule::OpenComment => Some(Reason::UnclosedComment),
         Rule::BadString => Some(Reason::MalformedQuoted),
         Rule::BadByteChar => Some(Reason::MalformedQuoted),
         Rule::BadEscapedChar => Some(Reason::MalformedQuoted),
         Rule::StringPrefix => Some(Reason::PrefixedString),
+        Rule::BadPrefixed => Some(Reason::MalformedQuoted),
+        Rule::SourceString(contents) => {
+            refused_if(is_wrong(contents, piece), Reason::MalformedQuoted)
+        }
+        Rule::RawString(contents) => {
+            refused_if(is_unfit(contents, piece), Reason::MalformedQuoted)
+        }
         Rule::Lifetime => refused_if(is_missing(past_first(piece)), Reason::MissingRawIdentifier),
+        Rule::SourceLifetime => lifetime_refusal(past_first(piece), after),
         Rule::Apostrophe => Some(Reason::LoneApostrophe),
         Rule::Based(base) => refused_if(is_malformed(base, piece, after), Reason::MalformedNumber),
         Rule::BadBased(_) => Some(Reason::MalformedNumber),
         Rule::Decimal => refused_if(is_float(piece, after), Reason::FloatLiteral),
+        Rule::Float => refused_if(is_exponent(after), Reason::MalformedNumber),
+        Rule::SourceDecimal => refused_if(is_exponent(after), Reason::MalformedNumber),
         Rule::RawIdentifier => refused_if(is_missing(piece), Reason::MissingRawIdentifier),
+        Rule::SourceIdentifier => refused_if(is_reserved(after), Reason::ReservedPrefix),
         Rule::Other => Some(Reason::UnknownCharacter),
         _ => None,
     }

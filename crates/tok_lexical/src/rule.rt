@@ -5,17 +5,20 @@ ghost use Rattle.tok_lexical.specs.Fits.{ReadsByRules};
 ghost use Rattle.tok_lexical.specs.Widths.{is_group_mark, width};
 ghost use Rattle.tok_lexical.specs.Pieces.{ReadsLongest};
 ghost use Rattle.tok_lexical.specs.Rules.{Spells};
-ghost use Rattle.tok_lexical.specs.Starts.{tells, only, rules_of, last_rules, punct_rule};
+ghost use Rattle.tok_lexical.specs.Starts.{tells, only, rules_of, last_rules, identifier_rule, punct_rule};
 
 use crate::char_literals::{past_byte_char, past_escaped_char, past_plain_char};
 use crate::classes::{closing_mark, is_invisible, is_punct, is_whitespace, opening_mark};
 use crate::comments::{past_block_comment, past_line_comment};
+use crate::contents::Contents;
 use crate::delimiter::Delimiter;
+use crate::floats::{past_float, past_pointed};
 use crate::joint::begins_comment;
 use crate::numbers::{Base, past_based, past_decimal};
 use crate::prefixes::past_string_prefix;
+use crate::raw::past_raw_string;
 use crate::start::Start;
-use crate::strings::past_string;
+use crate::strings::{past_byte_string, past_c_string, past_string};
 use crate::text::{next_char, past_pair};
 use crate::words::{past_continues, past_identifier, past_lifetime, past_raw_identifier};
 
@@ -27,6 +30,8 @@ pub enum Rule {
     Whitespace,
     LineComment,
     BlockComment,
+    SourceLineComment,
+    SourceBlockComment,
     OpenComment,
     Opening(Delimiter),
     Closing(Delimiter),
@@ -35,31 +40,41 @@ pub enum Rule {
     ByteChar,
     BadByteChar,
     StringPrefix,
+    SourceString(Contents),
+    RawString(Contents),
+    BadPrefixed,
     EscapedChar,
     BadEscapedChar,
     PlainChar,
     Lifetime,
+    SourceLifetime,
     Apostrophe,
     MarkedApostrophe,
     Based(Base),
     BadBased(Base),
     Decimal,
+    Float,
+    PointedDecimal,
+    SourceDecimal,
     RawIdentifier,
     Identifier,
+    SourceIdentifier,
     Punct,
     MarkedPunct,
     Other,
 }
 
-/// The rules of a text: with marks of invisible groups, or without.
+/// The rules of a text: those of the profile, without marks of invisible groups or with them, or those of a whole source.
 #[derive(Clone, Copy, Debug)]
 pub enum Rules {
     Plain,
     Marked,
+    Source,
 }
 
 impl Rules {
     // Those that may begin so, in their order, without the last three.
+    #[inline(always)]
     fn at(self, start: Start) -> &'static [Rule]
         ensures { tells start ≡ false → result.now ++ last_rules self ≡ only start (rules_of self) }
     {
@@ -73,26 +88,73 @@ impl Rules {
                     Rule::Closing(Delimiter::None),
                     Rule::Decimal,
                 ],
+                Rules::Source => &[Rule::ByteOrderMark, Rule::Whitespace],
             },
-            Start::Whitespace => &[Rule::Whitespace, Rule::Decimal],
-            Start::Zero => &[
-                Rule::Based(Base::Hexadecimal),
-                Rule::Based(Base::Octal),
-                Rule::Based(Base::Binary),
-                Rule::BadBased(Base::Hexadecimal),
-                Rule::BadBased(Base::Octal),
-                Rule::BadBased(Base::Binary),
-                Rule::Decimal,
-            ],
-            Start::Digit => &[Rule::Decimal],
-            Start::Prefix => &[
-                Rule::ByteChar,
-                Rule::BadByteChar,
-                Rule::StringPrefix,
-                Rule::RawIdentifier,
-            ],
-            Start::Slash => &[Rule::LineComment, Rule::BlockComment, Rule::OpenComment],
-            Start::Quote => &[Rule::QuotedString, Rule::BadString],
+            Start::Whitespace => match self {
+                Rules::Plain | Rules::Marked => &[Rule::Whitespace, Rule::Decimal],
+                Rules::Source => &[Rule::Whitespace],
+            },
+            Start::Zero => match self {
+                Rules::Plain | Rules::Marked => &[
+                    Rule::Based(Base::Hexadecimal),
+                    Rule::Based(Base::Octal),
+                    Rule::Based(Base::Binary),
+                    Rule::BadBased(Base::Hexadecimal),
+                    Rule::BadBased(Base::Octal),
+                    Rule::BadBased(Base::Binary),
+                    Rule::Decimal,
+                ],
+                Rules::Source => &[
+                    Rule::Based(Base::Hexadecimal),
+                    Rule::Based(Base::Octal),
+                    Rule::Based(Base::Binary),
+                    Rule::BadBased(Base::Hexadecimal),
+                    Rule::BadBased(Base::Octal),
+                    Rule::BadBased(Base::Binary),
+                    Rule::Float,
+                    Rule::PointedDecimal,
+                    Rule::SourceDecimal,
+                ],
+            },
+            Start::Digit => match self {
+                Rules::Plain | Rules::Marked => &[Rule::Decimal],
+                Rules::Source => &[Rule::Float, Rule::PointedDecimal, Rule::SourceDecimal],
+            },
+            Start::Prefix => match self {
+                Rules::Plain | Rules::Marked => &[
+                    Rule::ByteChar,
+                    Rule::BadByteChar,
+                    Rule::StringPrefix,
+                    Rule::RawIdentifier,
+                ],
+                Rules::Source => &[
+                    Rule::ByteChar,
+                    Rule::BadByteChar,
+                    Rule::SourceString(Contents::Bytes),
+                    Rule::SourceString(Contents::C),
+                    Rule::RawString(Contents::Text),
+                    Rule::RawString(Contents::Bytes),
+                    Rule::RawString(Contents::C),
+                    Rule::BadPrefixed,
+                    Rule::RawIdentifier,
+                ],
+            },
+            Start::Slash => match self {
+                Rules::Plain | Rules::Marked => &[
+                    Rule::LineComment,
+                    Rule::BlockComment,
+                    Rule::OpenComment,
+                ],
+                Rules::Source => &[
+                    Rule::SourceLineComment,
+                    Rule::SourceBlockComment,
+                    Rule::OpenComment,
+                ],
+            },
+            Start::Quote => match self {
+                Rules::Plain | Rules::Marked => &[Rule::QuotedString, Rule::BadString],
+                Rules::Source => &[Rule::SourceString(Contents::Text), Rule::BadString],
+            },
             Start::Apostrophe => match self {
                 Rules::Plain => &[
                     Rule::EscapedChar,
@@ -108,9 +170,25 @@ impl Rules {
                     Rule::Lifetime,
                     Rule::MarkedApostrophe,
                 ],
+                Rules::Source => &[
+                    Rule::EscapedChar,
+                    Rule::BadEscapedChar,
+                    Rule::PlainChar,
+                    Rule::SourceLifetime,
+                    Rule::Apostrophe,
+                ],
             },
             // Told by the first character.
             _ => &[],
+        }
+    }
+
+    fn identifier(self) -> Rule
+        ensures { result ≡ identifier_rule self }
+    {
+        match self {
+            Rules::Source => Rule::SourceIdentifier,
+            _ => Rule::Identifier,
         }
     }
 
@@ -118,14 +196,15 @@ impl Rules {
         ensures { result ≡ punct_rule self }
     {
         match self {
-            Rules::Plain => Rule::Punct,
             Rules::Marked => Rule::MarkedPunct,
+            _ => Rule::Punct,
         }
     }
 }
 
 impl Rule {
     /// What follows the piece that this rule takes from the front of the text.
+    #[inline(always)]
     fn past(self, text: &str) -> Option<&str>
         ensures tries { ReadsLongest (Spells self) (chars text.now) result }
         ensures utf8 { IfSome result (λ rest. IsUtf8 rest.now) }
@@ -136,6 +215,8 @@ impl Rule {
             Rule::Whitespace if is_whitespace(first) => Some(rest),
             Rule::LineComment => past_line_comment(text),
             Rule::BlockComment => past_block_comment(text),
+            Rule::SourceLineComment => past_line_comment(text),
+            Rule::SourceBlockComment => past_block_comment(text),
             Rule::OpenComment => past_pair(text, '/', '*'),
             Rule::Opening(delimiter) if first == opening_mark(delimiter) => Some(rest),
             Rule::Closing(delimiter) if first == closing_mark(delimiter) => Some(rest),
@@ -144,17 +225,27 @@ impl Rule {
             Rule::ByteChar => past_byte_char(text),
             Rule::BadByteChar => past_pair(text, 'b', '\''),
             Rule::StringPrefix => past_string_prefix(text),
+            Rule::SourceString(Contents::Text) => past_string(text),
+            Rule::SourceString(Contents::Bytes) => past_byte_string(text),
+            Rule::SourceString(Contents::C) => past_c_string(text),
+            Rule::RawString(contents) => past_raw_string(text, contents),
+            Rule::BadPrefixed => past_string_prefix(text),
             Rule::EscapedChar => past_escaped_char(text),
             Rule::BadEscapedChar => past_pair(text, '\'', '\\'),
             Rule::PlainChar => past_plain_char(text),
             Rule::Lifetime => past_lifetime(text),
+            Rule::SourceLifetime => past_lifetime(text),
             Rule::Apostrophe if first == '\'' => Some(rest),
             Rule::MarkedApostrophe if first == '\'' => Some(rest),
             Rule::Based(base) => past_based(text, base),
             Rule::BadBased(base) => past_pair(text, '0', base.mark()),
             Rule::Decimal => past_decimal(text),
+            Rule::Float => past_float(text),
+            Rule::PointedDecimal => past_pointed(text),
+            Rule::SourceDecimal => past_decimal(text),
             Rule::RawIdentifier => past_raw_identifier(text),
             Rule::Identifier => past_identifier(text),
+            Rule::SourceIdentifier => past_identifier(text),
             Rule::Punct if is_punct(first) => Some(rest),
             Rule::MarkedPunct if is_punct(first) => Some(rest),
             Rule::Other => Some(rest),
@@ -181,6 +272,7 @@ impl Rule {
 }
 
 /// The first of the rules that fits at the front of the text, and what follows its piece.
+#[inline(always)]
 pub fn first_rule(rules: Rules, text: &str) -> Option<(Rule, &str)>
     ensures tries { ReadsByRules (rules_of rules) (chars text.now) result }
     ensures utf8 { IfSome result (λ found. IsUtf8 found.1.now) }
@@ -189,7 +281,7 @@ pub fn first_rule(rules: Rules, text: &str) -> Option<(Rule, &str)>
     // Most pieces are told by their first character alone.
     let start = Start::of(first);
     match start {
-        Start::Letter => return Some((Rule::Identifier, past_continues(rest))),
+        Start::Letter => return Some((rules.identifier(), past_continues(rest))),
         Start::Punct => return Some((rules.punct(), rest)),
         Start::Opening(delimiter) => return Some((Rule::Opening(delimiter), rest)),
         Start::Closing(delimiter) => return Some((Rule::Closing(delimiter), rest)),
@@ -204,7 +296,7 @@ pub fn first_rule(rules: Rules, text: &str) -> Option<(Rule, &str)>
     }
     // The last three rules, of which one fits.
     if let Some(rest) = past_identifier(text) {
-        Some((Rule::Identifier, rest))
+        Some((rules.identifier(), rest))
     } else if is_punct(first) {
         Some((rules.punct(), rest))
     } else {

@@ -38,6 +38,7 @@ fn is_mark(c: char) -> bool
 }
 
 impl Start {
+    #[inline(always)]
     pub fn of(c: char) -> Start
         ensures { result ≡ start_of c }
     {

@@ -1,21 +1,38 @@
 // Strings.
 ghost use Rattle.std.specs.Prelude.{IfSome, length, ◌<◌};
 ghost use Rattle.std.specs.Str.{chars, IsUtf8};
-ghost use Rattle.tok_lexical.specs.Pieces.{ReadsLongest};
-ghost use Rattle.tok_lexical.specs.Strings.{IsString, FindsUnits};
+ghost use Rattle.tok_lexical.specs.Pieces.{After, ReadsLongest, ReadsPrefix};
+ghost use Rattle.tok_lexical.specs.Strings.{EscapeOf, IsString, FindsUnits};
+ghost use Rattle.tok_lexical.specs.declared.contents.Contents.TheVariants.{Text, Bytes, C};
 
-use crate::escapes::past_escape;
+use crate::contents::Contents;
+use crate::escapes::{past_c_escape, past_escape};
 use crate::text::{next_char, past_char, past_others};
 use crate::words::past_suffix;
 
+/// Past what follows the backslash of an escape in a string of this kind.
+#[inline(always)]
+fn past_escape_of(text: &str, contents: Contents) -> Option<&str>
+    ensures finds { ReadsPrefix (EscapeOf contents) (chars text.now) result }
+    ensures utf8 { IfSome result (λ rest. IsUtf8 rest.now) }
+    ensures shorter { IfSome result (λ rest. length rest.now < length text.now) }
+{
+    match contents {
+        Contents::Text => past_escape(text, true, false),
+        Contents::Bytes => past_escape(text, true, true),
+        Contents::C => past_c_escape(text),
+    }
+}
+
 /// Past one escape of a string, or past the characters up to the next one or to a quote.
-fn past_units(text: &str) -> Option<&str>
-    ensures finds { FindsUnits (chars text.now) result }
+#[inline(always)]
+fn past_units(text: &str, contents: Contents) -> Option<&str>
+    ensures finds { FindsUnits contents (chars text.now) result }
     ensures utf8 { IfSome result (λ rest. IsUtf8 rest.now) }
     ensures shorter { IfSome result (λ rest. length rest.now < length text.now) }
 {
     if let Some(rest) = past_char(text, '\\') {
-        return past_escape(rest, true, false);
+        return past_escape_of(rest, contents);
     }
     let (first, rest) = next_char(text)?;
     if first == '"' {
@@ -25,16 +42,47 @@ fn past_units(text: &str) -> Option<&str>
     }
 }
 
-/// Past a string and its suffix.
-pub fn past_string(text: &str) -> Option<&str>
-    ensures tries { ReadsLongest IsString (chars text.now) result }
+/// Past a string of this kind and its suffix, after its prefix.
+// Inlined, so that each kind has a loop of its own.
+#[inline(always)]
+fn past_string_of(text: &str, contents: Contents) -> Option<&str>
+    ensures tries { ReadsLongest (IsString contents) (chars text.now) result }
     ensures utf8 { IfSome result (λ rest. IsUtf8 rest.now) }
 {
     let start = past_char(text, '"')?;
     let mut rest = start;
-    while let Some(after) = past_units(rest) {
+    while let Some(after) = past_units(rest, contents) {
         rest = after;
     }
     let end = past_char(rest, '"')?;
     Some(past_suffix(end))
+}
+
+/// Past a string and its suffix.
+#[inline(always)]
+pub fn past_string(text: &str) -> Option<&str>
+    ensures tries { ReadsLongest (IsString Text) (chars text.now) result }
+    ensures utf8 { IfSome result (λ rest. IsUtf8 rest.now) }
+{
+    past_string_of(text, Contents::Text)
+}
+
+/// Past a byte string and its suffix.
+#[inline(never)]
+pub fn past_byte_string(text: &str) -> Option<&str>
+    ensures tries { ReadsLongest (After 98 (IsString Bytes)) (chars text.now) result }
+    ensures utf8 { IfSome result (λ rest. IsUtf8 rest.now) }
+{
+    let rest = past_char(text, 'b')?;
+    past_string_of(rest, Contents::Bytes)
+}
+
+/// Past a C string and its suffix.
+#[inline(never)]
+pub fn past_c_string(text: &str) -> Option<&str>
+    ensures tries { ReadsLongest (After 99 (IsString C)) (chars text.now) result }
+    ensures utf8 { IfSome result (λ rest. IsUtf8 rest.now) }
+{
+    let rest = past_char(text, 'c')?;
+    past_string_of(rest, Contents::C)
 }

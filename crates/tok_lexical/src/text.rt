@@ -1,7 +1,7 @@
 // A text, read from its front.
 ghost use Rattle.std.specs.Prelude.{◌≡◌, ℕ, ◌<◌, ◌≤◌, ◌+◌, ◌++◌, ◌∷◌, [], length, List, MatchOption, IfSome, encode_utf8, encode_utf8_all};
 ghost use Rattle.std.specs.Str.{chars, IsUtf8};
-ghost use Rattle.tok_lexical.specs.Pieces.{after_first, Skips, begins_with, is_neither};
+ghost use Rattle.tok_lexical.specs.Pieces.{after_first, Skips, begins_with, is_neither, up_to};
 
 /// The first character of a text, and what follows it.
 pub fn next_char(text: &str) -> Option<(char, &str)>
@@ -96,6 +96,7 @@ pub fn past_first(text: &str) -> &str
 }
 
 /// What follows the characters at the front that are neither of these.
+#[inline(always)]
 pub fn past_others(text: &str, one: u8, other: u8) -> &str
     requires one { one < 128 }
     requires other { other < 128 }
@@ -113,4 +114,12 @@ pub fn past_others(text: &str, one: u8, other: u8) -> &str
     };
     let (_, rest) = text.split_at(end);
     rest
+}
+
+/// The front of the text before the first of these characters.
+pub fn up_to(text: &str, stop: u8) -> &str
+    requires ascii { stop < 128 }
+    ensures { chars result.now ≡ up_to stop (chars text.now) }
+{
+    front_of(text, past_others(text, stop, stop))
 }

@@ -3,7 +3,7 @@ ghost use Rattle.std.specs.Prelude.{◌≡◌, ℕ, List, IfSome, MatchBool};
 ghost use Rattle.std.specs.Str.{chars, IsUtf8};
 ghost use Rattle.unicode_ident.specs.Ident.{is_xid_continue};
 ghost use Rattle.tok_lexical.specs.Pieces.{After, IsLongestPrefix, ReadsLongest, Skips};
-ghost use Rattle.tok_lexical.specs.Words.{IsIdentifier, IsRawIdentifier, IsName, IsSuffix, is_identifier_start, has_no_raw, is_missing};
+ghost use Rattle.tok_lexical.specs.Words.{IsIdentifier, IsRawIdentifier, IsName, IsSuffix, is_identifier_start, has_no_raw, is_missing, is_plain};
 
 use crate::text::{next_char, past_char, past_pair};
 use unicode_ident::{is_xid_continue, is_xid_start};
@@ -33,6 +33,7 @@ fn goes_on(c: char) -> bool
 }
 
 /// Past the characters at the front that may go on in an identifier.
+#[inline(always)]
 pub fn past_continues(text: &str) -> &str
     ensures { (front : List ℕ) × Skips is_xid_continue (chars text.now) front (chars result.now) }
 {
@@ -68,6 +69,7 @@ pub fn past_suffix(text: &str) -> &str
 }
 
 /// Past a raw identifier.
+#[inline(always)]
 pub fn past_raw_identifier(text: &str) -> Option<&str>
     ensures tries { ReadsLongest IsRawIdentifier (chars text.now) result }
     ensures utf8 { IfSome result (λ rest. IsUtf8 rest.now) }
@@ -88,6 +90,7 @@ pub fn past_name(text: &str) -> Option<&str>
 }
 
 /// Past a lifetime.
+#[inline(always)]
 pub fn past_lifetime(text: &str) -> Option<&str>
     ensures tries { ReadsLongest (After 39 IsName) (chars text.now) result }
     ensures utf8 { IfSome result (λ rest. IsUtf8 rest.now) }
@@ -118,6 +121,13 @@ pub fn is_missing(name: &str) -> bool
         Some(word) => has_no_raw(word),
         None => false,
     }
+}
+
+/// Whether an identifier isn't raw.
+pub fn is_plain(name: &str) -> bool
+    ensures { result ≡ is_plain (chars name.now) }
+{
+    past_pair(name, 'r', '#').is_none()
 }
 
 /// Whether the whole text is a plain identifier.

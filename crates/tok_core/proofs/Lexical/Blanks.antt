@@ -10,9 +10,9 @@ use Rattle.tok_core.specs.Lexical.Items.{Item}
 use Rattle.tok_lexical.specs.Pieces.{HasPrefix, Skips, ReadsLongest}
 use Rattle.tok_lexical.specs.Fits.{IsFirstFit, here, later}
 use Rattle.tok_core.specs.Lexical.Reading.{Cut, stop, piece}
-use Rattle.tok_lexical.specs.Starts.{rules_of}
+use Rattle.tok_lexical.specs.Starts.{rules_of, line_rule, block_rule}
 use Rattle.tok_lexical.specs.declared.rule.Rules.{Rules}
-use Rattle.tok_lexical.specs.declared.rule.Rules.TheVariants.{Plain, Marked}
+use Rattle.tok_lexical.specs.declared.rule.Rules.TheVariants.{Plain, Marked, Source}
 use Rattle.tok_lexical.proofs.Lexical.Slashes.{decides_line, decides_block}
 use Rattle.tok_lexical.proofs.Lexical.Fits.{decided}
 use Rattle.tok_lexical.proofs.Lexical.Longest.{takes_one}
@@ -28,7 +28,7 @@ use Rattle.tok_lexical.specs.Widths.{width}
 use Rattle.tok_lexical.specs.Pieces.{IsLongestPrefix}
 use Rattle.tok_lexical.specs.Rules.{Spells}
 use Rattle.tok_lexical.specs.declared.rule.Rule.{Rule}
-use Rattle.tok_lexical.specs.declared.rule.Rule.TheVariants.{ByteOrderMark, Whitespace, LineComment, BlockComment, OpenComment, Opening, Closing, QuotedString, BadString, ByteChar, BadByteChar, StringPrefix, EscapedChar, BadEscapedChar, PlainChar, Lifetime, Apostrophe, MarkedApostrophe, Based, BadBased, Decimal, RawIdentifier, Identifier, Punct, MarkedPunct, Other}
+use Rattle.tok_lexical.specs.declared.rule.Rule.TheVariants.{ByteOrderMark, Whitespace, LineComment, BlockComment, OpenComment, Opening, Closing, QuotedString, BadString, ByteChar, BadByteChar, StringPrefix, EscapedChar, BadEscapedChar, PlainChar, Lifetime, Apostrophe, MarkedApostrophe, Based, BadBased, Decimal, RawIdentifier, Identifier, Punct, MarkedPunct, Other, SourceString, RawString, BadPrefixed, SourceIdentifier, SourceLifetime, Float, PointedDecimal, SourceDecimal, SourceLineComment, SourceBlockComment}
 use Rattle.tok_lexical.proofs.Lexical.Longest.{list_all-push}
 
 -- white space and comments, doc comments aside
@@ -36,6 +36,8 @@ abbrev is_blank : Rule → List ℕ → Bool
 is_blank Whitespace text = true
 is_blank LineComment text = not (is_line_doc text)
 is_blank BlockComment text = not (is_block_doc text)
+is_blank SourceLineComment text = not (is_line_doc text)
+is_blank SourceBlockComment text = not (is_block_doc text)
 is_blank rule text = false
 
 and_true : (b : Bool) → b && true ≡ b
@@ -94,6 +96,12 @@ blank : (rule : Rule) (number at : ℕ) (text taken after : List ℕ) → IsLong
 blank Whitespace number at text taken after t b = record { passes = refl; adds_none = refl; wide = refl }
 blank LineComment number at text taken after t b = record { passes = rw (sym (line_piece text taken after t) ∙ not_true (is_line_doc text) b) refl; adds_none = refl; wide = refl }
 blank BlockComment number at text taken after t b = record { passes = rw (sym (block_piece text taken after t) ∙ not_true (is_block_doc text) b) refl; adds_none = refl; wide = refl }
+blank SourceLineComment number at text taken after t b =
+    let calm : is_line_doc taken ≡ false = sym (line_piece text taken after t) ∙ not_true (is_line_doc text) b in
+    record { passes = rw calm refl; adds_none = rw calm refl; wide = refl }
+blank SourceBlockComment number at text taken after t b =
+    let calm : is_block_doc taken ≡ false = sym (block_piece text taken after t) ∙ not_true (is_block_doc text) b in
+    record { passes = rw calm refl; adds_none = rw calm refl; wide = refl }
 blank ByteOrderMark number at text taken after t b = absurd (false≢true b)
 blank OpenComment number at text taken after t b = absurd (false≢true b)
 blank (Opening delimiter) number at text taken after t b = absurd (false≢true b)
@@ -117,6 +125,14 @@ blank Identifier number at text taken after t b = absurd (false≢true b)
 blank Punct number at text taken after t b = absurd (false≢true b)
 blank MarkedPunct number at text taken after t b = absurd (false≢true b)
 blank Other number at text taken after t b = absurd (false≢true b)
+blank (SourceString contents) number at text taken after t b = absurd (false≢true b)
+blank (RawString contents) number at text taken after t b = absurd (false≢true b)
+blank BadPrefixed number at text taken after t b = absurd (false≢true b)
+blank SourceIdentifier number at text taken after t b = absurd (false≢true b)
+blank SourceLifetime number at text taken after t b = absurd (false≢true b)
+blank Float number at text taken after t b = absurd (false≢true b)
+blank PointedDecimal number at text taken after t b = absurd (false≢true b)
+blank SourceDecimal number at text taken after t b = absurd (false≢true b)
 
 pub recut : {rules : List Rule} {number at end to : ℕ} {text rest after : List ℕ} {some others : List Item} → some ≡ others → end ≡ to → rest ≡ after → Cut rules number at text some end rest → Cut rules number at text others to after
 recut {rules} {number} {at} {end} {to} {text} {rest} {after} {some} {others} i e r c =
@@ -131,14 +147,14 @@ shorter rules rule text rest taken u v d =
     omega arith
 
 -- a front that one rule takes, by the rules of every text
-pub blank_front : (text rest : List ℕ) (rule : Rule) → IsUtf8 text → IsUtf8 rest → is_blank rule (chars text) ≡ true → ((every : Rules) → (taken : List ℕ) × IsFirstFit (chars text) (rules_of every) rule taken (chars rest)) → IsBlank (chars text) (chars rest) (length text - length rest)
+pub blank_front : (text rest : List ℕ) (rule : Rules → Rule) → IsUtf8 text → IsUtf8 rest → ((every : Rules) → is_blank (rule every) (chars text) ≡ true) → ((every : Rules) → (taken : List ℕ) × IsFirstFit (chars text) (rules_of every) (rule every) taken (chars rest)) → IsBlank (chars text) (chars rest) (length text - length rest)
 blank_front text rest rule u v is d every number at =
     let p = d every in
     let t = decided p.1 in
-    let nothing = blank rule number at (chars text) p.0 (chars rest) t is in
+    let nothing = blank (rule every) number at (chars text) p.0 (chars rest) t (is every) in
     let l = cut_length text rest p.0 u v t.cut in
     let wide = nothing.wide in
-    recut (append-nil (items number rule at p.0 (chars rest)) ∙ nothing.adds_none) (omega arith) refl (piece p.1 nothing.passes stop)
+    recut (append-nil (items number (rule every) at p.0 (chars rest)) ∙ nothing.adds_none) (omega arith) refl (piece p.1 nothing.passes stop)
 
 pub blank_none : (text rest : List ℕ) → rest ≡ text → IsBlank (chars text) (chars rest) (length text - length rest)
 blank_none text rest e every number at =
@@ -147,8 +163,8 @@ blank_none text rest e every number at =
 
 cut_on : {rules : List Rule} {number at end to : ℕ} {text rest after : List ℕ} {some : List Item} → Cut rules number at text some end rest → some ≡ [] → Cut rules number end rest [] to after → Cut rules number at text [] to after
 cut_on stop none d = d
-cut_on {rules} {number} {at} {end} {to} {text} {rest} {after} (piece {more = more} e n c) none d =
-    let apart = append_nothing (items number _ at _ _) more none in
+cut_on {rules} {number} {at} {end} {to} {text} {rest} {after} (piece {taken = taken} {after = next} {rule = rule} {more = more} e n c) none d =
+    let apart = append_nothing (items number rule at taken next) more none in
     recut (ap (λ w. w ++ []) apart.0) refl refl (piece e n (cut_on c apart.1 d))
   where
     append_nothing : (xs ys : List Item) → xs ++ ys ≡ [] → (xs ≡ []) × (ys ≡ [])
@@ -171,6 +187,7 @@ decides_space rules c more h = go rules
     go : (every : Rules) → IsFirstFit (c ∷ more) (rules_of every) Whitespace (c ∷ []) more
     go Plain = later no_mark (here (takes_one is_whitespace (c ∷ more) more c refl h))
     go Marked = later no_mark (here (takes_one is_whitespace (c ∷ more) more c refl h))
+    go Source = later no_mark (here (takes_one is_whitespace (c ∷ more) more c refl h))
 
 all_first : (p : ℕ → Bool) (c : ℕ) (cs : List ℕ) → list_all p (c ∷ cs) ≡ true → (p c ≡ true) × (list_all p cs ≡ true)
 all_first p c cs h = go (p c) refl h
@@ -192,26 +209,36 @@ blank_spaces text rest u v (front, skips) every number at =
     let l = cut_length text rest front u v skips.cut in
     subst (λ w. Cut (rules_of every) number at w [] (at + (length text - length rest)) (chars rest)) (sym skips.cut) (recut refl (omega arith) refl (cut_spaces every number at front (chars rest) skips.pass))
 
-pub line_front : (every : Rules) (text after body rest : List ℕ) → chars text ≡ 47 ∷ chars after → chars after ≡ 47 ∷ chars body → (front : List ℕ) × Skips is_not_line_feed (chars body) front (chars rest) → (taken : List ℕ) × IsFirstFit (chars text) (rules_of every) LineComment taken (chars rest)
+pub line_front : (every : Rules) (text after body rest : List ℕ) → chars text ≡ 47 ∷ chars after → chars after ≡ 47 ∷ chars body → (front : List ℕ) × Skips is_not_line_feed (chars body) front (chars rest) → (taken : List ℕ) × IsFirstFit (chars text) (rules_of every) (line_rule every) taken (chars rest)
 line_front every text after body rest e f skips =
     let d = decides_line every (chars after) (chars body) (chars rest) f skips in
-    (d.0, subst (λ w. IsFirstFit w (rules_of every) LineComment d.0 (chars rest)) (sym e) d.1)
+    (d.0, subst (λ w. IsFirstFit w (rules_of every) (line_rule every) d.0 (chars rest)) (sym e) d.1)
+
+calm_line : (text : List ℕ) → not (is_line_doc text) ≡ true → (every : Rules) → is_blank (line_rule every) text ≡ true
+calm_line text h Plain = h
+calm_line text h Marked = h
+calm_line text h Source = h
+
+calm_block : (text : List ℕ) → not (is_block_doc text) ≡ true → (every : Rules) → is_blank (block_rule every) text ≡ true
+calm_block text h Plain = h
+calm_block text h Marked = h
+calm_block text h Source = h
 
 pub blank_line : (text after body rest : List ℕ) → IsUtf8 text → IsUtf8 rest → chars text ≡ 47 ∷ chars after → chars after ≡ 47 ∷ chars body → opens_line_doc (chars body) ≡ false → (front : List ℕ) × Skips is_not_line_feed (chars body) front (chars rest) → IsBlank (chars text) (chars rest) (length text - length rest)
 blank_line text after body rest u v e f calm skips =
-    blank_front text rest LineComment u v (ap (λ w. not (is_line_doc w)) (e ∙ ap (λ w. 47 ∷ w) f) ∙ ap not calm) (λ every. line_front every text after body rest e f skips)
+    blank_front text rest line_rule u v (calm_line (chars text) (ap (λ w. not (is_line_doc w)) (e ∙ ap (λ w. 47 ∷ w) f) ∙ ap not calm)) (λ every. line_front every text after body rest e f skips)
 
-block_front : (every : Rules) (text after body rest : List ℕ) → chars text ≡ 47 ∷ chars after → chars after ≡ 42 ∷ chars body → (front : List ℕ) × IsLongestPrefix (Closes 1) (chars body) front (chars rest) → (taken : List ℕ) × IsFirstFit (chars text) (rules_of every) BlockComment taken (chars rest)
+block_front : (every : Rules) (text after body rest : List ℕ) → chars text ≡ 47 ∷ chars after → chars after ≡ 42 ∷ chars body → (front : List ℕ) × IsLongestPrefix (Closes 1) (chars body) front (chars rest) → (taken : List ℕ) × IsFirstFit (chars text) (rules_of every) (block_rule every) taken (chars rest)
 block_front every text after body rest e f closed =
     let d = decides_block every (chars after) (chars body) (chars rest) f closed in
-    (d.0, subst (λ w. IsFirstFit w (rules_of every) BlockComment d.0 (chars rest)) (sym e) d.1)
+    (d.0, subst (λ w. IsFirstFit w (rules_of every) (block_rule every) d.0 (chars rest)) (sym e) d.1)
 
 -- a block comment, where one ends
 module _ (text after body : List ℕ) (u : IsUtf8 text) (e : chars text ≡ 47 ∷ chars after) (f : chars after ≡ 42 ∷ chars body) where
   pub blank_block : (answer : Option (Bor (List ℕ))) → ReadsLongest (Closes 1) (chars body) answer → IfSome answer (λ rest. IsUtf8 rest.now) → opens_block_doc (chars body) ≡ false → IfSome answer (λ rest. IsBlank (chars text) (chars rest.now) (length text - length rest.now))
   blank_block None t v calm = tt
   blank_block (Some rest) t v calm =
-      blank_front text rest.now BlockComment u v (ap (λ w. not (is_block_doc w)) (e ∙ ap (λ w. 47 ∷ w) f) ∙ ap not calm) (λ every. block_front every text after body rest.now e f t)
+      blank_front text rest.now block_rule u v (calm_block (chars text) (ap (λ w. not (is_block_doc w)) (e ∙ ap (λ w. 47 ∷ w) f) ∙ ap not calm)) (λ every. block_front every text after body rest.now e f t)
 
   pub shorter_block : (answer : Option (Bor (List ℕ))) → ReadsLongest (Closes 1) (chars body) answer → IfSome answer (λ rest. IsUtf8 rest.now) → IfSome answer (λ rest. length rest.now < length text)
   shorter_block None t v = tt

@@ -14,7 +14,7 @@ use Rattle.tok_core.specs.Lexical.Meaning.{items}
 use Rattle.tok_lexical.specs.Widths.{width, is_group_mark}
 use Rattle.tok_lexical.specs.Pieces.{HasPrefix}
 use Rattle.tok_lexical.specs.Fits.{IsFirstFit}
-use Rattle.tok_core.specs.Lexical.Reading.{Cut, stop, piece, Reads, Refuses, unclosed, IsRefused}
+use Rattle.tok_core.specs.Lexical.Reading.{Cut, stop, piece, ReadsFrom, Refuses, unclosed, IsRefusedFrom}
 use Rattle.tok_lexical.specs.Rules.{Spells}
 use Rattle.tok_core.specs.declared.lexer.error.LexError.{LexError}
 use Rattle.tok_core.specs.declared.lexer.error.LexFault.{LexFault}
@@ -23,7 +23,7 @@ use Rattle.tok_lexical.specs.declared.reason.Reason.TheVariants.{UnclosedGroup}
 use Rattle.tok_core.specs.declared.lexer.nest.OpenGroup.{OpenGroup}
 use Rattle.tok_core.specs.declared.lexer.nest.TreeBuilder.{TreeBuilder}
 use Rattle.tok_lexical.specs.declared.rule.Rules.{Rules}
-use Rattle.tok_lexical.specs.declared.rule.Rules.TheVariants.{Plain, Marked}
+use Rattle.tok_lexical.specs.declared.rule.Rules.TheVariants.{Plain, Marked, Source}
 use Rattle.tok_lexical.specs.declared.rule.Rule.{Rule}
 use Rattle.tok_lexical.specs.declared.rule.Rule.TheVariants.{Whitespace}
 use Rattle.tok_core.proofs.Lexical.Blanks.{recut}
@@ -41,12 +41,12 @@ cut_then stop d = d
 cut_then (piece {more = more} e n c) d = recut (sym (append_assoc _ more _)) refl refl (piece e n (cut_then c d))
 
 -- where the loop stands
-pub record SoFar (rules : List Rule) (number : ℕ) (text rest : List ℕ) (at : ℕ) (nest : TreeBuilder) : Type 0 where
-  pub short : at + length rest ≤ length text
+pub record SoFar (begin : ℕ) (rules : List Rule) (number : ℕ) (text rest : List ℕ) (at : ℕ) (nest : TreeBuilder) : Type 0 where
+  pub short : at + length rest ≤ begin + length text
   pub same_source : nest.source ≡ number
   pub reached : Reached nest.«open».items at
   pub all : List Item
-  pub cut : Cut rules number 0 (chars text) all at (chars rest)
+  pub cut : Cut rules number begin (chars text) all at (chars rest)
   pub holds : Holds number 256 nest.«open».items nest.trees all
 
 width_le : (rule : Rule) (taken : List ℕ) → width rule taken ≤ length (encode_utf8_all taken)
@@ -60,16 +60,16 @@ width_le rule taken = go (is_group_mark rule) refl
 pub decided_piece : (rules : List Rule) (rule : Rule) (text rest taken other : List ℕ) → other ≡ taken → IsFirstFit text rules rule taken rest → IsFirstFit text rules rule other rest
 decided_piece rules rule text rest taken other e d = subst (λ w. IsFirstFit text rules rule w rest) (sym e) d
 
-module _ (rules : List Rule) (number : ℕ) (text rest : List ℕ) (at : ℕ) (nest : TreeBuilder) (s : SoFar rules number text rest at nest) where
+module _ (begin : ℕ) (rules : List Rule) (number : ℕ) (text rest : List ℕ) (at : ℕ) (nest : TreeBuilder) (s : SoFar begin rules number text rest at nest) where
   -- the piece ends within the text
-  pub place_fits : (rule : Rule) (after taken : List ℕ) → IsUtf8 rest → IsUtf8 after → IsFirstFit (chars rest) rules rule taken (chars after) → (at + width rule taken) + length after ≤ length text
+  pub place_fits : (rule : Rule) (after taken : List ℕ) → IsUtf8 rest → IsUtf8 after → IsFirstFit (chars rest) rules rule taken (chars after) → (at + width rule taken) + length after ≤ begin + length text
   place_fits rule after taken u v d =
       let l = cut_length rest after taken u v (decided d).cut in
       let short = s.short in
       let w = width_le rule taken in
       omega arith
 
-  pub so_far_more : (after taken : List ℕ) (end : ℕ) (new : TreeBuilder) (rule : Rule) → IsUtf8 rest → IsUtf8 after → IsFirstFit (chars rest) rules rule taken (chars after) → end ≡ at + width rule taken → refusal rule at taken (chars after) ≡ None → Grows at nest new (items nest.source rule at taken (chars after)) → SoFar rules number text after end new
+  pub so_far_more : (after taken : List ℕ) (end : ℕ) (new : TreeBuilder) (rule : Rule) → IsUtf8 rest → IsUtf8 after → IsFirstFit (chars rest) rules rule taken (chars after) → end ≡ at + width rule taken → refusal rule at taken (chars after) ≡ None → Grows at nest new (items nest.source rule at taken (chars after)) → SoFar begin rules number text after end new
   so_far_more after taken end new rule u v d e m g =
       let p = place_fits rule after taken u v d in
       let h : Holds number 256 new.«open».items new.trees (s.all ++ items number rule at taken (chars after)) = subst (λ w. Holds w 256 new.«open».items new.trees (s.all ++ items w rule at taken (chars after))) s.same_source (g.holds s.all (subst (λ w. Holds w 256 nest.«open».items nest.trees s.all) (sym s.same_source) s.holds)) in
@@ -83,7 +83,7 @@ module _ (rules : List Rule) (number : ℕ) (text rest : List ℕ) (at : ℕ) (n
       }
 
   -- white space and comments add no trees
-  pub so_far_blank : (every : Rules) → rules ≡ rules_of every → (after : List ℕ) (end : ℕ) → end ≡ at + (length rest - length after) → length after ≤ length rest → IsBlank (chars rest) (chars after) (length rest - length after) → SoFar rules number text after end nest
+  pub so_far_blank : (every : Rules) → rules ≡ rules_of every → (after : List ℕ) (end : ℕ) → end ≡ at + (length rest - length after) → length after ≤ length rest → IsBlank (chars rest) (chars after) (length rest - length after) → SoFar begin rules number text after end nest
   so_far_blank every is after end e l blank =
       let short = s.short in
       record {
@@ -95,23 +95,23 @@ module _ (rules : List Rule) (number : ℕ) (text rest : List ℕ) (at : ℕ) (n
         holds = s.holds;
       }
 
-  reads_held : (all : List Item) → Cut rules number 0 (chars text) all at [] → (groups : List OpenGroup) (f : Forest) → groups ≡ [] → Holds number 256 groups f all → Reads rules number (chars text) f
+  reads_held : (all : List Item) → Cut rules number begin (chars text) all at [] → (groups : List OpenGroup) (f : Forest) → groups ≡ [] → Holds number 256 groups f all → ReadsFrom begin rules number (chars text) f
   reads_held all c groups f o (last d k) = (d, (all, k, (at, c)))
   reads_held all c groups f o (outer d k h) = absurd (cc)
 
-  pub reads_all : chars rest ≡ [] → nest.«open».items ≡ [] → Reads rules number (chars text) nest.trees
+  pub reads_all : chars rest ≡ [] → nest.«open».items ≡ [] → ReadsFrom begin rules number (chars text) nest.trees
   reads_all e o = reads_held s.all (recut refl refl e s.cut) nest.«open».items nest.trees o s.holds
 
-  refused : (error : LexError) → error.source ≡ nest.source → Refuses rules (levels_of nest.«open».items) at (chars rest) error.refusal error.at → IsRefused rules number (chars text) error
+  refused : (error : LexError) → error.source ≡ nest.source → Refuses rules (levels_of nest.«open».items) at (chars rest) error.refusal error.at → IsRefusedFrom begin rules number (chars text) error
   refused error e r = (e ∙ s.same_source, (s.all, at, chars rest, levels_of nest.«open».items, s.cut, opens_of s.holds, r))
 
-  pub refused_unclosed : (fewer : List OpenGroup) (group : OpenGroup) (error : LexError) → chars rest ≡ [] → nest.«open».items ≡ fewer ++ group ∷ [] → error ≡ record { refusal = UnclosedGroup; source = number; at = group.start } → IsRefused rules number (chars text) error
+  pub refused_unclosed : (fewer : List OpenGroup) (group : OpenGroup) (error : LexError) → chars rest ≡ [] → nest.«open».items ≡ fewer ++ group ∷ [] → error ≡ record { refusal = UnclosedGroup; source = number; at = group.start } → IsRefusedFrom begin rules number (chars text) error
   refused_unclosed fewer group error e o is =
       let level : levels_of nest.«open».items ≡ levels_of fewer ++ (group.delimiter, group.start) ∷ [] = ap levels_of o ∙ map-append _ fewer (group ∷ []) in
       refused error (ap (λ w. w.source) is ∙ sym s.same_source) (subst (λ w. Refuses rules (levels_of nest.«open».items) at (chars rest) w.refusal w.at) (sym is) (unclosed group.delimiter (levels_of fewer) e level))
 
   -- a fault at the next piece
-  pub fault_here : (taken after : List ℕ) (rule : Rule) (fault : LexFault) → IsFirstFit (chars rest) rules rule taken after → OnRefused fault (HaltsAt nest rule at taken after) → OnRefused fault (IsRefused rules number (chars text))
+  pub fault_here : (taken after : List ℕ) (rule : Rule) (fault : LexFault) → IsFirstFit (chars rest) rules rule taken after → OnRefused fault (HaltsAt nest rule at taken after) → OnRefused fault (IsRefusedFrom begin rules number (chars text))
   fault_here taken after rule Memory d h = tt
   fault_here taken after rule (Refused error) d (from, place, why) =
       refused error from (subst (λ w. Refuses rules (levels_of nest.«open».items) at (chars rest) error.refusal w) (sym place) (refuses rules (levels_of nest.«open».items) rule at error.refusal (chars rest) taken after d why))
@@ -119,6 +119,7 @@ module _ (rules : List Rule) (number : ℕ) (text rest : List ℕ) (at : ℕ) (n
 pub ends_in_other : (rules : Rules) → EndsInOther (rules_of rules)
 ends_in_other Plain = refl
 ends_in_other Marked = refl
+ends_in_other Source = refl
 
 -- the last rule takes any character
 pub all_tried : (rules : List Rule) (text : List ℕ) → EndsInOther rules → NoneBefore rules text (length rules) → text ≡ []
@@ -127,11 +128,11 @@ all_tried [] (c ∷ text) ends before = cc
 all_tried (r ∷ rules) (c ∷ text) ends before =
     absurd (before.none (length (r ∷ rules) - 1) Whitespace (omega arith) (omega arith) (subst (λ w. HasPrefix (Spells w) (c ∷ text)) (sym ends) (c ∷ [], text, refl, (c, refl, refl))))
 
-pub so_far_start : (rules : List Rule) (number : ℕ) (text : List ℕ) (nest : TreeBuilder) → nest.source ≡ number → nest.«open».items ≡ [] → nest.trees ≡ no_trees → SoFar rules number text text 0 nest
-so_far_start rules number text nest n o t = record {
+pub so_far_start : (begin : ℕ) (rules : List Rule) (number : ℕ) (text : List ℕ) (nest : TreeBuilder) → nest.source ≡ number → nest.«open».items ≡ [] → nest.trees ≡ no_trees → SoFar begin rules number text text begin nest
+so_far_start begin rules number text nest n o t = record {
   short = omega arith;
   same_source = n;
-  reached = subst (λ w. Reached w 0) (sym o) tt;
+  reached = subst (λ w. Reached w begin) (sym o) tt;
   all = [];
   cut = stop;
   holds = subst (λ w. Holds number 256 w nest.trees []) (sym o) (subst (λ w. Holds number 256 [] w []) (sym t) (last (omega arith) no_items));

@@ -1,6 +1,6 @@
 -- What is added to the trees so far.
 use Rattle.std.proofs.Common.{◌≡◌, ◌∙◌, ℕ, zero, suc, ◌+◌, ◌<◌, ◌≤◌, List, [], ◌∷◌, ◌++◌, length, refl, sym, ap, subst, arith, append_assoc}
-use Rattle.std.specs.Prelude.{Bool, true, if◌then◌else◌, encode_utf8_all}
+use Rattle.std.specs.Prelude.{Bool, true, false, ◌-◌, if◌then◌else◌, encode_utf8_all}
 use Rattle.std.specs.Str.{chars, IsUtf8}
 use Rattle.std.proofs.lemmas.Str.{encodes-chars}
 use Rattle.tok_lexical.specs.declared.delimiter.Delimiter.{Delimiter}
@@ -8,7 +8,16 @@ use Rattle.tok_leaves.specs.Spans.{source}
 use Rattle.tok_leaves.specs.declared.punct.Spacing.{Spacing}
 use Rattle.tok_leaves.specs.declared.punct.Spacing.TheVariants.{Alone, Joint}
 use Rattle.tok_leaves.specs.declared.span.Span.{Span}
-use Rattle.tok_core.specs.Lexical.Meaning.{punct_item, ident_item, literal_item}
+use Rattle.tok_core.specs.Lexical.Meaning.{items, punct_item, ident_item, literal_item, pointed_items, doc_items}
+use Rattle.tok_core.specs.Private.Attribute.{doc_forest}
+use Rattle.tok_lexical.specs.Comments.{is_line_doc, is_block_doc}
+use Rattle.tok_lexical.specs.Docs.{is_inner_doc, line_doc_text, block_doc_text}
+use Rattle.tok_lexical.specs.Following.{makes_joint, takes_point}
+use Rattle.tok_lexical.specs.Pieces.{up_to}
+use Rattle.tok_lexical.specs.Widths.{bytes}
+use Rattle.tok_lexical.specs.declared.delimiter.Delimiter.TheVariants.{Bracket}
+use Rattle.tok_lexical.specs.declared.rule.Rule.{Rule}
+use Rattle.tok_lexical.specs.declared.rule.Rule.TheVariants.{SourceLineComment, SourceBlockComment}
 use Rattle.tok_leaves.specs.Leaves.{Leaf, ident, punct, literal}
 use Rattle.tok_core.specs.Forest.{Tree, leaf, group, Forest, no_trees, tree, concat}
 use Rattle.tok_core.specs.Lexical.Items.{Item, leaf_item, opening, closing, Flat, no_items, leaf_first, group_first, depth, Opens, inside, within}
@@ -29,6 +38,12 @@ pub holds_leaf : {number n : ℕ} {groups : List OpenGroup} {f : Forest} {all : 
 holds_leaf {n = n} {f = f} l (last d k) = last (depth_joined n f (tree (leaf l) no_trees) d (omega arith)) (flat_joined k (leaf_first no_items))
 holds_leaf {number} {n} {groups} {f} l (outer {g = g} {groups = inner} {before = before} {all = all} d k h) =
     subst (Holds number n (g ∷ inner) (concat f (tree (leaf l) no_trees))) (moved before all (leaf_item l ∷ []) (opening g.delimiter g.start)) (outer d k (holds_leaf l h))
+
+-- more trees at the innermost level
+pub holds_more : {number n : ℕ} {groups : List OpenGroup} {f : Forest} {all : List Item} (g : Forest) (more : List Item) → depth g + length groups ≤ n → Flat number g more → Holds number n groups f all → Holds number n groups (concat f g) (all ++ more)
+holds_more {n = n} {f = f} g more l m (last d k) = last (depth_joined n f g d (omega arith)) (flat_joined k m)
+holds_more {number} {n} {groups} {f} g more l m (outer {g = p} {groups = inner} {before = before} {all = all} d k h) =
+    subst (Holds number n (p ∷ inner) (concat f g)) (moved before all more (opening p.delimiter p.start)) (outer d k (holds_more g more (omega arith) m h))
 
 pub holds_open : {number n : ℕ} {groups : List OpenGroup} {f : Forest} {all : List Item} (g : OpenGroup) → g.before ≡ f → length groups < n → Holds number n groups f all → Holds number n (groups ++ g ∷ []) no_trees (all ++ opening g.delimiter g.start ∷ [])
 holds_open {n = zero} g e l (last d k) = absurd (omega arith)
@@ -54,6 +69,10 @@ pub reached_later : (groups : List OpenGroup) (at end : ℕ) → at ≤ end → 
 reached_later [] at end l r = tt
 reached_later (g ∷ groups) at end l r = (let s = r.0 in omega arith, reached_later groups at end l r.1)
 
+holds_bound : {number n : ℕ} {groups : List OpenGroup} {f : Forest} {all : List Item} → Holds number n groups f all → length groups ≤ n
+holds_bound (last d k) = omega arith
+holds_bound (outer d k h) = let b = holds_bound h in omega arith
+
 module _ (at : ℕ) (old new : TreeBuilder) where
   pub grows_leaf : (l : Leaf) → new.source ≡ old.source → new.«open» ≡ old.«open» → new.trees ≡ concat old.trees (tree (leaf l) no_trees) → Grows at old new (leaf_item l ∷ [])
   grows_leaf l s o t = record {
@@ -70,10 +89,6 @@ module _ (at : ℕ) (old new : TreeBuilder) where
         let bound = holds_bound h in
         subst (λ w. Holds old.source 256 w new.trees (all ++ opening g.delimiter at ∷ [])) (sym o) (subst (λ w. Holds old.source 256 (old.«open».items ++ g ∷ []) w (all ++ opening g.delimiter at ∷ [])) (sym t) (subst (λ w. Holds old.source 256 (old.«open».items ++ g ∷ []) no_trees (all ++ opening g.delimiter w ∷ [])) a (holds_open g b (omega arith) h)));
   }
-    where
-      holds_bound : {number n : ℕ} {groups : List OpenGroup} {f : Forest} {all : List Item} → Holds number n groups f all → length groups ≤ n
-      holds_bound (last d k) = omega arith
-      holds_bound (outer d k h) = let b = holds_bound h in omega arith
 
   pub grows_close : (g : OpenGroup) (end : ℕ) → new.source ≡ old.source → old.«open».items ≡ new.«open».items ++ g ∷ [] → new.trees ≡ concat g.before (tree (group g.delimiter old.trees (source old.source g.start end)) no_trees) → Grows at old new (closing g.delimiter end ∷ [])
   grows_close g end s o t = record {
@@ -116,3 +131,57 @@ grows_closed at old new delimiter end g made inner before span d s o i b p m t =
 -- a lifetime: an apostrophe and an identifier
 pub grows_lifetime : (at : ℕ) (old mid new : TreeBuilder) (end : ℕ) (name : List ℕ) → Grows at old mid (punct_item old.source at 39 true ∷ []) → Grows at mid new (ident_item mid.source (at + 1) end name ∷ []) → Grows at old new (punct_item old.source at 39 true ∷ ident_item old.source (at + 1) end name ∷ [])
 grows_lifetime at old mid new end name g h = grows_both at old mid new _ _ g (subst (λ w. Grows at mid new (ident_item w (at + 1) end name ∷ [])) g.same_source h)
+
+-- the attribute of a doc comment
+flat_doc : (number start end : ℕ) (inner : Bool) (text : List ℕ) → Flat number (doc_forest (source number start end) inner text) (doc_items number start end inner text)
+flat_doc number start end true text = leaf_first (leaf_first (group_first Bracket start end (leaf_first (leaf_first (leaf_first no_items))) no_items))
+flat_doc number start end false text = leaf_first (group_first Bracket start end (leaf_first (leaf_first (leaf_first no_items))) no_items)
+
+doc_depth : (span : Span) (inner : Bool) (text : List ℕ) → depth (doc_forest span inner text) ≤ 1
+doc_depth span true text = omega arith
+doc_depth span false text = omega arith
+
+pub grows_doc : (at : ℕ) (old new : TreeBuilder) (end : ℕ) (inner : Bool) (text : List ℕ) (span : Span) → (length old.«open».items ≡ 256 → ⊥) → span ≡ source old.source at end → new.source ≡ old.source → new.«open» ≡ old.«open» → new.trees ≡ concat old.trees (doc_forest span inner text) → Grows at old new (doc_items old.source at end inner text)
+grows_doc at old new end inner text span few p s o t = record {
+  same_source = s;
+  reached = λ r. subst (λ w. Reached w.items at) (sym o) r;
+  holds = λ all h.
+      let bound = holds_bound h in
+      let flat = flat_doc old.source at end inner text in
+      let shallow = doc_depth (source old.source at end) inner text in
+      let grown = holds_more (doc_forest (source old.source at end) inner text) (doc_items old.source at end inner text) (omega arith) flat h in
+      subst (λ w. Holds old.source 256 w.items new.trees (all ++ doc_items old.source at end inner text)) (sym o)
+      (subst (λ w. Holds old.source 256 old.«open».items w (all ++ doc_items old.source at end inner text)) (sym (t ∙ ap (λ w. concat old.trees (doc_forest w inner text)) p)) grown);
+}
+
+-- the same of a piece that is one
+pub grows_line_doc : (at end : ℕ) (old new : TreeBuilder) (piece after : List ℕ) (rule : Rule) (inner : Bool) (text : List ℕ) → rule ≡ SourceLineComment → end ≡ at + bytes piece → is_line_doc piece ≡ true → inner ≡ is_inner_doc piece → text ≡ line_doc_text piece → Grows at old new (doc_items old.source at end inner text) → Grows at old new (items old.source rule at piece after)
+grows_line_doc at end old new piece after rule inner text r e d i t g =
+    subst (λ w. Grows at old new (items old.source w at piece after)) (sym r)
+    (subst (λ b. Grows at old new (if b then doc_items old.source at (at + bytes piece) (is_inner_doc piece) (line_doc_text piece) else [])) (sym d)
+    (subst (λ w. Grows at old new (doc_items old.source at w (is_inner_doc piece) (line_doc_text piece))) e
+    (subst (λ w. Grows at old new (doc_items old.source at end w (line_doc_text piece))) i
+    (subst (λ w. Grows at old new (doc_items old.source at end inner w)) t g))))
+
+pub grows_block_doc : (at end : ℕ) (old new : TreeBuilder) (piece after : List ℕ) (rule : Rule) (inner : Bool) (text : List ℕ) → rule ≡ SourceBlockComment → end ≡ at + bytes piece → is_block_doc piece ≡ true → inner ≡ is_inner_doc piece → text ≡ block_doc_text piece → Grows at old new (doc_items old.source at end inner text) → Grows at old new (items old.source rule at piece after)
+grows_block_doc at end old new piece after rule inner text r e d i t g =
+    subst (λ w. Grows at old new (items old.source w at piece after)) (sym r)
+    (subst (λ b. Grows at old new (if b then doc_items old.source at (at + bytes piece) (is_inner_doc piece) (block_doc_text piece) else [])) (sym d)
+    (subst (λ w. Grows at old new (doc_items old.source at w (is_inner_doc piece) (block_doc_text piece))) e
+    (subst (λ w. Grows at old new (doc_items old.source at end w (block_doc_text piece))) i
+    (subst (λ w. Grows at old new (doc_items old.source at end inner w)) t g))))
+
+-- digits and a dot
+pub grows_float : (at end : ℕ) (old new : TreeBuilder) (piece after : List ℕ) → end ≡ at + bytes piece → takes_point after ≡ true → Grows at old new (literal_item old.source at end piece ∷ []) → Grows at old new (pointed_items old.source at piece after)
+grows_float at end old new piece after e p g =
+    subst (λ b. Grows at old new (if b then literal_item old.source at (at + bytes piece) piece ∷ [] else literal_item old.source at (at + bytes piece - 1) (up_to 46 piece) ∷ punct_item old.source (at + bytes piece - 1) 46 (makes_joint after) ∷ [])) (sym p)
+    (subst (λ w. Grows at old new (literal_item old.source at w piece ∷ [])) e g)
+
+pub grows_point : (at end dot : ℕ) (old mid new : TreeBuilder) (piece after digits : List ℕ) (joint : Bool) → end ≡ at + bytes piece → dot ≡ end - 1 → digits ≡ up_to 46 piece → joint ≡ makes_joint after → takes_point after ≡ false → Grows at old mid (literal_item old.source at dot digits ∷ []) → Grows at mid new (punct_item mid.source dot 46 joint ∷ []) → Grows at old new (pointed_items old.source at piece after)
+grows_point at end dot old mid new piece after digits joint e d f j p g h =
+    let place : dot ≡ at + bytes piece - 1 = d ∙ ap (λ w. w - 1) e in
+    let both = grows_both at old mid new _ _ g (subst (λ w. Grows at mid new (punct_item w dot 46 joint ∷ [])) g.same_source h) in
+    subst (λ b. Grows at old new (if b then literal_item old.source at (at + bytes piece) piece ∷ [] else literal_item old.source at (at + bytes piece - 1) (up_to 46 piece) ∷ punct_item old.source (at + bytes piece - 1) 46 (makes_joint after) ∷ [])) (sym p)
+    (subst (λ w. Grows at old new (literal_item old.source at w (up_to 46 piece) ∷ punct_item old.source w 46 (makes_joint after) ∷ [])) place
+    (subst (λ w. Grows at old new (literal_item old.source at dot w ∷ punct_item old.source dot 46 (makes_joint after) ∷ [])) f
+    (subst (λ w. Grows at old new (literal_item old.source at dot digits ∷ punct_item old.source dot 46 w ∷ [])) j both)))

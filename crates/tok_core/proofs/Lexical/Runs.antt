@@ -81,6 +81,10 @@ first_closes levels last delimiter end items r = go (reverse levels) refl r
     go [] e (goes s r) = elim s [ ]
     go ((d, start) ∷ inner) e (goes (closes f) s) = (reverse inner, start, sym (reverse-reverse levels) ∙ ap reverse e ∙ reverse-append ((d, start) ∷ []) inner ∙ ap (λ w. reverse inner ++ (w, start) ∷ []) f)
 
+-- a leaf changes nothing
+pub leaf_passed : {levels last : Levels} {l : Leaf} {items : List Item} → Run levels (leaf_item l ∷ items) last → Run levels items last
+leaf_passed (goes stays r) = r
+
 opens_here : (inner last : Levels) (delimiter : Delimiter) (start : ℕ) (items : List Item) → Run inner (opening delimiter start ∷ items) last → length inner < 256
 opens_here inner last delimiter start items (goes (opens l) r) = l
 

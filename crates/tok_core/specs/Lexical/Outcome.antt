@@ -1,22 +1,36 @@
 -- What reading a text returns: what the grammar says of the text, and nothing else.
-use Rattle.std.specs.Prelude.{◌≡◌, ℕ, List, Result, MatchResult, IfOk, IfErr}
+use Rattle.std.specs.Prelude.{◌≡◌, ℕ, List, ◌++◌, Result, MatchResult, IfOk, IfErr}
 use Rattle.tok_core.specs.Forest.{Forest}
 use Rattle.tok_core.specs.Lexical.Errors.{OnRefused}
-use Rattle.tok_core.specs.Lexical.Reading.{Reads, IsRefused}
+use Rattle.tok_core.specs.Lexical.Reading.{ReadsFrom, IsRefusedFrom}
+use Rattle.tok_lexical.specs.Rules.{source_rules}
+use Rattle.tok_lexical.specs.Sources.{BeginsAt}
+use Rattle.tok_lexical.specs.Widths.{bytes}
 use Rattle.tok_lexical.specs.declared.rule.Rule.{Rule}
 use Rattle.tok_core.specs.declared.lexer.error.LexError.{LexError}
 use Rattle.tok_core.specs.declared.lexer.error.LexFault.{LexFault}
 use Rattle.tok_core.specs.declared.lexer.error.LexFault.TheVariants.{Memory}
 
-pub record FollowsGrammar (rules : List Rule) (number : ℕ) (text : List ℕ)
+-- from the byte `begin` on
+pub record FollowsFrom (begin : ℕ) (rules : List Rule) (number : ℕ) (text : List ℕ)
     (result : Result Forest LexFault) : Type 0 where
   -- What is returned is what the grammar reads.
-  pub reads : IfOk result (Reads rules number text)
+  pub reads : IfOk result (ReadsFrom begin rules number text)
   -- What the grammar reads is returned, unless an allocation fails.
-  pub only_read : (forest : Forest) → Reads rules number text forest →
+  pub only_read : (forest : Forest) → ReadsFrom begin rules number text forest →
       MatchResult result (λ read. read ≡ forest) (λ fault. fault ≡ Memory)
   -- A refusal is the grammar's.
-  pub refuses : IfErr result (λ fault. OnRefused fault (IsRefused rules number text))
+  pub refuses : IfErr result (λ fault. OnRefused fault (IsRefusedFrom begin rules number text))
   -- What the grammar refuses is refused so, unless an allocation fails.
-  pub only_refused : (error : LexError) → IsRefused rules number text error →
+  pub only_refused : (error : LexError) → IsRefusedFrom begin rules number text error →
       MatchResult result (λ _. ⊥) (λ fault. OnRefused fault (λ other. other ≡ error))
+
+-- the whole text
+abbrev pub FollowsGrammar : List Rule → ℕ → List ℕ → Result Forest LexFault → Type 0
+FollowsGrammar rules number text result = FollowsFrom 0 rules number text result
+
+-- what follows the byte order mark and the shebang line of a source
+abbrev pub FollowsSource : ℕ → List ℕ → Result Forest LexFault → Type 0
+FollowsSource number text result =
+    (front : List ℕ) × (rest : List ℕ) × (text ≡ front ++ rest) × BeginsAt text rest
+    × FollowsFrom (bytes front) source_rules number rest result

@@ -1,14 +1,14 @@
 -- Which texts read as which forest, and which are refused.
-use Rattle.std.specs.Prelude.{◌≡◌, ℕ, ◌+◌, ◌≤◌, List, [], ◌∷◌, ◌++◌, length, Some, None}
+use Rattle.std.specs.Prelude.{◌≡◌, ℕ, ◌+◌, ◌≤◌, List, [], ◌∷◌, ◌++◌, length, Some, None, true}
 use Rattle.tok_lexical.specs.Fits.{IsFirstFit}
 use Rattle.tok_core.specs.Forest.{Forest}
 use Rattle.tok_core.specs.Lexical.Items.{Item, Flat, depth, Opens, IsOpenBy}
 use Rattle.tok_lexical.specs.Refusals.{refusal}
-use Rattle.tok_core.specs.Lexical.Meaning.{items}
+use Rattle.tok_core.specs.Lexical.Meaning.{items, opens_group}
 use Rattle.tok_lexical.specs.Widths.{width}
 use Rattle.tok_lexical.specs.declared.delimiter.Delimiter.{Delimiter}
 use Rattle.tok_lexical.specs.declared.rule.Rule.{Rule}
-use Rattle.tok_lexical.specs.declared.rule.Rule.TheVariants.{Opening, Closing}
+use Rattle.tok_lexical.specs.declared.rule.Rule.TheVariants.{Closing}
 use Rattle.tok_lexical.specs.declared.reason.Reason.{Reason}
 use Rattle.tok_lexical.specs.declared.reason.Reason.TheVariants.{UnclosedGroup}
 use Rattle.tok_lexical.specs.declared.reason.Reason.TheVariants.{UnexpectedClosing, DeepGroup}
@@ -23,12 +23,15 @@ pub data Cut (rules : List Rule) (number : ℕ) : ℕ → List ℕ → List Item
       Cut rules number (at + width rule taken) after more end rest →
       Cut rules number at text (items number rule at taken after ++ more) end rest
 
--- The text of the source of this number reads as this forest: it has at most 256 levels, and the
--- whole text is cut into pieces that mean its items.
-abbrev pub Reads : List Rule → ℕ → List ℕ → Forest → Type 0
-Reads rules number text f =
+-- From the byte `begin` on, the text of the source of this number reads as this forest: it has at
+-- most 256 levels, and the whole text is cut into pieces that mean its items.
+abbrev pub ReadsFrom : ℕ → List Rule → ℕ → List ℕ → Forest → Type 0
+ReadsFrom begin rules number text f =
     (depth f ≤ 256)
-    × ((all : List Item) × Flat number f all × ((end : ℕ) × Cut rules number 0 text all end []))
+    × ((all : List Item) × Flat number f all × ((end : ℕ) × Cut rules number begin text all end []))
+
+abbrev pub Reads : List Rule → ℕ → List ℕ → Forest → Type 0
+Reads rules number text f = ReadsFrom 0 rules number text f
 
 -- why the text is refused at `rest`, which begins at the byte `at`, with these groups open; and the
 -- byte
@@ -42,14 +45,17 @@ pub data Refuses (rules : List Rule) (levels : List (Delimiter × ℕ)) (at : �
   unopened : (delimiter : Delimiter) (taken after : List ℕ) →
       IsFirstFit rest rules (Closing delimiter) taken after → (IsOpenBy levels delimiter → ⊥) →
       Refuses rules levels at rest UnexpectedClosing at
-  too_deep : (delimiter : Delimiter) (taken after : List ℕ) →
-      IsFirstFit rest rules (Opening delimiter) taken after → length levels ≡ 256 →
+  too_deep : {rule : Rule} (taken after : List ℕ) → IsFirstFit rest rules rule taken after →
+      refusal rule at taken after ≡ None → opens_group rule taken ≡ true → length levels ≡ 256 →
       Refuses rules levels at rest DeepGroup at
 
 -- A front of the text is cut, with these groups open, and the rest is refused there with this
 -- error.
-abbrev pub IsRefused : List Rule → ℕ → List ℕ → LexError → Type 0
-IsRefused rules number text error = (error.source ≡ number)
+abbrev pub IsRefusedFrom : ℕ → List Rule → ℕ → List ℕ → LexError → Type 0
+IsRefusedFrom begin rules number text error = (error.source ≡ number)
     × ((all : List Item) × (end : ℕ) × (rest : List ℕ) × (levels : List (Delimiter × ℕ))
-    × Cut rules number 0 text all end rest × Opens number 256 levels all
+    × Cut rules number begin text all end rest × Opens number 256 levels all
     × Refuses rules levels end rest error.refusal error.at)
+
+abbrev pub IsRefused : List Rule → ℕ → List ℕ → LexError → Type 0
+IsRefused rules number text error = IsRefusedFrom 0 rules number text error

@@ -1,15 +1,16 @@
 -- What is known in the middle of a text: the rules tried so far, and the trees so far.
 use Rattle.std.specs.Prelude.{◌≡◌, ℕ, suc, ◌+◌, ◌-◌, ◌≤◌, List, [], ◌∷◌, ◌++◌, length, map}
-use Rattle.std.specs.Prelude.{Some, slice_index_or}
+use Rattle.std.specs.Prelude.{Some, None, true, slice_index_or}
 use Rattle.tok_core.specs.Forest.{Forest}
 use Rattle.tok_core.specs.Lexical.Items.{Item, opening, Flat, depth, IsOpenBy}
 use Rattle.tok_lexical.specs.Refusals.{refusal}
 use Rattle.tok_core.specs.Lexical.Reading.{Cut}
+use Rattle.tok_core.specs.Lexical.Meaning.{opens_group}
 use Rattle.tok_lexical.specs.Starts.{rules_of}
 use Rattle.tok_lexical.specs.declared.rule.Rules.{Rules}
 use Rattle.tok_lexical.specs.declared.delimiter.Delimiter.{Delimiter}
 use Rattle.tok_lexical.specs.declared.rule.Rule.{Rule}
-use Rattle.tok_lexical.specs.declared.rule.Rule.TheVariants.{Whitespace, Opening, Closing, Other}
+use Rattle.tok_lexical.specs.declared.rule.Rule.TheVariants.{Whitespace, Closing, Other}
 use Rattle.tok_lexical.specs.declared.reason.Reason.{Reason}
 use Rattle.tok_lexical.specs.declared.reason.Reason.TheVariants.{UnexpectedClosing, DeepGroup}
 use Rattle.tok_core.specs.declared.lexer.error.LexError.{LexError}
@@ -57,8 +58,8 @@ pub data Halts (levels : List (Delimiter × ℕ)) (rule : Rule) (at : ℕ)
       Halts levels rule at piece after why
   unfit : (delimiter : Delimiter) → rule ≡ Closing delimiter → (IsOpenBy levels delimiter → ⊥) →
       Halts levels rule at piece after UnexpectedClosing
-  deep : (delimiter : Delimiter) → rule ≡ Opening delimiter → length levels ≡ 256 →
-      Halts levels rule at piece after DeepGroup
+  deep : refusal rule at piece after ≡ None → opens_group rule piece ≡ true →
+      length levels ≡ 256 → Halts levels rule at piece after DeepGroup
 
 -- an error at this byte for a reason why this piece is refused
 abbrev pub HaltsAt : TreeBuilder → Rule → ℕ → List ℕ → List ℕ → LexError → Type 0

@@ -6,18 +6,22 @@ ghost use Rattle.tok_core.specs.Private.Built.{Grows, Reached, HaltsAt, IsTooDee
 ghost use Rattle.tok_core.specs.Lexical.Errors.{OnRefused};
 ghost use Rattle.tok_core.specs.Lexical.Items.{opening, closing};
 ghost use Rattle.tok_lexical.specs.Refusals.{refusal};
-ghost use Rattle.tok_core.specs.Lexical.Meaning.{items, ident_item, literal_item, punct_item};
-ghost use Rattle.tok_lexical.specs.Widths.{width};
+ghost use Rattle.tok_core.specs.Lexical.Meaning.{items, ident_item, literal_item, punct_item, pointed_items, doc_items};
+ghost use Rattle.tok_lexical.specs.Widths.{bytes, width};
 ghost use Rattle.tok_lexical.specs.Rules.{Spells};
 
 use crate::group::Group;
+use crate::lexer::attribute::append_doc;
 use crate::lexer::error::{LexError, LexFault};
 use crate::stream::{TokenStream, TokenTree};
 use std::alloc::{AllocError, Global};
 use std::mem;
 use tok_leaves::{Spacing, Span, Text, unchecked};
-use tok_lexical::joint::{makes_joint, makes_joint_apostrophe, past_marks};
-use tok_lexical::text::{first_of, past_first};
+use tok_lexical::comments::{
+    block_doc_text, is_block_doc, is_inner_doc, is_line_doc, line_doc_text,
+};
+use tok_lexical::joint::{makes_joint, makes_joint_apostrophe, past_marks, takes_point};
+use tok_lexical::text::{first_of, past_first, up_to};
 use tok_lexical::{Delimiter, Reason, Rule, refusal};
 
 /// A group that isn't closed yet, and the trees before it at its level.
@@ -63,8 +67,9 @@ impl TreeBuilder {
 
     fn punct(&mut self, at: usize, ch: char, is_joint: bool) -> Result<(), AllocError>
         requires fits { at + 1 < 2 ^ 64 }
-        ensures { OnOk result
-            (Grows at self.old self.new (punct_item self.old.source at ch is_joint ∷ [])) }
+        ensures { (from : ℕ)
+            → OnOk result
+            (Grows from self.old self.new (punct_item self.old.source at ch is_joint ∷ [])) }
     {
         let span = Span::source(self.source, at, at + 1);
         let punct = unchecked::punct(ch, spacing(is_joint), span);
@@ -88,6 +93,8 @@ impl TreeBuilder {
         Ok(())
     }
 
+    // Inlined: literals are taken in at two places, and a call would cost the more frequent one.
+    #[inline(always)]
     fn literal(&mut self, start: usize, end: usize, text: &str) -> Result<(), AllocError>
         requires order { start ≤ end }
         ensures { OnOk result
@@ -114,6 +121,44 @@ impl TreeBuilder {
     {
         self.punct(at, '\'', true)?;
         self.ident(at + 1, end, name)?;
+        Ok(())
+    }
+
+    /// Digits and a dot after them: a float, or an integer and a punct.
+    #[inline(never)]
+    fn pointed(&mut self, at: usize, end: usize, piece: &str, after: &str) -> Result<(), AllocError>
+        requires some { at < end }
+        requires ends { end ≡ at + bytes (chars piece.now) }
+        ensures { OnOk result
+            (Grows at self.old self.new
+            (pointed_items self.old.source at (chars piece.now) (chars after.now))) }
+    {
+        if takes_point(after) {
+            self.literal(at, end, piece)?;
+        } else {
+            let dot = end - 1;
+            self.literal(at, dot, up_to(piece, b'.'))?;
+            self.punct(dot, '.', makes_joint(after))?;
+        }
+        Ok(())
+    }
+
+    /// The attribute that a doc comment stands for. Its group is one more level, at most the 256th.
+    #[inline(never)]
+    fn doc(&mut self, at: usize, end: usize, is_inner: bool, text: &str) -> Result<(), LexFault>
+        requires order { at ≤ end }
+        ensures ok { OnOk result
+            (Grows at self.old self.new
+            (doc_items self.old.source at end is_inner (chars text.now))) }
+        ensures refused { IfErr result (λ fault. OnRefused fault (IsTooDeep self.old at)) }
+    {
+        let levels = self.open.len();
+        if levels == 256 {
+            let error = LexError::new(Reason::DeepGroup, self.source, at);
+            return Err(LexFault::Refused(error));
+        }
+        let span = Span::source(self.source, at, end);
+        append_doc(&mut self.trees, self.alloc, span, is_inner, text)?;
         Ok(())
     }
 
@@ -194,17 +239,34 @@ impl TreeBuilder {
         match rule {
             Rule::Opening(delimiter) => return self.open(delimiter, at),
             Rule::Closing(delimiter) => return self.close(delimiter, at, end),
-            Rule::Lifetime => self.lifetime(at, end, past_first(piece))?,
+            Rule::SourceLineComment => {
+                if is_line_doc(piece) {
+                    return self.doc(at, end, is_inner_doc(piece), line_doc_text(piece));
+                }
+            }
+            Rule::SourceBlockComment => {
+                if is_block_doc(piece) {
+                    return self.doc(at, end, is_inner_doc(piece), block_doc_text(piece));
+                }
+            }
+            Rule::PointedDecimal => self.pointed(at, end, piece, after)?,
+            Rule::Lifetime | Rule::SourceLifetime => self.lifetime(at, end, past_first(piece))?,
             Rule::MarkedApostrophe => self.punct(at, '\'', makes_joint_apostrophe(after))?,
             Rule::Punct => self.punct(at, first_of(piece), makes_joint(after))?,
             Rule::MarkedPunct => self.punct(at, first_of(piece), makes_joint(past_marks(after)))?,
-            Rule::RawIdentifier | Rule::Identifier => self.ident(at, end, piece)?,
+            Rule::RawIdentifier | Rule::Identifier | Rule::SourceIdentifier => {
+                self.ident(at, end, piece)?;
+            }
             Rule::QuotedString
             | Rule::ByteChar
             | Rule::EscapedChar
             | Rule::PlainChar
             | Rule::Based(_)
-            | Rule::Decimal => self.literal(at, end, piece)?,
+            | Rule::Decimal
+            | Rule::SourceString(_)
+            | Rule::RawString(_)
+            | Rule::Float
+            | Rule::SourceDecimal => self.literal(at, end, piece)?,
             _ => {}
         }
         Ok(())

@@ -5,8 +5,10 @@ use Rattle.std.specs.Borrow.{Bor}
 use Rattle.std.specs.List.{list_all}
 use Rattle.std.proofs.lemmas.Bool.{false≢true, and_parts}
 use Rattle.tok_lexical.specs.Pieces.{HasPrefix, ReadsPrefix, IsOne, After}
-use Rattle.tok_lexical.specs.Strings.{is_simple_escape, is_hex_or_underscore, IsHex, IsCode, IsLineEnd, IsEscape, simple, hex, code, line_end, is_byte, IsEscapedChar, IsByte}
-use Rattle.tok_lexical.proofs.Lexical.Longest.{IsFree}
+use Rattle.tok_lexical.specs.Strings.{is_simple_escape, is_hex_or_underscore, IsHex, IsCode, IsLineEnd, IsEscape, simple, hex, code, line_end, IsCEscape, EscapeOf, is_byte, IsEscapedChar, IsByte}
+use Rattle.tok_lexical.specs.declared.contents.Contents.{Contents}
+use Rattle.tok_lexical.specs.declared.contents.Contents.TheVariants.{Text, Bytes, C}
+use Rattle.tok_lexical.proofs.Lexical.Longest.{IsFree, finds_after}
 
 pub heads : (a b : ℕ) (x y : List ℕ) → a ∷ x ≡ b ∷ y → a ≡ b
 heads a b x y e = cc
@@ -91,6 +93,32 @@ free_escape le wide a b v w x y g = go v w x y g
     go {a = a} (line_end l h) (hex {text = t} k) x y e = absurd (line_other a 120 (t ++ y) x (omega arith) h (sym e))
     go {a = a} (line_end l h) (code {text = t} n k) x y e = absurd (line_other a 117 (t ++ y) x (omega arith) h (sym e))
     go {a = a} {b = b} (line_end l h) (line_end m k) x y e = free_line_end a b h k x y e
+
+-- an escape of bytes doesn't begin with a `u`
+wide_code : (le : Bool) (a : List ℕ) (k : ℕ) (x y : List ℕ) → k ≡ 117 → IsEscape le true a → k ∷ x ≡ a ++ y → ⊥
+wide_code le a k x y u (simple c s) e = no_simple c 117 (sym (heads _ _ _ _ e) ∙ u) refl s
+wide_code le a k x y u (hex h) e = absurd (let w = heads _ _ _ _ e in omega arith)
+wide_code le a k x y u (code n h) e = absurd (false≢true (sym n))
+wide_code le a k x y u (line_end l h) e = line_other a k x y (omega arith) h e
+
+pub free_c_escape : IsFree IsCEscape
+free_c_escape a b (inl v) (inl w) x y g = free_escape true true a b v w x y g
+free_c_escape a b (inl v) (inr (more, f, t)) x y g = absurd (wide_code true a 117 (more ++ y) x refl v (sym (g ∙ ap (λ w. w ++ y) f)))
+free_c_escape a b (inr (more, f, t)) (inl w) x y g = absurd (wide_code true b 117 (more ++ x) y refl w (sym (ap (λ w. w ++ x) f) ∙ g))
+free_c_escape a b (inr v) (inr w) x y g = free_after 117 IsCode free_code a b v w x y g
+
+pub free_string_escape : (kind : Contents) → IsFree (EscapeOf kind)
+free_string_escape Text = free_escape true false
+free_string_escape Bytes = free_escape true true
+free_string_escape C = free_c_escape
+
+pub finds_c_code : (text rest : List ℕ) (answer : Option (Bor (List ℕ))) → text ≡ 117 ∷ rest → ReadsPrefix IsCode rest answer → ReadsPrefix IsCEscape text answer
+finds_c_code text rest None e misses = λ (piece, after, cut, h). elim h [ inl v ↦ wide_code true piece 117 rest after refl v (sym e ∙ cut) | inr v ↦ finds_after 117 IsCode text rest None e misses (piece, after, cut, v) ]
+finds_c_code text rest (Some last) e (piece, cut, v) = (117 ∷ piece, e ∙ ap (λ w. 117 ∷ w) cut, inr (piece, refl, v))
+
+pub finds_c_other : (text : List ℕ) (answer : Option (Bor (List ℕ))) → ((more : List ℕ) → text ≡ 117 ∷ more → ⊥) → ReadsPrefix (IsEscape true true) text answer → ReadsPrefix IsCEscape text answer
+finds_c_other text None n misses = λ (piece, after, cut, h). elim h [ inl v ↦ misses (piece, after, cut, v) | inr (more, f, v) ↦ n (more ++ after) (cut ∙ ap (λ w. w ++ after) f) ]
+finds_c_other text (Some last) n (piece, cut, v) = (piece, cut, inl v)
 
 pub free_escaped : IsFree IsEscapedChar
 free_escaped = free_after 92 (IsEscape false false) (free_escape false false)

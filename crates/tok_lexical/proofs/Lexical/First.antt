@@ -6,14 +6,15 @@ use Rattle.std.specs.Prelude.{◌==◌, if◌then◌else◌, Bool, true, false}
 use Rattle.std.specs.Char.{is_digit}
 use Rattle.tok_lexical.specs.Pieces.{HasPrefix, IsLongestPrefix, IsOne}
 use Rattle.tok_lexical.specs.Fits.{NoneBefore}
-use Rattle.tok_lexical.specs.Starts.{may_begin, start_of, only, is_mark, is_prefix, rules_of, punct_rule, last_rules}
+use Rattle.tok_lexical.specs.Starts.{may_begin, start_of, only, is_mark, is_prefix, rules_of, identifier_rule, punct_rule, last_rules}
 use Rattle.tok_lexical.specs.Fits.{IsFirstFit, here, later}
-use Rattle.tok_lexical.specs.Rules.{Spells, plain_rules, marked_rules}
+use Rattle.tok_lexical.specs.Rules.{Spells, plain_rules, marked_rules, source_rules}
 use Rattle.tok_lexical.specs.declared.rule.Rule.{Rule}
-use Rattle.tok_lexical.specs.declared.rule.Rule.TheVariants.{ByteOrderMark, Whitespace, LineComment, BlockComment, OpenComment, Opening, Closing, QuotedString, BadString, ByteChar, BadByteChar, StringPrefix, EscapedChar, BadEscapedChar, PlainChar, Lifetime, Apostrophe, MarkedApostrophe, Based, BadBased, Decimal, RawIdentifier, Identifier, Punct, MarkedPunct, Other}
+use Rattle.tok_lexical.specs.declared.rule.Rule.TheVariants.{ByteOrderMark, Whitespace, LineComment, BlockComment, OpenComment, Opening, Closing, QuotedString, BadString, ByteChar, BadByteChar, StringPrefix, EscapedChar, BadEscapedChar, PlainChar, Lifetime, Apostrophe, MarkedApostrophe, Based, BadBased, Decimal, RawIdentifier, Identifier, Punct, MarkedPunct, Other, SourceString, RawString, BadPrefixed, SourceIdentifier, SourceLifetime, Float, PointedDecimal, SourceDecimal, SourceLineComment, SourceBlockComment}
+use Rattle.tok_lexical.specs.declared.contents.Contents.TheVariants as contents
 use Rattle.tok_lexical.specs.Characters.{is_whitespace, is_punct, opening_mark, closing_mark}
 use Rattle.tok_lexical.specs.Words.{is_identifier_start, IsIdentifier}
-use Rattle.tok_lexical.specs.Numbers.{IsDecimal}
+use Rattle.tok_lexical.specs.Numbers.{IsRun, starts_digit}
 use Rattle.tok_lexical.specs.declared.start.Start.{Start}
 use Rattle.tok_lexical.specs.declared.start.Start.TheVariants as start
 use Rattle.tok_lexical.specs.declared.delimiter.Delimiter.{Delimiter}
@@ -109,14 +110,29 @@ pub identifier_head : (c : ℕ) (text : List ℕ) → HasPrefix IsIdentifier (c 
 identifier_head c text ([], after, cut, s) = absurd s
 identifier_head c text (d ∷ piece, after, cut, s) = ap is_identifier_start (head_is d c text (d ∷ piece) after piece cut refl) ∙ s.0
 
-decimal_head : (c : ℕ) (text : List ℕ) → HasPrefix IsDecimal (c ∷ text) → is_digit c 10 ≡ true
-decimal_head c text (piece, after, cut, ([], suffix, e, all, good, s)) = absurd (false≢true good)
-decimal_head c text (piece, after, cut, (d ∷ digits, suffix, e, all, good, s)) = ap (λ x. is_digit x 10) (head_is d c text piece after (digits ++ suffix) cut e) ∙ good
+decimal_head : (Tail : List ℕ → Type 0) (c : ℕ) (text : List ℕ) → HasPrefix (IsRun 10 starts_digit Tail) (c ∷ text) → is_digit c 10 ≡ true
+decimal_head Tail c text (piece, after, cut, ([], suffix, e, all, good, s)) = absurd (false≢true good)
+decimal_head Tail c text (piece, after, cut, (d ∷ digits, suffix, e, all, good, s)) = ap (λ x. is_digit x 10) (head_is d c text piece after (digits ++ suffix) cut e) ∙ good
+
+-- a digit is neither a mark nor white space
+digit_no_mark : (c : ℕ) → is_digit c 10 ≡ true → is_mark c ≡ false
+digit_no_mark c h = search (rules, tests)
+
+digit_no_space : (c : ℕ) → is_digit c 10 ≡ true → is_whitespace c ≡ false
+digit_no_space c h = search (rules, tests)
+
+digit_begins : (p : Start → Bool) (c : ℕ) → p start.Zero ≡ true → p start.Digit ≡ true → is_digit c 10 ≡ true → p (start_of c) ≡ true
+digit_begins p c zeros others h =
+    subst (λ b. p (if b then start.Rest else from_whitespace c) ≡ true) (sym (digit_no_mark c h))
+    (subst (λ b. p (if b then start.Whitespace else from_zero c) ≡ true) (sym (digit_no_space c h))
+    (either p (c == 48) start.Zero (from_digit c) zeros (taken p (is_digit c 10) start.Digit (from_prefix c) h others)))
 
 pub begins : (rule : Rule) (c : ℕ) (text : List ℕ) → HasPrefix (Spells rule) (c ∷ text) → may_begin rule (start_of c) ≡ true
 begins ByteOrderMark c text (piece, after, cut, (d, pass, e)) = at_head (may_begin ByteOrderMark) 0xFEFF c text piece after [] cut (e ∙ ap (λ w. w ∷ []) (eqb-true d 0xFEFF pass)) refl
 begins LineComment c text (piece, after, cut, (body, e, a)) = at_head (may_begin LineComment) 47 c text piece after _ cut e refl
 begins BlockComment c text (piece, after, cut, (body, e, a)) = at_head (may_begin BlockComment) 47 c text piece after _ cut e refl
+begins SourceLineComment c text (piece, after, cut, (body, e, a)) = at_head (may_begin SourceLineComment) 47 c text piece after _ cut e refl
+begins SourceBlockComment c text (piece, after, cut, (body, e, a)) = at_head (may_begin SourceBlockComment) 47 c text piece after _ cut e refl
 begins OpenComment c text (piece, after, cut, e) = at_head (may_begin OpenComment) 47 c text piece after _ cut e refl
 begins QuotedString c text (piece, after, cut, (body, suffix, e, u, k)) = at_head (may_begin QuotedString) 34 c text piece after _ cut e refl
 begins BadString c text (piece, after, cut, (d, pass, e)) = at_head (may_begin BadString) 34 c text piece after [] cut (e ∙ ap (λ w. w ∷ []) (eqb-true d 34 pass)) refl
@@ -126,6 +142,7 @@ begins EscapedChar c text (piece, after, cut, (inner, suffix, e, h, k)) = at_hea
 begins BadEscapedChar c text (piece, after, cut, e) = at_head (may_begin BadEscapedChar) 39 c text piece after _ cut e refl
 begins PlainChar c text (piece, after, cut, (inner, suffix, e, h, k)) = at_head (may_begin PlainChar) 39 c text piece after _ cut e refl
 begins Lifetime c text (piece, after, cut, (more, e, s)) = at_head (may_begin Lifetime) 39 c text piece after _ cut e refl
+begins SourceLifetime c text (piece, after, cut, (more, e, s)) = at_head (may_begin SourceLifetime) 39 c text piece after _ cut e refl
 begins Apostrophe c text (piece, after, cut, (d, pass, e)) = at_head (may_begin Apostrophe) 39 c text piece after [] cut (e ∙ ap (λ w. w ∷ []) (eqb-true d 39 pass)) refl
 begins MarkedApostrophe c text (piece, after, cut, (d, pass, e)) = at_head (may_begin MarkedApostrophe) 39 c text piece after [] cut (e ∙ ap (λ w. w ∷ []) (eqb-true d 39 pass)) refl
 begins RawIdentifier c text (piece, after, cut, (more, e, s)) = at_head (may_begin RawIdentifier) 114 c text piece after _ cut e refl
@@ -142,9 +159,22 @@ begins (BadBased base) c text (piece, after, cut, e) = at_head (may_begin (BadBa
 begins StringPrefix c text (piece, after, cut, inl (more, e, s)) = at_head (may_begin StringPrefix) 114 c text piece after _ cut e refl
 begins StringPrefix c text (piece, after, cut, inr (inl (more, e, s))) = at_head (may_begin StringPrefix) 98 c text piece after _ cut e refl
 begins StringPrefix c text (piece, after, cut, inr (inr (more, e, s))) = at_head (may_begin StringPrefix) 99 c text piece after _ cut e refl
+begins (SourceString contents.Text) c text (piece, after, cut, (body, suffix, e, u, k)) = at_head (may_begin (SourceString contents.Text)) 34 c text piece after _ cut e refl
+begins (SourceString contents.Bytes) c text (piece, after, cut, (more, e, s)) = at_head (may_begin (SourceString contents.Bytes)) 98 c text piece after _ cut e refl
+begins (SourceString contents.C) c text (piece, after, cut, (more, e, s)) = at_head (may_begin (SourceString contents.C)) 99 c text piece after _ cut e refl
+begins (RawString contents.Text) c text (piece, after, cut, (more, e, s)) = at_head (may_begin (RawString contents.Text)) 114 c text piece after _ cut e refl
+begins (RawString contents.Bytes) c text (piece, after, cut, (more, e, s)) = at_head (may_begin (RawString contents.Bytes)) 98 c text piece after _ cut e refl
+begins (RawString contents.C) c text (piece, after, cut, (more, e, s)) = at_head (may_begin (RawString contents.C)) 99 c text piece after _ cut e refl
+begins BadPrefixed c text (piece, after, cut, inl (more, e, s)) = at_head (may_begin BadPrefixed) 114 c text piece after _ cut e refl
+begins BadPrefixed c text (piece, after, cut, inr (inl (more, e, s))) = at_head (may_begin BadPrefixed) 98 c text piece after _ cut e refl
+begins BadPrefixed c text (piece, after, cut, inr (inr (more, e, s))) = at_head (may_begin BadPrefixed) 99 c text piece after _ cut e refl
 begins Whitespace c text (piece, after, cut, (d, pass, e)) = either (may_begin Whitespace) (is_mark c) start.Rest (from_whitespace c) refl (taken (may_begin Whitespace) (is_whitespace c) start.Whitespace (from_zero c) (ap is_whitespace (head_is d c text piece after [] cut e) ∙ pass) refl)
-begins Decimal c text fits = either (may_begin Decimal) (is_mark c) start.Rest (from_whitespace c) refl (either (may_begin Decimal) (is_whitespace c) start.Whitespace (from_zero c) refl (either (may_begin Decimal) (c == 48) start.Zero (from_digit c) refl (taken (may_begin Decimal) (is_digit c 10) start.Digit (from_prefix c) (decimal_head c text fits) refl)))
+begins Decimal c text fits = either (may_begin Decimal) (is_mark c) start.Rest (from_whitespace c) refl (either (may_begin Decimal) (is_whitespace c) start.Whitespace (from_zero c) refl (either (may_begin Decimal) (c == 48) start.Zero (from_digit c) refl (taken (may_begin Decimal) (is_digit c 10) start.Digit (from_prefix c) (decimal_head _ c text fits) refl)))
+begins Float c text fits = digit_begins (may_begin Float) c refl refl (decimal_head _ c text fits)
+begins PointedDecimal c text fits = digit_begins (may_begin PointedDecimal) c refl refl (decimal_head _ c text fits)
+begins SourceDecimal c text fits = digit_begins (may_begin SourceDecimal) c refl refl (decimal_head _ c text fits)
 begins Identifier c text fits = either (may_begin Identifier) (is_mark c) start.Rest (from_whitespace c) refl (either (may_begin Identifier) (is_whitespace c) start.Whitespace (from_zero c) refl (either (may_begin Identifier) (c == 48) start.Zero (from_digit c) refl (either (may_begin Identifier) (is_digit c 10) start.Digit (from_prefix c) refl (either (may_begin Identifier) (is_prefix c) start.Prefix (from_slash c) refl (either (may_begin Identifier) (c == 47) start.Slash (from_quote c) refl (either (may_begin Identifier) (c == 34) start.Quote (from_apostrophe c) refl (either (may_begin Identifier) (c == 39) start.Apostrophe (from_parenthesis c) refl (either (may_begin Identifier) (c == 40) (start.Opening delimiter.Parenthesis) (from_closing_parenthesis c) refl (either (may_begin Identifier) (c == 41) (start.Closing delimiter.Parenthesis) (from_bracket c) refl (either (may_begin Identifier) (c == 91) (start.Opening delimiter.Bracket) (from_closing_bracket c) refl (either (may_begin Identifier) (c == 93) (start.Closing delimiter.Bracket) (from_brace c) refl (either (may_begin Identifier) (c == 123) (start.Opening delimiter.Brace) (from_closing_brace c) refl (either (may_begin Identifier) (c == 125) (start.Closing delimiter.Brace) (from_letter c) refl (taken (may_begin Identifier) (is_identifier_start c) start.Letter (from_punct c) (identifier_head c text fits) refl))))))))))))))
+begins SourceIdentifier c text fits = either (may_begin SourceIdentifier) (is_mark c) start.Rest (from_whitespace c) refl (either (may_begin SourceIdentifier) (is_whitespace c) start.Whitespace (from_zero c) refl (either (may_begin SourceIdentifier) (c == 48) start.Zero (from_digit c) refl (either (may_begin SourceIdentifier) (is_digit c 10) start.Digit (from_prefix c) refl (either (may_begin SourceIdentifier) (is_prefix c) start.Prefix (from_slash c) refl (either (may_begin SourceIdentifier) (c == 47) start.Slash (from_quote c) refl (either (may_begin SourceIdentifier) (c == 34) start.Quote (from_apostrophe c) refl (either (may_begin SourceIdentifier) (c == 39) start.Apostrophe (from_parenthesis c) refl (either (may_begin SourceIdentifier) (c == 40) (start.Opening delimiter.Parenthesis) (from_closing_parenthesis c) refl (either (may_begin SourceIdentifier) (c == 41) (start.Closing delimiter.Parenthesis) (from_bracket c) refl (either (may_begin SourceIdentifier) (c == 91) (start.Opening delimiter.Bracket) (from_closing_bracket c) refl (either (may_begin SourceIdentifier) (c == 93) (start.Closing delimiter.Bracket) (from_brace c) refl (either (may_begin SourceIdentifier) (c == 123) (start.Opening delimiter.Brace) (from_closing_brace c) refl (either (may_begin SourceIdentifier) (c == 125) (start.Closing delimiter.Brace) (from_letter c) refl (taken (may_begin SourceIdentifier) (is_identifier_start c) start.Letter (from_punct c) (identifier_head c text fits) refl))))))))))))))
 begins Punct c text fits = refl
 begins MarkedPunct c text fits = refl
 begins Other c text fits = refl
@@ -190,22 +220,34 @@ one_misses p text more c e h (piece, after, cut, (d, pass, f)) =
 
 -- a text that none of the others takes, by the last three rules
 module _ (c : ℕ) (text more : List ℕ) (e : text ≡ c ∷ more) (kind : Rules) where
-  pub last_identifier : (rest : List ℕ) → (piece : List ℕ) × IsLongestPrefix IsIdentifier text piece rest → (piece : List ℕ) × IsFirstFit text (last_rules kind) Identifier piece rest
-  last_identifier rest (piece, t) = (piece, here t)
+  identifier_taken : (every : Rules) (piece rest : List ℕ) → IsLongestPrefix IsIdentifier text piece rest → IsLongestPrefix (Spells (identifier_rule every)) text piece rest
+  identifier_taken every.Plain piece rest t = t
+  identifier_taken every.Marked piece rest t = t
+  identifier_taken every.Source piece rest t = t
+
+  no_identifier : (every : Rules) → (HasPrefix IsIdentifier text → ⊥) → HasPrefix (Spells (identifier_rule every)) text → ⊥
+  no_identifier every.Plain misses = misses
+  no_identifier every.Marked misses = misses
+  no_identifier every.Source misses = misses
+
+  pub last_identifier : (rule : Rule) (rest : List ℕ) → rule ≡ identifier_rule kind → (piece : List ℕ) × IsLongestPrefix IsIdentifier text piece rest → (piece : List ℕ) × IsFirstFit text (last_rules kind) rule piece rest
+  last_identifier rule rest r (piece, t) = rw r (piece, here (identifier_taken kind piece rest t))
 
   pub last_punct : (rule : Rule) → (HasPrefix IsIdentifier text → ⊥) → is_punct c ≡ true → rule ≡ punct_rule kind → (piece : List ℕ) × IsFirstFit text (last_rules kind) rule piece more
-  last_punct rule misses h r = rw r (c ∷ [], later misses (here (punct_taken kind)))
+  last_punct rule misses h r = rw r (c ∷ [], later (no_identifier kind misses) (here (punct_taken kind)))
     where
       punct_taken : (every : Rules) → IsLongestPrefix (Spells (punct_rule every)) text (c ∷ []) more
       punct_taken every.Plain = takes_one is_punct text more c e h
       punct_taken every.Marked = takes_one is_punct text more c e h
+      punct_taken every.Source = takes_one is_punct text more c e h
 
   pub last_other : (HasPrefix IsIdentifier text → ⊥) → is_punct c ≡ false → (piece : List ℕ) × IsFirstFit text (last_rules kind) Other piece more
-  last_other misses h = (c ∷ [], later misses (later (no_punct kind) (here (takes_one (λ d. true) text more c e refl))))
+  last_other misses h = (c ∷ [], later (no_identifier kind misses) (later (no_punct kind) (here (takes_one (λ d. true) text more c e refl))))
     where
       no_punct : (every : Rules) → HasPrefix (Spells (punct_rule every)) text → ⊥
       no_punct every.Plain fits = one_misses is_punct text more c e h fits
       no_punct every.Marked fits = one_misses is_punct text more c e h fits
+      no_punct every.Source fits = one_misses is_punct text more c e h fits
 
 -- what a start says of the character
 letter_told : (c : ℕ) → start_of c ≡ start.Letter → is_identifier_start c ≡ true
@@ -237,17 +279,21 @@ decides_first : (c : ℕ) (text more piece rest : List ℕ) (rule : Rule) (rules
 decides_first c text more piece rest rule rules others start e is listed t =
     decides_begun c text more piece rest rule rules (rule ∷ others) start e (sym is) (sym listed) (here t)
 
-pub decides_letter : (c : ℕ) (text more rest : List ℕ) (rules : Rules) → text ≡ c ∷ more → start_of c ≡ start.Letter → (front : List ℕ) × Skips is_xid_continue more front rest → (piece : List ℕ) × IsFirstFit text (rules_of rules) Identifier piece rest
-decides_letter c text more rest every.Plain e is s =
+pub decides_letter : (c : ℕ) (text more rest : List ℕ) (rules : Rules) (rule : Rule) → text ≡ c ∷ more → start_of c ≡ start.Letter → rule ≡ identifier_rule rules → (front : List ℕ) × Skips is_xid_continue more front rest → (piece : List ℕ) × IsFirstFit text (rules_of rules) rule piece rest
+decides_letter c text more rest every.Plain rule e is r s =
     let t = takes_identifier text more rest c e (letter_told c is) s in
-    (t.0, decides_first c text more t.0 rest Identifier plain_rules (Punct ∷ Other ∷ []) start.Letter e is refl t.1)
-decides_letter c text more rest every.Marked e is s =
+    rw r (t.0, decides_first c text more t.0 rest Identifier plain_rules (Punct ∷ Other ∷ []) start.Letter e is refl t.1)
+decides_letter c text more rest every.Marked rule e is r s =
     let t = takes_identifier text more rest c e (letter_told c is) s in
-    (t.0, decides_first c text more t.0 rest Identifier marked_rules (MarkedPunct ∷ Other ∷ []) start.Letter e is refl t.1)
+    rw r (t.0, decides_first c text more t.0 rest Identifier marked_rules (MarkedPunct ∷ Other ∷ []) start.Letter e is refl t.1)
+decides_letter c text more rest every.Source rule e is r s =
+    let t = takes_identifier text more rest c e (letter_told c is) s in
+    rw r (t.0, decides_first c text more t.0 rest SourceIdentifier source_rules (Punct ∷ Other ∷ []) start.Letter e is refl t.1)
 
 pub decides_punct : (c : ℕ) (text more : List ℕ) (rules : Rules) (rule : Rule) → text ≡ c ∷ more → start_of c ≡ start.Punct → rule ≡ punct_rule rules → (piece : List ℕ) × IsFirstFit text (rules_of rules) rule piece more
 decides_punct c text more every.Plain rule e is r = rw r (c ∷ [], decides_first c text more (c ∷ []) more Punct plain_rules (Other ∷ []) start.Punct e is refl (takes_one is_punct text more c e (punct_told c is)))
 decides_punct c text more every.Marked rule e is r = rw r (c ∷ [], decides_first c text more (c ∷ []) more MarkedPunct marked_rules (Other ∷ []) start.Punct e is refl (takes_one is_punct text more c e (punct_told c is)))
+decides_punct c text more every.Source rule e is r = rw r (c ∷ [], decides_first c text more (c ∷ []) more Punct source_rules (Other ∷ []) start.Punct e is refl (takes_one is_punct text more c e (punct_told c is)))
 
 -- the character of a start that is a delimiter
 abbrev agrees : ℕ → Start → Bool
@@ -275,6 +321,9 @@ decides_opening c text more kind d e is = (c ∷ [], go kind d is (sym (ap (agre
     go every.Marked delimiter.Parenthesis is a = decides_first c text more (c ∷ []) more (Opening delimiter.Parenthesis) marked_rules (last_rules every.Marked) (start.Opening delimiter.Parenthesis) e is refl (takes_one (λ k. k == 40) text more c e a)
     go every.Marked delimiter.Brace is a = decides_first c text more (c ∷ []) more (Opening delimiter.Brace) marked_rules (last_rules every.Marked) (start.Opening delimiter.Brace) e is refl (takes_one (λ k. k == 123) text more c e a)
     go every.Marked delimiter.Bracket is a = decides_first c text more (c ∷ []) more (Opening delimiter.Bracket) marked_rules (last_rules every.Marked) (start.Opening delimiter.Bracket) e is refl (takes_one (λ k. k == 91) text more c e a)
+    go every.Source delimiter.Parenthesis is a = decides_first c text more (c ∷ []) more (Opening delimiter.Parenthesis) source_rules (last_rules every.Source) (start.Opening delimiter.Parenthesis) e is refl (takes_one (λ k. k == 40) text more c e a)
+    go every.Source delimiter.Brace is a = decides_first c text more (c ∷ []) more (Opening delimiter.Brace) source_rules (last_rules every.Source) (start.Opening delimiter.Brace) e is refl (takes_one (λ k. k == 123) text more c e a)
+    go every.Source delimiter.Bracket is a = decides_first c text more (c ∷ []) more (Opening delimiter.Bracket) source_rules (last_rules every.Source) (start.Opening delimiter.Bracket) e is refl (takes_one (λ k. k == 91) text more c e a)
 
 pub decides_closing : (c : ℕ) (text more : List ℕ) (kind : Rules) (d : Delimiter) → text ≡ c ∷ more → start_of c ≡ start.Closing d → (piece : List ℕ) × IsFirstFit text (rules_of kind) (Closing d) piece more
 decides_closing c text more kind d e is = (c ∷ [], go kind d is (sym (ap (agrees c) is) ∙ all_agree c))
@@ -287,3 +336,6 @@ decides_closing c text more kind d e is = (c ∷ [], go kind d is (sym (ap (agre
     go every.Marked delimiter.Parenthesis is a = decides_first c text more (c ∷ []) more (Closing delimiter.Parenthesis) marked_rules (last_rules every.Marked) (start.Closing delimiter.Parenthesis) e is refl (takes_one (λ k. k == 41) text more c e a)
     go every.Marked delimiter.Brace is a = decides_first c text more (c ∷ []) more (Closing delimiter.Brace) marked_rules (last_rules every.Marked) (start.Closing delimiter.Brace) e is refl (takes_one (λ k. k == 125) text more c e a)
     go every.Marked delimiter.Bracket is a = decides_first c text more (c ∷ []) more (Closing delimiter.Bracket) marked_rules (last_rules every.Marked) (start.Closing delimiter.Bracket) e is refl (takes_one (λ k. k == 93) text more c e a)
+    go every.Source delimiter.Parenthesis is a = decides_first c text more (c ∷ []) more (Closing delimiter.Parenthesis) source_rules (last_rules every.Source) (start.Closing delimiter.Parenthesis) e is refl (takes_one (λ k. k == 41) text more c e a)
+    go every.Source delimiter.Brace is a = decides_first c text more (c ∷ []) more (Closing delimiter.Brace) source_rules (last_rules every.Source) (start.Closing delimiter.Brace) e is refl (takes_one (λ k. k == 125) text more c e a)
+    go every.Source delimiter.Bracket is a = decides_first c text more (c ∷ []) more (Closing delimiter.Bracket) source_rules (last_rules every.Source) (start.Closing delimiter.Bracket) e is refl (takes_one (λ k. k == 93) text more c e a)

@@ -8,7 +8,7 @@ use Rattle.std.specs.Str.{chars, IsUtf8}
 use Rattle.std.specs.Char.{encode_utf8}
 use Rattle.std.proofs.lemmas.Str.{chars_past_char, length-encode, len_utf8_bounds}
 use Rattle.std.proofs.lemmas.Bool.{false≢true, eqb-true}
-use Rattle.tok_lexical.specs.Pieces.{IsLongestPrefix, ReadsLongest, ReadsPrefix, Stops, Skips, IsOne, After}
+use Rattle.tok_lexical.specs.Pieces.{HasPrefix, IsLongestPrefix, ReadsLongest, ReadsPrefix, Stops, Skips, IsOne, After}
 use Rattle.std.specs.Prelude.{Option, Some, None, MatchOption, unwrap_or}
 use Rattle.std.specs.Borrow.{Bor}
 use Rattle.tok_lexical.specs.Characters.{is_space, is_whitespace, begins_visibly}
@@ -175,6 +175,35 @@ tries_found S text (Some rest) free (piece, cut, s) = (
 
 pub tries_two : (a b mark : ℕ) (text : List ℕ) (answer : Option (Bor (List ℕ))) → mark ≡ b → MatchOption answer ((more : List ℕ) → text ≡ a ∷ mark ∷ more → ⊥) (λ rest. text ≡ a ∷ mark ∷ chars rest.now) → ReadsLongest (λ p. p ≡ a ∷ b ∷ []) text answer
 tries_two a b mark text answer e h = tries_pair a b text answer (subst (λ w. MatchOption answer ((more : List ℕ) → text ≡ a ∷ w ∷ more → ⊥) (λ rest. text ≡ a ∷ w ∷ chars rest.now)) e h)
+
+-- one of two spellings, where the other doesn't fit
+pub either_first : (S R : List ℕ → Type 0) (text : List ℕ) (answer : Option (Bor (List ℕ))) → (HasPrefix R text → ⊥) → ReadsLongest S text answer → ReadsLongest (λ p. S p ⊎ R p) text answer
+either_first S R text None fails misses = λ (piece, after, cut, h). elim h [ inl s ↦ misses (piece, after, cut, s) | inr r ↦ fails (piece, after, cut, r) ]
+either_first S R text (Some rest) fails (piece, t) = (
+  piece,
+  record {
+    cut = t.cut;
+    spelled = inl t.spelled;
+    longest = λ more after e h. elim h [
+      | inl s ↦ t.longest more after e s
+      | inr r ↦ absurd (fails (piece ++ more, after, t.cut ∙ ap (λ w. piece ++ w) e ∙ sym (append_assoc piece more after), r))
+    ];
+  },
+)
+
+pub either_second : (S R : List ℕ → Type 0) (text : List ℕ) (answer : Option (Bor (List ℕ))) → (HasPrefix S text → ⊥) → ReadsLongest R text answer → ReadsLongest (λ p. S p ⊎ R p) text answer
+either_second S R text None fails misses = λ (piece, after, cut, h). elim h [ inl s ↦ fails (piece, after, cut, s) | inr r ↦ misses (piece, after, cut, r) ]
+either_second S R text (Some rest) fails (piece, t) = (
+  piece,
+  record {
+    cut = t.cut;
+    spelled = inr t.spelled;
+    longest = λ more after e h. elim h [
+      | inl s ↦ absurd (fails (piece ++ more, after, t.cut ∙ ap (λ w. piece ++ w) e ∙ sym (append_assoc piece more after), s))
+      | inr r ↦ t.longest more after e r
+    ];
+  },
+)
 
 -- two fronts of one text: one goes on from the other
 pub fronts : (p q r s : List ℕ) → p ++ r ≡ q ++ s → ((m : List ℕ) × (q ≡ p ++ m) × (r ≡ m ++ s)) ⊎ ((m : List ℕ) × (p ≡ q ++ m) × (s ≡ m ++ r))

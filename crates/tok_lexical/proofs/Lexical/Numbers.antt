@@ -10,7 +10,7 @@ use Rattle.std.proofs.lemmas.Bool.{false≢true, and_parts}
 use Rattle.tok_lexical.specs.Pieces.{IsLongestPrefix, HasPrefix, ReadsLongest, Skips, Stops, After}
 use Rattle.tok_lexical.specs.Words.{IsIdentifier}
 use Rattle.tok_lexical.specs.declared.numbers.Base.{Base}
-use Rattle.tok_lexical.specs.Numbers.{base_mark, radix, IsBased, is_digit_or_underscore, starts_digit, starts_number_suffix, IsNumberSuffix, IsNumber, has_digit, IsDecimal}
+use Rattle.tok_lexical.specs.Numbers.{base_mark, radix, IsBased, is_digit_or_underscore, starts_digit, starts_number_suffix, IsNumberSuffix, IsRun, IsNumber, has_digit}
 use Rattle.tok_lexical.proofs.Lexical.Longest.{no_more, list_all-push, tries_after, fronts}
 use Rattle.tok_lexical.proofs.Lexical.Escapes.{heads, tails}
 
@@ -56,31 +56,42 @@ suffix_parts : (x y : Bool) → not (x || y) ≡ true → x ≡ false
 suffix_parts true y h = absurd (false≢true h)
 suffix_parts false y h = refl
 
-suffix_stops : (n : ℕ) (suffix : List ℕ) → IsNumberSuffix n suffix → Stops (is_digit_or_underscore n) suffix
+pub suffix_stops : (n : ℕ) (suffix : List ℕ) → IsNumberSuffix n suffix → Stops (is_digit_or_underscore n) suffix
 suffix_stops n [] s = tt
 suffix_stops n (c ∷ suffix) (s, w) = suffix_parts (is_digit_or_underscore n c) _ s
 
-pub takes_number : (n : ℕ) (good : List ℕ → Bool) (text rest last digits suffix : List ℕ) → Skips (is_digit_or_underscore n) text digits rest → good digits ≡ true → IsLongestPrefix (IsNumberSuffix n) rest suffix last → (piece : List ℕ) × IsLongestPrefix (IsNumber n good) text piece last
-takes_number n good text rest last digits suffix s g t = (
-  digits ++ suffix,
-  record {
-    cut = s.cut ∙ ap (λ w. digits ++ w) t.cut ∙ sym (append_assoc digits suffix last);
-    spelled = (digits, suffix, refl, s.pass, g, t.spelled);
-    longest = λ more after e (ds, sf, f, a, g', k).
-        let here : Stops (is_digit_or_underscore n) ((suffix ++ more) ++ after) = subst (Stops (is_digit_or_underscore n)) (t.cut ∙ ap (λ w. suffix ++ w) e ∙ sym (append_assoc suffix more after)) s.stops in
-        let w = all_stops (is_digit_or_underscore n) digits ds (suffix ++ more) sf s.pass a (stops_front (is_digit_or_underscore n) (suffix ++ more) after here) (suffix_stops n sf k) (sym (append_assoc digits suffix more) ∙ f) in
-        t.longest more after e (subst (IsNumberSuffix n) (sym w.1) k);
-  },
-)
+-- digits, and what follows them
+module _ (n : ℕ) (good : List ℕ → Bool) (Tail : List ℕ → Type 0) where
+  pub takes_run : ((tail : List ℕ) → Tail tail → Stops (is_digit_or_underscore n) tail) → (text rest last digits tail : List ℕ) → Skips (is_digit_or_underscore n) text digits rest → good digits ≡ true → IsLongestPrefix Tail rest tail last → (piece : List ℕ) × IsLongestPrefix (IsRun n good Tail) text piece last
+  takes_run stops text rest last digits tail s g t = (
+    digits ++ tail,
+    record {
+      cut = s.cut ∙ ap (λ w. digits ++ w) t.cut ∙ sym (append_assoc digits tail last);
+      spelled = (digits, tail, refl, s.pass, g, t.spelled);
+      longest = λ more after e (ds, other, f, a, g', k).
+          let here : Stops (is_digit_or_underscore n) ((tail ++ more) ++ after) = subst (Stops (is_digit_or_underscore n)) (t.cut ∙ ap (λ w. tail ++ w) e ∙ sym (append_assoc tail more after)) s.stops in
+          let w = all_stops (is_digit_or_underscore n) digits ds (tail ++ more) other s.pass a (stops_front (is_digit_or_underscore n) (tail ++ more) after here) (stops other k) (sym (append_assoc digits tail more) ∙ f) in
+          t.longest more after e (subst Tail (sym w.1) k);
+    },
+  )
 
-pub none_number : (n : ℕ) (good : List ℕ → Bool) (text rest digits : List ℕ) → ((xs ys : List ℕ) → good xs ≡ true → good (xs ++ ys) ≡ true) → Skips (is_digit_or_underscore n) text digits rest → good digits ≡ false → HasPrefix (IsNumber n good) text → ⊥
-none_number n good text rest digits grows s bad (piece, after, cut, (ds, sf, f, a, g, k)) =
-    elim (fronts ds digits (sf ++ after) rest (sym (append_assoc ds sf after) ∙ ap (λ w. w ++ after) (sym f) ∙ sym cut ∙ s.cut)) [
-      | inl (m, e, r) ↦ false≢true (sym bad ∙ ap good e ∙ grows ds m g)
-      | inr (m, e, r) ↦
-          let none : m ≡ [] = no_more (is_digit_or_underscore n) rest m (sf ++ after) digits s.stops r (ap (list_all (is_digit_or_underscore n)) (sym e) ∙ a) in
-          false≢true (sym bad ∙ ap good (sym (e ∙ ap (λ w. digits ++ w) none ∙ append-nil digits)) ∙ g)
-    ]
+  pub none_run : (text rest digits : List ℕ) → ((xs ys : List ℕ) → good xs ≡ true → good (xs ++ ys) ≡ true) → Skips (is_digit_or_underscore n) text digits rest → good digits ≡ false → HasPrefix (IsRun n good Tail) text → ⊥
+  none_run text rest digits grows s bad (piece, after, cut, (ds, other, f, a, g, k)) =
+      elim (fronts ds digits (other ++ after) rest (sym (append_assoc ds other after) ∙ ap (λ w. w ++ after) (sym f) ∙ sym cut ∙ s.cut)) [
+        | inl (m, e, r) ↦ false≢true (sym bad ∙ ap good e ∙ grows ds m g)
+        | inr (m, e, r) ↦
+            let none : m ≡ [] = no_more (is_digit_or_underscore n) rest m (other ++ after) digits s.stops r (ap (list_all (is_digit_or_underscore n)) (sym e) ∙ a) in
+            false≢true (sym bad ∙ ap good (sym (e ∙ ap (λ w. digits ++ w) none ∙ append-nil digits)) ∙ g)
+      ]
+
+  -- what follows has a first character, which is none of them
+  pub tries_run : ((tail : List ℕ) → Tail tail → (c : ℕ) × (more : List ℕ) × (tail ≡ c ∷ more) × (is_digit_or_underscore n c ≡ false)) → (text rest digits : List ℕ) (answer : Option (Bor (List ℕ))) → Skips (is_digit_or_underscore n) text digits rest → good digits ≡ true → ReadsLongest Tail rest answer → ReadsLongest (IsRun n good Tail) text answer
+  tries_run apart text rest digits None s g misses = λ (piece, after, cut, (ds, tail, f, a, g', k)).
+      let h = apart tail k in
+      let stops : Stops (is_digit_or_underscore n) (tail ++ after) = subst (λ w. Stops (is_digit_or_underscore n) (w ++ after)) (sym h.2) h.3 in
+      let w = all_stops (is_digit_or_underscore n) digits ds rest (tail ++ after) s.pass a s.stops stops (sym s.cut ∙ cut ∙ ap (λ v. v ++ after) f ∙ append_assoc ds tail after) in
+      misses (tail, after, w.1, k)
+  tries_run apart text rest digits (Some last) s g (tail, t) = takes_run (λ other k. let h = apart other k in subst (Stops (is_digit_or_underscore n)) (sym h.2) h.3) text rest (chars last.now) digits tail s g t
 
 pub digit_grows : (n : ℕ) (xs ys : List ℕ) → has_digit n xs ≡ true → has_digit n (xs ++ ys) ≡ true
 digit_grows n [] ys h = absurd (false≢true h)
@@ -90,9 +101,9 @@ digit_grows n (x ∷ xs) ys h =
       | false ↦ λ k. digit_grows n xs ys k
     ] h
 
-pub none_decimal : (text : List ℕ) → starts_digit text ≡ false → HasPrefix IsDecimal text → ⊥
-none_decimal text bad (piece, after, cut, ([], sf, f, a, g, k)) = false≢true g
-none_decimal text bad (piece, after, cut, (d ∷ ds, sf, f, a, g, k)) =
+pub none_decimal : (Tail : List ℕ → Type 0) (text : List ℕ) → starts_digit text ≡ false → HasPrefix (IsRun 10 starts_digit Tail) text → ⊥
+none_decimal Tail text bad (piece, after, cut, ([], sf, f, a, g, k)) = false≢true g
+none_decimal Tail text bad (piece, after, cut, (d ∷ ds, sf, f, a, g, k)) =
     false≢true (sym bad ∙ ap starts_digit (cut ∙ ap (λ w. w ++ after) f) ∙ g)
 
 or_left : (x y : Bool) → x ≡ true → (x || y) ≡ true

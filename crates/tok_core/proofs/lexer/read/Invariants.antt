@@ -6,7 +6,7 @@ use Rattle.tok_lexical.specs.Starts.{rules_of}
 use Rattle.tok_core.proofs.lexer.read.Given as goal
 
 abbrev pub invariant-loop-rule : goal.invariant-loop-rule
-invariant-loop-rule l = shadow (Utf8 l.rest) × SoFar (rules_of l.rules) l.source l.text l.rest l.at l.nest
+invariant-loop-rule l = shadow (Utf8 l.rest) × SoFar l.start (rules_of l.rules) l.source l.text l.rest l.at l.nest
 
 abbrev pub decreases-loop-rule : goal.decreases-loop-rule
 decreases-loop-rule l = length l.rest

@@ -10,7 +10,7 @@ pub returns-in_err-first-clause-tries : goal.returns-in_err-first-clause-tries
 returns-in_err-first-clause-tries c = subst (ReadsByRules _ _) (sym c.from_residual.ensures) (none_fits _ _ _ c.in_err-first.ensures.chars)
 
 pub returns-in-Letter-clause-tries : goal.returns-in-Letter-clause-tries
-returns-in-Letter-clause-tries c = decides_letter c.in_ok-first.first _ _ _ _ c.in_ok-first.ensures.chars (sym c.of-start.ensures ∙ c.in-Letter.is) c.past_continues.ensures
+returns-in-Letter-clause-tries c = decides_letter c.in_ok-first.first _ _ _ _ _ c.in_ok-first.ensures.chars (sym c.of-start.ensures ∙ c.in-Letter.is) c.identifier.ensures c.past_continues.ensures
 
 pub returns-in-Punct-clause-tries : goal.returns-in-Punct-clause-tries
 returns-in-Punct-clause-tries c = decides_punct c.in_ok-first.first _ _ _ _ c.in_ok-first.ensures.chars (sym c.of-start.ensures ∙ c.in-Punct.is) c.punct.ensures
@@ -38,7 +38,7 @@ pub returns-in-Some-past_identifier-clause-tries : goal.returns-in-Some-past_ide
 returns-in-Some-past_identifier-clause-tries c =
     let untold : tells c.of-start.result ≡ false = search (rules, tests) in
     let none = none_at_all _ _ _ c.loop-rule-test.false c.loop-rule.invariant in
-    let found = last_identifier c.in_ok-first.first _ _ c.in_ok-first.ensures.chars c.args.rules _ c.in-Some-past_identifier.ensures.tries in
+    let found = last_identifier c.in_ok-first.first _ _ c.in_ok-first.ensures.chars c.args.rules _ _ c.identifier-in-Some-past_identifier.ensures c.in-Some-past_identifier.ensures.tries in
     (found.0, decides_begun c.in_ok-first.first _ _ _ _ _ _ _ _ c.in_ok-first.ensures.chars c.of-start.ensures (c.at-those.ensures untold) (fits_behind c.at-those.result.now (last_rules c.args.rules) _ _ _ _ none found.1))
 
 pub returns-then-is_punct-clause-tries : goal.returns-then-is_punct-clause-tries

@@ -1,0 +1,26 @@
+-- The spellings of raw strings (Rust Reference: Tokens, Raw string literals, Raw byte string
+-- literals, Raw C string literals).
+use Rattle.std.specs.Prelude.{◌≡◌, ◌≤◌, ℕ, List, ◌∷◌, ◌++◌, ◌==◌, length}
+use Rattle.tok_lexical.specs.Pieces.{After, IsAll}
+use Rattle.tok_lexical.specs.Words.{IsSuffix}
+use Rattle.tok_lexical.specs.declared.contents.Contents.{Contents}
+use Rattle.tok_lexical.specs.declared.contents.Contents.TheVariants.{Text, Bytes, C}
+
+-- the text ends with this closing, which stands at no earlier place in it
+pub data EndsAt (closing : List ℕ) : List ℕ → Type 0 where
+  closed : EndsAt closing closing
+  further : {c : ℕ} {text : List ℕ} → ((more : List ℕ) → c ∷ text ≡ closing ++ more → ⊥) →
+      EndsAt closing text → EndsAt closing (c ∷ text)
+
+-- what follows the prefix of a raw string: at most 255 #, a quote, and up to the first quote that
+-- as many # follow; and a suffix
+abbrev pub IsRaw : List ℕ → Type 0
+IsRaw piece =
+    (hashes : List ℕ) × (body : List ℕ) × (suffix : List ℕ)
+    × (piece ≡ hashes ++ 34 ∷ (body ++ suffix)) × IsAll (λ c. c == 35) hashes
+    × (length hashes ≤ 255) × EndsAt (34 ∷ hashes) body × IsSuffix suffix
+
+abbrev pub IsRawString : Contents → List ℕ → Type 0
+IsRawString Text = After 114 IsRaw
+IsRawString Bytes = After 98 (After 114 IsRaw)
+IsRawString C = After 99 (After 114 IsRaw)

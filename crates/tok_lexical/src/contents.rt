@@ -1,0 +1,139 @@
+// What a quoted literal holds.
+ghost use Rattle.std.specs.Prelude.{◌≡◌, false};
+ghost use Rattle.std.specs.Str.{chars};
+ghost use Rattle.tok_lexical.specs.Contents.{is_misfit, has_quote, has_misfit, has_bare_return, is_unfit, only_zeros, names_zero, has_zero, is_wrong};
+
+use crate::text::{begins_with, next_char, past_char, past_first, past_others};
+
+/// What a string literal holds: characters, bytes, or the bytes of a C string.
+#[derive(Clone, Copy, Debug)]
+pub enum Contents {
+    Text,
+    Bytes,
+    C,
+}
+
+impl Contents {
+    // Whether no literal of this kind may hold the character as it is.
+    fn is_misfit(self, c: char) -> bool
+        ensures { result ≡ is_misfit self c }
+    {
+        match self {
+            Contents::Text => false,
+            Contents::Bytes => c >= '\u{80}',
+            Contents::C => c == '\0',
+        }
+    }
+}
+
+fn has_quote(text: &str) -> bool
+    ensures { result ≡ has_quote (chars text.now) }
+{
+    let mut rest = text;
+    while let Some((c, after)) = next_char(rest) {
+        if c == '"' {
+            return true;
+        }
+        rest = after;
+    }
+    false
+}
+
+/// Whether a character that the literal may not hold stands before its last quote.
+fn has_misfit(contents: Contents, piece: &str) -> bool
+    ensures { result ≡ has_misfit contents (chars piece.now) }
+{
+    let mut rest = piece;
+    while let Some((c, after)) = next_char(rest) {
+        if contents.is_misfit(c) {
+            return has_quote(after);
+        }
+        rest = after;
+    }
+    false
+}
+
+/// Whether a U+000D is there that no line feed follows.
+#[inline(never)]
+pub fn has_bare_return(text: &str) -> bool
+    ensures { result ≡ has_bare_return (chars text.now) }
+{
+    let mut rest = text;
+    while let Some(after) = past_char(past_others(rest, b'\r', b'\r'), '\r') {
+        if !begins_with(after, '\n') {
+            return true;
+        }
+        rest = after;
+    }
+    false
+}
+
+/// Whether a string literal holds what one of this kind may not.
+#[inline(never)]
+pub fn is_unfit(contents: Contents, piece: &str) -> bool
+    ensures { result ≡ is_unfit contents (chars piece.now) }
+{
+    match contents {
+        Contents::Text => has_bare_return(piece),
+        _ => has_bare_return(piece) || has_misfit(contents, piece),
+    }
+}
+
+/// Whether the digits of a code, up to its brace, are zeros.
+fn only_zeros(text: &str) -> bool
+    ensures { result ≡ only_zeros (chars text.now) }
+{
+    let mut rest = text;
+    while let Some((c, after)) = next_char(rest) {
+        if c == '}' {
+            return true;
+        }
+        if c != '0' && c != '_' {
+            return false;
+        }
+        rest = after;
+    }
+    false
+}
+
+/// Whether an escape that goes on so names U+0000.
+fn names_zero(text: &str) -> bool
+    ensures { result ≡ names_zero (chars text.now) }
+{
+    let Some((kind, rest)) = next_char(text) else {
+        return false;
+    };
+    match kind {
+        '0' => true,
+        'x' => begins_with(rest, '0') && begins_with(past_first(rest), '0'),
+        'u' => begins_with(rest, '{') && only_zeros(past_first(rest)),
+        _ => false,
+    }
+}
+
+/// Whether an escape names U+0000.
+fn has_zero(piece: &str) -> bool
+    ensures { result ≡ has_zero false (chars piece.now) }
+{
+    let mut rest = piece;
+    let mut escaped = false;
+    while let Some((c, after)) = next_char(rest) {
+        if escaped && names_zero(rest) {
+            return true;
+        }
+        escaped = !escaped && c == '\\';
+        rest = after;
+    }
+    false
+}
+
+/// Whether a string that isn't raw holds what one of this kind may not.
+#[inline(never)]
+pub fn is_wrong(contents: Contents, piece: &str) -> bool
+    ensures { result ≡ is_wrong contents (chars piece.now) }
+{
+    match contents {
+        Contents::C => is_unfit(contents, piece) || has_zero(piece),
+        _ => is_unfit(contents, piece),
+    }
+}

@@ -1,0 +1,105 @@
+// Floats, and decimal integers with a dot after them.
+ghost use Rattle.std.specs.Prelude.{◌≡◌, IfSome};
+ghost use Rattle.std.specs.Str.{chars, IsUtf8};
+ghost use Rattle.tok_lexical.specs.Pieces.{ReadsLongest};
+ghost use Rattle.tok_lexical.specs.Floats.{IsExponentDigits, IsSigned, IsExponent, IsScaled, IsFraction, IsFloatTail, IsFloat, IsPointed};
+
+use crate::numbers::{is_exponent, past_decimal, past_digits, starts_digit};
+use crate::text::{next_char, past_char, past_first};
+use crate::words::past_suffix;
+
+/// Past the digits of an exponent and a suffix.
+fn past_exponent_digits(text: &str) -> Option<&str>
+    ensures tries { ReadsLongest IsExponentDigits (chars text.now) result }
+    ensures utf8 { IfSome result (λ rest. IsUtf8 rest.now) }
+{
+    let (found, rest) = past_digits(text, 10);
+    if found { Some(past_suffix(rest)) } else { None }
+}
+
+/// The same after a sign, if there is one.
+fn past_signed(text: &str) -> Option<&str>
+    ensures tries { ReadsLongest IsSigned (chars text.now) result }
+    ensures utf8 { IfSome result (λ rest. IsUtf8 rest.now) }
+{
+    if let Some(rest) = past_char(text, '+') {
+        return past_exponent_digits(rest);
+    }
+    if let Some(rest) = past_char(text, '-') {
+        return past_exponent_digits(rest);
+    }
+    past_exponent_digits(text)
+}
+
+/// Past an exponent and a suffix.
+fn past_exponent(text: &str) -> Option<&str>
+    ensures tries { ReadsLongest IsExponent (chars text.now) result }
+    ensures utf8 { IfSome result (λ rest. IsUtf8 rest.now) }
+{
+    if is_exponent(text) {
+        past_signed(past_first(text))
+    } else {
+        None
+    }
+}
+
+/// Past digits and an exponent.
+fn past_scaled(text: &str) -> Option<&str>
+    ensures tries { ReadsLongest IsScaled (chars text.now) result }
+    ensures utf8 { IfSome result (λ rest. IsUtf8 rest.now) }
+{
+    if !starts_digit(text) {
+        return None;
+    }
+    let (_, rest) = past_digits(text, 10);
+    past_exponent(rest)
+}
+
+/// Past what follows the dot of a float, if that is a digit.
+#[inline(never)]
+fn past_fraction(text: &str) -> Option<&str>
+    ensures tries { ReadsLongest IsFraction (chars text.now) result }
+    ensures utf8 { IfSome result (λ rest. IsUtf8 rest.now) }
+{
+    match past_scaled(text) {
+        Some(rest) => Some(rest),
+        None => past_decimal(text),
+    }
+}
+
+/// Past what follows the digits of a float.
+fn past_float_tail(text: &str) -> Option<&str>
+    ensures tries { ReadsLongest IsFloatTail (chars text.now) result }
+    ensures utf8 { IfSome result (λ rest. IsUtf8 rest.now) }
+{
+    match past_char(text, '.') {
+        Some(rest) => past_fraction(rest),
+        None => past_exponent(text),
+    }
+}
+
+/// Past a float.
+#[inline(never)]
+pub fn past_float(text: &str) -> Option<&str>
+    ensures tries { ReadsLongest IsFloat (chars text.now) result }
+    ensures utf8 { IfSome result (λ rest. IsUtf8 rest.now) }
+{
+    if !starts_digit(text) {
+        return None;
+    }
+    let (_, rest) = past_digits(text, 10);
+    past_float_tail(rest)
+}
+
+/// Past a decimal integer and a dot directly after it.
+#[inline(never)]
+pub fn past_pointed(text: &str) -> Option<&str>
+    ensures tries { ReadsLongest IsPointed (chars text.now) result }
+    ensures utf8 { IfSome result (λ rest. IsUtf8 rest.now) }
+{
+    if !starts_digit(text) {
+        return None;
+    }
+    let (_, rest) = past_digits(text, 10);
+    past_char(rest, '.')
+}

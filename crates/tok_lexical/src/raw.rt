@@ -1,0 +1,102 @@
+// Raw strings.
+ghost use Rattle.std.specs.Prelude.{◌≡◌, ℕ, ◌∷◌, ◌++◌, List, MatchOption, IfSome};
+ghost use Rattle.std.specs.Str.{chars, IsUtf8};
+ghost use Rattle.tok_lexical.specs.Pieces.{After, ReadsLongest, ReadsPrefix};
+ghost use Rattle.tok_lexical.specs.Raw.{EndsAt, IsRaw, IsRawString};
+
+use crate::contents::Contents;
+use crate::prefixes::past_number_signs;
+use crate::text::{front_of, next_char, past_char, past_others};
+use crate::words::past_suffix;
+
+/// What follows this front, if the text begins with it.
+fn past_same<'a>(text: &'a str, front: &str) -> Option<&'a str>
+    ensures chars { MatchOption result
+        ((more : List ℕ) → chars text.now ≡ chars front.now ++ more → ⊥)
+        (λ rest. chars text.now ≡ chars front.now ++ chars rest.now) }
+    ensures utf8 { IfSome result (λ rest. IsUtf8 rest.now) }
+{
+    let mut rest = text;
+    let mut left = front;
+    while let Some((wanted, more)) = next_char(left) {
+        let Some((c, after)) = next_char(rest) else {
+            return None;
+        };
+        if c != wanted {
+            return None;
+        }
+        rest = after;
+        left = more;
+    }
+    Some(rest)
+}
+
+/// Past the first quote that these `#` follow, and past them.
+fn past_raw_body<'a>(text: &'a str, hashes: &str) -> Option<&'a str>
+    ensures finds { ReadsPrefix (EndsAt (34 ∷ chars hashes.now)) (chars text.now) result }
+    ensures utf8 { IfSome result (λ rest. IsUtf8 rest.now) }
+{
+    let mut rest = text;
+    while let Some(after) = past_char(past_others(rest, b'"', b'"'), '"') {
+        if let Some(end) = past_same(after, hashes) {
+            return Some(end);
+        }
+        rest = after;
+    }
+    None
+}
+
+/// Past a raw string, after its prefix, and its suffix.
+fn past_raw_rest(text: &str) -> Option<&str>
+    ensures tries { ReadsLongest IsRaw (chars text.now) result }
+    ensures utf8 { IfSome result (λ rest. IsUtf8 rest.now) }
+{
+    let quote = past_number_signs(text);
+    let hashes = front_of(text, quote);
+    if hashes.len() > 255 {
+        return None;
+    }
+    let start = past_char(quote, '"')?;
+    let end = past_raw_body(start, hashes)?;
+    Some(past_suffix(end))
+}
+
+/// Past `r`, and a raw string after it.
+fn past_raw_text(text: &str) -> Option<&str>
+    ensures tries { ReadsLongest (After 114 IsRaw) (chars text.now) result }
+    ensures utf8 { IfSome result (λ rest. IsUtf8 rest.now) }
+{
+    let rest = past_char(text, 'r')?;
+    past_raw_rest(rest)
+}
+
+/// The same after `b`.
+fn past_raw_bytes(text: &str) -> Option<&str>
+    ensures tries { ReadsLongest (After 98 (After 114 IsRaw)) (chars text.now) result }
+    ensures utf8 { IfSome result (λ rest. IsUtf8 rest.now) }
+{
+    let rest = past_char(text, 'b')?;
+    past_raw_text(rest)
+}
+
+/// The same after `c`.
+fn past_raw_c(text: &str) -> Option<&str>
+    ensures tries { ReadsLongest (After 99 (After 114 IsRaw)) (chars text.now) result }
+    ensures utf8 { IfSome result (λ rest. IsUtf8 rest.now) }
+{
+    let rest = past_char(text, 'c')?;
+    past_raw_text(rest)
+}
+
+/// Past a raw string of this kind and its suffix.
+#[inline(never)]
+pub fn past_raw_string(text: &str, contents: Contents) -> Option<&str>
+    ensures tries { ReadsLongest (IsRawString contents) (chars text.now) result }
+    ensures utf8 { IfSome result (λ rest. IsUtf8 rest.now) }
+{
+    match contents {
+        Contents::Text => past_raw_text(text),
+        Contents::Bytes => past_raw_bytes(text),
+        Contents::C => past_raw_c(text),
+    }
+}

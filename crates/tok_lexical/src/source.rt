@@ -1,0 +1,80 @@
+//! Where a whole source begins.
+ghost use Rattle.std.specs.Prelude.{◌≡◌, ℕ, ◌++◌, List, MatchBool, true, length, ◌≤◌};
+ghost use Rattle.std.specs.Str.{chars};
+ghost use Rattle.tok_lexical.specs.Sources.{is_blank_piece, Blanks, OpensAttribute, past_mark, Begins, BeginsAt};
+ghost use Rattle.tok_lexical.specs.Fits.{IsFirstFit};
+ghost use Rattle.tok_lexical.specs.Rules.{source_rules};
+ghost use Rattle.tok_lexical.specs.declared.rule.Rule.{Rule};
+
+use crate::comments::{is_block_doc, is_line_doc, past_line};
+use crate::rule::{Rule, Rules, first_rule};
+use crate::text::{begins_with, front_of, next_char, past_pair};
+
+fn is_blank_piece(rule: Rule, piece: &str) -> bool
+    ensures { result ≡ is_blank_piece rule (chars piece.now) }
+{
+    match rule {
+        Rule::Whitespace => true,
+        Rule::SourceLineComment => !is_line_doc(piece),
+        Rule::SourceBlockComment => !is_block_doc(piece),
+        _ => false,
+    }
+}
+
+/// What follows the white space and the comments at the front, doc comments aside.
+#[inline(never)]
+fn past_blank_pieces(text: &str) -> &str
+    ensures blanks { Blanks (chars text.now) (chars result.now) }
+    ensures last { (rule : Rule) → (taken after : List ℕ)
+        → IsFirstFit (chars result.now) source_rules rule taken after
+        → is_blank_piece rule taken ≡ true → ⊥ }
+{
+    let mut rest = text;
+    while let Some((rule, after)) = first_rule(Rules::Source, rest) {
+        if !is_blank_piece(rule, front_of(rest, after)) {
+            return rest;
+        }
+        rest = after;
+    }
+    rest
+}
+
+/// Whether what follows `#!` makes it an attribute.
+fn opens_attribute(text: &str) -> bool
+    ensures { MatchBool result (OpensAttribute (chars text.now))
+        (OpensAttribute (chars text.now) → ⊥) }
+{
+    begins_with(past_blank_pieces(text), '[')
+}
+
+/// What follows a byte order mark.
+fn past_mark(text: &str) -> &str
+    ensures { chars result.now ≡ past_mark (chars text.now) }
+{
+    match next_char(text) {
+        Some(('\u{FEFF}', rest)) => rest,
+        _ => text,
+    }
+}
+
+/// What follows a shebang line.
+fn past_shebang(text: &str) -> &str
+    ensures { Begins (chars text.now) (chars result.now) }
+{
+    let Some(rest) = past_pair(text, '#', '!') else {
+        return text;
+    };
+    if opens_attribute(rest) {
+        text
+    } else {
+        past_line(text)
+    }
+}
+
+/// Where the pieces of a source begin: after a byte order mark and a shebang line.
+pub fn past_start(text: &str) -> &str
+    ensures begins { BeginsAt (chars text.now) (chars result.now) }
+    ensures cut { (front : List ℕ) × (chars text.now ≡ front ++ chars result.now) }
+{
+    past_shebang(past_mark(text))
+}
