@@ -11,7 +11,7 @@ use crate::fault::{Fault, Result};
 use crate::stream::{ParseBuffer, ParseStream, tokens_to_parse_buffer};
 use std::alloc::{AllocError, Global};
 use tok_buffer::{Error, TokenBuffer};
-use tok_core::{LexFault, Span, TokenStream, lex};
+use tok_core::{LexFault, Span, TokenStream};
 
 /// A parser of a whole stream of tokens. Every function from a `ParseStream` to a `Result` is one:
 ///
@@ -57,8 +57,12 @@ where
     }
 
     fn parse_str(self, alloc: Global, text: &str) -> Result<T> {
-        match lex(alloc, 0, text) {
-            Ok(tokens) => self.parse2(alloc, tokens),
+        match TokenBuffer::from_text(alloc, 0, 0, text) {
+            Ok(buffer) => {
+                let mut input = tokens_to_parse_buffer(alloc, &buffer, Span::call_site());
+                let parsed = self(&mut input);
+                settle(parsed, input)
+            }
             Err(fault) => Err(unread(alloc, fault)),
         }
     }

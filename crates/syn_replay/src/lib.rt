@@ -12,4 +12,4 @@ pub use agreement::both::replay_both;
 pub use agreement::transparent::is_transparent;
 pub use command::{Command, Kind, Look, Separator};
 pub use report::{Answer, Line, Piece, Position, Report, Verdict};
-pub use session::replay;
+pub use session::{replay, replay_in};

@@ -257,6 +257,27 @@ fn verdict<'a>(streams: &Streams<'a>) -> Result<Verdict, AllocError>
     }
 }
 
+// The same over a buffer, whose number is 0: of a text that was read straight into it no stream is made.
+pub fn replay_in(
+    alloc: Global,
+    buffer: &TokenBuffer,
+    commands: &[Command],
+) -> Result<Report, AllocError>
+    requires { buffer.now.number ≡ 0 }
+    ensures walk { IfOk result
+        (λ r. report_of r ≡ walk buffer.now.forest (map command_of commands.now)) }
+    ensures acceptance { IfOk result
+        (λ r. IsExact buffer.now.forest (map command_of commands.now) (verdict_of r.verdict)) }
+    ensures errors { IfOk result (λ r. ArePlain r.lines.items × IsPlainVerdict r.verdict) }
+{
+    let whole = tokens_to_parse_buffer(alloc, buffer, Span::call_site());
+    let mut streams = Streams::new(alloc, whole.pause())?;
+    let lines = run(alloc, &mut streams, commands)?;
+    streams.close_contents(0);
+    let verdict = verdict(&streams)?;
+    Ok(Report { lines, verdict })
+}
+
 /// Answers the commands over the stream, one line each. Stream 0 is the whole stream, and each group that is entered and
 /// each fork gives the next number. A refused command changes nothing. At the end the contents that are open are closed, and
 /// stream 0 is accepted if nothing is left over in it, nor in a content that was closed into it. The error of a refusal is one
@@ -272,10 +293,5 @@ pub fn replay(
     ensures errors { IfOk result (λ r. ArePlain r.lines.items × IsPlainVerdict r.verdict) }
 {
     let buffer = TokenBuffer::new2(alloc, 0, stream)?;
-    let whole = tokens_to_parse_buffer(alloc, &buffer, Span::call_site());
-    let mut streams = Streams::new(alloc, whole.pause())?;
-    let lines = run(alloc, &mut streams, commands)?;
-    streams.close_contents(0);
-    let verdict = verdict(&streams)?;
-    Ok(Report { lines, verdict })
+    replay_in(alloc, &buffer, commands)
 }

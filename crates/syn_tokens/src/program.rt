@@ -6,12 +6,11 @@ pub mod fault;
 pub mod input;
 pub mod output;
 
-ghost use Rattle.std.specs.Prelude.{◌≡◌, IfOk, IfSome, MatchResult, string_bytes};
+ghost use Rattle.std.specs.Prelude.{◌≡◌, IfOk, IfSome, MatchResult, Some, string_bytes};
 ghost use Rattle.syn_tokens.specs.Program.Failures.{FailsToRead, FailsToWrite};
 ghost use Rattle.syn_tokens.specs.Program.Faults.{OnUnreadable};
 ghost use Rattle.syn_tokens.specs.Program.Outcomes.{outcome_of};
-ghost use Rattle.syn_tokens.specs.Program.{HasOutcome, IsOther, IsUnreadable, IsUnreadableOther, Prints, PrintsOnly, Serves, ServesOnly};
-ghost use Rattle.syn_tokens.specs.Program.Input.{text_in};
+ghost use Rattle.syn_tokens.specs.Program.{HasOutcome, IsForest, IsUnreadable, IsUnreadableOther, Prints, PrintsOnly, Serves, ServesOnly};
 
 use crate::program::channel::{Sink, Source};
 use crate::program::command_text::read_commands;
@@ -21,7 +20,8 @@ use crate::program::input::{ReadFault, parts, read_input};
 use crate::program::output::send;
 use std::alloc::{AllocError, Global};
 use std::str::from_utf8;
-use syn_replay::replay;
+use syn_replay::replay_in;
+use tok_buffer::TokenBuffer;
 use tok_core::{TokenStream, lex_marked};
 
 /// Reads one input, prints what `respond` says of it, and returns the exit status of the program. The input is a marked text, or
@@ -90,26 +90,25 @@ fn outcome(alloc: Global, input: &[u8]) -> Result<Outcome, Fault>
     let Some((text, other, lines)) = parts(input) else {
         return Err(Fault::Unreadable(Unreadable::Parts));
     };
+    let Some(other) = other else {
+        let buffer = TokenBuffer::from_marked(alloc, 0, 0, text)?;
+        let commands = read_commands(alloc, lines)?;
+        return Ok(Outcome::Reported(replay_in(alloc, &buffer, &commands)?));
+    };
     let stream = lex_marked(alloc, 0, text)?;
     let right = lex_other(alloc, other)?;
     let commands = read_commands(alloc, lines)?;
-    match right {
-        None => Ok(Outcome::Reported(replay(alloc, stream, &commands)?)),
-        Some(right) => Ok(Outcome::Compared(compare(alloc, stream, right, &commands)?)),
-    }
+    Ok(Outcome::Compared(compare(alloc, stream, right, &commands)?))
 }
 
-// The trees of the second text, if there is one.
-fn lex_other(alloc: Global, other: Option<&str>) -> Result<Option<TokenStream>, Fault>
+// The trees of the second text.
+fn lex_other(alloc: Global, text: &str) -> Result<TokenStream, Fault>
     ensures { MatchResult result
-        (λ right. IsOther (text_in other.entry) right)
-        (λ fault. OnUnreadable fault (IsUnreadableOther (text_in other.entry))) }
+        (λ right. IsForest text.now right)
+        (λ fault. OnUnreadable fault (IsUnreadableOther (Some text.now))) }
 {
-    match other {
-        None => Ok(None),
-        Some(text) => match lex_marked(alloc, 0, text) {
-            Ok(right) => Ok(Some(right)),
-            Err(fault) => Err(Fault::of_right(fault)),
-        },
+    match lex_marked(alloc, 0, text) {
+        Ok(right) => Ok(right),
+        Err(fault) => Err(Fault::of_right(fault)),
     }
 }

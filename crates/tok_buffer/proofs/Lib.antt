@@ -7,12 +7,14 @@ pub mod Groups
 pub mod InScope
 pub mod Layouts
 pub mod Lefts
+pub mod Levels
 pub mod Measured
 pub mod NextChars
 pub mod Onwards
 pub mod Owners
 pub mod Peeks
 pub mod PunctRuns
+pub mod Reading
 pub mod Rests
 pub mod Scans
 pub mod Spanned

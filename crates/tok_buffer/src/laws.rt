@@ -1,5 +1,9 @@
 //! Laws: small functions whose contracts say what holds of every buffer and cursor.
 ghost use Rattle.std.specs.Prelude.{◌≡◌, ◌↔◌, true, Some, IfOk};
+ghost use Rattle.std.specs.Str.{chars};
+ghost use Rattle.tok_lexical.specs.Rules.{plain_rules};
+ghost use Rattle.tok_core.specs.Lexical.Outcome.{FollowsGrammar};
+ghost use Rattle.tok_buffer.specs.Buffer.{forest_of, SameReading};
 ghost use Rattle.std.specs.declared.cmp.Ordering.TheVariants.{Equal};
 ghost use Rattle.tok_core.specs.Forest.{Forest};
 ghost use Rattle.tok_buffer.specs.Cursors.{place_of, CursorsLoseNone};
@@ -15,8 +19,36 @@ use crate::buffer::TokenBuffer;
 use crate::cursor::Cursor;
 use std::alloc::{AllocError, Global};
 use std::cmp::Ordering;
-use tok_core::TokenStream;
+use tok_core::{LexFault, TokenStream, lex};
 pub use tok_leaves::laws::{lifetimes_by_name, lifetimes_in_order};
+
+// The buffer of the stream that `lex` returns.
+fn lexed(alloc: Global, number: u64, source: u32, text: &str) -> Result<TokenBuffer, LexFault>
+    ensures number { IfOk result (λ b. b.number ≡ number) }
+    ensures follows { FollowsGrammar plain_rules source (chars text.now) (forest_of result) }
+{
+    match lex(alloc, source, text) {
+        Ok(stream) => match TokenBuffer::new2(alloc, number, stream) {
+            Ok(buffer) => Ok(buffer),
+            Err(failed) => Err(failed.into()),
+        },
+        Err(fault) => Err(fault),
+    }
+}
+
+/// A text read straight into a buffer gives the buffer of the stream that `lex` returns, or the same refusal.
+pub fn text_as_stream(
+    alloc: Global,
+    number: u64,
+    source: u32,
+    text: &str,
+) -> (Result<TokenBuffer, LexFault>, Result<TokenBuffer, LexFault>)
+    ensures { SameReading result.0 result.1 }
+{
+    let read = TokenBuffer::from_text(alloc, number, source, text);
+    let laid = lexed(alloc, number, source, text);
+    (read, laid)
+}
 
 /// A buffer gives back the stream that it was made of, spans and invisible groups included.
 pub fn same_stream(

@@ -2,6 +2,7 @@
 #![tactic(auto)]
 
 mod buffer;
+mod builder;
 mod cursor;
 mod entry;
 pub mod error;

@@ -1,3 +1,4 @@
+pub mod Building
 pub mod Clear
 pub mod Code
 pub mod Erase

@@ -1,7 +1,8 @@
 // Text to trees.
-ghost use Rattle.std.specs.Prelude.{IfOk, IfErr, ◌+◌, ◌<◌, ◌^◌, length};
+ghost use Rattle.std.specs.Prelude.{◌≡◌, [], IfOk, IfErr, ◌+◌, ◌<◌, ◌^◌, length};
 ghost use Rattle.std.specs.Str.{chars};
 ghost use Rattle.tok_lexical.specs.Starts.{rules_of};
+ghost use Rattle.tok_core.specs.Building.{nothing};
 ghost use Rattle.tok_core.specs.Lexical.Errors.{OnRefused};
 ghost use Rattle.tok_core.specs.Lexical.Outcome.{FollowsGrammar, FollowsSource};
 ghost use Rattle.tok_core.specs.Lexical.Reading.{ReadsFrom, IsRefusedFrom};
@@ -9,24 +10,74 @@ ghost use Rattle.tok_lexical.specs.Rules.{plain_rules, marked_rules};
 
 mod attribute;
 mod blanks;
+mod build;
 mod error;
 mod nest;
 
 use crate::stream::TokenStream;
 use blanks::past_blanks;
+pub use build::Build;
+use build::TreeBuilder;
 pub use error::{LexError, LexFault};
-use nest::TreeBuilder;
+use nest::Nest;
 use std::alloc::Global;
 use tok_lexical::source::past_start;
 use tok_lexical::text::front_of;
 use tok_lexical::{Reason, Rules, first_rule};
 
-// The forest of a text that begins at this byte, by these rules, of which the last takes any character.
+/// What is built of a text that begins at this byte, by these rules, of which the last takes any character. The builder
+/// has nothing in it yet. It is the lexer's own loop: a caller that wants trees calls `lex`.
 //
 // One piece after the other is taken off the front, so the time is linear in the text: a piece is looked at a fixed number of
 // times. A rule that looks far and then doesn't fit is followed by a refusal, as an unclosed comment or string is; or what
 // it looks at is a run that no later piece goes over again: the `#` after an `r`, the marks after a punct.
-fn read(
+pub fn read<B: Build + Drop>(
+    builder: B,
+    alloc: Global,
+    source: u32,
+    rules: Rules,
+    start: usize,
+    text: &str,
+) -> Result<B, LexFault>
+    requires fits { start + length text.now < 2 ^ 64 }
+    requires empty { B.levels builder ≡ nothing }
+    ensures reads { IfOk result
+        (λ built. ReadsFrom start (rules_of rules) source (chars text.now)
+        (B.levels built).inner) }
+    ensures closed { IfOk result (λ built. (B.levels built).outer ≡ []) }
+    ensures refuses { IfErr result
+        (λ fault. OnRefused fault
+        (IsRefusedFrom start (rules_of rules) source (chars text.now))) }
+{
+    let mut nest = Nest::new(alloc, source, builder);
+    let mut rest = text;
+    let mut at = start;
+    while let Some((rule, after)) = first_rule(rules, rest) {
+        let piece = front_of(rest, after);
+        let end = at + rule.width(piece);
+        match nest.take_in(rule, at, end, piece, after) {
+            Ok(()) => {}
+            Err(fault) => return Err(fault),
+        }
+        rest = past_blanks(after);
+        at = end + (after.len() - rest.len());
+    }
+    let Nest {
+        mut open,
+        built,
+        ..
+    } = nest;
+    match open.pop() {
+        Some((_, begin)) => {
+            let error = LexError::new(Reason::UnclosedGroup, source, begin);
+            Err(LexFault::Refused(error))
+        }
+        None => Ok(built),
+    }
+}
+
+// The forest of a text that begins at this byte, by these rules.
+fn read_trees(
     alloc: Global,
     source: u32,
     rules: Rules,
@@ -40,30 +91,9 @@ fn read(
         (λ fault. OnRefused fault
         (IsRefusedFrom start (rules_of rules) source (chars text.now))) }
 {
-    let mut nest = TreeBuilder::new(alloc, source);
-    let mut rest = text;
-    let mut at = start;
-    while let Some((rule, after)) = first_rule(rules, rest) {
-        let piece = front_of(rest, after);
-        let end = at + rule.width(piece);
-        match nest.take_in(rule, at, end, piece, after) {
-            Ok(()) => {}
-            Err(fault) => return Err(fault),
-        }
-        rest = past_blanks(after);
-        at = end + (after.len() - rest.len());
-    }
-    let TreeBuilder {
-        mut open,
-        trees,
-        ..
-    } = nest;
-    match open.pop() {
-        Some(group) => {
-            let error = LexError::new(Reason::UnclosedGroup, source, group.start);
-            Err(LexFault::Refused(error))
-        }
-        None => Ok(trees),
+    match read(TreeBuilder::new(alloc), alloc, source, rules, start, text) {
+        Ok(built) => Ok(built.trees),
+        Err(fault) => Err(fault),
     }
 }
 
@@ -71,7 +101,7 @@ fn read(
 pub fn lex(alloc: Global, source: u32, text: &str) -> Result<TokenStream, LexFault>
     ensures { FollowsGrammar plain_rules source (chars text.now) result }
 {
-    read(alloc, source, Rules::Plain, 0, text)
+    read_trees(alloc, source, Rules::Plain, 0, text)
 }
 
 /// The forest of a text in which the marks « and » open and close invisible groups. Its bytes are counted as if these
@@ -79,7 +109,7 @@ pub fn lex(alloc: Global, source: u32, text: &str) -> Result<TokenStream, LexFau
 pub fn lex_marked(alloc: Global, source: u32, text: &str) -> Result<TokenStream, LexFault>
     ensures { FollowsGrammar marked_rules source (chars text.now) result }
 {
-    read(alloc, source, Rules::Marked, 0, text)
+    read_trees(alloc, source, Rules::Marked, 0, text)
 }
 
 /// The forest of a whole Rust source, of the edition of 2021. A doc comment stands for an attribute; a byte order mark and a
@@ -89,5 +119,5 @@ pub fn lex_source(alloc: Global, source: u32, text: &str) -> Result<TokenStream,
 {
     let rest = past_start(text);
     let start = text.len() - rest.len();
-    read(alloc, source, Rules::Source, start, rest)
+    read_trees(alloc, source, Rules::Source, start, rest)
 }

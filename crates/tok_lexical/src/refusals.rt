@@ -41,6 +41,8 @@ fn lifetime_refusal(name: &str, after: &str) -> Option<Reason>
 }
 
 /// Why a piece that the rule took at this byte is refused, if it is.
+// Inlined: the loop over pieces is made twice, for trees and for entries, and a call in each would cost every piece.
+#[inline(always)]
 pub fn refusal(rule: Rule, at: usize, piece: &str, after: &str) -> Option<Reason>
     ensures { result ≡ refusal rule at (chars piece.now) (chars after.now) }
 {

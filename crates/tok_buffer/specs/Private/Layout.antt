@@ -2,6 +2,7 @@
 use Rattle.std.specs.Prelude.{ℕ, ◌+◌, List, [], ◌∷◌, ◌++◌}
 use Rattle.tok_lexical.specs.declared.delimiter.Delimiter.{Delimiter}
 use Rattle.tok_leaves.specs.declared.span.Span.{Span}
+use Rattle.tok_core.specs.Building.{Levels}
 use Rattle.tok_core.specs.Code.{top}
 use Rattle.tok_leaves.specs.Leaves.{Leaf, ident, punct, literal, ident_of, punct_of, literal_of}
 use Rattle.tok_core.specs.Forest.{Tree, leaf, group, Forest, no_trees, tree, turned_onto}
@@ -78,3 +79,31 @@ entry_here (level o p (tree (group d c s) f)) = group_entry d s c
 abbrev pub entry_owner : Entry → Owner
 entry_owner (Group g k) = in_group g.delimiter g.span
 entry_owner e = whole
+
+-- The entries of levels that are open, outermost first: the end after each stands where the entry of
+-- the next level's group is to come.
+abbrev pub laid : List Forest → List Entry
+laid [] = []
+laid (f ∷ s) = layout f ++ End 0 ∷ laid s
+
+-- where these groups are to come, if the first level begins at this place
+abbrev pub places : ℕ → List Forest → List ℕ
+places n [] = []
+places n (f ∷ s) = (n + weight f) ∷ places (n + weight f + 1) s
+
+-- each of these forests but the last, and the last one
+abbrev pub but_last : Forest → List Forest → List Forest
+but_last f [] = []
+but_last f (g ∷ s) = f ∷ but_last g s
+
+abbrev pub last_of : Forest → List Forest → Forest
+last_of f [] = f
+last_of f (g ∷ s) = last_of g s
+
+abbrev pub levels_of : List Forest → Levels
+levels_of [] = record { outer = []; inner = no_trees }
+levels_of (f ∷ s) = record { outer = but_last f s; inner = last_of f s }
+
+-- the levels that are in the entries
+abbrev pub levels_in : List Entry → Levels
+levels_in xs = levels_of (stack_entries xs (no_trees ∷ []))

@@ -2,10 +2,11 @@
 use Rattle.std.proofs.Common.{◌≡◌, ◌∙◌, ℕ, ◌+◌, ◌≤◌, List, [], ◌∷◌, ◌++◌, length, refl, sym, ap, subst, arith, append_assoc}
 use Rattle.std.specs.Prelude.{Bool, encode_utf8_all, ◌-◌, true, false, None}
 use Rattle.std.specs.Str.{chars, IsUtf8}
-use Rattle.std.proofs.lemmas.List.{append-nil, map-append}
-use Rattle.tok_core.specs.Forest.{Forest, no_trees}
+use Rattle.std.proofs.lemmas.List.{append-nil}
+use Rattle.tok_core.specs.Forest.{Forest}
 use Rattle.tok_lexical.specs.Fits.{NoneBefore}
-use Rattle.tok_core.specs.Private.Built.{EndsInOther, IsBlank, levels_of, Holds, last, outer, Reached, Grows, HaltsAt}
+use Rattle.tok_core.specs.Building.{nothing}
+use Rattle.tok_core.specs.Private.Built.{EndsInOther, IsBlank, State, IsPaired, Holds, HoldsAll, last, outer, Reached, Grows, HaltsAt}
 use Rattle.tok_lexical.specs.Starts.{rules_of}
 use Rattle.tok_core.specs.Lexical.Errors.{OnRefused}
 use Rattle.tok_core.specs.Lexical.Items.{Item, no_items}
@@ -20,14 +21,13 @@ use Rattle.tok_core.specs.declared.lexer.error.LexError.{LexError}
 use Rattle.tok_core.specs.declared.lexer.error.LexFault.{LexFault}
 use Rattle.tok_core.specs.declared.lexer.error.LexFault.TheVariants.{Refused, Memory}
 use Rattle.tok_lexical.specs.declared.reason.Reason.TheVariants.{UnclosedGroup}
-use Rattle.tok_core.specs.declared.lexer.nest.OpenGroup.{OpenGroup}
-use Rattle.tok_core.specs.declared.lexer.nest.TreeBuilder.{TreeBuilder}
+use Rattle.tok_lexical.specs.declared.delimiter.Delimiter.{Delimiter}
 use Rattle.tok_lexical.specs.declared.rule.Rules.{Rules}
 use Rattle.tok_lexical.specs.declared.rule.Rules.TheVariants.{Plain, Marked, Source}
 use Rattle.tok_lexical.specs.declared.rule.Rule.{Rule}
 use Rattle.tok_lexical.specs.declared.rule.Rule.TheVariants.{Whitespace}
 use Rattle.tok_core.proofs.Lexical.Blanks.{recut}
-use Rattle.tok_core.proofs.Lexical.Nests.{opens_of, reached_later}
+use Rattle.tok_core.proofs.Lexical.Nests.{opens_of, paired_of, reached_later}
 use Rattle.tok_lexical.proofs.Lexical.Fits.{decided}
 use Rattle.tok_core.proofs.Lexical.Steps.{refuses}
 use Rattle.tok_lexical.proofs.Lexical.Texts.{cut_length}
@@ -41,13 +41,13 @@ cut_then stop d = d
 cut_then (piece {more = more} e n c) d = recut (sym (append_assoc _ more _)) refl refl (piece e n (cut_then c d))
 
 -- where the loop stands
-pub record SoFar (begin : ℕ) (rules : List Rule) (number : ℕ) (text rest : List ℕ) (at : ℕ) (nest : TreeBuilder) : Type 0 where
+pub record SoFar (begin : ℕ) (rules : List Rule) (number : ℕ) (text rest : List ℕ) (at : ℕ) (nest : State) : Type 0 where
   pub short : at + length rest ≤ begin + length text
   pub same_source : nest.source ≡ number
-  pub reached : Reached nest.«open».items at
+  pub reached : Reached nest.groups at
   pub all : List Item
   pub cut : Cut rules number begin (chars text) all at (chars rest)
-  pub holds : Holds number 256 nest.«open».items nest.trees all
+  pub holds : HoldsAll number nest all
 
 width_le : (rule : Rule) (taken : List ℕ) → width rule taken ≤ length (encode_utf8_all taken)
 width_le rule taken = go (is_group_mark rule) refl
@@ -60,7 +60,7 @@ width_le rule taken = go (is_group_mark rule) refl
 pub decided_piece : (rules : List Rule) (rule : Rule) (text rest taken other : List ℕ) → other ≡ taken → IsFirstFit text rules rule taken rest → IsFirstFit text rules rule other rest
 decided_piece rules rule text rest taken other e d = subst (λ w. IsFirstFit text rules rule w rest) (sym e) d
 
-module _ (begin : ℕ) (rules : List Rule) (number : ℕ) (text rest : List ℕ) (at : ℕ) (nest : TreeBuilder) (s : SoFar begin rules number text rest at nest) where
+module _ (begin : ℕ) (rules : List Rule) (number : ℕ) (text rest : List ℕ) (at : ℕ) (nest : State) (s : SoFar begin rules number text rest at nest) where
   -- the piece ends within the text
   pub place_fits : (rule : Rule) (after taken : List ℕ) → IsUtf8 rest → IsUtf8 after → IsFirstFit (chars rest) rules rule taken (chars after) → (at + width rule taken) + length after ≤ begin + length text
   place_fits rule after taken u v d =
@@ -69,14 +69,14 @@ module _ (begin : ℕ) (rules : List Rule) (number : ℕ) (text rest : List ℕ)
       let w = width_le rule taken in
       omega arith
 
-  pub so_far_more : (after taken : List ℕ) (end : ℕ) (new : TreeBuilder) (rule : Rule) → IsUtf8 rest → IsUtf8 after → IsFirstFit (chars rest) rules rule taken (chars after) → end ≡ at + width rule taken → refusal rule at taken (chars after) ≡ None → Grows at nest new (items nest.source rule at taken (chars after)) → SoFar begin rules number text after end new
+  pub so_far_more : (after taken : List ℕ) (end : ℕ) (new : State) (rule : Rule) → IsUtf8 rest → IsUtf8 after → IsFirstFit (chars rest) rules rule taken (chars after) → end ≡ at + width rule taken → refusal rule at taken (chars after) ≡ None → Grows at nest new (items nest.source rule at taken (chars after)) → SoFar begin rules number text after end new
   so_far_more after taken end new rule u v d e m g =
       let p = place_fits rule after taken u v d in
-      let h : Holds number 256 new.«open».items new.trees (s.all ++ items number rule at taken (chars after)) = subst (λ w. Holds w 256 new.«open».items new.trees (s.all ++ items w rule at taken (chars after))) s.same_source (g.holds s.all (subst (λ w. Holds w 256 nest.«open».items nest.trees s.all) (sym s.same_source) s.holds)) in
+      let h : HoldsAll number new (s.all ++ items number rule at taken (chars after)) = subst (λ w. HoldsAll w new (s.all ++ items w rule at taken (chars after))) s.same_source (g.holds s.all (subst (λ w. HoldsAll w nest s.all) (sym s.same_source) s.holds)) in
       record {
         short = omega arith;
         same_source = g.same_source ∙ s.same_source;
-        reached = reached_later new.«open».items at end (omega arith) (g.reached s.reached);
+        reached = reached_later new.groups at end (omega arith) (g.reached s.reached);
         all = s.all ++ items number rule at taken (chars after);
         cut = recut refl (sym e) refl (cut_more s.cut d m);
         holds = h;
@@ -89,32 +89,34 @@ module _ (begin : ℕ) (rules : List Rule) (number : ℕ) (text rest : List ℕ)
       record {
         short = omega arith;
         same_source = s.same_source;
-        reached = reached_later nest.«open».items at end (omega arith) s.reached;
+        reached = reached_later nest.groups at end (omega arith) s.reached;
         all = s.all;
         cut = recut (append-nil s.all) (sym e) refl (cut_then s.cut (subst (λ w. Cut w number at (chars rest) [] (at + (length rest - length after)) (chars after)) (sym is) (blank every number at)));
         holds = s.holds;
       }
 
-  reads_held : (all : List Item) → Cut rules number begin (chars text) all at [] → (groups : List OpenGroup) (f : Forest) → groups ≡ [] → Holds number 256 groups f all → ReadsFrom begin rules number (chars text) f
-  reads_held all c groups f o (last d k) = (d, (all, k, (at, c)))
-  reads_held all c groups f o (outer d k h) = absurd (cc)
+  pub paired : IsPaired nest
+  paired = paired_of s.holds
 
-  pub reads_all : chars rest ≡ [] → nest.«open».items ≡ [] → ReadsFrom begin rules number (chars text) nest.trees
-  reads_all e o = reads_held s.all (recut refl refl e s.cut) nest.«open».items nest.trees o s.holds
+  reads_held : (all : List Item) → Cut rules number begin (chars text) all at [] → (groups : List (Delimiter × ℕ)) (levels : List Forest) (f : Forest) → groups ≡ [] → Holds number 256 groups levels f all → (levels ≡ []) × ReadsFrom begin rules number (chars text) f
+  reads_held all c groups levels f o (last d k) = (refl, (d, (all, k, (at, c))))
+  reads_held all c groups levels f o (outer d k h) = absurd (cc)
 
-  refused : (error : LexError) → error.source ≡ nest.source → Refuses rules (levels_of nest.«open».items) at (chars rest) error.refusal error.at → IsRefusedFrom begin rules number (chars text) error
-  refused error e r = (e ∙ s.same_source, (s.all, at, chars rest, levels_of nest.«open».items, s.cut, opens_of s.holds, r))
+  pub reads_all : chars rest ≡ [] → nest.groups ≡ [] → (nest.levels.outer ≡ []) × ReadsFrom begin rules number (chars text) nest.levels.inner
+  reads_all e o = reads_held s.all (recut refl refl e s.cut) nest.groups nest.levels.outer nest.levels.inner o s.holds
 
-  pub refused_unclosed : (fewer : List OpenGroup) (group : OpenGroup) (error : LexError) → chars rest ≡ [] → nest.«open».items ≡ fewer ++ group ∷ [] → error ≡ record { refusal = UnclosedGroup; source = number; at = group.start } → IsRefusedFrom begin rules number (chars text) error
+  refused : (error : LexError) → error.source ≡ nest.source → Refuses rules nest.groups at (chars rest) error.refusal error.at → IsRefusedFrom begin rules number (chars text) error
+  refused error e r = (e ∙ s.same_source, (s.all, at, chars rest, nest.groups, s.cut, opens_of s.holds, r))
+
+  pub refused_unclosed : (fewer : List (Delimiter × ℕ)) (group : Delimiter × ℕ) (error : LexError) → chars rest ≡ [] → nest.groups ≡ fewer ++ group ∷ [] → error ≡ record { refusal = UnclosedGroup; source = number; at = group.1 } → IsRefusedFrom begin rules number (chars text) error
   refused_unclosed fewer group error e o is =
-      let level : levels_of nest.«open».items ≡ levels_of fewer ++ (group.delimiter, group.start) ∷ [] = ap levels_of o ∙ map-append _ fewer (group ∷ []) in
-      refused error (ap (λ w. w.source) is ∙ sym s.same_source) (subst (λ w. Refuses rules (levels_of nest.«open».items) at (chars rest) w.refusal w.at) (sym is) (unclosed group.delimiter (levels_of fewer) e level))
+      refused error (ap (λ w. w.source) is ∙ sym s.same_source) (subst (λ w. Refuses rules nest.groups at (chars rest) w.refusal w.at) (sym is) (unclosed group.0 fewer e o))
 
   -- a fault at the next piece
   pub fault_here : (taken after : List ℕ) (rule : Rule) (fault : LexFault) → IsFirstFit (chars rest) rules rule taken after → OnRefused fault (HaltsAt nest rule at taken after) → OnRefused fault (IsRefusedFrom begin rules number (chars text))
   fault_here taken after rule Memory d h = tt
   fault_here taken after rule (Refused error) d (from, place, why) =
-      refused error from (subst (λ w. Refuses rules (levels_of nest.«open».items) at (chars rest) error.refusal w) (sym place) (refuses rules (levels_of nest.«open».items) rule at error.refusal (chars rest) taken after d why))
+      refused error from (subst (λ w. Refuses rules nest.groups at (chars rest) error.refusal w) (sym place) (refuses rules nest.groups rule at error.refusal (chars rest) taken after d why))
 
 pub ends_in_other : (rules : Rules) → EndsInOther (rules_of rules)
 ends_in_other Plain = refl
@@ -128,16 +130,16 @@ all_tried [] (c ∷ text) ends before = cc
 all_tried (r ∷ rules) (c ∷ text) ends before =
     absurd (before.none (length (r ∷ rules) - 1) Whitespace (omega arith) (omega arith) (subst (λ w. HasPrefix (Spells w) (c ∷ text)) (sym ends) (c ∷ [], text, refl, (c, refl, refl))))
 
-pub so_far_start : (begin : ℕ) (rules : List Rule) (number : ℕ) (text : List ℕ) (nest : TreeBuilder) → nest.source ≡ number → nest.«open».items ≡ [] → nest.trees ≡ no_trees → SoFar begin rules number text text begin nest
+pub so_far_start : (begin : ℕ) (rules : List Rule) (number : ℕ) (text : List ℕ) (nest : State) → nest.source ≡ number → nest.groups ≡ [] → nest.levels ≡ nothing → SoFar begin rules number text text begin nest
 so_far_start begin rules number text nest n o t = record {
   short = omega arith;
   same_source = n;
   reached = subst (λ w. Reached w begin) (sym o) tt;
   all = [];
   cut = stop;
-  holds = subst (λ w. Holds number 256 w nest.trees []) (sym o) (subst (λ w. Holds number 256 [] w []) (sym t) (last (omega arith) no_items));
+  holds = subst (λ w. Holds number 256 w nest.levels.outer nest.levels.inner []) (sym o) (subst (λ w. Holds number 256 [] w.outer w.inner []) (sym t) (last (omega arith) no_items));
 }
 
-pub none_left : (groups : List OpenGroup) (n : ℕ) → n ≡ 0 → n ≡ length groups → groups ≡ []
+pub none_left : (groups : List (Delimiter × ℕ)) (n : ℕ) → n ≡ 0 → n ≡ length groups → groups ≡ []
 none_left [] n z l = refl
 none_left (group ∷ groups) n z l = absurd (omega arith)

@@ -2,7 +2,7 @@
 use Rattle.std.proofs.Common.{◌≡◌, ◌∙◌, ℕ, List, sym, ap, subst, Ok, Err, Result}
 use Rattle.std.specs.Prelude.{Option, Some, None, true}
 use Rattle.std.specs.Result.{IfErr}
-use Rattle.tok_core.specs.Private.Built.{Halts, by_meaning, unfit, deep, HaltsAt, IsTooDeep, IsUnfit, levels_of}
+use Rattle.tok_core.specs.Private.Built.{Halts, by_meaning, unfit, deep, State, HaltsAt, IsTooDeep, IsUnfit}
 use Rattle.tok_core.specs.Lexical.Errors.{OnRefused}
 use Rattle.tok_lexical.specs.Refusals.{refusal}
 use Rattle.tok_core.specs.Lexical.Meaning.{opens_group}
@@ -13,13 +13,12 @@ use Rattle.tok_core.specs.declared.lexer.error.LexError.{LexError}
 use Rattle.tok_core.specs.declared.lexer.error.LexFault.{LexFault}
 use Rattle.tok_core.specs.declared.lexer.error.LexFault.TheVariants.{Refused, Memory}
 use Rattle.tok_lexical.specs.declared.reason.Reason.{Reason}
-use Rattle.tok_core.specs.declared.lexer.nest.TreeBuilder.{TreeBuilder}
 use Rattle.tok_lexical.specs.declared.rule.Rule.{Rule}
 use Rattle.tok_lexical.specs.declared.rule.Rule.TheVariants.{Closing}
 
-module _ (nest : TreeBuilder) (rule : Rule) (at : ℕ) (piece after : List ℕ) where
-  halts_at : (error : LexError) (why : Reason) → error ≡ record { refusal = why; source = nest.source; at = at } → Halts (levels_of nest.«open».items) rule at piece after why → HaltsAt nest rule at piece after error
-  halts_at error why e h = (ap (λ w. w.source) e, ap (λ w. w.at) e, subst (λ w. Halts (levels_of nest.«open».items) rule at piece after w.refusal) (sym e) h)
+module _ (nest : State) (rule : Rule) (at : ℕ) (piece after : List ℕ) where
+  halts_at : (error : LexError) (why : Reason) → error ≡ record { refusal = why; source = nest.source; at = at } → Halts nest.groups rule at piece after why → HaltsAt nest rule at piece after error
+  halts_at error why e h = (ap (λ w. w.source) e, ap (λ w. w.at) e, subst (λ w. Halts nest.groups rule at piece after w.refusal) (sym e) h)
 
   pub halts_meaning : (error : LexError) (why : Reason) (found : Option Reason) → error ≡ record { refusal = why; source = nest.source; at = at } → found ≡ refusal rule at piece after → found ≡ Some why → HaltsAt nest rule at piece after error
   halts_meaning error why found e f s = halts_at error why e (by_meaning (sym f ∙ s))

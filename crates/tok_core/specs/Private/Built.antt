@@ -1,6 +1,7 @@
 -- What is known in the middle of a text: the rules tried so far, and the trees so far.
-use Rattle.std.specs.Prelude.{◌≡◌, ℕ, suc, ◌+◌, ◌-◌, ◌≤◌, List, [], ◌∷◌, ◌++◌, length, map}
+use Rattle.std.specs.Prelude.{◌≡◌, ℕ, suc, ◌+◌, ◌-◌, ◌≤◌, List, [], ◌∷◌, ◌++◌, length}
 use Rattle.std.specs.Prelude.{Some, None, true, slice_index_or}
+use Rattle.tok_core.specs.Building.{Levels}
 use Rattle.tok_core.specs.Forest.{Forest}
 use Rattle.tok_core.specs.Lexical.Items.{Item, opening, Flat, depth, IsOpenBy}
 use Rattle.tok_lexical.specs.Refusals.{refusal}
@@ -14,8 +15,7 @@ use Rattle.tok_lexical.specs.declared.rule.Rule.TheVariants.{Whitespace, Closing
 use Rattle.tok_lexical.specs.declared.reason.Reason.{Reason}
 use Rattle.tok_lexical.specs.declared.reason.Reason.TheVariants.{UnexpectedClosing, DeepGroup}
 use Rattle.tok_core.specs.declared.lexer.error.LexError.{LexError}
-use Rattle.tok_core.specs.declared.lexer.nest.OpenGroup.{OpenGroup}
-use Rattle.tok_core.specs.declared.lexer.nest.TreeBuilder.{TreeBuilder}
+use Rattle.tok_core.specs.declared.lexer.nest.Nest.{Nest}
 
 -- the last rule takes any character
 abbrev pub EndsInOther : List Rule → Type 0
@@ -27,29 +27,45 @@ abbrev pub IsBlank : List ℕ → List ℕ → ℕ → Type 0
 IsBlank text rest n =
     (rules : Rules) (number at : ℕ) → Cut (rules_of rules) number at text [] (at + n) rest
 
--- the groups that are open, outermost first
-abbrev pub levels_of : List OpenGroup → List (Delimiter × ℕ)
-levels_of groups = map (λ g. (g.delimiter, g.start)) groups
+-- the groups that are open, outermost first, and what is built so far
+pub record State : Type 0 where
+  pub source : ℕ
+  pub groups : List (Delimiter × ℕ)
+  pub levels : Levels
+
+abbrev pub state : {B : Type 0} → (B → Levels) → Nest B → State
+state levels nest =
+    record { source = nest.source; groups = nest.«open».items; levels = levels nest.built }
+
+-- there are trees before each open group
+abbrev pub IsPaired : State → Type 0
+IsPaired s = length s.groups ≡ length s.levels.outer
 
 -- the items of the trees so far: before each open group, and at the innermost level
-pub data Holds (number : ℕ) : ℕ → List OpenGroup → Forest → List Item → Type 0 where
+pub data Holds (number : ℕ) :
+    ℕ → List (Delimiter × ℕ) → List Forest → Forest → List Item → Type 0 where
   last : {n : ℕ} {f : Forest} {all : List Item} → depth f ≤ n → Flat number f all →
-      Holds number n [] f all
-  outer : {n : ℕ} {g : OpenGroup} {groups : List OpenGroup} {f : Forest} {before all : List Item} →
-      depth g.before ≤ suc n → Flat number g.before before → Holds number n groups f all →
-      Holds number (suc n) (g ∷ groups) f (before ++ opening g.delimiter g.start ∷ all)
+      Holds number n [] [] f all
+  outer : {n start : ℕ} {delimiter : Delimiter} {groups : List (Delimiter × ℕ)}
+      {earlier f : Forest} {levels : List Forest} {before all : List Item} →
+      depth earlier ≤ suc n → Flat number earlier before → Holds number n groups levels f all →
+      Holds number (suc n) ((delimiter, start) ∷ groups) (earlier ∷ levels) f
+      (before ++ opening delimiter start ∷ all)
+
+abbrev pub HoldsAll : ℕ → State → List Item → Type 0
+HoldsAll number s all = Holds number 256 s.groups s.levels.outer s.levels.inner all
 
 -- the open groups begin at this byte or before it
-abbrev pub Reached : List OpenGroup → ℕ → Type 0
+abbrev pub Reached : List (Delimiter × ℕ) → ℕ → Type 0
 Reached [] at = Unit {0}
-Reached (g ∷ groups) at = (g.start ≤ at) × Reached groups at
+Reached (g ∷ groups) at = (g.1 ≤ at) × Reached groups at
 
 -- a piece at this byte adds these items
-pub record Grows (at : ℕ) (old new : TreeBuilder) (more : List Item) : Type 0 where
+pub record Grows (at : ℕ) (old new : State) (more : List Item) : Type 0 where
   pub same_source : new.source ≡ old.source
-  pub reached : Reached old.«open».items at → Reached new.«open».items at
-  pub holds : (all : List Item) → Holds old.source 256 old.«open».items old.trees all →
-      Holds old.source 256 new.«open».items new.trees (all ++ more)
+  pub reached : Reached old.groups at → Reached new.groups at
+  pub holds : (all : List Item) → HoldsAll old.source old all →
+      HoldsAll old.source new (all ++ more)
 
 -- why this piece is refused, with these groups open
 pub data Halts (levels : List (Delimiter × ℕ)) (rule : Rule) (at : ℕ)
@@ -62,17 +78,17 @@ pub data Halts (levels : List (Delimiter × ℕ)) (rule : Rule) (at : ℕ)
       length levels ≡ 256 → Halts levels rule at piece after DeepGroup
 
 -- an error at this byte for a reason why this piece is refused
-abbrev pub HaltsAt : TreeBuilder → Rule → ℕ → List ℕ → List ℕ → LexError → Type 0
-HaltsAt nest rule at piece after error =
-    (error.source ≡ nest.source) × (error.at ≡ at)
-    × Halts (levels_of nest.«open».items) rule at piece after error.refusal
+abbrev pub HaltsAt : State → Rule → ℕ → List ℕ → List ℕ → LexError → Type 0
+HaltsAt s rule at piece after error =
+    (error.source ≡ s.source) × (error.at ≡ at)
+    × Halts s.groups rule at piece after error.refusal
 
-abbrev pub IsTooDeep : TreeBuilder → ℕ → LexError → Type 0
-IsTooDeep nest at error =
-    (error ≡ record { refusal = DeepGroup; source = nest.source; at = at })
-    × (length (levels_of nest.«open».items) ≡ 256)
+abbrev pub IsTooDeep : State → ℕ → LexError → Type 0
+IsTooDeep s at error =
+    (error ≡ record { refusal = DeepGroup; source = s.source; at = at })
+    × (length s.groups ≡ 256)
 
-abbrev pub IsUnfit : TreeBuilder → Delimiter → ℕ → LexError → Type 0
-IsUnfit nest delimiter at error =
-    (error ≡ record { refusal = UnexpectedClosing; source = nest.source; at = at })
-    × (IsOpenBy (levels_of nest.«open».items) delimiter → ⊥)
+abbrev pub IsUnfit : State → Delimiter → ℕ → LexError → Type 0
+IsUnfit s delimiter at error =
+    (error ≡ record { refusal = UnexpectedClosing; source = s.source; at = at })
+    × (IsOpenBy s.groups delimiter → ⊥)

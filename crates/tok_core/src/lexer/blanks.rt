@@ -8,6 +8,8 @@ use tok_lexical::comments::{opens_block_doc, opens_line_doc, past_block, past_li
 use tok_lexical::text::past_char;
 
 /// What follows the white space and the comments at the front. A doc comment stays, and a comment that isn't closed.
+// Inlined: the loop over pieces is made twice, for trees and for entries, and a call in each would cost every piece.
+#[inline(always)]
 pub fn past_blanks(text: &str) -> &str
     ensures blank { IsBlank (chars text.now) (chars result.now)
         (length text.now - length result.now) }
@@ -21,6 +23,7 @@ pub fn past_blanks(text: &str) -> &str
 }
 
 /// What follows the comments at the front, with the white space after each.
+#[inline(never)]
 fn past_comments(text: &str) -> &str
     ensures blank { IsBlank (chars text.now) (chars result.now)
         (length text.now - length result.now) }

@@ -1,8 +1,7 @@
-// The trees so far, with the groups that are open.
+// What is built so far, with the groups that are open.
 ghost use Rattle.std.specs.Prelude.{◌≡◌, ℕ, ◌+◌, ◌<◌, ◌≤◌, ◌^◌, ◌∷◌, [], IfErr, OnOk, None, if◌then◌else◌, true};
 ghost use Rattle.std.specs.Str.{chars};
-ghost use Rattle.tok_core.specs.Forest.{no_trees};
-ghost use Rattle.tok_core.specs.Private.Built.{Grows, Reached, HaltsAt, IsTooDeep, IsUnfit};
+ghost use Rattle.tok_core.specs.Private.Built.{state, Grows, Reached, IsPaired, HaltsAt, IsTooDeep, IsUnfit};
 ghost use Rattle.tok_core.specs.Lexical.Errors.{OnRefused};
 ghost use Rattle.tok_core.specs.Lexical.Items.{opening, closing};
 ghost use Rattle.tok_lexical.specs.Refusals.{refusal};
@@ -10,12 +9,10 @@ ghost use Rattle.tok_core.specs.Lexical.Meaning.{items, ident_item, literal_item
 ghost use Rattle.tok_lexical.specs.Widths.{bytes, width};
 ghost use Rattle.tok_lexical.specs.Rules.{Spells};
 
-use crate::group::Group;
 use crate::lexer::attribute::append_doc;
+use crate::lexer::build::Build;
 use crate::lexer::error::{LexError, LexFault};
-use crate::stream::{TokenStream, TokenTree};
 use std::alloc::{AllocError, Global};
-use std::mem;
 use tok_leaves::{Spacing, Span, Text, unchecked};
 use tok_lexical::comments::{
     block_doc_text, is_block_doc, is_inner_doc, is_line_doc, line_doc_text,
@@ -24,21 +21,13 @@ use tok_lexical::joint::{makes_joint, makes_joint_apostrophe, past_marks, takes_
 use tok_lexical::text::{first_of, past_first, up_to};
 use tok_lexical::{Delimiter, Reason, Rule, refusal};
 
-/// A group that isn't closed yet, and the trees before it at its level.
+/// What is built so far, and the groups that are open, outermost first: the delimiter of each, and where it begins.
 #[derive(Drop)]
-pub struct OpenGroup {
-    pub delimiter: Delimiter,
-    pub start: usize,
-    pub before: TokenStream,
-}
-
-/// The trees so far: those of the innermost level, and the groups that are open, outermost first.
-#[derive(Drop)]
-pub struct TreeBuilder {
+pub struct Nest<B> {
     pub alloc: Global,
     pub source: u32,
-    pub open: Vec<OpenGroup>,
-    pub trees: TokenStream,
+    pub open: Vec<(Delimiter, usize)>,
+    pub built: B,
 }
 
 fn spacing(is_joint: bool) -> Spacing
@@ -51,17 +40,17 @@ fn spacing(is_joint: bool) -> Spacing
     }
 }
 
-impl TreeBuilder {
-    pub fn new(alloc: Global, source: u32) -> TreeBuilder
+impl<B: Build + Drop> Nest<B> {
+    pub fn new(alloc: Global, source: u32, built: B) -> Nest<B>
         ensures source { result.source ≡ source }
         ensures open { result.«open».items ≡ [] }
-        ensures trees { result.trees ≡ no_trees }
+        ensures built { result.built ≡ built }
     {
-        TreeBuilder {
+        Nest {
             alloc,
             source,
             open: Vec::new(alloc),
-            trees: TokenStream::new(alloc),
+            built,
         }
     }
 
@@ -69,11 +58,11 @@ impl TreeBuilder {
         requires fits { at + 1 < 2 ^ 64 }
         ensures { (from : ℕ)
             → OnOk result
-            (Grows from self.old self.new (punct_item self.old.source at ch is_joint ∷ [])) }
+            (Grows from (state B.levels self.old) (state B.levels self.new) (punct_item self.old.source at ch is_joint ∷ [])) }
     {
         let span = Span::source(self.source, at, at + 1);
         let punct = unchecked::punct(ch, spacing(is_joint), span);
-        self.trees.append(TokenTree::Punct(punct))?;
+        self.built.punct(punct)?;
         Ok(())
     }
 
@@ -83,13 +72,12 @@ impl TreeBuilder {
         requires order { start ≤ end }
         ensures { (at : ℕ)
             → OnOk result
-            (Grows at self.old self.new
+            (Grows at (state B.levels self.old) (state B.levels self.new)
             (ident_item self.old.source start end (chars text.now) ∷ [])) }
     {
         let text = Text::from_str(self.alloc, text)?;
         let span = Span::source(self.source, start, end);
-        self.trees
-            .append(TokenTree::Ident(unchecked::ident(text, span)))?;
+        self.built.ident(unchecked::ident(text, span))?;
         Ok(())
     }
 
@@ -98,13 +86,12 @@ impl TreeBuilder {
     fn literal(&mut self, start: usize, end: usize, text: &str) -> Result<(), AllocError>
         requires order { start ≤ end }
         ensures { OnOk result
-            (Grows start self.old self.new
+            (Grows start (state B.levels self.old) (state B.levels self.new)
             (literal_item self.old.source start end (chars text.now) ∷ [])) }
     {
         let text = Text::from_str(self.alloc, text)?;
         let span = Span::source(self.source, start, end);
-        self.trees
-            .append(TokenTree::Literal(unchecked::literal(text, span)))?;
+        self.built.literal(unchecked::literal(text, span))?;
         Ok(())
     }
 
@@ -115,7 +102,7 @@ impl TreeBuilder {
         requires fits { at + 1 < 2 ^ 64 }
         requires order { at + 1 ≤ end }
         ensures { OnOk result
-            (Grows at self.old self.new
+            (Grows at (state B.levels self.old) (state B.levels self.new)
             (punct_item self.old.source at 39 true
             ∷ ident_item self.old.source (at + 1) end (chars name.now) ∷ [])) }
     {
@@ -130,7 +117,7 @@ impl TreeBuilder {
         requires some { at < end }
         requires ends { end ≡ at + bytes (chars piece.now) }
         ensures { OnOk result
-            (Grows at self.old self.new
+            (Grows at (state B.levels self.old) (state B.levels self.new)
             (pointed_items self.old.source at (chars piece.now) (chars after.now))) }
     {
         if takes_point(after) {
@@ -148,9 +135,9 @@ impl TreeBuilder {
     fn doc(&mut self, at: usize, end: usize, is_inner: bool, text: &str) -> Result<(), LexFault>
         requires order { at ≤ end }
         ensures ok { OnOk result
-            (Grows at self.old self.new
+            (Grows at (state B.levels self.old) (state B.levels self.new)
             (doc_items self.old.source at end is_inner (chars text.now))) }
-        ensures refused { IfErr result (λ fault. OnRefused fault (IsTooDeep self.old at)) }
+        ensures refused { IfErr result (λ fault. OnRefused fault (IsTooDeep (state B.levels self.old) at)) }
     {
         let levels = self.open.len();
         if levels == 256 {
@@ -158,26 +145,21 @@ impl TreeBuilder {
             return Err(LexFault::Refused(error));
         }
         let span = Span::source(self.source, at, end);
-        append_doc(&mut self.trees, self.alloc, span, is_inner, text)?;
+        append_doc(&mut self.built, self.alloc, span, is_inner, text)?;
         Ok(())
     }
 
     /// A new innermost level, at most the 256th.
     fn open(&mut self, delimiter: Delimiter, at: usize) -> Result<(), LexFault>
-        ensures ok { OnOk result (Grows at self.old self.new (opening delimiter at ∷ [])) }
-        ensures refused { IfErr result (λ fault. OnRefused fault (IsTooDeep self.old at)) }
+        ensures ok { OnOk result (Grows at (state B.levels self.old) (state B.levels self.new) (opening delimiter at ∷ [])) }
+        ensures refused { IfErr result (λ fault. OnRefused fault (IsTooDeep (state B.levels self.old) at)) }
     {
         if self.open.len() == 256 {
             let error = LexError::new(Reason::DeepGroup, self.source, at);
             return Err(LexFault::Refused(error));
         }
-        let before = mem::replace(&mut self.trees, TokenStream::new(self.alloc));
-        let group = OpenGroup {
-            delimiter,
-            start: at,
-            before,
-        };
-        match self.open.push(group) {
+        self.built.open()?;
+        match self.open.push((delimiter, at)) {
             Ok(()) => Ok(()),
             Err(failed) => Err(AllocError::from(failed).into()),
         }
@@ -189,25 +171,19 @@ impl TreeBuilder {
     fn close(&mut self, delimiter: Delimiter, at: usize, end: usize) -> Result<(), LexFault>
         requires order { at ≤ end }
         requires reached { Reached self.old.«open».items at }
-        ensures ok { OnOk result (Grows at self.old self.new (closing delimiter end ∷ [])) }
-        ensures refused { IfErr result (λ fault. OnRefused fault (IsUnfit self.old delimiter at)) }
+        requires paired { IsPaired (state B.levels self.old) }
+        ensures ok { OnOk result (Grows at (state B.levels self.old) (state B.levels self.new) (closing delimiter end ∷ [])) }
+        ensures refused { IfErr result (λ fault. OnRefused fault (IsUnfit (state B.levels self.old) delimiter at)) }
     {
         let error = LexError::new(Reason::UnexpectedClosing, self.source, at);
-        let Some(group) = self.open.pop() else {
+        let Some((opened, start)) = self.open.pop() else {
             return Err(LexFault::Refused(error));
         };
-        if group.delimiter != delimiter {
+        if opened != delimiter {
             return Err(LexFault::Refused(error));
         }
-        let OpenGroup {
-            delimiter: _,
-            start,
-            before,
-        } = group;
-        let inside = mem::replace(&mut self.trees, before);
         let span = Span::source(self.source, start, end);
-        self.trees
-            .append(TokenTree::Group(Group::new(delimiter, inside, span)))?;
+        self.built.close(delimiter, span)?;
         Ok(())
     }
 
@@ -224,13 +200,14 @@ impl TreeBuilder {
         requires ends { end ≡ at + width rule (chars piece.now) }
         requires fits { at + 1 < 2 ^ 64 }
         requires reached { Reached self.old.«open».items at }
+        requires paired { IsPaired (state B.levels self.old) }
         ensures meant { OnOk result (refusal rule at (chars piece.now) (chars after.now) ≡ None) }
         ensures ok { OnOk result
-            (Grows at self.old self.new
+            (Grows at (state B.levels self.old) (state B.levels self.new)
             (items self.old.source rule at (chars piece.now) (chars after.now))) }
         ensures refused { IfErr result
             (λ fault. OnRefused fault
-            (HaltsAt self.old rule at (chars piece.now) (chars after.now))) }
+            (HaltsAt (state B.levels self.old) rule at (chars piece.now) (chars after.now))) }
     {
         if let Some(refusal) = refusal(rule, at, piece, after) {
             let error = LexError::new(refusal, self.source, at);

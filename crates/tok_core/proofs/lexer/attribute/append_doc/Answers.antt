@@ -1,7 +1,16 @@
-use Rattle.std.proofs.Common.{ap}
-use Rattle.tok_core.specs.Forest.{leaf}
-use Rattle.tok_core.proofs.Facts.{three_parts}
+use Rattle.std.proofs.Common.{◌∙◌, ap}
+use Rattle.tok_core.specs.Building.{add_forest, add_leaf}
+use Rattle.tok_core.specs.Forest.{tree, no_trees, concat}
+use Rattle.tok_core.specs.Private.Attribute.{bang, doc_group}
+use Rattle.std.specs.Str.{chars}
+use Rattle.tok_core.proofs.Facts.{joined_assoc}
 use Rattle.tok_core.proofs.lexer.attribute.append_doc.Goals as goal
 
 pub returns : goal.returns
-returns c = three_parts c.args.trees.now c.append.new.self c.append_bang.new.trees _ _ _ _ _ _ c.in_ok-append.ensures.ok (ap leaf c.punct.ensures) c.in_ok-append_bang.ensures c.in_ok-append-2.ensures.ok c.in_ok-group.ensures
+returns g c =
+    let old = g.B.Build.levels c.args.built.now in
+    let between = bang c.args.span c.args.is_inner in
+    let last = tree (doc_group c.args.span (chars c.args.text.now)) no_trees in
+    c.in_ok-append_group.ensures
+    ∙ ap (add_forest last) (c.in_ok-append_bang.ensures ∙ ap (add_forest between) (c.in_ok-punct.ensures ∙ ap (λ l. add_leaf l old) c.punct.ensures))
+    ∙ ap (λ f. record { outer = old.outer; inner = f }) (joined_assoc _ between last ∙ joined_assoc old.inner _ (concat between last))

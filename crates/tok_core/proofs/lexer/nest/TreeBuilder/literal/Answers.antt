@@ -1,6 +1,0 @@
-use Rattle.std.proofs.Common.{refl}
-use Rattle.tok_core.proofs.Lexical.Nests.{grows_literal}
-use Rattle.tok_core.proofs.lexer.nest.TreeBuilder.literal.Goals as goal
-
-pub returns : goal.returns
-returns c = grows_literal c.args.start c.args.self.now _ refl refl _ c.in_ok-append.ensures.ok c.source-span.result c.args.start c.args.end _ c.args.text.now c.literal.ensures c.in_ok-text.ensures c.utf8.text c.source-span.ensures

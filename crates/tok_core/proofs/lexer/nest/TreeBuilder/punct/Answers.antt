@@ -1,6 +1,0 @@
-use Rattle.std.proofs.Common.{refl}
-use Rattle.tok_core.proofs.Lexical.Nests.{grows_punct}
-use Rattle.tok_core.proofs.lexer.nest.TreeBuilder.punct.Goals as goal
-
-pub returns : goal.returns
-returns c = λ from. grows_punct from c.args.self.now _ refl refl _ c.in_ok-append.ensures.ok c.source-span.result c.args.at c.args.ch c.args.is_joint c.spacing.result c.punct-punct.ensures c.spacing.ensures c.source-span.ensures

@@ -1,0 +1,38 @@
+-- What a builder holds in the middle of a text: the trees before each group that is open, outermost
+-- first, and those of the innermost level.
+use Rattle.std.specs.Prelude.{◌≡◌, List, [], ◌∷◌, ◌++◌, refl}
+use Rattle.std.specs.Coded.{Coded, code_by, coded×, coded_list}
+use Rattle.tok_lexical.specs.declared.delimiter.Delimiter.{Delimiter}
+use Rattle.tok_leaves.specs.declared.span.Span.{Span}
+use Rattle.tok_leaves.specs.Leaves.{Leaf}
+use Rattle.tok_core.specs.Code.{forest_code}
+use Rattle.tok_core.specs.Forest.{leaf, group, Forest, no_trees, tree, concat}
+
+pub record Levels : Type 0 where
+  pub outer : List Forest
+  pub inner : Forest
+
+abbrev pub levels_code : Coded Levels
+levels_code =
+    code_by (List Forest × Forest) (coded× (coded_list forest_code) forest_code)
+    (λ s. (s.outer, s.inner)) (λ p. record { outer = p.0; inner = p.1 }) (λ _. refl)
+
+abbrev pub nothing : Levels
+nothing = record { outer = []; inner = no_trees }
+
+-- these trees are put at the end of the innermost level
+abbrev pub add_forest : Forest → Levels → Levels
+add_forest f s = record { outer = s.outer; inner = concat s.inner f }
+
+abbrev pub add_leaf : Leaf → Levels → Levels
+add_leaf l s = add_forest (tree (leaf l) no_trees) s
+
+-- a new innermost level
+abbrev pub opened : Levels → Levels
+opened s = record { outer = s.outer ++ s.inner ∷ []; inner = no_trees }
+
+-- the innermost level becomes a group at the end of the one before
+abbrev pub Closes : Delimiter → Span → Levels → Levels → Type 0
+Closes delimiter span old new =
+    (f : Forest) × (old.outer ≡ new.outer ++ f ∷ [])
+    × (new.inner ≡ concat f (tree (group delimiter old.inner span) no_trees))
