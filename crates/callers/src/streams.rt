@@ -134,6 +134,7 @@ pub fn optional_field(input: ParseStream<'_, '_>) -> Result<Option<Field>>
 /// How many names one entry has, a name or a list of entries in parentheses: 3 in `(a (b) ((c)))`. It counts up to
 /// `u64::MAX` names. Where an error leaves the stream isn't specified.
 #[cycle(nested)]
+#[tactic(auto, unfolding(syn_parse::specs::Reads::Does))]
 pub fn count_names(input: ParseStream<'_, '_>) -> Result<u64>
     ensures counts { CountsEntry input.old result input.new }
     ensures lowers { IfOk result (λ _. remaining input.new.place < remaining input.old.place) }

@@ -7,8 +7,14 @@ ghost use Rattle.tok_types.specs.Delimiters.{delimiter_at};
 ghost use Rattle.syn_parse.specs.Groups.{AreParts, Enters, IsAfter, RunsWithin};
 ghost use Rattle.syn_parse.specs.State.{content_of};
 ghost use Rattle.syn_parse.specs.RefusalWords.{delimiter_words, refused_at};
+ghost use Rattle.syn_parse.specs.Reads.{Does};
+ghost use Rattle.syn_parse.specs.Grouped.{grouped};
+ghost use Rattle.syn_parse.specs.Takes.{RunsAhead};
+ghost use Rattle.syn_parse.specs.Takings.{Keeps};
+ghost use Rattle.tok_buffer.specs.View.{IsVisibleDelimiter};
 
 use crate::fault::Result;
+use crate::parse::Parse;
 use crate::stream::{ParseBuffer, ParseStream};
 use crate::words::words_of;
 use tok_core::{DelimSpan, Delimiter};
@@ -134,6 +140,37 @@ impl<'a> ParseBuffer<'a> {
     ///
     ///     let (span, name) = input.within(Delimiter::Parenthesis, |content| content.parse::<Ident>())?;
     pub fn within<F, R>(&mut self, delimiter: Delimiter, f: F) -> Result<(DelimSpan, R)>
+    where
+        F: FnOnce(ParseStream<'_, 'a>) -> Result<R>,
+        requires { (e : Entered) → enter delimiter self.old.place ≡ Some e
+            → FnOnceTakesAtMut F.FnOnce f (content_of e) }
+        ensures runs { Does (λ s. RunsWithin (FnOnceReturnsAtMut F.FnOnce f)
+            (enter delimiter s.place) (refused_at s (delimiter_words delimiter)) s) self.old result
+            self.new }
+        ensures takes { RunsAhead (FnOnceReturnsAtMut F.FnOnce f) delimiter self.old result
+            self.new }
+        ensures after { IfOk result (λ _. IsAfter (enter delimiter self.old.place) self.new.place) }
+    {
+        self.run_within(delimiter, f)
+    }
+
+    /// Parses a value within a group of this delimiter, as `within` does by `T::parse`.
+    ///
+    ///     let (span, name) = input.parse_within::<Ident>(Delimiter::Parenthesis)?;
+    pub fn parse_within<T: Parse>(&mut self, delimiter: Delimiter) -> Result<(DelimSpan, T)>
+        requires { IsVisibleDelimiter delimiter }
+        ensures { Keeps (grouped delimiter T.takes) self.old result self.new }
+    {
+        self.run_within(
+            delimiter,
+            |content|
+                ensures { Keeps T.takes content.old result content.new }
+            { T::parse(content) },
+        )
+    }
+
+    // What `within` does.
+    fn run_within<F, R>(&mut self, delimiter: Delimiter, f: F) -> Result<(DelimSpan, R)>
     where
         F: FnOnce(ParseStream<'_, 'a>) -> Result<R>,
         requires { (e : Entered) → enter delimiter self.old.place ≡ Some e

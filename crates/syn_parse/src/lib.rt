@@ -17,6 +17,7 @@ mod step;
 mod stream;
 mod tokens;
 mod trees;
+mod whole;
 mod words;
 
 pub use ext::{IdentExt, LifetimeExt};
@@ -32,3 +33,4 @@ pub use step::StepCursor;
 pub use stream::paused::Paused;
 pub use stream::{ParseBuffer, ParseStream, tokens_to_parse_buffer};
 pub use tokens::Nothing;
+pub use whole::{parse_both, parse_str, parse2};

@@ -1,7 +1,10 @@
 // Values that are parsed, and peeks.
 ghost use Rattle.std.specs.Prelude.{Result, codes};
-ghost use Rattle.syn_parse.specs.Reads.{BoxParses, OptionParses, Peeks2, Peeks3};
+ghost use Rattle.syn_parse.specs.Reads.{BoxParses, Does, OptionParses, Peeks2, Peeks3};
 ghost use Rattle.syn_parse.specs.State.{State};
+ghost use Rattle.syn_parse.specs.Takings.{Keeps, Takings, boxed, untold};
+ghost use Rattle.syn_parse.specs.Optional.{optional};
+ghost use Rattle.tok_types.specs.Sees.{Sees};
 ghost use Rattle.syn_parse.specs.declared.fault.Fault.{Fault};
 
 use crate::fault::Result;
@@ -20,22 +23,28 @@ pub trait Parse: Sized {
     // nothing.
     ghost parses: { State → Result Self Fault → State → Type 0 } = { λ _ _ _. Unit {0} };
 
+    // What is taken of the visible trees ahead, invisible groups aside.
+    ghost takes: { Takings Self } = { untold };
+
     /// Parses a value, and leaves the stream after it.
     fn parse(input: ParseStream<'_, '_>) -> Result<Self>
-        ensures { parses input.old result input.new };
+        ensures reads { parses input.old result input.new }
+        ensures takes { Keeps takes input.old result input.new };
 }
 
 impl<'a> ParseBuffer<'a> {
     /// Parses a value of this type: `let name: Ident = input.parse()?;`.
     pub fn parse<T: Parse>(&mut self) -> Result<T>
-        ensures { T.parses self.old result self.new }
+        ensures reads { Does T.parses self.old result self.new }
+        ensures takes { Keeps T.takes self.old result self.new }
     {
         T::parse(self)
     }
 
     /// Whether this token is next: `input.peek::<token::Comma>()`.
     pub fn peek<T: Token>(&self) -> bool
-        ensures { T.peeks self.now.place result }
+        ensures peeks { T.peeks self.now.place result }
+        ensures sees { Sees T.sees self.now.place result }
     {
         T::peek(self.cursor())
     }
@@ -68,6 +77,8 @@ impl<'a> ParseBuffer<'a> {
 impl<T: Parse + Token> Parse for Option<T> {
     ghost parses = { OptionParses T.peeks T.parses };
 
+    ghost takes = { optional T.sees T.takes };
+
     fn parse(input: ParseStream<'_, '_>) -> Result<Self> {
         if T::peek(input.cursor()) {
             Ok(Some(T::parse(input)?))
@@ -80,6 +91,8 @@ impl<T: Parse + Token> Parse for Option<T> {
 /// Parses a value into a box. Where the allocation fails the stream is after the value.
 impl<T: Parse + Drop> Parse for Box<T> {
     ghost parses = { BoxParses T.parses };
+
+    ghost takes = { boxed T.takes };
 
     fn parse(input: ParseStream<'_, '_>) -> Result<Self> {
         let alloc = input.allocator();

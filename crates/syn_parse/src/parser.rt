@@ -76,7 +76,7 @@ where
 }
 
 // The parser's refusal, or else that of a leftover, or else the value.
-fn settle<T: Drop>(parsed: Result<T>, input: ParseBuffer<'_>) -> Result<T>
+pub(crate) fn settle<T: Drop>(parsed: Result<T>, input: ParseBuffer<'_>) -> Result<T>
     ensures { Finishes parsed input.entry result }
 {
     match parsed {
@@ -92,7 +92,7 @@ fn settle<T: Drop>(parsed: Result<T>, input: ParseBuffer<'_>) -> Result<T>
 }
 
 // The refusal of a text that the lexer refuses.
-fn unread(alloc: Global, fault: LexFault) -> Fault
+pub(crate) fn unread(alloc: Global, fault: LexFault) -> Fault
     ensures { IsUnread fault result }
 {
     match fault {

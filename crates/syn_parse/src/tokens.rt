@@ -3,6 +3,9 @@ ghost use Rattle.std.specs.Prelude.{codes};
 ghost use Rattle.tok_types.specs.Printed.{first_span};
 ghost use Rattle.tok_types.specs.Texts.{keyword_text, punctuation_word};
 ghost use Rattle.syn_parse.specs.Parses.{NothingParses, PunctuationParses, WordParses};
+ghost use Rattle.syn_parse.specs.Takings.{lower, told};
+ghost use Rattle.syn_parse.specs.Tokens.{take_keyword, take_punctuation};
+ghost use Rattle.syn_parse.specs.Lighter.{lowers_keyword, lowers_punctuation};
 
 use crate::fault::Result;
 use crate::parse::Parse;
@@ -15,20 +18,41 @@ use tok_types::token::{Keyword, Punctuation, Underscore, keyword_text, punctuati
 impl<const K: usize> Parse for Keyword<K> {
     ghost parses = { WordParses (λ k. k.span) (keyword_text K) };
 
+    ghost takes = { told (λ v. v) (take_keyword K) (lower (lowers_keyword K)) };
+
     fn parse(input: ParseStream<'_, '_>) -> Result<Self> {
-        let span = keyword(input, keyword_text(K))?;
-        Ok(Keyword::new(span))
+        keyword_token(input)
     }
+}
+
+// What `Keyword::parse` does.
+fn keyword_token<const K: usize>(input: ParseStream<'_, '_>) -> Result<Keyword<K>>
+    ensures { WordParses (λ k. k.span) (keyword_text K) input.old result input.new }
+{
+    let span = keyword(input, keyword_text(K))?;
+    Ok(Keyword::new(span))
 }
 
 impl<const K: usize, const N: usize> Parse for Punctuation<K, N> {
     ghost parses = { PunctuationParses (λ p. p.spans) (punctuation_word K N)
         (punctuation_word K N) };
 
+    ghost takes = { told (λ v. v) (take_punctuation K N) (lower (lowers_punctuation K N)) };
+
     fn parse(input: ParseStream<'_, '_>) -> Result<Self> {
-        let spans = punct(input, punctuation_text(K))?;
-        Ok(Punctuation::new(spans))
+        punctuation_token(input)
     }
+}
+
+// What `Punctuation::parse` does.
+fn punctuation_token<const K: usize, const N: usize>(
+    input: ParseStream<'_, '_>,
+) -> Result<Punctuation<K, N>>
+    ensures { PunctuationParses (λ p. p.spans) (punctuation_word K N) (punctuation_word K N)
+        input.old result input.new }
+{
+    let spans = punct(input, punctuation_text(K))?;
+    Ok(Punctuation::new(spans))
 }
 
 impl Parse for Underscore {

@@ -3,6 +3,9 @@ ghost use Rattle.std.specs.Prelude.{◌≡◌, is_some};
 ghost use Rattle.tok_buffer.specs.Cursors.{place_of};
 ghost use Rattle.syn_parse.specs.Parses as spec;
 ghost use Rattle.syn_parse.specs.Parses.{GroupParses, IdentParses, LifetimeParses, LiteralParses, PunctParses, RestParses, TreeParses};
+ghost use Rattle.syn_parse.specs.Takings.{lower, told};
+ghost use Rattle.syn_parse.specs.Tokens.{take_ident, take_literal};
+ghost use Rattle.syn_parse.specs.Lighter.{lowers_ident, lowers_literal};
 
 use crate::fault::Result;
 use crate::parse::Parse;
@@ -15,18 +18,27 @@ use tok_types::accept_as_ident;
 impl Parse for Ident {
     ghost parses = { IdentParses };
 
+    ghost takes = { told (λ v. v) take_ident (lower lowers_ident) };
+
     fn parse(input: ParseStream<'_, '_>) -> Result<Self> {
-        let Some((ident, rest)) = input.cursor().ident() else {
-            return Err(input.error("expected identifier"));
-        };
-        let name = ident.as_str();
-        if !accept_as_ident(name) {
-            return Err(input.error(format_args!("expected identifier, found keyword `{name}`")));
-        }
-        let ident = ident.clone()?;
-        input.move_to(rest);
-        Ok(ident)
+        ident(input)
     }
+}
+
+// What `Ident::parse` does.
+fn ident(input: ParseStream<'_, '_>) -> Result<Ident>
+    ensures { IdentParses input.old result input.new }
+{
+    let Some((ident, rest)) = input.cursor().ident() else {
+        return Err(input.error("expected identifier"));
+    };
+    let name = ident.as_str();
+    if !accept_as_ident(name) {
+        return Err(input.error(format_args!("expected identifier, found keyword `{name}`")));
+    }
+    let ident = ident.clone()?;
+    input.move_to(rest);
+    Ok(ident)
 }
 
 /// Parses a lifetime whose name is no reserved word, or is `static` or `_`.
@@ -61,14 +73,23 @@ fn accept_as_lifetime(name: &str) -> bool
 impl Parse for Literal {
     ghost parses = { LiteralParses };
 
+    ghost takes = { told (λ v. v) take_literal (lower lowers_literal) };
+
     fn parse(input: ParseStream<'_, '_>) -> Result<Self> {
-        let Some((literal, rest)) = input.cursor().literal() else {
-            return Err(input.error("expected literal token"));
-        };
-        let literal = literal.clone()?;
-        input.move_to(rest);
-        Ok(literal)
+        literal(input)
     }
+}
+
+// What `Literal::parse` does.
+fn literal(input: ParseStream<'_, '_>) -> Result<Literal>
+    ensures { LiteralParses input.old result input.new }
+{
+    let Some((literal, rest)) = input.cursor().literal() else {
+        return Err(input.error("expected literal token"));
+    };
+    let literal = literal.clone()?;
+    input.move_to(rest);
+    Ok(literal)
 }
 
 /// Parses a punct other than an apostrophe.

@@ -93,7 +93,7 @@ where
     if !R::goes_on(input) {
         return Ok(Piece::Bare(value));
     }
-    let separator = input.parse()?;
+    let separator = P::parse(input)?;
     Ok(Piece::Full(value, separator))
 }
 

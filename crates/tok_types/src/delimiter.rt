@@ -1,5 +1,5 @@
 // Delimiters as tokens.
-ghost use Rattle.std.specs.Prelude.{◌≡◌, Ok, OnOk, OnErr};
+ghost use Rattle.std.specs.Prelude.{◌≡◌, Ok, OnOk, OnErr, Some};
 ghost use Rattle.std.specs.Fn.{FnOnceReturnsAtMut, FnOnceTakesAtMut};
 ghost use Rattle.tok_buffer.specs.Entry.{enter};
 ghost use Rattle.tok_core.specs.Forest.{no_trees};
@@ -8,6 +8,7 @@ ghost use Rattle.tok_lexical.specs.declared.delimiter.Delimiter.TheVariants as d
 ghost use Rattle.tok_types.specs.Delimiters.{delimiter_at, delimiter_display};
 ghost use Rattle.tok_types.specs.Looks.{Finds, IsText};
 ghost use Rattle.tok_types.specs.Printed.{Surrounds};
+ghost use Rattle.tok_types.specs.Sees.{group_first};
 
 use crate::look::Token;
 use std::alloc::AllocError;
@@ -99,6 +100,8 @@ impl<const D: usize> Visible<D> {
 
 impl<const D: usize> Token for Visible<D> {
     ghost peeks = { Finds (enter (delimiter_at D)) };
+
+    ghost sees = { Some (group_first (delimiter_at D)) };
 
     ghost shown = { IsText (delimiter_display (delimiter_at D)) };
 

@@ -1,10 +1,11 @@
 // Keywords.
-ghost use Rattle.std.specs.Prelude.{◌≡◌};
+ghost use Rattle.std.specs.Prelude.{◌≡◌, Some};
 ghost use Rattle.tok_leaves.specs.Spans.{call_site};
 ghost use Rattle.tok_buffer.specs.Reads.{read_keyword};
 ghost use Rattle.tok_types.specs.Looks.{Finds, IsText};
 ghost use Rattle.tok_types.specs.Printed.{word};
 ghost use Rattle.tok_types.specs.Texts.{keyword_text, in_backquotes};
+ghost use Rattle.tok_types.specs.Sees.{keyword_first};
 
 use crate::look::Token;
 use crate::names::append_word;
@@ -41,6 +42,8 @@ impl<const K: usize> Keyword<K> {
 
 impl<const K: usize> Token for Keyword<K> {
     ghost peeks = { Finds (read_keyword (keyword_text K)) };
+
+    ghost sees = { Some (keyword_first K) };
 
     ghost shown = { IsText (in_backquotes (keyword_text K)) };
 

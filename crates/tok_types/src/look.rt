@@ -1,7 +1,9 @@
 // What can be looked for in front of a cursor.
-ghost use Rattle.std.specs.Prelude.{ℕ, Bool, List};
+ghost use Rattle.std.specs.Prelude.{ℕ, Bool, List, None, Option};
 ghost use Rattle.tok_buffer.specs.Cursors.{place_of};
 ghost use Rattle.tok_buffer.specs.Place.{Place};
+ghost use Rattle.tok_core.specs.Forest.{Forest};
+ghost use Rattle.tok_types.specs.Sees.{Sees};
 
 use tok_buffer::Cursor;
 
@@ -13,9 +15,13 @@ pub trait Token {
 
     ghost shown: { List ℕ → Type 0 } = { λ _. Unit {0} };
 
+    // When a peek is true, by the visible trees ahead, invisible groups aside.
+    ghost sees: { Option (Forest → Bool) } = { None };
+
     /// Whether this is in front of the cursor.
     fn peek(cursor: Cursor<'_>) -> bool
-        ensures { peeks (place_of cursor.entry) result };
+        ensures peeks { peeks (place_of cursor.entry) result }
+        ensures sees { Sees sees (place_of cursor.entry) result };
 
     /// How a refusal calls it: a token's text in backquotes, or words.
     fn display() -> &'static str

@@ -1,10 +1,11 @@
 // Punctuations.
-ghost use Rattle.std.specs.Prelude.{◌≡◌, [], ◌∷◌, replicate};
+ghost use Rattle.std.specs.Prelude.{◌≡◌, [], ◌∷◌, replicate, Some};
 ghost use Rattle.tok_leaves.specs.Spans.{call_site};
 ghost use Rattle.tok_buffer.specs.Reads.{read_punctuation};
 ghost use Rattle.tok_types.specs.Looks.{Finds, IsText};
 ghost use Rattle.tok_types.specs.Printed.{puncts};
 ghost use Rattle.tok_types.specs.Texts.{punctuation_word, in_backquotes};
+ghost use Rattle.tok_types.specs.Sees.{punctuation_first};
 
 use crate::look::Token;
 use crate::texts::{punctuation_display, punctuation_text};
@@ -67,6 +68,8 @@ impl<const K: usize> Punctuation<K, 1> {
 
 impl<const K: usize, const N: usize> Token for Punctuation<K, N> {
     ghost peeks = { Finds (read_punctuation (punctuation_word K N)) };
+
+    ghost sees = { Some (punctuation_first K N) };
 
     ghost shown = { IsText (in_backquotes (punctuation_word K N)) };
 

@@ -1,9 +1,10 @@
 // Looks at trees, lifetimes and the end.
-ghost use Rattle.std.specs.Prelude.{◌≡◌, codes};
+ghost use Rattle.std.specs.Prelude.{◌≡◌, codes, Some};
 ghost use Rattle.tok_buffer.specs.Place.{is_at_end};
 ghost use Rattle.tok_buffer.specs.Reads.{any_text, is_group, read_ident, read_lifetime, read_literal, read_punct, read_tree, read_word, read_if};
 ghost use Rattle.tok_types.specs.Looks.{Finds, IsText};
 ghost use Rattle.tok_types.specs.Texts.{accept_as_ident};
+ghost use Rattle.tok_types.specs.Sees.{any_ident_first, ident_first, literal_first, punct_first};
 
 use crate::look::Token;
 use crate::texts::accept_as_ident;
@@ -21,6 +22,8 @@ pub struct IdentAny;
 impl Token for Ident {
     ghost peeks = { Finds (read_word accept_as_ident) };
 
+    ghost sees = { Some ident_first };
+
     ghost shown = { IsText (codes "identifier") };
 
     fn peek(cursor: Cursor<'_>) -> bool {
@@ -37,6 +40,8 @@ impl Token for Ident {
 
 impl Token for IdentAny {
     ghost peeks = { Finds read_ident };
+
+    ghost sees = { Some any_ident_first };
 
     ghost shown = { IsText (codes "identifier") };
 
@@ -67,6 +72,8 @@ impl Token for Lifetime {
 impl Token for Literal {
     ghost peeks = { Finds read_literal };
 
+    ghost sees = { Some literal_first };
+
     ghost shown = { IsText (codes "literal") };
 
     fn peek(cursor: Cursor<'_>) -> bool {
@@ -81,6 +88,8 @@ impl Token for Literal {
 /// A punct other than an apostrophe.
 impl Token for Punct {
     ghost peeks = { Finds read_punct };
+
+    ghost sees = { Some punct_first };
 
     ghost shown = { IsText (codes "punctuation token") };
 

@@ -1,9 +1,10 @@
 // The underscore.
-ghost use Rattle.std.specs.Prelude.{◌≡◌, [], ◌∷◌, codes};
+ghost use Rattle.std.specs.Prelude.{◌≡◌, [], ◌∷◌, codes, Some};
 ghost use Rattle.tok_leaves.specs.Spans.{call_site};
 ghost use Rattle.tok_buffer.specs.Reads.{read_keyword};
 ghost use Rattle.tok_types.specs.Looks.{Finds, IsText};
 ghost use Rattle.tok_types.specs.Printed.{first_span, word};
+ghost use Rattle.tok_types.specs.Sees.{underscore_first};
 
 use crate::look::Token;
 use crate::names::append_word;
@@ -52,6 +53,8 @@ impl Underscore {
 
 impl Token for Underscore {
     ghost peeks = { Finds (read_keyword (codes "_")) };
+
+    ghost sees = { Some underscore_first };
 
     ghost shown = { IsText (codes "`_`") };
 

@@ -12,7 +12,7 @@ use crate::report::Answer;
 use crate::session::lists::{self, Form};
 use crate::session::tokens;
 use std::alloc::{AllocError, Global};
-use syn_parse::{ParseBuffer, ParseStream, Result};
+use syn_parse::{Parse, ParseBuffer, ParseStream, Result};
 use tok_core::{Group, TokenStream, TokenTree};
 
 /// Answers a command that concerns no other stream.
@@ -38,7 +38,7 @@ pub fn answer(input: ParseStream<'_, '_>, command: &Command) -> Result<Answer>
         Command::CursorSpan(_) => Ok(Answer::At(input.cursor().span())),
         Command::PreviousSpan(_) => Ok(Answer::At(input.cursor().prev_span())),
         Command::Tree(_) => tree(input),
-        Command::Rest(_) => Ok(Answer::Trees(input.parse::<TokenStream>()?)),
+        Command::Rest(_) => Ok(Answer::Trees(TokenStream::parse(input)?)),
         Command::GroupTree(_) => group(input),
         // Those that concern other streams.
         Command::Enter(_, _)
@@ -81,7 +81,7 @@ fn tree(input: ParseStream<'_, '_>) -> Result<Answer>
     ensures { IsRead (commands.next_tree 0) input.old result input.new }
 {
     let alloc = input.allocator();
-    let tree = input.parse::<TokenTree>()?;
+    let tree = TokenTree::parse(input)?;
     Ok(Answer::Trees(only(alloc, tree)?))
 }
 
@@ -90,7 +90,7 @@ fn group(input: ParseStream<'_, '_>) -> Result<Answer>
     ensures { IsRead (commands.next_group 0) input.old result input.new }
 {
     let alloc = input.allocator();
-    let group = input.parse::<Group>()?;
+    let group = Group::parse(input)?;
     Ok(Answer::Trees(only(alloc, TokenTree::Group(group))?))
 }
 

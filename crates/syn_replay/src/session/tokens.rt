@@ -11,7 +11,7 @@ ghost use Rattle.syn_replay.specs.Meanings.{kind_of};
 use crate::command::Kind;
 use crate::report::Piece;
 use crate::session::pieces;
-use syn_parse::{IdentExt, LifetimeExt, ParseStream, Result, parsing};
+use syn_parse::{IdentExt, LifetimeExt, Parse, ParseStream, Result, parsing};
 use tok_buffer::Lifetime;
 use tok_core::{Ident, Literal, Punct};
 use tok_types::token::{keyword_text, punctuation_text};
@@ -24,7 +24,7 @@ pub fn parse(input: ParseStream<'_, '_>, kind: Kind) -> Result<Vec<Piece>>
     let alloc = input.allocator();
     match kind {
         Kind::Ident => {
-            let ident = input.parse::<Ident>()?;
+            let ident = Ident::parse(input)?;
             Ok(pieces::ident(alloc, &ident)?)
         }
         Kind::IdentAny => {
@@ -32,7 +32,7 @@ pub fn parse(input: ParseStream<'_, '_>, kind: Kind) -> Result<Vec<Piece>>
             Ok(pieces::ident(alloc, &ident)?)
         }
         Kind::Lifetime => {
-            let lifetime = input.parse::<Lifetime>()?;
+            let lifetime = Lifetime::parse(input)?;
             Ok(pieces::lifetime(alloc, &lifetime)?)
         }
         Kind::LifetimeAny => {
@@ -40,11 +40,11 @@ pub fn parse(input: ParseStream<'_, '_>, kind: Kind) -> Result<Vec<Piece>>
             Ok(pieces::lifetime(alloc, &lifetime)?)
         }
         Kind::Literal => {
-            let literal = input.parse::<Literal>()?;
+            let literal = Literal::parse(input)?;
             Ok(pieces::literal(alloc, &literal)?)
         }
         Kind::Punct => {
-            let punct = input.parse::<Punct>()?;
+            let punct = Punct::parse(input)?;
             Ok(pieces::punct(alloc, punct)?)
         }
         Kind::Underscore => keyword(input, "_"),

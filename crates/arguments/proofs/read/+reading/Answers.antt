@@ -4,6 +4,7 @@ use Rattle.arguments.specs.Grammar.{comma, equals_sign}
 use Rattle.arguments.specs.Private.Outcomes.{arguments_in}
 use Rattle.tok_core.specs.Weight.{weight}
 use Rattle.tok_buffer.specs.View.{erased_ahead}
+use Rattle.syn_parse.specs.Reads.{does}
 use Rattle.syn_punctuated.specs.Lists.{values_of, separators_of}
 use Rattle.arguments.proofs.Calls.{ended}
 use Rattle.arguments.proofs.Tokens.{fault-memory, ident-parsed, literal-parsed, sign-parsed, lighter}
@@ -22,13 +23,13 @@ read_argument-returns-in_err-name-clause-reads t c =
     let p = err_from_is_err_and c.from_residual.result c.from_residual.ensures.1 in
     rw (p.1, p.2)
     (argument-no_name law c.args.input.now c.parse.new.self c.in_err-name.field-0.0
-    c.in_err-name.ensures)
+    (does _ _ _ _ c.in_err-name.ensures.reads))
 
 pub read_argument-read_value-requires : goal.read_argument-read_value-requires
 read_argument-read_value-requires t c =
     let law = c.trees_ahead_decide.ensures in
     let p =
-    ident-parsed law c.args.input.now c.parse.new.self c.in_ok-name.name c.in_ok-name.ensures in
+    ident-parsed law c.args.input.now c.parse.new.self c.in_ok-name.name (does _ _ _ _ c.in_ok-name.ensures.reads) in
     let w = lighter _ _ _ p.ahead in
     (omega (arith, c.decreases, w), tt)
 
@@ -40,20 +41,20 @@ read_argument-returns-in_err-value-clause-reads t c =
     let p = err_from_is_err_and residual.result residual.ensures.1 in
     rw (p.1, p.2)
     (argument-value_refused law c.args.input.now c.parse.new.self c.read_value.new.input
-    c.in_ok-name.name c.in_err-value.field-0.0 c.in_ok-name.ensures
+    c.in_ok-name.name c.in_err-value.field-0.0 (does _ _ _ _ c.in_ok-name.ensures.reads)
     (c.in_err-value.ensures.reads c.in_ok-name.name))
 
 pub read_argument-returns-clause-reads : goal.read_argument-returns-clause-reads
 read_argument-returns-clause-reads t c =
     let law = c.trees_ahead_decide.ensures in
     argument-read law c.args.input.now c.parse.new.self c.read_value.new.input c.in_ok-name.name
-    c.in_ok-value.value c.in_ok-name.ensures (c.in_ok-value.ensures.reads c.in_ok-name.name)
+    c.in_ok-value.value (does _ _ _ _ c.in_ok-name.ensures.reads) (c.in_ok-value.ensures.reads c.in_ok-name.name)
 
 pub read_argument-returns-clause-lighter : goal.read_argument-returns-clause-lighter
 read_argument-returns-clause-lighter t c =
     let law = c.trees_ahead_decide.ensures in
     let p =
-    ident-parsed law c.args.input.now c.parse.new.self c.in_ok-name.name c.in_ok-name.ensures in
+    ident-parsed law c.args.input.now c.parse.new.self c.in_ok-name.name (does _ _ _ _ c.in_ok-name.ensures.reads) in
     let w = lighter _ _ _ p.ahead in
     omega (arith, w, c.in_ok-value.ensures.no_heavier)
 
@@ -115,14 +116,14 @@ read_arguments-returns-in_err-comma t c =
     then-refused c.args.input.now c.loop-list.input c.loop-list.list refused.field-0.0 so
     (comma-refused law c.loop-list.input c.read_argument.new.input c.parse.new.self
     c.in_ok-argument.argument refused.field-0.0 (r.moves.filled_on (so.moves.filled_on i))
-    (sym c.if-is_empty-2.ensures) r refused.ensures))
+    (sym c.if-is_empty-2.ensures) r (does _ _ _ _ refused.ensures.reads)))
 
 pub read_arguments-loop-list-smaller : goal.read_arguments-loop-list-smaller
 read_arguments-loop-list-smaller t c =
     let law = c.trees_ahead_decide.ensures in
     let s =
     sign-parsed law comma c.read_argument.new.input c.parse.new.self c.in_ok-comma.comma
-    c.in_ok-comma.ensures in
+    (does _ _ _ _ c.in_ok-comma.ensures.reads) in
     let w = lighter _ _ _ s.ahead in
     omega (arith, w, c.in_ok-argument.ensures.lighter)
 
@@ -135,7 +136,7 @@ read_arguments-loop-list-preserved t c =
     ∙ ap (λ cs. cs ++ c.in_ok-comma.comma ∷ []) c.push_value.ensures.separators in
     let s =
     sign-parsed law comma c.read_argument.new.input c.parse.new.self c.in_ok-comma.comma
-    c.in_ok-comma.ensures in (
+    (does _ _ _ _ c.in_ok-comma.ensures.reads) in (
       (let v = ap length values in
           let d = ap length separators in
           let n = length-append (values_of c.loop-list.list) (c.in_ok-argument.argument ∷ []) in
@@ -166,19 +167,19 @@ read_value-returns-in_err-literal-clause-reads t c name =
     let p = err_from_is_err_and residual.result residual.ensures.1 in
     let s =
     sign-parsed law equals_sign c.args.input.now c.parse.new.self c.in_ok-equals.equals
-    c.in_ok-equals.ensures in
+    (does _ _ _ _ c.in_ok-equals.ensures.reads) in
     rw (p.1, p.2)
     (value-no_literal law name c.args.input.now c.parse.new.self c.parse-then-peek.new.self
-    c.in_ok-equals.equals c.in_err-literal.field-0.0 s c.in_err-literal.ensures)
+    c.in_ok-equals.equals c.in_err-literal.field-0.0 s (does _ _ _ _ c.in_err-literal.ensures.reads))
 
 pub read_value-returns-then-peek-clause-reads : goal.read_value-returns-then-peek-clause-reads
 read_value-returns-then-peek-clause-reads t c name =
     let law = c.trees_ahead_decide.ensures in
     let s =
     sign-parsed law equals_sign c.args.input.now c.parse.new.self c.in_ok-equals.equals
-    c.in_ok-equals.ensures in
+    (does _ _ _ _ c.in_ok-equals.ensures.reads) in
     value-literal law name c.args.input.now c.parse.new.self c.parse-then-peek.new.self
-    c.in_ok-equals.equals c.in_ok-literal.literal s c.in_ok-literal.ensures
+    c.in_ok-equals.equals c.in_ok-literal.literal s (does _ _ _ _ c.in_ok-literal.ensures.reads)
 
 pub read_value-returns-then-peek-clause-no_heavier :
     goal.read_value-returns-then-peek-clause-no_heavier
@@ -186,10 +187,10 @@ read_value-returns-then-peek-clause-no_heavier t c =
     let law = c.trees_ahead_decide.ensures in
     let s =
     sign-parsed law equals_sign c.args.input.now c.parse.new.self c.in_ok-equals.equals
-    c.in_ok-equals.ensures in
+    (does _ _ _ _ c.in_ok-equals.ensures.reads) in
     let q =
     literal-parsed law c.parse.new.self c.parse-then-peek.new.self c.in_ok-literal.literal
-    c.in_ok-literal.ensures in
+    (does _ _ _ _ c.in_ok-literal.ensures.reads) in
     let a = lighter _ _ _ s.ahead in
     let b = lighter _ _ _ q.ahead in
     omega (arith, a, b)
@@ -245,4 +246,11 @@ read_value-returns-in_err-list-clause-reads t c name =
 pub read_value-returns-clause-reads : goal.read_value-returns-clause-reads
 read_value-returns-clause-reads t c name =
     let law = c.trees_ahead_decide.ensures in
-    value-flag law name c.args.input.now c.if-peek.ensures c.if-peek-2.ensures
+    value-flag law name c.args.input.now c.if-peek.ensures.peeks c.if-peek-2.ensures.peeks
+
+-- where `=` is next, it is read
+pub read_value-returns-in_err-equals-clause-reads :
+    goal.read_value-returns-in_err-equals-clause-reads
+read_value-returns-in_err-equals-clause-reads t c =
+    let parsed = does _ _ _ _ c.in_err-equals.ensures.reads in
+    grind (arith, parsed)

@@ -6,6 +6,7 @@ use Rattle.callers.specs.Items.{read_name}
 use Rattle.callers.specs.Nested.{CountsEntries, CountsEntry}
 use Rattle.callers.proofs.Nested.{entries_end, entry_on, entry_refused, no_list, one_list, one_name}
 use Rattle.callers.proofs.Parts.{at_exit}
+use Rattle.syn_parse.specs.Reads.{does}
 use Rattle.callers.proofs.streams.+nested.Goals as goal
 
 pub count_all-returns-in_err-count_names : goal.count_all-returns-in_err-count_names
@@ -41,24 +42,24 @@ count_names-returns-in_err-count-clause-counts t c =
     let exit = c.from_residual-in_err-count in
     let no_name : read_name c.args.input.now.place ≡ None = search rules in
     at_exit (λ r. CountsEntry c.args.input.now r left) exit.result f exit.ensures.1
-    (no_list _ _ (λ a r b h. h) c.args.input.now left no_name f c.in_err-count.ensures.runs)
+    (no_list _ _ (λ a r b h. h) c.args.input.now left no_name f (does _ _ _ _ c.in_err-count.ensures.runs))
 
 pub count_names-returns-in_ok-parse-clause-counts :
     goal.count_names-returns-in_ok-parse-clause-counts
 count_names-returns-in_ok-parse-clause-counts t c = one_name c.args.input.now c.parse.new.self
-    c.in_ok-parse.field-0 c.in_ok-parse.ensures
+    c.in_ok-parse.field-0 (does _ _ _ _ c.in_ok-parse.ensures.reads)
 
 pub count_names-returns-in_ok-parse-clause-lowers :
     goal.count_names-returns-in_ok-parse-clause-lowers
 count_names-returns-in_ok-parse-clause-lowers t c =
-    c.parses_go_on.ensures.idents.lowers _ c.in_ok-parse.field-0 _ c.in_ok-parse.ensures
+    c.parses_go_on.ensures.idents.lowers _ c.in_ok-parse.field-0 _ (does _ _ _ _ c.in_ok-parse.ensures.reads)
 
 pub count_names-returns-in_ok-count-clause-counts :
     goal.count_names-returns-in_ok-count-clause-counts
 count_names-returns-in_ok-count-clause-counts t c =
     let no_name : read_name c.args.input.now.place ≡ None = search rules in
     one_list _ _ (λ a r b h. h) c.args.input.now c.within.new.self no_name
-    c.in_ok-count.field-0-0 c.in_ok-count.count c.in_ok-count.ensures.runs
+    c.in_ok-count.field-0-0 c.in_ok-count.count (does _ _ _ _ c.in_ok-count.ensures.runs)
 
 pub count_names-returns-in_ok-count-clause-lowers :
     goal.count_names-returns-in_ok-count-clause-lowers

@@ -5,6 +5,7 @@ use Rattle.callers.specs.Items.{FieldsParse}
 use Rattle.callers.proofs.Fields.{GoesOn, comma_on, field_lowers, fields_end, last_on}
 use Rattle.callers.proofs.Fields.{without_comma, without_field}
 use Rattle.callers.proofs.Parts.{at_exit}
+use Rattle.syn_parse.specs.Reads.{does}
 use Rattle.callers.proofs.streams.fields.Goals as goal
 
 pub returns-in_err-parse_field : goal.returns-in_err-parse_field
@@ -28,7 +29,7 @@ returns-in_err-parse c =
     let more : is_at_end there.place ≡ false = search rules in
     at_exit (λ r. FieldsParse c.args.input.now r left) exit.result f exit.ensures.1
     (without_comma c.args.input.now here.input here.fields.items here.invariant there
-    c.in_ok-parse_field.field-0 c.in_ok-parse_field.ensures more left f c.in_err-parse.ensures)
+    c.in_ok-parse_field.field-0 c.in_ok-parse_field.ensures more left f (does _ _ _ _ c.in_err-parse.ensures.reads))
 
 pub loop-fields-smaller : goal.loop-fields-smaller
 loop-fields-smaller c =
@@ -44,7 +45,7 @@ loop-fields-smaller-then-not-is_empty c =
     c.in_ok-parse_field.ensures in
     let comma =
     (c.parses_go_on.ensures.punctuations 7 1).lowers there c.in_ok-parse.field-0
-    c.parse.new.self c.in_ok-parse.ensures in
+    c.parse.new.self (does _ _ _ _ c.in_ok-parse.ensures.reads) in
     omega (arith, field, comma)
 
 pub loop-fields-preserved : goal.loop-fields-preserved
@@ -68,7 +69,7 @@ loop-fields-preserved-then-not-is_empty c =
     let pushed : here.fields.items ++ field ∷ [] ≡ c.push.new.self.items = search rules in
     subst (GoesOn c.args.input.now left) pushed
     (comma_on c.args.input.now here.input here.fields.items here.invariant there field
-    c.in_ok-parse_field.ensures more left c.in_ok-parse.field-0 c.in_ok-parse.ensures)
+    c.in_ok-parse_field.ensures more left c.in_ok-parse.field-0 (does _ _ _ _ c.in_ok-parse.ensures.reads))
 
 pub returns : goal.returns
 returns c =

@@ -1,11 +1,11 @@
-use Rattle.std.proofs.Common.{refl, ◌∙◌}
-use Rattle.tok_leaves.specs.declared.span.DelimSpan.{DelimSpan}
-use Rattle.syn_parse.specs.Groups.{AreParts}
-use Rattle.syn_parse.specs.State.{State}
-use Rattle.syn_parse.proofs.Entering.{entered}
+use Rattle.syn_parse.specs.Reads.{as_does}
+use Rattle.syn_parse.proofs.GroupTakes.{group_told}
 use Rattle.syn_parse.proofs.stream.ParseBuffer.within.Goals as goal
 
-pub call-value-requires : goal.call-value-requires
-call-value-requires g c =
-    let found = entered (λ (parts : DelimSpan × State). AreParts parts.0 parts.1) _ _ c.args.self.now (c.in_ok-span.span, c.in_ok-span.content) c.enter.new.self (c.in_ok-span.ensures {u = tt}) in
-    λ k. ((refl, tt), λ p e. c.requires found.0 found.1 p (e ∙ found.2.1))
+pub returns-clause-runs : goal.returns-clause-runs
+returns-clause-runs g c = as_does _ c.args.self.now c.run_within.result c.run_within.new.self c.run_within.ensures.runs
+
+pub returns-clause-takes : goal.returns-clause-takes
+returns-clause-takes g c visible inner each =
+    group_told (λ v. v) inner _ c.args.delimiter visible c.args.self.now c.run_within.new.self each
+    c.run_within.result c.run_within.ensures.runs

@@ -23,8 +23,8 @@ pub returns-in_ok-ident-in-Ident-2 : goal.returns-in_ok-ident-in-Ident-2
 returns-in_ok-ident-in-Ident-2 c =
     let s = c.args.input.now in
     let ps = c.in_ok-ident-in-Ident-2.field-0 in
-    let here : AfterPieces (read (kind_of Ident) s.place) s ps c.parse.new.self = value-pieces (λ v. leaf (ident_of v) ∷ []) _ s _ c.in_ok-ident-in-Ident.ident ps c.parse.new.self c.in_ok-ident-in-Ident.ensures (c.in_ok-ident-in-Ident-2.ensures {u = tt}) in
-    subst (λ k. AfterPieces (read (kind_of k) s.place) s ps c.parse.new.self) (sym c.in-Ident.is) here
+    let here : AfterPieces (read (kind_of Ident) s.place) s ps c.parse.new.input = value-pieces (λ v. leaf (ident_of v) ∷ []) _ s _ c.in_ok-ident-in-Ident.ident ps c.parse.new.input c.in_ok-ident-in-Ident.ensures.reads (c.in_ok-ident-in-Ident-2.ensures {u = tt}) in
+    subst (λ k. AfterPieces (read (kind_of k) s.place) s ps c.parse.new.input) (sym c.in-Ident.is) here
 
 pub returns-in_ok-ident-in-IdentAny-2 : goal.returns-in_ok-ident-in-IdentAny-2
 returns-in_ok-ident-in-IdentAny-2 c =
@@ -37,8 +37,8 @@ pub returns-in_ok-lifetime-in-Lifetime-2 : goal.returns-in_ok-lifetime-in-Lifeti
 returns-in_ok-lifetime-in-Lifetime-2 c =
     let s = c.args.input.now in
     let ps = c.in_ok-lifetime-in-Lifetime-2.field-0 in
-    let here : AfterPieces (read (kind_of Lifetime) s.place) s ps c.parse-in-Lifetime.new.self = value-pieces (λ v. lifetime_trees v.apostrophe (ident_of v.ident)) _ s _ c.in_ok-lifetime-in-Lifetime.lifetime ps c.parse-in-Lifetime.new.self c.in_ok-lifetime-in-Lifetime.ensures (c.in_ok-lifetime-in-Lifetime-2.ensures {u = tt}) in
-    subst (λ k. AfterPieces (read (kind_of k) s.place) s ps c.parse-in-Lifetime.new.self) (sym c.in-Lifetime.is) here
+    let here : AfterPieces (read (kind_of Lifetime) s.place) s ps c.parse-in-Lifetime.new.input = value-pieces (λ v. lifetime_trees v.apostrophe (ident_of v.ident)) _ s _ c.in_ok-lifetime-in-Lifetime.lifetime ps c.parse-in-Lifetime.new.input c.in_ok-lifetime-in-Lifetime.ensures.reads (c.in_ok-lifetime-in-Lifetime-2.ensures {u = tt}) in
+    subst (λ k. AfterPieces (read (kind_of k) s.place) s ps c.parse-in-Lifetime.new.input) (sym c.in-Lifetime.is) here
 
 pub returns-in_ok-lifetime-in-LifetimeAny-2 : goal.returns-in_ok-lifetime-in-LifetimeAny-2
 returns-in_ok-lifetime-in-LifetimeAny-2 c =
@@ -51,12 +51,12 @@ pub returns-in_ok-literal-in-Literal-2 : goal.returns-in_ok-literal-in-Literal-2
 returns-in_ok-literal-in-Literal-2 c =
     let s = c.args.input.now in
     let ps = c.in_ok-literal-in-Literal-2.field-0 in
-    let here : AfterPieces (read (kind_of Literal) s.place) s ps c.parse-in-Literal.new.self = value-pieces (λ v. leaf (literal_of v) ∷ []) _ s _ c.in_ok-literal-in-Literal.literal ps c.parse-in-Literal.new.self c.in_ok-literal-in-Literal.ensures (c.in_ok-literal-in-Literal-2.ensures {u = tt}) in
-    subst (λ k. AfterPieces (read (kind_of k) s.place) s ps c.parse-in-Literal.new.self) (sym c.in-Literal.is) here
+    let here : AfterPieces (read (kind_of Literal) s.place) s ps c.parse-in-Literal.new.input = value-pieces (λ v. leaf (literal_of v) ∷ []) _ s _ c.in_ok-literal-in-Literal.literal ps c.parse-in-Literal.new.input c.in_ok-literal-in-Literal.ensures.reads (c.in_ok-literal-in-Literal-2.ensures {u = tt}) in
+    subst (λ k. AfterPieces (read (kind_of k) s.place) s ps c.parse-in-Literal.new.input) (sym c.in-Literal.is) here
 
 pub returns-in_ok-punct-in-Punct-2 : goal.returns-in_ok-punct-in-Punct-2
 returns-in_ok-punct-in-Punct-2 c =
     let s = c.args.input.now in
     let ps = c.in_ok-punct-in-Punct-2.field-0 in
-    let here : AfterPieces (read (kind_of Punct) s.place) s ps c.parse-in-Punct.new.self = value-pieces-at-once (λ v. leaf (punct_of v) ∷ []) _ s _ c.in_ok-punct-in-Punct.punct ps c.parse-in-Punct.new.self c.in_ok-punct-in-Punct.ensures (c.in_ok-punct-in-Punct-2.ensures {u = tt}) in
-    subst (λ k. AfterPieces (read (kind_of k) s.place) s ps c.parse-in-Punct.new.self) (sym c.in-Punct.is) here
+    let here : AfterPieces (read (kind_of Punct) s.place) s ps c.parse-in-Punct.new.input = value-pieces-at-once (λ v. leaf (punct_of v) ∷ []) _ s _ c.in_ok-punct-in-Punct.punct ps c.parse-in-Punct.new.input c.in_ok-punct-in-Punct.ensures.reads (c.in_ok-punct-in-Punct-2.ensures {u = tt}) in
+    subst (λ k. AfterPieces (read (kind_of k) s.place) s ps c.parse-in-Punct.new.input) (sym c.in-Punct.is) here

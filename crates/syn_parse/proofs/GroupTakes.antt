@@ -1,0 +1,255 @@
+-- A group takes what is inside, and then what is after it.
+use Rattle.std.proofs.Common.{◌≡◌, ◌∙◌, sym, ap, subst, refl, arith, ◌<◌, Bool, true, false, not, ◌&&◌}
+use Rattle.std.proofs.Common.{Option, Some, None, Ok, Err}
+use Rattle.std.specs.Option.{option_or}
+use Rattle.std.specs.Prelude.{Result, IfSome, is_some, option_map}
+use Rattle.tok_lexical.specs.declared.delimiter.Delimiter.{Delimiter}
+use Rattle.tok_leaves.specs.declared.span.DelimSpan.{DelimSpan}
+use Rattle.tok_leaves.specs.declared.span.Span.{Span}
+use Rattle.tok_core.specs.Filled.{has_trees}
+use Rattle.tok_core.specs.Forest.{Forest, no_trees, tree}
+use Rattle.tok_core.specs.Weight.{weight}
+use Rattle.tok_buffer.specs.Ahead.{Leftover, left_of, leftover}
+use Rattle.tok_buffer.specs.Entry.{Entered, enter}
+use Rattle.tok_buffer.specs.InFront.{EnteredAhead, entered_ahead, first_group, first_tree_span}
+use Rattle.tok_buffer.specs.Place.{Place}
+use Rattle.tok_buffer.specs.Messages.{first_text}
+use Rattle.tok_buffer.specs.Reached.{Reached}
+use Rattle.tok_buffer.specs.View.{IsVisibleDelimiter, erased_ahead}
+use Rattle.tok_buffer.proofs.View.InFront.{ahead_tells}
+use Rattle.tok_buffer.proofs.View.Laws.{calls_lead_on}
+use Rattle.syn_parse.specs.Faults.{Refuses}
+use Rattle.syn_parse.specs.RefusalWords.{delimiter_words, refused_at}
+use Rattle.syn_parse.specs.Groups.{RunsWithin, SpanWith}
+use Rattle.syn_parse.specs.Reads.{Call}
+use Rattle.syn_parse.specs.State.{State, after_group, closed, content_of, handed}
+use Rattle.syn_parse.specs.declared.fault.Fault.{Fault}
+use Rattle.syn_parse.specs.declared.fault.Fault.TheVariants.{Refused, Memory}
+use Rattle.syn_parse.specs.TreesAhead.{Ahead, IsFilled, ahead, is_spent}
+use Rattle.syn_parse.specs.Lighter.{group_weighs}
+use Rattle.syn_parse.specs.Grouped.{grouped}
+use Rattle.syn_parse.specs.Takings.{Keeps, Takings, told, untold}
+use Rattle.syn_parse.specs.Takes.{Finds, TakeWithinBy, TakesBy, Within}
+use Rattle.syn_parse.specs.Takes.{IsMissing, MemoryOr, Outcome, Says, TakeWithin, TakesAs, Taking}
+use Rattle.syn_parse.specs.Takes.{after_inside, found, inside_first, missing, take_group}
+use Rattle.syn_parse.proofs.Told.{words_told}
+
+-- a leftover is there where a visible tree is
+left-trees : (l : Option Leftover) (f : Forest) → option_map (λ x. x.span) l ≡ first_tree_span f
+    → is_some l ≡ has_trees f
+left-trees None no_trees e = refl
+left-trees None (tree t f) e = absurd (cc)
+left-trees (Some l) no_trees e = absurd (cc)
+left-trees (Some l) (tree t f) e = refl
+
+pub leftover-trees : (p : Place) → is_some (leftover p) ≡ has_trees (erased_ahead p)
+leftover-trees p = left-trees (leftover p) (erased_ahead p) (ahead_tells p).leftovers
+
+clean-or : (n m l : Option Leftover)
+    → not (is_some (option_or n (option_or m l)))
+    ≡ (not (is_some n) && not (is_some m) && not (is_some l))
+clean-or None None None = refl
+clean-or None None (Some l) = refl
+clean-or None (Some m) None = refl
+clean-or None (Some m) (Some l) = refl
+clean-or (Some n) m l = refl
+
+after-closed : (left s : State) (e : Entered)
+    → ahead (closed left (after_group e s))
+    ≡ record {
+      trees = erased_ahead e.after;
+      clean = (ahead s).clean && (ahead left).clean && is_spent (ahead left);
+    }
+after-closed left s e =
+    ap (λ b. record { trees = erased_ahead e.after; clean = b })
+    (clean-or s.noted left.noted (leftover left.place)
+    ∙ ap (λ b. not (is_some s.noted) && not (is_some left.noted) && not b) (leftover-trees left.place))
+
+span-is : (d : DelimSpan) (x : Span) → d.join ≡ x → d ≡ record { join = x }
+span-is d x e = ap (λ y. record { join = y }) e
+
+memory-or : (f : Fault) (P Q : Type 0) → (P → Q) → MemoryOr f P → MemoryOr f Q
+memory-or (Refused e) P Q h m = h m
+memory-or (Memory e) P Q h m = tt
+
+both-filled : (d : Delimiter) → IsVisibleDelimiter d → (p : Place) (e : Entered) → enter d p ≡ Some e
+    → IsFilled p → IsFilled e.content × IsFilled e.after
+both-filled d v p e h i =
+    let leads =
+    subst (λ y. IfSome y (λ x. Reached i.buffer x.content × Reached i.buffer x.after)) h
+    ((calls_lead_on i.buffer p i.reached).enters d v) in (
+      record { buffer = i.buffer; filled_buffer = i.filled_buffer; reached = leads.0 },
+      record { buffer = i.buffer; filled_buffer = i.filled_buffer; reached = leads.1 },
+    )
+
+-- a group's content weighs less than what is ahead before it
+pub content-lighter : (d : Delimiter) → IsVisibleDelimiter d → (p : Place) (e : Entered)
+    → enter d p ≡ Some e → weight (erased_ahead e.content) < weight (erased_ahead p)
+content-lighter d v p e h =
+    let first = sym ((ahead_tells p).enters d v) ∙ ap (option_map entered_ahead) h in
+    let w = group_weighs d (erased_ahead p) (entered_ahead e) first in
+    omega (arith, w)
+
+module _ {T A : Type 0} (form : T → A) (inner : Taking A) (calls : Call T)
+    (d : Delimiter) (visible : IsVisibleDelimiter d) (s t : State)
+    (each : TakeWithin (ahead s) form inner calls) where
+  abbrev both : DelimSpan × T → DelimSpan × A
+  both p = (p.0, form p.1)
+
+  is-first : (x : Option Entered) → enter d s.place ≡ x
+      → take_group d inner (ahead s) ≡ inside_first d inner (ahead s) (option_map entered_ahead x)
+  unfolding take_group
+  is-first x h =
+      ap (inside_first d inner (ahead s))
+      (sym ((ahead_tells s.place).enters d visible) ∙ ap (option_map entered_ahead) h)
+
+  inside-missing : (e : EnteredAhead) (o : Outcome A) → IsMissing o
+      → IsMissing (after_inside (ahead s) e o)
+  inside-missing e (found v b) h = h
+  inside-missing e (missing words) h = h
+
+  inside-says : (e : EnteredAhead) (o : Outcome A) (f : Fault) → Says o f
+      → Says (after_inside (ahead s) e o) f
+  inside-says e o (Refused d) h = ap (after_inside (ahead s) e) h
+  inside-says e o (Memory d) h = tt
+
+  ran : (e : Entered) (returned : Result T Fault) (left : State) (r : Result (DelimSpan × T) Fault)
+      → enter d s.place ≡ Some e → TakesAs form inner (content_of e) returned left
+      → SpanWith e.span returned r → t ≡ closed left (after_group e s)
+      → TakesAs both (take_group d inner) s r t
+  ran e (Ok v) left (Ok found_) h i w k =
+      let span = span-is found_.0 e.span w.0 in (
+        is-first (Some e) h ∙ ap (after_inside (ahead s) (entered_ahead e)) i.0
+            ∙ ap (λ y. found (record { join = e.span }, form v) y)
+            (sym (ap ahead k ∙ after-closed left s e))
+            ∙ ap (λ y. found (y, form v) (ahead t)) (sym span)
+            ∙ ap (λ y. found (found_.0, form y) (ahead t)) (sym w.1),
+        λ j. subst (λ u. IsFilled u.place) (sym k) (both-filled d visible s.place e h j).1,
+      )
+  ran e (Ok v) left (Err g) h i w k = absurd w
+  ran e (Err f) left (Ok found_) h i w k = absurd w
+  ran e (Err f) left (Err g) h i w k =
+      subst (λ x. TakesAs both (take_group d inner) s (Err x) t) (sym w) (
+        memory-or f _ _
+            (λ n. subst IsMissing (sym (is-first (Some e) h)) (inside-missing (entered_ahead e) _ n)) i.0,
+        λ j. subst (λ o. Says o f) (sym (is-first (Some e) h))
+            (inside-says (entered_ahead e) _ f (i.1 (both-filled d visible s.place e h j).0)),
+      )
+
+  refused : (f : Fault) → enter d s.place ≡ None → Refuses (refused_at s (delimiter_words d)) f
+      → TakesAs both (take_group d inner) s (Err f) t
+  refused (Refused e) h r = (
+    subst IsMissing (sym (is-first None h)) tt,
+    λ i. is-first None h ∙ ap missing (sym (words_told (delimiter_words d) s i) ∙ sym (ap first_text r)),
+  )
+  refused (Memory e) h r = (tt, λ i. tt)
+
+  within : (x : Option Entered) (r : Result (DelimSpan × T) Fault) → enter d s.place ≡ x
+      → RunsWithin calls x (refused_at s (delimiter_words d)) s r t
+      → TakesAs both (take_group d inner) s r t
+  within None (Ok v) h w = absurd w.0
+  within None (Err f) h w = refused f h w.0
+  within (Some e) r h w = ran e w.0 w.1 r h (each (content_of e) w.0 w.1 (content-lighter d visible s.place e h) w.2) w.3 w.4
+
+  pub group_told : (r : Result (DelimSpan × T) Fault)
+      → RunsWithin calls (enter d s.place) (refused_at s (delimiter_words d)) s r t
+      → TakesAs both (take_group d inner) s r t
+  group_told r w = within (enter d s.place) r refl w
+
+-- a value within a group takes what its type states
+pub group_keeps : {T : Type 0} (takes : Takings T) (calls : Call T) (d : Delimiter) → IsVisibleDelimiter d
+    → (s t : State) (r : Result (DelimSpan × T) Fault)
+    → ((x : State) (y : Result T Fault) (z : State) → calls x y z → Keeps takes x y z)
+    → RunsWithin calls (enter d s.place) (refused_at s (delimiter_words d)) s r t
+    → Keeps (grouped d takes) s r t
+group_keeps untold calls d v s t r each w = tt
+group_keeps (told form take weighs) calls d v s t r each w =
+    group_told form take calls d v s t (λ x y z l h. each x y z h) r w
+
+module _ {T A : Type 0} (Is : T → A → Type 0) (inner : Taking A) (calls : Call T)
+    (d : Delimiter) (visible : IsVisibleDelimiter d) (s t : State)
+    (each : TakeWithinBy (ahead s) Is inner calls) where
+  is-first-by : (x : Option Entered) → enter d s.place ≡ x
+      → take_group d inner (ahead s) ≡ inside_first d inner (ahead s) (option_map entered_ahead x)
+  unfolding take_group
+  is-first-by x h =
+      ap (inside_first d inner (ahead s))
+      (sym ((ahead_tells s.place).enters d visible) ∙ ap (option_map entered_ahead) h)
+
+  inside-missing-by : (e : EnteredAhead) (o : Outcome A) → IsMissing o
+      → IsMissing (after_inside (ahead s) e o)
+  inside-missing-by e (found v b) h = h
+  inside-missing-by e (missing words) h = h
+
+  inside-says-by : (e : EnteredAhead) (o : Outcome A) (f : Fault) → Says o f
+      → Says (after_inside (ahead s) e o) f
+  inside-says-by e o (Refused d) h = ap (after_inside (ahead s) e) h
+  inside-says-by e o (Memory d) h = tt
+
+  ran-by : (e : Entered) (returned : Result T Fault) (left : State) (r : Result (DelimSpan × T) Fault)
+      → enter d s.place ≡ Some e → TakesBy Is inner (content_of e) returned left
+      → SpanWith e.span returned r → t ≡ closed left (after_group e s)
+      → TakesBy (Within Is) (take_group d inner) s r t
+  ran-by e (Ok v) left (Ok found_) h i w k = (
+    subst (Finds (Within Is) found_ (ahead t)) (sym (is-first-by (Some e) h)) (both _ i.0),
+    λ j. subst (λ u. IsFilled u.place) (sym k) (both-filled d visible s.place e h j).1,
+  ) where
+    both : (o : Outcome A) → Finds Is v (ahead left) o
+        → Finds (Within Is) found_ (ahead t) (after_inside (ahead s) (entered_ahead e) o)
+    both (missing words) f = f
+    both (found x c) f = (
+      (sym (span-is found_.0 e.span w.0), subst (λ u. Is u x) (sym w.1) f.0),
+      ap (λ (y : Ahead). record { trees = erased_ahead e.after; clean = (ahead s).clean && y.clean && is_spent y }) f.1
+          ∙ sym (ap ahead k ∙ after-closed left s e),
+    )
+
+  ran-by e (Ok v) left (Err g) h i w k = absurd w
+  ran-by e (Err f) left (Ok found_) h i w k = absurd w
+  ran-by e (Err f) left (Err g) h i w k =
+      subst (λ x. TakesBy (Within Is) (take_group d inner) s (Err x) t) (sym w) (
+        memory-or f _ _
+            (λ n. subst IsMissing (sym (is-first-by (Some e) h)) (inside-missing-by (entered_ahead e) _ n)) i.0,
+        λ j. subst (λ o. Says o f) (sym (is-first-by (Some e) h))
+            (inside-says-by (entered_ahead e) _ f (i.1 (both-filled d visible s.place e h j).0)),
+      )
+
+  refused-by : (f : Fault) → enter d s.place ≡ None → Refuses (refused_at s (delimiter_words d)) f
+      → TakesBy (Within Is) (take_group d inner) s (Err f) t
+  refused-by (Refused e) h r = (
+    subst IsMissing (sym (is-first-by None h)) tt,
+    λ i. is-first-by None h ∙ ap missing (sym (words_told (delimiter_words d) s i) ∙ sym (ap first_text r)),
+  )
+  refused-by (Memory e) h r = (tt, λ i. tt)
+
+  within-by : (x : Option Entered) (r : Result (DelimSpan × T) Fault) → enter d s.place ≡ x
+      → RunsWithin calls x (refused_at s (delimiter_words d)) s r t
+      → TakesBy (Within Is) (take_group d inner) s r t
+  within-by None (Ok v) h w = absurd w.0
+  within-by None (Err f) h w = refused-by f h w.0
+  within-by (Some e) r h w = ran-by e w.0 w.1 r h (each (content_of e) w.0 w.1 (content-lighter d visible s.place e h) w.2) w.3 w.4
+
+  pub group_told_by : (r : Result (DelimSpan × T) Fault)
+      → RunsWithin calls (enter d s.place) (refused_at s (delimiter_words d)) s r t
+      → TakesBy (Within Is) (take_group d inner) s r t
+  group_told_by r w = within-by (enter d s.place) r refl w
+
+
+-- a call of a function that is passed
+pub at-states : {T : Type 0} (calls : Call T) (s t u v : State) (r : Result T Fault) → s ≡ u → t ≡ v
+    → calls s r t → calls u r v
+at-states calls s t u v r a b h = subst (λ x. calls x r v) a (subst (λ x. calls s r x) b h)
+
+-- whether nothing is left over
+left-some : (x : Option (Span × Delimiter)) → is_some (left_of x) ≡ is_some x
+left-some None = refl
+left-some (Some l) = refl
+
+twice : (b : Bool) → b ≡ not (not b)
+twice true = refl
+twice false = refl
+
+pub done_told : (x : Option (Span × Delimiter)) (b : Bool) (p q : Place) → is_some x ≡ not b
+    → left_of x ≡ leftover q → q ≡ p → b ≡ not (has_trees (erased_ahead p))
+done_told x b p q h k e =
+    twice b ∙ ap not (sym h ∙ sym (left-some x) ∙ ap is_some k ∙ leftover-trees q
+    ∙ ap (λ y. has_trees (erased_ahead y)) e)

@@ -1,0 +1,186 @@
+-- What is taken makes what is ahead weigh less, or no more.
+use Rattle.std.proofs.Common.{◌≡◌, sym, ap, subst, refl, arith, ℕ, ◌+◌, ◌<◌, ◌≤◌, Bool, true, false, cond}
+use Rattle.std.proofs.Common.{List, [], ◌∷◌, ◌++◌, Option, Some, None}
+use Rattle.std.specs.Prelude.{bytes_eq}
+use Rattle.tok_lexical.specs.declared.delimiter.Delimiter.{Delimiter}
+use Rattle.tok_leaves.specs.declared.span.DelimSpan.{DelimSpan}
+use Rattle.tok_core.specs.Forest.{Tree, leaf, group, Forest, no_trees, tree}
+use Rattle.tok_core.specs.Weight.{weight, tree_weight}
+use Rattle.tok_buffer.specs.Entry.{same_delimiter}
+use Rattle.tok_buffer.specs.InFront.{EnteredAhead, first_if, first_group, first_puncts, and_first}
+use Rattle.tok_buffer.specs.Reads.{is_ident_of, is_joint_of, is_punct_of}
+use Rattle.syn_parse.specs.Reads.{Call}
+use Rattle.syn_parse.specs.TreesAhead.{Ahead}
+use Rattle.syn_parse.specs.Takings.{Lightens, Lowers}
+use Rattle.syn_parse.specs.Takes.{Outcome, Taking, found, missing, and_then, ◌>>=◌, gives, where_ahead}
+use Rattle.syn_parse.specs.Takes.{read_as, take_by, take_group, after_inside, inside_first}
+use Rattle.tok_types.specs.Sees.{first_word}
+use Rattle.syn_parse.specs.Tokens.{take_ident, take_keyword, take_literal}
+use Rattle.syn_parse.specs.Tokens.{take_punctuation}
+
+pub lightens_lower : {A : Type 0} (take : Taking A) → Lowers take → Lightens take
+lightens_lower take h = record { less = λ a b v e. omega (arith, h.less a b v e) }
+
+pub lightens_gives : {A : Type 0} (v : A) → Lightens (gives v)
+lightens_gives v = record { less = λ a b w e. let k : a ≡ b = cc in rw k (omega arith) }
+
+pub lightens_bind : {A B : Type 0} (m : Taking A) (k : A → Taking B) → Lightens m
+    → ((v : A) → Lightens (k v)) → Lightens (m >>= k)
+lightens_bind {A} {B} m k h g = record { less = λ a b w e. go a b w (m a) refl e } where
+  go : (a b : Ahead) (w : B) (o : Outcome A) → m a ≡ o → and_then o k ≡ found w b
+      → weight b.trees ≤ weight a.trees
+  go a b w (missing words) e f = absurd (cc)
+  go a b w (found v c) e f = omega (arith, h.less a c v e, (g v).less c b w f)
+
+pub lightens_where : {A : Type 0} (test : Ahead → Bool) (m n : Taking A) → Lightens m → Lightens n
+    → Lightens (where_ahead test m n)
+lightens_where {A} test m n h g = record { less = λ a b w e. go a b w (test a) e } where
+  go : (a b : Ahead) (w : A) (c : Bool) → cond c (m a) (n a) ≡ found w b
+      → weight b.trees ≤ weight a.trees
+  go a b w true e = h.less a b w e
+  go a b w false e = g.less a b w e
+
+pub lowers_bind : {A B : Type 0} (m : Taking A) (k : A → Taking B) → Lowers m
+    → ((v : A) → Lightens (k v)) → Lowers (m >>= k)
+lowers_bind {A} {B} m k h g = record { less = λ a b w e. go a b w (m a) refl e } where
+  go : (a b : Ahead) (w : B) (o : Outcome A) → m a ≡ o → and_then o k ≡ found w b
+      → weight b.trees < weight a.trees
+  go a b w (missing words) e f = absurd (cc)
+  go a b w (found v c) e f = omega (arith, h.less a c v e, (g v).less c b w f)
+
+pub lowers_where : {A : Type 0} (test : Ahead → Bool) (m n : Taking A) → Lowers m → Lowers n
+    → Lowers (where_ahead test m n)
+lowers_where {A} test m n h g = record { less = λ a b w e. go a b w (test a) e } where
+  go : (a b : Ahead) (w : A) (c : Bool) → cond c (m a) (n a) ≡ found w b
+      → weight b.trees < weight a.trees
+  go a b w true e = h.less a b w e
+  go a b w false e = g.less a b w e
+
+-- reads
+abbrev Reading : Type 0
+Reading = Forest → Option (List Tree × Forest)
+
+abbrev Shorter : Reading → Type 0
+Shorter read = (f : Forest) (r : List Tree × Forest) → read f ≡ Some r → weight r.1 < weight f
+
+tree-counts : (t : Tree) → 0 < tree_weight t
+tree-counts (leaf l) = omega arith
+tree-counts (group d inside span) = omega arith
+
+some-rest : {A B : Type 0} {x y : A × B} → Some x ≡ Some y → x.1 ≡ y.1
+some-rest {A} {B} {x} {y} e = let k : x ≡ y = cc in ap (λ p. p.1) k
+
+if-shorter : (wanted : Tree → Bool) → Shorter (first_if wanted)
+if-shorter wanted no_trees r e = absurd (cc)
+if-shorter wanted (tree t f) r e = go (wanted t) e where
+  go : (b : Bool) → cond b (Some (t ∷ [], f)) None ≡ Some r → weight r.1 < weight (tree t f)
+  go true e = subst (λ g. weight g < weight (tree t f)) (some-rest e) (omega (arith, tree-counts t))
+  go false e = absurd (cc)
+
+word-shorter : (text : List ℕ) → Shorter (first_word text)
+word-shorter [] f r e = absurd (cc)
+word-shorter (c ∷ cs) f r e = if-shorter (is_ident_of (bytes_eq (c ∷ cs))) f r e
+
+and-shorter : (f : Forest) (g : Reading) → Shorter g → (x : Option (List Tree × Forest))
+    → ((q : List Tree × Forest) → x ≡ Some q → weight q.1 < weight f) → (r : List Tree × Forest)
+    → and_first x g ≡ Some r → weight r.1 < weight f
+and-shorter f g h None k r e = absurd (cc)
+and-shorter f g h (Some q) k r e = go (g q.1) refl e where
+  go : (y : Option (List Tree × Forest)) → g q.1 ≡ y
+      → elim y [ Some p ↦ Some (q.0 ++ p.0, p.1) | None ↦ None ] ≡ Some r → weight r.1 < weight f
+  go None m e = absurd (cc)
+  go (Some p) m e =
+      subst (λ z. weight z < weight f) (some-rest e) (omega (arith, h q.1 p m, k q refl))
+
+puncts-shorter : (text : List ℕ) → Shorter (first_puncts text)
+puncts-shorter [] f r e = absurd (cc)
+puncts-shorter (c ∷ []) f r e = if-shorter (is_punct_of c) f r e
+puncts-shorter (c ∷ (d ∷ cs)) f r e =
+    and-shorter f (first_puncts (d ∷ cs)) (puncts-shorter (d ∷ cs)) (first_if (is_joint_of c) f)
+    (λ q k. if-shorter (is_joint_of c) f q k) r e
+
+by-lowers : {T : Type 0} (read : Reading) (means : List Tree → T) (words : Forest → List ℕ)
+    → Shorter read → Lowers (take_by read means words)
+by-lowers {T} read means words h = record { less = λ a b v e. go a b v (read a.trees) refl e } where
+  go : (a b : Ahead) (v : T) (x : Option (List Tree × Forest)) → read a.trees ≡ x
+      → read_as means words a x ≡ found v b → weight b.trees < weight a.trees
+  go a b v None k e = absurd (cc)
+  go a b v (Some r) k e =
+      let m : record { trees = r.1; clean = a.clean } ≡ b = cc in
+      subst (λ (c : Ahead). weight c.trees < weight a.trees) m (h a.trees r k)
+
+pub lowers_ident : Lowers take_ident
+unfolding take_ident
+lowers_ident = by-lowers _ _ _ (if-shorter _)
+
+pub lowers_literal : Lowers take_literal
+unfolding take_literal
+lowers_literal = by-lowers _ _ _ (if-shorter _)
+
+pub lowers_keyword : (k : ℕ) → Lowers (take_keyword k)
+unfolding take_keyword
+lowers_keyword k = by-lowers _ _ _ (word-shorter _)
+
+pub lowers_punctuation : (k n : ℕ) → Lowers (take_punctuation k n)
+unfolding take_punctuation
+lowers_punctuation k n = by-lowers _ _ _ (puncts-shorter _)
+
+-- a group weighs more than what is inside and what is after it
+pub group_weighs : (d : Delimiter) (f : Forest) (e : EnteredAhead) → first_group d f ≡ Some e
+    → weight e.content + weight e.after < weight f
+group_weighs d no_trees e h = absurd (cc)
+group_weighs d (tree (leaf l) f) e h = absurd (cc)
+group_weighs d (tree (group c inside span) f) e h = go (same_delimiter d c) h where
+  parts : EnteredAhead
+  parts = record { delimiter = c; span = span; content = inside; after = f }
+
+  go : (b : Bool) → cond b (Some (record { delimiter = c; span = span; content = inside; after = f })) None ≡ Some e
+      → weight e.content + weight e.after < weight (tree (group c inside span) f)
+  go true k =
+      let m : record { delimiter = c; span = span; content = inside; after = f } ≡ e = cc in
+      subst (λ (x : EnteredAhead). weight x.content + weight x.after < weight (tree (group c inside span) f)) m
+      (omega arith)
+  go false k = absurd (cc)
+
+pub lowers_group : {A : Type 0} (d : Delimiter) (inner : Taking A) → Lowers (take_group d inner)
+unfolding take_group
+lowers_group {A} d inner = record { less = λ a b v e. go a b v (first_group d a.trees) refl e } where
+  inside : (a b : Ahead) (v : DelimSpan × A) (x : EnteredAhead) (o : Outcome A)
+      → after_inside a x o ≡ found v b → x.after ≡ b.trees
+  inside a b v x (missing words) e = absurd (cc)
+  inside a b v x (found w c) e = ap (λ (y : Ahead). y.trees) (second e) where
+    second : {B : Type 0} {p q : B} {y z : Ahead} → found p y ≡ found q z → y ≡ z
+    second k = cc
+
+  go : (a b : Ahead) (v : DelimSpan × A) (x : Option EnteredAhead) → first_group d a.trees ≡ x
+      → inside_first d inner a x ≡ found v b → weight b.trees < weight a.trees
+  go a b v None k e = absurd (cc)
+  go a b v (Some x) k e =
+      subst (λ f. weight f < weight a.trees) (inside a b v x _ e)
+      (omega (arith, group_weighs d a.trees x k))
+
+pub lightens_ident : Lightens take_ident
+lightens_ident = lightens_lower take_ident lowers_ident
+
+pub lightens_literal : Lightens take_literal
+lightens_literal = lightens_lower take_literal lowers_literal
+
+pub lightens_keyword : (k : ℕ) → Lightens (take_keyword k)
+lightens_keyword k = lightens_lower (take_keyword k) (lowers_keyword k)
+
+pub lightens_punctuation : (k n : ℕ) → Lightens (take_punctuation k n)
+lightens_punctuation k n = lightens_lower (take_punctuation k n) (lowers_punctuation k n)
+
+pub lightens_group : {A : Type 0} (d : Delimiter) (inner : Taking A) → Lightens (take_group d inner)
+lightens_group d inner = lightens_lower (take_group d inner) (lowers_group d inner)
+
+-- with these `search` proves it of what is built of tokens and groups
+pub ruleset lightening = (
+  lightens_gives, lightens_bind, lightens_where, lightens_ident, lightens_literal,
+  lightens_keyword, lightens_punctuation, lightens_group,
+)
+
+pub ruleset lowering = (
+  lightening, lowers_bind, lowers_where, lowers_ident, lowers_literal, lowers_keyword,
+  lowers_punctuation, lowers_group,
+)

@@ -1,0 +1,32 @@
+-- What is taken where its peek is true, and else nothing.
+use Rattle.std.specs.Prelude.{Bool, Option, None, Some, option_map}
+use Rattle.tok_core.specs.Forest.{Forest}
+use Rattle.syn_parse.specs.Lighter.{lightens_bind, lightens_gives, lightens_lower, lightens_where}
+use Rattle.syn_parse.specs.Takes.{Taking, ◌>>=◌, gives, where_ahead}
+use Rattle.syn_parse.specs.Takings.{Lightens, Takings, Weighs, lighter, lower, told, untold, unweighed}
+use Rattle.syn_parse.specs.TreesAhead.{Ahead}
+
+-- a value where the test is true
+abbrev pub take_optional : {A : Type 0} → (Ahead → Bool) → Taking A → Taking (Option A)
+take_optional test take =
+    where_ahead test (do
+      v ← take
+      gives (Some v)) (gives None)
+
+pub lightens_optional : {A : Type 0} (test : Ahead → Bool) (take : Taking A) → Lightens take
+    → Lightens (take_optional test take)
+lightens_optional test take h =
+    lightens_where test _ _ (lightens_bind take _ h (λ v. lightens_gives (Some v))) (lightens_gives None)
+
+abbrev pub optional_weighs : {A : Type 0} (test : Ahead → Bool) (take : Taking A) → Weighs take
+    → Weighs (take_optional test take)
+optional_weighs test take unweighed = unweighed
+optional_weighs test take (lighter h) = lighter (lightens_optional test take h)
+optional_weighs test take (lower h) = lighter (lightens_optional test take (lightens_lower take h))
+
+abbrev pub optional : {T : Type 0} → Option (Forest → Bool) → Takings T → Takings (Option T)
+optional None takes = untold
+optional (Some test) untold = untold
+optional (Some test) (told form take weighs) =
+    told (option_map form) (take_optional (λ a. test a.trees) take)
+    (optional_weighs (λ a. test a.trees) take weighs)

@@ -1,0 +1,163 @@
+-- Parsers as functions of what is ahead.
+use Rattle.std.specs.Prelude.{◌≡◌, ◌<◌, ℕ, Bool, ◌&&◌, true, cond, not, List, ◌++◌, codes}
+use Rattle.std.specs.Prelude.{Option, Some, None, Result, Ok, Err}
+use Rattle.tok_lexical.specs.declared.delimiter.Delimiter.{Delimiter}
+use Rattle.tok_leaves.specs.declared.span.DelimSpan.{DelimSpan}
+use Rattle.tok_core.specs.Filled.{filled, has_trees}
+use Rattle.tok_core.specs.Forest.{Tree, Forest}
+use Rattle.tok_core.specs.Weight.{weight}
+use Rattle.tok_buffer.specs.InFront.{EnteredAhead, first_group}
+use Rattle.tok_buffer.specs.Messages.{first_text}
+use Rattle.tok_buffer.specs.View.{IsVisibleDelimiter}
+use Rattle.syn_parse.specs.Reads.{Call}
+use Rattle.syn_parse.specs.RefusalWords.{delimiter_words}
+use Rattle.syn_parse.specs.State.{State}
+use Rattle.syn_parse.specs.declared.fault.Fault.{Fault}
+use Rattle.syn_parse.specs.declared.fault.Fault.TheVariants.{Refused, Memory}
+use Rattle.syn_parse.specs.TreesAhead.{Ahead, IsFilled, ahead, all_taken, is_spent, whole}
+
+-- a value and what is ahead after it, or the words of a refusal
+pub data Outcome (A : Type 0) : Type 0 where
+  found : A → Ahead → Outcome A
+  missing : List ℕ → Outcome A
+
+abbrev pub Taking : Type 0 → Type 0
+Taking A = Ahead → Outcome A
+
+abbrev pub and_then : {A B : Type 0} → Outcome A → (A → Ahead → Outcome B) → Outcome B
+and_then (found v a) k = k v a
+and_then (missing words) k = missing words
+
+infixl 10 ◌>>=◌
+abbrev pub ◌>>=◌ : {A B : Type 0} → Taking A → (A → Taking B) → Taking B
+m >>= k = λ a. and_then (m a) k
+
+-- a value, and no tree
+abbrev pub gives : {A : Type 0} → A → Taking A
+gives v = found v
+
+-- one of two, by a test
+abbrev pub where_ahead : {A : Type 0} → (Ahead → Bool) → Taking A → Taking A → Taking A
+where_ahead test there other a = cond (test a) (there a) (other a)
+
+-- words that name the end where nothing is left
+abbrev pub or_end : List ℕ → Forest → List ℕ
+or_end words f = cond (not (has_trees f)) (codes "unexpected end of input, " ++ words) words
+
+-- trees that are read, and what they mean
+abbrev pub read_as : {T : Type 0} → (List Tree → T) → (Forest → List ℕ) → Ahead
+    → Option (List Tree × Forest) → Outcome T
+read_as means words a None = missing (words a.trees)
+read_as means words a (Some r) = found (means r.0) (record { trees = r.1; clean = a.clean })
+
+abbrev pub take_by : {T : Type 0} → (Forest → Option (List Tree × Forest)) → (List Tree → T)
+    → (Forest → List ℕ) → Taking T
+take_by read means words a = read_as means words a (read a.trees)
+
+-- a group: what is taken inside, and then what is after; a tree left unread inside is noted
+abbrev pub after_inside : {T : Type 0} → Ahead → EnteredAhead → Outcome T → Outcome (DelimSpan × T)
+after_inside a e (missing words) = missing words
+after_inside a e (found v b) =
+    found (record { join = e.span }, v)
+    (record { trees = e.after; clean = a.clean && b.clean && is_spent b })
+
+abbrev pub inside_first : {T : Type 0} → Delimiter → Taking T → Ahead → Option EnteredAhead
+    → Outcome (DelimSpan × T)
+inside_first d inner a None = missing (or_end (delimiter_words d) a.trees)
+inside_first d inner a (Some e) =
+    after_inside a e (inner (record { trees = e.content; clean = true }))
+
+unfoldable pub take_group : {T : Type 0} → Delimiter → Taking T → Taking (DelimSpan × T)
+take_group d inner a = inside_first d inner a (first_group d a.trees)
+
+-- nothing is found
+abbrev pub IsMissing : {A : Type 0} → Outcome A → Type 0
+IsMissing (found v a) = ⊥
+IsMissing (missing words) = Unit {0}
+
+-- a refusal of which this holds, or an allocation failure
+abbrev pub MemoryOr : Fault → Type 0 → Type 0
+MemoryOr (Refused e) P = P
+MemoryOr (Memory e) P = Unit {0}
+
+-- a refusal has these words
+abbrev pub Says : {A : Type 0} → Outcome A → Fault → Type 0
+Says o (Refused e) = o ≡ missing (first_text e)
+Says o (Memory e) = Unit {0}
+
+-- a call returns what is taken, seen in a form, and leaves what is ahead then
+abbrev pub TakesAs : {T A : Type 0} → (T → A) → Taking A → Call T
+TakesAs form take s (Ok v) t =
+    (take (ahead s) ≡ found (form v) (ahead t)) × (IsFilled s.place → IsFilled t.place)
+TakesAs form take s (Err f) t =
+    MemoryOr f (IsMissing (take (ahead s))) × (IsFilled s.place → Says (take (ahead s)) f)
+
+-- the same of the value itself
+abbrev pub Takes : {T : Type 0} → Taking T → Call T
+Takes = TakesAs (λ v. v)
+
+-- what is found is the form of this value, and this is ahead then
+abbrev pub Finds : {T A : Type 0} → (T → A → Type 0) → T → Ahead → Outcome A → Type 0
+Finds Is v b (found x c) = Is v x × (c ≡ b)
+Finds Is v b (missing words) = ⊥
+
+-- a call returns a value of which what is taken is the form, where the form is no function of it
+abbrev pub TakesBy : {T A : Type 0} → (T → A → Type 0) → Taking A → Call T
+TakesBy Is take s (Ok v) t =
+    Finds Is v (ahead t) (take (ahead s)) × (IsFilled s.place → IsFilled t.place)
+TakesBy Is take s (Err f) t =
+    MemoryOr f (IsMissing (take (ahead s))) × (IsFilled s.place → Says (take (ahead s)) f)
+
+abbrev pub TakeWithinBy : {T A : Type 0} → Ahead → (T → A → Type 0) → Taking A → Call T → Type 0
+TakeWithinBy {T} a Is take calls =
+    (s : State) (r : Result T Fault) (t : State) → weight (ahead s).trees < weight a.trees
+    → calls s r t → TakesBy Is take s r t
+
+-- a group's span and the form of what is inside
+abbrev pub Within : {T A : Type 0} → (T → A → Type 0) → DelimSpan × T → DelimSpan × A → Type 0
+Within Is v x = (x.0 ≡ v.0) × Is v.1 x.1
+
+-- each call of a function does
+abbrev pub TakeEach : {T A : Type 0} → (T → A) → Taking A → Call T → Type 0
+TakeEach {T} form take calls =
+    (s : State) (r : Result T Fault) (t : State) → calls s r t → TakesAs form take s r t
+
+-- each call does, where what is ahead weighs less than this
+abbrev pub TakeWithin : {T A : Type 0} → Ahead → (T → A) → Taking A → Call T → Type 0
+TakeWithin {T} a form take calls =
+    (s : State) (r : Result T Fault) (t : State) → weight (ahead s).trees < weight a.trees
+    → calls s r t → TakesAs form take s r t
+
+-- a call that runs a function within a group takes the group, where the function takes what is inside
+abbrev pub RunsAhead : {R : Type 0} → Call R → Delimiter → Call (DelimSpan × R)
+RunsAhead {R} calls d s r t =
+    IsVisibleDelimiter d → (inner : Taking R) → TakeWithin (ahead s) (λ v. v) inner calls
+    → Takes (take_group d inner) s r t
+
+-- all trees are this
+abbrev pub IsAll : {A : Type 0} → Taking A → Forest → A → Type 0
+IsAll take f x = take (whole f) ≡ found x all_taken
+
+-- a refusal has the words that are found missing; of a leftover's words nothing is said
+abbrev pub SaysAll : {A : Type 0} → Outcome A → Fault → Type 0
+SaysAll (found v a) f = Unit {0}
+SaysAll (missing words) (Refused e) = first_text e ≡ words
+SaysAll (missing words) (Memory e) = Unit {0}
+
+-- the value that all trees are, or a refusal where they are none
+abbrev pub TakesAll : {T A : Type 0} → (T → A) → Taking A → Forest → Result T Fault → Type 0
+TakesAll form take f (Ok v) = IsAll take f (form v)
+TakesAll {A} form take f (Err e) =
+    MemoryOr e ((x : A) → IsAll take f x → ⊥) × (filled f ≡ true → SaysAll (take (whole f)) e)
+
+-- two results agree: values of one form, or none in both; an allocation failure agrees with each
+abbrev pub Agree : {T A : Type 0} → (T → A) → Result T Fault → Result T Fault → Type 0
+Agree form (Ok v) (Ok w) = form v ≡ form w
+Agree form (Ok v) (Err f) = MemoryOr f ⊥
+Agree form (Err f) (Ok w) = MemoryOr f ⊥
+Agree form (Err f) (Err g) = Unit {0}
+
+-- two refusals agree where words are found missing, and not a tree left over
+abbrev pub WordsAgree : {T A : Type 0} → Outcome A → Result T Fault → Result T Fault → Type 0
+WordsAgree (missing words) (Err (Refused d)) (Err (Refused e)) = first_text d ≡ first_text e
+WordsAgree o left right = Unit {0}

@@ -1,0 +1,79 @@
+-- What a type states of its parser, by the visible trees ahead.
+use Rattle.std.specs.Prelude.{◌≡◌, ◌<◌, ◌≤◌, ◌⊎◌, ℕ, List, Result, true}
+use Rattle.std.specs.Global.{Box}
+use Rattle.tok_lexical.specs.Rules.{plain_rules}
+use Rattle.tok_core.specs.Erase.{erase}
+use Rattle.tok_core.specs.Filled.{filled}
+use Rattle.tok_core.specs.Forest.{Forest}
+use Rattle.tok_core.specs.Lexical.Reading as grammar
+use Rattle.tok_core.specs.Weight.{weight}
+use Rattle.tok_core.specs.declared.lexer.error.LexError.{LexError}
+use Rattle.syn_parse.specs.Faults.{IsRefused}
+use Rattle.syn_parse.specs.Parsers.{OnMemory, lex_refusal}
+use Rattle.syn_parse.specs.Reads.{Call}
+use Rattle.syn_parse.specs.Takes.{Agree, Taking, TakesAll, TakesAs, WordsAgree, found}
+use Rattle.syn_parse.specs.TreesAhead.{Ahead, whole}
+use Rattle.syn_parse.specs.declared.fault.Fault.{Fault}
+
+-- no more is ahead
+pub record Lightens {A : Type 0} (take : Taking A) : Type 0 where
+  pub less : (a b : Ahead) (v : A) → take a ≡ found v b → weight b.trees ≤ weight a.trees
+
+-- less is ahead
+pub record Lowers {A : Type 0} (take : Taking A) : Type 0 where
+  pub less : (a b : Ahead) (v : A) → take a ≡ found v b → weight b.trees < weight a.trees
+
+-- what is known of how much is taken
+pub data Weighs {A : Type 0} (take : Taking A) : Type 0 where
+  unweighed : Weighs take
+  lighter : Lightens take → Weighs take
+  lower : Lowers take → Weighs take
+
+-- nothing; or what is taken, and the form in which contracts see a value
+pub data Takings (T : Type 0) : Type 1 where
+  untold : Takings T
+  told : {A : Type 0} (form : T → A) (take : Taking A) → Weighs take → Takings T
+
+-- a value is taken as it is
+abbrev pub taken : {T : Type 0} → Taking T → Takings T
+taken take = told (λ v. v) take unweighed
+
+-- it is taken in a form
+abbrev pub taken_as : {T A : Type 0} → (T → A) → Taking A → Takings T
+taken_as form take = told form take unweighed
+
+-- a call keeps what is stated
+abbrev pub Keeps : {T : Type 0} → Takings T → Call T
+Keeps untold s r t = Unit {0}
+Keeps (told form take weighs) s r t = TakesAs form take s r t
+
+-- the same of a box
+abbrev pub boxed : {T : Type 0} → Takings T → Takings (Box T)
+boxed untold = untold
+boxed (told form take weighs) = told (λ b. form b.value) take weighs
+
+-- a whole stream keeps what is stated
+abbrev pub KeepsWhole : {T : Type 0} → Takings T → Forest → Result T Fault → Type 0
+KeepsWhole untold f r = Unit {0}
+KeepsWhole (told form take weighs) f r = TakesAll form take f r
+
+-- two streams that differ only in invisible groups agree
+abbrev pub KeepsBoth : {T : Type 0} → Takings T → (left right : Forest) → Result T Fault
+    → Result T Fault → Type 0
+KeepsBoth untold left right x y = Unit {0}
+KeepsBoth (told form take weighs) left right x y = erase left ≡ erase right → Agree form x y
+
+-- in words too, where each invisible group holds something
+abbrev pub KeepsWords : {T : Type 0} → Takings T → (left right : Forest) → Result T Fault
+    → Result T Fault → Type 0
+KeepsWords untold left right x y = Unit {0}
+KeepsWords (told form take weighs) left right x y =
+    erase left ≡ erase right → filled left ≡ true → filled right ≡ true
+    → WordsAgree (take (whole left)) x y
+
+-- a text reads as a forest, which keeps what is stated; or the grammar refuses it
+abbrev pub KeepsText : {T : Type 0} → Takings T → List ℕ → Result T Fault → Type 0
+KeepsText takes text r =
+    ((f : Forest) × grammar.Reads plain_rules 0 text f × KeepsWhole takes f r)
+    ⊎ (((e : LexError) × grammar.IsRefused plain_rules 0 text e × IsRefused (lex_refusal e) r)
+    ⊎ OnMemory r)

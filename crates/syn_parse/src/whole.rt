@@ -1,0 +1,50 @@
+// Whole streams and texts.
+ghost use Rattle.std.specs.Str.{chars};
+ghost use Rattle.tok_leaves.specs.Spans.{call_site};
+ghost use Rattle.syn_parse.specs.Parsers.{ParsesText, ParsesWhole, whole_stream};
+ghost use Rattle.syn_parse.specs.Takings.{KeepsBoth, KeepsText, KeepsWhole, KeepsWords};
+
+use crate::fault::Result;
+use crate::parse::Parse;
+use crate::parser::{settle, unread};
+use crate::stream::tokens_to_parse_buffer;
+use std::alloc::Global;
+use tok_buffer::TokenBuffer;
+use tok_core::{Span, TokenStream, lex};
+
+/// Parses all of these tokens: `let entry: Entry = parse2(alloc, tokens)?;`. A refusal of the parser comes first; otherwise
+/// a token that is left unread is refused.
+pub fn parse2<T: Parse + Drop>(alloc: Global, tokens: TokenStream) -> Result<T>
+    ensures reads { ParsesWhole T.parses (whole_stream tokens call_site) result }
+    ensures takes { KeepsWhole T.takes tokens result }
+{
+    let buffer = TokenBuffer::new2(alloc, 0, tokens)?;
+    let mut input = tokens_to_parse_buffer(alloc, &buffer, Span::call_site());
+    let parsed = T::parse(&mut input);
+    settle(parsed, input)
+}
+
+/// Lexes a text as source 0, and parses its tokens as `parse2` does.
+pub fn parse_str<T: Parse + Drop>(alloc: Global, text: &str) -> Result<T>
+    ensures reads { ParsesText T.parses (chars text.now) result }
+    ensures takes { KeepsText T.takes (chars text.now) result }
+{
+    match lex(alloc, 0, text) {
+        Ok(tokens) => parse2(alloc, tokens),
+        Err(fault) => Err(unread(alloc, fault)),
+    }
+}
+
+/// Parses two streams. Where they differ only in invisible groups the results agree.
+pub fn parse_both<T: Parse + Drop>(
+    alloc: Global,
+    left: TokenStream,
+    right: TokenStream,
+) -> (Result<T>, Result<T>)
+    ensures left { KeepsWhole T.takes left result.0 }
+    ensures right { KeepsWhole T.takes right result.1 }
+    ensures agree { KeepsBoth T.takes left right result.0 result.1 }
+    ensures words { KeepsWords T.takes left right result.0 result.1 }
+{
+    (parse2(alloc, left), parse2(alloc, right))
+}

@@ -1,0 +1,44 @@
+-- What a peek sees of the visible trees ahead.
+use Rattle.std.specs.Prelude.{◌≡◌, ℕ, Bool, List, [], ◌∷◌, Option, None, Some, is_some, bytes_eq, codes}
+use Rattle.tok_lexical.specs.declared.delimiter.Delimiter.{Delimiter}
+use Rattle.tok_core.specs.Forest.{Tree, Forest}
+use Rattle.tok_buffer.specs.InFront.{first_group, first_if, first_puncts}
+use Rattle.tok_buffer.specs.Place.{Place}
+use Rattle.tok_buffer.specs.Reads.{is_ident, is_ident_of, is_literal, is_punct}
+use Rattle.tok_buffer.specs.View.{erased_ahead}
+use Rattle.tok_types.specs.Texts.{accept_as_ident, keyword_text, punctuation_word}
+
+-- a peek is true exactly where the test of the visible trees ahead is; of no test nothing is said
+abbrev pub Sees : Option (Forest → Bool) → Place → Bool → Type 0
+Sees None p found = Unit {0}
+Sees (Some test) p found = found ≡ test (erased_ahead p)
+
+-- an identifier of this text; the empty text is never found
+abbrev pub first_word : List ℕ → Forest → Option (List Tree × Forest)
+first_word [] f = None
+first_word (c ∷ cs) f = first_if (is_ident_of (bytes_eq (c ∷ cs))) f
+
+unfoldable pub ident_first : Forest → Bool
+ident_first f = is_some (first_if (is_ident_of accept_as_ident) f)
+
+unfoldable pub any_ident_first : Forest → Bool
+any_ident_first f = is_some (first_if is_ident f)
+
+unfoldable pub literal_first : Forest → Bool
+literal_first f = is_some (first_if is_literal f)
+
+unfoldable pub punct_first : Forest → Bool
+punct_first f = is_some (first_if is_punct f)
+
+unfoldable pub underscore_first : Forest → Bool
+underscore_first f = is_some (first_word (codes "_") f)
+
+-- a keyword, and a punctuation, by its number
+unfoldable pub keyword_first : ℕ → Forest → Bool
+keyword_first k f = is_some (first_word (keyword_text k) f)
+
+unfoldable pub punctuation_first : (k n : ℕ) → Forest → Bool
+punctuation_first k n f = is_some (first_puncts (punctuation_word k n) f)
+
+unfoldable pub group_first : Delimiter → Forest → Bool
+group_first d f = is_some (first_group d f)
