@@ -202,7 +202,6 @@ module _ {T A : Type 0} (Is : T → A → Type 0) (inner : Taking A) (calls : Ca
       ap (λ (y : Ahead). record { trees = erased_ahead e.after; clean = (ahead s).clean && y.clean && is_spent y }) f.1
           ∙ sym (ap ahead k ∙ after-closed left s e),
     )
-
   ran-by e (Ok v) left (Err g) h i w k = absurd w
   ran-by e (Err f) left (Ok found_) h i w k = absurd w
   ran-by e (Err f) left (Err g) h i w k =
@@ -232,7 +231,6 @@ module _ {T A : Type 0} (Is : T → A → Type 0) (inner : Taking A) (calls : Ca
       → RunsWithin calls (enter d s.place) (refused_at s (delimiter_words d)) s r t
       → TakesBy (Within Is) (take_group d inner) s r t
   group_told_by r w = within-by (enter d s.place) r refl w
-
 
 -- a call of a function that is passed
 pub at-states : {T : Type 0} (calls : Call T) (s t u v : State) (r : Result T Fault) → s ≡ u → t ≡ v

@@ -170,20 +170,20 @@ parens_taken inner (tree (group delimiter.Bracket x y) f) c b v e = absurd (cc)
 parens_taken inner (tree (group delimiter.None x y) f) c b v e = absurd (cc)
 parens_taken {A} inner (tree (group delimiter.Parenthesis content span) f) c b v e =
     go (inner (record { trees = content; clean = true })) refl e where
-  go : (o : Outcome A) → inner (record { trees = content; clean = true }) ≡ o
-      → after_inside (record { trees = tree (group delimiter.Parenthesis content span) f; clean = c })
-      (record { delimiter = delimiter.Parenthesis; span = span; content = content; after = f }) o ≡ found v b
-      → ParensTaken inner v (record { trees = tree (group delimiter.Parenthesis content span) f; clean = c }) b
-  go (missing words) h k = absurd (cc)
-  go (found w left) h k =
-      let both : (record { join = span }, w) ≡ v = found-first k in
-      let after : record { trees = f; clean = c && left.clean && is_spent left } ≡ b = found-second k in
-      record {
-        content = content;
-        left = left;
-        inside = h ∙ ap (λ (x : DelimSpan × A). found x.1 left) both;
-        trees =
-            ap (λ (x : DelimSpan × A). tree (group delimiter.Parenthesis content x.0.join) f) both
-            ∙ ap (λ (y : Ahead). tree (group delimiter.Parenthesis content v.0.join) y.trees) after;
-        clean = sym (ap (λ (y : Ahead). y.clean) after);
-      }
+      go : (o : Outcome A) → inner (record { trees = content; clean = true }) ≡ o
+          → after_inside (record { trees = tree (group delimiter.Parenthesis content span) f; clean = c })
+          (record { delimiter = delimiter.Parenthesis; span = span; content = content; after = f }) o ≡ found v b
+          → ParensTaken inner v (record { trees = tree (group delimiter.Parenthesis content span) f; clean = c }) b
+      go (missing words) h k = absurd (cc)
+      go (found w left) h k =
+          let both : (record { join = span }, w) ≡ v = found-first k in
+          let after : record { trees = f; clean = c && left.clean && is_spent left } ≡ b = found-second k in
+          record {
+            content = content;
+            left = left;
+            inside = h ∙ ap (λ (x : DelimSpan × A). found x.1 left) both;
+            trees =
+                ap (λ (x : DelimSpan × A). tree (group delimiter.Parenthesis content x.0.join) f) both
+                ∙ ap (λ (y : Ahead). tree (group delimiter.Parenthesis content v.0.join) y.trees) after;
+            clean = sym (ap (λ (y : Ahead). y.clean) after);
+          }

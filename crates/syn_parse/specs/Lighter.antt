@@ -134,30 +134,34 @@ group_weighs d (tree (group c inside span) f) e h = go (same_delimiter d c) h wh
   parts : EnteredAhead
   parts = record { delimiter = c; span = span; content = inside; after = f }
 
-  go : (b : Bool) → cond b (Some (record { delimiter = c; span = span; content = inside; after = f })) None ≡ Some e
+  go : (b : Bool)
+      → cond b (Some (record { delimiter = c; span = span; content = inside; after = f })) None
+      ≡ Some e
       → weight e.content + weight e.after < weight (tree (group c inside span) f)
   go true k =
       let m : record { delimiter = c; span = span; content = inside; after = f } ≡ e = cc in
-      subst (λ (x : EnteredAhead). weight x.content + weight x.after < weight (tree (group c inside span) f)) m
-      (omega arith)
+      subst
+      (λ (x : EnteredAhead). weight x.content + weight x.after
+      < weight (tree (group c inside span) f)) m (omega arith)
   go false k = absurd (cc)
 
 pub lowers_group : {A : Type 0} (d : Delimiter) (inner : Taking A) → Lowers (take_group d inner)
 unfolding take_group
-lowers_group {A} d inner = record { less = λ a b v e. go a b v (first_group d a.trees) refl e } where
-  inside : (a b : Ahead) (v : DelimSpan × A) (x : EnteredAhead) (o : Outcome A)
-      → after_inside a x o ≡ found v b → x.after ≡ b.trees
-  inside a b v x (missing words) e = absurd (cc)
-  inside a b v x (found w c) e = ap (λ (y : Ahead). y.trees) (second e) where
-    second : {B : Type 0} {p q : B} {y z : Ahead} → found p y ≡ found q z → y ≡ z
-    second k = cc
+lowers_group {A} d inner =
+    record { less = λ a b v e. go a b v (first_group d a.trees) refl e } where
+      inside : (a b : Ahead) (v : DelimSpan × A) (x : EnteredAhead) (o : Outcome A)
+          → after_inside a x o ≡ found v b → x.after ≡ b.trees
+      inside a b v x (missing words) e = absurd (cc)
+      inside a b v x (found w c) e = ap (λ (y : Ahead). y.trees) (second e) where
+        second : {B : Type 0} {p q : B} {y z : Ahead} → found p y ≡ found q z → y ≡ z
+        second k = cc
 
-  go : (a b : Ahead) (v : DelimSpan × A) (x : Option EnteredAhead) → first_group d a.trees ≡ x
-      → inside_first d inner a x ≡ found v b → weight b.trees < weight a.trees
-  go a b v None k e = absurd (cc)
-  go a b v (Some x) k e =
-      subst (λ f. weight f < weight a.trees) (inside a b v x _ e)
-      (omega (arith, group_weighs d a.trees x k))
+      go : (a b : Ahead) (v : DelimSpan × A) (x : Option EnteredAhead) → first_group d a.trees ≡ x
+          → inside_first d inner a x ≡ found v b → weight b.trees < weight a.trees
+      go a b v None k e = absurd (cc)
+      go a b v (Some x) k e =
+          subst (λ f. weight f < weight a.trees) (inside a b v x _ e)
+          (omega (arith, group_weighs d a.trees x k))
 
 pub lightens_ident : Lightens take_ident
 lightens_ident = lightens_lower take_ident lowers_ident
@@ -176,11 +180,23 @@ lightens_group d inner = lightens_lower (take_group d inner) (lowers_group d inn
 
 -- with these `search` proves it of what is built of tokens and groups
 pub ruleset lightening = (
-  lightens_gives, lightens_bind, lightens_where, lightens_ident, lightens_literal,
-  lightens_keyword, lightens_punctuation, lightens_group,
+  lightens_gives,
+  lightens_bind,
+  lightens_where,
+  lightens_ident,
+  lightens_literal,
+  lightens_keyword,
+  lightens_punctuation,
+  lightens_group,
 )
 
 pub ruleset lowering = (
-  lightening, lowers_bind, lowers_where, lowers_ident, lowers_literal, lowers_keyword,
-  lowers_punctuation, lowers_group,
+  lightening,
+  lowers_bind,
+  lowers_where,
+  lowers_ident,
+  lowers_literal,
+  lowers_keyword,
+  lowers_punctuation,
+  lowers_group,
 )

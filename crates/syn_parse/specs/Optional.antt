@@ -16,7 +16,9 @@ take_optional test take =
 pub lightens_optional : {A : Type 0} (test : Ahead → Bool) (take : Taking A) → Lightens take
     → Lightens (take_optional test take)
 lightens_optional test take h =
-    lightens_where test _ _ (lightens_bind take _ h (λ v. lightens_gives (Some v))) (lightens_gives None)
+    lightens_where test _ _
+    (lightens_bind take _ h (λ v. lightens_gives (Some v)))
+    (lightens_gives None)
 
 abbrev pub optional_weighs : {A : Type 0} (test : Ahead → Bool) (take : Taking A) → Weighs take
     → Weighs (take_optional test take)

@@ -128,7 +128,7 @@ TakeWithin {T} a form take calls =
     (s : State) (r : Result T Fault) (t : State) → weight (ahead s).trees < weight a.trees
     → calls s r t → TakesAs form take s r t
 
--- a call that runs a function within a group takes the group, where the function takes what is inside
+-- a call that runs a function in a group takes the group, if the function takes what is inside
 abbrev pub RunsAhead : {R : Type 0} → Call R → Delimiter → Call (DelimSpan × R)
 RunsAhead {R} calls d s r t =
     IsVisibleDelimiter d → (inner : Taking R) → TakeWithin (ahead s) (λ v. v) inner calls

@@ -80,8 +80,8 @@ abbrev pub entry_owner : Entry → Owner
 entry_owner (Group g k) = in_group g.delimiter g.span
 entry_owner e = whole
 
--- The entries of levels that are open, outermost first: the end after each stands where the entry of
--- the next level's group is to come.
+-- The entries of levels that are open, outermost first: the end after each stands where the entry
+-- of the next level's group is to come.
 abbrev pub laid : List Forest → List Entry
 laid [] = []
 laid (f ∷ s) = layout f ++ End 0 ∷ laid s

@@ -58,7 +58,8 @@ impl<B: Build + Drop> Nest<B> {
         requires fits { at + 1 < 2 ^ 64 }
         ensures { (from : ℕ)
             → OnOk result
-            (Grows from (state B.levels self.old) (state B.levels self.new) (punct_item self.old.source at ch is_joint ∷ [])) }
+            (Grows from (state B.levels self.old) (state B.levels self.new)
+            (punct_item self.old.source at ch is_joint ∷ [])) }
     {
         let span = Span::source(self.source, at, at + 1);
         let punct = unchecked::punct(ch, spacing(is_joint), span);
@@ -137,7 +138,8 @@ impl<B: Build + Drop> Nest<B> {
         ensures ok { OnOk result
             (Grows at (state B.levels self.old) (state B.levels self.new)
             (doc_items self.old.source at end is_inner (chars text.now))) }
-        ensures refused { IfErr result (λ fault. OnRefused fault (IsTooDeep (state B.levels self.old) at)) }
+        ensures refused { IfErr result
+            (λ fault. OnRefused fault (IsTooDeep (state B.levels self.old) at)) }
     {
         let levels = self.open.len();
         if levels == 256 {
@@ -151,8 +153,11 @@ impl<B: Build + Drop> Nest<B> {
 
     /// A new innermost level, at most the 256th.
     fn open(&mut self, delimiter: Delimiter, at: usize) -> Result<(), LexFault>
-        ensures ok { OnOk result (Grows at (state B.levels self.old) (state B.levels self.new) (opening delimiter at ∷ [])) }
-        ensures refused { IfErr result (λ fault. OnRefused fault (IsTooDeep (state B.levels self.old) at)) }
+        ensures ok { OnOk result
+            (Grows at (state B.levels self.old) (state B.levels self.new)
+            (opening delimiter at ∷ [])) }
+        ensures refused { IfErr result
+            (λ fault. OnRefused fault (IsTooDeep (state B.levels self.old) at)) }
     {
         if self.open.len() == 256 {
             let error = LexError::new(Reason::DeepGroup, self.source, at);
@@ -172,8 +177,11 @@ impl<B: Build + Drop> Nest<B> {
         requires order { at ≤ end }
         requires reached { Reached self.old.«open».items at }
         requires paired { IsPaired (state B.levels self.old) }
-        ensures ok { OnOk result (Grows at (state B.levels self.old) (state B.levels self.new) (closing delimiter end ∷ [])) }
-        ensures refused { IfErr result (λ fault. OnRefused fault (IsUnfit (state B.levels self.old) delimiter at)) }
+        ensures ok { OnOk result
+            (Grows at (state B.levels self.old) (state B.levels self.new)
+            (closing delimiter end ∷ [])) }
+        ensures refused { IfErr result
+            (λ fault. OnRefused fault (IsUnfit (state B.levels self.old) delimiter at)) }
     {
         let error = LexError::new(Reason::UnexpectedClosing, self.source, at);
         let Some((opened, start)) = self.open.pop() else {
