@@ -1,9 +1,9 @@
-// The callers of the crate `callers`, each run once, and the examples of docs/CALLING.md that are none of these.
-use callers::buffer::{any_lifetime, pair_of_idents};
-use callers::loops::{past_idents, past_sign};
-use callers::punctuated::{put_seven, raise_first, raise_last, total, two_three_four, written};
-use callers::tokens::{Sealed, either, is_restricted, write_restricted};
-use callers::trees::{by_hand, printed};
+// The functions of the crate `examples`, each run once, and the examples of docs/CALLING.md that are none of these.
+use examples::buffer::{any_lifetime, pair_of_idents};
+use examples::loops::{past_idents, past_sign};
+use examples::punctuated::{put_seven, raise_first, raise_last, total, two_three_four, written};
+use examples::tokens::{Sealed, either, is_restricted, write_restricted};
+use examples::trees::{by_hand, printed};
 use std::test::Fail;
 use syn_punctuated::Punctuated;
 use syn_tokens::{Command, Kind, replay};
@@ -42,7 +42,7 @@ fn reads_two_idents_across_edges(rt: HostRuntime) -> Result<(), Fail> {
 }
 
 #[test]
-fn a_token_of_the_callers_own(rt: HostRuntime) -> Result<(), Fail> {
+fn a_token_of_ones_own(rt: HostRuntime) -> Result<(), Fail> {
     let alloc = rt.alloc();
     let sealed = TokenBuffer::new2(alloc, 0, lex_marked(alloc, 0, "«sealed» trait")?)?;
     assert!(rt; Sealed::peek(sealed.begin()));

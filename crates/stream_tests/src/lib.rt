@@ -1,5 +1,5 @@
 //! Tests of the public calls of parse streams and of `replay`, of the program, of the reader of arguments, and of the
-//! callers: as in `api_tests`.
+//! callers: as in `token_tests`.
 #![tactic(auto)]
 
 #[cfg(test)]

@@ -1,7 +1,7 @@
-// The callers of streams, each run once.
+// The examples of streams, each run once.
 use super::refuses;
-use callers::lists::{names, parse_items};
-use callers::streams::{Item, Kind, count_names, next_kind, next_tree, optional_field};
+use examples::lists::{names, parse_items};
+use examples::streams::{Item, Kind, count_names, next_kind, next_tree, optional_field};
 use syn_parse::{Parse, ParseStream, Parser, Result};
 use tok_core::TokenStream;
 

@@ -1,0 +1,11 @@
+pub mod Entries
+pub mod Items
+pub mod Lists
+pub mod Looks
+pub mod Loops
+pub mod Nested
+pub mod Settings
+pub mod Streams
+pub mod Text
+pub mod Trees
+pub mod Views

@@ -1,0 +1,13 @@
+//! Callers of the crates, as a user would write them, proved from public contracts alone.
+#![tactic(auto)]
+
+pub mod buffer;
+pub mod entry;
+pub mod lists;
+pub mod loops;
+pub mod punctuated;
+pub mod setting;
+pub mod streams;
+pub mod tokens;
+pub mod trees;
+pub mod views;

@@ -1,0 +1,63 @@
+// Settings and fields.
+ghost use Rattle.syn_parse.specs.Takes.{Takes};
+ghost use Rattle.syn_parse.specs.Takings.{taken};
+ghost use Rattle.examples.specs.Settings.{take_field, take_flag, take_setting};
+
+use syn_parse::{Parse, ParseStream, Result};
+use tok_core::{Ident, Literal};
+use tok_types::token;
+
+/// A name, and a value after `=` if there is one.
+#[derive(Drop)]
+pub struct Setting {
+    pub name: Ident,
+    pub value: Option<Literal>,
+}
+
+pub fn read_setting(input: ParseStream<'_, '_>) -> Result<Setting>
+    ensures { Takes take_setting input.old result input.new }
+{
+    let name = input.parse()?;
+    let value = if input.peek::<token::Eq>() {
+        let _: token::Eq = input.parse()?;
+        Some(input.parse()?)
+    } else {
+        None
+    };
+    Ok(Setting { name, value })
+}
+
+/// A name, with a star before it or not.
+#[derive(Drop)]
+pub struct Flag {
+    pub star: Option<token::Star>,
+    pub name: Ident,
+}
+
+impl Parse for Flag {
+    ghost takes = { taken take_flag };
+
+    fn parse(input: ParseStream<'_, '_>) -> Result<Self> {
+        let star = input.parse()?;
+        let name = input.parse()?;
+        Ok(Flag { star, name })
+    }
+}
+
+/// A field `name: Kind`.
+#[derive(Drop)]
+pub struct Field {
+    pub name: Ident,
+    pub kind: Ident,
+}
+
+impl Parse for Field {
+    ghost takes = { taken take_field };
+
+    fn parse(input: ParseStream<'_, '_>) -> Result<Self> {
+        let name = input.parse()?;
+        let _: token::Colon = input.parse()?;
+        let kind = input.parse()?;
+        Ok(Field { name, kind })
+    }
+}
