@@ -3,8 +3,12 @@
 #![tactic(auto)]
 
 #[cfg(test)]
+mod leaves;
+#[cfg(test)]
 mod lexer;
 #[cfg(test)]
 mod sources;
 #[cfg(test)]
 mod texts;
+#[cfg(test)]
+mod trees;
