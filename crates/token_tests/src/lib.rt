@@ -3,6 +3,10 @@
 #![tactic(auto)]
 
 #[cfg(test)]
+mod buffer;
+#[cfg(test)]
+mod entries;
+#[cfg(test)]
 mod leaves;
 #[cfg(test)]
 mod lexer;
