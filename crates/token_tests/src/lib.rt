@@ -1,20 +1,8 @@
-//! Tests of the public calls of the lexer, leaves, trees, buffers and token types: what no contract says, and that each
-//! call succeeds while memory lasts.
+//! Tests of the public calls of buffers and token types: what no contract says, and that each call succeeds while memory
+//! lasts.
 #![tactic(auto)]
 
 #[cfg(test)]
 mod buffer;
-#[cfg(test)]
-mod entries;
-#[cfg(test)]
-mod leaves;
-#[cfg(test)]
-mod lexer;
-#[cfg(test)]
-mod sources;
-#[cfg(test)]
-mod texts;
-#[cfg(test)]
-mod trees;
 #[cfg(test)]
 mod types;

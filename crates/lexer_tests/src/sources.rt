@@ -2,7 +2,7 @@
 use crate::texts::{Rules, all_read, all_refused};
 
 #[test]
-fn reads_raw_strings(rt: HostRuntime) {
+fn raw_strings(rt: HostRuntime) {
     all_read(
         &rt,
         &Rules::Source,
@@ -35,10 +35,6 @@ fn reads_raw_strings(rt: HostRuntime) {
             ),
         ],
     );
-}
-
-#[test]
-fn refuses_raw_strings(rt: HostRuntime) {
     all_refused(
         &rt,
         &Rules::Source,
@@ -69,7 +65,7 @@ fn refuses_raw_strings(rt: HostRuntime) {
 }
 
 #[test]
-fn reads_raw_byte_strings(rt: HostRuntime) {
+fn raw_byte_strings(rt: HostRuntime) {
     all_read(
         &rt,
         &Rules::Source,
@@ -85,10 +81,6 @@ fn reads_raw_byte_strings(rt: HostRuntime) {
             ("br\"\u{7F}\"", "l br\"\u{7F}\" 0..5"),
         ],
     );
-}
-
-#[test]
-fn refuses_raw_byte_strings(rt: HostRuntime) {
     all_refused(
         &rt,
         &Rules::Source,
@@ -107,7 +99,7 @@ fn refuses_raw_byte_strings(rt: HostRuntime) {
 }
 
 #[test]
-fn reads_byte_strings(rt: HostRuntime) {
+fn byte_strings(rt: HostRuntime) {
     all_read(
         &rt,
         &Rules::Source,
@@ -130,10 +122,6 @@ fn reads_byte_strings(rt: HostRuntime) {
             ("b\"a\" b\"b\"", "l b\"a\" 0..4 l b\"b\" 5..9"),
         ],
     );
-}
-
-#[test]
-fn refuses_byte_strings(rt: HostRuntime) {
     all_refused(
         &rt,
         &Rules::Source,
@@ -153,7 +141,7 @@ fn refuses_byte_strings(rt: HostRuntime) {
 }
 
 #[test]
-fn reads_byte_characters(rt: HostRuntime) {
+fn byte_characters(rt: HostRuntime) {
     all_read(
         &rt,
         &Rules::Source,
@@ -167,10 +155,6 @@ fn reads_byte_characters(rt: HostRuntime) {
             ("b'\\\\'", "l b'\\\\' 0..5"),
         ],
     );
-}
-
-#[test]
-fn refuses_byte_characters(rt: HostRuntime) {
     all_refused(
         &rt,
         &Rules::Source,
@@ -190,7 +174,7 @@ fn refuses_byte_characters(rt: HostRuntime) {
 }
 
 #[test]
-fn reads_c_strings(rt: HostRuntime) {
+fn c_strings(rt: HostRuntime) {
     all_read(
         &rt,
         &Rules::Source,
@@ -212,10 +196,6 @@ fn reads_c_strings(rt: HostRuntime) {
             ("cr\"x\"y", "l cr\"x\"y 0..6"),
         ],
     );
-}
-
-#[test]
-fn refuses_c_strings(rt: HostRuntime) {
     all_refused(
         &rt,
         &Rules::Source,
@@ -236,7 +216,7 @@ fn refuses_c_strings(rt: HostRuntime) {
 }
 
 #[test]
-fn reads_strings(rt: HostRuntime) {
+fn strings(rt: HostRuntime) {
     all_read(
         &rt,
         &Rules::Source,
@@ -256,10 +236,6 @@ fn reads_strings(rt: HostRuntime) {
             ("\"\0\"", "l \"\0\" 0..3"),
         ],
     );
-}
-
-#[test]
-fn refuses_strings(rt: HostRuntime) {
     all_refused(
         &rt,
         &Rules::Source,
@@ -279,7 +255,7 @@ fn refuses_strings(rt: HostRuntime) {
 }
 
 #[test]
-fn reads_characters(rt: HostRuntime) {
+fn characters(rt: HostRuntime) {
     all_read(
         &rt,
         &Rules::Source,
@@ -300,10 +276,6 @@ fn reads_characters(rt: HostRuntime) {
             ("'\u{1F600}'", "l '\u{1F600}' 0..6"),
         ],
     );
-}
-
-#[test]
-fn refuses_characters(rt: HostRuntime) {
     all_refused(
         &rt,
         &Rules::Source,
@@ -324,7 +296,7 @@ fn refuses_characters(rt: HostRuntime) {
 }
 
 #[test]
-fn reads_lifetimes(rt: HostRuntime) {
+fn lifetimes(rt: HostRuntime) {
     all_read(
         &rt,
         &Rules::Source,
@@ -351,10 +323,6 @@ fn reads_lifetimes(rt: HostRuntime) {
             ("'_'", "l '_' 0..3"),
         ],
     );
-}
-
-#[test]
-fn refuses_lifetimes(rt: HostRuntime) {
     all_refused(
         &rt,
         &Rules::Source,
@@ -370,7 +338,7 @@ fn refuses_lifetimes(rt: HostRuntime) {
 }
 
 #[test]
-fn reads_reserved_prefixes(rt: HostRuntime) {
+fn reserved_prefixes(rt: HostRuntime) {
     all_read(
         &rt,
         &Rules::Source,
@@ -385,10 +353,6 @@ fn reads_reserved_prefixes(rt: HostRuntime) {
             ("#\"x\"#", "p # 0..1 l \"x\" 1..4 p # 4..5"),
         ],
     );
-}
-
-#[test]
-fn refuses_reserved_prefixes(rt: HostRuntime) {
     all_refused(
         &rt,
         &Rules::Source,
@@ -417,7 +381,7 @@ fn refuses_reserved_prefixes(rt: HostRuntime) {
 }
 
 #[test]
-fn reads_integers(rt: HostRuntime) {
+fn integers(rt: HostRuntime) {
     all_read(
         &rt,
         &Rules::Source,
@@ -455,10 +419,6 @@ fn reads_integers(rt: HostRuntime) {
             ("0x1u8.", "l 0x1u8 0..5 p . 5..6"),
         ],
     );
-}
-
-#[test]
-fn refuses_integers(rt: HostRuntime) {
     all_refused(
         &rt,
         &Rules::Source,
@@ -484,7 +444,7 @@ fn refuses_integers(rt: HostRuntime) {
 }
 
 #[test]
-fn reads_floats(rt: HostRuntime) {
+fn floats(rt: HostRuntime) {
     all_read(
         &rt,
         &Rules::Source,
@@ -562,10 +522,6 @@ fn reads_floats(rt: HostRuntime) {
             ("1.5e3_000u", "l 1.5e3_000u 0..10"),
         ],
     );
-}
-
-#[test]
-fn refuses_floats(rt: HostRuntime) {
     all_refused(
         &rt,
         &Rules::Source,
@@ -589,7 +545,7 @@ fn refuses_floats(rt: HostRuntime) {
 }
 
 #[test]
-fn reads_doc_comments(rt: HostRuntime) {
+fn doc_comments(rt: HostRuntime) {
     all_read(
         &rt,
         &Rules::Source,
@@ -749,10 +705,6 @@ fn reads_doc_comments(rt: HostRuntime) {
             ),
         ],
     );
-}
-
-#[test]
-fn refuses_doc_comments(rt: HostRuntime) {
     all_refused(
         &rt,
         &Rules::Source,
@@ -772,7 +724,7 @@ fn refuses_doc_comments(rt: HostRuntime) {
 }
 
 #[test]
-fn reads_starts(rt: HostRuntime) {
+fn starts(rt: HostRuntime) {
     all_read(
         &rt,
         &Rules::Source,
@@ -801,10 +753,6 @@ fn reads_starts(rt: HostRuntime) {
             ("#!(\na", "i a 4..5"),
         ],
     );
-}
-
-#[test]
-fn refuses_starts(rt: HostRuntime) {
     all_refused(
         &rt,
         &Rules::Source,
@@ -813,7 +761,7 @@ fn refuses_starts(rt: HostRuntime) {
 }
 
 #[test]
-fn reads_whole_sources(rt: HostRuntime) {
+fn whole_sources(rt: HostRuntime) {
     all_read(
         &rt,
         &Rules::Source,
@@ -896,10 +844,6 @@ fn reads_whole_sources(rt: HostRuntime) {
             ("/", "p / 0..1"),
         ],
     );
-}
-
-#[test]
-fn refuses_whole_sources(rt: HostRuntime) {
     all_refused(
         &rt,
         &Rules::Source,
