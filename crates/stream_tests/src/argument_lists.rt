@@ -1,8 +1,8 @@
 // Arguments: what texts are read as, with marks and without, and how they are refused.
 use crate::streams::refuses;
+use arguments::{Argument, Arguments, Value, arguments_both, parse_arguments};
 use std::alloc::Global;
 use std::test::Fail;
-use syn_tokens::arguments::{Argument, Arguments, Value, arguments_both, parse_arguments};
 use tok_core::lex_marked;
 
 const PLAIN: &str = "a, b = 1, c(d, e = \"x\")";

@@ -6,9 +6,8 @@ use examples::tokens::{Sealed, either, is_restricted, write_restricted};
 use examples::trees::{by_hand, printed};
 use std::test::Fail;
 use syn_punctuated::Punctuated;
-use syn_tokens::{Command, Kind, replay};
 use tok_buffer::TokenBuffer;
-use tok_core::{Delimiter, Span, TokenStream, lex_marked};
+use tok_core::{Span, TokenStream, lex_marked};
 use tok_types::token::{self, Token};
 
 #[test]
@@ -100,22 +99,5 @@ fn loops_end(rt: HostRuntime) -> Result<(), Fail> {
     let found = past_sign(alloc, rest)?.ok_or("no sign")?;
     assert!(rt; found.position() == Some(9));
     assert!(rt; past_sign(alloc, found)?.is_none());
-    Ok(())
-}
-
-#[test]
-fn reads_a_text_and_replays_commands(rt: HostRuntime) -> Result<(), Fail> {
-    let alloc = rt.alloc();
-    let stream = lex_marked(alloc, 0, "(a «b»)")?;
-    let commands = [
-        Command::Enter(0, Delimiter::Parenthesis),
-        Command::Parse(1, Kind::Ident),
-        Command::Parse(1, Kind::Ident),
-    ];
-    let report = replay(alloc, stream, &commands)?;
-    assert_eq!(rt;
-        format!(in alloc; "{report}")?.as_str(),
-        "entered 1 ( 0..5 @6\nread a 1..2 @2\nread b 3..4 @5\naccepted\n"
-    );
     Ok(())
 }

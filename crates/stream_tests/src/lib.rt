@@ -1,19 +1,10 @@
-//! Tests of the public calls of parse streams and of `replay`, of the program, of the reader of arguments, and of the
-//! callers: as in `token_tests`.
+//! Tests of parse streams, of the reader of arguments, and of the callers in `examples`.
 #![tactic(auto)]
 
 #[cfg(test)]
 mod argument_lists;
 #[cfg(test)]
-mod both;
-#[cfg(test)]
 mod examples;
-#[cfg(test)]
-mod front;
-#[cfg(test)]
-mod program;
-#[cfg(test)]
-mod session;
 #[cfg(test)]
 mod streams;
 
