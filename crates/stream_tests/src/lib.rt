@@ -6,10 +6,6 @@ mod argument_lists;
 #[cfg(test)]
 mod examples;
 #[cfg(test)]
-mod streams;
-
-// A value of which the check of a test knows nothing: so the prover doesn't compute what the run computes.
+mod outcomes;
 #[cfg(test)]
-fn unknown<T>(value: T) -> T {
-    value
-}
+mod streams;
