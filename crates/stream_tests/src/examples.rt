@@ -181,25 +181,17 @@ fn edits_a_list(rt: HostRuntime) {
     all_without(&rt, &[(9, "2,3,4", false), (4, "2,3", false)]);
 }
 
-// The second value after 9 is written over the first one and 7 is put before it.
-fn second_of_four(alloc: Global) -> Option<u32> {
+// The second value and the last one of `2,3,4` after 9 is written over the first, 7 put before it, and 8 over the last.
+fn raised(alloc: Global) -> Option<(Option<u32>, bool, Option<u32>)> {
     let mut list = two_three_four(alloc).ok()?;
     if list.is_empty() {
         return None;
     }
     raise_first(&mut list);
     put_seven(&mut list).ok()?;
-    list.get(1).copied()
-}
-
-// The last value after 8 is written over it.
-fn last_of_three(alloc: Global) -> Option<u32> {
-    let mut list = two_three_four(alloc).ok()?;
-    if raise_last(&mut list) {
-        list.last().copied()
-    } else {
-        None
-    }
+    let second = list.get(1).copied();
+    let is_raised = raise_last(&mut list);
+    Some((second, is_raised, list.last().copied()))
 }
 
 fn raises_last_of_none(alloc: Global) -> bool {
@@ -209,9 +201,8 @@ fn raises_last_of_none(alloc: Global) -> bool {
 
 #[test]
 fn writes_into_a_list(rt: HostRuntime) {
-    assert_eq!(rt; second_of_four(rt.alloc()), Some(9));
-    assert_eq!(rt; last_of_three(rt.alloc()), Some(8));
-    assert_eq!(rt; raises_last_of_none(rt.alloc()), false);
+    assert_eq!(rt; raised(rt.alloc()), Some((Some(9), true, Some(8))));
+    assert!(rt; !raises_last_of_none(rt.alloc()));
 }
 
 // The position after all identifiers, the one after the next `@`, and whether one more is found.
