@@ -11,6 +11,8 @@ mod examples;
 #[cfg(test)]
 mod front;
 #[cfg(test)]
+mod lists;
+#[cfg(test)]
 mod program;
 #[cfg(test)]
 mod session;

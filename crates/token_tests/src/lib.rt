@@ -8,8 +8,6 @@ mod leaves;
 #[cfg(test)]
 mod lexer;
 #[cfg(test)]
-mod lists;
-#[cfg(test)]
 mod trees;
 #[cfg(test)]
 mod types;
