@@ -6,6 +6,8 @@ mod argument_lists;
 #[cfg(test)]
 mod examples;
 #[cfg(test)]
+mod lists;
+#[cfg(test)]
 mod outcomes;
 #[cfg(test)]
 mod streams;
