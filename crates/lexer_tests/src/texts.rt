@@ -3,8 +3,8 @@ use std::alloc::{AllocError, AllocGlobal, Global};
 use std::process::Abort;
 use tok_buffer::{Cursor, TokenBuffer};
 use tok_core::{
-    LexError, LexFault, Spacing, Span, TokenStream, TokenStreamHelper, TokenTree, lex, lex_marked,
-    lex_source,
+    Edition, LexError, LexFault, Spacing, Span, TokenStream, TokenStreamHelper, TokenTree, lex,
+    lex_marked, lex_source,
 };
 
 // The call that reads a text: `lex`, `lex_marked` or `lex_source`.
@@ -27,7 +27,7 @@ fn trees(alloc: Global, rules: &Rules, text: &str) -> Result<TokenStream, LexFau
     match rules {
         Rules::Plain => lex(alloc, SOURCE, text),
         Rules::Marked => lex_marked(alloc, SOURCE, text),
-        Rules::Source => lex_source(alloc, SOURCE, text),
+        Rules::Source => lex_source(alloc, Edition::default(), SOURCE, text),
     }
 }
 
@@ -45,7 +45,7 @@ fn read(alloc: Global, rules: &Rules, text: &str) -> Result<TokenBuffer, LexFaul
     match rules {
         Rules::Plain => TokenBuffer::from_text(alloc, 0, SOURCE, text),
         Rules::Marked => TokenBuffer::from_marked(alloc, 0, SOURCE, text),
-        Rules::Source => TokenBuffer::from_source(alloc, 0, SOURCE, text),
+        Rules::Source => TokenBuffer::from_source(alloc, 0, Edition::default(), SOURCE, text),
     }
 }
 
