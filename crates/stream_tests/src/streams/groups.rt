@@ -1,22 +1,31 @@
-// Groups, leftovers and lookahead.
-use super::{reads, refuses};
-use syn_parse::{ParseStream, Parser, Result, parenthesized};
+//! Groups, leftovers and lookahead.
+use crate::outcomes::{READ, Sample, all_said};
+use syn_parse::{ParseStream, Result, parenthesized};
 use tok_buffer::Lifetime;
 use tok_core::{Delimiter, Ident};
 use tok_types::{End, token};
 
-fn one_inside(input: ParseStream<'_, '_>) -> Result<()> {
-    let _ = input.within(Delimiter::Parenthesis, |content| content.parse::<Ident>())?;
-    Ok(())
+struct OneInside;
+
+impl Sample for OneInside {
+    fn sample(input: ParseStream<'_, '_>) -> Result<String> {
+        let (_, name) = input.within(Delimiter::Parenthesis, |content| content.parse::<Ident>())?;
+        Ok(format!(in input.allocator(); "{}", name.as_str())?)
+    }
 }
 
-fn own_words_inside(input: ParseStream<'_, '_>) -> Result<()> {
-    let _ = input.within(Delimiter::Parenthesis, |content| {
-        let _: Ident = content.parse()?;
-        let refused: Result<()> = Err(content.error("own words"));
-        refused
-    })?;
-    Ok(())
+fn own_words(input: ParseStream<'_, '_>) -> Result<()> {
+    let _: Ident = input.parse()?;
+    Err(input.error("own words"))
+}
+
+struct OwnWordsInside;
+
+impl Sample for OwnWordsInside {
+    fn sample(input: ParseStream<'_, '_>) -> Result<String> {
+        let _ = input.within(Delimiter::Parenthesis, |content| own_words(content))?;
+        Ok(String::new(input.allocator()))
+    }
 }
 
 fn by_macro(input: ParseStream<'_, '_>) -> Result<Ident> {
@@ -27,29 +36,48 @@ fn by_macro(input: ParseStream<'_, '_>) -> Result<Ident> {
     name
 }
 
-#[test]
-fn contents(rt: HostRuntime) {
-    let alloc = rt.alloc();
-    let left = "3..4 unexpected token, expected `)`";
-    assert!(rt; reads(one_inside.parse_str(alloc, "(a)")));
-    assert!(rt; refuses(alloc, one_inside.parse_str(alloc, "(a b)"), left));
-    let other = one_inside.parse_str(alloc, "{a}");
-    assert!(rt; refuses(alloc, other, "0..1 expected parentheses"));
-    let own = own_words_inside.parse_str(alloc, "(a b)");
-    assert!(rt; refuses(alloc, own, "3..4 own words"));
-    assert!(rt; reads(by_macro.parse_str(alloc, "(a)")));
-    assert!(rt; refuses(alloc, by_macro.parse_str(alloc, "(a b)"), left));
+struct ByMacro;
+
+impl Sample for ByMacro {
+    fn sample(input: ParseStream<'_, '_>) -> Result<String> {
+        let name = by_macro(input)?;
+        Ok(format!(in input.allocator(); "{}", name.as_str())?)
+    }
 }
 
-fn one_of_three(input: ParseStream<'_, '_>) -> Result<()> {
-    let mut lookahead = input.lookahead1();
-    if lookahead.peek::<Ident>()?
-        || lookahead.peek::<Lifetime>()?
-        || lookahead.peek::<token::Const>()?
-    {
-        return Ok(());
+#[test]
+fn contents(rt: HostRuntime) {
+    all_said::<OneInside>(
+        &rt,
+        &[
+            ("(a)", "a"),
+            ("(a b)", "3..4 unexpected token, expected `)`"),
+            ("{a}", "0..1 expected parentheses"),
+        ],
+    );
+    all_said::<OwnWordsInside>(&rt, &[("(a b)", "3..4 own words")]);
+    all_said::<ByMacro>(
+        &rt,
+        &[
+            ("(a)", "a"),
+            ("(a b)", "3..4 unexpected token, expected `)`"),
+        ],
+    );
+}
+
+struct OneOfThree;
+
+impl Sample for OneOfThree {
+    fn sample(input: ParseStream<'_, '_>) -> Result<String> {
+        let mut lookahead = input.lookahead1();
+        if lookahead.peek::<Ident>()?
+            || lookahead.peek::<Lifetime>()?
+            || lookahead.peek::<token::Const>()?
+        {
+            return Ok(String::new(input.allocator()));
+        }
+        Err(lookahead.error())
     }
-    Err(lookahead.error())
 }
 
 fn comma_or_end(input: ParseStream<'_, '_>) -> Result<()> {
@@ -60,28 +88,36 @@ fn comma_or_end(input: ParseStream<'_, '_>) -> Result<()> {
     Err(lookahead.error())
 }
 
-fn comma_or_end_inside(input: ParseStream<'_, '_>) -> Result<()> {
-    let _ = input.within(Delimiter::Bracket, |content| comma_or_end(content))?;
-    Ok(())
+struct CommaOrEndInside;
+
+impl Sample for CommaOrEndInside {
+    fn sample(input: ParseStream<'_, '_>) -> Result<String> {
+        let _ = input.within(Delimiter::Bracket, |content| comma_or_end(content))?;
+        Ok(String::new(input.allocator()))
+    }
 }
 
-fn only_end(input: ParseStream<'_, '_>) -> Result<()> {
-    let mut lookahead = input.lookahead1();
-    if lookahead.peek::<End>()? {
-        return Ok(());
+struct OnlyEnd;
+
+impl Sample for OnlyEnd {
+    fn sample(input: ParseStream<'_, '_>) -> Result<String> {
+        let mut lookahead = input.lookahead1();
+        if lookahead.peek::<End>()? {
+            return Ok(String::new(input.allocator()));
+        }
+        Err(lookahead.error())
     }
-    Err(lookahead.error())
 }
 
 #[test]
 fn lookaheads(rt: HostRuntime) {
-    let alloc = rt.alloc();
-    let three = one_of_three.parse_str(alloc, "!Sized");
-    let words = "0..1 expected one of: identifier, lifetime, `const`";
-    assert!(rt; refuses(alloc, three, words));
-    let inside = comma_or_end_inside.parse_str(alloc, "[x]");
-    assert!(rt; refuses(alloc, inside, "1..2 expected `,` or `]`"));
-    let end = only_end.parse_str(alloc, "x");
-    assert!(rt; refuses(alloc, end, "0..1 unexpected token"));
-    assert!(rt; reads(only_end.parse_str(alloc, "")));
+    all_said::<OneOfThree>(
+        &rt,
+        &[(
+            "!Sized",
+            "0..1 expected one of: identifier, lifetime, `const`",
+        )],
+    );
+    all_said::<CommaOrEndInside>(&rt, &[("[x]", "1..2 expected `,` or `]`")]);
+    all_said::<OnlyEnd>(&rt, &[("x", "0..1 unexpected token"), ("", READ)]);
 }
