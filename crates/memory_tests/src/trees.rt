@@ -3,8 +3,8 @@ use crate::outcome::{Outcome, Stop, expect, worst};
 use std::alloc::{AllocError, Global};
 use std::fmt::InlineText;
 use tok_core::{
-    Delimiter, Group, Ident, LexFault, Literal, MakeFault, Punct, Spacing, Span, Text, ToTokens,
-    TokenStream, TokenTree, lex, lex_marked, lex_source, same_visible,
+    Delimiter, Edition, Group, Ident, LexFault, Literal, MakeFault, Punct, Spacing, Span, Text,
+    ToTokens, TokenStream, TokenTree, lex, lex_marked, lex_source, same_visible,
 };
 
 /// Each of them, some more than once.
@@ -289,7 +289,12 @@ fn reads(alloc: Global) -> Outcome {
     read(lex(alloc, 0, text), text, "lex")?;
     let text = "«a «()» +»";
     read(lex_marked(alloc, 0, text), text, "lex_marked")?;
-    let source = lex_source(alloc, 0, "#!x\n/// abcdefghijklmnop\nb");
+    let source = lex_source(
+        alloc,
+        Edition::Edition2021,
+        0,
+        "#!x\n/// abcdefghijklmnop\nb",
+    );
     read(source, "# [doc = \" abcdefghijklmnop\"] b", "lex_source")
 }
 

@@ -10,6 +10,7 @@ use Rattle.tok_core.specs.declared.lexer.error.LexFault.TheVariants.{Refused, Me
 use Rattle.tok_core.proofs.Lexical.Laws.{follows, forest_once, refused_once, never_both}
 use Rattle.tok_lexical.specs.Rules.{source_rules}
 use Rattle.tok_lexical.specs.Widths.{bytes}
+use Rattle.tok_lexical.specs.declared.edition.Edition.{Edition}
 use Rattle.tok_lexical.specs.declared.rule.Rule.{Rule}
 use Rattle.tok_lexical.proofs.Lexical.Sources.{begins_once}
 use Rattle.tok_buffer.specs.Buffer.{Laid, forest_of, KeepsReading, SameReading}
@@ -43,14 +44,14 @@ module _ (begin : ℕ) (rules : List Rule) (number : ℕ) (text : List ℕ) wher
   kept_follows read (Err (Refused e)) k h = subst (FollowsFrom begin rules number text) k h
   kept_follows read (Err Memory) k h = record { reads = tt; only_read = λ f r. refl; refuses = tt; only_refused = λ e r. tt }
 
-pub kept_source : (number : ℕ) (text : List ℕ) (read out : Result Forest LexFault) → KeepsReading read out → FollowsSource number text read → FollowsSource number text out
-kept_source number text read out k (front, rest, cut, begins, f) = (front, rest, cut, begins, kept_follows (bytes front) source_rules number rest read out k f)
+pub kept_source : (edition : Edition) (number : ℕ) (text : List ℕ) (read out : Result Forest LexFault) → KeepsReading read out → FollowsSource edition number text read → FollowsSource edition number text out
+kept_source edition number text read out k (front, rest, cut, begins, f) = (front, rest, cut, begins, kept_follows (bytes front) (source_rules edition) number rest read out k f)
 
 -- two readings of one source are the same: it begins at one place
-pub same_source : (number : ℕ) (text : List ℕ) (one other : Result Laid LexFault) (n : ℕ) → IfOk one (λ b. b.number ≡ n) → IfOk other (λ b. b.number ≡ n) → FollowsSource number text (forest_of one) → FollowsSource number text (forest_of other) → SameReading one other
-same_source number text one other n p q (front, rest, cut, begins, f) (front', rest', cut', begins', g) =
+pub same_source : (edition : Edition) (number : ℕ) (text : List ℕ) (one other : Result Laid LexFault) (n : ℕ) → IfOk one (λ b. b.number ≡ n) → IfOk other (λ b. b.number ≡ n) → FollowsSource edition number text (forest_of one) → FollowsSource edition number text (forest_of other) → SameReading one other
+same_source edition number text one other n p q (front, rest, cut, begins, f) (front', rest', cut', begins', g) =
     let at_rest : rest' ≡ rest = begins_once begins' begins in
     let at_front : front' ≡ front = append_cancel_right front' front rest (ap (λ w. front' ++ w) (sym at_rest) ∙ sym cut' ∙ cut) in
-    same_reading (bytes front) source_rules number rest one other n p q f
-    (subst (λ w. FollowsFrom (bytes w) source_rules number rest (forest_of other)) at_front
-    (subst (λ w. FollowsFrom (bytes front') source_rules number w (forest_of other)) at_rest g))
+    same_reading (bytes front) (source_rules edition) number rest one other n p q f
+    (subst (λ w. FollowsFrom (bytes w) (source_rules edition) number rest (forest_of other)) at_front
+    (subst (λ w. FollowsFrom (bytes front') (source_rules edition) number w (forest_of other)) at_rest g))

@@ -16,7 +16,7 @@ use crate::buffer::TokenBuffer;
 use crate::cursor::Cursor;
 use std::alloc::{AllocError, Global};
 use std::cmp::Ordering;
-use tok_core::{LexFault, TokenStream, lex, lex_marked, lex_source};
+use tok_core::{Edition, LexFault, TokenStream, lex, lex_marked, lex_source};
 pub use tok_leaves::laws::{lifetimes_by_name, lifetimes_in_order};
 
 // The buffer of a stream that was read, or why it was not.
@@ -64,13 +64,14 @@ pub fn marked_as_stream(
 pub fn source_as_stream(
     alloc: Global,
     number: u64,
+    edition: Edition,
     source: u32,
     text: &str,
 ) -> (Result<TokenBuffer, LexFault>, Result<TokenBuffer, LexFault>)
     ensures { SameReading result.0 result.1 }
 {
-    let read = TokenBuffer::from_source(alloc, number, source, text);
-    let laid = laid_out(alloc, number, lex_source(alloc, source, text));
+    let read = TokenBuffer::from_source(alloc, number, edition, source, text);
+    let laid = laid_out(alloc, number, lex_source(alloc, edition, source, text));
     (read, laid)
 }
 
