@@ -5,7 +5,7 @@ use crate::position::{Place, Position};
 use std::alloc::{AllocError, Global};
 use std::str::from_utf8;
 use tok_buffer::TokenBuffer;
-use tok_core::{LexError, LexFault, Span};
+use tok_core::{Edition, LexError, LexFault, Span};
 
 /// The attributes of a file, a line each, and its errors.
 #[derive(Drop)]
@@ -29,7 +29,7 @@ pub fn list(alloc: Global, file: &str, bytes: &[u8]) -> Result<Listing, AllocErr
 }
 
 fn list_text(alloc: Global, file: &str, text: &str) -> Result<Listing, AllocError> {
-    match TokenBuffer::from_source(alloc, 0, 0, text) {
+    match TokenBuffer::from_source(alloc, 0, Edition::default(), 0, text) {
         Ok(buffer) => {
             let mut found = Vec::new(alloc);
             find(&mut found, buffer.begin())?;

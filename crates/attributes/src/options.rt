@@ -5,8 +5,9 @@ use std::alloc::Global;
 const ABOUT: &str = "Lists the attributes of Rust source files, one a line";
 
 const AFTER: &str = "\
-A line is FILE:LINE:COLUMN: STYLE PATH DELIMITER ARGUMENTS. STYLE is `outer` or `inner`. DELIMITER is `()`, `[]`, `{}` or `=`,
-and is left out with ARGUMENTS. Lines and columns count characters from 1. A doc comment is the attribute `doc`.
+A line is FILE:LINE:COLUMN: STYLE PATH DELIMITER ARGUMENTS. STYLE is `outer` or `inner`.
+DELIMITER is `()`, `[]`, `{}` or `=`, and is left out with ARGUMENTS. Lines and columns count
+characters from 1. A doc comment is the attribute `doc`.
 
 The exit status is 0 if an attribute is found, 1 if none is, and 2 if a file is in error.";
 
