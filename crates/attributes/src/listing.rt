@@ -16,9 +16,14 @@ pub struct Listing {
 }
 
 // The listing of the file of this name that holds these bytes.
-pub fn list(alloc: Global, file: &str, bytes: &[u8]) -> Result<Listing, AllocError> {
+pub fn list(
+    alloc: Global,
+    edition: Edition,
+    file: &str,
+    bytes: &[u8],
+) -> Result<Listing, AllocError> {
     match from_utf8(bytes) {
-        Ok(text) => list_text(alloc, file, text),
+        Ok(text) => list_text(alloc, edition, file, text),
         Err(error) => {
             let front = bytes.get(..error.valid_up_to()).unwrap_or(&[]);
             let text = from_utf8(front).unwrap_or("");
@@ -28,8 +33,13 @@ pub fn list(alloc: Global, file: &str, bytes: &[u8]) -> Result<Listing, AllocErr
     }
 }
 
-fn list_text(alloc: Global, file: &str, text: &str) -> Result<Listing, AllocError> {
-    match TokenBuffer::from_source(alloc, 0, Edition::default(), 0, text) {
+fn list_text(
+    alloc: Global,
+    edition: Edition,
+    file: &str,
+    text: &str,
+) -> Result<Listing, AllocError> {
+    match TokenBuffer::from_source(alloc, 0, edition, 0, text) {
         Ok(buffer) => {
             let mut found = Vec::new(alloc);
             find(&mut found, buffer.begin())?;
