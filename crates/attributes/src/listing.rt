@@ -1,4 +1,7 @@
 // The lines that are printed of a file.
+ghost use Rattle.std.specs.Prelude.{◌≡◌, IfOk, string_bytes};
+ghost use Rattle.attributes.specs.Lines.{gap, line_text, style_text};
+
 use crate::attribute::{Attribute, Fault, read};
 use crate::find::{Found, Style, find};
 use crate::position::{Place, Position};
@@ -120,29 +123,36 @@ fn line_of(
     position: Position,
     style: Style,
     attribute: &Attribute,
-) -> Result<String, AllocError> {
+) -> Result<String, AllocError>
+    ensures { IfOk result
+        (λ line. string_bytes line ≡ line_text file.now position style attribute.now) }
+{
     let Position { line, column } = position;
-    let style = match style {
-        Style::Outer => "outer",
-        Style::Inner => "inner",
-    };
+    let style = style_text(style);
     let path = attribute.path.as_str();
     let delimiter = attribute.delimiter;
     let arguments = attribute.arguments.as_str();
-    let mut text = format!(in alloc; "{file}:{line}:{column}: {style} {path}")?;
-    push_word(&mut text, delimiter)?;
-    push_word(&mut text, arguments)?;
-    text.push('\n')?;
-    Ok(text)
+    let first = gap(delimiter);
+    let second = gap(arguments);
+    format!(in alloc;
+        "{file}:{line}:{column}: {style} {path}{first}{delimiter}{second}{arguments}\n"
+    )
 }
 
-// Appends a space and a word, unless it is empty.
-fn push_word(text: &mut String, word: &str) -> Result<(), AllocError> {
-    if !word.is_empty() {
-        text.push(' ')?;
-        text.push_str(word)?;
+fn style_text(style: Style) -> &'static str
+    ensures { result.now ≡ style_text style }
+{
+    match style {
+        Style::Outer => "outer",
+        Style::Inner => "inner",
     }
-    Ok(())
+}
+
+// A space before a word that isn't empty.
+fn gap(word: &str) -> &'static str
+    ensures { result.now ≡ gap word.now }
+{
+    if word.is_empty() { "" } else { " " }
 }
 
 // The byte at which a span begins.
