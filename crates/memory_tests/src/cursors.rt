@@ -95,7 +95,7 @@ fn texts(alloc: Global) -> Outcome {
     let text = "abcdefghijklmnop += ('b [{1}] \"abcdefghijklmnop\")";
     let plain = TokenBuffer::from_text(alloc, 0, 0, text);
     let marked = TokenBuffer::from_marked(alloc, 0, 0, "«a «()» +»");
-    let source = TokenBuffer::from_source(alloc, 0, Edition::Edition2021, 0, "#!x\n/// b\nc");
+    let source = TokenBuffer::from_source(alloc, 0, Edition::default(), 0, "#!x\n/// b\nc");
     worst(&[
         read(alloc, plain, text, "TokenBuffer::from_text"),
         read(alloc, marked, "«a «()» +»", "TokenBuffer::from_marked"),

@@ -289,12 +289,7 @@ fn reads(alloc: Global) -> Outcome {
     read(lex(alloc, 0, text), text, "lex")?;
     let text = "«a «()» +»";
     read(lex_marked(alloc, 0, text), text, "lex_marked")?;
-    let source = lex_source(
-        alloc,
-        Edition::Edition2021,
-        0,
-        "#!x\n/// abcdefghijklmnop\nb",
-    );
+    let source = lex_source(alloc, Edition::default(), 0, "#!x\n/// abcdefghijklmnop\nb");
     read(source, "# [doc = \" abcdefghijklmnop\"] b", "lex_source")
 }
 

@@ -4,7 +4,7 @@
 #[cfg(test)]
 mod argument_lists;
 #[cfg(test)]
-mod examples;
+mod callers;
 #[cfg(test)]
 mod lists;
 #[cfg(test)]

@@ -1,15 +1,21 @@
 //! What parsers return, compared with rows: a value's text, or an error's range and words.
 use std::alloc::{AllocGlobal, Global};
 use std::process::Abort;
-use syn_parse::{Fault, Parse, ParseStream, Parser, Result};
+use syn_parse::{Fault, Parse, ParseStream, Result};
 use tok_buffer::Error;
 
 // The text of a row whose value is read, and not looked at.
 pub const READ: &str = "";
 
-// A parser that returns its value as text. One helper runs all of them.
+// The parsers of a module. Each returns its value as text.
 pub trait Sample {
-    fn sample(input: ParseStream<'_, '_>) -> Result<String>;
+    fn run(&self, alloc: Global, text: &str) -> Result<String>;
+}
+
+// Reads a `T`, and doesn't look at it.
+pub fn read<T: Parse + Drop>(input: ParseStream<'_, '_>) -> Result<String> {
+    let _: T = input.parse()?;
+    Ok(String::new(input.allocator()))
 }
 
 fn words(alloc: Global, error: &Error) -> Option<String> {
@@ -49,24 +55,13 @@ pub fn is_said(alloc: Global, outcome: Result<String>, wanted: &str) -> bool {
     }
 }
 
-fn reads<T: Parse + Drop>(alloc: Global, text: &str, wanted: &str) -> bool {
-    is_read(alloc, T::parse.parse_str(alloc, text), wanted)
+fn says<S: Sample>(alloc: Global, sample: &S, text: &str, wanted: &str) -> bool {
+    is_said(alloc, sample.run(alloc, text), wanted)
 }
 
-// Each text as a `T`.
-pub fn all_read<T: Parse + Drop>(rt: &(impl Abort + AllocGlobal), rows: &[(&str, &str)]) {
+// Each text by this parser.
+pub fn all_said<S: Sample>(rt: &(impl Abort + AllocGlobal), sample: &S, rows: &[(&str, &str)]) {
     for (text, wanted) in rows {
-        assert!(rt; reads::<T>(rt.alloc(), text, wanted), "at {text}");
-    }
-}
-
-fn says<S: Sample>(alloc: Global, text: &str, wanted: &str) -> bool {
-    is_said(alloc, S::sample.parse_str(alloc, text), wanted)
-}
-
-// Each text by the parser `S`.
-pub fn all_said<S: Sample>(rt: &(impl Abort + AllocGlobal), rows: &[(&str, &str)]) {
-    for (text, wanted) in rows {
-        assert!(rt; says::<S>(rt.alloc(), text, wanted), "at {text}");
+        assert!(rt; says(rt.alloc(), sample, text, wanted), "at {text}");
     }
 }

@@ -3,7 +3,7 @@ mod groups;
 mod hostile;
 mod lists;
 
-use crate::outcomes::{READ, Sample, all_read, all_said, is_read};
+use crate::outcomes::{READ, Sample, all_said, is_read, read};
 use std::alloc::{AllocGlobal, Global};
 use std::process::Abort;
 use syn_parse::{IdentExt, Nothing, Parse, ParseStream, Parser, Result, parsing};
@@ -11,12 +11,61 @@ use tok_buffer::Lifetime;
 use tok_core::{Ident, Literal, Punct, Span, TokenStream, TokenTree};
 use tok_types::token::{self, Token};
 
+fn ident(alloc: Global, text: &str) -> Result<String> {
+    let ident = Ident::parse.parse_str(alloc, text)?;
+    Ok(format!(in alloc; "{}", ident.as_str())?)
+}
+
+// The parsers of this module.
+enum Read {
+    Ident,
+    Lifetime,
+    Literal,
+    Punct,
+    Nothing,
+    Fn,
+    PlusEq,
+    Underscore,
+    RArrow,
+    Comma,
+    NoKeyword,
+    NoPunctuation,
+    AnyIdent,
+    TwoSpans,
+    AfterAt,
+    AfterName,
+}
+
+impl Sample for Read {
+    fn run(&self, alloc: Global, text: &str) -> Result<String> {
+        match self {
+            Read::Ident => ident(alloc, text),
+            Read::Lifetime => read::<Lifetime>.parse_str(alloc, text),
+            Read::Literal => read::<Literal>.parse_str(alloc, text),
+            Read::Punct => read::<Punct>.parse_str(alloc, text),
+            Read::Nothing => read::<Nothing>.parse_str(alloc, text),
+            Read::Fn => read::<token::Fn>.parse_str(alloc, text),
+            Read::PlusEq => read::<token::PlusEq>.parse_str(alloc, text),
+            Read::Underscore => read::<token::Underscore>.parse_str(alloc, text),
+            Read::RArrow => read::<token::RArrow>.parse_str(alloc, text),
+            Read::Comma => read::<token::Comma>.parse_str(alloc, text),
+            Read::NoKeyword => read::<token::Keyword<54>>.parse_str(alloc, text),
+            Read::NoPunctuation => read::<token::Punctuation<7, 2>>.parse_str(alloc, text),
+            Read::AnyIdent => any_ident.parse_str(alloc, text),
+            Read::TwoSpans => two_spans.parse_str(alloc, text),
+            Read::AfterAt => text_after_at.parse_str(alloc, text),
+            Read::AfterName => after_name.parse_str(alloc, text),
+        }
+    }
+}
+
 #[test]
 fn identifiers(rt: HostRuntime) {
-    all_read::<Ident>(
+    all_said(
         &rt,
+        &Read::Ident,
         &[
-            ("a", READ),
+            ("a", "a"),
             ("fn", "0..2 expected identifier, found keyword `fn`"),
             ("1.0", "0..0 float literal"),
             ("", "call unexpected end of input, expected identifier"),
@@ -26,70 +75,77 @@ fn identifiers(rt: HostRuntime) {
     );
 }
 
-struct AnyIdent;
-
-impl Sample for AnyIdent {
-    fn sample(input: ParseStream<'_, '_>) -> Result<String> {
-        let ident = Ident::parse_any(input)?;
-        Ok(format!(in input.allocator(); "{}", ident.as_str())?)
-    }
+fn any_ident(input: ParseStream<'_, '_>) -> Result<String> {
+    let ident = Ident::parse_any(input)?;
+    Ok(format!(in input.allocator(); "{}", ident.as_str())?)
 }
 
 #[test]
 fn identifiers_of_any_text(rt: HostRuntime) {
-    all_said::<AnyIdent>(&rt, &[("fn", "fn")]);
+    all_said(&rt, &Read::AnyIdent, &[("fn", "fn")]);
 }
 
 #[test]
 fn leaves(rt: HostRuntime) {
-    all_read::<Lifetime>(
+    all_said(
         &rt,
+        &Read::Lifetime,
         &[
             ("'static", READ),
             ("'fn", "0..1 unexpected keyword lifetime \"'fn\""),
         ],
     );
-    all_read::<Literal>(&rt, &[("a", "0..1 expected literal token")]);
-    all_read::<Punct>(&rt, &[("a", "0..1 expected punctuation token")]);
-    all_read::<Nothing>(&rt, &[("asdf", "0..4 unexpected token")]);
+    all_said(&rt, &Read::Literal, &[("a", "0..1 expected literal token")]);
+    all_said(
+        &rt,
+        &Read::Punct,
+        &[("a", "0..1 expected punctuation token")],
+    );
+    all_said(&rt, &Read::Nothing, &[("asdf", "0..4 unexpected token")]);
 }
 
 #[test]
 fn tokens(rt: HostRuntime) {
-    all_read::<token::Fn>(&rt, &[("fn", READ)]);
-    all_read::<token::PlusEq>(&rt, &[("+=", READ)]);
-    all_read::<token::Underscore>(&rt, &[("_", READ)]);
-    all_read::<token::RArrow>(&rt, &[("- >", "0..1 expected `->`")]);
-    all_read::<token::Comma>(&rt, &[("", "call expected `,`")]);
+    all_said(&rt, &Read::Fn, &[("fn", READ)]);
+    all_said(&rt, &Read::PlusEq, &[("+=", READ)]);
+    all_said(&rt, &Read::Underscore, &[("_", READ)]);
+    all_said(&rt, &Read::RArrow, &[("- >", "0..1 expected `->`")]);
+    all_said(&rt, &Read::Comma, &[("", "call expected `,`")]);
 }
 
 // Two spans of one character.
-struct TwoSpans;
-
-impl Sample for TwoSpans {
-    fn sample(input: ParseStream<'_, '_>) -> Result<String> {
-        let _: [Span; 2] = parsing::punct(input, ",")?;
-        Ok(String::new(input.allocator()))
-    }
+fn two_spans(input: ParseStream<'_, '_>) -> Result<String> {
+    let _: [Span; 2] = parsing::punct(input, ",")?;
+    Ok(String::new(input.allocator()))
 }
 
 #[test]
 fn tokens_without_a_text(rt: HostRuntime) {
-    all_read::<token::Keyword<54>>(&rt, &[("", "call unexpected end of input, expected ``")]);
+    all_said(
+        &rt,
+        &Read::NoKeyword,
+        &[("", "call unexpected end of input, expected ``")],
+    );
     assert_eq!(rt; token::Keyword::<54>::display(), "``");
-    all_read::<token::Punctuation<7, 2>>(&rt, &[("", "call expected ``")]);
-    all_said::<TwoSpans>(&rt, &[(",", "0..1 expected ``")]);
+    all_said(&rt, &Read::NoPunctuation, &[("", "call expected ``")]);
+    all_said(&rt, &Read::TwoSpans, &[(",", "0..1 expected ``")]);
 }
 
-fn reads_scoped(alloc: Global, scope: Span, wanted: &str) -> bool {
+fn reads_scoped(alloc: Global, start: usize, end: usize, wanted: &str) -> bool {
+    if start > end {
+        return false;
+    }
+    let scope = Span::source(0, start, end);
     let outcome = Ident::parse.parse_scoped(alloc, scope, TokenStream::new(alloc));
     is_read(alloc, outcome, wanted)
 }
 
 fn all_scoped(rt: &(impl Abort + AllocGlobal), rows: &[(usize, usize, &str)]) {
     for (start, end, wanted) in rows {
-        let scope = Span::source(0, *start, *end);
-        assert!(rt; reads_scoped(rt.alloc(), scope, wanted), "not {wanted}");
+        assert!(rt;
+            reads_scoped(rt.alloc(), *start, *end, wanted),
+            "not {wanted}"
+        );
     }
 }
 
@@ -113,19 +169,16 @@ fn after_at(input: ParseStream<'_, '_>) -> Result<TokenStream> {
     Err(input.error("expected `@`"))
 }
 
-struct AfterAt;
-
-impl Sample for AfterAt {
-    fn sample(input: ParseStream<'_, '_>) -> Result<String> {
-        let rest = after_at(input)?;
-        Ok(rest.to_string(input.allocator())?)
-    }
+fn text_after_at(input: ParseStream<'_, '_>) -> Result<String> {
+    let rest = after_at(input)?;
+    Ok(rest.to_string(input.allocator())?)
 }
 
 #[test]
 fn the_rest_after_a_punct(rt: HostRuntime) {
-    all_said::<AfterAt>(
+    all_said(
         &rt,
+        &Read::AfterAt,
         &[
             ("a @ b c", "b c"),
             ("a b", "call unexpected end of input, expected token tree"),
@@ -134,18 +187,14 @@ fn the_rest_after_a_punct(rt: HostRuntime) {
 }
 
 // The text of the stream after one identifier.
-struct AfterName;
-
-impl Sample for AfterName {
-    fn sample(input: ParseStream<'_, '_>) -> Result<String> {
-        let _: Ident = input.parse()?;
-        let text = format!(in input.allocator(); "{input}")?;
-        let _: TokenStream = input.parse()?;
-        Ok(text)
-    }
+fn after_name(input: ParseStream<'_, '_>) -> Result<String> {
+    let _: Ident = input.parse()?;
+    let text = format!(in input.allocator(); "{input}")?;
+    let _: TokenStream = input.parse()?;
+    Ok(text)
 }
 
 #[test]
 fn a_stream_shows_what_is_left(rt: HostRuntime) {
-    all_said::<AfterName>(&rt, &[("a (b += c) d", "(b += c) d")]);
+    all_said(&rt, &Read::AfterName, &[("a (b += c) d", "(b += c) d")]);
 }

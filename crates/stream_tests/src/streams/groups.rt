@@ -1,17 +1,14 @@
 //! Groups, leftovers and lookahead.
 use crate::outcomes::{READ, Sample, all_said};
-use syn_parse::{ParseStream, Result, parenthesized};
+use std::alloc::Global;
+use syn_parse::{ParseStream, Parser, Result, parenthesized};
 use tok_buffer::Lifetime;
 use tok_core::{Delimiter, Ident};
 use tok_types::{End, token};
 
-struct OneInside;
-
-impl Sample for OneInside {
-    fn sample(input: ParseStream<'_, '_>) -> Result<String> {
-        let (_, name) = input.within(Delimiter::Parenthesis, |content| content.parse::<Ident>())?;
-        Ok(format!(in input.allocator(); "{}", name.as_str())?)
-    }
+fn one_inside(input: ParseStream<'_, '_>) -> Result<String> {
+    let (_, name) = input.within(Delimiter::Parenthesis, |content| content.parse::<Ident>())?;
+    Ok(format!(in input.allocator(); "{}", name.as_str())?)
 }
 
 fn own_words(input: ParseStream<'_, '_>) -> Result<()> {
@@ -19,13 +16,9 @@ fn own_words(input: ParseStream<'_, '_>) -> Result<()> {
     Err(input.error("own words"))
 }
 
-struct OwnWordsInside;
-
-impl Sample for OwnWordsInside {
-    fn sample(input: ParseStream<'_, '_>) -> Result<String> {
-        let _ = input.within(Delimiter::Parenthesis, |content| own_words(content))?;
-        Ok(String::new(input.allocator()))
-    }
+fn own_words_inside(input: ParseStream<'_, '_>) -> Result<String> {
+    let _ = input.within(Delimiter::Parenthesis, |content| own_words(content))?;
+    Ok(String::new(input.allocator()))
 }
 
 fn by_macro(input: ParseStream<'_, '_>) -> Result<Ident> {
@@ -36,28 +29,49 @@ fn by_macro(input: ParseStream<'_, '_>) -> Result<Ident> {
     name
 }
 
-struct ByMacro;
+fn name_by_macro(input: ParseStream<'_, '_>) -> Result<String> {
+    let name = by_macro(input)?;
+    Ok(format!(in input.allocator(); "{}", name.as_str())?)
+}
 
-impl Sample for ByMacro {
-    fn sample(input: ParseStream<'_, '_>) -> Result<String> {
-        let name = by_macro(input)?;
-        Ok(format!(in input.allocator(); "{}", name.as_str())?)
+// The parsers of this module.
+enum Read {
+    OneInside,
+    OwnWordsInside,
+    ByMacro,
+    OneOfThree,
+    CommaOrEndInside,
+    OnlyEnd,
+}
+
+impl Sample for Read {
+    fn run(&self, alloc: Global, text: &str) -> Result<String> {
+        match self {
+            Read::OneInside => one_inside.parse_str(alloc, text),
+            Read::OwnWordsInside => own_words_inside.parse_str(alloc, text),
+            Read::ByMacro => name_by_macro.parse_str(alloc, text),
+            Read::OneOfThree => one_of_three.parse_str(alloc, text),
+            Read::CommaOrEndInside => comma_or_end_inside.parse_str(alloc, text),
+            Read::OnlyEnd => only_end.parse_str(alloc, text),
+        }
     }
 }
 
 #[test]
 fn contents(rt: HostRuntime) {
-    all_said::<OneInside>(
+    all_said(
         &rt,
+        &Read::OneInside,
         &[
             ("(a)", "a"),
             ("(a b)", "3..4 unexpected token, expected `)`"),
             ("{a}", "0..1 expected parentheses"),
         ],
     );
-    all_said::<OwnWordsInside>(&rt, &[("(a b)", "3..4 own words")]);
-    all_said::<ByMacro>(
+    all_said(&rt, &Read::OwnWordsInside, &[("(a b)", "3..4 own words")]);
+    all_said(
         &rt,
+        &Read::ByMacro,
         &[
             ("(a)", "a"),
             ("(a b)", "3..4 unexpected token, expected `)`"),
@@ -65,19 +79,15 @@ fn contents(rt: HostRuntime) {
     );
 }
 
-struct OneOfThree;
-
-impl Sample for OneOfThree {
-    fn sample(input: ParseStream<'_, '_>) -> Result<String> {
-        let mut lookahead = input.lookahead1();
-        if lookahead.peek::<Ident>()?
-            || lookahead.peek::<Lifetime>()?
-            || lookahead.peek::<token::Const>()?
-        {
-            return Ok(String::new(input.allocator()));
-        }
-        Err(lookahead.error())
+fn one_of_three(input: ParseStream<'_, '_>) -> Result<String> {
+    let mut lookahead = input.lookahead1();
+    if lookahead.peek::<Ident>()?
+        || lookahead.peek::<Lifetime>()?
+        || lookahead.peek::<token::Const>()?
+    {
+        return Ok(String::new(input.allocator()));
     }
+    Err(lookahead.error())
 }
 
 fn comma_or_end(input: ParseStream<'_, '_>) -> Result<()> {
@@ -88,36 +98,37 @@ fn comma_or_end(input: ParseStream<'_, '_>) -> Result<()> {
     Err(lookahead.error())
 }
 
-struct CommaOrEndInside;
-
-impl Sample for CommaOrEndInside {
-    fn sample(input: ParseStream<'_, '_>) -> Result<String> {
-        let _ = input.within(Delimiter::Bracket, |content| comma_or_end(content))?;
-        Ok(String::new(input.allocator()))
-    }
+fn comma_or_end_inside(input: ParseStream<'_, '_>) -> Result<String> {
+    let _ = input.within(Delimiter::Bracket, |content| comma_or_end(content))?;
+    Ok(String::new(input.allocator()))
 }
 
-struct OnlyEnd;
-
-impl Sample for OnlyEnd {
-    fn sample(input: ParseStream<'_, '_>) -> Result<String> {
-        let mut lookahead = input.lookahead1();
-        if lookahead.peek::<End>()? {
-            return Ok(String::new(input.allocator()));
-        }
-        Err(lookahead.error())
+fn only_end(input: ParseStream<'_, '_>) -> Result<String> {
+    let mut lookahead = input.lookahead1();
+    if lookahead.peek::<End>()? {
+        return Ok(String::new(input.allocator()));
     }
+    Err(lookahead.error())
 }
 
 #[test]
 fn lookaheads(rt: HostRuntime) {
-    all_said::<OneOfThree>(
+    all_said(
         &rt,
+        &Read::OneOfThree,
         &[(
             "!Sized",
             "0..1 expected one of: identifier, lifetime, `const`",
         )],
     );
-    all_said::<CommaOrEndInside>(&rt, &[("[x]", "1..2 expected `,` or `]`")]);
-    all_said::<OnlyEnd>(&rt, &[("x", "0..1 unexpected token"), ("", READ)]);
+    all_said(
+        &rt,
+        &Read::CommaOrEndInside,
+        &[("[x]", "1..2 expected `,` or `]`")],
+    );
+    all_said(
+        &rt,
+        &Read::OnlyEnd,
+        &[("x", "0..1 unexpected token"), ("", READ)],
+    );
 }

@@ -1,40 +1,49 @@
 //! Parsers that read nothing, go to the empty cursor, or swap their stream.
-use crate::outcomes::{Sample, all_read, all_said, is_read};
+use crate::outcomes::{Sample, all_said, is_read, read};
 use std::alloc::{AllocGlobal, Global};
 use std::process::Abort;
-use syn_parse::{Parse, ParseStream, Result, tokens_to_parse_buffer};
+use syn_parse::{Parse, ParseStream, Parser, Result, tokens_to_parse_buffer};
 use tok_buffer::{Cursor, TokenBuffer};
 use tok_core::{Delimiter, Ident, Span, TokenStream, lex};
 use tok_types::token::Token;
 
 // A step to its own cursor, and whether it stayed.
-struct Stays;
-
-impl Sample for Stays {
-    fn sample(input: ParseStream<'_, '_>) -> Result<String> {
-        let start = input.cursor();
-        input.step(|from| Ok(((), from.cursor())))?;
-        let stayed = input.cursor() == start;
-        let _: TokenStream = input.parse()?;
-        Ok(format!(in input.allocator(); "{stayed}")?)
-    }
+fn stays(input: ParseStream<'_, '_>) -> Result<String> {
+    let start = input.cursor();
+    input.step(|from| Ok(((), from.cursor())))?;
+    let stayed = input.cursor() == start;
+    let _: TokenStream = input.parse()?;
+    Ok(format!(in input.allocator(); "{stayed}")?)
 }
 
 // A step to the empty cursor, and whether the stream is empty there and has the span of its scope.
-struct Ends;
+fn ends(input: ParseStream<'_, '_>) -> Result<String> {
+    input.step(|_| Ok(((), Cursor::empty())))?;
+    let has_ended = input.is_empty() && input.span() == Span::call_site();
+    Ok(format!(in input.allocator(); "{has_ended}")?)
+}
 
-impl Sample for Ends {
-    fn sample(input: ParseStream<'_, '_>) -> Result<String> {
-        input.step(|_| Ok(((), Cursor::empty())))?;
-        let has_ended = input.is_empty() && input.span() == Span::call_site();
-        Ok(format!(in input.allocator(); "{has_ended}")?)
+// The parsers of this module.
+enum Read {
+    Never,
+    Stays,
+    Ends,
+}
+
+impl Sample for Read {
+    fn run(&self, alloc: Global, text: &str) -> Result<String> {
+        match self {
+            Read::Never => read::<Option<Never>>.parse_str(alloc, text),
+            Read::Stays => stays.parse_str(alloc, text),
+            Read::Ends => ends.parse_str(alloc, text),
+        }
     }
 }
 
 #[test]
 fn odd_steps(rt: HostRuntime) {
-    all_said::<Stays>(&rt, &[("a b", "true")]);
-    all_said::<Ends>(&rt, &[("a b", "true")]);
+    all_said(&rt, &Read::Stays, &[("a b", "true")]);
+    all_said(&rt, &Read::Ends, &[("a b", "true")]);
 }
 
 // Its peek is always true, and its parse always fails.
@@ -59,7 +68,7 @@ impl Parse for Never {
 
 #[test]
 fn an_option_fails_after_its_peek(rt: HostRuntime) {
-    all_read::<Option<Never>>(&rt, &[("a", "0..1 never")]);
+    all_said(&rt, &Read::Never, &[("a", "0..1 never")]);
 }
 
 fn swapped<'a>(input: ParseStream<'_, 'a>, alloc: Global, other: &'a TokenBuffer) -> Result<Ident> {

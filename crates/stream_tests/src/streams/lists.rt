@@ -3,7 +3,7 @@ use super::hostile::laid;
 use crate::outcomes::{Sample, all_said, is_read};
 use std::alloc::{AllocGlobal, Global};
 use std::process::Abort;
-use syn_parse::{Nothing, Parse, ParseStream, Paused, Result, tokens_to_parse_buffer};
+use syn_parse::{Nothing, Parse, ParseStream, Parser, Paused, Result, tokens_to_parse_buffer};
 use syn_punctuated::{ParseTerminated, Punctuated};
 use tok_buffer::Cursor;
 use tok_core::{Ident, Span, TokenStream};
@@ -20,46 +20,61 @@ fn counted(alloc: Global, list: &Names) -> Result<String> {
     Ok(format!(in alloc; "{count} {is_trailing}")?)
 }
 
-struct Terminated;
-
-impl Sample for Terminated {
-    fn sample(input: ParseStream<'_, '_>) -> Result<String> {
-        let list: Names = Punctuated::parse_terminated(input)?;
-        counted(input.allocator(), &list)
-    }
+fn terminated(input: ParseStream<'_, '_>) -> Result<String> {
+    let list: Names = Punctuated::parse_terminated(input)?;
+    counted(input.allocator(), &list)
 }
 
-struct Separated;
-
-impl Sample for Separated {
-    fn sample(input: ParseStream<'_, '_>) -> Result<String> {
-        let list: Names = Punctuated::parse_separated_nonempty(input)?;
-        counted(input.allocator(), &list)
-    }
+fn separated(input: ParseStream<'_, '_>) -> Result<String> {
+    let list: Names = Punctuated::parse_separated_nonempty(input)?;
+    counted(input.allocator(), &list)
 }
 
-struct ByStream;
+fn by_stream(input: ParseStream<'_, '_>) -> Result<String> {
+    let list = input.parse_terminated::<Ident, token::Comma, _>(|stream| stream.parse())?;
+    counted(input.allocator(), &list)
+}
 
-impl Sample for ByStream {
-    fn sample(input: ParseStream<'_, '_>) -> Result<String> {
-        let list = input.parse_terminated::<Ident, token::Comma, _>(|stream| stream.parse())?;
-        counted(input.allocator(), &list)
+// The parsers of this module.
+enum Read {
+    Terminated,
+    Separated,
+    ByStream,
+    NothingByNothing,
+    OneRest,
+    Rests,
+    FromStart,
+}
+
+impl Sample for Read {
+    fn run(&self, alloc: Global, text: &str) -> Result<String> {
+        match self {
+            Read::Terminated => terminated.parse_str(alloc, text),
+            Read::Separated => separated.parse_str(alloc, text),
+            Read::ByStream => by_stream.parse_str(alloc, text),
+            Read::NothingByNothing => nothing_by_nothing.parse_str(alloc, text),
+            Read::OneRest => one_rest.parse_str(alloc, text),
+            Read::Rests => rests.parse_str(alloc, text),
+            Read::FromStart => from_start.parse_str(alloc, text),
+        }
     }
 }
 
 #[test]
 fn lists_of_names(rt: HostRuntime) {
-    all_said::<Terminated>(
+    all_said(
         &rt,
+        &Read::Terminated,
         &[
             ("", "0 false"),
             ("a, b,", "2 true"),
             ("a, b c", "5..6 expected `,`"),
         ],
     );
-    all_said::<ByStream>(&rt, &[("a, b", "2 false")]);
-    all_said::<Separated>(
+    all_said(&rt, &Read::ByStream, &[("a, b", "2 false")]);
+    all_said(
         &rt,
+        &Read::Separated,
         &[
             ("a, b", "2 false"),
             ("a, b c", "5..6 unexpected token"),
@@ -68,28 +83,20 @@ fn lists_of_names(rt: HostRuntime) {
     );
 }
 
-struct NothingByNothing;
-
-impl Sample for NothingByNothing {
-    fn sample(input: ParseStream<'_, '_>) -> Result<String> {
-        let _: Punctuated<Nothing, Nothing> = Punctuated::parse_terminated(input)?;
-        Ok(String::new(input.allocator()))
-    }
+fn nothing_by_nothing(input: ParseStream<'_, '_>) -> Result<String> {
+    let _: Punctuated<Nothing, Nothing> = Punctuated::parse_terminated(input)?;
+    Ok(String::new(input.allocator()))
 }
 
 // All that is left, and then nothing: the number of values, and of the first one's trees.
-struct OneRest;
-
-impl Sample for OneRest {
-    fn sample(input: ParseStream<'_, '_>) -> Result<String> {
-        let list: Punctuated<TokenStream, Nothing> = Punctuated::parse_terminated(input)?;
-        let count = list.len();
-        let trees = match list.first() {
-            Some(value) => value.trees().len(),
-            None => 0,
-        };
-        Ok(format!(in input.allocator(); "{count} {trees}")?)
-    }
+fn one_rest(input: ParseStream<'_, '_>) -> Result<String> {
+    let list: Punctuated<TokenStream, Nothing> = Punctuated::parse_terminated(input)?;
+    let count = list.len();
+    let trees = match list.first() {
+        Some(value) => value.trees().len(),
+        None => 0,
+    };
+    Ok(format!(in input.allocator(); "{count} {trees}")?)
 }
 
 // A separator that is always next, and reads nothing.
@@ -112,20 +119,24 @@ impl Parse for Always {
     }
 }
 
-struct Rests;
-
-impl Sample for Rests {
-    fn sample(input: ParseStream<'_, '_>) -> Result<String> {
-        let _: Punctuated<TokenStream, Always> = Punctuated::parse_separated_nonempty(input)?;
-        Ok(String::new(input.allocator()))
-    }
+fn rests(input: ParseStream<'_, '_>) -> Result<String> {
+    let _: Punctuated<TokenStream, Always> = Punctuated::parse_separated_nonempty(input)?;
+    Ok(String::new(input.allocator()))
 }
 
 #[test]
 fn parsers_that_read_nothing(rt: HostRuntime) {
-    all_said::<NothingByNothing>(&rt, &[("asdf", "0..4 parser made no progress")]);
-    all_said::<OneRest>(&rt, &[("a b", "1 2")]);
-    all_said::<Rests>(&rt, &[("a b", "call parser made no progress")]);
+    all_said(
+        &rt,
+        &Read::NothingByNothing,
+        &[("asdf", "0..4 parser made no progress")],
+    );
+    all_said(&rt, &Read::OneRest, &[("a b", "1 2")]);
+    all_said(
+        &rt,
+        &Read::Rests,
+        &[("a b", "call parser made no progress")],
+    );
 }
 
 // Moves to where a stream at rest is, if that is in the same scope.
@@ -139,22 +150,22 @@ fn go_to<'a>(stream: ParseStream<'_, 'a>, place: Paused<'a>) {
 }
 
 // Nothing between commas, each time from the start.
-struct FromStart;
-
-impl Sample for FromStart {
-    fn sample(input: ParseStream<'_, '_>) -> Result<String> {
-        let start = input.fork().pause();
-        let _: Blanks = Punctuated::parse_terminated_with(input, move |stream| {
-            go_to(stream, start);
-            Ok(Nothing)
-        })?;
-        Ok(String::new(input.allocator()))
-    }
+fn from_start(input: ParseStream<'_, '_>) -> Result<String> {
+    let start = input.fork().pause();
+    let _: Blanks = Punctuated::parse_terminated_with(input, move |stream| {
+        go_to(stream, start);
+        Ok(Nothing)
+    })?;
+    Ok(String::new(input.allocator()))
 }
 
 #[test]
 fn a_parser_that_goes_back(rt: HostRuntime) {
-    all_said::<FromStart>(&rt, &[(", , x", "2..3 parser made no progress")]);
+    all_said(
+        &rt,
+        &Read::FromStart,
+        &[(", , x", "2..3 parser made no progress")],
+    );
 }
 
 // Puts a copy of the other stream in the place of this one.

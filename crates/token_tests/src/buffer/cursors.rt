@@ -33,16 +33,11 @@ fn is_end(alloc: Global, text: &str, at: &At) -> Option<bool> {
     Some(place(&buffer, at).eof())
 }
 
-// Checks what can be read at these places, and where it ends. Only where nothing can be read is the
-// end of a scope.
+// Checks what can be read at these places, none of which is the end of its scope.
 fn all_reads(rt: &(impl Abort + AllocGlobal), rows: &[(&str, At, [Option<usize>; 6])]) {
     for (text, at, wanted) in rows {
         assert_eq!(rt; reads(rt.alloc(), text, at), Some(*wanted), "at {text}");
-        let is_read = wanted.iter().any(|end| end.is_some());
-        assert!(rt;
-            !is_read || is_end(rt.alloc(), text, at) == Some(false),
-            "at {text}"
-        );
+        assert_eq!(rt; is_end(rt.alloc(), text, at), Some(false), "at {text}");
     }
 }
 
@@ -66,6 +61,7 @@ fn reads_tokens(rt: HostRuntime) {
             ("+", At::Front(0), [Some(1), NO, Some(1), NO, NO, NO]),
             ("«+»", At::Front(0), [Some(3), NO, Some(3), NO, NO, Some(3)]),
             ("1", At::Front(0), [Some(1), NO, NO, Some(1), NO, NO]),
+            ("«»", At::Front(0), [NO, NO, NO, NO, NO, Some(2)]),
         ],
     );
 }

@@ -4,31 +4,45 @@ use examples::entry::{Call, Entry, Pair, parse_entry, parse_entry_both, parse_en
 use examples::setting::{Field, Flag, read_setting};
 use std::alloc::{AllocGlobal, Global};
 use std::process::Abort;
-use syn_parse::{ParseStream, Result};
+use syn_parse::{ParseStream, Parser, Result};
 use tok_core::lex_marked;
 
-struct WholePair;
-
-impl Sample for WholePair {
-    fn sample(input: ParseStream<'_, '_>) -> Result<String> {
-        let pair: Pair = input.parse()?;
-        Ok(format!(in input.allocator(); "{} {}", pair.name.as_str(), pair.value.as_str())?)
-    }
+fn whole_pair(input: ParseStream<'_, '_>) -> Result<String> {
+    let pair: Pair = input.parse()?;
+    Ok(format!(in input.allocator(); "{} {}", pair.name.as_str(), pair.value.as_str())?)
 }
 
-struct WholeCall;
+fn whole_call(input: ParseStream<'_, '_>) -> Result<String> {
+    let call: Call = input.parse()?;
+    Ok(format!(in input.allocator(); "{} {}", call.name.as_str(), call.value.as_str())?)
+}
 
-impl Sample for WholeCall {
-    fn sample(input: ParseStream<'_, '_>) -> Result<String> {
-        let call: Call = input.parse()?;
-        Ok(format!(in input.allocator(); "{} {}", call.name.as_str(), call.value.as_str())?)
+// The parsers of this module.
+enum Read {
+    WholePair,
+    WholeCall,
+    WholeSetting,
+    WholeFlag,
+    WholeField,
+}
+
+impl Sample for Read {
+    fn run(&self, alloc: Global, text: &str) -> Result<String> {
+        match self {
+            Read::WholePair => whole_pair.parse_str(alloc, text),
+            Read::WholeCall => whole_call.parse_str(alloc, text),
+            Read::WholeSetting => whole_setting.parse_str(alloc, text),
+            Read::WholeFlag => whole_flag.parse_str(alloc, text),
+            Read::WholeField => whole_field.parse_str(alloc, text),
+        }
     }
 }
 
 #[test]
 fn reads_pairs_and_calls(rt: HostRuntime) {
-    all_said::<WholePair>(
+    all_said(
         &rt,
+        &Read::WholePair,
         &[
             ("a, 1", "a 1"),
             ("a 1", "2..3 expected `,`"),
@@ -36,8 +50,9 @@ fn reads_pairs_and_calls(rt: HostRuntime) {
             ("a, 1 b", "5..6 unexpected token"),
         ],
     );
-    all_said::<WholeCall>(
+    all_said(
         &rt,
+        &Read::WholeCall,
         &[
             ("f(1)", "f 1"),
             ("f[1]", "1..2 expected parentheses"),
@@ -51,23 +66,20 @@ fn reads_pairs_and_calls(rt: HostRuntime) {
 }
 
 // A name, and the value after `=`.
-struct WholeSetting;
-
-impl Sample for WholeSetting {
-    fn sample(input: ParseStream<'_, '_>) -> Result<String> {
-        let setting = read_setting(input)?;
-        let name = setting.name.as_str();
-        match &setting.value {
-            Some(value) => Ok(format!(in input.allocator(); "{name}={}", value.as_str())?),
-            None => Ok(format!(in input.allocator(); "{name}")?),
-        }
+fn whole_setting(input: ParseStream<'_, '_>) -> Result<String> {
+    let setting = read_setting(input)?;
+    let name = setting.name.as_str();
+    match &setting.value {
+        Some(value) => Ok(format!(in input.allocator(); "{name}={}", value.as_str())?),
+        None => Ok(format!(in input.allocator(); "{name}")?),
     }
 }
 
 #[test]
 fn reads_settings(rt: HostRuntime) {
-    all_said::<WholeSetting>(
+    all_said(
         &rt,
+        &Read::WholeSetting,
         &[
             ("a", "a"),
             ("a = \"x\"", "a=\"x\""),
@@ -82,37 +94,31 @@ fn reads_settings(rt: HostRuntime) {
 }
 
 // Whether a star comes first, and a name.
-struct WholeFlag;
-
-impl Sample for WholeFlag {
-    fn sample(input: ParseStream<'_, '_>) -> Result<String> {
-        let flag: Flag = input.parse()?;
-        let has_star = flag.star.is_some();
-        Ok(format!(in input.allocator(); "{has_star} {}", flag.name.as_str())?)
-    }
+fn whole_flag(input: ParseStream<'_, '_>) -> Result<String> {
+    let flag: Flag = input.parse()?;
+    let has_star = flag.star.is_some();
+    Ok(format!(in input.allocator(); "{has_star} {}", flag.name.as_str())?)
 }
 
-struct WholeField;
-
-impl Sample for WholeField {
-    fn sample(input: ParseStream<'_, '_>) -> Result<String> {
-        let field: Field = input.parse()?;
-        Ok(format!(in input.allocator(); "{} {}", field.name.as_str(), field.kind.as_str())?)
-    }
+fn whole_field(input: ParseStream<'_, '_>) -> Result<String> {
+    let field: Field = input.parse()?;
+    Ok(format!(in input.allocator(); "{} {}", field.name.as_str(), field.kind.as_str())?)
 }
 
 #[test]
 fn reads_flags_and_fields(rt: HostRuntime) {
-    all_said::<WholeFlag>(
+    all_said(
         &rt,
+        &Read::WholeFlag,
         &[
             ("*a", "true a"),
             ("a", "false a"),
             ("* *a", "2..3 expected identifier"),
         ],
     );
-    all_said::<WholeField>(
+    all_said(
         &rt,
+        &Read::WholeField,
         &[
             ("a: B", "a B"),
             ("a B", "2..3 expected `:`"),
