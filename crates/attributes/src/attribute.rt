@@ -1,4 +1,8 @@
 // The path of an attribute and what comes after it.
+ghost use Rattle.std.specs.Prelude.{◌<◌, IfSome};
+ghost use Rattle.tok_buffer.specs.Cursors.{place_of};
+ghost use Rattle.tok_buffer.specs.Progress.{remaining};
+
 use crate::show::{show_list, show_tokens};
 use std::alloc::{AllocError, Global};
 use tok_buffer::Cursor;
@@ -65,9 +69,17 @@ fn read_path<'a>(alloc: Global, cursor: Cursor<'a>) -> Result<(String, Cursor<'a
     Err(Fault::Expected(rest.span(), "a path"))
 }
 
-fn read_colons<'a>(cursor: Cursor<'a>) -> Option<Cursor<'a>> {
-    let mut spans = [Span::call_site(), Span::call_site()];
-    cursor.puncts("::", &mut spans)
+fn read_colons<'a>(cursor: Cursor<'a>) -> Option<Cursor<'a>>
+    ensures { IfSome result
+        (λ after. remaining (place_of after) < remaining (place_of cursor.entry)) }
+{
+    reads_go_on();
+    if !cursor.peek_punct("::") {
+        return None;
+    }
+    let (_, between) = cursor.punct()?;
+    let (_, after) = between.punct()?;
+    Some(after)
 }
 
 // What comes after a path: `=` and a value, or a group.

@@ -1,9 +1,7 @@
 // The lines that are printed of a file.
-ghost use Rattle.std.specs.Prelude.{◌≤◌, ◌+◌};
-
 use crate::attribute::{Attribute, Fault, read};
 use crate::find::{Found, Style, find};
-use crate::position::{Position, START, position_after};
+use crate::position::{Place, Position};
 use std::alloc::{AllocError, Global};
 use std::str::from_utf8;
 use tok_buffer::TokenBuffer;
@@ -122,14 +120,19 @@ fn line_of(
     let delimiter = attribute.delimiter;
     let arguments = attribute.arguments.as_str();
     let mut text = format!(in alloc; "{file}:{line}:{column}: {style} {path}")?;
-    for word in [delimiter, arguments] {
-        if !word.is_empty() {
-            text.push(' ')?;
-            text.push_str(word)?;
-        }
-    }
+    push_word(&mut text, delimiter)?;
+    push_word(&mut text, arguments)?;
     text.push('\n')?;
     Ok(text)
+}
+
+// Appends a space and a word, unless it is empty.
+fn push_word(text: &mut String, word: &str) -> Result<(), AllocError> {
+    if !word.is_empty() {
+        text.push(' ')?;
+        text.push_str(word)?;
+    }
+    Ok(())
 }
 
 // The byte at which a span begins.
@@ -137,39 +140,5 @@ fn start(span: Span) -> usize {
     match span.as_range() {
         Some((_, start, _)) => start,
         None => 0,
-    }
-}
-
-// A place in a text that is gone through once: its byte, and its line and column.
-#[derive(Clone, Copy)]
-struct Place<'a> {
-    text: &'a str,
-    at: usize,
-    position: Position,
-    ghost counted: { 1 ≤ position.column },
-    ghost room: { position.line + position.column ≤ at + 2 },
-}
-
-impl<'a> Place<'a> {
-    // The first character of a text. A byte order mark at its start takes no column.
-    fn new(text: &'a str) -> Place<'a> {
-        let at = if text.starts_with('\u{FEFF}') { 3 } else { 0 };
-        Place {
-            text,
-            at,
-            position: START,
-        }
-    }
-
-    // A place that isn't before this one. If it is before it, or no character begins there, it is this place.
-    fn moved_to(self, at: usize) -> Place<'a> {
-        match self.text.get(self.at..at) {
-            Some(between) => Place {
-                text: self.text,
-                at,
-                position: position_after(self.position, between),
-            },
-            None => self,
-        }
     }
 }

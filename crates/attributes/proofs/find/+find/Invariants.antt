@@ -6,8 +6,8 @@ use Rattle.attributes.proofs.find.+find.Given as goal
 abbrev pub decreases-find : goal.decreases-find
 decreases-find l = remaining (place_of l.cursor)
 
-abbrev pub invariant-find-loop-rest : goal.invariant-find-loop-rest
-invariant-find-loop-rest l = remaining (place_of l.rest) ≤ remaining (place_of l.fn.cursor)
+abbrev pub invariant-loop-attribute : goal.invariant-loop-attribute
+invariant-loop-attribute l = remaining (place_of l.rest) ≤ remaining (place_of l.fn.cursor)
 
-abbrev pub decreases-find-loop-rest : goal.decreases-find-loop-rest
-decreases-find-loop-rest l = remaining (place_of l.rest)
+abbrev pub decreases-loop-attribute : goal.decreases-loop-attribute
+decreases-loop-attribute l = remaining (place_of l.rest)
