@@ -3,6 +3,8 @@
 #![tactic(auto)]
 
 #[cfg(test)]
+mod editions;
+#[cfg(test)]
 mod entries;
 #[cfg(test)]
 mod leaves;

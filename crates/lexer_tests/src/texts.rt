@@ -7,11 +7,12 @@ use tok_core::{
     lex_marked, lex_source,
 };
 
-// The call that reads a text: `lex`, `lex_marked` or `lex_source`.
+// The call that reads a text: `lex`, `lex_marked`, or `lex_source` by the default edition or another one.
 pub enum Rules {
     Plain,
     Marked,
     Source,
+    Edition(Edition),
 }
 
 // The number of the source that each text is.
@@ -28,6 +29,7 @@ fn trees(alloc: Global, rules: &Rules, text: &str) -> Result<TokenStream, LexFau
         Rules::Plain => lex(alloc, SOURCE, text),
         Rules::Marked => lex_marked(alloc, SOURCE, text),
         Rules::Source => lex_source(alloc, Edition::default(), SOURCE, text),
+        Rules::Edition(edition) => lex_source(alloc, *edition, SOURCE, text),
     }
 }
 
@@ -45,7 +47,8 @@ fn read(alloc: Global, rules: &Rules, text: &str) -> Result<TokenBuffer, LexFaul
     match rules {
         Rules::Plain => TokenBuffer::from_text(alloc, 0, SOURCE, text),
         Rules::Marked => TokenBuffer::from_marked(alloc, 0, SOURCE, text),
-        Rules::Source => TokenBuffer::from_source(alloc, 0, Edition::default(), SOURCE, text),
+        Rules::Source => { TokenBuffer::from_source(alloc, 0, Edition::default(), SOURCE, text) }
+        Rules::Edition(edition) => TokenBuffer::from_source(alloc, 0, *edition, SOURCE, text),
     }
 }
 
