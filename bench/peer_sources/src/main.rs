@@ -1,4 +1,5 @@
-//! Reads Rust source files by proc-macro2, and prints what crates/source_vectors prints of them: `tokens FILE..` or `count FILE..`.
+//! Reads Rust source files by proc-macro2, and prints what crates/source_vectors prints of them: `tokens EDITION FILE..` or `count EDITION FILE..`.
+//! It has one grammar for all editions.
 use proc_macro2::{Delimiter, LineColumn, Spacing, Span, TokenStream, TokenTree};
 use std::fmt::Write;
 use std::io::Write as _;
@@ -31,6 +32,7 @@ impl<'a> Lines<'a> {
 fn main() {
     let mut words = std::env::args().skip(1);
     let goal = words.next().expect("no word that says what to print");
+    let _edition = words.next();
     let mut out = std::io::stdout().lock();
     match goal.as_str() {
         "tokens" => {
@@ -58,7 +60,7 @@ fn tokens(file: &str) -> String {
     let mut out = format!("{file}\n");
     match std::panic::catch_unwind(|| read(&text)) {
         Ok(Ok(stream)) => push_stream(&mut out, &lines, stream),
-        Ok(Err(error)) => writeln!(out, "refused {}", lines.byte(error.span().start())).unwrap(),
+        Ok(Err(error)) => writeln!(out, "rejected {}", lines.byte(error.span().start())).unwrap(),
         Err(_) => writeln!(out, "panics").unwrap(),
     }
     out

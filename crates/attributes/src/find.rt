@@ -1,4 +1,8 @@
 // The attributes among the tokens of a buffer.
+ghost use Rattle.std.specs.Prelude.{◌<◌, IfSome};
+ghost use Rattle.tok_buffer.specs.Cursors.{place_of};
+ghost use Rattle.tok_buffer.specs.Progress.{remaining};
+
 use std::alloc::AllocError;
 use tok_buffer::Cursor;
 use tok_buffer::laws::{entries_go_on, reads_go_on, skips_go_on};
@@ -22,7 +26,6 @@ pub struct Found<'a> {
 // Appends the attributes that are ahead of a cursor, in groups too, in their order.
 #[cycle(find)]
 pub fn find<'a>(found: &mut Vec<Found<'a>>, cursor: Cursor<'a>) -> Result<(), AllocError> {
-    reads_go_on();
     skips_go_on();
     entries_go_on();
     let mut rest = cursor;
@@ -42,7 +45,11 @@ pub fn find<'a>(found: &mut Vec<Found<'a>>, cursor: Cursor<'a>) -> Result<(), Al
 }
 
 // The attribute at a cursor, and the cursor after it. In a macro `#[$name]` and `#[#name]` are no attributes yet.
-fn attribute<'a>(cursor: Cursor<'a>) -> Option<(Found<'a>, Cursor<'a>)> {
+fn attribute<'a>(cursor: Cursor<'a>) -> Option<(Found<'a>, Cursor<'a>)>
+    ensures { IfSome result
+        (λ r. remaining (place_of r.1) < remaining (place_of cursor.entry)) }
+{
+    entries_go_on();
     let (style, span, brackets) = sign(cursor)?;
     let (contents, _, after) = brackets.group(Delimiter::Bracket)?;
     if contents.peek_punct("$") || contents.peek_punct("#") {
@@ -57,7 +64,11 @@ fn attribute<'a>(cursor: Cursor<'a>) -> Option<(Found<'a>, Cursor<'a>)> {
 }
 
 // The `#` or `#!` of an attribute, and the cursor after it.
-fn sign<'a>(cursor: Cursor<'a>) -> Option<(Style, Span, Cursor<'a>)> {
+fn sign<'a>(cursor: Cursor<'a>) -> Option<(Style, Span, Cursor<'a>)>
+    ensures { IfSome result
+        (λ r. remaining (place_of r.2) < remaining (place_of cursor.entry)) }
+{
+    reads_go_on();
     let (pound, after) = cursor.punct()?;
     if pound.as_char() != '#' {
         return None;

@@ -1,4 +1,7 @@
 // The lines that are printed of a file.
+ghost use Rattle.std.specs.Prelude.{◌≡◌, IfOk, string_bytes};
+ghost use Rattle.attributes.specs.Lines.{gap, line_text, style_text};
+
 use crate::attribute::{Attribute, Fault, read};
 use crate::find::{Found, Style, find};
 use crate::position::{Place, Position};
@@ -16,9 +19,14 @@ pub struct Listing {
 }
 
 // The listing of the file of this name that holds these bytes.
-pub fn list(alloc: Global, file: &str, bytes: &[u8]) -> Result<Listing, AllocError> {
+pub fn list(
+    alloc: Global,
+    edition: Edition,
+    file: &str,
+    bytes: &[u8],
+) -> Result<Listing, AllocError> {
     match from_utf8(bytes) {
-        Ok(text) => list_text(alloc, file, text),
+        Ok(text) => list_text(alloc, edition, file, text),
         Err(error) => {
             let front = bytes.get(..error.valid_up_to()).unwrap_or(&[]);
             let text = from_utf8(front).unwrap_or("");
@@ -28,8 +36,13 @@ pub fn list(alloc: Global, file: &str, bytes: &[u8]) -> Result<Listing, AllocErr
     }
 }
 
-fn list_text(alloc: Global, file: &str, text: &str) -> Result<Listing, AllocError> {
-    match TokenBuffer::from_source(alloc, 0, Edition::default(), 0, text) {
+fn list_text(
+    alloc: Global,
+    edition: Edition,
+    file: &str,
+    text: &str,
+) -> Result<Listing, AllocError> {
+    match TokenBuffer::from_source(alloc, 0, edition, 0, text) {
         Ok(buffer) => {
             let mut found = Vec::new(alloc);
             find(&mut found, buffer.begin())?;
@@ -110,29 +123,36 @@ fn line_of(
     position: Position,
     style: Style,
     attribute: &Attribute,
-) -> Result<String, AllocError> {
+) -> Result<String, AllocError>
+    ensures { IfOk result
+        (λ line. string_bytes line ≡ line_text file.now position style attribute.now) }
+{
     let Position { line, column } = position;
-    let style = match style {
-        Style::Outer => "outer",
-        Style::Inner => "inner",
-    };
+    let style = style_text(style);
     let path = attribute.path.as_str();
     let delimiter = attribute.delimiter;
     let arguments = attribute.arguments.as_str();
-    let mut text = format!(in alloc; "{file}:{line}:{column}: {style} {path}")?;
-    push_word(&mut text, delimiter)?;
-    push_word(&mut text, arguments)?;
-    text.push('\n')?;
-    Ok(text)
+    let first = gap(delimiter);
+    let second = gap(arguments);
+    format!(in alloc;
+        "{file}:{line}:{column}: {style} {path}{first}{delimiter}{second}{arguments}\n"
+    )
 }
 
-// Appends a space and a word, unless it is empty.
-fn push_word(text: &mut String, word: &str) -> Result<(), AllocError> {
-    if !word.is_empty() {
-        text.push(' ')?;
-        text.push_str(word)?;
+fn style_text(style: Style) -> &'static str
+    ensures { result.now ≡ style_text style }
+{
+    match style {
+        Style::Outer => "outer",
+        Style::Inner => "inner",
     }
-    Ok(())
+}
+
+// A space before a word that isn't empty.
+fn gap(word: &str) -> &'static str
+    ensures { result.now ≡ gap word.now }
+{
+    if word.is_empty() { "" } else { " " }
 }
 
 // The byte at which a span begins.

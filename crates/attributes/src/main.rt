@@ -10,9 +10,10 @@ mod show;
 
 use clap::Error;
 use listing::{Listing, list};
-use options::command;
+use options::{command, edition};
 use std::process::ExitCode;
 use std::{env, fs, io};
+use tok_core::Edition;
 
 // The exit statuses, which are those of grep.
 const FOUND: u8 = 0;
@@ -45,7 +46,11 @@ fn run(rt: &HostRuntime) -> io::Result<u8> {
             return Ok(if error.use_stderr() { FAILED } else { FOUND });
         }
     };
-    list_files(rt, matches.get_strs("FILE").unwrap_or(&[]))
+    list_files(
+        rt,
+        edition(&matches),
+        matches.get_strs("FILE").unwrap_or(&[]),
+    )
 }
 
 fn matches<'a>(rt: &HostRuntime, words: &'a [String]) -> Result<clap::ArgMatches<'a>, Error> {
@@ -53,14 +58,14 @@ fn matches<'a>(rt: &HostRuntime, words: &'a [String]) -> Result<clap::ArgMatches
 }
 
 // Lists each file, and tells whether an attribute was found.
-fn list_files(rt: &HostRuntime, files: &[&str]) -> io::Result<u8> {
+fn list_files(rt: &HostRuntime, edition: Edition, files: &[&str]) -> io::Result<u8> {
     let mut status = NONE_FOUND;
     for file in files {
         let Listing {
             lines,
             errors,
             is_found,
-        } = list_file(rt, file)?;
+        } = list_file(rt, edition, file)?;
         rt.print(lines)?;
         if !errors.is_empty() {
             status = FAILED;
@@ -73,9 +78,9 @@ fn list_files(rt: &HostRuntime, files: &[&str]) -> io::Result<u8> {
 }
 
 // Lists a file, or says why it can't be read.
-fn list_file(rt: &HostRuntime, file: &str) -> io::Result<Listing> {
+fn list_file(rt: &HostRuntime, edition: Edition, file: &str) -> io::Result<Listing> {
     match fs::read(rt, file) {
-        Ok(bytes) => Ok(list(rt.alloc(), file, bytes.as_slice())?),
+        Ok(bytes) => Ok(list(rt.alloc(), edition, file, bytes.as_slice())?),
         Err(error) => Ok(Listing {
             lines: String::new(rt.alloc()),
             errors: format!(in rt.alloc(); "{file}: {error}\n")?,

@@ -6,15 +6,15 @@ use tok_core::{Spacing, Span, TokenStream, TokenTree};
 // delimiter.
 #[cycle(lines)]
 pub fn push_stream(lines: &mut String, stream: &TokenStream) -> Result<(), AllocError> {
-    for tree in stream.trees() {
-        push_tree(lines, tree)?;
+    for next in stream.trees() {
+        push_tree(lines, next)?;
     }
     Ok(())
 }
 
 #[cycle(lines)]
-fn push_tree(lines: &mut String, tree: &TokenTree) -> Result<(), AllocError> {
-    match tree {
+fn push_tree(lines: &mut String, next: &TokenTree) -> Result<(), AllocError> {
+    match next {
         TokenTree::Group(group) => {
             push_line(lines, "group", group.span(), group.delimiter().opening())?;
             push_stream(lines, group.stream())?;
