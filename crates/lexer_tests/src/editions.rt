@@ -48,10 +48,9 @@ fn refused_before_2021(rt: HostRuntime) {
 
 #[test]
 fn guards_of_2024(rt: HostRuntime) {
-    let rules = Rules::Edition(Edition::Edition2024);
     all_read(
         &rt,
-        &rules,
+        &Rules::Edition(Edition::Edition2024),
         &[
             ("# #", "p # 0..1 p # 2..3"),
             ("# \"x\"", "p # 0..1 l \"x\" 2..5"),
@@ -65,7 +64,7 @@ fn guards_of_2024(rt: HostRuntime) {
     );
     all_refused(
         &rt,
-        &rules,
+        &Rules::Edition(Edition::Edition2024),
         &[
             ("##", 15, 0),
             ("a ##b", 15, 2),

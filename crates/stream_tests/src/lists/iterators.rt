@@ -54,16 +54,10 @@ fn raise_value(value: Option<&mut u32>) -> Parts {
     }
 }
 
-fn raise_pair(pair: Option<Pair<&mut u32, &mut Mark>>) -> Parts {
-    match pair {
-        Some(Pair::Punctuated(value, mark)) => {
-            let old = mark.0;
-            *mark = Mark('+');
-            (raise(value), Some(old))
-        }
-        Some(Pair::End(value)) => (raise(value), None),
-        None => NOTHING,
-    }
+fn mark_plus(mark: &mut Mark) -> Option<char> {
+    let old = mark.0;
+    *mark = Mark('+');
+    Some(old)
 }
 
 impl Items for Iter<'_, u32, Mark> {
@@ -120,9 +114,14 @@ impl Items for Pairs<'_, u32, Mark> {
 
 impl Items for PairsMut<'_, u32, Mark> {
     fn take(&mut self, end: End) -> Parts {
-        match end {
-            End::Front => raise_pair(self.next()),
-            End::Back => raise_pair(self.next_back()),
+        let pair = match end {
+            End::Front => self.next(),
+            End::Back => self.next_back(),
+        };
+        match pair {
+            Some(Pair::Punctuated(value, mark)) => (raise(value), mark_plus(mark)),
+            Some(Pair::End(value)) => (raise(value), None),
+            None => NOTHING,
         }
     }
 
@@ -236,6 +235,9 @@ fn yields_values_from_both_ends(rt: HostRuntime) {
     ];
     let middle_from_back = [(End::Back, value(3), 0), (End::Front, NOTHING, 0)];
     let ends = [(End::Front, value(2), 2), (End::Back, value(4), 1)];
+    let other_ends = [(End::Front, value(7), 2), (End::Back, value(9), 1)];
+    let other_middle = [(End::Back, value(4), 0), (End::Front, NOTHING, 0)];
+    let copied_middle = [(End::Back, value(4), 0)];
     let last = [(End::Front, value(3), 0)];
     let last_from_back = [(End::Back, value(3), 0)];
     all_values(
