@@ -1,8 +1,7 @@
 // The lines that are printed of a file.
-ghost use Rattle.std.specs.Prelude.{◌≡◌, IfOk, string_bytes};
-ghost use Rattle.attributes.specs.Lines.{gap, line_text, style_text};
+ghost use Rattle.std.specs.Prelude.{◌≡◌, ◌≢◌, ◌++◌, [], IfOk, codes, decimal, string_bytes};
 
-use crate::attribute::{Attribute, Fault, read};
+use crate::attribute::{Fault, read};
 use crate::find::{Found, Style, find};
 use crate::position::{Place, Position};
 use std::alloc::{AllocError, Global};
@@ -59,10 +58,9 @@ fn list_text(
 
 // The listing of a file that is refused as a whole.
 fn failed(alloc: Global, file: &str, place: Place<'_>, words: &str) -> Result<Listing, AllocError> {
-    let Position { line, column } = place.position;
     Ok(Listing {
         lines: String::new(alloc),
-        errors: format!(in alloc; "{file}:{line}:{column}: {words}\n")?,
+        errors: error_of(alloc, file, place.position, words)?,
         is_found: false,
     })
 }
@@ -101,14 +99,22 @@ fn list_found(
         place = place.moved_to(start(it.span));
         match read(alloc, it.contents) {
             Ok(attribute) => {
-                let line = line_of(alloc, file, place.position, it.style, &attribute)?;
+                let words = words_of(
+                    alloc,
+                    attribute.path.as_str(),
+                    attribute.delimiter,
+                    attribute.arguments.as_str(),
+                )?;
+                let style = style_text(it.style);
+                let line = line_of(alloc, file, place.position, style, words.as_str())?;
                 listing.lines.push_str(line.as_str())?;
                 listing.is_found = true;
             }
             Err(Fault::Expected(span, words)) => {
-                let Position { line, column } = place.moved_to(start(span)).position;
-                let error = format!(in alloc; "{file}:{line}:{column}: expected {words}\n")?;
-                listing.errors.push_str(error.as_str())?;
+                let words = format!(in alloc; "expected {words}")?;
+                let position = place.moved_to(start(span)).position;
+                let line = error_of(alloc, file, position, words.as_str())?;
+                listing.errors.push_str(line.as_str())?;
             }
             Err(Fault::Memory) => return Err(AllocError),
         }
@@ -121,38 +127,63 @@ fn line_of(
     alloc: Global,
     file: &str,
     position: Position,
-    style: Style,
-    attribute: &Attribute,
+    style: &str,
+    words: &str,
 ) -> Result<String, AllocError>
-    ensures { IfOk result
-        (λ line. string_bytes line ≡ line_text file.now position style attribute.now) }
+    ensures { IfOk result (λ line. string_bytes line
+        ≡ file.now ++ (codes ":" ++ (decimal position.line ++ (codes ":"
+        ++ (decimal position.column ++ (codes ": " ++ (style.now ++ (codes " "
+        ++ (words.now ++ codes "\n"))))))))) }
 {
     let Position { line, column } = position;
-    let style = style_text(style);
-    let path = attribute.path.as_str();
-    let delimiter = attribute.delimiter;
-    let arguments = attribute.arguments.as_str();
-    let first = gap(delimiter);
-    let second = gap(arguments);
-    format!(in alloc;
-        "{file}:{line}:{column}: {style} {path}{first}{delimiter}{second}{arguments}\n"
-    )
+    format!(in alloc; "{file}:{line}:{column}: {style} {words}\n")
 }
 
-fn style_text(style: Style) -> &'static str
-    ensures { result.now ≡ style_text style }
+// The line of an error.
+fn error_of(
+    alloc: Global,
+    file: &str,
+    position: Position,
+    words: &str,
+) -> Result<String, AllocError>
+    ensures { IfOk result (λ line. string_bytes line
+        ≡ file.now ++ (codes ":" ++ (decimal position.line ++ (codes ":"
+        ++ (decimal position.column ++ (codes ": " ++ (words.now ++ codes "\n"))))))) }
 {
+    let Position { line, column } = position;
+    format!(in alloc; "{file}:{line}:{column}: {words}\n")
+}
+
+// A path, and the delimiter and the arguments after it, if there are any.
+fn words_of(
+    alloc: Global,
+    path: &str,
+    delimiter: &str,
+    arguments: &str,
+) -> Result<String, AllocError>
+    ensures path { delimiter.now ≡ []
+        → IfOk result (λ words. string_bytes words ≡ path.now) }
+    ensures no_arguments { delimiter.now ≢ [] → arguments.now ≡ []
+        → IfOk result (λ words. string_bytes words
+        ≡ path.now ++ (codes " " ++ delimiter.now)) }
+    ensures arguments { delimiter.now ≢ [] → arguments.now ≢ []
+        → IfOk result (λ words. string_bytes words
+        ≡ path.now ++ (codes " " ++ (delimiter.now ++ (codes " " ++ arguments.now)))) }
+{
+    if delimiter.is_empty() {
+        String::from_str(alloc, path)
+    } else if arguments.is_empty() {
+        format!(in alloc; "{path} {delimiter}")
+    } else {
+        format!(in alloc; "{path} {delimiter} {arguments}")
+    }
+}
+
+fn style_text(style: Style) -> &'static str {
     match style {
         Style::Outer => "outer",
         Style::Inner => "inner",
     }
-}
-
-// A space before a word that isn't empty.
-fn gap(word: &str) -> &'static str
-    ensures { result.now ≡ gap word.now }
-{
-    if word.is_empty() { "" } else { " " }
 }
 
 // The byte at which a span begins.

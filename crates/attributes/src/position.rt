@@ -38,7 +38,7 @@ impl<'a> Place<'a> {
     }
 
     // The first place from this one on whose byte is this one or a later one, or else the end of the text.
-    #[tactic(auto, using(crate::proofs::Moves::starts, crate::proofs::Moves::goes_past))]
+    #[tactic(auto, using(crate::proofs::Moves::starts))]
     pub fn moved_to(self, at: usize) -> Place<'a>
         ensures goes_on { GoesOn self.entry.position self.entry.rest.now
             result.position result.rest.now }
