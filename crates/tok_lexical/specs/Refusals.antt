@@ -65,8 +65,8 @@ refusal_words ReservedGuard = codes "reserved guard"
 abbrev refused_if : Bool → Reason → Option Reason
 refused_if b refusal = if b then Some refusal else None
 
--- what follows an identifier makes it a reserved prefix (Rust Reference: Tokens, Reserved prefixes);
--- in 2015 and 2018 only `r` and `br` before `#` are, since that begins no raw string
+-- what follows an identifier makes it a reserved prefix (Rust Reference: Tokens, Reserved
+-- prefixes); in 2015 and 2018 only `r` and `br` before `#` are, since that begins no raw string
 abbrev pub is_reserved : Edition → List ℕ → List ℕ → Bool
 is_reserved edition name after =
     if reserves_prefixes edition

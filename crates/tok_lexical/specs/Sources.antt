@@ -21,8 +21,8 @@ is_blank_piece rule piece = false
 pub data Blanks : List ℕ → List ℕ → Type 0 where
   over : {text : List ℕ} → Blanks text text
   blank : {text taken after rest : List ℕ} {rule : Rule} →
-      IsFirstFit text (source_rules Edition2021) rule taken after → is_blank_piece rule taken ≡ true →
-      Blanks after rest → Blanks text rest
+      IsFirstFit text (source_rules Edition2021) rule taken after →
+      is_blank_piece rule taken ≡ true → Blanks after rest → Blanks text rest
 
 -- what follows `#!` makes it an attribute: after such pieces, a bracket
 abbrev pub OpensAttribute : List ℕ → Type 0

@@ -1,49 +1,66 @@
-// What no contract says: the tables against texts from outside, printed texts, and that each call succeeds where memory is
-// there.
+//! Token types: their texts, what they print, and where they are found.
 mod keywords;
 mod punctuations;
 mod trees;
 
-use std::alloc::{AllocError, Global};
+use std::alloc::{AllocError, AllocGlobal, Global};
+use std::fmt::Debug;
 use std::hash::{DefaultHasher, Hash, Hasher};
 use std::process::Abort;
-use std::test::Fail;
-use tok_buffer::{Cursor, TokenBuffer};
+use tok_buffer::TokenBuffer;
 use tok_core::{Ident, Span, ToTokens, TokenStream, TokenTree, lex_marked};
 use tok_types::token::{self, Token, printing};
 
-// That each of these holds.
+// Checks that each of these holds.
 fn all_hold(rt: &impl Abort, facts: &[bool]) {
     for (row, fact) in facts.iter().enumerate() {
         assert!(rt; *fact, "fact {row}");
     }
 }
 
-// Whether a token is in front of a text, or None where the text can't be read.
+// Whether a token is next in a text, if the text is read.
 fn found_in<T: Token>(alloc: Global, text: &str) -> Option<bool> {
     let stream = lex_marked(alloc, 0, text).ok()?;
     let buffer = TokenBuffer::new2(alloc, 0, stream).ok()?;
     Some(T::peek(buffer.begin()))
 }
 
-// What a token is written as.
-fn written<T: ToTokens>(alloc: Global, token: &T) -> Result<String, AllocError> {
-    let tokens = token.to_token_stream(alloc)?;
-    tokens.to_string(alloc)
+// Whether a token is next in the first text and not in the second.
+fn is_found<T: Token>(alloc: Global, here: &str, not_here: &str) -> bool {
+    found_in::<T>(alloc, here) == Some(true) && found_in::<T>(alloc, not_here) == Some(false)
 }
 
-// Whether a token is called by its text in backquotes, is found in the text and not in another, and is written as the text.
+fn is_text(alloc: Global, tokens: &TokenStream, wanted: &str) -> Option<bool> {
+    let text = tokens.to_string(alloc).ok()?;
+    Some(text.as_str() == wanted)
+}
+
+// Whether a token is written as this text.
+fn is_written<T: ToTokens>(alloc: Global, token: &T, wanted: &str) -> Option<bool> {
+    let tokens = token.to_token_stream(alloc).ok()?;
+    is_text(alloc, &tokens, wanted)
+}
+
+// Whether a text in backquotes is this.
+fn is_quoted(alloc: Global, text: &str, display: &str) -> Option<bool> {
+    let quoted = format!(in alloc; "`{text}`").ok()?;
+    Some(quoted.as_str() == display)
+}
+
+// Whether a token is displayed as its text in backquotes, is written as the text, and is found in
+// the text and not in another.
 fn is_token<T: Token + ToTokens + Default + Drop>(alloc: Global, text: &str, other: &str) -> bool {
-    let Ok(display) = format!(in alloc; "`{text}`") else {
-        return false;
-    };
-    let Ok(printed) = written(alloc, &T::default()) else {
-        return false;
-    };
-    T::display() == display.as_str()
-        && found_in::<T>(alloc, text) == Some(true)
+    is_quoted(alloc, text, T::display()) == Some(true)
+        && is_written(alloc, &T::default(), text) == Some(true)
+        && is_found::<T>(alloc, text, other)
+}
+
+// Whether a token has no text: it is found neither in this text nor at the end.
+fn has_no_text<T: Token + ToTokens + Default + Drop>(alloc: Global, other: &str) -> bool {
+    T::display() == "``"
+        && is_written(alloc, &T::default(), "") == Some(true)
         && found_in::<T>(alloc, other) == Some(false)
-        && printed.as_str() == text
+        && found_in::<T>(alloc, "") == Some(false)
 }
 
 fn hash_of<T: Hash>(value: &T) -> u64 {
@@ -70,59 +87,50 @@ fn texts_past_a_table(rt: HostRuntime) {
 }
 
 #[test]
-fn tokens_past_a_table(rt: HostRuntime) -> Result<(), Fail> {
+fn tokens_past_a_table(rt: HostRuntime) {
     let alloc = rt.alloc();
     all_hold(
         &rt,
         &[
-            token::Keyword::<54>::display() == "``",
-            found_in::<token::Keyword<54>>(alloc, "a") == Some(false),
-            found_in::<token::Keyword<54>>(alloc, "") == Some(false),
-            written(alloc, &token::Keyword::<54>::default())?.is_empty(),
-            token::Punctuation::<46, 0>::display() == "``",
-            found_in::<token::Punctuation<46, 0>>(alloc, "+") == Some(false),
+            has_no_text::<token::Keyword<54>>(alloc, "a"),
+            has_no_text::<token::Punctuation<46, 0>>(alloc, "+"),
+            has_no_text::<token::Punctuation<7, 2>>(alloc, ","),
         ],
     );
-    Ok(())
 }
 
-#[test]
-fn punctuations_of_another_length(rt: HostRuntime) -> Result<(), Fail> {
-    let alloc = rt.alloc();
-    all_hold(
-        &rt,
-        &[
-            token::Punctuation::<7, 2>::display() == "``",
-            found_in::<token::Punctuation<7, 2>>(alloc, ",") == Some(false),
-            found_in::<token::Punctuation<7, 2>>(alloc, "") == Some(false),
-            written(alloc, &token::Punctuation::<7, 2>::default())?.is_empty(),
-        ],
-    );
-    Ok(())
+// Whether a text at so many spans, of at most two, is written as this.
+fn is_punct_written(alloc: Global, text: &str, count: usize, wanted: &str) -> Option<bool> {
+    let mut tokens = TokenStream::new(alloc);
+    let spans = [at(1), at(2)];
+    printing::punct(text, spans.get(..count)?, &mut tokens).ok()?;
+    is_text(alloc, &tokens, wanted)
 }
 
-#[test]
-fn writes_puncts(rt: HostRuntime) -> Result<(), Fail> {
-    let alloc = rt.alloc();
-    let rows: [(&str, &[Span], &str); 7] = [
-        ("+=", &[at(1)], ""),
-        ("+=", &[at(1), at(2)], "+="),
-        ("+", &[at(1)], "+"),
-        ("", &[], ""),
-        ("a", &[at(1)], ""),
-        ("+a", &[at(1), at(2)], ""),
-        ("'", &[at(1)], "'"),
-    ];
-    for (text, spans, wanted) in rows {
-        let mut tokens = TokenStream::new(alloc);
-        printing::punct(text, spans, &mut tokens)?;
-        let printed = tokens.to_string(alloc)?;
-        assert_eq!(rt; printed.as_str(), wanted);
+fn all_puncts_written(rt: &(impl Abort + AllocGlobal), rows: &[(&str, usize, &str)]) {
+    for (text, count, wanted) in rows {
+        let found = is_punct_written(rt.alloc(), text, *count, wanted);
+        assert_eq!(rt; found, Some(true), "at {text}");
     }
-    Ok(())
 }
 
-// The name that `surround` puts into a group.
+#[test]
+fn writes_puncts(rt: HostRuntime) {
+    all_puncts_written(
+        &rt,
+        &[
+            ("+=", 1, ""),
+            ("+=", 2, "+="),
+            ("+", 1, "+"),
+            ("", 0, ""),
+            ("a", 1, ""),
+            ("+a", 2, ""),
+            ("'", 1, "'"),
+        ],
+    );
+}
+
+// Writes the name that `surround` puts into a group.
 fn write_name(tokens: &mut TokenStream, alloc: Global) -> Result<(), AllocError> {
     match Ident::new(alloc, "a", Span::call_site()) {
         Ok(name) => tokens.append(TokenTree::Ident(name)),
@@ -130,26 +138,31 @@ fn write_name(tokens: &mut TokenStream, alloc: Global) -> Result<(), AllocError>
     }
 }
 
-#[test]
-fn surrounds(rt: HostRuntime) -> Result<(), Fail> {
-    let alloc = rt.alloc();
+fn surround_all(alloc: Global, tokens: &mut TokenStream) -> Result<(), AllocError> {
+    token::Paren::default().surround(tokens, |inside| write_name(inside, alloc))?;
+    token::Brace::default().surround(tokens, |inside| write_name(inside, alloc))?;
+    token::Bracket::default().surround(tokens, |inside| write_name(inside, alloc))?;
+    token::Group::default().surround(tokens, |inside| write_name(inside, alloc))
+}
+
+fn is_surrounded(alloc: Global, wanted: &str) -> Option<bool> {
     let mut tokens = TokenStream::new(alloc);
-    token::Paren::default().surround(&mut tokens, |inside| write_name(inside, alloc))?;
-    token::Brace::default().surround(&mut tokens, |inside| write_name(inside, alloc))?;
-    token::Bracket::default().surround(&mut tokens, |inside| write_name(inside, alloc))?;
-    token::Group::default().surround(&mut tokens, |inside| write_name(inside, alloc))?;
-    let printed = tokens.to_string(alloc)?;
-    assert_eq!(rt; printed.as_str(), "(a) {a} [a] «a»");
-    Ok(())
+    surround_all(alloc, &mut tokens).ok()?;
+    is_text(alloc, &tokens, wanted)
+}
+
+// Whether a `surround` that fails returns the error and writes nothing.
+fn writes_nothing(alloc: Global) -> bool {
+    let mut tokens = TokenStream::new(alloc);
+    let refused = token::Paren::default().surround(&mut tokens, |_| Err(AllocError));
+    refused.is_err() && tokens.is_empty()
 }
 
 #[test]
-fn a_refused_surround_writes_nothing(rt: HostRuntime) -> Result<(), Fail> {
-    let mut tokens = TokenStream::new(rt.alloc());
-    let refused = token::Paren::default().surround(&mut tokens, |_| Err(AllocError));
-    assert!(rt; refused.is_err());
-    assert!(rt; tokens.is_empty());
-    Ok(())
+fn surrounds(rt: HostRuntime) {
+    let alloc = rt.alloc();
+    assert_eq!(rt; is_surrounded(alloc, "(a) {a} [a] «a»"), Some(true));
+    assert!(rt; writes_nothing(alloc));
 }
 
 // Whether an identifier was made, of this text and at 1.
@@ -176,64 +189,77 @@ fn makes_identifiers(rt: HostRuntime) {
     );
 }
 
+// Whether a token is equal to that at the call site, and hashes nothing.
+fn is_alike<T: PartialEq + Hash + Default + Drop>(token: T) -> bool {
+    token == T::default() && hash_of(&token) == DefaultHasher::new().finish()
+}
+
 #[test]
 fn compares_and_hashes_alike(rt: HostRuntime) {
-    let nothing = DefaultHasher::new().finish();
     all_hold(
         &rt,
         &[
-            token::Fn::new(at(1)) == token::Fn::default(),
-            token::PathSep::new([at(1), at(2)]) == token::PathSep::default(),
-            token::Underscore::new([at(1)]) == token::Underscore::default(),
-            token::Paren::from_span(at(1)) == token::Paren::default(),
-            token::Group::new(at(1)) == token::Group::default(),
-            hash_of(&token::Fn::new(at(1))) == nothing,
-            hash_of(&token::PathSep::from_span(at(1))) == nothing,
-            hash_of(&token::Underscore::from_span(at(1))) == nothing,
-            hash_of(&token::Brace::from_span(at(1))) == nothing,
-            hash_of(&token::Group::from_span(at(1))) == nothing,
+            is_alike(token::Fn::new(at(1))),
+            is_alike(token::PathSep::new([at(1), at(2)])),
+            is_alike(token::PathSep::from_span(at(1))),
+            is_alike(token::Underscore::new([at(1)])),
+            is_alike(token::Underscore::from_span(at(1))),
+            is_alike(token::Paren::from_span(at(1))),
+            is_alike(token::Brace::from_span(at(1))),
+            is_alike(token::Group::new(at(1))),
+            is_alike(token::Group::from_span(at(1))),
         ],
     );
 }
 
-#[test]
-fn shows_for_debugging(rt: HostRuntime) -> Result<(), Fail> {
-    let text = format!(in rt.alloc();
-        "{:?} {:?} {:?}",
-        token::Fn::default(),
-        token::PathSep::default(),
-        token::Underscore::default()
-    )?;
-    assert_eq!(rt; text.as_str(), "Token![fn] Token![::] Token![_]");
-    Ok(())
+// Whether a token is shown as this text for debugging.
+fn is_debug<T: Debug + Default + Drop>(alloc: Global, wanted: &str) -> bool {
+    match format!(in alloc; "{:?}", T::default()) {
+        Ok(text) => text.as_str() == wanted,
+        Err(_) => false,
+    }
 }
 
 #[test]
-fn shows_delimiters_for_debugging(rt: HostRuntime) -> Result<(), Fail> {
-    let text = format!(in rt.alloc();
-        "{:?} {:?} {:?} {:?}",
-        token::Paren::default(),
-        token::Brace::default(),
-        token::Bracket::default(),
-        token::Group::default()
-    )?;
-    assert_eq!(rt; text.as_str(), "Paren Brace Bracket Group");
-    Ok(())
+fn shows_for_debugging(rt: HostRuntime) {
+    let alloc = rt.alloc();
+    all_hold(
+        &rt,
+        &[
+            is_debug::<token::Fn>(alloc, "Token![fn]"),
+            is_debug::<token::PathSep>(alloc, "Token![::]"),
+            is_debug::<token::Underscore>(alloc, "Token![_]"),
+            is_debug::<token::Paren>(alloc, "Paren"),
+            is_debug::<token::Brace>(alloc, "Brace"),
+            is_debug::<token::Bracket>(alloc, "Bracket"),
+            is_debug::<token::Group>(alloc, "Group"),
+        ],
+    );
+}
+
+// The span of a comma at 1, and after it is moved to 2.
+fn moved_comma() -> (Span, Span) {
+    let mut comma = token::Comma::new([at(1)]);
+    let before = comma.span();
+    comma.set_span(at(2));
+    (before, comma.span())
+}
+
+// The span of an underscore at 1, and after it is moved to 2.
+fn moved_underscore() -> (Span, Span) {
+    let mut underscore = token::Underscore::new([at(1)]);
+    let before = underscore.span();
+    underscore.set_span(at(2));
+    (before, underscore.span())
 }
 
 #[test]
 fn spans_of_tokens(rt: HostRuntime) {
-    let mut comma = token::Comma::new([at(1)]);
-    let mut underscore = token::Underscore::new([at(1)]);
-    let before = [comma.span() == at(1), underscore.span() == at(1)];
-    comma.set_span(at(2));
-    underscore.set_span(at(2));
-    all_hold(&rt, &before);
     all_hold(
         &rt,
         &[
-            comma.span() == at(2),
-            underscore.span() == at(2),
+            moved_comma() == (at(1), at(2)),
+            moved_underscore() == (at(1), at(2)),
             token::Comma::from_span(at(3)).spans == [at(3)],
             token::PathSep::from_span(at(3)).spans == [at(3), at(3)],
             token::Paren::from_span(at(3)).span.join() == at(3),

@@ -1,9 +1,7 @@
-// Each keyword of the table.
-use super::{all_hold, is_token};
-use crate::unknown;
-use std::alloc::Global;
+//! Each keyword of the table: its text, what it prints, and where it is found.
+use super::{all_hold, is_quoted, is_token};
+use std::alloc::{AllocGlobal, Global};
 use std::process::Abort;
-use std::test::Fail;
 use tok_types::token;
 
 // The table, by number.
@@ -15,14 +13,17 @@ const WORDS: [&str; 54] = [
     "typeof", "union", "unsafe", "unsized", "use", "virtual", "where", "while", "yield",
 ];
 
-#[test]
-fn texts_and_displays(rt: HostRuntime) -> Result<(), Fail> {
-    for (k, word) in WORDS.iter().enumerate() {
-        assert_eq!(rt; unknown(token::keyword_text(k)), *word);
-        let display = format!(in rt.alloc(); "`{word}`")?;
-        assert_eq!(rt; unknown(token::keyword_display(k)), display.as_str());
+fn all_texts(rt: &(impl Abort + AllocGlobal), rows: &[&str]) {
+    for (number, text) in rows.iter().enumerate() {
+        assert_eq!(rt; token::keyword_text(number), *text);
+        let found = is_quoted(rt.alloc(), text, token::keyword_display(number));
+        assert_eq!(rt; found, Some(true), "at {text}");
     }
-    Ok(())
+}
+
+#[test]
+fn texts_and_displays(rt: HostRuntime) {
+    all_texts(&rt, &WORDS);
 }
 
 #[test]

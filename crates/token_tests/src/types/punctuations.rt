@@ -1,9 +1,7 @@
-// Each punctuation of the table.
-use super::{all_hold, is_token};
-use crate::unknown;
-use std::alloc::Global;
+//! Each punctuation of the table: its text, what it prints, and where it is found.
+use super::{all_hold, is_quoted, is_token};
+use std::alloc::{AllocGlobal, Global};
 use std::process::Abort;
-use std::test::Fail;
 use tok_types::token;
 
 // The table, by number.
@@ -13,14 +11,17 @@ const MARKS: [&str; 46] = [
     "?", "->", ";", "<<", "<<=", ">>", ">>=", "/", "/=", "*", "*=", "~",
 ];
 
-#[test]
-fn texts_and_displays(rt: HostRuntime) -> Result<(), Fail> {
-    for (k, mark) in MARKS.iter().enumerate() {
-        assert_eq!(rt; unknown(token::punctuation_text(k)), *mark);
-        let display = format!(in rt.alloc(); "`{mark}`")?;
-        assert_eq!(rt; unknown(token::punctuation_display(k)), display.as_str());
+fn all_texts(rt: &(impl Abort + AllocGlobal), rows: &[&str]) {
+    for (number, text) in rows.iter().enumerate() {
+        assert_eq!(rt; token::punctuation_text(number), *text);
+        let found = is_quoted(rt.alloc(), text, token::punctuation_display(number));
+        assert_eq!(rt; found, Some(true), "at {text}");
     }
-    Ok(())
+}
+
+#[test]
+fn texts_and_displays(rt: HostRuntime) {
+    all_texts(&rt, &MARKS);
 }
 
 #[test]

@@ -1,16 +1,11 @@
-// Looks at trees, lifetimes, delimiters and the end.
-use super::{all_hold, found_in, is_token};
+//! Where trees, lifetimes, delimiters and the end are found, and how they are displayed.
+use super::{all_hold, is_found, is_token};
 use std::alloc::Global;
 use std::process::Abort;
 use tok_buffer::Lifetime;
 use tok_core::{Group, Ident, Literal, Punct, TokenTree};
 use tok_types::token::{self, Token};
 use tok_types::{End, IdentAny};
-
-// Whether a token is found in front of the first text and not of the second.
-fn tells<T: Token>(alloc: Global, here: &str, not_here: &str) -> bool {
-    found_in::<T>(alloc, here) == Some(true) && found_in::<T>(alloc, not_here) == Some(false)
-}
 
 #[test]
 fn underscore(rt: HostRuntime) {
@@ -19,7 +14,7 @@ fn underscore(rt: HostRuntime) {
         &rt,
         &[
             is_token::<token::Underscore>(alloc, "_", "__"),
-            tells::<token::Underscore>(alloc, "«_»", "a"),
+            is_found::<token::Underscore>(alloc, "«_»", "a"),
         ],
     );
 }
@@ -30,13 +25,13 @@ fn idents_and_lifetimes(rt: HostRuntime) {
     all_hold(
         &rt,
         &[
-            tells::<Ident>(alloc, "«a»", "fn"),
-            tells::<Ident>(alloc, "r#fn", "_"),
-            tells::<Ident>(alloc, "union", "true"),
-            tells::<IdentAny>(alloc, "«fn»", "+"),
-            tells::<IdentAny>(alloc, "_", "'a"),
-            tells::<Lifetime>(alloc, "'«a»", "' a"),
-            tells::<Lifetime>(alloc, "'fn", "a"),
+            is_found::<Ident>(alloc, "«a»", "fn"),
+            is_found::<Ident>(alloc, "r#fn", "_"),
+            is_found::<Ident>(alloc, "union", "true"),
+            is_found::<IdentAny>(alloc, "«fn»", "+"),
+            is_found::<IdentAny>(alloc, "_", "'a"),
+            is_found::<Lifetime>(alloc, "'«a»", "' a"),
+            is_found::<Lifetime>(alloc, "'fn", "a"),
         ],
     );
 }
@@ -47,12 +42,12 @@ fn trees(rt: HostRuntime) {
     all_hold(
         &rt,
         &[
-            tells::<Literal>(alloc, "«1»", "a"),
-            tells::<Punct>(alloc, "«+»", "'a"),
-            tells::<Group>(alloc, "«»", "a (b)"),
-            tells::<Group>(alloc, "(a)", ""),
-            tells::<TokenTree>(alloc, "«»", ""),
-            tells::<End>(alloc, "", "«»"),
+            is_found::<Literal>(alloc, "«1»", "a"),
+            is_found::<Punct>(alloc, "«+»", "'a"),
+            is_found::<Group>(alloc, "«»", "a (b)"),
+            is_found::<Group>(alloc, "(a)", ""),
+            is_found::<TokenTree>(alloc, "«»", ""),
+            is_found::<End>(alloc, "", "«»"),
         ],
     );
 }
@@ -63,10 +58,10 @@ fn delimiters(rt: HostRuntime) {
     all_hold(
         &rt,
         &[
-            tells::<token::Paren>(alloc, "«(a)»", "{a}"),
-            tells::<token::Brace>(alloc, "«{a}»", "[a]"),
-            tells::<token::Bracket>(alloc, "«[a]»", "(a)"),
-            tells::<token::Group>(alloc, "«(a)»", "(«a»)"),
+            is_found::<token::Paren>(alloc, "«(a)»", "{a}"),
+            is_found::<token::Brace>(alloc, "«{a}»", "[a]"),
+            is_found::<token::Bracket>(alloc, "«[a]»", "(a)"),
+            is_found::<token::Group>(alloc, "«(a)»", "(«a»)"),
         ],
     );
 }
