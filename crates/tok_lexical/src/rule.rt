@@ -8,7 +8,7 @@ ghost use Rattle.tok_lexical.specs.Numbers.{is_digit_or_underscore, starts_digit
 ghost use Rattle.tok_lexical.specs.Rules.{Spells};
 ghost use Rattle.tok_lexical.specs.declared.edition.Edition.TheVariants.{Edition2021};
 ghost use Rattle.tok_lexical.specs.declared.rule.Rules.TheVariants.{Source};
-ghost use Rattle.tok_lexical.specs.Starts.{tells, only, rules_of, last_rules, identifier_rule, punct_rule, decimal_rules, names_base, opens_string, opens_literal};
+ghost use Rattle.tok_lexical.specs.Starts.{tells, only, rules_of, last_rules, identifier_rule, punct_rule, decimal_rules, start_of, names_base, opens_string, opens_literal};
 
 use crate::char_literals::{past_byte_char, past_escaped_char, past_plain_char};
 use crate::classes::{closing_mark, is_invisible, is_punct, is_whitespace, opening_mark};
@@ -374,6 +374,30 @@ fn opens_literal(rest: &str) -> bool
         || begins_with(rest, 'r') && opens_string(past_first(rest))
 }
 
+/// The first rule that fits, if a digit begins the text, or what comes after a letter tells that it begins no literal.
+#[inline(never)]
+fn second_told<'a>(
+    rules: Rules,
+    start: Start,
+    text: &'a str,
+    rest: &'a str,
+) -> Option<(Rule, &'a str)>
+    requires { (c : ℕ) × (chars text.now ≡ c ∷ chars rest.now) × (start ≡ start_of c) }
+    ensures fits { IfSome result
+        (λ found. (piece : List ℕ)
+        × IsFirstFit (chars text.now) (rules_of rules) found.0 piece (chars found.1.now)) }
+    ensures utf8 { IfSome result (λ found. IsUtf8 found.1.now) }
+{
+    match start {
+        Start::Digit => Some(rules.decimal(text)),
+        Start::Zero if !names_base(rest) => Some(rules.decimal(text)),
+        Start::Prefix if !opens_literal(rest) => {
+            Some((rules.identifier(), past_continues(rest)))
+        }
+        _ => None,
+    }
+}
+
 /// The first of the rules that fits at the front of the text, and what follows its piece.
 #[inline(always)]
 pub fn first_rule(rules: Rules, text: &str) -> Option<(Rule, &str)>
@@ -389,12 +413,12 @@ pub fn first_rule(rules: Rules, text: &str) -> Option<(Rule, &str)>
         Start::Opening(delimiter) => return Some((Rule::Opening(delimiter), rest)),
         Start::Closing(delimiter) => return Some((Rule::Closing(delimiter), rest)),
         Start::Slash if !begins_comment(text) => return Some((rules.punct(), rest)),
-        Start::Digit => return Some(rules.decimal(text)),
-        Start::Zero if !names_base(rest) => return Some(rules.decimal(text)),
-        Start::Prefix if !opens_literal(rest) => {
-            return Some((rules.identifier(), past_continues(rest)));
-        }
         _ => {}
+    }
+    if start.has_second() {
+        if let Some(found) = second_told(rules, start, text, rest) {
+            return Some(found);
+        }
     }
     let those = rules.at(start);
     for rule in those {

@@ -1,8 +1,5 @@
-use Rattle.std.proofs.Common.{◌≡◌, ◌∙◌, ◌∷◌, ap, sym, subst, false, rules, tests}
-use Rattle.std.specs.Str.{chars}
-use Rattle.tok_lexical.specs.Numbers.{starts_digit}
-use Rattle.tok_lexical.proofs.Lexical.First.{zero_told, decides_at, none_more, none_at_all, none_fits, decides_begun, decides_letter, decides_punct, decides_opening, decides_closing, fits_front, fits_behind, last_identifier, last_punct, last_other}
-use Rattle.tok_lexical.proofs.Lexical.Seconds.{decides_digit, decides_zero, decides_prefix, digit_told}
+use Rattle.std.proofs.Common.{◌≡◌, ◌∙◌, sym, subst, false, rules, tests}
+use Rattle.tok_lexical.proofs.Lexical.First.{decides_at, none_more, none_at_all, none_fits, decides_begun, decides_letter, decides_punct, decides_opening, decides_closing, fits_front, fits_behind, last_identifier, last_punct, last_other}
 use Rattle.tok_lexical.proofs.Lexical.Slashes.{decides_alone}
 use Rattle.tok_lexical.specs.Fits.{ReadsByRules}
 use Rattle.tok_lexical.specs.Starts.{tells, last_rules}
@@ -27,29 +24,16 @@ returns-in-Closing-clause-tries c = decides_closing c.in_ok-first.first _ _ _ _ 
 pub returns-in-Slash-clause-tries : goal.returns-in-Slash-clause-tries
 returns-in-Slash-clause-tries c = decides_alone c.in_ok-first.first _ _ _ _ c.in_ok-first.ensures.chars (sym c.of-start.ensures ∙ c.in-Slash.is) (sym c.if-not-begins_comment.ensures) c.punct-in-Slash.ensures
 
-pub decimal-requires : goal.decimal-requires
-decimal-requires c = ap starts_digit c.in_ok-first.ensures.chars ∙ digit_told c.in_ok-first.first (sym c.of-start.ensures ∙ c.in-Digit.is)
-
-pub returns-in-Digit-clause-tries : goal.returns-in-Digit-clause-tries
-returns-in-Digit-clause-tries c =
-    let d = c.decimal.ensures.fits in
-    (d.0, decides_digit c.in_ok-first.first _ _ _ _ _ _ c.in_ok-first.ensures.chars (sym c.of-start.ensures ∙ c.in-Digit.is) d.1)
-
-pub decimal-requires-in-Zero : goal.decimal-requires-in-Zero
-decimal-requires-in-Zero c = ap starts_digit (c.in_ok-first.ensures.chars ∙ ap (λ k. k ∷ chars c.in_ok-first.rest.now) (zero_told c.in_ok-first.first (sym c.of-start.ensures ∙ c.in-Zero.is)))
-
-pub returns-in-Zero-clause-tries : goal.returns-in-Zero-clause-tries
-returns-in-Zero-clause-tries c =
-    let d = c.decimal-in-Zero.ensures.fits in
-    (d.0, decides_zero c.in_ok-first.first _ _ _ _ _ _ c.in_ok-first.ensures.chars (sym c.of-start.ensures ∙ c.in-Zero.is) (sym c.if-not-names_base.ensures) d.1)
-
-pub returns-in-Prefix-clause-tries : goal.returns-in-Prefix-clause-tries
-returns-in-Prefix-clause-tries c = decides_prefix c.in_ok-first.first _ _ _ _ _ c.in_ok-first.ensures.chars (sym c.of-start.ensures ∙ c.in-Prefix.is) (sym c.if-not-opens_literal.ensures) c.identifier-in-Prefix.ensures c.past_continues-in-Prefix.ensures
-
 pub returns-in-Some-clause-tries : goal.returns-in-Some-clause-tries
-returns-in-Some-clause-tries c =
+returns-in-Some-clause-tries c = c.in-Some.ensures.fits
+
+pub second_told-requires : goal.second_told-requires
+second_told-requires c = (c.in_ok-first.first, c.in_ok-first.ensures.chars, c.of-start.ensures)
+
+pub returns-in-Some-past-clause-tries : goal.returns-in-Some-past-clause-tries
+returns-in-Some-past-clause-tries c =
     let untold : tells c.of-start.result ≡ false = search (rules, tests) in
-    let tried = c.in-Some.ensures.tries in
+    let tried = c.in-Some-past.ensures.tries in
     let found = decides_at _ _ _ _ _ ByteOrderMark c.loop-rule-test.true c.loop-rule.invariant tried.1 in
     (tried.0, decides_begun c.in_ok-first.first _ _ _ _ _ _ _ _ c.in_ok-first.ensures.chars c.of-start.ensures (c.at-those.ensures untold) (fits_front c.at-those.result.now (last_rules c.args.rules) _ _ _ _ found))
 
