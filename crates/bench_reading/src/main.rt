@@ -8,7 +8,7 @@ use std::io;
 use syn_parse::Parser;
 use syn_punctuated::Punctuated;
 use tok_buffer::TokenBuffer;
-use tok_core::{Ident, TokenStream, lex};
+use tok_core::{Ident, lex};
 use tok_types::token;
 
 fn main(rt: HostRuntime) -> Result<()> {
@@ -17,22 +17,25 @@ fn main(rt: HostRuntime) -> Result<()> {
     let (goal, text) = input
         .split_once('\n')
         .context("no line that says how far to read")?;
-    let tokens = lex(alloc, 0, text).ok().context("lexing the text")?;
-    let count = count(alloc, goal, tokens)?;
+    let count = count(alloc, goal, text)?;
     println!(rt; "{count}")?;
     Ok(())
 }
 
 // How many names a list has; 1 for trees, or a buffer, that are not empty.
-fn count(alloc: Global, goal: &str, tokens: TokenStream) -> Result<usize> {
+fn count(alloc: Global, goal: &str, text: &str) -> Result<usize> {
     match goal {
-        "trees" => Ok(usize::from(!tokens.is_empty())),
+        "trees" => {
+            let tokens = lex(alloc, 0, text).ok().context("lexing the text")?;
+            Ok(usize::from(!tokens.is_empty()))
+        }
         "buffer" => {
-            let buffer = TokenBuffer::new2(alloc, 0, tokens)?;
+            let buffer = TokenBuffer::from_text(alloc, 0, 0, text);
+            let buffer = buffer.ok().context("lexing the text")?;
             Ok(usize::from(!buffer.begin().eof()))
         }
         "list" => {
-            let names = Punctuated::<Ident, token::Comma>::parse_terminated.parse2(alloc, tokens);
+            let names = Punctuated::<Ident, token::Comma>::parse_terminated.parse_str(alloc, text);
             Ok(names.ok().context("parsing a list of names")?.len())
         }
         _ => bail!("neither trees nor buffer nor list"),

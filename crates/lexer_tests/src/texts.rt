@@ -3,15 +3,16 @@ use std::alloc::{AllocError, AllocGlobal, Global};
 use std::process::Abort;
 use tok_buffer::{Cursor, TokenBuffer};
 use tok_core::{
-    LexError, LexFault, Spacing, Span, TokenStream, TokenStreamHelper, TokenTree, lex, lex_marked,
-    lex_source,
+    Edition, LexError, LexFault, Spacing, Span, TokenStream, TokenStreamHelper, TokenTree, lex,
+    lex_marked, lex_source,
 };
 
-// A list of rules: that of `lex`, `lex_marked` or `lex_source`.
+// A list of rules: that of `lex`, of `lex_marked`, or of `lex_source` by the default edition or another one.
 pub enum Rules {
     Plain,
     Marked,
     Source,
+    Edition(Edition),
 }
 
 // The number of the source, for all texts.
@@ -27,7 +28,8 @@ fn trees(alloc: Global, rules: &Rules, text: &str) -> Result<TokenStream, LexFau
     match rules {
         Rules::Plain => lex(alloc, SOURCE, text),
         Rules::Marked => lex_marked(alloc, SOURCE, text),
-        Rules::Source => lex_source(alloc, SOURCE, text),
+        Rules::Source => lex_source(alloc, Edition::default(), SOURCE, text),
+        Rules::Edition(edition) => lex_source(alloc, *edition, SOURCE, text),
     }
 }
 
@@ -45,7 +47,8 @@ fn read(alloc: Global, rules: &Rules, text: &str) -> Result<TokenBuffer, LexFaul
     match rules {
         Rules::Plain => TokenBuffer::from_text(alloc, 0, SOURCE, text),
         Rules::Marked => TokenBuffer::from_marked(alloc, 0, SOURCE, text),
-        Rules::Source => TokenBuffer::from_source(alloc, 0, SOURCE, text),
+        Rules::Source => { TokenBuffer::from_source(alloc, 0, Edition::default(), SOURCE, text) }
+        Rules::Edition(edition) => TokenBuffer::from_source(alloc, 0, *edition, SOURCE, text),
     }
 }
 

@@ -7,12 +7,13 @@ mod lifetimes;
 use crate::outcome::{Outcome, Stop, expect, shows, worst};
 use std::alloc::Global;
 use tok_buffer::{Cursor, TokenBuffer};
-use tok_core::{Span, TokenStream, TokenTree, lex};
+use tok_core::{Edition, LexFault, Span, TokenStream, TokenTree, lex};
 
 /// Each of them.
 pub fn calls(alloc: Global) -> Outcome {
     worst(&[
         buffers(alloc),
+        texts(alloc),
         errors::calls(alloc),
         lifetimes::calls(alloc),
     ])
@@ -87,4 +88,35 @@ fn any_group(alloc: Global, cursor: Cursor<'_>) -> Outcome {
 fn stream(alloc: Global, cursor: Cursor<'_>) -> Outcome {
     let stream = cursor.token_stream(alloc)?;
     expect(shows(&stream, "(a)"), "Cursor::token_stream")
+}
+
+// Texts that are read into a buffer: so many tokens that the buffer grows.
+fn texts(alloc: Global) -> Outcome {
+    let text = "abcdefghijklmnop += ('b [{1}] \"abcdefghijklmnop\")";
+    let plain = TokenBuffer::from_text(alloc, 0, 0, text);
+    let marked = TokenBuffer::from_marked(alloc, 0, 0, "«a «()» +»");
+    let source = TokenBuffer::from_source(alloc, 0, Edition::default(), 0, "#!x\n/// b\nc");
+    worst(&[
+        read(alloc, plain, text, "TokenBuffer::from_text"),
+        read(alloc, marked, "«a «()» +»", "TokenBuffer::from_marked"),
+        read(
+            alloc,
+            source,
+            "# [doc = \" b\"] c",
+            "TokenBuffer::from_source",
+        ),
+    ])
+}
+
+fn read(
+    alloc: Global,
+    buffer: Result<TokenBuffer, LexFault>,
+    text: &str,
+    call: &'static str,
+) -> Outcome {
+    match buffer {
+        Ok(buffer) => expect(shows(&buffer.begin().token_stream(alloc)?, text), call),
+        Err(LexFault::Memory) => Err(Stop::Refused),
+        Err(LexFault::Refused(_)) => Err(Stop::Wrong(call)),
+    }
 }

@@ -2,7 +2,7 @@
 //
 // The status is 0 where each request for memory is granted; 3 where one is refused and all that is left is right; 1 where
 // something is wrong, and then the name of the call is printed. Before the calls it makes one request for each byte of its
-// input: where always the 720th request is refused, inputs of 719 bytes and fewer bring each request of the calls there.
+// input: `tests/refuse_each` so brings each request of the calls to the number that is refused.
 // For the input `buffer` it lays out an empty stream and does nothing else; for `laid out` it lays out some tokens, and for `free`
 // these same tokens, on which it then makes calls that take no memory. For the input `kept` and the name of a call it adds several
 // things by that call: where one is refused, the status is 10 and how many are there.

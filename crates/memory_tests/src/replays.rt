@@ -1,194 +1,62 @@
-// The program: its first run, a run of every command, and two texts.
-use crate::outcome::{Outcome, Stop, worst};
-use std::alloc::Global;
-use std::io::{self, Write};
-use syn_tokens::serve;
+// The calls of `syn_replay` that take memory. `crates/replay_memory_tests` runs every command.
+use crate::outcome::{Outcome, Stop, expect, shows, worst};
+use std::alloc::{AllocError, Global};
+use syn_replay::{Command, Kind, Look, agree, replay, replay_both, replay_in};
+use tok_buffer::TokenBuffer;
+use tok_core::{Delimiter, lex_marked};
 
-const FIRST: &str = "\
-(a «b»)\n\
----\n\
-enter 0 (\n\
-parse 1 Ident\n\
-parse 1 Ident\n\
-empty 1\n\
-close 1\n\
-";
-
-const FIRST_ANSWER: &str = "\
-entered 1 ( 0..5 @6\n\
-read a 1..2 @2\n\
-read b 3..4 @5\n\
-true @5\n\
-done @5\n\
-accepted\n\
-";
-
-const INPUT: &str = "\
-fn 'a 1 += (b [c] «d») {e} _ x y, z\n\
----\n\
-peek 0 fn\n\
-peek2 0 Lifetime\n\
-peek3 0 Literal\n\
-lookahead 0 Ident Literal End\n\
-parse 0 fn\n\
-parse 0 Lifetime\n\
-optional 0 Literal\n\
-optional 0 ,\n\
-parse 0 +=\n\
-enter 0 (\n\
-fork 1\n\
-parse 2 Ident\n\
-enter 2 [\n\
-span 3\n\
-cursor 3\n\
-previous 3\n\
-advance 1 2\n\
-any 1\n\
-parse 4 IdentAny\n\
-empty 4\n\
-lookahead 4 , End\n\
-close 1\n\
-fork 0\n\
-enter 5 {\n\
-discard 5\n\
-tree 0\n\
-fork 0\n\
-parse 7 _\n\
-advance 0 7\n\
-fork 0\n\
-separated 8 Ident ,\n\
-terminated 8 Ident ,\n\
-discard 8\n\
-rest 0\n\
-close 9\n\
-close 0\n\
-";
-
-const ANSWER: &str = "\
-true @0\n\
-true @0\n\
-true @0\n\
-refused 0..2 expected identifier or literal @0\n\
-read fn 0..2 @1\n\
-read ' 3..4 a 4..5 @3\n\
-read 1 6..7 @4\n\
-none @4\n\
-read + 8..9 = 9..10 @6\n\
-entered 1 ( 11..20 @15\n\
-forked 2 @7\n\
-read b 12..13 @8\n\
-entered 3 [ 14..17 @11\n\
-span 15..16 @9\n\
-span 15..16 @9\n\
-span 14..17 @9\n\
-done @11\n\
-entered 4 « 18..19 @14\n\
-read d 18..19 @13\n\
-true @13\n\
-found 1 @13\n\
-done @14\n\
-forked 5 @15\n\
-entered 6 { 21..24 @18\n\
-done @18\n\
-trees {e} @18\n\
-forked 7 @18\n\
-read _ 25..26 @19\n\
-done @19\n\
-forked 8 @19\n\
-list [x 27..28] @20\n\
-list [y 29..30] [, 30..31] [z 32..33] @23\n\
-done @23\n\
-trees x y , z @empty\n\
-refused C1 @-\n\
-refused C4 @empty\n\
-refused 15..16 unexpected token, expected `]`\n\
-";
-
-const TWO_TEXTS: &str = "\
-(a b) 'c\n\
----\n\
-(a «b») '«c»\n\
----\n\
-enter 0 (\n\
-parse 1 Ident\n\
-close 1\n\
-parse 0 Lifetime\n\
-lookahead 0 Ident\n\
-";
-
-const TWO_ANSWERS: &str = "\
-entered 1 ( 0..5 @4\n\
-read a 1..2 @2\n\
-done @2\n\
-read ' 6..7 c 7..8 @6\n\
-refused call unexpected end of input, expected identifier @6\n\
-refused 3..4 unexpected token, expected `)`\n\
----\n\
-entered 1 ( 0..5 @6\n\
-read a 1..2 @2\n\
-done @2\n\
-read ' 6..7 c 7..8 @10\n\
-refused call unexpected end of input, expected identifier @10\n\
-refused 3..4 unexpected token\n\
----\n\
-visible same\n\
-filled yes\n\
-clear no\n\
-transparent yes\n\
-agree yes\n\
-";
-
-// Compares what is written with two texts: what is left of each, while it agrees.
-#[derive(Drop)]
-struct Compared<'a> {
-    answer: Option<&'a [u8]>,
-    memory: Option<&'a [u8]>,
-}
-
-fn after<'a>(wanted: Option<&'a [u8]>, written: &[u8]) -> Option<&'a [u8]> {
-    let wanted = wanted?;
-    if wanted.starts_with(written) {
-        wanted.get(written.len()..)
-    } else {
-        None
-    }
-}
-
-impl Write for Compared<'_> {
-    fn write(&mut self, buf: &[u8]) -> io::Result<usize> {
-        self.answer = after(self.answer, buf);
-        self.memory = after(self.memory, buf);
-        Ok(buf.len())
-    }
-
-    fn flush(&mut self) -> io::Result<()> {
-        Ok(())
-    }
-}
-
-fn is_whole(left: Option<&[u8]>) -> bool {
-    matches!(left, Some(rest) if rest.is_empty())
-}
-
-// Serves an input: all that it prints is written, with this status, or `memory` alone.
-fn serves(alloc: Global, input: &str, answer: &str, status: u8) -> Outcome {
-    let mut input = input.as_bytes();
-    let mut output = Compared {
-        answer: Some(answer.as_bytes()),
-        memory: Some(b"memory\n"),
-    };
-    match serve(alloc, &mut input, &mut output) {
-        3 if is_whole(output.memory) => Err(Stop::Refused),
-        got if got == status && is_whole(output.answer) => Ok(()),
-        _ => Err(Stop::Wrong("serve")),
-    }
-}
-
-/// Serves the first run of the program, a run of every command, and two texts.
+/// Each of them.
 pub fn calls(alloc: Global) -> Outcome {
-    worst(&[
-        serves(alloc, FIRST, FIRST_ANSWER, 0),
-        serves(alloc, INPUT, ANSWER, 1),
-        serves(alloc, TWO_TEXTS, TWO_ANSWERS, 1),
-    ])
+    worst(&[of_buffer(alloc), of_stream(alloc), of_both(alloc)])
+}
+
+const TEXT: &str = "(a «b») 'c";
+
+const REPORT: &str = "\
+entered 1 ( 0..5 @6\n\
+read a 1..2 @2\n\
+done @2\n\
+read ' 6..7 c 7..8 @8\n\
+refused call unexpected end of input, expected identifier @8\n\
+refused 3..4 unexpected token\n\
+";
+
+fn commands(alloc: Global) -> Result<Vec<Command>, Stop> {
+    let looks = vec![in alloc; Look::Kind(Kind::Ident)]?;
+    let commands = vec![in alloc;
+        Command::Enter(0, Delimiter::Parenthesis),
+        Command::Parse(1, Kind::Ident),
+        Command::Close(1),
+        Command::Parse(0, Kind::Lifetime),
+        Command::Lookahead(0, looks),
+    ]?;
+    Ok(commands)
+}
+
+// After an allocation failure the buffer and the commands are as before: replayed again, they give the same report.
+fn of_buffer(alloc: Global) -> Outcome {
+    let buffer = TokenBuffer::from_marked(alloc, 0, 0, TEXT)?;
+    let commands = commands(alloc)?;
+    match replay_in(alloc, &buffer, &commands) {
+        Ok(report) => expect(shows(&report, REPORT), "replay_in"),
+        Err(AllocError) => {
+            let report = replay_in(alloc, &buffer, &commands)?;
+            expect(shows(&report, REPORT), "replay_in")?;
+            Err(Stop::Refused)
+        }
+    }
+}
+
+fn of_stream(alloc: Global) -> Outcome {
+    let commands = commands(alloc)?;
+    let report = replay(alloc, lex_marked(alloc, 0, TEXT)?, &commands)?;
+    expect(shows(&report, REPORT), "replay")
+}
+
+fn of_both(alloc: Global) -> Outcome {
+    let commands = commands(alloc)?;
+    let left = lex_marked(alloc, 0, "(a b) '«c»")?;
+    let right = lex_marked(alloc, 0, TEXT)?;
+    let (left, right) = replay_both(alloc, left, right, &commands)?;
+    expect(agree(&left, &right) && shows(&right, REPORT), "replay_both")
 }

@@ -3,8 +3,8 @@ use crate::outcome::{Outcome, Stop, expect, worst};
 use std::alloc::{AllocError, Global};
 use std::fmt::InlineText;
 use tok_core::{
-    Delimiter, Group, Ident, LexFault, Literal, MakeFault, Punct, Spacing, Span, Text, ToTokens,
-    TokenStream, TokenTree, lex, lex_marked, same_visible,
+    Delimiter, Edition, Group, Ident, LexFault, Literal, MakeFault, Punct, Spacing, Span, Text,
+    ToTokens, TokenStream, TokenTree, lex, lex_marked, lex_source, same_visible,
 };
 
 /// Each of them, some more than once.
@@ -288,7 +288,9 @@ fn reads(alloc: Global) -> Outcome {
     let text = "abcdefghijklmnop += ('b [{1}] \"abcdefghijklmnop\")";
     read(lex(alloc, 0, text), text, "lex")?;
     let text = "«a «()» +»";
-    read(lex_marked(alloc, 0, text), text, "lex_marked")
+    read(lex_marked(alloc, 0, text), text, "lex_marked")?;
+    let source = lex_source(alloc, Edition::default(), 0, "#!x\n/// abcdefghijklmnop\nb");
+    read(source, "# [doc = \" abcdefghijklmnop\"] b", "lex_source")
 }
 
 // What prints a stream passes a refusal on, and never cuts the text.

@@ -1,151 +1,162 @@
-// Arguments: what texts are read as, with marks and without, and how they are refused.
-use crate::streams::refuses;
-use std::alloc::Global;
-use std::test::Fail;
-use syn_tokens::arguments::{Argument, Arguments, Value, arguments_both, parse_arguments};
-use tok_core::lex_marked;
+//! Arguments: what texts are read as, with marks and without, and with which errors they are rejected.
+use crate::outcomes::is_said;
+use arguments::{Arguments, Value, arguments_both, parse_arguments};
+use std::alloc::{AllocError, AllocGlobal, Global};
+use std::process::Abort;
+use syn_parse::Result;
+use tok_buffer::Error;
+use tok_core::{Span, lex_marked};
 
-const PLAIN: &str = "a, b = 1, c(d, e = \"x\")";
-
-const MARKED: &str = "a, «b» = «1», c(«d», e = \"x\")";
-
-fn parse(alloc: Global, text: &str) -> Result<Arguments, Fail> {
-    match parse_arguments(alloc, lex_marked(alloc, 0, text)?) {
-        Ok(list) => Ok(list),
-        Err(_) => Err("no arguments")?,
-    }
-}
-
-fn is_flag(argument: Option<&Argument>, name: &str) -> bool {
-    let Some(argument) = argument else {
-        return false;
+// A token and its range.
+fn add(text: &mut String, token: &str, span: Span) -> std::result::Result<(), AllocError> {
+    let alloc = *text.allocator();
+    let added = match span.as_range() {
+        Some((_, start, end)) => format!(in alloc; "{token} {start}..{end} ")?,
+        None => format!(in alloc; "{token} call ")?,
     };
-    argument.name.as_str() == name && matches!(&argument.value, Value::Flag)
+    text.push_str(added.as_str())
 }
 
-fn is_assigned(argument: Option<&Argument>, name: &str, text: &str) -> bool {
-    let Some(argument) = argument else {
-        return false;
-    };
-    match &argument.value {
-        Value::Literal(_, literal) => { argument.name.as_str() == name && literal.as_str() == text }
-        _ => false,
-    }
-}
-
-fn inner<'a>(argument: Option<&'a Argument>, name: &str) -> Option<&'a Arguments> {
-    let argument = argument?;
-    match &argument.value {
-        Value::List(_, list) if argument.name.as_str() == name => Some(list),
-        _ => None,
-    }
-}
-
-// Whether a list is what the two texts above are.
-fn is_whole(list: &Arguments) -> bool {
-    let Some(within) = inner(list.get(2), "c") else {
-        return false;
-    };
-    list.len() == 3
-        && !list.trailing_punct()
-        && is_flag(list.get(0), "a")
-        && is_assigned(list.get(1), "b", "1")
-        && within.len() == 2
-        && !within.trailing_punct()
-        && is_flag(within.get(0), "d")
-        && is_assigned(within.get(1), "e", "\"x\"")
-}
-
-#[test]
-fn lists(rt: HostRuntime) -> Result<(), Fail> {
-    let alloc = rt.alloc();
-    assert!(rt; parse(alloc, "")?.is_empty());
-    assert!(rt; is_whole(&parse(alloc, PLAIN)?));
-    assert!(rt; is_whole(&parse(alloc, MARKED)?));
-    let called = parse(alloc, "a()")?;
-    assert!(rt; called.len() == 1);
-    assert!(rt; inner(called.first(), "a").is_some_and(|list| list.is_empty()));
-    let trailing = parse(alloc, "a,")?;
-    assert!(rt; is_flag(trailing.first(), "a") && trailing.trailing_punct());
-    Ok(())
-}
-
-const REFUSED: [(&str, &str); 9] = [
-    ("a b", "2..3 expected `,`"),
-    ("a = ,", "4..5 expected literal token"),
-    ("a == 1", "3..4 expected literal token"),
-    (
-        "a =",
-        "call unexpected end of input, expected literal token",
-    ),
-    (
-        "c(d =)",
-        "5..6 unexpected end of input, expected literal token",
-    ),
-    ("c(= 1)", "2..3 expected identifier"),
-    ("a = 1 2", "6..7 expected `,`"),
-    ("a(b) = 1", "5..6 expected `,`"),
-    ("fn", "0..2 expected identifier, found keyword `fn`"),
-];
-
-#[test]
-fn refusals(rt: HostRuntime) -> Result<(), Fail> {
-    let alloc = rt.alloc();
-    for (text, words) in REFUSED {
-        let parsed = parse_arguments(alloc, lex_marked(alloc, 0, text)?);
-        assert!(rt; refuses(alloc, parsed, words));
-    }
-    Ok(())
-}
-
-// Whether the names, values and commas are at the same places. Of inner lists, only the parentheses are looked at.
-fn same_spans(left: &Arguments, right: &Arguments) -> bool {
-    let mut others = right.pairs();
-    for pair in left.pairs() {
-        let Some(other) = others.next() else {
-            return false;
-        };
-        let is_same = pair.value().name.span() == other.value().name.span()
-            && match (&pair.value().value, &other.value().value) {
-                (Value::Flag, Value::Flag) => true,
-                (Value::Literal(equals, literal), Value::Literal(sign, text)) => {
-                    equals.span() == sign.span() && literal.span() == text.span()
-                }
-                (Value::List(paren, _), Value::List(token, _)) => paren.span == token.span,
-                _ => false,
+// Names, signs, literals and groups, each with its range, and so deep at most.
+fn add_list(text: &mut String, list: &Arguments, depth: u8) -> std::result::Result<(), AllocError> {
+    for pair in list.pairs() {
+        let argument = pair.value();
+        add(text, argument.name.as_str(), argument.name.span())?;
+        match &argument.value {
+            Value::Flag => {}
+            Value::Literal(equals, literal) => {
+                add(text, "=", equals.span())?;
+                add(text, literal.as_str(), literal.span())?;
             }
-            && match (pair.punct(), other.punct()) {
-                (None, None) => true,
-                (Some(comma), Some(separator)) => comma.span() == separator.span(),
-                _ => false,
-            };
-        if !is_same {
-            return false;
+            Value::List(paren, inner) => {
+                add(text, "(", paren.span.join())?;
+                if depth > 0 {
+                    add_list(text, inner, depth - 1)?;
+                }
+                text.push_str(") ")?;
+            }
+        }
+        if let Some(comma) = pair.punct() {
+            add(text, ",", comma.span())?;
         }
     }
-    others.next().is_none()
+    Ok(())
+}
+
+fn shown(alloc: Global, list: &Arguments) -> Result<String> {
+    let mut text = String::new(alloc);
+    add_list(&mut text, list, 2)?;
+    Ok(text)
+}
+
+fn parsed(alloc: Global, text: &str) -> Option<Result<String>> {
+    let stream = lex_marked(alloc, 0, text).ok()?;
+    match parse_arguments(alloc, stream) {
+        Ok(list) => Some(shown(alloc, &list)),
+        Err(fault) => Some(Err(fault)),
+    }
+}
+
+fn is_parsed(alloc: Global, text: &str, wanted: &str) -> bool {
+    match parsed(alloc, text) {
+        Some(outcome) => is_said(alloc, outcome, wanted),
+        None => false,
+    }
+}
+
+fn all_parsed(rt: &(impl Abort + AllocGlobal), rows: &[(&str, &str)]) {
+    for (text, wanted) in rows {
+        assert!(rt; is_parsed(rt.alloc(), text, wanted), "at {text}");
+    }
+}
+
+const WHOLE: &str =
+    "a 0..1 , 1..2 b 3..4 = 5..6 1 7..8 , 8..9 c 10..11 ( 11..23 d 12..13 , 13..14 e 15..16 = 17..18 \"x\" 19..22 ) ";
+
+#[test]
+fn lists(rt: HostRuntime) {
+    all_parsed(
+        &rt,
+        &[
+            ("", ""),
+            ("a, b = 1, c(d, e = \"x\")", WHOLE),
+            ("a, «b» = «1», c(«d», e = \"x\")", WHOLE),
+            ("a()", "a 0..1 ( 1..3 ) "),
+            ("a,", "a 0..1 , 1..2 "),
+        ],
+    );
 }
 
 #[test]
-fn two_layouts(rt: HostRuntime) -> Result<(), Fail> {
-    let alloc = rt.alloc();
-    let plain = lex_marked(alloc, 0, PLAIN)?;
-    let marked = lex_marked(alloc, 0, MARKED)?;
-    let (left, right) = arguments_both(alloc, plain, marked)?;
-    let left = left.ok().ok_or("left is refused")?;
-    let right = right.ok().ok_or("right is refused")?;
-    assert!(rt; is_whole(&left) && is_whole(&right) && same_spans(&left, &right));
-    let within = inner(left.get(2), "c").ok_or("no list")?;
-    let other = inner(right.get(2), "c").ok_or("no list")?;
-    assert!(rt; same_spans(within, other));
-    let wrong = lex_marked(alloc, 0, "a = , b")?;
-    let marked = lex_marked(alloc, 0, "«a =» , «b»")?;
-    let (left, right) = arguments_both(alloc, wrong, marked)?;
-    let (Err(left), Err(right)) = (left, right) else {
-        return Err("nothing is refused")?;
-    };
-    let left = format!(in alloc; "{left}")?;
-    let right = format!(in alloc; "{right}")?;
-    assert!(rt; left == right);
-    Ok(())
+fn errors(rt: HostRuntime) {
+    all_parsed(
+        &rt,
+        &[
+            ("a b", "2..3 expected `,`"),
+            ("a = ,", "4..5 expected literal token"),
+            ("a == 1", "3..4 expected literal token"),
+            (
+                "a =",
+                "call unexpected end of input, expected literal token",
+            ),
+            (
+                "c(d =)",
+                "5..6 unexpected end of input, expected literal token",
+            ),
+            ("c(= 1)", "2..3 expected identifier"),
+            ("a = 1 2", "6..7 expected `,`"),
+            ("a(b) = 1", "5..6 expected `,`"),
+            ("fn", "0..2 expected identifier, found keyword `fn`"),
+        ],
+    );
+}
+
+// A list, or the words of the error.
+fn shown_or_words(alloc: Global, outcome: std::result::Result<Arguments, Error>) -> Option<String> {
+    match outcome {
+        Ok(list) => shown(alloc, &list).ok(),
+        Err(error) => format!(in alloc; "{error}").ok(),
+    }
+}
+
+fn is_shown(alloc: Global, outcome: std::result::Result<Arguments, Error>, wanted: &str) -> bool {
+    match shown_or_words(alloc, outcome) {
+        Some(text) => text.as_str() == wanted,
+        None => false,
+    }
+}
+
+// Whether both texts are the same list, or are rejected in the same words.
+fn are_both(alloc: Global, left: &str, right: &str, wanted: &str) -> Option<bool> {
+    let left = lex_marked(alloc, 0, left).ok()?;
+    let right = lex_marked(alloc, 0, right).ok()?;
+    let (left, right) = arguments_both(alloc, left, right).ok()?;
+    let is_left = is_shown(alloc, left, wanted);
+    let is_right = is_shown(alloc, right, wanted);
+    Some(is_left && is_right)
+}
+
+fn all_both(rt: &(impl Abort + AllocGlobal), rows: &[(&str, &str, &str)]) {
+    for (left, right, wanted) in rows {
+        assert_eq!(rt;
+            are_both(rt.alloc(), left, right, wanted),
+            Some(true),
+            "at {left}"
+        );
+    }
+}
+
+#[test]
+fn two_layouts(rt: HostRuntime) {
+    all_both(
+        &rt,
+        &[
+            (
+                "a, b = 1, c(d, e = \"x\")",
+                "a, «b» = «1», c(«d», e = \"x\")",
+                WHOLE,
+            ),
+            ("a = , b", "«a =» , «b»", "expected literal token"),
+        ],
+    );
 }

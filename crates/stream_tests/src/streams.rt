@@ -1,103 +1,160 @@
-// Parse streams: refusals with their spans, groups, lookahead, and parsers that go where none would.
-mod examples;
+//! Parse streams: values, errors with their spans, and what is left of a stream.
 mod groups;
 mod hostile;
 mod lists;
 
-use crate::unknown;
-use std::alloc::Global;
+use crate::outcomes::{READ, Sample, all_said, is_read, read};
+use std::alloc::{AllocGlobal, Global};
 use std::process::Abort;
-use std::test::Fail;
-use syn_parse::{Fault, IdentExt, Nothing, Parse, ParseStream, Parser, Result, parsing};
-use tok_buffer::{Lifetime, TokenBuffer};
+use syn_parse::{IdentExt, Nothing, Parse, ParseStream, Parser, Result, parsing};
+use tok_buffer::Lifetime;
 use tok_core::{Ident, Literal, Punct, Span, TokenStream, TokenTree};
 use tok_types::token::{self, Token};
 
-// Whether an outcome is a refusal with this range and these words.
-pub fn refuses<T: Drop>(alloc: Global, outcome: Result<T>, wanted: &str) -> bool {
-    let Err(Fault::Refused(error)) = outcome else {
-        return false;
-    };
-    let said = match error.span().as_range() {
-        Some((_, start, end)) => format!(in alloc; "{start}..{end} {error}"),
-        None => format!(in alloc; "call {error}"),
-    };
-    match said {
-        Ok(said) => said.as_str() == wanted,
-        Err(_) => false,
-    }
+fn ident(alloc: Global, text: &str) -> Result<String> {
+    let ident = Ident::parse.parse_str(alloc, text)?;
+    Ok(format!(in alloc; "{}", ident.as_str())?)
 }
 
-fn reads<T: Drop>(outcome: Result<T>) -> bool {
-    outcome.is_ok()
+// The parsers of this module.
+enum Read {
+    Ident,
+    Lifetime,
+    Literal,
+    Punct,
+    Nothing,
+    Fn,
+    PlusEq,
+    Underscore,
+    RArrow,
+    Comma,
+    NoKeyword,
+    NoPunctuation,
+    AnyIdent,
+    TwoSpans,
+    AfterAt,
+    AfterName,
+}
+
+impl Sample for Read {
+    fn run(&self, alloc: Global, text: &str) -> Result<String> {
+        match self {
+            Read::Ident => ident(alloc, text),
+            Read::Lifetime => read::<Lifetime>.parse_str(alloc, text),
+            Read::Literal => read::<Literal>.parse_str(alloc, text),
+            Read::Punct => read::<Punct>.parse_str(alloc, text),
+            Read::Nothing => read::<Nothing>.parse_str(alloc, text),
+            Read::Fn => read::<token::Fn>.parse_str(alloc, text),
+            Read::PlusEq => read::<token::PlusEq>.parse_str(alloc, text),
+            Read::Underscore => read::<token::Underscore>.parse_str(alloc, text),
+            Read::RArrow => read::<token::RArrow>.parse_str(alloc, text),
+            Read::Comma => read::<token::Comma>.parse_str(alloc, text),
+            Read::NoKeyword => read::<token::Keyword<54>>.parse_str(alloc, text),
+            Read::NoPunctuation => read::<token::Punctuation<7, 2>>.parse_str(alloc, text),
+            Read::AnyIdent => any_ident.parse_str(alloc, text),
+            Read::TwoSpans => two_spans.parse_str(alloc, text),
+            Read::AfterAt => text_after_at.parse_str(alloc, text),
+            Read::AfterName => after_name.parse_str(alloc, text),
+        }
+    }
 }
 
 #[test]
 fn identifiers(rt: HostRuntime) {
-    let alloc = rt.alloc();
-    let ident = |text| unknown(Ident::parse.parse_str(alloc, text));
-    let keyword = "0..2 expected identifier, found keyword `fn`";
-    let end = "call unexpected end of input, expected identifier";
-    assert!(rt; reads(ident("a")));
-    assert!(rt; refuses(alloc, ident("fn"), keyword));
-    assert!(rt; refuses(alloc, ident("1.0"), "0..0 float literal"));
-    assert!(rt; refuses(alloc, ident(""), end));
-    assert!(rt; refuses(alloc, ident("(a) {b}"), "0..1 expected identifier"));
-    assert!(rt; refuses(alloc, ident("a b"), "2..3 unexpected token"));
-    assert!(rt; reads(unknown(Ident::parse_any.parse_str(alloc, "fn"))));
+    all_said(
+        &rt,
+        &Read::Ident,
+        &[
+            ("a", "a"),
+            ("fn", "0..2 expected identifier, found keyword `fn`"),
+            ("1.0", "0..0 float literal"),
+            ("", "call unexpected end of input, expected identifier"),
+            ("(a) {b}", "0..1 expected identifier"),
+            ("a b", "2..3 unexpected token"),
+        ],
+    );
+}
+
+fn any_ident(input: ParseStream<'_, '_>) -> Result<String> {
+    let ident = Ident::parse_any(input)?;
+    Ok(format!(in input.allocator(); "{}", ident.as_str())?)
+}
+
+#[test]
+fn identifiers_of_any_text(rt: HostRuntime) {
+    all_said(&rt, &Read::AnyIdent, &[("fn", "fn")]);
 }
 
 #[test]
 fn leaves(rt: HostRuntime) {
-    let alloc = rt.alloc();
-    let lifetime = |text| unknown(Lifetime::parse.parse_str(alloc, text));
-    let keyword = "0..1 unexpected keyword lifetime \"'fn\"";
-    assert!(rt; reads(lifetime("'static")));
-    assert!(rt; refuses(alloc, lifetime("'fn"), keyword));
-    let literal = unknown(Literal::parse.parse_str(alloc, "a"));
-    assert!(rt; refuses(alloc, literal, "0..1 expected literal token"));
-    let punct = unknown(Punct::parse.parse_str(alloc, "a"));
-    assert!(rt; refuses(alloc, punct, "0..1 expected punctuation token"));
-    let nothing = unknown(Nothing::parse.parse_str(alloc, "asdf"));
-    assert!(rt; refuses(alloc, nothing, "0..4 unexpected token"));
+    all_said(
+        &rt,
+        &Read::Lifetime,
+        &[
+            ("'static", READ),
+            ("'fn", "0..1 unexpected keyword lifetime \"'fn\""),
+        ],
+    );
+    all_said(&rt, &Read::Literal, &[("a", "0..1 expected literal token")]);
+    all_said(
+        &rt,
+        &Read::Punct,
+        &[("a", "0..1 expected punctuation token")],
+    );
+    all_said(&rt, &Read::Nothing, &[("asdf", "0..4 unexpected token")]);
 }
 
 #[test]
 fn tokens(rt: HostRuntime) {
-    let alloc = rt.alloc();
-    assert!(rt; reads(unknown(token::Fn::parse.parse_str(alloc, "fn"))));
-    assert!(rt; reads(unknown(token::PlusEq::parse.parse_str(alloc, "+="))));
-    assert!(rt; reads(unknown(token::Underscore::parse.parse_str(alloc, "_"))));
-    let arrow = unknown(token::RArrow::parse.parse_str(alloc, "- >"));
-    assert!(rt; refuses(alloc, arrow, "0..1 expected `->`"));
-    let comma = unknown(token::Comma::parse.parse_str(alloc, ""));
-    assert!(rt; refuses(alloc, comma, "call expected `,`"));
+    all_said(&rt, &Read::Fn, &[("fn", READ)]);
+    all_said(&rt, &Read::PlusEq, &[("+=", READ)]);
+    all_said(&rt, &Read::Underscore, &[("_", READ)]);
+    all_said(&rt, &Read::RArrow, &[("- >", "0..1 expected `->`")]);
+    all_said(&rt, &Read::Comma, &[("", "call expected `,`")]);
 }
 
-fn two_spans(input: ParseStream<'_, '_>) -> Result<[Span; 2]> {
-    parsing::punct(input, ",")
+// Two spans of one character.
+fn two_spans(input: ParseStream<'_, '_>) -> Result<String> {
+    let _: [Span; 2] = parsing::punct(input, ",")?;
+    Ok(String::new(input.allocator()))
 }
 
 #[test]
 fn tokens_without_a_text(rt: HostRuntime) {
-    let alloc = rt.alloc();
-    let keyword = unknown(token::Keyword::<54>::parse.parse_str(alloc, ""));
-    let words = "call unexpected end of input, expected ``";
-    assert!(rt; refuses(alloc, keyword, words));
-    assert!(rt; token::Keyword::<54>::display() == "``");
-    let punctuation = unknown(token::Punctuation::<7, 2>::parse.parse_str(alloc, ""));
-    assert!(rt; refuses(alloc, punctuation, "call expected ``"));
-    let two = unknown(two_spans.parse_str(alloc, ","));
-    assert!(rt; refuses(alloc, two, "0..1 expected ``"));
+    all_said(
+        &rt,
+        &Read::NoKeyword,
+        &[("", "call unexpected end of input, expected ``")],
+    );
+    assert_eq!(rt; token::Keyword::<54>::display(), "``");
+    all_said(&rt, &Read::NoPunctuation, &[("", "call expected ``")]);
+    all_said(&rt, &Read::TwoSpans, &[(",", "0..1 expected ``")]);
+}
+
+fn reads_scoped(alloc: Global, start: usize, end: usize, wanted: &str) -> bool {
+    if start > end {
+        return false;
+    }
+    let scope = Span::source(0, start, end);
+    let outcome = Ident::parse.parse_scoped(alloc, scope, TokenStream::new(alloc));
+    is_read(alloc, outcome, wanted)
+}
+
+fn all_scoped(rt: &(impl Abort + AllocGlobal), rows: &[(usize, usize, &str)]) {
+    for (start, end, wanted) in rows {
+        assert!(rt;
+            reads_scoped(rt.alloc(), *start, *end, wanted),
+            "not {wanted}"
+        );
+    }
 }
 
 #[test]
 fn the_end_has_the_span_of_the_scope(rt: HostRuntime) {
-    let alloc = rt.alloc();
-    let scope = Span::source(0, 7, 8);
-    let outcome = Ident::parse.parse_scoped(alloc, scope, TokenStream::new(alloc));
-    let words = "7..8 unexpected end of input, expected identifier";
-    assert!(rt; refuses(alloc, outcome, words));
+    all_scoped(
+        &rt,
+        &[(7, 8, "7..8 unexpected end of input, expected identifier")],
+    );
 }
 
 // The trees after the next `@`.
@@ -112,23 +169,25 @@ fn after_at(input: ParseStream<'_, '_>) -> Result<TokenStream> {
     Err(input.error("expected `@`"))
 }
 
+fn text_after_at(input: ParseStream<'_, '_>) -> Result<String> {
+    let rest = after_at(input)?;
+    Ok(rest.to_string(input.allocator())?)
+}
+
 #[test]
-fn the_rest_after_a_punct(rt: HostRuntime) -> std::result::Result<(), Fail> {
-    let alloc = rt.alloc();
-    match unknown(after_at.parse_str(alloc, "a @ b c")) {
-        Ok(rest) => {
-            let text = rest.to_string(alloc)?;
-            assert!(rt; text.as_str() == "b c");
-        }
-        Err(_) => assert!(rt; false),
-    }
-    let words = "call unexpected end of input, expected token tree";
-    assert!(rt; refuses(alloc, unknown(after_at.parse_str(alloc, "a b")), words));
-    Ok(())
+fn the_rest_after_a_punct(rt: HostRuntime) {
+    all_said(
+        &rt,
+        &Read::AfterAt,
+        &[
+            ("a @ b c", "b c"),
+            ("a b", "call unexpected end of input, expected token tree"),
+        ],
+    );
 }
 
 // The text of the stream after one identifier.
-fn text_after_name(input: ParseStream<'_, '_>) -> Result<String> {
+fn after_name(input: ParseStream<'_, '_>) -> Result<String> {
     let _: Ident = input.parse()?;
     let text = format!(in input.allocator(); "{input}")?;
     let _: TokenStream = input.parse()?;
@@ -137,9 +196,5 @@ fn text_after_name(input: ParseStream<'_, '_>) -> Result<String> {
 
 #[test]
 fn a_stream_shows_what_is_left(rt: HostRuntime) {
-    let alloc = rt.alloc();
-    match text_after_name.parse_str(alloc, "a (b += c) d") {
-        Ok(text) => assert!(rt; text.as_str() == "(b += c) d"),
-        Err(_) => assert!(rt; false),
-    }
+    all_said(&rt, &Read::AfterName, &[("a (b += c) d", "(b += c) d")]);
 }

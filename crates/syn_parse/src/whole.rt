@@ -10,7 +10,7 @@ use crate::parser::{settle, unread};
 use crate::stream::tokens_to_parse_buffer;
 use std::alloc::Global;
 use tok_buffer::TokenBuffer;
-use tok_core::{Span, TokenStream, lex};
+use tok_core::{Span, TokenStream};
 
 /// Parses all of these tokens: `let entry: Entry = parse2(alloc, tokens)?;`. A refusal of the parser comes first; otherwise
 /// a token that is left unread is refused.
@@ -29,8 +29,12 @@ pub fn parse_str<T: Parse + Drop>(alloc: Global, text: &str) -> Result<T>
     ensures reads { ParsesText T.parses (chars text.now) result }
     ensures takes { KeepsText T.takes (chars text.now) result }
 {
-    match lex(alloc, 0, text) {
-        Ok(tokens) => parse2(alloc, tokens),
+    match TokenBuffer::from_text(alloc, 0, 0, text) {
+        Ok(buffer) => {
+            let mut input = tokens_to_parse_buffer(alloc, &buffer, Span::call_site());
+            let parsed = T::parse(&mut input);
+            settle(parsed, input)
+        }
         Err(fault) => Err(unread(alloc, fault)),
     }
 }

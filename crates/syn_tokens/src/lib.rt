@@ -7,7 +7,7 @@ mod program;
 pub use arguments;
 pub use program::channel::{Sink, Source};
 pub use program::{respond, serve};
-pub use syn_parse::{Fault, Result};
+pub use syn_parse::{Fault, Result, parse_both, parse_str, parse2};
 pub use syn_punctuated as punctuated;
 pub use syn_replay::{
     Answer, Command, Kind, Line, Look, Piece, Position, Report, Separator, Verdict, agree,
@@ -15,9 +15,9 @@ pub use syn_replay::{
 };
 pub use tok_buffer::{Error, Lifetime, LifetimeFault, error};
 pub use tok_core::{
-    DelimSpan, Delimiter, Group, Ident, LexError, LexFault, Literal, MakeFault, Punct, Spacing,
-    Span, Text, ToTokens, TokenStream, TokenStreamHelper, TokenTree, TokenTreeHelper, is_clear,
-    is_filled, lex, lex_marked, same_visible,
+    DelimSpan, Delimiter, Edition, Group, Ident, LexError, LexFault, Literal, MakeFault, Punct,
+    Spacing, Span, Text, ToTokens, TokenStream, TokenStreamHelper, TokenTree, TokenTreeHelper,
+    is_clear, is_filled, lex, lex_marked, lex_source, same_visible,
 };
 pub use tok_types::accept_as_ident;
 

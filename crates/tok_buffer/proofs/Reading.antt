@@ -1,14 +1,20 @@
 -- A text read into a buffer follows the grammar.
-use Rattle.std.proofs.Common.{◌≡◌, ◌∙◌, ℕ, List, sym, Ok, Err, Result}
+use Rattle.std.proofs.Common.{◌≡◌, ◌∙◌, ◌++◌, ℕ, List, sym, ap, subst, refl, Ok, Err, Result}
+use Rattle.std.proofs.lemmas.List.{append_cancel_right}
 use Rattle.std.specs.Result.{IfOk, IfErr}
 use Rattle.tok_core.specs.Lexical.Errors.{OnRefused}
-use Rattle.tok_core.specs.Lexical.Outcome.{FollowsFrom}
+use Rattle.tok_core.specs.Lexical.Outcome.{FollowsFrom, FollowsSource}
 use Rattle.tok_core.specs.Lexical.Reading.{ReadsFrom, IsRefusedFrom}
 use Rattle.tok_core.specs.declared.lexer.error.LexFault.{LexFault}
 use Rattle.tok_core.specs.declared.lexer.error.LexFault.TheVariants.{Refused, Memory}
 use Rattle.tok_core.proofs.Lexical.Laws.{follows, forest_once, refused_once, never_both}
+use Rattle.tok_lexical.specs.Rules.{source_rules}
+use Rattle.tok_lexical.specs.Widths.{bytes}
+use Rattle.tok_lexical.specs.declared.edition.Edition.{Edition}
 use Rattle.tok_lexical.specs.declared.rule.Rule.{Rule}
-use Rattle.tok_buffer.specs.Buffer.{Laid, forest_of, SameReading}
+use Rattle.tok_lexical.proofs.Lexical.Sources.{begins_once}
+use Rattle.tok_buffer.specs.Buffer.{Laid, forest_of, KeepsReading, SameReading}
+use Rattle.tok_core.specs.Forest.{Forest}
 
 module _ (begin : ℕ) (rules : List Rule) (number : ℕ) (text : List ℕ) where
   on_forest : (r : Result Laid LexFault) → IfOk r (λ b. ReadsFrom begin rules number text b.forest) → IfOk (forest_of r) (ReadsFrom begin rules number text)
@@ -31,3 +37,21 @@ module _ (begin : ℕ) (rules : List Rule) (number : ℕ) (text : List ℕ) wher
   same_reading (Err (Refused e)) (Err (Refused o)) n p q f g = refused_once begin rules number text e o f.refuses g.refuses
   same_reading (Err (Refused e)) (Err Memory) n p q f g = tt
   same_reading (Err Memory) other n p q f g = tt
+
+  -- a stream that is laid out follows what was read
+  pub kept_follows : (read out : Result Forest LexFault) → KeepsReading read out → FollowsFrom begin rules number text read → FollowsFrom begin rules number text out
+  kept_follows read (Ok f) k h = subst (FollowsFrom begin rules number text) k h
+  kept_follows read (Err (Refused e)) k h = subst (FollowsFrom begin rules number text) k h
+  kept_follows read (Err Memory) k h = record { reads = tt; only_read = λ f r. refl; refuses = tt; only_refused = λ e r. tt }
+
+pub kept_source : (edition : Edition) (number : ℕ) (text : List ℕ) (read out : Result Forest LexFault) → KeepsReading read out → FollowsSource edition number text read → FollowsSource edition number text out
+kept_source edition number text read out k (front, rest, cut, begins, f) = (front, rest, cut, begins, kept_follows (bytes front) (source_rules edition) number rest read out k f)
+
+-- two readings of one source are the same: it begins at one place
+pub same_source : (edition : Edition) (number : ℕ) (text : List ℕ) (one other : Result Laid LexFault) (n : ℕ) → IfOk one (λ b. b.number ≡ n) → IfOk other (λ b. b.number ≡ n) → FollowsSource edition number text (forest_of one) → FollowsSource edition number text (forest_of other) → SameReading one other
+same_source edition number text one other n p q (front, rest, cut, begins, f) (front', rest', cut', begins', g) =
+    let at_rest : rest' ≡ rest = begins_once begins' begins in
+    let at_front : front' ≡ front = append_cancel_right front' front rest (ap (λ w. front' ++ w) (sym at_rest) ∙ sym cut' ∙ cut) in
+    same_reading (bytes front) (source_rules edition) number rest one other n p q f
+    (subst (λ w. FollowsFrom (bytes w) (source_rules edition) number rest (forest_of other)) at_front
+    (subst (λ w. FollowsFrom (bytes front') (source_rules edition) number w (forest_of other)) at_rest g))

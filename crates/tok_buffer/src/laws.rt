@@ -1,9 +1,6 @@
 //! Laws: small functions whose contracts say what holds of every buffer and cursor.
 ghost use Rattle.std.specs.Prelude.{◌≡◌, ◌↔◌, true, Some, IfOk};
-ghost use Rattle.std.specs.Str.{chars};
-ghost use Rattle.tok_lexical.specs.Rules.{plain_rules};
-ghost use Rattle.tok_core.specs.Lexical.Outcome.{FollowsGrammar};
-ghost use Rattle.tok_buffer.specs.Buffer.{forest_of, SameReading};
+ghost use Rattle.tok_buffer.specs.Buffer.{forest_of, KeepsReading, SameReading};
 ghost use Rattle.std.specs.declared.cmp.Ordering.TheVariants.{Equal};
 ghost use Rattle.tok_core.specs.Forest.{Forest};
 ghost use Rattle.tok_buffer.specs.Cursors.{place_of, CursorsLoseNone};
@@ -19,24 +16,23 @@ use crate::buffer::TokenBuffer;
 use crate::cursor::Cursor;
 use std::alloc::{AllocError, Global};
 use std::cmp::Ordering;
-use tok_core::{LexFault, TokenStream, lex};
+use tok_core::{Edition, LexFault, TokenStream, lex, lex_marked, lex_source};
 pub use tok_leaves::laws::{lifetimes_by_name, lifetimes_in_order};
 
-// The buffer of the stream that `lex` returns.
-fn lexed(alloc: Global, number: u64, source: u32, text: &str) -> Result<TokenBuffer, LexFault>
+// The buffer of a stream that was read, or why it was not.
+fn laid_out(
+    alloc: Global,
+    number: u64,
+    read: Result<TokenStream, LexFault>,
+) -> Result<TokenBuffer, LexFault>
     ensures number { IfOk result (λ b. b.number ≡ number) }
-    ensures follows { FollowsGrammar plain_rules source (chars text.now) (forest_of result) }
+    ensures kept { KeepsReading read (forest_of result) }
 {
-    match lex(alloc, source, text) {
-        Ok(stream) => match TokenBuffer::new2(alloc, number, stream) {
-            Ok(buffer) => Ok(buffer),
-            Err(failed) => Err(failed.into()),
-        },
-        Err(fault) => Err(fault),
-    }
+    let buffer = TokenBuffer::new2(alloc, number, read?)?;
+    Ok(buffer)
 }
 
-/// A text read straight into a buffer gives the buffer of the stream that `lex` returns, or the same refusal.
+/// A text read straight into a buffer gives the buffer of the stream that `lex` returns, or the same error.
 pub fn text_as_stream(
     alloc: Global,
     number: u64,
@@ -46,7 +42,36 @@ pub fn text_as_stream(
     ensures { SameReading result.0 result.1 }
 {
     let read = TokenBuffer::from_text(alloc, number, source, text);
-    let laid = lexed(alloc, number, source, text);
+    let laid = laid_out(alloc, number, lex(alloc, source, text));
+    (read, laid)
+}
+
+/// A marked text read straight into a buffer gives the buffer of the stream that `lex_marked` returns, or the same error.
+pub fn marked_as_stream(
+    alloc: Global,
+    number: u64,
+    source: u32,
+    text: &str,
+) -> (Result<TokenBuffer, LexFault>, Result<TokenBuffer, LexFault>)
+    ensures { SameReading result.0 result.1 }
+{
+    let read = TokenBuffer::from_marked(alloc, number, source, text);
+    let laid = laid_out(alloc, number, lex_marked(alloc, source, text));
+    (read, laid)
+}
+
+/// A whole source read straight into a buffer gives the buffer of the stream that `lex_source` returns, or the same error.
+pub fn source_as_stream(
+    alloc: Global,
+    number: u64,
+    edition: Edition,
+    source: u32,
+    text: &str,
+) -> (Result<TokenBuffer, LexFault>, Result<TokenBuffer, LexFault>)
+    ensures { SameReading result.0 result.1 }
+{
+    let read = TokenBuffer::from_source(alloc, number, edition, source, text);
+    let laid = laid_out(alloc, number, lex_source(alloc, edition, source, text));
     (read, laid)
 }
 

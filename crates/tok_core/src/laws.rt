@@ -2,7 +2,7 @@
 //! one's contract is a law.
 ghost use Rattle.tok_leaves.specs.Laws.{EqualBy, HashedBy};
 ghost use Rattle.tok_core.specs.Laws.{stream_shown, tree_shown};
-ghost use Rattle.tok_core.specs.Lexical.Laws.{IsReadOnce, IsRefusedOnce, IsNeverBoth};
+ghost use Rattle.tok_core.specs.Lexical.Laws.{IsReadOnce, IsRefusedOnce, IsNeverBoth, IsBegunOnce};
 ghost use Rattle.tok_core.specs.Spanless.{forest_input, tree_input};
 
 use crate::tt::{TokenStreamHelper, TokenTreeHelper};
@@ -22,6 +22,11 @@ pub fn refused_once()
 /// No text is both read and refused.
 pub fn never_both()
     ensures { IsNeverBoth }
+{}
+
+/// A whole source begins at one place: after its byte order mark and its shebang line.
+pub fn begins_once()
+    ensures { IsBegunOnce }
 {}
 
 /// Streams are compared and hashed without spans, so those that are equal but for spans feed a hasher alike.

@@ -23,7 +23,7 @@ use nest::Nest;
 use std::alloc::Global;
 use tok_lexical::source::past_start;
 use tok_lexical::text::front_of;
-use tok_lexical::{Reason, Rules, first_rule};
+use tok_lexical::{Edition, Reason, Rules, first_rule};
 
 /// What is built of a text that begins at this byte, by these rules, of which the last takes any character. The builder
 /// has nothing in it yet. It is the lexer's own loop: a caller that wants trees calls `lex`.
@@ -112,12 +112,17 @@ pub fn lex_marked(alloc: Global, source: u32, text: &str) -> Result<TokenStream,
     read_trees(alloc, source, Rules::Marked, 0, text)
 }
 
-/// The forest of a whole Rust source, of the edition of 2021. A doc comment stands for an attribute; a byte order mark and a
-/// shebang line at the start mean nothing.
-pub fn lex_source(alloc: Global, source: u32, text: &str) -> Result<TokenStream, LexFault>
-    ensures { FollowsSource source (chars text.now) result }
+/// The forest of a whole Rust source of an edition. A doc comment stands for an attribute; a byte order mark and a shebang
+/// line at the start mean nothing.
+pub fn lex_source(
+    alloc: Global,
+    edition: Edition,
+    source: u32,
+    text: &str,
+) -> Result<TokenStream, LexFault>
+    ensures { FollowsSource edition source (chars text.now) result }
 {
     let rest = past_start(text);
     let start = text.len() - rest.len();
-    read_trees(alloc, source, Rules::Source, start, rest)
+    read_trees(alloc, source, Rules::Source(edition), start, rest)
 }

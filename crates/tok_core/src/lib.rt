@@ -20,4 +20,5 @@ pub use tok_leaves::{
     DelimSpan, Delimiter, Ident, Lifetime, LifetimeFault, Literal, MakeFault, Punct, Spacing, Span,
     Text, known, same,
 };
+pub use tok_lexical::Edition;
 pub use tt::{TokenStreamHelper, TokenTreeHelper};

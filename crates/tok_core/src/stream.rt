@@ -1,7 +1,7 @@
 // Streams of trees.
-ghost use Rattle.std.specs.Prelude.{◌≡◌, ◌+◌, not, min, IfOk, OnOk, OnErr};
+ghost use Rattle.std.specs.Prelude.{◌≡◌, ◌+◌, not, min, IfOk, IfErr, OnOk, OnErr};
 ghost use Rattle.tok_core.specs.Filled.{has_trees};
-ghost use Rattle.tok_core.specs.Forest.{concat, no_trees, tree, tree_span, with_span};
+ghost use Rattle.tok_core.specs.Forest.{concat, group, no_trees, tree, tree_span, with_span};
 ghost use Rattle.tok_core.specs.Laws.{IsTheOnly};
 ghost use Rattle.tok_core.specs.Private.Excess.{excess};
 ghost use Rattle.tok_core.specs.Seen.{tree_of, trees_of};
@@ -11,6 +11,7 @@ use crate::group::Group;
 use std::alloc::{AllocError, Global};
 use std::marker::Model;
 use tok_leaves::{Ident, Literal, Punct, Span};
+use tok_lexical::Delimiter;
 
 /// A list of trees, which grows in memory of its own allocator. In contracts it is a forest.
 #[cycle(trees)]
@@ -77,6 +78,31 @@ impl TokenStream {
     {
         self.trees.push(next)?;
         Ok(())
+    }
+
+    // Appends a group. If the allocation fails, the stream is unchanged, and the group's trees are returned.
+    #[inline(always)]
+    pub(crate) fn append_group(
+        &mut self,
+        delimiter: Delimiter,
+        inside: TokenStream,
+        span: Span,
+    ) -> Result<(), TokenStream>
+        ensures ok { OnOk result
+            (self.new ≡ concat self.old (tree (group delimiter inside span) no_trees)) }
+        ensures err { OnErr result (self.new ≡ self.old) }
+        ensures returned { IfErr result (λ s. s ≡ inside) }
+    {
+        match self
+            .trees
+            .push(TokenTree::Group(Group::new(delimiter, inside, span)))
+        {
+            Ok(()) => Ok(()),
+            Err(failed) => match failed.value {
+                TokenTree::Group(group) => Err(group.into_stream()),
+                _ => unreachable!(),
+            },
+        }
     }
 
     /// The trees in order, lent.

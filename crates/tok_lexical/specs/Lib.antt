@@ -3,6 +3,7 @@ pub mod Comments
 pub mod Contents
 pub mod Delimiters
 pub mod Docs
+pub mod Editions
 pub mod Fits
 pub mod Floats
 pub mod Following

@@ -1,11 +1,11 @@
 -- The rules of the grammar in their order, and what each spells (Rust Reference: Tokens;
 -- Whitespace; Comments).
-use Rattle.std.specs.Prelude.{◌≡◌, ℕ, List, [], ◌∷◌, true, ◌==◌}
+use Rattle.std.specs.Prelude.{◌≡◌, ℕ, List, [], ◌∷◌, ◌++◌, true, ◌==◌}
 use Rattle.tok_lexical.specs.Characters.{is_whitespace, is_punct, opening_mark, closing_mark}
-use Rattle.tok_lexical.specs.Words.{IsIdentifier, IsRawIdentifier, IsName}
+use Rattle.tok_lexical.specs.Words.{IsIdentifier, IsRawIdentifier, IsName, IsNameOf}
 use Rattle.tok_lexical.specs.Comments.{IsLineComment, IsBlockComment}
 use Rattle.tok_lexical.specs.Strings.{IsString, IsQuoted, IsByte, IsEscapedChar, is_char}
-use Rattle.tok_lexical.specs.Strings.{IsStringPrefix}
+use Rattle.tok_lexical.specs.Strings.{IsPrefixOf, IsStringPrefix}
 use Rattle.tok_lexical.specs.Raw.{IsRawString}
 use Rattle.tok_lexical.specs.Floats.{IsFloat, IsPointed}
 use Rattle.tok_lexical.specs.Numbers.{IsBased, IsDecimal, base_mark}
@@ -25,10 +25,12 @@ use Rattle.tok_lexical.specs.declared.rule.Rule.TheVariants.{MarkedApostrophe, B
 use Rattle.tok_lexical.specs.declared.rule.Rule.TheVariants.{Decimal, RawIdentifier, Identifier}
 use Rattle.tok_lexical.specs.declared.rule.Rule.TheVariants.{Punct, MarkedPunct, Other}
 use Rattle.tok_lexical.specs.declared.rule.Rule.TheVariants.{SourceString, RawString, BadPrefixed}
-use Rattle.tok_lexical.specs.declared.rule.Rule.TheVariants.{SourceIdentifier, SourceLifetime, Float}
+use Rattle.tok_lexical.specs.declared.rule.Rule.TheVariants.{SourceIdentifier, SourceLifetime, SourcePunct, Float}
 use Rattle.tok_lexical.specs.declared.rule.Rule.TheVariants.{PointedDecimal, SourceDecimal, SourceLineComment}
 use Rattle.tok_lexical.specs.declared.rule.Rule.TheVariants.{SourceBlockComment}
 use Rattle.tok_lexical.specs.declared.contents.Contents.TheVariants.{Text, Bytes, C}
+use Rattle.tok_lexical.specs.declared.edition.Edition.{Edition}
+use Rattle.tok_lexical.specs.declared.edition.Edition.TheVariants.{Edition2015, Edition2018}
 
 -- The whole piece is spelled by the rule. After a rule comes one that takes what begins so and
 -- isn't spelled to its end.
@@ -51,12 +53,12 @@ Spells (SourceString Text) = IsString Text
 Spells (SourceString Bytes) = After 98 (IsString Bytes)
 Spells (SourceString C) = After 99 (IsString C)
 Spells (RawString contents) = IsRawString contents
-Spells BadPrefixed = IsStringPrefix
+Spells (BadPrefixed contents) = IsPrefixOf contents
 Spells EscapedChar = IsQuoted IsEscapedChar
 Spells BadEscapedChar = λ piece. piece ≡ 39 ∷ 92 ∷ []
 Spells PlainChar = IsQuoted (IsOne is_char)
 Spells Lifetime = After 39 IsName
-Spells SourceLifetime = After 39 IsName
+Spells (SourceLifetime edition) = After 39 (IsNameOf edition)
 Spells Apostrophe = IsOne (λ c. c == 39)
 Spells MarkedApostrophe = IsOne (λ c. c == 39)
 Spells (Based base) = IsBased base
@@ -67,9 +69,10 @@ Spells PointedDecimal = IsPointed
 Spells SourceDecimal = IsDecimal
 Spells RawIdentifier = IsRawIdentifier
 Spells Identifier = IsIdentifier
-Spells SourceIdentifier = IsIdentifier
+Spells (SourceIdentifier edition) = IsIdentifier
 Spells Punct = IsOne is_punct
 Spells MarkedPunct = IsOne is_punct
+Spells (SourcePunct edition) = IsOne is_punct
 Spells Other = IsOne (λ c. true)
 
 -- the rules of a text, in their order
@@ -99,18 +102,24 @@ marked_rules =
     BadBased Binary ∷ Decimal
     ∷ RawIdentifier ∷ Identifier ∷ MarkedPunct ∷ Other ∷ []
 
--- the rules of a whole source, in their order
-abbrev pub source_rules : List Rule
-source_rules =
+-- C strings exist from the edition of 2021 on
+abbrev pub c_rules : Edition → List Rule
+c_rules Edition2015 = []
+c_rules Edition2018 = []
+c_rules edition = SourceString C ∷ RawString C ∷ BadPrefixed C ∷ []
+
+-- the rules of a whole source of an edition, in their order
+abbrev pub source_rules : Edition → List Rule
+source_rules edition =
     ByteOrderMark ∷ Whitespace ∷ SourceLineComment ∷ SourceBlockComment ∷ OpenComment
     ∷ Opening Parenthesis ∷ Opening Brace ∷ Opening Bracket ∷ Closing Parenthesis ∷ Closing Brace ∷
     Closing Bracket
     ∷ SourceString Text ∷ BadString ∷ ByteChar ∷ BadByteChar
-    ∷ SourceString Bytes ∷ SourceString C
-    ∷ RawString Text ∷ RawString Bytes ∷ RawString C ∷ BadPrefixed
-    ∷ EscapedChar ∷ BadEscapedChar ∷ PlainChar
-    ∷ SourceLifetime ∷ Apostrophe
+    ∷ SourceString Bytes ∷ RawString Text ∷ RawString Bytes
+    ∷ BadPrefixed Text ∷ BadPrefixed Bytes
+    ∷ (c_rules edition ++ EscapedChar ∷ BadEscapedChar ∷ PlainChar
+    ∷ SourceLifetime edition ∷ Apostrophe
     ∷ Based Hexadecimal ∷ Based Octal ∷ Based Binary ∷ BadBased Hexadecimal ∷ BadBased Octal ∷
     BadBased Binary
     ∷ Float ∷ PointedDecimal ∷ SourceDecimal
-    ∷ RawIdentifier ∷ SourceIdentifier ∷ Punct ∷ Other ∷ []
+    ∷ RawIdentifier ∷ SourceIdentifier edition ∷ SourcePunct edition ∷ Other ∷ [])

@@ -5,6 +5,7 @@ use Rattle.tok_lexical.specs.Comments.{is_line_doc, is_block_doc, is_not_line_fe
 use Rattle.tok_lexical.specs.Fits.{IsFirstFit}
 use Rattle.tok_lexical.specs.Pieces.{Skips}
 use Rattle.tok_lexical.specs.Rules.{source_rules}
+use Rattle.tok_lexical.specs.declared.edition.Edition.TheVariants.{Edition2021}
 use Rattle.tok_lexical.specs.declared.rule.Rule.{Rule}
 use Rattle.tok_lexical.specs.declared.rule.Rule.TheVariants.{Whitespace, SourceLineComment}
 use Rattle.tok_lexical.specs.declared.rule.Rule.TheVariants.{SourceBlockComment}
@@ -16,12 +17,12 @@ is_blank_piece SourceLineComment piece = not (is_line_doc piece)
 is_blank_piece SourceBlockComment piece = not (is_block_doc piece)
 is_blank_piece rule piece = false
 
--- such pieces lead from the text to this rest
+-- Such pieces lead from the text to this rest. They are the same in each edition.
 pub data Blanks : List ℕ → List ℕ → Type 0 where
   over : {text : List ℕ} → Blanks text text
   blank : {text taken after rest : List ℕ} {rule : Rule} →
-      IsFirstFit text source_rules rule taken after → is_blank_piece rule taken ≡ true →
-      Blanks after rest → Blanks text rest
+      IsFirstFit text (source_rules Edition2021) rule taken after →
+      is_blank_piece rule taken ≡ true → Blanks after rest → Blanks text rest
 
 -- what follows `#!` makes it an attribute: after such pieces, a bracket
 abbrev pub OpensAttribute : List ℕ → Type 0

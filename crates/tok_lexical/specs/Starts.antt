@@ -74,12 +74,12 @@ may_begin (rule.SourceString Text) Quote = true
 may_begin (rule.SourceString Bytes) Prefix = true
 may_begin (rule.SourceString C) Prefix = true
 may_begin (rule.RawString contents) Prefix = true
-may_begin rule.BadPrefixed Prefix = true
+may_begin (rule.BadPrefixed contents) Prefix = true
 may_begin rule.EscapedChar Apostrophe = true
 may_begin rule.BadEscapedChar Apostrophe = true
 may_begin rule.PlainChar Apostrophe = true
 may_begin rule.Lifetime Apostrophe = true
-may_begin rule.SourceLifetime Apostrophe = true
+may_begin (rule.SourceLifetime edition) Apostrophe = true
 may_begin rule.Apostrophe Apostrophe = true
 may_begin rule.MarkedApostrophe Apostrophe = true
 may_begin (rule.Based base) Zero = true
@@ -97,10 +97,11 @@ may_begin rule.SourceDecimal Digit = true
 may_begin rule.RawIdentifier Prefix = true
 may_begin rule.Identifier Punct = false
 may_begin rule.Identifier start = true
-may_begin rule.SourceIdentifier Punct = false
-may_begin rule.SourceIdentifier start = true
+may_begin (rule.SourceIdentifier edition) Punct = false
+may_begin (rule.SourceIdentifier edition) start = true
 may_begin rule.Punct start = true
 may_begin rule.MarkedPunct start = true
+may_begin (rule.SourcePunct edition) start = true
 may_begin rule.Other start = true
 may_begin rule start = false
 
@@ -122,25 +123,26 @@ tells start = false
 abbrev pub rules_of : Rules → List Rule
 rules_of rules.Plain = plain_rules
 rules_of rules.Marked = marked_rules
-rules_of rules.Source = source_rules
+rules_of (rules.Source edition) = source_rules edition
 
 -- the rules of comments
 abbrev pub line_rule : Rules → Rule
-line_rule rules.Source = rule.SourceLineComment
+line_rule (rules.Source edition) = rule.SourceLineComment
 line_rule other = rule.LineComment
 
 abbrev pub block_rule : Rules → Rule
-block_rule rules.Source = rule.SourceBlockComment
+block_rule (rules.Source edition) = rule.SourceBlockComment
 block_rule other = rule.BlockComment
 
 -- the rule of an identifier
 abbrev pub identifier_rule : Rules → Rule
-identifier_rule rules.Source = rule.SourceIdentifier
+identifier_rule (rules.Source edition) = rule.SourceIdentifier edition
 identifier_rule other = rule.Identifier
 
 -- the rule of a punct
 abbrev pub punct_rule : Rules → Rule
 punct_rule rules.Marked = rule.MarkedPunct
+punct_rule (rules.Source edition) = rule.SourcePunct edition
 punct_rule other = rule.Punct
 
 -- the last three rules of a text: of them, one takes any character

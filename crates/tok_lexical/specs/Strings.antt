@@ -108,10 +108,16 @@ IsHashes piece = (hashes : List ℕ) × (piece ≡ hashes ++ 34 ∷ []) × IsAll
 abbrev pub IsPrefixed : List ℕ → Type 0
 IsPrefixed piece = (piece ≡ 34 ∷ []) ⊎ After 114 IsHashes piece
 
--- `r`, `br` or `cr`, any number of # and a quote; or `b` or `c` and a quote
+-- the start of a raw string, or of one with this prefix: `r`, `br` or `cr`, any number of # and a
+-- quote; or `b` or `c` and a quote
+abbrev pub IsPrefixOf : Contents → List ℕ → Type 0
+IsPrefixOf Text = After 114 IsHashes
+IsPrefixOf Bytes = After 98 IsPrefixed
+IsPrefixOf C = After 99 IsPrefixed
+
+-- any of these
 abbrev pub IsStringPrefix : List ℕ → Type 0
-IsStringPrefix piece =
-    After 114 IsHashes piece ⊎ (After 98 IsPrefixed piece ⊎ After 99 IsPrefixed piece)
+IsStringPrefix piece = IsPrefixOf Text piece ⊎ (IsPrefixOf Bytes piece ⊎ IsPrefixOf C piece)
 
 -- what a function that looks for units of a string answers: what follows some of them, or None
 -- where there are none

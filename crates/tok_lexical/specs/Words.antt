@@ -5,6 +5,8 @@ use Rattle.std.specs.List.{list_all}
 use Rattle.std.specs.Str.{bytes_eq}
 use Rattle.unicode_ident.specs.Ident.{is_xid_start, is_xid_continue}
 use Rattle.tok_lexical.specs.Pieces.{After}
+use Rattle.tok_lexical.specs.declared.edition.Edition.{Edition}
+use Rattle.tok_lexical.specs.declared.edition.Edition.TheVariants.{Edition2015, Edition2018}
 
 abbrev pub is_identifier_start : ℕ → Bool
 is_identifier_start c = is_xid_start c || (c == 95)
@@ -24,6 +26,16 @@ IsRawIdentifier = After 114 (After 35 IsIdentifier)
 
 abbrev pub IsName : List ℕ → Type 0
 IsName name = IsIdentifier name ⊎ IsRawIdentifier name
+
+-- the name of a lifetime of an edition: raw ones exist from 2021 on
+abbrev pub IsNameOf : Edition → List ℕ → Type 0
+IsNameOf Edition2015 = IsIdentifier
+IsNameOf Edition2018 = IsIdentifier
+IsNameOf edition = IsName
+
+-- the words that begin raw strings: r br
+abbrev pub is_raw_prefix : List ℕ → Bool
+is_raw_prefix word = bytes_eq word (codes "r") || bytes_eq word (codes "br")
 
 -- the words that don't exist as raw identifiers: _ self Self super crate
 abbrev pub has_no_raw : List ℕ → Bool

@@ -7,6 +7,7 @@ pub mod classes;
 pub mod comments;
 mod contents;
 mod delimiter;
+mod edition;
 mod escapes;
 mod floats;
 pub mod joint;
@@ -24,6 +25,7 @@ pub mod words;
 
 pub use contents::Contents;
 pub use delimiter::Delimiter;
+pub use edition::Edition;
 pub use numbers::Base;
 pub use reason::Reason;
 pub use refusals::refusal;

@@ -1,9 +1,10 @@
 // The starts of raw, byte and C strings.
-ghost use Rattle.std.specs.Prelude.{◌==◌, ℕ, List, IfSome};
+ghost use Rattle.std.specs.Prelude.{◌==◌, ◌<◌, ℕ, List, IfSome};
 ghost use Rattle.std.specs.Str.{chars, IsUtf8};
 ghost use Rattle.tok_lexical.specs.Pieces.{After, ReadsLongest, ReadsPrefix, Skips};
-ghost use Rattle.tok_lexical.specs.Strings.{IsHashes, IsPrefixed, IsStringPrefix};
+ghost use Rattle.tok_lexical.specs.Strings.{IsHashes, IsPrefixed, IsPrefixOf, IsStringPrefix};
 
+use crate::contents::Contents;
 use crate::text::{next_char, past_char};
 
 /// Past the `#` at the front.
@@ -42,6 +43,29 @@ fn past_prefixed(text: &str) -> Option<&str>
     match past_char(text, '"') {
         Some(rest) => Some(rest),
         None => past_raw(text),
+    }
+}
+
+/// Past `b` or `c`, and what may begin a string after it.
+fn past_prefixed_by(text: &str, letter: char) -> Option<&str>
+    requires ascii { letter < 128 }
+    ensures finds { ReadsPrefix (After letter IsPrefixed) (chars text.now) result }
+    ensures utf8 { IfSome result (λ rest. IsUtf8 rest.now) }
+{
+    let rest = past_char(text, letter)?;
+    past_prefixed(rest)
+}
+
+/// Past the start of a raw string, or of a byte or C string.
+#[inline(never)]
+pub fn past_prefix_of(text: &str, contents: Contents) -> Option<&str>
+    ensures tries { ReadsLongest (IsPrefixOf contents) (chars text.now) result }
+    ensures utf8 { IfSome result (λ rest. IsUtf8 rest.now) }
+{
+    match contents {
+        Contents::Text => past_raw(text),
+        Contents::Bytes => past_prefixed_by(text, 'b'),
+        Contents::C => past_prefixed_by(text, 'c'),
     }
 }
 

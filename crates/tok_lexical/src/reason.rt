@@ -19,10 +19,11 @@ pub enum Reason {
     DeepGroup,
     ReservedPrefix,
     BareReturn,
+    ReservedGuard,
 }
 
 impl Reason {
-    /// The number of the rule: 1 for L1, to 14 for L14.
+    /// The number of the rule: 1 for L1, to 15 for L15.
     pub fn number(self) -> u8
         ensures { result ≡ refusal_number self }
     {
@@ -41,6 +42,7 @@ impl Reason {
             Reason::DeepGroup => 12,
             Reason::ReservedPrefix => 13,
             Reason::BareReturn => 14,
+            Reason::ReservedGuard => 15,
         }
     }
 
@@ -63,6 +65,7 @@ impl Reason {
             Reason::DeepGroup => "groups nested too deep",
             Reason::ReservedPrefix => "reserved prefix",
             Reason::BareReturn => "bare carriage return in a doc comment",
+            Reason::ReservedGuard => "reserved guard",
         }
     }
 }

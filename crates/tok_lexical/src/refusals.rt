@@ -1,15 +1,16 @@
 // Which pieces are refused.
 ghost use Rattle.std.specs.Prelude.{◌≡◌, if◌then◌else◌, Some, None};
 ghost use Rattle.std.specs.Str.{chars};
-ghost use Rattle.tok_lexical.specs.Refusals.{refusal, is_reserved, lifetime_refusal};
+ghost use Rattle.tok_lexical.specs.Refusals.{refusal, is_reserved, is_guard, lifetime_refusal};
 
 use crate::comments::{breaks_line, is_block_doc, is_line_doc};
 use crate::contents::{has_bare_return, is_unfit, is_wrong};
+use crate::edition::Edition;
 use crate::numbers::{is_exponent, is_float, is_malformed};
 use crate::reason::Reason;
 use crate::rule::Rule;
 use crate::text::{begins_with, past_first};
-use crate::words::{is_missing, is_plain};
+use crate::words::{is_missing, is_plain, is_raw_prefix};
 
 fn refused_if(is_refused: bool, refusal: Reason) -> Option<Reason>
     ensures { result ≡ (if is_refused then Some refusal else None) }
@@ -17,23 +18,36 @@ fn refused_if(is_refused: bool, refusal: Reason) -> Option<Reason>
     if is_refused { Some(refusal) } else { None }
 }
 
-/// Whether what follows an identifier makes it a prefix that the edition of 2021 reserves.
-fn is_reserved(after: &str) -> bool
-    ensures { result ≡ is_reserved (chars after.now) }
+/// Whether what follows an identifier makes it a reserved prefix.
+fn is_reserved(edition: Edition, name: &str, after: &str) -> bool
+    ensures { result ≡ is_reserved edition (chars name.now) (chars after.now) }
 {
-    begins_with(after, '"') || begins_with(after, '\'') || begins_with(after, '#')
+    if edition.reserves_prefixes() {
+        begins_with(after, '"') || begins_with(after, '\'') || begins_with(after, '#')
+    } else {
+        begins_with(after, '#') && is_raw_prefix(name)
+    }
+}
+
+/// Whether what follows a punct makes it a reserved guard.
+fn is_guard(edition: Edition, piece: &str, after: &str) -> bool
+    ensures { result ≡ is_guard edition (chars piece.now) (chars after.now) }
+{
+    edition.reserves_guards()
+        && begins_with(piece, '#')
+        && (begins_with(after, '"') || begins_with(after, '#'))
 }
 
 /// Why a lifetime of a source is refused, if it is: it has no such name, or a quote or a number sign follows.
 #[inline(never)]
-fn lifetime_refusal(name: &str, after: &str) -> Option<Reason>
-    ensures { result ≡ lifetime_refusal (chars name.now) (chars after.now) }
+fn lifetime_refusal(edition: Edition, name: &str, after: &str) -> Option<Reason>
+    ensures { result ≡ lifetime_refusal edition (chars name.now) (chars after.now) }
 {
     if is_missing(name) {
         Some(Reason::MissingRawIdentifier)
     } else if begins_with(after, '\'') {
         Some(Reason::MalformedQuoted)
-    } else if is_plain(name) && begins_with(after, '#') {
+    } else if edition.reserves_prefixes() && is_plain(name) && begins_with(after, '#') {
         Some(Reason::ReservedPrefix)
     } else {
         None
@@ -67,7 +81,7 @@ pub fn refusal(rule: Rule, at: usize, piece: &str, after: &str) -> Option<Reason
         Rule::BadByteChar => Some(Reason::MalformedQuoted),
         Rule::BadEscapedChar => Some(Reason::MalformedQuoted),
         Rule::StringPrefix => Some(Reason::PrefixedString),
-        Rule::BadPrefixed => Some(Reason::MalformedQuoted),
+        Rule::BadPrefixed(_) => Some(Reason::MalformedQuoted),
         Rule::SourceString(contents) => {
             refused_if(is_wrong(contents, piece), Reason::MalformedQuoted)
         }
@@ -75,7 +89,7 @@ pub fn refusal(rule: Rule, at: usize, piece: &str, after: &str) -> Option<Reason
             refused_if(is_unfit(contents, piece), Reason::MalformedQuoted)
         }
         Rule::Lifetime => refused_if(is_missing(past_first(piece)), Reason::MissingRawIdentifier),
-        Rule::SourceLifetime => lifetime_refusal(past_first(piece), after),
+        Rule::SourceLifetime(edition) => lifetime_refusal(edition, past_first(piece), after),
         Rule::Apostrophe => Some(Reason::LoneApostrophe),
         Rule::Based(base) => refused_if(is_malformed(base, piece, after), Reason::MalformedNumber),
         Rule::BadBased(_) => Some(Reason::MalformedNumber),
@@ -83,7 +97,12 @@ pub fn refusal(rule: Rule, at: usize, piece: &str, after: &str) -> Option<Reason
         Rule::Float => refused_if(is_exponent(after), Reason::MalformedNumber),
         Rule::SourceDecimal => refused_if(is_exponent(after), Reason::MalformedNumber),
         Rule::RawIdentifier => refused_if(is_missing(piece), Reason::MissingRawIdentifier),
-        Rule::SourceIdentifier => refused_if(is_reserved(after), Reason::ReservedPrefix),
+        Rule::SourceIdentifier(edition) => {
+            refused_if(is_reserved(edition, piece, after), Reason::ReservedPrefix)
+        }
+        Rule::SourcePunct(edition) => {
+            refused_if(is_guard(edition, piece, after), Reason::ReservedGuard)
+        }
         Rule::Other => Some(Reason::UnknownCharacter),
         _ => None,
     }

@@ -12,15 +12,18 @@ use crate::classes::{closing_mark, is_invisible, is_punct, is_whitespace, openin
 use crate::comments::{past_block_comment, past_line_comment};
 use crate::contents::Contents;
 use crate::delimiter::Delimiter;
+use crate::edition::Edition;
 use crate::floats::{past_float, past_pointed};
 use crate::joint::begins_comment;
 use crate::numbers::{Base, past_based, past_decimal};
-use crate::prefixes::past_string_prefix;
+use crate::prefixes::{past_prefix_of, past_string_prefix};
 use crate::raw::past_raw_string;
 use crate::start::Start;
 use crate::strings::{past_byte_string, past_c_string, past_string};
 use crate::text::{next_char, past_pair};
-use crate::words::{past_continues, past_identifier, past_lifetime, past_raw_identifier};
+use crate::words::{
+    past_continues, past_identifier, past_lifetime, past_raw_identifier, past_source_lifetime,
+};
 
 /// A rule of the grammar. Some rules stand for a refusal: they take what begins a piece that another rule, before them,
 /// would have to take.
@@ -42,12 +45,12 @@ pub enum Rule {
     StringPrefix,
     SourceString(Contents),
     RawString(Contents),
-    BadPrefixed,
+    BadPrefixed(Contents),
     EscapedChar,
     BadEscapedChar,
     PlainChar,
     Lifetime,
-    SourceLifetime,
+    SourceLifetime(Edition),
     Apostrophe,
     MarkedApostrophe,
     Based(Base),
@@ -58,18 +61,19 @@ pub enum Rule {
     SourceDecimal,
     RawIdentifier,
     Identifier,
-    SourceIdentifier,
+    SourceIdentifier(Edition),
     Punct,
     MarkedPunct,
+    SourcePunct(Edition),
     Other,
 }
 
-/// The rules of a text: those of the profile, without marks of invisible groups or with them, or those of a whole source.
+/// The rules of a text: those of the profile, without marks of invisible groups or with them, or those of a whole source of an edition.
 #[derive(Clone, Copy, Debug)]
 pub enum Rules {
     Plain,
     Marked,
-    Source,
+    Source(Edition),
 }
 
 impl Rules {
@@ -88,11 +92,11 @@ impl Rules {
                     Rule::Closing(Delimiter::None),
                     Rule::Decimal,
                 ],
-                Rules::Source => &[Rule::ByteOrderMark, Rule::Whitespace],
+                Rules::Source(_) => &[Rule::ByteOrderMark, Rule::Whitespace],
             },
             Start::Whitespace => match self {
                 Rules::Plain | Rules::Marked => &[Rule::Whitespace, Rule::Decimal],
-                Rules::Source => &[Rule::Whitespace],
+                Rules::Source(_) => &[Rule::Whitespace],
             },
             Start::Zero => match self {
                 Rules::Plain | Rules::Marked => &[
@@ -104,7 +108,7 @@ impl Rules {
                     Rule::BadBased(Base::Binary),
                     Rule::Decimal,
                 ],
-                Rules::Source => &[
+                Rules::Source(_) => &[
                     Rule::Based(Base::Hexadecimal),
                     Rule::Based(Base::Octal),
                     Rule::Based(Base::Binary),
@@ -118,7 +122,7 @@ impl Rules {
             },
             Start::Digit => match self {
                 Rules::Plain | Rules::Marked => &[Rule::Decimal],
-                Rules::Source => &[Rule::Float, Rule::PointedDecimal, Rule::SourceDecimal],
+                Rules::Source(_) => &[Rule::Float, Rule::PointedDecimal, Rule::SourceDecimal],
             },
             Start::Prefix => match self {
                 Rules::Plain | Rules::Marked => &[
@@ -127,15 +131,27 @@ impl Rules {
                     Rule::StringPrefix,
                     Rule::RawIdentifier,
                 ],
-                Rules::Source => &[
+                Rules::Source(Edition::Edition2015 | Edition::Edition2018) => &[
                     Rule::ByteChar,
                     Rule::BadByteChar,
                     Rule::SourceString(Contents::Bytes),
-                    Rule::SourceString(Contents::C),
                     Rule::RawString(Contents::Text),
                     Rule::RawString(Contents::Bytes),
+                    Rule::BadPrefixed(Contents::Text),
+                    Rule::BadPrefixed(Contents::Bytes),
+                    Rule::RawIdentifier,
+                ],
+                Rules::Source(Edition::Edition2021 | Edition::Edition2024) => &[
+                    Rule::ByteChar,
+                    Rule::BadByteChar,
+                    Rule::SourceString(Contents::Bytes),
+                    Rule::RawString(Contents::Text),
+                    Rule::RawString(Contents::Bytes),
+                    Rule::BadPrefixed(Contents::Text),
+                    Rule::BadPrefixed(Contents::Bytes),
+                    Rule::SourceString(Contents::C),
                     Rule::RawString(Contents::C),
-                    Rule::BadPrefixed,
+                    Rule::BadPrefixed(Contents::C),
                     Rule::RawIdentifier,
                 ],
             },
@@ -145,7 +161,7 @@ impl Rules {
                     Rule::BlockComment,
                     Rule::OpenComment,
                 ],
-                Rules::Source => &[
+                Rules::Source(_) => &[
                     Rule::SourceLineComment,
                     Rule::SourceBlockComment,
                     Rule::OpenComment,
@@ -153,7 +169,7 @@ impl Rules {
             },
             Start::Quote => match self {
                 Rules::Plain | Rules::Marked => &[Rule::QuotedString, Rule::BadString],
-                Rules::Source => &[Rule::SourceString(Contents::Text), Rule::BadString],
+                Rules::Source(_) => &[Rule::SourceString(Contents::Text), Rule::BadString],
             },
             Start::Apostrophe => match self {
                 Rules::Plain => &[
@@ -170,11 +186,32 @@ impl Rules {
                     Rule::Lifetime,
                     Rule::MarkedApostrophe,
                 ],
-                Rules::Source => &[
+                Rules::Source(Edition::Edition2015) => &[
                     Rule::EscapedChar,
                     Rule::BadEscapedChar,
                     Rule::PlainChar,
-                    Rule::SourceLifetime,
+                    Rule::SourceLifetime(Edition::Edition2015),
+                    Rule::Apostrophe,
+                ],
+                Rules::Source(Edition::Edition2018) => &[
+                    Rule::EscapedChar,
+                    Rule::BadEscapedChar,
+                    Rule::PlainChar,
+                    Rule::SourceLifetime(Edition::Edition2018),
+                    Rule::Apostrophe,
+                ],
+                Rules::Source(Edition::Edition2021) => &[
+                    Rule::EscapedChar,
+                    Rule::BadEscapedChar,
+                    Rule::PlainChar,
+                    Rule::SourceLifetime(Edition::Edition2021),
+                    Rule::Apostrophe,
+                ],
+                Rules::Source(Edition::Edition2024) => &[
+                    Rule::EscapedChar,
+                    Rule::BadEscapedChar,
+                    Rule::PlainChar,
+                    Rule::SourceLifetime(Edition::Edition2024),
                     Rule::Apostrophe,
                 ],
             },
@@ -187,7 +224,7 @@ impl Rules {
         ensures { result ≡ identifier_rule self }
     {
         match self {
-            Rules::Source => Rule::SourceIdentifier,
+            Rules::Source(edition) => Rule::SourceIdentifier(edition),
             _ => Rule::Identifier,
         }
     }
@@ -197,6 +234,7 @@ impl Rules {
     {
         match self {
             Rules::Marked => Rule::MarkedPunct,
+            Rules::Source(edition) => Rule::SourcePunct(edition),
             _ => Rule::Punct,
         }
     }
@@ -229,12 +267,12 @@ impl Rule {
             Rule::SourceString(Contents::Bytes) => past_byte_string(text),
             Rule::SourceString(Contents::C) => past_c_string(text),
             Rule::RawString(contents) => past_raw_string(text, contents),
-            Rule::BadPrefixed => past_string_prefix(text),
+            Rule::BadPrefixed(contents) => past_prefix_of(text, contents),
             Rule::EscapedChar => past_escaped_char(text),
             Rule::BadEscapedChar => past_pair(text, '\'', '\\'),
             Rule::PlainChar => past_plain_char(text),
             Rule::Lifetime => past_lifetime(text),
-            Rule::SourceLifetime => past_lifetime(text),
+            Rule::SourceLifetime(edition) => past_source_lifetime(text, edition),
             Rule::Apostrophe if first == '\'' => Some(rest),
             Rule::MarkedApostrophe if first == '\'' => Some(rest),
             Rule::Based(base) => past_based(text, base),
@@ -245,9 +283,10 @@ impl Rule {
             Rule::SourceDecimal => past_decimal(text),
             Rule::RawIdentifier => past_raw_identifier(text),
             Rule::Identifier => past_identifier(text),
-            Rule::SourceIdentifier => past_identifier(text),
+            Rule::SourceIdentifier(_) => past_identifier(text),
             Rule::Punct if is_punct(first) => Some(rest),
             Rule::MarkedPunct if is_punct(first) => Some(rest),
+            Rule::SourcePunct(_) if is_punct(first) => Some(rest),
             Rule::Other => Some(rest),
             _ => None,
         }

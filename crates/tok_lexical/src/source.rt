@@ -5,8 +5,10 @@ ghost use Rattle.tok_lexical.specs.Sources.{is_blank_piece, Blanks, OpensAttribu
 ghost use Rattle.tok_lexical.specs.Fits.{IsFirstFit};
 ghost use Rattle.tok_lexical.specs.Rules.{source_rules};
 ghost use Rattle.tok_lexical.specs.declared.rule.Rule.{Rule};
+ghost use Rattle.tok_lexical.specs.declared.edition.Edition.TheVariants.{Edition2021};
 
 use crate::comments::{is_block_doc, is_line_doc, past_line};
+use crate::edition::Edition;
 use crate::rule::{Rule, Rules, first_rule};
 use crate::text::{begins_with, front_of, next_char, past_pair};
 
@@ -26,11 +28,11 @@ fn is_blank_piece(rule: Rule, piece: &str) -> bool
 fn past_blank_pieces(text: &str) -> &str
     ensures blanks { Blanks (chars text.now) (chars result.now) }
     ensures last { (rule : Rule) → (taken after : List ℕ)
-        → IsFirstFit (chars result.now) source_rules rule taken after
+        → IsFirstFit (chars result.now) (source_rules Edition2021) rule taken after
         → is_blank_piece rule taken ≡ true → ⊥ }
 {
     let mut rest = text;
-    while let Some((rule, after)) = first_rule(Rules::Source, rest) {
+    while let Some((rule, after)) = first_rule(Rules::Source(Edition::Edition2021), rest) {
         if !is_blank_piece(rule, front_of(rest, after)) {
             return rest;
         }

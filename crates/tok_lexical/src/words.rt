@@ -3,8 +3,9 @@ ghost use Rattle.std.specs.Prelude.{◌≡◌, ℕ, List, IfSome, MatchBool};
 ghost use Rattle.std.specs.Str.{chars, IsUtf8};
 ghost use Rattle.unicode_ident.specs.Ident.{is_xid_continue};
 ghost use Rattle.tok_lexical.specs.Pieces.{After, IsLongestPrefix, ReadsLongest, Skips};
-ghost use Rattle.tok_lexical.specs.Words.{IsIdentifier, IsRawIdentifier, IsName, IsSuffix, is_identifier_start, has_no_raw, is_missing, is_plain};
+ghost use Rattle.tok_lexical.specs.Words.{IsIdentifier, IsRawIdentifier, IsName, IsNameOf, IsSuffix, is_identifier_start, has_no_raw, is_missing, is_plain, is_raw_prefix};
 
+use crate::edition::Edition;
 use crate::text::{next_char, past_char, past_pair};
 use unicode_ident::{is_xid_continue, is_xid_start};
 
@@ -99,6 +100,26 @@ pub fn past_lifetime(text: &str) -> Option<&str>
     past_name(name)
 }
 
+/// Past the name of a lifetime of a source. No name of 2015 or 2018 is raw.
+fn past_source_name(text: &str, edition: Edition) -> Option<&str>
+    ensures tries { ReadsLongest (IsNameOf edition) (chars text.now) result }
+    ensures utf8 { IfSome result (λ rest. IsUtf8 rest.now) }
+{
+    match edition {
+        Edition::Edition2015 | Edition::Edition2018 => past_identifier(text),
+        Edition::Edition2021 | Edition::Edition2024 => past_name(text),
+    }
+}
+
+/// Past a lifetime of a source.
+pub fn past_source_lifetime(text: &str, edition: Edition) -> Option<&str>
+    ensures tries { ReadsLongest (After 39 (IsNameOf edition)) (chars text.now) result }
+    ensures utf8 { IfSome result (λ rest. IsUtf8 rest.now) }
+{
+    let name = past_char(text, '\'')?;
+    past_source_name(name, edition)
+}
+
 // The same of the bytes.
 fn is_never_raw(word: &str) -> bool
     ensures { result ≡ has_no_raw word.now }
@@ -121,6 +142,20 @@ pub fn is_missing(name: &str) -> bool
         Some(word) => has_no_raw(word),
         None => false,
     }
+}
+
+// The same of the bytes.
+fn is_raw_word(word: &str) -> bool
+    ensures { result ≡ is_raw_prefix word.now }
+{
+    matches!(word, "r" | "br")
+}
+
+/// Whether a word begins raw strings.
+pub fn is_raw_prefix(word: &str) -> bool
+    ensures { result ≡ is_raw_prefix (chars word.now) }
+{
+    is_raw_word(word)
 }
 
 /// Whether an identifier isn't raw.

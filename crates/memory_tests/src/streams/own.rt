@@ -4,7 +4,7 @@ use syn_parse::{
     parse_braces, parse_brackets, parse_group, parse_parens, parsing,
 };
 use tok_buffer::Lifetime;
-use tok_core::{Ident, Span};
+use tok_core::{Delimiter, Ident, Span};
 
 /// By `Ident::parse_any`.
 #[derive(Drop)]
@@ -103,6 +103,17 @@ impl Parse for InAny {
         let (_, _, content) = input.parse_any_delimiter()?;
         content.discard();
         Ok(InAny)
+    }
+}
+
+/// By `parse_within`.
+#[derive(Drop)]
+pub struct Within(Ident);
+
+impl Parse for Within {
+    fn parse(input: ParseStream<'_, '_>) -> Result<Self> {
+        let (_, name) = input.parse_within::<Ident>(Delimiter::Parenthesis)?;
+        Ok(Within(name))
     }
 }
 

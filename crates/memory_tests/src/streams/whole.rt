@@ -1,7 +1,7 @@
 //! Parsers of whole texts and streams of tokens.
 use crate::outcome::{Outcome, Stop, expect, shows, worst};
 use std::alloc::Global;
-use syn_parse::{Fault, ParseStream, Parser, Result};
+use syn_parse::{Fault, ParseStream, Parser, Result, parse_both, parse_str, parse2};
 use tok_core::{Ident, Span, lex};
 
 /// Each of their calls.
@@ -13,7 +13,14 @@ pub fn calls(alloc: Global) -> Outcome {
         "unexpected token",
         "parse_str",
     );
-    worst(&[text, unread, left, tokens(alloc)])
+    worst(&[
+        text,
+        unread,
+        left,
+        tokens(alloc),
+        of_type(alloc),
+        both(alloc),
+    ])
 }
 
 fn name(input: ParseStream<'_, '_>) -> Result<Ident> {
@@ -43,4 +50,35 @@ fn tokens(alloc: Global) -> Outcome {
         name.parse_scoped(alloc, Span::call_site(), tokens),
         "parse_scoped",
     )
+}
+
+// The same by the parser of a type.
+fn of_type(alloc: Global) -> Outcome {
+    let text = named(parse_str::<Ident>(alloc, "a"), "parse_str");
+    let unread = refused(
+        parse_str::<Ident>(alloc, ")"),
+        "unexpected closing delimiter",
+        "parse_str",
+    );
+    let left = refused(
+        parse_str::<Ident>(alloc, "a b"),
+        "unexpected token",
+        "parse_str",
+    );
+    worst(&[text, unread, left, whole(alloc)])
+}
+
+fn whole(alloc: Global) -> Outcome {
+    named(parse2::<Ident>(alloc, lex(alloc, 0, "a")?), "parse2")
+}
+
+// If one of the two finds no memory, the other one is parsed all the same.
+fn both(alloc: Global) -> Outcome {
+    let left = lex(alloc, 0, "a")?;
+    let right = lex(alloc, 0, "a b")?;
+    let (left, right) = parse_both::<Ident>(alloc, left, right);
+    let left = named(left, "parse_both");
+    let right = refused(right, "unexpected token", "parse_both");
+    expect(left.is_ok() || right.is_ok(), "parse_both")?;
+    worst(&[left, right])
 }

@@ -1,22 +1,24 @@
-// Groups, leftovers and lookahead.
-use super::{reads, refuses};
+//! Groups, leftovers and lookahead.
+use crate::outcomes::{READ, Sample, all_said};
+use std::alloc::Global;
 use syn_parse::{ParseStream, Parser, Result, parenthesized};
 use tok_buffer::Lifetime;
 use tok_core::{Delimiter, Ident};
 use tok_types::{End, token};
 
-fn one_inside(input: ParseStream<'_, '_>) -> Result<()> {
-    let _ = input.within(Delimiter::Parenthesis, |content| content.parse::<Ident>())?;
-    Ok(())
+fn one_inside(input: ParseStream<'_, '_>) -> Result<String> {
+    let (_, name) = input.within(Delimiter::Parenthesis, |content| content.parse::<Ident>())?;
+    Ok(format!(in input.allocator(); "{}", name.as_str())?)
 }
 
-fn own_words_inside(input: ParseStream<'_, '_>) -> Result<()> {
-    let _ = input.within(Delimiter::Parenthesis, |content| {
-        let _: Ident = content.parse()?;
-        let refused: Result<()> = Err(content.error("own words"));
-        refused
-    })?;
-    Ok(())
+fn own_words(input: ParseStream<'_, '_>) -> Result<()> {
+    let _: Ident = input.parse()?;
+    Err(input.error("own words"))
+}
+
+fn own_words_inside(input: ParseStream<'_, '_>) -> Result<String> {
+    let _ = input.within(Delimiter::Parenthesis, |content| own_words(content))?;
+    Ok(String::new(input.allocator()))
 }
 
 fn by_macro(input: ParseStream<'_, '_>) -> Result<Ident> {
@@ -27,27 +29,63 @@ fn by_macro(input: ParseStream<'_, '_>) -> Result<Ident> {
     name
 }
 
-#[test]
-fn contents(rt: HostRuntime) {
-    let alloc = rt.alloc();
-    let left = "3..4 unexpected token, expected `)`";
-    assert!(rt; reads(one_inside.parse_str(alloc, "(a)")));
-    assert!(rt; refuses(alloc, one_inside.parse_str(alloc, "(a b)"), left));
-    let other = one_inside.parse_str(alloc, "{a}");
-    assert!(rt; refuses(alloc, other, "0..1 expected parentheses"));
-    let own = own_words_inside.parse_str(alloc, "(a b)");
-    assert!(rt; refuses(alloc, own, "3..4 own words"));
-    assert!(rt; reads(by_macro.parse_str(alloc, "(a)")));
-    assert!(rt; refuses(alloc, by_macro.parse_str(alloc, "(a b)"), left));
+fn name_by_macro(input: ParseStream<'_, '_>) -> Result<String> {
+    let name = by_macro(input)?;
+    Ok(format!(in input.allocator(); "{}", name.as_str())?)
 }
 
-fn one_of_three(input: ParseStream<'_, '_>) -> Result<()> {
+// The parsers of this module.
+enum Read {
+    OneInside,
+    OwnWordsInside,
+    ByMacro,
+    OneOfThree,
+    CommaOrEndInside,
+    OnlyEnd,
+}
+
+impl Sample for Read {
+    fn run(&self, alloc: Global, text: &str) -> Result<String> {
+        match self {
+            Read::OneInside => one_inside.parse_str(alloc, text),
+            Read::OwnWordsInside => own_words_inside.parse_str(alloc, text),
+            Read::ByMacro => name_by_macro.parse_str(alloc, text),
+            Read::OneOfThree => one_of_three.parse_str(alloc, text),
+            Read::CommaOrEndInside => comma_or_end_inside.parse_str(alloc, text),
+            Read::OnlyEnd => only_end.parse_str(alloc, text),
+        }
+    }
+}
+
+#[test]
+fn contents(rt: HostRuntime) {
+    all_said(
+        &rt,
+        &Read::OneInside,
+        &[
+            ("(a)", "a"),
+            ("(a b)", "3..4 unexpected token, expected `)`"),
+            ("{a}", "0..1 expected parentheses"),
+        ],
+    );
+    all_said(&rt, &Read::OwnWordsInside, &[("(a b)", "3..4 own words")]);
+    all_said(
+        &rt,
+        &Read::ByMacro,
+        &[
+            ("(a)", "a"),
+            ("(a b)", "3..4 unexpected token, expected `)`"),
+        ],
+    );
+}
+
+fn one_of_three(input: ParseStream<'_, '_>) -> Result<String> {
     let mut lookahead = input.lookahead1();
     if lookahead.peek::<Ident>()?
         || lookahead.peek::<Lifetime>()?
         || lookahead.peek::<token::Const>()?
     {
-        return Ok(());
+        return Ok(String::new(input.allocator()));
     }
     Err(lookahead.error())
 }
@@ -60,28 +98,37 @@ fn comma_or_end(input: ParseStream<'_, '_>) -> Result<()> {
     Err(lookahead.error())
 }
 
-fn comma_or_end_inside(input: ParseStream<'_, '_>) -> Result<()> {
+fn comma_or_end_inside(input: ParseStream<'_, '_>) -> Result<String> {
     let _ = input.within(Delimiter::Bracket, |content| comma_or_end(content))?;
-    Ok(())
+    Ok(String::new(input.allocator()))
 }
 
-fn only_end(input: ParseStream<'_, '_>) -> Result<()> {
+fn only_end(input: ParseStream<'_, '_>) -> Result<String> {
     let mut lookahead = input.lookahead1();
     if lookahead.peek::<End>()? {
-        return Ok(());
+        return Ok(String::new(input.allocator()));
     }
     Err(lookahead.error())
 }
 
 #[test]
 fn lookaheads(rt: HostRuntime) {
-    let alloc = rt.alloc();
-    let three = one_of_three.parse_str(alloc, "!Sized");
-    let words = "0..1 expected one of: identifier, lifetime, `const`";
-    assert!(rt; refuses(alloc, three, words));
-    let inside = comma_or_end_inside.parse_str(alloc, "[x]");
-    assert!(rt; refuses(alloc, inside, "1..2 expected `,` or `]`"));
-    let end = only_end.parse_str(alloc, "x");
-    assert!(rt; refuses(alloc, end, "0..1 unexpected token"));
-    assert!(rt; reads(only_end.parse_str(alloc, "")));
+    all_said(
+        &rt,
+        &Read::OneOfThree,
+        &[(
+            "!Sized",
+            "0..1 expected one of: identifier, lifetime, `const`",
+        )],
+    );
+    all_said(
+        &rt,
+        &Read::CommaOrEndInside,
+        &[("[x]", "1..2 expected `,` or `]`")],
+    );
+    all_said(
+        &rt,
+        &Read::OnlyEnd,
+        &[("x", "0..1 unexpected token"), ("", READ)],
+    );
 }

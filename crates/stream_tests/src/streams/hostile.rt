@@ -1,34 +1,52 @@
-// Parsers that read nothing, go to the empty cursor, or swap their stream.
-use super::refuses;
-use std::alloc::Global;
+//! Parsers that read nothing, go to the empty cursor, or swap their stream.
+use crate::outcomes::{Sample, all_said, is_read, read};
+use std::alloc::{AllocGlobal, Global};
+use std::process::Abort;
 use syn_parse::{Parse, ParseStream, Parser, Result, tokens_to_parse_buffer};
 use tok_buffer::{Cursor, TokenBuffer};
 use tok_core::{Delimiter, Ident, Span, TokenStream, lex};
 use tok_types::token::Token;
 
 // A step to its own cursor, and whether it stayed.
-fn stays(input: ParseStream<'_, '_>) -> Result<bool> {
+fn stays(input: ParseStream<'_, '_>) -> Result<String> {
     let start = input.cursor();
     input.step(|from| Ok(((), from.cursor())))?;
     let stayed = input.cursor() == start;
     let _: TokenStream = input.parse()?;
-    Ok(stayed)
+    Ok(format!(in input.allocator(); "{stayed}")?)
 }
 
 // A step to the empty cursor, and whether the stream is empty there and has the span of its scope.
-fn ends(input: ParseStream<'_, '_>) -> Result<bool> {
+fn ends(input: ParseStream<'_, '_>) -> Result<String> {
     input.step(|_| Ok(((), Cursor::empty())))?;
-    Ok(input.is_empty() && input.span() == Span::call_site())
+    let has_ended = input.is_empty() && input.span() == Span::call_site();
+    Ok(format!(in input.allocator(); "{has_ended}")?)
+}
+
+// The parsers of this module.
+enum Read {
+    Never,
+    Stays,
+    Ends,
+}
+
+impl Sample for Read {
+    fn run(&self, alloc: Global, text: &str) -> Result<String> {
+        match self {
+            Read::Never => read::<Option<Never>>.parse_str(alloc, text),
+            Read::Stays => stays.parse_str(alloc, text),
+            Read::Ends => ends.parse_str(alloc, text),
+        }
+    }
 }
 
 #[test]
 fn odd_steps(rt: HostRuntime) {
-    let alloc = rt.alloc();
-    assert!(rt; matches!(stays.parse_str(alloc, "a b"), Ok(true)));
-    assert!(rt; matches!(ends.parse_str(alloc, "a b"), Ok(true)));
+    all_said(&rt, &Read::Stays, &[("a b", "true")]);
+    all_said(&rt, &Read::Ends, &[("a b", "true")]);
 }
 
-// Its peek is always true, and its parse always refuses.
+// Its peek is always true, and its parse always fails.
 #[derive(Drop)]
 struct Never;
 
@@ -49,10 +67,8 @@ impl Parse for Never {
 }
 
 #[test]
-fn an_option_refuses_what_its_peek_promises(rt: HostRuntime) {
-    let alloc = rt.alloc();
-    let outcome = Option::<Never>::parse.parse_str(alloc, "a");
-    assert!(rt; refuses(alloc, outcome, "0..1 never"));
+fn an_option_fails_after_its_peek(rt: HostRuntime) {
+    all_said(&rt, &Read::Never, &[("a", "0..1 never")]);
 }
 
 fn swapped<'a>(input: ParseStream<'_, 'a>, alloc: Global, other: &'a TokenBuffer) -> Result<Ident> {
@@ -66,27 +82,33 @@ fn swapped<'a>(input: ParseStream<'_, 'a>, alloc: Global, other: &'a TokenBuffer
     Ok(name)
 }
 
-// Whether the stream that was swapped in is closed: its second identifier is left over.
-fn closes_what_was_swapped_in(alloc: Global) -> bool {
-    let Ok(tokens) = lex(alloc, 0, "(a)") else {
-        return false;
-    };
-    let Ok(others) = lex(alloc, 0, "x y") else {
-        return false;
-    };
-    let (Ok(buffer), Ok(other)) = (
-        TokenBuffer::new2(alloc, 0, tokens),
-        TokenBuffer::new2(alloc, 9, others),
-    ) else {
+pub fn laid(alloc: Global, number: u64, text: &str) -> Option<TokenBuffer> {
+    let tokens = lex(alloc, 0, text).ok()?;
+    TokenBuffer::new2(alloc, number, tokens).ok()
+}
+
+// Whether a name is read of a second text that is swapped into a group of the first, and this error is left.
+fn closes_a_swap(alloc: Global, first: &str, second: &str, wanted: &str) -> bool {
+    let (Some(buffer), Some(other)) = (laid(alloc, 0, first), laid(alloc, 9, second)) else {
         return false;
     };
     let mut input = tokens_to_parse_buffer(alloc, &buffer, Span::call_site());
     let name = swapped(&mut input, alloc, &other);
     let outcome = input.finish();
-    name.is_ok() && refuses(alloc, outcome, "2..3 unexpected token")
+    name.is_ok() && is_read(alloc, outcome, wanted)
 }
 
+fn all_closed(rt: &(impl Abort + AllocGlobal), rows: &[(&str, &str, &str)]) {
+    for (first, second, wanted) in rows {
+        assert!(rt;
+            closes_a_swap(rt.alloc(), first, second, wanted),
+            "at {second}"
+        );
+    }
+}
+
+// The second identifier of the stream that was swapped in is left over.
 #[test]
 fn a_swapped_content_is_closed(rt: HostRuntime) {
-    assert!(rt; closes_what_was_swapped_in(rt.alloc()));
+    all_closed(&rt, &[("(a)", "x y", "2..3 unexpected token")]);
 }

@@ -1,59 +1,102 @@
-// The list parsers, with parsers that read nothing, go back or put another stream in the place of theirs.
-use super::refuses;
-use crate::unknown;
-use std::alloc::Global;
+//! The list parsers, with parsers that read nothing, go back or put another stream in the place of theirs.
+use super::hostile::laid;
+use crate::outcomes::{Sample, all_said, is_read};
+use std::alloc::{AllocGlobal, Global};
+use std::process::Abort;
 use syn_parse::{Nothing, Parse, ParseStream, Parser, Paused, Result, tokens_to_parse_buffer};
 use syn_punctuated::{ParseTerminated, Punctuated};
-use tok_buffer::{Cursor, TokenBuffer};
-use tok_core::{Ident, Span, TokenStream, lex};
+use tok_buffer::Cursor;
+use tok_core::{Ident, Span, TokenStream};
 use tok_types::token::{self, Token};
 
 type Names = Punctuated<Ident, token::Comma>;
 
 type Blanks = Punctuated<Nothing, token::Comma>;
 
-fn terminated(input: ParseStream<'_, '_>) -> Result<Names> {
-    Punctuated::parse_terminated(input)
+// How many names a list has, and whether it ends in a separator.
+fn counted(alloc: Global, list: &Names) -> Result<String> {
+    let count = list.len();
+    let is_trailing = list.trailing_punct();
+    Ok(format!(in alloc; "{count} {is_trailing}")?)
 }
 
-fn separated(input: ParseStream<'_, '_>) -> Result<Names> {
-    Punctuated::parse_separated_nonempty(input)
+fn terminated(input: ParseStream<'_, '_>) -> Result<String> {
+    let list: Names = Punctuated::parse_terminated(input)?;
+    counted(input.allocator(), &list)
 }
 
-fn by_stream(input: ParseStream<'_, '_>) -> Result<Names> {
-    input.parse_terminated::<Ident, token::Comma, _>(|stream| stream.parse())
+fn separated(input: ParseStream<'_, '_>) -> Result<String> {
+    let list: Names = Punctuated::parse_separated_nonempty(input)?;
+    counted(input.allocator(), &list)
 }
 
-// Whether a list has these many values, and ends in a separator or doesn't.
-fn has(outcome: Result<Names>, values: usize, trailing: bool) -> bool {
-    match outcome {
-        Ok(list) => list.len() == values && list.trailing_punct() == trailing,
-        Err(_) => false,
+fn by_stream(input: ParseStream<'_, '_>) -> Result<String> {
+    let list = input.parse_terminated::<Ident, token::Comma, _>(|stream| stream.parse())?;
+    counted(input.allocator(), &list)
+}
+
+// The parsers of this module.
+enum Read {
+    Terminated,
+    Separated,
+    ByStream,
+    NothingByNothing,
+    OneRest,
+    Rests,
+    FromStart,
+}
+
+impl Sample for Read {
+    fn run(&self, alloc: Global, text: &str) -> Result<String> {
+        match self {
+            Read::Terminated => terminated.parse_str(alloc, text),
+            Read::Separated => separated.parse_str(alloc, text),
+            Read::ByStream => by_stream.parse_str(alloc, text),
+            Read::NothingByNothing => nothing_by_nothing.parse_str(alloc, text),
+            Read::OneRest => one_rest.parse_str(alloc, text),
+            Read::Rests => rests.parse_str(alloc, text),
+            Read::FromStart => from_start.parse_str(alloc, text),
+        }
     }
 }
 
 #[test]
 fn lists_of_names(rt: HostRuntime) {
-    let alloc = rt.alloc();
-    assert!(rt; has(unknown(terminated.parse_str(alloc, "")), 0, false));
-    assert!(rt; has(unknown(terminated.parse_str(alloc, "a, b,")), 2, true));
-    assert!(rt; has(unknown(by_stream.parse_str(alloc, "a, b")), 2, false));
-    assert!(rt; has(unknown(separated.parse_str(alloc, "a, b")), 2, false));
-    let next = "5..6 expected `,`";
-    assert!(rt; refuses(alloc, unknown(terminated.parse_str(alloc, "a, b c")), next));
-    let left = "5..6 unexpected token";
-    assert!(rt; refuses(alloc, unknown(separated.parse_str(alloc, "a, b c")), left));
-    let end = "call unexpected end of input, expected identifier";
-    assert!(rt; refuses(alloc, unknown(separated.parse_str(alloc, "a,")), end));
+    all_said(
+        &rt,
+        &Read::Terminated,
+        &[
+            ("", "0 false"),
+            ("a, b,", "2 true"),
+            ("a, b c", "5..6 expected `,`"),
+        ],
+    );
+    all_said(&rt, &Read::ByStream, &[("a, b", "2 false")]);
+    all_said(
+        &rt,
+        &Read::Separated,
+        &[
+            ("a, b", "2 false"),
+            ("a, b c", "5..6 unexpected token"),
+            ("a,", "call unexpected end of input, expected identifier"),
+        ],
+    );
 }
 
-fn nothing_by_nothing(input: ParseStream<'_, '_>) -> Result<Punctuated<Nothing, Nothing>> {
-    Punctuated::parse_terminated(input)
+fn nothing_by_nothing(input: ParseStream<'_, '_>) -> Result<String> {
+    let _: Punctuated<Nothing, Nothing> = Punctuated::parse_terminated(input)?;
+    Ok(String::new(input.allocator()))
 }
 
-// All that is left, and then nothing.
-fn one_rest(input: ParseStream<'_, '_>) -> Result<Punctuated<TokenStream, Nothing>> {
-    Punctuated::parse_terminated(input)
+// All that is left, and then nothing: the number of values, and of the first one's trees.
+fn one_rest(input: ParseStream<'_, '_>) -> Result<String> {
+    let list: Punctuated<TokenStream, Nothing> = Punctuated::parse_terminated(input)?;
+    let count = list.len();
+    let trees = match list.first() {
+        Some(value) => value.trees().len(),
+        None => 0,
+    };
+    Ok(format!(in input.allocator(); "{count} {trees}")?)
 }
 
 // A separator that is always next, and reads nothing.
@@ -76,29 +119,24 @@ impl Parse for Always {
     }
 }
 
-fn rests(input: ParseStream<'_, '_>) -> Result<Punctuated<TokenStream, Always>> {
-    Punctuated::parse_separated_nonempty(input)
-}
-
-// Whether the only value has two trees.
-fn has_two_trees(outcome: Result<Punctuated<TokenStream, Nothing>>) -> bool {
-    match outcome {
-        Ok(list) => match list.first() {
-            Some(value) => list.len() == 1 && value.trees().len() == 2,
-            None => false,
-        },
-        Err(_) => false,
-    }
+fn rests(input: ParseStream<'_, '_>) -> Result<String> {
+    let _: Punctuated<TokenStream, Always> = Punctuated::parse_separated_nonempty(input)?;
+    Ok(String::new(input.allocator()))
 }
 
 #[test]
 fn parsers_that_read_nothing(rt: HostRuntime) {
-    let alloc = rt.alloc();
-    let stuck = unknown(nothing_by_nothing.parse_str(alloc, "asdf"));
-    assert!(rt; refuses(alloc, stuck, "0..4 parser made no progress"));
-    assert!(rt; has_two_trees(unknown(one_rest.parse_str(alloc, "a b"))));
-    let empty = unknown(rests.parse_str(alloc, "a b"));
-    assert!(rt; refuses(alloc, empty, "call parser made no progress"));
+    all_said(
+        &rt,
+        &Read::NothingByNothing,
+        &[("asdf", "0..4 parser made no progress")],
+    );
+    all_said(&rt, &Read::OneRest, &[("a b", "1 2")]);
+    all_said(
+        &rt,
+        &Read::Rests,
+        &[("a b", "call parser made no progress")],
+    );
 }
 
 // Moves to where a stream at rest is, if that is in the same scope.
@@ -112,19 +150,22 @@ fn go_to<'a>(stream: ParseStream<'_, 'a>, place: Paused<'a>) {
 }
 
 // Nothing between commas, each time from the start.
-fn from_start(input: ParseStream<'_, '_>) -> Result<Blanks> {
+fn from_start(input: ParseStream<'_, '_>) -> Result<String> {
     let start = input.fork().pause();
-    Punctuated::parse_terminated_with(input, move |stream| {
+    let _: Blanks = Punctuated::parse_terminated_with(input, move |stream| {
         go_to(stream, start);
         Ok(Nothing)
-    })
+    })?;
+    Ok(String::new(input.allocator()))
 }
 
 #[test]
 fn a_parser_that_goes_back(rt: HostRuntime) {
-    let alloc = rt.alloc();
-    let stuck = unknown(from_start.parse_str(alloc, ", , x"));
-    assert!(rt; refuses(alloc, stuck, "2..3 parser made no progress"));
+    all_said(
+        &rt,
+        &Read::FromStart,
+        &[(", , x", "2..3 parser made no progress")],
+    );
 }
 
 // Puts a copy of the other stream in the place of this one.
@@ -142,13 +183,8 @@ fn of_another<'a>(input: ParseStream<'_, 'a>, other: Paused<'a>) -> Result<Blank
     })
 }
 
-fn laid(alloc: Global, number: u64, text: &str) -> Option<TokenBuffer> {
-    let tokens = lex(alloc, 0, text).ok()?;
-    TokenBuffer::new2(alloc, number, tokens).ok()
-}
-
-// Whether a list over `a, b` is refused at the second token of a stream that is swapped in, and leaves that stream there.
-fn refuses_a_swap(alloc: Global, number: u64, text: &str) -> bool {
+// Whether a list over `a, b` fails at the second token of a stream that is swapped in, and leaves that stream there.
+fn fails_by_a_swap(alloc: Global, number: u64, text: &str) -> bool {
     let (Some(first), Some(second)) = (laid(alloc, 0, "a, b"), laid(alloc, number, text)) else {
         return false;
     };
@@ -157,12 +193,16 @@ fn refuses_a_swap(alloc: Global, number: u64, text: &str) -> bool {
     let outcome = of_another(&mut input, other);
     let at = input.span();
     input.discard();
-    at == Span::source(0, 2, 3) && refuses(alloc, outcome, "2..3 parser made no progress")
+    at == Span::source(0, 2, 3) && is_read(alloc, outcome, "2..3 parser made no progress")
+}
+
+fn all_swaps(rt: &(impl Abort + AllocGlobal), rows: &[(u64, &str)]) {
+    for (number, text) in rows {
+        assert!(rt; fails_by_a_swap(rt.alloc(), *number, text), "at {text}");
+    }
 }
 
 #[test]
 fn parsers_that_swap(rt: HostRuntime) {
-    let alloc = rt.alloc();
-    assert!(rt; refuses_a_swap(alloc, 9, ", y"));
-    assert!(rt; refuses_a_swap(alloc, 0, ", y , z"));
+    all_swaps(&rt, &[(9, ", y"), (0, ", y , z")]);
 }

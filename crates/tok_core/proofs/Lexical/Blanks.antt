@@ -28,7 +28,7 @@ use Rattle.tok_lexical.specs.Widths.{width}
 use Rattle.tok_lexical.specs.Pieces.{IsLongestPrefix}
 use Rattle.tok_lexical.specs.Rules.{Spells}
 use Rattle.tok_lexical.specs.declared.rule.Rule.{Rule}
-use Rattle.tok_lexical.specs.declared.rule.Rule.TheVariants.{ByteOrderMark, Whitespace, LineComment, BlockComment, OpenComment, Opening, Closing, QuotedString, BadString, ByteChar, BadByteChar, StringPrefix, EscapedChar, BadEscapedChar, PlainChar, Lifetime, Apostrophe, MarkedApostrophe, Based, BadBased, Decimal, RawIdentifier, Identifier, Punct, MarkedPunct, Other, SourceString, RawString, BadPrefixed, SourceIdentifier, SourceLifetime, Float, PointedDecimal, SourceDecimal, SourceLineComment, SourceBlockComment}
+use Rattle.tok_lexical.specs.declared.rule.Rule.TheVariants.{ByteOrderMark, Whitespace, LineComment, BlockComment, OpenComment, Opening, Closing, QuotedString, BadString, ByteChar, BadByteChar, StringPrefix, EscapedChar, BadEscapedChar, PlainChar, Lifetime, Apostrophe, MarkedApostrophe, Based, BadBased, Decimal, RawIdentifier, Identifier, Punct, MarkedPunct, Other, SourceString, RawString, BadPrefixed, SourceIdentifier, SourceLifetime, SourcePunct, Float, PointedDecimal, SourceDecimal, SourceLineComment, SourceBlockComment}
 use Rattle.tok_lexical.proofs.Lexical.Longest.{list_all-push}
 
 -- white space and comments, doc comments aside
@@ -124,12 +124,13 @@ blank RawIdentifier number at text taken after t b = absurd (false≢true b)
 blank Identifier number at text taken after t b = absurd (false≢true b)
 blank Punct number at text taken after t b = absurd (false≢true b)
 blank MarkedPunct number at text taken after t b = absurd (false≢true b)
+blank (SourcePunct edition) number at text taken after t b = absurd (false≢true b)
 blank Other number at text taken after t b = absurd (false≢true b)
 blank (SourceString contents) number at text taken after t b = absurd (false≢true b)
 blank (RawString contents) number at text taken after t b = absurd (false≢true b)
-blank BadPrefixed number at text taken after t b = absurd (false≢true b)
-blank SourceIdentifier number at text taken after t b = absurd (false≢true b)
-blank SourceLifetime number at text taken after t b = absurd (false≢true b)
+blank (BadPrefixed contents) number at text taken after t b = absurd (false≢true b)
+blank (SourceIdentifier edition) number at text taken after t b = absurd (false≢true b)
+blank (SourceLifetime edition) number at text taken after t b = absurd (false≢true b)
 blank Float number at text taken after t b = absurd (false≢true b)
 blank PointedDecimal number at text taken after t b = absurd (false≢true b)
 blank SourceDecimal number at text taken after t b = absurd (false≢true b)
@@ -187,7 +188,7 @@ decides_space rules c more h = go rules
     go : (every : Rules) → IsFirstFit (c ∷ more) (rules_of every) Whitespace (c ∷ []) more
     go Plain = later no_mark (here (takes_one is_whitespace (c ∷ more) more c refl h))
     go Marked = later no_mark (here (takes_one is_whitespace (c ∷ more) more c refl h))
-    go Source = later no_mark (here (takes_one is_whitespace (c ∷ more) more c refl h))
+    go (Source edition) = later no_mark (here (takes_one is_whitespace (c ∷ more) more c refl h))
 
 all_first : (p : ℕ → Bool) (c : ℕ) (cs : List ℕ) → list_all p (c ∷ cs) ≡ true → (p c ≡ true) × (list_all p cs ≡ true)
 all_first p c cs h = go (p c) refl h
@@ -217,12 +218,12 @@ line_front every text after body rest e f skips =
 calm_line : (text : List ℕ) → not (is_line_doc text) ≡ true → (every : Rules) → is_blank (line_rule every) text ≡ true
 calm_line text h Plain = h
 calm_line text h Marked = h
-calm_line text h Source = h
+calm_line text h (Source edition) = h
 
 calm_block : (text : List ℕ) → not (is_block_doc text) ≡ true → (every : Rules) → is_blank (block_rule every) text ≡ true
 calm_block text h Plain = h
 calm_block text h Marked = h
-calm_block text h Source = h
+calm_block text h (Source edition) = h
 
 pub blank_line : (text after body rest : List ℕ) → IsUtf8 text → IsUtf8 rest → chars text ≡ 47 ∷ chars after → chars after ≡ 47 ∷ chars body → opens_line_doc (chars body) ≡ false → (front : List ℕ) × Skips is_not_line_feed (chars body) front (chars rest) → IsBlank (chars text) (chars rest) (length text - length rest)
 blank_line text after body rest u v e f calm skips =

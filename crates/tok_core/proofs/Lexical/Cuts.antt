@@ -24,6 +24,7 @@ use Rattle.tok_lexical.specs.declared.reason.Reason.TheVariants.{UnclosedGroup}
 use Rattle.tok_lexical.specs.declared.delimiter.Delimiter.{Delimiter}
 use Rattle.tok_lexical.specs.declared.rule.Rules.{Rules}
 use Rattle.tok_lexical.specs.declared.rule.Rules.TheVariants.{Plain, Marked, Source}
+use Rattle.tok_lexical.specs.declared.edition.Edition.TheVariants.{Edition2015, Edition2018, Edition2021, Edition2024}
 use Rattle.tok_lexical.specs.declared.rule.Rule.{Rule}
 use Rattle.tok_lexical.specs.declared.rule.Rule.TheVariants.{Whitespace}
 use Rattle.tok_core.proofs.Lexical.Blanks.{recut}
@@ -121,7 +122,10 @@ module _ (begin : ℕ) (rules : List Rule) (number : ℕ) (text rest : List ℕ)
 pub ends_in_other : (rules : Rules) → EndsInOther (rules_of rules)
 ends_in_other Plain = refl
 ends_in_other Marked = refl
-ends_in_other Source = refl
+ends_in_other (Source Edition2015) = refl
+ends_in_other (Source Edition2018) = refl
+ends_in_other (Source Edition2021) = refl
+ends_in_other (Source Edition2024) = refl
 
 -- the last rule takes any character
 pub all_tried : (rules : List Rule) (text : List ℕ) → EndsInOther rules → NoneBefore rules text (length rules) → text ≡ []

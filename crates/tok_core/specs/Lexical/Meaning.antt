@@ -22,7 +22,7 @@ use Rattle.tok_lexical.specs.declared.rule.Rule.TheVariants.{PlainChar, Lifetime
 use Rattle.tok_lexical.specs.declared.rule.Rule.TheVariants.{MarkedApostrophe, Based}
 use Rattle.tok_lexical.specs.declared.rule.Rule.TheVariants.{Decimal, RawIdentifier, Identifier}
 use Rattle.tok_lexical.specs.declared.rule.Rule.TheVariants.{Punct, MarkedPunct}
-use Rattle.tok_lexical.specs.declared.rule.Rule.TheVariants.{SourceString, RawString, SourceIdentifier}
+use Rattle.tok_lexical.specs.declared.rule.Rule.TheVariants.{SourceString, RawString, SourceIdentifier, SourcePunct}
 use Rattle.tok_lexical.specs.declared.rule.Rule.TheVariants.{SourceLifetime, Float, PointedDecimal, SourceDecimal}
 use Rattle.tok_lexical.specs.declared.rule.Rule.TheVariants.{SourceLineComment, SourceBlockComment}
 
@@ -89,6 +89,8 @@ items number Identifier at piece after = ident_item number at (at + bytes piece)
 items number Punct at piece after = map (λ c. punct_item number at c (makes_joint after)) piece
 items number MarkedPunct at piece after =
     map (λ c. punct_item number at c (makes_joint (past_marks after))) piece
+items number (SourcePunct edition) at piece after =
+    map (λ c. punct_item number at c (makes_joint after)) piece
 items number (SourceString contents) at piece after =
     literal_item number at (at + bytes piece) piece ∷ []
 items number (RawString contents) at piece after =
@@ -96,9 +98,9 @@ items number (RawString contents) at piece after =
 items number Float at piece after = literal_item number at (at + bytes piece) piece ∷ []
 items number SourceDecimal at piece after = literal_item number at (at + bytes piece) piece ∷ []
 items number PointedDecimal at piece after = pointed_items number at piece after
-items number SourceIdentifier at piece after =
+items number (SourceIdentifier edition) at piece after =
     ident_item number at (at + bytes piece) piece ∷ []
-items number SourceLifetime at piece after =
+items number (SourceLifetime edition) at piece after =
     punct_item number at 39 true ∷ ident_item number (at + 1) (at + bytes piece)
     (after_first piece) ∷ []
 items number SourceLineComment at piece after =

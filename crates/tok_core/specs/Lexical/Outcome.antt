@@ -6,6 +6,7 @@ use Rattle.tok_core.specs.Lexical.Reading.{ReadsFrom, IsRefusedFrom}
 use Rattle.tok_lexical.specs.Rules.{source_rules}
 use Rattle.tok_lexical.specs.Sources.{BeginsAt}
 use Rattle.tok_lexical.specs.Widths.{bytes}
+use Rattle.tok_lexical.specs.declared.edition.Edition.{Edition}
 use Rattle.tok_lexical.specs.declared.rule.Rule.{Rule}
 use Rattle.tok_core.specs.declared.lexer.error.LexError.{LexError}
 use Rattle.tok_core.specs.declared.lexer.error.LexFault.{LexFault}
@@ -29,8 +30,8 @@ pub record FollowsFrom (begin : ℕ) (rules : List Rule) (number : ℕ) (text : 
 abbrev pub FollowsGrammar : List Rule → ℕ → List ℕ → Result Forest LexFault → Type 0
 FollowsGrammar rules number text result = FollowsFrom 0 rules number text result
 
--- what follows the byte order mark and the shebang line of a source
-abbrev pub FollowsSource : ℕ → List ℕ → Result Forest LexFault → Type 0
-FollowsSource number text result =
+-- what follows the byte order mark and the shebang line of a source of an edition
+abbrev pub FollowsSource : Edition → ℕ → List ℕ → Result Forest LexFault → Type 0
+FollowsSource edition number text result =
     (front : List ℕ) × (rest : List ℕ) × (text ≡ front ++ rest) × BeginsAt text rest
-    × FollowsFrom (bytes front) source_rules number rest result
+    × FollowsFrom (bytes front) (source_rules edition) number rest result

@@ -1,42 +1,49 @@
 // What the lexer builds: trees, or anything that takes leaves, openings and closings in their order.
-ghost use Rattle.std.specs.Prelude.{◌≡◌, [], OnOk, ◌<◌, length};
+ghost use Rattle.std.specs.Prelude.{◌≡◌, [], OnOk, OnErr, ◌<◌, length};
 ghost use Rattle.tok_core.specs.Building.{Levels, nothing, add_leaf, opened, Closes};
 ghost use Rattle.tok_core.specs.Forest.{no_trees};
 ghost use Rattle.tok_leaves.specs.Leaves.{ident_of, punct_of, literal_of};
 
-use crate::group::Group;
 use crate::stream::{TokenStream, TokenTree};
 use std::alloc::{AllocError, Global};
 use std::mem;
 use tok_leaves::{Ident, Literal, Punct, Span};
 use tok_lexical::Delimiter;
 
-/// What the lexer makes of a text: it is told each leaf, each opening and each closing in their order. The lexer knows the
-/// delimiters and the places of the groups that are open, so a builder has only to keep the trees.
+/// A builder of what the lexer reads. The lexer tells it each leaf, each opening and each closing in order. The lexer also keeps
+/// the delimiters and the positions of the open groups, so a builder has only to keep the trees.
+///
+/// If an allocation fails, the levels are as before, and the leaf is dropped.
 pub trait Build {
     // The trees so far: those before each group that is open, and those of the innermost level.
     ghost levels: { Self → Levels };
 
-    /// One more identifier at the innermost level.
+    /// Appends an identifier to the innermost level.
     fn ident(&mut self, ident: Ident) -> Result<(), AllocError>
-        ensures { OnOk result (levels self.new ≡ add_leaf (ident_of ident) (levels self.old)) };
+        ensures ok { OnOk result (levels self.new ≡ add_leaf (ident_of ident) (levels self.old)) }
+        ensures err { OnErr result (levels self.new ≡ levels self.old) };
 
-    /// One more punct at the innermost level.
+    /// Appends a punct to the innermost level.
     fn punct(&mut self, punct: Punct) -> Result<(), AllocError>
-        ensures { OnOk result (levels self.new ≡ add_leaf (punct_of punct) (levels self.old)) };
+        ensures ok { OnOk result (levels self.new ≡ add_leaf (punct_of punct) (levels self.old)) }
+        ensures err { OnErr result (levels self.new ≡ levels self.old) };
 
-    /// One more literal at the innermost level.
+    /// Appends a literal to the innermost level.
     fn literal(&mut self, literal: Literal) -> Result<(), AllocError>
-        ensures { OnOk result (levels self.new ≡ add_leaf (literal_of literal) (levels self.old)) };
+        ensures ok { OnOk result
+            (levels self.new ≡ add_leaf (literal_of literal) (levels self.old)) }
+        ensures err { OnErr result (levels self.new ≡ levels self.old) };
 
-    /// A new innermost level.
+    /// Opens a level inside the innermost one.
     fn open(&mut self) -> Result<(), AllocError>
-        ensures { OnOk result (levels self.new ≡ opened (levels self.old)) };
+        ensures ok { OnOk result (levels self.new ≡ opened (levels self.old)) }
+        ensures err { OnErr result (levels self.new ≡ levels self.old) };
 
-    /// The innermost level becomes a group at the end of the one before.
+    /// Closes the innermost level, which becomes a group at the end of the level around it.
     fn close(&mut self, delimiter: Delimiter, span: Span) -> Result<(), AllocError>
         requires { 0 < length (levels self.old).outer }
-        ensures { OnOk result (Closes delimiter span (levels self.old) (levels self.new)) };
+        ensures ok { OnOk result (Closes delimiter span (levels self.old) (levels self.new)) }
+        ensures err { OnErr result (levels self.new ≡ levels self.old) };
 }
 
 /// Builds streams: the trees of the innermost level, and those before each group that is open, outermost first.
@@ -81,8 +88,13 @@ impl Build for TreeBuilder {
     #[inline(always)]
     fn open(&mut self) -> Result<(), AllocError> {
         let before = mem::replace(&mut self.trees, TokenStream::new(self.alloc));
-        self.before.push(before)?;
-        Ok(())
+        match self.before.push(before) {
+            Ok(()) => Ok(()),
+            Err(failed) => {
+                self.trees = failed.value;
+                Err(AllocError)
+            }
+        }
     }
 
     #[inline(always)]
@@ -91,7 +103,13 @@ impl Build for TreeBuilder {
             unreachable!()
         };
         let inside = mem::replace(&mut self.trees, before);
-        self.trees
-            .append(TokenTree::Group(Group::new(delimiter, inside, span)))
+        match self.trees.append_group(delimiter, inside, span) {
+            Ok(()) => Ok(()),
+            Err(inside) => {
+                let before = mem::replace(&mut self.trees, inside);
+                self.before.push_reserved(before);
+                Err(AllocError)
+            }
+        }
     }
 }

@@ -8,7 +8,7 @@ use std::fmt::{Formatter, Write};
 use tok_leaves::Span;
 use tok_lexical::Reason;
 
-/// Why a text isn't read, and where: the number of the rule, from L1 to L12, and the byte.
+/// Why a text isn't read, and where: the number of the rule, from L1 to L15, and the byte.
 #[derive(Clone, Copy, PartialEq, Eq, Debug)]
 pub struct LexError {
     refusal: Reason,
@@ -27,7 +27,7 @@ impl LexError {
         }
     }
 
-    /// The number of the rule: 1 for L1, to 12 for L12.
+    /// The number of the rule: 1 for L1, to 15 for L15.
     pub fn number(&self) -> u8
         ensures { result ≡ error_number self.now }
     {

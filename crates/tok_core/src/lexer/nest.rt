@@ -235,11 +235,15 @@ impl<B: Build + Drop> Nest<B> {
                 }
             }
             Rule::PointedDecimal => self.pointed(at, end, piece, after)?,
-            Rule::Lifetime | Rule::SourceLifetime => self.lifetime(at, end, past_first(piece))?,
+            Rule::Lifetime | Rule::SourceLifetime(_) => {
+                self.lifetime(at, end, past_first(piece))?;
+            }
             Rule::MarkedApostrophe => self.punct(at, '\'', makes_joint_apostrophe(after))?,
-            Rule::Punct => self.punct(at, first_of(piece), makes_joint(after))?,
+            Rule::Punct | Rule::SourcePunct(_) => {
+                self.punct(at, first_of(piece), makes_joint(after))?;
+            }
             Rule::MarkedPunct => self.punct(at, first_of(piece), makes_joint(past_marks(after)))?,
-            Rule::RawIdentifier | Rule::Identifier | Rule::SourceIdentifier => {
+            Rule::RawIdentifier | Rule::Identifier | Rule::SourceIdentifier(_) => {
                 self.ident(at, end, piece)?;
             }
             Rule::QuotedString

@@ -10,8 +10,10 @@ use Rattle.tok_lexical.specs.Starts.{may_begin, start_of, only, is_mark, is_pref
 use Rattle.tok_lexical.specs.Fits.{IsFirstFit, here, later}
 use Rattle.tok_lexical.specs.Rules.{Spells, plain_rules, marked_rules, source_rules}
 use Rattle.tok_lexical.specs.declared.rule.Rule.{Rule}
-use Rattle.tok_lexical.specs.declared.rule.Rule.TheVariants.{ByteOrderMark, Whitespace, LineComment, BlockComment, OpenComment, Opening, Closing, QuotedString, BadString, ByteChar, BadByteChar, StringPrefix, EscapedChar, BadEscapedChar, PlainChar, Lifetime, Apostrophe, MarkedApostrophe, Based, BadBased, Decimal, RawIdentifier, Identifier, Punct, MarkedPunct, Other, SourceString, RawString, BadPrefixed, SourceIdentifier, SourceLifetime, Float, PointedDecimal, SourceDecimal, SourceLineComment, SourceBlockComment}
+use Rattle.tok_lexical.specs.declared.rule.Rule.TheVariants.{ByteOrderMark, Whitespace, LineComment, BlockComment, OpenComment, Opening, Closing, QuotedString, BadString, ByteChar, BadByteChar, StringPrefix, EscapedChar, BadEscapedChar, PlainChar, Lifetime, Apostrophe, MarkedApostrophe, Based, BadBased, Decimal, RawIdentifier, Identifier, Punct, MarkedPunct, Other, SourceString, RawString, BadPrefixed, SourceIdentifier, SourceLifetime, SourcePunct, Float, PointedDecimal, SourceDecimal, SourceLineComment, SourceBlockComment}
 use Rattle.tok_lexical.specs.declared.contents.Contents.TheVariants as contents
+use Rattle.tok_lexical.specs.declared.edition.Edition.{Edition}
+use Rattle.tok_lexical.specs.declared.edition.Edition.TheVariants.{Edition2015, Edition2018, Edition2021, Edition2024}
 use Rattle.tok_lexical.specs.Characters.{is_whitespace, is_punct, opening_mark, closing_mark}
 use Rattle.tok_lexical.specs.Words.{is_identifier_start, IsIdentifier}
 use Rattle.tok_lexical.specs.Numbers.{IsRun, starts_digit}
@@ -142,7 +144,7 @@ begins EscapedChar c text (piece, after, cut, (inner, suffix, e, h, k)) = at_hea
 begins BadEscapedChar c text (piece, after, cut, e) = at_head (may_begin BadEscapedChar) 39 c text piece after _ cut e refl
 begins PlainChar c text (piece, after, cut, (inner, suffix, e, h, k)) = at_head (may_begin PlainChar) 39 c text piece after _ cut e refl
 begins Lifetime c text (piece, after, cut, (more, e, s)) = at_head (may_begin Lifetime) 39 c text piece after _ cut e refl
-begins SourceLifetime c text (piece, after, cut, (more, e, s)) = at_head (may_begin SourceLifetime) 39 c text piece after _ cut e refl
+begins (SourceLifetime edition) c text (piece, after, cut, (more, e, s)) = at_head (may_begin (SourceLifetime edition)) 39 c text piece after _ cut e refl
 begins Apostrophe c text (piece, after, cut, (d, pass, e)) = at_head (may_begin Apostrophe) 39 c text piece after [] cut (e ∙ ap (λ w. w ∷ []) (eqb-true d 39 pass)) refl
 begins MarkedApostrophe c text (piece, after, cut, (d, pass, e)) = at_head (may_begin MarkedApostrophe) 39 c text piece after [] cut (e ∙ ap (λ w. w ∷ []) (eqb-true d 39 pass)) refl
 begins RawIdentifier c text (piece, after, cut, (more, e, s)) = at_head (may_begin RawIdentifier) 114 c text piece after _ cut e refl
@@ -165,18 +167,19 @@ begins (SourceString contents.C) c text (piece, after, cut, (more, e, s)) = at_h
 begins (RawString contents.Text) c text (piece, after, cut, (more, e, s)) = at_head (may_begin (RawString contents.Text)) 114 c text piece after _ cut e refl
 begins (RawString contents.Bytes) c text (piece, after, cut, (more, e, s)) = at_head (may_begin (RawString contents.Bytes)) 98 c text piece after _ cut e refl
 begins (RawString contents.C) c text (piece, after, cut, (more, e, s)) = at_head (may_begin (RawString contents.C)) 99 c text piece after _ cut e refl
-begins BadPrefixed c text (piece, after, cut, inl (more, e, s)) = at_head (may_begin BadPrefixed) 114 c text piece after _ cut e refl
-begins BadPrefixed c text (piece, after, cut, inr (inl (more, e, s))) = at_head (may_begin BadPrefixed) 98 c text piece after _ cut e refl
-begins BadPrefixed c text (piece, after, cut, inr (inr (more, e, s))) = at_head (may_begin BadPrefixed) 99 c text piece after _ cut e refl
+begins (BadPrefixed contents.Text) c text (piece, after, cut, (more, e, s)) = at_head (may_begin (BadPrefixed contents.Text)) 114 c text piece after _ cut e refl
+begins (BadPrefixed contents.Bytes) c text (piece, after, cut, (more, e, s)) = at_head (may_begin (BadPrefixed contents.Bytes)) 98 c text piece after _ cut e refl
+begins (BadPrefixed contents.C) c text (piece, after, cut, (more, e, s)) = at_head (may_begin (BadPrefixed contents.C)) 99 c text piece after _ cut e refl
 begins Whitespace c text (piece, after, cut, (d, pass, e)) = either (may_begin Whitespace) (is_mark c) start.Rest (from_whitespace c) refl (taken (may_begin Whitespace) (is_whitespace c) start.Whitespace (from_zero c) (ap is_whitespace (head_is d c text piece after [] cut e) ∙ pass) refl)
 begins Decimal c text fits = either (may_begin Decimal) (is_mark c) start.Rest (from_whitespace c) refl (either (may_begin Decimal) (is_whitespace c) start.Whitespace (from_zero c) refl (either (may_begin Decimal) (c == 48) start.Zero (from_digit c) refl (taken (may_begin Decimal) (is_digit c 10) start.Digit (from_prefix c) (decimal_head _ c text fits) refl)))
 begins Float c text fits = digit_begins (may_begin Float) c refl refl (decimal_head _ c text fits)
 begins PointedDecimal c text fits = digit_begins (may_begin PointedDecimal) c refl refl (decimal_head _ c text fits)
 begins SourceDecimal c text fits = digit_begins (may_begin SourceDecimal) c refl refl (decimal_head _ c text fits)
 begins Identifier c text fits = either (may_begin Identifier) (is_mark c) start.Rest (from_whitespace c) refl (either (may_begin Identifier) (is_whitespace c) start.Whitespace (from_zero c) refl (either (may_begin Identifier) (c == 48) start.Zero (from_digit c) refl (either (may_begin Identifier) (is_digit c 10) start.Digit (from_prefix c) refl (either (may_begin Identifier) (is_prefix c) start.Prefix (from_slash c) refl (either (may_begin Identifier) (c == 47) start.Slash (from_quote c) refl (either (may_begin Identifier) (c == 34) start.Quote (from_apostrophe c) refl (either (may_begin Identifier) (c == 39) start.Apostrophe (from_parenthesis c) refl (either (may_begin Identifier) (c == 40) (start.Opening delimiter.Parenthesis) (from_closing_parenthesis c) refl (either (may_begin Identifier) (c == 41) (start.Closing delimiter.Parenthesis) (from_bracket c) refl (either (may_begin Identifier) (c == 91) (start.Opening delimiter.Bracket) (from_closing_bracket c) refl (either (may_begin Identifier) (c == 93) (start.Closing delimiter.Bracket) (from_brace c) refl (either (may_begin Identifier) (c == 123) (start.Opening delimiter.Brace) (from_closing_brace c) refl (either (may_begin Identifier) (c == 125) (start.Closing delimiter.Brace) (from_letter c) refl (taken (may_begin Identifier) (is_identifier_start c) start.Letter (from_punct c) (identifier_head c text fits) refl))))))))))))))
-begins SourceIdentifier c text fits = either (may_begin SourceIdentifier) (is_mark c) start.Rest (from_whitespace c) refl (either (may_begin SourceIdentifier) (is_whitespace c) start.Whitespace (from_zero c) refl (either (may_begin SourceIdentifier) (c == 48) start.Zero (from_digit c) refl (either (may_begin SourceIdentifier) (is_digit c 10) start.Digit (from_prefix c) refl (either (may_begin SourceIdentifier) (is_prefix c) start.Prefix (from_slash c) refl (either (may_begin SourceIdentifier) (c == 47) start.Slash (from_quote c) refl (either (may_begin SourceIdentifier) (c == 34) start.Quote (from_apostrophe c) refl (either (may_begin SourceIdentifier) (c == 39) start.Apostrophe (from_parenthesis c) refl (either (may_begin SourceIdentifier) (c == 40) (start.Opening delimiter.Parenthesis) (from_closing_parenthesis c) refl (either (may_begin SourceIdentifier) (c == 41) (start.Closing delimiter.Parenthesis) (from_bracket c) refl (either (may_begin SourceIdentifier) (c == 91) (start.Opening delimiter.Bracket) (from_closing_bracket c) refl (either (may_begin SourceIdentifier) (c == 93) (start.Closing delimiter.Bracket) (from_brace c) refl (either (may_begin SourceIdentifier) (c == 123) (start.Opening delimiter.Brace) (from_closing_brace c) refl (either (may_begin SourceIdentifier) (c == 125) (start.Closing delimiter.Brace) (from_letter c) refl (taken (may_begin SourceIdentifier) (is_identifier_start c) start.Letter (from_punct c) (identifier_head c text fits) refl))))))))))))))
+begins (SourceIdentifier edition) c text fits = either (may_begin (SourceIdentifier edition)) (is_mark c) start.Rest (from_whitespace c) refl (either (may_begin (SourceIdentifier edition)) (is_whitespace c) start.Whitespace (from_zero c) refl (either (may_begin (SourceIdentifier edition)) (c == 48) start.Zero (from_digit c) refl (either (may_begin (SourceIdentifier edition)) (is_digit c 10) start.Digit (from_prefix c) refl (either (may_begin (SourceIdentifier edition)) (is_prefix c) start.Prefix (from_slash c) refl (either (may_begin (SourceIdentifier edition)) (c == 47) start.Slash (from_quote c) refl (either (may_begin (SourceIdentifier edition)) (c == 34) start.Quote (from_apostrophe c) refl (either (may_begin (SourceIdentifier edition)) (c == 39) start.Apostrophe (from_parenthesis c) refl (either (may_begin (SourceIdentifier edition)) (c == 40) (start.Opening delimiter.Parenthesis) (from_closing_parenthesis c) refl (either (may_begin (SourceIdentifier edition)) (c == 41) (start.Closing delimiter.Parenthesis) (from_bracket c) refl (either (may_begin (SourceIdentifier edition)) (c == 91) (start.Opening delimiter.Bracket) (from_closing_bracket c) refl (either (may_begin (SourceIdentifier edition)) (c == 93) (start.Closing delimiter.Bracket) (from_brace c) refl (either (may_begin (SourceIdentifier edition)) (c == 123) (start.Opening delimiter.Brace) (from_closing_brace c) refl (either (may_begin (SourceIdentifier edition)) (c == 125) (start.Closing delimiter.Brace) (from_letter c) refl (taken (may_begin (SourceIdentifier edition)) (is_identifier_start c) start.Letter (from_punct c) (identifier_head c text fits) refl))))))))))))))
 begins Punct c text fits = refl
 begins MarkedPunct c text fits = refl
+begins (SourcePunct edition) c text fits = refl
 begins Other c text fits = refl
 
 pick_decides : (text piece rest : List ℕ) (rule r : Rule) (some rules : List Rule) (b : Bool) → (b ≡ false → HasPrefix (Spells r) text → ⊥) → (IsFirstFit text some rule piece rest → IsFirstFit text rules rule piece rest) → IsFirstFit text (if b then r ∷ some else some) rule piece rest → IsFirstFit text (r ∷ rules) rule piece rest
@@ -223,12 +226,12 @@ module _ (c : ℕ) (text more : List ℕ) (e : text ≡ c ∷ more) (kind : Rule
   identifier_taken : (every : Rules) (piece rest : List ℕ) → IsLongestPrefix IsIdentifier text piece rest → IsLongestPrefix (Spells (identifier_rule every)) text piece rest
   identifier_taken every.Plain piece rest t = t
   identifier_taken every.Marked piece rest t = t
-  identifier_taken every.Source piece rest t = t
+  identifier_taken (every.Source edition) piece rest t = t
 
   no_identifier : (every : Rules) → (HasPrefix IsIdentifier text → ⊥) → HasPrefix (Spells (identifier_rule every)) text → ⊥
   no_identifier every.Plain misses = misses
   no_identifier every.Marked misses = misses
-  no_identifier every.Source misses = misses
+  no_identifier (every.Source edition) misses = misses
 
   pub last_identifier : (rule : Rule) (rest : List ℕ) → rule ≡ identifier_rule kind → (piece : List ℕ) × IsLongestPrefix IsIdentifier text piece rest → (piece : List ℕ) × IsFirstFit text (last_rules kind) rule piece rest
   last_identifier rule rest r (piece, t) = rw r (piece, here (identifier_taken kind piece rest t))
@@ -239,7 +242,7 @@ module _ (c : ℕ) (text more : List ℕ) (e : text ≡ c ∷ more) (kind : Rule
       punct_taken : (every : Rules) → IsLongestPrefix (Spells (punct_rule every)) text (c ∷ []) more
       punct_taken every.Plain = takes_one is_punct text more c e h
       punct_taken every.Marked = takes_one is_punct text more c e h
-      punct_taken every.Source = takes_one is_punct text more c e h
+      punct_taken (every.Source edition) = takes_one is_punct text more c e h
 
   pub last_other : (HasPrefix IsIdentifier text → ⊥) → is_punct c ≡ false → (piece : List ℕ) × IsFirstFit text (last_rules kind) Other piece more
   last_other misses h = (c ∷ [], later (no_identifier kind misses) (later (no_punct kind) (here (takes_one (λ d. true) text more c e refl))))
@@ -247,7 +250,7 @@ module _ (c : ℕ) (text more : List ℕ) (e : text ≡ c ∷ more) (kind : Rule
       no_punct : (every : Rules) → HasPrefix (Spells (punct_rule every)) text → ⊥
       no_punct every.Plain fits = one_misses is_punct text more c e h fits
       no_punct every.Marked fits = one_misses is_punct text more c e h fits
-      no_punct every.Source fits = one_misses is_punct text more c e h fits
+      no_punct (every.Source edition) fits = one_misses is_punct text more c e h fits
 
 -- what a start says of the character
 letter_told : (c : ℕ) → start_of c ≡ start.Letter → is_identifier_start c ≡ true
@@ -279,6 +282,54 @@ decides_first : (c : ℕ) (text more piece rest : List ℕ) (rule : Rule) (rules
 decides_first c text more piece rest rule rules others start e is listed t =
     decides_begun c text more piece rest rule rules (rule ∷ others) start e (sym is) (sym listed) (here t)
 
+letter_listed : (edition : Edition) → only start.Letter (source_rules edition) ≡ SourceIdentifier edition ∷ SourcePunct edition ∷ Other ∷ []
+letter_listed Edition2015 = refl
+letter_listed Edition2018 = refl
+letter_listed Edition2021 = refl
+letter_listed Edition2024 = refl
+
+punct_listed : (edition : Edition) → only start.Punct (source_rules edition) ≡ SourcePunct edition ∷ Other ∷ []
+punct_listed Edition2015 = refl
+punct_listed Edition2018 = refl
+punct_listed Edition2021 = refl
+punct_listed Edition2024 = refl
+
+opening_listed : (edition : Edition) (d : Delimiter) → (d ≡ delimiter.None → ⊥) → only (start.Opening d) (source_rules edition) ≡ Opening d ∷ last_rules (every.Source edition)
+opening_listed Edition2015 delimiter.Parenthesis n = refl
+opening_listed Edition2015 delimiter.Brace n = refl
+opening_listed Edition2015 delimiter.Bracket n = refl
+opening_listed Edition2015 delimiter.None n = absurd (n refl)
+opening_listed Edition2018 delimiter.Parenthesis n = refl
+opening_listed Edition2018 delimiter.Brace n = refl
+opening_listed Edition2018 delimiter.Bracket n = refl
+opening_listed Edition2018 delimiter.None n = absurd (n refl)
+opening_listed Edition2021 delimiter.Parenthesis n = refl
+opening_listed Edition2021 delimiter.Brace n = refl
+opening_listed Edition2021 delimiter.Bracket n = refl
+opening_listed Edition2021 delimiter.None n = absurd (n refl)
+opening_listed Edition2024 delimiter.Parenthesis n = refl
+opening_listed Edition2024 delimiter.Brace n = refl
+opening_listed Edition2024 delimiter.Bracket n = refl
+opening_listed Edition2024 delimiter.None n = absurd (n refl)
+
+closing_listed : (edition : Edition) (d : Delimiter) → (d ≡ delimiter.None → ⊥) → only (start.Closing d) (source_rules edition) ≡ Closing d ∷ last_rules (every.Source edition)
+closing_listed Edition2015 delimiter.Parenthesis n = refl
+closing_listed Edition2015 delimiter.Brace n = refl
+closing_listed Edition2015 delimiter.Bracket n = refl
+closing_listed Edition2015 delimiter.None n = absurd (n refl)
+closing_listed Edition2018 delimiter.Parenthesis n = refl
+closing_listed Edition2018 delimiter.Brace n = refl
+closing_listed Edition2018 delimiter.Bracket n = refl
+closing_listed Edition2018 delimiter.None n = absurd (n refl)
+closing_listed Edition2021 delimiter.Parenthesis n = refl
+closing_listed Edition2021 delimiter.Brace n = refl
+closing_listed Edition2021 delimiter.Bracket n = refl
+closing_listed Edition2021 delimiter.None n = absurd (n refl)
+closing_listed Edition2024 delimiter.Parenthesis n = refl
+closing_listed Edition2024 delimiter.Brace n = refl
+closing_listed Edition2024 delimiter.Bracket n = refl
+closing_listed Edition2024 delimiter.None n = absurd (n refl)
+
 pub decides_letter : (c : ℕ) (text more rest : List ℕ) (rules : Rules) (rule : Rule) → text ≡ c ∷ more → start_of c ≡ start.Letter → rule ≡ identifier_rule rules → (front : List ℕ) × Skips is_xid_continue more front rest → (piece : List ℕ) × IsFirstFit text (rules_of rules) rule piece rest
 decides_letter c text more rest every.Plain rule e is r s =
     let t = takes_identifier text more rest c e (letter_told c is) s in
@@ -286,14 +337,14 @@ decides_letter c text more rest every.Plain rule e is r s =
 decides_letter c text more rest every.Marked rule e is r s =
     let t = takes_identifier text more rest c e (letter_told c is) s in
     rw r (t.0, decides_first c text more t.0 rest Identifier marked_rules (MarkedPunct ∷ Other ∷ []) start.Letter e is refl t.1)
-decides_letter c text more rest every.Source rule e is r s =
+decides_letter c text more rest (every.Source edition) rule e is r s =
     let t = takes_identifier text more rest c e (letter_told c is) s in
-    rw r (t.0, decides_first c text more t.0 rest SourceIdentifier source_rules (Punct ∷ Other ∷ []) start.Letter e is refl t.1)
+    rw r (t.0, decides_first c text more t.0 rest (SourceIdentifier edition) (source_rules edition) (SourcePunct edition ∷ Other ∷ []) start.Letter e is (letter_listed edition) t.1)
 
 pub decides_punct : (c : ℕ) (text more : List ℕ) (rules : Rules) (rule : Rule) → text ≡ c ∷ more → start_of c ≡ start.Punct → rule ≡ punct_rule rules → (piece : List ℕ) × IsFirstFit text (rules_of rules) rule piece more
 decides_punct c text more every.Plain rule e is r = rw r (c ∷ [], decides_first c text more (c ∷ []) more Punct plain_rules (Other ∷ []) start.Punct e is refl (takes_one is_punct text more c e (punct_told c is)))
 decides_punct c text more every.Marked rule e is r = rw r (c ∷ [], decides_first c text more (c ∷ []) more MarkedPunct marked_rules (Other ∷ []) start.Punct e is refl (takes_one is_punct text more c e (punct_told c is)))
-decides_punct c text more every.Source rule e is r = rw r (c ∷ [], decides_first c text more (c ∷ []) more Punct source_rules (Other ∷ []) start.Punct e is refl (takes_one is_punct text more c e (punct_told c is)))
+decides_punct c text more (every.Source edition) rule e is r = rw r (c ∷ [], decides_first c text more (c ∷ []) more (SourcePunct edition) (source_rules edition) (Other ∷ []) start.Punct e is (punct_listed edition) (takes_one is_punct text more c e (punct_told c is)))
 
 -- the character of a start that is a delimiter
 abbrev agrees : ℕ → Start → Bool
@@ -321,9 +372,9 @@ decides_opening c text more kind d e is = (c ∷ [], go kind d is (sym (ap (agre
     go every.Marked delimiter.Parenthesis is a = decides_first c text more (c ∷ []) more (Opening delimiter.Parenthesis) marked_rules (last_rules every.Marked) (start.Opening delimiter.Parenthesis) e is refl (takes_one (λ k. k == 40) text more c e a)
     go every.Marked delimiter.Brace is a = decides_first c text more (c ∷ []) more (Opening delimiter.Brace) marked_rules (last_rules every.Marked) (start.Opening delimiter.Brace) e is refl (takes_one (λ k. k == 123) text more c e a)
     go every.Marked delimiter.Bracket is a = decides_first c text more (c ∷ []) more (Opening delimiter.Bracket) marked_rules (last_rules every.Marked) (start.Opening delimiter.Bracket) e is refl (takes_one (λ k. k == 91) text more c e a)
-    go every.Source delimiter.Parenthesis is a = decides_first c text more (c ∷ []) more (Opening delimiter.Parenthesis) source_rules (last_rules every.Source) (start.Opening delimiter.Parenthesis) e is refl (takes_one (λ k. k == 40) text more c e a)
-    go every.Source delimiter.Brace is a = decides_first c text more (c ∷ []) more (Opening delimiter.Brace) source_rules (last_rules every.Source) (start.Opening delimiter.Brace) e is refl (takes_one (λ k. k == 123) text more c e a)
-    go every.Source delimiter.Bracket is a = decides_first c text more (c ∷ []) more (Opening delimiter.Bracket) source_rules (last_rules every.Source) (start.Opening delimiter.Bracket) e is refl (takes_one (λ k. k == 91) text more c e a)
+    go (every.Source edition) delimiter.Parenthesis is a = decides_first c text more (c ∷ []) more (Opening delimiter.Parenthesis) (source_rules edition) (last_rules (every.Source edition)) (start.Opening delimiter.Parenthesis) e is (opening_listed edition delimiter.Parenthesis (λ k. cc)) (takes_one (λ k. k == 40) text more c e a)
+    go (every.Source edition) delimiter.Brace is a = decides_first c text more (c ∷ []) more (Opening delimiter.Brace) (source_rules edition) (last_rules (every.Source edition)) (start.Opening delimiter.Brace) e is (opening_listed edition delimiter.Brace (λ k. cc)) (takes_one (λ k. k == 123) text more c e a)
+    go (every.Source edition) delimiter.Bracket is a = decides_first c text more (c ∷ []) more (Opening delimiter.Bracket) (source_rules edition) (last_rules (every.Source edition)) (start.Opening delimiter.Bracket) e is (opening_listed edition delimiter.Bracket (λ k. cc)) (takes_one (λ k. k == 91) text more c e a)
 
 pub decides_closing : (c : ℕ) (text more : List ℕ) (kind : Rules) (d : Delimiter) → text ≡ c ∷ more → start_of c ≡ start.Closing d → (piece : List ℕ) × IsFirstFit text (rules_of kind) (Closing d) piece more
 decides_closing c text more kind d e is = (c ∷ [], go kind d is (sym (ap (agrees c) is) ∙ all_agree c))
@@ -336,6 +387,6 @@ decides_closing c text more kind d e is = (c ∷ [], go kind d is (sym (ap (agre
     go every.Marked delimiter.Parenthesis is a = decides_first c text more (c ∷ []) more (Closing delimiter.Parenthesis) marked_rules (last_rules every.Marked) (start.Closing delimiter.Parenthesis) e is refl (takes_one (λ k. k == 41) text more c e a)
     go every.Marked delimiter.Brace is a = decides_first c text more (c ∷ []) more (Closing delimiter.Brace) marked_rules (last_rules every.Marked) (start.Closing delimiter.Brace) e is refl (takes_one (λ k. k == 125) text more c e a)
     go every.Marked delimiter.Bracket is a = decides_first c text more (c ∷ []) more (Closing delimiter.Bracket) marked_rules (last_rules every.Marked) (start.Closing delimiter.Bracket) e is refl (takes_one (λ k. k == 93) text more c e a)
-    go every.Source delimiter.Parenthesis is a = decides_first c text more (c ∷ []) more (Closing delimiter.Parenthesis) source_rules (last_rules every.Source) (start.Closing delimiter.Parenthesis) e is refl (takes_one (λ k. k == 41) text more c e a)
-    go every.Source delimiter.Brace is a = decides_first c text more (c ∷ []) more (Closing delimiter.Brace) source_rules (last_rules every.Source) (start.Closing delimiter.Brace) e is refl (takes_one (λ k. k == 125) text more c e a)
-    go every.Source delimiter.Bracket is a = decides_first c text more (c ∷ []) more (Closing delimiter.Bracket) source_rules (last_rules every.Source) (start.Closing delimiter.Bracket) e is refl (takes_one (λ k. k == 93) text more c e a)
+    go (every.Source edition) delimiter.Parenthesis is a = decides_first c text more (c ∷ []) more (Closing delimiter.Parenthesis) (source_rules edition) (last_rules (every.Source edition)) (start.Closing delimiter.Parenthesis) e is (closing_listed edition delimiter.Parenthesis (λ k. cc)) (takes_one (λ k. k == 41) text more c e a)
+    go (every.Source edition) delimiter.Brace is a = decides_first c text more (c ∷ []) more (Closing delimiter.Brace) (source_rules edition) (last_rules (every.Source edition)) (start.Closing delimiter.Brace) e is (closing_listed edition delimiter.Brace (λ k. cc)) (takes_one (λ k. k == 125) text more c e a)
+    go (every.Source edition) delimiter.Bracket is a = decides_first c text more (c ∷ []) more (Closing delimiter.Bracket) (source_rules edition) (last_rules (every.Source edition)) (start.Closing delimiter.Bracket) e is (closing_listed edition delimiter.Bracket (λ k. cc)) (takes_one (λ k. k == 93) text more c e a)

@@ -6,7 +6,7 @@ use Rattle.tok_lexical.specs.Pieces.{After, IsLongestPrefix}
 use Rattle.tok_lexical.specs.Fits.{IsFirstFit, here, later}
 use Rattle.tok_lexical.specs.Rules.{Spells}
 use Rattle.tok_lexical.specs.declared.rule.Rule.{Rule}
-use Rattle.tok_lexical.specs.declared.rule.Rule.TheVariants.{ByteOrderMark, Whitespace, LineComment, BlockComment, OpenComment, Opening, Closing, QuotedString, BadString, ByteChar, BadByteChar, StringPrefix, EscapedChar, BadEscapedChar, PlainChar, Lifetime, Apostrophe, MarkedApostrophe, Based, BadBased, Decimal, RawIdentifier, Identifier, Punct, MarkedPunct, Other, SourceString, RawString, BadPrefixed, SourceIdentifier, SourceLifetime, Float, PointedDecimal, SourceDecimal, SourceLineComment, SourceBlockComment}
+use Rattle.tok_lexical.specs.declared.rule.Rule.TheVariants.{ByteOrderMark, Whitespace, LineComment, BlockComment, OpenComment, Opening, Closing, QuotedString, BadString, ByteChar, BadByteChar, StringPrefix, EscapedChar, BadEscapedChar, PlainChar, Lifetime, Apostrophe, MarkedApostrophe, Based, BadBased, Decimal, RawIdentifier, Identifier, Punct, MarkedPunct, Other, SourceString, RawString, BadPrefixed, SourceIdentifier, SourceLifetime, SourcePunct, Float, PointedDecimal, SourceDecimal, SourceLineComment, SourceBlockComment}
 use Rattle.tok_lexical.specs.declared.contents.Contents.TheVariants.{Text, Bytes, C}
 use Rattle.tok_lexical.proofs.Lexical.Longest.{takes_unique}
 
@@ -45,14 +45,14 @@ spelled_one (SourceString C) taken s = after_one _ _ taken s
 spelled_one (RawString Text) taken s = after_one _ _ taken s
 spelled_one (RawString Bytes) taken s = after_one _ _ taken s
 spelled_one (RawString C) taken s = after_one _ _ taken s
-spelled_one BadPrefixed taken (inl s) = after_one _ _ taken s
-spelled_one BadPrefixed taken (inr (inl s)) = after_one _ _ taken s
-spelled_one BadPrefixed taken (inr (inr s)) = after_one _ _ taken s
+spelled_one (BadPrefixed Text) taken s = after_one _ _ taken s
+spelled_one (BadPrefixed Bytes) taken s = after_one _ _ taken s
+spelled_one (BadPrefixed C) taken s = after_one _ _ taken s
 spelled_one EscapedChar taken (inner, suffix, e, h, k) = rw e (omega arith)
 spelled_one BadEscapedChar taken e = rw e (omega arith)
 spelled_one PlainChar taken (inner, suffix, e, h, k) = rw e (omega arith)
 spelled_one Lifetime taken s = after_one _ _ taken s
-spelled_one SourceLifetime taken s = after_one _ _ taken s
+spelled_one (SourceLifetime edition) taken s = after_one _ _ taken s
 spelled_one Apostrophe taken (c, p, e) = rw e (omega arith)
 spelled_one MarkedApostrophe taken (c, p, e) = rw e (omega arith)
 spelled_one (Based base) taken s = after_one _ _ taken s
@@ -64,10 +64,11 @@ spelled_one SourceDecimal taken s = number_one _ taken s
 spelled_one RawIdentifier taken s = after_one _ _ taken s
 spelled_one Identifier [] s = absurd s
 spelled_one Identifier (c ∷ taken) s = omega arith
-spelled_one SourceIdentifier [] s = absurd s
-spelled_one SourceIdentifier (c ∷ taken) s = omega arith
+spelled_one (SourceIdentifier edition) [] s = absurd s
+spelled_one (SourceIdentifier edition) (c ∷ taken) s = omega arith
 spelled_one Punct taken (c, p, e) = rw e (omega arith)
 spelled_one MarkedPunct taken (c, p, e) = rw e (omega arith)
+spelled_one (SourcePunct edition) taken (c, p, e) = rw e (omega arith)
 spelled_one Other taken (c, p, e) = rw e (omega arith)
 
 pub decides_unique : {text : List ℕ} {rules : List Rule} {rule other : Rule} {p r q s : List ℕ} → IsFirstFit text rules rule p r → IsFirstFit text rules other q s → (rule ≡ other) × (p ≡ q) × (r ≡ s)

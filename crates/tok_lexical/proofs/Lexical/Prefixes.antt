@@ -6,7 +6,9 @@ use Rattle.std.specs.Str.{chars}
 use Rattle.std.specs.Borrow.{Bor}
 use Rattle.std.proofs.lemmas.Bool.{ne_eqb}
 use Rattle.tok_lexical.specs.Pieces.{ReadsPrefix, Skips, Stops, After}
-use Rattle.tok_lexical.specs.Strings.{IsHashes, IsPrefixed, IsStringPrefix}
+use Rattle.tok_lexical.specs.Strings.{IsHashes, IsPrefixed, IsPrefixOf, IsStringPrefix}
+use Rattle.tok_lexical.specs.declared.contents.Contents.{Contents}
+use Rattle.tok_lexical.specs.declared.contents.Contents.TheVariants.{Text, Bytes, C}
 use Rattle.tok_lexical.proofs.Lexical.Longest.{list_all-push, IsFree, finds_after}
 use Rattle.tok_lexical.proofs.Lexical.Escapes.{heads, tails, moved, all_stop, free_after}
 use Rattle.tok_lexical.proofs.Lexical.Numbers.{all_stops}
@@ -46,6 +48,11 @@ free_prefixed a b (inl e) (inl f) x y g = (e ∙ sym f, tails 34 34 x y (moved a
 free_prefixed a b (inl e) (inr (more, f, s)) x y g = absurd (omega (arith, heads 34 114 x (more ++ y) (moved a b (34 ∷ []) (114 ∷ more) x y e f g)))
 free_prefixed a b (inr (more, e, s)) (inl f) x y g = absurd (omega (arith, heads 114 34 (more ++ x) y (moved a b (114 ∷ more) (34 ∷ []) x y e f g)))
 free_prefixed a b (inr s) (inr t) x y g = free_after 114 IsHashes free_hashes a b s t x y g
+
+pub free_prefix_of : (contents : Contents) → IsFree (IsPrefixOf contents)
+free_prefix_of Text = free_after 114 IsHashes free_hashes
+free_prefix_of Bytes = free_after 98 IsPrefixed free_prefixed
+free_prefix_of C = free_after 99 IsPrefixed free_prefixed
 
 -- two starts with different first characters
 apart : (j k : ℕ) (S R : List ℕ → Type 0) (a b x y : List ℕ) → (j ≡ k → ⊥) → After j S a → After k R b → a ++ x ≡ b ++ y → ⊥

@@ -13,6 +13,7 @@ use Rattle.tok_lexical.specs.Words.{IsIdentifier}
 use Rattle.tok_lexical.specs.Starts.{only, start_of, rules_of, line_rule, block_rule, identifier_rule, punct_rule}
 use Rattle.tok_lexical.specs.declared.rule.Rule.{Rule}
 use Rattle.tok_lexical.specs.declared.rule.Rule.TheVariants.{OpenComment, Other}
+use Rattle.tok_lexical.specs.declared.edition.Edition.TheVariants.{Edition2015, Edition2018, Edition2021, Edition2024}
 use Rattle.tok_lexical.specs.declared.rule.Rules.{Rules}
 use Rattle.tok_lexical.specs.declared.rule.Rules.TheVariants.{Plain, Marked, Source}
 use Rattle.tok_lexical.specs.declared.start.Start.TheVariants as start
@@ -27,7 +28,10 @@ slash_rules rules = line_rule rules ∷ block_rule rules ∷ OpenComment ∷ ide
 listed : (rules : Rules) → slash_rules rules ≡ only start.Slash (rules_of rules)
 listed Plain = refl
 listed Marked = refl
-listed Source = refl
+listed (Source Edition2015) = refl
+listed (Source Edition2018) = refl
+listed (Source Edition2021) = refl
+listed (Source Edition2024) = refl
 
 begun : (rules : Rules) (text piece rest : List ℕ) (rule : Rule) → IsFirstFit (47 ∷ text) (slash_rules rules) rule piece rest → IsFirstFit (47 ∷ text) (rules_of rules) rule piece rest
 begun rules text piece rest rule d = decides_begun 47 (47 ∷ text) text piece rest rule (rules_of rules) (slash_rules rules) start.Slash refl refl (listed rules) d
@@ -61,17 +65,17 @@ no_line text mid e fits =
 line_taken : (every : Rules) (text piece rest : List ℕ) → IsLongestPrefix IsLineComment text piece rest → IsLongestPrefix (Spells (line_rule every)) text piece rest
 line_taken Plain text piece rest t = t
 line_taken Marked text piece rest t = t
-line_taken Source text piece rest t = t
+line_taken (Source edition) text piece rest t = t
 
 block_taken : (every : Rules) (text piece rest : List ℕ) → IsLongestPrefix IsBlockComment text piece rest → IsLongestPrefix (Spells (block_rule every)) text piece rest
 block_taken Plain text piece rest t = t
 block_taken Marked text piece rest t = t
-block_taken Source text piece rest t = t
+block_taken (Source edition) text piece rest t = t
 
 line_missed : (every : Rules) (text : List ℕ) → (HasPrefix IsLineComment text → ⊥) → HasPrefix (Spells (line_rule every)) text → ⊥
 line_missed Plain text misses = misses
 line_missed Marked text misses = misses
-line_missed Source text misses = misses
+line_missed (Source edition) text misses = misses
 
 pub decides_line : (rules : Rules) (text mid rest : List ℕ) → text ≡ 47 ∷ mid → (front : List ℕ) × Skips is_not_line_feed mid front rest → (piece : List ℕ) × IsFirstFit (47 ∷ text) (rules_of rules) (line_rule rules) piece rest
 decides_line rules text mid rest e s =
@@ -88,7 +92,7 @@ decides_lone rules text rule r no_slash no_star = rw r (47 ∷ [], begun rules t
     skipped : (every : Rules) → IsFirstFit (47 ∷ text) (slash_rules every) (punct_rule every) (47 ∷ []) text
     skipped Plain = later (λ fits. let s = line_second text fits in no_slash s.0 s.1) (later (λ fits. let s = block_second text fits in no_star s.0 s.1) (later (λ fits. let s = open_second text fits in no_star s.0 s.1) (later (no_identifier text) (here (takes_one is_punct (47 ∷ text) text 47 refl refl)))))
     skipped Marked = later (λ fits. let s = line_second text fits in no_slash s.0 s.1) (later (λ fits. let s = block_second text fits in no_star s.0 s.1) (later (λ fits. let s = open_second text fits in no_star s.0 s.1) (later (no_identifier text) (here (takes_one is_punct (47 ∷ text) text 47 refl refl)))))
-    skipped Source = later (λ fits. let s = line_second text fits in no_slash s.0 s.1) (later (λ fits. let s = block_second text fits in no_star s.0 s.1) (later (λ fits. let s = open_second text fits in no_star s.0 s.1) (later (no_identifier text) (here (takes_one is_punct (47 ∷ text) text 47 refl refl)))))
+    skipped (Source edition) = later (λ fits. let s = line_second text fits in no_slash s.0 s.1) (later (λ fits. let s = block_second text fits in no_star s.0 s.1) (later (λ fits. let s = open_second text fits in no_star s.0 s.1) (later (no_identifier text) (here (takes_one is_punct (47 ∷ text) text 47 refl refl)))))
 
 -- a slash that begins no comment
 pub decides_alone : (c : ℕ) (text more : List ℕ) (rules : Rules) (rule : Rule) → text ≡ c ∷ more → start_of c ≡ start.Slash → begins_comment text ≡ false → rule ≡ punct_rule rules → (piece : List ℕ) × IsFirstFit text (rules_of rules) rule piece more

@@ -7,6 +7,7 @@ use Rattle.tok_lexical.specs.Comments.{is_not_line_feed}
 use Rattle.tok_lexical.specs.Pieces.{Skips, begins_with}
 use Rattle.tok_lexical.specs.Fits.{IsFirstFit, here, later, NoneBefore}
 use Rattle.tok_lexical.specs.Rules.{source_rules}
+use Rattle.tok_lexical.specs.declared.edition.Edition.TheVariants.{Edition2021}
 use Rattle.tok_lexical.specs.Sources.{is_blank_piece, Blanks, over, blank, OpensAttribute, Begins, shebang, no_shebang, past_mark, BeginsAt}
 use Rattle.tok_lexical.specs.declared.rule.Rule.{Rule}
 use Rattle.tok_lexical.specs.declared.rule.Rule.TheVariants.{Whitespace, SourceLineComment, SourceBlockComment}
@@ -18,7 +19,7 @@ use Rattle.tok_lexical.proofs.Lexical.Fits.{decided, decides_unique, spelled_one
 use Rattle.tok_lexical.proofs.Lexical.Numbers.{all_stops}
 
 abbrev pub IsLast : List ℕ → Type 0
-IsLast text = (rule : Rule) → (taken after : List ℕ) → IsFirstFit text source_rules rule taken after → is_blank_piece rule taken ≡ true → ⊥
+IsLast text = (rule : Rule) → (taken after : List ℕ) → IsFirstFit text (source_rules Edition2021) rule taken after → is_blank_piece rule taken ≡ true → ⊥
 
 -- pieces after others
 pub blanks_more : {text mid rest : List ℕ} → Blanks text mid → Blanks mid rest → Blanks text rest
@@ -26,23 +27,23 @@ blanks_more over b = b
 blanks_more (blank d h a) b = blank d h (blanks_more a b)
 
 -- one more such piece
-pub blanks_one : {text mid rest : List ℕ} {rule : Rule} {taken : List ℕ} → Blanks text mid → IsFirstFit mid source_rules rule taken rest → is_blank_piece rule taken ≡ true → Blanks text rest
+pub blanks_one : {text mid rest : List ℕ} {rule : Rule} {taken : List ℕ} → Blanks text mid → IsFirstFit mid (source_rules Edition2021) rule taken rest → is_blank_piece rule taken ≡ true → Blanks text rest
 blanks_one b d h = blanks_more b (blank d h over)
 
-pub last_found : {text taken rest : List ℕ} {rule : Rule} → IsFirstFit text source_rules rule taken rest → is_blank_piece rule taken ≡ false → IsLast text
+pub last_found : {text taken rest : List ℕ} {rule : Rule} → IsFirstFit text (source_rules Edition2021) rule taken rest → is_blank_piece rule taken ≡ false → IsLast text
 last_found {taken = taken} d h other front after e k =
     let w = decides_unique d e in
     false≢true (sym h ∙ ap (λ r. is_blank_piece r taken) w.0 ∙ ap (is_blank_piece other) w.1 ∙ k)
 
-pub last_none : (text : List ℕ) → NoneBefore source_rules text (length source_rules) → IsLast text
-last_none text n other front after d h = none_decides source_rules text other front after n d
+pub last_none : (text : List ℕ) → NoneBefore (source_rules Edition2021) text (length (source_rules Edition2021)) → IsLast text
+last_none text n other front after d h = none_decides (source_rules Edition2021) text other front after n d
   where
     none_decides : (rules : List Rule) (text : List ℕ) (rule : Rule) (piece rest : List ℕ) → NoneBefore rules text (length rules) → IsFirstFit text rules rule piece rest → ⊥
     none_decides [] text rule piece rest n d = elim d [ ]
     none_decides (r ∷ rules) text rule piece rest n (here t) = n.none 0 r (omega arith) (omega arith) (piece, rest, t.cut, t.spelled)
     none_decides (r ∷ rules) text rule piece rest n (later m d) = none_decides rules text rule piece rest (record { none = λ j q k l. n.none (suc j) q (omega arith) (omega arith) }) d
 
-pub shorter_piece : (text rest : List ℕ) (rule : Rule) (taken : List ℕ) → IsUtf8 text → IsUtf8 rest → IsFirstFit (chars text) source_rules rule taken (chars rest) → length rest < length text
+pub shorter_piece : (text rest : List ℕ) (rule : Rule) (taken : List ℕ) → IsUtf8 text → IsUtf8 rest → IsFirstFit (chars text) (source_rules Edition2021) rule taken (chars rest) → length rest < length text
 shorter_piece text rest rule taken u v d =
     let t = decided d in
     let one = spelled_one rule taken t.spelled in
@@ -63,7 +64,7 @@ blanks_same {one = one} {other = other} (blank d h a) n (blank d' h' b) m =
 bracket_last : (after : List ℕ) → IsLast (91 ∷ after)
 bracket_last after rule taken rest d h = go rule d h
   where
-    go : (rule : Rule) → IsFirstFit (91 ∷ after) source_rules rule taken rest → is_blank_piece rule taken ≡ true → ⊥
+    go : (rule : Rule) → IsFirstFit (91 ∷ after) (source_rules Edition2021) rule taken rest → is_blank_piece rule taken ≡ true → ⊥
     go Whitespace d h =
         let t = decided d in
         let s = t.spelled in

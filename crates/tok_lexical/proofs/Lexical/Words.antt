@@ -9,7 +9,7 @@ use Rattle.std.proofs.lemmas.Bool.{false≢true, ne_eqb, ltb-true}
 use Rattle.unicode_ident.specs.Ident.{is_xid_continue}
 use Rattle.unicode_ident.proofs.IdentLemmas.{is_xid_continue-ascii}
 use Rattle.tok_lexical.specs.Pieces.{IsLongestPrefix, HasPrefix, ReadsLongest}
-use Rattle.tok_lexical.specs.Words.{IsIdentifier, IsRawIdentifier, IsName, has_no_raw}
+use Rattle.tok_lexical.specs.Words.{IsIdentifier, IsRawIdentifier, IsName, has_no_raw, is_raw_prefix}
 use Rattle.tok_lexical.proofs.Lexical.Numbers.{head_passes, tail_passes, not_true}
 use Rattle.std.proofs.lemmas.Str.{encodes-chars, encodes-IsAscii, chars-IsAscii, chars-nil}
 use Rattle.std.proofs.lemmas.Str.Ascii.{IsAscii-nil}
@@ -77,6 +77,9 @@ no_raw_chars bytes u =
     (either _ _ _ _ (same_text bytes (codes "self") u refl)
     (either _ _ _ _ (same_text bytes (codes "Self") u refl)
     (either _ _ _ _ (same_text bytes (codes "super") u refl) (same_text bytes (codes "crate") u refl))))
+
+pub raw_prefix_chars : (bytes : List ℕ) → IsUtf8 bytes → is_raw_prefix bytes ≡ is_raw_prefix (chars bytes)
+raw_prefix_chars bytes u = either _ _ _ _ (same_text bytes (codes "r") u refl) (same_text bytes (codes "br") u refl)
 
 -- a text of which all is taken, or some is left
 pub is_whole : (text rest : List ℕ) → rest ≡ [] → (piece : List ℕ) × IsLongestPrefix IsIdentifier text piece rest → IsIdentifier text

@@ -1,7 +1,11 @@
 use Rattle.std.specs.Str.{chars}
 use Rattle.tok_lexical.specs.Rules.{plain_rules}
-use Rattle.tok_buffer.proofs.Reading.{same_reading}
+use Rattle.tok_buffer.specs.Buffer.{forest_of}
+use Rattle.tok_buffer.proofs.Reading.{kept_follows, same_reading}
 use Rattle.tok_buffer.proofs.laws.text_as_stream.Goals as goal
 
 pub returns : goal.returns
-returns c = same_reading 0 plain_rules c.args.source (chars c.args.text.now) c.from_text-read.result c.lexed-laid.result c.args.number c.from_text-read.ensures.number c.lexed-laid.ensures.number c.from_text-read.ensures.follows c.lexed-laid.ensures.follows
+returns c =
+    let text = chars c.args.text.now in
+    let follows = kept_follows 0 plain_rules c.args.source text c.lex.result (forest_of c.laid_out-laid.result) c.laid_out-laid.ensures.kept c.lex.ensures in
+    same_reading 0 plain_rules c.args.source text c.from_text-read.result c.laid_out-laid.result c.args.number c.from_text-read.ensures.number c.laid_out-laid.ensures.number c.from_text-read.ensures.follows follows

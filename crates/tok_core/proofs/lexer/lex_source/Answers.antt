@@ -22,5 +22,5 @@ returns c =
       chars c.past_start-rest.result.now,
       cut.1,
       c.past_start-rest.ensures.begins,
-      subst (λ w. FollowsFrom w source_rules c.args.source (chars c.past_start-rest.result.now) c.read_trees.result) same (follows _ _ _ _ c.read_trees.result c.read_trees.ensures.reads c.read_trees.ensures.refuses),
+      subst (λ w. FollowsFrom w (source_rules c.args.edition) c.args.source (chars c.past_start-rest.result.now) c.read_trees.result) same (follows _ _ _ _ c.read_trees.result c.read_trees.ensures.reads c.read_trees.ensures.refuses),
     )

@@ -23,5 +23,5 @@ returns-clause-follows c =
       chars c.past_start-rest.result.now,
       cut.1,
       c.past_start-rest.ensures.begins,
-      subst (λ w. FollowsFrom w source_rules c.args.source (chars c.past_start-rest.result.now) (forest_of c.read_buffer.result)) same (buffer_follows _ _ _ _ c.read_buffer.result c.read_buffer.ensures.reads c.read_buffer.ensures.refuses),
+      subst (λ w. FollowsFrom w (source_rules c.args.edition) c.args.source (chars c.past_start-rest.result.now) (forest_of c.read_buffer.result)) same (buffer_follows _ _ _ _ c.read_buffer.result c.read_buffer.ensures.reads c.read_buffer.ensures.refuses),
     )

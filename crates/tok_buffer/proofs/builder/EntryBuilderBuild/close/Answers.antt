@@ -27,8 +27,8 @@ invariant_of-self c =
     let k : c.len.result ≡ length xs = c.len.ensures ∙ c.self.inside.entries.ok.0 in
     built _ _ _ (built_close xs c.push.new.self.items c.pop.new.self.items c.in-Some.start c.len.result (levels_in xs) c.args.delimiter c.args.span h k c.in-Ok.ensures.items)
 
-pub returns-in-Ok : goal.returns-in-Ok
-returns-in-Ok c =
+pub returns-in-Ok-clause-ok : goal.returns-in-Ok-clause-ok
+returns-in-Ok-clause-ok c =
     let xs = c.self.inside.entries.items in
     let h = left xs c.self.inside.«open».items c.pop.new.self.items c.in-Some.start (levels_in xs) c.self.invariant (subst (λ w. 0 < length w.outer) (sym c.self.view_is) c.requires) c.in-Some.ensures.items in
     let k : c.len.result ≡ length xs = c.len.ensures ∙ c.self.inside.entries.ok.0 in

@@ -30,6 +30,9 @@ returns-in-Punct-clause-tries c = rw c.in-Punct.is (_, takes_one is_punct _ _ c.
 pub returns-in-MarkedPunct-clause-tries : goal.returns-in-MarkedPunct-clause-tries
 returns-in-MarkedPunct-clause-tries c = rw c.in-MarkedPunct.is (_, takes_one is_punct _ _ c.in_ok-first.first c.in_ok-first.ensures.chars (sym c.if-is_punct-2.ensures))
 
+pub returns-in-SourcePunct-clause-tries : goal.returns-in-SourcePunct-clause-tries
+returns-in-SourcePunct-clause-tries c = rw c.in-SourcePunct.is (_, takes_one is_punct _ _ c.in_ok-first.first c.in_ok-first.ensures.chars (sym c.if-is_punct-3.ensures))
+
 pub returns-in-Other-clause-tries : goal.returns-in-Other-clause-tries
 returns-in-Other-clause-tries c = rw c.in-Other.is (_, takes_one (λ d. true) _ _ c.in_ok-first.first c.in_ok-first.ensures.chars refl)
 

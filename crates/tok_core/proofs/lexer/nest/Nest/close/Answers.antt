@@ -11,4 +11,4 @@ source-span-requires g c =
 pub returns-clause-ok : goal.returns-clause-ok
 returns-clause-ok g c =
     let same : c.in-Some.opened ≡ c.args.delimiter = search rules in
-    grows_closed c.args.at _ _ c.args.delimiter c.in-Some.start c.args.end (c.in-Some.opened, c.in-Some.start) c.source-span.result (ap (λ d. (d, c.in-Some.start)) same) refl c.in-Some.ensures.items c.source-span.ensures c.in_ok-close.ensures
+    grows_closed c.args.at _ _ c.args.delimiter c.in-Some.start c.args.end (c.in-Some.opened, c.in-Some.start) c.source-span.result (ap (λ d. (d, c.in-Some.start)) same) refl c.in-Some.ensures.items c.source-span.ensures c.in_ok-close.ensures.ok

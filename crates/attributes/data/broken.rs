@@ -1,0 +1,2 @@
+#[inline]
+fn f() { let a = 'b; g(] }

@@ -1,0 +1,8 @@
+#[]
+#[1]
+#[inline always]
+#[doc =]
+#[allow(a) b]
+#[a::]
+#[cold]
+fn f() {}

@@ -1,0 +1,82 @@
+// The attributes among the tokens of a buffer.
+ghost use Rattle.std.specs.Prelude.{◌<◌, IfSome};
+ghost use Rattle.tok_buffer.specs.Cursors.{place_of};
+ghost use Rattle.tok_buffer.specs.Progress.{remaining};
+
+use std::alloc::AllocError;
+use tok_buffer::Cursor;
+use tok_buffer::laws::{entries_go_on, reads_go_on, skips_go_on};
+use tok_core::{Delimiter, Span};
+
+/// Whether an attribute belongs to what comes after it, or to what it is in.
+#[derive(Clone, Copy)]
+pub enum Style {
+    Outer,
+    Inner,
+}
+
+/// An attribute: where it begins, and what is in its brackets.
+#[derive(Clone, Copy)]
+pub struct Found<'a> {
+    pub style: Style,
+    pub span: Span,
+    pub contents: Cursor<'a>,
+}
+
+// Appends the attributes that are ahead of a cursor, in groups too, in their order.
+#[cycle(find)]
+pub fn find<'a>(found: &mut Vec<Found<'a>>, cursor: Cursor<'a>) -> Result<(), AllocError> {
+    skips_go_on();
+    entries_go_on();
+    let mut rest = cursor;
+    loop {
+        if let Some((attribute, after)) = attribute(rest) {
+            found.push(attribute)?;
+            rest = after;
+        } else if let Some((inside, _, _, after)) = rest.any_group() {
+            find(found, inside)?;
+            rest = after;
+        } else if let Some(after) = rest.skip() {
+            rest = after;
+        } else {
+            return Ok(());
+        }
+    }
+}
+
+// The attribute at a cursor, and the cursor after it. In a macro `#[$name]` and `#[#name]` are no attributes yet.
+fn attribute<'a>(cursor: Cursor<'a>) -> Option<(Found<'a>, Cursor<'a>)>
+    ensures { IfSome result
+        (λ r. remaining (place_of r.1) < remaining (place_of cursor.entry)) }
+{
+    entries_go_on();
+    let (style, span, brackets) = sign(cursor)?;
+    let (contents, _, after) = brackets.group(Delimiter::Bracket)?;
+    if contents.peek_punct("$") || contents.peek_punct("#") {
+        return None;
+    }
+    let found = Found {
+        style,
+        span,
+        contents,
+    };
+    Some((found, after))
+}
+
+// The `#` or `#!` of an attribute, and the cursor after it.
+fn sign<'a>(cursor: Cursor<'a>) -> Option<(Style, Span, Cursor<'a>)>
+    ensures { IfSome result
+        (λ r. remaining (place_of r.2) < remaining (place_of cursor.entry)) }
+{
+    reads_go_on();
+    let (pound, after) = cursor.punct()?;
+    if pound.as_char() != '#' {
+        return None;
+    }
+    match after.punct() {
+        Some((mark, brackets)) if mark.as_char() == '!' => {
+            Some((Style::Inner, pound.span(), brackets))
+        }
+        _ => Some((Style::Outer, pound.span(), after)),
+    }
+}

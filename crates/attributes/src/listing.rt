@@ -1,0 +1,164 @@
+// The lines that are printed of a file.
+ghost use Rattle.std.specs.Prelude.{◌≡◌, IfOk, string_bytes};
+ghost use Rattle.attributes.specs.Lines.{gap, line_text, style_text};
+
+use crate::attribute::{Attribute, Fault, read};
+use crate::find::{Found, Style, find};
+use crate::position::{Place, Position};
+use std::alloc::{AllocError, Global};
+use std::str::from_utf8;
+use tok_buffer::TokenBuffer;
+use tok_core::{Edition, LexError, LexFault, Span};
+
+/// The attributes of a file, a line each, and its errors.
+#[derive(Drop)]
+pub struct Listing {
+    pub lines: String,
+    pub errors: String,
+    pub is_found: bool,
+}
+
+// The listing of the file of this name that holds these bytes.
+pub fn list(
+    alloc: Global,
+    edition: Edition,
+    file: &str,
+    bytes: &[u8],
+) -> Result<Listing, AllocError> {
+    match from_utf8(bytes) {
+        Ok(text) => list_text(alloc, edition, file, text),
+        Err(error) => {
+            let front = bytes.get(..error.valid_up_to()).unwrap_or(&[]);
+            let text = from_utf8(front).unwrap_or("");
+            let place = Place::new(text).moved_to(text.len());
+            failed(alloc, file, place, "not UTF-8, expected a character")
+        }
+    }
+}
+
+fn list_text(
+    alloc: Global,
+    edition: Edition,
+    file: &str,
+    text: &str,
+) -> Result<Listing, AllocError> {
+    match TokenBuffer::from_source(alloc, 0, edition, 0, text) {
+        Ok(buffer) => {
+            let mut found = Vec::new(alloc);
+            find(&mut found, buffer.begin())?;
+            list_found(alloc, file, text, found.as_slice())
+        }
+        Err(LexFault::Refused(error)) => {
+            let place = Place::new(text).moved_to(error.at());
+            let words = format!(in alloc; "{error}, expected {}", expected(error))?;
+            failed(alloc, file, place, words.as_str())
+        }
+        Err(LexFault::Memory) => Err(AllocError),
+    }
+}
+
+// The listing of a file that is refused as a whole.
+fn failed(alloc: Global, file: &str, place: Place<'_>, words: &str) -> Result<Listing, AllocError> {
+    let Position { line, column } = place.position;
+    Ok(Listing {
+        lines: String::new(alloc),
+        errors: format!(in alloc; "{file}:{line}:{column}: {words}\n")?,
+        is_found: false,
+    })
+}
+
+// What is expected where a text is refused.
+fn expected(error: LexError) -> &'static str {
+    match error.number() {
+        2 => "its closing delimiter",
+        3 => "the closing delimiter of the innermost group",
+        4 => "`*/`",
+        6 => "a closing quote, and escapes that exist",
+        9 => "digits of its base",
+        10 => "a name that may be raw",
+        11 => "a character or a lifetime",
+        12 => "at most 256 levels",
+        13 => "white space before the quote or the `#`",
+        14 => "a line feed after it",
+        _ => "a token",
+    }
+}
+
+// The attributes that were found, in their order.
+fn list_found(
+    alloc: Global,
+    file: &str,
+    text: &str,
+    found: &[Found<'_>],
+) -> Result<Listing, AllocError> {
+    let mut listing = Listing {
+        lines: String::new(alloc),
+        errors: String::new(alloc),
+        is_found: false,
+    };
+    let mut place = Place::new(text);
+    for it in found {
+        place = place.moved_to(start(it.span));
+        match read(alloc, it.contents) {
+            Ok(attribute) => {
+                let line = line_of(alloc, file, place.position, it.style, &attribute)?;
+                listing.lines.push_str(line.as_str())?;
+                listing.is_found = true;
+            }
+            Err(Fault::Expected(span, words)) => {
+                let Position { line, column } = place.moved_to(start(span)).position;
+                let error = format!(in alloc; "{file}:{line}:{column}: expected {words}\n")?;
+                listing.errors.push_str(error.as_str())?;
+            }
+            Err(Fault::Memory) => return Err(AllocError),
+        }
+    }
+    Ok(listing)
+}
+
+// The line of an attribute.
+fn line_of(
+    alloc: Global,
+    file: &str,
+    position: Position,
+    style: Style,
+    attribute: &Attribute,
+) -> Result<String, AllocError>
+    ensures { IfOk result
+        (λ line. string_bytes line ≡ line_text file.now position style attribute.now) }
+{
+    let Position { line, column } = position;
+    let style = style_text(style);
+    let path = attribute.path.as_str();
+    let delimiter = attribute.delimiter;
+    let arguments = attribute.arguments.as_str();
+    let first = gap(delimiter);
+    let second = gap(arguments);
+    format!(in alloc;
+        "{file}:{line}:{column}: {style} {path}{first}{delimiter}{second}{arguments}\n"
+    )
+}
+
+fn style_text(style: Style) -> &'static str
+    ensures { result.now ≡ style_text style }
+{
+    match style {
+        Style::Outer => "outer",
+        Style::Inner => "inner",
+    }
+}
+
+// A space before a word that isn't empty.
+fn gap(word: &str) -> &'static str
+    ensures { result.now ≡ gap word.now }
+{
+    if word.is_empty() { "" } else { " " }
+}
+
+// The byte at which a span begins.
+fn start(span: Span) -> usize {
+    match span.as_range() {
+        Some((_, start, _)) => start,
+        None => 0,
+    }
+}

@@ -1,0 +1,90 @@
+// Lists the attributes of Rust source files, one a line.
+#![tactic(auto)]
+
+mod attribute;
+mod find;
+mod listing;
+mod options;
+mod position;
+mod show;
+
+use clap::Error;
+use listing::{Listing, list};
+use options::{command, edition};
+use std::process::ExitCode;
+use std::{env, fs, io};
+use tok_core::Edition;
+
+// The exit statuses, which are those of grep.
+const FOUND: u8 = 0;
+
+const NONE_FOUND: u8 = 1;
+
+const FAILED: u8 = 2;
+
+fn main(rt: HostRuntime) -> ExitCode {
+    let status = match run(&rt) {
+        Ok(status) => status,
+        Err(error) => {
+            let _ = eprintln!(rt; "attributes: {error}");
+            FAILED
+        }
+    };
+    ExitCode::from(status)
+}
+
+// Reads the words of the command line, and lists each file that they name.
+fn run(rt: &HostRuntime) -> io::Result<u8> {
+    let mut words = Vec::new(rt.alloc());
+    for word in env::args(rt)? {
+        words.push(word)?;
+    }
+    let matches = match matches(rt, words.as_slice()) {
+        Ok(matches) => matches,
+        Err(error) => {
+            error.print(rt)?;
+            return Ok(if error.use_stderr() { FAILED } else { FOUND });
+        }
+    };
+    list_files(
+        rt,
+        edition(&matches),
+        matches.get_strs("FILE").unwrap_or(&[]),
+    )
+}
+
+fn matches<'a>(rt: &HostRuntime, words: &'a [String]) -> Result<clap::ArgMatches<'a>, Error> {
+    command(rt.alloc())?.try_get_matches_from(words)
+}
+
+// Lists each file, and tells whether an attribute was found.
+fn list_files(rt: &HostRuntime, edition: Edition, files: &[&str]) -> io::Result<u8> {
+    let mut status = NONE_FOUND;
+    for file in files {
+        let Listing {
+            lines,
+            errors,
+            is_found,
+        } = list_file(rt, edition, file)?;
+        rt.print(lines)?;
+        if !errors.is_empty() {
+            status = FAILED;
+        } else if is_found && status == NONE_FOUND {
+            status = FOUND;
+        }
+        rt.eprint(errors)?;
+    }
+    Ok(status)
+}
+
+// Lists a file, or says why it can't be read.
+fn list_file(rt: &HostRuntime, edition: Edition, file: &str) -> io::Result<Listing> {
+    match fs::read(rt, file) {
+        Ok(bytes) => Ok(list(rt.alloc(), edition, file, bytes.as_slice())?),
+        Err(error) => Ok(Listing {
+            lines: String::new(rt.alloc()),
+            errors: format!(in rt.alloc(); "{file}: {error}\n")?,
+            is_found: false,
+        }),
+    }
+}

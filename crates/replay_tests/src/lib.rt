@@ -1,0 +1,9 @@
+//! Tests of what the library exports, of replays, and of the program's reader and writer.
+#![tactic(auto)]
+
+#[cfg(test)]
+mod channels;
+#[cfg(test)]
+mod front;
+#[cfg(test)]
+mod session;

@@ -1,0 +1,1 @@
+'a 'static '_ 'r#b 'é &'a T<'b, 'c> 'a: loop { break 'a; } 'a'b' 'if

@@ -1,0 +1,3 @@
+#! // a comment
+  /* and another */ [allow(unused)]
+fn main() {}

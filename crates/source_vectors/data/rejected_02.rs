@@ -1,0 +1,2 @@
+fn a() { (b, c) }
+mod open { fn b() { [1, 2]

@@ -1,0 +1,1 @@
+let a = r#crate::b;

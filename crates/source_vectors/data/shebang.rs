@@ -1,0 +1,2 @@
+﻿#!/usr/bin/env run-rust --quiet
+fn main() {}

@@ -1,0 +1,72 @@
+// Reads Rust source files by `lex_source`. The first word is `tokens`, which prints the tokens of each file or why it is rejected, or
+// `count`, which prints how many trees all files have. The second is an edition, the others are the files.
+#![tactic(auto)]
+
+mod show;
+
+use anyhow::{Context, Result, bail};
+use show::push_stream;
+use std::alloc::Global;
+use std::{env, fs};
+use tok_core::{Edition, LexFault, lex_source};
+
+fn main(rt: HostRuntime) -> Result<()> {
+    let mut words = env::args(&rt)?;
+    let _ = words.next();
+    let goal = words.next().context("no word that says what to print")?;
+    let edition = words.next().context("no edition")?;
+    let edition = edition_of(edition.as_str()).context("no such edition")?;
+    match goal.as_str() {
+        "tokens" => {
+            for file in words {
+                let text = fs::read_to_string(&rt, file.as_str()).context("reading a file")?;
+                rt.print(tokens(rt.alloc(), edition, file.as_str(), text.as_str())?)?;
+            }
+        }
+        "count" => {
+            let mut trees = 0usize;
+            for file in words {
+                let text = fs::read_to_string(&rt, file.as_str()).context("reading a file")?;
+                trees = trees.saturating_add(count(rt.alloc(), edition, text.as_str()));
+            }
+            println!(rt; "{trees}")?;
+        }
+        _ => bail!("neither tokens nor count"),
+    }
+    Ok(())
+}
+
+// The edition of this name.
+fn edition_of(name: &str) -> Option<Edition> {
+    match name {
+        "2015" => Some(Edition::Edition2015),
+        "2018" => Some(Edition::Edition2018),
+        "2021" => Some(Edition::Edition2021),
+        "2024" => Some(Edition::Edition2024),
+        _ => None,
+    }
+}
+
+// The name of a file, and a line for each of its tokens, or the one that says why it is rejected.
+fn tokens(alloc: Global, edition: Edition, file: &str, text: &str) -> Result<String> {
+    let mut lines = format!(in alloc; "{file}\n")?;
+    match lex_source(alloc, edition, 0, text) {
+        Ok(stream) => push_stream(&mut lines, &stream)?,
+        Err(LexFault::Refused(error)) => {
+            let number = error.number();
+            let at = error.at();
+            let line = format!(in alloc; "rejected {at} L{number} {error}\n")?;
+            lines.push_str(line.as_str())?;
+        }
+        Err(LexFault::Memory) => bail!("out of memory"),
+    }
+    Ok(lines)
+}
+
+// How many trees a text has outside all groups. A text that is rejected has none.
+fn count(alloc: Global, edition: Edition, text: &str) -> usize {
+    match lex_source(alloc, edition, 0, text) {
+        Ok(stream) => stream.trees().len(),
+        Err(_) => 0,
+    }
+}

@@ -1,0 +1,213 @@
+//! The parsers of `examples::entry` and `examples::setting`.
+use crate::outcomes::{Sample, all_said, is_said};
+use examples::entry::{Call, Entry, Pair, parse_entry, parse_entry_both, parse_entry_text};
+use examples::setting::{Field, Flag, read_setting};
+use std::alloc::{AllocGlobal, Global};
+use std::process::Abort;
+use syn_parse::{ParseStream, Parser, Result};
+use tok_core::lex_marked;
+
+fn whole_pair(input: ParseStream<'_, '_>) -> Result<String> {
+    let pair: Pair = input.parse()?;
+    Ok(format!(in input.allocator(); "{} {}", pair.name.as_str(), pair.value.as_str())?)
+}
+
+fn whole_call(input: ParseStream<'_, '_>) -> Result<String> {
+    let call: Call = input.parse()?;
+    Ok(format!(in input.allocator(); "{} {}", call.name.as_str(), call.value.as_str())?)
+}
+
+// The parsers of this module.
+enum Read {
+    WholePair,
+    WholeCall,
+    WholeSetting,
+    WholeFlag,
+    WholeField,
+}
+
+impl Sample for Read {
+    fn run(&self, alloc: Global, text: &str) -> Result<String> {
+        match self {
+            Read::WholePair => whole_pair.parse_str(alloc, text),
+            Read::WholeCall => whole_call.parse_str(alloc, text),
+            Read::WholeSetting => whole_setting.parse_str(alloc, text),
+            Read::WholeFlag => whole_flag.parse_str(alloc, text),
+            Read::WholeField => whole_field.parse_str(alloc, text),
+        }
+    }
+}
+
+#[test]
+fn reads_pairs_and_calls(rt: HostRuntime) {
+    all_said(
+        &rt,
+        &Read::WholePair,
+        &[
+            ("a, 1", "a 1"),
+            ("a 1", "2..3 expected `,`"),
+            ("a, b", "3..4 expected literal token"),
+            ("a, 1 b", "5..6 unexpected token"),
+        ],
+    );
+    all_said(
+        &rt,
+        &Read::WholeCall,
+        &[
+            ("f(1)", "f 1"),
+            ("f[1]", "1..2 expected parentheses"),
+            ("f(1 2)", "4..5 unexpected token, expected `)`"),
+            (
+                "f()",
+                "2..3 unexpected end of input, expected literal token",
+            ),
+        ],
+    );
+}
+
+// A name, and the value after `=`.
+fn whole_setting(input: ParseStream<'_, '_>) -> Result<String> {
+    let setting = read_setting(input)?;
+    let name = setting.name.as_str();
+    match &setting.value {
+        Some(value) => Ok(format!(in input.allocator(); "{name}={}", value.as_str())?),
+        None => Ok(format!(in input.allocator(); "{name}")?),
+    }
+}
+
+#[test]
+fn reads_settings(rt: HostRuntime) {
+    all_said(
+        &rt,
+        &Read::WholeSetting,
+        &[
+            ("a", "a"),
+            ("a = \"x\"", "a=\"x\""),
+            (
+                "a =",
+                "call unexpected end of input, expected literal token",
+            ),
+            ("a 1", "2..3 unexpected token"),
+            ("= 1", "0..1 expected identifier"),
+        ],
+    );
+}
+
+// Whether a star comes first, and a name.
+fn whole_flag(input: ParseStream<'_, '_>) -> Result<String> {
+    let flag: Flag = input.parse()?;
+    let has_star = flag.star.is_some();
+    Ok(format!(in input.allocator(); "{has_star} {}", flag.name.as_str())?)
+}
+
+fn whole_field(input: ParseStream<'_, '_>) -> Result<String> {
+    let field: Field = input.parse()?;
+    Ok(format!(in input.allocator(); "{} {}", field.name.as_str(), field.kind.as_str())?)
+}
+
+#[test]
+fn reads_flags_and_fields(rt: HostRuntime) {
+    all_said(
+        &rt,
+        &Read::WholeFlag,
+        &[
+            ("*a", "true a"),
+            ("a", "false a"),
+            ("* *a", "2..3 expected identifier"),
+        ],
+    );
+    all_said(
+        &rt,
+        &Read::WholeField,
+        &[
+            ("a: B", "a B"),
+            ("a B", "2..3 expected `:`"),
+            ("a:", "call unexpected end of input, expected identifier"),
+        ],
+    );
+}
+
+// An entry as text, or its error.
+fn entry_text(alloc: Global, outcome: Result<Entry>) -> Result<String> {
+    let entry = outcome?;
+    let name = entry.name.as_str();
+    let value = entry.value.as_str();
+    let tail = entry.tail.as_str();
+    Ok(format!(in alloc; "{name} {value} {tail}")?)
+}
+
+fn is_entry(alloc: Global, outcome: Result<Entry>, wanted: &str) -> bool {
+    is_said(alloc, entry_text(alloc, outcome), wanted)
+}
+
+// Whether a text is this entry, or is rejected so.
+fn is_entry_text(alloc: Global, text: &str, wanted: &str) -> bool {
+    is_entry(alloc, parse_entry_text(alloc, text), wanted)
+}
+
+fn is_entry_stream(alloc: Global, text: &str, wanted: &str) -> Option<bool> {
+    let stream = lex_marked(alloc, 0, text).ok()?;
+    Some(is_entry(alloc, parse_entry(alloc, stream), wanted))
+}
+
+fn all_entries(rt: &(impl Abort + AllocGlobal), rows: &[(&str, &str)]) {
+    for (text, wanted) in rows {
+        assert!(rt; is_entry_text(rt.alloc(), text, wanted), "at {text}");
+        assert_eq!(rt;
+            is_entry_stream(rt.alloc(), text, wanted),
+            Some(true),
+            "at {text}"
+        );
+    }
+}
+
+#[test]
+fn reads_entries(rt: HostRuntime) {
+    all_entries(
+        &rt,
+        &[
+            ("a, 1, (b)", "a 1 b"),
+            ("a, 1 (b)", "5..6 expected `,`"),
+            ("a, 1, b", "6..7 expected parentheses"),
+            ("a, 1, (b c)", "9..10 unexpected token, expected `)`"),
+            ("a, 1, (b) c", "10..11 unexpected token"),
+            ("", "call unexpected end of input, expected identifier"),
+        ],
+    );
+}
+
+// Whether two texts are these entries, or are rejected so.
+fn are_entries(alloc: Global, left: &str, right: &str, wanted: (&str, &str)) -> Option<bool> {
+    let left = lex_marked(alloc, 0, left).ok()?;
+    let right = lex_marked(alloc, 0, right).ok()?;
+    let (left, right) = parse_entry_both(alloc, left, right);
+    let is_left = is_entry(alloc, left, wanted.0);
+    let is_right = is_entry(alloc, right, wanted.1);
+    Some(is_left && is_right)
+}
+
+fn all_both(rt: &(impl Abort + AllocGlobal), rows: &[(&str, &str, (&str, &str))]) {
+    for (left, right, wanted) in rows {
+        assert_eq!(rt;
+            are_entries(rt.alloc(), left, right, *wanted),
+            Some(true),
+            "at {left}"
+        );
+    }
+}
+
+#[test]
+fn reads_two_entries(rt: HostRuntime) {
+    all_both(
+        &rt,
+        &[
+            ("a, 1, (b)", "«a», «1, (b)»", ("a 1 b", "a 1 b")),
+            ("a, 1, (b)", "c, 2, («d»)", ("a 1 b", "c 2 d")),
+            (
+                "a, bc",
+                "a, «bc»",
+                ("3..5 expected literal token", "3..4 expected literal token"),
+            ),
+        ],
+    );
+}

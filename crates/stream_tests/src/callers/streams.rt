@@ -1,0 +1,122 @@
+//! The parsers of `examples::streams` and `examples::lists`.
+use crate::outcomes::{Sample, all_said};
+use examples::lists::{names, parse_items};
+use examples::streams::{Item, Kind, count_names, next_kind, next_tree, optional_field};
+use std::alloc::Global;
+use syn_parse::{ParseStream, Parser, Result};
+use tok_core::TokenStream;
+
+// The name of an item, and the number of its fields.
+fn whole_item(input: ParseStream<'_, '_>) -> Result<String> {
+    let item: Item = input.parse()?;
+    let count = item.fields.len();
+    Ok(format!(in input.allocator(); "{} {count}", item.name.as_str())?)
+}
+
+// The parsers of this module.
+enum Read {
+    WholeItem,
+    NextKind,
+    TreeAndField,
+    CountedNames,
+    ListedNames,
+    ListedItems,
+}
+
+impl Sample for Read {
+    fn run(&self, alloc: Global, text: &str) -> Result<String> {
+        match self {
+            Read::WholeItem => whole_item.parse_str(alloc, text),
+            Read::NextKind => kind_of_next.parse_str(alloc, text),
+            Read::TreeAndField => tree_and_field.parse_str(alloc, text),
+            Read::CountedNames => counted_names.parse_str(alloc, text),
+            Read::ListedNames => listed_names.parse_str(alloc, text),
+            Read::ListedItems => listed_items.parse_str(alloc, text),
+        }
+    }
+}
+
+#[test]
+fn reads_an_item(rt: HostRuntime) {
+    all_said(
+        &rt,
+        &Read::WholeItem,
+        &[
+            ("struct Point { x: Width, y: Height }", "Point 2"),
+            ("struct Point { x: Width y }", "24..25 expected `,`"),
+        ],
+    );
+}
+
+fn kind_text(kind: Kind) -> &'static str {
+    match kind {
+        Kind::Function => "function",
+        Kind::Structure => "structure",
+    }
+}
+
+fn kind_of_next(input: ParseStream<'_, '_>) -> Result<String> {
+    let kind = next_kind(input)?;
+    let _: TokenStream = input.parse()?;
+    Ok(format!(in input.allocator(); "{}", kind_text(kind))?)
+}
+
+// A tree, a field, and no field after it.
+fn tree_and_field(input: ParseStream<'_, '_>) -> Result<String> {
+    let _ = next_tree(input)?;
+    let is_first = optional_field(input)?.is_some();
+    let is_second = optional_field(input)?.is_some();
+    let _: TokenStream = input.parse()?;
+    Ok(format!(in input.allocator(); "{is_first} {is_second}")?)
+}
+
+#[test]
+fn chooses_steps_and_tries(rt: HostRuntime) {
+    all_said(
+        &rt,
+        &Read::NextKind,
+        &[
+            ("struct S {}", "structure"),
+            ("fn f", "function"),
+            ("enum E {}", "0..4 expected `fn` or `struct`"),
+        ],
+    );
+    all_said(&rt, &Read::TreeAndField, &[("(a) b: C d e", "true false")]);
+}
+
+fn counted_names(input: ParseStream<'_, '_>) -> Result<String> {
+    let count = count_names(input)?;
+    Ok(format!(in input.allocator(); "{count}")?)
+}
+
+#[test]
+fn counts_names(rt: HostRuntime) {
+    all_said(
+        &rt,
+        &Read::CountedNames,
+        &[
+            ("(a (b) ((c)))", "3"),
+            ("(a 1)", "3..4 expected parentheses"),
+        ],
+    );
+}
+
+fn listed_names(input: ParseStream<'_, '_>) -> Result<String> {
+    let count = names(input)?.len();
+    Ok(format!(in input.allocator(); "{count}")?)
+}
+
+fn listed_items(input: ParseStream<'_, '_>) -> Result<String> {
+    let count = parse_items(input)?.list.len();
+    Ok(format!(in input.allocator(); "{count}")?)
+}
+
+#[test]
+fn lists_of_names_and_of_items(rt: HostRuntime) {
+    all_said(&rt, &Read::ListedNames, &[("a, b", "2")]);
+    all_said(
+        &rt,
+        &Read::ListedItems,
+        &[("a, (b, (), c)", "2"), ("a, (b c)", "6..7 expected `,`")],
+    );
+}

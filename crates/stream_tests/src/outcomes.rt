@@ -1,0 +1,67 @@
+//! What parsers return, compared with rows: a value's text, or an error's range and words.
+use std::alloc::{AllocGlobal, Global};
+use std::process::Abort;
+use syn_parse::{Fault, Parse, ParseStream, Result};
+use tok_buffer::Error;
+
+// The text of a row whose value is read, and not looked at.
+pub const READ: &str = "";
+
+// The parsers of a module. Each returns its value as text.
+pub trait Sample {
+    fn run(&self, alloc: Global, text: &str) -> Result<String>;
+}
+
+// Reads a `T`, and doesn't look at it.
+pub fn read<T: Parse + Drop>(input: ParseStream<'_, '_>) -> Result<String> {
+    let _: T = input.parse()?;
+    Ok(String::new(input.allocator()))
+}
+
+fn words(alloc: Global, error: &Error) -> Option<String> {
+    match error.span().as_range() {
+        Some((_, start, end)) => format!(in alloc; "{start}..{end} {error}").ok(),
+        None => format!(in alloc; "call {error}").ok(),
+    }
+}
+
+pub fn is_words(alloc: Global, error: &Error, wanted: &str) -> bool {
+    match words(alloc, error) {
+        Some(text) => text.as_str() == wanted,
+        None => false,
+    }
+}
+
+fn is_fault(alloc: Global, fault: Fault, wanted: &str) -> bool {
+    match fault {
+        Fault::Refused(error) => is_words(alloc, &error, wanted),
+        Fault::Memory(_) => false,
+    }
+}
+
+// Whether an outcome is a value, if `READ` is wanted, or else this error.
+pub fn is_read<T: Drop>(alloc: Global, outcome: Result<T>, wanted: &str) -> bool {
+    match outcome {
+        Ok(_) => wanted == READ,
+        Err(fault) => is_fault(alloc, fault, wanted),
+    }
+}
+
+// Whether an outcome is this text, or this error.
+pub fn is_said(alloc: Global, outcome: Result<String>, wanted: &str) -> bool {
+    match outcome {
+        Ok(text) => text.as_str() == wanted,
+        Err(fault) => is_fault(alloc, fault, wanted),
+    }
+}
+
+fn says<S: Sample>(alloc: Global, sample: &S, text: &str, wanted: &str) -> bool {
+    is_said(alloc, sample.run(alloc, text), wanted)
+}
+
+// Each text by this parser.
+pub fn all_said<S: Sample>(rt: &(impl Abort + AllocGlobal), sample: &S, rows: &[(&str, &str)]) {
+    for (text, wanted) in rows {
+        assert!(rt; says(rt.alloc(), sample, text, wanted), "at {text}");
+    }
+}
