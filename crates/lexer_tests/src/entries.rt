@@ -1,7 +1,7 @@
-//! Buffers that are read from a text, beside those of its trees: `from_text`, `from_marked` and `from_source`.
+//! Compares `from_text`, `from_marked` and `from_source` with the buffers of the trees of the same texts.
 use crate::texts::{Rules, all_alike, all_repeated};
 
-// Texts that some of the rules read and others refuse.
+// Texts that some of the rules read and others reject.
 const TEXTS: [&str; 20] = [
     "",
     "a",

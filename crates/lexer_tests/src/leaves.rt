@@ -1,9 +1,9 @@
-//! The makers of identifiers, puncts and string literals: what they take, and what they refuse.
+//! Makes identifiers, puncts and string literals, and rejects the texts that are none.
 use std::alloc::{AllocGlobal, Global};
 use std::process::Abort;
 use tok_core::{Ident, Literal, MakeFault, Punct, Spacing, Span};
 
-// Whether this identifier is made of a text, or none where none is wanted.
+// Returns `true` if `Ident::new` makes the wanted identifier of a text, or rejects the text if none is wanted.
 fn is_ident(alloc: Global, text: &str, wanted: Option<&str>) -> bool {
     match Ident::new(alloc, text, Span::source(1, 2, 4)) {
         Ok(ident) => wanted == Some(ident.as_str()) && ident.span() == Span::source(1, 2, 4),
@@ -11,7 +11,7 @@ fn is_ident(alloc: Global, text: &str, wanted: Option<&str>) -> bool {
     }
 }
 
-// Whether this raw identifier is made of a text, or none where none is wanted.
+// Returns `true` if `Ident::new_raw` makes the wanted identifier of a text, or rejects the text if none is wanted.
 fn is_raw_ident(alloc: Global, text: &str, wanted: Option<&str>) -> bool {
     match Ident::new_raw(alloc, text, Span::call_site()) {
         Ok(ident) => wanted == Some(ident.as_str()) && ident.span() == Span::call_site(),
@@ -65,19 +65,19 @@ fn makes_raw_idents(rt: HostRuntime) {
     );
 }
 
-// The character, spacing and span of the punct that is made of a character.
+// Returns the character, the spacing and the span of the punct that `Punct::new` makes.
 fn punct(ch: char) -> Option<(char, Spacing, Span)> {
     let punct = Punct::new(ch, Spacing::Joint)?;
     Some((punct.as_char(), punct.spacing(), punct.span()))
 }
 
-// The same of the punct that is made at a span.
+// Returns the character, the spacing and the span of the punct that `Punct::new_spanned` makes.
 fn punct_at(ch: char, span: Span) -> Option<(char, Spacing, Span)> {
     let punct = Punct::new_spanned(ch, Spacing::Alone, span)?;
     Some((punct.as_char(), punct.spacing(), punct.span()))
 }
 
-// Checks that a punct is made of each of these characters, or of none.
+// Checks that each of these characters makes a punct, or that none does.
 fn all_puncts(rt: &(impl Abort + AllocGlobal), text: &str, wanted: bool) {
     let span = Span::source(1, 2, 3);
     for ch in text.chars() {

@@ -1,9 +1,9 @@
-//! Texts read by the rules of `lex` and of `lex_marked`: their tokens, and where and why they are refused.
+//! Reads texts by the rules of `lex` and `lex_marked`: their tokens, and where and why they are rejected.
 use crate::texts::{Rules, all_read, all_refused, all_repeated, refused, repeated};
 use std::alloc::{AllocGlobal, Global};
 use std::process::Abort;
 
-// Whether a text is refused by this number and in these words.
+// Returns `true` if a text is rejected with this number and these words.
 fn says(alloc: Global, rules: &Rules, text: &str, number: u8, words: &str) -> Option<bool> {
     let error = refused(alloc, rules, text)?;
     let shown = format!(in alloc; "{error}").ok()?;
@@ -22,7 +22,7 @@ fn says_of_all(
     says(alloc, rules, text.as_str(), number, words)
 }
 
-// Checks the words in which a text, written so many times, is refused.
+// Checks the number and the words with which a text, written so many times, is rejected.
 fn all_say(rt: &(impl Abort + AllocGlobal), rules: &Rules, rows: &[(&str, usize, u8, &str)]) {
     for (piece, count, number, words) in rows {
         let found = says_of_all(rt.alloc(), rules, piece, *count, *number, words);

@@ -1,5 +1,4 @@
-//! Tests of the public calls of the lexer, leaves and trees: what no contract says, and that each call succeeds while
-//! memory lasts.
+//! Tests of the calls of the lexer, leaves and trees: what no contract says, and that each succeeds while memory lasts.
 #![tactic(auto)]
 
 #[cfg(test)]

@@ -1,4 +1,4 @@
-//! Texts read by the rules of `lex_source`: their tokens, and where and why they are refused.
+//! Reads texts by the rules of `lex_source`: their tokens, and where and why they are rejected.
 use crate::texts::{Rules, all_read, all_refused};
 
 #[test]

@@ -7,7 +7,7 @@ use tok_core::{
     lex_marked, lex_source,
 };
 
-// The call that reads a text: `lex`, `lex_marked`, or `lex_source` by the default edition or another one.
+// A list of rules: that of `lex`, of `lex_marked`, or of `lex_source` by the default edition or another one.
 pub enum Rules {
     Plain,
     Marked,
@@ -15,13 +15,13 @@ pub enum Rules {
     Edition(Edition),
 }
 
-// The number of the source that each text is.
+// The number of the source, for all texts.
 pub const SOURCE: u32 = 7;
 
-// The deepest nesting of groups that is looked at.
+// The deepest nesting of groups that is compared.
 const LEVELS: usize = 300;
 
-// The most tokens of a group that are looked at.
+// The most tokens of a group that are compared.
 const TOKENS: usize = 10_000;
 
 fn trees(alloc: Global, rules: &Rules, text: &str) -> Result<TokenStream, LexFault> {
@@ -33,7 +33,7 @@ fn trees(alloc: Global, rules: &Rules, text: &str) -> Result<TokenStream, LexFau
     }
 }
 
-// The buffer of a text, by its trees.
+// Lays out the trees of a text.
 fn laid(alloc: Global, rules: &Rules, text: &str) -> Result<TokenBuffer, LexFault> {
     let stream = trees(alloc, rules, text)?;
     match TokenBuffer::new2(alloc, 0, stream) {
@@ -42,7 +42,7 @@ fn laid(alloc: Global, rules: &Rules, text: &str) -> Result<TokenBuffer, LexFaul
     }
 }
 
-// The buffer of a text, with no trees made.
+// Reads a text straight into a buffer.
 fn read(alloc: Global, rules: &Rules, text: &str) -> Result<TokenBuffer, LexFault> {
     match rules {
         Rules::Plain => TokenBuffer::from_text(alloc, 0, SOURCE, text),
@@ -52,7 +52,7 @@ fn read(alloc: Global, rules: &Rules, text: &str) -> Result<TokenBuffer, LexFaul
     }
 }
 
-// A tree by its kind, text and spacing; a group by its opening delimiter.
+// Returns the kind, the text and the spacing of a tree, or the opening delimiter of a group.
 fn word(alloc: Global, tree: &TokenTree) -> Result<String, AllocError> {
     match tree {
         TokenTree::Ident(ident) => format!(in alloc; "i {}", ident.as_str()),
@@ -65,7 +65,7 @@ fn word(alloc: Global, tree: &TokenTree) -> Result<String, AllocError> {
     }
 }
 
-// Puts a word after the others, which a space parts.
+// Appends a word, after a space unless it is the first.
 fn push_word(out: &mut String, word: &str) -> Option<()> {
     if !out.is_empty() {
         out.push(' ').ok()?;
@@ -100,7 +100,7 @@ fn push_trees(alloc: Global, out: &mut String, stream: &TokenStream, levels: usi
     Some(())
 }
 
-// All trees of a stream with their spans: `(a)` is `( 0..3 i a 1..2 )`.
+// Returns all trees of a stream with their spans: `( 0..3 i a 1..2 )` for `(a)`.
 fn line(alloc: Global, stream: &TokenStream) -> Option<String> {
     let mut out = String::new(alloc);
     push_trees(alloc, &mut out, stream, LEVELS)?;
@@ -134,7 +134,7 @@ fn is_same_place(left: Cursor<'_>, right: Cursor<'_>) -> bool {
         && left.scope_delimiter() == right.scope_delimiter()
 }
 
-// Whether all places from two on are alike, in groups too.
+// Returns `true` if all places from two cursors on are alike, inside groups too.
 fn are_same_places(left: Cursor<'_>, right: Cursor<'_>, levels: usize) -> bool {
     let mut left = left;
     let mut right = right;
@@ -173,7 +173,7 @@ fn are_same_trees(alloc: Global, left: Cursor<'_>, right: Cursor<'_>) -> Option<
     is_stream(alloc, &stream, right)
 }
 
-// Whether a text is read straight into the entries from this place on.
+// Returns `true` if a text is read straight into the entries from this place on.
 fn is_read(alloc: Global, rules: &Rules, text: &str, wanted: Cursor<'_>) -> Option<bool> {
     let buffer = read(alloc, rules, text).ok()?;
     let found = buffer.begin();
@@ -181,14 +181,14 @@ fn is_read(alloc: Global, rules: &Rules, text: &str, wanted: Cursor<'_>) -> Opti
     Some(alike && are_same_places(wanted, found, LEVELS))
 }
 
-// Whether a text is read straight into the entries of the buffer of its trees.
+// Returns `true` if a text is read straight into the entries that its trees are laid out as.
 fn is_read_alike(alloc: Global, rules: &Rules, text: &str) -> Option<bool> {
     let buffer = laid(alloc, rules, text).ok()?;
     is_read(alloc, rules, text, buffer.begin())
 }
 
-// What both calls say of a text: that it is read, or the number and the byte of the refusal.
-// `None` if they differ.
+// Reads a text both ways. Returns the number and the byte of the error, or `Some(None)` if the text
+// is read. Returns `None` if the two ways differ.
 fn outcome(alloc: Global, rules: &Rules, text: &str) -> Option<Option<(u8, usize)>> {
     let Some(error) = refused(alloc, rules, text) else {
         return is_read_alike(alloc, rules, text)?.then_some(None);
@@ -198,7 +198,7 @@ fn outcome(alloc: Global, rules: &Rules, text: &str) -> Option<Option<(u8, usize
     (alike && error.span() == Span::source(SOURCE, at, at)).then_some(Some((error.number(), at)))
 }
 
-// A text of pieces, each written so many times.
+// Writes each piece so many times.
 pub fn repeated(alloc: Global, pieces: &[(&str, usize)]) -> Option<String> {
     let mut text = String::new(alloc);
     for (piece, count) in pieces {
@@ -218,7 +218,7 @@ fn outcome_of_all(
     outcome(alloc, rules, text.as_str())
 }
 
-// Checks the lines that both calls read these texts as.
+// Checks the tokens of these texts, read both ways.
 pub fn all_read(rt: &(impl Abort + AllocGlobal), rules: &Rules, rows: &[(&str, &str)]) {
     for (text, wanted) in rows {
         let alloc = rt.alloc();
@@ -231,7 +231,7 @@ pub fn all_read(rt: &(impl Abort + AllocGlobal), rules: &Rules, rows: &[(&str, &
     }
 }
 
-// Checks that both calls refuse these texts, by the number of the refusal and its byte.
+// Checks the number and the byte of the errors of these texts, read both ways.
 pub fn all_refused(rt: &(impl Abort + AllocGlobal), rules: &Rules, rows: &[(&str, u8, usize)]) {
     for (text, number, at) in rows {
         let found = outcome(rt.alloc(), rules, text);
@@ -239,14 +239,14 @@ pub fn all_refused(rt: &(impl Abort + AllocGlobal), rules: &Rules, rows: &[(&str
     }
 }
 
-// Checks that both calls read these texts alike, or refuse them alike.
+// Checks that both ways read these texts alike, or reject them alike.
 pub fn all_alike(rt: &(impl Abort + AllocGlobal), rules: &Rules, rows: &[&str]) {
     for text in rows {
         assert!(rt; outcome(rt.alloc(), rules, text).is_some(), "at {text}");
     }
 }
 
-// Checks whether both calls read texts of repeated pieces, or by which number and byte they refuse them.
+// Checks the number and the byte of the errors, if any, of texts of repeated pieces, read both ways.
 pub fn all_repeated(
     rt: &(impl Abort + AllocGlobal),
     rules: &Rules,

@@ -1,4 +1,4 @@
-//! Calls on spans, trees and streams: what they return, compare and print.
+//! Joins spans, and prints, compares, writes and moves trees and streams.
 use std::alloc::{AllocGlobal, Global};
 use std::cmp::Ordering;
 use std::hash::{DefaultHasher, Hash, Hasher};
@@ -8,7 +8,7 @@ use tok_core::{
     TokenStreamHelper, TokenTree, TokenTreeHelper, is_clear, is_filled, lex_marked, same_visible,
 };
 
-// A span as its source, start and end; the call site has none.
+// Returns the span of a source, a start and an end, or the call site.
 fn span(range: Option<(u32, usize, usize)>) -> Span {
     match range {
         Some((number, start, end)) => {
@@ -54,7 +54,7 @@ fn joins_spans(rt: HostRuntime) {
     );
 }
 
-// Checks the opening and the closing span of a group at each of these.
+// Checks the opening and the closing span of a group at each of these spans.
 fn all_delimited(
     rt: &impl Abort,
     rows: &[(
@@ -109,14 +109,14 @@ fn push_group(
     tokens.append(TokenTree::Group(group)).ok()
 }
 
-// `c`, made by hand.
+// Makes `c` by hand.
 fn inner(alloc: Global) -> Option<TokenStream> {
     let mut tokens = TokenStream::new(alloc);
     push_name(alloc, &mut tokens, "c", 5)?;
     Some(tokens)
 }
 
-// `b «c»`, made by hand.
+// Makes `b «c»` by hand.
 fn outer(alloc: Global) -> Option<TokenStream> {
     let mut tokens = TokenStream::new(alloc);
     push_name(alloc, &mut tokens, "b", 3)?;
@@ -129,7 +129,7 @@ fn outer(alloc: Global) -> Option<TokenStream> {
     Some(tokens)
 }
 
-// `a (b «c») +=`, made by hand.
+// Makes `a (b «c») +=` by hand.
 fn by_hand(alloc: Global) -> Option<TokenStream> {
     let mut tokens = TokenStream::new(alloc);
     push_name(alloc, &mut tokens, "a", 0)?;
@@ -140,7 +140,7 @@ fn by_hand(alloc: Global) -> Option<TokenStream> {
     Some(tokens)
 }
 
-// Where a stream comes from.
+// A stream that is made by hand, or read from a text.
 enum From<'a> {
     Hand,
     Text(&'a str),
@@ -169,7 +169,7 @@ fn is_copied(alloc: Global, from: &From<'_>, wanted: &str) -> Option<bool> {
     is_text(alloc, &copy, wanted)
 }
 
-// The weight of a stream, the number of its trees, and whether it is empty.
+// Returns the weight of a stream, the number of its trees, and whether it is empty.
 fn sizes(alloc: Global, from: &From<'_>) -> Option<(usize, usize, bool)> {
     let tokens = made(alloc, from)?;
     let (weight, is_empty) = (tokens.weight(), tokens.is_empty());
@@ -201,7 +201,7 @@ fn is_visible_of(alloc: Global, left: &TokenStream, right: &str) -> Option<bool>
     same_visible(alloc, left, &right).ok()
 }
 
-// Whether two texts have the same visible trees.
+// Returns `true` if two texts have the same visible trees.
 fn is_same_visible(alloc: Global, left: &str, right: &str) -> Option<bool> {
     let left = read(alloc, left)?;
     is_visible_of(alloc, &left, right)
@@ -229,7 +229,7 @@ fn compares_visible_trees(rt: HostRuntime) {
     );
 }
 
-// Whether a text is filled, and whether it is clear.
+// Returns the results of `is_filled` and `is_clear`.
 fn filled_and_clear(alloc: Global, text: &str) -> Option<(bool, bool)> {
     let tokens = read(alloc, text)?;
     Some((is_filled(&tokens), is_clear(&tokens)))
@@ -264,7 +264,7 @@ fn hash_of<T: Hash>(value: &T) -> u64 {
     state.finish()
 }
 
-// Whether two streams are equal without their spans, and whether their hashes are.
+// Compares two streams without their spans, and their hashes.
 fn alike_to(alloc: Global, left: &TokenStream, right: &str) -> Option<(bool, bool)> {
     let right = read(alloc, right)?;
     let (one, other) = (TokenStreamHelper(left), TokenStreamHelper(&right));
@@ -276,7 +276,7 @@ fn alike(alloc: Global, left: &str, right: &str) -> Option<(bool, bool)> {
     alike_to(alloc, &left, right)
 }
 
-// The same of the first trees.
+// Compares the first trees of two streams without their spans, and their hashes.
 fn first_alike_to(alloc: Global, left: &TokenStream, right: &str) -> Option<(bool, bool)> {
     let right = read(alloc, right)?;
     let one = TokenTreeHelper(left.trees().first()?);
@@ -364,7 +364,7 @@ fn writes_values_alone(rt: HostRuntime) {
     assert_eq!(rt; is_alone(alloc, group_alone(alloc), "{}"), Some(true));
 }
 
-// The last tree of a text, moved to this span.
+// Returns the last tree of a text, moved to this span.
 fn moved(alloc: Global, text: &str, span: Span) -> Option<TokenTree> {
     let mut trees = read(alloc, text)?.into_trees();
     let mut tree = trees.pop()?;
@@ -377,7 +377,7 @@ fn span_of_moved(alloc: Global, text: &str, span: Span) -> Option<Span> {
     Some(tree.span())
 }
 
-// The delimiter of a group that was moved, its opening and its closing span, and the whole.
+// Returns the delimiter of a group that was moved, its opening and closing spans, and the whole.
 fn delimiters_of_moved(
     alloc: Global,
     text: &str,
@@ -451,7 +451,7 @@ fn moves_groups(rt: HostRuntime) {
     );
 }
 
-// Whether two identifiers are equal, how they are ordered, and whether their hashes are equal.
+// Returns whether two identifiers are equal, their order, and whether their hashes are equal.
 fn compared_to(alloc: Global, left: &Ident, right: &str) -> Option<(bool, Ordering, bool)> {
     let right = Ident::new(alloc, right, Span::source(3, 1, 2)).ok()?;
     Some((

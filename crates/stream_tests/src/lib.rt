@@ -6,8 +6,6 @@ mod argument_lists;
 #[cfg(test)]
 mod callers;
 #[cfg(test)]
-mod lists;
-#[cfg(test)]
 mod outcomes;
 #[cfg(test)]
 mod streams;

@@ -2,6 +2,7 @@
 pub mod Codes
 pub mod Comments
 pub mod Contents
+pub mod Decimals
 pub mod Docs
 pub mod Escapes
 pub mod First
@@ -13,6 +14,7 @@ pub mod Numbers
 pub mod Prefixes
 pub mod Raw
 pub mod Scans
+pub mod Seconds
 pub mod Slashes
 pub mod Sources
 pub mod Starts

@@ -1,8 +1,9 @@
 -- What the first character of a text tells: which rules may take its front.
-use Rattle.std.specs.Prelude.{◌==◌, ◌||◌, if◌then◌else◌, Bool, true, false, ℕ}
+use Rattle.std.specs.Prelude.{◌==◌, ◌||◌, ◌&&◌, if◌then◌else◌, Bool, true, false, ℕ}
 use Rattle.std.specs.Prelude.{List, [], ◌∷◌}
 use Rattle.std.specs.Char.{is_digit}
 use Rattle.tok_lexical.specs.Characters.{is_whitespace, is_punct}
+use Rattle.tok_lexical.specs.Pieces.{after_first, begins_with}
 use Rattle.tok_lexical.specs.Words.{is_identifier_start}
 use Rattle.tok_lexical.specs.Rules.{plain_rules, marked_rules, source_rules}
 use Rattle.tok_lexical.specs.declared.delimiter.Delimiter.TheVariants.{Parenthesis, Brace, Bracket}
@@ -144,6 +145,25 @@ abbrev pub punct_rule : Rules → Rule
 punct_rule rules.Marked = rule.MarkedPunct
 punct_rule (rules.Source edition) = rule.SourcePunct edition
 punct_rule other = rule.Punct
+
+-- the rules of decimals
+abbrev pub decimal_rules : Rules → List Rule
+decimal_rules (rules.Source edition) = rule.Float ∷ rule.PointedDecimal ∷ rule.SourceDecimal ∷ []
+decimal_rules other = rule.Decimal ∷ []
+
+-- after a zero: the letter of a base
+abbrev pub names_base : List ℕ → Bool
+names_base rest = begins_with 120 rest || (begins_with 111 rest || begins_with 98 rest)
+
+-- a quote, or a number sign before one
+abbrev pub opens_string : List ℕ → Bool
+opens_string rest = begins_with 34 rest || begins_with 35 rest
+
+-- after `b`, `c` or `r`: what may make them more than an identifier
+abbrev pub opens_literal : List ℕ → Bool
+opens_literal rest =
+    begins_with 39 rest
+    || (opens_string rest || (begins_with 114 rest && opens_string (after_first rest)))
 
 -- the last three rules of a text: of them, one takes any character
 abbrev pub last_rules : Rules → List Rule

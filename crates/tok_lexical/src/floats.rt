@@ -32,7 +32,7 @@ fn past_signed(text: &str) -> Option<&str>
 }
 
 /// Past an exponent and a suffix.
-fn past_exponent(text: &str) -> Option<&str>
+pub fn past_exponent(text: &str) -> Option<&str>
     ensures tries { ReadsLongest IsExponent (chars text.now) result }
     ensures utf8 { IfSome result (λ rest. IsUtf8 rest.now) }
 {
@@ -57,7 +57,7 @@ fn past_scaled(text: &str) -> Option<&str>
 
 /// Past what follows the dot of a float, if that is a digit.
 #[inline(never)]
-fn past_fraction(text: &str) -> Option<&str>
+pub fn past_fraction(text: &str) -> Option<&str>
     ensures tries { ReadsLongest IsFraction (chars text.now) result }
     ensures utf8 { IfSome result (λ rest. IsUtf8 rest.now) }
 {

@@ -78,7 +78,7 @@ fn starts_number_suffix(c: char, radix: u32) -> bool
 }
 
 /// Past a number's suffix, if one follows directly.
-fn past_number_suffix(text: &str, radix: u32) -> &str
+pub fn past_number_suffix(text: &str, radix: u32) -> &str
     requires low { 2 ≤ radix }
     requires high { radix ≤ 16 }
     ensures { (suffix : List ℕ)

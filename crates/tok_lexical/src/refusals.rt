@@ -19,6 +19,7 @@ fn refused_if(is_refused: bool, refusal: Reason) -> Option<Reason>
 }
 
 /// Whether what follows an identifier makes it a reserved prefix.
+#[inline(never)]
 fn is_reserved(edition: Edition, name: &str, after: &str) -> bool
     ensures { result ≡ is_reserved edition (chars name.now) (chars after.now) }
 {
@@ -30,6 +31,7 @@ fn is_reserved(edition: Edition, name: &str, after: &str) -> bool
 }
 
 /// Whether what follows a punct makes it a reserved guard.
+#[inline(never)]
 fn is_guard(edition: Edition, piece: &str, after: &str) -> bool
     ensures { result ≡ is_guard edition (chars piece.now) (chars after.now) }
 {

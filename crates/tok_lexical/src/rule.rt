@@ -1,11 +1,14 @@
 // The rules of the grammar, in their order, and what each takes.
-ghost use Rattle.std.specs.Prelude.{◌≡◌, ◌++◌, false, IfSome};
+ghost use Rattle.std.specs.Prelude.{◌≡◌, ◌++◌, ◌∷◌, [], ℕ, List, true, false, IfSome};
 ghost use Rattle.std.specs.Str.{chars, IsUtf8};
-ghost use Rattle.tok_lexical.specs.Fits.{ReadsByRules};
+ghost use Rattle.tok_lexical.specs.Fits.{IsFirstFit, ReadsByRules};
 ghost use Rattle.tok_lexical.specs.Widths.{is_group_mark, width};
-ghost use Rattle.tok_lexical.specs.Pieces.{ReadsLongest};
+ghost use Rattle.tok_lexical.specs.Pieces.{ReadsLongest, Skips};
+ghost use Rattle.tok_lexical.specs.Numbers.{is_digit_or_underscore, starts_digit};
 ghost use Rattle.tok_lexical.specs.Rules.{Spells};
-ghost use Rattle.tok_lexical.specs.Starts.{tells, only, rules_of, last_rules, identifier_rule, punct_rule};
+ghost use Rattle.tok_lexical.specs.declared.edition.Edition.TheVariants.{Edition2021};
+ghost use Rattle.tok_lexical.specs.declared.rule.Rules.TheVariants.{Source};
+ghost use Rattle.tok_lexical.specs.Starts.{tells, only, rules_of, last_rules, identifier_rule, punct_rule, decimal_rules, start_of, names_base, opens_string, opens_literal};
 
 use crate::char_literals::{past_byte_char, past_escaped_char, past_plain_char};
 use crate::classes::{closing_mark, is_invisible, is_punct, is_whitespace, opening_mark};
@@ -13,14 +16,14 @@ use crate::comments::{past_block_comment, past_line_comment};
 use crate::contents::Contents;
 use crate::delimiter::Delimiter;
 use crate::edition::Edition;
-use crate::floats::{past_float, past_pointed};
+use crate::floats::{past_exponent, past_float, past_fraction, past_pointed};
 use crate::joint::begins_comment;
-use crate::numbers::{Base, past_based, past_decimal};
+use crate::numbers::{Base, past_based, past_decimal, past_digits, past_number_suffix};
 use crate::prefixes::{past_prefix_of, past_string_prefix};
 use crate::raw::past_raw_string;
 use crate::start::Start;
 use crate::strings::{past_byte_string, past_c_string, past_string};
-use crate::text::{next_char, past_pair};
+use crate::text::{begins_with, next_char, past_char, past_first, past_pair};
 use crate::words::{
     past_continues, past_identifier, past_lifetime, past_raw_identifier, past_source_lifetime,
 };
@@ -238,6 +241,21 @@ impl Rules {
             _ => Rule::Punct,
         }
     }
+
+    /// The rule that takes the decimal at the front, and what follows its piece.
+    fn decimal(self, text: &str) -> (Rule, &str)
+        requires { starts_digit (chars text.now) ≡ true }
+        ensures fits { (piece : List ℕ)
+            × IsFirstFit (chars text.now) (decimal_rules self) result.0 piece
+            (chars result.1.now) }
+        ensures utf8 { IsUtf8 result.1.now }
+    {
+        let (_, rest) = past_digits(text, 10);
+        match self {
+            Rules::Source(_) => source_decimal(text, rest),
+            _ => (Rule::Decimal, past_number_suffix(rest, 10)),
+        }
+    }
 }
 
 impl Rule {
@@ -310,6 +328,76 @@ impl Rule {
     }
 }
 
+/// The rule that takes the decimal at the front of a source, and what follows its piece, by what follows the digits.
+#[inline(never)]
+fn source_decimal<'a>(text: &str, rest: &'a str) -> (Rule, &'a str)
+    requires starts { starts_digit (chars text.now) ≡ true }
+    requires digits { (front : List ℕ)
+        × Skips (is_digit_or_underscore 10) (chars text.now) front (chars rest.now) }
+    ensures fits { (piece : List ℕ)
+        × IsFirstFit (chars text.now) (decimal_rules (Source Edition2021)) result.0 piece
+        (chars result.1.now) }
+    ensures utf8 { IsUtf8 result.1.now }
+{
+    if let Some(after) = past_char(rest, '.') {
+        match past_fraction(after) {
+            Some(end) => (Rule::Float, end),
+            None => (Rule::PointedDecimal, after),
+        }
+    } else {
+        match past_exponent(rest) {
+            Some(end) => (Rule::Float, end),
+            None => (Rule::SourceDecimal, past_number_suffix(rest, 10)),
+        }
+    }
+}
+
+/// Whether a zero before this text names a base.
+fn names_base(rest: &str) -> bool
+    ensures { result ≡ names_base (chars rest.now) }
+{
+    begins_with(rest, 'x') || begins_with(rest, 'o') || begins_with(rest, 'b')
+}
+
+fn opens_string(rest: &str) -> bool
+    ensures { result ≡ opens_string (chars rest.now) }
+{
+    begins_with(rest, '"') || begins_with(rest, '#')
+}
+
+/// Whether `b`, `c` or `r` before this text may be more than an identifier.
+fn opens_literal(rest: &str) -> bool
+    ensures { result ≡ opens_literal (chars rest.now) }
+{
+    begins_with(rest, '\'')
+        || opens_string(rest)
+        || begins_with(rest, 'r') && opens_string(past_first(rest))
+}
+
+/// The first rule that fits, if a digit begins the text, or what comes after a letter tells that it begins no literal.
+#[inline(never)]
+fn second_told<'a>(
+    rules: Rules,
+    start: Start,
+    text: &'a str,
+    rest: &'a str,
+) -> Option<(Rule, &'a str)>
+    requires { (c : ℕ) × (chars text.now ≡ c ∷ chars rest.now) × (start ≡ start_of c) }
+    ensures fits { IfSome result
+        (λ found. (piece : List ℕ)
+        × IsFirstFit (chars text.now) (rules_of rules) found.0 piece (chars found.1.now)) }
+    ensures utf8 { IfSome result (λ found. IsUtf8 found.1.now) }
+{
+    match start {
+        Start::Digit => Some(rules.decimal(text)),
+        Start::Zero if !names_base(rest) => Some(rules.decimal(text)),
+        Start::Prefix if !opens_literal(rest) => {
+            Some((rules.identifier(), past_continues(rest)))
+        }
+        _ => None,
+    }
+}
+
 /// The first of the rules that fits at the front of the text, and what follows its piece.
 #[inline(always)]
 pub fn first_rule(rules: Rules, text: &str) -> Option<(Rule, &str)>
@@ -326,6 +414,11 @@ pub fn first_rule(rules: Rules, text: &str) -> Option<(Rule, &str)>
         Start::Closing(delimiter) => return Some((Rule::Closing(delimiter), rest)),
         Start::Slash if !begins_comment(text) => return Some((rules.punct(), rest)),
         _ => {}
+    }
+    if start.has_second() {
+        if let Some(found) = second_told(rules, start, text, rest) {
+            return Some(found);
+        }
     }
     let those = rules.at(start);
     for rule in those {

@@ -65,6 +65,12 @@ impl Start {
         }
     }
 
+    // Whether the second character may tell the rule.
+    #[inline(always)]
+    pub fn has_second(self) -> bool {
+        matches!(self, Start::Zero | Start::Digit | Start::Prefix)
+    }
+
     // Beyond ASCII.
     fn of_other(c: char) -> Start
         requires { 128 ≤ c }

@@ -1,4 +1,4 @@
-//! Calls on buffers, cursors, errors and lifetimes, and the places in a text at which they are made.
+//! Makes calls on buffers, cursors, errors and lifetimes, at places in a text.
 mod cursors;
 mod errors;
 mod lifetimes;
@@ -19,7 +19,7 @@ enum At {
     Nowhere,
 }
 
-// The buffer of a marked text.
+// Lays out the trees of a marked text.
 fn laid(alloc: Global, number: u64, text: &str) -> Option<TokenBuffer> {
     let stream = lex_marked(alloc, 0, text).ok()?;
     TokenBuffer::new2(alloc, number, stream).ok()
@@ -32,7 +32,7 @@ fn content(cursor: Cursor<'_>) -> Cursor<'_> {
     }
 }
 
-// The place after a token. A punct is passed alone, so that both halves of `+=` are places.
+// Returns the place after a token. Passes a punct alone, so that both halves of `+=` are places.
 fn after(cursor: Cursor<'_>) -> Cursor<'_> {
     match cursor.punct() {
         Some((_, rest)) => rest,

@@ -1,4 +1,4 @@
-//! Token types: their texts, what they print, and where they are found.
+//! Writes, compares and shows token types, and finds them in texts.
 mod keywords;
 mod punctuations;
 mod trees;
@@ -11,21 +11,21 @@ use tok_buffer::TokenBuffer;
 use tok_core::{Ident, Span, ToTokens, TokenStream, TokenTree, lex_marked};
 use tok_types::token::{self, Token, printing};
 
-// Checks that each of these holds.
+// Checks that each of these facts holds.
 fn all_hold(rt: &impl Abort, facts: &[bool]) {
     for (row, fact) in facts.iter().enumerate() {
         assert!(rt; *fact, "fact {row}");
     }
 }
 
-// Whether a token is next in a text, if the text is read.
+// Returns `true` if a token is next in a text, and `None` if the text is not read.
 fn found_in<T: Token>(alloc: Global, text: &str) -> Option<bool> {
     let stream = lex_marked(alloc, 0, text).ok()?;
     let buffer = TokenBuffer::new2(alloc, 0, stream).ok()?;
     Some(T::peek(buffer.begin()))
 }
 
-// Whether a token is next in the first text and not in the second.
+// Returns `true` if a token is next in the first text and not in the second.
 fn is_found<T: Token>(alloc: Global, here: &str, not_here: &str) -> bool {
     found_in::<T>(alloc, here) == Some(true) && found_in::<T>(alloc, not_here) == Some(false)
 }
@@ -35,27 +35,27 @@ fn is_text(alloc: Global, tokens: &TokenStream, wanted: &str) -> Option<bool> {
     Some(text.as_str() == wanted)
 }
 
-// Whether a token is written as this text.
+// Returns `true` if a token is written as this text.
 fn is_written<T: ToTokens>(alloc: Global, token: &T, wanted: &str) -> Option<bool> {
     let tokens = token.to_token_stream(alloc).ok()?;
     is_text(alloc, &tokens, wanted)
 }
 
-// Whether a text in backquotes is this.
+// Returns `true` if this is the text in backquotes.
 fn is_quoted(alloc: Global, text: &str, display: &str) -> Option<bool> {
     let quoted = format!(in alloc; "`{text}`").ok()?;
     Some(quoted.as_str() == display)
 }
 
-// Whether a token is displayed as its text in backquotes, is written as the text, and is found in
-// the text and not in another.
+// Returns `true` if a token is displayed as its text in backquotes, is written as the text, and is
+// found in the text and not in another.
 fn is_token<T: Token + ToTokens + Default + Drop>(alloc: Global, text: &str, other: &str) -> bool {
     is_quoted(alloc, text, T::display()) == Some(true)
         && is_written(alloc, &T::default(), text) == Some(true)
         && is_found::<T>(alloc, text, other)
 }
 
-// Whether a token has no text: it is found neither in this text nor at the end.
+// Returns `true` if a token has no text, and is found neither in this text nor at the end.
 fn has_no_text<T: Token + ToTokens + Default + Drop>(alloc: Global, other: &str) -> bool {
     T::display() == "``"
         && is_written(alloc, &T::default(), "") == Some(true)
@@ -99,7 +99,7 @@ fn tokens_past_a_table(rt: HostRuntime) {
     );
 }
 
-// Whether a text at so many spans, of at most two, is written as this.
+// Returns `true` if a text at so many spans, at most two, is written as this.
 fn is_punct_written(alloc: Global, text: &str, count: usize, wanted: &str) -> Option<bool> {
     let mut tokens = TokenStream::new(alloc);
     let spans = [at(1), at(2)];
@@ -151,7 +151,7 @@ fn is_surrounded(alloc: Global, wanted: &str) -> Option<bool> {
     is_text(alloc, &tokens, wanted)
 }
 
-// Whether a `surround` that fails returns the error and writes nothing.
+// Returns `true` if a `surround` that fails returns the error and writes nothing.
 fn writes_nothing(alloc: Global) -> bool {
     let mut tokens = TokenStream::new(alloc);
     let refused = token::Paren::default().surround(&mut tokens, |_| Err(AllocError));
@@ -165,7 +165,7 @@ fn surrounds(rt: HostRuntime) {
     assert!(rt; writes_nothing(alloc));
 }
 
-// Whether an identifier was made, of this text and at 1.
+// Returns `true` if an identifier of this text was made at 1.
 fn is_ident(made: Result<Ident, AllocError>, text: &str) -> bool {
     match made {
         Ok(ident) => ident.as_str() == text && ident.span() == at(1),
@@ -189,7 +189,7 @@ fn makes_identifiers(rt: HostRuntime) {
     );
 }
 
-// Whether a token is equal to that at the call site, and hashes nothing.
+// Returns `true` if a token is equal to the one at the call site, and hashes nothing.
 fn is_alike<T: PartialEq + Hash + Default + Drop>(token: T) -> bool {
     token == T::default() && hash_of(&token) == DefaultHasher::new().finish()
 }
@@ -212,7 +212,7 @@ fn compares_and_hashes_alike(rt: HostRuntime) {
     );
 }
 
-// Whether a token is shown as this text for debugging.
+// Returns `true` if a token is shown as this text for debugging.
 fn is_debug<T: Debug + Default + Drop>(alloc: Global, wanted: &str) -> bool {
     match format!(in alloc; "{:?}", T::default()) {
         Ok(text) => text.as_str() == wanted,
@@ -237,7 +237,7 @@ fn shows_for_debugging(rt: HostRuntime) {
     );
 }
 
-// The span of a comma at 1, and after it is moved to 2.
+// Returns the span of a comma at 1, and its span after a move to 2.
 fn moved_comma() -> (Span, Span) {
     let mut comma = token::Comma::new([at(1)]);
     let before = comma.span();
@@ -245,7 +245,7 @@ fn moved_comma() -> (Span, Span) {
     (before, comma.span())
 }
 
-// The span of an underscore at 1, and after it is moved to 2.
+// Returns the span of an underscore at 1, and its span after a move to 2.
 fn moved_underscore() -> (Span, Span) {
     let mut underscore = token::Underscore::new([at(1)]);
     let before = underscore.span();

@@ -277,6 +277,20 @@ slash_told c is = go (c == 47) refl
     go true e = eqb-true c 47 e
     go false e = absurd (false≢true (sym (ap no_slash is) ∙ other_told c e))
 
+abbrev no_zero : Start → Bool
+no_zero start.Zero = false
+no_zero other = true
+
+not_zero_told : (c : ℕ) → (c == 48) ≡ false → no_zero (start_of c) ≡ true
+not_zero_told c e = either no_zero (is_mark c) (start.Rest) (from_whitespace c) refl (either no_zero (is_whitespace c) (start.Whitespace) (from_zero c) refl (passed no_zero (c == 48) (start.Zero) (from_digit c) e (either no_zero (is_digit c 10) (start.Digit) (from_prefix c) refl (either no_zero (is_prefix c) (start.Prefix) (from_slash c) refl (either no_zero (c == 47) (start.Slash) (from_quote c) refl (either no_zero (c == 34) (start.Quote) (from_apostrophe c) refl (either no_zero (c == 39) (start.Apostrophe) (from_parenthesis c) refl (either no_zero (c == 40) (start.Opening delimiter.Parenthesis) (from_closing_parenthesis c) refl (either no_zero (c == 41) (start.Closing delimiter.Parenthesis) (from_bracket c) refl (either no_zero (c == 91) (start.Opening delimiter.Bracket) (from_closing_bracket c) refl (either no_zero (c == 93) (start.Closing delimiter.Bracket) (from_brace c) refl (either no_zero (c == 123) (start.Opening delimiter.Brace) (from_closing_brace c) refl (either no_zero (c == 125) (start.Closing delimiter.Brace) (from_letter c) refl (either no_zero (is_identifier_start c) (start.Letter) (from_punct c) refl (either no_zero (is_punct c) start.Punct start.Rest refl refl)))))))))))))))
+
+pub zero_told : (c : ℕ) → start_of c ≡ start.Zero → c ≡ 48
+zero_told c is = go (c == 48) refl
+  where
+    go : (b : Bool) → (c == 48) ≡ b → c ≡ 48
+    go true e = eqb-true c 48 e
+    go false e = absurd (false≢true (sym (ap no_zero is) ∙ not_zero_told c e))
+
 -- the character tells the piece
 decides_first : (c : ℕ) (text more piece rest : List ℕ) (rule : Rule) (rules others : List Rule) (start : Start) → text ≡ c ∷ more → start_of c ≡ start → only start rules ≡ rule ∷ others → IsLongestPrefix (Spells rule) text piece rest → IsFirstFit text rules rule piece rest
 decides_first c text more piece rest rule rules others start e is listed t =

@@ -1,20 +1,20 @@
-//! What cursors read, and the spans that they tell.
+//! Reads, peeks and rebuilds tokens at cursors, and tells their spans.
 use super::{At, Range, laid, place};
 use std::alloc::{AllocGlobal, Global};
 use std::process::Abort;
 use tok_buffer::{Cursor, laws};
 use tok_core::{Delimiter, Span, TokenTree, lex_marked};
 
-// Where nothing can be read.
+// The position after a read that finds nothing.
 const NO: Option<usize> = None;
 
-// The position of a cursor, if there is one.
+// Returns the position of a cursor, if there is one.
 fn position(rest: Option<Cursor<'_>>) -> Option<usize> {
     rest?.position()
 }
 
-// The positions after a token, an identifier, a punct, a literal, a lifetime and a group, each read
-// at this place.
+// Returns the positions after a token, an identifier, a punct, a literal, a lifetime and a group,
+// each read at this place.
 fn reads(alloc: Global, text: &str, at: &At) -> Option<[Option<usize>; 6]> {
     let buffer = laid(alloc, 0, text)?;
     let here = place(&buffer, at);
@@ -92,7 +92,8 @@ fn ends_at_the_end_of_a_scope(rt: HostRuntime) {
     );
 }
 
-// The span and the name of the lifetime at the start of a text, and the position after it.
+// Returns the apostrophe of the lifetime at the start of a text, whether it has this name, and the
+// position after it.
 fn reads_lifetime(alloc: Global, text: &str, name: &str) -> Option<(Range, bool, Option<usize>)> {
     let buffer = laid(alloc, 0, text)?;
     let (lifetime, rest) = buffer.begin().lifetime()?;
@@ -122,8 +123,7 @@ fn reads_lifetimes(rt: HostRuntime) {
     );
 }
 
-// The leftover at a place, by its span and the closing delimiter that is expected, and the
-// delimiter of the scope.
+// Returns the span and the delimiter of the leftover at a place, and the delimiter of the scope.
 fn leftover(alloc: Global, text: &str, at: &At) -> Option<(Option<(Range, Delimiter)>, Delimiter)> {
     let buffer = laid(alloc, 0, text)?;
     let here = place(&buffer, at);
@@ -166,7 +166,8 @@ fn finds_leftovers(rt: HostRuntime) {
     );
 }
 
-// The delimiter of the group at the start of a text, its span, and the positions in and after it.
+// Returns the delimiter and the span of the group at the start of a text, and the positions in it
+// and after it.
 fn group(alloc: Global, text: &str) -> Option<(Delimiter, Range, Option<usize>, Option<usize>)> {
     let buffer = laid(alloc, 0, text)?;
     let (content, delimiter, span, rest) = buffer.begin().any_group()?;
@@ -178,7 +179,7 @@ fn group(alloc: Global, text: &str) -> Option<(Delimiter, Range, Option<usize>, 
     ))
 }
 
-// The positions in and after the group with this delimiter at the start of a text.
+// Returns the positions in and after the group with this delimiter at the start of a text.
 fn group_of(
     alloc: Global,
     text: &str,
@@ -211,7 +212,7 @@ fn enters_groups(rt: HostRuntime) {
     );
 }
 
-// The spans of a start, of what is before and of a tree, and the position.
+// Returns the start span, the previous span and the span at a place, and its position.
 fn spans(alloc: Global, text: &str, at: &At) -> Option<([Range; 3], Option<usize>)> {
     let buffer = laid(alloc, 0, text)?;
     let here = place(&buffer, at);
@@ -323,7 +324,7 @@ fn peeks_at_puncts(rt: HostRuntime) {
     );
 }
 
-// The spans of two puncts that are read together, and the position after them.
+// Returns the spans of two puncts that are read together, and the position after them.
 fn reads_puncts(
     alloc: Global,
     text: &str,
@@ -392,7 +393,7 @@ fn is_literal(alloc: Global, text: &str, at: &At, wanted: &str) -> Option<bool> 
     Some(literal.as_str() == wanted)
 }
 
-// The span of the tree that is rebuilt at a place, and the position after it.
+// Returns the span of the tree that is rebuilt at a place, and the position after it.
 fn tree(alloc: Global, text: &str, at: &At) -> Option<Option<(Range, Option<usize>)>> {
     let buffer = laid(alloc, 0, text)?;
     match place(&buffer, at).token_tree(alloc).ok()? {
@@ -401,7 +402,7 @@ fn tree(alloc: Global, text: &str, at: &At) -> Option<Option<(Range, Option<usiz
     }
 }
 
-// The number of trees in the group that is rebuilt at a place, and the position after it.
+// Returns the number of trees in the group that is rebuilt at a place, and the position after it.
 fn group_tree(alloc: Global, text: &str, at: &At) -> Option<Option<(usize, Option<usize>)>> {
     let buffer = laid(alloc, 0, text)?;
     match place(&buffer, at).any_group_token(alloc).ok()? {
@@ -410,8 +411,8 @@ fn group_tree(alloc: Global, text: &str, at: &At) -> Option<Option<(usize, Optio
     }
 }
 
-// Checks the span and the end of the tree that is rebuilt at a place, and if it is a group the
-// number of its trees.
+// Checks the span of the tree that is rebuilt at a place, the number of trees in it if it is a
+// group, and the position after it.
 fn all_trees(
     rt: &(impl Abort + AllocGlobal),
     text: &str,

@@ -1,4 +1,4 @@
-//! The spans and the messages of errors, and what they print.
+//! Makes errors and combines them: their spans, their messages, and what they print.
 use super::{At, Range, laid, place};
 use std::alloc::{AllocGlobal, Global};
 use std::process::Abort;
@@ -20,7 +20,7 @@ fn span(message: &Message<'_>) -> Span {
     }
 }
 
-// The span of an error from one cursor to another that isn't before it.
+// Returns the span of an error from one cursor to another that isn't before it.
 fn range(alloc: Global, start: Cursor<'_>, end: Cursor<'_>) -> Option<Range> {
     if start <= end {
         let error = Error::new_range(alloc, start, end, "x").ok()?;
@@ -54,7 +54,7 @@ fn spans_errors_from_cursor_to_cursor(rt: HostRuntime) {
     );
 }
 
-// The span of an error of all tokens of a text.
+// Returns the span of an error at all tokens of a text.
 fn spanned(alloc: Global, text: &str) -> Option<Range> {
     let buffer = laid(alloc, 0, text)?;
     let tokens = buffer.begin().token_stream(alloc).ok()?;
@@ -78,7 +78,7 @@ fn is_error(alloc: Global, error: &Error, span: Span, words: &str) -> Option<boo
     Some(text.as_str() == words && error.as_str() == words && error.span() == span)
 }
 
-// Whether an error at a place, in a scope at 9..9, has this span and these words.
+// Returns `true` if an error at a place, in a scope at 9..9, has this span and these words.
 fn is_error_at(alloc: Global, text: &str, at: &At, wanted: &Message<'_>) -> Option<bool> {
     let buffer = laid(alloc, 0, text)?;
     let scope = Span::source(0, 9, 9);
@@ -109,7 +109,7 @@ fn refuses_at_a_cursor(rt: HostRuntime) {
     );
 }
 
-// Whether the error of a text that isn't read has this span and these words.
+// Returns `true` if the error of a text that isn't read has this span and these words.
 fn is_reported(alloc: Global, text: &str, wanted: &Message<'_>) -> Option<bool> {
     match lex(alloc, 0, text) {
         Err(LexFault::Refused(error)) => {
@@ -145,7 +145,7 @@ fn error_of(alloc: Global, message: &Message<'_>) -> Option<Error> {
     Error::new(alloc, span(message), message.0).ok()
 }
 
-// The error of these messages, which aren't none.
+// Combines errors of these messages, of which there must be one.
 fn error_of_all(alloc: Global, messages: &[Message<'_>]) -> Option<Error> {
     let (first, more) = messages.split_first()?;
     let mut error = error_of(alloc, first)?;
@@ -186,7 +186,7 @@ fn is_message(error: &Error, wanted: Option<&Message<'_>>) -> bool {
     }
 }
 
-// Whether an error lends these messages, which it is made of.
+// Returns `true` if the error of these messages lends each of them in turn.
 fn are_lent(alloc: Global, messages: &[Message<'_>]) -> Option<bool> {
     let error = error_of_all(alloc, messages)?;
     let mut wanted = messages.iter();
@@ -198,7 +198,7 @@ fn are_lent(alloc: Global, messages: &[Message<'_>]) -> Option<bool> {
     Some(wanted.next().is_none())
 }
 
-// An error of these messages, extended by its copy.
+// Extends the error of these messages with a copy of it.
 fn doubled(alloc: Global, messages: &[Message<'_>]) -> Option<Error> {
     let mut error = error_of_all(alloc, messages)?;
     let copy = error.clone().ok()?;
@@ -206,7 +206,7 @@ fn doubled(alloc: Global, messages: &[Message<'_>]) -> Option<Error> {
     Some(error)
 }
 
-// Whether such an error gives these messages twice.
+// Returns `true` if such an error yields these messages twice.
 fn are_given_twice(alloc: Global, messages: &[Message<'_>]) -> Option<bool> {
     let error = doubled(alloc, messages)?;
     let mut wanted = messages.iter().chain(messages);
@@ -236,7 +236,7 @@ fn is_compile_error(alloc: Global, messages: &[Message<'_>], wanted: &str) -> Op
     Some(tokens.to_string(alloc).ok()?.as_str() == wanted)
 }
 
-// The number of trees that an error becomes, and the span of one of them.
+// Returns the number of trees that an error becomes, and the span of one of them.
 fn compile_error(alloc: Global, messages: &[Message<'_>], row: usize) -> Option<(usize, Span)> {
     let tokens = error_of_all(alloc, messages)?
         .into_compile_error(alloc)
@@ -245,7 +245,7 @@ fn compile_error(alloc: Global, messages: &[Message<'_>], row: usize) -> Option<
     Some((trees.len(), trees.get(row)?.span()))
 }
 
-// Checks the tokens of errors, and that the last tree of each message has its span.
+// Checks the tokens that errors become, and that the last tree of each message has its span.
 fn all_compile_errors(rt: &(impl Abort + AllocGlobal), rows: &[(&[Message<'_>], &str, usize)]) {
     for (messages, wanted, count) in rows {
         let found = is_compile_error(rt.alloc(), messages, wanted);

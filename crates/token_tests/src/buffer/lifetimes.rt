@@ -1,4 +1,4 @@
-//! Lifetimes: how they are made, moved, compared and printed.
+//! Makes, moves, compares and prints lifetimes.
 use std::alloc::{AllocGlobal, Global};
 use std::cmp::Ordering;
 use std::hash::{BuildHasher, BuildHasherDefault, FoldHasher};
@@ -34,7 +34,7 @@ fn refuses_lifetimes(rt: HostRuntime) {
     );
 }
 
-// This lifetime with the span 2..6.
+// Moves this lifetime to 2..6.
 fn moved(lifetime: Lifetime) -> Lifetime {
     let mut moved = lifetime;
     moved.set_span(Span::source(0, 5, 6));
@@ -42,7 +42,7 @@ fn moved(lifetime: Lifetime) -> Lifetime {
     moved
 }
 
-// The spans of a lifetime and of its copy that is moved.
+// Returns the spans of a lifetime and of its copy that is moved.
 fn spans(alloc: Global, text: &str) -> Option<(Span, Span)> {
     let lifetime = made(alloc, text).ok()?;
     let copy = moved(lifetime.clone().ok()?);
@@ -61,7 +61,7 @@ fn moves_lifetimes(rt: HostRuntime) {
     all_spans(&rt, &["'a", "'r#fn"]);
 }
 
-// Whether two lifetimes are equal, their order, and whether their hashes are equal.
+// Returns whether two lifetimes are equal, their order, and whether their hashes are equal.
 fn compared_to(alloc: Global, left: &Lifetime, right: &str) -> Option<(bool, Ordering, bool)> {
     let right = moved(made(alloc, right).ok()?);
     let hasher = BuildHasherDefault::<FoldHasher>::default();

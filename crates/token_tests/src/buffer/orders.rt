@@ -1,4 +1,4 @@
-//! How cursors of one buffer and of two are compared.
+//! Compares cursors of one buffer and of two.
 use super::{At, laid, place};
 use std::alloc::{AllocGlobal, Global};
 use std::cmp::Ordering;

@@ -1,4 +1,4 @@
-//! Each punctuation of the table: its text, what it prints, and where it is found.
+//! Writes and finds each punctuation of the table.
 use super::{all_hold, is_quoted, is_token};
 use std::alloc::{AllocGlobal, Global};
 use std::process::Abort;

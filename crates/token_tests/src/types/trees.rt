@@ -1,4 +1,4 @@
-//! Where trees, lifetimes, delimiters and the end are found, and how they are displayed.
+//! Finds trees, lifetimes, delimiters and the end, and displays them.
 use super::{all_hold, is_found, is_token};
 use std::alloc::Global;
 use std::process::Abort;

@@ -25,9 +25,15 @@ pub returns-in-Slash-clause-tries : goal.returns-in-Slash-clause-tries
 returns-in-Slash-clause-tries c = decides_alone c.in_ok-first.first _ _ _ _ c.in_ok-first.ensures.chars (sym c.of-start.ensures ∙ c.in-Slash.is) (sym c.if-not-begins_comment.ensures) c.punct-in-Slash.ensures
 
 pub returns-in-Some-clause-tries : goal.returns-in-Some-clause-tries
-returns-in-Some-clause-tries c =
+returns-in-Some-clause-tries c = c.in-Some.ensures.fits
+
+pub second_told-requires : goal.second_told-requires
+second_told-requires c = (c.in_ok-first.first, c.in_ok-first.ensures.chars, c.of-start.ensures)
+
+pub returns-in-Some-past-clause-tries : goal.returns-in-Some-past-clause-tries
+returns-in-Some-past-clause-tries c =
     let untold : tells c.of-start.result ≡ false = search (rules, tests) in
-    let tried = c.in-Some.ensures.tries in
+    let tried = c.in-Some-past.ensures.tries in
     let found = decides_at _ _ _ _ _ ByteOrderMark c.loop-rule-test.true c.loop-rule.invariant tried.1 in
     (tried.0, decides_begun c.in_ok-first.first _ _ _ _ _ _ _ _ c.in_ok-first.ensures.chars c.of-start.ensures (c.at-those.ensures untold) (fits_front c.at-those.result.now (last_rules c.args.rules) _ _ _ _ found))
 

@@ -37,6 +37,11 @@ fn written(value: u32, mark: Option<char>, to: (u32, char)) -> Pair<u32, Mark> {
     pair
 }
 
+fn lends_mark(value: u32, mark: Option<char>) -> bool {
+    let mut pair = pair_of(value, mark);
+    pair.punct_mut().is_some()
+}
+
 fn read(pair: &Pair<u32, Mark>) -> Parts {
     (Some(*pair.value()), mark_of(pair.punct()))
 }
@@ -66,6 +71,11 @@ fn all_pairs(rt: &(impl Abort + AllocGlobal), rows: &[Row]) {
     for (value, mark, to, after) in rows {
         assert!(rt; is_made(*value, *mark), "new of {value}");
         assert_eq!(rt; is_copied(*value, *mark), Some(true), "cloned of {value}");
+        assert_eq!(rt;
+            lends_mark(*value, *mark),
+            after.is_some(),
+            "punct_mut of {value}"
+        );
         let pair = written(*value, *mark, *to);
         assert_eq!(rt;
             read(&pair),

@@ -57,7 +57,7 @@ fn pair(alloc: Global, delimiter: Delimiter, is_last: bool) -> Pair<Mark, Mark> 
 
 fn is_text(alloc: Global, tokens: &TokenStream, wanted: &str) -> Option<bool> {
     let text = format!(in alloc; "{tokens}").ok()?;
-    Some(text.as_str() == wanted)
+    Some(text.as_str() == wanted && tokens.is_empty() == wanted.is_empty())
 }
 
 // Whether the list is written so as a stream of its own.

@@ -1,7 +1,7 @@
 use Rattle.std.proofs.Common.{◌<◌}
 use denote.Param.Weighed.{most}
-use Rattle.stream_tests.specs.declared.lists.nested.Argument.{size-Argument}
-use Rattle.stream_tests.proofs.lists.nested.+has.Given as goal
+use Rattle.list_tests.specs.declared.lists.nested.Argument.{size-Argument}
+use Rattle.list_tests.proofs.lists.nested.+has.Given as goal
 
 abbrev pub decreases-has : goal.decreases-has
 decreases-has l = goal.size-has l
