@@ -22,6 +22,6 @@ lines"]
 }
 
 macro_rules! with {
-    ($(#[$meta:meta])* $name:ident) => { $(#[$meta])* #[rustfmt::skip] struct $name; };
+    ($(#[$meta:meta])* #[cfg $when:tt] $name:ident) => { $(#[$meta])* #[cfg $when] #[rustfmt::skip] struct $name; };
 }
 #[link_args { a b }] #[list[1, 2]] #[r#type] #[unsafe(no_mangle)] #[::core::prelude::v1::test] fn f() {}

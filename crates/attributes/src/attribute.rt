@@ -22,6 +22,8 @@ pub struct Attribute {
 pub enum Fault {
     // A token is at the span, and these words say what is expected there.
     Expected(Span, &'static str),
+    // A macro puts something here.
+    Placeholder,
     Memory,
 }
 
@@ -85,8 +87,10 @@ fn read_colons<'a>(cursor: Cursor<'a>) -> Option<Cursor<'a>>
 // What comes after a path: `=` and a value, or a group.
 fn read_arguments<'a>(alloc: Global, cursor: Cursor<'a>) -> Result<(&'static str, String), Fault> {
     if let Some((equals, value)) = cursor.punct() {
-        if equals.as_char() != '=' {
-            return Err(Fault::Expected(cursor.span(), EXPECTED));
+        match equals.as_char() {
+            '=' => {}
+            '$' | '#' => return Err(Fault::Placeholder),
+            _ => return Err(Fault::Expected(cursor.span(), EXPECTED)),
         }
         if value.eof() {
             return Err(Fault::Expected(value.span(), "a value"));

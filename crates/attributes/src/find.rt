@@ -44,7 +44,7 @@ pub fn find<'a>(found: &mut Vec<Found<'a>>, cursor: Cursor<'a>) -> Result<(), Al
     }
 }
 
-// The attribute at a cursor, and the cursor after it. In a macro `#[$name]` and `#[#name]` are no attributes yet.
+// The attribute at a cursor, and the cursor after it. In a macro `#[$name]` and `#[#name]` are not attributes yet.
 fn attribute<'a>(cursor: Cursor<'a>) -> Option<(Found<'a>, Cursor<'a>)>
     ensures { IfSome result
         (λ r. remaining (place_of r.1) < remaining (place_of cursor.entry)) }

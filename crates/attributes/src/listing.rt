@@ -56,7 +56,7 @@ fn list_text(
     }
 }
 
-// The listing of a file that is refused as a whole.
+// The listing of a file that is rejected as a whole.
 fn failed(alloc: Global, file: &str, place: Place<'_>, words: &str) -> Result<Listing, AllocError> {
     Ok(Listing {
         lines: String::new(alloc),
@@ -65,7 +65,7 @@ fn failed(alloc: Global, file: &str, place: Place<'_>, words: &str) -> Result<Li
     })
 }
 
-// What is expected where a text is refused.
+// What is expected where a text is rejected.
 fn expected(error: LexError) -> &'static str {
     match error.number() {
         2 => "its closing delimiter",
@@ -116,6 +116,7 @@ fn list_found(
                 let line = error_of(alloc, file, position, words.as_str())?;
                 listing.errors.push_str(line.as_str())?;
             }
+            Err(Fault::Placeholder) => {}
             Err(Fault::Memory) => return Err(AllocError),
         }
     }
