@@ -3,7 +3,7 @@ mod groups;
 mod hostile;
 mod lists;
 
-use crate::outcomes::{READ, Sample, all_said, is_read, read};
+use test_outcomes::{READ, Sample, all_said, is_read, read};
 use std::alloc::{AllocGlobal, Global};
 use std::process::Abort;
 use syn_parse::{IdentExt, Nothing, Parse, ParseStream, Parser, Result, parsing};

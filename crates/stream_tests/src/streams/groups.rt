@@ -1,5 +1,5 @@
 //! Groups, leftovers and lookahead.
-use crate::outcomes::{READ, Sample, all_said};
+use test_outcomes::{READ, Sample, all_said};
 use std::alloc::Global;
 use syn_parse::{ParseStream, Parser, Result, parenthesized};
 use tok_buffer::Lifetime;

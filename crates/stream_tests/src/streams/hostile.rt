@@ -1,5 +1,5 @@
 //! Parsers that read nothing, go to the empty cursor, or swap their stream.
-use crate::outcomes::{Sample, all_said, is_read, read};
+use test_outcomes::{Sample, all_said, is_read, read};
 use std::alloc::{AllocGlobal, Global};
 use std::process::Abort;
 use syn_parse::{Parse, ParseStream, Parser, Result, tokens_to_parse_buffer};

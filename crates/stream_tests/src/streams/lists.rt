@@ -1,6 +1,6 @@
 //! The list parsers, with parsers that read nothing, go back or put another stream in the place of theirs.
 use super::hostile::laid;
-use crate::outcomes::{Sample, all_said, is_read};
+use test_outcomes::{Sample, all_said, is_read};
 use std::alloc::{AllocGlobal, Global};
 use std::process::Abort;
 use syn_parse::{Nothing, Parse, ParseStream, Parser, Paused, Result, tokens_to_parse_buffer};

@@ -1,5 +1,5 @@
 //! The parsers of `examples::entry` and `examples::setting`.
-use crate::outcomes::{Sample, all_said, is_said};
+use test_outcomes::{Sample, all_said, is_said};
 use examples::entry::{Call, Entry, Pair, parse_entry, parse_entry_both, parse_entry_text};
 use examples::setting::{Field, Flag, read_setting};
 use std::alloc::{AllocGlobal, Global};

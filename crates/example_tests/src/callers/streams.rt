@@ -1,5 +1,5 @@
 //! The parsers of `examples::streams` and `examples::lists`.
-use crate::outcomes::{Sample, all_said};
+use test_outcomes::{Sample, all_said};
 use examples::lists::{names, parse_items};
 use examples::streams::{Item, Kind, count_names, next_kind, next_tree, optional_field};
 use std::alloc::Global;

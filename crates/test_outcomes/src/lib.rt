@@ -1,4 +1,6 @@
-//! What parsers return, compared with rows: a value's text, or an error's range and words.
+//! Compares what parsers return with a test's rows: a value's text, or an error's range and words.
+#![tactic(auto)]
+
 use std::alloc::{AllocGlobal, Global};
 use std::process::Abort;
 use syn_parse::{Fault, Parse, ParseStream, Result};

@@ -1,0 +1,5 @@
+//! Tests of the functions of `examples`.
+#![tactic(auto)]
+
+#[cfg(test)]
+mod callers;
