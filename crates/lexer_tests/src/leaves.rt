@@ -1,7 +1,10 @@
-//! Makes identifiers, puncts and string literals, and rejects the texts that are none.
+//! Makes identifiers, puncts and literals, and rejects the texts that are none.
 use std::alloc::{AllocGlobal, Global};
+use std::ffi::CStr;
 use std::process::Abort;
-use tok_core::{Ident, Literal, MakeFault, Punct, Spacing, Span};
+use tok_core::{
+    Edition, Ident, Literal, MakeFault, Punct, Spacing, Span, TokenTree, lex_source,
+};
 
 // Returns `true` if `Ident::new` makes the wanted identifier of a text, or rejects the text if none is wanted.
 fn is_ident(alloc: Global, text: &str, wanted: Option<&str>) -> bool {
@@ -94,28 +97,76 @@ fn makes_puncts(rt: HostRuntime) {
     all_puncts(&rt, "_\"\\`()a1 «é", false);
 }
 
-fn is_string(alloc: Global, text: &str, wanted: &str) -> Option<bool> {
-    let literal = Literal::string(alloc, text).ok()?;
-    Some(literal.as_str() == wanted && literal.span() == Span::call_site())
+// A literal to make.
+enum Made<'a> {
+    String(&'a str),
+    Character(char),
+    ByteCharacter(u8),
+    ByteString(&'a [u8]),
+    // A text that a zero ends.
+    CString(&'a [u8]),
 }
 
-fn all_strings(rt: &(impl Abort + AllocGlobal), rows: &[(&str, &str)]) {
-    for (text, wanted) in rows {
-        assert_eq!(rt;
-            is_string(rt.alloc(), text, wanted),
-            Some(true),
-            "at {text}"
-        );
+fn literal(alloc: Global, made: &Made<'_>) -> Option<Literal> {
+    match made {
+        Made::String(text) => Literal::string(alloc, text).ok(),
+        Made::Character(c) => Literal::character(alloc, *c).ok(),
+        Made::ByteCharacter(byte) => Literal::byte_character(alloc, *byte).ok(),
+        Made::ByteString(bytes) => Literal::byte_string(alloc, bytes).ok(),
+        Made::CString(bytes) => {
+            Literal::c_string(alloc, CStr::from_bytes_with_nul(bytes).ok()?).ok()
+        }
+    }
+}
+
+// Returns `true` if the text of a literal is read as this one literal.
+fn is_read_again(alloc: Global, literal: &Literal) -> Option<bool> {
+    let stream = lex_source(alloc, Edition::default(), 0, literal.as_str()).ok()?;
+    match stream.trees() {
+        [TokenTree::Literal(read)] => Some(read.as_str() == literal.as_str()),
+        _ => Some(false),
+    }
+}
+
+fn is_made(alloc: Global, made: &Made<'_>, wanted: &str) -> Option<bool> {
+    let literal = literal(alloc, made)?;
+    let is_wanted = literal.as_str() == wanted && literal.span() == Span::call_site();
+    Some(is_wanted && is_read_again(alloc, &literal)?)
+}
+
+// Checks the text of each literal, and that this text is read as the literal again.
+fn all_made(rt: &(impl Abort + AllocGlobal), rows: &[(Made<'_>, &str)]) {
+    for (made, wanted) in rows {
+        assert_eq!(rt; is_made(rt.alloc(), made, wanted), Some(true), "at {wanted}");
     }
 }
 
 #[test]
-fn makes_strings(rt: HostRuntime) {
-    all_strings(
+fn makes_literals(rt: HostRuntime) {
+    all_made(
         &rt,
         &[
-            ("a\"b", "\"a\\\"b\""),
-            ("\\\n\r\t\0'é", "\"\\\\\\n\\r\\t\\0'é\""),
+            (Made::String("a\"b"), "\"a\\\"b\""),
+            (Made::String("\\\n\r\t\0'é"), "\"\\\\\\n\\r\\t\\0'é\""),
+            (Made::Character('a'), "'a'"),
+            (Made::Character('é'), "'é'"),
+            (Made::Character('"'), "'\"'"),
+            (Made::Character('\''), "'\\''"),
+            (Made::Character('\\'), "'\\\\'"),
+            (Made::Character('\n'), "'\\n'"),
+            (Made::Character('\r'), "'\\r'"),
+            (Made::Character('\t'), "'\\t'"),
+            (Made::Character('\0'), "'\\0'"),
+            (Made::ByteCharacter(b'a'), "b'a'"),
+            (Made::ByteCharacter(b'\''), "b'\\''"),
+            (Made::ByteCharacter(b'"'), "b'\\\"'"),
+            (Made::ByteCharacter(0), "b'\\x00'"),
+            (Made::ByteCharacter(0xFF), "b'\\xff'"),
+            (Made::ByteString(b""), "b\"\""),
+            (Made::ByteString(b"a'b\"c\\"), "b\"a\\'b\\\"c\\\\\""),
+            (Made::ByteString(b"\n\r\t\0\x7F\x80"), "b\"\\n\\r\\t\\x00\\x7f\\x80\""),
+            (Made::CString(b"\0"), "c\"\""),
+            (Made::CString(b"it's \xC3\xA9\0"), "c\"it\\'s \\xc3\\xa9\""),
         ],
     );
 }

@@ -1,6 +1,7 @@
 // The calls of `tok_core` that take memory.
 use crate::outcome::{Outcome, Stop, expect, worst};
 use std::alloc::{AllocError, Global};
+use std::ffi::CStr;
 use std::fmt::InlineText;
 use tok_core::{
     Delimiter, Edition, Group, Ident, LexFault, Literal, MakeFault, Punct, Spacing, Span, Text,
@@ -12,6 +13,7 @@ pub fn calls(alloc: Global) -> Outcome {
     worst(&[
         idents(alloc),
         literals(alloc),
+        made_literals(alloc),
         texts(alloc),
         appends(alloc),
         clones(alloc),
@@ -90,6 +92,29 @@ fn literals(alloc: Global) -> Outcome {
         "Literal::clone",
     )?;
     expect(is_literal(&copy?, "\"abcdefghijklm\\n\""), "Literal::clone")
+}
+
+fn made_literals(alloc: Global) -> Outcome {
+    let literal = Literal::character(alloc, 'é')?;
+    expect(is_literal(&literal, "'é'"), "Literal::character")?;
+    let literal = Literal::byte_character(alloc, 0xFF)?;
+    expect(
+        is_literal(&literal, "b'\\xff'"),
+        "Literal::byte_character",
+    )?;
+    let literal = Literal::byte_string(alloc, b"abcdefghijklm\n")?;
+    expect(
+        is_literal(&literal, "b\"abcdefghijklm\\n\""),
+        "Literal::byte_string",
+    )?;
+    let Ok(text) = CStr::from_bytes_with_nul(b"abcdefghijklm\n\0") else {
+        return Err(Stop::Wrong("CStr::from_bytes_with_nul"));
+    };
+    let literal = Literal::c_string(alloc, text)?;
+    expect(
+        is_literal(&literal, "c\"abcdefghijklm\\n\""),
+        "Literal::c_string",
+    )
 }
 
 fn texts(alloc: Global) -> Outcome {

@@ -1,13 +1,15 @@
 // Literals.
-ghost use Rattle.std.specs.Prelude.{◌≡◌, ◌++◌, string_bytes, IfOk, OnOk};
+ghost use Rattle.std.specs.Prelude.{◌≡◌, ◌++◌, [], ◌∷◌, codes, string_bytes, IfOk, OnOk};
 ghost use Rattle.std.specs.Str.{chars};
+ghost use Rattle.std.specs.CStr.{c_str_bytes};
 ghost use Rattle.tok_leaves.specs.Leaves.{literal, literal_of, leaf_span, leaf_text};
-ghost use Rattle.tok_leaves.specs.Quoting.{escaped, in_quotes};
+ghost use Rattle.tok_leaves.specs.Quoting.{escaped, in_quotes, in_apostrophes, escaped_byte, bytes_between};
 ghost use Rattle.tok_leaves.specs.Spans.{call_site};
 
 use crate::span::Span;
 use crate::text::Text;
 use std::alloc::{AllocError, Global};
+use std::ffi::CStr;
 
 /// A literal: its text as it is written, quotes and suffix included.
 #[derive(Drop)]
@@ -41,6 +43,35 @@ fn push_escaped(to: &mut String, c: char) -> Result<(), AllocError>
     }
 }
 
+fn push_escaped_byte(to: &mut String, byte: u8) -> Result<(), AllocError>
+    ensures { OnOk result (string_bytes to.new ≡ string_bytes to.old ++ escaped_byte byte) }
+{
+    for c in byte.escape_ascii() {
+        to.push(c as char)?;
+    }
+    Ok(())
+}
+
+// A literal at the call site: an opening, the bytes with their escapes, a closing.
+fn bytes_between(
+    alloc: Global,
+    opening: &str,
+    bytes: &[u8],
+    closing: &str,
+) -> Result<Literal, AllocError>
+    ensures { IfOk result (λ l. literal_of l
+        ≡ literal (bytes_between opening.now bytes.now closing.now) call_site) }
+{
+    let mut out = String::new(alloc);
+    out.push_str(opening)?;
+    for byte in bytes {
+        push_escaped_byte(&mut out, *byte)?;
+    }
+    out.push_str(closing)?;
+    let text = Text::from_string(alloc, out)?;
+    Ok(Literal::unchecked(text, Span::call_site()))
+}
+
 impl Literal {
     /// The string literal of this text, at the call site: in quotes, with `"`, `\`, line feed, U+000D, tab and U+0000 as
     /// `\"`, `\\`, `\n`, `\r`, `\t` and `\0`.
@@ -55,6 +86,50 @@ impl Literal {
         out.push('"')?;
         let text = Text::from_string(alloc, out)?;
         Ok(Literal::unchecked(text, Span::call_site()))
+    }
+
+    /// The character literal of this character, at the call site: in apostrophes, with `'`, `\`, line feed, U+000D, tab
+    /// and U+0000 as `\'`, `\\`, `\n`, `\r`, `\t` and `\0`.
+    pub fn character(alloc: Global, c: char) -> Result<Literal, AllocError>
+        ensures { IfOk result (λ l. literal_of l ≡ literal (in_apostrophes c) call_site) }
+    {
+        let mut out = String::new(alloc);
+        out.push('\'')?;
+        match c {
+            '\'' => out.push_str("\\'")?,
+            '"' => out.push('"')?,
+            _ => push_escaped(&mut out, c)?,
+        }
+        out.push('\'')?;
+        let text = Text::from_string(alloc, out)?;
+        Ok(Literal::unchecked(text, Span::call_site()))
+    }
+
+    /// The byte literal of this byte, at the call site: `b'` and `'`, and between them the byte as `u8::escape_ascii`
+    /// writes it.
+    pub fn byte_character(alloc: Global, byte: u8) -> Result<Literal, AllocError>
+        ensures { IfOk result (λ l. literal_of l
+            ≡ literal (bytes_between (codes "b'") (byte ∷ []) (codes "'")) call_site) }
+    {
+        bytes_between(alloc, "b'", &[byte], "'")
+    }
+
+    /// The byte string literal of these bytes, at the call site: `b"` and `"`, and between them each byte as
+    /// `u8::escape_ascii` writes it.
+    pub fn byte_string(alloc: Global, bytes: &[u8]) -> Result<Literal, AllocError>
+        ensures { IfOk result (λ l. literal_of l
+            ≡ literal (bytes_between (codes "b\"") bytes.now (codes "\"")) call_site) }
+    {
+        bytes_between(alloc, "b\"", bytes, "\"")
+    }
+
+    /// The C string literal of these bytes, at the call site: `c"` and `"`, and between them each byte as
+    /// `u8::escape_ascii` writes it. The zero at their end is not written.
+    pub fn c_string(alloc: Global, text: CStr<'_>) -> Result<Literal, AllocError>
+        ensures { IfOk result (λ l. literal_of l ≡ literal
+            (bytes_between (codes "c\"") (c_str_bytes text.entry) (codes "\"")) call_site) }
+    {
+        bytes_between(alloc, "c\"", text.to_bytes(), "\"")
     }
 
     // Without a test of the text.
