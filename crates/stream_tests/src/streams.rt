@@ -6,9 +6,11 @@ mod lists;
 use test_outcomes::{READ, Sample, all_said, is_read, read};
 use std::alloc::{AllocGlobal, Global};
 use std::process::Abort;
-use syn_parse::{IdentExt, Nothing, Parse, ParseStream, Parser, Result, parsing};
+use syn_parse::{
+    IdentExt, Nothing, Parse, ParseStream, Parser, Result, parse_source, parsing,
+};
 use tok_buffer::Lifetime;
-use tok_core::{Ident, Literal, Punct, Span, TokenStream, TokenTree};
+use tok_core::{Edition, Ident, Literal, Punct, Span, TokenStream, TokenTree};
 use tok_types::token::{self, Token};
 
 fn ident(alloc: Global, text: &str) -> Result<String> {
@@ -34,6 +36,8 @@ enum Read {
     TwoSpans,
     AfterAt,
     AfterName,
+    SourceLiteral,
+    SourceLiteral2018,
 }
 
 impl Sample for Read {
@@ -55,6 +59,10 @@ impl Sample for Read {
             Read::TwoSpans => two_spans.parse_str(alloc, text),
             Read::AfterAt => text_after_at.parse_str(alloc, text),
             Read::AfterName => after_name.parse_str(alloc, text),
+            Read::SourceLiteral => source_literal(alloc, Edition::default(), text),
+            Read::SourceLiteral2018 => {
+                literal_text.parse_source(alloc, Edition::Edition2018, text)
+            }
         }
     }
 }
@@ -111,6 +119,41 @@ fn tokens(rt: HostRuntime) {
     all_said(&rt, &Read::Underscore, &[("_", READ)]);
     all_said(&rt, &Read::RArrow, &[("- >", "0..1 expected `->`")]);
     all_said(&rt, &Read::Comma, &[("", "call expected `,`")]);
+}
+
+fn literal_text(input: ParseStream<'_, '_>) -> Result<String> {
+    let literal: Literal = input.parse()?;
+    Ok(format!(in input.allocator(); "{}", literal.as_str())?)
+}
+
+fn source_literal(alloc: Global, edition: Edition, text: &str) -> Result<String> {
+    let literal: Literal = parse_source(alloc, edition, text)?;
+    Ok(format!(in alloc; "{}", literal.as_str())?)
+}
+
+#[test]
+fn literals_of_sources(rt: HostRuntime) {
+    all_said(
+        &rt,
+        &Read::SourceLiteral,
+        &[
+            ("1.5e3", "1.5e3"),
+            ("r#\"a\"b\"#", "r#\"a\"b\"#"),
+            ("#!/bin/sh\nc\"a\"", "c\"a\""),
+            ("a", "0..1 expected literal token"),
+            ("1 2", "2..3 unexpected token"),
+            ("", "call unexpected end of input, expected literal token"),
+            ("\"a", "0..0 malformed string or character"),
+        ],
+    );
+    all_said(
+        &rt,
+        &Read::SourceLiteral2018,
+        &[
+            ("br\"a\"", "br\"a\""),
+            ("c\"a\"", "0..1 expected literal token"),
+        ],
+    );
 }
 
 // Two spans of one character.

@@ -33,4 +33,4 @@ pub use step::StepCursor;
 pub use stream::paused::Paused;
 pub use stream::{ParseBuffer, ParseStream, tokens_to_parse_buffer};
 pub use tokens::Nothing;
-pub use whole::{parse_both, parse_str, parse2};
+pub use whole::{parse_both, parse_source, parse_str, parse2};

@@ -4,6 +4,7 @@ ghost use Rattle.std.specs.Str.{chars};
 ghost use Rattle.std.specs.Fn.{FnOnceReturnsAtMut};
 ghost use Rattle.tok_leaves.specs.Spans.{call_site};
 ghost use Rattle.syn_parse.specs.Parsers.{Finishes, IsUnread, ParsesText, ParsesWhole, whole_stream};
+ghost use Rattle.syn_parse.specs.Sources.{ParsesSource};
 ghost use Rattle.syn_parse.specs.State.{State};
 ghost use Rattle.syn_parse.specs.declared.fault.Fault.{Fault};
 
@@ -11,7 +12,7 @@ use crate::fault::{Fault, Result};
 use crate::stream::{ParseBuffer, ParseStream, tokens_to_parse_buffer};
 use std::alloc::{AllocError, Global};
 use tok_buffer::{Error, TokenBuffer};
-use tok_core::{LexFault, Span, TokenStream};
+use tok_core::{Edition, LexFault, Span, TokenStream};
 
 /// A parser of a whole stream of tokens. Every function from a `ParseStream` to a `Result` is one:
 ///
@@ -36,6 +37,12 @@ pub trait Parser: Sized {
         requires { callable self }
         ensures { ParsesText (parses self) (chars text.now) result };
 
+    /// Lexes a Rust source of an edition by the rules of `lex_source`, as source 0, and parses its tokens as `parse2`
+    /// does.
+    fn parse_source(self, alloc: Global, edition: Edition, text: &str) -> Result<Self::Output>
+        requires { callable self }
+        ensures { ParsesSource edition (parses self) (chars text.now) result };
+
     /// Parses all of these tokens as `parse2` does, where the end of the tokens has the span `scope`.
     fn parse_scoped(self, alloc: Global, scope: Span, tokens: TokenStream) -> Result<Self::Output>
         requires { callable self }
@@ -58,6 +65,17 @@ where
 
     fn parse_str(self, alloc: Global, text: &str) -> Result<T> {
         match TokenBuffer::from_text(alloc, 0, 0, text) {
+            Ok(buffer) => {
+                let mut input = tokens_to_parse_buffer(alloc, &buffer, Span::call_site());
+                let parsed = self(&mut input);
+                settle(parsed, input)
+            }
+            Err(fault) => Err(unread(alloc, fault)),
+        }
+    }
+
+    fn parse_source(self, alloc: Global, edition: Edition, text: &str) -> Result<T> {
+        match TokenBuffer::from_source(alloc, 0, edition, 0, text) {
             Ok(buffer) => {
                 let mut input = tokens_to_parse_buffer(alloc, &buffer, Span::call_site());
                 let parsed = self(&mut input);

@@ -2,6 +2,7 @@
 ghost use Rattle.std.specs.Str.{chars};
 ghost use Rattle.tok_leaves.specs.Spans.{call_site};
 ghost use Rattle.syn_parse.specs.Parsers.{ParsesText, ParsesWhole, whole_stream};
+ghost use Rattle.syn_parse.specs.Sources.{KeepsSource, ParsesSource};
 ghost use Rattle.syn_parse.specs.Takings.{KeepsBoth, KeepsText, KeepsWhole, KeepsWords};
 
 use crate::fault::Result;
@@ -10,7 +11,7 @@ use crate::parser::{settle, unread};
 use crate::stream::tokens_to_parse_buffer;
 use std::alloc::Global;
 use tok_buffer::TokenBuffer;
-use tok_core::{Span, TokenStream};
+use tok_core::{Edition, Span, TokenStream};
 
 /// Parses all of these tokens: `let entry: Entry = parse2(alloc, tokens)?;`. A refusal of the parser comes first; otherwise
 /// a token that is left unread is refused.
@@ -30,6 +31,21 @@ pub fn parse_str<T: Parse + Drop>(alloc: Global, text: &str) -> Result<T>
     ensures takes { KeepsText T.takes (chars text.now) result }
 {
     match TokenBuffer::from_text(alloc, 0, 0, text) {
+        Ok(buffer) => {
+            let mut input = tokens_to_parse_buffer(alloc, &buffer, Span::call_site());
+            let parsed = T::parse(&mut input);
+            settle(parsed, input)
+        }
+        Err(fault) => Err(unread(alloc, fault)),
+    }
+}
+
+/// Lexes a Rust source of an edition by the rules of `lex_source`, as source 0, and parses its tokens as `parse2` does.
+pub fn parse_source<T: Parse + Drop>(alloc: Global, edition: Edition, text: &str) -> Result<T>
+    ensures reads { ParsesSource edition T.parses (chars text.now) result }
+    ensures takes { KeepsSource edition T.takes (chars text.now) result }
+{
+    match TokenBuffer::from_source(alloc, 0, edition, 0, text) {
         Ok(buffer) => {
             let mut input = tokens_to_parse_buffer(alloc, &buffer, Span::call_site());
             let parsed = T::parse(&mut input);

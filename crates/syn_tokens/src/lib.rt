@@ -7,7 +7,7 @@ mod program;
 pub use arguments;
 pub use program::channel::{Sink, Source};
 pub use program::{respond, serve};
-pub use syn_parse::{Fault, Result, parse_both, parse_str, parse2};
+pub use syn_parse::{Fault, Result, parse_both, parse_source, parse_str, parse2};
 pub use syn_punctuated as punctuated;
 pub use syn_replay::{
     Answer, Command, Kind, Line, Look, Piece, Position, Report, Separator, Verdict, agree,

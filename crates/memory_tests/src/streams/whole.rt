@@ -1,8 +1,8 @@
 //! Parsers of whole texts and streams of tokens.
 use crate::outcome::{Outcome, Stop, expect, shows, worst};
 use std::alloc::Global;
-use syn_parse::{Fault, ParseStream, Parser, Result, parse_both, parse_str, parse2};
-use tok_core::{Ident, Span, lex};
+use syn_parse::{Fault, ParseStream, Parser, Result, parse_both, parse_source, parse_str, parse2};
+use tok_core::{Edition, Ident, Span, lex};
 
 /// Each of their calls.
 pub fn calls(alloc: Global) -> Outcome {
@@ -19,6 +19,7 @@ pub fn calls(alloc: Global) -> Outcome {
         left,
         tokens(alloc),
         of_type(alloc),
+        sources(alloc),
         both(alloc),
     ])
 }
@@ -50,6 +51,21 @@ fn tokens(alloc: Global) -> Outcome {
         name.parse_scoped(alloc, Span::call_site(), tokens),
         "parse_scoped",
     )
+}
+
+fn sources(alloc: Global) -> Outcome {
+    let edition = Edition::default();
+    let source = named(name.parse_source(alloc, edition, "a // b"), "parse_source");
+    let of_type = named(
+        parse_source::<Ident>(alloc, edition, "#!/bin/sh\na"),
+        "parse_source",
+    );
+    let unread = refused(
+        parse_source::<Ident>(alloc, edition, ")"),
+        "unexpected closing delimiter",
+        "parse_source",
+    );
+    worst(&[source, of_type, unread])
 }
 
 // The same by the parser of a type.
