@@ -1,4 +1,4 @@
-// Literals.
+//! Literals.
 ghost use Rattle.std.specs.Prelude.{◌≡◌, ◌++◌, string_bytes, IfOk, OnOk};
 ghost use Rattle.std.specs.Str.{chars};
 ghost use Rattle.tok_leaves.specs.Leaves.{literal, literal_of, leaf_span, leaf_text};
@@ -9,14 +9,21 @@ use crate::span::Span;
 use crate::text::Text;
 use std::alloc::{AllocError, Global};
 
-/// A literal: its text as it is written, quotes and suffix included.
+/// A literal, as it is written: with its quotes, prefix and suffix.
+///
+/// # Examples
+///
+/// ```rust
+/// let literal = Literal::string(alloc, "a \"b\"")?;
+/// assert_eq!(rt; literal.as_str(), "\"a \\\"b\\\"\"");
+/// ```
 #[derive(Drop)]
 pub struct Literal {
     text: Text,
     span: Span,
 }
 
-// How many bytes the text takes between quotes: one more for each escape.
+// Counts the bytes of the text in quotes: one more for each escape.
 fn quoted_len(text: &str) -> usize {
     let mut len = text.len().saturating_add(2);
     for c in text.chars() {
@@ -42,8 +49,11 @@ fn push_escaped(to: &mut String, c: char) -> Result<(), AllocError>
 }
 
 impl Literal {
-    /// The string literal of this text, at the call site: in quotes, with `"`, `\`, line feed, U+000D, tab and U+0000 as
-    /// `\"`, `\\`, `\n`, `\r`, `\t` and `\0`.
+    /// Creates a string literal of `text`, at the call site. Every text has one.
+    ///
+    /// It is in double quotes. The characters `"`, `\`, line feed, carriage return, tab and U+0000
+    /// are written as `\"`, `\\`, `\n`, `\r`, `\t` and `\0`. Returns an error if an allocation
+    /// fails.
     pub fn string(alloc: Global, text: &str) -> Result<Literal, AllocError>
         ensures { IfOk result (λ l. literal_of l ≡ literal (in_quotes (chars text.now)) call_site) }
     {
@@ -57,35 +67,37 @@ impl Literal {
         Ok(Literal::unchecked(text, Span::call_site()))
     }
 
-    // Without a test of the text.
+    // Doesn't test the text.
     pub(crate) fn unchecked(text: Text, span: Span) -> Literal
         ensures { literal_of result ≡ literal text span }
     {
         Literal { text, span }
     }
 
-    /// The text, as it is written, with quotes, prefix and suffix.
+    /// Returns the text as it is written, with quotes, prefix and suffix.
     pub fn as_str(&self) -> &str
         ensures { result.now ≡ leaf_text (literal_of self.now) }
     {
         self.text.as_str()
     }
 
-    /// Where it is.
+    /// Returns the span.
     pub fn span(&self) -> Span
         ensures { result ≡ leaf_span (literal_of self.now) }
     {
         self.span
     }
 
-    /// Puts it at another span.
+    /// Replaces the span.
     pub fn set_span(&mut self, span: Span)
         ensures { literal_of self.new ≡ literal (leaf_text (literal_of self.old)) span }
     {
         self.span = span;
     }
 
-    /// A copy in memory of its own.
+    /// Copies the literal, with its span.
+    ///
+    /// Returns an error if the allocation fails.
     pub fn clone(&self) -> Result<Literal, AllocError>
         ensures { IfOk result (λ l. l ≡ self.now) }
     {
