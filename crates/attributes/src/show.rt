@@ -1,4 +1,4 @@
-// Arguments and tokens as one line of text.
+//! Arguments and tokens as one line of text.
 use arguments::{Arguments, Value, parse_arguments};
 use std::alloc::{AllocError, Global};
 use syn_parse::Fault;
