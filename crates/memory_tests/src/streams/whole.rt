@@ -4,7 +4,7 @@ use std::alloc::Global;
 use syn_parse::{Fault, ParseStream, Parser, Result, parse_both, parse_str, parse2};
 use tok_core::{Ident, Span, lex};
 
-/// Each of their calls.
+/// Makes each call.
 pub fn calls(alloc: Global) -> Outcome {
     let text = named(name.parse_str(alloc, "a"), "parse_str");
     let unread = refused(name.parse_str(alloc, "1.0"), "float literal", "parse_str");
@@ -52,7 +52,7 @@ fn tokens(alloc: Global) -> Outcome {
     )
 }
 
-// The same by the parser of a type.
+// Checks the parser of a type.
 fn of_type(alloc: Global) -> Outcome {
     let text = named(parse_str::<Ident>(alloc, "a"), "parse_str");
     let unread = refused(
@@ -72,7 +72,7 @@ fn whole(alloc: Global) -> Outcome {
     named(parse2::<Ident>(alloc, lex(alloc, 0, "a")?), "parse2")
 }
 
-// If one of the two finds no memory, the other one is parsed all the same.
+// If an allocation fails for one of the two, the other is parsed all the same.
 fn both(alloc: Global) -> Outcome {
     let left = lex(alloc, 0, "a")?;
     let right = lex(alloc, 0, "a b")?;
