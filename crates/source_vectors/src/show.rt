@@ -1,9 +1,9 @@
-// Tokens as lines of text.
+//! Tokens as lines of text.
 use std::alloc::AllocError;
 use tok_core::{Spacing, Span, TokenStream, TokenTree};
 
-// Appends a line for each token: its kind, range of bytes and text, of a punct also its spacing. A group has a line for each
-// delimiter.
+/// Appends a line for each token: its kind, its range of bytes and its text, and the spacing of a
+/// punct. A group has a line for each delimiter.
 #[cycle(lines)]
 pub fn push_stream(lines: &mut String, stream: &TokenStream) -> Result<(), AllocError> {
     for next in stream.trees() {
