@@ -1,7 +1,11 @@
 //! Examples of `syn_parse`.
 use std::alloc::Global;
-use syn_parse::{Parens, Parse, ParseStream, Parser, Result, parenthesized, parse_parens, parsing};
-use tok_core::{Delimiter, Ident, Literal, Span};
+use syn_parse::{
+    IdentExt, Parens, Parse, ParseStream, Parser, Result, parenthesized, parse_parens, parse_str,
+    parse2, parsing,
+};
+use syn_punctuated::Punctuated;
+use tok_core::{Delimiter, Ident, Literal, Span, TokenStream, lex};
 use tok_types::token;
 
 #[derive(Drop)]
@@ -20,6 +24,62 @@ impl Parse for Name {
 fn len_of_name(input: ParseStream<'_, '_>) -> Result<usize> {
     let name: Name = input.parse()?;
     Ok(name.ident.as_str().len())
+}
+
+#[derive(Drop)]
+struct Call {
+    name: Ident,
+    arguments: Punctuated<Ident, token::Comma>,
+}
+
+impl Parse for Call {
+    fn parse(input: ParseStream<'_, '_>) -> Result<Self> {
+        let _: token::Pub = input.parse()?;
+        let name = input.parse()?;
+        let (_, arguments) = input.within(
+            Delimiter::Parenthesis,
+            |inside| Punctuated::parse_terminated(inside),
+        )?;
+        Ok(Call { name, arguments })
+    }
+}
+
+fn call_of_tokens(alloc: Global, tokens: TokenStream) -> Result<usize> {
+    let call: Call = parse2(alloc, tokens)?;
+    Ok(call.name.as_str().len())
+}
+
+fn call_of_text(alloc: Global) -> Result<usize> {
+    let call: Call = parse_str(alloc, "pub run(a, b,)")?;
+    Ok(call.arguments.len())
+}
+
+fn calls(alloc: Global) -> Option<(usize, usize)> {
+    let tokens = lex(alloc, 0, "pub name(a)").ok()?;
+    Some((
+        call_of_tokens(alloc, tokens).ok()?,
+        call_of_text(alloc).ok()?,
+    ))
+}
+
+fn any_word(input: ParseStream<'_, '_>) -> Result<usize> {
+    let word = Ident::parse_any(input)?;
+    Ok(word.as_str().len())
+}
+
+fn optional_name(input: ParseStream<'_, '_>) -> Result<Option<Ident>> {
+    if input.is_empty() {
+        return Ok(None);
+    }
+    let name: Ident = input.parse()?;
+    if input.peek::<token::Comma>() {
+        let _: token::Comma = input.parse()?;
+    }
+    Ok(Some(name))
+}
+
+fn has_name(alloc: Global, text: &str) -> Option<bool> {
+    Some(optional_name.parse_str(alloc, text).ok()?.is_some())
 }
 
 fn parse_path(input: ParseStream<'_, '_>) -> Result<Ident> {
@@ -107,6 +167,10 @@ fn by_a_macro(input: ParseStream<'_, '_>) -> Result<(token::Paren, Ident)> {
 fn values(rt: HostRuntime) {
     let alloc = rt.alloc();
     assert_eq!(rt; len_of_name.parse_str(alloc, "abc").ok(), Some(3));
+    assert_eq!(rt; calls(alloc), Some((4, 2)));
+    assert_eq!(rt; any_word.parse_str(alloc, "fn").ok(), Some(2));
+    assert_eq!(rt; has_name(alloc, "a,"), Some(true));
+    assert_eq!(rt; has_name(alloc, ""), Some(false));
     assert_eq!(rt; called.parse_str(alloc, "abcd").ok(), Some(4));
     assert_eq!(rt; one_name(alloc).ok(), Some(1));
     assert!(rt; expects_a_name.parse_str(alloc, "a").is_err());
