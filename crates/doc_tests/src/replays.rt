@@ -17,7 +17,7 @@ fn one(rt: &(impl Abort + AllocGlobal), alloc: Global) -> Result<(), LexFault> {
 fn two(rt: &(impl Abort + AllocGlobal), alloc: Global) -> Result<(), LexFault> {
     let plain = lex(alloc, 0, "a b")?;
     let marked = lex_marked(alloc, 0, "«a» b")?;
-    let commands = [Command::Parse(0, Kind::Ident), Command::Rest(0)];
+    let commands = [Command::Parse(0, Kind::Ident), Command::Empty(0)];
     assert_eq!(rt; is_transparent(&commands[0]), true);
     let (left, right) = replay_both(alloc, plain, marked, &commands)?;
     assert_eq!(rt; agree(&left, &right), true);
