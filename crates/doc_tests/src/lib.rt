@@ -1,4 +1,5 @@
-//! Tests of the examples in doc comments. `tests/layout` checks that each example stands here, word for word.
+//! Tests of the examples in doc comments. `tests/layout` checks that each example stands here, word
+//! for word.
 #![tactic(auto)]
 
 #[cfg(test)]

@@ -3,7 +3,8 @@ use std::alloc::{AllocGlobal, Global};
 use std::process::Abort;
 use tok_core::{Ident, Literal, MakeFault, Punct, Spacing, Span};
 
-// Returns `true` if `Ident::new` makes the wanted identifier of a text, or rejects the text if none is wanted.
+// Returns `true` if `Ident::new` makes the wanted identifier of a text, or rejects the text if none
+// is wanted.
 fn is_ident(alloc: Global, text: &str, wanted: Option<&str>) -> bool {
     match Ident::new(alloc, text, Span::source(1, 2, 4)) {
         Ok(ident) => wanted == Some(ident.as_str()) && ident.span() == Span::source(1, 2, 4),
@@ -11,7 +12,8 @@ fn is_ident(alloc: Global, text: &str, wanted: Option<&str>) -> bool {
     }
 }
 
-// Returns `true` if `Ident::new_raw` makes the wanted identifier of a text, or rejects the text if none is wanted.
+// Returns `true` if `Ident::new_raw` makes the wanted identifier of a text, or rejects the text if
+// none is wanted.
 fn is_raw_ident(alloc: Global, text: &str, wanted: Option<&str>) -> bool {
     match Ident::new_raw(alloc, text, Span::call_site()) {
         Ok(ident) => wanted == Some(ident.as_str()) && ident.span() == Span::call_site(),

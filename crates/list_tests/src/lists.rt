@@ -1,4 +1,5 @@
-//! Tests of lists. A list is written as its values and separators in order; the default separator is `d`.
+//! Tests of lists. A list is written as its values and separators in order; the default separator
+//! is `d`.
 mod clones;
 mod iterators;
 mod nested;
@@ -181,7 +182,8 @@ fn edited(
     Some((parts, is_shown(alloc, &list, after), list.len(), facts))
 }
 
-// A text, a call, what it returns, and the list after it: its text, its length, and whether it ends in a separator.
+// A text, a call, what it returns, and the list after it: its text, its length, and whether it ends
+// in a separator.
 type ChangeRow<'a> = (&'a str, Change<'a>, Parts, &'a str, usize, bool);
 
 fn all_changes(rt: &(impl Abort + AllocGlobal), rows: &[ChangeRow<'_>]) {

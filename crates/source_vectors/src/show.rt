@@ -41,7 +41,8 @@ fn push_tree(lines: &mut String, next: &TokenTree) -> Result<(), AllocError> {
     }
 }
 
-// Appends the line of a token. Its text has `\n`, `\r` and `\\` in place of a line feed, a carriage return and a `\`.
+// Appends the line of a token. Its text has `\n`, `\r` and `\\` in place of a line feed, a carriage
+// return and a `\`.
 fn push_line(lines: &mut String, kind: &str, span: Span, text: &str) -> Result<(), AllocError> {
     push_front(lines, kind, span)?;
     for c in text.chars() {

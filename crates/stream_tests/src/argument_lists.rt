@@ -1,4 +1,5 @@
-//! Arguments: what texts are read as, with marks and without, and with which errors they are rejected.
+//! Arguments: what texts are read as, with marks and without, and with which errors they are
+//! rejected.
 use arguments::{Arguments, Value, arguments_both, parse_arguments};
 use std::alloc::{AllocError, AllocGlobal, Global};
 use std::process::Abort;

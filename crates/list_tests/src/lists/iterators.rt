@@ -156,8 +156,8 @@ fn takes<I: Items>(items: &mut I, count: usize, steps: &[Step]) -> bool {
     is_right
 }
 
-// The list, how many items it has, the steps before the iterator is cloned, how many are left then, and the steps of the
-// iterator and of its copy.
+// The list, how many items it has, the steps before the iterator is cloned, how many are left then,
+// and the steps of the iterator and of its copy.
 type Row<'a> = (&'a str, usize, &'a [Step], usize, &'a [Step], &'a [Step]);
 
 fn values(alloc: Global, row: &Row<'_>) -> Option<bool> {

@@ -113,8 +113,8 @@ fn write_list(alloc: Global, tokens: &mut TokenStream, delimiters: &[Delimiter])
     Some(marks(alloc, delimiters)?.to_tokens(tokens).is_ok())
 }
 
-// Writes braces, a list, and then a pair in braces and one in parentheses. Returns whether the list was written and whether
-// the pairs were, and whether the tokens are then these.
+// Writes braces, a list, and then a pair in braces and one in parentheses. Returns whether the list
+// was written and whether the pairs were, and whether the tokens are then these.
 fn written(
     alloc: Global,
     delimiters: &[Delimiter],

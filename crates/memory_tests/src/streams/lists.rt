@@ -30,7 +30,8 @@ impl Parse for ByStream {
     }
 }
 
-/// By `Punctuated::parse_separated_nonempty`, and so by `Punctuated::parse_separated_nonempty_with`.
+/// By `Punctuated::parse_separated_nonempty`, and so by
+/// `Punctuated::parse_separated_nonempty_with`.
 #[derive(Drop)]
 struct Separated(Names);
 

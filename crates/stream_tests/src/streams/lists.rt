@@ -1,4 +1,5 @@
-//! The list parsers, with parsers that read nothing, go back or put another stream in the place of theirs.
+//! The list parsers, with parsers that read nothing, go back or put another stream in the place of
+//! theirs.
 use super::hostile::laid;
 use std::alloc::{AllocGlobal, Global};
 use std::process::Abort;
