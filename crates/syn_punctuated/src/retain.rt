@@ -43,9 +43,9 @@ fn retain_pairs<T: Drop, P: Drop, F: FnMut(&mut T) -> bool>(pairs: &mut Vec<(T, 
 impl<T: Drop, P: Drop> Punctuated<T, P> {
     /// Keeps the values for which `f` returns `true`, each with the separator after it.
     ///
-    /// If the list ends in a bare value, so does the list afterwards. `f` sees each value once, in
-    /// order, and may write to it. Nothing is allocated: a value that becomes bare takes over the
-    /// box of the one that goes.
+    /// If the list ends in a bare value, the last value that is kept is bare too. `f` sees each value
+    /// once, in order, and may write to it. Nothing is allocated: a value that becomes bare takes over
+    /// the box of the one that goes.
     ///
     /// # Requires
     ///
