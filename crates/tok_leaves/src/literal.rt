@@ -9,7 +9,7 @@ use crate::span::Span;
 use crate::text::Text;
 use std::alloc::{AllocError, Global};
 
-/// A literal, as it is written: with its quotes, prefix and suffix.
+/// A literal: its text, with quotes, prefix and suffix, and its span.
 ///
 /// # Examples
 ///
@@ -74,7 +74,7 @@ impl Literal {
         Literal { text, span }
     }
 
-    /// Returns the text as it is written, with quotes, prefix and suffix.
+    /// Returns the text, with quotes, prefix and suffix.
     pub fn as_str(&self) -> &str
         ensures { result.now ≡ leaf_text (literal_of self.now) }
     {
