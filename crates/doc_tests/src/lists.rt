@@ -1,9 +1,10 @@
-//! Examples of `syn_punctuated`.
+//! Examples of `syn_punctuated` and `arguments`.
+use arguments::parse_arguments;
 use std::alloc::{AllocError, AllocGlobal, Global};
 use std::process::Abort;
 use syn_parse::{self as parse, IdentExt, Parse, ParseStream, Parser};
 use syn_punctuated::{ParseTerminated, Punctuated};
-use tok_core::{Ident, TokenStream};
+use tok_core::{Ident, lex};
 use tok_types::token;
 
 fn values(rt: &(impl Abort + AllocGlobal), alloc: Global) -> Result<(), AllocError> {
@@ -71,4 +72,16 @@ fn counts(alloc: Global) -> parse::Result<[usize; 5]> {
 #[test]
 fn parsed_lists(rt: HostRuntime) {
     assert_eq!(rt; counts(rt.alloc()).ok(), Some([2, 2, 3, 3, 4]));
+}
+
+fn argument_list(rt: &(impl Abort + AllocGlobal), alloc: Global) -> Option<()> {
+    let tokens = lex(alloc, 0, "a, b = 1, c(d)").ok()?;
+    let list = parse_arguments(alloc, tokens).ok()?;
+    assert_eq!(rt; list.len(), 3);
+    Some(())
+}
+
+#[test]
+fn argument_lists(rt: HostRuntime) {
+    assert!(rt; argument_list(&rt, rt.alloc()).is_some());
 }
