@@ -1,6 +1,7 @@
-// Reads each line of standard input as arguments, and prints what it is read as. Without its marks a line must have the
-// same arguments, or be refused with the same words. `tests/arguments` makes the lines, and what has to be printed, by a
-// reading of its own.
+//! Reads each line of standard input as arguments, and prints them.
+//!
+//! Without its marks a line must have the same arguments, or be rejected with the same words.
+//! `tests/arguments` makes the lines and the expected output, by its own reading of them.
 #![tactic(auto)]
 
 mod show;
@@ -25,7 +26,7 @@ fn main(rt: HostRuntime) -> Result<()> {
     Ok(())
 }
 
-// The arguments of a line, or `refused`.
+// Reads the arguments of a line, or returns `refused`.
 fn read(alloc: Global, line: &str) -> Result<String> {
     match parse_arguments(alloc, tokens(alloc, line)?) {
         Ok(list) => Ok(show(alloc, &list)?),
@@ -34,7 +35,8 @@ fn read(alloc: Global, line: &str) -> Result<String> {
     }
 }
 
-// Whether a line has the same arguments without its marks, or is refused with the same words.
+// Returns `true` if a line has the same arguments, or is rejected with the same words, without its
+// marks.
 fn is_same_unmarked(alloc: Global, line: &str) -> Result<bool> {
     let mut plain = String::new(alloc);
     for c in line.chars() {

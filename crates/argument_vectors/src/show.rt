@@ -1,12 +1,12 @@
-// Arguments as text: each name, literal, sign and group with its range of bytes.
+//! Arguments as text: each name, literal, sign and group with its range of bytes.
 use arguments::{Arguments, Value};
 use std::alloc::{AllocError, Global};
 use tok_core::Span;
 
-// How deep lists are nested at most, in the lines that are read.
+// The deepest nesting of lists in the lines that are read.
 const DEPTH: u8 = 8;
 
-// `ok`, and the arguments.
+/// Returns `ok` and the arguments.
 pub fn show(alloc: Global, list: &Arguments) -> Result<String, AllocError> {
     let mut text = format!(in alloc; "ok")?;
     add_list(&mut text, list, DEPTH)?;
@@ -38,7 +38,7 @@ fn add_list(text: &mut String, list: &Arguments, depth: u8) -> Result<(), AllocE
     Ok(())
 }
 
-// A token and its range.
+// Appends a token and its range.
 fn add(text: &mut String, token: &str, span: Span) -> Result<(), AllocError> {
     let alloc = *text.allocator();
     let added = match span.as_range() {

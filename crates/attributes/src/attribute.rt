@@ -1,4 +1,4 @@
-// The path of an attribute and what comes after it.
+//! The path of an attribute and its arguments.
 ghost use Rattle.std.specs.Prelude.{◌<◌, IfSome};
 ghost use Rattle.tok_buffer.specs.Cursors.{place_of};
 ghost use Rattle.tok_buffer.specs.Progress.{remaining};
@@ -17,12 +17,12 @@ pub struct Attribute {
     pub arguments: String,
 }
 
-/// Why the contents of some brackets are no attribute.
+/// Why the contents of brackets are no attribute.
 #[derive(Drop)]
 pub enum Fault {
-    // A token is at the span, and these words say what is expected there.
+    /// A token is at the span, and these words say what is expected there.
     Expected(Span, &'static str),
-    // A macro puts something here.
+    /// A macro inserts something here.
     Placeholder,
     Memory,
 }
@@ -33,7 +33,7 @@ impl From<AllocError> for Fault {
     }
 }
 
-// The attribute that some contents are.
+/// Reads the attribute in brackets with these contents.
 pub fn read<'a>(alloc: Global, contents: Cursor<'a>) -> Result<Attribute, Fault> {
     let (path, rest) = read_path(alloc, contents)?;
     if rest.eof() {
@@ -51,7 +51,7 @@ pub fn read<'a>(alloc: Global, contents: Cursor<'a>) -> Result<Attribute, Fault>
     })
 }
 
-// A path: identifiers with `::` between them.
+// Reads a path: identifiers with `::` between them.
 fn read_path<'a>(alloc: Global, cursor: Cursor<'a>) -> Result<(String, Cursor<'a>), Fault> {
     reads_go_on();
     let mut path = String::new(alloc);
@@ -84,7 +84,7 @@ fn read_colons<'a>(cursor: Cursor<'a>) -> Option<Cursor<'a>>
     Some(after)
 }
 
-// What comes after a path: `=` and a value, or a group.
+// Reads what is after a path: `=` and a value, or a group.
 fn read_arguments<'a>(alloc: Global, cursor: Cursor<'a>) -> Result<(&'static str, String), Fault> {
     if let Some((equals, value)) = cursor.punct() {
         match equals.as_char() {
@@ -108,7 +108,7 @@ fn read_arguments<'a>(alloc: Global, cursor: Cursor<'a>) -> Result<(&'static str
 
 const EXPECTED: &str = "`::`, `=`, `(`, `[`, `{` or `]`";
 
-// The opening and the closing delimiter.
+// Returns the opening and the closing delimiter.
 fn both(delimiter: Delimiter) -> &'static str {
     match delimiter {
         Delimiter::Parenthesis => "()",

@@ -1,4 +1,4 @@
-// The attributes among the tokens of a buffer.
+//! The attributes among the tokens of a buffer.
 ghost use Rattle.std.specs.Prelude.{◌<◌, IfSome};
 ghost use Rattle.tok_buffer.specs.Cursors.{place_of};
 ghost use Rattle.tok_buffer.specs.Progress.{remaining};
@@ -8,14 +8,14 @@ use tok_buffer::Cursor;
 use tok_buffer::laws::{entries_go_on, reads_go_on, skips_go_on};
 use tok_core::{Delimiter, Span};
 
-/// Whether an attribute belongs to what comes after it, or to what it is in.
+/// Whether an attribute belongs to the item after it, or to the item it is in.
 #[derive(Clone, Copy)]
 pub enum Style {
     Outer,
     Inner,
 }
 
-/// An attribute: where it begins, and what is in its brackets.
+/// An attribute: where it begins, and the contents of its brackets.
 #[derive(Clone, Copy)]
 pub struct Found<'a> {
     pub style: Style,
@@ -23,7 +23,7 @@ pub struct Found<'a> {
     pub contents: Cursor<'a>,
 }
 
-// Appends the attributes that are ahead of a cursor, in groups too, in their order.
+/// Appends the attributes ahead of a cursor in order, those in groups too.
 #[cycle(find)]
 pub fn find<'a>(found: &mut Vec<Found<'a>>, cursor: Cursor<'a>) -> Result<(), AllocError> {
     skips_go_on();
@@ -44,7 +44,8 @@ pub fn find<'a>(found: &mut Vec<Found<'a>>, cursor: Cursor<'a>) -> Result<(), Al
     }
 }
 
-// The attribute at a cursor, and the cursor after it. In a macro `#[$name]` and `#[#name]` are not attributes yet.
+// Returns the attribute at a cursor, and the cursor after it. In a macro, `#[$name]` and `#[#name]`
+// are no attributes yet.
 fn attribute<'a>(cursor: Cursor<'a>) -> Option<(Found<'a>, Cursor<'a>)>
     ensures { IfSome result
         (λ r. remaining (place_of r.1) < remaining (place_of cursor.entry)) }
@@ -63,7 +64,7 @@ fn attribute<'a>(cursor: Cursor<'a>) -> Option<(Found<'a>, Cursor<'a>)>
     Some((found, after))
 }
 
-// The `#` or `#!` of an attribute, and the cursor after it.
+// Returns the `#` or `#!` of an attribute, and the cursor after it.
 fn sign<'a>(cursor: Cursor<'a>) -> Option<(Style, Span, Cursor<'a>)>
     ensures { IfSome result
         (λ r. remaining (place_of r.2) < remaining (place_of cursor.entry)) }

@@ -1,4 +1,4 @@
-// The lines that are printed of a file.
+//! The lines that are printed of a file.
 ghost use Rattle.std.specs.Prelude.{◌≡◌, ◌≢◌, ◌++◌, [], IfOk, codes, decimal, string_bytes};
 
 use crate::attribute::{Fault, read};
@@ -9,7 +9,7 @@ use std::str::from_utf8;
 use tok_buffer::TokenBuffer;
 use tok_core::{Edition, LexError, LexFault, Span};
 
-/// The attributes of a file, a line each, and its errors.
+/// The lines of a file's attributes, and of its errors.
 #[derive(Drop)]
 pub struct Listing {
     pub lines: String,
@@ -17,7 +17,7 @@ pub struct Listing {
     pub is_found: bool,
 }
 
-// The listing of the file of this name that holds these bytes.
+/// Lists the attributes of a file with this name and contents.
 pub fn list(
     alloc: Global,
     edition: Edition,
@@ -56,7 +56,7 @@ fn list_text(
     }
 }
 
-// The listing of a file that is rejected as a whole.
+// Returns the listing of a file that is rejected as a whole.
 fn failed(alloc: Global, file: &str, place: Place<'_>, words: &str) -> Result<Listing, AllocError> {
     Ok(Listing {
         lines: String::new(alloc),
@@ -65,7 +65,7 @@ fn failed(alloc: Global, file: &str, place: Place<'_>, words: &str) -> Result<Li
     })
 }
 
-// What is expected where a text is rejected.
+// Returns what is expected where a text is rejected.
 fn expected(error: LexError) -> &'static str {
     match error.number() {
         2 => "its closing delimiter",
@@ -82,7 +82,7 @@ fn expected(error: LexError) -> &'static str {
     }
 }
 
-// The attributes that were found, in their order.
+// Lists the attributes that were found, in order.
 fn list_found(
     alloc: Global,
     file: &str,
@@ -123,7 +123,7 @@ fn list_found(
     Ok(listing)
 }
 
-// The line of an attribute.
+// Returns the line of an attribute.
 fn line_of(
     alloc: Global,
     file: &str,
@@ -140,7 +140,7 @@ fn line_of(
     format!(in alloc; "{file}:{line}:{column}: {style} {words}\n")
 }
 
-// The line of an error.
+// Returns the line of an error.
 fn error_of(
     alloc: Global,
     file: &str,
@@ -155,7 +155,7 @@ fn error_of(
     format!(in alloc; "{file}:{line}:{column}: {words}\n")
 }
 
-// A path, and the delimiter and the arguments after it, if there are any.
+// Returns a path, and the delimiter and the arguments after it, if there are any.
 fn words_of(
     alloc: Global,
     path: &str,
@@ -187,7 +187,7 @@ fn style_text(style: Style) -> &'static str {
     }
 }
 
-// The byte at which a span begins.
+// Returns the byte at which a span begins.
 fn start(span: Span) -> usize {
     match span.as_range() {
         Some((_, start, _)) => start,

@@ -1,4 +1,4 @@
-// Lists the attributes of Rust source files, one a line.
+//! Lists the attributes of Rust source files, one a line.
 #![tactic(auto)]
 
 mod attribute;
@@ -15,7 +15,7 @@ use std::process::ExitCode;
 use std::{env, fs, io};
 use tok_core::Edition;
 
-// The exit statuses, which are those of grep.
+// The exit statuses, those of grep.
 const FOUND: u8 = 0;
 
 const NONE_FOUND: u8 = 1;
@@ -33,7 +33,7 @@ fn main(rt: HostRuntime) -> ExitCode {
     ExitCode::from(status)
 }
 
-// Reads the words of the command line, and lists each file that they name.
+// Reads the command line, and lists the files that it names.
 fn run(rt: &HostRuntime) -> io::Result<u8> {
     let mut words = Vec::new(rt.alloc());
     for word in env::args(rt)? {
@@ -57,7 +57,7 @@ fn matches<'a>(rt: &HostRuntime, words: &'a [String]) -> Result<clap::ArgMatches
     command(rt.alloc())?.try_get_matches_from(words)
 }
 
-// Lists each file, and tells whether an attribute was found.
+// Lists each file, and returns whether an attribute was found.
 fn list_files(rt: &HostRuntime, edition: Edition, files: &[&str]) -> io::Result<u8> {
     let mut status = NONE_FOUND;
     for file in files {

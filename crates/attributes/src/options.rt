@@ -1,4 +1,4 @@
-// The words of the command line.
+//! The command line.
 use clap::{Arg, ArgAction, ArgMatches, Command, Error};
 use std::alloc::Global;
 use tok_core::Edition;
@@ -14,7 +14,7 @@ characters from 1. A doc comment is the attribute `doc`.
 
 The exit status is 0 if an attribute is found, 1 if none is, and 2 if a file is in error.";
 
-// The command line that the program takes.
+/// Returns the command line that the program takes.
 pub fn command<'a>(alloc: Global) -> Result<Command<'a>, Error> {
     let file = Arg::new(alloc, "FILE")
         .help("A Rust source file")
@@ -35,7 +35,7 @@ pub fn command<'a>(alloc: Global) -> Result<Command<'a>, Error> {
     Ok(command)
 }
 
-// The edition of the files.
+/// Returns the edition of the files.
 pub fn edition(matches: &ArgMatches<'_>) -> Edition {
     match matches.get_str("edition") {
         Some("2015") => Edition::Edition2015,

@@ -1,4 +1,4 @@
-// Lines and columns.
+//! Lines and columns.
 ghost use Rattle.std.specs.Prelude.{◌≡◌, ◌≤◌, ◌⊎◌, [], length};
 ghost use Rattle.std.specs.Str.{chars};
 ghost use Rattle.attributes.specs.Positions.{GoesOn, step};
@@ -15,7 +15,7 @@ pub struct Position {
 // The position of the first character of a text.
 const START: Position = Position { line: 1, column: 1 };
 
-// A place in a text: the text from there on, the byte, and the line and column.
+/// A place in a text: the rest of the text, the byte, and the line and column.
 #[derive(Clone, Copy)]
 pub struct Place<'a> {
     rest: &'a str,
@@ -24,7 +24,7 @@ pub struct Place<'a> {
 }
 
 impl<'a> Place<'a> {
-    // The first character of a text. A byte order mark at its start takes no column.
+    /// Returns the place of the first character. A byte order mark at the start takes no column.
     pub fn new(text: &'a str) -> Place<'a> {
         let rest = match next_char(text) {
             Some(('\u{FEFF}', after)) => after,
@@ -37,7 +37,7 @@ impl<'a> Place<'a> {
         }
     }
 
-    // The first place from this one on whose byte is this one or a later one, or else the end of the text.
+    /// Returns the first place from here on whose byte is at least `at`, or the end of the text.
     #[tactic(auto, using(crate::proofs::Moves::starts))]
     pub fn moved_to(self, at: usize) -> Place<'a>
         ensures goes_on { GoesOn self.entry.position self.entry.rest.now
@@ -59,7 +59,7 @@ impl<'a> Place<'a> {
     }
 }
 
-// The position after one character.
+// Returns the position after one character.
 fn step(position: Position, c: char) -> Position
     ensures { result ≡ step position c }
 {

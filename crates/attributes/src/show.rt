@@ -1,4 +1,4 @@
-// Arguments and tokens as one line of text.
+//! Arguments and tokens as one line of text.
 use arguments::{Arguments, Value, parse_arguments};
 use std::alloc::{AllocError, Global};
 use syn_parse::Fault;
@@ -7,7 +7,8 @@ use tok_buffer::Cursor;
 // How deep groups may nest.
 const DEPTH: u16 = 256;
 
-// The tokens inside a group: as arguments with `, ` between them if they are such a list, else as they are printed.
+// The tokens inside a group: as arguments with `, ` between them if they are such a list, else as
+// they are printed.
 pub fn show_list<'a>(alloc: Global, inside: Cursor<'a>) -> Result<String, AllocError> {
     match parse_arguments(alloc, inside.token_stream(alloc)?) {
         Ok(list) => {

@@ -1,5 +1,7 @@
-// Builds groups by hand, as deep as standard input says, and makes the call on them that it names. bench/hostile looks how deep
-// they may be: a call that goes from a group into its content may do so on the machine's stack.
+//! Builds groups by hand, as deep as standard input says, and makes the call that it names.
+//!
+//! `bench/hostile` measures how deep they may be: some calls recurse once per level on the
+//! machine's stack.
 #![tactic(auto)]
 
 use anyhow::{Context, Result, bail};
@@ -23,7 +25,7 @@ fn main(rt: HostRuntime) -> Result<()> {
     Ok(())
 }
 
-// `a(a(a()))`, with so many groups.
+// Returns `a(a(a()))` with this many groups.
 fn nested(alloc: Global, depth: usize) -> Result<TokenStream> {
     let mut stream = TokenStream::new(alloc);
     for _ in 0..depth {
@@ -38,7 +40,7 @@ fn nested(alloc: Global, depth: usize) -> Result<TokenStream> {
     Ok(stream)
 }
 
-// Makes a call, and gives a number by which it is seen that the call was made.
+// Makes a call, and returns a number that shows that it was made.
 fn count(alloc: Global, call: &str, stream: TokenStream) -> Result<usize> {
     match call {
         "drop" => Ok(stream.trees().len()),

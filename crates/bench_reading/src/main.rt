@@ -1,5 +1,7 @@
-// Reads a text as far as the first line of standard input says: its trees, a buffer of them, or a list of names. The text is
-// what follows that line. bench/peers compares this program with one over other libraries that does the same.
+//! Reads a text into what the first line of standard input names: trees, a buffer, or a list of
+//! names. The text is the rest of the input.
+//!
+//! `bench/peers` compares this program with the same work done by other libraries.
 #![tactic(auto)]
 
 use anyhow::{Context, Result, bail};
@@ -22,7 +24,7 @@ fn main(rt: HostRuntime) -> Result<()> {
     Ok(())
 }
 
-// How many names a list has; 1 for trees, or a buffer, that are not empty.
+// Returns the number of names of a list, or 1 for trees or a buffer that are not empty.
 fn count(alloc: Global, goal: &str, text: &str) -> Result<usize> {
     match goal {
         "trees" => {

@@ -43,14 +43,14 @@ enum Walk {
     TwoIdents,
 }
 
-// The range of a lifetime's apostrophe, and its name.
+// Returns the range of a lifetime's apostrophe, and its name.
 fn lifetime_text(alloc: Global, cursor: Cursor<'_>) -> Option<String> {
     let (apostrophe, name) = any_lifetime(cursor)?;
     let (source, start, end) = apostrophe.as_range()?;
     format!(in alloc; "{source} {start}..{end} {}", name.as_str()).ok()
 }
 
-// Two identifiers, and whether two more come after them.
+// Returns two identifiers, and whether two more come after them.
 fn two_idents_text(alloc: Global, cursor: Cursor<'_>) -> Option<String> {
     let (first, second, rest) = pair_of_idents(cursor)?;
     let has_more = pair_of_idents(rest).is_some();
@@ -71,7 +71,7 @@ fn walked(alloc: Global, text: &str, walk: &Walk, is_second: bool) -> Option<Str
     walk_text(alloc, cursor, walk)
 }
 
-// Each walk from the first token of a text, or from its second.
+// Checks each walk from the first token of a text, or from its second.
 fn all_walks(rt: &(impl Abort + AllocGlobal), rows: &[(&str, Walk, bool, &str)]) {
     for (text, walk, is_second, wanted) in rows {
         let text = walked(rt.alloc(), text, walk, *is_second);
@@ -91,7 +91,8 @@ fn walks_across_edges(rt: HostRuntime) {
     );
 }
 
-// Whether a token of one's own comes first, whether it or `pub` does, `pub` or `trait`, and a restricted `pub`.
+// Returns whether a token of one's own is next, whether it or `pub` is, `pub` or `trait`, and a
+// restricted `pub`.
 fn looks(alloc: Global, text: &str) -> Option<[bool; 4]> {
     let buffer = laid(alloc, text)?;
     let cursor = buffer.begin();
@@ -148,7 +149,7 @@ fn total_of_three(alloc: Global) -> Option<u32> {
     Some(total(&list))
 }
 
-// The text of `2,3,4` without one value.
+// Returns the text of `2,3,4` without one value.
 fn written_without(alloc: Global, number: u32) -> Option<String> {
     let mut list = two_three_four(alloc).ok()?;
     list.retain(|value| *value != number);
@@ -181,7 +182,8 @@ fn edits_a_list(rt: HostRuntime) {
     all_without(&rt, &[(9, "2,3,4", false), (4, "2,3", false)]);
 }
 
-// The second value and the last one of `2,3,4` after 9 is written over the first, 7 put before it, and 8 over the last.
+// Writes 9 over the first value of `2,3,4`, inserts 7 before it, and writes 8 over the last.
+// Returns the second value and the last one.
 fn raised(alloc: Global) -> Option<(Option<u32>, bool, Option<u32>)> {
     let mut list = two_three_four(alloc).ok()?;
     if list.is_empty() {
@@ -205,7 +207,8 @@ fn writes_into_a_list(rt: HostRuntime) {
     assert!(rt; !raises_last_of_none(rt.alloc()));
 }
 
-// The position after all identifiers, the one after the next `@`, and whether one more is found.
+// Returns the position after all identifiers, the one after the next `@`, and whether one more is
+// found.
 fn looped(alloc: Global, text: &str) -> Option<(usize, usize, bool)> {
     let buffer = laid(alloc, text)?;
     let rest = past_idents(buffer.begin());

@@ -1,4 +1,5 @@
-//! Compares `from_text`, `from_marked` and `from_source` with the buffers of the trees of the same texts.
+//! Compares `from_text`, `from_marked` and `from_source` with the buffers of the trees of the same
+//! texts.
 use crate::texts::{Rules, all_alike, all_repeated};
 
 // Texts that some of the rules read and others reject.

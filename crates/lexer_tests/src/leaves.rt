@@ -6,7 +6,8 @@ use tok_core::{
     Edition, Ident, Literal, MakeFault, Punct, Spacing, Span, TokenTree, lex_source,
 };
 
-// Returns `true` if `Ident::new` makes the wanted identifier of a text, or rejects the text if none is wanted.
+// Returns `true` if `Ident::new` makes the wanted identifier of a text, or rejects the text if none
+// is wanted.
 fn is_ident(alloc: Global, text: &str, wanted: Option<&str>) -> bool {
     match Ident::new(alloc, text, Span::source(1, 2, 4)) {
         Ok(ident) => wanted == Some(ident.as_str()) && ident.span() == Span::source(1, 2, 4),
@@ -14,7 +15,8 @@ fn is_ident(alloc: Global, text: &str, wanted: Option<&str>) -> bool {
     }
 }
 
-// Returns `true` if `Ident::new_raw` makes the wanted identifier of a text, or rejects the text if none is wanted.
+// Returns `true` if `Ident::new_raw` makes the wanted identifier of a text, or rejects the text if
+// none is wanted.
 fn is_raw_ident(alloc: Global, text: &str, wanted: Option<&str>) -> bool {
     match Ident::new_raw(alloc, text, Span::call_site()) {
         Ok(ident) => wanted == Some(ident.as_str()) && ident.span() == Span::call_site(),

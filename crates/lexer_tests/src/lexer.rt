@@ -1,4 +1,5 @@
-//! Reads texts by the rules of `lex` and `lex_marked`: their tokens, and where and why they are rejected.
+//! Reads texts by the rules of `lex` and `lex_marked`: their tokens, and where and why they are
+//! rejected.
 use crate::texts::{Rules, all_read, all_refused, all_repeated, refused, repeated};
 use std::alloc::{AllocGlobal, Global};
 use std::process::Abort;

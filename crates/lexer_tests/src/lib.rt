@@ -1,4 +1,5 @@
-//! Tests of the calls of the lexer, leaves and trees: what no contract says, and that each succeeds while memory lasts.
+//! Tests of the calls of the lexer, leaves and trees: what no contract says, and that each succeeds
+//! while memory lasts.
 #![tactic(auto)]
 
 #[cfg(test)]

@@ -1,4 +1,5 @@
-//! Reads texts by each list of rules, into trees and straight into a buffer, and prints their tokens as a line.
+//! Reads texts by each list of rules, into trees and straight into a buffer, and prints their
+//! tokens as a line.
 use std::alloc::{AllocError, AllocGlobal, Global};
 use std::process::Abort;
 use tok_buffer::{Cursor, TokenBuffer};
@@ -7,7 +8,8 @@ use tok_core::{
     lex_marked, lex_source,
 };
 
-// A list of rules: that of `lex`, of `lex_marked`, or of `lex_source` by the default edition or another one.
+// A list of rules: that of `lex`, of `lex_marked`, or of `lex_source` by the default edition or
+// another one.
 pub enum Rules {
     Plain,
     Marked,
@@ -259,7 +261,8 @@ pub fn all_alike(rt: &(impl Abort + AllocGlobal), rules: &Rules, rows: &[&str]) 
     }
 }
 
-// Checks the number and the byte of the errors, if any, of texts of repeated pieces, read both ways.
+// Checks the number and the byte of the errors, if any, of texts of repeated pieces, read both
+// ways.
 pub fn all_repeated(
     rt: &(impl Abort + AllocGlobal),
     rules: &Rules,

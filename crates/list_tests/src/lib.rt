@@ -1,4 +1,5 @@
-//! Tests of punctuated lists: what no contract says, and that each call succeeds while memory lasts.
+//! Tests of punctuated lists: what no contract says, and that each call succeeds while memory
+//! lasts.
 #![tactic(auto)]
 
 #[cfg(test)]

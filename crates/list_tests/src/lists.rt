@@ -1,4 +1,5 @@
-//! Tests of lists. A list is written as its values and separators in order; the default separator is `d`.
+//! Tests of lists. A list is written as its values and separators in order; the default separator
+//! is `d`.
 mod clones;
 mod iterators;
 mod nested;
@@ -50,7 +51,7 @@ fn numbers(alloc: Global, text: &str) -> Option<Numbers> {
     Some(list)
 }
 
-// The same list with no room for one more pair.
+// Returns the list of a text with no room for one more pair.
 fn full(alloc: Global, text: &str) -> Option<Numbers> {
     numbers(alloc, text)?.clone().ok()
 }
@@ -142,7 +143,7 @@ fn pop_punct(list: &mut Numbers) -> Option<Parts> {
     }
 }
 
-// What the call returns, if it succeeds.
+// Makes the call, and returns what it returns if it succeeds.
 fn edit(alloc: Global, list: &mut Numbers, edit: &Change<'_>) -> Option<Parts> {
     match edit {
         Change::Push(value) => list.push(*value).ok()?,
@@ -161,8 +162,8 @@ fn edit(alloc: Global, list: &mut Numbers, edit: &Change<'_>) -> Option<Parts> {
     Some(NOTHING)
 }
 
-// What the call returns, whether the list is then written so, how many values it has, and whether it is empty, ends in
-// a separator, and is one of both.
+// What the call returns, whether the list then has this text, how many values it has, and whether
+// it is empty, ends in a separator, and is one of both.
 type Edited = (Parts, bool, usize, [bool; 3]);
 
 fn edited(
@@ -181,7 +182,8 @@ fn edited(
     Some((parts, is_shown(alloc, &list, after), list.len(), facts))
 }
 
-// A text, a call, what it returns, and the list after it: its text, its length, and whether it ends in a separator.
+// A text, a call, what it returns, and the list after it: its text, its length, and whether it ends
+// in a separator.
 type ChangeRow<'a> = (&'a str, Change<'a>, Parts, &'a str, usize, bool);
 
 fn all_changes(rt: &(impl Abort + AllocGlobal), rows: &[ChangeRow<'_>]) {
@@ -275,7 +277,8 @@ fn pops(rt: HostRuntime) {
     );
 }
 
-// Adds four to each value, and removes the value that is then 6. Returns the digits of the values that it was shown.
+// Adds four to each value, and removes the value that is then 6. Returns the digits of the values
+// that the predicate saw.
 fn retain_added(alloc: Global, text: &str, after: &str) -> Option<(u32, bool)> {
     let mut list = numbers(alloc, text)?;
     let mut seen = 0u32;
@@ -302,7 +305,7 @@ fn shows_each_value_to_the_predicate_once(rt: HostRuntime) {
     all_retained(&rt, &[("1,2,3", 123, "5,7")]);
 }
 
-// Pairs of such values and separators.
+// Returns pairs of these values and separators.
 fn pairs_of(alloc: Global, parts: &[(u32, Option<char>)]) -> Option<Vec<Pair<u32, Mark>>> {
     let mut pairs = Vec::new(alloc);
     for (value, mark) in parts {
@@ -315,7 +318,7 @@ fn pairs_of(alloc: Global, parts: &[(u32, Option<char>)]) -> Option<Vec<Pair<u32
     Some(pairs)
 }
 
-// The fault of extending the list by these pairs, and whether it is then written so.
+// Returns the fault of extending the list by these pairs, and whether it then has this text.
 fn extended(
     alloc: Global,
     list: Option<Numbers>,
@@ -327,7 +330,7 @@ fn extended(
     Some((fault, is_shown(alloc, &list, after)))
 }
 
-// The fault of making a list of these pairs, or else whether it is written so.
+// Returns the fault of making a list of these pairs, or else whether it has this text.
 fn made_of_pairs(
     alloc: Global,
     parts: &[(u32, Option<char>)],
@@ -339,7 +342,7 @@ fn made_of_pairs(
     }
 }
 
-// Pairs, the fault of making a list of them, and the list that they extend and what it then is.
+// Pairs, the fault of making a list of them, and the list that they extend, before and after.
 type PairsRow<'a> = (
     &'a [(u32, Option<char>)],
     Option<PairsFault>,
@@ -490,7 +493,8 @@ fn replace(list: &mut Numbers, place: &Place, new: u32) -> Option<u32> {
     Some(old)
 }
 
-// What is read at a place, what a write of 9 finds there, and whether the list is then written so.
+// Returns the value at a place, the value that a write of 9 replaces, and whether the list then has
+// this text.
 fn replaced(
     alloc: Global,
     text: &str,
@@ -554,7 +558,7 @@ fn writes_through_an_index(rt: HostRuntime) {
     all_raised(&rt, &[("5,6;7", 3, "8,9;10")]);
 }
 
-// Whether two lists are equal, and whether they are unequal.
+// Returns whether two lists are equal, and whether they are unequal.
 fn compared(alloc: Global, left: &str, right: &str) -> Option<[bool; 2]> {
     let left = full(alloc, left)?;
     let right = numbers(alloc, right)?;

@@ -1,4 +1,4 @@
-//! The calls of `arguments` that take memory.
+//! The calls of `arguments` that allocate.
 use crate::outcome::{Outcome, Stop, expect, shows, worst};
 use arguments::{arguments_both, parse_arguments};
 use std::alloc::Global;
@@ -7,7 +7,7 @@ use tok_core::lex;
 
 const LIST: &str = "a, b = 1, c(d, e = \"x\"),";
 
-/// Each of them.
+/// Makes each call.
 pub fn calls(alloc: Global) -> Outcome {
     worst(&[list(alloc), refusal(alloc), both(alloc)])
 }

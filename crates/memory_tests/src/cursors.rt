@@ -1,4 +1,4 @@
-//! The calls of `tok_buffer` that take memory.
+//! The calls of `tok_buffer` that allocate.
 ghost use Rattle.std.specs.Prelude.{◌≤◌};
 
 mod errors;
@@ -9,7 +9,7 @@ use std::alloc::Global;
 use tok_buffer::{Cursor, TokenBuffer};
 use tok_core::{Edition, LexFault, Span, TokenStream, TokenTree, lex};
 
-/// Each of them.
+/// Makes each call.
 pub fn calls(alloc: Global) -> Outcome {
     worst(&[
         buffers(alloc),
@@ -19,7 +19,8 @@ pub fn calls(alloc: Global) -> Outcome {
     ])
 }
 
-/// Lays out an empty stream: where the first request is refused nothing is made, and there is no second one.
+/// Lays out an empty stream. If the first allocation fails nothing is made, and there is no second
+/// one.
 pub fn empty_buffer(alloc: Global) -> Outcome {
     let buffer = TokenBuffer::new2(alloc, 0, TokenStream::new(alloc))?;
     expect(buffer.begin().eof(), "TokenBuffer::new2")

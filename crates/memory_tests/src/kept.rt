@@ -1,23 +1,23 @@
-// What stays of several things that are added one by one, where memory is refused for one of them.
+//! What stays of several things that are added in turn, if an allocation fails for one of them.
 use crate::outcome::Stop;
 use std::alloc::Global;
 use syn_punctuated::{Pair, Punctuated};
 use tok_buffer::Error;
 use tok_core::{Ident, Span, ToTokens, TokenStream, TokenTree};
 
-/// How many are there after the call, and whether memory was refused.
+/// How many are there after the call, and whether an allocation failed.
 #[derive(Clone, Copy)]
 pub struct Kept {
     pub count: usize,
     pub is_refused: bool,
 }
 
-// An error of one message.
+// Returns an error of one message.
 fn error(alloc: Global) -> Result<Error, Stop> {
     Ok(Error::new(alloc, Span::call_site(), "x")?)
 }
 
-/// Writes a stream of four identifiers, so long that a copy of each takes memory.
+/// Writes a stream of four identifiers, each so long that a copy of it allocates.
 pub fn tokens(alloc: Global) -> Result<Kept, Stop> {
     let mut names = TokenStream::new(alloc);
     for _ in 0..4 {

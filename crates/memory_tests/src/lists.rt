@@ -1,4 +1,4 @@
-// The calls of `syn_punctuated` that take memory.
+//! The calls of `syn_punctuated` that allocate.
 ghost use Rattle.std.specs.Prelude.{◌≡◌};
 
 use crate::outcome::{Outcome, Stop, stands, worst};
@@ -20,7 +20,7 @@ impl Default for Mark {
 
 type Letters = Punctuated<char, Mark>;
 
-// A letter on the heap, so that a copy of it takes memory.
+// A letter on the heap, so that a copy of it allocates.
 #[derive(Drop)]
 struct Boxed {
     letter: Box<char>,
@@ -56,7 +56,7 @@ impl Clone for Boxed {
     }
 }
 
-/// Each of them.
+/// Makes each call.
 pub fn calls(alloc: Global) -> Outcome {
     worst(&[
         push_value(alloc),
@@ -75,13 +75,14 @@ pub fn calls(alloc: Global) -> Outcome {
     ])
 }
 
-// What is to be left, by whether the call succeeded.
+// Judges what is left, by whether the call succeeded.
 fn judge(call: &'static str, was_granted: bool, done: bool, as_before: bool) -> Outcome {
     let answer = if was_granted { Ok(()) } else { Err(AllocError) };
     stands(answer, done, as_before, call)
 }
 
-// Whether the list's values and separators by turns are a front of the text, and whether they are all of it.
+// Returns `true` if the list's values and separators in turn are a front of the text, and if they
+// are all of it.
 fn read(list: &Letters, text: &str) -> (bool, bool) {
     let mut left = text.chars();
     for pair in list.pairs() {
@@ -105,7 +106,7 @@ fn shows(list: &Letters, text: &str) -> bool {
     read(list, text).1
 }
 
-// The list `a;b`, of a pair and a bare value.
+// Returns the list `a;b`, of a pair and a bare value.
 fn two_letters(alloc: Global) -> Result<Letters, PairsFault> {
     Letters::from_pairs(alloc, [Pair::Punctuated('a', Mark(';')), Pair::End('b')])
 }
@@ -205,7 +206,7 @@ fn from_pairs(alloc: Global) -> Outcome {
     }
 }
 
-// Copies of a list, of the pairs that are left of it, and of the values that are left of it.
+// Copies a list, and the pairs and the values that are left of it.
 fn copies_of_list(alloc: Global) -> Outcome {
     let list = two_letters(alloc)?;
     let copy = list.clone()?;
@@ -251,7 +252,7 @@ fn plus() -> Result<Punct, Stop> {
     Punct::new('+', Spacing::Alone).ok_or(Stop::Wrong("Punct::new"))
 }
 
-// A list of three trees is written twice, and the second time its second tree finds no room.
+// Writes a list of three trees twice. The second time, its second tree finds no room.
 fn tokens_of_list(alloc: Global) -> Outcome {
     let punct = plus()?;
     let pairs = [Pair::Punctuated(punct, punct), Pair::End(punct)];
@@ -263,7 +264,7 @@ fn tokens_of_list(alloc: Global) -> Outcome {
     judge("to_tokens", was_granted, count == 6, count == 4)
 }
 
-// After three trees a pair of two is written, and the second finds no room.
+// Writes a pair of two trees after three. The second finds no room.
 fn tokens_of_pair(alloc: Global) -> Outcome {
     let punct = plus()?;
     let pair = Pair::Punctuated(punct, punct);

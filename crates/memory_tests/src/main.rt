@@ -1,11 +1,14 @@
-// Makes the calls that take memory, and looks at what each returns and at what is left afterwards.
-//
-// The status is 0 where each request for memory is granted; 3 where one is refused and all that is left is right; 1 where
-// something is wrong, and then the name of the call is printed. Before the calls it makes one request for each byte of its
-// input: `tests/refuse_each` so brings each request of the calls to the number that is refused.
-// For the input `buffer` it lays out an empty stream and does nothing else; for `laid out` it lays out some tokens, and for `free`
-// these same tokens, on which it then makes calls that take no memory. For the input `kept` and the name of a call it adds several
-// things by that call: where one is refused, the status is 10 and how many are there.
+//! Makes the calls that allocate, and checks what each returns and what is left afterwards.
+//!
+//! The status is 0 if each allocation succeeds, 3 if one fails and all that is left is right, and 1
+//! if something is wrong; then the name of the call is printed. Before the calls it makes one
+//! allocation for each byte of its input: so `tests/refuse_each` makes each allocation of the calls
+//! fail in turn.
+//!
+//! Some inputs are names. For `buffer` it lays out an empty stream and does nothing else. For `laid
+//! out` it lays out some tokens, and for `free` the same tokens, on which it then makes calls that
+//! don't allocate. For `kept` and the name of a call it adds several things by that call: if an
+//! allocation fails, the status is 10 and how many are there.
 #![tactic(auto)]
 
 mod argument_lists;
@@ -55,7 +58,7 @@ fn main(rt: HostRuntime) -> ExitCode {
     }
 }
 
-// What the call of this name keeps, after so many other requests.
+// Returns what the call with this name keeps, after this many other allocations.
 fn kept_by(alloc: Global, call: &[u8], before: usize) -> Result<Kept, Stop> {
     spend(alloc, before)?;
     if call.starts_with(b"tokens") {
@@ -84,7 +87,7 @@ fn run(alloc: Global, before: usize) -> Outcome {
     replays::calls(alloc)
 }
 
-// Makes so many requests.
+// Makes this many allocations.
 fn spend(alloc: Global, count: usize) -> Result<(), AllocError> {
     for _ in 0..count {
         let _spent = Vec::<u8>::with_capacity(alloc, 1)?;

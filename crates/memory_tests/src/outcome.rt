@@ -1,4 +1,4 @@
-// How calls end.
+//! How calls end.
 use std::alloc::{AllocError, AllocFailed};
 use std::fmt;
 use std::fmt::{Display, Write};
@@ -6,7 +6,7 @@ use syn_punctuated::PairsFault;
 use tok_buffer::LifetimeFault;
 use tok_core::{LexFault, MakeFault};
 
-/// All was granted and right, or why the calls stop.
+/// `Ok` if every allocation succeeded and all is right, or why the calls stop.
 pub type Outcome = Result<(), Stop>;
 
 /// An allocation failed, and what is left is right; or something is wrong after this call.
@@ -64,7 +64,7 @@ impl From<PairsFault> for Stop {
     }
 }
 
-/// Stops where something is wrong after this call.
+/// Stops if something is wrong after this call.
 pub fn expect(is_right: bool, call: &'static str) -> Outcome {
     if is_right {
         Ok(())
@@ -73,7 +73,7 @@ pub fn expect(is_right: bool, call: &'static str) -> Outcome {
     }
 }
 
-/// Stops where what is left is wrong, after this call succeeded or after it failed.
+/// Stops if what is left is wrong, after this call succeeded or after it failed.
 pub fn stands(
     answer: Result<(), AllocError>,
     granted: bool,
@@ -89,7 +89,7 @@ pub fn stands(
     }
 }
 
-/// Of several outcomes a wrong one, or else a refusal, or else that all was granted.
+/// Returns a wrong outcome if there is one, or else a failed allocation, or else `Ok`.
 pub fn worst(outcomes: &[Outcome]) -> Outcome {
     let mut worst = Ok(());
     for outcome in outcomes {
@@ -102,7 +102,7 @@ pub fn worst(outcomes: &[Outcome]) -> Outcome {
     worst
 }
 
-// What is left of the bytes that are wanted.
+// The rest of the bytes that are wanted.
 #[derive(Drop)]
 struct Wanted<'a>(&'a [u8]);
 
@@ -118,7 +118,7 @@ impl Write for Wanted<'_> {
     }
 }
 
-/// Whether a value is printed as this text. It takes no memory.
+/// Returns `true` if a value is printed as this text. It doesn't allocate.
 pub fn shows<T: Display>(value: &T, text: &str) -> bool {
     let mut wanted = Wanted(text.as_bytes());
     write!(wanted, "{value}").is_ok() && wanted.0.is_empty()

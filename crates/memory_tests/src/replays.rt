@@ -1,11 +1,11 @@
-// The calls of `syn_replay` that take memory. `crates/replay_memory_tests` runs every command.
+//! The calls of `syn_replay` that allocate. `crates/replay_memory_tests` runs every command.
 use crate::outcome::{Outcome, Stop, expect, shows, worst};
 use std::alloc::{AllocError, Global};
 use syn_replay::{Command, Kind, Look, agree, replay, replay_both, replay_in};
 use tok_buffer::TokenBuffer;
 use tok_core::{Delimiter, lex_marked};
 
-/// Each of them.
+/// Makes each call.
 pub fn calls(alloc: Global) -> Outcome {
     worst(&[of_buffer(alloc), of_stream(alloc), of_both(alloc)])
 }
@@ -33,7 +33,8 @@ fn commands(alloc: Global) -> Result<Vec<Command>, Stop> {
     Ok(commands)
 }
 
-// After an allocation failure the buffer and the commands are as before: replayed again, they give the same report.
+// If an allocation fails, the buffer and the commands are unchanged: replayed again, they give the
+// same report.
 fn of_buffer(alloc: Global) -> Outcome {
     let buffer = TokenBuffer::from_marked(alloc, 0, 0, TEXT)?;
     let commands = commands(alloc)?;

@@ -1,4 +1,4 @@
-//! The calls of `syn_parse` that take memory, and some that take none.
+//! The calls of `syn_parse` that allocate, and some that don't.
 pub mod free;
 mod groups;
 mod lists;
@@ -14,7 +14,7 @@ use tok_buffer::{Lifetime, TokenBuffer};
 use tok_core::{Group, Ident, Literal, Punct, Span, TokenStream, TokenTree, lex};
 use tok_types::token;
 
-/// Each of them.
+/// Makes each call.
 pub fn calls(alloc: Global) -> Outcome {
     worst(&[
         values(alloc),
@@ -34,7 +34,7 @@ fn laid(alloc: Global, text: &str) -> Result<TokenBuffer, Stop> {
     Ok(buffer)
 }
 
-// A value of the whole text; or a stream where it was, where memory is refused.
+// Parses the whole text. If an allocation fails, the stream stays.
 fn takes_all<T: Parse + Drop>(alloc: Global, text: &str, call: &'static str) -> Outcome {
     let buffer = laid(alloc, text)?;
     let mut input = tokens_to_parse_buffer(alloc, &buffer, Span::call_site());
@@ -53,7 +53,7 @@ fn takes_all<T: Parse + Drop>(alloc: Global, text: &str, call: &'static str) -> 
     }
 }
 
-// A refusal in these words, and a stream where it was.
+// Expects an error with these words, and the stream where it was.
 fn refuses<T: Parse + Drop>(alloc: Global, text: &str, words: &str, call: &'static str) -> Outcome {
     let buffer = laid(alloc, text)?;
     let mut input = tokens_to_parse_buffer(alloc, &buffer, Span::call_site());
@@ -83,7 +83,7 @@ fn values(alloc: Global) -> Outcome {
     ])
 }
 
-// A box is asked for after its value is read: where it is refused the stream is after the value.
+// A box is allocated after its value is parsed: if that fails, the stream is after the value.
 fn boxed(alloc: Global) -> Outcome {
     let buffer = laid(alloc, "fn")?;
     let mut input = tokens_to_parse_buffer(alloc, &buffer, Span::call_site());

@@ -1,11 +1,11 @@
-// The calls of `tok_types` that take memory.
+//! The calls of `tok_types` that allocate.
 use crate::outcome::{Outcome, expect, stands, worst};
 use crate::trees::{is_ident, is_stream, pluses, span, write};
 use std::alloc::{AllocError, Global};
 use tok_core::{Ident, ToTokens, TokenStream};
 use tok_types::token;
 
-/// Each of them.
+/// Makes each call.
 pub fn calls(alloc: Global) -> Outcome {
     worst(&[
         words(alloc),
@@ -86,7 +86,7 @@ fn groups(alloc: Global) -> Outcome {
     )
 }
 
-// An identifier of a token.
+// Checks the identifier of a token.
 fn named(ident: Result<Ident, AllocError>, text: &str, call: &'static str) -> Outcome {
     expect(is_ident(&ident?, text), call)
 }

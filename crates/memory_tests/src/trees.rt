@@ -1,4 +1,4 @@
-// The calls of `tok_core` that take memory.
+//! The calls of `tok_core` that allocate.
 use crate::outcome::{Outcome, Stop, expect, worst};
 use std::alloc::{AllocError, Global};
 use std::ffi::CStr;
@@ -8,7 +8,7 @@ use tok_core::{
     ToTokens, TokenStream, TokenTree, lex, lex_marked, lex_source, same_visible,
 };
 
-/// Each of them, some more than once.
+/// Makes each call, some more than once.
 pub fn calls(alloc: Global) -> Outcome {
     worst(&[
         idents(alloc),
@@ -26,17 +26,17 @@ pub fn calls(alloc: Global) -> Outcome {
     ])
 }
 
-// Longer than what stands in place in a `Text`, so that each takes memory.
+// Longer than a `Text` stores in place, so that each allocates.
 const NAME: &str = "abcdefghijklmnop";
 
 const RAW_NAME: &str = "r#abcdefghijklmnop";
 
-// The span of all that is made here.
+/// Returns the span of all that is made here.
 pub fn span() -> Span {
     Span::source(1, 2, 4)
 }
 
-// An identifier, unless memory is refused.
+// Returns an identifier, unless an allocation failed.
 fn made(ident: Result<Ident, MakeFault>, call: &'static str) -> Result<Ident, Stop> {
     match ident {
         Ok(ident) => Ok(ident),
@@ -57,7 +57,7 @@ fn has_text(stream: &TokenStream, text: &str) -> bool {
     InlineText::<64>::of(stream).as_str() == text
 }
 
-// Whether a stream has this text, and each of its trees the span.
+/// Returns `true` if a stream has this text, and each of its trees the span.
 pub fn is_stream(stream: &TokenStream, text: &str) -> bool {
     for next in stream.trees() {
         if next.span() != span() {
@@ -131,7 +131,7 @@ fn plus() -> Result<Punct, Stop> {
     Punct::new_spanned('+', Spacing::Alone, span()).ok_or(Stop::Wrong("Punct::new_spanned"))
 }
 
-// Puts a plus after the others. Where memory is refused the stream is as before, and takes the plus when it is put again.
+// Appends a plus. If the allocation fails, the stream is unchanged, and a second append succeeds.
 fn append(stream: &mut TokenStream, before: &str, after: &str) -> Outcome {
     let call = "TokenStream::append";
     if stream.append(TokenTree::Punct(plus()?)).is_ok() {
@@ -152,7 +152,7 @@ fn appends(alloc: Global) -> Outcome {
     append(&mut stream, "+ + + +", "+ + + + +")
 }
 
-// A group with an identifier inside.
+// Returns a group with an identifier inside.
 fn group(alloc: Global) -> Result<Group, Stop> {
     let ident = made(Ident::new(alloc, NAME, span()), "Ident::new")?;
     let mut inside = TokenStream::new(alloc);
@@ -192,7 +192,7 @@ fn clones(alloc: Global) -> Outcome {
     )
 }
 
-// Four pluses: so many trees have room in the memory that a stream asks for first.
+/// Returns four pluses: a stream's first allocation has room for so many.
 pub fn pluses(alloc: Global) -> Result<TokenStream, Stop> {
     let mut stream = TokenStream::new(alloc);
     for _ in 0..4 {
@@ -201,7 +201,8 @@ pub fn pluses(alloc: Global) -> Result<TokenStream, Stop> {
     Ok(stream)
 }
 
-// Writes a value after four pluses. After an allocation failure one of these fronts is there, and else the last.
+/// Writes a value after four pluses. If an allocation fails, one of these fronts is there, and else
+/// the last.
 pub fn write<T: ToTokens>(
     alloc: Global,
     value: &T,
@@ -282,7 +283,7 @@ fn own_streams(alloc: Global) -> Outcome {
     expect(is_stream(&tokens, NAME), "ToTokens::into_token_stream")
 }
 
-// A stream with nothing but an invisible group.
+// Returns a stream with nothing but an invisible group.
 fn hidden(alloc: Global, inside: TokenStream) -> Result<TokenStream, AllocError> {
     let mut stream = TokenStream::new(alloc);
     stream.append(TokenTree::Group(Group::new(Delimiter::None, inside, span())))?;
@@ -318,7 +319,7 @@ fn reads(alloc: Global) -> Outcome {
     read(source, "# [doc = \" abcdefghijklmnop\"] b", "lex_source")
 }
 
-// What prints a stream passes a refusal on, and never cuts the text.
+// Printing a stream passes an error on, and never cuts the text.
 fn prints(alloc: Global) -> Outcome {
     let stream = pluses(alloc)?;
     let text = stream.to_string(alloc);

@@ -1,8 +1,9 @@
-// Serves three inputs, and looks at all that is printed.
-//
-// The status is 0 if each allocation succeeds; 3 if one fails and the input is answered by `memory` alone; 1 if something is
-// wrong, and then the name of the call is printed. Before the calls it makes one allocation for each byte of its input:
-// `tests/refuse_each` so brings each allocation of the calls to the number that fails.
+//! Serves three inputs, and checks all that is printed.
+//!
+//! The status is 0 if each allocation succeeds, 3 if one fails and the output is `memory` alone,
+//! and 1 if something is wrong; then the name of the call is printed. Before the calls it makes one
+//! allocation for each byte of its input: so `tests/refuse_each` makes each allocation fail in
+//! turn.
 #![tactic(auto)]
 
 mod outcome;
@@ -28,7 +29,7 @@ fn main(rt: HostRuntime) -> ExitCode {
     }
 }
 
-// Makes the calls, after so many other allocations.
+// Makes the calls, after this many other allocations.
 fn run(alloc: Global, before: usize) -> Outcome {
     for _ in 0..before {
         if Vec::<u8>::with_capacity(alloc, 1).is_err() {

@@ -1,16 +1,16 @@
-// How calls end.
+//! How calls end.
 
-/// All was granted and right, or why the calls stop.
+/// `Ok` if every allocation succeeded and all is right, or why the calls stop.
 pub type Outcome = Result<(), Stop>;
 
-/// An allocation failed, and all is then right; or something is wrong after this call.
+/// An allocation failed, and all is right; or something is wrong after this call.
 #[derive(Clone, Copy)]
 pub enum Stop {
     Refused,
     Wrong(&'static str),
 }
 
-/// The first wrong outcome of several, or else a refusal, or else that all was granted.
+/// Returns the first wrong outcome, or else a failed allocation, or else `Ok`.
 pub fn worst(outcomes: &[Outcome]) -> Outcome {
     let mut worst = Ok(());
     for outcome in outcomes {

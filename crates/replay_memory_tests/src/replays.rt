@@ -1,4 +1,4 @@
-// The program: its first run, a run of every command, and two texts.
+//! The program: its first run, a run of every command, and two texts.
 use crate::outcome::{Outcome, Stop, worst};
 use std::alloc::Global;
 use std::io::{self, Write};
@@ -138,7 +138,7 @@ transparent yes\n\
 agree yes\n\
 ";
 
-// Compares what is written with two texts: what is left of each, while it agrees.
+// Compares the output with two texts: keeps the rest of each, while it matches.
 #[derive(Drop)]
 struct Compared<'a> {
     answer: Option<&'a [u8]>,
@@ -170,7 +170,7 @@ fn is_whole(left: Option<&[u8]>) -> bool {
     matches!(left, Some(rest) if rest.is_empty())
 }
 
-// Serves an input: all that it prints is written, with this status, or `memory` alone.
+// Serves an input. All that it prints is written, with this status, or `memory` alone.
 fn serves(alloc: Global, input: &str, answer: &str, status: u8) -> Outcome {
     let mut input = input.as_bytes();
     let mut output = Compared {

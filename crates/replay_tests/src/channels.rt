@@ -55,7 +55,8 @@ impl Write for Full {
     }
 }
 
-// Whether the program ends with this status and output if its reader has so many bytes, and then fails or ends.
+// Returns `true` if the program ends with this status and output, when its reader has so many bytes
+// and then fails or ends.
 fn is_served(alloc: Global, count: usize, fails: bool, status: u8, output: &str) -> bool {
     let mut input = Slow {
         left: INPUT.get(..count).unwrap_or(INPUT),
@@ -100,7 +101,7 @@ fn reads_byte_by_byte(rt: HostRuntime) {
     all_served(&rt, &[20], false, 0, "read a 0..1 @1\naccepted\n");
 }
 
-// The status of the program if its writer has room for so many bytes.
+// Returns the status of the program if its writer has room for so many bytes.
 fn status_with_room(alloc: Global, room: usize) -> u8 {
     let mut input = INPUT;
     let mut output = Full { room };

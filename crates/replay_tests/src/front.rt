@@ -25,7 +25,7 @@ impl Parse for Call {
     }
 }
 
-// The number of arguments of a call of this name, and whether a comma ends them.
+// Returns the number of arguments of a call of this name, and whether a comma ends them.
 fn called(alloc: Global, text: &str, name: &str) -> Option<(usize, bool)> {
     let call = Call::parse.parse_str(alloc, text).ok()?;
     if call.name.as_str() == name {
@@ -52,7 +52,7 @@ fn reads_a_value_by_one_crate(rt: HostRuntime) {
     );
 }
 
-// Whether a text starts with this name and parentheses.
+// Returns `true` if a text starts with this name and parentheses.
 fn starts_call(alloc: Global, text: &str, name: &str) -> Option<bool> {
     let stream = lex(alloc, 0, text).ok()?;
     let buffer = TokenBuffer::new2(alloc, 0, stream).ok()?;

@@ -14,7 +14,7 @@ enum Source<'a> {
     Twins,
 }
 
-// One identifier `a`.
+// Returns the identifier `a`.
 fn leaf(alloc: Global) -> Option<TokenStream> {
     let ident = Ident::new(alloc, "a", Span::call_site()).ok()?;
     let mut stream = TokenStream::new(alloc);
@@ -22,7 +22,7 @@ fn leaf(alloc: Global) -> Option<TokenStream> {
     Some(stream)
 }
 
-// One group around a stream.
+// Returns a group around a stream.
 fn around(alloc: Global, delimiter: Delimiter, content: TokenStream) -> Option<TokenStream> {
     let group = Group::new(delimiter, content, Span::call_site());
     let mut stream = TokenStream::new(alloc);
@@ -30,7 +30,7 @@ fn around(alloc: Global, delimiter: Delimiter, content: TokenStream) -> Option<T
     Some(stream)
 }
 
-// Groups around `a`, visible and invisible in turn, the outermost visible.
+// Returns groups around `a`, visible and invisible in turn, the outermost visible.
 fn nested(alloc: Global, levels: usize) -> Option<TokenStream> {
     let mut stream = leaf(alloc)?;
     for level in 0..levels {
@@ -74,7 +74,7 @@ fn is_reported(alloc: Global, source: &Source<'_>, commands: &[Command], wanted:
     }
 }
 
-// The printed report of each row.
+// Checks the printed report of each row.
 fn all_reports(rt: &(impl Abort + AllocGlobal), rows: &[(Source<'_>, &[Command], &str)]) {
     for (source, commands, wanted) in rows {
         assert!(rt;
@@ -131,7 +131,8 @@ fn tells_scopes_by_place(rt: HostRuntime) {
     );
 }
 
-// The report on a thousand groups, of which 500 are parentheses that are entered. Then what is in them is read, or not.
+// Returns the report on a thousand groups, of which 500 are parentheses that are entered. Then
+// their contents are read, or not.
 fn deep(alloc: Global, is_read: bool) -> Option<Report> {
     let mut commands = Vec::new(alloc);
     for number in 0..500usize {
@@ -178,7 +179,7 @@ fn reads_in_a_thousand_groups(rt: HostRuntime) {
     );
 }
 
-// How many lines in front entered a group, each the next one.
+// Counts the first lines that enter a group, each the next one.
 fn entered(report: &Report) -> usize {
     let mut count = 0usize;
     for line in &report.lines {
@@ -192,7 +193,7 @@ fn entered(report: &Report) -> usize {
     count
 }
 
-// The number of lines, and of those that enter the next group, and whether all is read.
+// Returns the number of lines, and of those that enter the next group, and whether all is read.
 fn deep_counts(alloc: Global, is_read: bool) -> Option<(usize, usize, bool)> {
     let report = deep(alloc, is_read)?;
     let is_accepted = matches!(&report.verdict, Verdict::Accepted);

@@ -1,5 +1,8 @@
-// Reads Rust source files by `lex_source`. The first word is `tokens`, which prints the tokens of each file or why it is rejected, or
-// `count`, which prints how many trees all files have. The second is an edition, the others are the files.
+//! Reads Rust source files by `lex_source`.
+//!
+//! The first word is `tokens`, which prints the tokens of each file or why it is rejected, or
+//! `count`, which prints how many trees all files have. The second word is an edition, and the
+//! others are files.
 #![tactic(auto)]
 
 mod show;
@@ -36,7 +39,7 @@ fn main(rt: HostRuntime) -> Result<()> {
     Ok(())
 }
 
-// The edition of this name.
+// Returns the edition with this name.
 fn edition_of(name: &str) -> Option<Edition> {
     match name {
         "2015" => Some(Edition::Edition2015),
@@ -47,7 +50,7 @@ fn edition_of(name: &str) -> Option<Edition> {
     }
 }
 
-// The name of a file, and a line for each of its tokens, or the one that says why it is rejected.
+// Returns the name of a file, and a line for each of its tokens, or the line of its error.
 fn tokens(alloc: Global, edition: Edition, file: &str, text: &str) -> Result<String> {
     let mut lines = format!(in alloc; "{file}\n")?;
     match lex_source(alloc, edition, 0, text) {
@@ -63,7 +66,7 @@ fn tokens(alloc: Global, edition: Edition, file: &str, text: &str) -> Result<Str
     Ok(lines)
 }
 
-// How many trees a text has outside all groups. A text that is rejected has none.
+// Counts the trees outside all groups. A text that is rejected has none.
 fn count(alloc: Global, edition: Edition, text: &str) -> usize {
     match lex_source(alloc, edition, 0, text) {
         Ok(stream) => stream.trees().len(),

@@ -1,9 +1,9 @@
-// Tokens as lines of text.
+//! Tokens as lines of text.
 use std::alloc::AllocError;
 use tok_core::{Spacing, Span, TokenStream, TokenTree};
 
-// Appends a line for each token: its kind, range of bytes and text, of a punct also its spacing. A group has a line for each
-// delimiter.
+/// Appends a line for each token: its kind, its range of bytes and its text, and the spacing of a
+/// punct. A group has a line for each delimiter.
 #[cycle(lines)]
 pub fn push_stream(lines: &mut String, stream: &TokenStream) -> Result<(), AllocError> {
     for next in stream.trees() {
@@ -41,7 +41,8 @@ fn push_tree(lines: &mut String, next: &TokenTree) -> Result<(), AllocError> {
     }
 }
 
-// Appends the line of a token. Its text has `\n`, `\r` and `\\` in place of a line feed, a carriage return and a `\`.
+// Appends the line of a token. Its text has `\n`, `\r` and `\\` in place of a line feed, a carriage
+// return and a `\`.
 fn push_line(lines: &mut String, kind: &str, span: Span, text: &str) -> Result<(), AllocError> {
     push_front(lines, kind, span)?;
     for c in text.chars() {

@@ -1,13 +1,14 @@
-//! Arguments: what texts are read as, with marks and without, and with which errors they are rejected.
-use test_outcomes::is_said;
+//! Arguments: what texts are read as, with marks and without, and with which errors they are
+//! rejected.
 use arguments::{Arguments, Value, arguments_both, parse_arguments};
 use std::alloc::{AllocError, AllocGlobal, Global};
 use std::process::Abort;
 use syn_parse::Result;
+use test_outcomes::is_said;
 use tok_buffer::Error;
 use tok_core::{Span, lex_marked};
 
-// A token and its range.
+// Appends a token and its range.
 fn add(text: &mut String, token: &str, span: Span) -> std::result::Result<(), AllocError> {
     let alloc = *text.allocator();
     let added = match span.as_range() {
@@ -17,7 +18,7 @@ fn add(text: &mut String, token: &str, span: Span) -> std::result::Result<(), Al
     text.push_str(added.as_str())
 }
 
-// Names, signs, literals and groups, each with its range, and so deep at most.
+// Appends names, signs, literals and groups, each with its range, down to this depth.
 fn add_list(text: &mut String, list: &Arguments, depth: u8) -> std::result::Result<(), AllocError> {
     for pair in list.pairs() {
         let argument = pair.value();
@@ -111,7 +112,7 @@ fn errors(rt: HostRuntime) {
     );
 }
 
-// A list, or the words of the error.
+// Returns a list as text, or the words of the error.
 fn shown_or_words(alloc: Global, outcome: std::result::Result<Arguments, Error>) -> Option<String> {
     match outcome {
         Ok(list) => shown(alloc, &list).ok(),
@@ -126,7 +127,7 @@ fn is_shown(alloc: Global, outcome: std::result::Result<Arguments, Error>, wante
     }
 }
 
-// Whether both texts are the same list, or are rejected in the same words.
+// Returns `true` if both texts are the same list, or are rejected in the same words.
 fn are_both(alloc: Global, left: &str, right: &str, wanted: &str) -> Option<bool> {
     let left = lex_marked(alloc, 0, left).ok()?;
     let right = lex_marked(alloc, 0, right).ok()?;

@@ -3,12 +3,12 @@ mod groups;
 mod hostile;
 mod lists;
 
-use test_outcomes::{READ, Sample, all_said, is_read, read};
 use std::alloc::{AllocGlobal, Global};
 use std::process::Abort;
 use syn_parse::{
     IdentExt, Nothing, Parse, ParseStream, Parser, Result, parse_source, parsing,
 };
+use test_outcomes::{READ, Sample, all_said, is_read, read};
 use tok_buffer::Lifetime;
 use tok_core::{Edition, Ident, Literal, Punct, Span, TokenStream, TokenTree};
 use tok_types::token::{self, Token};
@@ -156,7 +156,7 @@ fn literals_of_sources(rt: HostRuntime) {
     );
 }
 
-// Two spans of one character.
+// Parses two spans of one character.
 fn two_spans(input: ParseStream<'_, '_>) -> Result<String> {
     let _: [Span; 2] = parsing::punct(input, ",")?;
     Ok(String::new(input.allocator()))
@@ -200,7 +200,7 @@ fn the_end_has_the_span_of_the_scope(rt: HostRuntime) {
     );
 }
 
-// The trees after the next `@`.
+// Parses the trees after the next `@`.
 fn after_at(input: ParseStream<'_, '_>) -> Result<TokenStream> {
     for _ in 0..100 {
         if let TokenTree::Punct(punct) = input.parse()? {
@@ -229,7 +229,7 @@ fn the_rest_after_a_punct(rt: HostRuntime) {
     );
 }
 
-// The text of the stream after one identifier.
+// Returns the text of the stream after one identifier.
 fn after_name(input: ParseStream<'_, '_>) -> Result<String> {
     let _: Ident = input.parse()?;
     let text = format!(in input.allocator(); "{input}")?;

@@ -1,4 +1,5 @@
-//! Clones of what owns values. Each call is owed that a clone of a value, and of a separator, equals its source.
+//! Clones of lists and of their owning iterators. Each call requires that the clone of a value, and
+//! of a separator, equals its source.
 ghost use Rattle.std.specs.Prelude.{◌≡◌, IfOk};
 ghost use Rattle.syn_punctuated.specs.Private.Boxes.{boxed_values};
 ghost use Rattle.syn_punctuated.specs.Lists.{values_of, separators_of};
@@ -9,7 +10,7 @@ use crate::punctuated::Punctuated;
 use std::alloc::{AllocError, Global};
 use std::collections::VecDeque;
 
-/// The clone of a bare last value.
+/// Clones the bare last value.
 fn clone_last<T: Clone + Drop>(
     alloc: Global,
     last: &Option<Box<T>>,
@@ -23,7 +24,7 @@ fn clone_last<T: Clone + Drop>(
     }
 }
 
-/// The clones of pairs.
+/// Clones the pairs.
 fn clone_pairs<T: Clone + Drop, P: Clone + Drop>(
     pairs: &VecDeque<(T, P)>,
 ) -> Result<VecDeque<(T, P)>, AllocError>
@@ -41,7 +42,13 @@ fn clone_pairs<T: Clone + Drop, P: Clone + Drop>(
 }
 
 impl<T: Clone + Drop, P: Clone + Drop> Punctuated<T, P> {
-    /// The list of the clones.
+    /// Clones the values and the separators.
+    ///
+    /// Returns an error if an allocation fails.
+    ///
+    /// # Requires
+    ///
+    /// A clone must equal its source.
     pub fn clone(&self) -> Result<Self, AllocError>
         requires values { (x : T) (y : T) → T.is_clone x y → y ≡ x }
         requires separators { (x : P) (y : P) → P.is_clone x y → y ≡ x }
@@ -60,7 +67,13 @@ impl<T: Clone + Drop, P: Clone + Drop> Punctuated<T, P> {
 }
 
 impl<T: Clone + Drop, P: Clone + Drop> IntoIter<T, P> {
-    /// The clones of the values that are left; the separators that are left with them are cloned too.
+    /// Clones the values that are left, and the separators that are left with them.
+    ///
+    /// Returns an error if an allocation fails.
+    ///
+    /// # Requires
+    ///
+    /// A clone must equal its source.
     pub fn clone(&self) -> Result<Self, AllocError>
         requires values { (x : T) (y : T) → T.is_clone x y → y ≡ x }
         requires separators { (x : P) (y : P) → P.is_clone x y → y ≡ x }
@@ -73,7 +86,13 @@ impl<T: Clone + Drop, P: Clone + Drop> IntoIter<T, P> {
 }
 
 impl<T: Clone + Drop, P: Clone + Drop> IntoPairs<T, P> {
-    /// The clones of the pairs that are left.
+    /// Clones the pairs that are left.
+    ///
+    /// Returns an error if an allocation fails.
+    ///
+    /// # Requires
+    ///
+    /// A clone must equal its source.
     pub fn clone(&self) -> Result<Self, AllocError>
         requires values { (x : T) (y : T) → T.is_clone x y → y ≡ x }
         requires separators { (x : P) (y : P) → P.is_clone x y → y ≡ x }

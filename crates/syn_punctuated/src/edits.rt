@@ -1,4 +1,4 @@
-//! The calls that add and remove values and separators.
+//! Adding and removing values and separators.
 ghost use Rattle.std.specs.Prelude.{◌≡◌, ◌+◌, ◌≤◌, ◌<◌, [], ◌∷◌, ◌++◌, length, take, true, is_some, option_map};
 ghost use Rattle.std.specs.Prelude.{option_and_then, option_to_list, IfOk, OnErr, OnOk, IfNone};
 ghost use Rattle.std.specs.List.{insert};
@@ -11,9 +11,13 @@ use crate::punctuated::Punctuated;
 use std::alloc::AllocError;
 
 impl<T: Drop, P: Drop> Punctuated<T, P> {
-    /// Adds a bare last value. Owed: the list is empty or ends in a separator.
+    /// Appends a bare last value.
     ///
-    /// Where there is no memory the list stays as it was, and the value is dropped.
+    /// If the allocation fails, the list is unchanged and the value is dropped.
+    ///
+    /// # Requires
+    ///
+    /// The list must be empty or end in a separator.
     pub fn push_value(&mut self, value: T) -> Result<(), AllocError>
         requires { length (values_of self.old) ≡ length (separators_of self.old) }
         ensures ok { OnOk result (values_of self.new ≡ values_of self.old ++ value ∷ []) }
@@ -25,9 +29,13 @@ impl<T: Drop, P: Drop> Punctuated<T, P> {
         Ok(())
     }
 
-    /// Adds a separator after a bare last value. Owed: there is one.
+    /// Appends a separator after the bare last value.
     ///
-    /// Where there is no memory the list stays as it was, and the separator is dropped.
+    /// If the allocation fails, the list is unchanged and the separator is dropped.
+    ///
+    /// # Requires
+    ///
+    /// The list must end in a bare value.
     pub fn push_punct(&mut self, separator: P) -> Result<(), AllocError>
         requires { length (values_of self.old) ≡ length (separators_of self.old) + 1 }
         ensures ok { OnOk result
@@ -45,7 +53,8 @@ impl<T: Drop, P: Drop> Punctuated<T, P> {
         Ok(())
     }
 
-    /// Removes and gives the last value. A separator after it is dropped; the one before it stays.
+    /// Removes and returns the last value. A separator after it is dropped; the one before it
+    /// stays.
     pub fn pop(&mut self) -> Option<T>
         ensures values { values_of self.old ≡ values_of self.new ++ option_to_list result }
         ensures separators { separators_of self.new
@@ -58,9 +67,10 @@ impl<T: Drop, P: Drop> Punctuated<T, P> {
         }
     }
 
-    /// Removes and gives the separator at the end. It is `None` where the list ends in a bare value or is empty.
+    /// Removes and returns the last separator, or returns `None` if the list is empty or ends in a
+    /// bare value.
     ///
-    /// The value that becomes bare takes memory: after an allocation failure the list is as it was.
+    /// The value before it becomes bare, which allocates. If that fails, the list is unchanged.
     pub fn pop_punct(&mut self) -> Result<Option<P>, AllocError>
         ensures values { values_of self.new ≡ values_of self.old }
         ensures taken { IfOk result
@@ -88,7 +98,7 @@ impl<T: Drop, P: Drop> Punctuated<T, P> {
         }
     }
 
-    /// Removes and gives the last value with the separator after it, if there is one.
+    /// Removes and returns the last value with the separator after it, if there is one.
     pub fn pop_pair(&mut self) -> Option<Pair<T, P>>
         ensures values { values_of self.old
             ≡ values_of self.new ++ option_to_list (option_map value_of_pair result) }
@@ -116,9 +126,9 @@ impl<T: Drop, P: Drop> Punctuated<T, P> {
 }
 
 impl<T: Drop, P: Default + Drop> Punctuated<T, P> {
-    /// Adds a value, after a default separator where the list ends in a bare value.
+    /// Appends a value, after a default separator if the list ends in a bare value.
     ///
-    /// Where there is no memory the list stays as it was, without the separator too, and the value is dropped.
+    /// If an allocation fails, the list is unchanged and the value is dropped.
     pub fn push(&mut self, value: T) -> Result<(), AllocError>
         ensures ok { OnOk result (values_of self.new ≡ values_of self.old ++ value ∷ []) }
         ensures separators { OnOk result (AddsDefault P.is_default self.old self.new) }
@@ -135,10 +145,14 @@ impl<T: Drop, P: Default + Drop> Punctuated<T, P> {
         }
     }
 
-    /// Puts a value at `index`, with a default separator after it; at the list's end it does what `push` does.
-    /// Owed: `index` is at most the length.
+    /// Inserts a value at `index`, with a default separator after it. At the end it appends as
+    /// `push` does.
     ///
-    /// Where there is no memory the list stays as it was, and the value is dropped.
+    /// If an allocation fails, the list is unchanged and the value is dropped.
+    ///
+    /// # Requires
+    ///
+    /// `index` must be at most the length.
     pub fn insert(&mut self, index: usize, value: T) -> Result<(), AllocError>
         requires { index ≤ length (values_of self.old) }
         ensures ok { OnOk result (values_of self.new ≡ insert (values_of self.old) index value) }

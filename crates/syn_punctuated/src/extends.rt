@@ -1,4 +1,4 @@
-//! The calls that add many values.
+//! Adding many values.
 ghost use Rattle.std.specs.Prelude.{◌≡◌, [], ◌∷◌, ◌++◌, length, option_to_list, Some, IfOk, IfErr, OnOk, OnErr};
 ghost use Rattle.std.specs.Iterator.{IsFiniteIterable};
 ghost use Rattle.syn_punctuated.specs.Adds.{ExtendsWithValues, ExtendsWithPairs, ExtendsAfterDefault};
@@ -12,12 +12,12 @@ use crate::punctuated::Punctuated;
 use std::alloc::{AllocError, Global};
 use std::fmt;
 
-/// Why pairs were not all added.
+/// Why not all pairs were added.
 #[derive(Clone, Copy, Debug, PartialEq, Eq)]
 pub enum PairsFault {
     /// P1: a pair follows one without a separator.
     AfterEnd,
-    /// There was no memory.
+    /// An allocation failed.
     Memory,
 }
 
@@ -43,7 +43,11 @@ impl From<AllocError> for PairsFault {
 }
 
 impl<T: Drop, P: Drop> Punctuated<T, P> {
-    /// Adds a pair. Owed: the list is empty or ends in a separator.
+    /// Appends a pair.
+    ///
+    /// # Requires
+    ///
+    /// The list must be empty or end in a separator.
     fn push_pair(&mut self, pair: Pair<T, P>) -> Result<(), AllocError>
         requires { length (values_of self.old) ≡ length (separators_of self.old) }
         ensures values { OnOk result
@@ -61,7 +65,11 @@ impl<T: Drop, P: Drop> Punctuated<T, P> {
         }
     }
 
-    /// Adds pairs in turn. Owed: the list is empty or ends in a separator.
+    /// Appends pairs in order.
+    ///
+    /// # Requires
+    ///
+    /// The list must be empty or end in a separator.
     fn push_pairs<I: IntoIterator<Item = Pair<T, P>>>(&mut self, pairs: I) -> Result<(), PairsFault>
         requires starts { length (values_of self.old) ≡ length (separators_of self.old) }
         requires ends { IsFiniteIterable I.into_iter_gives I.IntoIter.can_next
@@ -78,7 +86,14 @@ impl<T: Drop, P: Drop> Punctuated<T, P> {
         Ok(())
     }
 
-    /// A list of pairs. A pair after one without a separator is refused, and then nothing is made.
+    /// Creates a list from pairs.
+    ///
+    /// Returns `AfterEnd` if a pair follows one without a separator, and `Memory` if an allocation
+    /// fails.
+    ///
+    /// # Requires
+    ///
+    /// The iterator must be finite.
     pub fn from_pairs<I: IntoIterator<Item = Pair<T, P>>>(
         alloc: Global,
         pairs: I,
@@ -95,9 +110,13 @@ impl<T: Drop, P: Drop> Punctuated<T, P> {
 }
 
 impl<T: Drop, P: Default + Drop> Punctuated<T, P> {
-    /// Adds values in turn, each as `push` does.
+    /// Appends values in order, each as `push` does.
     ///
-    /// Where there is no memory for a value, those before it stay, and it is dropped.
+    /// If an allocation fails, the values before it stay and this one is dropped.
+    ///
+    /// # Requires
+    ///
+    /// The iterator must be finite.
     pub fn extend_values<I: IntoIterator<Item = T>>(&mut self, items: I) -> Result<(), AllocError>
         requires { IsFiniteIterable I.into_iter_gives I.IntoIter.can_next
             I.IntoIter.remaining items }
@@ -110,7 +129,13 @@ impl<T: Drop, P: Default + Drop> Punctuated<T, P> {
         Ok(())
     }
 
-    /// A list of values with a default separator between each two.
+    /// Creates a list of values with default separators between them.
+    ///
+    /// Returns an error if an allocation fails.
+    ///
+    /// # Requires
+    ///
+    /// The iterator must be finite.
     pub fn from_values<I: IntoIterator<Item = T>>(
         alloc: Global,
         items: I,
@@ -126,11 +151,15 @@ impl<T: Drop, P: Default + Drop> Punctuated<T, P> {
         Ok(list)
     }
 
-    /// Adds pairs in turn. Where the list ends in a bare value a default separator goes first, even if no pair
-    /// follows.
+    /// Appends pairs in order. If the list ends in a bare value, a default separator goes first,
+    /// even if there are no pairs.
     ///
-    /// A pair after one without a separator is refused. At either fault what came before stays, and the pair at which
-    /// it stopped is dropped.
+    /// Returns `AfterEnd` if a pair follows one without a separator, and `Memory` if an allocation
+    /// fails. The pairs before it stay, and this one is dropped.
+    ///
+    /// # Requires
+    ///
+    /// The iterator must be finite.
     pub fn extend_pairs<I: IntoIterator<Item = Pair<T, P>> + Drop>(
         &mut self,
         pairs: I,

@@ -1,4 +1,5 @@
-//! The iterator that owns a list's values, seen as the list of those that are left.
+//! The iterator that moves out a list's values. Contracts see it as the list of those that are
+//! left.
 ghost use Rattle.std.specs.Prelude.{◌≡◌, length, IfSome};
 ghost use Rattle.std.specs.Iterator.{at_most, UpTo};
 ghost use Rattle.std.specs.Iterator.SizeHint.{IsWithinCount};
@@ -24,7 +25,7 @@ impl<T: Drop, P: Drop> IntoIterator for Punctuated<T, P> {
     }
 }
 
-/// What iterating over a list by value gives: the values that are left.
+/// An iterator that moves out the values that are left. A `for` loop over a list makes it.
 #[derive(Drop)]
 pub struct IntoIter<T, P> {
     pub(crate) pairs: IntoPairs<T, P>,

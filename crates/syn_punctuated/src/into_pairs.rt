@@ -1,4 +1,4 @@
-//! The iterator that owns a list's pairs, seen as the list of those that are left.
+//! The iterator that moves out a list's pairs. Contracts see it as the list of those that are left.
 ghost use Rattle.std.specs.Prelude.{◌≡◌, length, IfSome};
 ghost use Rattle.std.specs.Iterator.{at_most, UpTo};
 ghost use Rattle.std.specs.Iterator.SizeHint.{IsWithinCount};
@@ -14,7 +14,7 @@ use std::iter::FusedIterator;
 use std::marker::Model;
 
 impl<T, P> Punctuated<T, P> {
-    /// The pairs in order, by value.
+    /// Returns an iterator that moves out the pairs in order.
     pub fn into_pairs(self) -> IntoPairs<T, P>
         ensures rest { result ≡ paired (values_of self) (separators_of self) }
         ensures runs { GivesInOrder (Pair T P) }
@@ -28,7 +28,7 @@ impl<T, P> Punctuated<T, P> {
     }
 }
 
-/// What `into_pairs` gives: the pairs that are left.
+/// An iterator that moves out the pairs that are left. `into_pairs` returns it.
 #[derive(Drop)]
 pub struct IntoPairs<T, P> {
     pub(crate) inner: VecDeque<(T, P)>,

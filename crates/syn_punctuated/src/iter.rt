@@ -1,4 +1,4 @@
-//! The iterator that lends a list's values, seen as the list of those that are left.
+//! The iterator over a list's values. Contracts see it as the list of those that are left.
 ghost use Rattle.std.specs.Prelude.{◌≡◌, length, ⊤, IfSome};
 ghost use Rattle.std.specs.Iterator.{at_most, UpTo};
 ghost use Rattle.std.specs.Iterator.SizeHint.{IsWithinCount};
@@ -12,7 +12,7 @@ use std::iter::FusedIterator;
 use std::marker::Model;
 
 impl<T, P> Punctuated<T, P> {
-    /// The values in order, lent.
+    /// Returns an iterator over the values in order.
     pub fn iter(&self) -> Iter<'_, T, P>
         ensures rest { result ≡ values_of self.now }
         ensures runs { ShowsInOrder (deref {X = T}) }
@@ -37,7 +37,7 @@ impl<'a, T, P> IntoIterator for &'a Punctuated<T, P> {
     }
 }
 
-/// What `iter` gives: the values that are left, lent.
+/// An iterator over the values that are left. `iter` returns it.
 #[derive(Drop)]
 pub struct Iter<'a, T, P> {
     pairs: Pairs<'a, T, P>,

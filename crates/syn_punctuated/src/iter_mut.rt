@@ -1,4 +1,4 @@
-//! The iterator that lends a list's values to be written.
+//! The iterator over a list's values, for writing.
 ghost use Rattle.std.specs.Prelude.{◌≡◌, length, IfSome};
 ghost use Rattle.std.specs.Iterator.{UpTo};
 ghost use Rattle.std.specs.Iterator.SizeHint.{IsWithinCount};
@@ -12,7 +12,7 @@ use std::iter::FusedIterator;
 impl<T, P> Punctuated<T, P> {
     ghost use Rattle.syn_punctuated.specs.Lent.{lent_values};
 
-    /// The values in order, to be written.
+    /// Returns an iterator over the values in order, for writing.
     pub fn iter_mut(&mut self) -> IterMut<'_, T, P>
         ensures { lent_values result ≡ values_of self.old }
     {
@@ -36,7 +36,7 @@ impl<'a, T, P> IntoIterator for &'a mut Punctuated<T, P> {
     }
 }
 
-/// What `iter_mut` gives: the values that are left, lent to be written.
+/// An iterator over the values that are left, for writing. `iter_mut` returns it.
 #[derive(Drop)]
 pub struct IterMut<'a, T, P> {
     pairs: PairsMut<'a, T, P>,

@@ -1,4 +1,5 @@
-//! Laws over the definitions that the contracts cite. Each is the contract of a function that does nothing.
+//! Laws of punctuated lists. Each is the contract of a function that does nothing, apart from
+//! `read_again`.
 ghost use Rattle.std.specs.Prelude.{◌≡◌, ◌<◌, ◌+◌, ◌&&◌, ◌⊎◌, ℕ, List, length};
 ghost use Rattle.std.specs.Cmp.Lexicographic.{pointwise};
 ghost use Rattle.std.specs.Fn.{CalledAtMut};
@@ -29,7 +30,7 @@ pub fn separators_follow_values<T, P>()
         ⊎ (length (values_of list) ≡ length (separators_of list) + 1) }
 {}
 
-/// Two lists are equal where their values are equal one by one, and their separators are too.
+/// Two lists are equal if and only if their values are equal in order, and so are their separators.
 pub fn equality_is_pointwise<T: PartialEq, P: PartialEq>()
     ensures { (left : Punctuated T P) (right : Punctuated T P)
         → ⟦<Punctuated<T, P> as PartialEq>⟧.eq left right
@@ -37,47 +38,50 @@ pub fn equality_is_pointwise<T: PartialEq, P: PartialEq>()
         && pointwise P.eq (separators_of left) (separators_of right)) }
 {}
 
-/// A list feeds a hasher its values and separators: the pairs, with how many they are, and then the bare last value, or
-/// that there is none. So equal lists feed it alike.
+/// A list feeds a hasher its values and separators: the pairs with their number, and then the bare
+/// last value or its absence. So equal lists feed a hasher the same input.
 pub fn lists_hash_all<T: Hash, P: Hash>()
     ensures { (list : Punctuated T P)
         → ⟦<Punctuated<T, P> as Hash>⟧.hash_input list ≡ list_input T.hash_input P.hash_input list }
 {}
 
-/// After `retain`, a list that isn't empty ends in a separator exactly where it did before.
+/// After `retain`, a list that isn't empty ends in a separator if and only if it did before.
 pub fn retain_keeps_trailing<T, P, F: FnMut(&mut T) -> bool>()
     ensures { (f : F) (old : Punctuated T P) (new : Punctuated T P)
         → Retains (CalledAtMut F.FnMut) f old new → 0 < length (values_of new)
         → is_trailing new ≡ is_trailing old }
 {}
 
-/// What is written to `list[index]` goes there, and all else is as before.
+/// A value that is written to `list[index]` is stored there, and all else stays.
 pub fn indexing_writes_one_value<T, P>()
     ensures { (list : Punctuated T P) (index : ℕ) (value : T)
         → index < length (values_of list)
         → WritesValue index value list (with_value list index value) }
 {}
 
-/// A list that is parsed has the values and the separators of the trees that its stream passes, in their order, where the
-/// parser of a value and that of a separator state what they read; and a terminated list leaves nothing.
+/// A parsed list has the values and the separators of the trees that its stream passes, in order,
+/// if the parsers of a value and of a separator state what they read. A terminated list leaves
+/// nothing.
 pub fn lists_have_their_trees<T: Parse, P: Parse + Token>()
     ensures { (values : T → List (List Tree)) (separators : P → List (List Tree))
         → ListsHaveTheirTrees values separators T.parses P.parses P.peeks }
 {}
 
-/// The parsers of identifiers and of punctuations state what they read: an identifier, and a punct for each character.
+/// The parsers of identifiers and of punctuations state what they read: an identifier, and a punct
+/// for each character.
 pub fn tokens_state_trees<const K: usize, const N: usize>()
     ensures idents { StatesTrees ⟦<Ident as Parse>⟧.parses ident_sources }
     ensures punctuations { StatesTrees ⟦<Punctuation<K, N> as Parse>⟧.parses punctuation_sources }
 {}
 
-/// Where the values and the separators of a list are read back one by one, the list is read back as it was written, and
-/// nothing is left. An allocation failure aside.
+/// If the values and the separators of a list are read back one by one, the list is read back as it
+/// was written, and nothing is left, unless an allocation fails.
 pub fn lists_are_read_back<T: Parse + ToTokens, P: Parse + ToTokens>()
     ensures { ListsAreReadBack T.parses T.printed P.parses P.printed }
 {}
 
-/// An identifier that is no reserved word, and a punctuation of the table with a span for each character, are read back.
+/// An identifier that is no reserved word, and a punctuation of the table with a span for each
+/// character, are read back.
 pub fn names_and_punctuations_are_read_back<const K: usize, const N: usize>()
     ensures names { (i : Ident) → IsAccepted i
         → IsReadBack ⟦<Ident as Parse>⟧.parses ⟦<Ident as ToTokens>⟧.printed i }
@@ -86,7 +90,14 @@ pub fn names_and_punctuations_are_read_back<const K: usize, const N: usize>()
         ⟦<Punctuation<K, N> as ToTokens>⟧.printed p }
 {}
 
-/// Writes a list of identifiers that are no reserved words, and reads it again, all of it.
+/// Writes a list of identifiers as tokens, and parses all of it again.
+///
+/// Returns an error if an allocation fails.
+///
+/// # Requires
+///
+/// - No identifier may be a reserved word.
+/// - The punctuation must be in the table, with a span for each character in each separator.
 pub fn read_again<const K: usize, const N: usize>(
     alloc: Global,
     list: &Punctuated<Ident, Punctuation<K, N>>,

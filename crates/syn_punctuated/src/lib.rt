@@ -1,4 +1,4 @@
-//! Lists of values with separators between them.
+//! Punctuated lists: values with separators between them, and their parsers.
 #![tactic(auto)]
 
 mod clones;

@@ -1,4 +1,4 @@
-//! A value with the separator after it, or a bare last value.
+//! Pairs: a value and the separator after it, or a bare last value.
 ghost use Rattle.std.specs.Prelude.{◌≡◌, Some, None, IfOk};
 ghost use Rattle.std.specs.Borrow.{sem};
 ghost use Rattle.std.specs.Option.{option_copied, option_copied_mut};
@@ -12,12 +12,12 @@ use std::alloc::AllocError;
 pub enum Pair<T, P> {
     /// A value and the separator after it.
     Punctuated(T, P),
-    /// A last value with nothing after it.
+    /// A last value with no separator after it.
     End(T),
 }
 
 impl<T, P> Pair<T, P> {
-    /// The pair of a value and what follows it, if anything does.
+    /// Creates a pair from a value and the separator after it, if there is one.
     pub fn new(value: T, separator: Option<P>) -> Self
         ensures value { value_of_pair result ≡ value }
         ensures separator { separator_of_pair result ≡ separator }
@@ -28,7 +28,7 @@ impl<T, P> Pair<T, P> {
         }
     }
 
-    /// The value; the separator is dropped.
+    /// Returns the value. The separator is dropped.
     pub fn into_value(self) -> T
     where
         P: Drop,
@@ -40,7 +40,7 @@ impl<T, P> Pair<T, P> {
         }
     }
 
-    /// The value.
+    /// Returns the value.
     pub fn value(&self) -> &T
         ensures { result.now ≡ value_of_pair self.now }
     {
@@ -49,7 +49,7 @@ impl<T, P> Pair<T, P> {
         }
     }
 
-    /// The value, to be written. The pair then has what was written last, and its separator as before.
+    /// Returns the value for writing. The separator stays.
     pub fn value_mut(&mut self) -> &mut T
         ensures* writes_back { sem 𝓛 (LendsPairValue T.row P.row self.entry result) }
         ensures value { result.now ≡ value_of_pair self.old }
@@ -60,7 +60,7 @@ impl<T, P> Pair<T, P> {
         }
     }
 
-    /// The separator, if there is one.
+    /// Returns the separator, if there is one.
     pub fn punct(&self) -> Option<&P>
         ensures { option_copied result ≡ separator_of_pair self.now }
     {
@@ -70,8 +70,7 @@ impl<T, P> Pair<T, P> {
         }
     }
 
-    /// The separator, if there is one, to be written. The pair then has what was written last, and its value as
-    /// before.
+    /// Returns the separator for writing, if there is one. The value stays.
     pub fn punct_mut(&mut self) -> Option<&mut P>
         ensures* writes_back { sem 𝓛 (LendsPairSeparator T.row P.row self.entry result) }
         ensures separator { option_copied_mut result ≡ separator_of_pair self.old }
@@ -82,7 +81,7 @@ impl<T, P> Pair<T, P> {
         }
     }
 
-    /// The value, and the separator, if there is one.
+    /// Returns the value and the separator, if there is one.
     pub fn into_tuple(self) -> (T, Option<P>)
         ensures value { result.0 ≡ value_of_pair self }
         ensures separator { result.1 ≡ separator_of_pair self }
@@ -95,7 +94,13 @@ impl<T, P> Pair<T, P> {
 }
 
 impl<T: Clone + Drop, P: Clone> Pair<&T, &P> {
-    /// The pair of the clones. Owed: a clone equals its source.
+    /// Clones the value and the separator.
+    ///
+    /// Returns an error if an allocation fails.
+    ///
+    /// # Requires
+    ///
+    /// A clone must equal its source.
     pub fn cloned(self) -> Result<Pair<T, P>, AllocError>
         requires values { (x : T) (y : T) → T.is_clone x y → y ≡ x }
         requires separators { (x : P) (y : P) → P.is_clone x y → y ≡ x }

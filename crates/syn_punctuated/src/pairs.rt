@@ -1,4 +1,4 @@
-//! The iterator that lends a list's pairs, seen as the list of those that are left.
+//! The iterator over a list's pairs. Contracts see it as the list of those that are left.
 ghost use Rattle.std.specs.Prelude.{◌≡◌, length, ⊤, IfSome};
 ghost use Rattle.std.specs.Iterator.{at_most, UpTo};
 ghost use Rattle.std.specs.Iterator.SizeHint.{IsWithinCount};
@@ -15,7 +15,20 @@ use std::marker::Model;
 use std::slice;
 
 impl<T, P> Punctuated<T, P> {
-    /// The pairs in order, lent.
+    /// Returns an iterator over the pairs in order.
+    ///
+    /// # Examples
+    ///
+    /// ```rust
+    /// let list = Punctuated::<u8, token::Comma>::from_values(alloc, vec![in alloc; 1, 2]?)?;
+    /// let mut separators = 0;
+    /// for pair in list.pairs() {
+    ///     if pair.punct().is_some() {
+    ///         separators += 1;
+    ///     }
+    /// }
+    /// assert_eq!(rt; separators, 1);
+    /// ```
     pub fn pairs(&self) -> Pairs<'_, T, P>
         ensures rest { result ≡ paired (values_of self.now) (separators_of self.now) }
         ensures runs { ShowsInOrder (deref_both {X = T} {Y = P}) }
@@ -28,7 +41,7 @@ impl<T, P> Punctuated<T, P> {
     }
 }
 
-/// What `pairs` gives: the pairs that are left, lent.
+/// An iterator over the pairs that are left. `pairs` returns it.
 #[derive(Drop)]
 pub struct Pairs<'a, T, P> {
     pub(crate) inner: slice::Iter<'a, (T, P)>,

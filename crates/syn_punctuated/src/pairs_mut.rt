@@ -1,4 +1,4 @@
-//! The iterator that lends a list's pairs to be written.
+//! The iterator over a list's pairs, for writing.
 ghost use Rattle.std.specs.Prelude.{◌≡◌, ◌^◌, ◌<◌, length, IfSome};
 ghost use Rattle.std.specs.Iterator.{UpTo};
 ghost use Rattle.std.specs.Iterator.SizeHint.{IsWithinCount};
@@ -16,7 +16,7 @@ use std::slice;
 impl<T, P> Punctuated<T, P> {
     ghost use Rattle.syn_punctuated.specs.Lent.{lent_pairs};
 
-    /// The pairs in order, to be written.
+    /// Returns an iterator over the pairs in order, for writing.
     pub fn pairs_mut(&mut self) -> PairsMut<'_, T, P>
         ensures { lent_pairs result ≡ paired (values_of self.old) (separators_of self.old) }
     {
@@ -27,7 +27,7 @@ impl<T, P> Punctuated<T, P> {
     }
 }
 
-/// A value and the separator after it.
+/// Lends a value and the separator after it.
 fn lend_pair<'a, T, P>(pair: &'a mut (T, P)) -> Pair<&'a mut T, &'a mut P>
     ensures { deref_both_mut result ≡ pair_of pair.old }
 {
@@ -35,7 +35,7 @@ fn lend_pair<'a, T, P>(pair: &'a mut (T, P)) -> Pair<&'a mut T, &'a mut P>
     Pair::Punctuated(value, separator)
 }
 
-/// A bare last value, if there is one.
+/// Lends the bare last value, if there is one.
 fn lend_last<'a, T, P>(last: Option<&'a mut T>) -> Option<Pair<&'a mut T, &'a mut P>>
     ensures { option_map deref_both_mut result ≡ option_map end_of (option_copied_mut last.entry) }
 {
@@ -45,7 +45,7 @@ fn lend_last<'a, T, P>(last: Option<&'a mut T>) -> Option<Pair<&'a mut T, &'a mu
     }
 }
 
-/// What `pairs_mut` gives: the pairs that are left, lent to be written.
+/// An iterator over the pairs that are left, for writing. `pairs_mut` returns it.
 #[derive(Drop)]
 pub struct PairsMut<'a, T, P> {
     pub(crate) inner: slice::IterMut<'a, (T, P)>,

@@ -1,4 +1,4 @@
-//! The parser of lists, whose rule says when a list goes on.
+//! The parser of lists, over a rule that says when a list goes on.
 ghost use Rattle.std.specs.Prelude.{◌≡◌, ◌+◌, ◌<◌, ◌≤◌, false, true, length, IfOk, MatchResult};
 ghost use Rattle.std.specs.Fn.{CalledAtMut};
 ghost use Rattle.tok_buffer.specs.Cursors.{place_of};
@@ -19,18 +19,19 @@ use tok_buffer::{Cursor, Error};
 pub(crate) trait ListRule<P> {
     ghost rule: { Rule };
 
-    /// Whether another turn begins here. If not, the list ends.
+    /// Returns `true` if another turn begins here. If not, the list ends.
     fn begins(input: &ParseBuffer<'_>) -> bool
         ensures begins { result ≡ true → rule.begins input.now.place }
         ensures ends { result ≡ false → rule.ends input.now.place };
 
-    /// Whether a separator follows the value before this place. If not, the list ends with the value.
+    /// Returns `true` if a separator follows the value before this place. If not, the list ends
+    /// with the value.
     fn goes_on(input: &ParseBuffer<'_>) -> bool
         ensures goes_on { result ≡ true → rule.goes_on input.now.place }
         ensures stops { result ≡ false → rule.stops input.now.place };
 }
 
-/// Reads a list by this rule, whose values `parser` reads.
+/// Parses a list by this rule, with values from `parser`.
 pub(crate) fn parse_list<'a, R, T, P, F>(
     input: ParseStream<'_, 'a>,
     mut parser: F,
@@ -64,18 +65,18 @@ where
     }
 }
 
-/// What one turn gives.
+/// What one turn yields.
 #[derive(Drop)]
 enum Piece<T, P> {
     /// The list ends without another value.
     End,
-    /// The last value, which no separator follows.
+    /// The last value, with no separator after it.
     Bare(T),
     /// A value and its separator.
     Full(T, P),
 }
 
-/// One turn.
+/// Runs one turn.
 fn read_turn<'a, R, T, P, F>(input: ParseStream<'_, 'a>, parser: &mut F) -> Result<Piece<T, P>>
 where
     R: ListRule<P>,
@@ -97,8 +98,10 @@ where
     Ok(Piece::Full(value, separator))
 }
 
-/// Where the next turn begins, after one that began at `start`. A turn that made no progress is refused, so that a run
-/// ends for every value parser and every separator.
+/// Returns the cursor of the next turn, after one that began at `start`.
+///
+/// A turn that made no progress is an error, so that a run ends for every value parser and every
+/// separator.
 fn next_turn<'a>(input: &ParseBuffer<'a>, start: Cursor<'a>) -> Result<Cursor<'a>>
     ensures progress { MatchResult result
         (λ now. (place_of now ≡ input.now.place)
@@ -116,7 +119,8 @@ fn next_turn<'a>(input: &ParseBuffer<'a>, start: Cursor<'a>) -> Result<Cursor<'a
     }
 }
 
-/// Whether a cursor is later than `start` in the same scope, or is the empty one where `start` isn't.
+/// Returns `true` if a cursor is later than `start` in the same scope, or is empty and `start` is
+/// not.
 fn has_passed(now: Cursor<'_>, start: Cursor<'_>) -> bool
     ensures test { result ≡ progresses (place_of start.entry) (place_of now.entry) }
     ensures lowers { result ≡ true
@@ -126,7 +130,7 @@ fn has_passed(now: Cursor<'_>, start: Cursor<'_>) -> bool
     start.same_scope(now) && start < now || start.position().is_some() && now.position().is_none()
 }
 
-/// The refusal of a turn that made no progress.
+/// Returns the error of a turn that made no progress.
 fn no_progress(input: &ParseBuffer<'_>) -> Fault
     ensures { Refuses (no_progress input.now) result }
 {
@@ -136,7 +140,7 @@ fn no_progress(input: &ParseBuffer<'_>) -> Fault
     }
 }
 
-/// A list of these pairs, and of a last value that no separator follows.
+/// Creates a list from pairs and a bare last value.
 fn with_bare<T: Drop, P: Drop>(
     alloc: Global,
     pairs: Vec<(T, P)>,

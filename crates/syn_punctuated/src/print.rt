@@ -1,4 +1,4 @@
-//! How lists and pairs are written, as tokens and for debugging.
+//! How lists and pairs are written, as tokens and by `Debug`.
 ghost use Rattle.std.specs.Prelude.{◌≡◌, OnOk, OnErr};
 ghost use Rattle.tok_core.specs.Forest.{AppendsFront, concat};
 ghost use Rattle.syn_punctuated.specs.Lists.{values_of, separators_of};
@@ -10,7 +10,7 @@ use std::alloc::AllocError;
 use std::fmt;
 use tok_core::{ToTokens, TokenStream};
 
-/// Puts the tokens of a value, and then those of a separator, after the others.
+/// Appends the tokens of a value, and then those of a separator.
 fn write_pair<T: ToTokens, P: ToTokens>(
     value: &T,
     separator: &P,
@@ -52,7 +52,7 @@ impl<T: ToTokens, P: ToTokens> ToTokens for Pair<T, P> {
 }
 
 impl<T: fmt::Debug, P: fmt::Debug> fmt::Debug for Punctuated<T, P> {
-    /// Values and separators by turns, in brackets.
+    /// Writes values and separators in turn, in brackets.
     fn fmt<W: fmt::Write>(&self, f: &mut fmt::Formatter<W>) -> fmt::Result {
         let mut list = f.debug_list();
         for pair in &self.inner {

@@ -1,4 +1,4 @@
-//! The list, and what it says of itself.
+//! Punctuated lists.
 ghost use Rattle.std.specs.Prelude.{◌≡◌, [], ◌-◌, ◌==◌, length, slice_get};
 ghost use Rattle.std.specs.Option.{option_copied, option_to_list};
 ghost use Rattle.syn_punctuated.specs.Private.Boxes.{boxed_values};
@@ -6,10 +6,21 @@ ghost use Rattle.syn_punctuated.specs.Lists.{values_of, separators_of, is_traili
 
 use std::alloc::Global;
 
-/// A list of values with separators between them: one after each value but the last, which may stand bare.
+/// A list of values with separators between them. The last value is bare or has a separator too.
 ///
-/// It keeps the allocator that it was made with. Two lists are equal where their values are equal one by one, and
-/// their separators are too.
+/// It keeps the allocator it was made with. Two lists are equal if their values are equal in order,
+/// and so are their separators.
+///
+/// # Examples
+///
+/// ```rust
+/// let mut list: Punctuated<u8, token::Comma> = Punctuated::new(alloc);
+/// list.push(1)?;
+/// list.push(2)?;
+/// assert_eq!(rt; list.len(), 2);
+/// assert_eq!(rt; list.trailing_punct(), false);
+/// assert_eq!(rt; list.last(), Some(&2));
+/// ```
 #[derive(Drop, PartialEq, Eq, Hash)]
 pub struct Punctuated<T, P> {
     pub(crate) inner: Vec<(T, P)>,
@@ -17,7 +28,7 @@ pub struct Punctuated<T, P> {
 }
 
 impl<T, P> Punctuated<T, P> {
-    /// An empty list. It takes no memory until something is added.
+    /// Creates an empty list. It allocates only when something is added.
     pub fn new(alloc: Global) -> Self
         ensures values { values_of result ≡ [] }
         ensures separators { separators_of result ≡ [] }
@@ -28,28 +39,28 @@ impl<T, P> Punctuated<T, P> {
         }
     }
 
-    /// Whether the list has no value.
+    /// Returns `true` if the list has no value.
     pub fn is_empty(&self) -> bool
         ensures { result ≡ (length (values_of self.now) == 0) }
     {
         self.len() == 0
     }
 
-    /// How many values there are.
+    /// Returns the number of values.
     pub fn len(&self) -> usize
         ensures { result ≡ length (values_of self.now) }
     {
         self.inner.len() + if self.last.is_some() { 1 } else { 0 }
     }
 
-    /// The first value.
+    /// Returns the first value.
     pub fn first(&self) -> Option<&T>
         ensures { option_copied result ≡ slice_get (values_of self.now) 0 }
     {
         self.get(0)
     }
 
-    /// The last value.
+    /// Returns the last value.
     pub fn last(&self) -> Option<&T>
         ensures { option_copied result
             ≡ slice_get (values_of self.now) (length (values_of self.now) - 1) }
@@ -57,7 +68,7 @@ impl<T, P> Punctuated<T, P> {
         self.get(self.len().saturating_sub(1))
     }
 
-    /// The value at `index`, counted from 0.
+    /// Returns the value at `index`, counted from 0.
     pub fn get(&self, index: usize) -> Option<&T>
         ensures { option_copied result ≡ slice_get (values_of self.now) index }
     {
@@ -71,21 +82,21 @@ impl<T, P> Punctuated<T, P> {
         }
     }
 
-    /// Whether the list ends in a separator.
+    /// Returns `true` if the list ends in a separator.
     pub fn trailing_punct(&self) -> bool
         ensures { result ≡ is_trailing self.now }
     {
         self.empty_or_trailing() && !self.is_empty()
     }
 
-    /// Whether the list is empty or ends in a separator.
+    /// Returns `true` if the list is empty or ends in a separator.
     pub fn empty_or_trailing(&self) -> bool
         ensures { result ≡ (length (values_of self.now) == length (separators_of self.now)) }
     {
         self.last.is_none()
     }
 
-    /// The last value, where no separator follows it.
+    /// Returns the last value, unless a separator follows it.
     pub(crate) fn bare_value(&self) -> Option<&T>
         ensures { option_to_list (option_copied result) ≡ boxed_values self.now.last }
     {

@@ -1,11 +1,11 @@
-//! The call that keeps some values.
+//! Removing values by a condition.
 ghost use Rattle.std.specs.Prelude.{◌≡◌};
 ghost use Rattle.std.specs.Fn.{CalledAtMut};
 ghost use Rattle.syn_punctuated.specs.Retained.{Retains, RetainsPairs};
 
 use crate::punctuated::Punctuated;
 
-/// Shows `f` a value.
+/// Calls `f` on a value.
 fn test<T, F: FnMut(&mut T) -> bool>(value: &mut T, f: &mut F) -> bool
     requires { F.IsAlwaysCallable f.old }
     ensures callable { F.IsAlwaysCallable f.new }
@@ -14,7 +14,7 @@ fn test<T, F: FnMut(&mut T) -> bool>(value: &mut T, f: &mut F) -> bool
     f(value)
 }
 
-/// Shows `f` the value of a pair.
+/// Calls `f` on the value of a pair.
 fn test_value<T, P, F: FnMut(&mut T) -> bool>(pair: &mut (T, P), f: &mut F) -> bool
     requires { F.IsAlwaysCallable f.old }
     ensures callable { F.IsAlwaysCallable f.new }
@@ -24,7 +24,7 @@ fn test_value<T, P, F: FnMut(&mut T) -> bool>(pair: &mut (T, P), f: &mut F) -> b
     test(&mut pair.0, f)
 }
 
-/// Keeps the pairs at whose values `f` returns true.
+/// Keeps the pairs for whose values `f` returns `true`.
 fn retain_pairs<T: Drop, P: Drop, F: FnMut(&mut T) -> bool>(pairs: &mut Vec<(T, P)>, f: &mut F)
     requires { F.IsAlwaysCallable f.old }
     ensures callable { F.IsAlwaysCallable f.new }
@@ -41,11 +41,15 @@ fn retain_pairs<T: Drop, P: Drop, F: FnMut(&mut T) -> bool>(pairs: &mut Vec<(T, 
 }
 
 impl<T: Drop, P: Drop> Punctuated<T, P> {
-    /// Keeps the values at which `f` returns true, each with the separator after it. Where the list ended in a bare
-    /// value, the last that is kept is bare too.
+    /// Keeps the values for which `f` returns `true`, each with the separator after it.
     ///
-    /// `f` sees each value once, in order, and may write to it. No memory is taken: a value that becomes bare goes into
+    /// If the list ends in a bare value, the last value that is kept is bare too. `f` sees each value
+    /// once, in order, and may write to it. Nothing is allocated: a value that becomes bare takes over
     /// the box of the one that goes.
+    ///
+    /// # Requires
+    ///
+    /// `f` must be callable on every value.
     pub fn retain<F: FnMut(&mut T) -> bool>(&mut self, mut f: F)
         requires { F.IsAlwaysCallable f }
         ensures { Retains (CalledAtMut F.FnMut) f self.old self.new }

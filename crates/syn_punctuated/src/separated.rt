@@ -10,7 +10,7 @@ use crate::punctuated::Punctuated;
 use syn_parse::{Parse, ParseBuffer, ParseStream, Result};
 use tok_types::token::Token;
 
-/// A value, and another one after each separator that is next.
+/// The rule of separated lists: a value, and another after each separator that is next.
 pub(crate) enum Separated {}
 
 impl<P: Token> ListRule<P> for Separated {
@@ -26,15 +26,23 @@ impl<P: Token> ListRule<P> for Separated {
 }
 
 impl<T: Drop, P: Parse + Token + Drop> Punctuated<T, P> {
-    /// Reads a value by `parser`, and another one after each separator, as long as a separator is next. So the list has
-    /// at least one value, and doesn't end in a separator. Owed: the parser can be called on every stream in which no
-    /// more remains than in this one.
+    /// Parses a value with `parser`, and another after each separator, while a separator is next.
     ///
-    /// It ends for every parser and every separator: a value with its separator that leaves the stream no later in its
-    /// scope is refused with "parser made no progress".
+    /// The list has at least one value and ends in a bare value. It ends for every parser and every
+    /// separator: if a value and its separator leave the stream no later in its scope, the error is
+    /// "parser made no progress". An error leaves the stream where the failing part left it.
     ///
-    ///     let path: Punctuated<Ident, token::PathSep> =
-    ///         Punctuated::parse_separated_nonempty_with(input, |input| Ident::parse_any(input))?;
+    /// # Requires
+    ///
+    /// The parser must be callable on every stream with no more remaining than this one.
+    ///
+    /// # Examples
+    ///
+    /// ```rust
+    /// pub fn path(input: ParseStream<'_, '_>) -> parse::Result<Punctuated<Ident, token::PathSep>> {
+    ///     Punctuated::parse_separated_nonempty_with(input, |input| Ident::parse_any(input))
+    /// }
+    /// ```
     pub fn parse_separated_nonempty_with<'a, F>(
         input: ParseStream<'_, 'a>,
         parser: F,
@@ -52,9 +60,15 @@ impl<T: Drop, P: Parse + Token + Drop> Punctuated<T, P> {
 }
 
 impl<T: Parse + Drop, P: Parse + Token + Drop> Punctuated<T, P> {
-    /// Reads a value, and another one after each separator, as long as a separator is next.
+    /// Parses a value, and another after each separator, while a separator is next.
     ///
-    ///     let path: Punctuated<Ident, token::PathSep> = Punctuated::parse_separated_nonempty(input)?;
+    /// It ends and fails as `parse_separated_nonempty_with` does.
+    ///
+    /// # Examples
+    ///
+    /// ```rust
+    /// let path: Punctuated<Ident, token::PathSep> = Punctuated::parse_separated_nonempty(input)?;
+    /// ```
     pub fn parse_separated_nonempty(input: ParseStream<'_, '_>) -> Result<Self>
         ensures run { IsPlainRun (separated P.peeks) T.parses P.parses input.old result input.new }
         ensures bounded { IfOk result

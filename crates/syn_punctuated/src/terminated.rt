@@ -10,7 +10,8 @@ use crate::parse::{ListRule, parse_list};
 use crate::punctuated::Punctuated;
 use syn_parse::{Parse, ParseBuffer, ParseStream, Result};
 
-/// A separator after each value, until nothing is left. The last one may be missing.
+/// The rule of terminated lists: a separator after each value, until the end. The last may be
+/// missing.
 pub(crate) enum Terminated {}
 
 impl<P> ListRule<P> for Terminated {
@@ -26,14 +27,24 @@ impl<P> ListRule<P> for Terminated {
 }
 
 impl<T: Drop, P: Parse + Drop> Punctuated<T, P> {
-    /// Reads values by `parser`, with a separator after each, until nothing is left. The separator after the last value
-    /// may be missing. Owed: the parser can be called on every stream in which no more remains than in this one.
+    /// Parses values with `parser`, each followed by a separator, to the end of the stream. The
+    /// last separator may be missing.
     ///
-    /// It ends for every parser and every separator: a value with its separator that leaves the stream no later in its
-    /// scope is refused with "parser made no progress".
+    /// It ends for every parser and every separator: if a value and its separator leave the stream
+    /// no later in its scope, the error is "parser made no progress". An error leaves the stream
+    /// where the failing part left it.
     ///
-    ///     let names: Punctuated<Ident, token::Comma> =
-    ///         Punctuated::parse_terminated_with(input, |input| Ident::parse_any(input))?;
+    /// # Requires
+    ///
+    /// The parser must be callable on every stream with no more remaining than this one.
+    ///
+    /// # Examples
+    ///
+    /// ```rust
+    /// pub fn names(input: ParseStream<'_, '_>) -> parse::Result<Punctuated<Ident, token::Comma>> {
+    ///     Punctuated::parse_terminated_with(input, |input| Ident::parse_any(input))
+    /// }
+    /// ```
     pub fn parse_terminated_with<'a, F>(input: ParseStream<'_, 'a>, parser: F) -> Result<Self>
     where
         F: FnMut(ParseStream<'_, 'a>) -> Result<T>,
@@ -48,10 +59,16 @@ impl<T: Drop, P: Parse + Drop> Punctuated<T, P> {
 }
 
 impl<T: Parse + Drop, P: Parse + Drop> Punctuated<T, P> {
-    /// Reads values with a separator after each, until nothing is left. The separator after the last value may be
-    /// missing.
+    /// Parses values, each followed by a separator, to the end of the stream. The last separator
+    /// may be missing.
     ///
-    ///     let names: Punctuated<Ident, token::Comma> = Punctuated::parse_terminated(input)?;
+    /// It ends and fails as `parse_terminated_with` does.
+    ///
+    /// # Examples
+    ///
+    /// ```rust
+    /// let names: Punctuated<Ident, token::Comma> = Punctuated::parse_terminated(input)?;
+    /// ```
     pub fn parse_terminated(input: ParseStream<'_, '_>) -> Result<Self>
         ensures run { IsPlainRun terminated T.parses P.parses input.old result input.new }
         ensures bounded { IfOk result
@@ -61,13 +78,21 @@ impl<T: Parse + Drop, P: Parse + Drop> Punctuated<T, P> {
     }
 }
 
-/// Terminated lists, read by a call of their stream.
+/// Terminated lists, parsed by a call of their stream.
 pub trait ParseTerminated {
     ghost state: { Self → State };
 
-    /// Reads values by `parser`, as `Punctuated::parse_terminated_with` does.
+    /// Parses values with `parser`, as `Punctuated::parse_terminated_with` does.
     ///
-    ///     let names = input.parse_terminated::<Ident, token::Comma, _>(|input| input.parse())?;
+    /// # Requires
+    ///
+    /// The parser must be callable on every stream with no more remaining than this one.
+    ///
+    /// # Examples
+    ///
+    /// ```rust
+    /// let names = input.parse_terminated::<Ident, token::Comma, _>(|input| input.parse())?;
+    /// ```
     fn parse_terminated<T: Drop, P: Parse + Drop, F>(
         &mut self,
         parser: F,

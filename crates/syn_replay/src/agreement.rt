@@ -1,4 +1,4 @@
-// Reports that agree.
+//! Reports that agree.
 pub mod both;
 mod same;
 pub mod transparent;
@@ -10,7 +10,7 @@ ghost use Rattle.syn_replay.specs.Meanings.{answer_of, line_of, report_of, verdi
 use crate::report::{Answer, Line, Report, Verdict};
 use same::{same_parts, same_pieces, same_streams};
 
-// Refusals agree where their words are equal, other answers where they are equal.
+// Returns `true` for errors with equal texts, or for other answers that are equal.
 fn answers_agree(left: &Answer, right: &Answer) -> bool
     ensures { IsTrue result ↔ AnswersAgree (answer_of left.now) (answer_of right.now) }
 {
@@ -57,8 +57,11 @@ fn verdicts_agree(left: &Verdict, right: &Verdict) -> bool
     }
 }
 
-/// Whether two reports agree: they have as many lines, line by line equal answers or refusals of equal words, and verdicts
-/// that both accept, or both refuse at equal spans. Positions aren't compared, nor the spans of refusals in lines.
+/// Returns `true` if two reports agree.
+///
+/// They have as many lines. In each, the answers are equal or errors with equal texts. The verdicts
+/// both accept, or both reject at equal spans. Positions and the spans of errors in lines are not
+/// compared.
 pub fn agree(left: &Report, right: &Report) -> bool
     ensures { IsTrue result ↔ ReportsAgree (report_of left.now) (report_of right.now) }
 {

@@ -1,4 +1,5 @@
-//! `replay`, which runs a list of commands, one by one, over a token stream; what it reports, and whether two reports agree.
+//! `replay`, which runs a list of commands over a token stream, its report, and `agree`, which
+//! compares two reports.
 #![tactic(auto)]
 
 mod agreement;

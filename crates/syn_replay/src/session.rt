@@ -1,4 +1,4 @@
-// Runs commands one by one over a stream.
+//! Runs commands in order over a stream.
 pub mod links;
 pub mod lists;
 pub mod peeks;
@@ -29,7 +29,7 @@ use syn_parse::{Fault, tokens_to_parse_buffer};
 use tok_buffer::TokenBuffer;
 use tok_core::{Span, TokenStream};
 
-// A command that concerns stream `n` alone.
+// Runs a command that concerns stream `n` alone.
 fn read<'a>(
     streams: &mut Streams<'a>,
     n: usize,
@@ -51,7 +51,7 @@ fn read<'a>(
     }
 }
 
-// A command whose streams are open, and of the kinds that it asks for.
+// Runs a command whose streams are open and of the right kinds.
 fn act<'a>(streams: &mut Streams<'a>, command: &Command) -> Result<Answer, AllocError>
     requires { spec.misuse (command_of command.now) (state_of streams.old) ≡ None }
     ensures { IfOk result
@@ -78,7 +78,7 @@ fn act<'a>(streams: &mut Streams<'a>, command: &Command) -> Result<Answer, Alloc
 }
 
 impl Command {
-    // The streams that it names: the first, and another if it names two.
+    // Returns the streams that the command names: the first, and the second if there is one.
     fn streams(&self) -> (usize, Option<usize>)
         ensures { named (command_of self.now) ≡ with_other result.0 result.1 }
     {
@@ -108,7 +108,7 @@ impl Command {
     }
 }
 
-// Whether one of these streams is not there.
+// Returns `true` if one of these streams doesn't exist.
 fn any_missing<'a>(streams: &Streams<'a>, n: usize, other: Option<usize>) -> bool
     ensures { result ≡ any_of (is_missing (state_of streams.now)) (with_other n other) }
 {
@@ -127,7 +127,7 @@ fn is_spent<'a>(streams: &Streams<'a>, n: usize) -> bool
     }
 }
 
-// Whether one of these streams is spent.
+// Returns `true` if one of these streams has ended.
 fn any_spent<'a>(streams: &Streams<'a>, n: usize, other: Option<usize>) -> bool
     ensures { result ≡ any_of (is_spent (state_of streams.now)) (with_other n other) }
 {
@@ -155,7 +155,7 @@ fn is_content<'a>(streams: &Streams<'a>, n: usize) -> bool
     }
 }
 
-// The refusal of a stream whose kind isn't the one that the command asks for.
+// Returns the reason if a stream isn't of the kind that the command needs.
 fn kind_refusal<'a>(streams: &Streams<'a>, command: &Command) -> Option<u8>
     ensures { result ≡ spec.kind_refusal (command_of command.now) (state_of streams.now) }
 {
@@ -178,7 +178,7 @@ fn kind_refusal<'a>(streams: &Streams<'a>, command: &Command) -> Option<u8>
     }
 }
 
-// The first refusal of the streams that a command names.
+// Returns the first reason why the command doesn't fit its streams.
 fn misuse<'a>(streams: &Streams<'a>, command: &Command) -> Option<u8>
     ensures { result ≡ spec.misuse (command_of command.now) (state_of streams.now) }
 {
@@ -257,7 +257,14 @@ fn verdict<'a>(streams: &Streams<'a>) -> Result<Verdict, AllocError>
     }
 }
 
-// The same over a buffer, whose number is 0: of a text that was read straight into it no stream is made.
+/// Runs the commands over a buffer, as `replay` does over a stream. No stream is made of a text
+/// that was read straight into the buffer.
+///
+/// Returns an error if an allocation fails.
+///
+/// # Requires
+///
+/// The number of the buffer must be 0.
 pub fn replay_in(
     alloc: Global,
     buffer: &TokenBuffer,
@@ -278,10 +285,22 @@ pub fn replay_in(
     Ok(Report { lines, verdict })
 }
 
-/// Answers the commands over the stream, one line each. Stream 0 is the whole stream, and each group that is entered and
-/// each fork gives the next number. A refused command changes nothing. At the end the contents that are open are closed, and
-/// stream 0 is accepted if nothing is left over in it, nor in a content that was closed into it. The error of a refusal is one
-/// message.
+/// Runs the commands over a stream, and reports an answer to each.
+///
+/// Stream 0 is the whole stream. Each group that is entered, and each fork, gets the next number. A
+/// command that doesn't fit its streams changes nothing. At the end, the open groups are closed.
+/// The verdict accepts if nothing is left over in stream 0, nor in a group that was closed into it.
+/// Each error of the report has one message. Returns an error if an allocation fails.
+///
+/// # Examples
+///
+/// ```rust
+/// let stream = lex(alloc, 0, "a b")?;
+/// let commands = [Command::Parse(0, Kind::Ident), Command::Rest(0)];
+/// let report = replay(alloc, stream, &commands)?;
+/// let text = format!(in alloc; "{report}")?;
+/// assert_eq!(rt; text.as_str(), "read a 0..1 @1\ntrees b @empty\naccepted\n");
+/// ```
 pub fn replay(
     alloc: Global,
     stream: TokenStream,

@@ -1,5 +1,5 @@
-//! The front of the library: all public items of the crates below, under the paths of `syn`, so that a user names one
-//! crate; and `serve`, the program over any reader and writer.
+//! The front of the library: the public items of all crates below, under the paths of `syn`, so
+//! that a user depends on one crate. It also has the program, `respond` and `serve`.
 #![tactic(auto)]
 
 mod program;
@@ -21,7 +21,7 @@ pub use tok_core::{
 };
 pub use tok_types::accept_as_ident;
 
-/// Buffers of tokens, and cursors in them.
+/// Token buffers and cursors.
 pub mod buffer {
     pub use tok_buffer::{Cursor, LifetimeRef, TokenBuffer};
 }
@@ -32,7 +32,7 @@ pub mod ext {
     pub use tok_types::IdentAny;
 }
 
-/// The readers of groups.
+/// Parsers that enter groups.
 pub mod group {
     pub use syn_parse::{
         Braces, Brackets, Delimited, Group, Parens, parse_braces, parse_brackets, parse_group,
@@ -40,7 +40,7 @@ pub mod group {
     };
 }
 
-/// Parse streams, and what parsers are written with.
+/// Parse streams, and the traits of parsers.
 pub mod parse {
     pub use syn_parse::{
         Fault, Lookahead1, Nothing, Parse, ParseBuffer, ParseStream, Parser, Paused, Result,
@@ -50,7 +50,7 @@ pub mod parse {
     pub use tok_types::End;
 }
 
-/// Tokens by their names, and the calls on their texts.
+/// Tokens by name, and the functions on their texts.
 pub mod token {
     pub use syn_parse::parsing;
     pub use tok_types::token::Abstract;

@@ -1,4 +1,4 @@
-// The program.
+//! The program.
 pub mod channel;
 pub mod command_text;
 pub mod compared;
@@ -24,16 +24,22 @@ use syn_replay::replay_in;
 use tok_buffer::TokenBuffer;
 use tok_core::{TokenStream, lex_marked};
 
-/// Reads one input, prints what `respond` says of it, and returns the exit status of the program. The input is a marked text, or
-/// two, each followed by a line `---`, and a command a line. What is printed is a report; of two texts, the two reports and what
-/// holds of them. Nothing is written before all of it is in memory.
+/// Reads one input, writes the program's output for it, and returns the exit status.
 ///
-/// The status is 0 where each report accepts, 1 where one refuses, 2 for an input that can't be read, of which one line
-/// says why, and also where a read or a write fails, and 3 where an allocation fails, of which the line `memory` tells. An
-/// input that has not ended after 4,294,967,295 reads is a failed read.
+/// The input is one marked text or two, each followed by a line `---`, and then one command per
+/// line. For one text, the output is its report. For two, it is both reports and what holds of
+/// them. All of it is in memory before anything is written. The status is
 ///
-/// The contract says of each reader and writer which call failed where the status is 2 and not the whole text went out, by
-/// relations that `Source` and `Sink` name. It is proved for all relations.
+/// - 0 if each report accepts,
+/// - 1 if one rejects,
+/// - 2 if the input can't be read, which one line explains, or if a read or a write fails,
+/// - 3 if an allocation fails, and the output is `memory`.
+///
+/// An input that has not ended after 4,294,967,295 reads counts as a failed read.
+///
+/// If the status is 2 and the text was not written whole, the contract says which call of the
+/// reader or writer failed, in the relations that `Source` and `Sink` name. It is proved for all
+/// relations.
 pub fn serve<R: Source, W: Sink>(alloc: Global, input: &mut R, output: &mut W) -> u8
     ensures serves { let unread = FailsToRead R.reads input.old input.new in
         let unwritten = FailsToWrite W.writes W.flushes output.old output.new in
@@ -53,7 +59,7 @@ pub fn serve<R: Source, W: Sink>(alloc: Global, input: &mut R, output: &mut W) -
     }
 }
 
-// Prints what comes of an input that is read.
+// Writes the output for an input that was read.
 fn answer<W: Sink>(alloc: Global, input: &[u8], output: &mut W) -> u8
     ensures serves { let unwritten = FailsToWrite W.writes W.flushes output.old output.new in
         Serves ⊥ unwritten input.now result (W.contents output.old) (W.contents output.new) }
@@ -66,7 +72,17 @@ fn answer<W: Sink>(alloc: Global, input: &[u8], output: &mut W) -> u8
     }
 }
 
-/// What the program prints for an input, and its status, without a reader and a writer. `serve` sends it.
+/// Returns the program's output for an input, and the exit status. `serve` writes it.
+///
+/// Returns an error if an allocation fails.
+///
+/// # Examples
+///
+/// ```rust
+/// let (output, status) = respond(alloc, b"a\n---\nparse 0 Ident\n")?;
+/// assert_eq!(rt; output.as_str(), "read a 0..1 @1\naccepted\n");
+/// assert_eq!(rt; status, 0);
+/// ```
 pub fn respond(alloc: Global, input: &[u8]) -> Result<(String, u8), AllocError>
     ensures prints { IfOk result (λ p. Prints input.now (string_bytes p.0) p.1) }
     ensures only { IfOk result (λ p. PrintsOnly input.now (string_bytes p.0) p.1) }
@@ -78,7 +94,7 @@ pub fn respond(alloc: Global, input: &[u8]) -> Result<(String, u8), AllocError>
     }
 }
 
-// What comes of an input, or the first thing in it that can't be read.
+// Returns the outcome of an input, or the first thing in it that can't be read.
 fn outcome(alloc: Global, input: &[u8]) -> Result<Outcome, Fault>
     ensures { MatchResult result
         (λ o. HasOutcome input.now (outcome_of o))
@@ -101,7 +117,7 @@ fn outcome(alloc: Global, input: &[u8]) -> Result<Outcome, Fault>
     Ok(Outcome::Compared(compare(alloc, stream, right, &commands)?))
 }
 
-// The trees of the second text.
+// Lexes the second text.
 fn lex_other(alloc: Global, text: &str) -> Result<TokenStream, Fault>
     ensures { MatchResult result
         (λ right. IsForest text.now right)

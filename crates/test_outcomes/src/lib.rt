@@ -6,15 +6,16 @@ use std::process::Abort;
 use syn_parse::{Fault, Parse, ParseStream, Result};
 use tok_buffer::Error;
 
-// The text of a row whose value is read, and not looked at.
+/// The text of a row whose value is parsed and not looked at.
 pub const READ: &str = "";
 
-// The parsers of a module. Each returns its value as text.
+/// The parsers of a module.
 pub trait Sample {
+    /// Parses a text, and returns the value as text.
     fn run(&self, alloc: Global, text: &str) -> Result<String>;
 }
 
-// Reads a `T`, and doesn't look at it.
+/// Parses a `T`, and doesn't look at it.
 pub fn read<T: Parse + Drop>(input: ParseStream<'_, '_>) -> Result<String> {
     let _: T = input.parse()?;
     Ok(String::new(input.allocator()))
@@ -28,6 +29,7 @@ fn words(alloc: Global, error: &Error) -> Option<String> {
 }
 
 pub fn is_words(alloc: Global, error: &Error, wanted: &str) -> bool {
+    /// Returns `true` if the error's range and text are the wanted ones.
     match words(alloc, error) {
         Some(text) => text.as_str() == wanted,
         None => false,
@@ -41,7 +43,7 @@ fn is_fault(alloc: Global, fault: Fault, wanted: &str) -> bool {
     }
 }
 
-// Whether an outcome is a value, if `READ` is wanted, or else this error.
+/// Returns `true` if an outcome is a value, when `READ` is wanted, or else this error.
 pub fn is_read<T: Drop>(alloc: Global, outcome: Result<T>, wanted: &str) -> bool {
     match outcome {
         Ok(_) => wanted == READ,
@@ -49,7 +51,7 @@ pub fn is_read<T: Drop>(alloc: Global, outcome: Result<T>, wanted: &str) -> bool
     }
 }
 
-// Whether an outcome is this text, or this error.
+/// Returns `true` if an outcome is this text, or this error.
 pub fn is_said(alloc: Global, outcome: Result<String>, wanted: &str) -> bool {
     match outcome {
         Ok(text) => text.as_str() == wanted,
@@ -61,7 +63,7 @@ fn says<S: Sample>(alloc: Global, sample: &S, text: &str, wanted: &str) -> bool 
     is_said(alloc, sample.run(alloc, text), wanted)
 }
 
-// Each text by this parser.
+/// Checks each text by this parser.
 pub fn all_said<S: Sample>(rt: &(impl Abort + AllocGlobal), sample: &S, rows: &[(&str, &str)]) {
     for (text, wanted) in rows {
         assert!(rt; says(rt.alloc(), sample, text, wanted), "at {text}");

@@ -1,4 +1,4 @@
-// Entries that are built of a text, one after the other.
+//! The builder of a buffer's entries from a text.
 ghost use Rattle.std.specs.Prelude.{◌≡◌, ◌++◌};
 ghost use Rattle.tok_core.specs.Building.{nothing};
 ghost use Rattle.tok_buffer.specs.Private.Layout.{layout, laid};
@@ -8,8 +8,10 @@ use std::alloc::{AllocError, Global};
 use std::marker::Model;
 use tok_core::{Build, Delimiter, Ident, Literal, Punct, Span};
 
-// The entries so far. An open group has an end in the place of its own entry, which comes with its closing; the places of
-// the open groups are kept, outermost first. In contracts it is the forests of the levels.
+/// The entries so far. Contracts see it as the forests of the levels.
+///
+/// An open group has an end in place of its opening, which its closing replaces. The positions of
+/// the open groups are kept, the outermost first.
 #[derive(Drop)]
 pub struct EntryBuilder {
     entries: Vec<Entry>,
@@ -36,6 +38,7 @@ impl Model for EntryBuilder {
 }
 
 impl EntryBuilder {
+    /// Creates an empty builder.
     pub fn new(alloc: Global) -> EntryBuilder
         ensures { result ≡ nothing }
     {
@@ -45,7 +48,7 @@ impl EntryBuilder {
         }
     }
 
-    // The entries, with nothing after them.
+    /// Returns the entries.
     pub fn into_entries(self) -> Vec<Entry>
         ensures { result.items ≡ laid self.outer ++ layout self.inner }
     {
@@ -74,7 +77,7 @@ impl Build for EntryBuilder {
         Ok(())
     }
 
-    // After an allocation failure all is as before.
+    // If the allocation fails, nothing changes.
     #[inline(always)]
     fn open(&mut self) -> Result<(), AllocError> {
         let start = self.entries.len();
@@ -88,7 +91,7 @@ impl Build for EntryBuilder {
         }
     }
 
-    // After an allocation failure all is as before.
+    // If the allocation fails, nothing changes.
     #[inline(always)]
     fn close(&mut self, delimiter: Delimiter, span: Span) -> Result<(), AllocError> {
         let Some(start) = self.open.pop() else {

@@ -1,4 +1,4 @@
-// A cheap reader of a buffer.
+//! Cursors.
 mod groups;
 mod order;
 mod print;
@@ -10,13 +10,26 @@ mod spans;
 use crate::buffer::TokenBuffer;
 use crate::spot::Spot;
 
-/// A place in a buffer, and the end of the scope that it is read in: the whole buffer or a group's content. It is cheap
-/// to copy, and a call that reads returns the cursor after what it read. The calls `ident`, `punct`, `literal`,
-/// `lifetime`, `group` with a visible delimiter, `skip` and the peeks first enter every invisible group in front; the
-/// others don't. A cursor leaves a group that it so entered where nothing of it is left.
+/// A place in a buffer, and its scope: the whole buffer or a group's contents.
+///
+/// A cursor is cheap to copy. A call that reads returns the cursor after what it read.
+///
+/// Macros leave invisible groups around the tokens they insert. The calls `ident`, `punct`,
+/// `literal`, `lifetime`, `group` with a visible delimiter, `skip` and the peeks first enter every
+/// invisible group that is next; the others don't. A cursor leaves such a group at its end.
+///
+/// # Examples
+///
+/// ```rust
+/// let buffer = TokenBuffer::from_marked(alloc, 0, 0, "«a» = (b)")?;
+/// if let Some((name, rest)) = buffer.begin().ident() {
+///     assert_eq!(rt; name.as_str(), "a");
+///     assert_eq!(rt; rest.peek_punct("="), true);
+/// }
+/// ```
 #[derive(Clone, Copy)]
 pub struct Cursor<'a> {
-    // None at the empty place.
+    // `None` is the empty place.
     spot: Option<Spot<'a>>,
 }
 
@@ -25,7 +38,7 @@ impl TokenBuffer {
     ghost use Rattle.tok_buffer.specs.Cursors.{place_of};
     ghost use Rattle.tok_buffer.specs.Place.{start};
 
-    /// The cursor at the first tree, with the whole buffer as its scope.
+    /// Returns the cursor at the first tree. Its scope is the whole buffer.
     pub fn begin<'a>(&'a self) -> Cursor<'a>
         ensures { place_of result ≡ start self.now.number self.now.forest }
     {
@@ -42,21 +55,22 @@ impl<'a> Cursor<'a> {
     ghost use Rattle.tok_buffer.specs.Cursors.{place_of, spot_place};
     ghost use Rattle.tok_buffer.specs.Place.{empty_place, is_at_end};
 
-    // The cursor at a spot.
+    // Returns the cursor at a spot.
     fn at(spot: Spot<'a>) -> Cursor<'a>
         ensures { place_of result ≡ spot_place spot.entry }
     {
         Cursor { spot: Some(spot) }
     }
 
-    /// A cursor of no buffer, with nothing ahead.
+    /// Returns a cursor of no buffer, which is at its end.
     pub fn empty() -> Cursor<'a>
         ensures { place_of result ≡ empty_place }
     {
         Cursor { spot: None }
     }
 
-    /// Whether nothing is left in the scope. An invisible group in front is left, even an empty one.
+    /// Returns `true` at the end of the scope. An invisible group that is next counts as a token,
+    /// even if it is empty.
     pub fn eof(self) -> bool
         ensures { result ≡ is_at_end (place_of self.entry) }
     {

@@ -1,4 +1,4 @@
-// What a buffer holds: leaves, openings of groups and their ends.
+//! The entries of a buffer: leaves, openings of groups and their ends.
 ghost use Rattle.std.specs.Prelude.{◌≡◌, IfOk};
 ghost use Rattle.tok_core.specs.Forest.{leaf};
 ghost use Rattle.tok_core.specs.Seen.{tree_of};
@@ -11,25 +11,27 @@ use std::alloc::AllocError;
 use tok_core::{DelimSpan, Delimiter, Ident, Literal, Punct, Span, TokenTree};
 
 #[derive(Clone, Copy)]
+/// The delimiter of a group and its whole span.
 pub struct Opening {
     pub delimiter: Delimiter,
     pub span: Span,
 }
 
-// It takes 48 bytes: a tag, and a leaf or the two fields of a group. The variants that may own memory come first, so
-// that one comparison finds them where a buffer is dropped.
+/// An entry, in 48 bytes: a tag, and a leaf or the two fields of a group.
+///
+/// The variants that may own memory come first: one comparison finds them when a buffer is dropped.
 #[derive(Drop)]
 pub enum Entry {
     Ident(Ident),
     Literal(Literal),
     Punct(Punct),
-    // A group's opening, and the offset to its end.
+    /// The opening of a group, and how many entries later its end is.
     Group(Opening, usize),
-    // The offset back to its group; 0 for the buffer's end.
+    /// The end of a group, and how many entries earlier its opening is; 0 for the buffer's end.
     End(usize),
 }
 
-// A leaf that an entry holds, in the order of the entry's variants.
+/// The leaf of an entry, in the order of the variants of `Entry`.
 #[derive(Clone, Copy)]
 pub enum Leaf<'a> {
     Ident(&'a Ident),
@@ -37,7 +39,7 @@ pub enum Leaf<'a> {
     Punct(&'a Punct),
 }
 
-// What an entry holds, with one variant for all leaves.
+/// The contents of an entry, with one variant for all leaves.
 #[derive(Clone, Copy)]
 pub enum Held<'a> {
     Leaf(Leaf<'a>),
@@ -46,6 +48,7 @@ pub enum Held<'a> {
 }
 
 impl<'a> Leaf<'a> {
+    /// Returns the span.
     pub fn span(self) -> Span
         ensures { result ≡ leaf_span (leaf_in self.entry) }
     {
@@ -56,7 +59,9 @@ impl<'a> Leaf<'a> {
         }
     }
 
-    // The leaf as a tree of its own.
+    /// Copies the leaf into a tree.
+    ///
+    /// Returns an error if the allocation fails.
     pub fn copied(self) -> Result<TokenTree, AllocError>
         ensures { IfOk result (λ t. tree_of t ≡ leaf (leaf_in self.entry)) }
     {
@@ -69,7 +74,7 @@ impl<'a> Leaf<'a> {
 }
 
 impl Entry {
-    // What the entry holds.
+    /// Returns the contents of the entry.
     pub fn held(&self) -> Held<'_>
         ensures { self.now ≡ entry_of result }
     {
@@ -82,7 +87,7 @@ impl Entry {
         }
     }
 
-    // The delimiter and the closing span of a group that opens here.
+    /// Returns the delimiter and the closing span of the group that opens here.
     pub fn closing(&self) -> (Delimiter, Span)
         ensures { result ≡ closing_of (entry_owner self.now) }
     {
@@ -93,7 +98,7 @@ impl Entry {
     }
 }
 
-// Equality of delimiters, as contracts have it.
+/// Returns `true` if the delimiters are equal, which contracts see as `≡`.
 pub fn same(left: Delimiter, right: Delimiter) -> bool
     ensures { result ≡ same_delimiter left right }
 {

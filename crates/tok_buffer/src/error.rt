@@ -14,7 +14,7 @@ use std::fmt::{Debug, Display, Formatter, Write};
 use std::marker::Model;
 use tok_core::{LexError, Span, Text, ToTokens, TokenTree};
 
-// One message: the spans of the first and the last token that it speaks of, and its text.
+// A message: the spans of the first and the last token it is about, and its text.
 #[derive(Drop)]
 struct Message {
     start: Span,
@@ -22,8 +22,18 @@ struct Message {
     text: Text,
 }
 
-/// Why a parser refuses its input: one message or several, each with the spans of the first and the last token that it
-/// speaks of. In contracts it is the list of its messages.
+/// One or more messages that say why input is rejected, each with the spans of the first and the
+/// last token it is about. Contracts see it as the list of its messages.
+///
+/// # Examples
+///
+/// ```rust
+/// let mut error = Error::new(alloc, Span::source(0, 2, 5), "expected a name")?;
+/// error.combine(Error::new(alloc, Span::call_site(), "second message")?)?;
+/// assert_eq!(rt; error.as_str(), "expected a name");
+/// assert_eq!(rt; error.span(), Span::source(0, 2, 5));
+/// assert_eq!(rt; error.into_iter().count(), 2);
+/// ```
 #[derive(Drop)]
 pub struct Error {
     first: Message,
@@ -54,7 +64,7 @@ impl Message {
     }
 }
 
-// The spans of the first and the last tree.
+// Returns the spans of the first and the last tree.
 fn ends(trees: &[TokenTree]) -> (Span, Span)
     ensures { result ≡ spanned (trees_of trees.now) }
 {
@@ -75,7 +85,9 @@ impl Error {
     ghost use Rattle.tok_buffer.specs.Spans.{current_span, range_end};
     ghost use Rattle.tok_buffer.specs.Refusals.{stream_span, at_stream};
 
-    /// An error of one message at a span.
+    /// Creates an error of one message at `span`.
+    ///
+    /// Returns an `AllocError` if an allocation fails.
     pub fn new<T: Display + Drop>(
         alloc: Global,
         span: Span,
@@ -86,7 +98,7 @@ impl Error {
         Error::new2(alloc, span, span, message)
     }
 
-    // An error of one message from the start of one span to the end of another.
+    // Creates an error of one message, from the start of one span to the end of another.
     fn new2<T: Display + Drop>(
         alloc: Global,
         start: Span,
@@ -102,7 +114,10 @@ impl Error {
         })
     }
 
-    /// An error of one message from the first of these tokens to the last, or at the call site where there are none.
+    /// Creates an error of one message, from the first of the tokens to the last. With no tokens,
+    /// it is at the call site.
+    ///
+    /// Returns an `AllocError` if an allocation fails.
     pub fn new_spanned<S: ToTokens + Drop, T: Display + Drop>(
         alloc: Global,
         tokens: S,
@@ -115,8 +130,14 @@ impl Error {
         Error::new2(alloc, start, end, message)
     }
 
-    /// An error of one message from one cursor to another, that is, to what is directly before the second, or where
-    /// the two are equal to what is there. Owed: both are of one buffer, and the first is not after the second.
+    /// Creates an error of one message, from `start` up to what is directly before `end`. If the
+    /// cursors are equal, it is at the next token.
+    ///
+    /// Returns an `AllocError` if an allocation fails.
+    ///
+    /// # Requires
+    ///
+    /// Both cursors must be in the same buffer, and `start <= end`.
     pub fn new_range<T: Display + Drop>(
         alloc: Global,
         start: Cursor<'_>,
@@ -136,8 +157,10 @@ impl Error {
         Error::new2(alloc, start.span(), last, message)
     }
 
-    /// An error of one message at a cursor: where nothing is left in its scope the text begins with
-    /// "unexpected end of input, " and the span is `scope`, the scope's own.
+    /// Creates an error of one message at a cursor.
+    ///
+    /// At the end of the cursor's scope, the text begins with "unexpected end of input, " and the
+    /// span is `scope`. Returns an `AllocError` if an allocation fails.
     pub fn new_at<T: Display + Drop>(
         alloc: Global,
         scope: Span,
@@ -162,7 +185,9 @@ impl Error {
         }
     }
 
-    /// The error of a text that isn't read: its span and words.
+    /// Creates an error from one of the lexer, with its span and text.
+    ///
+    /// Returns an `AllocError` if an allocation fails.
     pub fn from_lex(alloc: Global, error: LexError) -> Result<Error, AllocError>
         ensures { IfOk result
             (λ e. e ≡ error_of (error_span error) (error_span error) (error_words error)) }
@@ -170,7 +195,8 @@ impl Error {
         Error::new(alloc, error.span(), error)
     }
 
-    /// The span that covers the first message's two, or the first of these where none covers both.
+    /// Returns the span that covers the first message's two spans, or the first of them unless both
+    /// are in one source.
     pub fn span(&self) -> Span
         ensures { result ≡ first_message_span self.now }
     {
@@ -178,15 +204,16 @@ impl Error {
         start.join(self.first.end).unwrap_or(start)
     }
 
-    /// The text of the first message.
+    /// Returns the text of the first message.
     pub fn as_str(&self) -> &str
         ensures { result.now ≡ first_text self.now }
     {
         self.first.text.as_str()
     }
 
-    /// Puts the messages of another error after these. After an allocation failure all is as before, and the other error
-    /// is dropped.
+    /// Appends the messages of another error.
+    ///
+    /// If an allocation fails, the messages are unchanged and the other error is dropped.
     pub fn combine(&mut self, another: Error) -> Result<(), AllocError>
         ensures ok { OnOk result (self.new ≡ self.old ++ another) }
         ensures err { OnErr result (self.new ≡ self.old) }
@@ -200,7 +227,13 @@ impl Error {
         }
     }
 
-    /// Combines with each of these errors in turn. After an allocation failure, what came before stays.
+    /// Appends the messages of each of these errors, in order.
+    ///
+    /// If an allocation fails, the messages of the errors before it stay.
+    ///
+    /// # Requires
+    ///
+    /// The iterator must be finite.
     pub fn extend<I: IntoIterator<Item = Error>>(&mut self, errors: I) -> Result<(), AllocError>
         requires { IsFiniteIterable I.into_iter_gives I.IntoIter.can_next
             I.IntoIter.remaining errors }
@@ -213,7 +246,9 @@ impl Error {
         Ok(())
     }
 
-    /// A copy in memory of its own.
+    /// Copies the error, messages and spans.
+    ///
+    /// Returns an `AllocError` if an allocation fails.
     pub fn clone(&self) -> Result<Error, AllocError>
         ensures { IfOk result (λ e. e ≡ self.now) }
     {
@@ -226,7 +261,7 @@ impl Error {
     }
 }
 
-/// Writes the first message's text.
+/// Writes the text of the first message.
 impl Display for Error {
     ghost use Rattle.std.specs.Prelude.{Some};
     ghost use Rattle.tok_buffer.specs.Messages.{first_text};

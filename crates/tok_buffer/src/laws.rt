@@ -1,4 +1,4 @@
-//! Laws: small functions whose contracts say what holds of every buffer and cursor.
+//! Laws of buffers and cursors. Each is the contract of a small function; most of these do nothing.
 ghost use Rattle.std.specs.Prelude.{◌≡◌, ◌↔◌, true, Some, IfOk};
 ghost use Rattle.tok_buffer.specs.Buffer.{forest_of, KeepsReading, SameReading};
 ghost use Rattle.std.specs.declared.cmp.Ordering.TheVariants.{Equal};
@@ -19,7 +19,7 @@ use std::cmp::Ordering;
 use tok_core::{Edition, LexFault, TokenStream, lex, lex_marked, lex_source};
 pub use tok_leaves::laws::{lifetimes_by_name, lifetimes_in_order};
 
-// The buffer of a stream that was read, or why it was not.
+// Makes a buffer of a stream, or returns the lexer's error.
 fn laid_out(
     alloc: Global,
     number: u64,
@@ -32,7 +32,8 @@ fn laid_out(
     Ok(buffer)
 }
 
-/// A text read straight into a buffer gives the buffer of the stream that `lex` returns, or the same error.
+/// A text read straight into a buffer gives the buffer of the stream that `lex` returns, or the
+/// same error.
 pub fn text_as_stream(
     alloc: Global,
     number: u64,
@@ -46,7 +47,8 @@ pub fn text_as_stream(
     (read, laid)
 }
 
-/// A marked text read straight into a buffer gives the buffer of the stream that `lex_marked` returns, or the same error.
+/// A marked text read straight into a buffer gives the buffer of the stream that `lex_marked`
+/// returns, or the same error.
 pub fn marked_as_stream(
     alloc: Global,
     number: u64,
@@ -60,7 +62,8 @@ pub fn marked_as_stream(
     (read, laid)
 }
 
-/// A whole source read straight into a buffer gives the buffer of the stream that `lex_source` returns, or the same error.
+/// A whole source read straight into a buffer gives the buffer of the stream that `lex_source`
+/// returns, or the same error.
 pub fn source_as_stream(
     alloc: Global,
     number: u64,
@@ -75,7 +78,7 @@ pub fn source_as_stream(
     (read, laid)
 }
 
-/// A buffer gives back the stream that it was made of, spans and invisible groups included.
+/// A buffer gives back the stream it was made of, spans and invisible groups included.
 pub fn same_stream(
     alloc: Global,
     number: u64,
@@ -89,7 +92,7 @@ pub fn same_stream(
     Ok(copy)
 }
 
-/// Cursors are equal exactly where their order says so.
+/// Cursors are equal if and only if their order is `Equal`.
 pub fn equal_in_order(left: Cursor<'_>, right: Cursor<'_>) -> (bool, Option<Ordering>)
     ensures places { (p : Place) → (q : Place) → (equal p q ≡ true) ↔ (order p q ≡ Some Equal) }
     ensures equal { result.0 ≡ equal (place_of left.entry) (place_of right.entry) }
@@ -98,28 +101,30 @@ pub fn equal_in_order(left: Cursor<'_>, right: Cursor<'_>) -> (bool, Option<Orde
     (left == right, left.partial_cmp(&right))
 }
 
-/// Each read stays in the buffer and the scope of its cursor and lowers what remains, so a loop of reads ends.
+/// Each read stays in the buffer and the scope of its cursor and lowers what remains, so a loop of
+/// reads ends.
 pub fn reads_go_on()
     ensures { ReadsGoOn }
 {}
 
-/// So does each skip.
+/// Each skip stays and lowers what remains, as reads do.
 pub fn skips_go_on()
     ensures { SkipsGoOn }
 {}
 
-/// So does the entry of a group, visible or not, for the place after it; and less remains in its content than before it.
+/// The place after a group that is entered, visible or not, stays and lowers what remains, as reads
+/// do; and less remains in the group's contents than before it.
 pub fn entries_go_on()
     ensures { EntriesGoOn }
 {}
 
-/// The place after a read, a skip or the entry of a group is later.
+/// The place after a read, a skip or a group that is entered is later.
 pub fn reads_go_later()
     ensures { ReadsGoLater }
 {}
 
-/// The place after a read, a skip or the entry of a group is in the same scope, and so not the empty place; and so is the
-/// place after several, one after the other. So a stream may always advance to a fork that has read.
+/// The place after a read, a skip or a group that is entered is in the same scope, and so is the
+/// place after several of these in turn. So a stream may always advance to a fork that has read.
 pub fn reads_keep_scope()
     ensures { ReadsKeepScope }
 {}
@@ -129,27 +134,29 @@ pub fn moves_stay()
     ensures { MovesStay }
 {}
 
-/// To stay in the scope is reflexive and transitive, so a run of reads stays in it.
+/// Staying in the scope is reflexive and transitive, so a run of reads stays in it.
 pub fn stays_along()
     ensures { StaysAlong }
 {}
 
-/// Of two cursors of which the second stays in the scope of the first, the second has no more left, and less where it is
-/// another place. So a loop that moves its cursor ends, whatever parser moves it.
+/// If one cursor stays in the scope of another, no more remains at it, and less at another place.
+/// So a loop that moves its cursor ends, whatever parser moves it.
 pub fn staying_adds_nothing()
     ensures { CursorsLoseNone }
 {}
 
-/// A descent leaves no invisible group in front, and is entering the one in front, again and again.
+/// A descent leaves no invisible group next, and amounts to entering the next one, again and again.
 pub fn descents_enter()
     ensures { DescentsEnter }
 {}
 
-/// Invisible groups do not matter to a call: what it returns depends on the view of its place alone, that is on which
-/// group its scope is, counted without invisible groups, and on the visible trees ahead. So at places of two filled
-/// forests with equal views each read, skip, end, entry of a visible group and leftover's span is the same, and the places after
-/// it have equal views again. Views also tell whether two places are in one scope, and the scope's delimiter, and the starts
-/// of two forests that differ only in invisible groups have equal views.
+/// Invisible groups do not matter to a call: its result depends only on the view of its place.
+///
+/// A view is which group the scope is, counted without invisible groups, and the visible trees
+/// ahead. So at places of two filled forests with equal views, each read, skip, end, entry of a
+/// visible group and leftover's span is the same, and the places after it have equal views again.
+/// Views also decide whether two places are in one scope, and the scope's delimiter. The starts of
+/// two forests that differ only in invisible groups have equal views.
 pub fn views_decide()
     ensures calls { ViewsDecide }
     ensures scopes { ViewsTellScopes }
@@ -157,14 +164,17 @@ pub fn views_decide()
     ensures starts { StartsAgree }
 {}
 
-/// The place after a read, a skip or the entry of a visible group has a view, too, and so has the group's content.
+/// The place after a read, a skip or the entry of a visible group has a view, and so have the
+/// group's contents.
 pub fn calls_lead_on()
     ensures { CallsLeadOn }
 {}
 
-/// At every place each read, entry of a visible group and leftover's span depends on the visible trees ahead alone: the
-/// first one decides, and the others are ahead of the place after it. At the start the whole forest is ahead, and in a filled
-/// forest a place is at an end exactly where nothing visible is ahead.
+/// At every place, each read, entry of a visible group and leftover's span depends only on the
+/// visible trees ahead: the first decides, and the others are ahead of the place after it.
+///
+/// At the start the whole forest is ahead. In a filled forest, a place is at an end if and only if
+/// no visible tree is ahead.
 pub fn ahead_tells()
     ensures calls { AheadTellsAll }
     ensures ends { AheadTellsEnds }

@@ -1,4 +1,7 @@
-//! A flat buffer of trees, and cursors in it.
+//! Token buffers, cursors and errors.
+//!
+//! A buffer stores a forest of trees flat, so that a cursor in it is a position. Contracts see a
+//! cursor as a place in the forest (`specs/Place.antt`).
 #![tactic(auto)]
 
 mod buffer;

@@ -1,4 +1,4 @@
-// Lifetimes in a buffer.
+//! Lifetimes in a buffer.
 use tok_core::{Ident, Span};
 
 /// A lifetime in a buffer: the span of its apostrophe, and its identifier.

@@ -1,4 +1,4 @@
-// A position in a buffer, and the end of its scope.
+//! A position in a buffer, and the end of its scope.
 ghost use Rattle.std.specs.Prelude.{◌≤◌, IsTrue};
 ghost use Rattle.tok_core.specs.Weight.{weight};
 ghost use Rattle.tok_buffer.specs.Moves.{in_scope, settled_at};
@@ -7,7 +7,7 @@ use crate::buffer::TokenBuffer;
 use crate::entry::{Entry, same};
 use tok_core::Delimiter;
 
-/// A cursor's place: no group ends at the position, but that of the scope.
+/// A cursor's place. No group ends at the position, unless it is the scope.
 #[derive(Clone, Copy)]
 pub struct Spot<'a> {
     pub buffer: &'a TokenBuffer,
@@ -26,7 +26,7 @@ impl<'a> Spot<'a> {
     ghost use Rattle.tok_buffer.specs.Moves.{place_at, advance, invisible_front, levels_at, level_ahead};
     ghost use Rattle.tok_buffer.specs.Place.{is_at_end, settled};
 
-    // The spot after the entry that is so far from a position, and after the ends that stand there.
+    /// Returns the spot `length + 1` entries after a position, past the ends of groups there.
     pub fn past(buffer: &'a TokenBuffer, position: usize, length: usize, scope: usize) -> Spot<'a>
         requires in_buffer { scope ≤ weight buffer.now.forest }
         requires in_front { position + length + 1 ≤ scope }
@@ -45,7 +45,7 @@ impl<'a> Spot<'a> {
         }
     }
 
-    // The content of the group that opens at a position.
+    /// Returns the start of the contents of the group that opens at a position.
     pub fn inside(buffer: &'a TokenBuffer, position: usize, offset: usize, scope: usize) -> Spot<'a>
         requires in_buffer { scope ≤ weight buffer.now.forest }
         requires in_front { position + offset + 1 ≤ scope }
@@ -62,6 +62,7 @@ impl<'a> Spot<'a> {
         }
     }
 
+    /// Returns the entry at the position.
     pub fn entry(self) -> &'a Entry
         ensures { result.now
             ≡ entry_here (levels_at self.entry.buffer.now.forest self.entry.position).0 }
@@ -69,7 +70,7 @@ impl<'a> Spot<'a> {
         self.buffer.entry(self.position)
     }
 
-    // One entry on, into a group.
+    /// Moves one entry on, into a group if one opens here.
     pub fn bump(self) -> Spot<'a>
         requires { is_at_end (spot_place self) ≡ false }
         ensures { spot_place result ≡ settled (advance (spot_place self.entry)) }
@@ -77,7 +78,7 @@ impl<'a> Spot<'a> {
         Spot::past(self.buffer, self.position, 0, self.scope)
     }
 
-    // An invisible group is in front.
+    // Returns `true` if an invisible group opens here.
     fn at_invisible(self) -> bool
         ensures { result
             ≡ invisible_front
@@ -89,7 +90,7 @@ impl<'a> Spot<'a> {
         }
     }
 
-    // The spot past the openings of invisible groups in front.
+    /// Moves past the openings of invisible groups.
     pub fn ignore_none(self) -> Spot<'a>
         ensures { spot_place result ≡ descend (spot_place self.entry) }
     {

@@ -1,4 +1,4 @@
-// Groups.
+//! Groups.
 ghost use Rattle.std.specs.Prelude.{◌≡◌, IfOk};
 ghost use Rattle.tok_core.specs.Forest.{tree_delimiter, tree_inside, group, tree_span};
 ghost use Rattle.tok_core.specs.Seen.{group_of};
@@ -8,7 +8,7 @@ use crate::stream::TokenStream;
 use std::alloc::AllocError;
 use tok_leaves::{Bounds, DelimSpan, Delimiter, Span};
 
-/// A delimited stream.
+/// A stream in delimiters. If the delimiter is `None`, the group is *invisible*: it has no text.
 #[cycle(trees)]
 #[derive(Drop)]
 pub struct Group {
@@ -17,7 +17,7 @@ pub struct Group {
 }
 
 impl Group {
-    /// A group whose span, delimiters included, is `span`.
+    /// Creates a group. `span` covers its delimiters too.
     pub fn new(delimiter: Delimiter, stream: TokenStream, span: Span) -> Group
         ensures { group_of result ≡ group delimiter stream span }
     {
@@ -25,56 +25,56 @@ impl Group {
         Group { bounds, stream }
     }
 
-    /// The delimiter.
+    /// Returns the delimiter.
     pub fn delimiter(&self) -> Delimiter
         ensures { result ≡ tree_delimiter (group_of self.now) }
     {
         self.bounds.delimiter()
     }
 
-    /// What is inside, without the delimiters.
+    /// Returns the trees between the delimiters.
     pub fn stream(&self) -> &TokenStream
         ensures { result.now ≡ tree_inside (group_of self.now) }
     {
         &self.stream
     }
 
-    /// The content, moved out of the group.
+    /// Takes the trees out of the group.
     pub fn into_stream(self) -> TokenStream
         ensures { result ≡ tree_inside (group_of self) }
     {
         self.stream
     }
 
-    /// The whole group, delimiters included.
+    /// Returns the span of the whole group, delimiters included.
     pub fn span(&self) -> Span
         ensures { result ≡ tree_span (group_of self.now) }
     {
         self.bounds.span()
     }
 
-    /// The span, as that of a group: whole, opening and closing.
+    /// Returns the span of the whole group, from which those of its delimiters are read.
     pub fn delim_span(&self) -> DelimSpan
         ensures { whole_span result ≡ tree_span (group_of self.now) }
     {
         DelimSpan::new(self.span())
     }
 
-    /// The opening delimiter: the first byte of the group's span.
+    /// Returns the span of the opening delimiter: the first byte of the group's span.
     pub fn span_open(&self) -> Span
         ensures { result ≡ opening_span (tree_span (group_of self.now)) }
     {
         self.delim_span().open()
     }
 
-    /// The closing delimiter: the last byte of the group's span.
+    /// Returns the span of the closing delimiter: the last byte of the group's span.
     pub fn span_close(&self) -> Span
         ensures { result ≡ closing_span (tree_span (group_of self.now)) }
     {
         self.delim_span().close()
     }
 
-    /// Sets the group's own span. The spans inside stay.
+    /// Replaces the group's own span. The spans inside stay.
     pub fn set_span(&mut self, span: Span)
         ensures { group_of self.new
             ≡ group (tree_delimiter (group_of self.old)) (tree_inside (group_of self.old)) span }
@@ -82,7 +82,9 @@ impl Group {
         self.bounds = Bounds::new(self.delimiter(), span);
     }
 
-    /// A copy in memory of its own.
+    /// Copies the group, spans included.
+    ///
+    /// Returns an error if an allocation fails.
     #[cycle(clone)]
     pub fn clone(&self) -> Result<Group, AllocError>
         ensures { IfOk result (λ g. g ≡ self.now) }

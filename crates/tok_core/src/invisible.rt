@@ -1,4 +1,4 @@
-// Streams and their invisible groups.
+//! Streams and their invisible groups.
 ghost use Rattle.std.specs.Prelude.{◌≡◌, ◌≤◌, ◌+◌, ◌↔◌, false, IsTrue, IfOk, IfSome, MatchOption};
 ghost use Rattle.tok_core.specs.Clear.{clear, tree_clear, ends_joint, is_joint_apostrophe, is_invisible_group};
 ghost use Rattle.tok_core.specs.Erase.{erase};
@@ -15,7 +15,7 @@ use std::alloc::{AllocError, Global};
 use tok_leaves::same::{same_ident, same_literal, same_punct};
 use tok_leaves::{Delimiter, Spacing};
 
-/// Whether each invisible group of a stream, at any depth, holds a visible tree.
+/// Returns `true` if each invisible group, at any depth, contains a visible tree.
 #[cycle(filled)]
 pub fn is_filled(stream: &TokenStream) -> bool
     ensures { result ≡ filled stream.now }
@@ -34,7 +34,7 @@ fn is_tree_filled(next: &TokenTree) -> bool
 {
     match next {
         TokenTree::Group(group) => match group.delimiter() {
-            // What is filled and not empty has a visible tree.
+            // A group that is filled and not empty has a visible tree.
             Delimiter::None => !group.stream().is_empty() && is_filled(group.stream()),
             _ => is_filled(group.stream()),
         },
@@ -42,7 +42,8 @@ fn is_tree_filled(next: &TokenTree) -> bool
     }
 }
 
-/// Whether no joint apostrophe of a stream, at any depth, is directly before an invisible group or last in one.
+/// Returns `true` if no joint apostrophe, at any depth, is directly before an invisible group or
+/// last in one.
 #[cycle(clear)]
 pub fn is_clear(stream: &TokenStream) -> bool
     ensures { result ≡ clear stream.now }
@@ -73,7 +74,7 @@ fn is_tree_clear(next: &TokenTree) -> bool
     }
 }
 
-// Whether the last tree is a joint apostrophe.
+// Returns `true` if the last tree is a joint apostrophe.
 fn ends_joint(stream: &TokenStream) -> bool
     ensures { result ≡ ends_joint false stream.now }
 {
@@ -107,9 +108,10 @@ fn is_invisible_group(next: &TokenTree) -> bool
     }
 }
 
-/// Whether two streams are equal, spans included, but for their invisible groups. It compares the visible trees one by
-/// one and builds neither stream anew: the memory that it takes is a list entry for each invisible group around the
-/// trees at hand. Where there are none, it takes none.
+/// Returns `true` if two streams are equal, spans included, once their invisible groups are erased.
+///
+/// It compares the visible trees in turn, and rebuilds neither stream. Memory: one list entry for
+/// each invisible group around the current trees. Returns an error if an allocation fails.
 #[cycle(same)]
 pub fn same_visible(
     alloc: Global,
@@ -139,7 +141,7 @@ pub fn same_visible(
     }
 }
 
-// Whether two visible trees are equal, but for the invisible groups inside.
+// Returns `true` if two visible trees are equal apart from the invisible groups inside.
 #[cycle(same)]
 fn same_tree(alloc: Global, left: &TokenTree, right: &TokenTree) -> Result<bool, AllocError>
     requires left_visible { IsVisible (tree_of left.now) }
@@ -174,7 +176,7 @@ fn same_tree(alloc: Global, left: &TokenTree, right: &TokenTree) -> Result<bool,
     }
 }
 
-// Whether two groups have one delimiter and one span.
+// Returns `true` if two groups have the same delimiter and span.
 fn same_edges(left: &Group, right: &Group) -> bool
     ensures { IsTrue result
         ↔ ((tree_delimiter (group_of left.now) ≡ tree_delimiter (group_of right.now))
@@ -183,8 +185,8 @@ fn same_edges(left: &Group, right: &Group) -> bool
     left.delimiter() == right.delimiter() && left.span() == right.span()
 }
 
-// The visible trees to come: those at hand, and after them those that follow each invisible group that is entered, the
-// innermost group last.
+// The visible trees still to come: the current ones, and then those after each invisible group that
+// has been entered, the innermost last.
 #[derive(Drop)]
 struct VisibleTrees<'a> {
     trees: &'a [TokenTree],
@@ -192,7 +194,7 @@ struct VisibleTrees<'a> {
 }
 
 impl<'a> VisibleTrees<'a> {
-    // Takes the next visible tree. Those of an invisible group come before what follows it.
+    // Removes the next visible tree. The trees of an invisible group come before those after it.
     fn next(&mut self) -> Result<Option<&'a TokenTree>, AllocError>
         ensures erased { IfOk result (λ next. MatchOption next
             (pending (all_of self.old) ≡ no_trees)
@@ -221,7 +223,7 @@ impl<'a> VisibleTrees<'a> {
     }
 }
 
-// What is in an invisible group.
+// Returns the trees of an invisible group.
 fn invisible_content(next: &TokenTree) -> Option<&TokenStream>
     ensures { MatchOption result
         (IsVisible (tree_of next.now))

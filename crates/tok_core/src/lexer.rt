@@ -1,4 +1,4 @@
-// Text to trees.
+//! The lexer: from a text to trees, or to what a builder makes of them.
 ghost use Rattle.std.specs.Prelude.{◌≡◌, [], IfOk, IfErr, ◌+◌, ◌<◌, ◌^◌, length};
 ghost use Rattle.std.specs.Str.{chars};
 ghost use Rattle.tok_lexical.specs.Starts.{rules_of};
@@ -25,12 +25,20 @@ use tok_lexical::source::past_start;
 use tok_lexical::text::front_of;
 use tok_lexical::{Edition, Reason, Rules, first_rule};
 
-/// What is built of a text that begins at this byte, by these rules, of which the last takes any character. The builder
-/// has nothing in it yet. It is the lexer's own loop: a caller that wants trees calls `lex`.
+/// Reads a text with `rules` into `builder`. Callers that want trees call `lex`.
+///
+/// The text begins at byte `start` of source `source`. Returns `Refused` if the grammar rejects the
+/// text, and `Memory` if an allocation fails; the builder is then dropped.
+///
+/// # Requires
+///
+/// - The text must end before byte 2^64.
+/// - The builder must be empty.
 //
-// One piece after the other is taken off the front, so the time is linear in the text: a piece is looked at a fixed number of
-// times. A rule that looks far and then doesn't fit is followed by a refusal, as an unclosed comment or string is; or what
-// it looks at is a run that no later piece goes over again: the `#` after an `r`, the marks after a punct.
+// The time is linear in the text: pieces are taken off its front in turn, and each is looked at a
+// fixed number of times. A rule that looks far and then doesn't fit leads to an error, as for an
+// unclosed comment or string; or it has looked at a run that no later piece passes again, as the
+// `#` after an `r`, or the marks after a punct.
 pub fn read<B: Build + Drop>(
     builder: B,
     alloc: Global,
@@ -76,7 +84,7 @@ pub fn read<B: Build + Drop>(
     }
 }
 
-// The forest of a text that begins at this byte, by these rules.
+// Reads a text that begins at byte `start` of its source into trees.
 fn read_trees(
     alloc: Global,
     source: u32,
@@ -97,23 +105,53 @@ fn read_trees(
     }
 }
 
-/// The forest of a text, which is the source of this number.
+/// Lexes `text`, a text of tokens. Spans in the result refer to source number `source`.
+///
+/// Doc comments are rejected; `lex_source` reads them. Returns `Refused` with a rule's number and a
+/// byte if the text is not in the grammar, and `Memory` if an allocation fails.
+///
+/// # Examples
+///
+/// ```rust
+/// let stream = lex(alloc, 0, "a += (b)")?;
+/// assert_eq!(rt; stream.trees().len(), 4);
+/// ```
 pub fn lex(alloc: Global, source: u32, text: &str) -> Result<TokenStream, LexFault>
     ensures { FollowsGrammar plain_rules source (chars text.now) result }
 {
     read_trees(alloc, source, Rules::Plain, 0, text)
 }
 
-/// The forest of a text in which the marks « and » open and close invisible groups. Its bytes are counted as if these
-/// marks weren't there.
+/// Lexes `text`, in which the marks `«` and `»` open and close invisible groups, as macros leave
+/// them.
+///
+/// Spans count bytes as if the marks were absent. Returns the errors of `lex`.
+///
+/// # Examples
+///
+/// ```rust
+/// let stream = lex_marked(alloc, 0, "«a» + b")?;
+/// assert_eq!(rt; is_filled(&stream), true);
+/// let visible = lex(alloc, 0, "a + b")?;
+/// assert_eq!(rt; same_visible(alloc, &stream, &visible)?, true);
+/// ```
 pub fn lex_marked(alloc: Global, source: u32, text: &str) -> Result<TokenStream, LexFault>
     ensures { FollowsGrammar marked_rules source (chars text.now) result }
 {
     read_trees(alloc, source, Rules::Marked, 0, text)
 }
 
-/// The forest of a whole Rust source of an edition. A doc comment stands for an attribute; a byte order mark and a shebang
-/// line at the start mean nothing.
+/// Lexes a whole Rust source of an edition.
+///
+/// A doc comment becomes an attribute. A byte order mark and a shebang line at the start are
+/// skipped, and spans count their bytes. Returns the errors of `lex`.
+///
+/// # Examples
+///
+/// ```rust
+/// let stream = lex_source(alloc, Edition::default(), 0, "/// A point.\nstruct Point;")?;
+/// assert_eq!(rt; stream.trees().len(), 5);
+/// ```
 pub fn lex_source(
     alloc: Global,
     edition: Edition,

@@ -1,5 +1,7 @@
-//! Token trees: identifiers, puncts, literals and groups, in streams, each with a span. In contracts a stream is a
-//! forest (`specs/Forest.antt`). The leaves are those of `tok_leaves`.
+//! Token trees: identifiers, puncts, literals and groups in streams, each with a span; and the
+//! lexer, which reads a text into them.
+//!
+//! Contracts see a stream as a forest (`specs/Forest.antt`). The leaves are those of `tok_leaves`.
 #![tactic(auto)]
 
 mod group;

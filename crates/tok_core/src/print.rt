@@ -1,4 +1,4 @@
-// The text of a stream.
+//! The text of a stream.
 ghost use Rattle.std.specs.Prelude.{◌≡◌, Some};
 ghost use Rattle.std.specs.Fmt.{WritesOnOk};
 ghost use Rattle.tok_core.specs.Seen.{tree_of};

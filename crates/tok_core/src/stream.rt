@@ -1,4 +1,4 @@
-// Streams of trees.
+//! Streams of trees.
 ghost use Rattle.std.specs.Prelude.{◌≡◌, ◌+◌, not, min, IfOk, IfErr, OnOk, OnErr};
 ghost use Rattle.tok_core.specs.Filled.{has_trees};
 ghost use Rattle.tok_core.specs.Forest.{concat, group, no_trees, tree, tree_span, with_span};
@@ -13,7 +13,16 @@ use std::marker::Model;
 use tok_leaves::{Ident, Literal, Punct, Span};
 use tok_lexical::Delimiter;
 
-/// A list of trees, which grows in memory of its own allocator. In contracts it is a forest.
+/// A list of trees. Contracts see it as a forest.
+///
+/// # Examples
+///
+/// ```rust
+/// let mut stream = TokenStream::new(alloc);
+/// let name = Ident::new(alloc, "a", Span::call_site())?;
+/// stream.append(TokenTree::Ident(name))?;
+/// assert_eq!(rt; stream.trees().len(), 1);
+/// ```
 #[cycle(trees)]
 #[derive(Drop)]
 pub struct TokenStream {
@@ -21,7 +30,7 @@ pub struct TokenStream {
     alloc: Global,
 }
 
-/// A group, or a leaf: an identifier, a punct or a literal.
+/// A leaf or a group.
 #[cycle(trees)]
 #[derive(Drop)]
 pub enum TokenTree {
@@ -53,7 +62,7 @@ impl Model for TokenStream {
 }
 
 impl TokenStream {
-    /// No trees. Takes no memory until a tree comes.
+    /// Creates an empty stream. It allocates only when a tree is appended.
     pub fn new(alloc: Global) -> TokenStream
         ensures { result ≡ no_trees }
     {
@@ -63,14 +72,14 @@ impl TokenStream {
         }
     }
 
-    /// The allocator that the trees' memory comes from. A program has one `Global`, so each stream's is the same.
+    /// Returns the allocator of the trees. A program has one `Global`, so all streams share it.
     pub fn allocator(&self) -> Global
         ensures { IsTheOnly result }
     {
         self.alloc
     }
 
-    /// Puts a tree after the others. After an allocation failure all is as before, and the tree is dropped.
+    /// Appends a tree. If the allocation fails, the stream is unchanged and the tree is dropped.
     #[inline(always)]
     pub fn append(&mut self, next: TokenTree) -> Result<(), AllocError>
         ensures ok { OnOk result (self.new ≡ concat self.old (tree (tree_of next) no_trees)) }
@@ -80,7 +89,8 @@ impl TokenStream {
         Ok(())
     }
 
-    // Appends a group. If the allocation fails, the stream is unchanged, and the group's trees are returned.
+    // Appends a group. If the allocation fails, the stream is unchanged, and the group's trees are
+    // returned.
     #[inline(always)]
     pub(crate) fn append_group(
         &mut self,
@@ -105,28 +115,29 @@ impl TokenStream {
         }
     }
 
-    /// The trees in order, lent.
+    /// Returns the trees in order.
     pub fn trees(&self) -> &[TokenTree]
         ensures { trees_of result.now ≡ self.now }
     {
         self.trees.as_slice()
     }
 
-    /// The trees in order, moved out of the stream.
+    /// Takes the trees out of the stream, in order.
     pub fn into_trees(self) -> Vec<TokenTree>
         ensures { trees_of result.items ≡ self }
     {
         self.trees
     }
 
-    /// Whether there is no tree; a stream of an empty invisible group has one.
+    /// Returns `true` if there is no tree. A stream of one empty invisible group has a tree.
     pub fn is_empty(&self) -> bool
         ensures { has_trees self.now ≡ not result }
     {
         self.trees.is_empty()
     }
 
-    /// How many openings, leaves and closings there are, or `usize::MAX` if there are more.
+    /// Counts the leaves, and each group's opening and closing. Returns `usize::MAX` if there are
+    /// more.
     #[tactic(auto, using(crate::proofs::Weights::weight_counted))]
     pub fn weight(&self) -> usize
         ensures { result ≡ min (weight self.now) usize.MAX }
@@ -134,7 +145,8 @@ impl TokenStream {
         self.add_excess(self.trees.len())
     }
 
-    // What the groups add to a number in which each tree of this stream has been counted. Leaves, which are most trees, add nothing.
+    // Adds what the groups add to a number that already counts each tree of this stream. Most trees
+    // are leaves, and add nothing.
     fn add_excess(&self, counted: usize) -> usize
         ensures { result ≡ min (counted + excess self.now) usize.MAX }
     {
@@ -148,7 +160,9 @@ impl TokenStream {
         sum
     }
 
-    /// A copy in memory of its own.
+    /// Copies the stream, spans included.
+    ///
+    /// Returns an error if an allocation fails.
     #[cycle(clone)]
     pub fn clone(&self) -> Result<TokenStream, AllocError>
         ensures { IfOk result (λ s. s ≡ self.now) }
@@ -165,7 +179,7 @@ impl TokenStream {
 }
 
 impl TokenTree {
-    /// The span of a leaf, or of a whole group.
+    /// Returns the span of a leaf or of a whole group.
     pub fn span(&self) -> Span
         ensures { result ≡ tree_span (tree_of self.now) }
     {
@@ -177,7 +191,7 @@ impl TokenTree {
         }
     }
 
-    /// Sets a leaf's span, or a group's own span.
+    /// Replaces the span of a leaf, or a group's own span.
     pub fn set_span(&mut self, span: Span)
         ensures { tree_of self.new ≡ with_span span (tree_of self.old) }
     {
@@ -189,7 +203,9 @@ impl TokenTree {
         }
     }
 
-    /// A copy in memory of its own.
+    /// Copies the tree, spans included.
+    ///
+    /// Returns an error if an allocation fails.
     #[cycle(clone)]
     pub fn clone(&self) -> Result<TokenTree, AllocError>
         ensures { IfOk result (λ t. t ≡ self.now) }

@@ -1,4 +1,4 @@
-// Values that are written as tokens.
+//! Values that are written as tokens.
 ghost use Rattle.std.specs.Prelude.{◌≡◌, IfOk, OnOk, OnErr};
 ghost use Rattle.tok_core.specs.Forest.{AppendsFront, Forest, concat, leaf, no_trees, tree};
 ghost use Rattle.tok_core.specs.Seen.{group_of, lifetime_forest, tree_of};
@@ -10,18 +10,31 @@ use std::alloc::{AllocError, Global};
 use tok_leaves::known::punct;
 use tok_leaves::{Ident, Lifetime, Literal, Punct, Spacing};
 
-/// A value that is written as tokens.
+/// A value that can be written as tokens.
+///
+/// # Examples
+///
+/// ```rust
+/// let mut tokens = TokenStream::new(alloc);
+/// Ident::new(alloc, "a", Span::call_site())?.to_tokens(&mut tokens)?;
+/// Literal::string(alloc, "b")?.to_tokens(&mut tokens)?;
+/// assert_eq!(rt; tokens.trees().len(), 2);
+/// ```
 pub trait ToTokens {
-    // The trees that it is written as.
+    // The trees that the value is written as.
     ghost printed: { Self → Forest };
 
-    /// Puts the tokens of this value after the others. After an allocation failure, those that were put there before
-    /// the refusal stay, and at least one is missing. A leaf and a group leave all as before.
+    /// Appends the tokens of this value.
+    ///
+    /// If an allocation fails, the tokens appended before it stay, and at least one is missing. A
+    /// leaf or a group then appends nothing.
     fn to_tokens(&self, tokens: &mut TokenStream) -> Result<(), AllocError>
         ensures ok { OnOk result (tokens.new ≡ concat tokens.old (printed self.now)) }
         ensures err { OnErr result (AppendsFront tokens.old (printed self.now) tokens.new) };
 
-    /// The tokens of this value in a stream of their own.
+    /// Writes the tokens of this value into a new stream.
+    ///
+    /// Returns an error if an allocation fails.
     fn to_token_stream(&self, alloc: Global) -> Result<TokenStream, AllocError>
         ensures { IfOk result (λ tokens. tokens ≡ printed self.now) }
     {
@@ -30,7 +43,10 @@ pub trait ToTokens {
         Ok(tokens)
     }
 
-    /// The same of a value that is handed over, whose own tokens may be taken in place of copies.
+    /// Writes the tokens of this value into a new stream. It may move the value's tokens instead of
+    /// copying them.
+    ///
+    /// Returns an error if an allocation fails.
     fn into_token_stream(self, alloc: Global) -> Result<TokenStream, AllocError>
     where
         Self: Sized + Drop,
@@ -40,7 +56,7 @@ pub trait ToTokens {
     }
 }
 
-// A stream of one tree.
+// Returns a stream of one tree.
 fn alone(alloc: Global, only: TokenTree) -> Result<TokenStream, AllocError>
     ensures { IfOk result (λ tokens. tokens ≡ tree (tree_of only) no_trees) }
 {
@@ -128,7 +144,7 @@ impl ToTokens for TokenStream {
         Ok(())
     }
 
-    // No memory is needed: the stream is what it is written as.
+    // Nothing is allocated: a stream is written as itself.
     fn into_token_stream(self, _alloc: Global) -> Result<TokenStream, AllocError> {
         Ok(self)
     }

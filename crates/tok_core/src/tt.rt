@@ -1,4 +1,4 @@
-// Trees and streams compared and hashed without their spans.
+//! Trees and streams compared and hashed without their spans.
 ghost use Rattle.std.specs.Prelude.{◌≡◌, ◌↔◌, IsTrue, fold};
 ghost use Rattle.std.specs.Cmp.{partial_equiv_from_equiv, on_equiv};
 ghost use Rattle.tok_core.specs.Code.{delimiter_code};
@@ -139,7 +139,7 @@ fn hash_tree<H: Hasher>(next: &TokenTree, state: &mut H)
             state.write_u8(0);
             state.write_u8(delimiter_number(group.delimiter()));
             hash_stream(group.stream(), state);
-            // No tree begins so.
+            // Ends the group: no tree begins with this byte.
             state.write_u8(0xff);
         }
         TokenTree::Punct(punct) => {

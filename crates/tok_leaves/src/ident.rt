@@ -1,4 +1,4 @@
-// Identifiers.
+//! Identifiers.
 ghost use Rattle.std.specs.Prelude.{◌≡◌, ◌++◌, codes, IfOk, IfErr, Err};
 ghost use Rattle.std.specs.Str.{chars};
 ghost use Rattle.tok_leaves.specs.Leaves.{ident, ident_of, leaf_span, leaf_text, unraw};
@@ -9,8 +9,18 @@ use crate::text::Text;
 use std::alloc::{AllocError, Global};
 use tok_lexical::words::{has_no_raw, is_identifier};
 
-/// An identifier or a keyword. The text of a raw one begins with `r#`. Identifiers are compared, ordered and hashed by
-/// their texts alone.
+/// An identifier or a keyword. The text of a raw identifier begins with `r#`.
+///
+/// Identifiers are compared, ordered and hashed by text alone; spans do not count.
+///
+/// # Examples
+///
+/// ```rust
+/// let name = Ident::new(alloc, "size", Span::call_site())?;
+/// assert_eq!(rt; name.as_str(), "size");
+/// let raw = Ident::new_raw(alloc, "fn", Span::call_site())?;
+/// assert_eq!(rt; raw.as_str(), "r#fn");
+/// ```
 #[derive(Drop)]
 #[derive_where(PartialEq, Eq, PartialOrd, Ord, Hash)]
 pub struct Ident {
@@ -19,10 +29,12 @@ pub struct Ident {
     span: Span,
 }
 
-/// Why no identifier is made: the text is none, or an allocation failed.
+/// Why no identifier was made.
 #[derive(Clone, Copy, PartialEq, Eq, Debug)]
 pub enum MakeFault {
+    /// The text is no identifier, or has no raw form.
     Refused,
+    /// An allocation failed.
     Memory,
 }
 
@@ -36,7 +48,7 @@ impl From<AllocError> for MakeFault {
     }
 }
 
-// The text without a leading `r#`.
+// Removes a leading `r#`.
 fn without_raw(text: &str) -> &str
     ensures { result.now ≡ unraw text.now }
 {
@@ -44,8 +56,10 @@ fn without_raw(text: &str) -> &str
 }
 
 impl Ident {
-    /// An identifier or a keyword with this text. Refuses what isn't a plain identifier: an XID_Start character or `_`, and
-    /// after it XID_Continue characters.
+    /// Creates an identifier or a keyword.
+    ///
+    /// Returns `Refused` unless `text` is an XID_Start character or `_`, followed by XID_Continue
+    /// characters. Returns `Memory` if the allocation fails.
     pub fn new(alloc: Global, text: &str, span: Span) -> Result<Ident, MakeFault>
         ensures made { IfOk result (λ i. ident_of i ≡ ident text.now span) }
         ensures takes { IsIdentifier (chars text.now)
@@ -59,8 +73,10 @@ impl Ident {
         Ok(Ident::unchecked(text, span))
     }
 
-    /// A raw identifier: its text is `r#` and this one. Refuses what isn't a plain identifier, and `_`, `self`, `Self`, `super`
-    /// and `crate`, which don't exist as raw ones.
+    /// Creates a raw identifier: its text is `r#` followed by `text`.
+    ///
+    /// Returns `Refused` unless `text` is an identifier, and for `_`, `self`, `Self`, `super` and
+    /// `crate`, which have no raw form. Returns `Memory` if an allocation fails.
     pub fn new_raw(alloc: Global, text: &str, span: Span) -> Result<Ident, MakeFault>
         ensures made { IfOk result (λ i. ident_of i ≡ ident (codes "r#" ++ text.now) span) }
         ensures takes { HasRaw (chars text.now) → IfErr result (λ fault. fault ≡ MakeFault.Memory) }
@@ -75,36 +91,37 @@ impl Ident {
         Ok(Ident::unchecked(Text::from_string(alloc, raw)?, span))
     }
 
-    // Without a test of the text.
+    // Doesn't test the text.
     pub(crate) fn unchecked(text: Text, span: Span) -> Ident
         ensures { ident_of result ≡ ident text span }
     {
         Ident { text, span }
     }
 
-    /// The text, with the `r#` of a raw identifier.
+    /// Returns the text, which begins with `r#` if the identifier is raw.
     pub fn as_str(&self) -> &str
         ensures { result.now ≡ leaf_text (ident_of self.now) }
     {
         self.text.as_str()
     }
 
-    /// Where it is.
+    /// Returns the span.
     pub fn span(&self) -> Span
         ensures { result ≡ leaf_span (ident_of self.now) }
     {
         self.span
     }
 
-    /// Puts it at another span.
+    /// Replaces the span.
     pub fn set_span(&mut self, span: Span)
         ensures { ident_of self.new ≡ ident (leaf_text (ident_of self.old)) span }
     {
         self.span = span;
     }
 
-    /// The same identifier without a leading `r#`, in memory of its own: its text is what is left, and its span is this
-    /// one's. An identifier that isn't raw is copied.
+    /// Copies the identifier without a leading `r#`. The span stays the same.
+    ///
+    /// Returns an error if the allocation fails.
     pub fn unraw(&self, alloc: Global) -> Result<Ident, AllocError>
         ensures { IfOk result (λ i. ident_of i
             ≡ ident (unraw (leaf_text (ident_of self.now))) (leaf_span (ident_of self.now))) }
@@ -113,7 +130,9 @@ impl Ident {
         Ok(Ident::unchecked(text, self.span))
     }
 
-    /// A copy in memory of its own.
+    /// Copies the identifier, with its span.
+    ///
+    /// Returns an error if the allocation fails.
     pub fn clone(&self) -> Result<Ident, AllocError>
         ensures { IfOk result (λ i. i ≡ self.now) }
     {

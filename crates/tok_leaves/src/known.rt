@@ -1,4 +1,4 @@
-//! Leaves of texts that are known to name them: no text is tested, and none is refused.
+//! Leaves of texts that the caller has proved to be right, so that none is tested or rejected.
 ghost use Rattle.std.specs.Prelude.{◌≡◌, true, IfOk};
 ghost use Rattle.std.specs.Str.{chars};
 ghost use Rattle.tok_leaves.specs.Leaves.{ident, punct, ident_of, punct_of};
@@ -11,7 +11,13 @@ use crate::span::Span;
 use crate::text::Text;
 use std::alloc::{AllocError, Global};
 
-/// An identifier of a text that is one.
+/// Creates an identifier.
+///
+/// Returns an error if the allocation fails.
+///
+/// # Requires
+///
+/// `text` must be an identifier.
 pub fn identifier(alloc: Global, text: &str, span: Span) -> Result<Ident, AllocError>
     requires { IsIdentifier (chars text.now) }
     ensures { IfOk result (λ i. ident_of i ≡ ident text.now span) }
@@ -20,7 +26,11 @@ pub fn identifier(alloc: Global, text: &str, span: Span) -> Result<Ident, AllocE
     Ok(Ident::unchecked(text, span))
 }
 
-/// A punct of a character that one may have.
+/// Creates a punct.
+///
+/// # Requires
+///
+/// `ch` must be a character that a punct can have.
 pub fn punct(ch: char, spacing: Spacing, span: Span) -> Punct
     requires { is_punct_or_apostrophe ch ≡ true }
     ensures { punct_of result ≡ punct ch spacing span }

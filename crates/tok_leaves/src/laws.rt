@@ -1,4 +1,5 @@
-//! Laws of comparing, ordering and hashing.
+//! Laws of comparing, ordering and hashing. Each is the contract of a function that does nothing,
+//! or only compares.
 ghost use Rattle.std.specs.Prelude.{◌≡◌, ◌↔◌, ℕ, List, true, bytes_eq};
 ghost use Rattle.std.specs.Ordering.{nat_cmp};
 ghost use Rattle.std.specs.Cmp.Lexicographic.{slice_cmp};
@@ -11,13 +12,14 @@ use crate::lifetime::Lifetime;
 use std::cmp::Ordering;
 use std::hash::Hash;
 
-/// Identifiers are compared, ordered and hashed by their texts, and their order agrees with equality.
+/// Identifiers are compared, ordered and hashed by their texts, and their order agrees with
+/// equality.
 pub fn idents_by_text()
     ensures { IsByText text_of ⟦<Ident as PartialEq>⟧.eq ⟦<Ident as Ord>⟧.cmp
         ⟦<Ident as PartialOrd>⟧.partial_cmp ⟦<Ident as Hash>⟧.hash_input }
 {}
 
-/// Lifetimes are compared by name alone, and are equal exactly where their order says so.
+/// Lifetimes are compared by name alone, and are equal if and only if their order is `Equal`.
 pub fn lifetimes_in_order(left: &Lifetime, right: &Lifetime) -> (bool, Ordering)
     ensures names { (x : List ℕ) → (y : List ℕ)
         → (bytes_eq x y ≡ true) ↔ (slice_cmp nat_cmp x y ≡ Equal) }

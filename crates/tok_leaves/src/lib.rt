@@ -1,5 +1,7 @@
-//! Leaves of token trees: identifiers, puncts and literals, with their texts and spans; and lifetimes, which are two of
-//! them. In contracts a leaf is a `Leaf` (`specs/Leaves.antt`).
+//! Identifiers, puncts, literals and lifetimes, with their texts and spans.
+//!
+//! The first three are the leaves of token trees; a lifetime is a punct and an identifier.
+//! Contracts see a leaf as a `Leaf` (`specs/Leaves.antt`).
 #![tactic(auto)]
 
 mod ident;

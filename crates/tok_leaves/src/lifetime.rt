@@ -1,4 +1,4 @@
-// Lifetimes.
+//! Lifetimes.
 ghost use Rattle.std.specs.Prelude.{◌≡◌, ◌++◌, ◌∷◌, codes, None, MatchOption, IfSome, IfOk, IfErr, Some};
 ghost use Rattle.std.specs.Str.{chars, IsUtf8};
 ghost use Rattle.tok_leaves.specs.Leaves.{ident, ident_of, leaf_span, leaf_text, apostrophe};
@@ -14,8 +14,16 @@ use std::fmt::{Display, Formatter, Write};
 use tok_lexical::text::next_char;
 use tok_lexical::words::has_no_raw;
 
-/// A lifetime: an apostrophe and an identifier, which may be a keyword or raw. Lifetimes are compared, ordered and hashed
-/// by their identifiers alone.
+/// A lifetime: an apostrophe and an identifier, which may be a keyword or raw.
+///
+/// Lifetimes are compared, ordered and hashed by identifier alone; spans do not count.
+///
+/// # Examples
+///
+/// ```rust
+/// let lifetime = Lifetime::new(alloc, "'a", Span::call_site())?;
+/// assert_eq!(rt; lifetime.ident.as_str(), "a");
+/// ```
 #[derive(Drop)]
 #[derive_where(PartialEq, Eq, PartialOrd, Ord, Hash)]
 pub struct Lifetime {
@@ -24,17 +32,18 @@ pub struct Lifetime {
     pub ident: Ident,
 }
 
-/// Why no lifetime is made of a text, or that an allocation failed.
+/// Why no lifetime was made.
 #[derive(Clone, Copy, PartialEq, Eq, Debug)]
 pub enum LifetimeFault {
     /// N1: the text doesn't begin with an apostrophe.
     NoApostrophe,
-    /// N2: nothing follows the apostrophe, or after `'r#`.
+    /// N2: no name follows `'` or `'r#`.
     Empty,
-    /// N3: what is there is no identifier.
+    /// N3: the name is no identifier.
     NotIdentifier,
-    /// N4: it is one that doesn't exist as a raw identifier: `_`, `self`, `Self`, `super` or `crate` after `'r#`.
+    /// N4: `_`, `self`, `Self`, `super` or `crate` follows `'r#`. They have no raw form.
     NoRaw,
+    /// An allocation failed.
     Memory,
 }
 
@@ -63,9 +72,10 @@ impl Display for LifetimeFault {
 impl std::error::Error for LifetimeFault {}
 
 impl Lifetime {
-    /// The lifetime of a text as `'a` or `'r#a`, with this span for both its parts. Refuses, by the first that holds:
-    /// N1 no apostrophe in front, N2 nothing after it or after `'r#`, N3 no identifier there, N4 one that doesn't exist
-    /// as a raw identifier.
+    /// Creates a lifetime from a text such as `'a` or `'r#a`. Both parts get `span`.
+    ///
+    /// Returns the first error that applies, in the order of `LifetimeFault`, or `Memory` if the
+    /// allocation fails.
     pub fn new(alloc: Global, symbol: &str, span: Span) -> Result<Lifetime, LifetimeFault>
         ensures made { IfOk result (λ l. lifetime_refusal (chars symbol.now) ≡ None) }
         ensures text { IfOk result (λ l. lifetime_text l ≡ symbol.now) }
@@ -83,7 +93,8 @@ impl Lifetime {
         })
     }
 
-    /// The span from the apostrophe to the identifier, or the apostrophe's where none covers both.
+    /// Returns the span from the apostrophe to the identifier, or the apostrophe's span unless both
+    /// are in one source.
     pub fn span(&self) -> Span
         ensures { result ≡ covering self.now.apostrophe (leaf_span (ident_of self.now.ident)) }
     {
@@ -92,7 +103,7 @@ impl Lifetime {
             .unwrap_or(self.apostrophe)
     }
 
-    /// Sets the spans of both parts.
+    /// Replaces the spans of both parts.
     pub fn set_span(&mut self, span: Span)
         ensures apostrophe { self.new.apostrophe ≡ span }
         ensures ident { ident_of self.new.ident ≡ ident (leaf_text (ident_of self.old.ident)) span }
@@ -101,7 +112,9 @@ impl Lifetime {
         self.ident.set_span(span);
     }
 
-    /// A copy in memory of its own.
+    /// Copies the lifetime, with its spans.
+    ///
+    /// Returns an error if the allocation fails.
     pub fn clone(&self) -> Result<Lifetime, AllocError>
         ensures { IfOk result (λ l. l ≡ self.now) }
     {
@@ -125,7 +138,7 @@ impl Display for Lifetime {
     }
 }
 
-// What follows an apostrophe in front.
+// Removes a leading apostrophe.
 fn past_apostrophe(symbol: &str) -> Option<&str>
     ensures chars { MatchOption result
         (lifetime_refusal (chars symbol.now) ≡ Some LifetimeFault.NoApostrophe)
@@ -137,7 +150,7 @@ fn past_apostrophe(symbol: &str) -> Option<&str>
     if first == '\'' { Some(name) } else { None }
 }
 
-// What follows `r#` in front.
+// Removes a leading `r#`.
 fn past_raw(name: &str) -> Option<&str>
     ensures chars { MatchOption result
         (name_refusal (chars name.now) ≡ plain_refusal (chars name.now))
@@ -196,7 +209,7 @@ fn raw_identifier(alloc: Global, word: &str, span: Span) -> Result<Ident, Lifeti
     }
 }
 
-// A maker's fault, at a name that isn't empty and may be raw.
+// Converts the error of a name that isn't empty and can be raw.
 fn name_fault(fault: MakeFault) -> LifetimeFault
     ensures { result ≡ name_fault fault }
 {

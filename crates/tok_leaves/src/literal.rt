@@ -1,4 +1,4 @@
-// Literals.
+//! Literals.
 ghost use Rattle.std.specs.Prelude.{◌≡◌, ◌++◌, [], ◌∷◌, codes, string_bytes, IfOk, OnOk};
 ghost use Rattle.std.specs.Str.{chars};
 ghost use Rattle.std.specs.CStr.{c_str_bytes};
@@ -11,14 +11,21 @@ use crate::text::Text;
 use std::alloc::{AllocError, Global};
 use std::ffi::CStr;
 
-/// A literal: its text as it is written, quotes and suffix included.
+/// A literal: its text, with quotes, prefix and suffix, and its span.
+///
+/// # Examples
+///
+/// ```rust
+/// let literal = Literal::string(alloc, "a \"b\"")?;
+/// assert_eq!(rt; literal.as_str(), "\"a \\\"b\\\"\"");
+/// ```
 #[derive(Drop)]
 pub struct Literal {
     text: Text,
     span: Span,
 }
 
-// How many bytes the text takes between quotes: one more for each escape.
+// Counts the bytes of the text in quotes: one more for each escape.
 fn quoted_len(text: &str) -> usize {
     let mut len = text.len().saturating_add(2);
     for c in text.chars() {
@@ -52,7 +59,7 @@ fn push_escaped_byte(to: &mut String, byte: u8) -> Result<(), AllocError>
     Ok(())
 }
 
-// A literal at the call site: an opening, the bytes with their escapes, a closing.
+// Makes a literal at the call site: an opening, the bytes with their escapes, a closing.
 fn bytes_between(
     alloc: Global,
     opening: &str,
@@ -73,8 +80,11 @@ fn bytes_between(
 }
 
 impl Literal {
-    /// The string literal of this text, at the call site: in quotes, with `"`, `\`, line feed, U+000D, tab and U+0000 as
-    /// `\"`, `\\`, `\n`, `\r`, `\t` and `\0`.
+    /// Creates a string literal of `text`, at the call site. Every text has one.
+    ///
+    /// It is in double quotes. The characters `"`, `\`, line feed, carriage return, tab and U+0000
+    /// are written as `\"`, `\\`, `\n`, `\r`, `\t` and `\0`. Returns an error if an allocation
+    /// fails.
     pub fn string(alloc: Global, text: &str) -> Result<Literal, AllocError>
         ensures { IfOk result (λ l. literal_of l ≡ literal (in_quotes (chars text.now)) call_site) }
     {
@@ -88,8 +98,10 @@ impl Literal {
         Ok(Literal::unchecked(text, Span::call_site()))
     }
 
-    /// The character literal of this character, at the call site: in apostrophes, with `'`, `\`, line feed, U+000D, tab
-    /// and U+0000 as `\'`, `\\`, `\n`, `\r`, `\t` and `\0`.
+    /// Makes a character literal at the call site.
+    ///
+    /// It is in apostrophes. The characters `'`, `\`, line feed, carriage return, tab and U+0000 are
+    /// written as `\'`, `\\`, `\n`, `\r`, `\t` and `\0`. Returns an error if an allocation fails.
     pub fn character(alloc: Global, c: char) -> Result<Literal, AllocError>
         ensures { IfOk result (λ l. literal_of l ≡ literal (in_apostrophes c) call_site) }
     {
@@ -105,8 +117,10 @@ impl Literal {
         Ok(Literal::unchecked(text, Span::call_site()))
     }
 
-    /// The byte literal of this byte, at the call site: `b'` and `'`, and between them the byte as `u8::escape_ascii`
-    /// writes it.
+    /// Makes a byte literal at the call site.
+    ///
+    /// Between `b'` and `'` stands the byte, as `u8::escape_ascii` writes it. Returns an error if an
+    /// allocation fails.
     pub fn byte_character(alloc: Global, byte: u8) -> Result<Literal, AllocError>
         ensures { IfOk result (λ l. literal_of l
             ≡ literal (bytes_between (codes "b'") (byte ∷ []) (codes "'")) call_site) }
@@ -114,8 +128,10 @@ impl Literal {
         bytes_between(alloc, "b'", &[byte], "'")
     }
 
-    /// The byte string literal of these bytes, at the call site: `b"` and `"`, and between them each byte as
-    /// `u8::escape_ascii` writes it.
+    /// Makes a byte string literal at the call site.
+    ///
+    /// Between `b"` and `"` stand the bytes, as `u8::escape_ascii` writes each. Returns an error if
+    /// an allocation fails.
     pub fn byte_string(alloc: Global, bytes: &[u8]) -> Result<Literal, AllocError>
         ensures { IfOk result (λ l. literal_of l
             ≡ literal (bytes_between (codes "b\"") bytes.now (codes "\"")) call_site) }
@@ -123,8 +139,10 @@ impl Literal {
         bytes_between(alloc, "b\"", bytes, "\"")
     }
 
-    /// The C string literal of these bytes, at the call site: `c"` and `"`, and between them each byte as
-    /// `u8::escape_ascii` writes it. The zero at their end is not written.
+    /// Makes a C string literal at the call site.
+    ///
+    /// Between `c"` and `"` stand the bytes without the last, which is zero, as `u8::escape_ascii`
+    /// writes each. Returns an error if an allocation fails.
     pub fn c_string(alloc: Global, text: CStr<'_>) -> Result<Literal, AllocError>
         ensures { IfOk result (λ l. literal_of l ≡ literal
             (bytes_between (codes "c\"") (c_str_bytes text.entry) (codes "\"")) call_site) }
@@ -132,35 +150,37 @@ impl Literal {
         bytes_between(alloc, "c\"", text.to_bytes(), "\"")
     }
 
-    // Without a test of the text.
+    // Doesn't test the text.
     pub(crate) fn unchecked(text: Text, span: Span) -> Literal
         ensures { literal_of result ≡ literal text span }
     {
         Literal { text, span }
     }
 
-    /// The text, as it is written, with quotes, prefix and suffix.
+    /// Returns the text, with quotes, prefix and suffix.
     pub fn as_str(&self) -> &str
         ensures { result.now ≡ leaf_text (literal_of self.now) }
     {
         self.text.as_str()
     }
 
-    /// Where it is.
+    /// Returns the span.
     pub fn span(&self) -> Span
         ensures { result ≡ leaf_span (literal_of self.now) }
     {
         self.span
     }
 
-    /// Puts it at another span.
+    /// Replaces the span.
     pub fn set_span(&mut self, span: Span)
         ensures { literal_of self.new ≡ literal (leaf_text (literal_of self.old)) span }
     {
         self.span = span;
     }
 
-    /// A copy in memory of its own.
+    /// Copies the literal, with its span.
+    ///
+    /// Returns an error if the allocation fails.
     pub fn clone(&self) -> Result<Literal, AllocError>
         ensures { IfOk result (λ l. l ≡ self.now) }
     {

@@ -1,4 +1,4 @@
-// Puncts.
+//! Puncts.
 ghost use Rattle.std.specs.Prelude.{◌≡◌, MatchOption, true, false};
 ghost use Rattle.tok_leaves.specs.Leaves.{leaf_char, leaf_spacing, punct, punct_of, leaf_span};
 ghost use Rattle.tok_lexical.specs.Characters.{is_punct_or_apostrophe};
@@ -7,14 +7,14 @@ ghost use Rattle.tok_leaves.specs.Spans.{call_site};
 use crate::span::Span;
 use tok_lexical::classes::is_punct_or_apostrophe;
 
-/// Whether another punct follows directly: `+` is joint in `+=`, and alone in `+ =`.
+/// Whether a punct is directly followed by another: `+` is joint in `+=`, and alone in `+ =`.
 #[derive(Clone, Copy, PartialEq, Eq, Debug)]
 pub enum Spacing {
     Alone,
     Joint,
 }
 
-/// One punctuation character.
+/// One punctuation character, its spacing and its span.
 #[derive(Clone, Copy)]
 pub struct Punct {
     ch: char,
@@ -23,7 +23,8 @@ pub struct Punct {
 }
 
 impl Punct {
-    /// A punct at the call site; `None` for any character but `!#$%&*+,-./:;<=>?@^|~` and the apostrophe.
+    /// Creates a punct at the call site, or returns `None` unless `ch` is one of
+    /// `!#$%&*+,-./:;<=>?@^|~` or the apostrophe.
     pub fn new(ch: char, spacing: Spacing) -> Option<Punct>
         ensures { MatchOption result (is_punct_or_apostrophe ch ≡ false)
             (λ p. (is_punct_or_apostrophe ch ≡ true) × (punct_of p ≡ punct ch spacing call_site)) }
@@ -31,7 +32,7 @@ impl Punct {
         Punct::new_spanned(ch, spacing, Span::call_site())
     }
 
-    /// The same at `span`.
+    /// Creates a punct at `span`, or returns `None` for the same characters as `new`.
     pub fn new_spanned(ch: char, spacing: Spacing, span: Span) -> Option<Punct>
         ensures { MatchOption result (is_punct_or_apostrophe ch ≡ false)
             (λ p. (is_punct_or_apostrophe ch ≡ true) × (punct_of p ≡ punct ch spacing span)) }
@@ -43,35 +44,35 @@ impl Punct {
         }
     }
 
-    // Without a test of the character.
+    // Doesn't test the character.
     pub(crate) fn unchecked(ch: char, spacing: Spacing, span: Span) -> Punct
         ensures { punct_of result ≡ punct ch spacing span }
     {
         Punct { ch, spacing, span }
     }
 
-    /// The character.
+    /// Returns the character.
     pub fn as_char(&self) -> char
         ensures { result ≡ leaf_char (punct_of self.now) }
     {
         self.ch
     }
 
-    /// Whether another punctuation character follows directly.
+    /// Returns `Joint` if another punctuation character follows directly, and `Alone` if not.
     pub fn spacing(&self) -> Spacing
         ensures { result ≡ leaf_spacing (punct_of self.now) }
     {
         self.spacing
     }
 
-    /// Where it is.
+    /// Returns the span.
     pub fn span(&self) -> Span
         ensures { result ≡ leaf_span (punct_of self.now) }
     {
         self.span
     }
 
-    /// Puts it at another span.
+    /// Replaces the span.
     pub fn set_span(&mut self, span: Span)
         ensures { punct_of self.new
             ≡ punct (leaf_char (punct_of self.old)) (leaf_spacing (punct_of self.old)) span }

@@ -1,4 +1,6 @@
-//! Leaves compared, spans included. The calls are inlined, since two texts that are compared call one of them for each leaf.
+//! Comparisons of leaves, spans included.
+//!
+//! They are inlined: a comparison of two streams calls one of them for each leaf.
 ghost use Rattle.std.specs.Prelude.{◌≡◌, ◌↔◌, IsTrue};
 ghost use Rattle.tok_leaves.specs.Leaves.{ident_of, literal_of, punct_of};
 
@@ -6,7 +8,7 @@ use crate::ident::Ident;
 use crate::literal::Literal;
 use crate::punct::Punct;
 
-/// Whether two identifiers have one text and one span.
+/// Returns `true` if both identifiers have the same text and span.
 #[inline(always)]
 pub fn same_ident(one: &Ident, other: &Ident) -> bool
     ensures { IsTrue result ↔ (ident_of one.now ≡ ident_of other.now) }
@@ -14,7 +16,7 @@ pub fn same_ident(one: &Ident, other: &Ident) -> bool
     one.as_str() == other.as_str() && one.span() == other.span()
 }
 
-/// Whether two literals have one text and one span.
+/// Returns `true` if both literals have the same text and span.
 #[inline(always)]
 pub fn same_literal(left: &Literal, right: &Literal) -> bool
     ensures { IsTrue result ↔ (literal_of left.now ≡ literal_of right.now) }
@@ -22,7 +24,7 @@ pub fn same_literal(left: &Literal, right: &Literal) -> bool
     left.as_str() == right.as_str() && left.span() == right.span()
 }
 
-/// Whether two puncts have one character, one spacing and one span.
+/// Returns `true` if both puncts have the same character, spacing and span.
 #[inline(always)]
 pub fn same_punct(left: Punct, right: Punct) -> bool
     ensures { IsTrue result ↔ (punct_of left ≡ punct_of right) }

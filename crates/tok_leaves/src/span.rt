@@ -1,4 +1,4 @@
-// Where a token is.
+//! Spans: where tokens are.
 ghost use Rattle.std.specs.Prelude.{◌≡◌, ◌≤◌};
 ghost use Rattle.tok_leaves.specs.Spans as spec;
 
@@ -7,32 +7,43 @@ use tok_lexical::Delimiter;
 #[derive(Clone, Copy, PartialEq, Eq, Debug)]
 enum Origin {
     CallSite,
-    // The number of a source, and a range of its bytes.
+    // The number of a source, and a range of bytes in it.
     Source(u32, usize, usize),
 }
 
-/// The place of a token: the call site, or a range of bytes of a numbered source. A token made by hand, with no text
-/// after it, is at the call site.
+/// The place of a token: a range of bytes in a numbered source, or the call site.
+///
+/// A token made by hand, with no source, is at the call site.
+///
+/// # Examples
+///
+/// ```rust
+/// let span = Span::source(0, 2, 5);
+/// assert_eq!(rt; span.as_range(), Some((0, 2, 5)));
+/// let later = Span::source(0, 7, 9);
+/// assert_eq!(rt; span.join(later), Some(Span::source(0, 2, 9)));
+/// assert_eq!(rt; Span::call_site().as_range(), None);
+/// ```
 #[derive(Clone, Copy, PartialEq, Eq, Debug)]
 pub struct Span {
     origin: Origin,
 }
 
-/// A delimiter and a span, as a group keeps them: in 24 bytes, where a span alone has room for the delimiter.
+/// A group's delimiter and span, in 24 bytes: no more than a span alone takes.
 #[derive(Clone, Copy)]
 pub enum Bounds {
     CallSite(Delimiter),
     Source(Delimiter, u32, usize, usize),
 }
 
-/// The span of a group: the whole of it, and its two delimiters.
+/// The span of a group, from which the spans of its two delimiters are read.
 #[derive(Clone, Copy, PartialEq, Eq, Debug)]
 pub struct DelimSpan {
     join: Span,
 }
 
 impl Span {
-    /// The call site.
+    /// Returns the call site.
     pub fn call_site() -> Span
         ensures { result ≡ spec.call_site }
     {
@@ -41,7 +52,11 @@ impl Span {
         }
     }
 
-    /// The bytes from `start` to `end` of a source, `end` left out.
+    /// Creates the span of the bytes `start..end` of source `number`.
+    ///
+    /// # Requires
+    ///
+    /// `start` must be at most `end`.
     pub fn source(number: u32, start: usize, end: usize) -> Span
         requires { start ≤ end }
         ensures { result ≡ spec.source number start end }
@@ -51,7 +66,7 @@ impl Span {
         }
     }
 
-    /// The number of the source and the range in it, or `None` for the call site.
+    /// Returns the number of the source, the start and the end, or `None` for the call site.
     pub fn as_range(&self) -> Option<(u32, usize, usize)>
         ensures { result ≡ spec.range self.now }
     {
@@ -61,7 +76,7 @@ impl Span {
         }
     }
 
-    /// The smallest span that covers both, or `None` if they aren't of one source.
+    /// Returns the smallest span that covers both, or `None` unless both are in one source.
     pub fn join(self, other: Span) -> Option<Span>
         ensures { result ≡ spec.join self other }
     {
@@ -81,7 +96,7 @@ impl Span {
 }
 
 impl Bounds {
-    /// This delimiter and this span.
+    /// Packs a delimiter and a span.
     pub fn new(delimiter: Delimiter, span: Span) -> Bounds
         ensures delimiter { spec.bounds_delimiter result ≡ delimiter }
         ensures span { spec.bounds_span result ≡ span }
@@ -92,7 +107,7 @@ impl Bounds {
         }
     }
 
-    /// The delimiter.
+    /// Returns the delimiter.
     pub fn delimiter(self) -> Delimiter
         ensures { result ≡ spec.bounds_delimiter self }
     {
@@ -102,7 +117,7 @@ impl Bounds {
         }
     }
 
-    /// The span.
+    /// Returns the span.
     pub fn span(self) -> Span
         ensures { result ≡ spec.bounds_span self }
     {
@@ -115,21 +130,22 @@ impl Bounds {
 }
 
 impl DelimSpan {
-    /// The span of a group at `span`.
+    /// Creates the span of a group from its first byte to its last.
     pub fn new(span: Span) -> DelimSpan
         ensures { spec.whole_span result ≡ span }
     {
         DelimSpan { join: span }
     }
 
-    /// The whole group, delimiters included.
+    /// Returns the span of the whole group, delimiters included.
     pub fn join(self) -> Span
         ensures { result ≡ spec.whole_span self }
     {
         self.join
     }
 
-    /// The opening delimiter: the first byte. An empty range and the call site give themselves.
+    /// Returns the span of the opening delimiter: the first byte. An empty range and the call site
+    /// are returned unchanged.
     pub fn open(self) -> Span
         ensures { result ≡ spec.opening_span (spec.whole_span self) }
     {
@@ -141,7 +157,8 @@ impl DelimSpan {
         }
     }
 
-    /// The closing delimiter: the last byte. An empty range and the call site give themselves.
+    /// Returns the span of the closing delimiter: the last byte. An empty range and the call site
+    /// are returned unchanged.
     pub fn close(self) -> Span
         ensures { result ≡ spec.closing_span (spec.whole_span self) }
     {

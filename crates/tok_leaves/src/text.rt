@@ -1,4 +1,4 @@
-// A text that contracts see as its bytes, so that a copy equals its source.
+//! Texts that contracts see as their bytes, so that a copy equals its source.
 ghost use Rattle.std.specs.Prelude.{◌≡◌, ◌≤◌, length, nat_eq, string_bytes, IfOk, Some};
 ghost use Rattle.std.specs.Cmp as compared;
 ghost use Rattle.std.specs.Cmp.Lexicographic.{pointwise, slice_cmp, nat_list_eq_equiv, nat_list_cmp_total, texts_ties, texts_po};
@@ -12,14 +12,14 @@ use std::hash::{Hash, Hasher};
 use std::marker::Model;
 use std::str::from_utf8;
 
-// A text of up to 14 bytes stands in place, and a longer one on the heap.
+// A text of up to 14 bytes is stored in place, a longer one on the heap.
 #[derive(Drop)]
 enum Node {
     Short(u8, [u8; 14]),
     Long(Box<String>),
 }
 
-/// A text. It takes 16 bytes, and memory on the heap only if it is longer than 14.
+/// A text in 16 bytes. It allocates only if it is longer than 14 bytes.
 #[derive(Drop)]
 pub struct Text {
     node: Node,
@@ -39,7 +39,9 @@ impl Model for Text {
 }
 
 impl Text {
-    /// A copy of this text.
+    /// Copies `text`.
+    ///
+    /// Returns an error if the allocation fails.
     pub fn from_str(alloc: Global, text: &str) -> Result<Text, AllocError>
         ensures { IfOk result (λ t. t ≡ text.now) }
     {
@@ -49,7 +51,9 @@ impl Text {
         Text::long(alloc, String::from_str(alloc, text)?)
     }
 
-    /// The text of a string, which a longer text takes over.
+    /// Turns a string into a text. A string longer than 14 bytes is moved, not copied.
+    ///
+    /// Returns an error if the allocation fails; the string is then dropped.
     pub fn from_string(alloc: Global, text: String) -> Result<Text, AllocError>
         ensures { IfOk result (λ t. t ≡ string_bytes text) }
     {
@@ -72,7 +76,8 @@ impl Text {
         }
     }
 
-    // Kept out of line: long texts are rare, and inlining their allocation makes callers save more registers.
+    // Kept out of line: long texts are rare, and inlining their allocation makes callers save more
+    // registers.
     #[inline(never)]
     fn long(alloc: Global, text: String) -> Result<Text, AllocError>
         ensures { IfOk result (λ t. t ≡ string_bytes text) }
@@ -81,7 +86,7 @@ impl Text {
         Ok(Text { node, alloc })
     }
 
-    /// The text.
+    /// Returns the text.
     pub fn as_str(&self) -> &str
         ensures { result.now ≡ self.now }
     {
@@ -94,7 +99,9 @@ impl Text {
         }
     }
 
-    /// A copy, with memory of its own where it takes any.
+    /// Copies the text. A text of up to 14 bytes takes no memory.
+    ///
+    /// Returns an error if the allocation fails.
     pub fn clone(&self) -> Result<Text, AllocError>
         ensures { IfOk result (λ t. t ≡ self.now) }
     {

@@ -1,4 +1,4 @@
-//! Leaves made without a test of their texts, for a lexer that has just read them as such.
+//! Leaves whose texts are not tested, for a lexer that has just read them.
 ghost use Rattle.std.specs.Prelude.{◌≡◌};
 ghost use Rattle.tok_leaves.specs.Leaves.{ident, ident_of, literal, literal_of, punct, punct_of};
 
@@ -8,21 +8,21 @@ use crate::punct::{Punct, Spacing};
 use crate::span::Span;
 use crate::text::Text;
 
-/// An identifier of this text.
+/// Creates an identifier with this text.
 pub fn ident(text: Text, span: Span) -> Ident
     ensures { ident_of result ≡ ident text span }
 {
     Ident::unchecked(text, span)
 }
 
-/// A punct of this character.
+/// Creates a punct of this character.
 pub fn punct(ch: char, spacing: Spacing, span: Span) -> Punct
     ensures { punct_of result ≡ punct ch spacing span }
 {
     Punct::unchecked(ch, spacing, span)
 }
 
-/// A literal of this text.
+/// Creates a literal with this text.
 pub fn literal(text: Text, span: Span) -> Literal
     ensures { literal_of result ≡ literal text span }
 {

@@ -1,4 +1,4 @@
-// Characters and byte characters.
+//! Characters and byte characters.
 ghost use Rattle.std.specs.Prelude.{◌≡◌, IfSome};
 ghost use Rattle.std.specs.Str.{chars, IsUtf8};
 ghost use Rattle.tok_lexical.specs.Pieces.{IsOne, After, ReadsLongest, ReadsPrefix};

@@ -1,4 +1,4 @@
-// White space, punctuation characters, and the marks of groups.
+//! White space, punctuation characters, and the marks of groups.
 ghost use Rattle.std.specs.Prelude.{◌≡◌, ◌≤◌, ℕ, List, length};
 ghost use Rattle.std.specs.Str.{chars};
 ghost use Rattle.tok_lexical.specs.Characters.{is_space, is_whitespace, begins_visibly, is_punct, is_punct_or_apostrophe, opening_mark, closing_mark};

@@ -1,4 +1,4 @@
-// What a quoted literal holds.
+//! The contents of quoted literals.
 ghost use Rattle.std.specs.Prelude.{◌≡◌, false};
 ghost use Rattle.std.specs.Str.{chars};
 ghost use Rattle.tok_lexical.specs.Contents.{is_misfit, has_quote, has_misfit, has_bare_return, is_unfit, only_zeros, names_zero, has_zero, is_wrong};

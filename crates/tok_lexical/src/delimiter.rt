@@ -1,4 +1,4 @@
-// What is around a group.
+//! Delimiters of groups.
 ghost use Rattle.std.specs.Prelude.{◌≡◌};
 ghost use Rattle.tok_lexical.specs.Delimiters.{opening, closing};
 

@@ -1,4 +1,4 @@
-// Editions of Rust.
+//! Editions of Rust.
 ghost use Rattle.std.specs.Prelude.{◌≡◌};
 ghost use Rattle.tok_lexical.specs.Editions.{reserves_prefixes, reserves_guards};
 

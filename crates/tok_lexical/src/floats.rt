@@ -1,4 +1,4 @@
-// Floats, and decimal integers with a dot after them.
+//! Floats, and decimal integers with a dot after them.
 ghost use Rattle.std.specs.Prelude.{◌≡◌, IfSome};
 ghost use Rattle.std.specs.Str.{chars, IsUtf8};
 ghost use Rattle.tok_lexical.specs.Pieces.{ReadsLongest};

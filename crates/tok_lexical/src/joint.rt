@@ -1,4 +1,4 @@
-// What follows a punctuation character.
+//! Whether a punctuation character is joint to the next.
 ghost use Rattle.std.specs.Prelude.{◌≡◌};
 ghost use Rattle.std.specs.Str.{chars};
 ghost use Rattle.tok_lexical.specs.Following.{starts_punct, begins_comment, makes_joint, makes_joint_apostrophe, starts_name, past_marks, takes_point};

@@ -1,5 +1,7 @@
-//! The front of a text: which piece it begins with, by the rules of the grammar in their order, and why a piece is refused.
-//! The grammar is `specs/`; it knows no trees.
+//! The front of a text: which piece it begins with, by the rules of the grammar in their order, and
+//! why a piece is rejected.
+//!
+//! The definitions in `specs/` are the grammar. This crate knows no trees.
 #![tactic(auto)]
 
 mod char_literals;

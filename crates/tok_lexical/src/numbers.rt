@@ -1,4 +1,4 @@
-// Integers.
+//! Integers.
 ghost use Rattle.std.specs.Prelude.{◌≡◌, ℕ, ◌≤◌, List, IfSome, length};
 ghost use Rattle.std.specs.Str.{chars, IsUtf8};
 ghost use Rattle.tok_lexical.specs.Pieces.{IsLongestPrefix, ReadsLongest, Skips};

@@ -1,4 +1,4 @@
-// The starts of raw, byte and C strings.
+//! The starts of raw, byte and C strings.
 ghost use Rattle.std.specs.Prelude.{◌==◌, ◌<◌, ℕ, List, IfSome};
 ghost use Rattle.std.specs.Str.{chars, IsUtf8};
 ghost use Rattle.tok_lexical.specs.Pieces.{After, ReadsLongest, ReadsPrefix, Skips};

@@ -1,4 +1,4 @@
-// Raw strings.
+//! Raw strings.
 ghost use Rattle.std.specs.Prelude.{◌≡◌, ℕ, ◌∷◌, ◌++◌, List, MatchOption, IfSome};
 ghost use Rattle.std.specs.Str.{chars, IsUtf8};
 ghost use Rattle.tok_lexical.specs.Pieces.{After, ReadsLongest, ReadsPrefix};

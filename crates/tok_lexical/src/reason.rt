@@ -1,4 +1,4 @@
-// Why a text is refused.
+//! Why a text is rejected.
 ghost use Rattle.std.specs.Prelude.{◌≡◌};
 ghost use Rattle.tok_lexical.specs.Refusals.{refusal_number, refusal_words};
 

@@ -1,4 +1,4 @@
-// Which pieces are refused.
+//! Which pieces are rejected.
 ghost use Rattle.std.specs.Prelude.{◌≡◌, if◌then◌else◌, Some, None};
 ghost use Rattle.std.specs.Str.{chars};
 ghost use Rattle.tok_lexical.specs.Refusals.{refusal, is_reserved, is_guard, lifetime_refusal};

@@ -1,4 +1,4 @@
-// The rules of the grammar, in their order, and what each takes.
+//! The rules of the grammar in their order, and what each takes.
 ghost use Rattle.std.specs.Prelude.{◌≡◌, ◌++◌, ◌∷◌, [], ℕ, List, true, false, IfSome};
 ghost use Rattle.std.specs.Str.{chars, IsUtf8};
 ghost use Rattle.tok_lexical.specs.Fits.{IsFirstFit, ReadsByRules};

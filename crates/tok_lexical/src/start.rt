@@ -1,4 +1,4 @@
-// What the first character of a text tells.
+//! What the first character of a text decides.
 ghost use Rattle.std.specs.Prelude.{◌≡◌, ◌≤◌};
 ghost use Rattle.tok_lexical.specs.Starts.{start_of, is_mark};
 

@@ -1,4 +1,4 @@
-// Strings.
+//! Strings.
 ghost use Rattle.std.specs.Prelude.{IfSome, length, ◌<◌};
 ghost use Rattle.std.specs.Str.{chars, IsUtf8};
 ghost use Rattle.tok_lexical.specs.Pieces.{After, ReadsLongest, ReadsPrefix};

@@ -1,4 +1,4 @@
-// Identifiers.
+//! Identifiers.
 ghost use Rattle.std.specs.Prelude.{◌≡◌, ℕ, List, IfSome, MatchBool};
 ghost use Rattle.std.specs.Str.{chars, IsUtf8};
 ghost use Rattle.unicode_ident.specs.Ident.{is_xid_continue};

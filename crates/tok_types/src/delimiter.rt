@@ -1,4 +1,4 @@
-// Delimiters as tokens.
+//! Delimiters as tokens.
 ghost use Rattle.std.specs.Prelude.{◌≡◌, Ok, OnOk, OnErr, Some};
 ghost use Rattle.std.specs.Fn.{FnOnceReturnsAtMut, FnOnceTakesAtMut};
 ghost use Rattle.tok_buffer.specs.Entry.{enter};
@@ -16,7 +16,7 @@ use std::fmt::{self, Debug, Formatter, Write};
 use tok_buffer::Cursor;
 use tok_core::{DelimSpan, Delimiter, Span, TokenStream, TokenTree};
 
-// How a refusal calls the delimiters of a group.
+// Returns the name of a delimiter in errors.
 fn delimiter_display(delimiter: Delimiter) -> &'static str
     ensures { result.now ≡ delimiter_display delimiter }
 {
@@ -28,7 +28,7 @@ fn delimiter_display(delimiter: Delimiter) -> &'static str
     }
 }
 
-// Writes a group round what `f` writes.
+// Writes a group around what `f` writes.
 fn surround<F>(
     delimiter: Delimiter,
     span: Span,
@@ -48,8 +48,10 @@ where
     tokens.append(TokenTree::Group(tok_core::Group::new(delimiter, inside, span)))
 }
 
-/// The delimiters of a number, looked for across the edges of invisible groups: `token::Paren` is `Visible<0>`,
-/// `token::Brace` is `Visible<1>`, and `token::Bracket` is `Visible<2>`, as is each past it. All values of a type are equal.
+/// The visible delimiters with the number `D`: `token::Paren` is `Visible<0>`, `token::Brace` is
+/// `Visible<1>`, and `token::Bracket` is `Visible<2>`, as is each number past it.
+///
+/// A peek finds them through invisible groups. All values of a type are equal.
 #[derive(Clone, Copy)]
 #[derive_where(PartialEq, Eq, Hash)]
 pub struct Visible<const D: usize> {
@@ -58,7 +60,7 @@ pub struct Visible<const D: usize> {
 }
 
 impl<const D: usize> Visible<D> {
-    /// The delimiter of the groups that these tokens are of.
+    /// Returns the delimiter.
     pub fn delimiter() -> Delimiter
         ensures { result ≡ delimiter_at D }
     {
@@ -69,22 +71,37 @@ impl<const D: usize> Visible<D> {
         }
     }
 
-    /// Of a group with this span.
+    /// Creates the delimiters of a group with this span.
     pub fn new(span: DelimSpan) -> Self
         ensures { result.span ≡ span }
     {
         Visible { span }
     }
 
-    /// Of a group at `span`.
+    /// Creates the delimiters of a group at `span`.
     pub fn from_span(span: Span) -> Self
         ensures { whole_span result.span ≡ span }
     {
         Visible::new(DelimSpan::new(span))
     }
 
-    /// Writes a group of these delimiters round what `f` writes. Where an allocation fails or `f` returns an error, nothing
-    /// is written.
+    /// Writes a group with these delimiters around what `f` writes.
+    ///
+    /// If an allocation fails or `f` returns an error, nothing is written.
+    ///
+    /// # Requires
+    ///
+    /// `f` must be callable on an empty stream.
+    ///
+    /// # Examples
+    ///
+    /// ```rust
+    /// let mut tokens = TokenStream::new(alloc);
+    /// token::Paren::default().surround(&mut tokens, |inside| {
+    ///     token::Comma::default().to_tokens(inside)
+    /// })?;
+    /// assert_eq!(rt; format!(in alloc; "{tokens}")?.as_str(), "(,)");
+    /// ```
     pub fn surround<F>(&self, tokens: &mut TokenStream, f: F) -> Result<(), AllocError>
     where
         F: FnOnce(&mut TokenStream) -> Result<(), AllocError>,
@@ -114,7 +131,7 @@ impl<const D: usize> Token for Visible<D> {
     }
 }
 
-/// At the call site.
+/// Creates the delimiters of a group at the call site.
 impl<const D: usize> Default for Visible<D> {
     ghost is_default = { λ t. whole_span t.span ≡ call_site };
 
@@ -123,7 +140,7 @@ impl<const D: usize> Default for Visible<D> {
     }
 }
 
-/// As `Paren`.
+/// Writes the name, as `Paren`.
 impl<const D: usize> Debug for Visible<D> {
     fn fmt<W: Write>(&self, f: &mut Formatter<W>) -> fmt::Result {
         f.write_str(match Self::delimiter() {
@@ -135,7 +152,9 @@ impl<const D: usize> Debug for Visible<D> {
     }
 }
 
-/// An invisible group, as macros leave round what they put in; looked for in front alone. All values are equal.
+/// The delimiters of an invisible group, as macros leave around what they insert.
+///
+/// A peek finds it only as the very next tree. All values are equal.
 #[derive(Clone, Copy)]
 #[derive_where(PartialEq, Eq, Hash)]
 pub struct Group {
@@ -144,22 +163,27 @@ pub struct Group {
 }
 
 impl Group {
-    /// Of a group at `span`.
+    /// Creates the delimiters of an invisible group at `span`.
     pub fn new(span: Span) -> Self
         ensures { result.span ≡ span }
     {
         Group { span }
     }
 
-    /// Of a group at `span`.
+    /// Creates the delimiters of an invisible group at `span`, as `new` does.
     pub fn from_span(span: Span) -> Self
         ensures { result.span ≡ span }
     {
         Group::new(span)
     }
 
-    /// Writes a group of these delimiters round what `f` writes. Where an allocation fails or `f` returns an error, nothing
-    /// is written.
+    /// Writes an invisible group around what `f` writes.
+    ///
+    /// If an allocation fails or `f` returns an error, nothing is written.
+    ///
+    /// # Requires
+    ///
+    /// `f` must be callable on an empty stream.
     pub fn surround<F>(&self, tokens: &mut TokenStream, f: F) -> Result<(), AllocError>
     where
         F: FnOnce(&mut TokenStream) -> Result<(), AllocError>,
@@ -187,7 +211,7 @@ impl Token for Group {
     }
 }
 
-/// At the call site.
+/// Creates the delimiters of an invisible group at the call site.
 impl Default for Group {
     ghost is_default = { λ t. t.span ≡ call_site };
 

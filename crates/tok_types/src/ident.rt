@@ -1,4 +1,4 @@
-// Tokens that are made into identifiers.
+//! Conversions of tokens to identifiers.
 ghost use Rattle.std.specs.Prelude.{◌≡◌, ◌<◌, codes, IfOk};
 ghost use Rattle.tok_leaves.specs.Leaves.{ident, ident_of};
 ghost use Rattle.tok_types.specs.Printed.{first_span};
@@ -13,7 +13,7 @@ use tok_core::Ident;
 use tok_core::known::identifier;
 
 impl<const K: usize> Keyword<K> {
-    // The identifier of a keyword in the table.
+    // Creates the identifier of a keyword in the table.
     fn ident(self, alloc: Global) -> Result<Ident, AllocError>
         requires { K < 54 }
         ensures { IfOk result (λ i. ident_of i ≡ ident (keyword_text K) self.entry.span) }
@@ -23,7 +23,9 @@ impl<const K: usize> Keyword<K> {
 }
 
 impl token::SelfValue {
-    /// The identifier `self`.
+    /// Creates the identifier `self`, at the token's span.
+    ///
+    /// Returns an error if the allocation fails.
     pub fn into_ident(self, alloc: Global) -> Result<Ident, AllocError>
         ensures { IfOk result (λ i. ident_of i ≡ ident (codes "self") self.span) }
     {
@@ -32,7 +34,9 @@ impl token::SelfValue {
 }
 
 impl token::SelfType {
-    /// The identifier `Self`.
+    /// Creates the identifier `Self`, at the token's span.
+    ///
+    /// Returns an error if the allocation fails.
     pub fn into_ident(self, alloc: Global) -> Result<Ident, AllocError>
         ensures { IfOk result (λ i. ident_of i ≡ ident (codes "Self") self.span) }
     {
@@ -41,7 +45,9 @@ impl token::SelfType {
 }
 
 impl token::Super {
-    /// The identifier `super`.
+    /// Creates the identifier `super`, at the token's span.
+    ///
+    /// Returns an error if the allocation fails.
     pub fn into_ident(self, alloc: Global) -> Result<Ident, AllocError>
         ensures { IfOk result (λ i. ident_of i ≡ ident (codes "super") self.span) }
     {
@@ -50,7 +56,9 @@ impl token::Super {
 }
 
 impl token::Crate {
-    /// The identifier `crate`.
+    /// Creates the identifier `crate`, at the token's span.
+    ///
+    /// Returns an error if the allocation fails.
     pub fn into_ident(self, alloc: Global) -> Result<Ident, AllocError>
         ensures { IfOk result (λ i. ident_of i ≡ ident (codes "crate") self.span) }
     {
@@ -59,7 +67,9 @@ impl token::Crate {
 }
 
 impl token::Extern {
-    /// The identifier `extern`.
+    /// Creates the identifier `extern`, at the token's span.
+    ///
+    /// Returns an error if the allocation fails.
     pub fn into_ident(self, alloc: Global) -> Result<Ident, AllocError>
         ensures { IfOk result (λ i. ident_of i ≡ ident (codes "extern") self.span) }
     {
@@ -68,7 +78,9 @@ impl token::Extern {
 }
 
 impl Underscore {
-    /// The identifier `_`.
+    /// Creates the identifier `_`, at the token's span.
+    ///
+    /// Returns an error if the allocation fails.
     pub fn into_ident(self, alloc: Global) -> Result<Ident, AllocError>
         ensures { IfOk result (λ i. ident_of i ≡ ident (codes "_") (first_span self.spans)) }
     {

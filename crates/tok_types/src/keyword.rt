@@ -1,4 +1,4 @@
-// Keywords.
+//! Keywords.
 ghost use Rattle.std.specs.Prelude.{◌≡◌, Some};
 ghost use Rattle.tok_leaves.specs.Spans.{call_site};
 ghost use Rattle.tok_buffer.specs.Reads.{read_keyword};
@@ -15,8 +15,10 @@ use std::fmt::{self, Debug, Formatter, Write};
 use tok_buffer::Cursor;
 use tok_core::{Span, ToTokens, TokenStream};
 
-/// The keyword of the number `K` in the table of keywords: `token::Fn` is `Keyword<18>`. Past the table it has no text, is
-/// never found, and is written as nothing. All values of a type are equal.
+/// The keyword with the number `K` in the table of keywords: `token::Fn` is `Keyword<18>`.
+///
+/// All values of a type are equal. A number past the table has no text, is never found, and is
+/// written as nothing.
 #[derive(Clone, Copy)]
 #[derive_where(PartialEq, Eq, Hash)]
 pub struct Keyword<const K: usize> {
@@ -25,14 +27,14 @@ pub struct Keyword<const K: usize> {
 }
 
 impl<const K: usize> Keyword<K> {
-    /// The keyword at this span.
+    /// Creates the keyword at `span`.
     pub fn new(span: Span) -> Self
         ensures { result.span ≡ span }
     {
         Keyword { span }
     }
 
-    /// The same, under the name that all tokens have.
+    /// Creates the keyword at `span`, as `new` does. Every token type has `from_span`.
     pub fn from_span(span: Span) -> Self
         ensures { result.span ≡ span }
     {
@@ -56,7 +58,7 @@ impl<const K: usize> Token for Keyword<K> {
     }
 }
 
-/// Writes an identifier of the keyword's text.
+/// Writes an identifier with the keyword's text.
 impl<const K: usize> ToTokens for Keyword<K> {
     ghost printed = { λ k. word (keyword_text K) k.span };
 
@@ -65,7 +67,7 @@ impl<const K: usize> ToTokens for Keyword<K> {
     }
 }
 
-/// At the call site.
+/// Creates the keyword at the call site.
 impl<const K: usize> Default for Keyword<K> {
     ghost is_default = { λ k. k.span ≡ call_site };
 
@@ -74,7 +76,7 @@ impl<const K: usize> Default for Keyword<K> {
     }
 }
 
-/// As `Token![fn]`.
+/// Writes `Token![fn]` for the keyword `fn`.
 impl<const K: usize> Debug for Keyword<K> {
     fn fmt<W: Write>(&self, f: &mut Formatter<W>) -> fmt::Result {
         write!(f, "Token![{}]", keyword_text(K))

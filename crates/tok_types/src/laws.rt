@@ -19,7 +19,8 @@ pub fn keyword_past_the_table<const K: usize>()
     ensures { 54 ≤ K → IsNeverFound ⟦<Keyword<K> as Token>⟧.peeks }
 {}
 
-/// A punctuation past the table, or whose text isn't of as many characters as its type says, is never found.
+/// A punctuation past the table, or whose text is not of as many characters as its type says, is
+/// never found.
 pub fn punctuation_past_the_table<const K: usize, const N: usize>()
     ensures { (length (punctuation_text K) ≡ N → N ≡ 0)
         → IsNeverFound ⟦<Punctuation<K, N> as Token>⟧.peeks }
@@ -55,8 +56,8 @@ pub fn groups_are_equal()
     ensures hash { WriteNothing ⟦<Group as Hash>⟧.hash_input }
 {}
 
-/// Invisible groups do not matter to a peek of a leaf, a lifetime or the end: it is the same at places of
-/// filled forests with equal views.
+/// Invisible groups do not matter to a peek of a leaf, a lifetime or the end: it is the same at
+/// places of filled forests with equal views.
 pub fn peeks_ignore_invisible()
     ensures idents { IgnoresInvisible ⟦<Ident as Token>⟧.peeks }
     ensures any_idents { IgnoresInvisible ⟦<IdentAny as Token>⟧.peeks }
@@ -67,13 +68,13 @@ pub fn peeks_ignore_invisible()
     ensures ends { IgnoresInvisible ⟦<End as Token>⟧.peeks }
 {}
 
-/// Nor to a peek of a keyword or a punctuation.
+/// Invisible groups do not matter to a peek of a keyword or a punctuation.
 pub fn tokens_ignore_invisible<const K: usize, const N: usize>()
     ensures keywords { IgnoresInvisible ⟦<Keyword<K> as Token>⟧.peeks }
     ensures punctuations { IgnoresInvisible ⟦<Punctuation<K, N> as Token>⟧.peeks }
 {}
 
-/// Nor to a peek of visible delimiters.
+/// Invisible groups do not matter to a peek of visible delimiters.
 pub fn delimiters_ignore_invisible<const D: usize>()
     ensures { IgnoresInvisible ⟦<Visible<D> as Token>⟧.peeks }
 {}

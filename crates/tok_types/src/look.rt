@@ -1,4 +1,4 @@
-// What can be looked for in front of a cursor.
+//! The trait of everything that a peek can look for.
 ghost use Rattle.std.specs.Prelude.{ℕ, Bool, List, None, Option};
 ghost use Rattle.tok_buffer.specs.Cursors.{place_of};
 ghost use Rattle.tok_buffer.specs.Place.{Place};
@@ -7,23 +7,24 @@ ghost use Rattle.tok_types.specs.Sees.{Sees};
 
 use tok_buffer::Cursor;
 
-/// What can be looked for in front of a cursor, and how a refusal calls it. A type of a caller's own writes the two functions
-/// and nothing else.
+/// A type that a peek can look for, and its name in errors.
+///
+/// All token types implement it. A type of your own has two functions, and may state what they do.
 pub trait Token {
-    // When a peek at a place is true, and how it is called. Of a caller's own type nothing is known but what it states.
+    // When a peek at a place is true. Of a type that states nothing, nothing is known.
     ghost peeks: { Place → Bool → Type 0 } = { λ _ _. Unit {0} };
 
     ghost shown: { List ℕ → Type 0 } = { λ _. Unit {0} };
 
-    // When a peek is true, by the visible trees ahead, invisible groups aside.
+    // When a peek is true, as a function of the visible trees ahead.
     ghost sees: { Option (Forest → Bool) } = { None };
 
-    /// Whether this is in front of the cursor.
+    /// Returns `true` if the cursor is at this token.
     fn peek(cursor: Cursor<'_>) -> bool
         ensures peeks { peeks (place_of cursor.entry) result }
         ensures sees { Sees sees (place_of cursor.entry) result };
 
-    /// How a refusal calls it: a token's text in backquotes, or words.
+    /// Returns the token's name in errors: its text in backquotes, or words.
     fn display() -> &'static str
         ensures { shown result.now };
 }

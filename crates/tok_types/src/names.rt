@@ -1,4 +1,4 @@
-// Identifiers of a text that is known to be one, and trees of them.
+//! Identifiers whose text is known to be one.
 ghost use Rattle.std.specs.Prelude.{◌≡◌, IfOk, OnOk, OnErr};
 ghost use Rattle.std.specs.Str.{chars};
 ghost use Rattle.tok_core.specs.Forest.{AppendsFront, concat};
@@ -10,7 +10,7 @@ use std::alloc::{AllocError, Global};
 use tok_core::known::identifier;
 use tok_core::{Ident, Span, ToTokens, TokenStream, TokenTree};
 
-// Writes an identifier of this text, and nothing if it is empty.
+/// Appends an identifier with this text, or nothing if the text is empty.
 pub fn append_word(text: &str, span: Span, tokens: &mut TokenStream) -> Result<(), AllocError>
     requires { IsSuffix (chars text.now) }
     ensures ok { OnOk result (tokens.new ≡ concat tokens.old (word text.now span)) }

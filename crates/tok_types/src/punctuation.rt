@@ -1,4 +1,4 @@
-// Punctuations.
+//! Punctuations.
 ghost use Rattle.std.specs.Prelude.{◌≡◌, [], ◌∷◌, replicate, Some};
 ghost use Rattle.tok_leaves.specs.Spans.{call_site};
 ghost use Rattle.tok_buffer.specs.Reads.{read_punctuation};
@@ -15,33 +15,35 @@ use std::fmt::{self, Debug, Formatter, Write};
 use tok_buffer::Cursor;
 use tok_core::{Span, ToTokens, TokenStream};
 
-/// The punctuation of the number `K` in the table of punctuations, of `N` characters: `token::PathSep` is `Punctuation<28, 2>`.
-/// Past the table, or where its text isn't of `N` characters, it has no text, is never found, and is written as nothing.
-/// All values of a type are equal.
+/// The punctuation with the number `K` in the table of punctuations, of `N` characters:
+/// `token::PathSep` is `Punctuation<28, 2>`.
+///
+/// All values of a type are equal. A number past the table, or with a text of another length, has
+/// no text, is never found, and is written as nothing.
 #[derive(Clone, Copy)]
 #[derive_where(PartialEq, Eq, Hash)]
 pub struct Punctuation<const K: usize, const N: usize> {
-    /// One for each character.
+    /// A span for each character.
     #[derive_where(skip(EqHashOrd))]
     pub spans: [Span; N],
 }
 
 impl<const K: usize, const N: usize> Punctuation<K, N> {
-    /// The punctuation with a span for each character.
+    /// Creates the punctuation with a span for each character.
     pub fn new(spans: [Span; N]) -> Self
         ensures { result.spans ≡ spans.entry }
     {
         Punctuation { spans }
     }
 
-    /// One span for all characters.
+    /// Creates the punctuation with one span for all characters.
     pub fn from_span(span: Span) -> Self
         ensures { result.spans ≡ replicate N span }
     {
         Punctuation { spans: [span; N] }
     }
 
-    // The text, empty where it isn't of `N` characters.
+    // Returns the text, or the empty text unless it has `N` characters.
     fn text() -> &'static str
         ensures { result.now ≡ punctuation_word K N }
     {
@@ -51,14 +53,14 @@ impl<const K: usize, const N: usize> Punctuation<K, N> {
 }
 
 impl<const K: usize> Punctuation<K, 1> {
-    /// The span of the one character.
+    /// Returns the span of the one character.
     pub fn span(&self) -> Span
         ensures { self.now.spans ≡ result ∷ [] }
     {
         self.spans[0]
     }
 
-    /// Puts the one character at another span.
+    /// Replaces the span of the one character.
     pub fn set_span(&mut self, span: Span)
         ensures { self.new.spans ≡ span ∷ [] }
     {
@@ -95,7 +97,7 @@ impl<const K: usize, const N: usize> ToTokens for Punctuation<K, N> {
     }
 }
 
-/// At the call site.
+/// Creates the punctuation at the call site.
 impl<const K: usize, const N: usize> Default for Punctuation<K, N> {
     ghost is_default = { λ p. p.spans ≡ replicate N call_site };
 
@@ -104,7 +106,7 @@ impl<const K: usize, const N: usize> Default for Punctuation<K, N> {
     }
 }
 
-/// As `Token![::]`.
+/// Writes `Token![::]` for the punctuation `::`.
 impl<const K: usize, const N: usize> Debug for Punctuation<K, N> {
     fn fmt<W: Write>(&self, f: &mut Formatter<W>) -> fmt::Result {
         write!(f, "Token![{}]", Self::text())

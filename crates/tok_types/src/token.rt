@@ -1,5 +1,14 @@
-//! Tokens of Rust source by their names: `token::Fn` is the keyword `fn`, `token::PathSep` the punctuation `::`. Bring
-//! the module in, not its items: `Box`, `Eq`, `Fn` and others of these names are std's too.
+//! Tokens by name: `token::Fn` is the keyword `fn`, and `token::PathSep` the punctuation `::`.
+//!
+//! Import the module, not its items: `Box`, `Eq`, `Fn` and others are also names of std.
+//!
+//! # Examples
+//!
+//! ```rust
+//! let buffer = TokenBuffer::from_text(alloc, 0, 0, "fn a::b")?;
+//! assert_eq!(rt; token::Fn::peek(buffer.begin()), true);
+//! assert_eq!(rt; token::PathSep::display(), "`::`");
+//! ```
 pub mod printing;
 
 pub use crate::delimiter::{Group, Visible};

@@ -1,4 +1,4 @@
-// Looks at trees, lifetimes and the end.
+//! What to look for beside tokens by name: leaves, groups, trees, lifetimes and the end.
 ghost use Rattle.std.specs.Prelude.{◌≡◌, codes, Some};
 ghost use Rattle.tok_buffer.specs.Place.{is_at_end};
 ghost use Rattle.tok_buffer.specs.Reads.{any_text, is_group, read_ident, read_lifetime, read_literal, read_punct, read_tree, read_word, read_if};
@@ -11,14 +11,14 @@ use crate::texts::accept_as_ident;
 use tok_buffer::{Cursor, Lifetime};
 use tok_core::{Group, Ident, Literal, Punct, TokenTree};
 
-/// The end of what a stream is read to: of the whole text, or of a group's content.
+/// The end of a stream's scope: of the whole text, or of a group's contents.
 #[derive(Clone, Copy)]
 pub struct End;
 
-/// An identifier of any text, also of those that `accept_as_ident` refuses.
+/// An identifier of any text, reserved words included.
 pub struct IdentAny;
 
-/// An identifier that is no reserved word.
+/// Finds an identifier that is no reserved word.
 impl Token for Ident {
     ghost peeks = { Finds (read_word accept_as_ident) };
 
@@ -54,7 +54,7 @@ impl Token for IdentAny {
     }
 }
 
-/// A lifetime of any name.
+/// Finds a lifetime of any name.
 impl Token for Lifetime {
     ghost peeks = { Finds (read_lifetime any_text) };
 
@@ -85,7 +85,7 @@ impl Token for Literal {
     }
 }
 
-/// A punct other than an apostrophe.
+/// Finds a punct other than an apostrophe.
 impl Token for Punct {
     ghost peeks = { Finds read_punct };
 
@@ -102,7 +102,7 @@ impl Token for Punct {
     }
 }
 
-/// A group in front, visible or not: no invisible group is entered to find one.
+/// Finds a group, visible or not, if it is the very next tree. No invisible group is entered.
 impl Token for Group {
     ghost peeks = { Finds (read_if is_group) };
 
@@ -117,7 +117,7 @@ impl Token for Group {
     }
 }
 
-/// Any tree in front, an invisible group too.
+/// Finds any tree, an invisible group included.
 impl Token for TokenTree {
     ghost peeks = { Finds read_tree };
 
@@ -132,7 +132,9 @@ impl Token for TokenTree {
     }
 }
 
-/// Nothing is left, not even an empty invisible group. A refusal puts the scope's closing delimiter for its display.
+/// Finds the end. An empty invisible group is not the end.
+///
+/// A lookahead's error names the scope's closing delimiter instead of this display.
 impl Token for End {
     ghost peeks = { λ p found. found ≡ is_at_end p };
 

@@ -1,4 +1,4 @@
-// The underscore.
+//! The underscore.
 ghost use Rattle.std.specs.Prelude.{◌≡◌, [], ◌∷◌, codes, Some};
 ghost use Rattle.tok_leaves.specs.Spans.{call_site};
 ghost use Rattle.tok_buffer.specs.Reads.{read_keyword};
@@ -13,7 +13,9 @@ use std::fmt::{self, Debug, Formatter, Write};
 use tok_buffer::Cursor;
 use tok_core::{Span, ToTokens, TokenStream};
 
-/// `_`, which is an identifier among trees and has a type of its own here. All values are equal.
+/// The token `_`. Among trees it is an identifier; here it has its own type.
+///
+/// All values are equal.
 #[derive(Clone, Copy)]
 #[derive_where(PartialEq, Eq, Hash)]
 pub struct Underscore {
@@ -22,28 +24,28 @@ pub struct Underscore {
 }
 
 impl Underscore {
-    /// An underscore with its span.
+    /// Creates an underscore. `spans` has the span of its one character.
     pub fn new(spans: [Span; 1]) -> Self
         ensures { result.spans ≡ spans }
     {
         Underscore { spans }
     }
 
-    /// An underscore at this span.
+    /// Creates an underscore at `span`.
     pub fn from_span(span: Span) -> Self
         ensures { result.spans ≡ span ∷ [] }
     {
         Underscore { spans: [span] }
     }
 
-    /// Where it is.
+    /// Returns the span.
     pub fn span(&self) -> Span
         ensures { self.now.spans ≡ result ∷ [] }
     {
         self.spans[0]
     }
 
-    /// Puts it at another span.
+    /// Replaces the span.
     pub fn set_span(&mut self, span: Span)
         ensures { self.new.spans ≡ span ∷ [] }
     {
@@ -76,7 +78,7 @@ impl ToTokens for Underscore {
     }
 }
 
-/// At the call site.
+/// Creates an underscore at the call site.
 impl Default for Underscore {
     ghost is_default = { λ u. u.spans ≡ call_site ∷ [] };
 
@@ -85,7 +87,7 @@ impl Default for Underscore {
     }
 }
 
-/// As `Token![_]`.
+/// Writes `Token![_]`.
 impl Debug for Underscore {
     fn fmt<W: Write>(&self, f: &mut Formatter<W>) -> fmt::Result {
         f.write_str("Token![_]")

@@ -1,4 +1,4 @@
-// Reads a marked text and commands from standard input, and prints the report of replaying them.
+//! Reads a marked text and commands from standard input, and prints the report of replaying them.
 #![tactic(auto)]
 
 use std::process::ExitCode;

@@ -1,9 +1,9 @@
-// Stored cases, one after another.
+//! Stored cases, in one file.
 ghost use Rattle.std.specs.Prelude.{◌<◌, IfSome, length};
 
 use std::str::from_utf8;
 
-// One run of the program: what it is given, what it must write, and its status.
+/// A run of the program: its input, the output that it must write, and its status.
 #[derive(Clone, Copy)]
 pub struct Case<'a> {
     pub name: &'a str,
@@ -12,8 +12,10 @@ pub struct Case<'a> {
     pub status: u8,
 }
 
-// The first case, and what follows it. A case is the line `case NAME INPUT OUTPUT STATUS`, in which two lengths
-// stand, and then the bytes of the input and of the output.
+/// Splits off the first case.
+///
+/// A case is the line `case NAME INPUT OUTPUT STATUS`, with two lengths in bytes, and then the
+/// bytes of the input and of the output.
 pub fn first_case(bytes: &[u8]) -> Option<(Case<'_>, &[u8])>
     ensures shorter { IfSome result (λ p. length p.1.now < length bytes.now) }
 {

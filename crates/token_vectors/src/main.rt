@@ -1,4 +1,5 @@
-// Runs the stored cases through `serve` in memory. A case that fails is named, and the last line counts them.
+//! Runs the stored cases through `serve` in memory. It names each case that fails, and the last
+//! line counts them.
 #![tactic(auto)]
 
 mod case;
@@ -32,7 +33,7 @@ fn main(rt: HostRuntime) -> Result<()> {
     Ok(())
 }
 
-// Whether the program writes the case's output, all of it, and ends with its status.
+// Returns `true` if the program writes all of the case's output and ends with its status.
 fn passes(alloc: Global, case: &Case<'_>) -> bool {
     let mut input = case.input;
     let mut output = Vec::new(alloc);

@@ -1,10 +1,10 @@
 //! The parsers of `examples::entry` and `examples::setting`.
-use test_outcomes::{Sample, all_said, is_said};
 use examples::entry::{Call, Entry, Pair, parse_entry, parse_entry_both, parse_entry_text};
 use examples::setting::{Field, Flag, read_setting};
 use std::alloc::{AllocGlobal, Global};
 use std::process::Abort;
 use syn_parse::{ParseStream, Parser, Result};
+use test_outcomes::{Sample, all_said, is_said};
 use tok_core::lex_marked;
 
 fn whole_pair(input: ParseStream<'_, '_>) -> Result<String> {
@@ -65,7 +65,7 @@ fn reads_pairs_and_calls(rt: HostRuntime) {
     );
 }
 
-// A name, and the value after `=`.
+// Returns a name, and the value after `=`.
 fn whole_setting(input: ParseStream<'_, '_>) -> Result<String> {
     let setting = read_setting(input)?;
     let name = setting.name.as_str();
@@ -93,7 +93,7 @@ fn reads_settings(rt: HostRuntime) {
     );
 }
 
-// Whether a star comes first, and a name.
+// Returns whether a star comes first, and a name.
 fn whole_flag(input: ParseStream<'_, '_>) -> Result<String> {
     let flag: Flag = input.parse()?;
     let has_star = flag.star.is_some();
@@ -127,7 +127,7 @@ fn reads_flags_and_fields(rt: HostRuntime) {
     );
 }
 
-// An entry as text, or its error.
+// Returns an entry as text, or its error.
 fn entry_text(alloc: Global, outcome: Result<Entry>) -> Result<String> {
     let entry = outcome?;
     let name = entry.name.as_str();
@@ -140,7 +140,7 @@ fn is_entry(alloc: Global, outcome: Result<Entry>, wanted: &str) -> bool {
     is_said(alloc, entry_text(alloc, outcome), wanted)
 }
 
-// Whether a text is this entry, or is rejected so.
+// Returns `true` if a text is this entry, or is rejected so.
 fn is_entry_text(alloc: Global, text: &str, wanted: &str) -> bool {
     is_entry(alloc, parse_entry_text(alloc, text), wanted)
 }
@@ -176,7 +176,7 @@ fn reads_entries(rt: HostRuntime) {
     );
 }
 
-// Whether two texts are these entries, or are rejected so.
+// Returns `true` if two texts are these entries, or are rejected so.
 fn are_entries(alloc: Global, left: &str, right: &str, wanted: (&str, &str)) -> Option<bool> {
     let left = lex_marked(alloc, 0, left).ok()?;
     let right = lex_marked(alloc, 0, right).ok()?;

@@ -1,12 +1,12 @@
 //! The parsers of `examples::streams` and `examples::lists`.
-use test_outcomes::{Sample, all_said};
 use examples::lists::{names, parse_items};
 use examples::streams::{Item, Kind, count_names, next_kind, next_tree, optional_field};
 use std::alloc::Global;
 use syn_parse::{ParseStream, Parser, Result};
+use test_outcomes::{Sample, all_said};
 use tok_core::TokenStream;
 
-// The name of an item, and the number of its fields.
+// Returns the name of an item, and the number of its fields.
 fn whole_item(input: ParseStream<'_, '_>) -> Result<String> {
     let item: Item = input.parse()?;
     let count = item.fields.len();
@@ -61,7 +61,7 @@ fn kind_of_next(input: ParseStream<'_, '_>) -> Result<String> {
     Ok(format!(in input.allocator(); "{}", kind_text(kind))?)
 }
 
-// A tree, a field, and no field after it.
+// Parses a tree, a field, and no field after it.
 fn tree_and_field(input: ParseStream<'_, '_>) -> Result<String> {
     let _ = next_tree(input)?;
     let is_first = optional_field(input)?.is_some();

@@ -29,14 +29,14 @@ fn rare_list(alloc: Global, values: &[u32]) -> Option<Punctuated<Rare, Mark>> {
     Some(list)
 }
 
-// Whether the copy of the list is equal to it, if it is made.
+// Returns whether the copy of the list is equal to it, if it is made.
 fn list_alike(alloc: Global, values: &[u32]) -> Option<bool> {
     let list = rare_list(alloc, values)?;
     let copy = list.clone().ok()?;
     Some(copy == list)
 }
 
-// How many pairs the copy of the list's pairs has, if it is made.
+// Counts the pairs in the copy of the list's pairs, if it is made.
 fn pairs_copied(alloc: Global, values: &[u32]) -> Option<usize> {
     let pairs = rare_list(alloc, values)?.into_pairs();
     let copy = pairs.clone().ok()?;
@@ -47,7 +47,7 @@ fn copied(pair: Pair<&Rare, &Mark>) -> Option<u32> {
     Some(pair.cloned().ok()?.into_value().0)
 }
 
-// Whether each pair is copied, or fails to be if its value is 13.
+// Returns `true` if each pair is copied, or fails to be if its value is 13.
 fn are_pairs_copied(alloc: Global, values: &[u32]) -> Option<bool> {
     let list = rare_list(alloc, values)?;
     let mut is_right = true;

@@ -14,8 +14,8 @@ enum End {
     Back,
 }
 
-// An iterator over the values or the pairs of a list of numbers. One that lends them to be written adds three to each value
-// that it yields, and makes each separator a plus.
+// An iterator over the values or the pairs of a list of numbers. One for writing adds three to each
+// value that it yields, and makes each separator a plus.
 trait Items {
     fn take(&mut self, end: End) -> Parts;
 
@@ -146,7 +146,7 @@ impl Items for IntoPairs<u32, Mark> {
 // An end, the item that is taken there, and how many are left then.
 type Step = (End, Parts, usize);
 
-// Whether so many items are left at first, and the steps are as wanted.
+// Returns `true` if so many items are left at first, and the steps are as wanted.
 fn takes<I: Items>(items: &mut I, count: usize, steps: &[Step]) -> bool {
     let mut is_right = items.left() == (count, (count, Some(count)));
     for (end, wanted, left) in steps {
@@ -156,8 +156,8 @@ fn takes<I: Items>(items: &mut I, count: usize, steps: &[Step]) -> bool {
     is_right
 }
 
-// The list, how many items it has, the steps before the iterator is cloned, how many are left then, and the steps of the
-// iterator and of its copy.
+// The list, how many items it has, the steps before the iterator is cloned, how many are left then,
+// and the steps of the iterator and of its copy.
 type Row<'a> = (&'a str, usize, &'a [Step], usize, &'a [Step], &'a [Step]);
 
 fn values(alloc: Global, row: &Row<'_>) -> Option<bool> {
@@ -280,7 +280,7 @@ fn yields_pairs_from_both_ends(rt: HostRuntime) {
     );
 }
 
-// Whether the list is written so after the steps.
+// Takes the steps. Returns whether they are as wanted, and whether the list then has this text.
 fn written_values(alloc: Global, text: &str, steps: &[Step], after: &str) -> Option<(bool, bool)> {
     let mut list = numbers(alloc, text)?;
     let count = list.len();
@@ -321,7 +321,7 @@ fn lends_pairs_to_write(rt: HostRuntime) {
     all_written_pairs(&rt, &[("2,3;3", &ends, "5+3;6")]);
 }
 
-// The sum of the values, after one is added to each.
+// Adds one to each value, and returns their sum.
 fn sum(alloc: Global, text: &str) -> Option<u32> {
     let mut list = numbers(alloc, text)?;
     for value in &mut list {
@@ -345,7 +345,7 @@ fn goes_over_values(rt: HostRuntime) {
     all_sums(&rt, &[("2,3;4", 12)]);
 }
 
-// The values of any list, counted one by one.
+// Counts the values of any list one by one.
 fn count<T, P>(list: &Punctuated<T, P>) -> usize
     ensures { result ≡ length (values_of list.now) }
 {

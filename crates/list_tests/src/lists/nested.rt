@@ -17,7 +17,7 @@ enum Value {
     List(Punctuated<Argument, char>),
 }
 
-// Whether the argument or one inside it has the name.
+// Returns `true` if the argument or one inside it has the name.
 fn has(argument: &Argument, name: u32) -> bool {
     if argument.name == name {
         return true;
@@ -42,7 +42,7 @@ fn flag(name: u32) -> Argument {
     }
 }
 
-// An argument of this name, and arguments inside it.
+// Returns an argument of this name, with arguments inside it.
 fn nested(alloc: Global, name: u32, inside: &[u32]) -> Option<Argument> {
     let mut list = Punctuated::new(alloc);
     for name in inside {
@@ -70,7 +70,7 @@ fn finds_what_lies_within(rt: HostRuntime) {
     all_found(&rt, &[(1, true), (3, true), (4, false)]);
 }
 
-// Whether the argument is equal to one with these arguments inside, and to a flag.
+// Returns whether the argument is equal to one with these arguments inside, and to a flag.
 fn compared(alloc: Global, inside: &[u32]) -> Option<[bool; 2]> {
     let argument = nested(alloc, 1, &[2, 3])?;
     let other = nested(alloc, 1, inside)?;
@@ -116,7 +116,7 @@ fn push_list(alloc: Global, lists: &mut Lists, count: u32) -> Option<()> {
     lists.push(list).ok()
 }
 
-// Lists of one, two and three values.
+// Returns lists of one, two and three values.
 fn lists(alloc: Global) -> Option<Lists> {
     let mut lists = Punctuated::new(alloc);
     for count in 1..4 {
@@ -125,7 +125,7 @@ fn lists(alloc: Global) -> Option<Lists> {
     Some(lists)
 }
 
-// How long the last list is, and how many lists there are, without those of this length.
+// Removes the lists of this length. Returns the length of the last one, and how many are left.
 fn without(alloc: Global, len: usize) -> Option<(Option<usize>, usize)> {
     let mut lists = lists(alloc)?;
     lists.retain(|list| list.len() != len);

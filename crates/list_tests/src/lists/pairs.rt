@@ -18,7 +18,7 @@ fn mark_of(mark: Option<&Mark>) -> Option<char> {
     }
 }
 
-// Whether `new` makes this pair.
+// Returns `true` if `new` makes this pair.
 fn is_made(value: u32, mark: Option<char>) -> bool {
     let made = match mark {
         Some(mark) => Pair::new(value, Some(Mark(mark))),
@@ -27,7 +27,7 @@ fn is_made(value: u32, mark: Option<char>) -> bool {
     made == pair_of(value, mark)
 }
 
-// The pair with this value, and with this separator if it has one.
+// Returns the pair with this value, and with this separator if it has one.
 fn written(value: u32, mark: Option<char>, to: (u32, char)) -> Pair<u32, Mark> {
     let mut pair = pair_of(value, mark);
     *pair.value_mut() = to.0;
@@ -55,7 +55,7 @@ fn is_cloned(pair: Pair<u32, Mark>) -> Option<bool> {
     Some(pair.clone().ok()? == pair)
 }
 
-// Whether the copy of a lent pair is this pair.
+// Returns `true` if the copy of a lent pair is this pair.
 fn is_copied(value: u32, mark: Option<char>) -> Option<bool> {
     let copy = match mark {
         Some(mark) => Pair::Punctuated(&value, &Mark(mark)).cloned().ok()?,

@@ -7,7 +7,7 @@ use std::process::Abort;
 use syn_punctuated::{Pair, Punctuated};
 use tok_core::{Delimiter, Group, Span, ToTokens, TokenStream};
 
-// A group that finds no memory if it is invisible.
+// A group whose allocation fails if it is invisible.
 #[derive(Drop)]
 struct Mark(Group);
 
@@ -60,7 +60,7 @@ fn is_text(alloc: Global, tokens: &TokenStream, wanted: &str) -> Option<bool> {
     Some(text.as_str() == wanted && tokens.is_empty() == wanted.is_empty())
 }
 
-// Whether the list is written so as a stream of its own.
+// Returns `true` if the list is written so as a stream of its own.
 fn is_stream(alloc: Global, delimiters: &[Delimiter], wanted: &str) -> Option<bool> {
     let tokens = marks(alloc, delimiters)?.to_token_stream(alloc).ok()?;
     is_text(alloc, &tokens, wanted)
@@ -96,7 +96,7 @@ fn writes_a_pair(rt: HostRuntime) {
     all_pair_streams(&rt, &[(Delimiter::Brace, "{} []")]);
 }
 
-// Whether each of two pairs is written, the second without a separator.
+// Returns whether each of two pairs is written, the second without a separator.
 fn write_pairs(
     alloc: Global,
     tokens: &mut TokenStream,
@@ -113,8 +113,8 @@ fn write_list(alloc: Global, tokens: &mut TokenStream, delimiters: &[Delimiter])
     Some(marks(alloc, delimiters)?.to_tokens(tokens).is_ok())
 }
 
-// Writes braces, a list, and then a pair in braces and one in parentheses. Returns whether the list was written and whether
-// the pairs were, and whether the tokens are then these.
+// Writes braces, a list, and then a pair in braces and one in parentheses. Returns whether the list
+// was written and whether the pairs were, and whether the tokens are then these.
 fn written(
     alloc: Global,
     delimiters: &[Delimiter],
@@ -133,7 +133,7 @@ fn all_written(rt: &(impl Abort + AllocGlobal), rows: &[(&[Delimiter], bool, &st
     }
 }
 
-// A list of which a value fails to be written leaves what came before.
+// If a value fails to be written, what came before stays.
 #[test]
 fn writes_after_what_is_there(rt: HostRuntime) {
     let whole = [Delimiter::Parenthesis, Delimiter::Brace, Delimiter::Brace];

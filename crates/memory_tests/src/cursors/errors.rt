@@ -6,7 +6,7 @@ use std::alloc::{AllocError, Global};
 use tok_buffer::{Cursor, Error};
 use tok_core::{Ident, LexFault, Span, lex};
 
-/// Each of those that need no cursor.
+/// Makes the calls that need no cursor.
 pub fn calls(alloc: Global) -> Outcome {
     worst(&[
         new(alloc),
@@ -32,7 +32,7 @@ fn compile_errors(alloc: Global) -> Outcome {
     ])
 }
 
-/// Errors at the front of `(a)`, and at an end.
+/// Makes errors at the start of `(a)`, and at an end.
 pub fn at_cursors(alloc: Global, begin: Cursor<'_>) -> Outcome {
     let end = begin.skip().ok_or(Stop::Wrong("Cursor::skip"))?;
     worst(&[
@@ -46,12 +46,12 @@ fn point(position: usize) -> Span {
     at(position, position)
 }
 
-// An error of one message, `x`.
+// Returns an error of one message, `x`.
 fn one(alloc: Global, position: usize) -> Result<Error, AllocError> {
     Error::new(alloc, point(position), "x")
 }
 
-// An error of such messages.
+// Returns an error of these messages.
 fn several(alloc: Global, first: usize, others: &[usize]) -> Result<Error, AllocError> {
     let mut error = one(alloc, first)?;
     for position in others {
@@ -60,7 +60,7 @@ fn several(alloc: Global, first: usize, others: &[usize]) -> Result<Error, Alloc
     Ok(error)
 }
 
-// How many messages it has, if they are the first of those at these positions.
+// Counts the messages, if they are the first of those at these positions.
 fn count(error: Error, positions: &[usize]) -> Option<usize> {
     let mut count = 0usize;
     for message in error {
@@ -127,7 +127,7 @@ fn new_at(alloc: Global, cursor: Cursor<'_>) -> Outcome {
     }
 }
 
-// Refused, it leaves the error as it was.
+// If the allocation fails, the error is unchanged.
 fn combine(alloc: Global) -> Outcome {
     let mut error = one(alloc, 1)?;
     let answer = error.combine(one(alloc, 2)?);
@@ -135,7 +135,7 @@ fn combine(alloc: Global) -> Outcome {
     stands(answer, count == Some(2), count == Some(1), "Error::combine")
 }
 
-// Both of these ask for room: refused, they leave what came before.
+// Both of these allocate: if that fails, the messages before them stay.
 fn extend(alloc: Global) -> Outcome {
     let mut error = one(alloc, 1)?;
     let others = [one(alloc, 2)?, several(alloc, 3, &[4, 5, 6])?];
@@ -149,7 +149,7 @@ fn clone(error: &Error) -> Outcome {
     expect(count(error.clone()?, &[1, 2]) == Some(2), "Error::clone")
 }
 
-// A copy that fails is returned as an error, and the next one comes.
+// A copy that fails is yielded as an error, and the next one comes.
 fn lent(error: &Error) -> Outcome {
     let mut positions = [1, 2].as_slice();
     let mut copied = Ok(());

@@ -4,7 +4,7 @@ use std::alloc::Global;
 use tok_buffer::Lifetime;
 use tok_core::{Punct, Spacing, Span, ToTokens, TokenStream, TokenTree};
 
-/// Each of them.
+/// Makes each call.
 pub fn calls(alloc: Global) -> Outcome {
     let lifetime = Lifetime::new(alloc, "'a", Span::call_site())?;
     expect(shows(&lifetime, "'a"), "Lifetime::new")?;
@@ -26,7 +26,7 @@ fn clone(lifetime: &Lifetime) -> Outcome {
     expect(shows(&lifetime.clone()?, "'a"), "Lifetime::clone")
 }
 
-// Three puncts, with room for one tree more.
+// Returns three puncts, with room for one more tree.
 fn puncts(alloc: Global) -> Result<TokenStream, Stop> {
     let mut tokens = TokenStream::new(alloc);
     for _ in 0..3 {
@@ -36,7 +36,7 @@ fn puncts(alloc: Global) -> Result<TokenStream, Stop> {
     Ok(tokens)
 }
 
-// Refused, it leaves what it has written: nothing, or the apostrophe.
+// If an allocation fails, what was written stays: nothing, or the apostrophe.
 fn to_tokens(alloc: Global, lifetime: &Lifetime) -> Outcome {
     let mut tokens = puncts(alloc)?;
     let answer = lifetime.to_tokens(&mut tokens);

@@ -1,4 +1,5 @@
-//! Calls that take no memory. `tests/refuse_memory` counts the requests: those that lay the tokens out, and no other.
+//! Calls that don't allocate. `tests/refuse_memory` counts the allocations: those that lay the
+//! tokens out, and no others.
 use super::laid;
 use crate::outcome::{Outcome, Stop, expect, worst};
 use std::alloc::Global;
@@ -63,7 +64,7 @@ fn peeks(input: &ParseBuffer<'_>) -> Outcome {
     expect(right == [true; 5], "peek")
 }
 
-// A fork reads, and one is let go.
+// One fork reads, and one is discarded.
 fn forks(input: ParseStream<'_, '_>) -> Outcome {
     let mut fork = input.fork();
     let is_read = fork.parse::<token::Fn>().is_ok();

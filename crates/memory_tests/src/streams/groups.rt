@@ -1,4 +1,4 @@
-//! Groups, refusals in words of one's own, and the end of a stream.
+//! Groups, errors in the caller's words, and the end of a stream.
 use super::own::{InAny, InBraces, InBrackets, InGroup, InParens, Refused, StepRefused, Within};
 use super::{laid, refuses};
 use crate::outcome::{Outcome, Stop, expect, shows, worst};
@@ -6,7 +6,7 @@ use std::alloc::Global;
 use syn_parse::{Fault, Result, tokens_to_parse_buffer};
 use tok_core::{DelimSpan, Delimiter, Ident, Span};
 
-/// Each of their calls.
+/// Makes each call.
 pub fn calls(alloc: Global) -> Outcome {
     let end = "unexpected end of input, own words";
     worst(&[
@@ -24,7 +24,7 @@ pub fn calls(alloc: Global) -> Outcome {
     ])
 }
 
-// The content is closed, whether the identifier in it is read or not.
+// The group is closed, whether or not its identifier is parsed.
 fn closed(found: Result<(DelimSpan, Ident)>, is_empty: bool, call: &'static str) -> Outcome {
     expect(is_empty, call)?;
     match found {

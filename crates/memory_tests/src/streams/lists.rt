@@ -30,7 +30,8 @@ impl Parse for ByStream {
     }
 }
 
-/// By `Punctuated::parse_separated_nonempty`, and so by `Punctuated::parse_separated_nonempty_with`.
+/// By `Punctuated::parse_separated_nonempty`, and so by
+/// `Punctuated::parse_separated_nonempty_with`.
 #[derive(Drop)]
 struct Separated(Names);
 
@@ -50,7 +51,7 @@ impl Parse for Stuck {
     }
 }
 
-/// Each of them.
+/// Makes each call.
 pub fn calls(alloc: Global) -> Outcome {
     worst(&[
         reads::<Terminated>(alloc, "Punctuated::parse_terminated"),
@@ -60,7 +61,7 @@ pub fn calls(alloc: Global) -> Outcome {
     ])
 }
 
-// A list of all names. Where memory is refused the stream is after those that were read.
+// Parses a list of all names. If an allocation fails, the stream is after those that were parsed.
 fn reads<T: Parse + Drop>(alloc: Global, call: &'static str) -> Outcome {
     let buffer = laid(alloc, "a, b")?;
     let mut input = tokens_to_parse_buffer(alloc, &buffer, Span::call_site());
@@ -79,7 +80,7 @@ fn reads<T: Parse + Drop>(alloc: Global, call: &'static str) -> Outcome {
     }
 }
 
-// The refusal of a turn that makes no progress.
+// Expects the error of a turn that makes no progress.
 fn makes_no_progress(alloc: Global) -> Outcome {
     let buffer = laid(alloc, "a")?;
     let mut input = tokens_to_parse_buffer(alloc, &buffer, Span::call_site());

@@ -6,7 +6,7 @@ use syn_parse::{Fault, Lookahead1, tokens_to_parse_buffer};
 use tok_core::Span;
 use tok_types::token;
 
-/// Each of their calls. What was noted before a refused peek stays noted.
+/// Makes each call. What was recorded before a failed peek stays.
 pub fn calls(alloc: Global) -> Outcome {
     let buffer = laid(alloc, "a")?;
     let input = tokens_to_parse_buffer(alloc, &buffer, Span::call_site());

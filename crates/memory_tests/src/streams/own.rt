@@ -1,4 +1,4 @@
-//! Types that are parsed by the calls that no type of the crates below is.
+//! Types whose parsers make the calls that no library type's parser makes.
 use syn_parse::{
     Braces, Brackets, Group, IdentExt, LifetimeExt, Parens, Parse, ParseStream, Result,
     parse_braces, parse_brackets, parse_group, parse_parens, parsing,
@@ -117,7 +117,7 @@ impl Parse for Within {
     }
 }
 
-/// Refused by `ParseBuffer::error`.
+/// Rejected by `ParseBuffer::error`.
 #[derive(Clone, Copy)]
 pub struct Refused;
 
@@ -127,7 +127,7 @@ impl Parse for Refused {
     }
 }
 
-/// Refused by `StepCursor::error`.
+/// Rejected by `StepCursor::error`.
 #[derive(Clone, Copy)]
 pub struct StepRefused;
 

@@ -4,7 +4,7 @@ use std::alloc::Global;
 use syn_parse::{Fault, ParseStream, Parser, Result, parse_both, parse_source, parse_str, parse2};
 use tok_core::{Edition, Ident, Span, lex};
 
-/// Each of their calls.
+/// Makes each call.
 pub fn calls(alloc: Global) -> Outcome {
     let text = named(name.parse_str(alloc, "a"), "parse_str");
     let unread = refused(name.parse_str(alloc, "1.0"), "float literal", "parse_str");
@@ -68,7 +68,7 @@ fn sources(alloc: Global) -> Outcome {
     worst(&[source, of_type, unread])
 }
 
-// The same by the parser of a type.
+// Checks the parser of a type.
 fn of_type(alloc: Global) -> Outcome {
     let text = named(parse_str::<Ident>(alloc, "a"), "parse_str");
     let unread = refused(
@@ -88,7 +88,7 @@ fn whole(alloc: Global) -> Outcome {
     named(parse2::<Ident>(alloc, lex(alloc, 0, "a")?), "parse2")
 }
 
-// If one of the two finds no memory, the other one is parsed all the same.
+// If an allocation fails for one of the two, the other is parsed all the same.
 fn both(alloc: Global) -> Outcome {
     let left = lex(alloc, 0, "a")?;
     let right = lex(alloc, 0, "a b")?;

@@ -1,13 +1,13 @@
 //! Parsers that read nothing, go to the empty cursor, or swap their stream.
-use test_outcomes::{Sample, all_said, is_read, read};
 use std::alloc::{AllocGlobal, Global};
 use std::process::Abort;
 use syn_parse::{Parse, ParseStream, Parser, Result, tokens_to_parse_buffer};
+use test_outcomes::{Sample, all_said, is_read, read};
 use tok_buffer::{Cursor, TokenBuffer};
 use tok_core::{Delimiter, Ident, Span, TokenStream, lex};
 use tok_types::token::Token;
 
-// A step to its own cursor, and whether it stayed.
+// Steps to the stream's own cursor, and returns whether it stayed.
 fn stays(input: ParseStream<'_, '_>) -> Result<String> {
     let start = input.cursor();
     input.step(|from| Ok(((), from.cursor())))?;
@@ -16,7 +16,8 @@ fn stays(input: ParseStream<'_, '_>) -> Result<String> {
     Ok(format!(in input.allocator(); "{stayed}")?)
 }
 
-// A step to the empty cursor, and whether the stream is empty there and has the span of its scope.
+// Steps to the empty cursor, and returns whether the stream is empty there and has the span of its
+// scope.
 fn ends(input: ParseStream<'_, '_>) -> Result<String> {
     input.step(|_| Ok(((), Cursor::empty())))?;
     let has_ended = input.is_empty() && input.span() == Span::call_site();
@@ -87,7 +88,8 @@ pub fn laid(alloc: Global, number: u64, text: &str) -> Option<TokenBuffer> {
     TokenBuffer::new2(alloc, number, tokens).ok()
 }
 
-// Whether a name is read of a second text that is swapped into a group of the first, and this error is left.
+// Returns `true` if a name is parsed in a second text that is swapped into a group of the first,
+// and this error is left.
 fn closes_a_swap(alloc: Global, first: &str, second: &str, wanted: &str) -> bool {
     let (Some(buffer), Some(other)) = (laid(alloc, 0, first), laid(alloc, 9, second)) else {
         return false;

@@ -1,10 +1,11 @@
-//! The list parsers, with parsers that read nothing, go back or put another stream in the place of theirs.
+//! The list parsers, with parsers that read nothing, go back or put another stream in the place of
+//! theirs.
 use super::hostile::laid;
-use test_outcomes::{Sample, all_said, is_read};
 use std::alloc::{AllocGlobal, Global};
 use std::process::Abort;
 use syn_parse::{Nothing, Parse, ParseStream, Parser, Paused, Result, tokens_to_parse_buffer};
 use syn_punctuated::{ParseTerminated, Punctuated};
+use test_outcomes::{Sample, all_said, is_read};
 use tok_buffer::Cursor;
 use tok_core::{Ident, Span, TokenStream};
 use tok_types::token::{self, Token};
@@ -13,7 +14,7 @@ type Names = Punctuated<Ident, token::Comma>;
 
 type Blanks = Punctuated<Nothing, token::Comma>;
 
-// How many names a list has, and whether it ends in a separator.
+// Returns how many names a list has, and whether it ends in a separator.
 fn counted(alloc: Global, list: &Names) -> Result<String> {
     let count = list.len();
     let is_trailing = list.trailing_punct();
@@ -88,7 +89,8 @@ fn nothing_by_nothing(input: ParseStream<'_, '_>) -> Result<String> {
     Ok(String::new(input.allocator()))
 }
 
-// All that is left, and then nothing: the number of values, and of the first one's trees.
+// Parses all that is left, and then nothing. Returns the number of values, and of the first one's
+// trees.
 fn one_rest(input: ParseStream<'_, '_>) -> Result<String> {
     let list: Punctuated<TokenStream, Nothing> = Punctuated::parse_terminated(input)?;
     let count = list.len();
@@ -139,7 +141,7 @@ fn parsers_that_read_nothing(rt: HostRuntime) {
     );
 }
 
-// Moves to where a stream at rest is, if that is in the same scope.
+// Moves to the place of a paused stream, if that is in the same scope.
 fn go_to<'a>(stream: ParseStream<'_, 'a>, place: Paused<'a>) {
     let fork = place.resume();
     if stream.cursor().same_scope(fork.cursor()) {
@@ -149,7 +151,7 @@ fn go_to<'a>(stream: ParseStream<'_, 'a>, place: Paused<'a>) {
     }
 }
 
-// Nothing between commas, each time from the start.
+// Parses nothing between commas, each time from the start.
 fn from_start(input: ParseStream<'_, '_>) -> Result<String> {
     let start = input.fork().pause();
     let _: Blanks = Punctuated::parse_terminated_with(input, move |stream| {
@@ -175,7 +177,7 @@ fn put<'a>(stream: ParseStream<'_, 'a>, other: Paused<'a>) {
     copy.discard();
 }
 
-// Nothing between commas, of the other stream each time.
+// Parses nothing between commas, of the other stream each time.
 fn of_another<'a>(input: ParseStream<'_, 'a>, other: Paused<'a>) -> Result<Blanks> {
     Punctuated::parse_terminated_with(input, move |stream| {
         put(stream, other);
@@ -183,7 +185,8 @@ fn of_another<'a>(input: ParseStream<'_, 'a>, other: Paused<'a>) -> Result<Blank
     })
 }
 
-// Whether a list over `a, b` fails at the second token of a stream that is swapped in, and leaves that stream there.
+// Returns `true` if a list over `a, b` fails at the second token of a stream that is swapped in,
+// and leaves that stream there.
 fn fails_by_a_swap(alloc: Global, number: u64, text: &str) -> bool {
     let (Some(first), Some(second)) = (laid(alloc, 0, "a, b"), laid(alloc, number, text)) else {
         return false;

@@ -1,4 +1,4 @@
-// Two streams under one list of commands.
+//! Two streams under one list of commands.
 ghost use Rattle.std.specs.Prelude.{◌≡◌, true, IfOk, map};
 ghost use Rattle.syn_replay.specs.Agree.{ReportsAgree};
 ghost use Rattle.syn_replay.specs.Meanings.{command_of, report_of};
@@ -12,9 +12,22 @@ use crate::session::replay;
 use std::alloc::{AllocError, Global};
 use tok_core::TokenStream;
 
-/// Answers the commands over each of two streams, as `replay` does. Where the streams differ only in invisible groups, none
-/// of which is empty, and each command is transparent, the reports agree: equal answers, equally worded refusals, and
-/// verdicts that both accept, or both refuse at equal spans.
+/// Runs the commands over each of two streams, as `replay` does.
+///
+/// The reports agree (`agree`) if the streams differ only in invisible groups, each of these
+/// contains a visible token, and every command is transparent. Returns an error if an allocation
+/// fails.
+///
+/// # Examples
+///
+/// ```rust
+/// let plain = lex(alloc, 0, "a b")?;
+/// let marked = lex_marked(alloc, 0, "«a» b")?;
+/// let commands = [Command::Parse(0, Kind::Ident), Command::Empty(0)];
+/// assert_eq!(rt; is_transparent(&commands[0]), true);
+/// let (left, right) = replay_both(alloc, plain, marked, &commands)?;
+/// assert_eq!(rt; agree(&left, &right), true);
+/// ```
 pub fn replay_both(
     alloc: Global,
     left: TokenStream,

@@ -1,4 +1,4 @@
-// Pieces and streams compared, spans included.
+//! Comparisons of pieces and streams, spans included.
 ghost use Rattle.std.specs.Prelude.{◌≡◌, ◌↔◌, map, IsTrue};
 ghost use Rattle.tok_core.specs.Seen.{tree_of};
 ghost use Rattle.syn_replay.specs.Meanings.{piece_of, pieces_in};
@@ -13,7 +13,7 @@ fn same_piece(left: &Piece, right: &Piece) -> bool
     left.text.as_str() == right.text.as_str() && left.span == right.span
 }
 
-/// Whether the texts of leaves are the same, one by one.
+/// Returns `true` if the texts of leaves are equal in order. Spans count.
 pub fn same_pieces(left: &[Piece], right: &[Piece]) -> bool
     ensures { IsTrue result ↔ (map piece_of left.now ≡ map piece_of right.now) }
 {
@@ -28,7 +28,7 @@ pub fn same_pieces(left: &[Piece], right: &[Piece]) -> bool
     true
 }
 
-/// Whether the parts of lists are the same, one by one.
+/// Returns `true` if the parts of lists are equal in order.
 pub fn same_parts(left: &[Vec<Piece>], right: &[Vec<Piece>]) -> bool
     ensures { IsTrue result ↔ (map pieces_in left.now ≡ map pieces_in right.now) }
 {
@@ -44,7 +44,7 @@ pub fn same_parts(left: &[Vec<Piece>], right: &[Vec<Piece>]) -> bool
 }
 
 #[cycle(same)]
-/// Whether two streams are equal, spans included.
+/// Returns `true` if two streams are equal, spans included.
 pub fn same_streams(left: &TokenStream, right: &TokenStream) -> bool
     ensures { IsTrue result ↔ (left.now ≡ right.now) }
 {

@@ -1,4 +1,4 @@
-// Commands to which invisible groups do not matter.
+//! Commands to which invisible groups do not matter.
 ghost use Rattle.std.specs.Prelude.{◌≡◌, map};
 ghost use Rattle.syn_replay.specs.Kinds.{ignores_invisible};
 ghost use Rattle.syn_replay.specs.Meanings.{command_of, look_of};
@@ -8,7 +8,7 @@ use crate::command::{Command, Look};
 use tok_core::Delimiter;
 
 impl Look {
-    // Whether invisible groups do not matter to it.
+    // Returns `true` if invisible groups do not matter to a look.
     fn ignores_invisible(self) -> bool
         ensures { result ≡ ignores_invisible (look_of self) }
     {
@@ -32,8 +32,10 @@ fn all_ignore_invisible(looks: &[Look]) -> bool
     true
 }
 
-/// Whether invisible groups do not matter to a command, where none is empty: it shows no span and no whole tree, enters no
-/// invisible group, and looks for none.
+/// Returns `true` if invisible groups that contain a visible token do not matter to the command.
+///
+/// Such a command doesn't ask for a stream's span or a whole tree, and can't enter or find an
+/// invisible group.
 pub fn is_transparent(command: &Command) -> bool
     ensures { result ≡ spec.is_transparent (command_of command.now) }
 {

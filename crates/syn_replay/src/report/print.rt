@@ -1,4 +1,4 @@
-// The printed text of a report.
+//! The text of a report.
 ghost use Rattle.std.specs.Prelude.{◌≡◌, ◌++◌, Some, codes, map};
 ghost use Rattle.std.specs.Fmt.{WritesOnOk};
 ghost use Rattle.std.specs.List.{flat_map};
@@ -58,7 +58,7 @@ impl fmt::Display for Answer {
     }
 }
 
-/// As `Display`.
+/// Writes the text of `Display`.
 impl fmt::Debug for Answer {
     fn fmt<W: Write>(&self, f: &mut Formatter<W>) -> fmt::Result {
         write!(f, "{self}")
@@ -96,7 +96,7 @@ fn write_pieces<W: Write>(f: &mut Formatter<W>, pieces: &Vec<Piece>) -> fmt::Res
     write_more(f, pieces.as_slice())
 }
 
-// Pieces after others.
+// Writes pieces, each after a space.
 fn write_more<W: Write>(f: &mut Formatter<W>, pieces: &[Piece]) -> fmt::Result
     ensures { WritesOnOk W.write_str_gives f.old result
         (flat_map spec.piece_text (map piece_of pieces.now)) f.new }
@@ -109,7 +109,7 @@ fn write_more<W: Write>(f: &mut Formatter<W>, pieces: &[Piece]) -> fmt::Result
     Ok(())
 }
 
-// `list`, and each value and separator in brackets.
+// Writes `list`, and each value and separator in brackets.
 fn write_parts<W: Write>(f: &mut Formatter<W>, parts: &Vec<Vec<Piece>>) -> fmt::Result
     ensures { WritesOnOk W.write_str_gives f.old result
         (codes "list" ++ flat_map spec.part_text (map pieces_in parts.now.items)) f.new }
@@ -138,7 +138,7 @@ fn write_part<W: Write>(f: &mut Formatter<W>, part: &[Piece]) -> fmt::Result
     }
 }
 
-// `trees`, and the text of the trees if there are any.
+// Writes `trees`, and the text of the trees if there are any.
 fn write_trees<W: Write>(f: &mut Formatter<W>, stream: &TokenStream) -> fmt::Result
     ensures { WritesOnOk W.write_str_gives f.old result
         (codes "trees" ++ spec.trees_text stream.now) f.new }
@@ -151,7 +151,7 @@ fn write_trees<W: Write>(f: &mut Formatter<W>, stream: &TokenStream) -> fmt::Res
     }
 }
 
-// `refused`, the span and the words.
+// Writes `refused`, the span and the text.
 fn write_refusal<W: Write>(f: &mut Formatter<W>, error: &Error) -> fmt::Result
     ensures { WritesOnOk W.write_str_gives f.old result
         (spec.refusal_text (refusal_of error.now)) f.new }
@@ -170,7 +170,7 @@ fn write_span<W: Write>(f: &mut Formatter<W>, span: Span) -> fmt::Result
     }
 }
 
-// A part after others: a space parts it from them, and an empty part adds none.
+// Writes a part after a space, or nothing if it is empty.
 fn write_spaced<W: Write>(f: &mut Formatter<W>, part: &str) -> fmt::Result
     ensures { WritesOnOk W.write_str_gives f.old result (spec.spaced part.now) f.new }
 {

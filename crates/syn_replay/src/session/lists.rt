@@ -1,4 +1,4 @@
-// Lists of tokens of one kind.
+//! Lists of tokens of one kind.
 ghost use Rattle.std.specs.Prelude.{◌≡◌, map, IfOk};
 ghost use Rattle.std.specs.List.{flat_map};
 ghost use Rattle.tok_types.specs.Texts.{punctuation_word};
@@ -18,13 +18,13 @@ use tok_types::token::{self, Punctuation};
 /// When a list ends.
 #[derive(Clone, Copy)]
 pub enum Form {
-    // At the stream's end. The last separator may be missing.
+    /// At the stream's end. The last separator may be missing.
     Terminated,
-    // Where no separator is next.
+    /// After a value that no separator follows.
     Separated,
 }
 
-/// Tokens of this kind, with this separator between them.
+/// Parses tokens of this kind, with this separator between them.
 pub fn read(
     input: ParseStream<'_, '_>,
     form: Form,
@@ -42,7 +42,7 @@ pub fn read(
     }
 }
 
-// The separator's type is that of the last argument, and its text is `text`.
+// Parses a list whose separator has the type of the last argument. Its text is `text`.
 fn list_by<const K: usize, const N: usize>(
     input: ParseStream<'_, '_>,
     form: Form,
@@ -62,7 +62,7 @@ fn list_by<const K: usize, const N: usize>(
     Ok(Answer::List(parts(alloc, text, list)?))
 }
 
-// The values and the separators by turns.
+// Returns the values and the separators in turn.
 fn parts<const K: usize, const N: usize>(
     alloc: Global,
     text: &str,

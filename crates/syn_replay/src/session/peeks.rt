@@ -1,4 +1,4 @@
-// What is in front of a cursor, by looks known only at run time.
+//! Peeks whose kind is known only at run time.
 ghost use Rattle.std.specs.Prelude.{◌≡◌};
 ghost use Rattle.tok_buffer.specs.Cursors.{place_of};
 ghost use Rattle.syn_replay.specs.Meanings.{kind_of, look_of};
@@ -13,7 +13,7 @@ use tok_types::token::{
 use tok_types::{End, IdentAny};
 
 impl Look {
-    /// Whether this is in front.
+    /// Returns `true` if this is the next token.
     pub fn peek(self, cursor: Cursor<'_>) -> bool
         ensures { result ≡ spec.peek (look_of self) (place_of cursor.entry) }
     {
@@ -29,7 +29,7 @@ impl Look {
         }
     }
 
-    /// Whether this comes second.
+    /// Returns `true` if this comes after the next token.
     pub fn peek2(self, cursor: Cursor<'_>) -> bool
         ensures { result ≡ spec.peek2 (look_of self) (place_of cursor.entry) }
     {
@@ -39,7 +39,7 @@ impl Look {
         }
     }
 
-    /// Whether this comes third.
+    /// Returns `true` if this comes after the next two tokens.
     pub fn peek3(self, cursor: Cursor<'_>) -> bool
         ensures { result ≡ spec.peek3 (look_of self) (place_of cursor.entry) }
     {
@@ -49,7 +49,7 @@ impl Look {
         }
     }
 
-    /// How a lookahead names it.
+    /// Returns its name in the error of a lookahead.
     pub fn display(self) -> &'static str
         ensures { result.now ≡ spec.display (look_of self) }
     {
@@ -67,7 +67,7 @@ impl Look {
 }
 
 impl Kind {
-    /// Whether a token of this kind is in front. Of a lifetime any is.
+    /// Returns `true` if the next token is of this kind. A lifetime may have any name.
     pub fn peek(self, cursor: Cursor<'_>) -> bool
         ensures { result ≡ spec.peek_kind (kind_of self) (place_of cursor.entry) }
     {
@@ -83,7 +83,7 @@ impl Kind {
         }
     }
 
-    /// How a lookahead names it.
+    /// Returns its name in the error of a lookahead.
     pub fn display(self) -> &'static str
         ensures { result.now ≡ spec.display_kind (kind_of self) }
     {

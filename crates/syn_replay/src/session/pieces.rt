@@ -1,4 +1,4 @@
-// The leaves that were read, as pieces.
+//! The leaves that were read, as pieces.
 ghost use Rattle.std.specs.Prelude.{◌≡◌, ◌<◌, ◌∷◌, [], length, map, IfOk, encode_utf8, take, string_bytes};
 ghost use Rattle.std.specs.Str.{chars};
 ghost use Rattle.tok_core.specs.Forest.{leaf};
@@ -21,7 +21,7 @@ fn piece(alloc: Global, text: &str, span: Span) -> Result<Piece, AllocError>
     })
 }
 
-/// One piece of this text.
+/// Returns one piece with this text.
 pub fn word(alloc: Global, text: &str, span: Span) -> Result<Vec<Piece>, AllocError>
     ensures { IfOk result
         (λ ps. map piece_of ps.items ≡ record { text = text.now; span = span } ∷ []) }
@@ -31,19 +31,21 @@ pub fn word(alloc: Global, text: &str, span: Span) -> Result<Vec<Piece>, AllocEr
     Ok(pieces)
 }
 
+/// Returns the piece of an identifier.
 pub fn ident(alloc: Global, ident: &Ident) -> Result<Vec<Piece>, AllocError>
     ensures { IfOk result (ArePieces (leaf (ident_of ident.now) ∷ [])) }
 {
     word(alloc, ident.as_str(), ident.span())
 }
 
+/// Returns the piece of a literal.
 pub fn literal(alloc: Global, literal: &Literal) -> Result<Vec<Piece>, AllocError>
     ensures { IfOk result (ArePieces (leaf (literal_of literal.now) ∷ [])) }
 {
     word(alloc, literal.as_str(), literal.span())
 }
 
-// One character.
+// Returns the piece of one character.
 fn character(alloc: Global, c: char, span: Span) -> Result<Piece, AllocError>
     ensures { IfOk result (λ p. piece_of p ≡ record { text = encode_utf8 c; span = span }) }
 {
@@ -52,6 +54,7 @@ fn character(alloc: Global, c: char, span: Span) -> Result<Piece, AllocError>
     Ok(Piece { text, span })
 }
 
+/// Returns the piece of a punct.
 pub fn punct(alloc: Global, punct: Punct) -> Result<Vec<Piece>, AllocError>
     ensures { IfOk result (ArePieces (leaf (punct_of punct) ∷ [])) }
 {
@@ -60,7 +63,7 @@ pub fn punct(alloc: Global, punct: Punct) -> Result<Vec<Piece>, AllocError>
     Ok(pieces)
 }
 
-/// A lifetime's apostrophe and its name.
+/// Returns the pieces of a lifetime's apostrophe and of its name.
 pub fn lifetime(alloc: Global, lifetime: &Lifetime) -> Result<Vec<Piece>, AllocError>
     ensures { IfOk result
         (ArePieces (lifetime_trees lifetime.now.apostrophe (ident_of lifetime.now.ident))) }
@@ -71,7 +74,7 @@ pub fn lifetime(alloc: Global, lifetime: &Lifetime) -> Result<Vec<Piece>, AllocE
     Ok(pieces)
 }
 
-/// A punctuation's characters, as many as have a span.
+/// Returns the pieces of a punctuation's characters, as many as have a span.
 pub fn characters(alloc: Global, text: &[u8], spans: &[Span]) -> Result<Vec<Piece>, AllocError>
     ensures { IfOk result (λ ps. map piece_of ps.items ≡ punct_pieces text.now spans.now) }
 {

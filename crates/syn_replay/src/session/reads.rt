@@ -1,4 +1,4 @@
-// Commands on one stream.
+//! Commands on one stream.
 ghost use Rattle.std.specs.Prelude.{◌≡◌, ◌∷◌, [], true, map, IfOk};
 ghost use Rattle.tok_core.specs.Forest.{forest};
 ghost use Rattle.tok_core.specs.Seen.{tree_of};
@@ -15,7 +15,7 @@ use std::alloc::{AllocError, Global};
 use syn_parse::{Parse, ParseBuffer, ParseStream, Result};
 use tok_core::{Group, TokenStream, TokenTree};
 
-/// Answers a command that concerns no other stream.
+/// Runs a command that concerns no other stream.
 pub fn answer(input: ParseStream<'_, '_>, command: &Command) -> Result<Answer>
     requires { is_read (command_of command.now) ≡ true }
     ensures { IsRead (command_of command.now) input.old result input.new }
@@ -40,7 +40,7 @@ pub fn answer(input: ParseStream<'_, '_>, command: &Command) -> Result<Answer>
         Command::Tree(_) => tree(input),
         Command::Rest(_) => Ok(Answer::Trees(TokenStream::parse(input)?)),
         Command::GroupTree(_) => group(input),
-        // Those that concern other streams.
+        // These concern other streams.
         Command::Enter(_, _)
         | Command::EnterAny(_)
         | Command::Fork(_)
@@ -50,7 +50,7 @@ pub fn answer(input: ParseStream<'_, '_>, command: &Command) -> Result<Answer>
     }
 }
 
-// A token of this kind, if one is in front.
+// Parses a token of this kind, if it is next.
 fn optional(input: ParseStream<'_, '_>, kind: Kind) -> Result<Answer>
     ensures { IsRead (commands.optional 0 (kind_of kind)) input.old result input.new }
 {
@@ -61,7 +61,7 @@ fn optional(input: ParseStream<'_, '_>, kind: Kind) -> Result<Answer>
     }
 }
 
-// The first of these that is in front, or a refusal that names them all.
+// Finds the first of these looks that is true. If none is, the error names them all.
 fn look_ahead(input: &ParseBuffer<'_>, looks: &[Look]) -> Result<Answer>
     ensures { GivesAnswer
         (looked 0 (map look_of looks.now) [] input.now.place input.now.scope_span) result }
@@ -76,7 +76,7 @@ fn look_ahead(input: &ParseBuffer<'_>, looks: &[Look]) -> Result<Answer>
     Err(lookahead.error())
 }
 
-// The tree in front.
+// Parses the next tree.
 fn tree(input: ParseStream<'_, '_>) -> Result<Answer>
     ensures { IsRead (commands.next_tree 0) input.old result input.new }
 {
@@ -85,7 +85,7 @@ fn tree(input: ParseStream<'_, '_>) -> Result<Answer>
     Ok(Answer::Trees(only(alloc, tree)?))
 }
 
-// The visible group in front.
+// Parses the next tree if it is a visible group.
 fn group(input: ParseStream<'_, '_>) -> Result<Answer>
     ensures { IsRead (commands.next_group 0) input.old result input.new }
 {
@@ -94,7 +94,7 @@ fn group(input: ParseStream<'_, '_>) -> Result<Answer>
     Ok(Answer::Trees(only(alloc, TokenTree::Group(group))?))
 }
 
-// A stream of one tree.
+// Returns a stream of one tree.
 fn only(alloc: Global, tree: TokenTree) -> std::result::Result<TokenStream, AllocError>
     ensures { IfOk result (λ f. f ≡ forest (tree_of tree ∷ [])) }
 {

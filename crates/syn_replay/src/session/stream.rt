@@ -1,4 +1,4 @@
-// One stream of a replay.
+//! One stream of a replay.
 ghost use Rattle.std.specs.Prelude.{◌≡◌, true, false};
 ghost use Rattle.tok_buffer.specs.Cursors.{place_of};
 ghost use Rattle.syn_parse.specs.Pauses.{paused_state};
@@ -10,7 +10,7 @@ use crate::session::links::Links;
 use syn_parse::Paused;
 use tok_buffer::Cursor;
 
-// At rest between two commands.
+/// A stream, at rest between two commands.
 #[derive(Clone, Copy)]
 pub struct Stream<'a> {
     pub paused: Paused<'a>,
@@ -20,7 +20,7 @@ pub struct Stream<'a> {
 }
 
 impl<'a> Stream<'a> {
-    // The whole stream, or a content, which has the stream from which it is entered as its parent.
+    /// Returns the whole stream, or the stream of a group that was entered from `parent`.
     pub fn new(paused: Paused<'a>, parent: Option<usize>) -> Stream<'a>
         ensures stream { stream_of result
             ≡ standing (paused_state paused.entry) (kind_of false parent) true }
@@ -34,6 +34,7 @@ impl<'a> Stream<'a> {
         }
     }
 
+    /// Returns a fork.
     pub fn fork(paused: Paused<'a>) -> Stream<'a>
         ensures stream { stream_of result ≡ standing (paused_state paused.entry) a_fork true }
         ensures links { result.links ≡ no_links }
@@ -46,6 +47,7 @@ impl<'a> Stream<'a> {
         }
     }
 
+    /// Returns the cursor at the stream's place.
     pub fn cursor(self) -> Cursor<'a>
         ensures { place_of result ≡ (stream_of self.entry).place }
     {
@@ -56,7 +58,7 @@ impl<'a> Stream<'a> {
     }
 }
 
-// Links the last stream, a content of `parent`, after the contents that its parent has.
+/// Links the last stream, of a group entered from `parent`, after the others of its parent.
 pub fn link<'a>(list: &mut Vec<Stream<'a>>, parent: usize, number: usize)
     requires { IsNew (links_of list.old.items) parent number }
     ensures linked { AreLinked (links_of list.new.items) }

@@ -1,4 +1,4 @@
-// The streams of a replay, by their numbers.
+//! The streams of a replay, by number.
 ghost use Rattle.std.specs.Prelude.{◌<◌, length};
 ghost use Rattle.syn_replay.specs.Session.Links.{links_of, AreLinked};
 
@@ -6,7 +6,9 @@ use crate::session::stream::{Stream, link};
 use std::alloc::{AllocError, Global};
 use syn_parse::Paused;
 
-// Stream 0 is the whole. Each stream leads to its contents, so that closing it visits those alone.
+/// The streams of a replay. Stream 0 is the whole.
+///
+/// Each stream is linked to those of its groups, so that closing it visits those alone.
 #[derive(Drop)]
 pub struct Streams<'a> {
     list: Vec<Stream<'a>>,
@@ -22,6 +24,7 @@ impl<'a> Streams<'a> {
     ghost use Rattle.syn_replay.specs.Session.Step.{place_of};
     ghost use Rattle.syn_replay.specs.Session.Tracks.{stream_of, state_of};
 
+    /// Creates the table with the whole stream.
     pub fn new(alloc: Global, whole: Paused<'a>) -> Result<Self, AllocError>
         ensures { IfOk result
             (λ s. state_of s ≡ standing (paused_state whole.entry) outermost true ∷ []) }
@@ -31,6 +34,7 @@ impl<'a> Streams<'a> {
         Ok(Streams { list })
     }
 
+    /// Returns stream `n`, if it exists.
     pub fn get(&self, n: usize) -> Option<Stream<'a>>
         ensures { MatchOption result
             (stream_at (state_of self.now) n ≡ None)
@@ -43,7 +47,7 @@ impl<'a> Streams<'a> {
         }
     }
 
-    // The stream of this number.
+    /// Returns stream `n`, which exists.
     pub fn at(&self, n: usize) -> Stream<'a>
         requires { n < length (state_of self.now) }
         ensures { stream_at (state_of self.now) n ≡ Some (stream_of result) }
@@ -51,13 +55,14 @@ impl<'a> Streams<'a> {
         self.list[n]
     }
 
+    /// Returns the whole stream.
     pub fn whole(&self) -> Stream<'a>
         ensures { stream_at (state_of self.now) 0 ≡ Some (stream_of result) }
     {
         self.list[0]
     }
 
-    // Stream `n` is here now.
+    /// Puts stream `n` at another place.
     pub fn put(&mut self, n: usize, paused: Paused<'a>)
         requires { n < length (state_of self.old) }
         ensures after { state_of self.new
@@ -67,7 +72,9 @@ impl<'a> Streams<'a> {
         self.list[n].paused = paused;
     }
 
-    // Stream `n` is then after a group, whose content is the next stream. If an allocation fails, nothing changes.
+    /// Moves stream `n` past a group, whose stream becomes the last one.
+    ///
+    /// If an allocation fails, nothing changes.
     pub fn enter(
         &mut self,
         n: usize,
@@ -89,7 +96,7 @@ impl<'a> Streams<'a> {
         Ok(number)
     }
 
-    // A fork is the next stream. A refused request changes nothing.
+    /// Appends a fork. If the allocation fails, nothing changes.
     pub fn fork(&mut self, fork: Paused<'a>) -> Result<usize, AllocError>
         ensures number { IfOk result (λ i. i ≡ length (state_of self.old)) }
         ensures ok { OnOk result
@@ -102,7 +109,7 @@ impl<'a> Streams<'a> {
         Ok(number)
     }
 
-    // Closes a content into its parent, and spends it.
+    // Closes a group's stream into its parent, and ends it.
     fn hand_up(&mut self, k: usize)
         requires { k < length (state_of self.old) }
         ensures after { state_of self.new ≡ handed_up k (state_of self.old) }
@@ -117,7 +124,8 @@ impl<'a> Streams<'a> {
         self.list[k].is_open = false;
     }
 
-    // Closes the open contents inside a stream. No list is walked twice, since a stream is closed once.
+    /// Closes the open groups inside a stream. No list is walked twice, since a stream is closed
+    /// once.
     pub fn close_contents(&mut self, k: usize)
         requires { k < length (state_of self.old) }
         ensures after { state_of self.new ≡ closed_inside k (state_of self.old) }
@@ -134,7 +142,7 @@ impl<'a> Streams<'a> {
         }
     }
 
-    // Closes the open contents inside a stream, and then the stream.
+    /// Closes the open groups inside a stream, and then the stream.
     pub fn close(&mut self, k: usize)
         requires { k < length (state_of self.old) }
         ensures { state_of self.new ≡ closed k (state_of self.old) }
@@ -143,7 +151,7 @@ impl<'a> Streams<'a> {
         self.hand_up(k);
     }
 
-    // Whether a stream was entered inside another, at any depth.
+    /// Returns `true` if a stream was entered inside another, at any depth.
     pub fn is_inside(&self, outer: usize, inner: usize) -> bool
         requires { inner < length (state_of self.now) }
         ensures { result ≡ is_inside (state_of self.now) outer inner }
@@ -166,7 +174,7 @@ impl<'a> Streams<'a> {
         self.list[n].is_open = false;
     }
 
-    // Closes the open contents inside a fork, takes stream `n` to its place, and spends it.
+    /// Closes the open groups inside a fork, moves stream `n` to its place, and ends it.
     pub fn advance(&mut self, n: usize, fork: usize)
         requires stream { n < length (state_of self.old) }
         requires fork { fork < length (state_of self.old) }
@@ -181,7 +189,7 @@ impl<'a> Streams<'a> {
         self.spend(fork);
     }
 
-    // Whether a stream is another, or was entered inside it.
+    /// Returns `true` if a stream is another, or was entered inside it.
     pub fn is_or_inside(&self, outer: usize, n: usize) -> bool
         requires { n < length (state_of self.now) }
         ensures { result ≡ ((n == outer) || is_inside (state_of self.now) outer n) }
@@ -189,7 +197,8 @@ impl<'a> Streams<'a> {
         n == outer || self.is_inside(outer, n)
     }
 
-    // Spends a stream and all contents inside it, each once. What they leave unread is noted nowhere.
+    /// Ends a stream and all groups' streams inside it, each once. What they leave unread is
+    /// recorded nowhere.
     pub fn discard(&mut self, n: usize)
         requires { n < length (state_of self.old) }
         ensures after { state_of self.new ≡ all_spent n (state_of self.old) }

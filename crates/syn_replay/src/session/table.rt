@@ -1,4 +1,4 @@
-// Commands on the table of streams.
+//! Commands on the table of streams.
 ghost use Rattle.std.specs.Prelude.{◌≡◌, ◌<◌, length, Some, IfOk};
 ghost use Rattle.syn_parse.specs.Groups.{AreParts, Enters};
 ghost use Rattle.syn_parse.specs.RefusalWords.{refused_at};
@@ -19,7 +19,7 @@ use syn_parse::{
 };
 use tok_core::{DelimSpan, Delimiter};
 
-/// The answer to a command that a stream refuses.
+/// Returns the answer to a command at which a stream returned an error.
 pub fn refused(fault: Fault) -> Result<Answer, AllocError>
     ensures { Answers fault result }
 {
@@ -29,7 +29,8 @@ pub fn refused(fault: Fault) -> Result<Answer, AllocError>
     }
 }
 
-// Enters the group in front, if it has the delimiter that is wanted: its delimiter, its span, and the stream of its content.
+// Enters the next group if it has the wanted delimiter. Returns its delimiter, its span and its
+// stream.
 fn enter_group<'a>(
     input: ParseStream<'_, 'a>,
     wanted: Option<Delimiter>,
@@ -59,7 +60,7 @@ fn enter_group<'a>(
     }
 }
 
-/// Enters the group in front of stream `n`, if it has the delimiter that is wanted.
+/// Enters the next group of stream `n`, if it has the wanted delimiter.
 pub fn enter<'a>(
     streams: &mut Streams<'a>,
     n: usize,
@@ -103,7 +104,9 @@ pub fn fork<'a>(
     Ok(Answer::Forked(number))
 }
 
-/// Takes stream `n` to the place of a fork, unless that is in another scope, or the stream is the fork or inside it.
+/// Moves stream `n` to the place of a fork.
+///
+/// The fork must be in the same scope, and the stream neither the fork nor inside it.
 pub fn advance<'a>(streams: &mut Streams<'a>, n: usize, stream: Stream<'a>, fork: usize) -> Answer
     requires here { stream_at (state_of streams.old) n ≡ Some (stream_of stream) }
     requires fork { fork < length (state_of streams.old) }

@@ -1,4 +1,4 @@
-// Tokens that are known only at run time by their kind.
+//! Tokens whose kind is known only at run time.
 ghost use Rattle.std.specs.Prelude.{◌≡◌, ◌≤◌, length};
 ghost use Rattle.std.specs.Str.{chars};
 ghost use Rattle.tok_buffer.specs.Reads.{read_keyword, read_punctuation};
@@ -16,7 +16,7 @@ use tok_buffer::Lifetime;
 use tok_core::{Ident, Literal, Punct};
 use tok_types::token::{keyword_text, punctuation_text};
 
-/// A token of this kind.
+/// Parses a token of this kind.
 pub fn parse(input: ParseStream<'_, '_>, kind: Kind) -> Result<Vec<Piece>>
     ensures { ReadsPieces (spec.read (kind_of kind) input.old.place)
         (spec.refusal (kind_of kind) input.old) input.old result input.new }
@@ -53,7 +53,7 @@ pub fn parse(input: ParseStream<'_, '_>, kind: Kind) -> Result<Vec<Piece>>
     }
 }
 
-// The identifier of this text.
+// Parses the identifier with this text.
 fn keyword(input: ParseStream<'_, '_>, text: &str) -> Result<Vec<Piece>>
     ensures { ReadsPieces (read_keyword text.now input.old.place)
         (refused_at input.old (expected (in_backquotes text.now))) input.old result input.new }
@@ -63,7 +63,7 @@ fn keyword(input: ParseStream<'_, '_>, text: &str) -> Result<Vec<Piece>>
     Ok(pieces::word(alloc, text, span)?)
 }
 
-// The puncts of this text, which is ASCII, of three characters at most.
+// Parses the puncts of this text, which is ASCII, of at most three characters.
 fn punctuation(input: ParseStream<'_, '_>, text: &str) -> Result<Vec<Piece>>
     requires short { length text.now ≤ 3 }
     requires ascii { chars text.now ≡ text.now }

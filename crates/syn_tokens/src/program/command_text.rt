@@ -1,4 +1,4 @@
-// The text of commands, a line each.
+//! The text of commands, one a line.
 ghost use Rattle.std.specs.Prelude.{◌≡◌, ◌∷◌, [], IfOk, IfSome, MatchOption, MatchResult, ℕ, None, Some, true, false, map};
 ghost use Rattle.std.specs.Option.{ForSome, option_map};
 ghost use Rattle.std.specs.Str.{IsUtf8};
@@ -17,7 +17,7 @@ use syn_replay::{Command, Kind, Look, Separator};
 use tok_core::Delimiter;
 use tok_types::token::{keyword_text, punctuation_text};
 
-// Why a line gives no command: its words are none, or an allocation failed.
+// Why a line is no command.
 #[derive(Drop)]
 enum LineFault {
     Unreadable,
@@ -40,7 +40,7 @@ const KEYWORDS: usize = 54;
 
 const PUNCTUATIONS: usize = 46;
 
-// The commands of lines, those without words left out.
+/// Reads the commands of lines. Lines without words are skipped.
 pub fn read_commands(alloc: Global, lines: Option<&str>) -> Result<Vec<Command>, Fault>
     requires { ForSome lines (λ text. IsUtf8 text.now) }
     ensures { MatchResult result
@@ -68,7 +68,7 @@ pub fn read_commands(alloc: Global, lines: Option<&str>) -> Result<Vec<Command>,
     Ok(commands)
 }
 
-// The command of a line, or none of a line without words.
+// Reads the command of a line, or `None` of a line without words.
 fn read_line(alloc: Global, line: &str) -> Result<Option<Command>, LineFault>
     ensures { MatchResult result
         (λ c. (spec.is_unreadable line.now ≡ false)
@@ -112,7 +112,7 @@ fn lookahead(alloc: Global, n: usize, rest: &str) -> Result<Option<Command>, All
     }
 }
 
-// The looks of all words, or none if a word is no look.
+// Reads a line of looks, or returns `None` if a word is no look.
 fn looks(alloc: Global, line: &str) -> Result<Option<Vec<Look>>, AllocError>
     ensures { IfOk result
         (λ o. option_map (λ v. map look_of v.items) o ≡ spec.all_looks (spec.words line.now)) }
@@ -193,7 +193,7 @@ fn kind(word: &str) -> Option<Kind>
     }
 }
 
-// A kind of value and a separator.
+// Reads a kind of value and a separator.
 fn list(rest: &str) -> Option<(Kind, Separator)>
     ensures { option_map (λ p. (kind_of p.0, separator_of p.1)) result
         ≡ spec.list (spec.words rest.now) }
@@ -215,7 +215,7 @@ fn separator(word: &str) -> Option<Separator>
     }
 }
 
-// A keyword or a punctuation, by its text.
+// Returns the keyword or the punctuation with this text.
 fn token(word: &str) -> Option<Kind>
     ensures { option_map kind_of result ≡ spec.token word.now }
 {
@@ -225,7 +225,7 @@ fn token(word: &str) -> Option<Kind>
     }
 }
 
-// The number of a keyword.
+// Returns the number of a keyword.
 fn keyword(word: &str) -> Option<usize>
     ensures { result ≡ spec.number_in keywords word.now }
 {
@@ -237,7 +237,7 @@ fn keyword(word: &str) -> Option<usize>
     None
 }
 
-// The number of a punctuation.
+// Returns the number of a punctuation.
 fn punctuation(word: &str) -> Option<usize>
     ensures { result ≡ spec.number_in punctuations word.now }
 {
@@ -261,7 +261,7 @@ fn delimiter(word: &str) -> Option<Delimiter>
     }
 }
 
-// One to nine digits.
+// Reads a number of one to nine digits.
 fn number(word: &str) -> Option<usize>
     ensures { result ≡ spec.number word.now }
 {
@@ -271,7 +271,7 @@ fn number(word: &str) -> Option<usize>
     word.parse().ok()
 }
 
-// A command that takes nothing more.
+// Returns the command if no words follow it.
 fn alone(command: Command, rest: &str) -> Option<Command>
     ensures { option_map command_of result ≡ spec.alone (command_of command) (spec.words rest.now) }
 {
@@ -281,7 +281,7 @@ fn alone(command: Command, rest: &str) -> Option<Command>
     }
 }
 
-// The one word that is there.
+// Returns the only word of a line.
 fn only_word(rest: &str) -> Option<&str>
     ensures word { option_map (λ w. w.now) result ≡ spec.only_word (spec.words rest.now) }
     ensures utf8 { IfSome result (λ word. IsUtf8 word.now) }
@@ -293,7 +293,7 @@ fn only_word(rest: &str) -> Option<&str>
     }
 }
 
-// The first word, and what follows it.
+// Splits a line into its first word and the rest.
 fn first_word(line: &str) -> Option<(&str, &str)>
     ensures words { MatchOption result
         (spec.words line.now ≡ [])

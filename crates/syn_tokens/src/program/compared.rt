@@ -1,4 +1,4 @@
-// Two texts under one list of commands, compared.
+//! Two texts under one list of commands.
 ghost use Rattle.std.specs.Prelude.{◌≡◌, Some, IfOk, map};
 ghost use Rattle.syn_tokens.specs.Program.Comparison as spec;
 ghost use Rattle.syn_tokens.specs.Program.Outcomes.{comparison_of};
@@ -11,21 +11,29 @@ use std::fmt::{Formatter, Write};
 use syn_replay::{Command, Report, Verdict, agree, is_transparent, replay_both};
 use tok_core::{TokenStream, is_clear, is_filled, same_visible};
 
-// What is said of two texts and the commands. Each fact is of both texts, or of all commands.
+/// What holds of two texts and the commands. Each fact is about both texts, or about all commands.
 #[derive(Clone, Copy)]
 pub struct Facts {
+    /// Both texts are equal once their invisible groups are erased.
     pub visible: bool,
+    /// Each invisible group of both texts contains a visible token.
     pub filled: bool,
+    /// No joint apostrophe is directly before an invisible group or last in one.
     pub clear: bool,
+    /// Every command is transparent.
     pub transparent: bool,
+    /// The reports agree.
     pub agree: bool,
 }
 
-// The reports on two texts, and what is said of them.
+/// The reports on two texts, and what holds of them.
 #[derive(Drop)]
 pub struct Comparison {
+    /// The report on the first text.
     pub left: Report,
+    /// The report on the second text.
     pub right: Report,
+    /// What holds of both.
     pub facts: Facts,
 }
 
@@ -40,7 +48,7 @@ fn all_transparent(commands: &[Command]) -> bool
     true
 }
 
-// Answers the commands over both streams.
+/// Runs the commands over both streams, and compares.
 pub fn compare(
     alloc: Global,
     left: TokenStream,
@@ -66,17 +74,19 @@ pub fn compare(
     Ok(Comparison { left, right, facts })
 }
 
-// What the program prints for an input: one report, or two that are compared.
+/// What the program prints for an input: a report, or a comparison of two.
 #[derive(Drop)]
 pub enum Outcome {
+    /// The report on one text.
     Reported(Report),
+    /// The reports on two texts.
     Compared(Comparison),
 }
 
 impl Outcome {
     ghost use Rattle.syn_tokens.specs.Program.Outcomes.{outcome_of};
 
-    // The exit status of the program.
+    /// Returns the exit status of the program.
     pub fn status(&self) -> u8
         ensures { result ≡ spec.outcome_status (outcome_of self.now) }
     {

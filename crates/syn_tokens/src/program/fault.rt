@@ -1,4 +1,4 @@
-// Why an input has no report.
+//! Why an input has no report.
 ghost use Rattle.std.specs.Prelude.{◌≡◌, Some};
 ghost use Rattle.syn_tokens.specs.Program.Faults.{fault_of, right_fault_of, unreadable_text};
 
@@ -7,16 +7,18 @@ use std::fmt;
 use std::fmt::{Formatter, Write};
 use tok_core::{LexError, LexFault};
 
-// Why an input can't be read.
+/// Why an input can't be read.
 #[derive(Clone, Copy)]
 pub enum Unreadable {
+    /// The input is not UTF-8.
     Utf8,
-    // No line ends a text, or more than two do.
+    /// No line `---` ends a text, or more than two do.
     Parts,
+    /// The text is rejected.
     Text(LexError),
-    // The second of two texts.
+    /// The second of two texts is rejected.
     Right(LexError),
-    // The number of the first line of the commands that is none, from 1.
+    /// The number of the first line, from 1, that is no command.
     Command(usize),
 }
 
@@ -38,15 +40,17 @@ impl fmt::Display for Unreadable {
     }
 }
 
-// Why there is no report: the input can't be read, or an allocation failed.
+/// Why there is no report.
 #[derive(Clone, Copy)]
 pub enum Fault {
+    /// The input can't be read.
     Unreadable(Unreadable),
+    /// An allocation failed.
     Memory,
 }
 
 impl Fault {
-    // The fault of the second of two texts.
+    /// Returns the fault of the second of two texts.
     pub fn of_right(fault: LexFault) -> Fault
         ensures { result ≡ right_fault_of fault }
     {

@@ -1,4 +1,4 @@
-// The program's input.
+//! The program's input.
 ghost use Rattle.std.specs.Prelude.{◌≡◌, ◌∷◌, [], ◌++◌, List, ℕ, IfErr, IfOk, IfSome, Some, None, MatchOption};
 ghost use Rattle.std.specs.List.{slice_split};
 ghost use Rattle.std.specs.Str.{IsUtf8};
@@ -10,15 +10,16 @@ use crate::program::channel::Source;
 use std::alloc::Global;
 use std::io::ErrorKind;
 
-// Why an input could not be read.
+/// Why an input could not be read.
 #[derive(Drop)]
 pub enum ReadFault {
-    // A read failed, or the input had no end.
+    /// A read failed, or the input didn't end.
     Failed,
+    /// An allocation failed.
     Memory,
 }
 
-// All that a source gives, in at most 4,294,967,295 reads. An interrupted read is made again.
+/// Reads a source to its end, in at most 4,294,967,295 reads. An interrupted read is repeated.
 pub fn read_input<S: Source>(alloc: Global, input: &mut S) -> Result<Vec<u8>, ReadFault>
     ensures bytes { IfSome (S.remaining input.old) (λ bytes. IfOk result (λ v. v.items ≡ bytes)) }
     ensures failed { IfErr result
@@ -41,8 +42,10 @@ pub fn read_input<S: Source>(alloc: Global, input: &mut S) -> Result<Vec<u8>, Re
     Err(ReadFault::Failed)
 }
 
-// The text of an input, the second one if there are two, and what comes after the line that ends the last. There are none where
-// no line ends a text, or more than two do.
+/// Splits an input into its text, the second text if there is one, and the lines after the last
+/// line `---`.
+///
+/// Returns `None` unless one or two lines `---` end a text.
 pub fn parts(input: &str) -> Option<(&str, Option<&str>, Option<&str>)>
     ensures parts { MatchOption result
         (spec.parts_of input.now ≡ None)
@@ -61,7 +64,7 @@ pub fn parts(input: &str) -> Option<(&str, Option<&str>, Option<&str>)>
     }
 }
 
-// What comes before the first line that ends a text, and what follows that line.
+// Splits an input at the first line `---`.
 fn cut(input: Option<&str>) -> Option<(&str, Option<&str>)>
     requires { IfSome input (λ input. IsUtf8 input.now) }
     ensures parts { MatchOption result
@@ -83,7 +86,7 @@ fn cut(input: Option<&str>) -> Option<(&str, Option<&str>)>
     None
 }
 
-// The first line of what is left, and what is left after its line feed.
+/// Returns the first line, and the rest after its line feed.
 pub fn first_line(rest: &str) -> (&str, Option<&str>)
     ensures lines { spec.lines rest.now ≡ result.0.now ∷ spec.lines_left result.1 }
     ensures concat { IfSome result.1 (λ after. rest.now ≡ ended result.0.now ++ after.now) }

@@ -1,4 +1,4 @@
-// The program's output.
+//! The program's output.
 ghost use Rattle.std.specs.Bool.{MatchBool};
 ghost use Rattle.std.specs.Prelude.{◌≡◌, false};
 ghost use Rattle.std.specs.Io.KnownBytes.{Appends};
@@ -8,7 +8,7 @@ ghost use Rattle.syn_tokens.specs.Program.Output.{AppendsFront, GoesOut};
 use crate::program::channel::Sink;
 use std::io::ErrorKind;
 
-// Sends a text, and gives the status, or 2 where the text doesn't go out whole.
+/// Writes a text and returns `status`, or 2 unless all of it was written.
 pub fn send<S: Sink>(output: &mut S, text: &str, status: u8) -> u8
     ensures { GoesOut (FailsToWrite S.writes S.flushes output.old output.new) text.now status result
         (S.contents output.old) (S.contents output.new) }
@@ -20,8 +20,8 @@ pub fn send<S: Sink>(output: &mut S, text: &str, status: u8) -> u8
     }
 }
 
-// Whether all bytes are written, in at most 2^64 - 1 writes. An interrupted write is made again. It takes the place of std's
-// `write_all`, which doesn't tell what went out where it fails.
+// Writes all bytes, in at most 2^64 - 1 writes, and returns whether it did. An interrupted write is
+// repeated. std's `write_all` doesn't say how much was written before it failed.
 fn write_whole<S: Sink>(output: &mut S, bytes: &[u8]) -> bool
     ensures bytes { MatchBool result
         (Appends (S.contents output.old) (S.contents output.new) bytes.now)

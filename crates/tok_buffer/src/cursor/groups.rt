@@ -1,4 +1,4 @@
-// The group in front of a cursor.
+//! Entering groups.
 use crate::cursor::Cursor;
 use crate::entry::{Entry, same};
 use crate::spot::Spot;
@@ -11,7 +11,9 @@ impl<'a> Cursor<'a> {
     ghost use Rattle.tok_buffer.specs.Entry.{enter_any, entered_of, enter};
     ghost use Rattle.tok_buffer.specs.Gives.{Gives};
 
-    /// The group in front, visible or not: the cursor of its content, its delimiter, its span, and the cursor after it.
+    /// Enters the next tree if it is a group, visible or not.
+    ///
+    /// Returns the cursor of its contents, its delimiter, its span, and the cursor after it.
     pub fn any_group(self) -> Option<(Cursor<'a>, Delimiter, DelimSpan, Cursor<'a>)>
         ensures { Gives result (enter_any (place_of self.entry))
             (λ r. record {
@@ -37,7 +39,10 @@ impl<'a> Cursor<'a> {
         }
     }
 
-    /// The group of this delimiter in front: the cursor of its content, its span, and the cursor after it.
+    /// Enters the next group if it has this delimiter.
+    ///
+    /// Returns the cursor of its contents, its span, and the cursor after it. A visible delimiter
+    /// is found through invisible groups.
     pub fn group(self, delimiter: Delimiter) -> Option<(Cursor<'a>, DelimSpan, Cursor<'a>)>
         ensures { Gives result (enter delimiter (place_of self.entry))
             (λ r. record {
@@ -54,7 +59,7 @@ impl<'a> Cursor<'a> {
         }
     }
 
-    // The group of this delimiter that opens at the next entry.
+    // Enters the group of this delimiter that opens at the next entry.
     fn front_group(self, delimiter: Delimiter) -> Option<(Cursor<'a>, DelimSpan, Cursor<'a>)>
         ensures { Gives result (entered_of delimiter (enter_any (place_of self.entry)))
             (λ r. record {

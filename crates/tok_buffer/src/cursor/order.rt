@@ -1,4 +1,4 @@
-// Cursors against each other.
+//! Comparing cursors.
 ghost use Rattle.std.specs.Prelude.{◌≡◌, Some};
 ghost use Rattle.std.specs.Cmp.{on_per, partial_equiv_from_equiv, on_equiv, on_po};
 ghost use Rattle.std.specs.Ordering.{on};
@@ -11,7 +11,8 @@ use crate::cursor::Cursor;
 use std::cmp::Ordering;
 
 impl<'a> Cursor<'a> {
-    /// Whether both are of buffers with one number. Two empty cursors are in one buffer, which no other cursor is in.
+    /// Returns `true` if the buffers of both cursors have the same number. The empty cursor is only
+    /// in the same buffer as another empty cursor.
     pub fn same_buffer(self, other: Cursor<'_>) -> bool
         ensures { result ≡ same_buffer (place_of self.entry) (place_of other.entry) }
     {
@@ -22,8 +23,8 @@ impl<'a> Cursor<'a> {
         }
     }
 
-    /// Whether both are read in one scope of buffers with one number. Two empty cursors are in one scope, which no other
-    /// cursor is in.
+    /// Returns `true` if both cursors have the same scope, in buffers with the same number. The
+    /// empty cursor is only in the same scope as another empty cursor.
     pub fn same_scope(self, other: Cursor<'_>) -> bool
         ensures { result ≡ same_scope (place_of self.entry) (place_of other.entry) }
     {
@@ -35,8 +36,8 @@ impl<'a> Cursor<'a> {
     }
 }
 
-/// Cursors are equal by the numbers of their buffers and by position, whatever their scopes. The empty cursor equals
-/// itself alone.
+/// Compares the numbers of the buffers and the positions, whatever the scopes. The empty cursor
+/// equals only itself.
 impl<'a> PartialEq for Cursor<'a> {
     ghost eq = { on place_of equal };
 
@@ -56,7 +57,8 @@ impl<'a> Eq for Cursor<'a> {
     ghost laws = { on_equiv place_of equal_equiv };
 }
 
-/// Cursors of buffers with one number are ordered by position. The empty cursor is unordered against others.
+/// Orders cursors by position if their buffers have the same number. The empty cursor is ordered
+/// only against itself.
 impl<'a> PartialOrd for Cursor<'a> {
     ghost partial_cmp = { on place_of order };
 

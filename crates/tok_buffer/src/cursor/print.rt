@@ -1,4 +1,4 @@
-// The text of the trees ahead of a cursor.
+//! Printing the trees ahead of a cursor.
 ghost use Rattle.std.specs.Prelude.{◌≡◌, ◌≤◌, ◌++◌, IsTrue};
 ghost use Rattle.std.specs.Fmt.{WritesOnOk};
 ghost use Rattle.tok_core.specs.Forest.{leaf};
@@ -21,8 +21,8 @@ use tok_core::{Delimiter, Spacing};
 impl<'a> Cursor<'a> {
     ghost use Rattle.tok_buffer.specs.Cursors.{place_of};
 
-    /// Writes all trees that are left in the scope, as the stream that `token_stream` makes of them is printed. Takes no
-    /// memory.
+    /// Writes the trees that are left in the scope, as the stream that `token_stream` returns is
+    /// printed. Nothing is allocated.
     pub fn write_ahead<W: Write>(self, f: &mut Formatter<W>) -> fmt::Result
         ensures { WritesOnOk W.write_str_gives f.old result
             (text (rest (place_of self.entry))) f.new }
@@ -69,7 +69,7 @@ fn write_from<W: Write>(
 }
 
 impl<'a> Leaf<'a> {
-    // Whether it is a joint punct.
+    // Returns `true` for a joint punct.
     fn is_joint(self) -> bool
         ensures { result ≡ spec.is_joint (leaf (leaf_in self.entry)) }
     {
@@ -83,7 +83,7 @@ impl<'a> Leaf<'a> {
     }
 }
 
-// A leaf, after the space that parts it from what was written.
+// Writes a leaf, after a space unless it is glued to what was written.
 fn write_leaf<W: Write>(f: &mut Formatter<W>, is_glued: bool, leaf: Leaf<'_>) -> fmt::Result
     ensures { WritesOnOk W.write_str_gives f.old result
         (spec.space is_glued ++ leaf_text (leaf_in leaf.entry)) f.new }
@@ -96,7 +96,7 @@ fn write_leaf<W: Write>(f: &mut Formatter<W>, is_glued: bool, leaf: Leaf<'_>) ->
     }
 }
 
-// The start of a group, after the space that parts it from what was written.
+// Writes a group's opening, after a space unless it is glued to what was written.
 fn write_opening<W: Write>(
     f: &mut Formatter<W>,
     is_glued: bool,

@@ -1,4 +1,4 @@
-// The puncts of a punctuation.
+//! Reading the puncts of a punctuation.
 ghost use Rattle.std.specs.Prelude.{◌≡◌, ◌∷◌, [], length, MatchOption, Some, None, is_some};
 ghost use Rattle.std.specs.Str.{chars};
 ghost use Rattle.tok_leaves.specs.Leaves.{punct_of};
@@ -16,8 +16,9 @@ use tok_core::{Punct, Spacing, Span};
 use tok_lexical::text::next_char;
 
 impl<'a> Cursor<'a> {
-    /// Whether the puncts in front are the characters of this text, each but the last joint. False for the empty text
-    /// and for one with an apostrophe.
+    /// Returns `true` if the next puncts are the characters of `text`, each but the last joint.
+    ///
+    /// The empty text is never found, nor is one with an apostrophe.
     pub fn peek_punct(self, text: &str) -> bool
         ensures { result ≡ is_some (read_punctuation (chars text.now) (place_of self.entry)) }
     {
@@ -40,9 +41,11 @@ impl<'a> Cursor<'a> {
         spot.peek_char(wanted)
     }
 
-    /// Reads the puncts in front that are the characters of this text, each but the last joint: writes a span for each
-    /// into `spans`, and returns the cursor after them. A text of another number of characters than there are spans
-    /// counts as empty, and the empty text is never read. Takes no memory. What `spans` holds after a `None` is not said.
+    /// Reads the puncts that are the characters of `text`, each but the last joint. Writes the span
+    /// of each to `spans`, and returns the cursor after them.
+    ///
+    /// A text is never found if it is empty or has another number of characters than `spans` has
+    /// elements. Nothing is allocated. After `None`, the elements of `spans` are unspecified.
     pub fn puncts(self, text: &str, spans: &mut [Span]) -> Option<Cursor<'a>>
         ensures { MatchOption result
             (read_punctuation (sized (length spans.old) (chars text.now)) (place_of self.entry)
@@ -75,7 +78,7 @@ impl<'a> Cursor<'a> {
 }
 
 impl<'a> Spot<'a> {
-    // The punct of the first of some characters in front, joint where more of them follow.
+    // Reads the first of the wanted characters, joint if more of them follow.
     fn next_of(self, wanted: char, rest: &str) -> Option<(&'a Punct, Spot<'a>)>
         ensures { Gives result (read_next wanted (chars rest.now) (spot_place self.entry))
             (λ r. (leaf (punct_of r.0.now) ∷ [], spot_place r.1)) }
@@ -93,7 +96,7 @@ impl<'a> Spot<'a> {
         }
     }
 
-    // A punct of this character is in front.
+    // Returns `true` if the next token is a punct of this character.
     fn peek_char(self, wanted: char) -> bool
         ensures { result
             ≡ is_some (read_if (is_punct_of wanted) (descend (spot_place self.entry))) }
@@ -105,7 +108,7 @@ impl<'a> Spot<'a> {
     }
 }
 
-// A punct of this character, joint where more characters follow.
+// Returns `true` for a punct of this character, joint if more characters follow.
 fn is_next_of(punct: Punct, wanted: char, rest: &str) -> bool
     ensures { result ≡ spec.is_next_of wanted (chars rest.now) (leaf (punct_of punct)) }
 {

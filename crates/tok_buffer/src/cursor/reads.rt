@@ -1,4 +1,4 @@
-// Leaves in front of a cursor.
+//! Reading leaves.
 ghost use Rattle.std.specs.Prelude.{◌≡◌, ◌∷◌, [], is_some};
 ghost use Rattle.tok_leaves.specs.Leaves.{punct_of, apostrophe, punct, ident_of, literal_of};
 ghost use Rattle.tok_leaves.specs.declared.punct.Spacing.TheVariants.{Joint};
@@ -15,7 +15,8 @@ use crate::lifetime::LifetimeRef;
 use tok_core::{Ident, Literal, Punct, Spacing, Span};
 
 impl<'a> Cursor<'a> {
-    /// The identifier in front, of whatever text, and the cursor after it.
+    /// Returns the next token and the cursor after it, if it is an identifier, keywords and `_`
+    /// included.
     pub fn ident(self) -> Option<(&'a Ident, Cursor<'a>)>
         ensures { Gives result (read_ident (place_of self.entry))
             (λ r. (leaf (ident_of r.0.now) ∷ [], place_of r.1)) }
@@ -27,7 +28,7 @@ impl<'a> Cursor<'a> {
         }
     }
 
-    /// The punct in front, unless it is an apostrophe, and the cursor after it.
+    /// Returns the next token and the cursor after it, if it is a punct other than an apostrophe.
     pub fn punct(self) -> Option<(Punct, Cursor<'a>)>
         ensures { Gives result (read_punct (place_of self.entry))
             (λ r. (leaf (punct_of r.0) ∷ [], place_of r.1)) }
@@ -45,7 +46,7 @@ impl<'a> Cursor<'a> {
         }
     }
 
-    /// The literal in front, and the cursor after it.
+    /// Returns the next token and the cursor after it, if it is a literal.
     pub fn literal(self) -> Option<(&'a Literal, Cursor<'a>)>
         ensures { Gives result (read_literal (place_of self.entry))
             (λ r. (leaf (literal_of r.0.now) ∷ [], place_of r.1)) }
@@ -57,8 +58,10 @@ impl<'a> Cursor<'a> {
         }
     }
 
-    /// The lifetime in front, of whatever text, and the cursor after it: a joint apostrophe, and then whatever `ident`
-    /// finds there, so also across the edges of invisible groups.
+    /// Returns the next lifetime, of any name, and the cursor after it.
+    ///
+    /// A lifetime is a joint apostrophe and whatever `ident` then finds, even across the edges of
+    /// invisible groups.
     pub fn lifetime(self) -> Option<(LifetimeRef<'a>, Cursor<'a>)>
         ensures { Gives result (read_lifetime any_text (place_of self.entry))
             (λ r. (lifetime_trees r.0.apostrophe (ident_of r.0.ident.now), place_of r.1)) }
@@ -66,7 +69,7 @@ impl<'a> Cursor<'a> {
         Cursor::at(self.spot?.ignore_none()).front_lifetime()
     }
 
-    // The lifetime whose apostrophe the next entry is.
+    // Returns the lifetime whose apostrophe is the next entry.
     fn front_lifetime(self) -> Option<(LifetimeRef<'a>, Cursor<'a>)>
         ensures { Gives result
             (and_then (read_if is_joint_apostrophe (place_of self.entry)) (read_word any_text))
@@ -77,7 +80,7 @@ impl<'a> Cursor<'a> {
         Some((LifetimeRef { apostrophe, ident }, rest))
     }
 
-    // The joint apostrophe that the next entry is.
+    // Returns the span of the next entry, if it is a joint apostrophe.
     fn apostrophe(self) -> Option<(Span, Cursor<'a>)>
         ensures { Gives result (read_if is_joint_apostrophe (place_of self.entry))
             (λ r. (leaf (punct apostrophe Joint r.0) ∷ [], place_of r.1)) }
@@ -95,8 +98,8 @@ impl<'a> Cursor<'a> {
         }
     }
 
-    /// The cursor after the next token: after the lifetime that `lifetime` reads, or else after the front tree. `None`
-    /// where nothing visible is left.
+    /// Returns the cursor after the next token: after the lifetime that `lifetime` reads, or else
+    /// after the next tree. Returns `None` if no visible tree is left.
     pub fn skip(self) -> Option<Cursor<'a>>
         ensures { Gives result (skip (place_of self.entry)) place_of }
     {
@@ -107,7 +110,7 @@ impl<'a> Cursor<'a> {
         }
     }
 
-    // After the front tree.
+    // Returns the cursor after the next tree.
     fn after_front(self) -> Option<Cursor<'a>>
         ensures { Gives result (place_after (read_tree (place_of self.entry))) place_of }
     {
@@ -123,7 +126,8 @@ impl<'a> Cursor<'a> {
         }
     }
 
-    /// Whether the identifier in front has this text. False for the empty text.
+    /// Returns `true` if the next token is an identifier with this text. The empty text is never
+    /// found.
     pub fn peek_keyword(self, text: &str) -> bool
         ensures { result ≡ is_some (read_keyword text.now (place_of self.entry)) }
     {

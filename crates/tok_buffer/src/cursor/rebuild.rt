@@ -1,4 +1,4 @@
-// Trees made anew from the entries.
+//! Rebuilding trees from entries.
 ghost use Rattle.std.specs.Prelude.{◌≡◌, ◌≤◌, IsTrue, OnOk, ◌∷◌, [], IfOk};
 ghost use Rattle.tok_core.specs.Forest.{concat};
 ghost use Rattle.tok_core.specs.Weight.{weight};
@@ -16,7 +16,10 @@ use std::alloc::{AllocError, Global};
 use tok_core::{Group, TokenStream, TokenTree};
 
 impl<'a> Cursor<'a> {
-    /// The group in front, visible or not, made anew in memory of `alloc`, and the cursor after it.
+    /// Copies the next tree if it is a group, visible or not, and returns it with the cursor after
+    /// it.
+    ///
+    /// Returns an error if an allocation fails.
     pub fn any_group_token(self, alloc: Global) -> Result<Option<(Group, Cursor<'a>)>, AllocError>
         ensures { IfOk result (λ found. Gives found (read_if is_group (place_of self.entry))
             (λ r. (group_of r.0 ∷ [], place_of r.1))) }
@@ -30,7 +33,10 @@ impl<'a> Cursor<'a> {
         }
     }
 
-    /// The front tree, an invisible group too, made anew in memory of `alloc`, and the cursor after it.
+    /// Copies the next tree, which may be an invisible group, and returns it with the cursor after
+    /// it.
+    ///
+    /// Returns an error if an allocation fails.
     pub fn token_tree(self, alloc: Global) -> Result<Option<(TokenTree, Cursor<'a>)>, AllocError>
         ensures { IfOk result (λ found. Gives found (read_tree (place_of self.entry))
             (λ r. (tree_of r.0 ∷ [], place_of r.1))) }
@@ -47,8 +53,10 @@ impl<'a> Cursor<'a> {
         }
     }
 
-    /// All trees that are left in the scope, made anew in memory of `alloc`: first those left in the innermost invisible
-    /// group that has been entered, then those after it, and so on outwards.
+    /// Copies the trees that are left in the scope: first those of the innermost invisible group
+    /// that has been entered, then those after it, and so on outwards.
+    ///
+    /// Returns an error if an allocation fails.
     pub fn token_stream(self, alloc: Global) -> Result<TokenStream, AllocError>
         ensures { IfOk result (λ s. s ≡ rest (place_of self.entry)) }
     {

@@ -1,4 +1,4 @@
-// Where a cursor is.
+//! The position and the spans of a cursor.
 ghost use Rattle.std.specs.Prelude.{◌≡◌, ◌≤◌, IsTrue, true};
 ghost use Rattle.tok_core.specs.Weight.{weight};
 ghost use Rattle.tok_buffer.specs.Ahead.{ahead, first_of, left_of, leftover};
@@ -14,16 +14,18 @@ use crate::entry::{Entry, Held, same};
 use tok_core::{DelimSpan, Delimiter, Span};
 
 impl<'a> Cursor<'a> {
-    /// How many leaves, openings and closings of groups lie before the cursor in its buffer, or `None` for the empty
-    /// cursor.
+    /// Counts the leaves and the openings and closings of groups before the cursor in its buffer,
+    /// or returns `None` for the empty cursor.
     pub fn position(self) -> Option<usize>
         ensures { result ≡ count_before (place_of self.entry) }
     {
         Some(self.spot?.position)
     }
 
-    /// The span of the front tree, of a group the whole. At the end of a group's content it is the group's closing span,
-    /// and at the buffer's end and for the empty cursor the call site.
+    /// Returns the span of the next tree, a group's whole span.
+    ///
+    /// At the end of a group's contents it is the group's closing span. At the buffer's end and for
+    /// the empty cursor it is the call site.
     pub fn span(self) -> Span
         ensures { result ≡ current_span (place_of self.entry) }
     {
@@ -33,7 +35,7 @@ impl<'a> Cursor<'a> {
         }
     }
 
-    /// The opening span of a group in front, visible or not, else `span`.
+    /// Returns the opening span of the next tree if it is a group, visible or not, and else `span`.
     pub fn start_span(self) -> Span
         ensures { result ≡ start_span (place_of self.entry) }
     {
@@ -46,8 +48,11 @@ impl<'a> Cursor<'a> {
         }
     }
 
-    /// The span of what is directly before the cursor: a leaf's, the closing span of a group that has been passed, or
-    /// at the start of a group's content the whole group's. At the buffer's start and for the empty cursor it is `span`.
+    /// Returns the span of what is directly before the cursor: a leaf, or the closing delimiter of
+    /// a group.
+    ///
+    /// At the start of a group's contents it is the whole group's span. At the buffer's start and
+    /// for the empty cursor it is `span`.
     pub fn prev_span(self) -> Span
         ensures { result ≡ previous_span (place_of self.entry) }
     {
@@ -63,8 +68,11 @@ impl<'a> Cursor<'a> {
         }
     }
 
-    /// The first visible tree that is left: its span, a group's whole, and the delimiter that was wanted in its place.
-    /// That is the scope's, or `Delimiter::None` where the tree is in an invisible group that has not been entered.
+    /// Returns the span of the first visible tree that is left, a group's whole span, and the
+    /// delimiter that was expected instead of it.
+    ///
+    /// That is the scope's delimiter, or `Delimiter::None` if the tree is in an invisible group
+    /// that has not been entered. Returns `None` if no visible tree is left.
     pub fn leftover(self) -> Option<(Span, Delimiter)>
         ensures { left_of result ≡ leftover (place_of self.entry) }
     {
@@ -77,8 +85,8 @@ impl<'a> Cursor<'a> {
         }
     }
 
-    /// The delimiter of the group whose content is the scope, and `Delimiter::None` for the whole buffer and the empty
-    /// cursor.
+    /// Returns the delimiter of the group whose contents are the scope, or `Delimiter::None` for
+    /// the whole buffer and the empty cursor.
     pub fn scope_delimiter(self) -> Delimiter
         ensures { result ≡ scope_delimiter (place_of self.entry) }
     {
@@ -89,7 +97,7 @@ impl<'a> Cursor<'a> {
     }
 }
 
-// The span of what is at a position: a whole tree's, or at an end the closing one.
+// Returns the span of the whole tree at a position, or the closing span at an end.
 fn span_at(buffer: &TokenBuffer, position: usize) -> Span
     requires { position ≤ weight buffer.now.forest }
     ensures { result ≡ level_span (levels_at buffer.now.forest position).0 }
@@ -101,7 +109,7 @@ fn span_at(buffer: &TokenBuffer, position: usize) -> Span
     }
 }
 
-// The owner of the group that ends at a position: its delimiter and closing span.
+// Returns the delimiter and the closing span of the group that ends at a position.
 fn owner_at(buffer: &TokenBuffer, end: usize) -> (Delimiter, Span)
     requires in_buffer { end ≤ weight buffer.now.forest }
     requires is_end { at_end (level_ahead (levels_at buffer.now.forest end).0) ≡ true }
@@ -113,7 +121,7 @@ fn owner_at(buffer: &TokenBuffer, end: usize) -> (Delimiter, Span)
     }
 }
 
-// The first visible tree from a position on: whether it is in a group that opens on the way, and its span.
+// Finds the first visible tree from a position on: whether a group opens before it, and its span.
 fn scan(buffer: &TokenBuffer, from: usize, scope: usize) -> Option<(bool, Span)>
     requires in_buffer { scope ≤ weight buffer.now.forest }
     requires within { IsTrue (in_scope buffer.now.forest from scope) }

@@ -1,4 +1,4 @@
-// Errors as tokens for the compiler.
+//! Errors as tokens for the compiler.
 ghost use Rattle.std.specs.Prelude.{◌≡◌, IfOk, OnOk};
 ghost use Rattle.std.specs.Str.{chars};
 ghost use Rattle.tok_lexical.specs.Words.{IsIdentifier};
@@ -12,8 +12,11 @@ use tok_core::known::{identifier, punct};
 use tok_core::{Delimiter, Group, Literal, Spacing, Span, TokenStream, TokenTree};
 
 impl Error {
-    /// The messages as tokens that make the compiler refuse them: for each `::core::compile_error!{"text"}`, the path and
-    /// the `!` at the message's first span, the braces and the text at its last.
+    /// Returns tokens at which the compiler reports the messages: `::core::compile_error!{"text"}`
+    /// for each.
+    ///
+    /// The path and the `!` get the message's first span, the braces and the text its last. Returns
+    /// an error if an allocation fails.
     pub fn to_compile_error(&self, alloc: Global) -> Result<TokenStream, AllocError>
         ensures { IfOk result (λ s. s ≡ compile_errors self.now) }
     {
@@ -25,7 +28,7 @@ impl Error {
         Ok(tokens)
     }
 
-    /// The same, and the error is let go.
+    /// Returns the tokens of `to_compile_error`, and drops the error.
     pub fn into_compile_error(self, alloc: Global) -> Result<TokenStream, AllocError>
         ensures { IfOk result (λ s. s ≡ compile_errors self) }
     {
@@ -34,7 +37,7 @@ impl Error {
 }
 
 impl Message {
-    // Puts the tokens of this message after others.
+    // Appends the tokens of this message.
     fn write(&self, alloc: Global, tokens: &mut TokenStream) -> Result<(), AllocError>
         ensures { OnOk result (tokens.new ≡ concat tokens.old (compile_error self.now)) }
     {
@@ -45,7 +48,7 @@ impl Message {
     }
 }
 
-// Puts `::` and a name after others.
+// Appends `::` and a name.
 fn write_segment(
     alloc: Global,
     name: &str,
@@ -61,7 +64,7 @@ fn write_segment(
     Ok(())
 }
 
-// Puts `!` and, in braces, a text as a string after others.
+// Appends `!` and, in braces, a text as a string literal.
 fn write_invocation(
     alloc: Global,
     text: &str,

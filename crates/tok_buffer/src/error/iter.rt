@@ -1,4 +1,4 @@
-// The messages of an error, one error each.
+//! The iterators over the messages of an error, each as an error of its own.
 ghost use Rattle.std.specs.Prelude.{◌≡◌, length};
 ghost use Rattle.std.specs.Iterator.{at_most};
 ghost use Rattle.std.specs.Map.Iter.{TakesFirst};
@@ -8,7 +8,8 @@ use std::alloc::{AllocError, Global};
 use std::marker::Model;
 use std::{slice, vec};
 
-/// The errors of one message each that an error is made of, in order. It asks for no memory.
+/// An iterator that moves the messages out of an error, each as an error of one message. It doesn't
+/// allocate.
 #[derive(Drop)]
 pub struct IntoIter {
     first: Option<Message>,
@@ -16,7 +17,9 @@ pub struct IntoIter {
     alloc: Global,
 }
 
-/// Copies of the errors of one message each that an error is made of, in order.
+/// An iterator over copies of an error's messages, each as an error of one message.
+///
+/// An item is an error if its allocation fails.
 #[derive(Drop)]
 pub struct Iter<'a> {
     first: Option<&'a Message>,

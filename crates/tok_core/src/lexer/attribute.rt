@@ -1,4 +1,4 @@
-// The attribute that a doc comment stands for.
+//! The attribute that a doc comment becomes.
 ghost use Rattle.std.specs.Prelude.{◌≡◌, OnOk};
 ghost use Rattle.std.specs.Str.{chars};
 ghost use Rattle.tok_core.specs.Building.{add_forest};
@@ -10,7 +10,7 @@ use std::alloc::{AllocError, Global};
 use tok_leaves::{Literal, Spacing, Span, Text, unchecked};
 use tok_lexical::Delimiter;
 
-/// `[doc = ".."]`, each part at this span.
+/// Appends `[doc = ".."]`, with `span` for each part.
 fn append_group<B: Build>(
     built: &mut B,
     alloc: Global,
@@ -31,7 +31,7 @@ fn append_group<B: Build>(
     built.close(Delimiter::Bracket, span)
 }
 
-/// The `!` of an inner attribute.
+/// Appends the `!` of an inner attribute.
 fn append_bang<B: Build>(built: &mut B, span: Span, is_inner: bool) -> Result<(), AllocError>
     ensures { OnOk result
         (B.levels built.new ≡ add_forest (bang span is_inner) (B.levels built.old)) }
@@ -42,7 +42,7 @@ fn append_bang<B: Build>(built: &mut B, span: Span, is_inner: bool) -> Result<()
     Ok(())
 }
 
-/// Puts the attribute after the trees of the innermost level.
+/// Appends the attribute to the innermost level.
 pub fn append_doc<B: Build>(
     built: &mut B,
     alloc: Global,

@@ -1,4 +1,4 @@
-// White space and comments between the pieces that mean something.
+//! White space and comments between pieces.
 ghost use Rattle.std.specs.Prelude.{◌<◌, ◌≤◌, ◌-◌, length, IfSome};
 ghost use Rattle.std.specs.Str.{chars, IsUtf8};
 ghost use Rattle.tok_core.specs.Private.Built.{IsBlank};
@@ -7,8 +7,10 @@ use tok_lexical::classes::past_whitespace;
 use tok_lexical::comments::{opens_block_doc, opens_line_doc, past_block, past_line};
 use tok_lexical::text::past_char;
 
-/// What follows the white space and the comments at the front. A doc comment stays, and a comment that isn't closed.
-// Inlined: the loop over pieces is made twice, for trees and for entries, and a call in each would cost every piece.
+/// Removes the white space and the comments at the front. A doc comment stays, and so does a
+/// comment that is not closed.
+// Inlined: the loop over pieces exists twice, for trees and for entries, and a call in each would
+// cost every piece.
 #[inline(always)]
 pub fn past_blanks(text: &str) -> &str
     ensures blank { IsBlank (chars text.now) (chars result.now)
@@ -22,7 +24,7 @@ pub fn past_blanks(text: &str) -> &str
     }
 }
 
-/// What follows the comments at the front, with the white space after each.
+/// Removes the comments at the front, with the white space after each.
 #[inline(never)]
 fn past_comments(text: &str) -> &str
     ensures blank { IsBlank (chars text.now) (chars result.now)
@@ -36,7 +38,7 @@ fn past_comments(text: &str) -> &str
     rest
 }
 
-/// What follows a comment at the front that is closed and no doc comment.
+/// Removes a comment at the front, if it is closed and no doc comment.
 fn past_comment(text: &str) -> Option<&str>
     ensures blank { IfSome result
         (λ rest. IsBlank (chars text.now) (chars rest.now) (length text.now - length rest.now)) }

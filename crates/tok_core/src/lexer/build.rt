@@ -1,4 +1,5 @@
-// What the lexer builds: trees, or anything that takes leaves, openings and closings in their order.
+//! What the lexer builds: trees, or anything else that takes leaves, openings and closings in
+//! order.
 ghost use Rattle.std.specs.Prelude.{◌≡◌, [], OnOk, OnErr, ◌<◌, length};
 ghost use Rattle.tok_core.specs.Building.{Levels, nothing, add_leaf, opened, Closes};
 ghost use Rattle.tok_core.specs.Forest.{no_trees};
@@ -10,12 +11,14 @@ use std::mem;
 use tok_leaves::{Ident, Literal, Punct, Span};
 use tok_lexical::Delimiter;
 
-/// A builder of what the lexer reads. The lexer tells it each leaf, each opening and each closing in order. The lexer also keeps
-/// the delimiters and the positions of the open groups, so a builder has only to keep the trees.
+/// A builder of what the lexer reads.
 ///
-/// If an allocation fails, the levels are as before, and the leaf is dropped.
+/// The lexer calls it for each leaf, each opening and each closing, in order. It also keeps the
+/// delimiters and the positions of the open groups, so a builder keeps the trees alone.
+///
+/// If a call returns an error, the levels are unchanged and a leaf is dropped.
 pub trait Build {
-    // The trees so far: those before each group that is open, and those of the innermost level.
+    // The trees so far: those before each open group, and those of the innermost level.
     ghost levels: { Self → Levels };
 
     /// Appends an identifier to the innermost level.
@@ -40,21 +43,29 @@ pub trait Build {
         ensures err { OnErr result (levels self.new ≡ levels self.old) };
 
     /// Closes the innermost level, which becomes a group at the end of the level around it.
+    ///
+    /// # Requires
+    ///
+    /// A level must be open.
     fn close(&mut self, delimiter: Delimiter, span: Span) -> Result<(), AllocError>
         requires { 0 < length (levels self.old).outer }
         ensures ok { OnOk result (Closes delimiter span (levels self.old) (levels self.new)) }
         ensures err { OnErr result (levels self.new ≡ levels self.old) };
 }
 
-/// Builds streams: the trees of the innermost level, and those before each group that is open, outermost first.
+/// A builder of streams.
 #[derive(Drop)]
 pub struct TreeBuilder {
+    /// The allocator of the streams.
     pub alloc: Global,
+    /// The trees before each open group, the outermost first.
     pub before: Vec<TokenStream>,
+    /// The trees of the innermost level.
     pub trees: TokenStream,
 }
 
 impl TreeBuilder {
+    /// Creates an empty builder.
     pub fn new(alloc: Global) -> TreeBuilder
         ensures before { result.before.items ≡ [] }
         ensures trees { result.trees ≡ no_trees }

@@ -1,4 +1,4 @@
-// Why a text isn't read.
+//! Why the lexer rejects a text.
 ghost use Rattle.std.specs.Prelude.{◌≡◌, Some};
 ghost use Rattle.tok_core.specs.Lexical.Errors.{error_number, error_byte, error_span, error_words};
 
@@ -8,7 +8,15 @@ use std::fmt::{Formatter, Write};
 use tok_leaves::Span;
 use tok_lexical::Reason;
 
-/// Why a text isn't read, and where: the number of the rule, from L1 to L15, and the byte.
+/// Why a text is rejected, and at which byte. Its number is that of a rule, from L1 to L15.
+///
+/// # Examples
+///
+/// ```rust
+/// if let Err(LexFault::Refused(error)) = lex(alloc, 0, "(a") {
+///     assert_eq!(rt; (error.number(), error.at()), (2, 0));
+/// }
+/// ```
 #[derive(Clone, Copy, PartialEq, Eq, Debug)]
 pub struct LexError {
     refusal: Reason,
@@ -27,21 +35,21 @@ impl LexError {
         }
     }
 
-    /// The number of the rule: 1 for L1, to 15 for L15.
+    /// Returns the number of the rule: 1 for L1, up to 15 for L15.
     pub fn number(&self) -> u8
         ensures { result ≡ error_number self.now }
     {
         self.refusal.number()
     }
 
-    /// The byte at which the token, comment or group begins that isn't read.
+    /// Returns the byte at which the rejected token, comment or group begins.
     pub fn at(&self) -> usize
         ensures { result ≡ error_byte self.now }
     {
         self.at
     }
 
-    /// The empty range at that byte, in the source that was read.
+    /// Returns the empty span at that byte, in the source that was read.
     pub fn span(&self) -> Span
         ensures { result ≡ error_span self.now }
     {
@@ -57,9 +65,11 @@ impl fmt::Display for LexError {
     }
 }
 
-/// Why no stream is returned: the text is refused, or an allocation failed.
+/// Why the lexer returns no stream.
 #[derive(Clone, Copy, PartialEq, Eq, Debug)]
+/// The text is rejected.
 pub enum LexFault {
+    /// An allocation failed.
     Refused(LexError),
     Memory,
 }

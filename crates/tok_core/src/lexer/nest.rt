@@ -1,4 +1,4 @@
-// What is built so far, with the groups that are open.
+//! A builder and the groups that are open in it.
 ghost use Rattle.std.specs.Prelude.{◌≡◌, ℕ, ◌+◌, ◌<◌, ◌≤◌, ◌^◌, ◌∷◌, [], IfErr, OnOk, None, if◌then◌else◌, true};
 ghost use Rattle.std.specs.Str.{chars};
 ghost use Rattle.tok_core.specs.Private.Built.{state, Grows, Reached, IsPaired, HaltsAt, IsTooDeep, IsUnfit};
@@ -21,7 +21,7 @@ use tok_lexical::joint::{makes_joint, makes_joint_apostrophe, past_marks, takes_
 use tok_lexical::text::{first_of, past_first, up_to};
 use tok_lexical::{Delimiter, Reason, Rule, refusal};
 
-/// What is built so far, and the groups that are open, outermost first: the delimiter of each, and where it begins.
+/// A builder and its open groups, the outermost first: the delimiter of each, and where it begins.
 #[derive(Drop)]
 pub struct Nest<B> {
     pub alloc: Global,
@@ -41,6 +41,7 @@ fn spacing(is_joint: bool) -> Spacing
 }
 
 impl<B: Build + Drop> Nest<B> {
+    /// Creates a nest with no open group.
     pub fn new(alloc: Global, source: u32, built: B) -> Nest<B>
         ensures source { result.source ≡ source }
         ensures open { result.«open».items ≡ [] }
@@ -82,7 +83,7 @@ impl<B: Build + Drop> Nest<B> {
         Ok(())
     }
 
-    // Inlined: literals are taken in at two places, and a call would cost the more frequent one.
+    // Inlined: literals are appended in two places, and a call would cost the more frequent one.
     #[inline(always)]
     fn literal(&mut self, start: usize, end: usize, text: &str) -> Result<(), AllocError>
         requires order { start ≤ end }
@@ -96,8 +97,9 @@ impl<B: Build + Drop> Nest<B> {
         Ok(())
     }
 
-    /// A lifetime's two trees.
-    // Kept out of line: lifetimes are rare, and inlining them takes registers from the loop over pieces.
+    /// Appends the two trees of a lifetime.
+    // Kept out of line: lifetimes are rare, and inlining them takes registers from the loop over
+    // pieces.
     #[inline(never)]
     fn lifetime(&mut self, at: usize, end: usize, name: &str) -> Result<(), AllocError>
         requires fits { at + 1 < 2 ^ 64 }
@@ -112,7 +114,7 @@ impl<B: Build + Drop> Nest<B> {
         Ok(())
     }
 
-    /// Digits and a dot after them: a float, or an integer and a punct.
+    /// Appends digits and the dot after them: a float, or an integer and a punct.
     #[inline(never)]
     fn pointed(&mut self, at: usize, end: usize, piece: &str, after: &str) -> Result<(), AllocError>
         requires some { at < end }
@@ -131,7 +133,7 @@ impl<B: Build + Drop> Nest<B> {
         Ok(())
     }
 
-    /// The attribute that a doc comment stands for. Its group is one more level, at most the 256th.
+    /// Appends the attribute of a doc comment. Its group is one level deeper, at most the 256th.
     #[inline(never)]
     fn doc(&mut self, at: usize, end: usize, is_inner: bool, text: &str) -> Result<(), LexFault>
         requires order { at ≤ end }
@@ -151,7 +153,7 @@ impl<B: Build + Drop> Nest<B> {
         Ok(())
     }
 
-    /// A new innermost level, at most the 256th.
+    /// Opens a level, at most the 256th.
     fn open(&mut self, delimiter: Delimiter, at: usize) -> Result<(), LexFault>
         ensures ok { OnOk result
             (Grows at (state B.levels self.old) (state B.levels self.new)
@@ -170,7 +172,7 @@ impl<B: Build + Drop> Nest<B> {
         }
     }
 
-    /// Closes the innermost group, if the delimiter is its own.
+    /// Closes the innermost group, if the delimiter matches.
     // Inlined: every group is closed, and a call would save and restore registers for each.
     #[inline(always)]
     fn close(&mut self, delimiter: Delimiter, at: usize, end: usize) -> Result<(), LexFault>
@@ -195,7 +197,7 @@ impl<B: Build + Drop> Nest<B> {
         Ok(())
     }
 
-    /// Takes in a piece that the rule took from `at` to `end`, with the text after it.
+    /// Appends the piece that `rule` found from `at` to `end`, before the text `after`.
     pub fn take_in(
         &mut self,
         rule: Rule,

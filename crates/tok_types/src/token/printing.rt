@@ -9,9 +9,11 @@ ghost use Rattle.tok_types.specs.Printed.{puncts, spacing};
 use std::alloc::AllocError;
 use tok_core::{Punct, Spacing, Span, TokenStream, TokenTree, known};
 
-/// Writes a punct for each character of a text, each but the last joint, at the span with the same index. Writes nothing if
-/// there aren't as many spans as bytes, or if a character is no punct's. After an allocation failure, the puncts that were
-/// written before stay.
+/// Appends a punct for each character of `text`, each but the last joint, at the span with the same
+/// index.
+///
+/// Appends nothing unless there are as many spans as bytes and every character can be a punct. If
+/// an allocation fails, the puncts before it stay.
 pub fn punct(text: &str, spans: &[Span], tokens: &mut TokenStream) -> Result<(), AllocError>
     ensures ok { OnOk result (tokens.new ≡ concat tokens.old (puncts text.now spans.now)) }
     ensures err { OnErr result (AppendsFront tokens.old (puncts text.now spans.now) tokens.new) }
@@ -27,7 +29,7 @@ pub fn punct(text: &str, spans: &[Span], tokens: &mut TokenStream) -> Result<(),
     Ok(())
 }
 
-// The punct of a character that one may have, as one of several.
+// Creates one punct of several.
 fn one_of(byte: u8, is_last: bool, span: Span) -> Punct
     requires { is_punct_or_apostrophe byte ≡ true }
     ensures { punct_of result ≡ punct byte (spacing is_last) span }
@@ -40,7 +42,7 @@ fn one_of(byte: u8, is_last: bool, span: Span) -> Punct
     known::punct(char::from(byte), spacing, span)
 }
 
-// Whether each character is one that a punct may have.
+// Returns `true` if each character can be a punct.
 fn are_puncts(text: &str) -> bool
     ensures { result ≡ list_all is_punct_or_apostrophe text.now }
 {

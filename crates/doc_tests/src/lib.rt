@@ -1,0 +1,16 @@
+//! Tests of the examples in doc comments. `tests/layout` checks that each example stands here, word
+//! for word.
+#![tactic(auto)]
+
+#[cfg(test)]
+mod buffers;
+#[cfg(test)]
+mod lists;
+#[cfg(test)]
+mod replays;
+#[cfg(test)]
+mod streams;
+#[cfg(test)]
+mod tokens;
+#[cfg(test)]
+mod trees;

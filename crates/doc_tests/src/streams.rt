@@ -1,0 +1,214 @@
+//! Examples of `syn_parse`.
+use std::alloc::Global;
+use syn_parse::{
+    IdentExt, Parens, Parse, ParseStream, Parser, Result, parenthesized, parse_parens, parse_str,
+    parse2, parsing,
+};
+use syn_punctuated::Punctuated;
+use tok_core::{Delimiter, Ident, Literal, Span, TokenStream, lex};
+use tok_types::token;
+
+#[derive(Drop)]
+struct Name {
+    ident: Ident,
+}
+
+impl Parse for Name {
+    fn parse(input: ParseStream<'_, '_>) -> Result<Self> {
+        Ok(Name {
+            ident: input.parse()?,
+        })
+    }
+}
+
+fn len_of_name(input: ParseStream<'_, '_>) -> Result<usize> {
+    let name: Name = input.parse()?;
+    Ok(name.ident.as_str().len())
+}
+
+#[derive(Drop)]
+struct Call {
+    name: Ident,
+    arguments: Punctuated<Ident, token::Comma>,
+}
+
+impl Parse for Call {
+    fn parse(input: ParseStream<'_, '_>) -> Result<Self> {
+        let _: token::Pub = input.parse()?;
+        let name = input.parse()?;
+        let (_, arguments) = input.within(
+            Delimiter::Parenthesis,
+            |inside| Punctuated::parse_terminated(inside),
+        )?;
+        Ok(Call { name, arguments })
+    }
+}
+
+fn call_of_tokens(alloc: Global, tokens: TokenStream) -> Result<usize> {
+    let call: Call = parse2(alloc, tokens)?;
+    Ok(call.name.as_str().len())
+}
+
+fn call_of_text(alloc: Global) -> Result<usize> {
+    let call: Call = parse_str(alloc, "pub run(a, b,)")?;
+    Ok(call.arguments.len())
+}
+
+fn calls(alloc: Global) -> Option<(usize, usize)> {
+    let tokens = lex(alloc, 0, "pub name(a)").ok()?;
+    Some((
+        call_of_tokens(alloc, tokens).ok()?,
+        call_of_text(alloc).ok()?,
+    ))
+}
+
+fn any_word(input: ParseStream<'_, '_>) -> Result<usize> {
+    let word = Ident::parse_any(input)?;
+    Ok(word.as_str().len())
+}
+
+fn optional_name(input: ParseStream<'_, '_>) -> Result<Option<Ident>> {
+    if input.is_empty() {
+        return Ok(None);
+    }
+    let name: Ident = input.parse()?;
+    if input.peek::<token::Comma>() {
+        let _: token::Comma = input.parse()?;
+    }
+    Ok(Some(name))
+}
+
+fn has_name(alloc: Global, text: &str) -> Option<bool> {
+    Some(optional_name.parse_str(alloc, text).ok()?.is_some())
+}
+
+fn parse_path(input: ParseStream<'_, '_>) -> Result<Ident> {
+    input.parse()
+}
+
+fn called(input: ParseStream<'_, '_>) -> Result<usize> {
+    let path = input.call(parse_path)?;
+    Ok(path.as_str().len())
+}
+
+fn one_name(alloc: Global) -> Result<usize> {
+    let name = Ident::parse.parse_str(alloc, "x")?;
+    Ok(name.as_str().len())
+}
+
+fn expects_a_name(input: ParseStream<'_, '_>) -> Result<usize> {
+    return Err(input.error("expected a name"));
+}
+
+fn any_literal(input: ParseStream<'_, '_>) -> Result<Literal> {
+    input.step(|from| match from.cursor().literal() {
+        Some((literal, rest)) => Ok((literal.clone()?, rest)),
+        None => Err(from.error("expected a literal")),
+    })
+}
+
+fn sealed(input: ParseStream<'_, '_>) -> Result<Span> {
+    let span = parsing::keyword(input, "sealed")?;
+    Ok(span)
+}
+
+fn matches(input: ParseStream<'_, '_>) -> Result<Span> {
+    let spans: [Span; 2] = parsing::punct(input, "=~")?;
+    Ok(spans[1])
+}
+
+fn parse_function(input: ParseStream<'_, '_>) -> Result<char> {
+    let _: token::Fn = input.parse()?;
+    Ok('f')
+}
+
+fn parse_struct(input: ParseStream<'_, '_>) -> Result<char> {
+    let _: token::Struct = input.parse()?;
+    Ok('s')
+}
+
+fn item(input: ParseStream<'_, '_>) -> Result<char> {
+    let mut lookahead = input.lookahead1();
+    if lookahead.peek::<token::Fn>()? {
+        parse_function(input)
+    } else if lookahead.peek::<token::Struct>()? {
+        parse_struct(input)
+    } else {
+        Err(lookahead.error())
+    }
+}
+
+fn within(input: ParseStream<'_, '_>) -> Result<(Span, Ident)> {
+    let (span, name) = input.within(Delimiter::Parenthesis, |content| content.parse::<Ident>())?;
+    Ok((span.join(), name))
+}
+
+fn parsed_within(input: ParseStream<'_, '_>) -> Result<(Span, Ident)> {
+    let (span, name) = input.parse_within::<Ident>(Delimiter::Parenthesis)?;
+    Ok((span.join(), name))
+}
+
+fn in_parens(input: ParseStream<'_, '_>) -> Result<(token::Paren, Ident)> {
+    let Parens { token, mut content } = parse_parens(input)?;
+    let name = content.parse::<Ident>();
+    input.close(content);
+    Ok((token, name?))
+}
+
+fn by_a_macro(input: ParseStream<'_, '_>) -> Result<(token::Paren, Ident)> {
+    let mut content;
+    let paren = parenthesized!(content in input);
+    let name = content.parse::<Ident>();
+    input.close(content);
+    Ok((paren, name?))
+}
+
+#[test]
+fn values(rt: HostRuntime) {
+    let alloc = rt.alloc();
+    assert_eq!(rt; len_of_name.parse_str(alloc, "abc").ok(), Some(3));
+    assert_eq!(rt; calls(alloc), Some((4, 2)));
+    assert_eq!(rt; any_word.parse_str(alloc, "fn").ok(), Some(2));
+    assert_eq!(rt; has_name(alloc, "a,"), Some(true));
+    assert_eq!(rt; has_name(alloc, ""), Some(false));
+    assert_eq!(rt; called.parse_str(alloc, "abcd").ok(), Some(4));
+    assert_eq!(rt; one_name(alloc).ok(), Some(1));
+    assert!(rt; expects_a_name.parse_str(alloc, "a").is_err());
+    assert!(rt; any_literal.parse_str(alloc, "1").is_ok());
+    assert!(rt; any_literal.parse_str(alloc, "a").is_err());
+    assert_eq!(rt;
+        sealed.parse_str(alloc, "sealed").ok(),
+        Some(Span::source(0, 0, 6))
+    );
+    assert_eq!(rt;
+        matches.parse_str(alloc, "=~").ok(),
+        Some(Span::source(0, 1, 2))
+    );
+    assert_eq!(rt; item.parse_str(alloc, "struct").ok(), Some('s'));
+    assert!(rt; item.parse_str(alloc, "enum").is_err());
+}
+
+#[test]
+fn groups(rt: HostRuntime) {
+    let alloc = rt.alloc();
+    let whole = Some(Span::source(0, 0, 3));
+    assert_eq!(rt; within.parse_str(alloc, "(a)").ok().map(|it| it.0), whole);
+    assert_eq!(rt;
+        parsed_within.parse_str(alloc, "(a)").ok().map(|it| it.0),
+        whole
+    );
+    assert_eq!(rt;
+        in_parens
+            .parse_str(alloc, "(a)")
+            .ok()
+            .map(|it| it.0.span.join()),
+        whole
+    );
+    assert_eq!(rt;
+        by_a_macro
+            .parse_str(alloc, "(a)")
+            .ok()
+            .map(|it| it.0.span.join()),
+        whole
+    );
+}
