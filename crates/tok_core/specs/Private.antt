@@ -3,5 +3,6 @@ pub mod Alikes
 pub mod Attribute
 pub mod Built
 pub mod Excess
+pub mod Halted
 pub mod Pending
 pub mod TreeFalls

@@ -65,7 +65,7 @@ pub fn read<B: Build + Drop>(
         let end = at + rule.width(piece);
         match nest.take_in(rule, at, end, piece, after) {
             Ok(()) => {}
-            Err(fault) => return Err(fault),
+            Err(halt) => return Err(halt.fault(source, at)),
         }
         rest = past_blanks(after);
         at = end + (after.len() - rest.len());

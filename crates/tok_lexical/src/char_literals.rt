@@ -22,6 +22,8 @@ fn is_byte(c: char) -> bool
 }
 
 /// Past the apostrophe that ends a character, and its suffix.
+// Inlined: it is the end of each of the three rules, and mostly two tests.
+#[inline(always)]
 fn past_end(text: &str) -> Option<&str>
     ensures tries { ReadsLongest (After 39 IsSuffix) (chars text.now) result }
     ensures utf8 { IfSome result (λ rest. IsUtf8 rest.now) }

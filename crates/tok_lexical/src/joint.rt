@@ -1,11 +1,11 @@
 //! Whether a punctuation character is joint to the next.
 ghost use Rattle.std.specs.Prelude.{◌≡◌};
 ghost use Rattle.std.specs.Str.{chars};
-ghost use Rattle.tok_lexical.specs.Following.{starts_punct, begins_comment, makes_joint, makes_joint_apostrophe, starts_name, past_marks, takes_point};
+ghost use Rattle.tok_lexical.specs.Following.{starts_punct, begins_comment, makes_joint, makes_joint_apostrophe, past_marks, takes_point};
 
 use crate::classes::is_punct_or_apostrophe;
 use crate::text::{begins_with, next_char, past_char};
-use crate::words::is_identifier_start;
+use crate::words::{is_identifier_start, starts_name};
 
 /// Whether a punct character follows, the apostrophe among them.
 fn starts_punct(rest: &str) -> bool
@@ -34,16 +34,6 @@ pub fn makes_joint(rest: &str) -> bool
     ensures { result ≡ makes_joint (chars rest.now) }
 {
     starts_punct(rest) && !begins_comment(rest)
-}
-
-/// Whether an identifier follows.
-fn starts_name(rest: &str) -> bool
-    ensures { result ≡ starts_name (chars rest.now) }
-{
-    match next_char(rest) {
-        Some((first, _)) => is_identifier_start(first),
-        None => false,
-    }
 }
 
 /// Whether an identifier or a punct character follows, through marks.

@@ -5,7 +5,7 @@ ghost use Rattle.tok_lexical.specs.Pieces.{IsLongestPrefix, ReadsLongest, Skips}
 ghost use Rattle.tok_lexical.specs.Numbers.{base_mark, radix, is_digit_or_underscore, is_exponent, starts_digit, is_fraction, starts_number_suffix, IsNumberSuffix, IsNumber, has_digit, IsBased, IsDecimal, is_bare, is_malformed, is_float};
 
 use crate::text::{next_char, past_pair};
-use crate::words::{is_identifier_start, past_identifier};
+use crate::words::{is_identifier_start, past_identifier, starts_name};
 
 /// The bases that a number names.
 #[derive(Clone, Copy, Debug)]
@@ -84,6 +84,10 @@ pub fn past_number_suffix(text: &str, radix: u32) -> &str
     ensures { (suffix : List ℕ)
         × IsLongestPrefix (IsNumberSuffix radix) (chars text.now) suffix (chars result.now) }
 {
+    // Most numbers have none.
+    if !starts_name(text) {
+        return text;
+    }
     let Some((first, _)) = next_char(text) else {
         return text;
     };
@@ -177,6 +181,8 @@ fn is_bare(text: &str, radix: u32) -> bool
 }
 
 /// Whether a number with this text after it would go on.
+// Inlined: each number with a base asks this, and mostly the first character after it tells.
+#[inline(always)]
 pub fn is_malformed(base: Base, piece: &str, after: &str) -> bool
     ensures { result ≡ is_malformed base (chars piece.now) (chars after.now) }
 {

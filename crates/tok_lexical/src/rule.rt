@@ -375,7 +375,8 @@ fn opens_literal(rest: &str) -> bool
 }
 
 /// The first rule that fits, if a digit begins the text, or what comes after a letter tells that it begins no literal.
-#[inline(never)]
+// Inlined: most numbers, and most words that begin so, are told here.
+#[inline(always)]
 fn second_told<'a>(
     rules: Rules,
     start: Start,

@@ -2,6 +2,7 @@
 ghost use Rattle.std.specs.Prelude.{◌≡◌, ℕ, List, IfSome, MatchBool};
 ghost use Rattle.std.specs.Str.{chars, IsUtf8};
 ghost use Rattle.unicode_ident.specs.Ident.{is_xid_continue};
+ghost use Rattle.tok_lexical.specs.Following.{starts_name};
 ghost use Rattle.tok_lexical.specs.Pieces.{After, IsLongestPrefix, ReadsLongest, Skips};
 ghost use Rattle.tok_lexical.specs.Words.{IsIdentifier, IsRawIdentifier, IsName, IsNameOf, IsSuffix, is_identifier_start, has_no_raw, is_missing, is_plain, is_raw_prefix};
 
@@ -9,10 +10,28 @@ use crate::edition::Edition;
 use crate::text::{next_char, past_char, past_pair};
 use unicode_ident::{is_xid_continue, is_xid_start};
 
+/// Whether an identifier may begin with this character.
+// Inlined, and most are ASCII: each literal asks this of the character after it.
+#[inline(always)]
 pub fn is_identifier_start(c: char) -> bool
     ensures { result ≡ is_identifier_start c }
 {
-    is_xid_start(c) || c == '_'
+    if c < '\u{80}' {
+        c.is_ascii_alphabetic() || c == '_'
+    } else {
+        is_xid_start(c)
+    }
+}
+
+/// Whether an identifier follows.
+#[inline(always)]
+pub fn starts_name(text: &str) -> bool
+    ensures { result ≡ starts_name (chars text.now) }
+{
+    match next_char(text) {
+        Some((first, _)) => is_identifier_start(first),
+        None => false,
+    }
 }
 
 // Each ASCII character that may go on in an identifier stands at its own place, and a dash at every other place.
@@ -62,11 +81,17 @@ pub fn past_identifier(text: &str) -> Option<&str>
 }
 
 /// Past a suffix, if one follows directly.
+// Inlined, without what comes after the test: most literals have no suffix.
+#[inline(always)]
 pub fn past_suffix(text: &str) -> &str
     ensures { (suffix : List ℕ)
         × IsLongestPrefix IsSuffix (chars text.now) suffix (chars result.now) }
 {
-    past_identifier(text).unwrap_or(text)
+    if starts_name(text) {
+        past_identifier(text).unwrap_or(text)
+    } else {
+        text
+    }
 }
 
 /// Past a raw identifier.

@@ -6,9 +6,10 @@ use Rattle.std.proofs.lemmas.List.{append-nil}
 use Rattle.tok_core.specs.Forest.{Forest}
 use Rattle.tok_lexical.specs.Fits.{NoneBefore}
 use Rattle.tok_core.specs.Building.{nothing}
-use Rattle.tok_core.specs.Private.Built.{EndsInOther, IsBlank, State, IsPaired, Holds, HoldsAll, last, outer, Reached, Grows, HaltsAt}
+use Rattle.tok_core.specs.Private.Built.{EndsInOther, IsBlank, State, IsPaired, Holds, HoldsAll, last, outer, Reached, Grows, Halts}
 use Rattle.tok_lexical.specs.Starts.{rules_of}
 use Rattle.tok_core.specs.Lexical.Errors.{OnRefused}
+use Rattle.tok_core.specs.Private.Halted.{OnHalted, fault_of}
 use Rattle.tok_core.specs.Lexical.Items.{Item, no_items}
 use Rattle.tok_lexical.specs.Refusals.{refusal}
 use Rattle.tok_core.specs.Lexical.Meaning.{items}
@@ -19,7 +20,8 @@ use Rattle.tok_core.specs.Lexical.Reading.{Cut, stop, piece, ReadsFrom, Refuses,
 use Rattle.tok_lexical.specs.Rules.{Spells}
 use Rattle.tok_core.specs.declared.lexer.error.LexError.{LexError}
 use Rattle.tok_core.specs.declared.lexer.error.LexFault.{LexFault}
-use Rattle.tok_core.specs.declared.lexer.error.LexFault.TheVariants.{Refused, Memory}
+use Rattle.tok_core.specs.declared.lexer.error.Halt.{Halt}
+use Rattle.tok_core.specs.declared.lexer.error.Halt.TheVariants.{Refused, Memory}
 use Rattle.tok_lexical.specs.declared.reason.Reason.TheVariants.{UnclosedGroup}
 use Rattle.tok_lexical.specs.declared.delimiter.Delimiter.{Delimiter}
 use Rattle.tok_lexical.specs.declared.rule.Rules.{Rules}
@@ -114,10 +116,10 @@ module _ (begin : ℕ) (rules : List Rule) (number : ℕ) (text rest : List ℕ)
       refused error (ap (λ w. w.source) is ∙ sym s.same_source) (subst (λ w. Refuses rules nest.groups at (chars rest) w.refusal w.at) (sym is) (unclosed group.0 fewer e o))
 
   -- a fault at the next piece
-  pub fault_here : (taken after : List ℕ) (rule : Rule) (fault : LexFault) → IsFirstFit (chars rest) rules rule taken after → OnRefused fault (HaltsAt nest rule at taken after) → OnRefused fault (IsRefusedFrom begin rules number (chars text))
-  fault_here taken after rule Memory d h = tt
-  fault_here taken after rule (Refused error) d (from, place, why) =
-      refused error from (subst (λ w. Refuses rules nest.groups at (chars rest) error.refusal w) (sym place) (refuses rules nest.groups rule at error.refusal (chars rest) taken after d why))
+  pub fault_here : (taken after : List ℕ) (rule : Rule) (halt : Halt) (fault : LexFault) → IsFirstFit (chars rest) rules rule taken after → OnHalted halt (Halts nest.groups rule at taken after) → fault ≡ fault_of number at halt → OnRefused fault (IsRefusedFrom begin rules number (chars text))
+  fault_here taken after rule Memory fault d h is = subst (λ w. OnRefused w (IsRefusedFrom begin rules number (chars text))) (sym is) tt
+  fault_here taken after rule (Refused why) fault d h is =
+      subst (λ w. OnRefused w (IsRefusedFrom begin rules number (chars text))) (sym is) (refused (record { refusal = why; source = number; at = at }) (sym s.same_source) (refuses rules nest.groups rule at why (chars rest) taken after d h))
 
 pub ends_in_other : (rules : Rules) → EndsInOther (rules_of rules)
 ends_in_other Plain = refl

@@ -14,7 +14,6 @@ use Rattle.tok_lexical.specs.declared.rule.Rule.{Rule}
 use Rattle.tok_lexical.specs.declared.rule.Rule.TheVariants.{Whitespace, Closing, Other}
 use Rattle.tok_lexical.specs.declared.reason.Reason.{Reason}
 use Rattle.tok_lexical.specs.declared.reason.Reason.TheVariants.{UnexpectedClosing, DeepGroup}
-use Rattle.tok_core.specs.declared.lexer.error.LexError.{LexError}
 use Rattle.tok_core.specs.declared.lexer.nest.Nest.{Nest}
 
 -- the last rule takes any character
@@ -77,18 +76,8 @@ pub data Halts (levels : List (Delimiter × ℕ)) (rule : Rule) (at : ℕ)
   deep : refusal rule at piece after ≡ None → opens_group rule piece ≡ true →
       length levels ≡ 256 → Halts levels rule at piece after DeepGroup
 
--- an error at this byte for a reason why this piece is refused
-abbrev pub HaltsAt : State → Rule → ℕ → List ℕ → List ℕ → LexError → Type 0
-HaltsAt s rule at piece after error =
-    (error.source ≡ s.source) × (error.at ≡ at)
-    × Halts s.groups rule at piece after error.refusal
+abbrev pub IsTooDeep : State → Reason → Type 0
+IsTooDeep s why = (why ≡ DeepGroup) × (length s.groups ≡ 256)
 
-abbrev pub IsTooDeep : State → ℕ → LexError → Type 0
-IsTooDeep s at error =
-    (error ≡ record { refusal = DeepGroup; source = s.source; at = at })
-    × (length s.groups ≡ 256)
-
-abbrev pub IsUnfit : State → Delimiter → ℕ → LexError → Type 0
-IsUnfit s delimiter at error =
-    (error ≡ record { refusal = UnexpectedClosing; source = s.source; at = at })
-    × (IsOpenBy s.groups delimiter → ⊥)
+abbrev pub IsUnfit : State → Delimiter → Reason → Type 0
+IsUnfit s delimiter why = (why ≡ UnexpectedClosing) × (IsOpenBy s.groups delimiter → ⊥)

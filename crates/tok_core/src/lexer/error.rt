@@ -1,6 +1,7 @@
 //! Why the lexer rejects a text.
 ghost use Rattle.std.specs.Prelude.{◌≡◌, Some};
 ghost use Rattle.tok_core.specs.Lexical.Errors.{error_number, error_byte, error_span, error_words};
+ghost use Rattle.tok_core.specs.Private.Halted.{fault_of};
 
 use std::alloc::AllocError;
 use std::fmt;
@@ -81,5 +82,35 @@ impl From<AllocError> for LexFault {
 
     fn from(_: AllocError) -> Self {
         LexFault::Memory
+    }
+}
+
+/// Why a piece isn't taken in: it is refused, or an allocation failed.
+// Smaller than a `LexFault`: the loop over pieces would move one for each piece.
+#[derive(Clone, Copy, PartialEq, Eq, Debug)]
+pub enum Halt {
+    Refused(Reason),
+    Memory,
+}
+
+impl Halt {
+    /// The fault of a piece at this byte of this source.
+    pub fn fault(self, source: u32, at: usize) -> LexFault
+        ensures { result ≡ fault_of source at self }
+    {
+        match self {
+            Halt::Refused(refusal) => LexFault::Refused(LexError::new(refusal, source, at)),
+            Halt::Memory => LexFault::Memory,
+        }
+    }
+}
+
+impl From<AllocError> for Halt {
+    ghost use Rattle.tok_core.specs.declared.lexer.error.Halt.TheVariants.{Memory};
+
+    ghost from_gives = { λ _ halt. halt ≡ Memory };
+
+    fn from(_: AllocError) -> Self {
+        Self::Memory
     }
 }

@@ -1,8 +1,8 @@
 //! A builder and the groups that are open in it.
 ghost use Rattle.std.specs.Prelude.{◌≡◌, ℕ, ◌+◌, ◌<◌, ◌≤◌, ◌^◌, ◌∷◌, [], IfErr, OnOk, None, if◌then◌else◌, true};
 ghost use Rattle.std.specs.Str.{chars};
-ghost use Rattle.tok_core.specs.Private.Built.{state, Grows, Reached, IsPaired, HaltsAt, IsTooDeep, IsUnfit};
-ghost use Rattle.tok_core.specs.Lexical.Errors.{OnRefused};
+ghost use Rattle.tok_core.specs.Private.Built.{state, Grows, Reached, IsPaired, Halts, IsTooDeep, IsUnfit};
+ghost use Rattle.tok_core.specs.Private.Halted.{OnHalted};
 ghost use Rattle.tok_core.specs.Lexical.Items.{opening, closing};
 ghost use Rattle.tok_lexical.specs.Refusals.{refusal};
 ghost use Rattle.tok_core.specs.Lexical.Meaning.{items, ident_item, literal_item, punct_item, pointed_items, doc_items};
@@ -11,7 +11,7 @@ ghost use Rattle.tok_lexical.specs.Rules.{Spells};
 
 use crate::lexer::attribute::append_doc;
 use crate::lexer::build::Build;
-use crate::lexer::error::{LexError, LexFault};
+use crate::lexer::error::Halt;
 use std::alloc::{AllocError, Global};
 use tok_leaves::{Spacing, Span, Text, unchecked};
 use tok_lexical::comments::{
@@ -135,18 +135,17 @@ impl<B: Build + Drop> Nest<B> {
 
     /// Appends the attribute of a doc comment. Its group is one level deeper, at most the 256th.
     #[inline(never)]
-    fn doc(&mut self, at: usize, end: usize, is_inner: bool, text: &str) -> Result<(), LexFault>
+    fn doc(&mut self, at: usize, end: usize, is_inner: bool, text: &str) -> Result<(), Halt>
         requires order { at ≤ end }
         ensures ok { OnOk result
             (Grows at (state B.levels self.old) (state B.levels self.new)
             (doc_items self.old.source at end is_inner (chars text.now))) }
         ensures refused { IfErr result
-            (λ fault. OnRefused fault (IsTooDeep (state B.levels self.old) at)) }
+            (λ halt. OnHalted halt (IsTooDeep (state B.levels self.old))) }
     {
         let levels = self.open.len();
         if levels == 256 {
-            let error = LexError::new(Reason::DeepGroup, self.source, at);
-            return Err(LexFault::Refused(error));
+            return Err(Halt::Refused(Reason::DeepGroup));
         }
         let span = Span::source(self.source, at, end);
         append_doc(&mut self.built, self.alloc, span, is_inner, text)?;
@@ -154,16 +153,15 @@ impl<B: Build + Drop> Nest<B> {
     }
 
     /// Opens a level, at most the 256th.
-    fn open(&mut self, delimiter: Delimiter, at: usize) -> Result<(), LexFault>
+    fn open(&mut self, delimiter: Delimiter, at: usize) -> Result<(), Halt>
         ensures ok { OnOk result
             (Grows at (state B.levels self.old) (state B.levels self.new)
             (opening delimiter at ∷ [])) }
         ensures refused { IfErr result
-            (λ fault. OnRefused fault (IsTooDeep (state B.levels self.old) at)) }
+            (λ halt. OnHalted halt (IsTooDeep (state B.levels self.old))) }
     {
         if self.open.len() == 256 {
-            let error = LexError::new(Reason::DeepGroup, self.source, at);
-            return Err(LexFault::Refused(error));
+            return Err(Halt::Refused(Reason::DeepGroup));
         }
         self.built.open()?;
         match self.open.push((delimiter, at)) {
@@ -175,7 +173,7 @@ impl<B: Build + Drop> Nest<B> {
     /// Closes the innermost group, if the delimiter matches.
     // Inlined: every group is closed, and a call would save and restore registers for each.
     #[inline(always)]
-    fn close(&mut self, delimiter: Delimiter, at: usize, end: usize) -> Result<(), LexFault>
+    fn close(&mut self, delimiter: Delimiter, at: usize, end: usize) -> Result<(), Halt>
         requires order { at ≤ end }
         requires reached { Reached self.old.«open».items at }
         requires paired { IsPaired (state B.levels self.old) }
@@ -183,14 +181,13 @@ impl<B: Build + Drop> Nest<B> {
             (Grows at (state B.levels self.old) (state B.levels self.new)
             (closing delimiter end ∷ [])) }
         ensures refused { IfErr result
-            (λ fault. OnRefused fault (IsUnfit (state B.levels self.old) delimiter at)) }
+            (λ halt. OnHalted halt (IsUnfit (state B.levels self.old) delimiter)) }
     {
-        let error = LexError::new(Reason::UnexpectedClosing, self.source, at);
         let Some((opened, start)) = self.open.pop() else {
-            return Err(LexFault::Refused(error));
+            return Err(Halt::Refused(Reason::UnexpectedClosing));
         };
         if opened != delimiter {
-            return Err(LexFault::Refused(error));
+            return Err(Halt::Refused(Reason::UnexpectedClosing));
         }
         let span = Span::source(self.source, start, end);
         self.built.close(delimiter, span)?;
@@ -205,7 +202,7 @@ impl<B: Build + Drop> Nest<B> {
         end: usize,
         piece: &str,
         after: &str,
-    ) -> Result<(), LexFault>
+    ) -> Result<(), Halt>
         requires spelled { Spells rule (chars piece.now) }
         requires ends { end ≡ at + width rule (chars piece.now) }
         requires fits { at + 1 < 2 ^ 64 }
@@ -216,16 +213,19 @@ impl<B: Build + Drop> Nest<B> {
             (Grows at (state B.levels self.old) (state B.levels self.new)
             (items self.old.source rule at (chars piece.now) (chars after.now))) }
         ensures refused { IfErr result
-            (λ fault. OnRefused fault
-            (HaltsAt (state B.levels self.old) rule at (chars piece.now) (chars after.now))) }
+            (λ halt. OnHalted halt
+            (Halts self.old.«open».items rule at (chars piece.now) (chars after.now))) }
     {
-        if let Some(refusal) = refusal(rule, at, piece, after) {
-            let error = LexError::new(refusal, self.source, at);
-            return Err(LexFault::Refused(error));
-        }
+        // Before the question of a refusal, which no mark of a group needs.
         match rule {
             Rule::Opening(delimiter) => return self.open(delimiter, at),
             Rule::Closing(delimiter) => return self.close(delimiter, at, end),
+            _ => {}
+        }
+        if let Some(refusal) = refusal(rule, at, piece, after) {
+            return Err(Halt::Refused(refusal));
+        }
+        match rule {
             Rule::SourceLineComment => {
                 if is_line_doc(piece) {
                     return self.doc(at, end, is_inner_doc(piece), line_doc_text(piece));

@@ -2,14 +2,16 @@
 use Rattle.std.proofs.Common.{◌≡◌, ◌∙◌, ℕ, ◌<◌, inl, inr, List, [], ◌∷◌, ◌++◌, refl, sym, ap, subst, arith, append_assoc, true, false, Bool, zero, suc}
 use Rattle.std.specs.Prelude.{◌==◌, ◌||◌, Option, Some, None, length, MatchBool, codes, nat_lt, slice_index, encode_utf8_all}
 use Rattle.std.specs.List.{list_all}
+use Rattle.std.specs.Char.{is_ascii_alphabetic}
 use Rattle.std.specs.Str.{chars, IsUtf8, bytes_eq}
 use Rattle.std.specs.Borrow.{Bor}
 use Rattle.std.proofs.lemmas.List.{append-nil}
 use Rattle.std.proofs.lemmas.Bool.{false≢true, ne_eqb, ltb-true}
 use Rattle.unicode_ident.specs.Ident.{is_xid_continue}
-use Rattle.unicode_ident.proofs.IdentLemmas.{is_xid_continue-ascii}
+use Rattle.unicode_ident.proofs.IdentLemmas.{is_xid_continue-ascii, is_xid_start-ascii}
 use Rattle.tok_lexical.specs.Pieces.{IsLongestPrefix, HasPrefix, ReadsLongest}
-use Rattle.tok_lexical.specs.Words.{IsIdentifier, IsRawIdentifier, IsName, has_no_raw, is_raw_prefix}
+use Rattle.tok_lexical.specs.Following.{starts_name}
+use Rattle.tok_lexical.specs.Words.{is_identifier_start, IsIdentifier, IsRawIdentifier, IsName, has_no_raw, is_raw_prefix}
 use Rattle.tok_lexical.proofs.Lexical.Numbers.{head_passes, tail_passes, not_true}
 use Rattle.std.proofs.lemmas.Str.{encodes-chars, encodes-IsAscii, chars-IsAscii, chars-nil}
 use Rattle.std.proofs.lemmas.Str.Ascii.{IsAscii-nil}
@@ -32,6 +34,15 @@ name_plain text (Some rest) raw (piece, t) = (
     ];
   },
 )
+
+-- what doesn't begin as an identifier
+pub no_name : (text : List ℕ) → starts_name text ≡ false → HasPrefix IsIdentifier text → ⊥
+no_name text e ([], after, cut, s) = s
+no_name text e (c ∷ piece, after, cut, s) = false≢true (sym e ∙ ap starts_name cut ∙ s.0)
+
+-- an identifier may begin with an ASCII letter and with an underscore
+pub letter_start : (c : ℕ) → c < 128 → (is_letter : Bool) → is_letter ≡ is_ascii_alphabetic c → (is_letter || (c == 95)) ≡ is_identifier_start c
+letter_start c h is_letter e = ap (λ w. w || (c == 95)) (e ∙ sym (is_xid_start-ascii c h))
 
 -- a word has no number sign
 raw_no_word : (name more : List ℕ) → IsRawIdentifier name → IsIdentifier (name ++ more) → ⊥

@@ -15,7 +15,7 @@ pub take_in-requires-clause-spelled : goal.take_in-requires-clause-spelled
 take_in-requires-clause-spelled g c = (decided (decided_piece _ c.in-Some.rule _ _ _ _ (c.front_of-piece.ensures.is _ (decided c.in-Some.ensures.tries.1).cut) c.in-Some.ensures.tries.1)).spelled
 
 pub returns-in-Err-clause-refuses : goal.returns-in-Err-clause-refuses
-returns-in-Err-clause-refuses g c = fault_here _ _ _ _ c.loop-rule.rest.now _ (state g.B.Build.levels c.loop-rule.nest) c.loop-rule.invariant.1 _ _ c.in-Some.rule _ (decided_piece _ c.in-Some.rule _ _ _ _ (c.front_of-piece.ensures.is _ (decided c.in-Some.ensures.tries.1).cut) c.in-Some.ensures.tries.1) c.in-Err.ensures.refused
+returns-in-Err-clause-refuses g c = fault_here _ _ _ _ c.loop-rule.rest.now _ (state g.B.Build.levels c.loop-rule.nest) c.loop-rule.invariant.1 _ _ c.in-Some.rule c.in-Err.halt _ (decided_piece _ c.in-Some.rule _ _ _ _ (c.front_of-piece.ensures.is _ (decided c.in-Some.ensures.tries.1).cut) c.in-Some.ensures.tries.1) c.in-Err.ensures.refused c.fault.ensures
 
 pub loop-rule-smaller : goal.loop-rule-smaller
 loop-rule-smaller g c =

@@ -2,8 +2,12 @@ use Rattle.std.proofs.Common.{◌∙◌, ℕ, List, [], sym, subst}
 use Rattle.std.specs.Str.{chars}
 use Rattle.tok_lexical.specs.Pieces.{IsLongestPrefix}
 use Rattle.tok_lexical.specs.Numbers.{IsNumberSuffix}
-use Rattle.tok_lexical.proofs.Lexical.Numbers.{takes_no_suffix, no_suffix_start, takes_number_suffix}
+use Rattle.tok_lexical.proofs.Lexical.Numbers.{takes_no_suffix, no_suffix_start, no_suffix_word, takes_number_suffix}
+use Rattle.tok_lexical.proofs.Lexical.Words.{no_name}
 use Rattle.tok_lexical.proofs.numbers.past_number_suffix.Goals as goal
+
+pub returns-then-not-starts_name : goal.returns-then-not-starts_name
+returns-then-not-starts_name c = ([], takes_no_suffix c.args.radix _ (no_suffix_word c.args.radix _ (no_name _ (sym c.starts_name.ensures ∙ c.if-not-starts_name.true))))
 
 pub returns-then-not-starts_number_suffix : goal.returns-then-not-starts_number_suffix
 returns-then-not-starts_number_suffix c = ([], takes_no_suffix c.args.radix _ (no_suffix_start c.args.radix _ _ c.in-Some.first c.in-Some.ensures.chars (sym c.starts_number_suffix.ensures ∙ c.if-not-starts_number_suffix.true)))
