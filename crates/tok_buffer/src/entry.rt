@@ -10,8 +10,8 @@ ghost use Rattle.tok_buffer.specs.Spans.{closing_of};
 use std::alloc::AllocError;
 use tok_core::{DelimSpan, Delimiter, Ident, Literal, Punct, Span, TokenTree};
 
-#[derive(Clone, Copy)]
 /// The delimiter of a group and its whole span.
+#[derive(Clone, Copy)]
 pub struct Opening {
     pub delimiter: Delimiter,
     pub span: Span,

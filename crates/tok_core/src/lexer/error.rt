@@ -68,10 +68,10 @@ impl fmt::Display for LexError {
 
 /// Why the lexer returns no stream.
 #[derive(Clone, Copy, PartialEq, Eq, Debug)]
-/// The text is rejected.
 pub enum LexFault {
-    /// An allocation failed.
+    /// The text is rejected.
     Refused(LexError),
+    /// An allocation failed.
     Memory,
 }
 
@@ -85,7 +85,7 @@ impl From<AllocError> for LexFault {
     }
 }
 
-/// Why a piece isn't taken in: it is refused, or an allocation failed.
+/// Why a piece isn't taken in: it is rejected, or an allocation failed.
 // Smaller than a `LexFault`: the loop over pieces would move one for each piece.
 #[derive(Clone, Copy, PartialEq, Eq, Debug)]
 pub enum Halt {
