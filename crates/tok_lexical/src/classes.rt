@@ -11,10 +11,15 @@ use crate::text::{next_char, past_char};
 pub fn is_whitespace(c: char) -> bool
     ensures { result ≡ is_whitespace c }
 {
-    matches!(
-        c,
-        ' ' | '\u{9}'..='\u{D}' | '\u{85}' | '\u{200E}' | '\u{200F}' | '\u{2028}' | '\u{2029}'
-    )
+    // Nearly all characters that this is asked of are ASCII.
+    if c < '\u{80}' {
+        matches!(c, ' ' | '\u{9}'..='\u{D}')
+    } else {
+        matches!(
+            c,
+            '\u{85}' | '\u{200E}' | '\u{200F}' | '\u{2028}' | '\u{2029}'
+        )
+    }
 }
 
 /// Whether the text begins with a visible ASCII character.

@@ -40,6 +40,8 @@ fn has_quote(text: &str) -> bool
 }
 
 /// Whether a character that the literal may not hold stands before its last quote.
+// Kept out of line: byte strings and C strings are rare.
+#[inline(never)]
 fn has_misfit(contents: Contents, piece: &str) -> bool
     ensures { result ≡ has_misfit contents (chars piece.now) }
 {
@@ -69,7 +71,8 @@ pub fn has_bare_return(text: &str) -> bool
 }
 
 /// Whether a string literal holds what one of this kind may not.
-#[inline(never)]
+// Inlined, but for the searches: each string of a source asks this, and its kind is known.
+#[inline(always)]
 pub fn is_unfit(contents: Contents, piece: &str) -> bool
     ensures { result ≡ is_unfit contents (chars piece.now) }
 {
@@ -112,6 +115,8 @@ fn names_zero(text: &str) -> bool
 }
 
 /// Whether an escape names U+0000.
+// Kept out of line: C strings are rare.
+#[inline(never)]
 fn has_zero(piece: &str) -> bool
     ensures { result ≡ has_zero false (chars piece.now) }
 {
@@ -128,7 +133,8 @@ fn has_zero(piece: &str) -> bool
 }
 
 /// Whether a string that isn't raw holds what one of this kind may not.
-#[inline(never)]
+// Inlined for the same reason.
+#[inline(always)]
 pub fn is_wrong(contents: Contents, piece: &str) -> bool
     ensures { result ≡ is_wrong contents (chars piece.now) }
 {

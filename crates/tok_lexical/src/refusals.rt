@@ -19,7 +19,8 @@ fn refused_if(is_refused: bool, refusal: Reason) -> Option<Reason>
 }
 
 /// Whether what follows an identifier makes it a reserved prefix.
-#[inline(never)]
+// Inlined: each identifier of a source asks this, and a call would take more than the answer.
+#[inline(always)]
 fn is_reserved(edition: Edition, name: &str, after: &str) -> bool
     ensures { result ≡ is_reserved edition (chars name.now) (chars after.now) }
 {
@@ -31,7 +32,8 @@ fn is_reserved(edition: Edition, name: &str, after: &str) -> bool
 }
 
 /// Whether what follows a punct makes it a reserved guard.
-#[inline(never)]
+// Inlined: each punct of a source asks this.
+#[inline(always)]
 fn is_guard(edition: Edition, piece: &str, after: &str) -> bool
     ensures { result ≡ is_guard edition (chars piece.now) (chars after.now) }
 {
@@ -41,7 +43,8 @@ fn is_guard(edition: Edition, piece: &str, after: &str) -> bool
 }
 
 /// Why a lifetime of a source is refused, if it is: it has no such name, or a quote or a number sign follows.
-#[inline(never)]
+// Inlined: each lifetime of a source asks this.
+#[inline(always)]
 fn lifetime_refusal(edition: Edition, name: &str, after: &str) -> Option<Reason>
     ensures { result ≡ lifetime_refusal edition (chars name.now) (chars after.now) }
 {
@@ -49,7 +52,7 @@ fn lifetime_refusal(edition: Edition, name: &str, after: &str) -> Option<Reason>
         Some(Reason::MissingRawIdentifier)
     } else if begins_with(after, '\'') {
         Some(Reason::MalformedQuoted)
-    } else if edition.reserves_prefixes() && is_plain(name) && begins_with(after, '#') {
+    } else if edition.reserves_prefixes() && begins_with(after, '#') && is_plain(name) {
         Some(Reason::ReservedPrefix)
     } else {
         None

@@ -374,7 +374,8 @@ fn opens_literal(rest: &str) -> bool
         || begins_with(rest, 'r') && opens_string(past_first(rest))
 }
 
-/// The first rule that fits, if a digit begins the text, or what comes after a letter tells that it begins no literal.
+/// The first rule that fits, if a digit begins the text, or what comes after a letter tells that it begins no literal, as a
+/// raw identifier begins none.
 // Inlined: most numbers, and most words that begin so, are told here.
 #[inline(always)]
 fn second_told<'a>(
@@ -394,6 +395,10 @@ fn second_told<'a>(
         Start::Zero if !names_base(rest) => Some(rules.decimal(text)),
         Start::Prefix if !opens_literal(rest) => {
             Some((rules.identifier(), past_continues(rest)))
+        }
+        Start::Prefix if begins_with(rest, '#') => {
+            let end = past_raw_identifier(text)?;
+            Some((Rule::RawIdentifier, end))
         }
         _ => None,
     }

@@ -137,6 +137,8 @@ fn past_source_name(text: &str, edition: Edition) -> Option<&str>
 }
 
 /// Past a lifetime of a source.
+// Inlined, as the rule of the profile is.
+#[inline(always)]
 pub fn past_source_lifetime(text: &str, edition: Edition) -> Option<&str>
     ensures tries { ReadsLongest (After 39 (IsNameOf edition)) (chars text.now) result }
     ensures utf8 { IfSome result (λ rest. IsUtf8 rest.now) }

@@ -1,6 +1,6 @@
 -- Which rule takes a decimal, by what follows its digits.
 use Rattle.std.proofs.Common.{◌≡◌, refl, ℕ, List, [], ◌∷◌, true}
-use Rattle.std.specs.Prelude.{Option, Some, None}
+use Rattle.std.specs.Prelude.{Some, None}
 use Rattle.std.specs.Borrow.{Bor}
 use Rattle.std.specs.Str.{chars}
 use Rattle.tok_lexical.specs.Fits.{IsFirstFit, here, later}

@@ -7,12 +7,11 @@ use Rattle.std.specs.Char.{is_digit}
 use Rattle.unicode_ident.specs.Ident.{is_xid_continue}
 use Rattle.unicode_ident.proofs.IdentLemmas.{is_xid_start-ascii}
 use Rattle.tok_lexical.specs.Fits.{IsFirstFit, here, later}
-use Rattle.tok_lexical.specs.Numbers.{starts_digit}
 use Rattle.tok_lexical.specs.Pieces.{HasPrefix, IsLongestPrefix, Skips}
-use Rattle.tok_lexical.specs.Rules.{Spells, source_rules}
+use Rattle.tok_lexical.specs.Rules.{Spells}
 use Rattle.tok_lexical.specs.Strings.{IsPrefixed}
 use Rattle.tok_lexical.specs.Starts.{only, start_of, is_prefix, rules_of, identifier_rule, last_rules, decimal_rules, names_base, opens_string, opens_literal}
-use Rattle.tok_lexical.specs.Words.{is_identifier_start}
+use Rattle.tok_lexical.specs.Words.{is_identifier_start, IsRawIdentifier}
 use Rattle.tok_lexical.specs.declared.contents.Contents.TheVariants.{Text, Bytes, C}
 use Rattle.tok_lexical.specs.declared.edition.Edition.TheVariants.{Edition2015, Edition2018, Edition2021, Edition2024}
 use Rattle.tok_lexical.specs.declared.numbers.Base.TheVariants.{Hexadecimal, Octal, Binary}
@@ -21,7 +20,7 @@ use Rattle.tok_lexical.specs.declared.rule.Rule.TheVariants.{ByteChar, BadByteCh
 use Rattle.tok_lexical.specs.declared.rule.Rules.{Rules}
 use Rattle.tok_lexical.specs.declared.rule.Rules.TheVariants.{Plain, Marked, Source}
 use Rattle.tok_lexical.specs.declared.start.Start.TheVariants as start
-use Rattle.tok_lexical.proofs.Lexical.Escapes.{tails}
+use Rattle.tok_lexical.proofs.Lexical.Escapes.{heads, tails}
 use Rattle.tok_lexical.proofs.Lexical.First.{decides_begun, fits_front, last_identifier, zero_told}
 use Rattle.tok_lexical.proofs.Lexical.Longest.{takes_identifier}
 use Rattle.tok_lexical.proofs.Lexical.Numbers.{head_passes, tail_passes}
@@ -143,16 +142,19 @@ prefix_opens RawIdentifier c rest h (piece, after, cut, (m, e, (n, f, s))) = ap 
 prefix_opens rule c rest h fits = absurd (false≢true h)
 
 abbrev old_rules : List Rule
-old_rules = ByteChar ∷ BadByteChar ∷ SourceString Bytes ∷ RawString Text ∷ RawString Bytes ∷ BadPrefixed Text ∷ BadPrefixed Bytes ∷ RawIdentifier ∷ []
+old_rules = ByteChar ∷ BadByteChar ∷ SourceString Bytes ∷ RawString Text ∷ RawString Bytes ∷ BadPrefixed Text ∷ BadPrefixed Bytes ∷ []
 
 abbrev new_rules : List Rule
-new_rules = ByteChar ∷ BadByteChar ∷ SourceString Bytes ∷ RawString Text ∷ RawString Bytes ∷ BadPrefixed Text ∷ BadPrefixed Bytes ∷ SourceString C ∷ RawString C ∷ BadPrefixed C ∷ RawIdentifier ∷ []
+new_rules = ByteChar ∷ BadByteChar ∷ SourceString Bytes ∷ RawString Text ∷ RawString Bytes ∷ BadPrefixed Text ∷ BadPrefixed Bytes ∷ SourceString C ∷ RawString C ∷ BadPrefixed C ∷ []
+
+abbrev literal_rules : Rules → List Rule
+literal_rules (Source Edition2015) = old_rules
+literal_rules (Source Edition2018) = old_rules
+literal_rules (Source edition) = new_rules
+literal_rules other = ByteChar ∷ BadByteChar ∷ StringPrefix ∷ []
 
 abbrev prefix_rules : Rules → List Rule
-prefix_rules (Source Edition2015) = old_rules
-prefix_rules (Source Edition2018) = old_rules
-prefix_rules (Source edition) = new_rules
-prefix_rules other = ByteChar ∷ BadByteChar ∷ StringPrefix ∷ RawIdentifier ∷ []
+prefix_rules kind = literal_rules kind ++ RawIdentifier ∷ []
 
 prefix_listed : (kind : Rules) → only start.Prefix (rules_of kind) ≡ prefix_rules kind ++ last_rules kind
 prefix_listed Plain = refl
@@ -189,3 +191,71 @@ decides_prefix c text more rest kind rule e is n r s =
       decides_begun c text more t.0 rest rule (rules_of kind) (prefix_rules kind ++ last_rules kind) start.Prefix e (sym is) (sym (prefix_listed kind))
           (skips is_prefixed text (λ q h fits. false≢true (sym n ∙ prefix_opens q c more h (subst (HasPrefix (Spells q)) e fits))) (prefix_rules kind) (last_rules kind) rule t.0 rest (all_prefixed kind) t.1),
     )
+
+abbrev is_literal : Rule → Bool
+is_literal ByteChar = true
+is_literal BadByteChar = true
+is_literal StringPrefix = true
+is_literal (SourceString Bytes) = true
+is_literal (SourceString C) = true
+is_literal (RawString contents) = true
+is_literal (BadPrefixed contents) = true
+is_literal rule = false
+
+all_literal : (kind : Rules) → list_all is_literal (literal_rules kind) ≡ true
+all_literal Plain = refl
+all_literal Marked = refl
+all_literal (Source Edition2015) = refl
+all_literal (Source Edition2018) = refl
+all_literal (Source Edition2021) = refl
+all_literal (Source Edition2024) = refl
+
+first_is : (k : ℕ) (rest piece after more : List ℕ) → 114 ∷ rest ≡ piece ++ after → piece ≡ k ∷ more → 114 ≡ k
+first_is k rest piece after more cut e = heads 114 k rest (more ++ after) (cut ∙ ap (λ w. w ++ after) e)
+
+no_byte : (rest piece after more : List ℕ) → 114 ∷ rest ≡ piece ++ after → piece ≡ 98 ∷ more → ⊥
+no_byte rest piece after more cut e = false≢true (ap (λ x. x == 98) (first_is 98 rest piece after more cut e))
+
+no_c : (rest piece after more : List ℕ) → 114 ∷ rest ≡ piece ++ after → piece ≡ 99 ∷ more → ⊥
+no_c rest piece after more cut e = false≢true (ap (λ x. x == 99) (first_is 99 rest piece after more cut e))
+
+no_start : (d k : ℕ) → is_identifier_start d ≡ true → d ≡ k → is_identifier_start k ≡ false → ⊥
+no_start d k h e n = false≢true (sym n ∙ ap is_identifier_start (sym e) ∙ h)
+
+-- after a number sign and the start of an identifier
+no_quote : (d : ℕ) (more after hashes : List ℕ) → is_identifier_start d ≡ true → list_all (λ c. c == 35) hashes ≡ true → 35 ∷ d ∷ more ≡ hashes ++ 34 ∷ after → ⊥
+no_quote d more after [] h a e = false≢true (ap (λ x. x == 34) (heads 35 34 (d ∷ more) after e))
+no_quote d more after (c ∷ []) h a e =
+    no_start d 34 h (heads d 34 more after (tails 35 c (d ∷ more) (34 ∷ after) e)) (ap (λ x. x || (34 == 95)) (is_xid_start-ascii 34 (omega arith)))
+no_quote d more after (c ∷ b ∷ hashes) h a e =
+    no_start d 35 h (heads d b more (hashes ++ 34 ∷ after) (tails 35 c (d ∷ more) (b ∷ (hashes ++ 34 ∷ after)) e) ∙ eqb-true b 35 (head_passes (λ x. x == 35) b hashes (tail_passes (λ x. x == 35) c (b ∷ hashes) a))) (ap (λ x. x || (35 == 95)) (is_xid_start-ascii 35 (omega arith)))
+
+raw_no_literal : (rule : Rule) (d : ℕ) (more : List ℕ) → is_literal rule ≡ true → is_identifier_start d ≡ true → HasPrefix (Spells rule) (114 ∷ 35 ∷ d ∷ more) → ⊥
+raw_no_literal ByteChar d more l h (piece, after, cut, (m, e, s)) = no_byte _ piece after m cut e
+raw_no_literal BadByteChar d more l h (piece, after, cut, e) = no_byte _ piece after (39 ∷ []) cut e
+raw_no_literal StringPrefix d more l h (piece, after, cut, inl (m, e, (hashes, f, a))) = no_quote d more after hashes h a (seconds 114 114 (35 ∷ d ∷ more) piece after m cut e ∙ ap (λ w. w ++ after) f ∙ append_assoc hashes (34 ∷ []) after)
+raw_no_literal StringPrefix d more l h (piece, after, cut, inr (inl (m, e, s))) = no_byte _ piece after m cut e
+raw_no_literal StringPrefix d more l h (piece, after, cut, inr (inr (m, e, s))) = no_c _ piece after m cut e
+raw_no_literal (SourceString Bytes) d more l h (piece, after, cut, (m, e, s)) = no_byte _ piece after m cut e
+raw_no_literal (SourceString C) d more l h (piece, after, cut, (m, e, s)) = no_c _ piece after m cut e
+raw_no_literal (RawString Text) d more l h (piece, after, cut, (m, e, (hashes, body, suffix, f, a, n, ends, k))) = no_quote d more ((body ++ suffix) ++ after) hashes h a (seconds 114 114 (35 ∷ d ∷ more) piece after m cut e ∙ ap (λ w. w ++ after) f ∙ append_assoc hashes (34 ∷ (body ++ suffix)) after)
+raw_no_literal (RawString Bytes) d more l h (piece, after, cut, (m, e, s)) = no_byte _ piece after m cut e
+raw_no_literal (RawString C) d more l h (piece, after, cut, (m, e, s)) = no_c _ piece after m cut e
+raw_no_literal (BadPrefixed Text) d more l h (piece, after, cut, (m, e, (hashes, f, a))) = no_quote d more after hashes h a (seconds 114 114 (35 ∷ d ∷ more) piece after m cut e ∙ ap (λ w. w ++ after) f ∙ append_assoc hashes (34 ∷ []) after)
+raw_no_literal (BadPrefixed Bytes) d more l h (piece, after, cut, (m, e, s)) = no_byte _ piece after m cut e
+raw_no_literal (BadPrefixed C) d more l h (piece, after, cut, (m, e, s)) = no_c _ piece after m cut e
+raw_no_literal rule d more l h fits = absurd (false≢true l)
+
+-- a raw identifier begins no literal
+raw_misses : (rule : Rule) (text piece rest : List ℕ) → is_literal rule ≡ true → IsLongestPrefix IsRawIdentifier text piece rest → HasPrefix (Spells rule) text → ⊥
+raw_misses rule text piece rest l t fits = go t.spelled
+  where
+    go : IsRawIdentifier piece → ⊥
+    go (m, e, ([], f, w)) = w
+    go (m, e, (d ∷ name, f, w)) = raw_no_literal rule d (name ++ rest) l w.0 (subst (HasPrefix (Spells rule)) (t.cut ∙ ap (λ v. v ++ rest) (e ∙ ap (λ v. 114 ∷ v) f)) fits)
+
+pub decides_raw : (c : ℕ) (text more piece rest : List ℕ) (kind : Rules) → text ≡ c ∷ more → start_of c ≡ start.Prefix → IsLongestPrefix IsRawIdentifier text piece rest → IsFirstFit text (rules_of kind) RawIdentifier piece rest
+decides_raw c text more piece rest kind e is t =
+    decides_begun c text more piece rest RawIdentifier (rules_of kind) (prefix_rules kind ++ last_rules kind) start.Prefix e (sym is) (sym (prefix_listed kind))
+    (fits_front (prefix_rules kind) (last_rules kind) text piece rest RawIdentifier
+    (skips is_literal text (λ q l fits. raw_misses q text piece rest l t fits) (literal_rules kind) (RawIdentifier ∷ []) RawIdentifier piece rest (all_literal kind) (here t)))

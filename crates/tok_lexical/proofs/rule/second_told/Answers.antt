@@ -1,8 +1,8 @@
-use Rattle.std.proofs.Common.{◌≡◌, ◌∙◌, ◌∷◌, ap, sym}
+use Rattle.std.proofs.Common.{◌∙◌, ◌∷◌, ap, sym}
 use Rattle.std.specs.Str.{chars}
 use Rattle.tok_lexical.specs.Numbers.{starts_digit}
 use Rattle.tok_lexical.proofs.Lexical.First.{zero_told}
-use Rattle.tok_lexical.proofs.Lexical.Seconds.{decides_digit, decides_zero, decides_prefix, digit_told}
+use Rattle.tok_lexical.proofs.Lexical.Seconds.{decides_digit, decides_zero, decides_prefix, decides_raw, digit_told}
 use Rattle.tok_lexical.proofs.rule.second_told.Goals as goal
 
 pub decimal-requires : goal.decimal-requires
@@ -23,3 +23,8 @@ returns-in-Zero-clause-fits c =
 
 pub returns-in-Prefix-clause-fits : goal.returns-in-Prefix-clause-fits
 returns-in-Prefix-clause-fits c = decides_prefix c.requires.0 _ _ _ _ _ c.requires.1 (sym c.requires.2 ∙ c.in-Prefix.is) (sym c.if-not-opens_literal.ensures) c.identifier.ensures c.past_continues.ensures
+
+pub returns-in_ok-end-in-Prefix-2-clause-fits : goal.returns-in_ok-end-in-Prefix-2-clause-fits
+returns-in_ok-end-in-Prefix-2-clause-fits c =
+    let tried = c.in_ok-end-in-Prefix-2.ensures.tries in
+    (tried.0, decides_raw c.requires.0 _ _ _ _ _ c.requires.1 (sym c.requires.2 ∙ c.in-Prefix-2.is) tried.1)
