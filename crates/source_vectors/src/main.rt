@@ -1,8 +1,8 @@
 //! Reads Rust source files by `lex_source`.
 //!
-//! The first word is `tokens`, which prints the tokens of each file or why it is rejected, or
-//! `count`, which prints how many trees all files have. The second word is an edition, and the
-//! others are files.
+//! The first word is `tokens`, which prints the tokens of each file or why it is rejected; `count`,
+//! which prints how many trees all files have; or `again`, which prints the files whose printed
+//! trees are read as other trees. The second word is an edition, and the others are files.
 #![tactic(auto)]
 
 mod show;
@@ -11,7 +11,7 @@ use anyhow::{Context, Result, bail};
 use show::push_stream;
 use std::alloc::Global;
 use std::{env, fs};
-use tok_core::{Edition, LexFault, lex_source};
+use tok_core::{Edition, LexFault, TokenStreamHelper, lex_source};
 
 fn main(rt: HostRuntime) -> Result<()> {
     let mut words = env::args(&rt)?;
@@ -34,7 +34,15 @@ fn main(rt: HostRuntime) -> Result<()> {
             }
             println!(rt; "{trees}")?;
         }
-        _ => bail!("neither tokens nor count"),
+        "again" => {
+            for file in words {
+                let text = fs::read_to_string(&rt, file.as_str()).context("reading a file")?;
+                if !is_read_again(rt.alloc(), edition, text.as_str())? {
+                    println!(rt; "{file}")?;
+                }
+            }
+        }
+        _ => bail!("neither tokens, count nor again"),
     }
     Ok(())
 }
@@ -64,6 +72,19 @@ fn tokens(alloc: Global, edition: Edition, file: &str, text: &str) -> Result<Str
         Err(LexFault::Memory) => bail!("out of memory"),
     }
     Ok(lines)
+}
+
+// Returns `true` if the printed trees of a text are read as these trees again, or if the text is rejected. A space in front keeps
+// `#!` from being read as the start of a script.
+fn is_read_again(alloc: Global, edition: Edition, text: &str) -> Result<bool> {
+    let Ok(stream) = lex_source(alloc, edition, 0, text) else {
+        return Ok(true);
+    };
+    let printed = format!(in alloc; " {stream}")?;
+    match lex_source(alloc, edition, 0, printed.as_str()) {
+        Ok(again) => Ok(TokenStreamHelper(&stream) == TokenStreamHelper(&again)),
+        Err(_) => Ok(false),
+    }
 }
 
 // Counts the trees outside all groups. A text that is rejected has none.
