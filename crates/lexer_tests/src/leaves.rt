@@ -2,9 +2,7 @@
 use std::alloc::{AllocGlobal, Global};
 use std::ffi::CStr;
 use std::process::Abort;
-use tok_core::{
-    Edition, Ident, Literal, MakeFault, Punct, Spacing, Span, TokenTree, lex_source,
-};
+use tok_core::{Edition, Ident, Literal, MakeFault, Punct, Spacing, Span, TokenTree, lex_source};
 
 // Returns `true` if `Ident::new` makes the wanted identifier of a text, or rejects the text if none
 // is wanted.
@@ -139,7 +137,11 @@ fn is_made(alloc: Global, made: &Made<'_>, wanted: &str) -> Option<bool> {
 // Checks the text of each literal, and that this text is read as the literal again.
 fn all_made(rt: &(impl Abort + AllocGlobal), rows: &[(Made<'_>, &str)]) {
     for (made, wanted) in rows {
-        assert_eq!(rt; is_made(rt.alloc(), made, wanted), Some(true), "at {wanted}");
+        assert_eq!(rt;
+            is_made(rt.alloc(), made, wanted),
+            Some(true),
+            "at {wanted}"
+        );
     }
 }
 
@@ -166,7 +168,10 @@ fn makes_literals(rt: HostRuntime) {
             (Made::ByteCharacter(0xFF), "b'\\xff'"),
             (Made::ByteString(b""), "b\"\""),
             (Made::ByteString(b"a'b\"c\\"), "b\"a\\'b\\\"c\\\\\""),
-            (Made::ByteString(b"\n\r\t\0\x7F\x80"), "b\"\\n\\r\\t\\x00\\x7f\\x80\""),
+            (
+                Made::ByteString(b"\n\r\t\0\x7F\x80"),
+                "b\"\\n\\r\\t\\x00\\x7f\\x80\"",
+            ),
             (Made::CString(b"\0"), "c\"\""),
             (Made::CString(b"it's \xC3\xA9\0"), "c\"it\\'s \\xc3\\xa9\""),
         ],

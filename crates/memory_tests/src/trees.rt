@@ -98,10 +98,7 @@ fn made_literals(alloc: Global) -> Outcome {
     let literal = Literal::character(alloc, 'é')?;
     expect(is_literal(&literal, "'é'"), "Literal::character")?;
     let literal = Literal::byte_character(alloc, 0xFF)?;
-    expect(
-        is_literal(&literal, "b'\\xff'"),
-        "Literal::byte_character",
-    )?;
+    expect(is_literal(&literal, "b'\\xff'"), "Literal::byte_character")?;
     let literal = Literal::byte_string(alloc, b"abcdefghijklm\n")?;
     expect(
         is_literal(&literal, "b\"abcdefghijklm\\n\""),

@@ -5,9 +5,7 @@ mod lists;
 
 use std::alloc::{AllocGlobal, Global};
 use std::process::Abort;
-use syn_parse::{
-    IdentExt, Nothing, Parse, ParseStream, Parser, Result, parse_source, parsing,
-};
+use syn_parse::{IdentExt, Nothing, Parse, ParseStream, Parser, Result, parse_source, parsing};
 use test_outcomes::{READ, Sample, all_said, is_read, read};
 use tok_buffer::Lifetime;
 use tok_core::{Edition, Ident, Literal, Punct, Span, TokenStream, TokenTree};
