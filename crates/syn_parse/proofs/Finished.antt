@@ -51,7 +51,7 @@ module _ {T A : Type 0} (form : T → A) (take : Taking A) (f : Forest) where
   start-ahead : ahead (whole_stream f call_site) ≡ whole f
   start-ahead = ap (λ g. record { trees = g; clean = true }) (all_ahead_at_start 0 f)
 
-  start-filled : filled f ≡ true → IsFilled (whole_stream f call_site).place
+  pub start-filled : filled f ≡ true → IsFilled (whole_stream f call_site).place
   start-filled i = record {
     buffer = record { number = 0; forest = f };
     filled_buffer = i;

@@ -1,37 +1,43 @@
 -- A group takes what is inside, and then what is after it.
-use Rattle.std.proofs.Common.{◌≡◌, ◌∙◌, sym, ap, subst, refl, arith, ◌<◌, Bool, true, false, not, ◌&&◌}
-use Rattle.std.proofs.Common.{Option, Some, None, Ok, Err}
+use Rattle.std.proofs.Common.{◌≡◌, ◌∙◌, sym, ap, subst, refl, arith, ◌<◌, ◌≤◌, Bool, true, false, not, ◌&&◌}
+use Rattle.std.proofs.Common.{Option, Some, None, Ok, Err, cond}
 use Rattle.std.specs.Option.{option_or}
 use Rattle.std.specs.Prelude.{Result, IfSome, is_some, option_map}
+use Rattle.std.proofs.lemmas.Bool.{false≢true}
 use Rattle.tok_lexical.specs.declared.delimiter.Delimiter.{Delimiter}
+use Rattle.tok_lexical.specs.declared.delimiter.Delimiter.TheVariants as delimiter
 use Rattle.tok_leaves.specs.declared.span.DelimSpan.{DelimSpan}
 use Rattle.tok_leaves.specs.declared.span.Span.{Span}
+use Rattle.tok_leaves.specs.Spans.{whole_span}
 use Rattle.tok_core.specs.Filled.{has_trees}
-use Rattle.tok_core.specs.Forest.{Forest, no_trees, tree}
+use Rattle.tok_core.specs.Forest.{Forest, leaf, group, no_trees, tree}
 use Rattle.tok_core.specs.Weight.{weight}
 use Rattle.tok_buffer.specs.Ahead.{Leftover, left_of, leftover}
-use Rattle.tok_buffer.specs.Entry.{Entered, enter}
+use Rattle.tok_buffer.specs.Entry.{Entered, enter, same_delimiter}
 use Rattle.tok_buffer.specs.InFront.{EnteredAhead, entered_ahead, first_group, first_tree_span}
 use Rattle.tok_buffer.specs.Place.{Place}
 use Rattle.tok_buffer.specs.Messages.{first_text}
 use Rattle.tok_buffer.specs.Reached.{Reached}
 use Rattle.tok_buffer.specs.View.{IsVisibleDelimiter, erased_ahead}
+use Rattle.tok_buffer.specs.Progress.{remaining}
+use Rattle.tok_buffer.proofs.Onwards.{entries_go_on, reads_keep_scope}
 use Rattle.tok_buffer.proofs.View.InFront.{ahead_tells}
 use Rattle.tok_buffer.proofs.View.Laws.{calls_lead_on}
 use Rattle.syn_parse.specs.Faults.{Refuses}
 use Rattle.syn_parse.specs.RefusalWords.{delimiter_words, refused_at}
-use Rattle.syn_parse.specs.Groups.{RunsWithin, SpanWith}
+use Rattle.syn_parse.specs.Groups.{AreParts, Enters, RunsWithin, SpanWith}
 use Rattle.syn_parse.specs.Reads.{Call}
 use Rattle.syn_parse.specs.State.{State, after_group, closed, content_of, handed}
 use Rattle.syn_parse.specs.declared.fault.Fault.{Fault}
 use Rattle.syn_parse.specs.declared.fault.Fault.TheVariants.{Refused, Memory}
-use Rattle.syn_parse.specs.TreesAhead.{Ahead, IsFilled, ahead, is_spent}
+use Rattle.syn_parse.specs.TreesAhead.{Ahead, IsFilled, after_content, ahead, is_spent, scope_of}
 use Rattle.syn_parse.specs.Lighter.{group_weighs}
 use Rattle.syn_parse.specs.Grouped.{grouped}
-use Rattle.syn_parse.specs.Takings.{Keeps, Takings, told, untold}
+use Rattle.syn_parse.specs.Takings.{Keeps, Takings, told, told_filled, untold}
 use Rattle.syn_parse.specs.Takes.{Finds, TakeWithinBy, TakesBy, Within}
-use Rattle.syn_parse.specs.Takes.{IsMissing, MemoryOr, Outcome, Says, TakeWithin, TakesAs, Taking}
+use Rattle.syn_parse.specs.Takes.{EntersAhead, IsMissing, MemoryOr, Outcome, Says, TakeWithin, TakesAs, Taking}
 use Rattle.syn_parse.specs.Takes.{after_inside, found, inside_first, missing, take_group}
+use Rattle.syn_parse.proofs.Scopes.{one_scope}
 use Rattle.syn_parse.proofs.Told.{words_told}
 
 -- a leftover is there where a visible tree is
@@ -82,6 +88,15 @@ both-filled d v p e h i =
       record { buffer = i.buffer; filled_buffer = i.filled_buffer; reached = leads.1 },
     )
 
+-- after a group is the scope that it is in
+after-scope : (d : Delimiter) (p : Place) (e : Entered) → enter d p ≡ Some e
+    → scope_of e.after ≡ scope_of p
+after-scope d p e h = one_scope p e.after (reads_keep_scope.groups d p e h)
+
+after-remains : (d : Delimiter) (p : Place) (e : Entered) → enter d p ≡ Some e
+    → remaining e.after ≤ remaining p
+after-remains d p e h = omega (arith, (entries_go_on.groups d).lowers p e h)
+
 -- a group's content weighs less than what is ahead before it
 pub content-lighter : (d : Delimiter) → IsVisibleDelimiter d → (p : Place) (e : Entered)
     → enter d p ≡ Some e → weight (erased_ahead e.content) < weight (erased_ahead p)
@@ -92,7 +107,7 @@ content-lighter d v p e h =
 
 module _ {T A : Type 0} (form : T → A) (inner : Taking A) (calls : Call T)
     (d : Delimiter) (visible : IsVisibleDelimiter d) (s t : State)
-    (each : TakeWithin (ahead s) form inner calls) where
+    (each : TakeWithin s form inner calls) where
   abbrev both : DelimSpan × T → DelimSpan × A
   both p = (p.0, form p.1)
 
@@ -124,7 +139,11 @@ module _ {T A : Type 0} (form : T → A) (inner : Taking A) (calls : Call T)
             (sym (ap ahead k ∙ after-closed left s e))
             ∙ ap (λ y. found (y, form v) (ahead t)) (sym span)
             ∙ ap (λ y. found (found_.0, form y) (ahead t)) (sym w.1),
-        λ j. subst (λ u. IsFilled u.place) (sym k) (both-filled d visible s.place e h j).1,
+        (
+          λ j. subst (λ u. IsFilled u.place) (sym k) (both-filled d visible s.place e h j).1,
+          ap (λ u. scope_of u.place) k ∙ after-scope d s.place e h,
+          subst (λ u. remaining u.place ≤ remaining s.place) (sym k) (after-remains d s.place e h),
+        ),
       )
   ran e (Ok v) left (Err g) h i w k = absurd w
   ran e (Err f) left (Ok found_) h i w k = absurd w
@@ -149,7 +168,7 @@ module _ {T A : Type 0} (form : T → A) (inner : Taking A) (calls : Call T)
       → TakesAs both (take_group d inner) s r t
   within None (Ok v) h w = absurd w.0
   within None (Err f) h w = refused f h w.0
-  within (Some e) r h w = ran e w.0 w.1 r h (each (content_of e) w.0 w.1 (content-lighter d visible s.place e h) w.2) w.3 w.4
+  within (Some e) r h w = ran e w.0 w.1 r h (each (content_of e) w.0 w.1 (content-lighter d visible s.place e h, λ i. (both-filled d visible s.place e h i).0) w.2) w.3 w.4
 
   pub group_told : (r : Result (DelimSpan × T) Fault)
       → RunsWithin calls (enter d s.place) (refused_at s (delimiter_words d)) s r t
@@ -165,10 +184,12 @@ pub group_keeps : {T : Type 0} (takes : Takings T) (calls : Call T) (d : Delimit
 group_keeps untold calls d v s t r each w = tt
 group_keeps (told form take weighs) calls d v s t r each w =
     group_told form take calls d v s t (λ x y z l h. each x y z h) r w
+group_keeps (told_filled form take weighs) calls d v s t r each w =
+    λ i. group_told form take calls d v s t (λ x y z l h. each x y z h (l.1 i)) r w
 
 module _ {T A : Type 0} (Is : T → A → Type 0) (inner : Taking A) (calls : Call T)
     (d : Delimiter) (visible : IsVisibleDelimiter d) (s t : State)
-    (each : TakeWithinBy (ahead s) Is inner calls) where
+    (each : TakeWithinBy s Is inner calls) where
   is-first-by : (x : Option Entered) → enter d s.place ≡ x
       → take_group d inner (ahead s) ≡ inside_first d inner (ahead s) (option_map entered_ahead x)
   unfolding take_group
@@ -192,7 +213,11 @@ module _ {T A : Type 0} (Is : T → A → Type 0) (inner : Taking A) (calls : Ca
       → TakesBy (Within Is) (take_group d inner) s r t
   ran-by e (Ok v) left (Ok found_) h i w k = (
     subst (Finds (Within Is) found_ (ahead t)) (sym (is-first-by (Some e) h)) (both _ i.0),
-    λ j. subst (λ u. IsFilled u.place) (sym k) (both-filled d visible s.place e h j).1,
+    (
+      λ j. subst (λ u. IsFilled u.place) (sym k) (both-filled d visible s.place e h j).1,
+      ap (λ u. scope_of u.place) k ∙ after-scope d s.place e h,
+      subst (λ u. remaining u.place ≤ remaining s.place) (sym k) (after-remains d s.place e h),
+    ),
   ) where
     both : (o : Outcome A) → Finds Is v (ahead left) o
         → Finds (Within Is) found_ (ahead t) (after_inside (ahead s) (entered_ahead e) o)
@@ -225,12 +250,108 @@ module _ {T A : Type 0} (Is : T → A → Type 0) (inner : Taking A) (calls : Ca
       → TakesBy (Within Is) (take_group d inner) s r t
   within-by None (Ok v) h w = absurd w.0
   within-by None (Err f) h w = refused-by f h w.0
-  within-by (Some e) r h w = ran-by e w.0 w.1 r h (each (content_of e) w.0 w.1 (content-lighter d visible s.place e h) w.2) w.3 w.4
+  within-by (Some e) r h w = ran-by e w.0 w.1 r h (each (content_of e) w.0 w.1 (content-lighter d visible s.place e h, λ i. (both-filled d visible s.place e h i).0) w.2) w.3 w.4
 
   pub group_told_by : (r : Result (DelimSpan × T) Fault)
       → RunsWithin calls (enter d s.place) (refused_at s (delimiter_words d)) s r t
       → TakesBy (Within Is) (take_group d inner) s r t
   group_told_by r w = within-by (enter d s.place) r refl w
+
+-- a content is closed
+pub closed_ahead : (content s : State) → ahead (closed content s) ≡ after_content (ahead content) (ahead s)
+closed_ahead content s =
+    ap (λ b. record { trees = erased_ahead s.place; clean = b })
+    (clean-or s.noted content.noted (leftover content.place)
+    ∙ ap (λ b. not (is_some s.noted) && not (is_some content.noted) && not b) (leftover-trees content.place))
+
+-- the delimiter of a group that is entered
+same-is : (d c : Delimiter) → same_delimiter d c ≡ true → c ≡ d
+same-is delimiter.Parenthesis delimiter.Parenthesis h = refl
+same-is delimiter.Brace delimiter.Brace h = refl
+same-is delimiter.Bracket delimiter.Bracket h = refl
+same-is delimiter.None delimiter.None h = refl
+same-is d c h = absurd (false≢true h)
+
+first-delimiter : (d : Delimiter) (f : Forest) (e : EnteredAhead) → first_group d f ≡ Some e
+    → e.delimiter ≡ d
+first-delimiter d no_trees e h = absurd (cc)
+first-delimiter d (tree (leaf l) f) e h = absurd (cc)
+first-delimiter d (tree (group c inside span) f) e h = go (same_delimiter d c) refl h where
+  go : (b : Bool) → same_delimiter d c ≡ b
+      → cond b (Some (record { delimiter = c; span = span; content = inside; after = f })) None
+      ≡ Some e
+      → e.delimiter ≡ d
+  go true k m =
+      let x : record { delimiter = c; span = span; content = inside; after = f } ≡ e = cc in
+      subst (λ (y : EnteredAhead). y.delimiter ≡ d) x (same-is d c k)
+  go false k m = absurd (cc)
+
+-- a group is entered
+module _ {T : Type 0} (span_of : T → DelimSpan) (content : T → State) (d : Delimiter)
+    (visible : IsVisibleDelimiter d) (s t : State) where
+  first : (e : Entered) → enter d s.place ≡ Some e
+      → first_group d (erased_ahead s.place) ≡ Some (entered_ahead e)
+  first e h = sym ((ahead_tells s.place).enters d visible) ∙ ap (option_map entered_ahead) h
+
+  entered : (e : Entered) (v : T) → enter d s.place ≡ Some e → whole_span (span_of v) ≡ e.span
+      → content v ≡ content_of e → t ≡ after_group e s → EntersAhead span_of content d s (Ok v) t
+  entered e v h i j k = (
+    first e h
+        ∙ ap (λ x. Some (record {
+          delimiter = x;
+          span = e.span;
+          content = erased_ahead e.content;
+          after = erased_ahead e.after;
+        })) (first-delimiter d (erased_ahead s.place) (entered_ahead e) (first e h))
+        ∙ ap (λ x. Some (record {
+          delimiter = d;
+          span = x;
+          content = erased_ahead e.content;
+          after = erased_ahead e.after;
+        })) (sym i)
+        ∙ ap (λ (u : State). Some (record {
+          delimiter = d;
+          span = (span_of v).join;
+          content = erased_ahead u.place;
+          after = erased_ahead e.after;
+        })) (sym j)
+        ∙ ap (λ (u : State). Some (record {
+          delimiter = d;
+          span = (span_of v).join;
+          content = erased_ahead (content v).place;
+          after = erased_ahead u.place;
+        })) (sym k),
+    ap (λ u. (ahead u).clean) j,
+    ap (λ u. (ahead u).clean) k,
+    λ f. subst (λ u. IsFilled u.place) (sym j) (both-filled d visible s.place e h f).0,
+    (
+      λ f. subst (λ u. IsFilled u.place) (sym k) (both-filled d visible s.place e h f).1,
+      ap (λ u. scope_of u.place) k ∙ after-scope d s.place e h,
+      subst (λ u. remaining u.place ≤ remaining s.place) (sym k) (after-remains d s.place e h),
+    ),
+  )
+
+  not-entered : (f : Fault) → enter d s.place ≡ None → Refuses (refused_at s (delimiter_words d)) f
+      → EntersAhead span_of content d s (Err f) t
+  not-entered (Refused e) h r = (
+    sym ((ahead_tells s.place).enters d visible) ∙ ap (option_map entered_ahead) h,
+    λ i. ap first_text r ∙ words_told (delimiter_words d) s i,
+  )
+  not-entered (Memory e) h r = (tt, λ i. tt)
+
+  enters : (x : Option Entered) (r : Result T Fault) → enter d s.place ≡ x
+      → Enters (λ v e. AreParts (span_of v) (content v) e) x (refused_at s (delimiter_words d)) s r t
+      → EntersAhead span_of content d s r t
+  enters None (Ok v) h w = absurd w.0
+  enters None (Err f) h w = not-entered f h w.0
+  enters (Some e) (Ok v) h w = entered e v h w.0.0 w.0.1 w.1
+  enters (Some e) (Err f) h w = absurd w
+
+  pub enters_ahead : (r : Result T Fault)
+      → Enters (λ v e. AreParts (span_of v) (content v) e) (enter d s.place)
+      (refused_at s (delimiter_words d)) s r t
+      → EntersAhead span_of content d s r t
+  enters_ahead r w = enters (enter d s.place) r refl w
 
 -- a call of a function that is passed
 pub at-states : {T : Type 0} (calls : Call T) (s t u v : State) (r : Result T Fault) → s ≡ u → t ≡ v

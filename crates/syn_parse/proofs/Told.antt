@@ -1,41 +1,56 @@
 -- Parses of one read take what is ahead.
-use Rattle.std.proofs.Common.{◌≡◌, ◌∙◌, sym, ap, subst, refl, ℕ, List, [], ◌∷◌, Option, Some, None, Ok, Err}
-use Rattle.std.specs.Prelude.{Result, IfSome, Bool, cond, not, codes, ◌++◌, map, bytes_eq, is_some, option_map}
+use Rattle.std.proofs.Common.{◌≡◌, ◌∙◌, sym, ap, subst, refl, arith, ◌<◌, ◌≤◌, ℕ, List, [], ◌∷◌, Option, Some, None, Ok, Err}
+use Rattle.std.specs.Prelude.{Bool, Result, IfSome, true, false, cond, codes, not, ◌++◌, map}
 use Rattle.tok_leaves.specs.declared.ident.Ident.{Ident}
+use Rattle.tok_leaves.specs.declared.lifetime.Lifetime.{Lifetime}
 use Rattle.tok_leaves.specs.declared.literal.Literal.{Literal}
+use Rattle.tok_leaves.specs.declared.punct.Punct.{Punct}
+use Rattle.tok_leaves.specs.declared.span.Span.{Span}
 use Rattle.tok_core.specs.Filled.{has_trees}
 use Rattle.tok_core.specs.Forest.{Tree, Forest, tree_span}
-use Rattle.tok_buffer.specs.InFront.{entered_ahead, first_group, with_ahead, first_if, first_puncts}
+use Rattle.tok_buffer.specs.InFront.{with_ahead, first_if, first_puncts}
 use Rattle.tok_buffer.specs.Buffer.{Laid}
-use Rattle.tok_buffer.specs.Entry.{enter}
-use Rattle.tok_buffer.specs.Messages as messages
 use Rattle.tok_buffer.specs.Messages.{first_text}
+use Rattle.tok_buffer.specs.Order.{same_scope}
 use Rattle.tok_buffer.specs.Place.{Place, is_at_end}
 use Rattle.tok_buffer.specs.Reached.{Reached}
-use Rattle.tok_buffer.specs.Reads.{is_ident, is_ident_of, is_literal, read_keyword, read_literal, read_punctuation}
-use Rattle.tok_buffer.specs.Reads.{read_ident, read_word}
+use Rattle.tok_buffer.specs.Reads.{any_text, is_ident, is_ident_of, is_literal, is_punct, read_keyword}
+use Rattle.tok_buffer.specs.Reads.{read_literal, read_punctuation}
+use Rattle.tok_buffer.specs.Reads.{read_ident, read_lifetime, read_punct, read_word}
 use Rattle.tok_buffer.specs.Refusals.{Refusal}
-use Rattle.tok_buffer.specs.View.{IsVisibleDelimiter, erased_ahead}
+use Rattle.tok_buffer.specs.Rest.{scope_delimiter}
+use Rattle.tok_buffer.specs.View.{erased_ahead}
+use Rattle.tok_buffer.specs.Progress.{remaining}
+use Rattle.tok_buffer.proofs.Onwards.{reads_go_on, reads_keep_scope}
 use Rattle.tok_buffer.proofs.View.InFront.{ahead_tells, ahead_tells_ends}
 use Rattle.tok_buffer.proofs.View.Laws.{calls_lead_on}
+use Rattle.tok_types.specs.Printed.{first_span}
+use Rattle.tok_types.specs.Sees.{first_lifetime, first_word}
 use Rattle.tok_types.specs.Texts.{accept_as_ident, in_backquotes, keyword_text, punctuation_word}
-use Rattle.tok_lexical.specs.declared.delimiter.Delimiter.{Delimiter}
-use Rattle.tok_types.proofs.Seen.{words-tell}
+use Rattle.tok_types.proofs.Seen.{lifetimes-tell, words-tell}
 use Rattle.tok_types.specs.declared.keyword.Keyword.{Keyword}
 use Rattle.tok_types.specs.declared.punctuation.Punctuation.{Punctuation}
-use Rattle.syn_parse.specs.Parses.{AreSpans, IdentParses, IsIdent, IsLiteral, IsSpanOf, LiteralParses}
-use Rattle.syn_parse.specs.Progress.{KeywordParses, PunctuationTypeParses}
+use Rattle.tok_types.specs.declared.underscore.Underscore.{Underscore}
+use Rattle.syn_parse.specs.Parses.{AnyIdentParses, AnyLifetimeParses, AreSpans, IdentParses, IsIdent}
+use Rattle.syn_parse.specs.Parses.{IsLifetime, IsLiteral, IsPunct, IsSpanOf, LifetimeParses}
+use Rattle.syn_parse.specs.Parses.{LiteralParses, PunctParses, WordParses, accept_as_lifetime}
+use Rattle.syn_parse.specs.Progress.{KeywordParses, PunctuationTypeParses, UnderscoreParses}
 use Rattle.syn_parse.specs.Faults.{IsMemory, Refuses}
 use Rattle.syn_parse.specs.Reads.{Read, Reads, ReadsAtOnce}
-use Rattle.syn_parse.specs.RefusalWords.{ident_words, expected, punctuation_refusal, refused_at}
+use Rattle.syn_parse.specs.RefusalWords.{ident_words, expected, lifetime_words, punctuation_refusal}
+use Rattle.syn_parse.specs.RefusalWords.{refused_at}
 use Rattle.syn_parse.specs.State.{State, moved}
 use Rattle.syn_parse.specs.declared.fault.Fault.{Fault}
 use Rattle.syn_parse.specs.declared.fault.Fault.TheVariants.{Refused, Memory}
-use Rattle.syn_parse.specs.TreesAhead.{Ahead, IsFilled, ahead}
-use Rattle.syn_parse.specs.Takes.{IsMissing, MemoryOr, Outcome, found, missing, Says, Takes, or_end, read_as, take_by, take_group}
-use Rattle.tok_types.specs.Sees.{first_word}
-use Rattle.syn_parse.specs.Tokens.{ident_in, ident_missing, literal_in, span_in}
-use Rattle.syn_parse.specs.Tokens.{take_ident, take_keyword, take_literal, take_punctuation}
+use Rattle.syn_parse.specs.TreesAhead.{Ahead, IsFilled, ahead, scope_of}
+use Rattle.syn_parse.specs.Lookahead.{Look, closing_word, list_words, look_refusal, look_words, named_ends}
+use Rattle.syn_parse.specs.Lookahead.{refusal_of, words_of_names}
+use Rattle.syn_parse.specs.Takes.{HasWords, IsMissing, Outcome, found, missing, Takes, TakesAs, or_end, read_as, take_by}
+use Rattle.syn_parse.specs.Tokens.{ident_in, ident_missing, lifetime_in, lifetime_missing, literal_in}
+use Rattle.syn_parse.specs.Tokens.{punct_in, span_in, take_any_ident, take_any_lifetime, take_ident}
+use Rattle.syn_parse.specs.Tokens.{take_keyword, take_lifetime, take_literal, take_punct}
+use Rattle.syn_parse.specs.Tokens.{take_punctuation, take_underscore}
+use Rattle.syn_parse.proofs.Scopes.{one_scope}
 
 -- the end of a scope in a filled forest
 pub end_told : (p : Place) → IsFilled p → is_at_end p ≡ not (has_trees (erased_ahead p))
@@ -47,106 +62,213 @@ pub words_told : (words : List ℕ) (s : State) → IsFilled s.place
 words_told words s i =
     ap (λ b. cond b (codes "unexpected end of input, " ++ words) words) (end_told s.place i)
 
+-- a refusal with a message
+pub message_told : (message : Option (List ℕ)) (s : State) (f : Fault)
+    → IfSome message (λ words. Refuses (refused_at s words) f)
+    → IfSome message (λ words. IsFilled s.place → HasWords (or_end words (ahead s).trees) f)
+message_told None s f h = tt
+message_told (Some words) s (Refused e) h = λ i. ap first_text h ∙ words_told words s i
+message_told (Some words) s (Memory e) h = λ i. tt
+
+either-words : (b : Bool) (r q : Refusal) → (cond b r q).words ≡ cond b r.words q.words
+either-words true r q = refl
+either-words false r q = refl
+
+names-told : (names : List (List ℕ)) (p : Place) (scope : Span) → IsFilled p
+    → (refusal_of names p scope).words ≡ words_of_names names (erased_ahead p)
+names-told [] p scope i =
+    either-words (is_at_end p) _ _
+    ∙ ap (λ b. cond b (codes "unexpected end of input") (codes "unexpected token")) (end_told p i)
+names-told (d ∷ ds) p scope i =
+    ap (λ b. cond b (codes "unexpected end of input, " ++ list_words (d ∷ ds)) (list_words (d ∷ ds)))
+    (end_told p i)
+
+-- a lookahead's refusal
+pub look_told : (l : Look) (f : Fault) → Refuses (look_refusal l) f → IsFilled l.place
+    → HasWords (look_words l) f
+look_told l (Refused e) h i =
+    ap first_text h
+    ∙ names-told (named_ends (closing_word (scope_delimiter l.place)) l.missed) l.place l.scope_span i
+look_told l (Memory e) h i = tt
+
 abbrev pub Leads : Read → Place → Type 0
 Leads x p = (b : Laid) → Reached b p → IfSome x (λ (q : List Tree × Place). Reached b q.1)
 
-module _ {T : Type 0} (Means : T → List Tree → Type 0) (means : List Tree → T)
-    (fits : (v : T) (ts : List Tree) → Means v ts → v ≡ means ts)
+-- what is read leaves a place in the same scope, in which no more remains
+abbrev pub KeepsScope : Read → Place → Type 0
+KeepsScope x p =
+    (q : List Tree × Place) → x ≡ Some q
+    → (same_scope p q.1 ≡ true) × (remaining q.1 < remaining p)
+
+module _ {T A : Type 0} (form : T → A) (Means : T → List Tree → Type 0) (means : List Tree → A)
+    (fits : (v : T) (ts : List Tree) → Means v ts → form v ≡ means ts)
     (first : Forest → Option (List Tree × Forest)) (words : Forest → List ℕ) (refusal : Refusal)
     (s t : State)
     (worded : IsFilled s.place → refusal.words ≡ words (erased_ahead s.place)) where
-  abbrev take : Ahead → Outcome T
+  abbrev take : Ahead → Outcome A
   take = take_by first means words
 
-  abbrev seen : Option (List Tree × Forest) → Outcome T
+  abbrev seen : Option (List Tree × Forest) → Outcome A
   seen = read_as means words (ahead s)
 
   taken : (q : List Tree × Place) (v : T) → Some (q.0, erased_ahead q.1) ≡ first (erased_ahead s.place)
-      → ((b : Laid) → Reached b s.place → Reached b q.1) → Means v q.0 → t ≡ moved q.1 s
-      → Takes take s (Ok v) t
-  taken q v e leads m k = (
+      → ((b : Laid) → Reached b s.place → Reached b q.1) → (same_scope s.place q.1 ≡ true) × (remaining q.1 < remaining s.place)
+      → Means v q.0
+      → t ≡ moved q.1 s → TakesAs form take s (Ok v) t
+  taken q v e leads keeps m k = (
     ap seen (sym e) ∙ ap (λ u. found (means q.0) (ahead u)) (sym k)
         ∙ ap (λ x. found x (ahead t)) (sym (fits v q.0 m)),
-    λ i. record {
-      buffer = i.buffer;
-      filled_buffer = i.filled_buffer;
-      reached = subst (λ u. Reached i.buffer u.place) (sym k) (leads i.buffer i.reached);
-    },
+    (
+      λ i. record {
+        buffer = i.buffer;
+        filled_buffer = i.filled_buffer;
+        reached = subst (λ u. Reached i.buffer u.place) (sym k) (leads i.buffer i.reached);
+      },
+      ap (λ u. scope_of u.place) k ∙ one_scope s.place q.1 keeps.0,
+      subst (λ u. remaining u.place ≤ remaining s.place) (sym k) (omega (arith, keeps.1)),
+    ),
   )
 
   none : (f : Fault) → None ≡ first (erased_ahead s.place) → Refuses refusal f
-      → Takes take s (Err f) t
+      → TakesAs form take s (Err f) t
   none (Refused e) h r = (
     subst (λ o. IsMissing o) (ap seen h) tt,
     λ i. ap seen (sym h) ∙ ap missing (sym (worded i)) ∙ ap missing (sym (ap first_text r)),
   )
   none (Memory e) h r = (tt, λ i. tt)
 
-  memory : (f : Fault) → IsMemory f → Takes take s (Err f) t
+  memory : (f : Fault) → IsMemory f → TakesAs form take s (Err f) t
   memory (Refused e) m = absurd m
   memory (Memory e) m = (tt, λ i. tt)
 
   pub told : (x : Read) (r : Result T Fault) → with_ahead x ≡ first (erased_ahead s.place)
-      → Leads x s.place → Reads Means x refusal s r t → Takes take s r t
-  told None (Ok v) e leads h = absurd h
-  told (Some q) (Ok v) e leads h = taken q v e leads h.0 h.1
-  told None (Err f) e leads h = none f e h.0
-  told (Some q) (Err f) e leads h = memory f h.0
+      → Leads x s.place → KeepsScope x s.place → Reads Means x refusal s r t → TakesAs form take s r t
+  told None (Ok v) e leads keeps h = absurd h
+  told (Some q) (Ok v) e leads keeps h = taken q v e leads (keeps q refl) h.0 h.1
+  told None (Err f) e leads keeps h = none f e h.0
+  told (Some q) (Err f) e leads keeps h = memory f h.0
 
   pub told-at-once : (x : Read) (r : Result T Fault) → with_ahead x ≡ first (erased_ahead s.place)
-      → Leads x s.place → ReadsAtOnce Means x refusal s r t → Takes take s r t
-  told-at-once None (Ok v) e leads h = absurd h
-  told-at-once (Some q) (Ok v) e leads h = taken q v e leads h.0 h.1
-  told-at-once None (Err f) e leads h = none f e h.0
-  told-at-once (Some q) (Err f) e leads h = absurd h
+      → Leads x s.place → KeepsScope x s.place → ReadsAtOnce Means x refusal s r t
+      → TakesAs form take s r t
+  told-at-once None (Ok v) e leads keeps h = absurd h
+  told-at-once (Some q) (Ok v) e leads keeps h = taken q v e leads (keeps q refl) h.0 h.1
+  told-at-once None (Err f) e leads keeps h = none f e h.0
+  told-at-once (Some q) (Err f) e leads keeps h = absurd h
 
 ident-words : (x : Read) → ident_words x ≡ ident_missing (with_ahead x)
 ident-words None = refl
 ident-words (Some r) = refl
+
+lifetime-words : (x : Read) → lifetime_words x ≡ lifetime_missing (with_ahead x)
+lifetime-words None = refl
+lifetime-words (Some r) = refl
+
+abbrev same : {A : Type 0} → A → A
+same v = v
 
 pub ident_told : (s : State) (r : Result Ident Fault) (t : State) → IdentParses s r t
     → Takes take_ident s r t
 unfolding take_ident
 ident_told s r t h =
     let tells = ahead_tells s.place in
-    let same : ident_words (read_ident s.place) ≡ ident_missing (first_if is_ident (erased_ahead s.place)) =
+    let words : ident_words (read_ident s.place) ≡ ident_missing (first_if is_ident (erased_ahead s.place)) =
     ident-words (read_ident s.place) ∙ ap ident_missing tells.idents in
-    told IsIdent ident_in (λ v ts m. sym (ap ident_in m)) (first_if (is_ident_of accept_as_ident))
+    told same IsIdent ident_in (λ v ts m. sym (ap ident_in m)) (first_if (is_ident_of accept_as_ident))
     (λ f. or_end (ident_missing (first_if is_ident f)) f)
     (refused_at s (ident_words (read_ident s.place))) s t
-    (λ i. words_told (ident_words (read_ident s.place)) s i ∙ ap (λ w. or_end w (erased_ahead s.place)) same)
+    (λ i. words_told (ident_words (read_ident s.place)) s i ∙ ap (λ w. or_end w (erased_ahead s.place)) words)
     (read_word accept_as_ident s.place) r (tells.words accept_as_ident)
-    (λ b q. (calls_lead_on b s.place q).words accept_as_ident) h
+    (λ b q. (calls_lead_on b s.place q).words accept_as_ident)
+    (λ q e. (reads_keep_scope.words accept_as_ident s.place q.0 q.1 e, (reads_go_on.words accept_as_ident).lowers s.place q.0 q.1 e)) h
+
+pub any_ident_told : (s : State) (r : Result Ident Fault) (t : State) → AnyIdentParses s r t
+    → Takes take_any_ident s r t
+unfolding take_any_ident
+any_ident_told s r t h =
+    let words = codes "expected ident" in
+    told same IsIdent ident_in (λ v ts m. sym (ap ident_in m)) (first_if is_ident) (or_end words)
+    (refused_at s words) s t (words_told words s) (read_ident s.place) r
+    (ahead_tells s.place).idents (λ b q. (calls_lead_on b s.place q).idents)
+    (λ q e. (reads_keep_scope.idents s.place q.0 q.1 e, reads_go_on.idents.lowers s.place q.0 q.1 e)) h
 
 pub literal_told : (s : State) (r : Result Literal Fault) (t : State) → LiteralParses s r t
     → Takes take_literal s r t
 unfolding take_literal
 literal_told s r t h =
     let words = codes "expected literal token" in
-    told IsLiteral literal_in (λ v ts m. sym (ap literal_in m)) (first_if is_literal) (or_end words)
+    told same IsLiteral literal_in (λ v ts m. sym (ap literal_in m)) (first_if is_literal) (or_end words)
     (refused_at s words) s t (words_told words s) (read_literal s.place) r
-    (ahead_tells s.place).literals (λ b q. (calls_lead_on b s.place q).literals) h
+    (ahead_tells s.place).literals (λ b q. (calls_lead_on b s.place q).literals)
+    (λ q e. (reads_keep_scope.literals s.place q.0 q.1 e, reads_go_on.literals.lowers s.place q.0 q.1 e)) h
+
+pub punct_told : (s : State) (r : Result Punct Fault) (t : State) → PunctParses s r t
+    → Takes take_punct s r t
+unfolding take_punct
+punct_told s r t h =
+    let words = codes "expected punctuation token" in
+    told-at-once same IsPunct punct_in (λ v ts m. sym (ap punct_in m)) (first_if is_punct) (or_end words)
+    (refused_at s words) s t (words_told words s) (read_punct s.place) r
+    (ahead_tells s.place).puncts (λ b q. (calls_lead_on b s.place q).puncts)
+    (λ q e. (reads_keep_scope.puncts s.place q.0 q.1 e, reads_go_on.puncts.lowers s.place q.0 q.1 e)) h
+
+pub lifetime_told : (s : State) (r : Result Lifetime Fault) (t : State) → LifetimeParses s r t
+    → Takes take_lifetime s r t
+unfolding take_lifetime
+lifetime_told s r t h =
+    let read = read_lifetime any_text s.place in
+    let words : lifetime_words read ≡ lifetime_missing (first_lifetime any_text (erased_ahead s.place)) =
+    lifetime-words read ∙ ap lifetime_missing (lifetimes-tell any_text s.place) in
+    told same IsLifetime lifetime_in (λ v ts m. sym (ap lifetime_in m)) (first_lifetime accept_as_lifetime)
+    (λ f. or_end (lifetime_missing (first_lifetime any_text f)) f) (refused_at s (lifetime_words read)) s t
+    (λ i. words_told (lifetime_words read) s i ∙ ap (λ w. or_end w (erased_ahead s.place)) words)
+    (read_lifetime accept_as_lifetime s.place) r (lifetimes-tell accept_as_lifetime s.place)
+    (λ b q. (calls_lead_on b s.place q).lifetimes accept_as_lifetime)
+    (λ q e. (reads_keep_scope.lifetimes accept_as_lifetime s.place q.0 q.1 e, (reads_go_on.lifetimes accept_as_lifetime).lowers s.place q.0 q.1 e)) h
+
+pub any_lifetime_told : (s : State) (r : Result Lifetime Fault) (t : State) → AnyLifetimeParses s r t
+    → Takes take_any_lifetime s r t
+unfolding take_any_lifetime
+any_lifetime_told s r t h =
+    let words = codes "expected lifetime" in
+    told same IsLifetime lifetime_in (λ v ts m. sym (ap lifetime_in m)) (first_lifetime any_text)
+    (or_end words) (refused_at s words) s t (words_told words s) (read_lifetime any_text s.place) r
+    (lifetimes-tell any_text s.place) (λ b q. (calls_lead_on b s.place q).lifetimes any_text)
+    (λ q e. (reads_keep_scope.lifetimes any_text s.place q.0 q.1 e, (reads_go_on.lifetimes any_text).lowers s.place q.0 q.1 e)) h
+
+module _ {T A : Type 0} (form : T → A) (span_of : T → Span) (means : List Tree → A) (text : List ℕ)
+    (fits : (v : T) (ts : List Tree) → IsSpanOf text (span_of v) ts → form v ≡ means ts) where
+  pub word_told : (s : State) (r : Result T Fault) (t : State) → WordParses span_of text s r t
+      → TakesAs form (take_by (first_word text) means (or_end (expected (in_backquotes text)))) s r t
+  word_told s r t h =
+      let words = expected (in_backquotes text) in
+      told-at-once form (λ v. IsSpanOf text (span_of v)) means fits (first_word text) (or_end words)
+      (refused_at s words) s t (words_told words s) (read_keyword text s.place) r (words-tell text s.place)
+      (λ b q. (calls_lead_on b s.place q).keywords text)
+      (λ q e. (reads_keep_scope.keywords text s.place q.0 q.1 e, (reads_go_on.keywords text).lowers s.place q.0 q.1 e)) h
 
 pub keyword_told : (k : ℕ) (s : State) (r : Result (Keyword k) Fault) (t : State)
     → KeywordParses k s r t → Takes (take_keyword k) s r t
 unfolding take_keyword
 keyword_told k s r t h =
-    let text = keyword_text k in
-    let words = expected (in_backquotes text) in
-    let span : (v : Keyword k) (ts : List Tree) → IsSpanOf text v.span ts → v ≡ record { span = span_in ts } =
-    λ v ts m. sym (ap (λ us. record { span = span_in us }) m) in
-    told-at-once (λ v. IsSpanOf text v.span) (λ ts. record { span = span_in ts }) span
-    (first_word text) (or_end words) (refused_at s words) s t (words_told words s)
-    (read_keyword text s.place) r (words-tell text s.place)
-    (λ b q. (calls_lead_on b s.place q).keywords text) h
+    word_told same (λ v. v.span) (λ ts. record { span = span_in ts }) (keyword_text k)
+    (λ v ts m. sym (ap (λ us. record { span = span_in us }) m)) s r t h
+
+pub underscore_told : (s : State) (r : Result Underscore Fault) (t : State) → UnderscoreParses s r t
+    → TakesAs (λ u. first_span u.spans) take_underscore s r t
+unfolding take_underscore
+underscore_told s r t h =
+    word_told (λ u. first_span u.spans) (λ u. first_span u.spans) span_in (codes "_")
+    (λ v ts m. sym (ap span_in m)) s r t h
 
 pub punctuation_told : (k n : ℕ) (s : State) (r : Result (Punctuation k n) Fault) (t : State)
     → PunctuationTypeParses k n s r t → Takes (take_punctuation k n) s r t
 unfolding take_punctuation
 punctuation_told k n s r t h =
     let text = punctuation_word k n in
-    told-at-once (λ v. AreSpans v.spans) (λ ts. record { spans = map tree_span ts })
+    told-at-once same (λ v. AreSpans v.spans) (λ ts. record { spans = map tree_span ts })
     (λ v ts m. ap (λ x. record { spans = x }) m) (first_puncts text)
     (λ f. expected (in_backquotes text)) (punctuation_refusal text s) s t (λ i. refl)
     (read_punctuation text s.place) r ((ahead_tells s.place).punctuations text)
-    (λ b q. (calls_lead_on b s.place q).punctuations text) h
+    (λ b q. (calls_lead_on b s.place q).punctuations text)
+    (λ q e. (reads_keep_scope.punctuations text s.place q.0 q.1 e, (reads_go_on.punctuations text).lowers s.place q.0 q.1 e)) h

@@ -3,10 +3,11 @@ use Rattle.std.proofs.Common.{◌≡◌, Ok, Err}
 use Rattle.std.specs.Prelude.{Result}
 use Rattle.tok_core.specs.Forest.{Forest}
 use Rattle.tok_leaves.specs.Spans.{call_site}
-use Rattle.syn_parse.proofs.Finished.{ended, memory-fails, results_agree, words_agree}
+use Rattle.syn_parse.proofs.Finished.{ended, memory-fails, results_agree, start-filled, words_agree}
 use Rattle.syn_parse.specs.Parsers.{Finishes, OnMemory, whole_stream}
 use Rattle.syn_parse.specs.State.{State}
-use Rattle.syn_parse.specs.Takings.{Keeps, KeepsBoth, KeepsWhole, KeepsWords, Takings, told, untold}
+use Rattle.syn_parse.specs.Takings.{Keeps, KeepsBoth, KeepsWhole, KeepsWords, Takings, told, told_filled}
+use Rattle.syn_parse.specs.Takings.{untold}
 use Rattle.syn_parse.specs.declared.fault.Fault.{Fault}
 
 module _ {T : Type 0} where
@@ -15,18 +16,25 @@ module _ {T : Type 0} where
       → Finishes returned left result → KeepsWhole takes f result
   whole_keeps untold f returned left result h k = tt
   whole_keeps (told form take w) f returned left result h k = ended form take f returned left result h k
+  whole_keeps (told_filled form take w) f returned left result h k =
+      λ i. ended form take f returned left result (h (start-filled form take f i)) k
 
   pub memory_keeps : (takes : Takings T) (f : Forest) (result : Result T Fault) → OnMemory result
       → KeepsWhole takes f result
   memory_keeps untold f result m = tt
   memory_keeps (told form take w) f result m = memory-fails form take f result m
+  memory_keeps (told_filled form take w) f result m = λ i. memory-fails form take f result m
 
   pub both_keep : (takes : Takings T) (left right : Forest) (x y : Result T Fault)
       → KeepsWhole takes left x → KeepsWhole takes right y → KeepsBoth takes left right x y
   both_keep untold left right x y h k = tt
   both_keep (told form take w) left right x y h k = λ e. results_agree form take left right e x y h k
+  both_keep (told_filled form take w) left right x y h k =
+      λ e i j. results_agree form take left right e x y (h i) (k j)
 
   pub words_keep : (takes : Takings T) (left right : Forest) (x y : Result T Fault)
       → KeepsWhole takes left x → KeepsWhole takes right y → KeepsWords takes left right x y
   words_keep untold left right x y h k = tt
   words_keep (told form take w) left right x y h k = λ e i j. words_agree form take left right e i j x y h k
+  words_keep (told_filled form take w) left right x y h k =
+      λ e i j. words_agree form take left right e i j x y (h i) (k j)

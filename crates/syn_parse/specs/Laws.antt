@@ -2,6 +2,7 @@
 -- place.
 use Rattle.std.specs.Prelude.{◌≡◌, ℕ, Bool, true, false, Result, Ok, Err}
 use Rattle.tok_buffer.specs.Entry.{enter}
+use Rattle.tok_buffer.specs.Order.{same_scope}
 use Rattle.tok_buffer.specs.Place.{Place}
 use Rattle.tok_types.specs.Delimiters.{delimiter_at}
 use Rattle.tok_types.specs.declared.delimiter.Visible.{Visible}
@@ -9,6 +10,7 @@ use Rattle.syn_parse.specs.Groups.{AreParts, Enters}
 use Rattle.syn_parse.specs.Reads.{Call}
 use Rattle.syn_parse.specs.State.{State, advanced, closed, forked, moved}
 use Rattle.syn_parse.specs.RefusalWords.{delimiter_words, refused_at}
+use Rattle.syn_parse.specs.TreesAhead.{scope_of}
 use Rattle.syn_parse.specs.declared.fault.Fault.{Fault}
 use Rattle.syn_parse.specs.declared.fault.Fault.TheVariants.{Refused, Memory}
 use Rattle.syn_parse.specs.declared.group.Delimited.{Delimited}
@@ -39,3 +41,7 @@ pub record ForksFollow : Type 0 where
       advanced (moved p fork) s ≡ moved p (advanced fork s)
   pub closing : (content fork s : State) →
       advanced (closed content fork) s ≡ closed content (advanced fork s)
+
+-- places of one scope share it
+abbrev pub ScopesTell : Type 0
+ScopesTell = (p q : Place) → scope_of q ≡ scope_of p → same_scope p q ≡ true

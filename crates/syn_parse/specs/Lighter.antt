@@ -1,11 +1,12 @@
 -- What is taken makes what is ahead weigh less, or no more.
 use Rattle.std.proofs.Common.{◌≡◌, sym, ap, subst, refl, arith, ℕ, ◌+◌, ◌<◌, ◌≤◌, Bool, true, false, cond}
 use Rattle.std.proofs.Common.{List, [], ◌∷◌, ◌++◌, Option, Some, None}
-use Rattle.std.specs.Prelude.{bytes_eq}
+use Rattle.std.specs.Prelude.{bytes_eq, codes}
 use Rattle.tok_lexical.specs.declared.delimiter.Delimiter.{Delimiter}
 use Rattle.tok_leaves.specs.declared.span.DelimSpan.{DelimSpan}
 use Rattle.tok_core.specs.Forest.{Tree, leaf, group, Forest, no_trees, tree}
 use Rattle.tok_core.specs.Weight.{weight, tree_weight}
+use Rattle.tok_core.specs.Clear.{is_joint_apostrophe}
 use Rattle.tok_buffer.specs.Entry.{same_delimiter}
 use Rattle.tok_buffer.specs.InFront.{EnteredAhead, first_if, first_group, first_puncts, and_first}
 use Rattle.tok_buffer.specs.Reads.{is_ident_of, is_joint_of, is_punct_of}
@@ -13,16 +14,22 @@ use Rattle.syn_parse.specs.Reads.{Call}
 use Rattle.syn_parse.specs.TreesAhead.{Ahead}
 use Rattle.syn_parse.specs.Takings.{Lightens, Lowers}
 use Rattle.syn_parse.specs.Takes.{Outcome, Taking, found, missing, and_then, ◌>>=◌, gives, where_ahead}
-use Rattle.syn_parse.specs.Takes.{read_as, take_by, take_group, after_inside, inside_first}
-use Rattle.tok_types.specs.Sees.{first_word}
-use Rattle.syn_parse.specs.Tokens.{take_ident, take_keyword, take_literal}
-use Rattle.syn_parse.specs.Tokens.{take_punctuation}
+use Rattle.syn_parse.specs.Takes.{or_end, read_as, refuses, take_by, take_group, after_inside, inside_first}
+use Rattle.tok_types.specs.Sees.{first_lifetime, first_word}
+use Rattle.syn_parse.specs.Tokens.{take_any_ident, take_any_lifetime, take_ident, take_keyword}
+use Rattle.syn_parse.specs.Tokens.{take_lifetime, take_literal, take_punct, take_punctuation}
+use Rattle.syn_parse.specs.Tokens.{span_in, take_underscore}
+use Rattle.syn_parse.specs.RefusalWords.{expected}
+use Rattle.tok_types.specs.Texts.{in_backquotes}
 
 pub lightens_lower : {A : Type 0} (take : Taking A) → Lowers take → Lightens take
 lightens_lower take h = record { less = λ a b v e. omega (arith, h.less a b v e) }
 
 pub lightens_gives : {A : Type 0} (v : A) → Lightens (gives v)
 lightens_gives v = record { less = λ a b w e. let k : a ≡ b = cc in rw k (omega arith) }
+
+pub lightens_refuses : {A : Type 0} (words : List ℕ) → Lightens {A = A} (refuses words)
+lightens_refuses words = record { less = λ a b w e. absurd (cc) }
 
 pub lightens_bind : {A B : Type 0} (m : Taking A) (k : A → Taking B) → Lightens m
     → ((v : A) → Lightens (k v)) → Lightens (m >>= k)
@@ -99,6 +106,11 @@ puncts-shorter (c ∷ (d ∷ cs)) f r e =
     and-shorter f (first_puncts (d ∷ cs)) (puncts-shorter (d ∷ cs)) (first_if (is_joint_of c) f)
     (λ q k. if-shorter (is_joint_of c) f q k) r e
 
+lifetime-shorter : (wanted : List ℕ → Bool) → Shorter (first_lifetime wanted)
+lifetime-shorter wanted f r e =
+    and-shorter f (first_if (is_ident_of wanted)) (if-shorter _) (first_if is_joint_apostrophe f)
+    (λ q k. if-shorter is_joint_apostrophe f q k) r e
+
 by-lowers : {T : Type 0} (read : Reading) (means : List Tree → T) (words : Forest → List ℕ)
     → Shorter read → Lowers (take_by read means words)
 by-lowers {T} read means words h = record { less = λ a b v e. go a b v (read a.trees) refl e } where
@@ -112,6 +124,28 @@ by-lowers {T} read means words h = record { less = λ a b v e. go a b v (read a.
 pub lowers_ident : Lowers take_ident
 unfolding take_ident
 lowers_ident = by-lowers _ _ _ (if-shorter _)
+
+pub lowers_any_ident : Lowers take_any_ident
+unfolding take_any_ident
+lowers_any_ident = by-lowers _ _ _ (if-shorter _)
+
+pub lowers_lifetime : Lowers take_lifetime
+unfolding take_lifetime
+lowers_lifetime = by-lowers _ _ _ (lifetime-shorter _)
+
+pub lowers_any_lifetime : Lowers take_any_lifetime
+unfolding take_any_lifetime
+lowers_any_lifetime = by-lowers _ _ _ (lifetime-shorter _)
+
+pub lowers_punct : Lowers take_punct
+unfolding take_punct
+lowers_punct = by-lowers _ _ _ (if-shorter _)
+
+pub lowers_underscore : Lowers take_underscore
+unfolding take_underscore
+lowers_underscore =
+    by-lowers (first_word (codes "_")) span_in (or_end (expected (in_backquotes (codes "_"))))
+    (word-shorter (codes "_"))
 
 pub lowers_literal : Lowers take_literal
 unfolding take_literal
@@ -166,6 +200,21 @@ lowers_group {A} d inner =
 pub lightens_ident : Lightens take_ident
 lightens_ident = lightens_lower take_ident lowers_ident
 
+pub lightens_any_ident : Lightens take_any_ident
+lightens_any_ident = lightens_lower take_any_ident lowers_any_ident
+
+pub lightens_lifetime : Lightens take_lifetime
+lightens_lifetime = lightens_lower take_lifetime lowers_lifetime
+
+pub lightens_any_lifetime : Lightens take_any_lifetime
+lightens_any_lifetime = lightens_lower take_any_lifetime lowers_any_lifetime
+
+pub lightens_punct : Lightens take_punct
+lightens_punct = lightens_lower take_punct lowers_punct
+
+pub lightens_underscore : Lightens take_underscore
+lightens_underscore = lightens_lower take_underscore lowers_underscore
+
 pub lightens_literal : Lightens take_literal
 lightens_literal = lightens_lower take_literal lowers_literal
 
@@ -181,9 +230,15 @@ lightens_group d inner = lightens_lower (take_group d inner) (lowers_group d inn
 -- with these `search` proves it of what is built of tokens and groups
 pub ruleset lightening = (
   lightens_gives,
+  lightens_refuses,
   lightens_bind,
   lightens_where,
   lightens_ident,
+  lightens_any_ident,
+  lightens_lifetime,
+  lightens_any_lifetime,
+  lightens_punct,
+  lightens_underscore,
   lightens_literal,
   lightens_keyword,
   lightens_punctuation,
@@ -195,6 +250,11 @@ pub ruleset lowering = (
   lowers_bind,
   lowers_where,
   lowers_ident,
+  lowers_any_ident,
+  lowers_lifetime,
+  lowers_any_lifetime,
+  lowers_punct,
+  lowers_underscore,
   lowers_literal,
   lowers_keyword,
   lowers_punctuation,

@@ -3,7 +3,8 @@ use Rattle.std.specs.Prelude.{Bool, Option, None, Some, option_map}
 use Rattle.tok_core.specs.Forest.{Forest}
 use Rattle.syn_parse.specs.Lighter.{lightens_bind, lightens_gives, lightens_lower, lightens_where}
 use Rattle.syn_parse.specs.Takes.{Taking, ◌>>=◌, gives, where_ahead}
-use Rattle.syn_parse.specs.Takings.{Lightens, Takings, Weighs, lighter, lower, told, untold, unweighed}
+use Rattle.syn_parse.specs.Takings.{Lightens, Takings, Weighs, lighter, lower, told, told_filled}
+use Rattle.syn_parse.specs.Takings.{untold, unweighed}
 use Rattle.syn_parse.specs.TreesAhead.{Ahead}
 
 -- a value where the test is true
@@ -31,4 +32,7 @@ optional None takes = untold
 optional (Some test) untold = untold
 optional (Some test) (told form take weighs) =
     told (option_map form) (take_optional (λ a. test a.trees) take)
+    (optional_weighs (λ a. test a.trees) take weighs)
+optional (Some test) (told_filled form take weighs) =
+    told_filled (option_map form) (take_optional (λ a. test a.trees) take)
     (optional_weighs (λ a. test a.trees) take weighs)

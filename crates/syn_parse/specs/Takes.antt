@@ -1,5 +1,5 @@
 -- Parsers as functions of what is ahead.
-use Rattle.std.specs.Prelude.{◌≡◌, ◌<◌, ℕ, Bool, ◌&&◌, true, cond, not, List, ◌++◌, codes}
+use Rattle.std.specs.Prelude.{◌≡◌, ◌<◌, ◌≤◌, ℕ, Bool, ◌&&◌, true, cond, not, List, ◌++◌, codes}
 use Rattle.std.specs.Prelude.{Option, Some, None, Result, Ok, Err}
 use Rattle.tok_lexical.specs.declared.delimiter.Delimiter.{Delimiter}
 use Rattle.tok_leaves.specs.declared.span.DelimSpan.{DelimSpan}
@@ -8,13 +8,15 @@ use Rattle.tok_core.specs.Forest.{Tree, Forest}
 use Rattle.tok_core.specs.Weight.{weight}
 use Rattle.tok_buffer.specs.InFront.{EnteredAhead, first_group}
 use Rattle.tok_buffer.specs.Messages.{first_text}
+use Rattle.tok_buffer.specs.Progress.{remaining}
 use Rattle.tok_buffer.specs.View.{IsVisibleDelimiter}
 use Rattle.syn_parse.specs.Reads.{Call}
 use Rattle.syn_parse.specs.RefusalWords.{delimiter_words}
 use Rattle.syn_parse.specs.State.{State}
 use Rattle.syn_parse.specs.declared.fault.Fault.{Fault}
 use Rattle.syn_parse.specs.declared.fault.Fault.TheVariants.{Refused, Memory}
-use Rattle.syn_parse.specs.TreesAhead.{Ahead, IsFilled, ahead, all_taken, is_spent, whole}
+use Rattle.syn_parse.specs.TreesAhead.{Ahead, IsFilled, after_fork, ahead, all_taken, is_spent, scope_of}
+use Rattle.syn_parse.specs.TreesAhead.{whole}
 
 -- a value and what is ahead after it, or the words of a refusal
 pub data Outcome (A : Type 0) : Type 0 where
@@ -43,6 +45,15 @@ where_ahead test there other a = cond (test a) (there a) (other a)
 -- words that name the end where nothing is left
 abbrev pub or_end : List ℕ → Forest → List ℕ
 or_end words f = cond (not (has_trees f)) (codes "unexpected end of input, " ++ words) words
+
+-- no value, but a refusal with these words, which name the end where nothing is left
+abbrev pub refuses : {A : Type 0} → List ℕ → Taking A
+refuses words a = missing (or_end words a.trees)
+
+-- what is taken on a fork, to whose place the stream then goes
+abbrev pub on_fork : {A : Type 0} → Taking A → Taking A
+on_fork take a =
+    and_then (take (record a { clean = true })) (λ v fork. found v (after_fork fork a))
 
 -- trees that are read, and what they mean
 abbrev pub read_as : {T : Type 0} → (List Tree → T) → (Forest → List ℕ) → Ahead
@@ -85,10 +96,22 @@ abbrev pub Says : {A : Type 0} → Outcome A → Fault → Type 0
 Says o (Refused e) = o ≡ missing (first_text e)
 Says o (Memory e) = Unit {0}
 
+-- a stream stays in its scope, in which no more remains, and in a forest that is filled
+abbrev pub Stays : State → State → Type 0
+Stays s t =
+    (IsFilled s.place → IsFilled t.place)
+    × (scope_of t.place ≡ scope_of s.place)
+    × (remaining t.place ≤ remaining s.place)
+
+-- a refusal has these words
+abbrev pub HasWords : List ℕ → Fault → Type 0
+HasWords words (Refused e) = first_text e ≡ words
+HasWords words (Memory e) = Unit {0}
+
 -- a call returns what is taken, seen in a form, and leaves what is ahead then
 abbrev pub TakesAs : {T A : Type 0} → (T → A) → Taking A → Call T
 TakesAs form take s (Ok v) t =
-    (take (ahead s) ≡ found (form v) (ahead t)) × (IsFilled s.place → IsFilled t.place)
+    (take (ahead s) ≡ found (form v) (ahead t)) × Stays s t
 TakesAs form take s (Err f) t =
     MemoryOr f (IsMissing (take (ahead s))) × (IsFilled s.place → Says (take (ahead s)) f)
 
@@ -104,34 +127,58 @@ Finds Is v b (missing words) = ⊥
 -- a call returns a value of which what is taken is the form, where the form is no function of it
 abbrev pub TakesBy : {T A : Type 0} → (T → A → Type 0) → Taking A → Call T
 TakesBy Is take s (Ok v) t =
-    Finds Is v (ahead t) (take (ahead s)) × (IsFilled s.place → IsFilled t.place)
+    Finds Is v (ahead t) (take (ahead s)) × Stays s t
 TakesBy Is take s (Err f) t =
     MemoryOr f (IsMissing (take (ahead s))) × (IsFilled s.place → Says (take (ahead s)) f)
 
-abbrev pub TakeWithinBy : {T A : Type 0} → Ahead → (T → A → Type 0) → Taking A → Call T → Type 0
-TakeWithinBy {T} a Is take calls =
-    (s : State) (r : Result T Fault) (t : State) → weight (ahead s).trees < weight a.trees
-    → calls s r t → TakesBy Is take s r t
+-- less is ahead of a stream, and it is in a filled forest if the other one is
+abbrev pub IsWithin : (inner outer : State) → Type 0
+IsWithin inner outer =
+    (weight (ahead inner).trees < weight (ahead outer).trees)
+    × (IsFilled outer.place → IsFilled inner.place)
+
+abbrev pub TakeWithinBy : {T A : Type 0} → State → (T → A → Type 0) → Taking A → Call T → Type 0
+TakeWithinBy {T} start Is take calls =
+    (s : State) (r : Result T Fault) (t : State) → IsWithin s start → calls s r t
+    → TakesBy Is take s r t
 
 -- a group's span and the form of what is inside
 abbrev pub Within : {T A : Type 0} → (T → A → Type 0) → DelimSpan × T → DelimSpan × A → Type 0
 Within Is v x = (x.0 ≡ v.0) × Is v.1 x.1
+
+-- A group is entered: its contents are ahead of a stream of their own, and what is after it is
+-- ahead of this one. Or there is none.
+abbrev pub EntersAhead : {T : Type 0} → (T → DelimSpan) → (T → State) → Delimiter → Call T
+EntersAhead span_of content_of d s (Ok v) t =
+    (first_group d (ahead s).trees ≡ Some (record {
+      delimiter = d;
+      span = (span_of v).join;
+      content = (ahead (content_of v)).trees;
+      after = (ahead t).trees;
+    }))
+    × ((ahead (content_of v)).clean ≡ true)
+    × ((ahead t).clean ≡ (ahead s).clean)
+    × (IsFilled s.place → IsFilled (content_of v).place)
+    × Stays s t
+EntersAhead span_of content_of d s (Err f) t =
+    MemoryOr f (first_group d (ahead s).trees ≡ None)
+    × (IsFilled s.place → HasWords (or_end (delimiter_words d) (ahead s).trees) f)
 
 -- each call of a function does
 abbrev pub TakeEach : {T A : Type 0} → (T → A) → Taking A → Call T → Type 0
 TakeEach {T} form take calls =
     (s : State) (r : Result T Fault) (t : State) → calls s r t → TakesAs form take s r t
 
--- each call does, where what is ahead weighs less than this
-abbrev pub TakeWithin : {T A : Type 0} → Ahead → (T → A) → Taking A → Call T → Type 0
-TakeWithin {T} a form take calls =
-    (s : State) (r : Result T Fault) (t : State) → weight (ahead s).trees < weight a.trees
-    → calls s r t → TakesAs form take s r t
+-- each call does, on a stream within this one
+abbrev pub TakeWithin : {T A : Type 0} → State → (T → A) → Taking A → Call T → Type 0
+TakeWithin {T} start form take calls =
+    (s : State) (r : Result T Fault) (t : State) → IsWithin s start → calls s r t
+    → TakesAs form take s r t
 
 -- a call that runs a function in a group takes the group, if the function takes what is inside
 abbrev pub RunsAhead : {R : Type 0} → Call R → Delimiter → Call (DelimSpan × R)
 RunsAhead {R} calls d s r t =
-    IsVisibleDelimiter d → (inner : Taking R) → TakeWithin (ahead s) (λ v. v) inner calls
+    IsVisibleDelimiter d → (inner : Taking R) → TakeWithin s (λ v. v) inner calls
     → Takes (take_group d inner) s r t
 
 -- all trees are this

@@ -12,7 +12,7 @@ use Rattle.syn_parse.specs.Faults.{IsRefused}
 use Rattle.syn_parse.specs.Parsers.{OnMemory, lex_refusal}
 use Rattle.syn_parse.specs.Reads.{Call}
 use Rattle.syn_parse.specs.Takes.{Agree, Taking, TakesAll, TakesAs, WordsAgree, found}
-use Rattle.syn_parse.specs.TreesAhead.{Ahead, whole}
+use Rattle.syn_parse.specs.TreesAhead.{Ahead, IsFilled, whole}
 use Rattle.syn_parse.specs.declared.fault.Fault.{Fault}
 
 -- no more is ahead
@@ -29,10 +29,12 @@ pub data Weighs {A : Type 0} (take : Taking A) : Type 0 where
   lighter : Lightens take → Weighs take
   lower : Lowers take → Weighs take
 
--- nothing; or what is taken, and the form in which contracts see a value
+-- Nothing; or what is taken, and the form in which contracts see a value; or the same at places of
+-- filled forests alone
 pub data Takings (T : Type 0) : Type 1 where
   untold : Takings T
   told : {A : Type 0} (form : T → A) (take : Taking A) → Weighs take → Takings T
+  told_filled : {A : Type 0} (form : T → A) (take : Taking A) → Weighs take → Takings T
 
 -- a value is taken as it is
 abbrev pub taken : {T : Type 0} → Taking T → Takings T
@@ -42,32 +44,44 @@ taken take = told (λ v. v) take unweighed
 abbrev pub taken_as : {T A : Type 0} → (T → A) → Taking A → Takings T
 taken_as form take = told form take unweighed
 
+-- a value is taken in a form, if no invisible group is empty
+abbrev pub taken_filled : {T A : Type 0} → (T → A) → Taking A → Takings T
+taken_filled form take = told_filled form take unweighed
+
 -- a call keeps what is stated
 abbrev pub Keeps : {T : Type 0} → Takings T → Call T
 Keeps untold s r t = Unit {0}
 Keeps (told form take weighs) s r t = TakesAs form take s r t
+Keeps (told_filled form take weighs) s r t = IsFilled s.place → TakesAs form take s r t
 
 -- the same of a box
 abbrev pub boxed : {T : Type 0} → Takings T → Takings (Box T)
 boxed untold = untold
 boxed (told form take weighs) = told (λ b. form b.value) take weighs
+boxed (told_filled form take weighs) = told_filled (λ b. form b.value) take weighs
 
 -- a whole stream keeps what is stated
 abbrev pub KeepsWhole : {T : Type 0} → Takings T → Forest → Result T Fault → Type 0
 KeepsWhole untold f r = Unit {0}
 KeepsWhole (told form take weighs) f r = TakesAll form take f r
+KeepsWhole (told_filled form take weighs) f r = filled f ≡ true → TakesAll form take f r
 
 -- two streams that differ only in invisible groups agree
 abbrev pub KeepsBoth : {T : Type 0} → Takings T → (left right : Forest) → Result T Fault
     → Result T Fault → Type 0
 KeepsBoth untold left right x y = Unit {0}
 KeepsBoth (told form take weighs) left right x y = erase left ≡ erase right → Agree form x y
+KeepsBoth (told_filled form take weighs) left right x y =
+    erase left ≡ erase right → filled left ≡ true → filled right ≡ true → Agree form x y
 
 -- in words too, where each invisible group holds something
 abbrev pub KeepsWords : {T : Type 0} → Takings T → (left right : Forest) → Result T Fault
     → Result T Fault → Type 0
 KeepsWords untold left right x y = Unit {0}
 KeepsWords (told form take weighs) left right x y =
+    erase left ≡ erase right → filled left ≡ true → filled right ≡ true
+    → WordsAgree (take (whole left)) x y
+KeepsWords (told_filled form take weighs) left right x y =
     erase left ≡ erase right → filled left ≡ true → filled right ≡ true
     → WordsAgree (take (whole left)) x y
 

@@ -1,21 +1,27 @@
 -- How single tokens are taken.
-use Rattle.std.specs.Prelude.{ℕ, Bool, List, [], ◌∷◌, ◌++◌, codes, Option, None, Some, is_some, map, bytes_eq}
+use Rattle.std.specs.Prelude.{ℕ, Bool, List, [], ◌∷◌, ◌++◌, codes, Option, None, Some, map}
 use Rattle.tok_leaves.specs.declared.ident.Ident.{Ident}
+use Rattle.tok_leaves.specs.declared.lifetime.Lifetime.{Lifetime}
 use Rattle.tok_leaves.specs.declared.literal.Literal.{Literal}
-use Rattle.tok_leaves.specs.Leaves.{ident, literal}
+use Rattle.tok_leaves.specs.declared.punct.Punct.{Punct}
+use Rattle.tok_leaves.specs.declared.punct.Spacing.TheVariants.{Alone}
+use Rattle.tok_leaves.specs.Leaves.{ident, literal, punct}
 use Rattle.tok_leaves.specs.Spans.{call_site}
 use Rattle.tok_leaves.specs.declared.span.Span.{Span}
 use Rattle.tok_core.specs.Forest.{Tree, leaf, Forest, tree_span}
-use Rattle.tok_buffer.specs.InFront.{first_group, first_if, first_puncts}
-use Rattle.tok_buffer.specs.Reads.{is_ident, is_ident_of, is_literal}
+use Rattle.tok_buffer.specs.InFront.{first_if, first_puncts}
+use Rattle.tok_buffer.specs.Reads.{any_text, is_ident, is_ident_of, is_literal, is_punct}
 use Rattle.tok_lexical.specs.declared.delimiter.Delimiter.{Delimiter}
-use Rattle.tok_types.specs.Sees.{first_word, group_first, ident_first, keyword_first, literal_first, punctuation_first}
+use Rattle.tok_types.specs.Sees.{any_ident_first, first_lifetime, first_word, group_first, ident_first}
+use Rattle.tok_types.specs.Sees.{keyword_first, lifetime_first, literal_first, punct_first}
+use Rattle.tok_types.specs.Sees.{punctuation_first, underscore_first}
 use Rattle.tok_types.specs.Texts.{accept_as_ident, in_backquotes, keyword_text, punctuation_word}
 use Rattle.tok_types.specs.declared.keyword.Keyword.{Keyword}
 use Rattle.tok_types.specs.declared.punctuation.Punctuation.{Punctuation}
 use Rattle.syn_parse.specs.RefusalWords.{expected, name_in}
+use Rattle.syn_parse.specs.Parses.{accept_as_lifetime}
 use Rattle.syn_parse.specs.TreesAhead.{Ahead}
-use Rattle.syn_parse.specs.Takes.{Taking, or_end, take_by}
+use Rattle.syn_parse.specs.Takes.{Taking, gives, or_end, take_by}
 
 -- the identifier, and the literal, that one tree is
 abbrev pub ident_in : List Tree → Ident
@@ -26,6 +32,10 @@ abbrev pub literal_in : List Tree → Literal
 literal_in (leaf (literal text span) ∷ ts) = record { text = text; span = span }
 literal_in ts = record { text = []; span = call_site }
 
+abbrev pub punct_in : List Tree → Punct
+punct_in (leaf (punct c spacing span) ∷ ts) = record { ch = c; spacing = spacing; span = span }
+punct_in ts = record { ch = 0; spacing = Alone; span = call_site }
+
 abbrev pub span_in : List Tree → Span
 span_in [] = call_site
 span_in (t ∷ ts) = tree_span t
@@ -35,6 +45,17 @@ abbrev pub ident_missing : Option (List Tree × Forest) → List ℕ
 ident_missing None = codes "expected identifier"
 ident_missing (Some r) = codes "expected identifier, found keyword " ++ in_backquotes (name_in r.0)
 
+-- the lifetime that an apostrophe and an identifier are
+abbrev pub lifetime_in : List Tree → Lifetime
+lifetime_in [] = record { apostrophe = call_site; ident = ident_in [] }
+lifetime_in (t ∷ ts) = record { apostrophe = tree_span t; ident = ident_in ts }
+
+-- where a lifetime is looked for: there is none, or one whose name is a keyword
+abbrev pub lifetime_missing : Option (List Tree × Forest) → List ℕ
+lifetime_missing None = codes "expected lifetime"
+lifetime_missing (Some r) =
+    codes "unexpected keyword lifetime \"'" ++ (name_in r.0 ++ codes "\"")
+
 -- an identifier that is no reserved word
 unfoldable pub take_ident : Taking Ident
 take_ident =
@@ -43,6 +64,34 @@ take_ident =
 
 unfoldable pub take_literal : Taking Literal
 take_literal = take_by (first_if is_literal) literal_in (or_end (codes "expected literal token"))
+
+-- an identifier of any text
+unfoldable pub take_any_ident : Taking Ident
+take_any_ident = take_by (first_if is_ident) ident_in (or_end (codes "expected ident"))
+
+-- a lifetime whose name is no reserved word, or is `static` or `_`
+unfoldable pub take_lifetime : Taking Lifetime
+take_lifetime =
+    take_by (first_lifetime accept_as_lifetime) lifetime_in
+    (λ f. or_end (lifetime_missing (first_lifetime any_text f)) f)
+
+-- a lifetime of any name
+unfoldable pub take_any_lifetime : Taking Lifetime
+take_any_lifetime =
+    take_by (first_lifetime any_text) lifetime_in (or_end (codes "expected lifetime"))
+
+-- a punct other than an apostrophe
+unfoldable pub take_punct : Taking Punct
+take_punct = take_by (first_if is_punct) punct_in (or_end (codes "expected punctuation token"))
+
+-- `_`, of which the span is the value
+unfoldable pub take_underscore : Taking Span
+take_underscore =
+    take_by (first_word (codes "_")) span_in (or_end (expected (in_backquotes (codes "_"))))
+
+-- no token
+abbrev pub take_nothing : Taking (Unit {0})
+take_nothing = gives tt
 
 -- a keyword, and a punctuation, by its number
 unfoldable pub take_keyword : (k : ℕ) → Taking (Keyword k)
@@ -58,6 +107,18 @@ take_punctuation k n =
 -- what a peek sees
 abbrev pub sees_ident : Ahead → Bool
 sees_ident a = ident_first a.trees
+
+abbrev pub sees_any_ident : Ahead → Bool
+sees_any_ident a = any_ident_first a.trees
+
+abbrev pub sees_lifetime : Ahead → Bool
+sees_lifetime a = lifetime_first a.trees
+
+abbrev pub sees_punct : Ahead → Bool
+sees_punct a = punct_first a.trees
+
+abbrev pub sees_underscore : Ahead → Bool
+sees_underscore a = underscore_first a.trees
 
 abbrev pub sees_literal : Ahead → Bool
 sees_literal a = literal_first a.trees

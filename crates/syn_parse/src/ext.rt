@@ -1,7 +1,10 @@
 // Identifiers and lifetimes whatever their text.
 ghost use Rattle.std.specs.Prelude.{Result, IfOk};
 ghost use Rattle.syn_parse.specs.Parses.{AnyIdentParses, AnyLifetimeParses, IsUnraw};
+ghost use Rattle.syn_parse.specs.Lighter.{lowers_any_ident, lowers_any_lifetime};
 ghost use Rattle.syn_parse.specs.State.{State};
+ghost use Rattle.syn_parse.specs.Takings.{Keeps, Takings, lower, told};
+ghost use Rattle.syn_parse.specs.Tokens.{take_any_ident, take_any_lifetime};
 ghost use Rattle.syn_parse.specs.declared.fault.Fault.{Fault};
 
 use crate::fault::Result;
@@ -15,9 +18,13 @@ pub trait IdentExt: Sized {
     // How the stream before `parse_any`, its result and the stream after it are tied.
     ghost any_parses: { State → Result Self Fault → State → Type 0 };
 
+    // What is taken of the visible trees ahead.
+    ghost any_takes: { Takings Self };
+
     /// Parses an identifier whatever its text, also a reserved word.
     fn parse_any(input: ParseStream<'_, '_>) -> Result<Self>
-        ensures { any_parses input.old result input.new };
+        ensures reads { any_parses input.old result input.new }
+        ensures takes { Keeps any_takes input.old result input.new };
 
     // How an identifier and the one without `r#` are tied.
     ghost is_unraw: { Self → Self → Type 0 };
@@ -30,15 +37,12 @@ pub trait IdentExt: Sized {
 impl IdentExt for Ident {
     ghost any_parses = { AnyIdentParses };
 
+    ghost any_takes = { told (λ v. v) take_any_ident (lower lowers_any_ident) };
+
     ghost is_unraw = { IsUnraw };
 
     fn parse_any(input: ParseStream<'_, '_>) -> Result<Self> {
-        let Some((ident, rest)) = input.cursor().ident() else {
-            return Err(input.error("expected ident"));
-        };
-        let ident = ident.clone()?;
-        input.move_to(rest);
-        Ok(ident)
+        any_ident(input)
     }
 
     fn unraw(&self, alloc: Global) -> std::result::Result<Self, AllocError> {
@@ -51,23 +55,48 @@ pub trait LifetimeExt: Sized {
     // How the stream before `parse_any`, its result and the stream after it are tied.
     ghost any_parses: { State → Result Self Fault → State → Type 0 };
 
+    // What is taken of the visible trees ahead.
+    ghost any_takes: { Takings Self };
+
     /// Parses a lifetime whatever its name, also a reserved word.
     fn parse_any(input: ParseStream<'_, '_>) -> Result<Self>
-        ensures { any_parses input.old result input.new };
+        ensures reads { any_parses input.old result input.new }
+        ensures takes { Keeps any_takes input.old result input.new };
 }
 
 impl LifetimeExt for Lifetime {
     ghost any_parses = { AnyLifetimeParses };
 
+    ghost any_takes = { told (λ v. v) take_any_lifetime (lower lowers_any_lifetime) };
+
     fn parse_any(input: ParseStream<'_, '_>) -> Result<Self> {
-        let Some((lifetime, rest)) = input.cursor().lifetime() else {
-            return Err(input.error("expected lifetime"));
-        };
-        let ident = lifetime.ident.clone()?;
-        input.move_to(rest);
-        Ok(Lifetime {
-            apostrophe: lifetime.apostrophe,
-            ident,
-        })
+        any_lifetime(input)
     }
+}
+
+// What `Ident::parse_any` does.
+fn any_ident(input: ParseStream<'_, '_>) -> Result<Ident>
+    ensures { AnyIdentParses input.old result input.new }
+{
+    let Some((ident, rest)) = input.cursor().ident() else {
+        return Err(input.error("expected ident"));
+    };
+    let ident = ident.clone()?;
+    input.move_to(rest);
+    Ok(ident)
+}
+
+// What `Lifetime::parse_any` does.
+fn any_lifetime(input: ParseStream<'_, '_>) -> Result<Lifetime>
+    ensures { AnyLifetimeParses input.old result input.new }
+{
+    let Some((lifetime, rest)) = input.cursor().lifetime() else {
+        return Err(input.error("expected lifetime"));
+    };
+    let ident = lifetime.ident.clone()?;
+    input.move_to(rest);
+    Ok(Lifetime {
+        apostrophe: lifetime.apostrophe,
+        ident,
+    })
 }

@@ -9,7 +9,7 @@ ghost use Rattle.syn_parse.specs.State.{content_of};
 ghost use Rattle.syn_parse.specs.RefusalWords.{delimiter_words, refused_at};
 ghost use Rattle.syn_parse.specs.Reads.{Does};
 ghost use Rattle.syn_parse.specs.Grouped.{grouped};
-ghost use Rattle.syn_parse.specs.Takes.{RunsAhead};
+ghost use Rattle.syn_parse.specs.Takes.{EntersAhead, RunsAhead};
 ghost use Rattle.syn_parse.specs.Takings.{Keeps};
 ghost use Rattle.tok_buffer.specs.View.{IsVisibleDelimiter};
 
@@ -60,26 +60,33 @@ impl<'a, const D: usize> Delimited<'a, token::Visible<D>> {
 ///     input.close(content);
 ///     Ok((token, name?))
 pub fn parse_parens<'a>(input: ParseStream<'_, 'a>) -> Result<Parens<'a>>
-    ensures { Enters (λ p. AreParts p.token.span p.content)
+    ensures enters { Enters (λ p. AreParts p.token.span p.content)
         (enter delimiter.Parenthesis input.old.place)
         (refused_at input.old (delimiter_words delimiter.Parenthesis)) input.old result input.new }
+    ensures takes { EntersAhead (λ p. p.token.span) (λ p. p.content) delimiter.Parenthesis
+        input.old result input.new }
 {
     Parens::enter(input)
 }
 
 /// Enters braces, as `parse_parens` does parentheses.
 pub fn parse_braces<'a>(input: ParseStream<'_, 'a>) -> Result<Braces<'a>>
-    ensures { Enters (λ p. AreParts p.token.span p.content) (enter delimiter.Brace input.old.place)
+    ensures enters { Enters (λ p. AreParts p.token.span p.content)
+        (enter delimiter.Brace input.old.place)
         (refused_at input.old (delimiter_words delimiter.Brace)) input.old result input.new }
+    ensures takes { EntersAhead (λ p. p.token.span) (λ p. p.content) delimiter.Brace
+        input.old result input.new }
 {
     Braces::enter(input)
 }
 
 /// Enters brackets, as `parse_parens` does parentheses.
 pub fn parse_brackets<'a>(input: ParseStream<'_, 'a>) -> Result<Brackets<'a>>
-    ensures { Enters (λ p. AreParts p.token.span p.content)
+    ensures enters { Enters (λ p. AreParts p.token.span p.content)
         (enter delimiter.Bracket input.old.place)
         (refused_at input.old (delimiter_words delimiter.Bracket)) input.old result input.new }
+    ensures takes { EntersAhead (λ p. p.token.span) (λ p. p.content) delimiter.Bracket
+        input.old result input.new }
 {
     Brackets::enter(input)
 }
@@ -181,7 +188,7 @@ impl<'a> ParseBuffer<'a> {
     {
         let (span, mut content) = self.enter(delimiter)?;
         let value = content.call(f);
-        self.close(content);
+        self.take_back(content);
         Ok((span, value?))
     }
 }

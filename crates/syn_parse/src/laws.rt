@@ -1,5 +1,5 @@
 //! Laws of streams. The functions do nothing: each one's contract is a law.
-ghost use Rattle.syn_parse.specs.Laws.{ForksFollow, PeekTells, VisibleParses};
+ghost use Rattle.syn_parse.specs.Laws.{ForksFollow, PeekTells, ScopesTell, VisibleParses};
 ghost use Rattle.syn_parse.specs.Progress.{ParsesGoOn};
 ghost use Rattle.syn_parse.specs.Reads.{Peeks2, Peeks3};
 ghost use Rattle.syn_parse.specs.Views.{ViewsDecideLookaheads, ViewsDecideWords};
@@ -43,6 +43,12 @@ pub fn peeks_tell_groups<const D: usize>()
 /// each content closed, one after the other.
 pub fn forks_follow()
     ensures { ForksFollow }
+{}
+
+/// Streams whose places have equal scopes are in one scope, as `advance_to` needs. Each call that states what it takes
+/// keeps the scope, so a fork of a stream may parse, and the stream then go to it.
+pub fn scopes_tell()
+    ensures { ScopesTell }
 {}
 
 /// Invisible groups do not matter to the words of refusals: at places of filled forests with equal views they are the same.

@@ -2,8 +2,11 @@
 ghost use Rattle.std.specs.Prelude.{◌≡◌, ◌++◌, false, IfOk, OnOk, OnErr, string_bytes};
 ghost use Rattle.tok_buffer.specs.Messages.{refused};
 ghost use Rattle.syn_parse.specs.Faults.{Refuses};
-ghost use Rattle.syn_parse.specs.Lookahead.{Looked, looks, noted_as, look_refusal, more_words, named, named_ends, texts_of};
+ghost use Rattle.syn_parse.specs.Lookahead.{Looked, looks, look_words, noted_as, look_refusal, more_words, named, named_ends, texts_of};
 ghost use Rattle.syn_parse.specs.Lookahead as spec;
+ghost use Rattle.syn_parse.specs.Takes.{HasWords};
+ghost use Rattle.syn_parse.specs.TreesAhead.{IsFilled};
+ghost use Rattle.tok_types.specs.Sees.{Sees};
 
 use crate::fault::Fault;
 use crate::stream::ParseBuffer;
@@ -66,6 +69,7 @@ impl<'a> Lookahead1<'a> {
         ensures ok { IfOk result
             (λ found. T.peeks self.old.place found × Looked T.shown found self.old self.new) }
         ensures err { OnErr result (T.peeks self.old.place false × (self.new ≡ self.old)) }
+        ensures sees { IfOk result (λ found. Sees T.sees self.old.place found) }
     {
         let found = T::peek(self.cursor);
         self.peek_as(found, T::display())
@@ -87,11 +91,13 @@ impl<'a> Lookahead1<'a> {
     /// scope's closing delimiter, and not at all where the scope has none. With nothing to name, the refusal is
     /// "unexpected end of input" or "unexpected token".
     pub fn error(self) -> Fault
-        ensures { Refuses (look_refusal self.entry) result }
+        ensures refuses { Refuses (look_refusal self.entry) result }
+        ensures says { IsFilled self.entry.place → HasWords (look_words self.entry) result }
     {
-        Fault::refused(self.refusal())
+        refused(self)
     }
 
+    // What `error` returns, or an allocation failure.
     fn refusal(&self) -> Result<Error, AllocError>
         ensures { IfOk result (λ e. e ≡ refused (look_refusal self.now)) }
     {
@@ -107,6 +113,13 @@ impl<'a> Lookahead1<'a> {
             Error::new(self.alloc, self.cursor.span(), "unexpected token")
         }
     }
+}
+
+// What `Lookahead1::error` does.
+fn refused(lookahead: Lookahead1<'_>) -> Fault
+    ensures { Refuses (look_refusal lookahead.entry) result }
+{
+    Fault::refused(lookahead.refusal())
 }
 
 // How the closing delimiter of a scope is named: not at all where it has none.

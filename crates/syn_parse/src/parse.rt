@@ -1,6 +1,7 @@
 // Values that are parsed, and peeks.
 ghost use Rattle.std.specs.Prelude.{Result, codes};
 ghost use Rattle.syn_parse.specs.Reads.{BoxParses, Does, OptionParses, Peeks2, Peeks3};
+ghost use Rattle.syn_parse.specs.Skips.{second_sees, third_sees};
 ghost use Rattle.syn_parse.specs.State.{State};
 ghost use Rattle.syn_parse.specs.Takings.{Keeps, Takings, boxed, untold};
 ghost use Rattle.syn_parse.specs.Optional.{optional};
@@ -51,7 +52,8 @@ impl<'a> ParseBuffer<'a> {
 
     /// Whether this token comes after the next one.
     pub fn peek2<T: Token>(&self) -> bool
-        ensures { Peeks2 T.peeks self.now.place result }
+        ensures peeks { Peeks2 T.peeks self.now.place result }
+        ensures sees { Sees (second_sees T.sees) self.now.place result }
     {
         match self.cursor().skip() {
             Some(second) => T::peek(second),
@@ -61,7 +63,8 @@ impl<'a> ParseBuffer<'a> {
 
     /// Whether this token comes after the next two.
     pub fn peek3<T: Token>(&self) -> bool
-        ensures { Peeks3 T.peeks self.now.place result }
+        ensures peeks { Peeks3 T.peeks self.now.place result }
+        ensures sees { Sees (third_sees T.sees) self.now.place result }
     {
         let Some(second) = self.cursor().skip() else {
             return false;

@@ -12,6 +12,8 @@ ghost use Rattle.syn_parse.specs.Faults.{Refuses, RefusesAt, IsRefused};
 ghost use Rattle.syn_parse.specs.Pauses.{paused_state};
 ghost use Rattle.syn_parse.specs.State.{fresh, moved, handed, closed, forked, advanced, state_span};
 ghost use Rattle.syn_parse.specs.RefusalWords.{refused_at, leftover_refusal};
+ghost use Rattle.syn_parse.specs.Takes.{HasWords, or_end};
+ghost use Rattle.syn_parse.specs.TreesAhead.{IsFilled, after_content, after_fork, ahead, is_spent};
 
 use crate::fault::{Fault, Result};
 use crate::words::words_of;
@@ -117,7 +119,8 @@ impl<'a> ParseBuffer<'a> {
 
     /// Whether nothing is left in the stream's scope. An invisible group counts as something, even an empty one.
     pub fn is_empty(&self) -> bool
-        ensures { result ≡ is_at_end self.now.place }
+        ensures at_end { result ≡ is_at_end self.now.place }
+        ensures spent { IsFilled self.now.place → result ≡ is_spent (ahead self.now) }
     {
         self.cursor.eof()
     }
@@ -141,6 +144,18 @@ impl<'a> ParseBuffer<'a> {
         ensures span { RefusesAt (state_span self.now) result }
         ensures words { IfSome (T.output message)
             (λ words. Refuses (refused_at self.now words) result) }
+        ensures says { IfSome (T.output message)
+            (λ words. IsFilled self.now.place
+            → HasWords (or_end words (ahead self.now).trees) result) }
+    {
+        self.refusal(message)
+    }
+
+    // What `error` does.
+    fn refusal<T: Display + Drop>(&self, message: T) -> Fault
+        ensures span { RefusesAt (state_span self.now) result }
+        ensures words { IfSome (T.output message)
+            (λ words. Refuses (refused_at self.now words) result) }
     {
         Fault::refused(Error::new_at(self.alloc, self.scope_span, self.cursor, message))
     }
@@ -157,6 +172,14 @@ impl<'a> ParseBuffer<'a> {
     /// both are in one scope.
     pub fn advance_to(&mut self, fork: Self)
         requires { same_scope self.old.place fork.place ≡ true }
+        ensures moves { self.new ≡ advanced fork.entry self.old }
+        ensures takes { ahead self.new ≡ after_fork (ahead fork.entry) (ahead self.old) }
+    {
+        self.go_to(fork);
+    }
+
+    // What `advance_to` does.
+    fn go_to(&mut self, fork: Self)
         ensures { self.new ≡ advanced fork.entry self.old }
     {
         let ParseBuffer {
@@ -182,6 +205,14 @@ impl<'a> ParseBuffer<'a> {
     /// Ends a content of this stream. What it has noted, or else the first token that it leaves unread, is noted here,
     /// unless there is a note already. `finish` refuses that token.
     pub fn close(&mut self, content: Self)
+        ensures closes { self.new ≡ closed content.entry self.old }
+        ensures takes { ahead self.new ≡ after_content (ahead content.entry) (ahead self.old) }
+    {
+        self.take_back(content);
+    }
+
+    // What `close` does.
+    pub(crate) fn take_back(&mut self, content: Self)
         ensures { self.new ≡ closed content.entry self.old }
     {
         let note = content.handed();

@@ -3,9 +3,9 @@ ghost use Rattle.std.specs.Prelude.{codes};
 ghost use Rattle.tok_types.specs.Printed.{first_span};
 ghost use Rattle.tok_types.specs.Texts.{keyword_text, punctuation_word};
 ghost use Rattle.syn_parse.specs.Parses.{NothingParses, PunctuationParses, WordParses};
-ghost use Rattle.syn_parse.specs.Takings.{lower, told};
-ghost use Rattle.syn_parse.specs.Tokens.{take_keyword, take_punctuation};
-ghost use Rattle.syn_parse.specs.Lighter.{lowers_keyword, lowers_punctuation};
+ghost use Rattle.syn_parse.specs.Takings.{lighter, lower, told};
+ghost use Rattle.syn_parse.specs.Tokens.{take_keyword, take_nothing, take_punctuation, take_underscore};
+ghost use Rattle.syn_parse.specs.Lighter.{lightens_gives, lowers_keyword, lowers_punctuation, lowers_underscore};
 
 use crate::fault::Result;
 use crate::parse::Parse;
@@ -58,10 +58,19 @@ fn punctuation_token<const K: usize, const N: usize>(
 impl Parse for Underscore {
     ghost parses = { WordParses (λ u. first_span u.spans) (codes "_") };
 
+    ghost takes = { told (λ u. first_span u.spans) take_underscore (lower lowers_underscore) };
+
     fn parse(input: ParseStream<'_, '_>) -> Result<Self> {
-        let span = keyword(input, "_")?;
-        Ok(Underscore::from_span(span))
+        underscore(input)
     }
+}
+
+// What `Underscore::parse` does.
+fn underscore(input: ParseStream<'_, '_>) -> Result<Underscore>
+    ensures { WordParses (λ u. first_span u.spans) (codes "_") input.old result input.new }
+{
+    let span = keyword(input, "_")?;
+    Ok(Underscore::from_span(span))
 }
 
 /// A value that is parsed from no tokens: its `parse` always succeeds, and leaves the stream as it is.
@@ -70,6 +79,8 @@ pub struct Nothing;
 
 impl Parse for Nothing {
     ghost parses = { NothingParses };
+
+    ghost takes = { told (λ _. tt) take_nothing (lighter (lightens_gives tt)) };
 
     fn parse(_input: ParseStream<'_, '_>) -> Result<Self> {
         Ok(Nothing)

@@ -4,8 +4,8 @@ ghost use Rattle.tok_buffer.specs.Cursors.{place_of};
 ghost use Rattle.syn_parse.specs.Parses as spec;
 ghost use Rattle.syn_parse.specs.Parses.{GroupParses, IdentParses, LifetimeParses, LiteralParses, PunctParses, RestParses, TreeParses};
 ghost use Rattle.syn_parse.specs.Takings.{lower, told};
-ghost use Rattle.syn_parse.specs.Tokens.{take_ident, take_literal};
-ghost use Rattle.syn_parse.specs.Lighter.{lowers_ident, lowers_literal};
+ghost use Rattle.syn_parse.specs.Tokens.{take_ident, take_lifetime, take_literal, take_punct};
+ghost use Rattle.syn_parse.specs.Lighter.{lowers_ident, lowers_lifetime, lowers_literal, lowers_punct};
 
 use crate::fault::Result;
 use crate::parse::Parse;
@@ -45,21 +45,30 @@ fn ident(input: ParseStream<'_, '_>) -> Result<Ident>
 impl Parse for Lifetime {
     ghost parses = { LifetimeParses };
 
+    ghost takes = { told (λ v. v) take_lifetime (lower lowers_lifetime) };
+
     fn parse(input: ParseStream<'_, '_>) -> Result<Self> {
-        let Some((lifetime, rest)) = input.cursor().lifetime() else {
-            return Err(input.error("expected lifetime"));
-        };
-        let name = lifetime.ident.as_str();
-        if !accept_as_lifetime(name) {
-            return Err(input.error(format_args!("unexpected keyword lifetime \"'{name}\"")));
-        }
-        let ident = lifetime.ident.clone()?;
-        input.move_to(rest);
-        Ok(Lifetime {
-            apostrophe: lifetime.apostrophe,
-            ident,
-        })
+        lifetime(input)
     }
+}
+
+// What `Lifetime::parse` does.
+fn lifetime(input: ParseStream<'_, '_>) -> Result<Lifetime>
+    ensures { LifetimeParses input.old result input.new }
+{
+    let Some((lifetime, rest)) = input.cursor().lifetime() else {
+        return Err(input.error("expected lifetime"));
+    };
+    let name = lifetime.ident.as_str();
+    if !accept_as_lifetime(name) {
+        return Err(input.error(format_args!("unexpected keyword lifetime \"'{name}\"")));
+    }
+    let ident = lifetime.ident.clone()?;
+    input.move_to(rest);
+    Ok(Lifetime {
+        apostrophe: lifetime.apostrophe,
+        ident,
+    })
 }
 
 // Whether `Lifetime::parse` takes a lifetime of this name.
@@ -96,13 +105,22 @@ fn literal(input: ParseStream<'_, '_>) -> Result<Literal>
 impl Parse for Punct {
     ghost parses = { PunctParses };
 
+    ghost takes = { told (λ v. v) take_punct (lower lowers_punct) };
+
     fn parse(input: ParseStream<'_, '_>) -> Result<Self> {
-        let Some((punct, rest)) = input.cursor().punct() else {
-            return Err(input.error("expected punctuation token"));
-        };
-        input.move_to(rest);
-        Ok(punct)
+        punct(input)
     }
+}
+
+// What `Punct::parse` does.
+fn punct(input: ParseStream<'_, '_>) -> Result<Punct>
+    ensures { PunctParses input.old result input.new }
+{
+    let Some((punct, rest)) = input.cursor().punct() else {
+        return Err(input.error("expected punctuation token"));
+    };
+    input.move_to(rest);
+    Ok(punct)
 }
 
 /// Parses the next tree, also an invisible group.

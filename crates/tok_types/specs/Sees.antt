@@ -1,10 +1,11 @@
 -- What a peek sees of the visible trees ahead.
 use Rattle.std.specs.Prelude.{◌≡◌, ℕ, Bool, List, [], ◌∷◌, Option, None, Some, is_some, bytes_eq, codes}
 use Rattle.tok_lexical.specs.declared.delimiter.Delimiter.{Delimiter}
+use Rattle.tok_core.specs.Clear.{is_joint_apostrophe}
 use Rattle.tok_core.specs.Forest.{Tree, Forest}
-use Rattle.tok_buffer.specs.InFront.{first_group, first_if, first_puncts}
+use Rattle.tok_buffer.specs.InFront.{and_first, first_group, first_if, first_puncts}
 use Rattle.tok_buffer.specs.Place.{Place}
-use Rattle.tok_buffer.specs.Reads.{is_ident, is_ident_of, is_literal, is_punct}
+use Rattle.tok_buffer.specs.Reads.{any_text, is_ident, is_ident_of, is_literal, is_punct}
 use Rattle.tok_buffer.specs.View.{erased_ahead}
 use Rattle.tok_types.specs.Texts.{accept_as_ident, keyword_text, punctuation_word}
 
@@ -18,11 +19,19 @@ abbrev pub first_word : List ℕ → Forest → Option (List Tree × Forest)
 first_word [] f = None
 first_word (c ∷ cs) f = first_if (is_ident_of (bytes_eq (c ∷ cs))) f
 
+-- a lifetime of which a test of its name is true
+abbrev pub first_lifetime : (List ℕ → Bool) → Forest → Option (List Tree × Forest)
+first_lifetime wanted f =
+    and_first (first_if is_joint_apostrophe f) (first_if (is_ident_of wanted))
+
 unfoldable pub ident_first : Forest → Bool
 ident_first f = is_some (first_if (is_ident_of accept_as_ident) f)
 
 unfoldable pub any_ident_first : Forest → Bool
 any_ident_first f = is_some (first_if is_ident f)
+
+unfoldable pub lifetime_first : Forest → Bool
+lifetime_first f = is_some (first_lifetime any_text f)
 
 unfoldable pub literal_first : Forest → Bool
 literal_first f = is_some (first_if is_literal f)

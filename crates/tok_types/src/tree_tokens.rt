@@ -4,7 +4,7 @@ ghost use Rattle.tok_buffer.specs.Place.{is_at_end};
 ghost use Rattle.tok_buffer.specs.Reads.{any_text, is_group, read_ident, read_lifetime, read_literal, read_punct, read_tree, read_word, read_if};
 ghost use Rattle.tok_types.specs.Looks.{Finds, IsText};
 ghost use Rattle.tok_types.specs.Texts.{accept_as_ident};
-ghost use Rattle.tok_types.specs.Sees.{any_ident_first, ident_first, literal_first, punct_first};
+ghost use Rattle.tok_types.specs.Sees.{any_ident_first, ident_first, lifetime_first, literal_first, punct_first};
 
 use crate::look::Token;
 use crate::texts::accept_as_ident;
@@ -57,6 +57,8 @@ impl Token for IdentAny {
 /// Finds a lifetime of any name.
 impl Token for Lifetime {
     ghost peeks = { Finds (read_lifetime any_text) };
+
+    ghost sees = { Some lifetime_first };
 
     ghost shown = { IsText (codes "lifetime") };
 

@@ -72,7 +72,7 @@ read_arguments-returns-then-is_empty t c i =
     let law = c.trees_ahead_decide.ensures in
     let so = c.loop-list.invariant.1 i in
     all-read c.args.input.now c.loop-list.input c.loop-list.list so
-    (ended law c.loop-list.input.place (so.moves.filled_on i) (sym c.if-is_empty.ensures))
+    (ended law c.loop-list.input.place (so.moves.filled_on i) (sym c.if-is_empty.ensures.at_end))
 
 pub read_arguments-read_argument-requires : goal.read_arguments-read_argument-requires
 read_arguments-read_argument-requires t c =
@@ -85,7 +85,7 @@ read_arguments-returns-in_err-argument t c =
     let so = c.loop-list.invariant.1 i in
     let refused = c.in_err-argument in
     then-refused c.args.input.now c.loop-list.input c.loop-list.list refused.field-0.0 so
-    (refused.ensures.reads (so.moves.filled_on i) (sym c.if-is_empty.ensures)))
+    (refused.ensures.reads (so.moves.filled_on i) (sym c.if-is_empty.ensures.at_end)))
 
 pub read_arguments-returns-in_err-push_value : goal.read_arguments-returns-in_err-push_value
 read_arguments-returns-in_err-push_value t c =
@@ -102,7 +102,7 @@ read_arguments-returns-then-is_empty-2 t c i =
     last-read c.args.input.now c.loop-list.input c.read_argument.new.input c.loop-list.list
     c.push_value.new.self c.in_ok-argument.argument so r c.in_ok-push_value.ensures.ok
     c.push_value.ensures.separators
-    (ended law c.read_argument.new.input.place j (sym c.if-is_empty-2.ensures))
+    (ended law c.read_argument.new.input.place j (sym c.if-is_empty-2.ensures.at_end))
 
 pub read_arguments-returns-in_err-comma : goal.read_arguments-returns-in_err-comma
 read_arguments-returns-in_err-comma t c =
@@ -116,7 +116,7 @@ read_arguments-returns-in_err-comma t c =
     then-refused c.args.input.now c.loop-list.input c.loop-list.list refused.field-0.0 so
     (comma-refused law c.loop-list.input c.read_argument.new.input c.parse.new.self
     c.in_ok-argument.argument refused.field-0.0 (r.moves.filled_on (so.moves.filled_on i))
-    (sym c.if-is_empty-2.ensures) r (does _ _ _ _ refused.ensures.reads)))
+    (sym c.if-is_empty-2.ensures.at_end) r (does _ _ _ _ refused.ensures.reads)))
 
 pub read_arguments-loop-list-smaller : goal.read_arguments-loop-list-smaller
 read_arguments-loop-list-smaller t c =
@@ -202,7 +202,7 @@ read_value-read_arguments-list-requires t c =
     let parens = c.in_ok-token.field-0 in
     let o =
     opened c.args.input.now c.parse_parens.new.input parens.content parens.token _ _ parens refl
-    refl refl c.in_ok-token.ensures in
+    refl refl c.in_ok-token.ensures.enters in
     let w = lighter-within law _ _ _ _ o in
     (omega (arith, c.decreases, w), tt)
 
@@ -212,8 +212,8 @@ read_value-returns-then-peek-2-clause-reads t c name =
     let parens = c.in_ok-token.field-0 in
     let o =
     opened c.args.input.now c.parse_parens.new.input parens.content parens.token _ _ parens refl
-    refl refl c.in_ok-token.ensures in
-    rw c.close.ensures
+    refl refl c.in_ok-token.ensures.enters in
+    rw c.close.ensures.closes
     (value-list law name c.args.input.now c.parse_parens.new.input parens.content
     c.read_arguments-list.new.input parens.token o c.in_ok-list.field-0 c.in_ok-list.ensures)
 
@@ -224,9 +224,9 @@ read_value-returns-then-peek-2-clause-no_heavier t c =
     let parens = c.in_ok-token.field-0 in
     let o =
     opened c.args.input.now c.parse_parens.new.input parens.content parens.token _ _ parens refl
-    refl refl c.in_ok-token.ensures in
+    refl refl c.in_ok-token.ensures.enters in
     let w = lighter-within law _ _ _ _ o in
-    let e = ap (λ u. weight (erased_ahead u.place)) c.close.ensures in
+    let e = ap (λ u. weight (erased_ahead u.place)) c.close.ensures.closes in
     omega (arith, w, e)
 
 pub read_value-returns-in_err-list-clause-reads : goal.read_value-returns-in_err-list-clause-reads
@@ -237,7 +237,7 @@ read_value-returns-in_err-list-clause-reads t c name =
     let p = err_from_is_err_and residual.result residual.ensures.1 in
     let o =
     opened c.args.input.now c.parse_parens.new.input parens.content parens.token _ _ parens refl
-    refl refl c.in_ok-token.ensures in
+    refl refl c.in_ok-token.ensures.enters in
     rw (p.1, p.2)
     (value-refused law name c.args.input.now c.parse_parens.new.input parens.content
     c.read_arguments-list.new.input parens.token o c.in_err-list.field-0.0 c.in_err-list.ensures)

@@ -30,7 +30,7 @@ pub returns-in_ok-ident-in-IdentAny-2 : goal.returns-in_ok-ident-in-IdentAny-2
 returns-in_ok-ident-in-IdentAny-2 c =
     let s = c.args.input.now in
     let ps = c.in_ok-ident-in-IdentAny-2.field-0 in
-    let here : AfterPieces (read (kind_of IdentAny) s.place) s ps c.parse_any.new.input = value-pieces (λ v. leaf (ident_of v) ∷ []) _ s _ c.in_ok-ident-in-IdentAny.ident ps c.parse_any.new.input c.in_ok-ident-in-IdentAny.ensures (c.in_ok-ident-in-IdentAny-2.ensures {u = tt}) in
+    let here : AfterPieces (read (kind_of IdentAny) s.place) s ps c.parse_any.new.input = value-pieces (λ v. leaf (ident_of v) ∷ []) _ s _ c.in_ok-ident-in-IdentAny.ident ps c.parse_any.new.input c.in_ok-ident-in-IdentAny.ensures.reads (c.in_ok-ident-in-IdentAny-2.ensures {u = tt}) in
     subst (λ k. AfterPieces (read (kind_of k) s.place) s ps c.parse_any.new.input) (sym c.in-IdentAny.is) here
 
 pub returns-in_ok-lifetime-in-Lifetime-2 : goal.returns-in_ok-lifetime-in-Lifetime-2
@@ -44,7 +44,7 @@ pub returns-in_ok-lifetime-in-LifetimeAny-2 : goal.returns-in_ok-lifetime-in-Lif
 returns-in_ok-lifetime-in-LifetimeAny-2 c =
     let s = c.args.input.now in
     let ps = c.in_ok-lifetime-in-LifetimeAny-2.field-0 in
-    let here : AfterPieces (read (kind_of LifetimeAny) s.place) s ps c.parse_any-in-LifetimeAny.new.input = value-pieces (λ v. lifetime_trees v.apostrophe (ident_of v.ident)) _ s _ c.in_ok-lifetime-in-LifetimeAny.lifetime ps c.parse_any-in-LifetimeAny.new.input c.in_ok-lifetime-in-LifetimeAny.ensures (c.in_ok-lifetime-in-LifetimeAny-2.ensures {u = tt}) in
+    let here : AfterPieces (read (kind_of LifetimeAny) s.place) s ps c.parse_any-in-LifetimeAny.new.input = value-pieces (λ v. lifetime_trees v.apostrophe (ident_of v.ident)) _ s _ c.in_ok-lifetime-in-LifetimeAny.lifetime ps c.parse_any-in-LifetimeAny.new.input c.in_ok-lifetime-in-LifetimeAny.ensures.reads (c.in_ok-lifetime-in-LifetimeAny-2.ensures {u = tt}) in
     subst (λ k. AfterPieces (read (kind_of k) s.place) s ps c.parse_any-in-LifetimeAny.new.input) (sym c.in-LifetimeAny.is) here
 
 pub returns-in_ok-literal-in-Literal-2 : goal.returns-in_ok-literal-in-Literal-2

@@ -43,7 +43,7 @@ returns c =
     let links = c.close_contents.ensures.links in
     let here = stream_there ys n x c.index.ensures (within xs ys n links c.requires.stream) in
     let there = stream_there ys f y c.index-2.ensures (within xs ys f links c.requires.fork) in
-    let moved = c.pause.ensures ∙ c.advance_to.ensures ∙ ap (λ s. parse.advanced s c.resume-input.result) c.resume.ensures ∙ ap (parse.advanced (paused_state y.paused)) c.resume-input.ensures in
+    let moved = c.pause.ensures ∙ c.advance_to.ensures.moves ∙ ap (λ s. parse.advanced s c.resume-input.result) c.resume.ensures ∙ ap (parse.advanced (paused_state y.paused)) c.resume-input.ensures in
     c.spend.ensures.after
     ∙ ap (λ z. with_stream z f spent) (
     c.put.ensures.after

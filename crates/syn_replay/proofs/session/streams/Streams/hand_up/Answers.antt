@@ -51,7 +51,7 @@ returns-clause-after c =
           let y = w.index.result.now in
           let there = parent_within xs k p x c.args.self.now.linked c.index-stream.ensures within w.in-Some.is in
           ap state_of w.self-is ∙ w.put.ensures.after
-          ∙ ap (λ t. with_stream st p (put t)) (w.pause.ensures ∙ w.close.ensures ∙ ap (λ t. closed t w.resume-input.result) w.resume.ensures ∙ ap (closed (paused_state x.paused)) w.resume-input.ensures)
+          ∙ ap (λ t. with_stream st p (put t)) (w.pause.ensures ∙ w.close.ensures.closes ∙ ap (λ t. closed t w.resume-input.result) w.resume.ensures ∙ ap (closed (paused_state x.paused)) w.resume-input.ensures)
           ∙ changed_alike st p (stream_of y) (put (closed (paused_state x.paused) (paused_state y.paused))) (with_note (handed_note s)) (stream_there xs p y w.index.ensures there) refl
           ∙ ap (λ p. with_note_on_parent (kind_of x.is_fork p) (handed_note s) st) (sym w.in-Some.is)
       | in_default w ↦
