@@ -19,13 +19,13 @@ fn values(rt: &(impl Abort + AllocGlobal), alloc: Global) -> Result<(), AllocErr
 
 fn pairs(rt: &(impl Abort + AllocGlobal), alloc: Global) -> Result<(), AllocError> {
     let list = Punctuated::<u8, token::Comma>::from_values(alloc, vec![in alloc; 1, 2]?)?;
-    let mut separators = 0;
+    let mut bare = None;
     for pair in list.pairs() {
-        if pair.punct().is_some() {
-            separators += 1;
+        if pair.punct().is_none() {
+            bare = Some(**pair.value());
         }
     }
-    assert_eq!(rt; separators, 1);
+    assert_eq!(rt; bare, Some(2));
     Ok(())
 }
 

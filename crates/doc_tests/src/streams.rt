@@ -1,10 +1,16 @@
 //! Examples of `syn_parse`.
+ghost use Rattle.std.specs.Prelude.{IfOk};
+ghost use Rattle.syn_parse.specs.Steps.{step_state};
+ghost use Rattle.tok_buffer.specs.Cursors.{place_of};
+ghost use Rattle.tok_buffer.specs.Progress.{StaysIn};
+
 use std::alloc::Global;
 use syn_parse::{
     IdentExt, Parens, Parse, ParseStream, Parser, Result, parenthesized, parse_parens, parse_str,
     parse2, parsing,
 };
 use syn_punctuated::Punctuated;
+use tok_buffer::laws::reads_go_on;
 use tok_core::{Delimiter, Ident, Literal, Span, TokenStream, lex};
 use tok_types::token;
 
@@ -101,10 +107,17 @@ fn expects_a_name(input: ParseStream<'_, '_>) -> Result<usize> {
 }
 
 fn any_literal(input: ParseStream<'_, '_>) -> Result<Literal> {
-    input.step(|from| match from.cursor().literal() {
-        Some((literal, rest)) => Ok((literal.clone()?, rest)),
-        None => Err(from.error("expected a literal")),
-    })
+    input.step(
+        |from|
+            ensures { IfOk result (λ r. StaysIn (step_state from.entry).place (place_of r.1)) }
+        {
+            reads_go_on();
+            match from.cursor().literal() {
+                Some((literal, rest)) => Ok((literal.clone()?, rest)),
+                None => Err(from.error("expected a literal")),
+            }
+        },
+    )
 }
 
 fn sealed(input: ParseStream<'_, '_>) -> Result<Span> {

@@ -21,13 +21,13 @@ impl<T, P> Punctuated<T, P> {
     ///
     /// ```rust
     /// let list = Punctuated::<u8, token::Comma>::from_values(alloc, vec![in alloc; 1, 2]?)?;
-    /// let mut separators = 0;
+    /// let mut bare = None;
     /// for pair in list.pairs() {
-    ///     if pair.punct().is_some() {
-    ///         separators += 1;
+    ///     if pair.punct().is_none() {
+    ///         bare = Some(**pair.value());
     ///     }
     /// }
-    /// assert_eq!(rt; separators, 1);
+    /// assert_eq!(rt; bare, Some(2));
     /// ```
     pub fn pairs(&self) -> Pairs<'_, T, P>
         ensures rest { result ≡ paired (values_of self.now) (separators_of self.now) }

@@ -21,7 +21,7 @@ fn is_byte(c: char) -> bool
     is_char(c) && c < '\u{80}'
 }
 
-/// Past the apostrophe that ends a character, and its suffix.
+/// Returns the text after the apostrophe that ends a character, and its suffix.
 // Inlined: it is the end of each of the three rules, and mostly two tests.
 #[inline(always)]
 fn past_end(text: &str) -> Option<&str>
@@ -32,7 +32,7 @@ fn past_end(text: &str) -> Option<&str>
     Some(past_suffix(rest))
 }
 
-/// Past one character that may stand between apostrophes as it is.
+/// Returns the text after one character that may stand between apostrophes as it is.
 fn past_plain(text: &str) -> Option<&str>
     ensures finds { ReadsPrefix (IsOne is_char) (chars text.now) result }
     ensures utf8 { IfSome result (λ rest. IsUtf8 rest.now) }
@@ -41,7 +41,7 @@ fn past_plain(text: &str) -> Option<&str>
     if is_char(first) { Some(rest) } else { None }
 }
 
-/// Past an escape of a character.
+/// Returns the text after an escape of a character.
 fn past_escaped(text: &str) -> Option<&str>
     ensures finds { ReadsPrefix IsEscapedChar (chars text.now) result }
     ensures utf8 { IfSome result (λ rest. IsUtf8 rest.now) }
@@ -50,7 +50,7 @@ fn past_escaped(text: &str) -> Option<&str>
     past_escape(rest, false, false)
 }
 
-/// Past a byte, or an escape of one.
+/// Returns the text after a byte, or an escape of one.
 fn past_byte(text: &str) -> Option<&str>
     ensures finds { ReadsPrefix IsByte (chars text.now) result }
     ensures utf8 { IfSome result (λ rest. IsUtf8 rest.now) }
@@ -65,7 +65,7 @@ fn past_byte(text: &str) -> Option<&str>
     }
 }
 
-/// Past a character with no escape, and its suffix.
+/// Returns the text after a character with no escape, and its suffix.
 #[inline(always)]
 pub fn past_plain_char(text: &str) -> Option<&str>
     ensures tries { ReadsLongest (IsQuoted (IsOne is_char)) (chars text.now) result }
@@ -76,7 +76,7 @@ pub fn past_plain_char(text: &str) -> Option<&str>
     past_end(end)
 }
 
-/// Past a character with an escape, and its suffix.
+/// Returns the text after a character with an escape, and its suffix.
 #[inline(always)]
 pub fn past_escaped_char(text: &str) -> Option<&str>
     ensures tries { ReadsLongest (IsQuoted IsEscapedChar) (chars text.now) result }
@@ -87,7 +87,7 @@ pub fn past_escaped_char(text: &str) -> Option<&str>
     past_end(end)
 }
 
-/// Past a byte between apostrophes, and its suffix.
+/// Returns the text after a byte between apostrophes, and its suffix.
 fn past_quoted_byte(text: &str) -> Option<&str>
     ensures tries { ReadsLongest (IsQuoted IsByte) (chars text.now) result }
     ensures utf8 { IfSome result (λ rest. IsUtf8 rest.now) }
@@ -97,7 +97,7 @@ fn past_quoted_byte(text: &str) -> Option<&str>
     past_end(end)
 }
 
-/// Past a byte character and its suffix.
+/// Returns the text after a byte character and its suffix.
 #[inline(always)]
 pub fn past_byte_char(text: &str) -> Option<&str>
     ensures tries { ReadsLongest (After 98 (IsQuoted IsByte)) (chars text.now) result }

@@ -8,6 +8,7 @@ ghost use Rattle.tok_lexical.specs.Pieces.{Skips};
 use crate::delimiter::Delimiter;
 use crate::text::{next_char, past_char};
 
+/// Returns `true` for white space.
 pub fn is_whitespace(c: char) -> bool
     ensures { result ≡ is_whitespace c }
 {
@@ -22,7 +23,7 @@ pub fn is_whitespace(c: char) -> bool
     }
 }
 
-/// Whether the text begins with a visible ASCII character.
+/// Returns `true` if the text begins with a visible ASCII character.
 #[inline]
 fn begins_visibly(text: &str) -> bool
     ensures { result ≡ begins_visibly (chars text.now) }
@@ -33,7 +34,7 @@ fn begins_visibly(text: &str) -> bool
     }
 }
 
-/// Past the spaces at the front.
+/// Returns the text after the spaces at the front.
 #[inline]
 fn past_spaces(text: &str) -> &str
     ensures skips { (front : List ℕ) × Skips is_space (chars text.now) front (chars result.now) }
@@ -46,7 +47,7 @@ fn past_spaces(text: &str) -> &str
     rest
 }
 
-/// Past the white space at the front.
+/// Returns the text after the white space at the front.
 #[inline]
 pub fn past_whitespace(text: &str) -> &str
     ensures skips { (front : List ℕ)
@@ -62,7 +63,7 @@ pub fn past_whitespace(text: &str) -> &str
     }
 }
 
-/// The same, for white space of any kind and length.
+/// Returns the text after the white space at the front, of any kind and length.
 fn past_any_whitespace(text: &str) -> &str
     ensures skips { (front : List ℕ)
         × Skips is_whitespace (chars text.now) front (chars result.now) }
@@ -78,19 +79,21 @@ fn past_any_whitespace(text: &str) -> &str
     rest
 }
 
+/// Returns `true` for a punctuation character, which the apostrophe is not.
 pub fn is_punct(c: char) -> bool
     ensures { result ≡ is_punct c }
 {
     matches!(c, '!' | '#'..='&' | '*'..='/' | ':'..='@' | '^' | '|' | '~')
 }
 
-/// Whether a punct may have this character.
+/// Returns `true` if a punct may have this character.
 pub fn is_punct_or_apostrophe(c: char) -> bool
     ensures { result ≡ is_punct_or_apostrophe c }
 {
     is_punct(c) || c == '\''
 }
 
+/// Returns the character that opens a group: `«` for an invisible one.
 pub fn opening_mark(delimiter: Delimiter) -> char
     ensures { result ≡ opening_mark delimiter }
 {
@@ -102,6 +105,7 @@ pub fn opening_mark(delimiter: Delimiter) -> char
     }
 }
 
+/// Returns the character that closes a group: `»` for an invisible one.
 pub fn closing_mark(delimiter: Delimiter) -> char
     ensures { result ≡ closing_mark delimiter }
 {
@@ -113,6 +117,7 @@ pub fn closing_mark(delimiter: Delimiter) -> char
     }
 }
 
+/// Returns `true` for the delimiter of an invisible group.
 pub fn is_invisible(delimiter: Delimiter) -> bool
     ensures { result ≡ is_invisible delimiter }
 {

@@ -9,14 +9,14 @@ use crate::text::{
     begins_with, front_of, next_char, past_char, past_first, past_others, past_pair, up_to,
 };
 
-/// Up to the line feed, or to the end.
+/// Returns the text from the line feed on, or the end of the text.
 pub fn past_line(text: &str) -> &str
     ensures { (front : List ℕ) × Skips is_not_line_feed (chars text.now) front (chars result.now) }
 {
     past_others(text, b'\n', b'\n')
 }
 
-/// Past a `//` comment.
+/// Returns the text after a `//` comment.
 #[inline(always)]
 pub fn past_line_comment(text: &str) -> Option<&str>
     ensures tries { ReadsLongest IsLineComment (chars text.now) result }
@@ -25,7 +25,7 @@ pub fn past_line_comment(text: &str) -> Option<&str>
     Some(past_line(past_pair(text, '/', '/')?))
 }
 
-/// Past a `/*` comment, with those inside it.
+/// Returns the text after a `/*` comment, with those inside it.
 #[inline(always)]
 pub fn past_block_comment(text: &str) -> Option<&str>
     ensures tries { ReadsLongest IsBlockComment (chars text.now) result }
@@ -34,7 +34,7 @@ pub fn past_block_comment(text: &str) -> Option<&str>
     past_block(past_pair(text, '/', '*')?)
 }
 
-/// Past the `*/` that ends a comment whose `/*` comes before the text.
+/// Returns the text after a comment whose `/*` is before `text`.
 #[inline(always)]
 pub fn past_block(text: &str) -> Option<&str>
     ensures tries { ReadsLongest (Closes 1) (chars text.now) result }
@@ -64,7 +64,7 @@ pub fn past_block(text: &str) -> Option<&str>
     Some(rest)
 }
 
-/// Whether what follows a `//` makes it a doc comment.
+/// Returns `true` if the text after a `//` makes it a doc comment.
 #[inline]
 pub fn opens_line_doc(body: &str) -> bool
     ensures { result ≡ opens_line_doc (chars body.now) }
@@ -75,7 +75,7 @@ pub fn opens_line_doc(body: &str) -> bool
     }
 }
 
-/// Whether what follows a `/*` makes it a doc comment.
+/// Returns `true` if the text after a `/*` makes it a doc comment.
 #[inline]
 pub fn opens_block_doc(body: &str) -> bool
     ensures { result ≡ opens_block_doc (chars body.now) }
@@ -86,28 +86,29 @@ pub fn opens_block_doc(body: &str) -> bool
     }
 }
 
-/// Whether a `//` comment is a doc comment.
+/// Returns `true` if a `//` comment is a doc comment.
 pub fn is_line_doc(piece: &str) -> bool
     ensures { result ≡ is_line_doc (chars piece.now) }
 {
     opens_line_doc(past_first(past_first(piece)))
 }
 
-/// Whether a `/*` comment is a doc comment.
+/// Returns `true` if a `/*` comment is a doc comment.
 pub fn is_block_doc(piece: &str) -> bool
     ensures { result ≡ is_block_doc (chars piece.now) }
 {
     opens_block_doc(past_first(past_first(piece)))
 }
 
-/// Whether a doc comment is about what it stands in: `!` is its third character.
+/// Returns `true` if a doc comment is about the item it is in: `!` is its third character.
 pub fn is_inner_doc(piece: &str) -> bool
     ensures { result ≡ is_inner_doc (chars piece.now) }
 {
     begins_with(past_first(past_first(piece)), '!')
 }
 
-/// What a `///` or `//!` comment says. A U+000D at its end belongs to the end of the line.
+/// Returns the contents of a `///` or `//!` comment. A U+000D at its end belongs to the end of the
+/// line.
 pub fn line_doc_text(piece: &str) -> &str
     ensures { chars result.now ≡ line_doc_text (chars piece.now) }
 {
@@ -115,7 +116,7 @@ pub fn line_doc_text(piece: &str) -> &str
     up_to(text, b'\r')
 }
 
-/// Whether a line comment has a U+000D that isn't part of its line's end.
+/// Returns `true` if a line comment has a U+000D that isn't part of its line's end.
 #[inline(never)]
 pub fn breaks_line(piece: &str, after: &str) -> bool
     ensures { result ≡ breaks_line (chars piece.now) (chars after.now) }
@@ -129,7 +130,11 @@ pub fn breaks_line(piece: &str, after: &str) -> bool
     }
 }
 
-/// What a `/**` or `/*!` comment says.
+/// Returns the contents of a `/**` or `/*!` comment.
+///
+/// # Requires
+///
+/// The text must be a whole block doc comment.
 pub fn block_doc_text(piece: &str) -> &str
     requires { (c : ℕ) × (front : List ℕ)
         × (chars piece.now ≡ 47 ∷ 42 ∷ c ∷ (front ++ 42 ∷ 47 ∷ [])) }

@@ -5,7 +5,7 @@ ghost use Rattle.tok_lexical.specs.Contents.{is_misfit, has_quote, has_misfit, h
 
 use crate::text::{begins_with, next_char, past_char, past_first, past_others};
 
-/// What a string literal holds: characters, bytes, or the bytes of a C string.
+/// The contents of a string literal: characters, bytes, or the bytes of a C string.
 #[derive(Clone, Copy, Debug)]
 pub enum Contents {
     Text,
@@ -14,7 +14,7 @@ pub enum Contents {
 }
 
 impl Contents {
-    // Whether no literal of this kind may hold the character as it is.
+    // Returns `true` if no literal of this kind may contain the character as it is.
     fn is_misfit(self, c: char) -> bool
         ensures { result ≡ is_misfit self c }
     {
@@ -39,7 +39,7 @@ fn has_quote(text: &str) -> bool
     false
 }
 
-/// Whether a character that the literal may not hold stands before its last quote.
+/// Returns `true` if a character that the literal may not contain is before its last quote.
 // Kept out of line: byte strings and C strings are rare.
 #[inline(never)]
 fn has_misfit(contents: Contents, piece: &str) -> bool
@@ -55,7 +55,7 @@ fn has_misfit(contents: Contents, piece: &str) -> bool
     false
 }
 
-/// Whether a U+000D is there that no line feed follows.
+/// Returns `true` if the text has a U+000D that no line feed follows.
 #[inline(never)]
 pub fn has_bare_return(text: &str) -> bool
     ensures { result ≡ has_bare_return (chars text.now) }
@@ -70,7 +70,7 @@ pub fn has_bare_return(text: &str) -> bool
     false
 }
 
-/// Whether a string literal holds what one of this kind may not.
+/// Returns `true` if a string literal contains what one of this kind may not.
 // Inlined, but for the searches: each string of a source asks this, and its kind is known.
 #[inline(always)]
 pub fn is_unfit(contents: Contents, piece: &str) -> bool
@@ -82,7 +82,7 @@ pub fn is_unfit(contents: Contents, piece: &str) -> bool
     }
 }
 
-/// Whether the digits of a code, up to its brace, are zeros.
+/// Returns `true` if the digits of a code, up to its brace, are zeros.
 fn only_zeros(text: &str) -> bool
     ensures { result ≡ only_zeros (chars text.now) }
 {
@@ -99,7 +99,7 @@ fn only_zeros(text: &str) -> bool
     false
 }
 
-/// Whether an escape that goes on so names U+0000.
+/// Returns `true` if an escape that goes on so names U+0000.
 fn names_zero(text: &str) -> bool
     ensures { result ≡ names_zero (chars text.now) }
 {
@@ -114,7 +114,7 @@ fn names_zero(text: &str) -> bool
     }
 }
 
-/// Whether an escape names U+0000.
+/// Returns `true` if an escape names U+0000.
 // Kept out of line: C strings are rare.
 #[inline(never)]
 fn has_zero(piece: &str) -> bool
@@ -132,7 +132,7 @@ fn has_zero(piece: &str) -> bool
     false
 }
 
-/// Whether a string that isn't raw holds what one of this kind may not.
+/// Returns `true` if a string that isn't raw contains what one of this kind may not.
 // Inlined for the same reason.
 #[inline(always)]
 pub fn is_wrong(contents: Contents, piece: &str) -> bool

@@ -2,18 +2,18 @@
 ghost use Rattle.std.specs.Prelude.{◌≡◌};
 ghost use Rattle.tok_lexical.specs.Delimiters.{opening, closing};
 
-/// What is around a group: `( .. )`, `{ .. }`, `[ .. ]`, or nothing that shows.
+/// The delimiter of a group: `( .. )`, `{ .. }`, `[ .. ]`, or none that shows.
 #[derive(Clone, Copy, PartialEq, Eq, Debug)]
 pub enum Delimiter {
     Parenthesis,
     Brace,
     Bracket,
-    /// An invisible group, as macros leave round what they put in.
+    /// No delimiter: an invisible group, as macros leave around what they insert.
     None,
 }
 
 impl Delimiter {
-    /// What is printed at the start of such a group: `«` of an invisible one.
+    /// Returns the text at the start of such a group: `«` for an invisible one.
     pub fn opening(self) -> &'static str
         ensures { result.now ≡ opening self }
     {
@@ -25,7 +25,7 @@ impl Delimiter {
         }
     }
 
-    /// What is printed at the end of such a group: `»` of an invisible one.
+    /// Returns the text at the end of such a group: `»` for an invisible one.
     pub fn closing(self) -> &'static str
         ensures { result.now ≡ closing self }
     {

@@ -13,7 +13,7 @@ fn is_simple_escape(c: char) -> bool
     matches!(c, 'n' | 'r' | 't' | '\\' | '0' | '\'' | '"')
 }
 
-/// Past two hexadecimal digits, the first of them below `top`.
+/// Returns the text after two hexadecimal digits, the first of them below `top`.
 fn past_hex(text: &str, top: u32) -> Option<&str>
     requires low { 2 ≤ top }
     requires high { top ≤ 16 }
@@ -29,7 +29,7 @@ fn past_hex(text: &str, top: u32) -> Option<&str>
     if low.is_digit(16) { Some(rest) } else { None }
 }
 
-/// Whether at most six digits, underscores aside, name a character.
+/// Returns `true` if at most six digits, underscores aside, name a character.
 fn names_char(digits: &str) -> bool
     ensures { MatchBool result (NamesChar (chars digits.now)) (NamesChar (chars digits.now) → ⊥) }
 {
@@ -52,7 +52,7 @@ fn names_char(digits: &str) -> bool
     char::from_u32(value).is_some()
 }
 
-/// Past what follows `\u`.
+/// Returns the text after a code. `text` begins after its `\u`.
 fn past_code(text: &str) -> Option<&str>
     ensures finds { ReadsPrefix IsCode (chars text.now) result }
     ensures utf8 { IfSome result (λ rest. IsUtf8 rest.now) }
@@ -72,7 +72,7 @@ fn past_code(text: &str) -> Option<&str>
     }
 }
 
-/// Past a line end.
+/// Returns the text after a line end.
 fn past_line_end(text: &str) -> Option<&str>
     ensures finds { ReadsPrefix IsLineEnd (chars text.now) result }
     ensures utf8 { IfSome result (λ rest. IsUtf8 rest.now) }
@@ -84,7 +84,7 @@ fn past_line_end(text: &str) -> Option<&str>
     }
 }
 
-/// What the first digit of a hexadecimal escape is below.
+/// Returns the number that the first digit of a hexadecimal escape is below.
 fn top_digit(wide: bool) -> u32
     ensures value { result ≡ (if wide then 16 else 8) }
     ensures low { 2 ≤ result }
@@ -93,7 +93,7 @@ fn top_digit(wide: bool) -> u32
     if wide { 16 } else { 8 }
 }
 
-/// Past what follows the backslash of an escape.
+/// Returns the text after an escape. `text` begins after its backslash.
 pub fn past_escape(text: &str, line_ends: bool, wide: bool) -> Option<&str>
     ensures finds { ReadsPrefix (IsEscape line_ends wide) (chars text.now) result }
     ensures utf8 { IfSome result (λ rest. IsUtf8 rest.now) }
@@ -113,7 +113,7 @@ pub fn past_escape(text: &str, line_ends: bool, wide: bool) -> Option<&str>
     }
 }
 
-/// The same in a C string.
+/// Returns the text after an escape in a C string. `text` begins after its backslash.
 pub fn past_c_escape(text: &str) -> Option<&str>
     ensures finds { ReadsPrefix IsCEscape (chars text.now) result }
     ensures utf8 { IfSome result (λ rest. IsUtf8 rest.now) }

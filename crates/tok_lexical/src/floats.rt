@@ -8,7 +8,7 @@ use crate::numbers::{is_exponent, past_decimal, past_digits, starts_digit};
 use crate::text::{next_char, past_char, past_first};
 use crate::words::past_suffix;
 
-/// Past the digits of an exponent and a suffix.
+/// Returns the text after the digits of an exponent and a suffix.
 fn past_exponent_digits(text: &str) -> Option<&str>
     ensures tries { ReadsLongest IsExponentDigits (chars text.now) result }
     ensures utf8 { IfSome result (λ rest. IsUtf8 rest.now) }
@@ -17,7 +17,7 @@ fn past_exponent_digits(text: &str) -> Option<&str>
     if found { Some(past_suffix(rest)) } else { None }
 }
 
-/// The same after a sign, if there is one.
+/// Returns the text after a sign, if there is one, and the digits of an exponent and a suffix.
 fn past_signed(text: &str) -> Option<&str>
     ensures tries { ReadsLongest IsSigned (chars text.now) result }
     ensures utf8 { IfSome result (λ rest. IsUtf8 rest.now) }
@@ -31,7 +31,7 @@ fn past_signed(text: &str) -> Option<&str>
     past_exponent_digits(text)
 }
 
-/// Past an exponent and a suffix.
+/// Returns the text after an exponent and a suffix.
 pub fn past_exponent(text: &str) -> Option<&str>
     ensures tries { ReadsLongest IsExponent (chars text.now) result }
     ensures utf8 { IfSome result (λ rest. IsUtf8 rest.now) }
@@ -43,7 +43,7 @@ pub fn past_exponent(text: &str) -> Option<&str>
     }
 }
 
-/// Past digits and an exponent.
+/// Returns the text after digits and an exponent.
 fn past_scaled(text: &str) -> Option<&str>
     ensures tries { ReadsLongest IsScaled (chars text.now) result }
     ensures utf8 { IfSome result (λ rest. IsUtf8 rest.now) }
@@ -55,7 +55,8 @@ fn past_scaled(text: &str) -> Option<&str>
     past_exponent(rest)
 }
 
-/// Past what follows the dot of a float, if that is a digit.
+/// Returns the text after a float, or `None` unless a digit is next. `text` begins after the
+/// float's dot.
 #[inline(never)]
 pub fn past_fraction(text: &str) -> Option<&str>
     ensures tries { ReadsLongest IsFraction (chars text.now) result }
@@ -67,7 +68,7 @@ pub fn past_fraction(text: &str) -> Option<&str>
     }
 }
 
-/// Past what follows the digits of a float.
+/// Returns the text after a float. `text` begins after its digits.
 fn past_float_tail(text: &str) -> Option<&str>
     ensures tries { ReadsLongest IsFloatTail (chars text.now) result }
     ensures utf8 { IfSome result (λ rest. IsUtf8 rest.now) }
@@ -78,7 +79,7 @@ fn past_float_tail(text: &str) -> Option<&str>
     }
 }
 
-/// Past a float.
+/// Returns the text after a float.
 #[inline(never)]
 pub fn past_float(text: &str) -> Option<&str>
     ensures tries { ReadsLongest IsFloat (chars text.now) result }
@@ -91,7 +92,7 @@ pub fn past_float(text: &str) -> Option<&str>
     past_float_tail(rest)
 }
 
-/// Past a decimal integer and a dot directly after it.
+/// Returns the text after a decimal integer and a dot directly after it.
 #[inline(never)]
 pub fn past_pointed(text: &str) -> Option<&str>
     ensures tries { ReadsLongest IsPointed (chars text.now) result }

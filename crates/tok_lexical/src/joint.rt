@@ -7,7 +7,7 @@ use crate::classes::is_punct_or_apostrophe;
 use crate::text::{begins_with, next_char, past_char};
 use crate::words::{is_identifier_start, starts_name};
 
-/// Whether a punct character follows, the apostrophe among them.
+/// Returns `true` if a punctuation character or an apostrophe follows.
 fn starts_punct(rest: &str) -> bool
     ensures { result ≡ starts_punct (chars rest.now) }
 {
@@ -17,7 +17,7 @@ fn starts_punct(rest: &str) -> bool
     }
 }
 
-/// Whether a comment follows.
+/// Returns `true` if a comment follows.
 pub fn begins_comment(rest: &str) -> bool
     ensures { result ≡ begins_comment (chars rest.now) }
 {
@@ -27,7 +27,7 @@ pub fn begins_comment(rest: &str) -> bool
     }
 }
 
-/// Whether a punct character follows that doesn't begin a comment.
+/// Returns `true` if a punctuation character or an apostrophe follows that doesn't begin a comment.
 // Inlined: the loop over pieces asks this after each punct.
 #[inline(always)]
 pub fn makes_joint(rest: &str) -> bool
@@ -36,7 +36,8 @@ pub fn makes_joint(rest: &str) -> bool
     starts_punct(rest) && !begins_comment(rest)
 }
 
-/// Whether an identifier or a punct character follows, through marks.
+/// Returns `true` if an identifier, a punctuation character or an apostrophe follows, through
+/// marks.
 pub fn makes_joint_apostrophe(after: &str) -> bool
     ensures { result ≡ makes_joint_apostrophe (chars after.now) }
 {
@@ -44,7 +45,7 @@ pub fn makes_joint_apostrophe(after: &str) -> bool
     starts_name(next) || starts_punct(next)
 }
 
-/// Past the marks of invisible groups at the front.
+/// Returns the text after the marks of invisible groups at the front.
 pub fn past_marks(text: &str) -> &str
     ensures { chars result.now ≡ past_marks (chars text.now) }
 {
@@ -58,7 +59,8 @@ pub fn past_marks(text: &str) -> &str
     rest
 }
 
-/// Whether a dot that comes before, directly after digits, belongs to a float: no other dot and no identifier follows.
+/// Returns `true` if a dot directly before `after`, and directly after digits, belongs to a float:
+/// no other dot and no identifier follows.
 pub fn takes_point(after: &str) -> bool
     ensures { result ≡ takes_point (chars after.now) }
 {

@@ -16,6 +16,7 @@ pub enum Base {
 }
 
 impl Base {
+    /// Returns the letter that names the base, after a zero.
     pub fn mark(self) -> char
         ensures { result ≡ base_mark self }
     {
@@ -47,7 +48,8 @@ fn is_digit_or_underscore(c: char, radix: u32) -> bool
     c.is_digit(radix) || c == '_'
 }
 
-/// Past the digits and underscores at the front, and whether there is a digit.
+/// Returns whether there is a digit at the front, and the text after the digits and underscores
+/// there.
 pub fn past_digits(text: &str, radix: u32) -> (bool, &str)
     requires low { 2 ≤ radix }
     requires high { radix ≤ 16 }
@@ -77,7 +79,7 @@ fn starts_number_suffix(c: char, radix: u32) -> bool
     !(is_digit_or_underscore(c, radix) || c == 'e' || c == 'E')
 }
 
-/// Past a number's suffix, if one follows directly.
+/// Returns the text after a number's suffix, if one follows directly.
 pub fn past_number_suffix(text: &str, radix: u32) -> &str
     requires low { 2 ≤ radix }
     requires high { radix ≤ 16 }
@@ -97,7 +99,7 @@ pub fn past_number_suffix(text: &str, radix: u32) -> &str
     past_identifier(text).unwrap_or(text)
 }
 
-/// Past digits of a base and a suffix.
+/// Returns the text after digits of a base and a suffix.
 fn past_in_base(text: &str, radix: u32) -> Option<&str>
     requires low { 2 ≤ radix }
     requires high { radix ≤ 16 }
@@ -112,7 +114,7 @@ fn past_in_base(text: &str, radix: u32) -> Option<&str>
     }
 }
 
-/// Past an integer that names its base.
+/// Returns the text after an integer that names its base.
 pub fn past_based(text: &str, base: Base) -> Option<&str>
     ensures tries { ReadsLongest (IsBased base) (chars text.now) result }
     ensures utf8 { IfSome result (λ rest. IsUtf8 rest.now) }
@@ -121,6 +123,7 @@ pub fn past_based(text: &str, base: Base) -> Option<&str>
     past_in_base(digits, base.radix())
 }
 
+/// Returns `true` if the text begins with a decimal digit.
 #[inline(always)]
 pub fn starts_digit(text: &str) -> bool
     ensures { result ≡ starts_digit (chars text.now) }
@@ -131,7 +134,7 @@ pub fn starts_digit(text: &str) -> bool
     }
 }
 
-/// Past a decimal integer.
+/// Returns the text after a decimal integer.
 #[inline(always)]
 pub fn past_decimal(text: &str) -> Option<&str>
     ensures tries { ReadsLongest IsDecimal (chars text.now) result }
@@ -144,6 +147,7 @@ pub fn past_decimal(text: &str) -> Option<&str>
     Some(past_number_suffix(rest, 10))
 }
 
+/// Returns `true` if the text begins with `e` or `E`.
 #[inline(always)]
 pub fn is_exponent(text: &str) -> bool
     ensures { result ≡ is_exponent (chars text.now) }
@@ -154,7 +158,7 @@ pub fn is_exponent(text: &str) -> bool
     }
 }
 
-/// Whether a dot follows that is followed by neither a dot nor an identifier.
+/// Returns `true` if a dot follows, and after it neither a dot nor an identifier.
 fn is_fraction(text: &str) -> bool
     ensures { result ≡ is_fraction (chars text.now) }
 {
@@ -167,7 +171,7 @@ fn is_fraction(text: &str) -> bool
     }
 }
 
-/// Whether these are digits alone.
+/// Returns `true` if the text is digits alone.
 fn is_bare(text: &str, radix: u32) -> bool
     requires low { 2 ≤ radix }
     requires high { radix ≤ 16 }
@@ -180,7 +184,7 @@ fn is_bare(text: &str, radix: u32) -> bool
     }
 }
 
-/// Whether a number with this text after it would go on.
+/// Returns `true` if a number with this text after it would go on.
 // Inlined: each number with a base asks this, and mostly the first character after it tells.
 #[inline(always)]
 pub fn is_malformed(base: Base, piece: &str, after: &str) -> bool
@@ -196,6 +200,7 @@ pub fn is_malformed(base: Base, piece: &str, after: &str) -> bool
         && is_bare(digits, base.radix())
 }
 
+/// Returns `true` if decimal digits with this text after them are those of a float.
 pub fn is_float(piece: &str, after: &str) -> bool
     ensures { result ≡ is_float (chars piece.now) (chars after.now) }
 {

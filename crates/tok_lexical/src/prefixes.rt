@@ -7,7 +7,7 @@ ghost use Rattle.tok_lexical.specs.Strings.{IsHashes, IsPrefixed, IsPrefixOf, Is
 use crate::contents::Contents;
 use crate::text::{next_char, past_char};
 
-/// Past the `#` at the front.
+/// Returns the text after the `#` at the front.
 pub fn past_number_signs(text: &str) -> &str
     ensures { (front : List ℕ) × Skips (λ c. c == 35) (chars text.now) front (chars result.now) }
 {
@@ -18,7 +18,7 @@ pub fn past_number_signs(text: &str) -> &str
     rest
 }
 
-/// Past any number of `#` and a quote.
+/// Returns the text after any number of `#` and a quote.
 fn past_hashes(text: &str) -> Option<&str>
     ensures finds { ReadsPrefix IsHashes (chars text.now) result }
     ensures utf8 { IfSome result (λ rest. IsUtf8 rest.now) }
@@ -26,7 +26,7 @@ fn past_hashes(text: &str) -> Option<&str>
     past_char(past_number_signs(text), '"')
 }
 
-/// Past `r`, any number of `#` and a quote.
+/// Returns the text after `r`, any number of `#` and a quote.
 fn past_raw(text: &str) -> Option<&str>
     ensures finds { ReadsPrefix (After 114 IsHashes) (chars text.now) result }
     ensures utf8 { IfSome result (λ rest. IsUtf8 rest.now) }
@@ -35,7 +35,7 @@ fn past_raw(text: &str) -> Option<&str>
     past_hashes(rest)
 }
 
-/// Past a quote, with or without `r` and any number of `#` before it.
+/// Returns the text after a quote, with or without `r` and any number of `#` before it.
 fn past_prefixed(text: &str) -> Option<&str>
     ensures finds { ReadsPrefix IsPrefixed (chars text.now) result }
     ensures utf8 { IfSome result (λ rest. IsUtf8 rest.now) }
@@ -46,7 +46,7 @@ fn past_prefixed(text: &str) -> Option<&str>
     }
 }
 
-/// Past `b` or `c`, and what may begin a string after it.
+/// Returns the text after `b` or `c`, and after what may begin a string there.
 fn past_prefixed_by(text: &str, letter: char) -> Option<&str>
     requires ascii { letter < 128 }
     ensures finds { ReadsPrefix (After letter IsPrefixed) (chars text.now) result }
@@ -56,7 +56,7 @@ fn past_prefixed_by(text: &str, letter: char) -> Option<&str>
     past_prefixed(rest)
 }
 
-/// Past the start of a raw string, or of a byte or C string.
+/// Returns the text after the start of a raw string, or of a byte or C string.
 #[inline(never)]
 pub fn past_prefix_of(text: &str, contents: Contents) -> Option<&str>
     ensures tries { ReadsLongest (IsPrefixOf contents) (chars text.now) result }
@@ -69,7 +69,7 @@ pub fn past_prefix_of(text: &str, contents: Contents) -> Option<&str>
     }
 }
 
-/// Past the start of a raw, byte or C string.
+/// Returns the text after the start of a raw, byte or C string.
 #[inline(always)]
 pub fn past_string_prefix(text: &str) -> Option<&str>
     ensures tries { ReadsLongest IsStringPrefix (chars text.now) result }

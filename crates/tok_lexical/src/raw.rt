@@ -9,7 +9,7 @@ use crate::prefixes::past_number_signs;
 use crate::text::{front_of, next_char, past_char, past_others};
 use crate::words::past_suffix;
 
-/// What follows this front, if the text begins with it.
+/// Returns the text after this front, or `None` unless it begins with it.
 fn past_same<'a>(text: &'a str, front: &str) -> Option<&'a str>
     ensures chars { MatchOption result
         ((more : List ℕ) → chars text.now ≡ chars front.now ++ more → ⊥)
@@ -31,7 +31,7 @@ fn past_same<'a>(text: &'a str, front: &str) -> Option<&'a str>
     Some(rest)
 }
 
-/// Past the first quote that these `#` follow, and past them.
+/// Returns the text after the first quote that these `#` follow, and after them.
 fn past_raw_body<'a>(text: &'a str, hashes: &str) -> Option<&'a str>
     ensures finds { ReadsPrefix (EndsAt (34 ∷ chars hashes.now)) (chars text.now) result }
     ensures utf8 { IfSome result (λ rest. IsUtf8 rest.now) }
@@ -46,7 +46,7 @@ fn past_raw_body<'a>(text: &'a str, hashes: &str) -> Option<&'a str>
     None
 }
 
-/// Past a raw string, after its prefix, and its suffix.
+/// Returns the text after a raw string and its suffix. `text` begins after its prefix.
 fn past_raw_rest(text: &str) -> Option<&str>
     ensures tries { ReadsLongest IsRaw (chars text.now) result }
     ensures utf8 { IfSome result (λ rest. IsUtf8 rest.now) }
@@ -61,7 +61,7 @@ fn past_raw_rest(text: &str) -> Option<&str>
     Some(past_suffix(end))
 }
 
-/// Past `r`, and a raw string after it.
+/// Returns the text after `r` and a raw string.
 fn past_raw_text(text: &str) -> Option<&str>
     ensures tries { ReadsLongest (After 114 IsRaw) (chars text.now) result }
     ensures utf8 { IfSome result (λ rest. IsUtf8 rest.now) }
@@ -70,7 +70,7 @@ fn past_raw_text(text: &str) -> Option<&str>
     past_raw_rest(rest)
 }
 
-/// The same after `b`.
+/// Returns the text after `br` and a raw string.
 fn past_raw_bytes(text: &str) -> Option<&str>
     ensures tries { ReadsLongest (After 98 (After 114 IsRaw)) (chars text.now) result }
     ensures utf8 { IfSome result (λ rest. IsUtf8 rest.now) }
@@ -79,7 +79,7 @@ fn past_raw_bytes(text: &str) -> Option<&str>
     past_raw_text(rest)
 }
 
-/// The same after `c`.
+/// Returns the text after `cr` and a raw string.
 fn past_raw_c(text: &str) -> Option<&str>
     ensures tries { ReadsLongest (After 99 (After 114 IsRaw)) (chars text.now) result }
     ensures utf8 { IfSome result (λ rest. IsUtf8 rest.now) }
@@ -88,7 +88,7 @@ fn past_raw_c(text: &str) -> Option<&str>
     past_raw_text(rest)
 }
 
-/// Past a raw string of this kind and its suffix.
+/// Returns the text after a raw string of this kind and its suffix.
 #[inline(never)]
 pub fn past_raw_string(text: &str, contents: Contents) -> Option<&str>
     ensures tries { ReadsLongest (IsRawString contents) (chars text.now) result }

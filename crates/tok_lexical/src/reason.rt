@@ -2,7 +2,7 @@
 ghost use Rattle.std.specs.Prelude.{◌≡◌};
 ghost use Rattle.tok_lexical.specs.Refusals.{refusal_number, refusal_words};
 
-/// What the grammar refuses, in the order of its numbers.
+/// Why the grammar rejects a text, in the order of the rules' numbers.
 #[derive(Clone, Copy, PartialEq, Eq, Debug)]
 pub enum Reason {
     UnknownCharacter,
@@ -23,7 +23,7 @@ pub enum Reason {
 }
 
 impl Reason {
-    /// The number of the rule: 1 for L1, to 15 for L15.
+    /// Returns the number of the rule: 1 for L1, up to 15 for L15.
     pub fn number(self) -> u8
         ensures { result ≡ refusal_number self }
     {
@@ -46,7 +46,7 @@ impl Reason {
         }
     }
 
-    /// What is printed of it.
+    /// Returns the text of the error.
     pub fn words(self) -> &'static str
         ensures { result.now ≡ refusal_words self }
     {

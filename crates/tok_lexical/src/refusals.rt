@@ -18,7 +18,7 @@ fn refused_if(is_refused: bool, refusal: Reason) -> Option<Reason>
     if is_refused { Some(refusal) } else { None }
 }
 
-/// Whether what follows an identifier makes it a reserved prefix.
+/// Returns `true` if what follows an identifier makes it a reserved prefix.
 // Inlined: each identifier of a source asks this, and a call would take more than the answer.
 #[inline(always)]
 fn is_reserved(edition: Edition, name: &str, after: &str) -> bool
@@ -31,7 +31,7 @@ fn is_reserved(edition: Edition, name: &str, after: &str) -> bool
     }
 }
 
-/// Whether what follows a punct makes it a reserved guard.
+/// Returns `true` if what follows a punct makes it a reserved guard.
 // Inlined: each punct of a source asks this.
 #[inline(always)]
 fn is_guard(edition: Edition, piece: &str, after: &str) -> bool
@@ -42,7 +42,8 @@ fn is_guard(edition: Edition, piece: &str, after: &str) -> bool
         && (begins_with(after, '"') || begins_with(after, '#'))
 }
 
-/// Why a lifetime of a source is refused, if it is: it has no such name, or a quote or a number sign follows.
+/// Returns the reason for which a lifetime of a source is rejected, if it is: there is no such
+/// name, or a quote or a number sign follows.
 // Inlined: each lifetime of a source asks this.
 #[inline(always)]
 fn lifetime_refusal(edition: Edition, name: &str, after: &str) -> Option<Reason>
@@ -59,8 +60,9 @@ fn lifetime_refusal(edition: Edition, name: &str, after: &str) -> Option<Reason>
     }
 }
 
-/// Why a piece that the rule took at this byte is refused, if it is.
-// Inlined: the loop over pieces is made twice, for trees and for entries, and a call in each would cost every piece.
+/// Returns the reason for which the piece that a rule took at this byte is rejected, if it is.
+// Inlined: the loop over pieces exists twice, for trees and for entries, and a call in each would
+// cost every piece.
 #[inline(always)]
 pub fn refusal(rule: Rule, at: usize, piece: &str, after: &str) -> Option<Reason>
     ensures { result ≡ refusal rule at (chars piece.now) (chars after.now) }

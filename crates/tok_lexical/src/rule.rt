@@ -28,8 +28,8 @@ use crate::words::{
     past_continues, past_identifier, past_lifetime, past_raw_identifier, past_source_lifetime,
 };
 
-/// A rule of the grammar. Some rules stand for a refusal: they take what begins a piece that another rule, before them,
-/// would have to take.
+/// A rule of the grammar. Some rules stand for an error: they take what begins a piece that a rule
+/// before them would have taken.
 #[derive(Clone, Copy, Debug)]
 pub enum Rule {
     ByteOrderMark,
@@ -71,7 +71,8 @@ pub enum Rule {
     Other,
 }
 
-/// The rules of a text: those of the profile, without marks of invisible groups or with them, or those of a whole source of an edition.
+/// A list of rules: of a text, without or with marks of invisible groups, or of a whole source of
+/// an edition.
 #[derive(Clone, Copy, Debug)]
 pub enum Rules {
     Plain,
@@ -80,7 +81,7 @@ pub enum Rules {
 }
 
 impl Rules {
-    // Those that may begin so, in their order, without the last three.
+    // Returns the rules that may begin so, in their order, without the last three.
     #[inline(always)]
     fn at(self, start: Start) -> &'static [Rule]
         ensures { tells start ≡ false → result.now ++ last_rules self ≡ only start (rules_of self) }
@@ -242,7 +243,7 @@ impl Rules {
         }
     }
 
-    /// The rule that takes the decimal at the front, and what follows its piece.
+    /// Returns the rule that takes the decimal at the front, and the text after its piece.
     fn decimal(self, text: &str) -> (Rule, &str)
         requires { starts_digit (chars text.now) ≡ true }
         ensures fits { (piece : List ℕ)
@@ -259,7 +260,7 @@ impl Rules {
 }
 
 impl Rule {
-    /// What follows the piece that this rule takes from the front of the text.
+    /// Returns the text after the piece that this rule takes from the front.
     #[inline(always)]
     fn past(self, text: &str) -> Option<&str>
         ensures tries { ReadsLongest (Spells self) (chars text.now) result }
@@ -320,7 +321,7 @@ impl Rule {
         }
     }
 
-    /// How many bytes the piece takes, not counting marks.
+    /// Returns how many bytes the piece takes, not counting marks.
     pub fn width(self, piece: &str) -> usize
         ensures { result ≡ width self (chars piece.now) }
     {
@@ -328,7 +329,7 @@ impl Rule {
     }
 }
 
-/// The rule that takes the decimal at the front of a source, and what follows its piece, by what follows the digits.
+/// Returns the rule that takes the decimal at the front of a source, and the text after its piece.
 #[inline(never)]
 fn source_decimal<'a>(text: &str, rest: &'a str) -> (Rule, &'a str)
     requires starts { starts_digit (chars text.now) ≡ true }
@@ -352,7 +353,7 @@ fn source_decimal<'a>(text: &str, rest: &'a str) -> (Rule, &'a str)
     }
 }
 
-/// Whether a zero before this text names a base.
+/// Returns `true` if a zero before this text names a base.
 fn names_base(rest: &str) -> bool
     ensures { result ≡ names_base (chars rest.now) }
 {
@@ -365,7 +366,7 @@ fn opens_string(rest: &str) -> bool
     begins_with(rest, '"') || begins_with(rest, '#')
 }
 
-/// Whether `b`, `c` or `r` before this text may be more than an identifier.
+/// Returns `true` if `b`, `c` or `r` before this text may be more than an identifier.
 fn opens_literal(rest: &str) -> bool
     ensures { result ≡ opens_literal (chars rest.now) }
 {
@@ -374,8 +375,8 @@ fn opens_literal(rest: &str) -> bool
         || begins_with(rest, 'r') && opens_string(past_first(rest))
 }
 
-/// The first rule that fits, if a digit begins the text, or what comes after a letter tells that it begins no literal, as a
-/// raw identifier begins none.
+/// Returns the first rule that fits and the text after its piece, if a digit begins the text or if
+/// the second character shows that a letter begins no literal, as in a raw identifier.
 // Inlined: most numbers, and most words that begin so, are told here.
 #[inline(always)]
 fn second_told<'a>(
@@ -404,7 +405,8 @@ fn second_told<'a>(
     }
 }
 
-/// The first of the rules that fits at the front of the text, and what follows its piece.
+/// Returns the first rule that fits at the front of the text, and the text after its piece, or
+/// `None` if no rule fits.
 #[inline(always)]
 pub fn first_rule(rules: Rules, text: &str) -> Option<(Rule, &str)>
     ensures tries { ReadsByRules (rules_of rules) (chars text.now) result }

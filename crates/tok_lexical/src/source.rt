@@ -23,7 +23,7 @@ fn is_blank_piece(rule: Rule, piece: &str) -> bool
     }
 }
 
-/// What follows the white space and the comments at the front, doc comments aside.
+/// Returns the text after the white space and the comments at the front. A doc comment stays.
 #[inline(never)]
 fn past_blank_pieces(text: &str) -> &str
     ensures blanks { Blanks (chars text.now) (chars result.now) }
@@ -41,7 +41,7 @@ fn past_blank_pieces(text: &str) -> &str
     rest
 }
 
-/// Whether what follows `#!` makes it an attribute.
+/// Returns `true` if what follows `#!` makes it an attribute.
 fn opens_attribute(text: &str) -> bool
     ensures { MatchBool result (OpensAttribute (chars text.now))
         (OpensAttribute (chars text.now) → ⊥) }
@@ -49,7 +49,7 @@ fn opens_attribute(text: &str) -> bool
     begins_with(past_blank_pieces(text), '[')
 }
 
-/// What follows a byte order mark.
+/// Returns the text after a byte order mark.
 fn past_mark(text: &str) -> &str
     ensures { chars result.now ≡ past_mark (chars text.now) }
 {
@@ -59,7 +59,7 @@ fn past_mark(text: &str) -> &str
     }
 }
 
-/// What follows a shebang line.
+/// Returns the text after a shebang line.
 fn past_shebang(text: &str) -> &str
     ensures { Begins (chars text.now) (chars result.now) }
 {
@@ -73,7 +73,7 @@ fn past_shebang(text: &str) -> &str
     }
 }
 
-/// Where the pieces of a source begin: after a byte order mark and a shebang line.
+/// Returns the text where the pieces of a source begin: after a byte order mark and a shebang line.
 pub fn past_start(text: &str) -> &str
     ensures begins { BeginsAt (chars text.now) (chars result.now) }
     ensures cut { (front : List ℕ) × (chars text.now ≡ front ++ chars result.now) }

@@ -6,7 +6,7 @@ use crate::classes::is_whitespace;
 use crate::delimiter::Delimiter;
 use crate::words::is_identifier_start;
 
-/// What the first character of a text tells of the rules that may take its front.
+/// What the first character of a text says of the rules that may take its front.
 #[derive(Clone, Copy, Debug)]
 pub enum Start {
     Whitespace,
@@ -38,6 +38,7 @@ fn is_mark(c: char) -> bool
 }
 
 impl Start {
+    /// Returns the start of a text that begins with this character.
     #[inline(always)]
     pub fn of(c: char) -> Start
         ensures { result ≡ start_of c }
@@ -65,13 +66,13 @@ impl Start {
         }
     }
 
-    // Whether the second character may tell the rule.
+    // Returns `true` if the second character may decide the rule.
     #[inline(always)]
     pub fn has_second(self) -> bool {
         matches!(self, Start::Zero | Start::Digit | Start::Prefix)
     }
 
-    // Beyond ASCII.
+    // Returns the start of a character beyond ASCII.
     fn of_other(c: char) -> Start
         requires { 128 ≤ c }
         ensures { result ≡ start_of c }

@@ -10,7 +10,7 @@ use crate::escapes::{past_c_escape, past_escape};
 use crate::text::{next_char, past_char, past_others};
 use crate::words::past_suffix;
 
-/// Past what follows the backslash of an escape in a string of this kind.
+/// Returns the text after an escape in a string of this kind. `text` begins after its backslash.
 #[inline(always)]
 fn past_escape_of(text: &str, contents: Contents) -> Option<&str>
     ensures finds { ReadsPrefix (EscapeOf contents) (chars text.now) result }
@@ -24,7 +24,7 @@ fn past_escape_of(text: &str, contents: Contents) -> Option<&str>
     }
 }
 
-/// Past one escape of a string, or past the characters up to the next one or to a quote.
+/// Returns the text after one escape, or after the characters up to the next escape or quote.
 #[inline(always)]
 fn past_units(text: &str, contents: Contents) -> Option<&str>
     ensures finds { FindsUnits contents (chars text.now) result }
@@ -42,7 +42,7 @@ fn past_units(text: &str, contents: Contents) -> Option<&str>
     }
 }
 
-/// Past a string of this kind and its suffix, after its prefix.
+/// Returns the text after a string of this kind and its suffix. `text` begins after its prefix.
 // Inlined, so that each kind has a loop of its own.
 #[inline(always)]
 fn past_string_of(text: &str, contents: Contents) -> Option<&str>
@@ -58,7 +58,7 @@ fn past_string_of(text: &str, contents: Contents) -> Option<&str>
     Some(past_suffix(end))
 }
 
-/// Past a string and its suffix.
+/// Returns the text after a string and its suffix.
 #[inline(always)]
 pub fn past_string(text: &str) -> Option<&str>
     ensures tries { ReadsLongest (IsString Text) (chars text.now) result }
@@ -67,7 +67,7 @@ pub fn past_string(text: &str) -> Option<&str>
     past_string_of(text, Contents::Text)
 }
 
-/// Past a byte string and its suffix.
+/// Returns the text after a byte string and its suffix.
 #[inline(never)]
 pub fn past_byte_string(text: &str) -> Option<&str>
     ensures tries { ReadsLongest (After 98 (IsString Bytes)) (chars text.now) result }
@@ -77,7 +77,7 @@ pub fn past_byte_string(text: &str) -> Option<&str>
     past_string_of(rest, Contents::Bytes)
 }
 
-/// Past a C string and its suffix.
+/// Returns the text after a C string and its suffix.
 #[inline(never)]
 pub fn past_c_string(text: &str) -> Option<&str>
     ensures tries { ReadsLongest (After 99 (IsString C)) (chars text.now) result }

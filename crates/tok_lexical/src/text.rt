@@ -3,7 +3,7 @@ ghost use Rattle.std.specs.Prelude.{◌≡◌, ℕ, ◌<◌, ◌≤◌, ◌+◌,
 ghost use Rattle.std.specs.Str.{chars, IsUtf8};
 ghost use Rattle.tok_lexical.specs.Pieces.{after_first, Skips, begins_with, is_neither, up_to};
 
-/// The first character of a text, and what follows it.
+/// Returns the first character and the text after it, or `None` if the text is empty.
 pub fn next_char(text: &str) -> Option<(char, &str)>
     ensures chars { MatchOption result (chars text.now ≡ [])
         (λ r. chars text.now ≡ r.0 ∷ chars r.1.now) }
@@ -16,7 +16,7 @@ pub fn next_char(text: &str) -> Option<(char, &str)>
     Some((first, rest.as_str()))
 }
 
-/// What follows these two characters, if the text begins with them.
+/// Returns the text after these two characters, or `None` unless it begins with them.
 pub fn past_pair(text: &str, first: char, second: char) -> Option<&str>
     ensures chars { MatchOption result
         ((more : List ℕ) → chars text.now ≡ first ∷ second ∷ more → ⊥)
@@ -33,7 +33,11 @@ pub fn past_pair(text: &str, first: char, second: char) -> Option<&str>
     }
 }
 
-/// What follows this character, which is ASCII, if the text begins with it.
+/// Returns the text after this character, or `None` unless it begins with it.
+///
+/// # Requires
+///
+/// The character must be ASCII.
 #[inline]
 pub fn past_char(text: &str, ch: char) -> Option<&str>
     requires ascii { ch < 128 }
@@ -51,7 +55,11 @@ pub fn past_char(text: &str, ch: char) -> Option<&str>
     }
 }
 
-/// Whether the text begins with this character, which is ASCII.
+/// Returns `true` if the text begins with this character.
+///
+/// # Requires
+///
+/// The character must be ASCII.
 #[inline]
 pub fn begins_with(text: &str, ch: char) -> bool
     requires ascii { ch < 128 }
@@ -60,7 +68,11 @@ pub fn begins_with(text: &str, ch: char) -> bool
     past_char(text, ch).is_some()
 }
 
-/// The front of the text that the rest leaves.
+/// Returns the front of the text, up to `rest`.
+///
+/// # Requires
+///
+/// `rest` must be an end of the text.
 pub fn front_of<'a>(text: &'a str, rest: &str) -> &'a str
     requires { (front : List ℕ) × (chars text.now ≡ front ++ chars rest.now) }
     ensures chars { chars text.now ≡ chars result.now ++ chars rest.now }
@@ -74,7 +86,11 @@ pub fn front_of<'a>(text: &'a str, rest: &str) -> &'a str
     front
 }
 
-/// The first character of a text that isn't empty.
+/// Returns the first character.
+///
+/// # Requires
+///
+/// The text must not be empty.
 pub fn first_of(text: &str) -> char
     requires { (c : ℕ) × (more : List ℕ) × (chars text.now ≡ c ∷ more) }
     ensures { (c : ℕ) → (more : List ℕ) → chars text.now ≡ c ∷ more → result ≡ c }
@@ -85,7 +101,7 @@ pub fn first_of(text: &str) -> char
     }
 }
 
-/// What follows the first character.
+/// Returns the text after the first character.
 pub fn past_first(text: &str) -> &str
     ensures { chars result.now ≡ after_first (chars text.now) }
 {
@@ -95,7 +111,11 @@ pub fn past_first(text: &str) -> &str
     }
 }
 
-/// What follows the characters at the front that are neither of these.
+/// Returns the text after the characters at the front that are neither of these.
+///
+/// # Requires
+///
+/// Both characters must be ASCII.
 #[inline(always)]
 pub fn past_others(text: &str, one: u8, other: u8) -> &str
     requires one { one < 128 }
@@ -116,7 +136,11 @@ pub fn past_others(text: &str, one: u8, other: u8) -> &str
     rest
 }
 
-/// The front of the text before the first of these characters.
+/// Returns the front of the text before the first of these characters.
+///
+/// # Requires
+///
+/// The character must be ASCII.
 pub fn up_to(text: &str, stop: u8) -> &str
     requires ascii { stop < 128 }
     ensures { chars result.now ≡ up_to stop (chars text.now) }

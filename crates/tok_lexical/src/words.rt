@@ -10,7 +10,7 @@ use crate::edition::Edition;
 use crate::text::{next_char, past_char, past_pair};
 use unicode_ident::{is_xid_continue, is_xid_start};
 
-/// Whether an identifier may begin with this character.
+/// Returns `true` if an identifier may begin with this character.
 // Inlined, and most are ASCII: each literal asks this of the character after it.
 #[inline(always)]
 pub fn is_identifier_start(c: char) -> bool
@@ -23,7 +23,7 @@ pub fn is_identifier_start(c: char) -> bool
     }
 }
 
-/// Whether an identifier follows.
+/// Returns `true` if an identifier follows.
 #[inline(always)]
 pub fn starts_name(text: &str) -> bool
     ensures { result ≡ starts_name (chars text.now) }
@@ -34,14 +34,15 @@ pub fn starts_name(text: &str) -> bool
     }
 }
 
-// Each ASCII character that may go on in an identifier stands at its own place, and a dash at every other place.
+// Each ASCII character that may go on in an identifier is at its own index, and a dash at every
+// other.
 static CONTINUES: [u8; 128] = *b"\
     --------------------------------\
     ----------------0123456789------\
     -ABCDEFGHIJKLMNOPQRSTUVWXYZ----_\
     -abcdefghijklmnopqrstuvwxyz-----";
 
-// Whether a character may go on in an identifier.
+// Returns `true` if a character may go on in an identifier.
 fn goes_on(c: char) -> bool
     ensures { result ≡ is_xid_continue c }
 {
@@ -52,7 +53,7 @@ fn goes_on(c: char) -> bool
     }
 }
 
-/// Past the characters at the front that may go on in an identifier.
+/// Returns the text after the characters at the front that may go on in an identifier.
 #[inline(always)]
 pub fn past_continues(text: &str) -> &str
     ensures { (front : List ℕ) × Skips is_xid_continue (chars text.now) front (chars result.now) }
@@ -67,7 +68,7 @@ pub fn past_continues(text: &str) -> &str
     rest
 }
 
-/// Past a plain identifier.
+/// Returns the text after a plain identifier.
 pub fn past_identifier(text: &str) -> Option<&str>
     ensures tries { ReadsLongest IsIdentifier (chars text.now) result }
     ensures utf8 { IfSome result (λ rest. IsUtf8 rest.now) }
@@ -80,7 +81,7 @@ pub fn past_identifier(text: &str) -> Option<&str>
     }
 }
 
-/// Past a suffix, if one follows directly.
+/// Returns the text after a suffix, if one follows directly.
 // Inlined, without what comes after the test: most literals have no suffix.
 #[inline(always)]
 pub fn past_suffix(text: &str) -> &str
@@ -94,7 +95,7 @@ pub fn past_suffix(text: &str) -> &str
     }
 }
 
-/// Past a raw identifier.
+/// Returns the text after a raw identifier.
 #[inline(always)]
 pub fn past_raw_identifier(text: &str) -> Option<&str>
     ensures tries { ReadsLongest IsRawIdentifier (chars text.now) result }
@@ -104,7 +105,7 @@ pub fn past_raw_identifier(text: &str) -> Option<&str>
     past_identifier(name)
 }
 
-/// Past an identifier, plain or raw.
+/// Returns the text after an identifier, plain or raw.
 pub fn past_name(text: &str) -> Option<&str>
     ensures tries { ReadsLongest IsName (chars text.now) result }
     ensures utf8 { IfSome result (λ rest. IsUtf8 rest.now) }
@@ -115,7 +116,7 @@ pub fn past_name(text: &str) -> Option<&str>
     }
 }
 
-/// Past a lifetime.
+/// Returns the text after a lifetime.
 #[inline(always)]
 pub fn past_lifetime(text: &str) -> Option<&str>
     ensures tries { ReadsLongest (After 39 IsName) (chars text.now) result }
@@ -125,7 +126,7 @@ pub fn past_lifetime(text: &str) -> Option<&str>
     past_name(name)
 }
 
-/// Past the name of a lifetime of a source. No name of 2015 or 2018 is raw.
+/// Returns the text after the name of a lifetime of a source. No name of 2015 or 2018 is raw.
 fn past_source_name(text: &str, edition: Edition) -> Option<&str>
     ensures tries { ReadsLongest (IsNameOf edition) (chars text.now) result }
     ensures utf8 { IfSome result (λ rest. IsUtf8 rest.now) }
@@ -136,7 +137,7 @@ fn past_source_name(text: &str, edition: Edition) -> Option<&str>
     }
 }
 
-/// Past a lifetime of a source.
+/// Returns the text after a lifetime of a source.
 // Inlined, as the rule of the profile is.
 #[inline(always)]
 pub fn past_source_lifetime(text: &str, edition: Edition) -> Option<&str>
@@ -147,21 +148,21 @@ pub fn past_source_lifetime(text: &str, edition: Edition) -> Option<&str>
     past_source_name(name, edition)
 }
 
-// The same of the bytes.
+// Compares the bytes of a word, for `has_no_raw`.
 fn is_never_raw(word: &str) -> bool
     ensures { result ≡ has_no_raw word.now }
 {
     matches!(word, "_" | "self" | "Self" | "super" | "crate")
 }
 
-/// Whether a word doesn't exist as a raw identifier.
+/// Returns `true` if a word has no raw identifier.
 pub fn has_no_raw(word: &str) -> bool
     ensures { result ≡ has_no_raw (chars word.now) }
 {
     is_never_raw(word)
 }
 
-/// Whether this is a raw identifier that does not exist.
+/// Returns `true` if this is a raw identifier that does not exist.
 pub fn is_missing(name: &str) -> bool
     ensures { result ≡ is_missing (chars name.now) }
 {
@@ -171,28 +172,28 @@ pub fn is_missing(name: &str) -> bool
     }
 }
 
-// The same of the bytes.
+// Compares the bytes of a word, for `is_raw_prefix`.
 fn is_raw_word(word: &str) -> bool
     ensures { result ≡ is_raw_prefix word.now }
 {
     matches!(word, "r" | "br")
 }
 
-/// Whether a word begins raw strings.
+/// Returns `true` if a word begins raw strings.
 pub fn is_raw_prefix(word: &str) -> bool
     ensures { result ≡ is_raw_prefix (chars word.now) }
 {
     is_raw_word(word)
 }
 
-/// Whether an identifier isn't raw.
+/// Returns `true` if an identifier isn't raw.
 pub fn is_plain(name: &str) -> bool
     ensures { result ≡ is_plain (chars name.now) }
 {
     past_pair(name, 'r', '#').is_none()
 }
 
-/// Whether the whole text is a plain identifier.
+/// Returns `true` if the whole text is a plain identifier.
 pub fn is_identifier(text: &str) -> bool
     ensures { MatchBool result (IsIdentifier (chars text.now)) (IsIdentifier (chars text.now) → ⊥) }
 {

@@ -9,6 +9,10 @@ use syn_parse::Paused;
 /// The streams of a replay. Stream 0 is the whole.
 ///
 /// Each stream is linked to those of its groups, so that closing it visits those alone.
+///
+/// # Requires
+///
+/// Each call but `get` requires that the streams it names exist.
 #[derive(Drop)]
 pub struct Streams<'a> {
     list: Vec<Stream<'a>>,
