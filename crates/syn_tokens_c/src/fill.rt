@@ -32,7 +32,8 @@ fn fill_tree(
     next: &TokenTree,
 ) -> Result<(), AllocError>
     ensures entries { OnOk result (entries.new.items
-        ≡ entries.old.items ++ spec.tree_entries (length (string_bytes texts.old)) (tree_of next.now)) }
+        ≡ entries.old.items
+        ++ spec.tree_entries (length (string_bytes texts.old)) (tree_of next.now)) }
     ensures texts { OnOk result
         (string_bytes texts.new ≡ string_bytes texts.old ++ spec.tree_texts (tree_of next.now)) }
 {
