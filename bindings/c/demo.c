@@ -1,0 +1,54 @@
+/* Reads texts by each list of rules, prints their entries or why one is rejected, and runs commands. */
+#include "syn_tokens.h"
+
+#include <stdio.h>
+#include <string.h>
+
+static const char *const KINDS[] = {"ident", "punct", "literal", "opening", "closing"};
+static const char *const DELIMITERS[] = {"()", "{}", "[]", "«»"};
+
+static void show(uint32_t rules, const char *text) {
+    struct syn_tokens tokens;
+    int status = syn_tokens_read(&tokens, rules, text, strlen(text));
+    printf("%s\n", text);
+    if (status == SYN_TOKENS_REJECTED)
+        printf("    rejected by L%u at %zu: %s\n", (unsigned)tokens.reading.rule, tokens.reading.at, tokens.texts);
+    else if (status != SYN_TOKENS_OK)
+        printf("    status %d\n", status);
+    for (size_t i = 0; status == SYN_TOKENS_OK && i < tokens.reading.entries; i++) {
+        const struct syn_tokens_entry *it = &tokens.entries[i];
+        printf("    %zu..%zu %s", it->start, it->end, KINDS[it->kind]);
+        if (it->kind >= SYN_TOKENS_OPENING)
+            printf(" %s %zu\n", DELIMITERS[it->delimiter], it->distance);
+        else
+            printf(" %.*s%s\n", (int)(it->text_end - it->text_start), tokens.texts + it->text_start,
+                   it->spacing ? " joint" : "");
+    }
+    syn_tokens_free(&tokens);
+}
+
+int main(void) {
+    if (!syn_tokens_matches()) {
+        fprintf(stderr, "demo: syn_tokens.h is not of this library\n");
+        return 1;
+    }
+    show(SYN_TOKENS_PLAIN, "a (b, 1) => 'c'");
+    show(SYN_TOKENS_PLAIN, "x = '\\q'");
+    show(SYN_TOKENS_PLAIN, "++++++++++++++++++++++++++++++++++++++++");
+    show(SYN_TOKENS_MARKED, "(a «b»)");
+    show(2021, "/// A point.\nstruct Point;");
+    show(2022, "struct Point;");
+    show(SYN_TOKENS_PLAIN, "\xff");
+    show(SYN_TOKENS_PLAIN, "");
+
+    struct syn_tokens none;
+    printf("null: status %d\n", syn_tokens_read(&none, SYN_TOKENS_PLAIN, NULL, 1));
+    syn_tokens_free(&none);
+
+    const char *input = "(a b)\n---\nenter 0 (\nterminated 1 Ident ,\n";
+    struct syn_tokens_report report;
+    int status = syn_tokens_run(&report, input, strlen(input));
+    printf("%sstatus %d\n", report.text, status);
+    syn_tokens_free_report(&report);
+    return 0;
+}

@@ -1,0 +1,116 @@
+/* Makes each proved call with each of its allocations failing in turn: it must say so, leave what the caller lends as it was, and lose
+ * no memory; and it must return the same as without a failure once none fails. Link it with --wrap=malloc,--wrap=realloc,--wrap=free. */
+#include "syn_tokens.h"
+
+#include <stdio.h>
+#include <stdlib.h>
+#include <string.h>
+
+void *__real_malloc(size_t size);
+void *__real_realloc(void *block, size_t size);
+void __real_free(void *block);
+
+/* Which allocation fails, counted from 1 (0: none), how many were made, and how many blocks are held. */
+static size_t failing, made, held;
+
+static bool fails(void) {
+    made++;
+    return made == failing;
+}
+
+void *__wrap_malloc(size_t size) {
+    if (fails())
+        return NULL;
+    held++;
+    return __real_malloc(size);
+}
+
+void *__wrap_realloc(void *block, size_t size) {
+    if (fails())
+        return NULL;
+    held += block == NULL;
+    return __real_realloc(block, size);
+}
+
+void __wrap_free(void *block) {
+    held -= block != NULL;
+    __real_free(block);
+}
+
+/* What the caller lends, and what is returned. */
+struct lent {
+    struct syn_tokens_entry entries[64];
+    uint8_t bytes[512];
+    struct syn_tokens_reading reading;
+    size_t size;
+    uint8_t status;
+};
+
+static const char LONG_NAMES[] = "a_name_of_many_characters ('c', {\"a string of many characters\"} [another_long_name])";
+static const char MARKED[] = "(a \xc2\xab" "b\xc2\xbb)";
+static const char SOURCE[] = "/// A point of two coordinates.\nstruct Point;";
+static const char REJECTED[] = "x = '\\q'";
+static const char INPUT[] = "(a b)\n---\nenter 0 (\nterminated 1 Ident ,\nfork 0\nparse 1 LifetimeAny\nlookahead 0 Ident +\n";
+
+static void call(int which, struct lent *it) {
+    const uint8_t *text;
+    switch (which) {
+    case 0:
+        text = (const uint8_t *)LONG_NAMES;
+        syn_tokens_lex(text, sizeof LONG_NAMES - 1, it->entries, 64, it->bytes, sizeof it->bytes, &it->reading);
+        break;
+    case 1:
+        text = (const uint8_t *)MARKED;
+        syn_tokens_lex_marked(text, sizeof MARKED - 1, it->entries, 64, it->bytes, sizeof it->bytes, &it->reading);
+        break;
+    case 2:
+        text = (const uint8_t *)SOURCE;
+        syn_tokens_lex_source(2021, text, sizeof SOURCE - 1, it->entries, 64, it->bytes, sizeof it->bytes, &it->reading);
+        break;
+    case 3:
+        text = (const uint8_t *)REJECTED;
+        syn_tokens_lex(text, sizeof REJECTED - 1, it->entries, 64, it->bytes, sizeof it->bytes, &it->reading);
+        break;
+    default:
+        text = (const uint8_t *)INPUT;
+        it->status = syn_tokens_respond(text, sizeof INPUT - 1, it->bytes, sizeof it->bytes, &it->size);
+        it->reading.status = it->status == 3 ? SYN_TOKENS_NO_MEMORY : SYN_TOKENS_OK;
+    }
+}
+
+/* Tries a call, and returns how many of its allocations can fail, or 0 if something is wrong. */
+static size_t try_all(int which) {
+    struct lent before, wanted, got;
+    memset(&before, 0xa5, sizeof before);
+    wanted = before;
+    failing = 0;
+    call(which, &wanted);
+    for (size_t number = 1;; number++) {
+        got = before;
+        failing = number;
+        made = held = 0;
+        call(which, &got);
+        if (held != 0)
+            return 0;
+        if (made < number)
+            return memcmp(&got, &wanted, sizeof got) == 0 ? number - 1 : 0;
+        if (got.reading.status != SYN_TOKENS_NO_MEMORY)
+            return 0;
+        if (memcmp(got.entries, before.entries, sizeof got.entries) != 0 || memcmp(got.bytes, before.bytes, sizeof got.bytes) != 0)
+            return 0;
+    }
+}
+
+int main(void) {
+    static const char *const CALLS[] = {"syn_tokens_lex", "syn_tokens_lex_marked", "syn_tokens_lex_source", "a rejected text",
+                                        "syn_tokens_respond"};
+    for (int which = 0; which < 5; which++) {
+        size_t count = try_all(which);
+        if (count == 0) {
+            fprintf(stderr, "memory: %s\n", CALLS[which]);
+            return 1;
+        }
+        printf("%s: each of %zu allocations fails in turn\n", CALLS[which], count);
+    }
+    return 0;
+}

@@ -1,0 +1,41 @@
+//! Why a text is not read.
+use std::fmt;
+
+use crate::ffi::{Reading, REJECTED};
+
+/// Why a text is not read.
+#[derive(Clone, Debug, PartialEq, Eq)]
+#[non_exhaustive]
+pub enum Error {
+    /// The grammar rejects the text.
+    Rejected {
+        /// The number of the rule: 1 for L1.
+        rule: u32,
+        /// The byte at which the token, comment or group begins that is not read.
+        at: usize,
+        /// The rule in words.
+        words: String,
+    },
+    /// An allocation failed inside the library.
+    Memory,
+}
+
+impl Error {
+    pub(crate) fn new(reading: Reading, bytes: Vec<u8>) -> Self {
+        match (reading.status, String::from_utf8(bytes)) {
+            (REJECTED, Ok(words)) => Error::Rejected { rule: reading.rule, at: reading.at, words },
+            _ => Error::Memory,
+        }
+    }
+}
+
+impl fmt::Display for Error {
+    fn fmt(&self, f: &mut fmt::Formatter<'_>) -> fmt::Result {
+        match self {
+            Error::Rejected { rule, at, words } => write!(f, "{words} (L{rule}) at byte {at}"),
+            Error::Memory => f.write_str("an allocation failed"),
+        }
+    }
+}
+
+impl std::error::Error for Error {}

@@ -1,0 +1,33 @@
+//! Tokens of Rust source text, read by a proved library.
+//!
+//! The contracts of the library say which texts are read as which tokens, and which are rejected and why. This package
+//! turns what the library writes into safe types, without a proof; its one module with `unsafe` says why each call is sound.
+//!
+//! ```
+//! use syn_tokens::{Buffer, Token};
+//!
+//! let buffer = Buffer::lex("let x = (a + 1)..b['q'];")?;
+//! let mut words = Vec::new();
+//! for token in &buffer {
+//!     match token {
+//!         Token::Ident(ident) => words.push(ident.text),
+//!         Token::Group(group) => words.push(if group.tokens.eof() { "empty" } else { "filled" }),
+//!         _ => {}
+//!     }
+//! }
+//! assert_eq!(words, ["let", "x", "filled", "b", "filled"]);
+//! # Ok::<(), syn_tokens::Error>(())
+//! ```
+#![deny(unsafe_code)]
+#![warn(missing_debug_implementations)]
+
+mod buffer;
+mod error;
+mod ffi;
+#[cfg(feature = "proc-macro2")]
+mod proc_macro2;
+mod respond;
+
+pub use buffer::{Buffer, Cursor, Delimiter, Edition, Group, Groups, Leaf, Punct, Spacing, Span, Token};
+pub use error::Error;
+pub use respond::{respond, Response};

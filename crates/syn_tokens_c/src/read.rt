@@ -1,0 +1,219 @@
+// Texts read into entries.
+ghost use Rattle.std.specs.Prelude.{◌≡◌, IfOk};
+ghost use Rattle.tok_core.specs.Lexical.Outcome.{FollowsGrammar};
+ghost use Rattle.tok_core.specs.declared.lexer.error.LexFault.TheVariants.{Refused};
+ghost use Rattle.tok_lexical.specs.Rules.{plain_rules, marked_rules};
+ghost use Rattle.syn_tokens_c.specs.Outcomes.{Lexes, LexesSource, Returns, Tells, answer_of, answered, bare, edition_of};
+
+use crate::entry::Entry;
+use crate::fill::fill;
+use std::alloc::{AllocError, Global};
+use std::str::from_utf8;
+use tok_core::{Edition, LexError, LexFault, TokenStream, lex, lex_marked, lex_source};
+
+const READ: u32 = 0;
+
+const REJECTED: u32 = 1;
+
+const NOT_UTF8: u32 = 2;
+
+const NO_MEMORY: u32 = 3;
+
+const NO_ROOM: u32 = 4;
+
+const NO_EDITION: u32 = 5;
+
+/// What came of a text.
+#[repr(C)]
+#[derive(Clone, Copy)]
+pub struct Reading {
+    /// 0 if it was read, 1 if the grammar rejects it, 2 if it is not UTF-8, 3 if an allocation failed, 4 if there is too little
+    /// room, 5 if there is no such edition.
+    pub status: u32,
+    /// Of a rejected text, the number of the rule: 1 for L1.
+    pub rule: u32,
+    /// Of a rejected text, the byte at which the token, comment or group begins that is not read.
+    pub at: usize,
+    /// How many entries there are to write.
+    pub entries: usize,
+    /// How many bytes there are to write: the texts of the leaves, or the words of the error.
+    pub bytes: usize,
+}
+
+// All that there is to write of a text, in memory of its own.
+#[derive(Drop)]
+struct Answer {
+    status: u32,
+    rule: u32,
+    at: usize,
+    entries: Vec<Entry>,
+    bytes: String,
+}
+
+impl Answer {
+    // Nothing to write.
+    fn bare(alloc: Global, status: u32) -> Answer
+        ensures { answered result ≡ bare status }
+    {
+        Answer {
+            status,
+            rule: 0,
+            at: 0,
+            entries: Vec::new(alloc),
+            bytes: String::new(alloc),
+        }
+    }
+
+    fn of(alloc: Global, outcome: Result<TokenStream, LexFault>) -> Result<Answer, AllocError>
+        ensures { IfOk result (λ a. answered a ≡ answer_of outcome) }
+    {
+        match outcome {
+            Ok(stream) => Answer::read(alloc, &stream),
+            Err(LexFault::Refused(error)) => Answer::rejected(alloc, error),
+            Err(LexFault::Memory) => Ok(Answer::bare(alloc, NO_MEMORY)),
+        }
+    }
+
+    fn read(alloc: Global, stream: &TokenStream) -> Result<Answer, AllocError>
+        ensures { IfOk result (λ a. answered a ≡ answer_of (Ok stream.now)) }
+    {
+        let mut entries = Vec::with_capacity(alloc, stream.weight())?;
+        let mut bytes = String::new(alloc);
+        fill(&mut entries, &mut bytes, stream)?;
+        Ok(Answer {
+            status: READ,
+            rule: 0,
+            at: 0,
+            entries,
+            bytes,
+        })
+    }
+
+    fn rejected(alloc: Global, error: LexError) -> Result<Answer, AllocError>
+        ensures { IfOk result (λ a. answered a ≡ answer_of (Err (Refused error))) }
+    {
+        Ok(Answer {
+            status: REJECTED,
+            rule: u32::from(error.number()),
+            at: error.at(),
+            entries: Vec::new(alloc),
+            bytes: error.to_string(alloc)?,
+        })
+    }
+
+    // Writes all, if there is room for it, and else nothing.
+    fn write(&self, entries: &mut [Entry], bytes: &mut [u8]) -> Reading
+        ensures { Returns (answered self.now) result entries.old entries.new bytes.old bytes.new }
+    {
+        let count = self.entries.len();
+        let size = self.bytes.len();
+        if entries.len() < count || bytes.len() < size {
+            return Reading {
+                status: NO_ROOM,
+                rule: 0,
+                at: 0,
+                entries: count,
+                bytes: size,
+            };
+        }
+        entries[..count].copy_from_slice(self.entries.as_slice());
+        bytes[..size].copy_from_slice(self.bytes.as_bytes());
+        Reading {
+            status: self.status,
+            rule: self.rule,
+            at: self.at,
+            entries: count,
+            bytes: size,
+        }
+    }
+}
+
+// Writes what came of a text.
+fn tell(
+    alloc: Global,
+    outcome: Result<TokenStream, LexFault>,
+    entries: &mut [Entry],
+    bytes: &mut [u8],
+) -> Reading
+    ensures { Tells outcome result entries.old entries.new bytes.old bytes.new }
+{
+    match Answer::of(alloc, outcome) {
+        Ok(answer) => answer.write(entries, bytes),
+        Err(AllocError) => Answer::bare(alloc, NO_MEMORY).write(entries, bytes),
+    }
+}
+
+fn edition_of(year: u32) -> Option<Edition>
+    ensures { result ≡ edition_of year }
+{
+    match year {
+        2015 => Some(Edition::Edition2015),
+        2018 => Some(Edition::Edition2018),
+        2021 => Some(Edition::Edition2021),
+        2024 => Some(Edition::Edition2024),
+        _ => None,
+    }
+}
+
+/// Reads a text by the rules of `lex`. `reading` says what came of it. The entries, and the texts of the leaves in order or the
+/// words of the error, are written over the front of what the caller lends. If there is not enough room, nothing is
+/// written: `reading` then says how much it takes, and the call can be made again.
+#[unsafe(no_mangle)]
+pub extern "C" fn syn_tokens_lex(
+    alloc: Global,
+    text: &[u8],
+    entries: &mut [Entry],
+    bytes: &mut [u8],
+    reading: &mut Reading,
+)
+    ensures { Lexes (FollowsGrammar plain_rules 0) text.now reading.new
+        entries.old entries.new bytes.old bytes.new }
+{
+    *reading = match from_utf8(text) {
+        Ok(text) => tell(alloc, lex(alloc, 0, text), entries, bytes),
+        Err(_) => Answer::bare(alloc, NOT_UTF8).write(entries, bytes),
+    };
+}
+
+/// Reads a text by the rules of `lex_marked`: « and » open and close invisible groups, and take no bytes in spans. As
+/// `syn_tokens_lex`.
+#[unsafe(no_mangle)]
+pub extern "C" fn syn_tokens_lex_marked(
+    alloc: Global,
+    text: &[u8],
+    entries: &mut [Entry],
+    bytes: &mut [u8],
+    reading: &mut Reading,
+)
+    ensures { Lexes (FollowsGrammar marked_rules 0) text.now reading.new
+        entries.old entries.new bytes.old bytes.new }
+{
+    *reading = match from_utf8(text) {
+        Ok(text) => tell(alloc, lex_marked(alloc, 0, text), entries, bytes),
+        Err(_) => Answer::bare(alloc, NOT_UTF8).write(entries, bytes),
+    };
+}
+
+/// Reads a whole Rust source by the rules of `lex_source`, of the edition of this year: 2015, 2018, 2021 or 2024. As
+/// `syn_tokens_lex`.
+#[unsafe(no_mangle)]
+pub extern "C" fn syn_tokens_lex_source(
+    alloc: Global,
+    year: u32,
+    text: &[u8],
+    entries: &mut [Entry],
+    bytes: &mut [u8],
+    reading: &mut Reading,
+)
+    ensures { LexesSource year text.now reading.new
+        entries.old entries.new bytes.old bytes.new }
+{
+    let Some(edition) = edition_of(year) else {
+        *reading = Answer::bare(alloc, NO_EDITION).write(entries, bytes);
+        return;
+    };
+    *reading = match from_utf8(text) {
+        Ok(text) => tell(alloc, lex_source(alloc, edition, 0, text), entries, bytes),
+        Err(_) => Answer::bare(alloc, NOT_UTF8).write(entries, bytes),
+    };
+}
