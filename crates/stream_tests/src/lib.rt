@@ -4,4 +4,6 @@
 #[cfg(test)]
 mod argument_lists;
 #[cfg(test)]
+mod said;
+#[cfg(test)]
 mod streams;

@@ -3,10 +3,11 @@ mod groups;
 mod hostile;
 mod lists;
 
+use crate::said::all_said;
 use std::alloc::{AllocGlobal, Global};
 use std::process::Abort;
 use syn_parse::{IdentExt, Nothing, Parse, ParseStream, Parser, Result, parse_source, parsing};
-use test_outcomes::{READ, Sample, all_said, is_read, read};
+use test_outcomes::{READ, Sample, is_read, read};
 use tok_buffer::Lifetime;
 use tok_core::{Edition, Ident, Literal, Punct, Span, TokenStream, TokenTree};
 use tok_types::token::{self, Token};

@@ -1,8 +1,7 @@
 //! Compares what parsers return with a test's rows: a value's text, or an error's range and words.
 #![tactic(auto)]
 
-use std::alloc::{AllocGlobal, Global};
-use std::process::Abort;
+use std::alloc::Global;
 use syn_parse::{Fault, Parse, ParseStream, Result};
 use tok_buffer::Error;
 
@@ -28,8 +27,8 @@ fn words(alloc: Global, error: &Error) -> Option<String> {
     }
 }
 
-pub fn is_words(alloc: Global, error: &Error, wanted: &str) -> bool {
-    /// Returns `true` if the error's range and text are the wanted ones.
+// Returns `true` if the error's range and text are the wanted ones.
+fn is_words(alloc: Global, error: &Error, wanted: &str) -> bool {
     match words(alloc, error) {
         Some(text) => text.as_str() == wanted,
         None => false,
@@ -59,13 +58,7 @@ pub fn is_said(alloc: Global, outcome: Result<String>, wanted: &str) -> bool {
     }
 }
 
-fn says<S: Sample>(alloc: Global, sample: &S, text: &str, wanted: &str) -> bool {
+/// Returns `true` if a text is parsed as this text, or rejected with this error.
+pub fn says<S: Sample>(alloc: Global, sample: &S, text: &str, wanted: &str) -> bool {
     is_said(alloc, sample.run(alloc, text), wanted)
-}
-
-/// Checks each text by this parser.
-pub fn all_said<S: Sample>(rt: &(impl Abort + AllocGlobal), sample: &S, rows: &[(&str, &str)]) {
-    for (text, wanted) in rows {
-        assert!(rt; says(rt.alloc(), sample, text, wanted), "at {text}");
-    }
 }

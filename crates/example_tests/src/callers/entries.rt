@@ -1,10 +1,11 @@
 //! The parsers of `examples::entry` and `examples::setting`.
+use crate::said::all_said;
 use examples::entry::{Call, Entry, Pair, parse_entry, parse_entry_both, parse_entry_text};
 use examples::setting::{Field, Flag, read_setting};
 use std::alloc::{AllocGlobal, Global};
 use std::process::Abort;
 use syn_parse::{ParseStream, Parser, Result};
-use test_outcomes::{Sample, all_said, is_said};
+use test_outcomes::{Sample, is_said};
 use tok_core::lex_marked;
 
 fn whole_pair(input: ParseStream<'_, '_>) -> Result<String> {

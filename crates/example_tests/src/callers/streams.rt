@@ -1,9 +1,10 @@
 //! The parsers of `examples::streams` and `examples::lists`.
+use crate::said::all_said;
 use examples::lists::{names, parse_items};
 use examples::streams::{Item, Kind, count_names, next_kind, next_tree, optional_field};
 use std::alloc::Global;
 use syn_parse::{ParseStream, Parser, Result};
-use test_outcomes::{Sample, all_said};
+use test_outcomes::Sample;
 use tok_core::TokenStream;
 
 // Returns the name of an item, and the number of its fields.

@@ -1,7 +1,8 @@
 //! Groups, leftovers and lookahead.
+use crate::said::all_said;
 use std::alloc::Global;
 use syn_parse::{ParseStream, Parser, Result, parenthesized};
-use test_outcomes::{READ, Sample, all_said};
+use test_outcomes::{READ, Sample};
 use tok_buffer::Lifetime;
 use tok_core::{Delimiter, Ident};
 use tok_types::{End, token};

@@ -1,8 +1,9 @@
 //! Parsers that read nothing, go to the empty cursor, or swap their stream.
+use crate::said::all_said;
 use std::alloc::{AllocGlobal, Global};
 use std::process::Abort;
 use syn_parse::{Parse, ParseStream, Parser, Result, tokens_to_parse_buffer};
-use test_outcomes::{Sample, all_said, is_read, read};
+use test_outcomes::{Sample, is_read, read};
 use tok_buffer::{Cursor, TokenBuffer};
 use tok_core::{Delimiter, Ident, Span, TokenStream, lex};
 use tok_types::token::Token;

@@ -1,11 +1,12 @@
 //! The list parsers, with parsers that read nothing, go back or put another stream in the place of
 //! theirs.
 use super::hostile::laid;
+use crate::said::all_said;
 use std::alloc::{AllocGlobal, Global};
 use std::process::Abort;
 use syn_parse::{Nothing, Parse, ParseStream, Parser, Paused, Result, tokens_to_parse_buffer};
 use syn_punctuated::{ParseTerminated, Punctuated};
-use test_outcomes::{Sample, all_said, is_read};
+use test_outcomes::{Sample, is_read};
 use tok_buffer::Cursor;
 use tok_core::{Ident, Span, TokenStream};
 use tok_types::token::{self, Token};
