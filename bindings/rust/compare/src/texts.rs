@@ -13,8 +13,8 @@ const EQUAL: &str = "equal";
 const SHEBANG: &str = "a shebang line";
 const QUOTED: &str = "the lifetime `'b`, `'r` or `'br` before a quote or `#`";
 
-/// A token as both sides know it. Its range counts characters; an opening and a closing have the empty ranges at the ends of
-/// their group.
+/// A token as both sides know it. Its range counts characters; an opening and a closing have the
+/// empty ranges at the ends of their group.
 #[derive(Debug, PartialEq, Eq)]
 struct Flat {
     kind: &'static str,
@@ -41,9 +41,19 @@ fn flatten(text: &str, tokens: Cursor<'_>, turned: bool, out: &mut Vec<Flat>) {
             Token::Group(it) => {
                 let text_of = |of: [&str; 4]| of[it.delimiter as usize].to_string();
                 let [start, end] = [it.open.start, it.close.end].map(characters);
-                out.push(Flat { kind: "opening", text: text_of(OPENINGS), joint: false, range: (start, start) });
+                out.push(Flat {
+                    kind: "opening",
+                    text: text_of(OPENINGS),
+                    joint: false,
+                    range: (start, start),
+                });
                 flatten(text, it.tokens, turned, out);
-                out.push(Flat { kind: "closing", text: text_of(CLOSINGS), joint: false, range: (end, end) });
+                out.push(Flat {
+                    kind: "closing",
+                    text: text_of(CLOSINGS),
+                    joint: false,
+                    range: (end, end),
+                });
                 continue;
             }
         };
@@ -58,7 +68,9 @@ fn flatten_theirs(stream: TokenStream, base: usize, out: &mut Vec<Flat>) {
         let (kind, text, joint) = match tree {
             TokenTree::Ident(it) => ("ident", it.to_string(), false),
             TokenTree::Literal(it) => ("literal", it.to_string(), false),
-            TokenTree::Punct(it) => ("punct", it.as_char().to_string(), it.spacing() == Spacing::Joint),
+            TokenTree::Punct(it) => {
+                ("punct", it.as_char().to_string(), it.spacing() == Spacing::Joint)
+            }
             TokenTree::Group(it) => {
                 let which = match it.delimiter() {
                     Delimiter::Parenthesis => 0,
