@@ -197,6 +197,14 @@ fn class_of_rejected(rule: u32, text: &str, at: usize) -> &'static str {
     }
 }
 
+/// Whether proc-macro2's stream of a buffer has these tokens, at whatever spans.
+fn is_converted(buffer: &Buffer, tokens: &[Flat]) -> bool {
+    let mut converted = Vec::new();
+    flatten_theirs(TokenStream::from(buffer), 0, &mut converted);
+    let same = |(a, b): (&Flat, &Flat)| a.kind == b.kind && a.text == b.text && a.joint == b.joint;
+    converted.len() == tokens.len() && converted.iter().zip(tokens).all(same)
+}
+
 fn compare(rules: &str, text: &str, turned: bool, tally: &mut Tally) {
     let read = match rules {
         "lex" => Buffer::lex(text),
@@ -206,7 +214,10 @@ fn compare(rules: &str, text: &str, turned: bool, tally: &mut Tally) {
         (Ok(buffer), Some(theirs)) => {
             let mut ours = Vec::new();
             flatten(text, buffer.tokens(), turned, &mut ours);
-            let class = class_of_reads(text, &ours, &theirs);
+            let mut class = class_of_reads(text, &ours, &theirs);
+            if class == EQUAL && !is_converted(&buffer, &ours) {
+                class = "UNLISTED: converted to another stream";
+            }
             (class, format!("{ours:?}\n    {theirs:?}"))
         }
         (Err(_), None) => ("both reject", String::new()),
