@@ -1,4 +1,5 @@
-/* Reads texts by each list of rules, prints their entries or why one is rejected, and runs commands. */
+/* Reads texts by each list of rules, prints their entries or why one is rejected, and runs
+ * commands. */
 #include "syn_tokens.h"
 
 #include <stdio.h>
@@ -12,7 +13,8 @@ static void show(uint32_t rules, const char *text) {
     int status = syn_tokens_read(&tokens, rules, text, strlen(text));
     printf("%s\n", text);
     if (status == SYN_TOKENS_REJECTED)
-        printf("    rejected by L%u at %zu: %s\n", (unsigned)tokens.reading.rule, tokens.reading.at, tokens.texts);
+        printf("    rejected by L%u at %zu: %s\n", (unsigned)tokens.reading.rule,
+               tokens.reading.at, tokens.texts);
     else if (status != SYN_TOKENS_OK)
         printf("    status %d\n", status);
     for (size_t i = 0; status == SYN_TOKENS_OK && i < tokens.reading.entries; i++) {
@@ -21,8 +23,8 @@ static void show(uint32_t rules, const char *text) {
         if (it->kind >= SYN_TOKENS_OPENING)
             printf(" %s %zu\n", DELIMITERS[it->delimiter], it->distance);
         else
-            printf(" %.*s%s\n", (int)(it->text_end - it->text_start), tokens.texts + it->text_start,
-                   it->spacing ? " joint" : "");
+            printf(" %.*s%s\n", (int)(it->text_end - it->text_start),
+                   tokens.texts + it->text_start, it->spacing ? " joint" : "");
     }
     syn_tokens_free(&tokens);
 }

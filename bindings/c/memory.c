@@ -1,5 +1,6 @@
-/* Makes each proved call with each of its allocations failing in turn: it must say so, leave what the caller lends as it was, and lose
- * no memory; and it must return the same as without a failure once none fails. Link it with --wrap=malloc,--wrap=realloc,--wrap=free. */
+/* Makes each proved call with each of its allocations failing in turn: it must say so, leave what
+ * the caller lends as it was, and lose no memory. Once none fails, it must return the same as ever.
+ * Link it with --wrap=malloc,--wrap=realloc,--wrap=free. */
 #include "syn_tokens.h"
 
 #include <stdio.h>
@@ -10,7 +11,8 @@ void *__real_malloc(size_t size);
 void *__real_realloc(void *block, size_t size);
 void __real_free(void *block);
 
-/* Which allocation fails, counted from 1 (0: none), how many were made, and how many blocks are held. */
+/* Which allocation fails, counted from 1 (0: none), how many were made, and how many blocks are
+ * held. */
 static size_t failing, made, held;
 
 static bool fails(void) {
@@ -37,44 +39,43 @@ void __wrap_free(void *block) {
     __real_free(block);
 }
 
+enum { ENTRIES = 64, BYTES = 512 };
+
 /* What the caller lends, and what is returned. */
 struct lent {
-    struct syn_tokens_entry entries[64];
-    uint8_t bytes[512];
+    struct syn_tokens_entry entries[ENTRIES];
+    uint8_t bytes[BYTES];
     struct syn_tokens_reading reading;
     size_t size;
     uint8_t status;
 };
 
-static const char LONG_NAMES[] = "a_name_of_many_characters ('c', {\"a string of many characters\"} [another_long_name])";
+static const char LONG_NAMES[] =
+    "a_name_of_many_characters ('c', {\"a string of many characters\"} [another_long_name])";
 static const char MARKED[] = "(a \xc2\xab" "b\xc2\xbb)";
 static const char SOURCE[] = "/// A point of two coordinates.\nstruct Point;";
 static const char REJECTED[] = "x = '\\q'";
-static const char INPUT[] = "(a b)\n---\nenter 0 (\nterminated 1 Ident ,\nfork 0\nparse 1 LifetimeAny\nlookahead 0 Ident +\n";
+static const char INPUT[] = "(a b)\n---\nenter 0 (\nterminated 1 Ident ,\nfork 0\n"
+                            "parse 1 LifetimeAny\nlookahead 0 Ident +\n";
 
 static void call(int which, struct lent *it) {
-    const uint8_t *text;
+    const char *const texts[] = {LONG_NAMES, MARKED, SOURCE, REJECTED, INPUT};
+    const uint8_t *text = (const uint8_t *)texts[which];
+    size_t length = strlen(texts[which]);
     switch (which) {
-    case 0:
-        text = (const uint8_t *)LONG_NAMES;
-        syn_tokens_lex(text, sizeof LONG_NAMES - 1, it->entries, 64, it->bytes, sizeof it->bytes, &it->reading);
-        break;
     case 1:
-        text = (const uint8_t *)MARKED;
-        syn_tokens_lex_marked(text, sizeof MARKED - 1, it->entries, 64, it->bytes, sizeof it->bytes, &it->reading);
+        syn_tokens_lex_marked(text, length, it->entries, ENTRIES, it->bytes, BYTES, &it->reading);
         break;
     case 2:
-        text = (const uint8_t *)SOURCE;
-        syn_tokens_lex_source(2021, text, sizeof SOURCE - 1, it->entries, 64, it->bytes, sizeof it->bytes, &it->reading);
+        syn_tokens_lex_source(2021, text, length, it->entries, ENTRIES, it->bytes, BYTES,
+                              &it->reading);
         break;
-    case 3:
-        text = (const uint8_t *)REJECTED;
-        syn_tokens_lex(text, sizeof REJECTED - 1, it->entries, 64, it->bytes, sizeof it->bytes, &it->reading);
+    case 4:
+        it->status = syn_tokens_respond(text, length, it->bytes, BYTES, &it->size);
+        it->reading.status = it->status == 3 ? SYN_TOKENS_NO_MEMORY : SYN_TOKENS_OK;
         break;
     default:
-        text = (const uint8_t *)INPUT;
-        it->status = syn_tokens_respond(text, sizeof INPUT - 1, it->bytes, sizeof it->bytes, &it->size);
-        it->reading.status = it->status == 3 ? SYN_TOKENS_NO_MEMORY : SYN_TOKENS_OK;
+        syn_tokens_lex(text, length, it->entries, ENTRIES, it->bytes, BYTES, &it->reading);
     }
 }
 
@@ -96,13 +97,15 @@ static size_t try_all(int which) {
             return memcmp(&got, &wanted, sizeof got) == 0 ? number - 1 : 0;
         if (got.reading.status != SYN_TOKENS_NO_MEMORY)
             return 0;
-        if (memcmp(got.entries, before.entries, sizeof got.entries) != 0 || memcmp(got.bytes, before.bytes, sizeof got.bytes) != 0)
+        if (memcmp(got.entries, before.entries, sizeof got.entries) != 0 ||
+            memcmp(got.bytes, before.bytes, sizeof got.bytes) != 0)
             return 0;
     }
 }
 
 int main(void) {
-    static const char *const CALLS[] = {"syn_tokens_lex", "syn_tokens_lex_marked", "syn_tokens_lex_source", "a rejected text",
+    static const char *const CALLS[] = {"syn_tokens_lex", "syn_tokens_lex_marked",
+                                        "syn_tokens_lex_source", "a rejected text",
                                         "syn_tokens_respond"};
     for (int which = 0; which < 5; which++) {
         size_t count = try_all(which);

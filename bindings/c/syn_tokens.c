@@ -12,11 +12,12 @@ bool syn_tokens_matches(void) {
     syn_tokens_sample(entries, 2, &reading);
     for (size_t i = 0; i < 2; i++) {
         const struct syn_tokens_entry *it = &entries[i];
-        if (it->kind != 1 || it->spacing != 2 || it->delimiter != 3 || it->start != 4 || it->end != 5 ||
-            it->text_start != 6 || it->text_end != 7 || it->distance != 8)
+        if (it->kind != 1 || it->spacing != 2 || it->delimiter != 3 || it->start != 4 ||
+            it->end != 5 || it->text_start != 6 || it->text_end != 7 || it->distance != 8)
             return false;
     }
-    return reading.status == 9 && reading.rule == 10 && reading.at == 11 && reading.entries == 12 && reading.bytes == 13;
+    return reading.status == 9 && reading.rule == 10 && reading.at == 11 && reading.entries == 12 &&
+           reading.bytes == 13;
 }
 
 static int ended(struct syn_tokens *tokens, uint32_t status) {
@@ -34,12 +35,15 @@ int syn_tokens_read(struct syn_tokens *tokens, uint32_t rules, const char *text,
     /* Enough for most texts. The second turn has as much as the first one asked for. */
     size_t entries_room = length / 2 + 16, texts_room = length + 128;
     for (;;) {
-        struct syn_tokens_entry *entries =
-            entries_room > SIZE_MAX / sizeof *entries ? NULL : realloc(tokens->entries, entries_room * sizeof *entries);
+        struct syn_tokens_entry *entries = NULL;
+        if (entries_room <= SIZE_MAX / sizeof *entries)
+            entries = realloc(tokens->entries, entries_room * sizeof *entries);
         if (entries == NULL)
             return ended(tokens, SYN_TOKENS_NO_MEMORY);
         tokens->entries = entries;
-        char *texts = texts_room == SIZE_MAX ? NULL : realloc(tokens->texts, texts_room + 1);
+        char *texts = NULL;
+        if (texts_room < SIZE_MAX)
+            texts = realloc(tokens->texts, texts_room + 1);
         if (texts == NULL)
             return ended(tokens, SYN_TOKENS_NO_MEMORY);
         tokens->texts = texts;
@@ -48,9 +52,11 @@ int syn_tokens_read(struct syn_tokens *tokens, uint32_t rules, const char *text,
         if (rules == SYN_TOKENS_PLAIN)
             syn_tokens_lex(bytes, length, entries, entries_room, written, texts_room, reading);
         else if (rules == SYN_TOKENS_MARKED)
-            syn_tokens_lex_marked(bytes, length, entries, entries_room, written, texts_room, reading);
+            syn_tokens_lex_marked(bytes, length, entries, entries_room, written, texts_room,
+                                  reading);
         else
-            syn_tokens_lex_source(rules, bytes, length, entries, entries_room, written, texts_room, reading);
+            syn_tokens_lex_source(rules, bytes, length, entries, entries_room, written, texts_room,
+                                  reading);
         if (reading->status != SYN_TOKENS_NO_ROOM) {
             texts[reading->bytes] = 0;
             return (int)reading->status;

@@ -1,10 +1,11 @@
 /* Tokens of Rust source text, and commands over them.
  *
- * The checked calls (syn_tokens_read, syn_tokens_run) check what they are given, take the memory, and have one call each that frees
- * it. They stand in syn_tokens.c, over the proved calls of libsyn_tokens_c.a, which write into memory that the caller lends.
+ * The checked calls, syn_tokens_read and syn_tokens_run, check what they are given and take the
+ * memory. Each has one call that frees it. They stand in syn_tokens.c, over the proved calls of
+ * libsyn_tokens_c.a, which write into memory that the caller lends.
  *
- * Link syn_tokens.c, libsyn_tokens_c.a and the toolchain's liblibc_c.a. `malloc` and `realloc` must align a block to each power of
- * two up to 16 that divides its size. */
+ * Link syn_tokens.c, libsyn_tokens_c.a and the toolchain's liblibc_c.a. `malloc` and `realloc` must
+ * align a block to each power of two up to 16 that divides its size. */
 #ifndef SYN_TOKENS_H
 #define SYN_TOKENS_H
 
@@ -29,28 +30,33 @@ enum syn_tokens_delimiter {
 
 enum syn_tokens_status {
     SYN_TOKENS_OK = 0,
-    SYN_TOKENS_REJECTED = 1,   /* the grammar rejects the text: `rule`, `at` and the words in `texts` say why */
+    /* The grammar rejects the text: `rule`, `at` and the words in `texts` say why. */
+    SYN_TOKENS_REJECTED = 1,
     SYN_TOKENS_NOT_UTF8 = 2,
     SYN_TOKENS_NO_MEMORY = 3,
-    SYN_TOKENS_NO_ROOM = 4,    /* of the proved calls alone: `entries` and `bytes` say how much it takes */
+    /* Of the proved calls alone: `entries` and `bytes` say how much it takes. */
+    SYN_TOKENS_NO_ROOM = 4,
     SYN_TOKENS_NO_EDITION = 5,
-    SYN_TOKENS_BAD_CALL = 6,   /* of the checked calls alone: a null pointer, or a header of another library */
+    /* Of the checked calls alone: a null pointer, or a header of another library. */
+    SYN_TOKENS_BAD_CALL = 6,
 };
 
-/* By which rules a text is read. A whole source has the year of its edition: 2015, 2018, 2021 or 2024. */
+/* By which rules a text is read. A whole source has the year of its edition: 2015, 2018, 2021 or
+ * 2024. */
 enum syn_tokens_rules {
     SYN_TOKENS_PLAIN = 0,
-    SYN_TOKENS_MARKED = 1, /* « and » open and close invisible groups, and take no bytes in spans */
+    /* « and » open and close invisible groups, and take no bytes in spans. */
+    SYN_TOKENS_MARKED = 1,
 };
 
 /* A leaf, an opening or a closing, in the order of the text. */
 struct syn_tokens_entry {
     uint32_t kind;
-    uint16_t spacing;   /* of a punct: 1 if it is joint; else 0 */
-    uint16_t delimiter; /* of an opening and a closing; else 0 */
-    size_t start, end;  /* the span: bytes of the text that was read */
+    uint16_t spacing;            /* of a punct: 1 if it is joint; else 0 */
+    uint16_t delimiter;          /* of an opening and a closing; else 0 */
+    size_t start, end;           /* the span: bytes of the text that was read */
     size_t text_start, text_end; /* the leaf's own text, in `texts` */
-    size_t distance;    /* from an opening to its closing and back, in entries; of a leaf 0 */
+    size_t distance;             /* from an opening to its closing and back; of a leaf 0 */
 };
 
 struct syn_tokens_reading {
@@ -62,7 +68,7 @@ struct syn_tokens_reading {
 
 /* ---- Checked calls ---- */
 
-/* What was read: so many entries and bytes as `reading` says. A zero byte follows the texts. */
+/* What was read: as many entries and bytes as `reading` says. A zero byte follows the texts. */
 struct syn_tokens {
     struct syn_tokens_reading reading;
     struct syn_tokens_entry *entries;
@@ -76,27 +82,34 @@ struct syn_tokens_report {
     char *text;
 };
 
-/* Reads a text by these rules, and returns the status. Whatever it is, `syn_tokens_free` frees what was given. */
+/* Reads a text by these rules, and returns the status. Whatever it is, `syn_tokens_free` frees what
+ * was given. */
 int syn_tokens_read(struct syn_tokens *tokens, uint32_t rules, const char *text, size_t length);
 void syn_tokens_free(struct syn_tokens *tokens);
 
-/* Answers an input as the program does, and returns its status, or SYN_TOKENS_BAD_CALL. Whatever it is, `syn_tokens_free_report` frees
- * what was given. */
+/* Answers an input as the program does, and returns its status, or SYN_TOKENS_BAD_CALL. Whatever it
+ * is, `syn_tokens_free_report` frees what was given. */
 int syn_tokens_run(struct syn_tokens_report *report, const char *input, size_t length);
 void syn_tokens_free_report(struct syn_tokens_report *report);
 
-/* Returns whether the structs of this header are laid out as those of the library. The checked calls ask it first. */
+/* Returns whether the structs of this header are laid out as those of the library. The checked call
+ * `syn_tokens_read` asks it first. */
 bool syn_tokens_matches(void);
 
 /* ---- Proved calls. No pointer may be null, and no two may share memory. ---- */
 
-void syn_tokens_lex(const uint8_t *text, size_t length, struct syn_tokens_entry *entries, size_t entries_room,
-                    uint8_t *texts, size_t texts_room, struct syn_tokens_reading *reading);
-void syn_tokens_lex_marked(const uint8_t *text, size_t length, struct syn_tokens_entry *entries, size_t entries_room,
-                           uint8_t *texts, size_t texts_room, struct syn_tokens_reading *reading);
-void syn_tokens_lex_source(uint32_t year, const uint8_t *text, size_t length, struct syn_tokens_entry *entries,
-                           size_t entries_room, uint8_t *texts, size_t texts_room, struct syn_tokens_reading *reading);
-uint8_t syn_tokens_respond(const uint8_t *input, size_t length, uint8_t *printed, size_t room, size_t *size);
-void syn_tokens_sample(struct syn_tokens_entry *entries, size_t count, struct syn_tokens_reading *reading);
+void syn_tokens_lex(const uint8_t *text, size_t length, struct syn_tokens_entry *entries,
+                    size_t entries_room, uint8_t *texts, size_t texts_room,
+                    struct syn_tokens_reading *reading);
+void syn_tokens_lex_marked(const uint8_t *text, size_t length, struct syn_tokens_entry *entries,
+                           size_t entries_room, uint8_t *texts, size_t texts_room,
+                           struct syn_tokens_reading *reading);
+void syn_tokens_lex_source(uint32_t year, const uint8_t *text, size_t length,
+                           struct syn_tokens_entry *entries, size_t entries_room, uint8_t *texts,
+                           size_t texts_room, struct syn_tokens_reading *reading);
+uint8_t syn_tokens_respond(const uint8_t *input, size_t length, uint8_t *printed, size_t room,
+                           size_t *size);
+void syn_tokens_sample(struct syn_tokens_entry *entries, size_t count,
+                       struct syn_tokens_reading *reading);
 
 #endif

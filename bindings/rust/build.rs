@@ -1,5 +1,6 @@
-//! Finds the static library and the toolchain's allocator calls, `libsyn_tokens_c.a` and `liblibc_c.a`: in the folder that
-//! `SYN_TOKENS_LIB` names, or else where this repository builds the one and where the toolchain has the other.
+//! Finds the static library and the toolchain's allocator calls, `libsyn_tokens_c.a` and
+//! `liblibc_c.a`: in the folder that `SYN_TOKENS_LIB` names, or else where this repository builds
+//! the one and where the toolchain has the other.
 use std::env;
 use std::error::Error;
 use std::path::{Path, PathBuf};
@@ -25,7 +26,10 @@ fn main() -> Result<(), Box<dyn Error>> {
     }
     for library in ["libsyn_tokens_c.a", "liblibc_c.a"] {
         if !folders.iter().any(|it| it.join(library).exists()) {
-            return Err(format!("no {library} in {folders:?}: run `rt lib` in crates/syn_tokens_c").into());
+            return Err(format!(
+                "no {library} in {folders:?}: run `rt lib` in crates/syn_tokens_c"
+            )
+            .into());
         }
     }
     println!("cargo:rustc-link-lib=static=syn_tokens_c");

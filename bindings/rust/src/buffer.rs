@@ -80,7 +80,8 @@ impl Buffer {
         Buffer::read(Rules::Plain, text)
     }
 
-    /// Reads a text in which `«` and `»` open and close invisible groups. They take no bytes in spans.
+    /// Reads a text in which `«` and `»` open and close invisible groups. They take no bytes in
+    /// spans.
     ///
     /// # Errors
     ///
@@ -89,7 +90,8 @@ impl Buffer {
         Buffer::read(Rules::Marked, text)
     }
 
-    /// Reads a whole Rust source. A doc comment stands for an attribute; a byte order mark and a shebang line mean nothing.
+    /// Reads a whole Rust source. A doc comment stands for an attribute; a byte order mark and a
+    /// shebang line mean nothing.
     ///
     /// # Errors
     ///
@@ -198,8 +200,8 @@ impl Token<'_> {
     }
 }
 
-/// A place among the tokens of a group or of a whole text, and an iterator over those from there on. A clone is a cursor
-/// at the same place.
+/// A place among the tokens of a group or of a whole text, and an iterator over those from there
+/// on. A clone is a cursor at the same place.
 #[derive(Clone)]
 pub struct Cursor<'b> {
     entries: &'b [Entry],

@@ -73,7 +73,13 @@ extern "C" {
         texts_room: usize,
         reading: *mut Reading,
     );
-    fn syn_tokens_respond(input: *const u8, length: usize, printed: *mut u8, room: usize, size: *mut usize) -> u8;
+    fn syn_tokens_respond(
+        input: *const u8,
+        length: usize,
+        printed: *mut u8,
+        room: usize,
+        size: *mut usize,
+    ) -> u8;
     fn syn_tokens_sample(entries: *mut Entry, count: usize, reading: *mut Reading);
 }
 
@@ -85,14 +91,26 @@ fn check_layout() {
         let mut reading = Reading::default();
         // The pointers are to live memory of these lengths, which is initialized and not shared.
         unsafe { syn_tokens_sample(entries.as_mut_ptr(), entries.len(), &mut reading) };
-        let entry =
-            Entry { kind: 1, spacing: 2, delimiter: 3, start: 4, end: 5, text_start: 6, text_end: 7, distance: 8 };
+        let entry = Entry {
+            kind: 1,
+            spacing: 2,
+            delimiter: 3,
+            start: 4,
+            end: 5,
+            text_start: 6,
+            text_end: 7,
+            distance: 8,
+        };
         let wanted = Reading { status: 9, rule: 10, at: 11, entries: 12, bytes: 13 };
-        assert!(entries == [entry; 2] && reading == wanted, "libsyn_tokens_c.a is of another version");
+        assert!(
+            entries == [entry; 2] && reading == wanted,
+            "libsyn_tokens_c.a is of another version"
+        );
     });
 }
 
-/// Reads a text, and returns what came of it, its entries and the texts of its leaves or the words of its error.
+/// Reads a text, and returns what came of it, its entries and the texts of its leaves or the words
+/// of its error.
 pub fn lex(rules: Rules, text: &str) -> (Reading, Vec<Entry>, Vec<u8>) {
     check_layout();
     // Enough for most texts. The second turn has as much as the first one asked for.
@@ -104,12 +122,14 @@ pub fn lex(rules: Rules, text: &str) -> (Reading, Vec<Entry>, Vec<u8>) {
         let (to, room) = (entries.as_mut_ptr(), entries.capacity());
         let (texts, texts_room) = (bytes.as_mut_ptr(), bytes.capacity());
         let told = &mut reading;
-        // The pointers are to live memory of these lengths, which is not shared. The library reads the text alone, and only
-        // writes to the rest.
+        // The pointers are to live memory of these lengths, which is not shared. The library reads
+        // the text alone, and only writes to the rest.
         unsafe {
             match rules {
                 Rules::Plain => syn_tokens_lex(from, length, to, room, texts, texts_room, told),
-                Rules::Marked => syn_tokens_lex_marked(from, length, to, room, texts, texts_room, told),
+                Rules::Marked => {
+                    syn_tokens_lex_marked(from, length, to, room, texts, texts_room, told)
+                }
                 Rules::Source { year } => {
                     syn_tokens_lex_source(year, from, length, to, room, texts, texts_room, told);
                 }
@@ -134,9 +154,10 @@ pub fn respond(input: &[u8]) -> (u8, Vec<u8>) {
     loop {
         let mut size = 0;
         let (to, room) = (printed.as_mut_ptr(), printed.capacity());
-        // The pointers are to live memory of these lengths, which is not shared. The library reads the input alone, and only
-        // writes to the rest.
-        let status = unsafe { syn_tokens_respond(input.as_ptr(), input.len(), to, room, &mut size) };
+        // The pointers are to live memory of these lengths, which is not shared. The library reads
+        // the input alone, and only writes to the rest.
+        let status =
+            unsafe { syn_tokens_respond(input.as_ptr(), input.len(), to, room, &mut size) };
         if size <= room {
             // The library has written so many bytes, since there was room.
             unsafe { printed.set_len(size) };

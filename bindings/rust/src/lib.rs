@@ -1,7 +1,8 @@
 //! Tokens of Rust source text, read by a proved library.
 //!
-//! The contracts of the library say which texts are read as which tokens, and which are rejected and why. This package
-//! turns what the library writes into safe types, without a proof; its one module with `unsafe` says why each call is sound.
+//! The contracts of the library say which texts are read as which tokens, and which are rejected
+//! and why. This package turns what the library writes into safe types, without a proof; its one
+//! module with `unsafe` says why each call is sound.
 //!
 //! ```
 //! use syn_tokens::{Buffer, Token};
@@ -28,6 +29,8 @@ mod ffi;
 mod proc_macro2;
 mod respond;
 
-pub use buffer::{Buffer, Cursor, Delimiter, Edition, Group, Groups, Leaf, Punct, Spacing, Span, Token};
+pub use buffer::{
+    Buffer, Cursor, Delimiter, Edition, Group, Groups, Leaf, Punct, Spacing, Span, Token,
+};
 pub use error::Error;
 pub use respond::{respond, Response};

@@ -4,8 +4,8 @@ use ::proc_macro2::{self as other, TokenStream, TokenTree};
 use crate::buffer::{Buffer, Cursor, Delimiter, Group, Punct, Spacing, Token};
 
 impl From<Buffer> for TokenStream {
-    /// Converts the tokens. Each is at the call site. A literal that `proc_macro2` does not know, as a C string in an old version, becomes
-    /// the tokens that it reads instead.
+    /// Converts the tokens. Each is at the call site. A literal that `proc_macro2` does not know,
+    /// as a C string in an old version, becomes the tokens that it reads instead.
     fn from(buffer: Buffer) -> Self {
         TokenStream::from(&buffer)
     }

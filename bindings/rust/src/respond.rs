@@ -11,8 +11,8 @@ pub struct Response {
     pub text: String,
 }
 
-/// Answers an input as the program does: a text, a line `---`, and commands. The page `docs/PROGRAM.md` of the repository has the
-/// commands and what they print.
+/// Answers an input as the program does: a text, a line `---`, and commands. The page
+/// `docs/PROGRAM.md` of the repository has the commands and what they print.
 ///
 /// # Errors
 ///

@@ -22,17 +22,18 @@ pub struct Entry {
     pub kind: u32,
     /// Of a punct, 1 if it is joint. 0 for all others.
     pub spacing: u16,
-    /// Of an opening and a closing, 0 for a parenthesis, 1 for a brace, 2 for a bracket, 3 for an invisible one. 0 for all
-    /// others.
+    /// Of an opening and a closing, 0 for a parenthesis, 1 for a brace, 2 for a bracket, 3 for an
+    /// invisible one. 0 for all others.
     pub delimiter: u16,
     /// The span: the first byte in the text that was read, and the byte after the last one.
     pub start: usize,
     pub end: usize,
-    /// The range of the leaf's own text in the bytes that are written beside the entries. It is empty for openings and closings.
+    /// The range of the leaf's own text in the bytes that are written beside the entries. It is
+    /// empty for openings and closings.
     pub text_start: usize,
     pub text_end: usize,
-    /// Of an opening, how many entries further on its closing is; of a closing, how many entries back its opening is. 0 for
-    /// leaves.
+    /// Of an opening, how many entries further on its closing is; of a closing, how many entries
+    /// back its opening is. 0 for leaves.
     pub distance: usize,
 }
 

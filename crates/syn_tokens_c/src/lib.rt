@@ -1,15 +1,15 @@
-//! The library for callers in C and Rust: a text is read into an array of plain structs, and commands are run. No memory
-//! is kept between two calls: what a call writes, the caller lends.
+//! The library for callers in C and Rust: a text is read into an array of plain structs, and
+//! commands are run. No memory is kept between two calls: what a call writes, the caller lends.
 //!
 //! # What a caller must keep to
 //!
 //! No contract can see to these.
 //!
-//! - A slice is passed as a pointer and a length. The pointer is not null, is aligned, and has so many elements behind it,
-//!   also if there are none.
+//! - A slice is passed as a pointer and a length. The pointer is not null, is aligned, and has so
+//!   many elements behind it, also if there are none.
 //! - No two parameters share memory, except that a text may be passed to several calls at once.
-//! - `malloc`, `realloc` and `free` are of one allocator, and align a block to each power of two up to 16 that divides its
-//!   size.
+//! - `malloc`, `realloc` and `free` are of one allocator, and align a block to each power of two up
+//!   to 16 that divides its size.
 //! - The caller's structs are laid out as these: `syn_tokens_sample` shows it.
 #![tactic(auto)]
 

@@ -27,8 +27,8 @@ const NO_EDITION: u32 = 5;
 #[repr(C)]
 #[derive(Clone, Copy)]
 pub struct Reading {
-    /// 0 if it was read, 1 if the grammar rejects it, 2 if it is not UTF-8, 3 if an allocation failed, 4 if there is too little
-    /// room, 5 if there is no such edition.
+    /// 0 if it was read, 1 if the grammar rejects it, 2 if it is not UTF-8, 3 if an allocation
+    /// failed, 4 if there is too little room, 5 if there is no such edition.
     pub status: u32,
     /// Of a rejected text, the number of the rule: 1 for L1.
     pub rule: u32,
@@ -155,9 +155,10 @@ fn edition_of(year: u32) -> Option<Edition>
     }
 }
 
-/// Reads a text by the rules of `lex`. `reading` says what came of it. The entries, and the texts of the leaves in order or the
-/// words of the error, are written over the front of what the caller lends. If there is not enough room, nothing is
-/// written: `reading` then says how much it takes, and the call can be made again.
+/// Reads a text by the rules of `lex`. `reading` says what came of it. The entries, and the texts
+/// of the leaves in order or the words of the error, are written over the front of what the caller
+/// lends. If there is not enough room, nothing is written: `reading` then says how much it takes,
+/// and the call can be made again.
 #[unsafe(no_mangle)]
 pub extern "C" fn syn_tokens_lex(
     alloc: Global,
@@ -175,8 +176,8 @@ pub extern "C" fn syn_tokens_lex(
     };
 }
 
-/// Reads a text by the rules of `lex_marked`: « and » open and close invisible groups, and take no bytes in spans. As
-/// `syn_tokens_lex`.
+/// Reads a text by the rules of `lex_marked`: « and » open and close invisible groups, and take no
+/// bytes in spans. As `syn_tokens_lex`.
 #[unsafe(no_mangle)]
 pub extern "C" fn syn_tokens_lex_marked(
     alloc: Global,
@@ -194,8 +195,8 @@ pub extern "C" fn syn_tokens_lex_marked(
     };
 }
 
-/// Reads a whole Rust source by the rules of `lex_source`, of the edition of this year: 2015, 2018, 2021 or 2024. As
-/// `syn_tokens_lex`.
+/// Reads a whole Rust source by the rules of `lex_source`, of the edition of this year: 2015, 2018,
+/// 2021 or 2024. As `syn_tokens_lex`.
 #[unsafe(no_mangle)]
 pub extern "C" fn syn_tokens_lex_source(
     alloc: Global,

@@ -4,9 +4,10 @@ ghost use Rattle.syn_tokens_c.specs.Outcomes.{Responds};
 use std::alloc::{AllocError, Global};
 use syn_tokens::respond;
 
-/// Answers an input as the program does, and returns its status: a text, or two, and commands. `size` says how many bytes
-/// the program prints. They are written over the front of `printed` if they fit there, and else nothing is written: the same call with
-/// more room writes them. The status is 3 if an allocation fails, and `size` is 0 then.
+/// Answers an input as the program does, and returns its status: a text, or two, and commands.
+/// `size` says how many bytes the program prints. They are written over the front of `printed` if
+/// they fit there, and else nothing is written: the same call with more room writes them. The
+/// status is 3 if an allocation fails, and `size` is 0 then.
 #[unsafe(no_mangle)]
 pub extern "C" fn syn_tokens_respond(
     alloc: Global,

@@ -37,7 +37,12 @@ fn main() -> ExitCode {
     let begun = Instant::now();
     runs::run(&mut random, numbers[1], &spans, &mut tally);
     texts::run(&mut random, numbers[0], turned, &mut tally);
-    println!("{} texts and {} runs of seed {seed} in {:.0?}", numbers[0], numbers[1], begun.elapsed());
+    println!(
+        "{} texts and {} runs of seed {seed} in {:.0?}",
+        numbers[0],
+        numbers[1],
+        begun.elapsed()
+    );
     if tally.print() {
         ExitCode::SUCCESS
     } else {

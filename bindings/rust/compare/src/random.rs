@@ -166,23 +166,27 @@ pub fn text(random: &mut Random) -> String {
     (0..length).map(|_| random.pick(&some)).collect()
 }
 
-/// The keywords that syn 1 has as well, without those that it takes as identifiers: `async`, `await`, `dyn` and `try`.
+/// The keywords that syn 1 has as well, without those that it takes as identifiers: `async`,
+/// `await`, `dyn` and `try`.
 pub const KEYWORDS: &[&str] = &[
-    "abstract", "as", "auto", "become", "box", "break", "const", "continue", "crate", "default", "do", "else", "enum",
-    "extern", "final", "fn", "for", "if", "impl", "in", "let", "loop", "macro", "match", "mod", "move", "mut",
-    "override", "priv", "pub", "ref", "return", "Self", "self", "static", "struct", "super", "trait", "type", "typeof",
-    "union", "unsafe", "unsized", "use", "virtual", "where", "while", "yield",
+    "abstract", "as", "auto", "become", "box", "break", "const", "continue", "crate", "default",
+    "do", "else", "enum", "extern", "final", "fn", "for", "if", "impl", "in", "let", "loop",
+    "macro", "match", "mod", "move", "mut", "override", "priv", "pub", "ref", "return", "Self",
+    "self", "static", "struct", "super", "trait", "type", "typeof", "union", "unsafe", "unsized",
+    "use", "virtual", "where", "while", "yield",
 ];
 
 pub const PUNCTUATIONS: &[&str] = &[
-    "&", "&&", "&=", "@", "^", "^=", ":", ",", "$", ".", "..", "...", "..=", "=", "==", "=>", ">=", ">", "<-", "<=",
-    "<", "-", "-=", "!=", "!", "|", "|=", "||", "::", "%", "%=", "+", "+=", "#", "?", "->", ";", "<<", "<<=", ">>",
-    ">>=", "/", "/=", "*", "*=", "~",
+    "&", "&&", "&=", "@", "^", "^=", ":", ",", "$", ".", "..", "...", "..=", "=", "==", "=>", ">=",
+    ">", "<-", "<=", "<", "-", "-=", "!=", "!", "|", "|=", "||", "::", "%", "%=", "+", "+=", "#",
+    "?", "->", ";", "<<", "<<=", ">>", ">>=", "/", "/=", "*", "*=", "~",
 ];
 
-const IDENTS: &[&str] =
-    &["a", "b", "x", "Sized", "r#fn", "r#a", "é", "_a", "xy", "true", "false", "_", "name", "r#true"];
-const LITERALS: &[&str] = &["1", "0x1f", "\"s\"", "'c'", "b'x'", "1u8", "0b10", "\"\\n\"", "'\\''", "1_0", "\"»\""];
+const IDENTS: &[&str] = &[
+    "a", "b", "x", "Sized", "r#fn", "r#a", "é", "_a", "xy", "true", "false", "_", "name", "r#true",
+];
+const LITERALS: &[&str] =
+    &["1", "0x1f", "\"s\"", "'c'", "b'x'", "1u8", "0b10", "\"\\n\"", "'\\''", "1_0", "\"»\""];
 const LIFETIMES: &[&str] = &["'a", "'static", "'_", "'fn", "'r#b", "'self", "'true"];
 const SEPARATORS: &[&str] = &[",", ";", "+", "::"];
 const DELIMITERS: &[&str] = &["(", "{", "["];
@@ -215,7 +219,13 @@ fn vocabulary(random: &mut Random, separator: &'static str) -> Vec<&'static str>
     words
 }
 
-fn trees(random: &mut Random, words: &[&'static str], shares: &Shares, size: usize, depth: usize) -> Vec<Tree> {
+fn trees(
+    random: &mut Random,
+    words: &[&'static str],
+    shares: &Shares,
+    size: usize,
+    depth: usize,
+) -> Vec<Tree> {
     let mut out = Vec::new();
     let mut left = size;
     while left > 0 {
@@ -271,7 +281,8 @@ fn spell(random: &mut Random, glued: usize, trees: &[Tree], out: &mut String) {
             Tree::Leaf(word) => {
                 let last = out.trim_end_matches(['«', '»']).chars().last().unwrap_or(' ');
                 let is_wordy = |it: char| it.is_alphanumeric() || "_'\"#".contains(it);
-                let would_join = last != '#' && last != '\'' && is_wordy(last) && word.starts_with(is_wordy);
+                let would_join =
+                    last != '#' && last != '\'' && is_wordy(last) && word.starts_with(is_wordy);
                 if would_join || !random.chance(glued) {
                     out.push_str(match random.below(30) {
                         0 => "\n",
@@ -361,10 +372,17 @@ fn look(random: &mut Random, words: &[&'static str]) -> &'static str {
 }
 
 /// Writes commands that mostly fit where a simple walk over the trees stands.
-fn commands(random: &mut Random, whole: &[Tree], words: &[&'static str], count: usize, out: &mut String) {
+fn commands(
+    random: &mut Random,
+    whole: &[Tree],
+    words: &[&'static str],
+    count: usize,
+    out: &mut String,
+) {
     let mut first = Vec::new();
     visible(whole, &mut first);
-    let mut streams = vec![Stream { trees: first, at: 0, is_fork: false, is_inside: false, is_open: true }];
+    let mut streams =
+        vec![Stream { trees: first, at: 0, is_fork: false, is_inside: false, is_open: true }];
     for _ in 0..count {
         let open: Vec<usize> = (0..streams.len()).filter(|&it| streams[it].is_open).collect();
         let s = if random.chance(2) {
@@ -381,7 +399,11 @@ fn commands(random: &mut Random, whole: &[Tree], words: &[&'static str], count: 
                     Some(Tree::Leaf(word)) if random.chance(85) => fitting(random, word),
                     _ => any_kind(random, words, if can_peek { LOOKED_FOR } else { PARSED }),
                 };
-                let command = if can_peek && !["Literal", "Punct"].contains(&kind) { "optional" } else { "parse" };
+                let command = if can_peek && !["Literal", "Punct"].contains(&kind) {
+                    "optional"
+                } else {
+                    "parse"
+                };
                 if let (Some(Tree::Leaf(_)), Some(stream)) = (&next, streams.get_mut(s)) {
                     stream.at += 1;
                 }
@@ -392,7 +414,13 @@ fn commands(random: &mut Random, whole: &[Tree], words: &[&'static str], count: 
                     streams[s].at += 1;
                     let mut trees = Vec::new();
                     visible(inside, &mut trees);
-                    streams.push(Stream { trees, at: 0, is_fork: false, is_inside: true, is_open: true });
+                    streams.push(Stream {
+                        trees,
+                        at: 0,
+                        is_fork: false,
+                        is_inside: true,
+                        is_open: true,
+                    });
                     writeln!(out, "enter {s} {delimiter}")
                 }
                 _ => writeln!(out, "enter {s} {}", random.pick(DELIMITERS)),
@@ -400,12 +428,19 @@ fn commands(random: &mut Random, whole: &[Tree], words: &[&'static str], count: 
             55..=61 => {
                 if let Some(stream) = streams.get(s).filter(|it| it.is_open) {
                     let (trees, at) = (stream.trees.clone(), stream.at);
-                    streams.push(Stream { trees, at, is_fork: true, is_inside: false, is_open: true });
+                    streams.push(Stream {
+                        trees,
+                        at,
+                        is_fork: true,
+                        is_inside: false,
+                        is_open: true,
+                    });
                 }
                 writeln!(out, "fork {s}")
             }
             62..=69 => {
-                let forks: Vec<usize> = open.iter().copied().filter(|&it| streams[it].is_fork).collect();
+                let forks: Vec<usize> =
+                    open.iter().copied().filter(|&it| streams[it].is_fork).collect();
                 let f = if forks.is_empty() { s } else { forks[random.below(forks.len())] };
                 if s < streams.len() && f != s && streams[f].is_fork {
                     streams[f].is_open = false;
@@ -414,8 +449,13 @@ fn commands(random: &mut Random, whole: &[Tree], words: &[&'static str], count: 
                 writeln!(out, "advance {s} {f}")
             }
             70..=75 => {
-                let inside: Vec<usize> = open.iter().copied().filter(|&it| streams[it].is_inside).collect();
-                let c = if inside.is_empty() || random.chance(10) { s } else { inside[random.below(inside.len())] };
+                let inside: Vec<usize> =
+                    open.iter().copied().filter(|&it| streams[it].is_inside).collect();
+                let c = if inside.is_empty() || random.chance(10) {
+                    s
+                } else {
+                    inside[random.below(inside.len())]
+                };
                 if let Some(stream) = streams.get_mut(c).filter(|it| it.is_inside) {
                     stream.is_open = false;
                 }
@@ -441,9 +481,14 @@ fn commands(random: &mut Random, whole: &[Tree], words: &[&'static str], count: 
                     Some(Tree::Leaf(word)) if random.chance(80) => fitting(random, word),
                     _ => any_kind(random, words, PARSED),
                 };
-                let separator = words.iter().copied().find(|it| SEPARATORS.contains(it)).unwrap_or(",");
+                let separator =
+                    words.iter().copied().find(|it| SEPARATORS.contains(it)).unwrap_or(",");
                 let separator = if random.chance(80) { separator } else { random.pick(SEPARATORS) };
-                writeln!(out, "{} {s} {kind} {separator}", random.pick(&["terminated", "separated"]))
+                writeln!(
+                    out,
+                    "{} {s} {kind} {separator}",
+                    random.pick(&["terminated", "separated"])
+                )
             }
         };
         // A command that ends all streams leaves none to choose from.
@@ -457,7 +502,8 @@ fn commands(random: &mut Random, whole: &[Tree], words: &[&'static str], count: 
 pub fn input(random: &mut Random) -> (String, String) {
     let separator = random.pick(SEPARATORS);
     let words = vocabulary(random, separator);
-    let shares = Shares { marks: [0, 5, 15, 30][random.below(4)], groups: [0, 10, 25, 40][random.below(4)] };
+    let shares =
+        Shares { marks: [0, 5, 15, 30][random.below(4)], groups: [0, 10, 25, 40][random.below(4)] };
     let mut all = if random.chance(20) {
         let mut list = Vec::new();
         for _ in 0..random.below(6) {

@@ -38,7 +38,10 @@ macro_rules! calls {
 macro_rules! token_calls {
     ($kind:expr; $($text:literal $token:tt)*) => {
         match $kind {
-            $($text => calls!(Token![$token], |s| Ok(s.parse::<Token![$token]>()?.into_token_stream())),)*
+            $($text => calls!(
+                Token![$token],
+                |s| Ok(s.parse::<Token![$token]>()?.into_token_stream())
+            ),)*
             kind => unreachable!("{kind}"),
         }
     };
@@ -55,7 +58,9 @@ fn unpeeked(parse: Parse) -> Calls {
 fn calls(kind: &str) -> Calls {
     match kind {
         "Ident" => calls!(Ident, |s| Ok(s.parse::<Ident>()?.into_token_stream())),
-        "IdentAny" => calls!(Ident::peek_any, |s| Ok(s.call(Ident::parse_any)?.into_token_stream())),
+        "IdentAny" => {
+            calls!(Ident::peek_any, |s| Ok(s.call(Ident::parse_any)?.into_token_stream()))
+        }
         "LifetimeAny" => calls!(Lifetime, |s| Ok(s.parse::<Lifetime>()?.into_token_stream())),
         "Literal" => unpeeked(|s| Ok(s.parse::<Literal>()?.into_token_stream())),
         "Punct" => unpeeked(|s| Ok(s.parse::<Punct>()?.into_token_stream())),
@@ -63,17 +68,18 @@ fn calls(kind: &str) -> Calls {
         "Brace" => calls!(token::Brace, unparsed),
         "Bracket" => calls!(token::Bracket, unparsed),
         _ => token_calls! { kind;
-            "abstract" abstract "as" as "auto" auto "become" become "box" box
-            "break" break "const" const "continue" continue "crate" crate "default" default "do" do
-            "else" else "enum" enum "extern" extern "final" final "fn" fn "for" for "if" if "impl" impl "in" in
-            "let" let "loop" loop "macro" macro "match" match "mod" mod "move" move "mut" mut "override" override
-            "priv" priv "pub" pub "ref" ref "return" return "Self" Self "self" self "static" static
-            "struct" struct "super" super "trait" trait "type" type "typeof" typeof "union" union
-            "unsafe" unsafe "unsized" unsized "use" use "virtual" virtual "where" where "while" while "yield" yield
-            "&" & "&&" && "&=" &= "@" @ "^" ^ "^=" ^= ":" : "," , "$" $ "." . ".." .. "..." ... "..=" ..= "=" =
-            "==" == "=>" => ">=" >= ">" > "<-" <- "<=" <= "<" < "-" - "-=" -= "!=" != "!" ! "|" | "|=" |=
-            "||" || "::" :: "%" % "%=" %= "+" + "+=" += "#" # "?" ? "->" -> ";" ; "<<" << "<<=" <<= ">>" >>
-            ">>=" >>= "/" / "/=" /= "*" * "*=" *= "~" ~ "_" _
+            "abstract" abstract "as" as "auto" auto "become" become "box" box "break" break
+            "const" const "continue" continue "crate" crate "default" default "do" do "else" else
+            "enum" enum "extern" extern "final" final "fn" fn "for" for "if" if "impl" impl
+            "in" in "let" let "loop" loop "macro" macro "match" match "mod" mod "move" move
+            "mut" mut "override" override "priv" priv "pub" pub "ref" ref "return" return
+            "Self" Self "self" self "static" static "struct" struct "super" super "trait" trait
+            "type" type "typeof" typeof "union" union "unsafe" unsafe "unsized" unsized "use" use
+            "virtual" virtual "where" where "while" while "yield" yield "&" & "&&" && "&=" &=
+            "@" @ "^" ^ "^=" ^= ":" : "," , "$" $ "." . ".." .. "..." ... "..=" ..= "=" = "==" ==
+            "=>" => ">=" >= ">" > "<-" <- "<=" <= "<" < "-" - "-=" -= "!=" != "!" ! "|" | "|=" |=
+            "||" || "::" :: "%" % "%=" %= "+" + "+=" += "#" # "?" ? "->" -> ";" ; "<<" <<
+            "<<=" <<= ">>" >> ">>=" >>= "/" / "/=" /= "*" * "*=" *= "~" ~ "_" _
         },
     }
 }
@@ -92,9 +98,9 @@ fn stream(tokens: Cursor<'_>, spans: &Spans) -> TokenStream {
                     Punct::new(it.ch, Spacing::Joint).into()
                 }
                 ours::Token::Punct(it) => Punct::new(it.ch, Spacing::Alone).into(),
-                ours::Token::Literal(it) => {
-                    TokenTree::from(it.text.parse::<Literal>().unwrap_or_else(|_| Literal::string(it.text)))
-                }
+                ours::Token::Literal(it) => TokenTree::from(
+                    it.text.parse::<Literal>().unwrap_or_else(|_| Literal::string(it.text)),
+                ),
                 ours::Token::Group(it) => {
                     let delimiter = match it.delimiter {
                         ours::Delimiter::Parenthesis => proc_macro2::Delimiter::Parenthesis,
@@ -168,7 +174,8 @@ impl<'a> Session<'a, '_> {
         Ok(format!("entered {} {delimiter} {}", self.others.len(), self.spans.show(span)))
     }
 
-    /// Runs a command, and returns its answer. Ours has found that the command names streams that fit.
+    /// Runs a command, and returns its answer. Ours has found that the command names streams that
+    /// fit.
     fn step(&mut self, command: &str) -> syn::Result<String> {
         let words: Vec<&str> = command.split(' ').filter(|it| !it.is_empty()).collect();
         let number = words[1].parse().unwrap_or(0);
@@ -180,7 +187,9 @@ impl<'a> Session<'a, '_> {
             "peek3" => (calls(word(2)).peeks[2])(stream).to_string(),
             "empty" => stream.is_empty().to_string(),
             "optional" if !(calls(word(2)).peeks[0])(stream) => "none".to_string(),
-            "parse" | "optional" => format!("read {}", self.pieces((calls(word(2)).parse)(stream)?)),
+            "parse" | "optional" => {
+                format!("read {}", self.pieces((calls(word(2)).parse)(stream)?))
+            }
             "lookahead" => {
                 let lookahead = stream.lookahead1();
                 match words[2..].iter().position(|it| (calls(it).look)(&lookahead)) {
@@ -197,7 +206,9 @@ impl<'a> Session<'a, '_> {
                     "+" => list::<Token![+]>(stream, is_terminated)?,
                     _ => list::<Token![::]>(stream, is_terminated)?,
                 };
-                parts.into_iter().fold("list".to_string(), |out, it| format!("{out} [{}]", self.pieces(it)))
+                parts
+                    .into_iter()
+                    .fold("list".to_string(), |out, it| format!("{out} [{}]", self.pieces(it)))
             }
             "enter" => self.enter(number, word(2))?,
             "fork" => {
@@ -285,28 +296,40 @@ fn rejection(line: &str) -> Option<(&str, &str)> {
     line.strip_prefix("refused ")?.split_once(' ')
 }
 
-/// Whether two spans are the same. An empty one, which proc-macro2 cannot make, was given the byte after it.
+/// Whether two spans are the same. An empty one, which proc-macro2 cannot make, was given the byte
+/// after it.
 fn same_span(ours: &str, theirs: &str) -> bool {
-    let starts_alike = ours.split_once("..").map(|it| it.0) == theirs.split_once("..").map(|it| it.0);
+    let starts_alike =
+        ours.split_once("..").map(|it| it.0) == theirs.split_once("..").map(|it| it.0);
     let is_empty = ours.split_once("..").map_or(false, |(start, end)| start == end);
     ours == theirs || is_empty && starts_alike
 }
 
-/// Returns the class of a difference between two lines, if they differ. A verdict answers no command.
-fn difference(command: Option<&str>, is_marked: bool, ours: &str, theirs: &str) -> Option<&'static str> {
+/// Returns the class of a difference between two lines, if they differ. A verdict answers no
+/// command.
+fn difference(
+    command: Option<&str>,
+    is_marked: bool,
+    ours: &str,
+    theirs: &str,
+) -> Option<&'static str> {
     if ours == theirs {
         return None;
     }
-    let is_far_peek = command.map_or(false, |it| it.starts_with("peek2") || it.starts_with("peek3"));
+    let is_far_peek =
+        command.map_or(false, |it| it.starts_with("peek2") || it.starts_with("peek3"));
     let ((span, words), (other_span, other_words)) = match (rejection(ours), rejection(theirs)) {
         (Some(left), Some(right)) => (left, right),
         _ if is_far_peek && is_marked => return Some("`peek2` and `peek3` at invisible groups"),
         _ => return Some("UNLISTED: another answer"),
     };
-    let is_named = words.starts_with("expected identifier, found keyword ") && other_words == "expected identifier";
+    let is_named = words.starts_with("expected identifier, found keyword ")
+        && other_words == "expected identifier";
     match same_span(span, other_span) {
         true if words == other_words => None,
-        true if command.is_none() && words.starts_with(other_words) => Some("the words of a leftover"),
+        true if command.is_none() && words.starts_with(other_words) => {
+            Some("the words of a leftover")
+        }
         true if is_named => Some("the name of a keyword in place of an identifier"),
         false if command.is_none() => Some("the first leftover among interleaved groups"),
         false if words == other_words && is_marked => {
@@ -332,7 +355,8 @@ pub fn run(random: &mut Random, count: usize, spans: &Spans, tally: &mut Tally) 
             Ok(response) => response.text,
             Err(error) => error.to_string(),
         };
-        let ours: Vec<&str> = report.lines().map(|it| it.rsplit_once(" @").map_or(it, |it| it.0)).collect();
+        let ours: Vec<&str> =
+            report.lines().map(|it| it.rsplit_once(" @").map_or(it, |it| it.0)).collect();
         let theirs = theirs(stream(buffer.tokens(), spans), &commands, &ours, spans);
         let mut classes = BTreeSet::new();
         if ours.len() != theirs.len() {

@@ -37,7 +37,9 @@ impl Spans {
     /// Prints a span as reports do.
     pub fn show(&self, span: Span) -> String {
         match range(span) {
-            (start, end) if start >= self.base => format!("{}..{}", start - self.base, end - self.base),
+            (start, end) if start >= self.base => {
+                format!("{}..{}", start - self.base, end - self.base)
+            }
             _ => "call".to_string(),
         }
     }

@@ -23,7 +23,8 @@ impl Tally {
         }
     }
 
-    /// Prints the classes, those that are not listed with an example, and returns whether all are listed.
+    /// Prints the classes, those that are not listed with an example, and returns whether all are
+    /// listed.
     pub fn print(&self) -> bool {
         let mut all_listed = true;
         for (class, (count, input, told)) in &self.classes {

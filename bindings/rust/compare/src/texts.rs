@@ -13,8 +13,8 @@ const EQUAL: &str = "equal";
 const SHEBANG: &str = "a shebang line";
 const QUOTED: &str = "the lifetime `'b`, `'r` or `'br` before a quote or `#`";
 
-/// A token as both sides know it. Its range counts characters; an opening and a closing have the empty ranges at the ends of
-/// their group.
+/// A token as both sides know it. Its range counts characters; an opening and a closing have the
+/// empty ranges at the ends of their group.
 #[derive(Debug, PartialEq, Eq)]
 struct Flat {
     kind: &'static str,
@@ -41,9 +41,19 @@ fn flatten(text: &str, tokens: Cursor<'_>, turned: bool, out: &mut Vec<Flat>) {
             Token::Group(it) => {
                 let text_of = |of: [&str; 4]| of[it.delimiter as usize].to_string();
                 let [start, end] = [it.open.start, it.close.end].map(characters);
-                out.push(Flat { kind: "opening", text: text_of(OPENINGS), joint: false, range: (start, start) });
+                out.push(Flat {
+                    kind: "opening",
+                    text: text_of(OPENINGS),
+                    joint: false,
+                    range: (start, start),
+                });
                 flatten(text, it.tokens, turned, out);
-                out.push(Flat { kind: "closing", text: text_of(CLOSINGS), joint: false, range: (end, end) });
+                out.push(Flat {
+                    kind: "closing",
+                    text: text_of(CLOSINGS),
+                    joint: false,
+                    range: (end, end),
+                });
                 continue;
             }
         };
@@ -58,7 +68,9 @@ fn flatten_theirs(stream: TokenStream, base: usize, out: &mut Vec<Flat>) {
         let (kind, text, joint) = match tree {
             TokenTree::Ident(it) => ("ident", it.to_string(), false),
             TokenTree::Literal(it) => ("literal", it.to_string(), false),
-            TokenTree::Punct(it) => ("punct", it.as_char().to_string(), it.spacing() == Spacing::Joint),
+            TokenTree::Punct(it) => {
+                ("punct", it.as_char().to_string(), it.spacing() == Spacing::Joint)
+            }
             TokenTree::Group(it) => {
                 let which = match it.delimiter() {
                     Delimiter::Parenthesis => 0,
@@ -185,6 +197,14 @@ fn class_of_rejected(rule: u32, text: &str, at: usize) -> &'static str {
     }
 }
 
+/// Whether proc-macro2's stream of a buffer has these tokens, at whatever spans.
+fn is_converted(buffer: &Buffer, tokens: &[Flat]) -> bool {
+    let mut converted = Vec::new();
+    flatten_theirs(TokenStream::from(buffer), 0, &mut converted);
+    let same = |(a, b): (&Flat, &Flat)| a.kind == b.kind && a.text == b.text && a.joint == b.joint;
+    converted.len() == tokens.len() && converted.iter().zip(tokens).all(same)
+}
+
 fn compare(rules: &str, text: &str, turned: bool, tally: &mut Tally) {
     let read = match rules {
         "lex" => Buffer::lex(text),
@@ -194,7 +214,10 @@ fn compare(rules: &str, text: &str, turned: bool, tally: &mut Tally) {
         (Ok(buffer), Some(theirs)) => {
             let mut ours = Vec::new();
             flatten(text, buffer.tokens(), turned, &mut ours);
-            let class = class_of_reads(text, &ours, &theirs);
+            let mut class = class_of_reads(text, &ours, &theirs);
+            if class == EQUAL && !is_converted(&buffer, &ours) {
+                class = "UNLISTED: converted to another stream";
+            }
             (class, format!("{ours:?}\n    {theirs:?}"))
         }
         (Err(_), None) => ("both reject", String::new()),

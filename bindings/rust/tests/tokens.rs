@@ -1,0 +1,100 @@
+//! What no example shows: each list of rules, errors, spans, and room that is too little at first.
+use std::ops::Range;
+
+use syn_tokens::{respond, Buffer, Delimiter, Edition, Error, Spacing, Token};
+
+/// Lists the tokens in order, a group as its edges.
+fn listed(buffer: &Buffer) -> String {
+    fn list(tokens: syn_tokens::Cursor<'_>, out: &mut Vec<String>) {
+        for token in tokens {
+            match token {
+                Token::Ident(it) | Token::Literal(it) => out.push(it.text.to_string()),
+                Token::Punct(it) => {
+                    let joint = if it.spacing == Spacing::Joint { "+" } else { "" };
+                    out.push(format!("{}{joint}", it.ch));
+                }
+                Token::Group(it) => {
+                    let edges = match it.delimiter {
+                        Delimiter::Parenthesis => ["(", ")"],
+                        Delimiter::Brace => ["{", "}"],
+                        Delimiter::Bracket => ["[", "]"],
+                        Delimiter::None => ["«", "»"],
+                    };
+                    out.push(edges[0].to_string());
+                    list(it.tokens, out);
+                    out.push(edges[1].to_string());
+                }
+            }
+        }
+    }
+    let mut out = Vec::new();
+    list(buffer.tokens(), &mut out);
+    out.join(" ")
+}
+
+#[test]
+fn reads_by_each_list_of_rules() -> Result<(), Error> {
+    assert_eq!(listed(&Buffer::lex("a(b, r#c)+= 'd'")?), "a ( b , r#c ) ++ = 'd'");
+    assert_eq!(listed(&Buffer::lex_marked("a «b {}»")?), "a « b { } »");
+    let source = "#!/bin/rust\n/// é\nfn f() -> f64 { 1.5 }";
+    let read = "# [ doc = \" é\" ] fn f ( ) -+ > f64 { 1.5 }";
+    assert_eq!(listed(&Buffer::lex_source(Edition::Edition2021, source)?), read);
+    assert_eq!(listed(&Buffer::lex("")?), "");
+    Ok(())
+}
+
+#[test]
+fn editions_differ() {
+    for (edition, text, is_read) in [
+        (Edition::Edition2015, "k\"x\"", true),
+        (Edition::Edition2018, "##", true),
+        (Edition::Edition2021, "k\"x\"", false),
+        (Edition::Edition2021, "##", true),
+        (Edition::Edition2024, "##", false),
+    ] {
+        let read = Buffer::lex_source(edition, text);
+        assert_eq!(read.is_ok(), is_read, "{edition:?} {text}");
+    }
+}
+
+#[test]
+fn errors_say_why_and_where() {
+    for (text, wanted) in [
+        ("é (a", "unclosed group (L2) at byte 3"),
+        ("x = '\\q'", "malformed string or character (L6) at byte 4"),
+        ("1.5", "float literal (L8) at byte 0"),
+    ] {
+        let error = Buffer::lex(text).map(|it| it.len());
+        assert_eq!(error.map_err(|it| it.to_string()), Err(wanted.to_string()));
+    }
+}
+
+#[test]
+fn spans_are_ranges_of_the_text() -> Result<(), Error> {
+    let text = "é (b, 'c') => d";
+    let buffer = Buffer::lex(text)?;
+    let texts: Vec<&str> = buffer.tokens().map(|it| &text[Range::from(it.span())]).collect();
+    assert_eq!(texts, ["é", "(b, 'c')", "=", ">", "d"]);
+    assert_eq!(buffer.tokens().peek().map(|it| it.span().end), Some(2));
+    Ok(())
+}
+
+#[test]
+fn a_second_call_has_room_for_all() -> Result<(), Error> {
+    let text = "(".repeat(200) + &"+".repeat(20_000) + &")".repeat(200);
+    assert_eq!(Buffer::lex(&text)?.len(), text.len());
+    let lines = "empty 0\n".repeat(2_000);
+    let response = respond(format!("a\n---\n{lines}").as_bytes())?;
+    assert_eq!((response.status, response.text.lines().count()), (1, 2_001));
+    Ok(())
+}
+
+#[cfg(feature = "proc-macro2")]
+#[test]
+fn streams_print_as_proc_macro2_reads_them() -> Result<(), Error> {
+    let text = "fn r#f<'a>(x: &'a [u8; 2]) -> char { 'c' += b'x' }";
+    let stream = proc_macro2::TokenStream::from(Buffer::lex(text)?);
+    let read = text.parse::<proc_macro2::TokenStream>().map(|it| it.to_string());
+    assert_eq!(read.ok(), Some(stream.to_string()));
+    Ok(())
+}
