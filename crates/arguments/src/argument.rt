@@ -1,4 +1,4 @@
-// Arguments.
+//! The values of arguments.
 use syn_punctuated::Punctuated;
 use tok_core::{Ident, Literal};
 use tok_types::token;

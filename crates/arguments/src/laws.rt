@@ -1,4 +1,4 @@
-//! Laws of arguments. The functions do nothing: each one's contract is a law.
+//! Laws of arguments. Each is the contract of a function that does nothing.
 ghost use Rattle.tok_core.specs.Forest.{Forest};
 ghost use Rattle.arguments.specs.Grammar.{AreArguments};
 ghost use Rattle.arguments.specs.Same.{SameArguments};

@@ -1,7 +1,7 @@
-//! A reader of arguments: `name`, `name = literal` and `name(..)`, separated by commas and nested.
+//! A parser of arguments: `name`, `name = literal` and `name(..)`, separated by commas and nested.
 //!
-//! It is the first language on the layer of streams, and the example of how one is built and proved: it uses the public
-//! calls and laws of the crates below, and nothing else.
+//! It is the first language on the layer of streams, and shows how one is built and proved: it uses
+//! the public calls and laws of the crates below, and nothing else.
 #![tactic(auto)]
 
 mod argument;

@@ -1,4 +1,4 @@
-// The reader.
+//! The parser of arguments.
 ghost use Rattle.std.specs.Prelude.{◌≡◌, ◌<◌, ◌≤◌, true, IfOk};
 ghost use Rattle.tok_core.specs.Erase.{erase};
 ghost use Rattle.tok_core.specs.Filled.{filled};
@@ -18,17 +18,26 @@ use tok_buffer::laws::{ahead_tells, calls_lead_on};
 use tok_core::{Ident, Literal, TokenStream};
 use tok_types::token;
 
-/// Parses all of these tokens as arguments. Where they are none, the refusal is that of the first parser that refuses.
+/// Parses all of these tokens as arguments. If they are none, returns the error of the first parser
+/// that fails.
 ///
-///     let list = parse_arguments(alloc, lex(alloc, 0, "a, b = 1, c(d)")?)?;
+/// # Examples
+///
+/// ```rust
+/// let tokens = lex(alloc, 0, "a, b = 1, c(d)").ok()?;
+/// let list = parse_arguments(alloc, tokens).ok()?;
+/// assert_eq!(rt; list.len(), 3);
+/// ```
 pub fn parse_arguments(alloc: Global, tokens: TokenStream) -> Result<Arguments>
     ensures { filled tokens ≡ true → Parses (erase tokens) result }
 {
     parse_whole(alloc, tokens)
 }
 
-/// Parses two streams of tokens as arguments. Where they differ only in invisible groups, the lists are the same, spans
-/// included, or the refusals have the same words. Only an allocation failure takes the place of both results.
+/// Parses two streams of tokens as arguments.
+///
+/// If they differ only in invisible groups, the lists are the same, spans included, or the errors
+/// have the same texts. A failed allocation takes the place of both results.
 pub fn arguments_both(
     alloc: Global,
     left: TokenStream,
@@ -51,7 +60,7 @@ pub fn arguments_both(
     Ok((left, right))
 }
 
-// The result of a parser, with an allocation failure apart.
+// Returns the result of a parser, with an allocation failure apart.
 fn without_memory(
     parsed: Result<Arguments>,
 ) -> std::result::Result<std::result::Result<Arguments, Error>, AllocError>
@@ -64,7 +73,7 @@ fn without_memory(
     }
 }
 
-// Parses all of these tokens, and refuses them with the words that the trees decide.
+// Parses all of these tokens, and rejects them with the words that the trees decide.
 fn parse_whole(alloc: Global, tokens: TokenStream) -> Result<Arguments>
     ensures { filled tokens ≡ true → IsOutcome (arguments_in (erase tokens)) result }
 {
@@ -72,7 +81,7 @@ fn parse_whole(alloc: Global, tokens: TokenStream) -> Result<Arguments>
     read_arguments.parse2(alloc, tokens)
 }
 
-// The laws that this module is proved by.
+// States the laws that this module is proved by.
 fn trees_ahead_decide()
     ensures { AheadDecides }
 {
@@ -80,7 +89,7 @@ fn trees_ahead_decide()
     calls_lead_on();
 }
 
-// The arguments up to the end.
+// Parses the arguments up to the end.
 #[cycle(reading)]
 fn read_arguments(input: ParseStream<'_, '_>) -> Result<Arguments>
     ensures { ReadsArguments input.old result input.new }
@@ -101,7 +110,7 @@ fn read_arguments(input: ParseStream<'_, '_>) -> Result<Arguments>
     }
 }
 
-// The next argument.
+// Parses the next argument.
 #[cycle(reading)]
 fn read_argument(input: ParseStream<'_, '_>) -> Result<Argument>
     ensures reads { ReadsArgument input.old result input.new }
@@ -114,7 +123,7 @@ fn read_argument(input: ParseStream<'_, '_>) -> Result<Argument>
     Ok(Argument { name, value })
 }
 
-// The value after a name.
+// Parses the value after a name.
 #[cycle(reading)]
 fn read_value(input: ParseStream<'_, '_>) -> Result<Value>
     ensures reads { (name : Ident) → ReadsValue name input.old result input.new }

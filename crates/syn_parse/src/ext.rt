@@ -1,4 +1,4 @@
-// Identifiers and lifetimes whatever their text.
+//! Identifiers and lifetimes of any text.
 ghost use Rattle.std.specs.Prelude.{Result, IfOk};
 ghost use Rattle.syn_parse.specs.Parses.{AnyIdentParses, AnyLifetimeParses, IsUnraw};
 ghost use Rattle.syn_parse.specs.Lighter.{lowers_any_ident, lowers_any_lifetime};
@@ -15,21 +15,29 @@ use tok_core::Ident;
 
 /// Further calls on identifiers.
 pub trait IdentExt: Sized {
-    // How the stream before `parse_any`, its result and the stream after it are tied.
+    // Relates the stream before `parse_any`, its result and the stream after it.
     ghost any_parses: { State → Result Self Fault → State → Type 0 };
 
     // What is taken of the visible trees ahead.
     ghost any_takes: { Takings Self };
 
-    /// Parses an identifier whatever its text, also a reserved word.
+    /// Parses an identifier of any text, reserved words included.
+    ///
+    /// # Examples
+    ///
+    /// ```rust
+    /// let word = Ident::parse_any(input)?;
+    /// ```
     fn parse_any(input: ParseStream<'_, '_>) -> Result<Self>
         ensures reads { any_parses input.old result input.new }
         ensures takes { Keeps any_takes input.old result input.new };
 
-    // How an identifier and the one without `r#` are tied.
+    // Relates an identifier and the one without `r#`.
     ghost is_unraw: { Self → Self → Type 0 };
 
-    /// The identifier without a leading `r#`, with the same span: what `Ident::unraw` returns.
+    /// Copies the identifier without a leading `r#`, as `Ident::unraw` does.
+    ///
+    /// Returns an error if the allocation fails.
     fn unraw(&self, alloc: Global) -> std::result::Result<Self, AllocError>
         ensures { IfOk result (is_unraw self.now) };
 }
@@ -52,13 +60,13 @@ impl IdentExt for Ident {
 
 /// A further call on lifetimes.
 pub trait LifetimeExt: Sized {
-    // How the stream before `parse_any`, its result and the stream after it are tied.
+    // Relates the stream before `parse_any`, its result and the stream after it.
     ghost any_parses: { State → Result Self Fault → State → Type 0 };
 
     // What is taken of the visible trees ahead.
     ghost any_takes: { Takings Self };
 
-    /// Parses a lifetime whatever its name, also a reserved word.
+    /// Parses a lifetime of any name, reserved words included.
     fn parse_any(input: ParseStream<'_, '_>) -> Result<Self>
         ensures reads { any_parses input.old result input.new }
         ensures takes { Keeps any_takes input.old result input.new };
@@ -74,7 +82,7 @@ impl LifetimeExt for Lifetime {
     }
 }
 
-// What `Ident::parse_any` does.
+// Does what `Ident::parse_any` does.
 fn any_ident(input: ParseStream<'_, '_>) -> Result<Ident>
     ensures { AnyIdentParses input.old result input.new }
 {
@@ -86,7 +94,7 @@ fn any_ident(input: ParseStream<'_, '_>) -> Result<Ident>
     Ok(ident)
 }
 
-// What `Lifetime::parse_any` does.
+// Does what `Lifetime::parse_any` does.
 fn any_lifetime(input: ParseStream<'_, '_>) -> Result<Lifetime>
     ensures { AnyLifetimeParses input.old result input.new }
 {

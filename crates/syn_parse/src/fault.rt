@@ -1,4 +1,4 @@
-// Why a call on a stream returns no value.
+//! Why a call on a stream returns no value.
 ghost use Rattle.std.specs.Prelude.{◌≡◌, MatchResult};
 ghost use Rattle.syn_parse.specs.declared.fault.Fault.TheVariants.{Memory, Refused};
 
@@ -8,17 +8,17 @@ use tok_buffer::Error;
 /// Why a call on a stream returns no value.
 #[derive(Drop)]
 pub enum Fault {
-    /// The tokens are refused.
+    /// The tokens are rejected.
     Refused(Error),
     /// An allocation failed.
     Memory(AllocError),
 }
 
-/// What a parser returns.
+/// The result of a parser.
 pub type Result<T> = std::result::Result<T, Fault>;
 
 impl Fault {
-    // The refusal with an error, or the allocation failure in place of the error.
+    // Returns the fault of an error, or the allocation failure in its place.
     pub(crate) fn refused(error: std::result::Result<Error, AllocError>) -> Fault
         ensures { MatchResult error (λ e. result ≡ Refused e) (λ e. result ≡ Memory e) }
     {
@@ -40,7 +40,8 @@ impl From<AllocError> for Fault {
     }
 }
 
-/// From a call that hands back the value for which an allocation failed. The value is dropped.
+/// Converts the failure of a call that returns the value for which an allocation failed. The value
+/// is dropped.
 impl<T: Drop> From<AllocFailed<T>> for Fault {
     ghost use Rattle.std.specs.Prelude.{◌≡◌, alloc_error};
     ghost use Rattle.syn_parse.specs.declared.fault.Fault.TheVariants.{Memory};

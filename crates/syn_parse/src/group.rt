@@ -1,4 +1,4 @@
-// Entering groups.
+//! Parsers that enter groups.
 ghost use Rattle.std.specs.Prelude.{◌≡◌, Some, IfOk, codes};
 ghost use Rattle.std.specs.Fn.{FnOnceReturnsAtMut, FnOnceTakesAtMut};
 ghost use Rattle.tok_lexical.specs.declared.delimiter.Delimiter.TheVariants as delimiter;
@@ -20,7 +20,7 @@ use crate::words::words_of;
 use tok_core::{DelimSpan, Delimiter};
 use tok_types::token;
 
-/// A group that has been entered: its token, and the stream of what is inside.
+/// A group that has been entered: its token, and the stream of its contents.
 pub struct Delimited<'a, T> {
     pub token: T,
     pub content: ParseBuffer<'a>,
@@ -39,7 +39,7 @@ pub type Brackets<'a> = Delimited<'a, token::Bracket>;
 pub type Group<'a> = Delimited<'a, token::Group>;
 
 impl<'a, const D: usize> Delimited<'a, token::Visible<D>> {
-    // Enters the group of these delimiters.
+    // Enters the group with these delimiters.
     fn enter(input: ParseStream<'_, 'a>) -> Result<Self>
         ensures { Enters (λ p. AreParts p.token.span p.content)
             (enter (delimiter_at D) input.old.place)
@@ -53,12 +53,18 @@ impl<'a, const D: usize> Delimited<'a, token::Visible<D>> {
     }
 }
 
-/// Enters parentheses, and moves the stream after them. Close the content into the stream.
+/// Enters parentheses, and moves the stream past them. Close `content` into the stream.
 ///
-///     let Parens { token, mut content } = parse_parens(input)?;
-///     let name = content.parse::<Ident>();
-///     input.close(content);
-///     Ok((token, name?))
+/// If the next token is something else, returns an error and the stream stays.
+///
+/// # Examples
+///
+/// ```rust
+/// let Parens { token, mut content } = parse_parens(input)?;
+/// let name = content.parse::<Ident>();
+/// input.close(content);
+/// Ok((token, name?))
+/// ```
 pub fn parse_parens<'a>(input: ParseStream<'_, 'a>) -> Result<Parens<'a>>
     ensures enters { Enters (λ p. AreParts p.token.span p.content)
         (enter delimiter.Parenthesis input.old.place)
@@ -105,7 +111,7 @@ pub fn parse_group<'a>(input: ParseStream<'_, 'a>) -> Result<Group<'a>>
 }
 
 impl<'a> ParseBuffer<'a> {
-    // Enters the group of this delimiter: its span, and the stream of its content.
+    // Enters the group with this delimiter. Returns its span, and the stream of its contents.
     fn enter(&mut self, delimiter: Delimiter) -> Result<(DelimSpan, Self)>
         ensures { Enters (λ p. AreParts p.0 p.1) (enter delimiter self.old.place)
             (refused_at self.old (delimiter_words delimiter)) self.old result self.new }
@@ -125,8 +131,10 @@ impl<'a> ParseBuffer<'a> {
         }
     }
 
-    /// Enters the next tree if it is a group, also an invisible one: its delimiter, its span, and the stream of its
-    /// content. Close the content into this stream.
+    /// Enters the next tree if it is a group, which may be an invisible one.
+    ///
+    /// Returns its delimiter, its span, and the stream of its contents. Close that into this
+    /// stream. If the next tree is no group, returns an error and the stream stays.
     pub fn parse_any_delimiter(&mut self) -> Result<(Delimiter, DelimSpan, Self)>
         ensures { Enters (λ p e. (p.0 ≡ e.delimiter) × AreParts p.1 p.2 e)
             (enter_any self.old.place)
@@ -142,10 +150,21 @@ impl<'a> ParseBuffer<'a> {
         }
     }
 
-    /// Enters a group of this delimiter, runs `f` on its content, and closes the content, also where `f` returns an error.
-    /// Returns the group's span and the value of `f`.
+    /// Enters a group with this delimiter, runs `f` on its contents, and closes them. Returns the
+    /// group's span and the value of `f`.
     ///
-    ///     let (span, name) = input.within(Delimiter::Parenthesis, |content| content.parse::<Ident>())?;
+    /// If the next token is something else, the stream stays. If `f` returns an error, the stream
+    /// is after the group.
+    ///
+    /// # Requires
+    ///
+    /// `f` must be callable on the contents.
+    ///
+    /// # Examples
+    ///
+    /// ```rust
+    /// let (span, name) = input.within(Delimiter::Parenthesis, |content| content.parse::<Ident>())?;
+    /// ```
     pub fn within<F, R>(&mut self, delimiter: Delimiter, f: F) -> Result<(DelimSpan, R)>
     where
         F: FnOnce(ParseStream<'_, 'a>) -> Result<R>,
@@ -161,9 +180,17 @@ impl<'a> ParseBuffer<'a> {
         self.run_within(delimiter, f)
     }
 
-    /// Parses a value within a group of this delimiter, as `within` does by `T::parse`.
+    /// Parses a value in a group with this delimiter, as `within` does by `T::parse`.
     ///
-    ///     let (span, name) = input.parse_within::<Ident>(Delimiter::Parenthesis)?;
+    /// # Requires
+    ///
+    /// The delimiter must be visible.
+    ///
+    /// # Examples
+    ///
+    /// ```rust
+    /// let (span, name) = input.parse_within::<Ident>(Delimiter::Parenthesis)?;
+    /// ```
     pub fn parse_within<T: Parse>(&mut self, delimiter: Delimiter) -> Result<(DelimSpan, T)>
         requires { IsVisibleDelimiter delimiter }
         ensures { Keeps (grouped delimiter T.takes) self.old result self.new }
@@ -176,7 +203,7 @@ impl<'a> ParseBuffer<'a> {
         )
     }
 
-    // What `within` does.
+    // Does what `within` does.
     fn run_within<F, R>(&mut self, delimiter: Delimiter, f: F) -> Result<(DelimSpan, R)>
     where
         F: FnOnce(ParseStream<'_, 'a>) -> Result<R>,
@@ -193,13 +220,17 @@ impl<'a> ParseBuffer<'a> {
     }
 }
 
-/// Enters parentheses: gives their token, and puts the stream of what is inside into a variable that was declared before.
-/// For functions that return a `Result`, since it uses `?`.
+/// Enters parentheses: returns their token, and puts the stream of their contents into a variable
+/// that is declared before. The function around it must return a `Result`, since it uses `?`.
 ///
-///     let mut content;
-///     let paren = parenthesized!(content in input);
-///     let name = content.parse::<Ident>();
-///     input.close(content);
+/// # Examples
+///
+/// ```rust
+/// let mut content;
+/// let paren = parenthesized!(content in input);
+/// let name = content.parse::<Ident>();
+/// input.close(content);
+/// ```
 #[macro_export]
 macro_rules! parenthesized {
     ($content:ident in $input:expr) => {{

@@ -1,4 +1,4 @@
-//! Laws of streams. The functions do nothing: each one's contract is a law.
+//! Laws of streams. Each is the contract of a function that does nothing.
 ghost use Rattle.syn_parse.specs.Laws.{ForksFollow, PeekTells, ScopesTell, VisibleParses};
 ghost use Rattle.syn_parse.specs.Progress.{ParsesGoOn};
 ghost use Rattle.syn_parse.specs.Reads.{Peeks2, Peeks3};
@@ -10,15 +10,17 @@ use tok_buffer::laws::reads_go_on;
 use tok_core::{Ident, Literal, Punct, TokenTree};
 use tok_types::token::{Keyword, Punctuation, Token, Underscore, Visible};
 
-/// Each parse of an identifier, lifetime, literal, punct, tree, group, keyword, punctuation or `_` that returns a value
-/// stays in the scope of its stream, and lowers what remains there. So a loop of parses ends.
+/// Each parse of an identifier, lifetime, literal, punct, tree, group, keyword, punctuation or `_`
+/// that returns a value stays in the scope of its stream and lowers what remains there. So a loop
+/// of parses ends.
 pub fn parses_go_on()
     ensures { ParsesGoOn }
 {
     reads_go_on();
 }
 
-/// A peek of an identifier, literal, punct, tree or `_` is true exactly where a parse of it returns a value, memory aside.
+/// A peek of an identifier, literal, punct, tree or `_` is `true` if and only if a parse of it
+/// returns a value, unless an allocation fails.
 pub fn peeks_tell_parses()
     ensures idents { PeekTells ⟦<Ident as Token>⟧.peeks ⟦<Ident as Parse>⟧.parses }
     ensures literals { PeekTells ⟦<Literal as Token>⟧.peeks ⟦<Literal as Parse>⟧.parses }
@@ -27,38 +29,42 @@ pub fn peeks_tell_parses()
     ensures underscores { PeekTells ⟦<Underscore as Token>⟧.peeks ⟦<Underscore as Parse>⟧.parses }
 {}
 
-/// The same of keywords and punctuations, also of those past their tables.
+/// A peek of a keyword or a punctuation is `true` if and only if a parse of it returns a value,
+/// also past the tables.
 pub fn peeks_tell_tokens<const K: usize, const N: usize>()
     ensures keywords { PeekTells ⟦<Keyword<K> as Token>⟧.peeks ⟦<Keyword<K> as Parse>⟧.parses }
     ensures punctuations { PeekTells ⟦<Punctuation<K, N> as Token>⟧.peeks
         ⟦<Punctuation<K, N> as Parse>⟧.parses }
 {}
 
-/// A peek of parentheses, braces or brackets is true exactly where `parse_parens` and its like enter a group, memory aside.
+/// A peek of parentheses, braces or brackets is `true` if and only if `parse_parens` and its like
+/// enter a group, unless an allocation fails.
 pub fn peeks_tell_groups<const D: usize>()
     ensures { PeekTells ⟦<Visible<D> as Token>⟧.peeks (VisibleParses {D = D}) }
 {}
 
-/// What is done on a fork, and then taken over by `advance_to`, is what the stream would have done itself: each move and
-/// each content closed, one after the other.
+/// Moves and closes on a fork, taken over by `advance_to`, equal the same moves and closes on the
+/// stream.
 pub fn forks_follow()
     ensures { ForksFollow }
 {}
 
-/// Streams whose places have equal scopes are in one scope, as `advance_to` needs. Each call that states what it takes
-/// keeps the scope, so a fork of a stream may parse, and the stream then go to it.
+/// Streams whose places have equal scopes are in one scope, as `advance_to` needs. Each call that
+/// states what it takes keeps the scope, so a fork of a stream may parse, and the stream then go to
+/// it.
 pub fn scopes_tell()
     ensures { ScopesTell }
 {}
 
-/// Invisible groups do not matter to the words of refusals: at places of filled forests with equal views they are the same.
-/// So are those of lookaheads that have noted the same displays.
+/// Invisible groups do not matter to the texts of errors: at places of filled forests with equal
+/// views they are equal. So are those of lookaheads that have recorded the same names.
 pub fn views_decide_words()
     ensures streams { ViewsDecideWords }
     ensures lookaheads { ViewsDecideLookaheads }
 {}
 
-/// Invisible groups do not matter to `peek2` and `peek3` of a token where they do not matter to its `peek`.
+/// Invisible groups do not matter to `peek2` and `peek3` of a token if they do not matter to its
+/// `peek`.
 pub fn peeks_past_ignore_invisible<T: Token>()
     ensures second { IgnoresInvisible T.peeks → IgnoresInvisible (Peeks2 T.peeks) }
     ensures third { IgnoresInvisible T.peeks → IgnoresInvisible (Peeks3 T.peeks) }

@@ -1,8 +1,8 @@
-//! Parse streams: what parsers of token trees are written on.
+//! Parse streams, and the parsers of tokens and trees.
 //!
-//! A parser is a function `fn(ParseStream) -> Result<T>`. It reads values by `parse`, looks ahead by `peek` and
-//! `lookahead1`, enters groups by `within` or by the readers of this crate, and tries by `fork`. `Parser` runs one over a
-//! whole text or stream of tokens.
+//! A parser is a function `fn(ParseStream) -> Result<T>`. It reads values by `parse`, looks ahead
+//! by `peek` and `lookahead1`, enters groups by `within` or by the parsers of groups, and tries by
+//! `fork`. `Parser` runs one over a whole text or stream of tokens.
 #![tactic(auto)]
 
 mod ext;

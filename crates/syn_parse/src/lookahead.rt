@@ -1,4 +1,4 @@
-// Choosing by the next token.
+//! Choosing by the next token.
 ghost use Rattle.std.specs.Prelude.{◌≡◌, ◌++◌, false, IfOk, OnOk, OnErr, string_bytes};
 ghost use Rattle.tok_buffer.specs.Messages.{refused};
 ghost use Rattle.syn_parse.specs.Faults.{Refuses};
@@ -16,16 +16,21 @@ use tok_buffer::{Cursor, Error};
 use tok_core::{Delimiter, Span};
 use tok_types::token::Token;
 
-/// Peeks at one place. It notes the display of each token that was not found, and `error` names them all:
+/// A lookahead at one place. It records the name of each token that is not found, and `error` lists
+/// them.
 ///
-///     let mut lookahead = input.lookahead1();
-///     if lookahead.peek::<token::Fn>()? {
-///         parse_function(input)
-///     } else if lookahead.peek::<token::Struct>()? {
-///         parse_struct(input)
-///     } else {
-///         Err(lookahead.error())
-///     }
+/// # Examples
+///
+/// ```rust
+/// let mut lookahead = input.lookahead1();
+/// if lookahead.peek::<token::Fn>()? {
+///     parse_function(input)
+/// } else if lookahead.peek::<token::Struct>()? {
+///     parse_struct(input)
+/// } else {
+///     Err(lookahead.error())
+/// }
+/// ```
 #[derive(Drop)]
 pub struct Lookahead1<'a> {
     alloc: Global,
@@ -50,7 +55,7 @@ impl<'a> Model for Lookahead1<'a> {
 }
 
 impl<'a> ParseBuffer<'a> {
-    /// A lookahead at the stream's place, with nothing noted.
+    /// Returns a lookahead at the stream's place, with nothing recorded.
     pub fn lookahead1(&self) -> Lookahead1<'a>
         ensures { result ≡ looks self.now }
     {
@@ -64,7 +69,9 @@ impl<'a> ParseBuffer<'a> {
 }
 
 impl<'a> Lookahead1<'a> {
-    /// Whether this token is next. If it isn't, its display is noted, for which an allocation may fail: then nothing is.
+    /// Returns `true` if this token is next. If not, records its name.
+    ///
+    /// Returns an error if the allocation for the name fails. Nothing is then recorded.
     pub fn peek<T: Token>(&mut self) -> Result<bool, AllocError>
         ensures ok { IfOk result
             (λ found. T.peeks self.old.place found × Looked T.shown found self.old self.new) }
@@ -75,7 +82,9 @@ impl<'a> Lookahead1<'a> {
         self.peek_as(found, T::display())
     }
 
-    /// Notes this display if the token wasn't found, and returns `found`: what `peek` does after its own look.
+    /// Returns `found`, and records `display` if it is `false`. `peek` calls it after its own look.
+    ///
+    /// Returns an error if the allocation fails. Nothing is then recorded.
     pub fn peek_as(&mut self, found: bool, display: &'static str) -> Result<bool, AllocError>
         ensures ok { IfOk result
             (λ is_found. (is_found ≡ found) × (self.new ≡ noted_as found display.now self.old)) }
@@ -87,9 +96,12 @@ impl<'a> Lookahead1<'a> {
         Ok(found)
     }
 
-    /// A refusal that names all noted tokens, in the order of their peeks: "expected `,` or `]`". The end is named by the
-    /// scope's closing delimiter, and not at all where the scope has none. With nothing to name, the refusal is
-    /// "unexpected end of input" or "unexpected token".
+    /// Returns an error that names all recorded tokens, in the order of their peeks: "expected `,`
+    /// or `]`".
+    ///
+    /// The end is named by the scope's closing delimiter, and not at all if the scope has none.
+    /// With nothing to name, the text is "unexpected end of input" or "unexpected token". Returns
+    /// `Fault::Memory` if an allocation fails.
     pub fn error(self) -> Fault
         ensures refuses { Refuses (look_refusal self.entry) result }
         ensures says { IsFilled self.entry.place → HasWords (look_words self.entry) result }
@@ -97,7 +109,7 @@ impl<'a> Lookahead1<'a> {
         refused(self)
     }
 
-    // What `error` returns, or an allocation failure.
+    // Returns what `error` returns, or an allocation failure.
     fn refusal(&self) -> Result<Error, AllocError>
         ensures { IfOk result (λ e. e ≡ refused (look_refusal self.now)) }
     {
@@ -115,14 +127,14 @@ impl<'a> Lookahead1<'a> {
     }
 }
 
-// What `Lookahead1::error` does.
+// Does what `Lookahead1::error` does.
 fn refused(lookahead: Lookahead1<'_>) -> Fault
     ensures { Refuses (look_refusal lookahead.entry) result }
 {
     Fault::refused(lookahead.refusal())
 }
 
-// How the closing delimiter of a scope is named: not at all where it has none.
+// Returns the name of the end of a scope: its closing delimiter, or nothing.
 fn closing_word(delimiter: Delimiter) -> &'static str
     ensures { result.now ≡ spec.closing_word delimiter }
 {
@@ -134,7 +146,7 @@ fn closing_word(delimiter: Delimiter) -> &'static str
     }
 }
 
-// The names of the tokens that were not found, where the end is named by this closing delimiter.
+// Returns the names of the tokens that were not found, with this name for the end.
 fn names(
     alloc: Global,
     closing: &'static str,
@@ -169,7 +181,7 @@ fn add_name(
     Ok(())
 }
 
-// The words of a refusal that lists these names.
+// Returns the text of an error that lists these names.
 fn list_words(alloc: Global, names: &[&str]) -> Result<String, AllocError>
     ensures { IfOk result (λ words. string_bytes words ≡ spec.list_words (texts_of names.now)) }
 {

@@ -1,4 +1,4 @@
-// Values that are parsed, and peeks.
+//! Values that are parsed, and peeks.
 ghost use Rattle.std.specs.Prelude.{Result, codes};
 ghost use Rattle.syn_parse.specs.Reads.{BoxParses, Does, OptionParses, Peeks2, Peeks3};
 ghost use Rattle.syn_parse.specs.Skips.{second_sees, third_sees};
@@ -12,29 +12,42 @@ use crate::fault::Result;
 use crate::stream::{ParseBuffer, ParseStream};
 use tok_types::token::Token;
 
-/// A type whose values can be parsed from a stream. An own type writes `parse` alone:
+/// A type whose values can be parsed from a stream. A type of your own has `parse`, and may state
+/// what it does.
 ///
-///     impl Parse for Name {
-///         fn parse(input: ParseStream<'_, '_>) -> Result<Self> {
-///             Ok(Name { ident: input.parse()? })
-///         }
+/// # Examples
+///
+/// ```rust
+/// impl Parse for Name {
+///     fn parse(input: ParseStream<'_, '_>) -> Result<Self> {
+///         Ok(Name {
+///             ident: input.parse()?,
+///         })
 ///     }
+/// }
+/// ```
 pub trait Parse: Sized {
-    // How the stream before a call, its result and the stream after it are tied. A type that states nothing promises
-    // nothing.
+    // Relates the stream before a call, its result and the stream after it. Of a type that states
+    // nothing, nothing is known.
     ghost parses: { State → Result Self Fault → State → Type 0 } = { λ _ _ _. Unit {0} };
 
-    // What is taken of the visible trees ahead, invisible groups aside.
+    // What is taken of the visible trees ahead.
     ghost takes: { Takings Self } = { untold };
 
-    /// Parses a value, and leaves the stream after it.
+    /// Parses a value, and moves the stream past it.
     fn parse(input: ParseStream<'_, '_>) -> Result<Self>
         ensures reads { parses input.old result input.new }
         ensures takes { Keeps takes input.old result input.new };
 }
 
 impl<'a> ParseBuffer<'a> {
-    /// Parses a value of this type: `let name: Ident = input.parse()?;`.
+    /// Parses a value of this type.
+    ///
+    /// # Examples
+    ///
+    /// ```rust
+    /// let name: Ident = input.parse()?;
+    /// ```
     pub fn parse<T: Parse>(&mut self) -> Result<T>
         ensures reads { Does T.parses self.old result self.new }
         ensures takes { Keeps T.takes self.old result self.new }
@@ -42,7 +55,15 @@ impl<'a> ParseBuffer<'a> {
         T::parse(self)
     }
 
-    /// Whether this token is next: `input.peek::<token::Comma>()`.
+    /// Returns `true` if this token is next. The stream stays.
+    ///
+    /// # Examples
+    ///
+    /// ```rust
+    /// if input.peek::<token::Comma>() {
+    ///     let _: token::Comma = input.parse()?;
+    /// }
+    /// ```
     pub fn peek<T: Token>(&self) -> bool
         ensures peeks { T.peeks self.now.place result }
         ensures sees { Sees T.sees self.now.place result }
@@ -50,7 +71,7 @@ impl<'a> ParseBuffer<'a> {
         T::peek(self.cursor())
     }
 
-    /// Whether this token comes after the next one.
+    /// Returns `true` if this token comes after the next one. The stream stays.
     pub fn peek2<T: Token>(&self) -> bool
         ensures peeks { Peeks2 T.peeks self.now.place result }
         ensures sees { Sees (second_sees T.sees) self.now.place result }
@@ -61,7 +82,7 @@ impl<'a> ParseBuffer<'a> {
         }
     }
 
-    /// Whether this token comes after the next two.
+    /// Returns `true` if this token comes after the next two. The stream stays.
     pub fn peek3<T: Token>(&self) -> bool
         ensures peeks { Peeks3 T.peeks self.now.place result }
         ensures sees { Sees (third_sees T.sees) self.now.place result }
@@ -76,7 +97,7 @@ impl<'a> ParseBuffer<'a> {
     }
 }
 
-/// Parses a value where its peek is true, and else nothing.
+/// Parses a value if a peek finds one, and else nothing.
 impl<T: Parse + Token> Parse for Option<T> {
     ghost parses = { OptionParses T.peeks T.parses };
 
@@ -91,7 +112,7 @@ impl<T: Parse + Token> Parse for Option<T> {
     }
 }
 
-/// Parses a value into a box. Where the allocation fails the stream is after the value.
+/// Parses a value into a box. If the allocation fails, the stream is after the value.
 impl<T: Parse + Drop> Parse for Box<T> {
     ghost parses = { BoxParses T.parses };
 

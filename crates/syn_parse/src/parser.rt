@@ -1,4 +1,4 @@
-// Parsers of whole texts and streams of tokens.
+//! Parsers of whole texts and streams of tokens.
 ghost use Rattle.std.specs.Prelude.{Result};
 ghost use Rattle.std.specs.Str.{chars};
 ghost use Rattle.std.specs.Fn.{FnOnceReturnsAtMut};
@@ -14,36 +14,57 @@ use std::alloc::{AllocError, Global};
 use tok_buffer::{Error, TokenBuffer};
 use tok_core::{Edition, LexFault, Span, TokenStream};
 
-/// A parser of a whole stream of tokens. Every function from a `ParseStream` to a `Result` is one:
+/// A parser of a whole stream of tokens. Every function from a `ParseStream` to a `Result` is one.
 ///
-///     let name = Ident::parse.parse_str(alloc, "x")?;
+/// # Examples
+///
+/// ```rust
+/// let name = Ident::parse.parse_str(alloc, "x")?;
+/// ```
 pub trait Parser: Sized {
-    /// What is parsed.
+    /// The type of the parsed value.
     type Output;
 
-    // How the stream before a call, its result and the stream after it are tied.
+    // Relates the stream before a call, its result and the stream after it.
     ghost parses: { Self → State → Result Self.Output Fault → State → Type 0 };
 
     // The parser may be called on every stream.
     ghost callable: { Self → Type 0 };
 
-    /// Parses all of these tokens. A refusal of the parser comes first; otherwise a token that is left unread is refused.
+    /// Parses all of these tokens. A leftover token is an error, unless the parser has returned
+    /// one.
+    ///
+    /// # Requires
+    ///
+    /// The parser must be callable on every stream.
     fn parse2(self, alloc: Global, tokens: TokenStream) -> Result<Self::Output>
         requires { callable self }
         ensures { ParsesWhole (parses self) (whole_stream tokens call_site) result };
 
     /// Lexes a text as source 0, and parses its tokens as `parse2` does.
+    ///
+    /// # Requires
+    ///
+    /// The parser must be callable on every stream.
     fn parse_str(self, alloc: Global, text: &str) -> Result<Self::Output>
         requires { callable self }
         ensures { ParsesText (parses self) (chars text.now) result };
 
-    /// Lexes a Rust source of an edition by the rules of `lex_source`, as source 0, and parses its tokens as `parse2`
-    /// does.
+    /// Lexes a Rust source of an edition by the rules of `lex_source`, as source 0, and parses its
+    /// tokens as `parse2` does.
+    ///
+    /// # Requires
+    ///
+    /// The parser must be callable on every stream.
     fn parse_source(self, alloc: Global, edition: Edition, text: &str) -> Result<Self::Output>
         requires { callable self }
         ensures { ParsesSource edition (parses self) (chars text.now) result };
 
-    /// Parses all of these tokens as `parse2` does, where the end of the tokens has the span `scope`.
+    /// Parses all of these tokens as `parse2` does. At their end the stream's span is `scope`.
+    ///
+    /// # Requires
+    ///
+    /// The parser must be callable on every stream.
     fn parse_scoped(self, alloc: Global, scope: Span, tokens: TokenStream) -> Result<Self::Output>
         requires { callable self }
         ensures { ParsesWhole (parses self) (whole_stream tokens scope) result };
@@ -93,7 +114,7 @@ where
     }
 }
 
-// The parser's refusal, or else that of a leftover, or else the value.
+// Returns the parser's error, or else that of a leftover, or else the value.
 pub(crate) fn settle<T: Drop>(parsed: Result<T>, input: ParseBuffer<'_>) -> Result<T>
     ensures { Finishes parsed input.entry result }
 {
@@ -109,7 +130,7 @@ pub(crate) fn settle<T: Drop>(parsed: Result<T>, input: ParseBuffer<'_>) -> Resu
     }
 }
 
-// The refusal of a text that the lexer refuses.
+// Returns the error of a text that the lexer rejects.
 pub(crate) fn unread(alloc: Global, fault: LexFault) -> Fault
     ensures { IsUnread fault result }
 {

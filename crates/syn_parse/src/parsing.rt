@@ -14,9 +14,15 @@ use crate::stream::{ParseBuffer, ParseStream};
 use tok_buffer::{Cursor, Error};
 use tok_core::Span;
 
-/// Parses the identifier of this text, and returns its span. The empty text is always refused.
+/// Parses the identifier with this text, and returns its span.
 ///
-///     let span = parsing::keyword(input, "sealed")?;
+/// If it is not next, the error names it and the stream stays. The empty text is always an error.
+///
+/// # Examples
+///
+/// ```rust
+/// let span = parsing::keyword(input, "sealed")?;
+/// ```
 pub fn keyword(input: ParseStream<'_, '_>, text: &str) -> Result<Span>
     ensures { WordParses (λ span. span) text.now input.old result input.new }
 {
@@ -29,10 +35,17 @@ pub fn keyword(input: ParseStream<'_, '_>, text: &str) -> Result<Span>
     }
 }
 
-/// Parses the puncts that are the characters of this text, each but the last joint, and returns their spans. A text of
-/// another length than `N` bytes counts as empty. The empty text is always refused, and so is one that isn't ASCII.
+/// Parses the puncts that are the characters of this text, each but the last joint. Returns their
+/// spans.
 ///
-///     let spans: [Span; 2] = parsing::punct(input, "=~")?;
+/// If they are not next, the error names the text and the stream stays. It is always an error
+/// unless the text is ASCII and has `N` bytes, at least one.
+///
+/// # Examples
+///
+/// ```rust
+/// let spans: [Span; 2] = parsing::punct(input, "=~")?;
+/// ```
 pub fn punct<const N: usize>(input: ParseStream<'_, '_>, text: &str) -> Result<[Span; N]>
     ensures { let text = sized N text.now in PunctuationParses (λ spans. spans) (ascii_chars text)
         text input.old result input.new }
@@ -48,7 +61,7 @@ pub fn punct<const N: usize>(input: ParseStream<'_, '_>, text: &str) -> Result<[
     }
 }
 
-/// Whether the next puncts are the characters of this text, each but the last joint.
+/// Returns `true` if the next puncts are the characters of this text, each but the last joint.
 pub fn peek_punct(cursor: Cursor<'_>, text: &str) -> bool
     ensures { result ≡ is_some (read_punctuation (chars text.now) (place_of cursor.entry)) }
 {
@@ -56,7 +69,8 @@ pub fn peek_punct(cursor: Cursor<'_>, text: &str) -> bool
 }
 
 impl<'a> ParseBuffer<'a> {
-    // The refusal of a punctuation: without the words for an end, and at the next punct if there is one.
+    // Returns the error of a punctuation: without the words for an end, and at the next punct if
+    // there is one.
     fn punct_error(&self, text: &str) -> Fault
         ensures { Refuses (punctuation_refusal text.now self.now) result }
     {
@@ -78,7 +92,8 @@ impl<'a> ParseBuffer<'a> {
     }
 }
 
-// The span of the next token if it is the identifier of this text, and the cursor after it.
+// Returns the span of the next token if it is the identifier with this text, and the cursor after
+// it.
 fn word<'a>(cursor: Cursor<'a>, text: &str) -> Option<(Span, Cursor<'a>)>
     ensures { MatchOption result
         (read_keyword text.now (place_of cursor.entry) ≡ None)

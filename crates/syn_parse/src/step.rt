@@ -1,4 +1,4 @@
-// Parsers written over cursors.
+//! Parsers that are written over cursors.
 ghost use Rattle.std.specs.Prelude.{◌≡◌, Ok, IfSome};
 ghost use Rattle.tok_buffer.specs.Cursors.{place_of};
 ghost use Rattle.tok_buffer.specs.declared.cursor.Cursor.{Cursor};
@@ -16,7 +16,7 @@ use std::fmt::Display;
 use tok_buffer::{Cursor, Error};
 use tok_core::Span;
 
-/// What the function of a `step` is handed: the stream's cursor, and refusals at it.
+/// The argument of the function of a `step`: the stream's cursor, and errors at it.
 #[derive(Clone, Copy)]
 pub struct StepCursor<'a> {
     alloc: Global,
@@ -25,14 +25,14 @@ pub struct StepCursor<'a> {
 }
 
 impl<'a> StepCursor<'a> {
-    /// The cursor at the stream's place.
+    /// Returns the cursor at the stream's place.
     pub fn cursor(self) -> Cursor<'a>
         ensures { place_of result ≡ (step_state self.entry).place }
     {
         self.cursor
     }
 
-    /// A refusal with this message where the step begins, as `ParseBuffer::error` of the stream.
+    /// Returns an error with this message where the step begins, as `ParseBuffer::error` does.
     pub fn error<T: Display + Drop>(self, message: T) -> Fault
         ensures span { RefusesAt (state_span (step_state self.entry)) result }
         ensures words { IfSome (T.output message)
@@ -43,13 +43,32 @@ impl<'a> StepCursor<'a> {
 }
 
 impl<'a> ParseBuffer<'a> {
-    /// Runs `f` on the stream's cursor, returns its value, and moves to the cursor that it returns. Where `f` returns an
-    /// error the stream stays where it is. Owed: the cursor that `f` returns is in the same scope and no earlier, or empty.
+    /// Runs `f` on the stream's cursor, moves to the cursor that it returns, and returns its value.
     ///
-    ///     input.step(|from| match from.cursor().literal() {
-    ///         Some((literal, rest)) => Ok((literal.clone()?, rest)),
-    ///         None => Err(from.error("expected a literal")),
-    ///     })
+    /// If `f` returns an error, the stream stays.
+    ///
+    /// # Requires
+    ///
+    /// - `f` must be callable on the stream's cursor.
+    /// - The cursor that it returns must be in the same scope and no earlier, or empty.
+    ///
+    /// # Examples
+    ///
+    /// The contract of `f` says that its cursor stays in the scope. The law `reads_go_on` proves it.
+    ///
+    /// ```rust
+    /// input.step(
+    ///     |from|
+    ///         ensures { IfOk result (λ r. StaysIn (step_state from.entry).place (place_of r.1)) }
+    ///     {
+    ///         reads_go_on();
+    ///         match from.cursor().literal() {
+    ///             Some((literal, rest)) => Ok((literal.clone()?, rest)),
+    ///             None => Err(from.error("expected a literal")),
+    ///         }
+    ///     },
+    /// )
+    /// ```
     pub fn step<F, R>(&mut self, f: F) -> Result<R>
     where
         F: FnOnce(StepCursor<'a>) -> Result<(R, Cursor<'a>)>,

@@ -1,4 +1,4 @@
-// Parse streams.
+//! Parse streams.
 pub mod paused;
 
 ghost use Rattle.std.specs.Prelude.{◌≡◌, None, true, IfSome, MatchOption, Ok};
@@ -25,17 +25,21 @@ use std::marker::Model;
 use tok_buffer::{Cursor, Error, TokenBuffer};
 use tok_core::{Delimiter, Span};
 
-/// What a parser reads from: a place in a buffer, within the whole buffer or a group's content. In contracts it is a
-/// place, the span of its scope, and the leftover that it has noted: the first token that a content left unread.
+/// The stream that a parser reads from: a place in a buffer, in the scope of the buffer or of a
+/// group.
 ///
-/// Each stream has to be spent, by `close`, `discard`, `advance_to`, `finish` or `pause`. A function that lets one fall
-/// out of scope, also by an early `?`, doesn't compile. So no token is left unread unnoticed.
+/// Contracts see it as the place, the span of its scope, and a leftover: the first token that a
+/// closed group left unread.
+///
+/// Each stream must be ended, by `close`, `discard`, `advance_to`, `finish` or `pause`. A function
+/// that lets one go out of scope, even by an early `?`, doesn't compile. So no token stays unread
+/// unnoticed.
 pub struct ParseBuffer<'a> {
     alloc: Global,
     cursor: Cursor<'a>,
     // The span of the scope's end: a group's closing delimiter.
     scope_span: Span,
-    // The first leftover that a closed content handed up.
+    // The first leftover that a closed group recorded.
     noted: Option<(Span, Delimiter)>,
 }
 
@@ -55,10 +59,10 @@ impl<'a> Model for ParseBuffer<'a> {
     } };
 }
 
-/// What a parser takes: it is a function `fn(ParseStream) -> Result<T>`.
+/// The argument of a parser, which is a function `fn(ParseStream) -> Result<T>`.
 pub type ParseStream<'p, 'a> = &'p mut ParseBuffer<'a>;
 
-/// A stream over a whole buffer. At the end of the buffer its span is `scope`.
+/// Creates a stream over a whole buffer. At the end of the buffer its span is `scope`.
 pub fn tokens_to_parse_buffer<'a>(
     alloc: Global,
     tokens: &'a TokenBuffer,
@@ -91,7 +95,8 @@ impl<'a> ParseBuffer<'a> {
         }
     }
 
-    /// The allocator that parsers of this stream use. A program has one `Global`, so each stream's is the same.
+    /// Returns the allocator for the parsers of this stream. A program has one `Global`, so all
+    /// streams share it.
     pub fn allocator(&self) -> Global
         ensures { IsTheOnly result }
     {
@@ -110,14 +115,23 @@ impl<'a> ParseBuffer<'a> {
         self.cursor = cursor;
     }
 
-    /// The cursor at the stream's place.
+    /// Returns the cursor at the stream's place.
     pub fn cursor(&self) -> Cursor<'a>
         ensures { place_of result ≡ self.now.place }
     {
         self.cursor
     }
 
-    /// Whether nothing is left in the stream's scope. An invisible group counts as something, even an empty one.
+    /// Returns `true` at the end of the stream's scope. An invisible group counts as a token, even
+    /// if empty.
+    ///
+    /// # Examples
+    ///
+    /// ```rust
+    /// if input.is_empty() {
+    ///     return Ok(None);
+    /// }
+    /// ```
     pub fn is_empty(&self) -> bool
         ensures at_end { result ≡ is_at_end self.now.place }
         ensures spent { IsFilled self.now.place → result ≡ is_spent (ahead self.now) }
@@ -125,8 +139,10 @@ impl<'a> ParseBuffer<'a> {
         self.cursor.eof()
     }
 
-    /// The span of the next token, or the opening span of the next group. At the end of a group's content it is the span
-    /// of the closing delimiter, and at the end of a whole stream the span that was handed in, or the call site.
+    /// Returns the span of the next token, or of the opening delimiter of the next group.
+    ///
+    /// At the end of a group it is the span of the closing delimiter. At the end of a whole stream
+    /// it is the span that was passed when the stream was made, or the call site.
     pub fn span(&self) -> Span
         ensures { result ≡ state_span self.now }
     {
@@ -137,9 +153,14 @@ impl<'a> ParseBuffer<'a> {
         }
     }
 
-    /// A refusal with this message, at the stream's span. At the end the text begins with "unexpected end of input, ".
+    /// Returns an error with this message, at the stream's span. At the end, the text begins with
+    /// "unexpected end of input, ".
     ///
-    ///     return Err(input.error("expected a name"));
+    /// # Examples
+    ///
+    /// ```rust
+    /// return Err(input.error("expected a name"));
+    /// ```
     pub fn error<T: Display + Drop>(&self, message: T) -> Fault
         ensures span { RefusesAt (state_span self.now) result }
         ensures words { IfSome (T.output message)
@@ -151,7 +172,7 @@ impl<'a> ParseBuffer<'a> {
         self.refusal(message)
     }
 
-    // What `error` does.
+    // Does what `error` does.
     fn refusal<T: Display + Drop>(&self, message: T) -> Fault
         ensures span { RefusesAt (state_span self.now) result }
         ensures words { IfSome (T.output message)
@@ -160,16 +181,21 @@ impl<'a> ParseBuffer<'a> {
         Fault::refused(Error::new_at(self.alloc, self.scope_span, self.cursor, message))
     }
 
-    /// A second stream at the same place, that reads independently. `advance_to` moves a stream to where its fork is;
-    /// `discard` forgets a fork.
+    /// Returns a second stream at the same place, which reads independently.
+    ///
+    /// End it by `advance_to`, which moves a stream to its place, or by `discard`.
     pub fn fork(&self) -> Self
         ensures { result ≡ forked self.now }
     {
         ParseBuffer::made(self.alloc, self.cursor, self.scope_span, None)
     }
 
-    /// Moves to the fork's place. A leftover that the fork has noted is noted here, unless there is one already. Owed:
-    /// both are in one scope.
+    /// Moves to the fork's place, and ends the fork. A leftover that the fork has recorded is
+    /// recorded here, unless one is already.
+    ///
+    /// # Requires
+    ///
+    /// The fork must be in the stream's scope.
     pub fn advance_to(&mut self, fork: Self)
         requires { same_scope self.old.place fork.place ≡ true }
         ensures moves { self.new ≡ advanced fork.entry self.old }
@@ -178,7 +204,7 @@ impl<'a> ParseBuffer<'a> {
         self.go_to(fork);
     }
 
-    // What `advance_to` does.
+    // Does what `advance_to` does.
     fn go_to(&mut self, fork: Self)
         ensures { self.new ≡ advanced fork.entry self.old }
     {
@@ -192,7 +218,7 @@ impl<'a> ParseBuffer<'a> {
         self.noted = self.noted.or(noted);
     }
 
-    // The leftover that is noted, or else what is left over at the cursor.
+    // Returns the recorded leftover, or else the leftover at the cursor.
     fn handed(&self) -> Option<(Span, Delimiter)>
         ensures { left_of result ≡ handed self.now }
     {
@@ -202,8 +228,10 @@ impl<'a> ParseBuffer<'a> {
         }
     }
 
-    /// Ends a content of this stream. What it has noted, or else the first token that it leaves unread, is noted here,
-    /// unless there is a note already. `finish` refuses that token.
+    /// Closes a group's stream. Records its leftover here, unless one is already recorded.
+    ///
+    /// The leftover is the one it has recorded itself, or else its first unread token. `finish`
+    /// reports it.
     pub fn close(&mut self, content: Self)
         ensures closes { self.new ≡ closed content.entry self.old }
         ensures takes { ahead self.new ≡ after_content (ahead content.entry) (ahead self.old) }
@@ -211,7 +239,7 @@ impl<'a> ParseBuffer<'a> {
         self.take_back(content);
     }
 
-    // What `close` does.
+    // Does what `close` does.
     pub(crate) fn take_back(&mut self, content: Self)
         ensures { self.new ≡ closed content.entry self.old }
     {
@@ -230,7 +258,7 @@ impl<'a> ParseBuffer<'a> {
         } = self;
     }
 
-    /// Ends a stream, and refuses the leftover that it has noted, or else the first token that it leaves unread.
+    /// Ends a stream. Returns an error if a leftover is recorded, or if a token is left unread.
     pub fn finish(self) -> Result<()>
         ensures { MatchOption (handed self.entry) (result ≡ Ok tt)
             (λ left. IsRefused (leftover_refusal left) result) }
@@ -248,7 +276,8 @@ impl<'a> ParseBuffer<'a> {
         }
     }
 
-    /// The stream at rest: it may be copied and dropped, and `resume` makes it a stream again.
+    /// Puts the stream at rest. The result may be copied and dropped, and `resume` makes it a
+    /// stream again.
     pub fn pause(self) -> Paused<'a>
         ensures { paused_state result ≡ self.entry }
     {
@@ -266,7 +295,7 @@ impl<'a> ParseBuffer<'a> {
         }
     }
 
-    /// Exchanges two streams: place, scope and note.
+    /// Exchanges two streams: their places, scopes and leftovers.
     pub fn swap(&mut self, other: &mut Self)
         ensures mine { self.new ≡ other.old }
         ensures theirs { other.new ≡ self.old }
@@ -274,9 +303,18 @@ impl<'a> ParseBuffer<'a> {
         std::mem::swap(self, other);
     }
 
-    /// Runs a parser on this stream, and returns what it returns. The stream is left as the parser left it.
+    /// Runs a parser on this stream, and returns its result. The stream stays where the parser left
+    /// it.
     ///
-    ///     let path = input.call(parse_path)?;
+    /// # Requires
+    ///
+    /// The parser must be callable on this stream.
+    ///
+    /// # Examples
+    ///
+    /// ```rust
+    /// let path = input.call(parse_path)?;
+    /// ```
     pub fn call<T, F>(&mut self, f: F) -> Result<T>
     where
         F: FnOnce(ParseStream<'_, 'a>) -> Result<T>,
@@ -287,7 +325,7 @@ impl<'a> ParseBuffer<'a> {
     }
 }
 
-/// The trees that are left, as their stream is printed. It takes no memory.
+/// Writes the trees that are left, as their stream is printed. Nothing is allocated.
 impl Display for ParseBuffer<'_> {
     ghost use Rattle.std.specs.Prelude.{Some};
     ghost use Rattle.tok_buffer.specs.Rest.{rest};

@@ -1,4 +1,4 @@
-// Parsing keywords, punctuations, `_` and nothing.
+//! Parsers of keywords, punctuations, `_` and nothing.
 ghost use Rattle.std.specs.Prelude.{codes};
 ghost use Rattle.tok_types.specs.Printed.{first_span};
 ghost use Rattle.tok_types.specs.Texts.{keyword_text, punctuation_word};
@@ -25,7 +25,7 @@ impl<const K: usize> Parse for Keyword<K> {
     }
 }
 
-// What `Keyword::parse` does.
+// Does what `Keyword::parse` does.
 fn keyword_token<const K: usize>(input: ParseStream<'_, '_>) -> Result<Keyword<K>>
     ensures { WordParses (λ k. k.span) (keyword_text K) input.old result input.new }
 {
@@ -44,7 +44,7 @@ impl<const K: usize, const N: usize> Parse for Punctuation<K, N> {
     }
 }
 
-// What `Punctuation::parse` does.
+// Does what `Punctuation::parse` does.
 fn punctuation_token<const K: usize, const N: usize>(
     input: ParseStream<'_, '_>,
 ) -> Result<Punctuation<K, N>>
@@ -65,7 +65,7 @@ impl Parse for Underscore {
     }
 }
 
-// What `Underscore::parse` does.
+// Does what `Underscore::parse` does.
 fn underscore(input: ParseStream<'_, '_>) -> Result<Underscore>
     ensures { WordParses (λ u. first_span u.spans) (codes "_") input.old result input.new }
 {
@@ -73,7 +73,7 @@ fn underscore(input: ParseStream<'_, '_>) -> Result<Underscore>
     Ok(Underscore::from_span(span))
 }
 
-/// A value that is parsed from no tokens: its `parse` always succeeds, and leaves the stream as it is.
+/// A value that is parsed from no tokens. Its `parse` always succeeds, and the stream stays.
 #[derive(Clone, Copy, PartialEq, Eq, Hash, Debug)]
 pub struct Nothing;
 

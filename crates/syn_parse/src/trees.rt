@@ -1,4 +1,4 @@
-// Parsing trees, identifiers and lifetimes.
+//! Parsers of trees, identifiers and lifetimes.
 ghost use Rattle.std.specs.Prelude.{◌≡◌, is_some};
 ghost use Rattle.tok_buffer.specs.Cursors.{place_of};
 ghost use Rattle.syn_parse.specs.Parses as spec;
@@ -25,7 +25,7 @@ impl Parse for Ident {
     }
 }
 
-// What `Ident::parse` does.
+// Does what `Ident::parse` does.
 fn ident(input: ParseStream<'_, '_>) -> Result<Ident>
     ensures { IdentParses input.old result input.new }
 {
@@ -52,7 +52,7 @@ impl Parse for Lifetime {
     }
 }
 
-// What `Lifetime::parse` does.
+// Does what `Lifetime::parse` does.
 fn lifetime(input: ParseStream<'_, '_>) -> Result<Lifetime>
     ensures { LifetimeParses input.old result input.new }
 {
@@ -71,7 +71,7 @@ fn lifetime(input: ParseStream<'_, '_>) -> Result<Lifetime>
     })
 }
 
-// Whether `Lifetime::parse` takes a lifetime of this name.
+// Returns `true` if `Lifetime::parse` accepts a lifetime with this name.
 fn accept_as_lifetime(name: &str) -> bool
     ensures { result ≡ spec.accept_as_lifetime name.now }
 {
@@ -89,7 +89,7 @@ impl Parse for Literal {
     }
 }
 
-// What `Literal::parse` does.
+// Does what `Literal::parse` does.
 fn literal(input: ParseStream<'_, '_>) -> Result<Literal>
     ensures { LiteralParses input.old result input.new }
 {
@@ -112,7 +112,7 @@ impl Parse for Punct {
     }
 }
 
-// What `Punct::parse` does.
+// Does what `Punct::parse` does.
 fn punct(input: ParseStream<'_, '_>) -> Result<Punct>
     ensures { PunctParses input.old result input.new }
 {
@@ -123,7 +123,7 @@ fn punct(input: ParseStream<'_, '_>) -> Result<Punct>
     Ok(punct)
 }
 
-/// Parses the next tree, also an invisible group.
+/// Parses the next tree, which may be an invisible group.
 impl Parse for TokenTree {
     ghost parses = { TreeParses };
 
@@ -155,7 +155,7 @@ impl Parse for Group {
     }
 }
 
-// Whether the next tree is a visible group.
+// Returns `true` if the next tree is a visible group.
 fn is_at_visible_group(cursor: Cursor<'_>) -> bool
     ensures { result ≡ is_some (spec.read_group (place_of cursor.entry)) }
 {
@@ -166,7 +166,7 @@ fn is_at_visible_group(cursor: Cursor<'_>) -> bool
     }
 }
 
-/// Parses all that is left. The stream is at the empty cursor then, which is in no scope.
+/// Parses all that is left. The stream is then at the empty cursor, which is in no scope.
 impl Parse for TokenStream {
     ghost parses = { RestParses };
 

@@ -1,4 +1,4 @@
-// Whole streams and texts.
+//! Whole streams and texts.
 ghost use Rattle.std.specs.Str.{chars};
 ghost use Rattle.tok_leaves.specs.Spans.{call_site};
 ghost use Rattle.syn_parse.specs.Parsers.{ParsesText, ParsesWhole, whole_stream};
@@ -13,8 +13,13 @@ use std::alloc::Global;
 use tok_buffer::TokenBuffer;
 use tok_core::{Edition, Span, TokenStream};
 
-/// Parses all of these tokens: `let entry: Entry = parse2(alloc, tokens)?;`. A refusal of the parser comes first; otherwise
-/// a token that is left unread is refused.
+/// Parses all of these tokens. A leftover token is an error, unless the parser has returned one.
+///
+/// # Examples
+///
+/// ```rust
+/// let call: Call = parse2(alloc, tokens)?;
+/// ```
 pub fn parse2<T: Parse + Drop>(alloc: Global, tokens: TokenStream) -> Result<T>
     ensures reads { ParsesWhole T.parses (whole_stream tokens call_site) result }
     ensures takes { KeepsWhole T.takes tokens result }
@@ -26,6 +31,14 @@ pub fn parse2<T: Parse + Drop>(alloc: Global, tokens: TokenStream) -> Result<T>
 }
 
 /// Lexes a text as source 0, and parses its tokens as `parse2` does.
+///
+/// Returns the lexer's error as an `Error` with its span and text.
+///
+/// # Examples
+///
+/// ```rust
+/// let call: Call = parse_str(alloc, "pub run(a, b,)")?;
+/// ```
 pub fn parse_str<T: Parse + Drop>(alloc: Global, text: &str) -> Result<T>
     ensures reads { ParsesText T.parses (chars text.now) result }
     ensures takes { KeepsText T.takes (chars text.now) result }
@@ -40,7 +53,8 @@ pub fn parse_str<T: Parse + Drop>(alloc: Global, text: &str) -> Result<T>
     }
 }
 
-/// Lexes a Rust source of an edition by the rules of `lex_source`, as source 0, and parses its tokens as `parse2` does.
+/// Lexes a Rust source of an edition by the rules of `lex_source`, as source 0, and parses its
+/// tokens as `parse2` does.
 pub fn parse_source<T: Parse + Drop>(alloc: Global, edition: Edition, text: &str) -> Result<T>
     ensures reads { ParsesSource edition T.parses (chars text.now) result }
     ensures takes { KeepsSource edition T.takes (chars text.now) result }
@@ -55,7 +69,7 @@ pub fn parse_source<T: Parse + Drop>(alloc: Global, edition: Edition, text: &str
     }
 }
 
-/// Parses two streams. Where they differ only in invisible groups the results agree.
+/// Parses two streams. If they differ only in invisible groups, the results agree.
 pub fn parse_both<T: Parse + Drop>(
     alloc: Global,
     left: TokenStream,

@@ -1,10 +1,11 @@
-// The texts of refusals.
+//! The texts of errors.
 ghost use Rattle.std.specs.Prelude.{◌≡◌};
 ghost use Rattle.syn_parse.specs.RefusalWords.{delimiter_words, leftover_words};
 
 use tok_core::Delimiter;
 
-// Where a group of this delimiter is expected, and where a token is left over in a scope of it.
+/// Returns the texts of the errors if a group of this delimiter is missing, and if a token is left
+/// over in one.
 pub fn words_of(delimiter: Delimiter) -> (&'static str, &'static str)
     ensures expected { result.0.now ≡ delimiter_words delimiter }
     ensures leftover { result.1.now ≡ leftover_words delimiter }

@@ -1,4 +1,4 @@
-// Streams at rest.
+//! Paused streams.
 ghost use Rattle.std.specs.Prelude.{◌≡◌};
 ghost use Rattle.syn_parse.specs.Pauses.{paused_state};
 
@@ -7,8 +7,8 @@ use std::alloc::Global;
 use tok_buffer::Cursor;
 use tok_core::{Delimiter, Span};
 
-/// A stream at rest, made by `ParseBuffer::pause`. It may be copied and dropped: what a dropped one leaves unread is noted
-/// nowhere.
+/// A stream at rest, made by `ParseBuffer::pause`. It may be copied and dropped: what a dropped one
+/// leaves unread is recorded nowhere.
 #[derive(Clone, Copy)]
 pub struct Paused<'a> {
     pub(crate) alloc: Global,
@@ -18,7 +18,7 @@ pub struct Paused<'a> {
 }
 
 impl<'a> Paused<'a> {
-    /// The stream again, as it was paused.
+    /// Returns the stream, as it was when it was paused.
     pub fn resume(self) -> ParseBuffer<'a>
         ensures { result ≡ paused_state self.entry }
     {
