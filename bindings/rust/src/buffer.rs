@@ -107,12 +107,11 @@ impl Buffer {
     }
 
     fn read(rules: Rules, text: &str) -> Result<Self, Error> {
-        let (reading, entries, bytes) = ffi::lex(rules, text);
-        if reading.status != ffi::READ {
-            return Err(Error::new(reading, bytes));
+        let (reading, entries, texts) = ffi::lex(rules, text);
+        match reading.status {
+            ffi::READ => Ok(Buffer { entries, texts }),
+            _ => Err(Error::new(reading, texts)),
         }
-        let texts = String::from_utf8(bytes).map_err(|_| Error::Memory)?;
-        Ok(Buffer { entries, texts })
     }
 
     /// Returns a cursor at the first token.

@@ -21,9 +21,9 @@ pub enum Error {
 }
 
 impl Error {
-    pub(crate) fn new(reading: Reading, bytes: Vec<u8>) -> Self {
-        match (reading.status, String::from_utf8(bytes)) {
-            (REJECTED, Ok(words)) => Error::Rejected { rule: reading.rule, at: reading.at, words },
+    pub(crate) fn new(reading: Reading, words: String) -> Self {
+        match reading.status {
+            REJECTED => Error::Rejected { rule: reading.rule, at: reading.at, words },
             _ => Error::Memory,
         }
     }

@@ -109,9 +109,14 @@ fn check_layout() {
     });
 }
 
+/// Returns what the library has written as a text.
+fn text_of(bytes: Vec<u8>) -> String {
+    String::from_utf8(bytes).expect("the library writes texts")
+}
+
 /// Reads a text, and returns what came of it, its entries and the texts of its leaves or the words
 /// of its error.
-pub fn lex(rules: Rules, text: &str) -> (Reading, Vec<Entry>, Vec<u8>) {
+pub fn lex(rules: Rules, text: &str) -> (Reading, Vec<Entry>, String) {
     check_layout();
     // Enough for most texts. The second turn has as much as the first one asked for.
     let mut entries: Vec<Entry> = Vec::with_capacity(text.len() / 2 + 16);
@@ -141,7 +146,7 @@ pub fn lex(rules: Rules, text: &str) -> (Reading, Vec<Entry>, Vec<u8>) {
                 entries.set_len(reading.entries);
                 bytes.set_len(reading.bytes);
             }
-            return (reading, entries, bytes);
+            return (reading, entries, text_of(bytes));
         }
         entries.reserve(reading.entries);
         bytes.reserve(reading.bytes);
@@ -149,7 +154,7 @@ pub fn lex(rules: Rules, text: &str) -> (Reading, Vec<Entry>, Vec<u8>) {
 }
 
 /// Answers an input as the program does, and returns its status and what it prints.
-pub fn respond(input: &[u8]) -> (u8, Vec<u8>) {
+pub fn respond(input: &[u8]) -> (u8, String) {
     let mut printed: Vec<u8> = Vec::with_capacity(4096);
     loop {
         let mut size = 0;
@@ -161,7 +166,7 @@ pub fn respond(input: &[u8]) -> (u8, Vec<u8>) {
         if size <= room {
             // The library has written so many bytes, since there was room.
             unsafe { printed.set_len(size) };
-            return (status, printed);
+            return (status, text_of(printed));
         }
         printed.reserve(size);
     }

@@ -4,6 +4,9 @@
 //! and why. This package turns what the library writes into safe types, without a proof; its one
 //! module with `unsafe` says why each call is sound.
 //!
+//! The first call panics if the library is of another version, which lays its structs out in
+//! another way.
+//!
 //! ```
 //! use syn_tokens::{Buffer, Token};
 //!

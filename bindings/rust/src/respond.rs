@@ -27,9 +27,6 @@ pub struct Response {
 pub fn respond(input: &[u8]) -> Result<Response, Error> {
     match ffi::respond(input) {
         (3, _) => Err(Error::Memory),
-        (status, printed) => {
-            let text = String::from_utf8(printed).map_err(|_| Error::Memory)?;
-            Ok(Response { status, text })
-        }
+        (status, text) => Ok(Response { status, text }),
     }
 }
