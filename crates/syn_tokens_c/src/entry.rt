@@ -1,4 +1,4 @@
-// Entries, as C has them.
+//! Entries, as C sees them.
 ghost use Rattle.std.specs.Prelude.{◌≡◌};
 ghost use Rattle.syn_tokens_c.specs.Entries as spec;
 

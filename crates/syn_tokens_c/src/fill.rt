@@ -1,4 +1,4 @@
-// A forest as entries.
+//! A forest as entries.
 ghost use Rattle.std.specs.Prelude.{◌≡◌, ◌++◌, length, OnOk, string_bytes};
 ghost use Rattle.tok_core.specs.Seen.{tree_of};
 ghost use Rattle.syn_tokens_c.specs.Entries as spec;

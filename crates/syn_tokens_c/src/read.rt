@@ -1,4 +1,4 @@
-// Texts read into entries.
+//! Texts read into entries.
 ghost use Rattle.std.specs.Prelude.{◌≡◌, IfOk};
 ghost use Rattle.tok_core.specs.Lexical.Outcome.{FollowsGrammar};
 ghost use Rattle.tok_core.specs.declared.lexer.error.LexFault.TheVariants.{Refused};

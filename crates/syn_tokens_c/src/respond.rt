@@ -1,4 +1,4 @@
-// Commands.
+//! Commands, and what they print.
 ghost use Rattle.syn_tokens_c.specs.Outcomes.{Responds};
 
 use std::alloc::{AllocError, Global};

@@ -1,4 +1,4 @@
-// How the structs are laid out.
+//! How the structs are laid out.
 ghost use Rattle.std.specs.Prelude.{◌≡◌, length, replicate};
 ghost use Rattle.syn_tokens_c.specs.Samples.{entry_sample, reading_sample};
 
