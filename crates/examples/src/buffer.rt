@@ -10,7 +10,7 @@ ghost use Rattle.tok_core.specs.Seen.{lifetime_trees};
 use tok_buffer::Cursor;
 use tok_core::{Ident, Span};
 
-/// Two identifiers one after the other, across the edges of invisible groups: a walk with a cursor.
+/// Reads two identifiers in turn, across the edges of invisible groups.
 pub fn pair_of_idents<'a>(cursor: Cursor<'a>) -> Option<(&'a Ident, &'a Ident, Cursor<'a>)>
     ensures { MatchOption result
         (and_then (read_ident (place_of cursor.entry)) read_ident ≡ None)
@@ -22,7 +22,7 @@ pub fn pair_of_idents<'a>(cursor: Cursor<'a>) -> Option<(&'a Ident, &'a Ident, C
     Some((first, second, rest))
 }
 
-/// The lifetime in front, of whatever name, even where its identifier is in an invisible group.
+/// Reads a lifetime of any name, even if its identifier is in an invisible group.
 pub fn any_lifetime<'a>(cursor: Cursor<'a>) -> Option<(Span, &'a Ident)>
     ensures { MatchOption result
         (read_lifetime any_text (place_of cursor.entry) ≡ None)

@@ -1,4 +1,4 @@
-//! Callers of the crates, as a user would write them, proved from public contracts alone.
+//! Callers of the libraries, as a user would write them, proved from public contracts alone.
 #![tactic(auto)]
 
 pub mod buffer;

@@ -14,8 +14,10 @@ use tok_types::token;
 /// Names with a comma between each two.
 pub type Names = Punctuated<Ident, token::Comma>;
 
-/// The names that are left: the visible trees that are left are these names and commas, by turns, in groups that macros
-/// have made or not. Nothing is left after them.
+/// Parses names between commas, to the end of the stream.
+///
+/// The visible trees that were left are these names and commas in turn, whether in invisible groups
+/// or not.
 pub fn names(input: ParseStream<'_, '_>) -> Result<Names>
     ensures trees { IfOk result
         (λ list. PassesList ident_sources punctuation_sources list input.old input.new) }
@@ -41,7 +43,7 @@ pub struct Items {
     pub list: Punctuated<Item, token::Comma>,
 }
 
-/// The items that are left. Nothing is left after them.
+/// Parses items to the end of the stream.
 #[cycle(parsing)]
 pub fn parse_items(input: ParseStream<'_, '_>) -> Result<Items>
     ensures { IfOk result (λ _. is_at_end input.new.place ≡ true) }
@@ -50,7 +52,7 @@ pub fn parse_items(input: ParseStream<'_, '_>) -> Result<Items>
     Ok(Items { list })
 }
 
-/// One item. Less remains within a group than before it, so items within items end.
+/// Parses one item. Less remains within a group than before it, so items within items end.
 #[cycle(parsing)]
 pub fn parse_item(input: ParseStream<'_, '_>) -> Result<Item>
     ensures { IfOk result (λ item. IsItem input.old item input.new) }

@@ -1,5 +1,7 @@
-//! Loops over a cursor. The laws of `tok_buffer` say that each read stays in the scope and lowers what remains, so the loops
-//! end, and the cursors that they return are in the scope.
+//! Loops over a cursor.
+//!
+//! The laws of `tok_buffer` say that each read stays in the scope and lowers what remains, so the
+//! loops end, and the cursors that they return are in the scope.
 ghost use Rattle.std.specs.Prelude.{◌≡◌, ◌∷◌, [], true, None, Some, IfOk, IfSome, MatchOption};
 ghost use Rattle.tok_core.specs.Forest.{Tree};
 ghost use Rattle.tok_core.specs.Seen.{tree_of};
@@ -14,7 +16,7 @@ use tok_buffer::Cursor;
 use tok_buffer::laws::{reads_go_on, stays_along};
 use tok_core::TokenTree;
 
-/// The cursor after all identifiers in front, across the edges of invisible groups.
+/// Returns the cursor after all identifiers that are next, across the edges of invisible groups.
 #[tactic(auto, using(crate::specs::Loops::none))]
 pub fn past_idents<'a>(cursor: Cursor<'a>) -> Cursor<'a>
     ensures passes { PassesIdents (place_of cursor.entry) (place_of result) }
@@ -30,7 +32,8 @@ pub fn past_idents<'a>(cursor: Cursor<'a>) -> Cursor<'a>
     after
 }
 
-/// The cursor after the first `@` of the scope, or `None` where there is none. An `@` within a group isn't looked for.
+/// Returns the cursor after the first `@` of the scope, or `None` if there is none. It doesn't look
+/// inside groups.
 #[tactic(auto, using(crate::specs::Loops::no_more))]
 pub fn past_sign<'a>(alloc: Global, cursor: Cursor<'a>) -> Result<Option<Cursor<'a>>, AllocError>
     ensures finds { IfOk result (λ found. (p : Place) × PassesOthers (place_of cursor.entry) p
@@ -53,7 +56,7 @@ pub fn past_sign<'a>(alloc: Global, cursor: Cursor<'a>) -> Result<Option<Cursor<
     Ok(None)
 }
 
-// Whether this tree, which is dropped, is an `@`.
+// Returns `true` if this tree, which is dropped, is an `@`.
 fn is_sign(tree: TokenTree) -> bool
     ensures { result ≡ is_punct_of 64 (tree_of tree) }
 {

@@ -1,4 +1,5 @@
-//! A caller of `syn_punctuated`: it builds `2, 3, 4`, edits the list and writes it with its separators.
+//! A caller of `syn_punctuated`: it builds `2, 3, 4`, edits the list and writes it with its
+//! separators.
 ghost use Rattle.std.specs.Prelude.{◌≡◌, ◌-◌, ◌<◌, ◌^◌, [], ◌∷◌, length, slice_set, string_bytes, sum, IfOk, OnOk, OnErr};
 ghost use Rattle.std.specs.Bool.{OnTrue, OnFalse};
 ghost use Rattle.syn_punctuated.specs.Lists.{values_of, separators_of, IsUnchanged};
@@ -9,7 +10,7 @@ use syn_punctuated::Punctuated;
 
 type Numbers = Punctuated<u32, char>;
 
-/// The list `2,3,4`.
+/// Returns the list `2,3,4`.
 pub fn two_three_four(alloc: Global) -> Result<Numbers, AllocError>
     ensures values { IfOk result (λ list. values_of list ≡ 2 ∷ 3 ∷ 4 ∷ []) }
     ensures separators { IfOk result (λ list. separators_of list ≡ 44 ∷ 44 ∷ []) }
@@ -32,7 +33,7 @@ pub fn raise_first(list: &mut Numbers)
     list[0] = 9;
 }
 
-/// Writes 8 over the last value, if there is one, and says whether there was.
+/// Writes 8 over the last value, if there is one, and returns whether there is.
 pub fn raise_last(list: &mut Numbers) -> bool
     ensures any { OnTrue result (0 < length (values_of list.old)) }
     ensures written { OnTrue result
@@ -50,7 +51,7 @@ pub fn raise_last(list: &mut Numbers) -> bool
     }
 }
 
-/// Puts 7 in front.
+/// Inserts 7 before all values.
 pub fn put_seven(list: &mut Numbers) -> Result<(), AllocError>
     requires { 0 < length (values_of list.old) }
     ensures ok { OnOk result (values_of list.new ≡ 7 ∷ values_of list.old) }
@@ -59,7 +60,7 @@ pub fn put_seven(list: &mut Numbers) -> Result<(), AllocError>
     list.insert(0, 7)
 }
 
-/// The sum of the values.
+/// Returns the sum of the values.
 pub fn total(list: &Numbers) -> u32
     requires { sum (values_of list.now) < 2 ^ 32 }
     ensures { result ≡ sum (values_of list.now) }
@@ -67,7 +68,7 @@ pub fn total(list: &Numbers) -> u32
     list.iter().copied().sum()
 }
 
-/// Values and separators by turns, as a text.
+/// Writes the values and separators in turn, as a text.
 pub fn written(alloc: Global, list: &Numbers) -> Result<String, AllocError>
     ensures { IfOk result
         (λ text. string_bytes text ≡ text_of (values_of list.now) (separators_of list.now)) }

@@ -1,4 +1,5 @@
-//! Callers of `tok_types`: a token of the caller's own, a look at two tokens, and tokens that are written.
+//! Callers of `tok_types`: a token of the caller's own, a peek of two tokens, and tokens that are
+//! written.
 ghost use Rattle.std.specs.Prelude.{◌≡◌, ◌||◌, ◌&&◌, Bool, codes, is_some, OnOk};
 ghost use Rattle.tok_core.specs.Forest.{group, concat, leaf, no_trees, tree};
 ghost use Rattle.tok_leaves.specs.Leaves.{ident};
@@ -15,7 +16,8 @@ use tok_core::{ToTokens, TokenStream};
 use tok_types::token;
 use tok_types::token::Token;
 
-/// A word that is a keyword to this caller alone. Such a type needs no more than these two functions.
+/// A word that is a keyword to this caller alone. Such a type needs no more than these two
+/// functions.
 pub struct Sealed;
 
 impl Token for Sealed {
@@ -28,7 +30,7 @@ impl Token for Sealed {
     }
 }
 
-/// Whether one of two tokens is in front, whichever they are.
+/// Returns `true` if one of two tokens is next.
 pub fn either<A: Token, B: Token>(cursor: Cursor<'_>) -> bool
     ensures { (a : Bool) × (b : Bool) × A.peeks (place_of cursor.entry) a
         × B.peeks (place_of cursor.entry) b × (result ≡ (a || b)) }
@@ -38,7 +40,7 @@ pub fn either<A: Token, B: Token>(cursor: Cursor<'_>) -> bool
     first || second
 }
 
-/// Whether `pub` is in front and parentheses follow it, as in `pub (crate)`.
+/// Returns `true` if `pub` is next and parentheses follow it, as in `pub (crate)`.
 pub fn is_restricted(cursor: Cursor<'_>) -> bool
     ensures { result ≡ (is_some (read_keyword (codes "pub") (place_of cursor.entry))
         && after_skip (λ p. is_some (enter Parenthesis p)) (skip (place_of cursor.entry))) }

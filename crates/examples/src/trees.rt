@@ -36,7 +36,7 @@ fn group(delimiter: Delimiter, content: TokenStream) -> TokenTree
     TokenTree::Group(Group::new(delimiter, content, Span::call_site()))
 }
 
-/// The trees of `a (b «c») +=`. No part of them is refused: only memory can be.
+/// Builds `a (b «c») +=`. Only a failed allocation is an error.
 pub fn by_hand(alloc: Global) -> Result<TokenStream, MakeFault>
     ensures made { IfOk result (λ stream. stream ≡ by_hand) }
     ensures fault { IfErr result (λ fault. fault ≡ MakeFault.Memory) }
@@ -54,7 +54,7 @@ pub fn by_hand(alloc: Global) -> Result<TokenStream, MakeFault>
     Ok(all)
 }
 
-/// A stream as a text.
+/// Returns the text of a stream.
 pub fn printed(alloc: Global, stream: &TokenStream) -> Result<String, AllocError>
     ensures { IfOk result (λ printed. string_bytes printed ≡ text stream.now) }
 {

@@ -6,7 +6,7 @@ ghost use Rattle.tok_buffer.specs.Cursors.{place_of};
 use tok_buffer::Cursor;
 use tok_buffer::laws::{calls_lead_on, views_decide};
 
-// Whether a name comes after the next token.
+// Returns `true` if a name comes after the next token.
 fn is_name_second(cursor: Cursor<'_>) -> bool
     ensures { result ≡ is_name_second (place_of cursor.entry) }
 {
@@ -16,8 +16,10 @@ fn is_name_second(cursor: Cursor<'_>) -> bool
     }
 }
 
-/// Whether a name comes second, at one cursor and at another. At places of filled buffers that differ only in invisible
-/// groups it is the same, also after a lifetime whose name is in a group of its own.
+/// Returns whether a name comes after the next token, at one cursor and at another.
+///
+/// At places of filled buffers that differ only in invisible groups both are the same, even after a
+/// lifetime whose name is in a group of its own.
 pub fn names_second(left: Cursor<'_>, right: Cursor<'_>) -> (bool, bool)
     ensures left { result.0 ≡ is_name_second (place_of left.entry) }
     ensures right { result.1 ≡ is_name_second (place_of right.entry) }
