@@ -185,7 +185,7 @@ fn class_of_rejected(rule: u32, text: &str, at: usize) -> &'static str {
     match rule {
         1 if here.starts_with(char::is_whitespace) => "white space that is not Pattern_White_Space",
         5 | 7 | 8 => "left out of `lex`: a doc comment, a raw, byte or C string, a float",
-        6 if has_quoted(text) => QUOTED,
+        6 | 10 if has_quoted(text) => QUOTED,
         6 if here.starts_with("br") => "a raw byte string with a character beyond ASCII",
         6 | 11 if is_quote => "three apostrophes, or a tab or line end between apostrophes",
         9 => "a malformed number",
