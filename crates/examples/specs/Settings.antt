@@ -1,8 +1,12 @@
--- Settings `name = value`, flags and fields.
+-- Settings `name = value`, flags, fields and labels.
 use Rattle.std.specs.Prelude.{Option, Some, None}
 use Rattle.syn_parse.specs.Optional.{take_optional}
-use Rattle.syn_parse.specs.Takes.{Taking, ◌>>=◌, gives, where_ahead}
-use Rattle.syn_parse.specs.Tokens.{sees_punctuation, take_ident, take_literal, take_punctuation}
+use Rattle.tok_leaves.specs.declared.ident.Ident.{Ident}
+use Rattle.syn_parse.specs.Skips.{sees_next}
+use Rattle.syn_parse.specs.Takes.{Taking, ◌>>=◌, gives, on_fork, where_ahead}
+use Rattle.syn_parse.specs.TokenNames.{sees_colon, sees_eq, sees_star, take_colon, take_eq}
+use Rattle.syn_parse.specs.TokenNames.{take_star}
+use Rattle.syn_parse.specs.Tokens.{take_ident, take_literal}
 use Rattle.examples.specs.declared.setting.Setting.{Setting}
 use Rattle.examples.specs.declared.setting.Flag.{Flag}
 use Rattle.examples.specs.declared.setting.Field.{Field}
@@ -11,15 +15,16 @@ use Rattle.examples.specs.declared.setting.Field.{Field}
 abbrev pub take_setting : Taking Setting
 take_setting = do
   name ← take_ident
-  value ← where_ahead (sees_punctuation 13 1) (do
-    _ ← take_punctuation 13 1
+  value ← where_ahead sees_eq (do
+    _ ← take_eq
     value ← take_literal
     gives (Some value)) (gives None)
   gives (record { name = name; value = value })
 
+-- a star if there is one, and a name
 abbrev pub take_flag : Taking Flag
 take_flag = do
-  star ← take_optional (sees_punctuation 43 1) (take_punctuation 43 1)
+  star ← take_optional sees_star take_star
   name ← take_ident
   gives (record { star = star; name = name })
 
@@ -27,6 +32,18 @@ take_flag = do
 abbrev pub take_field : Taking Field
 take_field = do
   name ← take_ident
-  _ ← take_punctuation 6 1
+  _ ← take_colon
   kind ← take_ident
   gives (record { name = name; kind = kind })
+
+-- a name, if the token after it is `:`, which is taken too
+abbrev pub take_label : Taking (Option Ident)
+take_label =
+    where_ahead (sees_next sees_colon) (do
+      name ← take_ident
+      _ ← take_colon
+      gives (Some name)) (gives None)
+
+-- a field, read on a fork
+abbrev pub take_tried : Taking Field
+take_tried = on_fork take_field

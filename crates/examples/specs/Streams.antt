@@ -4,6 +4,8 @@ use Rattle.tok_buffer.specs.Reads.{read_keyword}
 use Rattle.syn_parse.specs.Faults.{IsMemory, Refuses}
 use Rattle.syn_parse.specs.Reads.{Call}
 use Rattle.syn_parse.specs.State.{State}
+use Rattle.syn_parse.specs.Takes.{Taking, gives, refuses, where_ahead}
+use Rattle.syn_parse.specs.TokenNames.{sees_fn, sees_struct}
 use Rattle.syn_parse.specs.RefusalWords.{refused_at}
 use Rattle.syn_parse.specs.declared.fault.Fault.{Fault}
 use Rattle.examples.specs.declared.streams.Kind.{Kind}
@@ -25,3 +27,9 @@ ChoosesKind s result t =
     let is_fn = is_some (read_keyword (codes "fn") s.place) in
     let is_struct = is_some (read_keyword (codes "struct") s.place) in
     IsChosen is_fn is_struct s result × (t ≡ s)
+
+-- the kind by the next keyword, which is left
+abbrev pub take_kind : Taking Kind
+take_kind =
+    where_ahead sees_fn (gives Function)
+    (where_ahead sees_struct (gives Structure) (refuses (codes "expected `fn` or `struct`")))

@@ -7,10 +7,10 @@ ghost use Rattle.syn_parse.specs.Takes.{Agree, Takes, TakesAll, WordsAgree};
 ghost use Rattle.syn_parse.specs.Tokens.{take_ident};
 ghost use Rattle.syn_parse.specs.Takings.{KeepsText, taken};
 ghost use Rattle.syn_parse.specs.TreesAhead.{whole};
-ghost use Rattle.examples.specs.Entries.{take_call, take_entry, take_pair};
+ghost use Rattle.examples.specs.Entries.{take_call, take_entry, take_mark, take_pair};
 
 use std::alloc::Global;
-use syn_parse::{Parse, ParseStream, Result, parse_both, parse_str, parse2};
+use syn_parse::{Parse, ParseStream, Result, bracketed, parse_both, parse_str, parse2};
 use tok_core::{Delimiter, Ident, Literal, TokenStream};
 use tok_types::token;
 
@@ -72,6 +72,30 @@ impl Parse for Call {
         let name = input.parse()?;
         let (_, value) = input.parse_within(Delimiter::Parenthesis)?;
         Ok(Call { name, value })
+    }
+}
+
+/// A value in brackets after a name, read by a macro: `name [value]`.
+#[derive(Drop)]
+pub struct Mark {
+    pub name: Ident,
+    pub value: Literal,
+}
+
+impl Parse for Mark {
+    ghost takes = { taken take_mark };
+
+    #[tactic(auto, unfolding(syn_parse::specs::Takes::take_group))]
+    fn parse(input: ParseStream<'_, '_>) -> Result<Self> {
+        let name = input.parse()?;
+        let mut content;
+        let _ = bracketed!(content in input);
+        let value = content.parse::<Literal>();
+        input.close(content);
+        Ok(Mark {
+            name,
+            value: value?,
+        })
     }
 }
 

@@ -1,8 +1,10 @@
 // Settings and fields.
+ghost use Rattle.std.specs.Prelude.{◌≡◌, OnErr};
 ghost use Rattle.syn_parse.specs.Takes.{Takes};
 ghost use Rattle.syn_parse.specs.Takings.{taken};
-ghost use Rattle.examples.specs.Settings.{take_field, take_flag, take_setting};
+ghost use Rattle.examples.specs.Settings.{take_field, take_flag, take_label, take_setting, take_tried};
 
+use syn_parse::laws::scopes_tell;
 use syn_parse::{Parse, ParseStream, Result};
 use tok_core::{Ident, Literal};
 use tok_types::token;
@@ -59,5 +61,37 @@ impl Parse for Field {
         let _: token::Colon = input.parse()?;
         let kind = input.parse()?;
         Ok(Field { name, kind })
+    }
+}
+
+/// Reads a label `name:`, if the token after the next one is `:`.
+pub fn read_label(input: ParseStream<'_, '_>) -> Result<Option<Ident>>
+    ensures { Takes take_label input.old result input.new }
+{
+    if input.peek2::<token::Colon>() {
+        let name = input.parse()?;
+        let _: token::Colon = input.parse()?;
+        Ok(Some(name))
+    } else {
+        Ok(None)
+    }
+}
+
+/// Reads a field on a fork, and moves to the fork if it is one. An error leaves the stream as it was.
+pub fn try_field(input: ParseStream<'_, '_>) -> Result<Field>
+    ensures takes { Takes take_tried input.old result input.new }
+    ensures stays { OnErr result (input.new ≡ input.old) }
+{
+    scopes_tell();
+    let mut fork = input.fork();
+    match fork.parse() {
+        Ok(field) => {
+            input.advance_to(fork);
+            Ok(field)
+        }
+        Err(fault) => {
+            fork.discard();
+            Err(fault)
+        }
     }
 }

@@ -6,9 +6,10 @@ ghost use Rattle.tok_buffer.specs.Reads.{read_tree};
 ghost use Rattle.syn_parse.specs.Parses.{IsTree, TreeParses};
 ghost use Rattle.syn_parse.specs.Steps.{StepReads, step_state};
 ghost use Rattle.syn_parse.specs.RefusalWords.{refused_at};
+ghost use Rattle.syn_parse.specs.Takes.{Takes};
 ghost use Rattle.examples.specs.Items.{FieldParses, FieldsParse, ItemParses, OptionalFieldParses};
 ghost use Rattle.examples.specs.Nested.{CountsEntries, CountsEntry};
-ghost use Rattle.examples.specs.Streams.{ChoosesKind};
+ghost use Rattle.examples.specs.Streams.{ChoosesKind, take_kind};
 
 use syn_parse::laws::{forks_follow, parses_go_on};
 use syn_parse::{Fault, Parse, ParseStream, Result};
@@ -78,7 +79,8 @@ pub enum Kind {
 
 /// The kind of the next item, by its keyword, which is left: a choice by lookahead.
 pub fn next_kind(input: ParseStream<'_, '_>) -> Result<Kind>
-    ensures { ChoosesKind input.old result input.new }
+    ensures chooses { ChoosesKind input.old result input.new }
+    ensures takes { Takes take_kind input.old result input.new }
 {
     let mut lookahead = input.lookahead1();
     if lookahead.peek::<token::Fn>()? {
