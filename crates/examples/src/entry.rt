@@ -1,4 +1,4 @@
-// Entries.
+//! Types that state what they take, and their parsers.
 ghost use Rattle.std.specs.Prelude.{◌≡◌, true};
 ghost use Rattle.std.specs.Str.{chars};
 ghost use Rattle.tok_core.specs.Erase.{erase};
@@ -99,21 +99,21 @@ impl Parse for Mark {
     }
 }
 
-/// All of these tokens as an entry.
+/// Parses all of these tokens as an entry.
 pub fn parse_entry(alloc: Global, tokens: TokenStream) -> Result<Entry>
     ensures { TakesAll (λ v. v) take_entry tokens result }
 {
     parse2(alloc, tokens)
 }
 
-/// A text as an entry.
+/// Parses a text as an entry.
 pub fn parse_entry_text(alloc: Global, text: &str) -> Result<Entry>
     ensures { KeepsText (taken take_entry) (chars text.now) result }
 {
     parse_str(alloc, text)
 }
 
-/// Two streams as entries. Where they differ only in invisible groups the results agree.
+/// Parses two streams as entries. If they differ only in invisible groups, the results agree.
 pub fn parse_entry_both(
     alloc: Global,
     left: TokenStream,

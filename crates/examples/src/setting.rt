@@ -1,4 +1,4 @@
-// Settings and fields.
+//! A value that may be missing, by a peek and by an `Option`, and a field tried on a fork.
 ghost use Rattle.std.specs.Prelude.{◌≡◌, OnErr};
 ghost use Rattle.syn_parse.specs.Takes.{Takes};
 ghost use Rattle.syn_parse.specs.Takings.{taken};

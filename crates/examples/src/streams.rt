@@ -1,4 +1,5 @@
-//! Callers of `syn_parse`: an item read by hand, a choice, a try on a fork, a step, and a parser that calls itself.
+//! Callers of `syn_parse`: an item parsed by hand, a choice, a try on a fork, a step, and a parser
+//! that calls itself.
 ghost use Rattle.std.specs.Prelude.{◌<◌, IfOk, codes};
 ghost use Rattle.tok_buffer.specs.Cursors.{place_of};
 ghost use Rattle.tok_buffer.specs.Progress.{remaining};
@@ -43,7 +44,7 @@ impl Parse for Item {
     }
 }
 
-// Fields up to the end, with a comma after each but the last, and after the last too if you like.
+// Parses fields up to the end, with a comma after each but the last, where it is optional.
 fn fields(input: ParseStream<'_, '_>) -> Result<Vec<Field>>
     ensures { FieldsParse input.old result input.new }
 {
@@ -70,14 +71,14 @@ fn parse_field(input: ParseStream<'_, '_>) -> Result<Field>
     })
 }
 
-/// What kind of item is next.
+/// The kind of the next item.
 #[derive(Clone, Copy, PartialEq, Eq)]
 pub enum Kind {
     Function,
     Structure,
 }
 
-/// The kind of the next item, by its keyword, which is left: a choice by lookahead.
+/// Returns the kind of the next item by its keyword, which stays unread: a choice by lookahead.
 pub fn next_kind(input: ParseStream<'_, '_>) -> Result<Kind>
     ensures chooses { ChoosesKind input.old result input.new }
     ensures takes { Takes take_kind input.old result input.new }
@@ -92,7 +93,7 @@ pub fn next_kind(input: ParseStream<'_, '_>) -> Result<Kind>
     }
 }
 
-/// The next tree, by a step over the stream's cursor.
+/// Parses the next tree, by a step over the stream's cursor.
 pub fn next_tree(input: ParseStream<'_, '_>) -> Result<TokenTree>
     ensures { TreeParses input.old result input.new }
 {
@@ -111,7 +112,7 @@ pub fn next_tree(input: ParseStream<'_, '_>) -> Result<TokenTree>
     )
 }
 
-/// A field, or `None` where none is next, and then the stream stays: a try on a fork.
+/// Parses a field, or returns `None` and stays if none is next: a try on a fork.
 pub fn optional_field(input: ParseStream<'_, '_>) -> Result<Option<Field>>
     ensures { OptionalFieldParses input.old result input.new }
 {
@@ -133,8 +134,9 @@ pub fn optional_field(input: ParseStream<'_, '_>) -> Result<Option<Field>>
     }
 }
 
-/// How many names one entry has, a name or a list of entries in parentheses: 3 in `(a (b) ((c)))`. It counts up to
-/// `u64::MAX` names. Where an error leaves the stream isn't specified.
+/// Counts the names of an entry, a name or a list of entries in parentheses: 3 in `(a (b) ((c)))`.
+///
+/// It counts up to `u64::MAX` names. Where an error leaves the stream isn't specified.
 #[cycle(nested)]
 #[tactic(auto, unfolding(syn_parse::specs::Reads::Does))]
 pub fn count_names(input: ParseStream<'_, '_>) -> Result<u64>
@@ -157,7 +159,7 @@ pub fn count_names(input: ParseStream<'_, '_>) -> Result<u64>
     }
 }
 
-// The names of all entries that are left.
+// Counts the names of all entries that are left.
 #[cycle(nested)]
 fn count_all(input: ParseStream<'_, '_>) -> Result<u64>
     ensures { CountsEntries input.old result input.new }
