@@ -1,6 +1,7 @@
 -- What the quoted part of a literal may hold (Rust Reference: Tokens, Character and string
 -- literals; Byte and byte string literals; C string and raw C string literals).
 use Rattle.std.specs.Prelude.{ℕ, List, [], ◌∷◌, Bool, false, ◌==◌, ◌||◌, ◌&&◌, not, nat_le, if◌then◌else◌}
+use Rattle.std.specs.List.{list_any}
 use Rattle.tok_lexical.specs.Pieces.{after_first, begins_with}
 use Rattle.tok_lexical.specs.declared.contents.Contents.{Contents}
 use Rattle.tok_lexical.specs.declared.contents.Contents.TheVariants.{Text, Bytes, C}
@@ -21,6 +22,10 @@ abbrev pub has_misfit : Contents → List ℕ → Bool
 has_misfit contents [] = false
 has_misfit contents (c ∷ rest) =
     if is_misfit contents c then has_quote rest else has_misfit contents rest
+
+-- some character is a U+000D
+abbrev pub has_return : List ℕ → Bool
+has_return = list_any (λ c. c == 13)
 
 -- a U+000D that no line feed follows
 abbrev pub has_bare_return : List ℕ → Bool

@@ -1,7 +1,7 @@
 //! The contents of quoted literals.
-ghost use Rattle.std.specs.Prelude.{◌≡◌, false};
+ghost use Rattle.std.specs.Prelude.{◌≡◌, false, true};
 ghost use Rattle.std.specs.Str.{chars};
-ghost use Rattle.tok_lexical.specs.Contents.{is_misfit, has_quote, has_misfit, has_bare_return, is_unfit, only_zeros, names_zero, has_zero, is_wrong};
+ghost use Rattle.tok_lexical.specs.Contents.{is_misfit, has_quote, has_misfit, has_bare_return, has_return, is_unfit, only_zeros, names_zero, has_zero, is_wrong};
 
 use crate::text::{begins_with, next_char, past_char, past_first, past_others};
 
@@ -55,9 +55,34 @@ fn has_misfit(contents: Contents, piece: &str) -> bool
     false
 }
 
-/// Returns `true` if the text has a U+000D that no line feed follows.
+/// Returns `true` if the text has a U+000D.
+// Without an exit from the loop, so that it is compiled to vector instructions.
 #[inline(never)]
-pub fn has_bare_return(text: &str) -> bool
+pub fn has_return(text: &str) -> bool
+    ensures { result ≡ has_return (chars text.now) }
+{
+    let mut found = false;
+    for byte in text.as_bytes() {
+        found = found | (*byte == b'\r');
+    }
+    found
+}
+
+/// Returns `true` if the text has a U+000D that no line feed follows.
+///
+/// # Requires
+///
+/// If the text has a U+000D, `returns` must be `true`. If it isn't, nothing is searched.
+#[inline(always)]
+pub fn has_bare_return(text: &str, returns: bool) -> bool
+    requires { has_return (chars text.now) ≡ true → returns ≡ true }
+    ensures { result ≡ has_bare_return (chars text.now) }
+{
+    returns && finds_bare_return(text)
+}
+
+#[inline(never)]
+fn finds_bare_return(text: &str) -> bool
     ensures { result ≡ has_bare_return (chars text.now) }
 {
     let mut rest = text;
@@ -71,14 +96,19 @@ pub fn has_bare_return(text: &str) -> bool
 }
 
 /// Returns `true` if a string literal contains what one of this kind may not.
+///
+/// # Requires
+///
+/// If the piece has a U+000D, `returns` must be `true`.
 // Inlined, but for the searches: each string of a source asks this, and its kind is known.
 #[inline(always)]
-pub fn is_unfit(contents: Contents, piece: &str) -> bool
+pub fn is_unfit(contents: Contents, piece: &str, returns: bool) -> bool
+    requires { has_return (chars piece.now) ≡ true → returns ≡ true }
     ensures { result ≡ is_unfit contents (chars piece.now) }
 {
     match contents {
-        Contents::Text => has_bare_return(piece),
-        _ => has_bare_return(piece) || has_misfit(contents, piece),
+        Contents::Text => has_bare_return(piece, returns),
+        _ => has_bare_return(piece, returns) || has_misfit(contents, piece),
     }
 }
 
@@ -133,13 +163,18 @@ fn has_zero(piece: &str) -> bool
 }
 
 /// Returns `true` if a string that isn't raw contains what one of this kind may not.
+///
+/// # Requires
+///
+/// If the piece has a U+000D, `returns` must be `true`.
 // Inlined for the same reason.
 #[inline(always)]
-pub fn is_wrong(contents: Contents, piece: &str) -> bool
+pub fn is_wrong(contents: Contents, piece: &str, returns: bool) -> bool
+    requires { has_return (chars piece.now) ≡ true → returns ≡ true }
     ensures { result ≡ is_wrong contents (chars piece.now) }
 {
     match contents {
-        Contents::C => is_unfit(contents, piece) || has_zero(piece),
-        _ => is_unfit(contents, piece),
+        Contents::C => is_unfit(contents, piece, returns) || has_zero(piece),
+        _ => is_unfit(contents, piece, returns),
     }
 }

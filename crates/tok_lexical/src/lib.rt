@@ -25,7 +25,7 @@ mod strings;
 pub mod text;
 pub mod words;
 
-pub use contents::Contents;
+pub use contents::{Contents, has_return};
 pub use delimiter::Delimiter;
 pub use edition::Edition;
 pub use numbers::Base;

@@ -1,6 +1,7 @@
 //! Which pieces are rejected.
-ghost use Rattle.std.specs.Prelude.{◌≡◌, if◌then◌else◌, Some, None};
+ghost use Rattle.std.specs.Prelude.{◌≡◌, if◌then◌else◌, Some, None, true};
 ghost use Rattle.std.specs.Str.{chars};
+ghost use Rattle.tok_lexical.specs.Contents.{has_return};
 ghost use Rattle.tok_lexical.specs.Refusals.{refusal, is_reserved, is_guard, lifetime_refusal};
 
 use crate::comments::{breaks_line, is_block_doc, is_line_doc};
@@ -61,10 +62,15 @@ fn lifetime_refusal(edition: Edition, name: &str, after: &str) -> Option<Reason>
 }
 
 /// Returns the reason for which the piece that a rule took at this byte is rejected, if it is.
+///
+/// # Requires
+///
+/// If the piece has a U+000D, `returns` must be `true`. If it isn't, none is searched for.
 // Inlined: the loop over pieces exists twice, for trees and for entries, and a call in each would
 // cost every piece.
 #[inline(always)]
-pub fn refusal(rule: Rule, at: usize, piece: &str, after: &str) -> Option<Reason>
+pub fn refusal(rule: Rule, at: usize, piece: &str, after: &str, returns: bool) -> Option<Reason>
+    requires { has_return (chars piece.now) ≡ true → returns ≡ true }
     ensures { result ≡ refusal rule at (chars piece.now) (chars after.now) }
 {
     match rule {
@@ -79,7 +85,7 @@ pub fn refusal(rule: Rule, at: usize, piece: &str, after: &str) -> Option<Reason
         }
         Rule::SourceBlockComment => {
             refused_if(
-                is_block_doc(piece) && has_bare_return(piece),
+                is_block_doc(piece) && has_bare_return(piece, returns),
                 Reason::BareReturn,
             )
         }
@@ -90,10 +96,10 @@ pub fn refusal(rule: Rule, at: usize, piece: &str, after: &str) -> Option<Reason
         Rule::StringPrefix => Some(Reason::PrefixedString),
         Rule::BadPrefixed(_) => Some(Reason::MalformedQuoted),
         Rule::SourceString(contents) => {
-            refused_if(is_wrong(contents, piece), Reason::MalformedQuoted)
+            refused_if(is_wrong(contents, piece, returns), Reason::MalformedQuoted)
         }
         Rule::RawString(contents) => {
-            refused_if(is_unfit(contents, piece), Reason::MalformedQuoted)
+            refused_if(is_unfit(contents, piece, returns), Reason::MalformedQuoted)
         }
         Rule::Lifetime => refused_if(is_missing(past_first(piece)), Reason::MissingRawIdentifier),
         Rule::SourceLifetime(edition) => lifetime_refusal(edition, past_first(piece), after),

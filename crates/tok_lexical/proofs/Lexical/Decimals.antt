@@ -9,7 +9,8 @@ use Rattle.tok_lexical.specs.Numbers.{is_digit_or_underscore, starts_digit, IsNu
 use Rattle.tok_lexical.specs.Pieces.{HasPrefix, IsLongestPrefix, ReadsLongest, Skips}
 use Rattle.tok_lexical.specs.Rules.{Spells}
 use Rattle.tok_lexical.specs.declared.rule.Rule.{Rule}
-use Rattle.tok_lexical.specs.declared.rule.Rule.TheVariants.{Decimal, Float, PointedDecimal, SourceDecimal}
+use Rattle.tok_lexical.specs.declared.rule.Rule.TheVariants.{Decimal, Float, PointedDecimal}
+use Rattle.tok_lexical.specs.declared.rule.Rule.TheVariants.{SourceDecimal}
 use Rattle.tok_lexical.specs.declared.rule.Rules.{Rules}
 use Rattle.tok_lexical.specs.declared.rule.Rules.TheVariants.{Plain, Marked, Source}
 use Rattle.tok_lexical.specs.declared.edition.Edition.{Edition}
@@ -20,33 +21,50 @@ use Rattle.tok_lexical.proofs.Lexical.Numbers.{tries_run, takes_run, digits_star
 abbrev source_decimals : List Rule
 source_decimals = Float ∷ PointedDecimal ∷ SourceDecimal ∷ []
 
-module _ (text rest digits : List ℕ) (s : Skips (is_digit_or_underscore 10) text digits rest) (g : starts_digit text ≡ true) where
-  pub decimal_float : (end : Bor (List ℕ)) → ReadsLongest IsFloatTail rest (Some end) → (piece : List ℕ) × IsFirstFit text source_decimals Float piece (chars end.now)
+module _ (text rest digits : List ℕ) (s : Skips (is_digit_or_underscore 10) text digits rest)
+    (g : starts_digit text ≡ true) where
+  pub decimal_float : (end : Bor (List ℕ)) → ReadsLongest IsFloatTail rest (Some end) →
+      (piece : List ℕ) × IsFirstFit text source_decimals Float piece (chars end.now)
   decimal_float end t =
-      let w = tries_run 10 starts_digit IsFloatTail tail_begins text rest digits (Some end) s (digits_start text rest digits s g) t in
+      let w = tries_run 10 starts_digit IsFloatTail tail_begins text rest digits (Some end) s
+      (digits_start text rest digits s g) t in
       (w.0, here w.1)
 
   no_float : ReadsLongest IsFloatTail rest None → HasPrefix (Spells Float) text → ⊥
-  no_float misses = tries_run 10 starts_digit IsFloatTail tail_begins text rest digits None s (digits_start text rest digits s g) misses
+  no_float misses = tries_run 10 starts_digit IsFloatTail tail_begins text rest digits None s
+      (digits_start text rest digits s g) misses
 
-  pub decimal_point : (after : Bor (List ℕ)) → ReadsLongest IsFloatTail rest None → rest ≡ 46 ∷ chars after.now → (piece : List ℕ) × IsFirstFit text source_decimals PointedDecimal piece (chars after.now)
+  pub decimal_point : (after : Bor (List ℕ)) → ReadsLongest IsFloatTail rest None →
+      rest ≡ 46 ∷ chars after.now → (piece : List ℕ) × IsFirstFit text source_decimals
+      PointedDecimal piece (chars after.now)
   decimal_point after misses e =
-      let w = tries_run 10 starts_digit (λ tail. tail ≡ 46 ∷ []) point_begins text rest digits (Some after) s (digits_start text rest digits s g) (tries_point rest (Some after) e) in
+      let w = tries_run 10 starts_digit (λ tail. tail ≡ 46 ∷ []) point_begins text rest digits
+      (Some after) s (digits_start text rest digits s g)
+      (tries_point rest (Some after) e) in
       (w.0, later (no_float misses) (here w.1))
 
-  takes_plain : (suffix last : List ℕ) → IsLongestPrefix (IsNumberSuffix 10) rest suffix last → (piece : List ℕ) × IsLongestPrefix (Spells SourceDecimal) text piece last
-  takes_plain suffix last t = takes_run 10 starts_digit (IsNumberSuffix 10) (suffix_stops 10) text rest last digits suffix s (digits_start text rest digits s g) t
+  takes_plain : (suffix last : List ℕ) → IsLongestPrefix (IsNumberSuffix 10) rest suffix last →
+      (piece : List ℕ) × IsLongestPrefix (Spells SourceDecimal) text piece last
+  takes_plain suffix last t = takes_run 10 starts_digit (IsNumberSuffix 10) (suffix_stops 10)
+      text rest last digits suffix s (digits_start text rest digits s g) t
 
-  pub decimal_integer : (suffix last : List ℕ) → ReadsLongest IsFloatTail rest None → ((more : List ℕ) → rest ≡ 46 ∷ more → ⊥) → IsLongestPrefix (IsNumberSuffix 10) rest suffix last → (piece : List ℕ) × IsFirstFit text source_decimals SourceDecimal piece last
+  pub decimal_integer : (suffix last : List ℕ) → ReadsLongest IsFloatTail rest None →
+      ((more : List ℕ) → rest ≡ 46 ∷ more → ⊥) → IsLongestPrefix (IsNumberSuffix 10) rest suffix
+      last → (piece : List ℕ) × IsFirstFit text source_decimals SourceDecimal piece last
   decimal_integer suffix last misses n t =
       let w = takes_plain suffix last t in
-      let no_point = tries_run 10 starts_digit (λ tail. tail ≡ 46 ∷ []) point_begins text rest digits None s (digits_start text rest digits s g) (tries_point rest None n) in
+      let no_point = tries_run 10 starts_digit (λ tail. tail ≡ 46 ∷ []) point_begins text rest
+      digits None s (digits_start text rest digits s g) (tries_point rest None n) in
       (w.0, later (no_float misses) (later no_point (here w.1)))
 
-  pub decimal_only : (suffix last : List ℕ) → IsLongestPrefix (IsNumberSuffix 10) rest suffix last → (piece : List ℕ) × IsFirstFit text (Decimal ∷ []) Decimal piece last
+  pub decimal_only : (suffix last : List ℕ) → IsLongestPrefix (IsNumberSuffix 10) rest suffix
+      last → (piece : List ℕ) × IsFirstFit text (Decimal ∷ []) Decimal piece last
   decimal_only suffix last t = let w = takes_plain suffix last t in (w.0, here w.1)
 
-pub decimal_other : (kind : Rules) → ((edition : Edition) → kind ≡ Source edition → ⊥) → (text : List ℕ) (rule : Rule) (rest : List ℕ) → (piece : List ℕ) × IsFirstFit text (Decimal ∷ []) rule piece rest → (piece : List ℕ) × IsFirstFit text (decimal_rules kind) rule piece rest
+pub decimal_other : (kind : Rules) → ((edition : Edition) → kind ≡ Source edition → ⊥) →
+    (text : List ℕ) (rule : Rule) (rest : List ℕ) → (piece : List ℕ)
+    × IsFirstFit text (Decimal ∷ []) rule piece rest → (piece : List ℕ)
+    × IsFirstFit text (decimal_rules kind) rule piece rest
 decimal_other Plain n text rule rest d = d
 decimal_other Marked n text rule rest d = d
 decimal_other (Source edition) n text rule rest d = absurd (n edition refl)

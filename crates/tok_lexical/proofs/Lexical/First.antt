@@ -1,19 +1,37 @@
 -- The rule that decides, from what each try answered.
-use Rattle.std.proofs.Common.{rules, tests, ◌≡◌, ◌∙◌, ◌++◌, refl, sym, ℕ, zero, suc, ◌+◌, ◌<◌, ◌≤◌, inl, inr, List, [], ◌∷◌, length, get_or, ap, arith, subst}
+use Rattle.std.proofs.Common.{rules, tests, ◌≡◌, ◌∙◌, ◌++◌, refl, sym, ℕ, zero, suc, ◌+◌, ◌<◌}
+use Rattle.std.proofs.Common.{◌≤◌, inl, inr, List, [], ◌∷◌, length, get_or, ap, arith, subst}
 use Rattle.std.proofs.lemmas.List.{get_or_default}
 use Rattle.std.proofs.lemmas.Bool.{cases_eq, false≢true, eqb-true}
 use Rattle.std.specs.Prelude.{◌==◌, if◌then◌else◌, Bool, true, false}
 use Rattle.std.specs.Char.{is_digit}
 use Rattle.tok_lexical.specs.Pieces.{HasPrefix, IsLongestPrefix, IsOne}
 use Rattle.tok_lexical.specs.Fits.{NoneBefore}
-use Rattle.tok_lexical.specs.Starts.{may_begin, start_of, only, is_mark, is_prefix, rules_of, identifier_rule, punct_rule, last_rules}
+use Rattle.tok_lexical.specs.Starts.{may_begin, start_of, only, is_mark, is_prefix, rules_of}
+use Rattle.tok_lexical.specs.Starts.{identifier_rule, punct_rule, last_rules}
 use Rattle.tok_lexical.specs.Fits.{IsFirstFit, here, later}
 use Rattle.tok_lexical.specs.Rules.{Spells, plain_rules, marked_rules, source_rules}
 use Rattle.tok_lexical.specs.declared.rule.Rule.{Rule}
-use Rattle.tok_lexical.specs.declared.rule.Rule.TheVariants.{ByteOrderMark, Whitespace, LineComment, BlockComment, OpenComment, Opening, Closing, QuotedString, BadString, ByteChar, BadByteChar, StringPrefix, EscapedChar, BadEscapedChar, PlainChar, Lifetime, Apostrophe, MarkedApostrophe, Based, BadBased, Decimal, RawIdentifier, Identifier, Punct, MarkedPunct, Other, SourceString, RawString, BadPrefixed, SourceIdentifier, SourceLifetime, SourcePunct, Float, PointedDecimal, SourceDecimal, SourceLineComment, SourceBlockComment}
+use Rattle.tok_lexical.specs.declared.rule.Rule.TheVariants.{ByteOrderMark, Whitespace}
+use Rattle.tok_lexical.specs.declared.rule.Rule.TheVariants.{LineComment, BlockComment}
+use Rattle.tok_lexical.specs.declared.rule.Rule.TheVariants.{OpenComment, Opening, Closing}
+use Rattle.tok_lexical.specs.declared.rule.Rule.TheVariants.{QuotedString, BadString, ByteChar}
+use Rattle.tok_lexical.specs.declared.rule.Rule.TheVariants.{BadByteChar, StringPrefix}
+use Rattle.tok_lexical.specs.declared.rule.Rule.TheVariants.{EscapedChar, BadEscapedChar}
+use Rattle.tok_lexical.specs.declared.rule.Rule.TheVariants.{PlainChar, Lifetime, Apostrophe}
+use Rattle.tok_lexical.specs.declared.rule.Rule.TheVariants.{MarkedApostrophe, Based, BadBased}
+use Rattle.tok_lexical.specs.declared.rule.Rule.TheVariants.{Decimal, RawIdentifier, Identifier}
+use Rattle.tok_lexical.specs.declared.rule.Rule.TheVariants.{Punct, MarkedPunct, Other}
+use Rattle.tok_lexical.specs.declared.rule.Rule.TheVariants.{SourceString, RawString}
+use Rattle.tok_lexical.specs.declared.rule.Rule.TheVariants.{BadPrefixed, SourceIdentifier}
+use Rattle.tok_lexical.specs.declared.rule.Rule.TheVariants.{SourceLifetime, SourcePunct, Float}
+use Rattle.tok_lexical.specs.declared.rule.Rule.TheVariants.{PointedDecimal, SourceDecimal}
+use Rattle.tok_lexical.specs.declared.rule.Rule.TheVariants.{SourceLineComment}
+use Rattle.tok_lexical.specs.declared.rule.Rule.TheVariants.{SourceBlockComment}
 use Rattle.tok_lexical.specs.declared.contents.Contents.TheVariants as contents
 use Rattle.tok_lexical.specs.declared.edition.Edition.{Edition}
-use Rattle.tok_lexical.specs.declared.edition.Edition.TheVariants.{Edition2015, Edition2018, Edition2021, Edition2024}
+use Rattle.tok_lexical.specs.declared.edition.Edition.TheVariants.{Edition2015, Edition2018}
+use Rattle.tok_lexical.specs.declared.edition.Edition.TheVariants.{Edition2021, Edition2024}
 use Rattle.tok_lexical.specs.Characters.{is_whitespace, is_punct, opening_mark, closing_mark}
 use Rattle.tok_lexical.specs.Words.{is_identifier_start, IsIdentifier}
 use Rattle.tok_lexical.specs.Numbers.{IsRun, starts_digit}
@@ -28,23 +46,33 @@ use Rattle.unicode_ident.specs.Ident.{is_xid_continue}
 use Rattle.tok_lexical.proofs.Lexical.Longest.{takes_one, takes_identifier}
 use Rattle.tok_lexical.proofs.Lexical.Fits.{spelled_one}
 
-pub decides_at : (rules : List Rule) (text piece rest : List ℕ) (i : ℕ) (d : Rule) → i < length rules → NoneBefore rules text i → IsLongestPrefix (Spells (get_or rules i d)) text piece rest → IsFirstFit text rules (get_or rules i d) piece rest
+pub decides_at : (rules : List Rule) (text piece rest : List ℕ) (i : ℕ) (d : Rule) →
+    i < length rules → NoneBefore rules text i → IsLongestPrefix (Spells (get_or rules i d)) text
+    piece rest → IsFirstFit text rules (get_or rules i d) piece rest
 decides_at [] text piece rest i d l before t = absurd (omega arith)
 decides_at (r ∷ rules) text piece rest zero d l before t = here t
 decides_at (r ∷ rules) text piece rest (suc i) d l before t =
-    later (before.none 0 r (omega arith) (omega arith)) (decides_at rules text piece rest i d (omega arith) (record { none = λ j q k m. before.none (suc j) q (omega arith) (omega arith) }) t)
+    later (before.none 0 r (omega arith) (omega arith))
+    (decides_at rules text piece rest i d (omega arith)
+    (record { none = λ j q k m. before.none (suc j) q (omega arith) (omega arith) }) t)
 
-pub none_more : (rules : List Rule) (text : List ℕ) (i : ℕ) (d : Rule) → i < length rules → NoneBefore rules text i → (HasPrefix (Spells (get_or rules i d)) text → ⊥) → NoneBefore rules text (i + 1)
+pub none_more : (rules : List Rule) (text : List ℕ) (i : ℕ) (d : Rule) → i < length rules →
+    NoneBefore rules text i → (HasPrefix (Spells (get_or rules i d)) text → ⊥) →
+    NoneBefore rules text (i + 1)
 none_more rules text i d l before misses = record {
   none = λ j q k m fits.
       elim (cases_eq j i) [
-        | inl same ↦ misses (subst (λ r. HasPrefix (Spells r) text) (ap (λ n. get_or rules n q) same ∙ get_or_default rules i q d l) fits)
+        | inl same ↦ misses
+            (subst (λ r. HasPrefix (Spells r) text) (ap (λ n. get_or rules n q) same
+            ∙ get_or_default rules i q d l) fits)
         | inr other ↦ before.none j q (omega arith) m fits
       ];
 }
 
-pub none_at_all : (rules : List Rule) (text : List ℕ) (i : ℕ) → length rules ≤ i → NoneBefore rules text i → NoneBefore rules text (length rules)
-none_at_all rules text i l before = record { none = λ j q k m fits. before.none j q (omega arith) m fits }
+pub none_at_all : (rules : List Rule) (text : List ℕ) (i : ℕ) → length rules ≤ i →
+    NoneBefore rules text i → NoneBefore rules text (length rules)
+none_at_all rules text i l before =
+    record { none = λ j q k m fits. before.none j q (omega arith) m fits }
 
 -- the start of a character that passes none of the tests before this one
 abbrev from_punct : ℕ → Start
@@ -69,7 +97,8 @@ abbrev from_closing_parenthesis : ℕ → Start
 from_closing_parenthesis c = if c == 41 then start.Closing delimiter.Parenthesis else from_bracket c
 
 abbrev from_parenthesis : ℕ → Start
-from_parenthesis c = if c == 40 then start.Opening delimiter.Parenthesis else from_closing_parenthesis c
+from_parenthesis c = if c == 40 then start.Opening delimiter.Parenthesis else
+    from_closing_parenthesis c
 
 abbrev from_apostrophe : ℕ → Start
 from_apostrophe c = if c == 39 then start.Apostrophe else from_parenthesis c
@@ -92,29 +121,39 @@ from_zero c = if c == 48 then start.Zero else from_digit c
 abbrev from_whitespace : ℕ → Start
 from_whitespace c = if is_whitespace c then start.Whitespace else from_zero c
 
-head_is : (k c : ℕ) (text piece after tail : List ℕ) → c ∷ text ≡ piece ++ after → piece ≡ k ∷ tail → c ≡ k
+head_is : (k c : ℕ) (text piece after tail : List ℕ) → c ∷ text ≡ piece ++ after →
+    piece ≡ k ∷ tail → c ≡ k
 head_is k c text piece after tail cut e =
     let same : c ∷ text ≡ k ∷ (tail ++ after) = cut ∙ ap (λ w. w ++ after) e in
     cc
 
-at_head : (p : Start → Bool) (k c : ℕ) (text piece after tail : List ℕ) → c ∷ text ≡ piece ++ after → piece ≡ k ∷ tail → p (start_of k) ≡ true → p (start_of c) ≡ true
-at_head p k c text piece after tail cut e good = subst (λ x. p (start_of x) ≡ true) (sym (head_is k c text piece after tail cut e)) good
+at_head : (p : Start → Bool) (k c : ℕ) (text piece after tail : List ℕ) → c ∷ text ≡ piece
+    ++ after → piece ≡ k ∷ tail → p (start_of k) ≡ true → p (start_of c) ≡ true
+at_head p k c text piece after tail cut e good = subst (λ x. p (start_of x) ≡ true)
+    (sym (head_is k c text piece after tail cut e)) good
 
-either : (p : Start → Bool) (b : Bool) (x y : Start) → p x ≡ true → p y ≡ true → p (if b then x else y) ≡ true
+either : (p : Start → Bool) (b : Bool) (x y : Start) → p x ≡ true → p y ≡ true →
+    p (if b then x else y) ≡ true
 either p true x y first second = first
 either p false x y first second = second
 
-taken : (p : Start → Bool) (b : Bool) (x y : Start) → b ≡ true → p x ≡ true → p (if b then x else y) ≡ true
+taken : (p : Start → Bool) (b : Bool) (x y : Start) → b ≡ true → p x ≡ true →
+    p (if b then x else y) ≡ true
 taken p true x y e first = first
 taken p false x y e first = absurd (false≢true e)
 
-pub identifier_head : (c : ℕ) (text : List ℕ) → HasPrefix IsIdentifier (c ∷ text) → is_identifier_start c ≡ true
+pub identifier_head : (c : ℕ) (text : List ℕ) → HasPrefix IsIdentifier (c ∷ text) →
+    is_identifier_start c ≡ true
 identifier_head c text ([], after, cut, s) = absurd s
-identifier_head c text (d ∷ piece, after, cut, s) = ap is_identifier_start (head_is d c text (d ∷ piece) after piece cut refl) ∙ s.0
+identifier_head c text (d ∷ piece, after, cut, s) =
+    ap is_identifier_start (head_is d c text (d ∷ piece) after piece cut refl) ∙ s.0
 
-decimal_head : (Tail : List ℕ → Type 0) (c : ℕ) (text : List ℕ) → HasPrefix (IsRun 10 starts_digit Tail) (c ∷ text) → is_digit c 10 ≡ true
-decimal_head Tail c text (piece, after, cut, ([], suffix, e, all, good, s)) = absurd (false≢true good)
-decimal_head Tail c text (piece, after, cut, (d ∷ digits, suffix, e, all, good, s)) = ap (λ x. is_digit x 10) (head_is d c text piece after (digits ++ suffix) cut e) ∙ good
+decimal_head : (Tail : List ℕ → Type 0) (c : ℕ) (text : List ℕ) →
+    HasPrefix (IsRun 10 starts_digit Tail) (c ∷ text) → is_digit c 10 ≡ true
+decimal_head Tail c text (piece, after, cut, ([], suffix, e, all, good, s)) =
+    absurd (false≢true good)
+decimal_head Tail c text (piece, after, cut, (d ∷ digits, suffix, e, all, good, s)) =
+    ap (λ x. is_digit x 10) (head_is d c text piece after (digits ++ suffix) cut e) ∙ good
 
 -- a digit is neither a mark nor white space
 digit_no_mark : (c : ℕ) → is_digit c 10 ≡ true → is_mark c ≡ false
@@ -123,99 +162,229 @@ digit_no_mark c h = search (rules, tests)
 digit_no_space : (c : ℕ) → is_digit c 10 ≡ true → is_whitespace c ≡ false
 digit_no_space c h = search (rules, tests)
 
-digit_begins : (p : Start → Bool) (c : ℕ) → p start.Zero ≡ true → p start.Digit ≡ true → is_digit c 10 ≡ true → p (start_of c) ≡ true
+digit_begins : (p : Start → Bool) (c : ℕ) → p start.Zero ≡ true → p start.Digit ≡ true →
+    is_digit c 10 ≡ true → p (start_of c) ≡ true
 digit_begins p c zeros others h =
     subst (λ b. p (if b then start.Rest else from_whitespace c) ≡ true) (sym (digit_no_mark c h))
     (subst (λ b. p (if b then start.Whitespace else from_zero c) ≡ true) (sym (digit_no_space c h))
-    (either p (c == 48) start.Zero (from_digit c) zeros (taken p (is_digit c 10) start.Digit (from_prefix c) h others)))
+    (either p (c == 48) start.Zero (from_digit c) zeros
+    (taken p (is_digit c 10) start.Digit (from_prefix c) h others)))
 
-pub begins : (rule : Rule) (c : ℕ) (text : List ℕ) → HasPrefix (Spells rule) (c ∷ text) → may_begin rule (start_of c) ≡ true
-begins ByteOrderMark c text (piece, after, cut, (d, pass, e)) = at_head (may_begin ByteOrderMark) 0xFEFF c text piece after [] cut (e ∙ ap (λ w. w ∷ []) (eqb-true d 0xFEFF pass)) refl
-begins LineComment c text (piece, after, cut, (body, e, a)) = at_head (may_begin LineComment) 47 c text piece after _ cut e refl
-begins BlockComment c text (piece, after, cut, (body, e, a)) = at_head (may_begin BlockComment) 47 c text piece after _ cut e refl
-begins SourceLineComment c text (piece, after, cut, (body, e, a)) = at_head (may_begin SourceLineComment) 47 c text piece after _ cut e refl
-begins SourceBlockComment c text (piece, after, cut, (body, e, a)) = at_head (may_begin SourceBlockComment) 47 c text piece after _ cut e refl
-begins OpenComment c text (piece, after, cut, e) = at_head (may_begin OpenComment) 47 c text piece after _ cut e refl
-begins QuotedString c text (piece, after, cut, (body, suffix, e, u, k)) = at_head (may_begin QuotedString) 34 c text piece after _ cut e refl
-begins BadString c text (piece, after, cut, (d, pass, e)) = at_head (may_begin BadString) 34 c text piece after [] cut (e ∙ ap (λ w. w ∷ []) (eqb-true d 34 pass)) refl
-begins ByteChar c text (piece, after, cut, (more, e, s)) = at_head (may_begin ByteChar) 98 c text piece after _ cut e refl
-begins BadByteChar c text (piece, after, cut, e) = at_head (may_begin BadByteChar) 98 c text piece after _ cut e refl
-begins EscapedChar c text (piece, after, cut, (inner, suffix, e, h, k)) = at_head (may_begin EscapedChar) 39 c text piece after _ cut e refl
-begins BadEscapedChar c text (piece, after, cut, e) = at_head (may_begin BadEscapedChar) 39 c text piece after _ cut e refl
-begins PlainChar c text (piece, after, cut, (inner, suffix, e, h, k)) = at_head (may_begin PlainChar) 39 c text piece after _ cut e refl
-begins Lifetime c text (piece, after, cut, (more, e, s)) = at_head (may_begin Lifetime) 39 c text piece after _ cut e refl
-begins (SourceLifetime edition) c text (piece, after, cut, (more, e, s)) = at_head (may_begin (SourceLifetime edition)) 39 c text piece after _ cut e refl
-begins Apostrophe c text (piece, after, cut, (d, pass, e)) = at_head (may_begin Apostrophe) 39 c text piece after [] cut (e ∙ ap (λ w. w ∷ []) (eqb-true d 39 pass)) refl
-begins MarkedApostrophe c text (piece, after, cut, (d, pass, e)) = at_head (may_begin MarkedApostrophe) 39 c text piece after [] cut (e ∙ ap (λ w. w ∷ []) (eqb-true d 39 pass)) refl
-begins RawIdentifier c text (piece, after, cut, (more, e, s)) = at_head (may_begin RawIdentifier) 114 c text piece after _ cut e refl
-begins (Opening delimiter.Parenthesis) c text (piece, after, cut, (d, pass, e)) = at_head (may_begin (Opening delimiter.Parenthesis)) (opening_mark delimiter.Parenthesis) c text piece after [] cut (e ∙ ap (λ w. w ∷ []) (eqb-true d (opening_mark delimiter.Parenthesis) pass)) refl
-begins (Opening delimiter.Brace) c text (piece, after, cut, (d, pass, e)) = at_head (may_begin (Opening delimiter.Brace)) (opening_mark delimiter.Brace) c text piece after [] cut (e ∙ ap (λ w. w ∷ []) (eqb-true d (opening_mark delimiter.Brace) pass)) refl
-begins (Opening delimiter.Bracket) c text (piece, after, cut, (d, pass, e)) = at_head (may_begin (Opening delimiter.Bracket)) (opening_mark delimiter.Bracket) c text piece after [] cut (e ∙ ap (λ w. w ∷ []) (eqb-true d (opening_mark delimiter.Bracket) pass)) refl
-begins (Opening delimiter.None) c text (piece, after, cut, (d, pass, e)) = at_head (may_begin (Opening delimiter.None)) (opening_mark delimiter.None) c text piece after [] cut (e ∙ ap (λ w. w ∷ []) (eqb-true d (opening_mark delimiter.None) pass)) refl
-begins (Closing delimiter.Parenthesis) c text (piece, after, cut, (d, pass, e)) = at_head (may_begin (Closing delimiter.Parenthesis)) (closing_mark delimiter.Parenthesis) c text piece after [] cut (e ∙ ap (λ w. w ∷ []) (eqb-true d (closing_mark delimiter.Parenthesis) pass)) refl
-begins (Closing delimiter.Brace) c text (piece, after, cut, (d, pass, e)) = at_head (may_begin (Closing delimiter.Brace)) (closing_mark delimiter.Brace) c text piece after [] cut (e ∙ ap (λ w. w ∷ []) (eqb-true d (closing_mark delimiter.Brace) pass)) refl
-begins (Closing delimiter.Bracket) c text (piece, after, cut, (d, pass, e)) = at_head (may_begin (Closing delimiter.Bracket)) (closing_mark delimiter.Bracket) c text piece after [] cut (e ∙ ap (λ w. w ∷ []) (eqb-true d (closing_mark delimiter.Bracket) pass)) refl
-begins (Closing delimiter.None) c text (piece, after, cut, (d, pass, e)) = at_head (may_begin (Closing delimiter.None)) (closing_mark delimiter.None) c text piece after [] cut (e ∙ ap (λ w. w ∷ []) (eqb-true d (closing_mark delimiter.None) pass)) refl
-begins (Based base) c text (piece, after, cut, (more, e, s)) = at_head (may_begin (Based base)) 48 c text piece after _ cut e refl
-begins (BadBased base) c text (piece, after, cut, e) = at_head (may_begin (BadBased base)) 48 c text piece after _ cut e refl
-begins StringPrefix c text (piece, after, cut, inl (more, e, s)) = at_head (may_begin StringPrefix) 114 c text piece after _ cut e refl
-begins StringPrefix c text (piece, after, cut, inr (inl (more, e, s))) = at_head (may_begin StringPrefix) 98 c text piece after _ cut e refl
-begins StringPrefix c text (piece, after, cut, inr (inr (more, e, s))) = at_head (may_begin StringPrefix) 99 c text piece after _ cut e refl
-begins (SourceString contents.Text) c text (piece, after, cut, (body, suffix, e, u, k)) = at_head (may_begin (SourceString contents.Text)) 34 c text piece after _ cut e refl
-begins (SourceString contents.Bytes) c text (piece, after, cut, (more, e, s)) = at_head (may_begin (SourceString contents.Bytes)) 98 c text piece after _ cut e refl
-begins (SourceString contents.C) c text (piece, after, cut, (more, e, s)) = at_head (may_begin (SourceString contents.C)) 99 c text piece after _ cut e refl
-begins (RawString contents.Text) c text (piece, after, cut, (more, e, s)) = at_head (may_begin (RawString contents.Text)) 114 c text piece after _ cut e refl
-begins (RawString contents.Bytes) c text (piece, after, cut, (more, e, s)) = at_head (may_begin (RawString contents.Bytes)) 98 c text piece after _ cut e refl
-begins (RawString contents.C) c text (piece, after, cut, (more, e, s)) = at_head (may_begin (RawString contents.C)) 99 c text piece after _ cut e refl
-begins (BadPrefixed contents.Text) c text (piece, after, cut, (more, e, s)) = at_head (may_begin (BadPrefixed contents.Text)) 114 c text piece after _ cut e refl
-begins (BadPrefixed contents.Bytes) c text (piece, after, cut, (more, e, s)) = at_head (may_begin (BadPrefixed contents.Bytes)) 98 c text piece after _ cut e refl
-begins (BadPrefixed contents.C) c text (piece, after, cut, (more, e, s)) = at_head (may_begin (BadPrefixed contents.C)) 99 c text piece after _ cut e refl
-begins Whitespace c text (piece, after, cut, (d, pass, e)) = either (may_begin Whitespace) (is_mark c) start.Rest (from_whitespace c) refl (taken (may_begin Whitespace) (is_whitespace c) start.Whitespace (from_zero c) (ap is_whitespace (head_is d c text piece after [] cut e) ∙ pass) refl)
-begins Decimal c text fits = either (may_begin Decimal) (is_mark c) start.Rest (from_whitespace c) refl (either (may_begin Decimal) (is_whitespace c) start.Whitespace (from_zero c) refl (either (may_begin Decimal) (c == 48) start.Zero (from_digit c) refl (taken (may_begin Decimal) (is_digit c 10) start.Digit (from_prefix c) (decimal_head _ c text fits) refl)))
+pub begins : (rule : Rule) (c : ℕ) (text : List ℕ) → HasPrefix (Spells rule) (c ∷ text) →
+    may_begin rule (start_of c) ≡ true
+begins ByteOrderMark c text (piece, after, cut, (d, pass, e)) = at_head (may_begin ByteOrderMark)
+    0xFEFF c text piece after [] cut (e ∙ ap (λ w. w ∷ []) (eqb-true d 0xFEFF pass)) refl
+begins LineComment c text (piece, after, cut, (body, e, a)) = at_head (may_begin LineComment) 47
+    c text piece after _ cut e refl
+begins BlockComment c text (piece, after, cut, (body, e, a)) = at_head (may_begin BlockComment)
+    47 c text piece after _ cut e refl
+begins SourceLineComment c text (piece, after, cut, (body, e, a)) =
+    at_head (may_begin SourceLineComment) 47 c text piece after _ cut e refl
+begins SourceBlockComment c text (piece, after, cut, (body, e, a)) =
+    at_head (may_begin SourceBlockComment) 47 c text piece after _ cut e refl
+begins OpenComment c text (piece, after, cut, e) = at_head (may_begin OpenComment) 47 c text
+    piece after _ cut e refl
+begins QuotedString c text (piece, after, cut, (body, suffix, e, u, k)) =
+    at_head (may_begin QuotedString) 34 c text piece after _ cut e refl
+begins BadString c text (piece, after, cut, (d, pass, e)) = at_head (may_begin BadString) 34 c
+    text piece after [] cut (e ∙ ap (λ w. w ∷ []) (eqb-true d 34 pass)) refl
+begins ByteChar c text (piece, after, cut, (more, e, s)) = at_head (may_begin ByteChar) 98 c text
+    piece after _ cut e refl
+begins BadByteChar c text (piece, after, cut, e) = at_head (may_begin BadByteChar) 98 c text
+    piece after _ cut e refl
+begins EscapedChar c text (piece, after, cut, (inner, suffix, e, h, k)) =
+    at_head (may_begin EscapedChar) 39 c text piece after _ cut e refl
+begins BadEscapedChar c text (piece, after, cut, e) = at_head (may_begin BadEscapedChar) 39 c
+    text piece after _ cut e refl
+begins PlainChar c text (piece, after, cut, (inner, suffix, e, h, k)) =
+    at_head (may_begin PlainChar) 39 c text piece after _ cut e refl
+begins Lifetime c text (piece, after, cut, (more, e, s)) = at_head (may_begin Lifetime) 39 c text
+    piece after _ cut e refl
+begins (SourceLifetime edition) c text (piece, after, cut, (more, e, s)) =
+    at_head (may_begin (SourceLifetime edition)) 39 c text piece after _ cut e refl
+begins Apostrophe c text (piece, after, cut, (d, pass, e)) = at_head (may_begin Apostrophe) 39 c
+    text piece after [] cut (e ∙ ap (λ w. w ∷ []) (eqb-true d 39 pass)) refl
+begins MarkedApostrophe c text (piece, after, cut, (d, pass, e)) =
+    at_head (may_begin MarkedApostrophe) 39 c text piece after [] cut
+    (e ∙ ap (λ w. w ∷ []) (eqb-true d 39 pass)) refl
+begins RawIdentifier c text (piece, after, cut, (more, e, s)) = at_head (may_begin RawIdentifier)
+    114 c text piece after _ cut e refl
+begins (Opening delimiter.Parenthesis) c text (piece, after, cut, (d, pass, e)) =
+    at_head (may_begin (Opening delimiter.Parenthesis)) (opening_mark delimiter.Parenthesis) c
+    text piece after [] cut
+    (e ∙ ap (λ w. w ∷ []) (eqb-true d (opening_mark delimiter.Parenthesis) pass)) refl
+begins (Opening delimiter.Brace) c text (piece, after, cut, (d, pass, e)) =
+    at_head (may_begin (Opening delimiter.Brace)) (opening_mark delimiter.Brace) c text piece
+    after [] cut (e ∙ ap (λ w. w ∷ []) (eqb-true d (opening_mark delimiter.Brace) pass)) refl
+begins (Opening delimiter.Bracket) c text (piece, after, cut, (d, pass, e)) =
+    at_head (may_begin (Opening delimiter.Bracket)) (opening_mark delimiter.Bracket) c text piece
+    after [] cut (e ∙ ap (λ w. w ∷ []) (eqb-true d (opening_mark delimiter.Bracket) pass)) refl
+begins (Opening delimiter.None) c text (piece, after, cut, (d, pass, e)) =
+    at_head (may_begin (Opening delimiter.None)) (opening_mark delimiter.None) c text piece after
+    [] cut (e ∙ ap (λ w. w ∷ []) (eqb-true d (opening_mark delimiter.None) pass)) refl
+begins (Closing delimiter.Parenthesis) c text (piece, after, cut, (d, pass, e)) =
+    at_head (may_begin (Closing delimiter.Parenthesis)) (closing_mark delimiter.Parenthesis) c
+    text piece after [] cut
+    (e ∙ ap (λ w. w ∷ []) (eqb-true d (closing_mark delimiter.Parenthesis) pass)) refl
+begins (Closing delimiter.Brace) c text (piece, after, cut, (d, pass, e)) =
+    at_head (may_begin (Closing delimiter.Brace)) (closing_mark delimiter.Brace) c text piece
+    after [] cut (e ∙ ap (λ w. w ∷ []) (eqb-true d (closing_mark delimiter.Brace) pass)) refl
+begins (Closing delimiter.Bracket) c text (piece, after, cut, (d, pass, e)) =
+    at_head (may_begin (Closing delimiter.Bracket)) (closing_mark delimiter.Bracket) c text piece
+    after [] cut (e ∙ ap (λ w. w ∷ []) (eqb-true d (closing_mark delimiter.Bracket) pass)) refl
+begins (Closing delimiter.None) c text (piece, after, cut, (d, pass, e)) =
+    at_head (may_begin (Closing delimiter.None)) (closing_mark delimiter.None) c text piece after
+    [] cut (e ∙ ap (λ w. w ∷ []) (eqb-true d (closing_mark delimiter.None) pass)) refl
+begins (Based base) c text (piece, after, cut, (more, e, s)) = at_head (may_begin (Based base))
+    48 c text piece after _ cut e refl
+begins (BadBased base) c text (piece, after, cut, e) = at_head (may_begin (BadBased base)) 48 c
+    text piece after _ cut e refl
+begins StringPrefix c text (piece, after, cut, inl (more, e, s)) =
+    at_head (may_begin StringPrefix) 114 c text piece after _ cut e refl
+begins StringPrefix c text (piece, after, cut, inr (inl (more, e, s))) =
+    at_head (may_begin StringPrefix) 98 c text piece after _ cut e refl
+begins StringPrefix c text (piece, after, cut, inr (inr (more, e, s))) =
+    at_head (may_begin StringPrefix) 99 c text piece after _ cut e refl
+begins (SourceString contents.Text) c text (piece, after, cut, (body, suffix, e, u, k)) =
+    at_head (may_begin (SourceString contents.Text)) 34 c text piece after _ cut e refl
+begins (SourceString contents.Bytes) c text (piece, after, cut, (more, e, s)) =
+    at_head (may_begin (SourceString contents.Bytes)) 98 c text piece after _ cut e refl
+begins (SourceString contents.C) c text (piece, after, cut, (more, e, s)) =
+    at_head (may_begin (SourceString contents.C)) 99 c text piece after _ cut e refl
+begins (RawString contents.Text) c text (piece, after, cut, (more, e, s)) =
+    at_head (may_begin (RawString contents.Text)) 114 c text piece after _ cut e refl
+begins (RawString contents.Bytes) c text (piece, after, cut, (more, e, s)) =
+    at_head (may_begin (RawString contents.Bytes)) 98 c text piece after _ cut e refl
+begins (RawString contents.C) c text (piece, after, cut, (more, e, s)) =
+    at_head (may_begin (RawString contents.C)) 99 c text piece after _ cut e refl
+begins (BadPrefixed contents.Text) c text (piece, after, cut, (more, e, s)) =
+    at_head (may_begin (BadPrefixed contents.Text)) 114 c text piece after _ cut e refl
+begins (BadPrefixed contents.Bytes) c text (piece, after, cut, (more, e, s)) =
+    at_head (may_begin (BadPrefixed contents.Bytes)) 98 c text piece after _ cut e refl
+begins (BadPrefixed contents.C) c text (piece, after, cut, (more, e, s)) =
+    at_head (may_begin (BadPrefixed contents.C)) 99 c text piece after _ cut e refl
+begins Whitespace c text (piece, after, cut, (d, pass, e)) = either (may_begin Whitespace)
+    (is_mark c) start.Rest (from_whitespace c) refl
+    (taken (may_begin Whitespace) (is_whitespace c) start.Whitespace (from_zero c)
+    (ap is_whitespace (head_is d c text piece after [] cut e) ∙ pass) refl)
+begins Decimal c text fits = either (may_begin Decimal) (is_mark c) start.Rest
+    (from_whitespace c) refl (either (may_begin Decimal) (is_whitespace c) start.Whitespace
+    (from_zero c) refl (either (may_begin Decimal) (c == 48) start.Zero (from_digit c) refl
+    (taken (may_begin Decimal) (is_digit c 10) start.Digit (from_prefix c)
+    (decimal_head _ c text fits) refl)))
 begins Float c text fits = digit_begins (may_begin Float) c refl refl (decimal_head _ c text fits)
-begins PointedDecimal c text fits = digit_begins (may_begin PointedDecimal) c refl refl (decimal_head _ c text fits)
-begins SourceDecimal c text fits = digit_begins (may_begin SourceDecimal) c refl refl (decimal_head _ c text fits)
-begins Identifier c text fits = either (may_begin Identifier) (is_mark c) start.Rest (from_whitespace c) refl (either (may_begin Identifier) (is_whitespace c) start.Whitespace (from_zero c) refl (either (may_begin Identifier) (c == 48) start.Zero (from_digit c) refl (either (may_begin Identifier) (is_digit c 10) start.Digit (from_prefix c) refl (either (may_begin Identifier) (is_prefix c) start.Prefix (from_slash c) refl (either (may_begin Identifier) (c == 47) start.Slash (from_quote c) refl (either (may_begin Identifier) (c == 34) start.Quote (from_apostrophe c) refl (either (may_begin Identifier) (c == 39) start.Apostrophe (from_parenthesis c) refl (either (may_begin Identifier) (c == 40) (start.Opening delimiter.Parenthesis) (from_closing_parenthesis c) refl (either (may_begin Identifier) (c == 41) (start.Closing delimiter.Parenthesis) (from_bracket c) refl (either (may_begin Identifier) (c == 91) (start.Opening delimiter.Bracket) (from_closing_bracket c) refl (either (may_begin Identifier) (c == 93) (start.Closing delimiter.Bracket) (from_brace c) refl (either (may_begin Identifier) (c == 123) (start.Opening delimiter.Brace) (from_closing_brace c) refl (either (may_begin Identifier) (c == 125) (start.Closing delimiter.Brace) (from_letter c) refl (taken (may_begin Identifier) (is_identifier_start c) start.Letter (from_punct c) (identifier_head c text fits) refl))))))))))))))
-begins (SourceIdentifier edition) c text fits = either (may_begin (SourceIdentifier edition)) (is_mark c) start.Rest (from_whitespace c) refl (either (may_begin (SourceIdentifier edition)) (is_whitespace c) start.Whitespace (from_zero c) refl (either (may_begin (SourceIdentifier edition)) (c == 48) start.Zero (from_digit c) refl (either (may_begin (SourceIdentifier edition)) (is_digit c 10) start.Digit (from_prefix c) refl (either (may_begin (SourceIdentifier edition)) (is_prefix c) start.Prefix (from_slash c) refl (either (may_begin (SourceIdentifier edition)) (c == 47) start.Slash (from_quote c) refl (either (may_begin (SourceIdentifier edition)) (c == 34) start.Quote (from_apostrophe c) refl (either (may_begin (SourceIdentifier edition)) (c == 39) start.Apostrophe (from_parenthesis c) refl (either (may_begin (SourceIdentifier edition)) (c == 40) (start.Opening delimiter.Parenthesis) (from_closing_parenthesis c) refl (either (may_begin (SourceIdentifier edition)) (c == 41) (start.Closing delimiter.Parenthesis) (from_bracket c) refl (either (may_begin (SourceIdentifier edition)) (c == 91) (start.Opening delimiter.Bracket) (from_closing_bracket c) refl (either (may_begin (SourceIdentifier edition)) (c == 93) (start.Closing delimiter.Bracket) (from_brace c) refl (either (may_begin (SourceIdentifier edition)) (c == 123) (start.Opening delimiter.Brace) (from_closing_brace c) refl (either (may_begin (SourceIdentifier edition)) (c == 125) (start.Closing delimiter.Brace) (from_letter c) refl (taken (may_begin (SourceIdentifier edition)) (is_identifier_start c) start.Letter (from_punct c) (identifier_head c text fits) refl))))))))))))))
+begins PointedDecimal c text fits = digit_begins (may_begin PointedDecimal) c refl refl
+    (decimal_head _ c text fits)
+begins SourceDecimal c text fits = digit_begins (may_begin SourceDecimal) c refl refl
+    (decimal_head _ c text fits)
+begins Identifier c text fits = either (may_begin Identifier) (is_mark c) start.Rest
+    (from_whitespace c) refl (either (may_begin Identifier) (is_whitespace c) start.Whitespace
+    (from_zero c) refl (either (may_begin Identifier) (c == 48) start.Zero (from_digit c) refl
+    (either (may_begin Identifier) (is_digit c 10) start.Digit (from_prefix c) refl
+    (either (may_begin Identifier) (is_prefix c) start.Prefix (from_slash c) refl
+    (either (may_begin Identifier) (c == 47) start.Slash (from_quote c) refl
+    (either (may_begin Identifier) (c == 34) start.Quote (from_apostrophe c) refl
+    (either (may_begin Identifier) (c == 39) start.Apostrophe (from_parenthesis c) refl
+    (either (may_begin Identifier) (c == 40) (start.Opening delimiter.Parenthesis)
+    (from_closing_parenthesis c) refl
+    (either (may_begin Identifier) (c == 41) (start.Closing delimiter.Parenthesis)
+    (from_bracket c) refl
+    (either (may_begin Identifier) (c == 91) (start.Opening delimiter.Bracket)
+    (from_closing_bracket c) refl
+    (either (may_begin Identifier) (c == 93) (start.Closing delimiter.Bracket) (from_brace c)
+    refl (either (may_begin Identifier) (c == 123) (start.Opening delimiter.Brace)
+    (from_closing_brace c) refl
+    (either (may_begin Identifier) (c == 125) (start.Closing delimiter.Brace) (from_letter c)
+    refl (taken (may_begin Identifier) (is_identifier_start c) start.Letter (from_punct c)
+    (identifier_head c text fits) refl))))))))))))))
+begins (SourceIdentifier edition) c text fits = either (may_begin (SourceIdentifier edition))
+    (is_mark c) start.Rest (from_whitespace c) refl
+    (either (may_begin (SourceIdentifier edition)) (is_whitespace c) start.Whitespace
+    (from_zero c) refl (either (may_begin (SourceIdentifier edition)) (c == 48) start.Zero
+    (from_digit c) refl (either (may_begin (SourceIdentifier edition)) (is_digit c 10)
+    start.Digit (from_prefix c) refl (either (may_begin (SourceIdentifier edition)) (is_prefix c)
+    start.Prefix (from_slash c) refl (either (may_begin (SourceIdentifier edition)) (c == 47)
+    start.Slash (from_quote c) refl (either (may_begin (SourceIdentifier edition)) (c == 34)
+    start.Quote (from_apostrophe c) refl (either (may_begin (SourceIdentifier edition)) (c == 39)
+    start.Apostrophe (from_parenthesis c) refl
+    (either (may_begin (SourceIdentifier edition)) (c == 40)
+    (start.Opening delimiter.Parenthesis) (from_closing_parenthesis c) refl
+    (either (may_begin (SourceIdentifier edition)) (c == 41)
+    (start.Closing delimiter.Parenthesis) (from_bracket c) refl
+    (either (may_begin (SourceIdentifier edition)) (c == 91) (start.Opening delimiter.Bracket)
+    (from_closing_bracket c) refl (either (may_begin (SourceIdentifier edition)) (c == 93)
+    (start.Closing delimiter.Bracket) (from_brace c) refl
+    (either (may_begin (SourceIdentifier edition)) (c == 123) (start.Opening delimiter.Brace)
+    (from_closing_brace c) refl (either (may_begin (SourceIdentifier edition)) (c == 125)
+    (start.Closing delimiter.Brace) (from_letter c) refl
+    (taken (may_begin (SourceIdentifier edition)) (is_identifier_start c) start.Letter
+    (from_punct c) (identifier_head c text fits) refl))))))))))))))
 begins Punct c text fits = refl
 begins MarkedPunct c text fits = refl
 begins (SourcePunct edition) c text fits = refl
 begins Other c text fits = refl
 
-pick_decides : (text piece rest : List ℕ) (rule r : Rule) (some rules : List Rule) (b : Bool) → (b ≡ false → HasPrefix (Spells r) text → ⊥) → (IsFirstFit text some rule piece rest → IsFirstFit text rules rule piece rest) → IsFirstFit text (if b then r ∷ some else some) rule piece rest → IsFirstFit text (r ∷ rules) rule piece rest
+pick_decides : (text piece rest : List ℕ) (rule r : Rule) (some rules : List Rule) (b : Bool) →
+    (b ≡ false → HasPrefix (Spells r) text → ⊥) →
+    (IsFirstFit text some rule piece rest → IsFirstFit text rules rule piece rest) →
+    IsFirstFit text (if b then r ∷ some else some) rule piece rest →
+    IsFirstFit text (r ∷ rules) rule piece rest
 pick_decides text piece rest rule r some rules true misses deeper (here t) = here t
-pick_decides text piece rest rule r some rules true misses deeper (later not more) = later not (deeper more)
-pick_decides text piece rest rule r some rules false misses deeper more = later (misses refl) (deeper more)
+pick_decides text piece rest rule r some rules true misses deeper (later not more) =
+    later not (deeper more)
+pick_decides text piece rest rule r some rules false misses deeper more =
+    later (misses refl) (deeper more)
 
-decides_only : (k : Start) (text piece rest : List ℕ) (rule : Rule) (rules : List Rule) → ((other : Rule) → HasPrefix (Spells other) text → may_begin other k ≡ true) → IsFirstFit text (only k rules) rule piece rest → IsFirstFit text rules rule piece rest
+decides_only : (k : Start) (text piece rest : List ℕ) (rule : Rule) (rules : List Rule) →
+    ((other : Rule) → HasPrefix (Spells other) text → may_begin other k ≡ true) →
+    IsFirstFit text (only k rules) rule piece rest → IsFirstFit text rules rule piece rest
 decides_only k text piece rest rule [] begun d = d
 decides_only k text piece rest rule (r ∷ rules) begun d =
-    pick_decides text piece rest rule r (only k rules) rules (may_begin r k) (λ e fits. false≢true (sym e ∙ begun r fits)) (decides_only k text piece rest rule rules begun) d
+    pick_decides text piece rest rule r (only k rules) rules (may_begin r k)
+    (λ e fits. false≢true (sym e ∙ begun r fits))
+    (decides_only k text piece rest rule rules begun) d
 
-pub decides_begun : (c : ℕ) (text more piece rest : List ℕ) (rule : Rule) (rules those : List Rule) (k : Start) → text ≡ c ∷ more → k ≡ start_of c → those ≡ only k rules → IsFirstFit text those rule piece rest → IsFirstFit text rules rule piece rest
+pub decides_begun : (c : ℕ) (text more piece rest : List ℕ) (rule : Rule)
+    (rules those : List Rule) (k : Start) → text ≡ c ∷ more → k ≡ start_of c →
+    those ≡ only k rules → IsFirstFit text those rule piece rest →
+    IsFirstFit text rules rule piece rest
 decides_begun c text more piece rest rule rules those k e start listed d =
-    decides_only (start_of c) text piece rest rule rules (λ other fits. begins other c more (subst (HasPrefix (Spells other)) e fits)) (subst (λ rs. IsFirstFit text rs rule piece rest) (listed ∙ ap (λ x. only x rules) start) d)
+    decides_only (start_of c) text piece rest rule rules
+    (λ other fits. begins other c more (subst (HasPrefix (Spells other)) e fits))
+    (subst (λ rs. IsFirstFit text rs rule piece rest) (listed ∙ ap (λ x. only x rules) start)
+    d)
 
 -- no rule fits where nothing is left
 pub none_fits : (rules : List Rule) (text : List ℕ) (n : ℕ) → text ≡ [] → NoneBefore rules text n
-none_fits rules text n e = record { none = λ j d k m fits. nothing (get_or rules j d) fits.0 fits.1 (sym e ∙ fits.2) (spelled_one (get_or rules j d) fits.0 fits.3) }
+none_fits rules text n e =
+    record {
+      none = λ j d k m fits. nothing (get_or rules j d) fits.0 fits.1 (sym e ∙ fits.2)
+          (spelled_one (get_or rules j d) fits.0 fits.3);
+    }
   where
     nothing : (rule : Rule) (piece after : List ℕ) → [] ≡ piece ++ after → 0 < length piece → ⊥
     nothing rule [] after e l = absurd (omega arith)
     nothing rule (x ∷ piece) after e l = cc
 
 -- the rules behind a list of others
-pub fits_front : (those others : List Rule) (text piece rest : List ℕ) (rule : Rule) → IsFirstFit text those rule piece rest → IsFirstFit text (those ++ others) rule piece rest
+pub fits_front : (those others : List Rule) (text piece rest : List ℕ) (rule : Rule) →
+    IsFirstFit text those rule piece rest → IsFirstFit text (those ++ others) rule piece rest
 fits_front [] others text piece rest rule d = elim d [ ]
 fits_front (r ∷ those) others text piece rest rule (here t) = here t
-fits_front (r ∷ those) others text piece rest rule (later misses d) = later misses (fits_front those others text piece rest rule d)
+fits_front (r ∷ those) others text piece rest rule (later misses d) =
+    later misses (fits_front those others text piece rest rule d)
 
-pub fits_behind : (those others : List Rule) (text piece rest : List ℕ) (rule : Rule) → NoneBefore those text (length those) → IsFirstFit text others rule piece rest → IsFirstFit text (those ++ others) rule piece rest
+pub fits_behind : (those others : List Rule) (text piece rest : List ℕ) (rule : Rule) →
+    NoneBefore those text (length those) → IsFirstFit text others rule piece rest →
+    IsFirstFit text (those ++ others) rule piece rest
 fits_behind [] others text piece rest rule none d = d
 fits_behind (r ∷ those) others text piece rest rule none d =
-    later (none.none 0 r (omega arith) (omega arith)) (fits_behind those others text piece rest rule (record { none = λ j q k m. none.none (suc j) q (omega arith) (omega arith) }) d)
+    later (none.none 0 r (omega arith) (omega arith))
+    (fits_behind those others text piece rest rule
+    (record { none = λ j q k m. none.none (suc j) q (omega arith) (omega arith) }) d)
 
-one_misses : (p : ℕ → Bool) (text more : List ℕ) (c : ℕ) → text ≡ c ∷ more → p c ≡ false → HasPrefix (IsOne p) text → ⊥
+one_misses : (p : ℕ → Bool) (text more : List ℕ) (c : ℕ) → text ≡ c ∷ more → p c ≡ false →
+    HasPrefix (IsOne p) text → ⊥
 one_misses p text more c e h (piece, after, cut, (d, pass, f)) =
     let whole : c ∷ more ≡ d ∷ after = sym e ∙ cut ∙ ap (λ w. w ++ after) f in
     let same : c ≡ d = cc in
@@ -223,29 +392,41 @@ one_misses p text more c e h (piece, after, cut, (d, pass, f)) =
 
 -- a text that none of the others takes, by the last three rules
 module _ (c : ℕ) (text more : List ℕ) (e : text ≡ c ∷ more) (kind : Rules) where
-  identifier_taken : (every : Rules) (piece rest : List ℕ) → IsLongestPrefix IsIdentifier text piece rest → IsLongestPrefix (Spells (identifier_rule every)) text piece rest
+  identifier_taken : (every : Rules) (piece rest : List ℕ) → IsLongestPrefix IsIdentifier text
+      piece rest → IsLongestPrefix (Spells (identifier_rule every)) text piece rest
   identifier_taken every.Plain piece rest t = t
   identifier_taken every.Marked piece rest t = t
   identifier_taken (every.Source edition) piece rest t = t
 
-  no_identifier : (every : Rules) → (HasPrefix IsIdentifier text → ⊥) → HasPrefix (Spells (identifier_rule every)) text → ⊥
+  no_identifier : (every : Rules) → (HasPrefix IsIdentifier text → ⊥) →
+      HasPrefix (Spells (identifier_rule every)) text → ⊥
   no_identifier every.Plain misses = misses
   no_identifier every.Marked misses = misses
   no_identifier (every.Source edition) misses = misses
 
-  pub last_identifier : (rule : Rule) (rest : List ℕ) → rule ≡ identifier_rule kind → (piece : List ℕ) × IsLongestPrefix IsIdentifier text piece rest → (piece : List ℕ) × IsFirstFit text (last_rules kind) rule piece rest
+  pub last_identifier : (rule : Rule) (rest : List ℕ) → rule ≡ identifier_rule kind →
+      (piece : List ℕ) × IsLongestPrefix IsIdentifier text piece rest → (piece : List ℕ)
+      × IsFirstFit text (last_rules kind) rule piece rest
   last_identifier rule rest r (piece, t) = rw r (piece, here (identifier_taken kind piece rest t))
 
-  pub last_punct : (rule : Rule) → (HasPrefix IsIdentifier text → ⊥) → is_punct c ≡ true → rule ≡ punct_rule kind → (piece : List ℕ) × IsFirstFit text (last_rules kind) rule piece more
-  last_punct rule misses h r = rw r (c ∷ [], later (no_identifier kind misses) (here (punct_taken kind)))
+  pub last_punct : (rule : Rule) → (HasPrefix IsIdentifier text → ⊥) → is_punct c ≡ true →
+      rule ≡ punct_rule kind → (piece : List ℕ) × IsFirstFit text (last_rules kind) rule piece
+      more
+  last_punct rule misses h r =
+      rw r (c ∷ [], later (no_identifier kind misses) (here (punct_taken kind)))
     where
       punct_taken : (every : Rules) → IsLongestPrefix (Spells (punct_rule every)) text (c ∷ []) more
       punct_taken every.Plain = takes_one is_punct text more c e h
       punct_taken every.Marked = takes_one is_punct text more c e h
       punct_taken (every.Source edition) = takes_one is_punct text more c e h
 
-  pub last_other : (HasPrefix IsIdentifier text → ⊥) → is_punct c ≡ false → (piece : List ℕ) × IsFirstFit text (last_rules kind) Other piece more
-  last_other misses h = (c ∷ [], later (no_identifier kind misses) (later (no_punct kind) (here (takes_one (λ d. true) text more c e refl))))
+  pub last_other : (HasPrefix IsIdentifier text → ⊥) → is_punct c ≡ false → (piece : List ℕ)
+      × IsFirstFit text (last_rules kind) Other piece more
+  last_other misses h = (
+    c ∷ [],
+    later (no_identifier kind misses)
+        (later (no_punct kind) (here (takes_one (λ d. true) text more c e refl))),
+  )
     where
       no_punct : (every : Rules) → HasPrefix (Spells (punct_rule every)) text → ⊥
       no_punct every.Plain fits = one_misses is_punct text more c e h fits
@@ -259,7 +440,8 @@ letter_told c e = search (rules, tests)
 punct_told : (c : ℕ) → start_of c ≡ start.Punct → is_punct c ≡ true
 punct_told c e = search (rules, tests)
 
-passed : (p : Start → Bool) (b : Bool) (x y : Start) → b ≡ false → p y ≡ true → p (if b then x else y) ≡ true
+passed : (p : Start → Bool) (b : Bool) (x y : Start) → b ≡ false → p y ≡ true →
+    p (if b then x else y) ≡ true
 passed p true x y e second = absurd (false≢true (sym e))
 passed p false x y e second = second
 
@@ -268,7 +450,22 @@ no_slash start.Slash = false
 no_slash other = true
 
 other_told : (c : ℕ) → (c == 47) ≡ false → no_slash (start_of c) ≡ true
-other_told c e = either no_slash (is_mark c) (start.Rest) (from_whitespace c) refl (either no_slash (is_whitespace c) (start.Whitespace) (from_zero c) refl (either no_slash (c == 48) (start.Zero) (from_digit c) refl (either no_slash (is_digit c 10) (start.Digit) (from_prefix c) refl (either no_slash (is_prefix c) (start.Prefix) (from_slash c) refl (passed no_slash (c == 47) (start.Slash) (from_quote c) e (either no_slash (c == 34) (start.Quote) (from_apostrophe c) refl (either no_slash (c == 39) (start.Apostrophe) (from_parenthesis c) refl (either no_slash (c == 40) (start.Opening delimiter.Parenthesis) (from_closing_parenthesis c) refl (either no_slash (c == 41) (start.Closing delimiter.Parenthesis) (from_bracket c) refl (either no_slash (c == 91) (start.Opening delimiter.Bracket) (from_closing_bracket c) refl (either no_slash (c == 93) (start.Closing delimiter.Bracket) (from_brace c) refl (either no_slash (c == 123) (start.Opening delimiter.Brace) (from_closing_brace c) refl (either no_slash (c == 125) (start.Closing delimiter.Brace) (from_letter c) refl (either no_slash (is_identifier_start c) (start.Letter) (from_punct c) refl (either no_slash (is_punct c) start.Punct start.Rest refl refl)))))))))))))))
+other_told c e = either no_slash (is_mark c) (start.Rest) (from_whitespace c) refl
+    (either no_slash (is_whitespace c) (start.Whitespace) (from_zero c) refl
+    (either no_slash (c == 48) (start.Zero) (from_digit c) refl
+    (either no_slash (is_digit c 10) (start.Digit) (from_prefix c) refl
+    (either no_slash (is_prefix c) (start.Prefix) (from_slash c) refl
+    (passed no_slash (c == 47) (start.Slash) (from_quote c) e
+    (either no_slash (c == 34) (start.Quote) (from_apostrophe c) refl
+    (either no_slash (c == 39) (start.Apostrophe) (from_parenthesis c) refl
+    (either no_slash (c == 40) (start.Opening delimiter.Parenthesis) (from_closing_parenthesis c)
+    refl (either no_slash (c == 41) (start.Closing delimiter.Parenthesis) (from_bracket c) refl
+    (either no_slash (c == 91) (start.Opening delimiter.Bracket) (from_closing_bracket c) refl
+    (either no_slash (c == 93) (start.Closing delimiter.Bracket) (from_brace c) refl
+    (either no_slash (c == 123) (start.Opening delimiter.Brace) (from_closing_brace c) refl
+    (either no_slash (c == 125) (start.Closing delimiter.Brace) (from_letter c) refl
+    (either no_slash (is_identifier_start c) (start.Letter) (from_punct c) refl
+    (either no_slash (is_punct c) start.Punct start.Rest refl refl)))))))))))))))
 
 pub slash_told : (c : ℕ) → start_of c ≡ start.Slash → c ≡ 47
 slash_told c is = go (c == 47) refl
@@ -282,7 +479,22 @@ no_zero start.Zero = false
 no_zero other = true
 
 not_zero_told : (c : ℕ) → (c == 48) ≡ false → no_zero (start_of c) ≡ true
-not_zero_told c e = either no_zero (is_mark c) (start.Rest) (from_whitespace c) refl (either no_zero (is_whitespace c) (start.Whitespace) (from_zero c) refl (passed no_zero (c == 48) (start.Zero) (from_digit c) e (either no_zero (is_digit c 10) (start.Digit) (from_prefix c) refl (either no_zero (is_prefix c) (start.Prefix) (from_slash c) refl (either no_zero (c == 47) (start.Slash) (from_quote c) refl (either no_zero (c == 34) (start.Quote) (from_apostrophe c) refl (either no_zero (c == 39) (start.Apostrophe) (from_parenthesis c) refl (either no_zero (c == 40) (start.Opening delimiter.Parenthesis) (from_closing_parenthesis c) refl (either no_zero (c == 41) (start.Closing delimiter.Parenthesis) (from_bracket c) refl (either no_zero (c == 91) (start.Opening delimiter.Bracket) (from_closing_bracket c) refl (either no_zero (c == 93) (start.Closing delimiter.Bracket) (from_brace c) refl (either no_zero (c == 123) (start.Opening delimiter.Brace) (from_closing_brace c) refl (either no_zero (c == 125) (start.Closing delimiter.Brace) (from_letter c) refl (either no_zero (is_identifier_start c) (start.Letter) (from_punct c) refl (either no_zero (is_punct c) start.Punct start.Rest refl refl)))))))))))))))
+not_zero_told c e = either no_zero (is_mark c) (start.Rest) (from_whitespace c) refl
+    (either no_zero (is_whitespace c) (start.Whitespace) (from_zero c) refl
+    (passed no_zero (c == 48) (start.Zero) (from_digit c) e
+    (either no_zero (is_digit c 10) (start.Digit) (from_prefix c) refl
+    (either no_zero (is_prefix c) (start.Prefix) (from_slash c) refl
+    (either no_zero (c == 47) (start.Slash) (from_quote c) refl
+    (either no_zero (c == 34) (start.Quote) (from_apostrophe c) refl
+    (either no_zero (c == 39) (start.Apostrophe) (from_parenthesis c) refl
+    (either no_zero (c == 40) (start.Opening delimiter.Parenthesis) (from_closing_parenthesis c)
+    refl (either no_zero (c == 41) (start.Closing delimiter.Parenthesis) (from_bracket c) refl
+    (either no_zero (c == 91) (start.Opening delimiter.Bracket) (from_closing_bracket c) refl
+    (either no_zero (c == 93) (start.Closing delimiter.Bracket) (from_brace c) refl
+    (either no_zero (c == 123) (start.Opening delimiter.Brace) (from_closing_brace c) refl
+    (either no_zero (c == 125) (start.Closing delimiter.Brace) (from_letter c) refl
+    (either no_zero (is_identifier_start c) (start.Letter) (from_punct c) refl
+    (either no_zero (is_punct c) start.Punct start.Rest refl refl)))))))))))))))
 
 pub zero_told : (c : ℕ) → start_of c ≡ start.Zero → c ≡ 48
 zero_told c is = go (c == 48) refl
@@ -292,23 +504,29 @@ zero_told c is = go (c == 48) refl
     go false e = absurd (false≢true (sym (ap no_zero is) ∙ not_zero_told c e))
 
 -- the character tells the piece
-decides_first : (c : ℕ) (text more piece rest : List ℕ) (rule : Rule) (rules others : List Rule) (start : Start) → text ≡ c ∷ more → start_of c ≡ start → only start rules ≡ rule ∷ others → IsLongestPrefix (Spells rule) text piece rest → IsFirstFit text rules rule piece rest
+decides_first : (c : ℕ) (text more piece rest : List ℕ) (rule : Rule) (rules others : List Rule)
+    (start : Start) → text ≡ c ∷ more → start_of c ≡ start → only start rules ≡ rule ∷ others →
+    IsLongestPrefix (Spells rule) text piece rest → IsFirstFit text rules rule piece rest
 decides_first c text more piece rest rule rules others start e is listed t =
-    decides_begun c text more piece rest rule rules (rule ∷ others) start e (sym is) (sym listed) (here t)
+    decides_begun c text more piece rest rule rules (rule ∷ others) start e (sym is) (sym listed)
+    (here t)
 
-letter_listed : (edition : Edition) → only start.Letter (source_rules edition) ≡ SourceIdentifier edition ∷ SourcePunct edition ∷ Other ∷ []
+letter_listed : (edition : Edition) → only start.Letter (source_rules edition)
+    ≡ SourceIdentifier edition ∷ SourcePunct edition ∷ Other ∷ []
 letter_listed Edition2015 = refl
 letter_listed Edition2018 = refl
 letter_listed Edition2021 = refl
 letter_listed Edition2024 = refl
 
-punct_listed : (edition : Edition) → only start.Punct (source_rules edition) ≡ SourcePunct edition ∷ Other ∷ []
+punct_listed : (edition : Edition) → only start.Punct (source_rules edition)
+    ≡ SourcePunct edition ∷ Other ∷ []
 punct_listed Edition2015 = refl
 punct_listed Edition2018 = refl
 punct_listed Edition2021 = refl
 punct_listed Edition2024 = refl
 
-opening_listed : (edition : Edition) (d : Delimiter) → (d ≡ delimiter.None → ⊥) → only (start.Opening d) (source_rules edition) ≡ Opening d ∷ last_rules (every.Source edition)
+opening_listed : (edition : Edition) (d : Delimiter) → (d ≡ delimiter.None → ⊥) →
+    only (start.Opening d) (source_rules edition) ≡ Opening d ∷ last_rules (every.Source edition)
 opening_listed Edition2015 delimiter.Parenthesis n = refl
 opening_listed Edition2015 delimiter.Brace n = refl
 opening_listed Edition2015 delimiter.Bracket n = refl
@@ -326,7 +544,8 @@ opening_listed Edition2024 delimiter.Brace n = refl
 opening_listed Edition2024 delimiter.Bracket n = refl
 opening_listed Edition2024 delimiter.None n = absurd (n refl)
 
-closing_listed : (edition : Edition) (d : Delimiter) → (d ≡ delimiter.None → ⊥) → only (start.Closing d) (source_rules edition) ≡ Closing d ∷ last_rules (every.Source edition)
+closing_listed : (edition : Edition) (d : Delimiter) → (d ≡ delimiter.None → ⊥) →
+    only (start.Closing d) (source_rules edition) ≡ Closing d ∷ last_rules (every.Source edition)
 closing_listed Edition2015 delimiter.Parenthesis n = refl
 closing_listed Edition2015 delimiter.Brace n = refl
 closing_listed Edition2015 delimiter.Bracket n = refl
@@ -344,21 +563,55 @@ closing_listed Edition2024 delimiter.Brace n = refl
 closing_listed Edition2024 delimiter.Bracket n = refl
 closing_listed Edition2024 delimiter.None n = absurd (n refl)
 
-pub decides_letter : (c : ℕ) (text more rest : List ℕ) (rules : Rules) (rule : Rule) → text ≡ c ∷ more → start_of c ≡ start.Letter → rule ≡ identifier_rule rules → (front : List ℕ) × Skips is_xid_continue more front rest → (piece : List ℕ) × IsFirstFit text (rules_of rules) rule piece rest
+pub decides_letter : (c : ℕ) (text more rest : List ℕ) (rules : Rules) (rule : Rule) →
+    text ≡ c ∷ more → start_of c ≡ start.Letter → rule ≡ identifier_rule rules → (front : List ℕ)
+    × Skips is_xid_continue more front rest → (piece : List ℕ) × IsFirstFit text (rules_of rules)
+    rule piece rest
 decides_letter c text more rest every.Plain rule e is r s =
     let t = takes_identifier text more rest c e (letter_told c is) s in
-    rw r (t.0, decides_first c text more t.0 rest Identifier plain_rules (Punct ∷ Other ∷ []) start.Letter e is refl t.1)
+    rw r (
+      t.0,
+      decides_first c text more t.0 rest Identifier plain_rules (Punct ∷ Other ∷ [])
+          start.Letter e is refl t.1,
+    )
 decides_letter c text more rest every.Marked rule e is r s =
     let t = takes_identifier text more rest c e (letter_told c is) s in
-    rw r (t.0, decides_first c text more t.0 rest Identifier marked_rules (MarkedPunct ∷ Other ∷ []) start.Letter e is refl t.1)
+    rw r (
+      t.0,
+      decides_first c text more t.0 rest Identifier marked_rules
+          (MarkedPunct ∷ Other ∷ []) start.Letter e is refl t.1,
+    )
 decides_letter c text more rest (every.Source edition) rule e is r s =
     let t = takes_identifier text more rest c e (letter_told c is) s in
-    rw r (t.0, decides_first c text more t.0 rest (SourceIdentifier edition) (source_rules edition) (SourcePunct edition ∷ Other ∷ []) start.Letter e is (letter_listed edition) t.1)
+    rw r (
+      t.0,
+      decides_first c text more t.0 rest (SourceIdentifier edition)
+          (source_rules edition) (SourcePunct edition ∷ Other ∷ []) start.Letter e is
+          (letter_listed edition) t.1,
+    )
 
-pub decides_punct : (c : ℕ) (text more : List ℕ) (rules : Rules) (rule : Rule) → text ≡ c ∷ more → start_of c ≡ start.Punct → rule ≡ punct_rule rules → (piece : List ℕ) × IsFirstFit text (rules_of rules) rule piece more
-decides_punct c text more every.Plain rule e is r = rw r (c ∷ [], decides_first c text more (c ∷ []) more Punct plain_rules (Other ∷ []) start.Punct e is refl (takes_one is_punct text more c e (punct_told c is)))
-decides_punct c text more every.Marked rule e is r = rw r (c ∷ [], decides_first c text more (c ∷ []) more MarkedPunct marked_rules (Other ∷ []) start.Punct e is refl (takes_one is_punct text more c e (punct_told c is)))
-decides_punct c text more (every.Source edition) rule e is r = rw r (c ∷ [], decides_first c text more (c ∷ []) more (SourcePunct edition) (source_rules edition) (Other ∷ []) start.Punct e is (punct_listed edition) (takes_one is_punct text more c e (punct_told c is)))
+pub decides_punct : (c : ℕ) (text more : List ℕ) (rules : Rules) (rule : Rule) →
+    text ≡ c ∷ more → start_of c ≡ start.Punct → rule ≡ punct_rule rules → (piece : List ℕ)
+    × IsFirstFit text (rules_of rules) rule piece more
+decides_punct c text more every.Plain rule e is r =
+    rw r (
+      c ∷ [],
+      decides_first c text more (c ∷ []) more Punct plain_rules (Other ∷ [])
+          start.Punct e is refl (takes_one is_punct text more c e (punct_told c is)),
+    )
+decides_punct c text more every.Marked rule e is r =
+    rw r (
+      c ∷ [],
+      decides_first c text more (c ∷ []) more MarkedPunct marked_rules (Other ∷ [])
+          start.Punct e is refl (takes_one is_punct text more c e (punct_told c is)),
+    )
+decides_punct c text more (every.Source edition) rule e is r =
+    rw r (
+      c ∷ [],
+      decides_first c text more (c ∷ []) more (SourcePunct edition)
+          (source_rules edition) (Other ∷ []) start.Punct e is (punct_listed edition)
+          (takes_one is_punct text more c e (punct_told c is)),
+    )
 
 -- the character of a start that is a delimiter
 abbrev agrees : ℕ → Start → Bool
@@ -368,39 +621,116 @@ agrees c (start.Closing delimiter.None) = false
 agrees c (start.Closing d) = c == closing_mark d
 agrees c other = true
 
-tested : (p : Start → Bool) (b : Bool) (x y : Start) → (b ≡ true → p x ≡ true) → p y ≡ true → p (if b then x else y) ≡ true
+tested : (p : Start → Bool) (b : Bool) (x y : Start) → (b ≡ true → p x ≡ true) → p y ≡ true →
+    p (if b then x else y) ≡ true
 tested p true x y first second = first refl
 tested p false x y first second = second
 
 all_agree : (c : ℕ) → agrees c (start_of c) ≡ true
-all_agree c = either (agrees c) (is_mark c) (start.Rest) (from_whitespace c) refl (either (agrees c) (is_whitespace c) (start.Whitespace) (from_zero c) refl (either (agrees c) (c == 48) (start.Zero) (from_digit c) refl (either (agrees c) (is_digit c 10) (start.Digit) (from_prefix c) refl (either (agrees c) (is_prefix c) (start.Prefix) (from_slash c) refl (either (agrees c) (c == 47) (start.Slash) (from_quote c) refl (either (agrees c) (c == 34) (start.Quote) (from_apostrophe c) refl (either (agrees c) (c == 39) (start.Apostrophe) (from_parenthesis c) refl (tested (agrees c) (c == 40) (start.Opening delimiter.Parenthesis) (from_closing_parenthesis c) (λ e. e) (tested (agrees c) (c == 41) (start.Closing delimiter.Parenthesis) (from_bracket c) (λ e. e) (tested (agrees c) (c == 91) (start.Opening delimiter.Bracket) (from_closing_bracket c) (λ e. e) (tested (agrees c) (c == 93) (start.Closing delimiter.Bracket) (from_brace c) (λ e. e) (tested (agrees c) (c == 123) (start.Opening delimiter.Brace) (from_closing_brace c) (λ e. e) (tested (agrees c) (c == 125) (start.Closing delimiter.Brace) (from_letter c) (λ e. e) (either (agrees c) (is_identifier_start c) (start.Letter) (from_punct c) refl (either (agrees c) (is_punct c) start.Punct start.Rest refl refl)))))))))))))))
+all_agree c = either (agrees c) (is_mark c) (start.Rest) (from_whitespace c) refl
+    (either (agrees c) (is_whitespace c) (start.Whitespace) (from_zero c) refl
+    (either (agrees c) (c == 48) (start.Zero) (from_digit c) refl
+    (either (agrees c) (is_digit c 10) (start.Digit) (from_prefix c) refl
+    (either (agrees c) (is_prefix c) (start.Prefix) (from_slash c) refl
+    (either (agrees c) (c == 47) (start.Slash) (from_quote c) refl
+    (either (agrees c) (c == 34) (start.Quote) (from_apostrophe c) refl
+    (either (agrees c) (c == 39) (start.Apostrophe) (from_parenthesis c) refl
+    (tested (agrees c) (c == 40) (start.Opening delimiter.Parenthesis)
+    (from_closing_parenthesis c) (λ e. e)
+    (tested (agrees c) (c == 41) (start.Closing delimiter.Parenthesis) (from_bracket c) (λ e. e)
+    (tested (agrees c) (c == 91) (start.Opening delimiter.Bracket) (from_closing_bracket c)
+    (λ e. e) (tested (agrees c) (c == 93) (start.Closing delimiter.Bracket) (from_brace c)
+    (λ e. e) (tested (agrees c) (c == 123) (start.Opening delimiter.Brace) (from_closing_brace c)
+    (λ e. e) (tested (agrees c) (c == 125) (start.Closing delimiter.Brace) (from_letter c)
+    (λ e. e) (either (agrees c) (is_identifier_start c) (start.Letter) (from_punct c) refl
+    (either (agrees c) (is_punct c) start.Punct start.Rest refl refl)))))))))))))))
 
-pub decides_opening : (c : ℕ) (text more : List ℕ) (kind : Rules) (d : Delimiter) → text ≡ c ∷ more → start_of c ≡ start.Opening d → (piece : List ℕ) × IsFirstFit text (rules_of kind) (Opening d) piece more
-decides_opening c text more kind d e is = (c ∷ [], go kind d is (sym (ap (agrees c) is) ∙ all_agree c))
+pub decides_opening : (c : ℕ) (text more : List ℕ) (kind : Rules) (d : Delimiter) →
+    text ≡ c ∷ more → start_of c ≡ start.Opening d → (piece : List ℕ)
+    × IsFirstFit text (rules_of kind) (Opening d) piece more
+decides_opening c text more kind d e is =
+    (c ∷ [], go kind d is (sym (ap (agrees c) is) ∙ all_agree c))
   where
-    go : (every : Rules) (d : Delimiter) → start_of c ≡ start.Opening d → agrees c (start.Opening d) ≡ true → IsFirstFit text (rules_of every) (Opening d) (c ∷ []) more
+    go : (every : Rules) (d : Delimiter) → start_of c ≡ start.Opening d →
+        agrees c (start.Opening d) ≡ true → IsFirstFit text (rules_of every) (Opening d) (c ∷ [])
+        more
     go kind delimiter.None is a = absurd (false≢true a)
-    go every.Plain delimiter.Parenthesis is a = decides_first c text more (c ∷ []) more (Opening delimiter.Parenthesis) plain_rules (last_rules every.Plain) (start.Opening delimiter.Parenthesis) e is refl (takes_one (λ k. k == 40) text more c e a)
-    go every.Plain delimiter.Brace is a = decides_first c text more (c ∷ []) more (Opening delimiter.Brace) plain_rules (last_rules every.Plain) (start.Opening delimiter.Brace) e is refl (takes_one (λ k. k == 123) text more c e a)
-    go every.Plain delimiter.Bracket is a = decides_first c text more (c ∷ []) more (Opening delimiter.Bracket) plain_rules (last_rules every.Plain) (start.Opening delimiter.Bracket) e is refl (takes_one (λ k. k == 91) text more c e a)
-    go every.Marked delimiter.Parenthesis is a = decides_first c text more (c ∷ []) more (Opening delimiter.Parenthesis) marked_rules (last_rules every.Marked) (start.Opening delimiter.Parenthesis) e is refl (takes_one (λ k. k == 40) text more c e a)
-    go every.Marked delimiter.Brace is a = decides_first c text more (c ∷ []) more (Opening delimiter.Brace) marked_rules (last_rules every.Marked) (start.Opening delimiter.Brace) e is refl (takes_one (λ k. k == 123) text more c e a)
-    go every.Marked delimiter.Bracket is a = decides_first c text more (c ∷ []) more (Opening delimiter.Bracket) marked_rules (last_rules every.Marked) (start.Opening delimiter.Bracket) e is refl (takes_one (λ k. k == 91) text more c e a)
-    go (every.Source edition) delimiter.Parenthesis is a = decides_first c text more (c ∷ []) more (Opening delimiter.Parenthesis) (source_rules edition) (last_rules (every.Source edition)) (start.Opening delimiter.Parenthesis) e is (opening_listed edition delimiter.Parenthesis (λ k. cc)) (takes_one (λ k. k == 40) text more c e a)
-    go (every.Source edition) delimiter.Brace is a = decides_first c text more (c ∷ []) more (Opening delimiter.Brace) (source_rules edition) (last_rules (every.Source edition)) (start.Opening delimiter.Brace) e is (opening_listed edition delimiter.Brace (λ k. cc)) (takes_one (λ k. k == 123) text more c e a)
-    go (every.Source edition) delimiter.Bracket is a = decides_first c text more (c ∷ []) more (Opening delimiter.Bracket) (source_rules edition) (last_rules (every.Source edition)) (start.Opening delimiter.Bracket) e is (opening_listed edition delimiter.Bracket (λ k. cc)) (takes_one (λ k. k == 91) text more c e a)
+    go every.Plain delimiter.Parenthesis is a = decides_first c text more (c ∷ []) more
+        (Opening delimiter.Parenthesis) plain_rules (last_rules every.Plain)
+        (start.Opening delimiter.Parenthesis) e is refl
+        (takes_one (λ k. k == 40) text more c e a)
+    go every.Plain delimiter.Brace is a = decides_first c text more (c ∷ []) more
+        (Opening delimiter.Brace) plain_rules (last_rules every.Plain)
+        (start.Opening delimiter.Brace) e is refl (takes_one (λ k. k == 123) text more c e a)
+    go every.Plain delimiter.Bracket is a = decides_first c text more (c ∷ []) more
+        (Opening delimiter.Bracket) plain_rules (last_rules every.Plain)
+        (start.Opening delimiter.Bracket) e is refl (takes_one (λ k. k == 91) text more c e a)
+    go every.Marked delimiter.Parenthesis is a = decides_first c text more (c ∷ []) more
+        (Opening delimiter.Parenthesis) marked_rules (last_rules every.Marked)
+        (start.Opening delimiter.Parenthesis) e is refl
+        (takes_one (λ k. k == 40) text more c e a)
+    go every.Marked delimiter.Brace is a = decides_first c text more (c ∷ []) more
+        (Opening delimiter.Brace) marked_rules (last_rules every.Marked)
+        (start.Opening delimiter.Brace) e is refl (takes_one (λ k. k == 123) text more c e a)
+    go every.Marked delimiter.Bracket is a = decides_first c text more (c ∷ []) more
+        (Opening delimiter.Bracket) marked_rules (last_rules every.Marked)
+        (start.Opening delimiter.Bracket) e is refl (takes_one (λ k. k == 91) text more c e a)
+    go (every.Source edition) delimiter.Parenthesis is a = decides_first c text more (c ∷ [])
+        more (Opening delimiter.Parenthesis) (source_rules edition)
+        (last_rules (every.Source edition)) (start.Opening delimiter.Parenthesis) e is
+        (opening_listed edition delimiter.Parenthesis (λ k. cc))
+        (takes_one (λ k. k == 40) text more c e a)
+    go (every.Source edition) delimiter.Brace is a = decides_first c text more (c ∷ []) more
+        (Opening delimiter.Brace) (source_rules edition) (last_rules (every.Source edition))
+        (start.Opening delimiter.Brace) e is (opening_listed edition delimiter.Brace (λ k. cc))
+        (takes_one (λ k. k == 123) text more c e a)
+    go (every.Source edition) delimiter.Bracket is a = decides_first c text more (c ∷ []) more
+        (Opening delimiter.Bracket) (source_rules edition) (last_rules (every.Source edition))
+        (start.Opening delimiter.Bracket) e is
+        (opening_listed edition delimiter.Bracket (λ k. cc))
+        (takes_one (λ k. k == 91) text more c e a)
 
-pub decides_closing : (c : ℕ) (text more : List ℕ) (kind : Rules) (d : Delimiter) → text ≡ c ∷ more → start_of c ≡ start.Closing d → (piece : List ℕ) × IsFirstFit text (rules_of kind) (Closing d) piece more
-decides_closing c text more kind d e is = (c ∷ [], go kind d is (sym (ap (agrees c) is) ∙ all_agree c))
+pub decides_closing : (c : ℕ) (text more : List ℕ) (kind : Rules) (d : Delimiter) →
+    text ≡ c ∷ more → start_of c ≡ start.Closing d → (piece : List ℕ)
+    × IsFirstFit text (rules_of kind) (Closing d) piece more
+decides_closing c text more kind d e is =
+    (c ∷ [], go kind d is (sym (ap (agrees c) is) ∙ all_agree c))
   where
-    go : (every : Rules) (d : Delimiter) → start_of c ≡ start.Closing d → agrees c (start.Closing d) ≡ true → IsFirstFit text (rules_of every) (Closing d) (c ∷ []) more
+    go : (every : Rules) (d : Delimiter) → start_of c ≡ start.Closing d →
+        agrees c (start.Closing d) ≡ true → IsFirstFit text (rules_of every) (Closing d) (c ∷ [])
+        more
     go kind delimiter.None is a = absurd (false≢true a)
-    go every.Plain delimiter.Parenthesis is a = decides_first c text more (c ∷ []) more (Closing delimiter.Parenthesis) plain_rules (last_rules every.Plain) (start.Closing delimiter.Parenthesis) e is refl (takes_one (λ k. k == 41) text more c e a)
-    go every.Plain delimiter.Brace is a = decides_first c text more (c ∷ []) more (Closing delimiter.Brace) plain_rules (last_rules every.Plain) (start.Closing delimiter.Brace) e is refl (takes_one (λ k. k == 125) text more c e a)
-    go every.Plain delimiter.Bracket is a = decides_first c text more (c ∷ []) more (Closing delimiter.Bracket) plain_rules (last_rules every.Plain) (start.Closing delimiter.Bracket) e is refl (takes_one (λ k. k == 93) text more c e a)
-    go every.Marked delimiter.Parenthesis is a = decides_first c text more (c ∷ []) more (Closing delimiter.Parenthesis) marked_rules (last_rules every.Marked) (start.Closing delimiter.Parenthesis) e is refl (takes_one (λ k. k == 41) text more c e a)
-    go every.Marked delimiter.Brace is a = decides_first c text more (c ∷ []) more (Closing delimiter.Brace) marked_rules (last_rules every.Marked) (start.Closing delimiter.Brace) e is refl (takes_one (λ k. k == 125) text more c e a)
-    go every.Marked delimiter.Bracket is a = decides_first c text more (c ∷ []) more (Closing delimiter.Bracket) marked_rules (last_rules every.Marked) (start.Closing delimiter.Bracket) e is refl (takes_one (λ k. k == 93) text more c e a)
-    go (every.Source edition) delimiter.Parenthesis is a = decides_first c text more (c ∷ []) more (Closing delimiter.Parenthesis) (source_rules edition) (last_rules (every.Source edition)) (start.Closing delimiter.Parenthesis) e is (closing_listed edition delimiter.Parenthesis (λ k. cc)) (takes_one (λ k. k == 41) text more c e a)
-    go (every.Source edition) delimiter.Brace is a = decides_first c text more (c ∷ []) more (Closing delimiter.Brace) (source_rules edition) (last_rules (every.Source edition)) (start.Closing delimiter.Brace) e is (closing_listed edition delimiter.Brace (λ k. cc)) (takes_one (λ k. k == 125) text more c e a)
-    go (every.Source edition) delimiter.Bracket is a = decides_first c text more (c ∷ []) more (Closing delimiter.Bracket) (source_rules edition) (last_rules (every.Source edition)) (start.Closing delimiter.Bracket) e is (closing_listed edition delimiter.Bracket (λ k. cc)) (takes_one (λ k. k == 93) text more c e a)
+    go every.Plain delimiter.Parenthesis is a = decides_first c text more (c ∷ []) more
+        (Closing delimiter.Parenthesis) plain_rules (last_rules every.Plain)
+        (start.Closing delimiter.Parenthesis) e is refl
+        (takes_one (λ k. k == 41) text more c e a)
+    go every.Plain delimiter.Brace is a = decides_first c text more (c ∷ []) more
+        (Closing delimiter.Brace) plain_rules (last_rules every.Plain)
+        (start.Closing delimiter.Brace) e is refl (takes_one (λ k. k == 125) text more c e a)
+    go every.Plain delimiter.Bracket is a = decides_first c text more (c ∷ []) more
+        (Closing delimiter.Bracket) plain_rules (last_rules every.Plain)
+        (start.Closing delimiter.Bracket) e is refl (takes_one (λ k. k == 93) text more c e a)
+    go every.Marked delimiter.Parenthesis is a = decides_first c text more (c ∷ []) more
+        (Closing delimiter.Parenthesis) marked_rules (last_rules every.Marked)
+        (start.Closing delimiter.Parenthesis) e is refl
+        (takes_one (λ k. k == 41) text more c e a)
+    go every.Marked delimiter.Brace is a = decides_first c text more (c ∷ []) more
+        (Closing delimiter.Brace) marked_rules (last_rules every.Marked)
+        (start.Closing delimiter.Brace) e is refl (takes_one (λ k. k == 125) text more c e a)
+    go every.Marked delimiter.Bracket is a = decides_first c text more (c ∷ []) more
+        (Closing delimiter.Bracket) marked_rules (last_rules every.Marked)
+        (start.Closing delimiter.Bracket) e is refl (takes_one (λ k. k == 93) text more c e a)
+    go (every.Source edition) delimiter.Parenthesis is a = decides_first c text more (c ∷ [])
+        more (Closing delimiter.Parenthesis) (source_rules edition)
+        (last_rules (every.Source edition)) (start.Closing delimiter.Parenthesis) e is
+        (closing_listed edition delimiter.Parenthesis (λ k. cc))
+        (takes_one (λ k. k == 41) text more c e a)
+    go (every.Source edition) delimiter.Brace is a = decides_first c text more (c ∷ []) more
+        (Closing delimiter.Brace) (source_rules edition) (last_rules (every.Source edition))
+        (start.Closing delimiter.Brace) e is (closing_listed edition delimiter.Brace (λ k. cc))
+        (takes_one (λ k. k == 125) text more c e a)
+    go (every.Source edition) delimiter.Bracket is a = decides_first c text more (c ∷ []) more
+        (Closing delimiter.Bracket) (source_rules edition) (last_rules (every.Source edition))
+        (start.Closing delimiter.Bracket) e is
+        (closing_listed edition delimiter.Bracket (λ k. cc))
+        (takes_one (λ k. k == 93) text more c e a)

@@ -1,5 +1,7 @@
 -- Lemmas on pieces: lists alone.
-use Rattle.std.proofs.Common.{◌≡◌, ◌∙◌, ◌⊎◌, inl, inr, ℕ, ◌+◌, ◌<◌, List, [], ◌∷◌, ◌++◌, length, refl, sym, ap, subst, Bool, true, false, ◌&&◌, append_assoc, arith, length-append, rules, tests}
+use Rattle.std.proofs.Common.{◌≡◌, ◌∙◌, ◌⊎◌, inl, inr, ℕ, ◌+◌, ◌<◌, List, [], ◌∷◌, ◌++◌, length}
+use Rattle.std.proofs.Common.{refl, sym, ap, subst, Bool, true, false, ◌&&◌, append_assoc, arith}
+use Rattle.std.proofs.Common.{length-append, rules, tests}
 use Rattle.std.proofs.lemmas.List.{append_cancel_left, append-nil}
 use Rattle.std.proofs.lemmas.List.Folds.{list_all-append}
 use Rattle.std.specs.Prelude.{◌==◌}
@@ -8,7 +10,8 @@ use Rattle.std.specs.Str.{chars, IsUtf8}
 use Rattle.std.specs.Char.{encode_utf8}
 use Rattle.std.proofs.lemmas.Str.{chars_past_char, length-encode, len_utf8_bounds}
 use Rattle.std.proofs.lemmas.Bool.{false≢true, eqb-true}
-use Rattle.tok_lexical.specs.Pieces.{HasPrefix, IsLongestPrefix, ReadsLongest, ReadsPrefix, Stops, Skips, IsOne, After}
+use Rattle.tok_lexical.specs.Pieces.{HasPrefix, IsLongestPrefix, ReadsLongest, ReadsPrefix}
+use Rattle.tok_lexical.specs.Pieces.{Stops, Skips, IsOne, After}
 use Rattle.std.specs.Prelude.{Option, Some, None, MatchOption, unwrap_or}
 use Rattle.std.specs.Borrow.{Bor}
 use Rattle.tok_lexical.specs.Characters.{is_space, is_whitespace, begins_visibly}
@@ -16,70 +19,99 @@ use Rattle.tok_lexical.specs.Comments.{is_not_line_feed, IsLineComment}
 use Rattle.tok_lexical.specs.Words.{IsIdentifier, is_identifier_start}
 use Rattle.unicode_ident.specs.Ident.{is_xid_continue}
 
-pub chars_next : (text start mid rest : List ℕ) (c : ℕ) → IsUtf8 text → start ≡ text → start ≡ encode_utf8 c ++ mid → rest ≡ mid → chars text ≡ c ∷ chars rest
+pub chars_next : (text start mid rest : List ℕ) (c : ℕ) → IsUtf8 text → start ≡ text →
+    start ≡ encode_utf8 c ++ mid → rest ≡ mid → chars text ≡ c ∷ chars rest
 chars_next text start mid rest c u e g h = rw h (chars_past_char text mid c u (sym e ∙ g))
 
-pub shorter_next : (text start mid rest : List ℕ) (c : ℕ) → start ≡ text → start ≡ encode_utf8 c ++ mid → rest ≡ mid → length rest < length text
+pub shorter_next : (text start mid rest : List ℕ) (c : ℕ) → start ≡ text → start ≡ encode_utf8 c
+    ++ mid → rest ≡ mid → length rest < length text
 shorter_next text start mid rest c e g h =
-    let l : length text ≡ length (encode_utf8 c) + length mid = ap length (sym e ∙ g) ∙ length-append (encode_utf8 c) mid in
+    let l : length text ≡ length (encode_utf8 c) + length mid = ap length (sym e ∙ g)
+    ∙ length-append (encode_utf8 c) mid in
     let b = length-encode c in
     let p = (len_utf8_bounds c).0 in
     let q : length rest ≡ length mid = ap length h in
     omega arith
 
 -- a list that goes on past one element
-pub one_and_more : (c d : ℕ) (more : List ℕ) → (c ∷ []) ++ more ≡ d ∷ [] → more ≡ []
+one_and_more : (c d : ℕ) (more : List ℕ) → (c ∷ []) ++ more ≡ d ∷ [] → more ≡ []
 one_and_more c d [] e = refl
 one_and_more c d (m ∷ more) e = cc
 
-pub takes_one : (p : ℕ → Bool) (text rest : List ℕ) (c : ℕ) → text ≡ c ∷ rest → p c ≡ true → IsLongestPrefix (IsOne p) text (c ∷ []) rest
+pub takes_one : (p : ℕ → Bool) (text rest : List ℕ) (c : ℕ) → text ≡ c ∷ rest → p c ≡ true →
+    IsLongestPrefix (IsOne p) text (c ∷ []) rest
 takes_one p text rest c e h = record {
   cut = e;
   spelled = (c, h, refl);
   longest = λ more after q s. one_and_more c s.0 more s.2;
 }
 
-pub list_all-push : (p : ℕ → Bool) (xs : List ℕ) (c : ℕ) → list_all p xs ≡ true → p c ≡ true → list_all p (xs ++ c ∷ []) ≡ true
-list_all-push p [] c a h = rw h refl
-list_all-push p (x ∷ xs) c a h =
+pub list_all_push : (p : ℕ → Bool) (xs : List ℕ) (c : ℕ) → list_all p xs ≡ true → p c ≡ true →
+    list_all p (xs ++ c ∷ []) ≡ true
+list_all_push p [] c a h = rw h refl
+list_all_push p (x ∷ xs) c a h =
     elim (p x) as (λ b. b && list_all p xs ≡ true → b && list_all p (xs ++ c ∷ []) ≡ true) [
-      | true ↦ λ k. list_all-push p xs c k h
+      | true ↦ λ k. list_all_push p xs c k h
       | false ↦ λ k. absurd (false≢true k)
     ] a
 
 -- one more character that passes
-pub skips_more : (p : ℕ → Bool) (text mid rest front : List ℕ) (c : ℕ) → text ≡ front ++ mid → list_all p front ≡ true → mid ≡ c ∷ rest → p c ≡ true → (longer : List ℕ) × (text ≡ longer ++ rest) × (list_all p longer ≡ true)
-skips_more p text mid rest front c e a g h =
-    (front ++ c ∷ [], e ∙ ap (λ w. front ++ w) g ∙ sym (append_assoc front (c ∷ []) rest), list_all-push p front c a h)
+pub skips_more : (p : ℕ → Bool) (text mid rest front : List ℕ) (c : ℕ) → text ≡ front ++ mid →
+    list_all p front ≡ true → mid ≡ c ∷ rest → p c ≡ true → (longer : List ℕ)
+    × (text ≡ longer ++ rest) × (list_all p longer ≡ true)
+skips_more p text mid rest front c e a g h = (
+  front ++ c ∷ [],
+  e ∙ ap (λ w. front ++ w) g ∙ sym (append_assoc front (c ∷ []) rest),
+  list_all_push p front c a h,
+)
 
 -- a run of spaces after one of white space
 spaces_pass : (cs : List ℕ) → list_all is_space cs ≡ true → list_all is_whitespace cs ≡ true
 spaces_pass [] h = refl
 spaces_pass (c ∷ cs) h = go (c == 32) refl h (spaces_pass cs)
   where
-    go : (b : Bool) → (c == 32) ≡ b → b && list_all is_space cs ≡ true → (list_all is_space cs ≡ true → list_all is_whitespace cs ≡ true) → list_all is_whitespace (c ∷ cs) ≡ true
-    go true e k more = ap (λ d. is_whitespace d && list_all is_whitespace cs) (eqb-true c 32 e) ∙ more k
+    go : (b : Bool) → (c == 32) ≡ b → b && list_all is_space cs ≡ true →
+        (list_all is_space cs ≡ true → list_all is_whitespace cs ≡ true) →
+        list_all is_whitespace (c ∷ cs) ≡ true
+    go true e k more = ap (λ d. is_whitespace d && list_all is_whitespace cs) (eqb-true c 32 e)
+        ∙ more k
     go false e k more = absurd (false≢true k)
 
-pub skips_spaces : (text mid rest front : List ℕ) → text ≡ front ++ mid → list_all is_whitespace front ≡ true → (run : List ℕ) × Skips is_space mid run rest → (longer : List ℕ) × (text ≡ longer ++ rest) × (list_all is_whitespace longer ≡ true)
+pub skips_spaces : (text mid rest front : List ℕ) → text ≡ front ++ mid →
+    list_all is_whitespace front ≡ true → (run : List ℕ) × Skips is_space mid run rest →
+    (longer : List ℕ) × (text ≡ longer ++ rest) × (list_all is_whitespace longer ≡ true)
 skips_spaces text mid rest front e a (run, s) = (
   front ++ run,
   e ∙ ap (λ w. front ++ w) s.cut ∙ sym (append_assoc front run rest),
-  list_all-append is_whitespace front run ∙ ap (λ b. b && list_all is_whitespace run) a ∙ spaces_pass run s.pass,
+  list_all-append is_whitespace front run ∙ ap (λ b. b && list_all is_whitespace run) a
+      ∙ spaces_pass run s.pass,
 )
 
 -- a space and white space after it
-pub skips_space : (text mid rest : List ℕ) → text ≡ 32 ∷ mid → (front : List ℕ) × Skips is_whitespace mid front rest → (longer : List ℕ) × Skips is_whitespace text longer rest
-skips_space text mid rest e (front, s) = (32 ∷ front, record { cut = e ∙ ap (λ w. 32 ∷ w) s.cut; pass = s.pass; stops = s.stops })
+skips_space : (text mid rest : List ℕ) → text ≡ 32 ∷ mid → (front : List ℕ)
+    × Skips is_whitespace mid front rest → (longer : List ℕ) × Skips is_whitespace text longer
+    rest
+skips_space text mid rest e (front, s) =
+    (32 ∷ front, record { cut = e ∙ ap (λ w. 32 ∷ w) s.cut; pass = s.pass; stops = s.stops })
 
 -- after a space at the front, if there is one
-pub skips_first_space : (text : Bor (List ℕ)) (found : Option (Bor (List ℕ))) (next : Bor (List ℕ)) (rest : List ℕ) → next ≡ unwrap_or found text → MatchOption found ((more : List ℕ) → chars text.now ≡ 32 ∷ more → ⊥) (λ after. chars text.now ≡ 32 ∷ chars after.now) → (front : List ℕ) × Skips is_whitespace (chars next.now) front rest → (longer : List ℕ) × Skips is_whitespace (chars text.now) longer rest
-skips_first_space text None next rest e none skips = subst (λ w. (front : List ℕ) × Skips is_whitespace (chars w.now) front rest) e skips
-skips_first_space text (Some after) next rest e one skips = skips_space (chars text.now) (chars after.now) rest one (subst (λ w. (front : List ℕ) × Skips is_whitespace (chars w.now) front rest) e skips)
+pub skips_first_space : (text : Bor (List ℕ)) (found : Option (Bor (List ℕ)))
+    (next : Bor (List ℕ)) (rest : List ℕ) → next ≡ unwrap_or found text →
+    MatchOption found ((more : List ℕ) → chars text.now ≡ 32 ∷ more → ⊥)
+    (λ after. chars text.now ≡ 32 ∷ chars after.now) → (front : List ℕ)
+    × Skips is_whitespace (chars next.now) front rest → (longer : List ℕ)
+    × Skips is_whitespace (chars text.now) longer rest
+skips_first_space text None next rest e none skips =
+    subst (λ w. (front : List ℕ) × Skips is_whitespace (chars w.now) front rest) e skips
+skips_first_space text (Some after) next rest e one skips = skips_space (chars text.now)
+    (chars after.now) rest one
+    (subst (λ w. (front : List ℕ) × Skips is_whitespace (chars w.now) front rest) e skips)
 
 -- no white space at the front
-pub skips_nothing : (text : List ℕ) → begins_visibly text ≡ true → (front : List ℕ) × Skips is_whitespace text front text
-skips_nothing text visible = ([], record { cut = refl; pass = refl; stops = visible_stops text visible })
+pub skips_nothing : (text : List ℕ) → begins_visibly text ≡ true → (front : List ℕ)
+    × Skips is_whitespace text front text
+skips_nothing text visible =
+    ([], record { cut = refl; pass = refl; stops = visible_stops text visible })
   where
     visible_stops : (cs : List ℕ) → begins_visibly cs ≡ true → Stops is_whitespace cs
     visible_stops [] h = tt
@@ -94,7 +126,8 @@ all_after p (x ∷ xs) ys h =
     ] h
 
 -- what stops doesn't go on
-pub no_more : (p : ℕ → Bool) (rest more after front : List ℕ) → Stops p rest → rest ≡ more ++ after → list_all p (front ++ more) ≡ true → more ≡ []
+pub no_more : (p : ℕ → Bool) (rest more after front : List ℕ) → Stops p rest →
+    rest ≡ more ++ after → list_all p (front ++ more) ≡ true → more ≡ []
 no_more p rest [] after front s e a = refl
 no_more p [] (m ∷ more) after front s e a = cc
 no_more p (c ∷ rest) (m ∷ more) after front s e a =
@@ -105,7 +138,9 @@ no_more p (c ∷ rest) (m ∷ more) after front s e a =
       | false ↦ λ k q. false≢true q
     ] refl all)
 
-pub takes_identifier : (text mid rest : List ℕ) (c : ℕ) → text ≡ c ∷ mid → is_identifier_start c ≡ true → (front : List ℕ) × Skips is_xid_continue mid front rest → (piece : List ℕ) × IsLongestPrefix IsIdentifier text piece rest
+pub takes_identifier : (text mid rest : List ℕ) (c : ℕ) → text ≡ c ∷ mid → is_identifier_start c
+    ≡ true → (front : List ℕ) × Skips is_xid_continue mid front rest → (piece : List ℕ)
+    × IsLongestPrefix IsIdentifier text piece rest
 takes_identifier text mid rest c e h (front, s) = (
   c ∷ front,
   record {
@@ -116,7 +151,9 @@ takes_identifier text mid rest c e h (front, s) = (
 )
 
 -- two characters, and then all that pass
-pub takes_line : (text mid rest : List ℕ) → text ≡ 47 ∷ 47 ∷ mid → (front : List ℕ) × Skips is_not_line_feed mid front rest → (piece : List ℕ) × IsLongestPrefix IsLineComment text piece rest
+pub takes_line : (text mid rest : List ℕ) → text ≡ 47 ∷ 47 ∷ mid → (front : List ℕ)
+    × Skips is_not_line_feed mid front rest → (piece : List ℕ)
+    × IsLongestPrefix IsLineComment text piece rest
 takes_line text mid rest e (front, s) = (
   47 ∷ 47 ∷ front,
   record {
@@ -124,7 +161,8 @@ takes_line text mid rest e (front, s) = (
     spelled = (front, refl, s.pass);
     longest = λ more after q (body, g, a).
         let same : body ≡ front ++ more = cc in
-        no_more is_not_line_feed rest more after front s.stops q (ap (list_all is_not_line_feed) (sym same) ∙ a);
+        no_more is_not_line_feed rest more after front s.stops q
+        (ap (list_all is_not_line_feed) (sym same) ∙ a);
   },
 )
 
@@ -132,12 +170,25 @@ nothing_after : (a b : ℕ) (more : List ℕ) → (a ∷ b ∷ []) ++ more ≡ a
 nothing_after a b more e = append_cancel_left (a ∷ b ∷ []) more [] e
 
 -- a spelling of just two characters
-pub tries_pair : (a b : ℕ) (text : List ℕ) (answer : Option (Bor (List ℕ))) → MatchOption answer ((more : List ℕ) → text ≡ a ∷ b ∷ more → ⊥) (λ rest. text ≡ a ∷ b ∷ chars rest.now) → ReadsLongest (λ p. p ≡ a ∷ b ∷ []) text answer
-tries_pair a b text None misses = λ (piece, after, cut, one). misses after (cut ∙ ap (λ w. w ++ after) one)
-tries_pair a b text (Some rest) e = (a ∷ b ∷ [], record { cut = e; spelled = refl; longest = λ more after q s. nothing_after a b more s })
+pub tries_pair : (a b : ℕ) (text : List ℕ) (answer : Option (Bor (List ℕ))) →
+    MatchOption answer ((more : List ℕ) → text ≡ a ∷ b ∷ more → ⊥)
+    (λ rest. text ≡ a ∷ b ∷ chars rest.now) → ReadsLongest (λ p. p ≡ a ∷ b ∷ []) text answer
+tries_pair a b text None misses = λ (piece, after, cut, one). misses after
+    (cut ∙ ap (λ w. w ++ after) one)
+tries_pair a b text (Some rest) e = (
+  a ∷ b ∷ [],
+  record {
+    cut = e;
+    spelled = refl;
+    longest = λ more after q s. nothing_after a b
+        more s;
+  },
+)
 
 -- a character, and after it what another function tries
-pub tries_after : (k : ℕ) (S : List ℕ → Type 0) (text rest : List ℕ) (answer : Option (Bor (List ℕ))) → text ≡ k ∷ rest → ReadsLongest S rest answer → ReadsLongest (After k S) text answer
+pub tries_after : (k : ℕ) (S : List ℕ → Type 0) (text rest : List ℕ)
+    (answer : Option (Bor (List ℕ))) → text ≡ k ∷ rest → ReadsLongest S rest answer →
+    ReadsLongest (After k S) text answer
 tries_after k S text rest None e misses = λ (piece, after, cut, (more, f, s)).
     let both : k ∷ rest ≡ k ∷ (more ++ after) = sym e ∙ cut ∙ ap (λ w. w ++ after) f in
     let inner : rest ≡ more ++ after = cc in
@@ -147,38 +198,53 @@ tries_after k S text rest (Some after) e (piece, t) = (
   record {
     cut = e ∙ ap (λ w. k ∷ w) t.cut;
     spelled = (piece, refl, t.spelled);
-    longest = λ more after f (q, g, s). let same : q ≡ piece ++ more = cc in t.longest more after f (subst S same s);
+    longest = λ more after f (q, g, s). let same : q ≡ piece ++ more = cc in
+        t.longest more after f (subst S same s);
   },
 )
 
-pub finds_after : (k : ℕ) (S : List ℕ → Type 0) (text rest : List ℕ) (answer : Option (Bor (List ℕ))) → text ≡ k ∷ rest → ReadsPrefix S rest answer → ReadsPrefix (After k S) text answer
+pub finds_after : (k : ℕ) (S : List ℕ → Type 0) (text rest : List ℕ)
+    (answer : Option (Bor (List ℕ))) → text ≡ k ∷ rest → ReadsPrefix S rest answer →
+    ReadsPrefix (After k S) text answer
 finds_after k S text rest None e misses = λ (piece, after, cut, (more, f, s)).
     let both : k ∷ rest ≡ k ∷ (more ++ after) = sym e ∙ cut ∙ ap (λ w. w ++ after) f in
     let inner : rest ≡ more ++ after = cc in
     misses (more, after, inner, s)
-finds_after k S text rest (Some after) e (piece, cut, s) = (k ∷ piece, e ∙ ap (λ w. k ∷ w) cut, (piece, refl, s))
+finds_after k S text rest (Some after) e (piece, cut, s) =
+    (k ∷ piece, e ∙ ap (λ w. k ∷ w) cut, (piece, refl, s))
 
 -- of a spelling of which none begins another, what is found is taken
 abbrev pub IsFree : (List ℕ → Type 0) → Type 0
 IsFree S = (a b : List ℕ) → S a → S b → (x y : List ℕ) → a ++ x ≡ b ++ y → (a ≡ b) × (x ≡ y)
 
-pub tries_found : (S : List ℕ → Type 0) (text : List ℕ) (answer : Option (Bor (List ℕ))) → IsFree S → ReadsPrefix S text answer → ReadsLongest S text answer
+pub tries_found : (S : List ℕ → Type 0) (text : List ℕ) (answer : Option (Bor (List ℕ))) →
+    IsFree S → ReadsPrefix S text answer → ReadsLongest S text answer
 tries_found S text None free misses = misses
 tries_found S text (Some rest) free (piece, cut, s) = (
   piece,
   record {
     cut = cut;
     spelled = s;
-    longest = λ more after f longer. append_cancel_left piece more [] (sym (free piece (piece ++ more) s longer more [] (sym (append-nil (piece ++ more)))).0 ∙ sym (append-nil piece));
+    longest = λ more after f longer. append_cancel_left piece more []
+        (sym (free piece (piece ++ more) s longer more [] (sym (append-nil (piece ++ more)))).0
+        ∙ sym (append-nil piece));
   },
 )
 
-pub tries_two : (a b mark : ℕ) (text : List ℕ) (answer : Option (Bor (List ℕ))) → mark ≡ b → MatchOption answer ((more : List ℕ) → text ≡ a ∷ mark ∷ more → ⊥) (λ rest. text ≡ a ∷ mark ∷ chars rest.now) → ReadsLongest (λ p. p ≡ a ∷ b ∷ []) text answer
-tries_two a b mark text answer e h = tries_pair a b text answer (subst (λ w. MatchOption answer ((more : List ℕ) → text ≡ a ∷ w ∷ more → ⊥) (λ rest. text ≡ a ∷ w ∷ chars rest.now)) e h)
+pub tries_two : (a b mark : ℕ) (text : List ℕ) (answer : Option (Bor (List ℕ))) → mark ≡ b →
+    MatchOption answer ((more : List ℕ) → text ≡ a ∷ mark ∷ more → ⊥)
+    (λ rest. text ≡ a ∷ mark ∷ chars rest.now) → ReadsLongest (λ p. p ≡ a ∷ b ∷ []) text answer
+tries_two a b mark text answer e h =
+    tries_pair a b text answer
+    (subst (λ w. MatchOption answer ((more : List ℕ) → text ≡ a ∷ w ∷ more → ⊥)
+    (λ rest. text ≡ a ∷ w ∷ chars rest.now)) e h)
 
 -- one of two spellings, where the other doesn't fit
-pub either_first : (S R : List ℕ → Type 0) (text : List ℕ) (answer : Option (Bor (List ℕ))) → (HasPrefix R text → ⊥) → ReadsLongest S text answer → ReadsLongest (λ p. S p ⊎ R p) text answer
-either_first S R text None fails misses = λ (piece, after, cut, h). elim h [ inl s ↦ misses (piece, after, cut, s) | inr r ↦ fails (piece, after, cut, r) ]
+pub either_first : (S R : List ℕ → Type 0) (text : List ℕ) (answer : Option (Bor (List ℕ))) →
+    (HasPrefix R text → ⊥) → ReadsLongest S text answer → ReadsLongest (λ p. S p ⊎ R p) text
+    answer
+either_first S R text None fails misses = λ (piece, after, cut, h). elim h
+    [ inl s ↦ misses (piece, after, cut, s) | inr r ↦ fails (piece, after, cut, r) ]
 either_first S R text (Some rest) fails (piece, t) = (
   piece,
   record {
@@ -186,27 +252,45 @@ either_first S R text (Some rest) fails (piece, t) = (
     spelled = inl t.spelled;
     longest = λ more after e h. elim h [
       | inl s ↦ t.longest more after e s
-      | inr r ↦ absurd (fails (piece ++ more, after, t.cut ∙ ap (λ w. piece ++ w) e ∙ sym (append_assoc piece more after), r))
+      | inr r ↦ absurd
+          (fails (
+            piece ++ more,
+            after,
+            t.cut ∙ ap (λ w. piece ++ w) e
+                ∙ sym (append_assoc piece more after),
+            r,
+          ))
     ];
   },
 )
 
-pub either_second : (S R : List ℕ → Type 0) (text : List ℕ) (answer : Option (Bor (List ℕ))) → (HasPrefix S text → ⊥) → ReadsLongest R text answer → ReadsLongest (λ p. S p ⊎ R p) text answer
-either_second S R text None fails misses = λ (piece, after, cut, h). elim h [ inl s ↦ fails (piece, after, cut, s) | inr r ↦ misses (piece, after, cut, r) ]
+pub either_second : (S R : List ℕ → Type 0) (text : List ℕ) (answer : Option (Bor (List ℕ))) →
+    (HasPrefix S text → ⊥) → ReadsLongest R text answer → ReadsLongest (λ p. S p ⊎ R p) text
+    answer
+either_second S R text None fails misses = λ (piece, after, cut, h). elim h
+    [ inl s ↦ fails (piece, after, cut, s) | inr r ↦ misses (piece, after, cut, r) ]
 either_second S R text (Some rest) fails (piece, t) = (
   piece,
   record {
     cut = t.cut;
     spelled = inr t.spelled;
     longest = λ more after e h. elim h [
-      | inl s ↦ absurd (fails (piece ++ more, after, t.cut ∙ ap (λ w. piece ++ w) e ∙ sym (append_assoc piece more after), s))
+      | inl s ↦ absurd
+          (fails (
+            piece ++ more,
+            after,
+            t.cut ∙ ap (λ w. piece ++ w) e
+                ∙ sym (append_assoc piece more after),
+            s,
+          ))
       | inr r ↦ t.longest more after e r
     ];
   },
 )
 
 -- two fronts of one text: one goes on from the other
-pub fronts : (p q r s : List ℕ) → p ++ r ≡ q ++ s → ((m : List ℕ) × (q ≡ p ++ m) × (r ≡ m ++ s)) ⊎ ((m : List ℕ) × (p ≡ q ++ m) × (s ≡ m ++ r))
+pub fronts : (p q r s : List ℕ) → p ++ r ≡ q ++ s → ((m : List ℕ) × (q ≡ p ++ m) × (r ≡ m ++ s))
+    ⊎ ((m : List ℕ) × (p ≡ q ++ m) × (s ≡ m ++ r))
 fronts [] q r s e = inl (q, refl, e)
 fronts (x ∷ p) [] r s e = inr (x ∷ p, refl, sym e)
 fronts (x ∷ p) (y ∷ q) r s e =
@@ -217,12 +301,14 @@ fronts (x ∷ p) (y ∷ q) r s e =
       | inr (m, a, b) ↦ inr (m, cc, b)
     ]
 
-longer_none : (S : List ℕ → Type 0) (text p r q s m : List ℕ) → IsLongestPrefix S text p r → IsLongestPrefix S text q s → q ≡ p ++ m → r ≡ m ++ s → (p ≡ q) × (r ≡ s)
+longer_none : (S : List ℕ → Type 0) (text p r q s m : List ℕ) → IsLongestPrefix S text p r →
+    IsLongestPrefix S text q s → q ≡ p ++ m → r ≡ m ++ s → (p ≡ q) × (r ≡ s)
 longer_none S text p r q s m t u a b =
     let nothing : m ≡ [] = t.longest m s b (subst S a u.spelled) in
     (sym (a ∙ ap (λ w. p ++ w) nothing ∙ append-nil p), b ∙ ap (λ w. w ++ s) nothing)
 
-pub takes_unique : (S : List ℕ → Type 0) (text p r q s : List ℕ) → IsLongestPrefix S text p r → IsLongestPrefix S text q s → (p ≡ q) × (r ≡ s)
+pub takes_unique : (S : List ℕ → Type 0) (text p r q s : List ℕ) → IsLongestPrefix S text p r →
+    IsLongestPrefix S text q s → (p ≡ q) × (r ≡ s)
 takes_unique S text p r q s t u =
     elim (fronts p q r s (sym t.cut ∙ u.cut)) [
       | inl (m, a, b) ↦ longer_none S text p r q s m t u a b

@@ -1,5 +1,7 @@
 -- Raw strings: the search for the quote that ends one.
-use Rattle.std.proofs.Common.{◌≡◌, ◌∙◌, ℕ, zero, suc, get_or, ◌+◌, ◌≤◌, ◌<◌, inl, inr, List, [], ◌∷◌, ◌++◌, length, refl, sym, ap, subst, arith, append_assoc, length-append, true}
+use Rattle.std.proofs.Common.{◌≡◌, ◌∙◌, ℕ, zero, suc, get_or, ◌+◌, ◌≤◌, ◌<◌, inl, inr, List, []}
+use Rattle.std.proofs.Common.{◌∷◌, ◌++◌, length, refl, sym, ap, subst, arith, append_assoc}
+use Rattle.std.proofs.Common.{length-append, true}
 use Rattle.std.proofs.lemmas.List.{append-nil, append_cancel_left}
 use Rattle.std.proofs.lemmas.Bool.{false≢true, eqb-true}
 use Rattle.std.specs.Prelude.{◌==◌, ◌||◌, not, Bool, false}
@@ -24,23 +26,29 @@ ends_some hashes tail e closed = cc
 ends_some hashes tail e (further misses m) = cc
 
 -- of a text with the closing in front, no longer front ends so
-closed_first : (closing : List ℕ) (c : ℕ) (text x y : List ℕ) → ((more : List ℕ) → c ∷ text ≡ closing ++ more → ⊥) → EndsAt closing text → closing ++ x ≡ (c ∷ text) ++ y → ⊥
+closed_first : (closing : List ℕ) (c : ℕ) (text x y : List ℕ) →
+    ((more : List ℕ) → c ∷ text ≡ closing ++ more → ⊥) → EndsAt closing text → closing ++ x
+    ≡ (c ∷ text) ++ y → ⊥
 closed_first closing c text x y misses m e =
     elim (fronts closing (c ∷ text) x y e) [
       | inl (more, a, b) ↦ misses more a
       | inr (more, a, b) ↦
           let l = ends_length m in
-          let whole : length closing ≡ length (c ∷ text) + length more = ap length a ∙ length-append (c ∷ text) more in
+          let whole : length closing ≡ length (c ∷ text) + length more = ap length a
+          ∙ length-append (c ∷ text) more in
           omega arith
     ]
 
-pub free_ends : (closing : List ℕ) → IsFree (EndsAt closing)
+free_ends : (closing : List ℕ) → IsFree (EndsAt closing)
 free_ends closing a b s t x y e = go s t x y e
   where
-    go : {a b : List ℕ} → EndsAt closing a → EndsAt closing b → (x y : List ℕ) → a ++ x ≡ b ++ y → (a ≡ b) × (x ≡ y)
+    go : {a b : List ℕ} → EndsAt closing a → EndsAt closing b → (x y : List ℕ) →
+        a ++ x ≡ b ++ y → (a ≡ b) × (x ≡ y)
     go closed closed x y e = (refl, append_cancel_left closing x y e)
-    go closed (further {c = c} {text = text} misses m) x y e = absurd (closed_first closing c text x y misses m e)
-    go (further {c = c} {text = text} misses m) closed x y e = absurd (closed_first closing c text y x misses m (sym e))
+    go closed (further {c = c} {text = text} misses m) x y e =
+        absurd (closed_first closing c text x y misses m e)
+    go (further {c = c} {text = text} misses m) closed x y e =
+        absurd (closed_first closing c text y x misses m (sym e))
     go (further {c = c} {text = text} misses m) (further {c = d} {text = other} others n) x y e =
         let w = go m n x y (tails c d (text ++ x) (other ++ y) e) in
         (ap (λ v. v ∷ text) (heads c d (text ++ x) (other ++ y) e) ∙ ap (λ v. d ∷ v) w.0, w.1)
@@ -48,23 +56,42 @@ free_ends closing a b s t x y e = go s t x y e
 -- no closing begins in this front of the start, before the rest
 pub record Stands (closing start rest front : List ℕ) : Type 0 where
   pub cut : start ≡ front ++ rest
-  pub back : (tail after : List ℕ) → rest ≡ tail ++ after → EndsAt closing tail → EndsAt closing (front ++ tail)
-  pub forth : (tail after : List ℕ) → start ≡ tail ++ after → EndsAt closing tail → (more : List ℕ) × (tail ≡ front ++ more) × (rest ≡ more ++ after) × EndsAt closing more
+  pub back : (tail after : List ℕ) → rest ≡ tail ++ after → EndsAt closing tail →
+      EndsAt closing (front ++ tail)
+  pub forth : (tail after : List ℕ) → start ≡ tail ++ after → EndsAt closing tail →
+      (more : List ℕ) × (tail ≡ front ++ more) × (rest ≡ more ++ after) × EndsAt closing more
 
-pub stands_first : (closing start : List ℕ) → Stands closing start start []
-stands_first closing start = record { cut = refl; back = λ tail after e m. m; forth = λ tail after e m. (tail, refl, e, m) }
+stands_first : (closing start : List ℕ) → Stands closing start start []
+stands_first closing start = record {
+  cut = refl;
+  back = λ tail after e m. m;
+  forth =
+      λ tail after e m. (tail, refl, e, m);
+}
 
-one_less : (closing inner more after : List ℕ) (c : ℕ) → c ∷ inner ≡ more ++ after → ((m : List ℕ) → c ∷ inner ≡ closing ++ m → ⊥) → EndsAt closing more → (less : List ℕ) × (more ≡ c ∷ less) × (inner ≡ less ++ after) × EndsAt closing less
+one_less : (closing inner more after : List ℕ) (c : ℕ) → c ∷ inner ≡ more ++ after →
+    ((m : List ℕ) → c ∷ inner ≡ closing ++ m → ⊥) → EndsAt closing more → (less : List ℕ)
+    × (more ≡ c ∷ less) × (inner ≡ less ++ after) × EndsAt closing less
 one_less closing inner more after c e misses closed = absurd (misses after e)
-one_less closing inner more after c e misses (further {c = d} {text = text} n m) = (text, ap (λ w. w ∷ text) (sym (heads c d inner (text ++ after) e)), tails c d inner (text ++ after) e, m)
+one_less closing inner more after c e misses (further {c = d} {text = text} n m) = (
+  text,
+  ap (λ w. w ∷ text) (sym (heads c d inner (text ++ after) e)),
+  tails c d inner (text ++ after) e,
+  m,
+)
 
 -- past a character where the closing doesn't begin
-stands_more : (closing start rest inner front : List ℕ) (c : ℕ) → Stands closing start rest front → rest ≡ c ∷ inner → ((m : List ℕ) → c ∷ inner ≡ closing ++ m → ⊥) → Stands closing start inner (front ++ c ∷ [])
+stands_more : (closing start rest inner front : List ℕ) (c : ℕ) →
+    Stands closing start rest front → rest ≡ c ∷ inner →
+    ((m : List ℕ) → c ∷ inner ≡ closing ++ m → ⊥) → Stands closing start inner (front ++ c ∷ [])
 stands_more closing start rest inner front c s e misses = record {
   cut = s.cut ∙ ap (λ w. front ++ w) e ∙ sym (append_assoc front (c ∷ []) inner);
   back = λ tail after f m.
-      let fails : (more : List ℕ) → c ∷ tail ≡ closing ++ more → ⊥ = λ more g. misses (more ++ after) (ap (λ w. c ∷ w) f ∙ ap (λ w. w ++ after) g ∙ append_assoc closing more after) in
-      subst (EndsAt closing) (sym (append_assoc front (c ∷ []) tail)) (s.back (c ∷ tail) after (e ∙ ap (λ w. c ∷ w) f) (further fails m));
+      let fails : (more : List ℕ) → c ∷ tail ≡ closing ++ more →
+      ⊥ = λ more g. misses (more ++ after) (ap (λ w. c ∷ w) f ∙ ap (λ w. w ++ after) g
+      ∙ append_assoc closing more after) in
+      subst (EndsAt closing) (sym (append_assoc front (c ∷ []) tail))
+      (s.back (c ∷ tail) after (e ∙ ap (λ w. c ∷ w) f) (further fails m));
   forth = λ tail after f m.
       let a = s.forth tail after f m in
       let b = one_less closing inner a.0 after c (sym e ∙ a.2) misses a.3 in
@@ -72,18 +99,30 @@ stands_more closing start rest inner front c s e misses = record {
 }
 
 -- past a run with no quote
-pub stands_run : (hashes start rest inner front run : List ℕ) → Stands (34 ∷ hashes) start rest front → rest ≡ run ++ inner → list_all (is_neither 34 34) run ≡ true → Stands (34 ∷ hashes) start inner (front ++ run)
-stands_run hashes start rest inner front [] s e h = subst (λ w. Stands (34 ∷ hashes) start inner w) (sym (append-nil front)) (subst (λ w. Stands (34 ∷ hashes) start w front) e s)
+pub stands_run : (hashes start rest inner front run : List ℕ) →
+    Stands (34 ∷ hashes) start rest front → rest ≡ run ++ inner → list_all (is_neither 34 34) run
+    ≡ true → Stands (34 ∷ hashes) start inner (front ++ run)
+stands_run hashes start rest inner front [] s e h =
+    subst (λ w. Stands (34 ∷ hashes) start inner w) (sym (append-nil front))
+    (subst (λ w. Stands (34 ∷ hashes) start w front) e s)
 stands_run hashes start rest inner front (x ∷ run) s e h =
     let n = neither_first 34 34 x run h in
-    let one = stands_more (34 ∷ hashes) start rest (run ++ inner) front x s e (λ m g. n.0 (heads x 34 (run ++ inner) (hashes ++ m) g)) in
-    subst (λ w. Stands (34 ∷ hashes) start inner w) (append_assoc front (x ∷ []) run) (stands_run hashes start (run ++ inner) inner (front ++ x ∷ []) run one refl n.2)
+    let one = stands_more (34 ∷ hashes) start rest (run ++ inner) front x s e
+    (λ m g. n.0 (heads x 34 (run ++ inner) (hashes ++ m) g)) in
+    subst (λ w. Stands (34 ∷ hashes) start inner w) (append_assoc front (x ∷ []) run)
+    (stands_run hashes start (run ++ inner) inner (front ++ x ∷ []) run one refl n.2)
 
 -- past a quote that the number signs don't follow
-pub stands_quote : (hashes start rest inner front : List ℕ) → Stands (34 ∷ hashes) start rest front → rest ≡ 34 ∷ inner → ((m : List ℕ) → inner ≡ hashes ++ m → ⊥) → Stands (34 ∷ hashes) start inner (front ++ 34 ∷ [])
-stands_quote hashes start rest inner front s e misses = stands_more (34 ∷ hashes) start rest inner front 34 s e (λ m g. misses m (tails 34 34 inner (hashes ++ m) g))
+pub stands_quote : (hashes start rest inner front : List ℕ) →
+    Stands (34 ∷ hashes) start rest front → rest ≡ 34 ∷ inner →
+    ((m : List ℕ) → inner ≡ hashes ++ m → ⊥) → Stands (34 ∷ hashes) start inner
+    (front ++ 34 ∷ [])
+stands_quote hashes start rest inner front s e misses = stands_more (34 ∷ hashes) start rest
+    inner front 34 s e (λ m g. misses m (tails 34 34 inner (hashes ++ m) g))
 
-pub stands_found : (hashes start rest inner end front : List ℕ) → Stands (34 ∷ hashes) start rest front → rest ≡ 34 ∷ inner → inner ≡ hashes ++ end → (piece : List ℕ) × (start ≡ piece ++ end) × EndsAt (34 ∷ hashes) piece
+pub stands_found : (hashes start rest inner end front : List ℕ) →
+    Stands (34 ∷ hashes) start rest front → rest ≡ 34 ∷ inner → inner ≡ hashes ++ end →
+    (piece : List ℕ) × (start ≡ piece ++ end) × EndsAt (34 ∷ hashes) piece
 stands_found hashes start rest inner end front s e f =
     let here : rest ≡ (34 ∷ hashes) ++ end = e ∙ ap (λ w. 34 ∷ w) f in (
       front ++ 34 ∷ hashes,
@@ -91,7 +130,8 @@ stands_found hashes start rest inner end front s e f =
       s.back (34 ∷ hashes) end here closed,
     )
 
-stops_nil : (text : List ℕ) → Stops (is_neither 34 34) text → ((more : List ℕ) → text ≡ 34 ∷ more → ⊥) → text ≡ []
+stops_nil : (text : List ℕ) → Stops (is_neither 34 34) text →
+    ((more : List ℕ) → text ≡ 34 ∷ more → ⊥) → text ≡ []
 stops_nil [] s a = refl
 stops_nil (c ∷ text) s a = go (c == 34) refl s
   where
@@ -104,16 +144,23 @@ front_nil [] ys f = refl
 front_nil (x ∷ xs) ys f = cc
 
 -- where no quote is left, the string ends nowhere
-pub stands_none : (hashes start rest front : List ℕ) → Stands (34 ∷ hashes) start rest front → Stops (is_neither 34 34) rest → ((more : List ℕ) → rest ≡ 34 ∷ more → ⊥) → HasPrefix (EndsAt (34 ∷ hashes)) start → ⊥
+pub stands_none : (hashes start rest front : List ℕ) → Stands (34 ∷ hashes) start rest front →
+    Stops (is_neither 34 34) rest → ((more : List ℕ) → rest ≡ 34 ∷ more → ⊥) →
+    HasPrefix (EndsAt (34 ∷ hashes)) start → ⊥
 stands_none hashes start rest front s stop none (piece, after, cut, m) =
     let a = s.forth piece after cut m in
     ends_some hashes a.0 (front_nil a.0 after (sym (stops_nil rest stop none) ∙ a.2)) a.3
 
 -- the parts of a raw string whose number signs are known
-raw_parts : (text mid hashes piece after : List ℕ) → Skips (λ c. c == 35) text hashes mid → text ≡ piece ++ after → IsRaw piece → (body : List ℕ) × (suffix : List ℕ) × (mid ≡ 34 ∷ (body ++ (suffix ++ after))) × (length hashes ≤ 255) × EndsAt (34 ∷ hashes) body × IsSuffix suffix × (piece ≡ hashes ++ 34 ∷ (body ++ suffix))
+raw_parts : (text mid hashes piece after : List ℕ) → Skips (λ c. c == 35) text hashes mid →
+    text ≡ piece ++ after → IsRaw piece → (body : List ℕ) × (suffix : List ℕ)
+    × (mid ≡ 34 ∷ (body ++ (suffix ++ after))) × (length hashes ≤ 255)
+    × EndsAt (34 ∷ hashes) body × IsSuffix suffix × (piece ≡ hashes ++ 34 ∷ (body ++ suffix))
 raw_parts text mid hashes piece after s cut (hs, body, suffix, e, a, l, m, k) =
-    let whole : hashes ++ mid ≡ hs ++ 34 ∷ ((body ++ suffix) ++ after) = sym s.cut ∙ cut ∙ ap (λ w. w ++ after) e ∙ append_assoc hs (34 ∷ (body ++ suffix)) after in
-    let w = all_stops (λ c. c == 35) hashes hs mid (34 ∷ ((body ++ suffix) ++ after)) s.pass a s.stops refl whole in (
+    let whole : hashes ++ mid ≡ hs ++ 34 ∷ ((body ++ suffix) ++ after) = sym s.cut ∙ cut
+    ∙ ap (λ w. w ++ after) e ∙ append_assoc hs (34 ∷ (body ++ suffix)) after in
+    let w = all_stops (λ c. c == 35) hashes hs mid (34 ∷ ((body ++ suffix) ++ after)) s.pass a
+    s.stops refl whole in (
       body,
       suffix,
       w.1 ∙ ap (λ v. 34 ∷ v) (append_assoc body suffix after),
@@ -125,58 +172,83 @@ raw_parts text mid hashes piece after s cut (hs, body, suffix, e, a, l, m, k) =
 
 module _ (text mid hashes : List ℕ) (s : Skips (λ c. c == 35) text hashes mid) where
   pub raw_long : 255 < length hashes → HasPrefix IsRaw text → ⊥
-  raw_long l (piece, after, cut, r) = let p = raw_parts text mid hashes piece after s cut r in let few = p.3 in absurd (omega arith)
+  raw_long l (piece, after, cut, r) = let p = raw_parts text mid hashes piece after s cut r in
+      let few = p.3 in absurd (omega arith)
 
   pub raw_unquoted : ((more : List ℕ) → mid ≡ 34 ∷ more → ⊥) → HasPrefix IsRaw text → ⊥
-  raw_unquoted none (piece, after, cut, r) = let p = raw_parts text mid hashes piece after s cut r in none _ p.2
+  raw_unquoted none (piece, after, cut, r) =
+      let p = raw_parts text mid hashes piece after s cut r in none _ p.2
 
-  pub raw_open : (start : List ℕ) → mid ≡ 34 ∷ start → (HasPrefix (EndsAt (34 ∷ hashes)) start → ⊥) → HasPrefix IsRaw text → ⊥
+  pub raw_open : (start : List ℕ) → mid ≡ 34 ∷ start →
+      (HasPrefix (EndsAt (34 ∷ hashes)) start → ⊥) → HasPrefix IsRaw text → ⊥
   raw_open start q misses (piece, after, cut, r) =
       let p = raw_parts text mid hashes piece after s cut r in
       misses (p.0, p.1 ++ after, tails 34 34 _ _ (sym q ∙ p.2), p.4)
 
-  pub takes_raw : (start end last body suffix : List ℕ) → length hashes ≤ 255 → mid ≡ 34 ∷ start → start ≡ body ++ end → EndsAt (34 ∷ hashes) body → IsLongestPrefix IsSuffix end suffix last → (piece : List ℕ) × IsLongestPrefix IsRaw text piece last
+  pub takes_raw : (start end last body suffix : List ℕ) → length hashes ≤ 255 →
+      mid ≡ 34 ∷ start → start ≡ body ++ end → EndsAt (34 ∷ hashes) body →
+      IsLongestPrefix IsSuffix end suffix last → (piece : List ℕ)
+      × IsLongestPrefix IsRaw text piece last
   takes_raw start end last body suffix l q f m t = (
     hashes ++ 34 ∷ (body ++ suffix),
     record {
-      cut = s.cut ∙ ap (λ w. hashes ++ w) (q ∙ ap (λ w. 34 ∷ w) (f ∙ ap (λ w. body ++ w) t.cut ∙ sym (append_assoc body suffix last))) ∙ sym (append_assoc hashes (34 ∷ (body ++ suffix)) last);
+      cut = s.cut ∙ ap (λ w. hashes ++ w)
+          (q ∙ ap (λ w. 34 ∷ w) (f ∙ ap (λ w. body ++ w) t.cut
+          ∙ sym (append_assoc body suffix last)))
+          ∙ sym (append_assoc hashes (34 ∷ (body ++ suffix)) last);
       spelled = (hashes, body, suffix, refl, s.pass, l, m, t.spelled);
       longest = λ more after g (hs, other, tail, e, a, l', m', k).
-          let one : hashes ++ 34 ∷ ((body ++ suffix) ++ more) ≡ hs ++ 34 ∷ (other ++ tail) = sym (append_assoc hashes (34 ∷ (body ++ suffix)) more) ∙ e in
-          let w = all_stop (λ c. c == 35) 34 hashes hs ((body ++ suffix) ++ more) (other ++ tail) refl s.pass a one in
+          let one : hashes ++ 34 ∷ ((body ++ suffix) ++ more) ≡ hs ++ 34 ∷ (other ++ tail) =
+          sym (append_assoc hashes (34 ∷ (body ++ suffix)) more) ∙ e in
+          let w = all_stop (λ c. c == 35) 34 hashes hs ((body ++ suffix) ++ more) (other ++ tail)
+          refl s.pass a one in
           let here : EndsAt (34 ∷ hashes) other = subst (λ v. EndsAt (34 ∷ v) other) (sym w.0) m' in
-          let v = free_ends (34 ∷ hashes) body other m here (suffix ++ more) tail (sym (append_assoc body suffix more) ∙ w.1) in
+          let v = free_ends (34 ∷ hashes) body other m here (suffix ++ more) tail
+          (sym (append_assoc body suffix more) ∙ w.1) in
           t.longest more after g (subst IsSuffix (sym v.1) k);
     },
   )
 
 -- a text and a front that have begun alike
-module _ (text rest front left more begun : List ℕ) (w : ℕ) (a : text ≡ begun ++ rest) (b : front ≡ begun ++ left) (l : left ≡ w ∷ more) where
+module _ (text rest front left more begun : List ℕ) (w : ℕ) (a : text ≡ begun ++ rest)
+    (b : front ≡ begun ++ left) (l : left ≡ w ∷ more) where
   left_over : (m : List ℕ) → text ≡ front ++ m → rest ≡ w ∷ (more ++ m)
-  left_over m e = append_cancel_left begun rest (w ∷ (more ++ m)) (sym a ∙ e ∙ ap (λ v. v ++ m) (b ∙ ap (λ v. begun ++ v) l) ∙ append_assoc begun (w ∷ more) m)
+  left_over m e = append_cancel_left begun rest (w ∷ (more ++ m))
+      (sym a ∙ e ∙ ap (λ v. v ++ m) (b ∙ ap (λ v. begun ++ v) l)
+      ∙ append_assoc begun (w ∷ more) m)
 
   pub same_short : rest ≡ [] → (m : List ℕ) → text ≡ front ++ m → ⊥
   same_short r m e = let f : [] ≡ w ∷ (more ++ m) = sym r ∙ left_over m e in cc
 
-  pub same_apart : (c : ℕ) (after : List ℕ) → rest ≡ c ∷ after → (c ≡ w → ⊥) → (m : List ℕ) → text ≡ front ++ m → ⊥
+  pub same_apart : (c : ℕ) (after : List ℕ) → rest ≡ c ∷ after → (c ≡ w → ⊥) → (m : List ℕ) →
+      text ≡ front ++ m → ⊥
   same_apart c after r n m e = n (heads c w after (more ++ m) (sym r ∙ left_over m e))
 
-  pub same_more : (c : ℕ) (after : List ℕ) → rest ≡ c ∷ after → c ≡ w → (longer : List ℕ) × (text ≡ longer ++ after) × (front ≡ longer ++ more)
+  pub same_more : (c : ℕ) (after : List ℕ) → rest ≡ c ∷ after → c ≡ w → (longer : List ℕ)
+      × (text ≡ longer ++ after) × (front ≡ longer ++ more)
   same_more c after r k = (
     begun ++ c ∷ [],
     a ∙ ap (λ v. begun ++ v) r ∙ sym (append_assoc begun (c ∷ []) after),
-    b ∙ ap (λ v. begun ++ v) (l ∙ ap (λ v. v ∷ more) (sym k)) ∙ sym (append_assoc begun (c ∷ []) more),
+    b ∙ ap (λ v. begun ++ v) (l ∙ ap (λ v. v ∷ more) (sym k))
+        ∙ sym (append_assoc begun (c ∷ []) more),
   )
 
 -- the number signs that a function passed, as a text of their own
-pub signs : (text mid bytes : List ℕ) → (front : List ℕ) × Skips (λ c. c == 35) text front mid → ((front : List ℕ) → text ≡ front ++ mid → chars bytes ≡ front) → Skips (λ c. c == 35) text (chars bytes) mid
-signs text mid bytes (front, s) is = subst (λ v. Skips (λ c. c == 35) text v mid) (sym (is front s.cut)) s
+pub signs : (text mid bytes : List ℕ) → (front : List ℕ) × Skips (λ c. c == 35) text front mid →
+    ((front : List ℕ) → text ≡ front ++ mid → chars bytes ≡ front) →
+    Skips (λ c. c == 35) text (chars bytes) mid
+signs text mid bytes (front, s) is = subst (λ v. Skips (λ c. c == 35) text v mid)
+    (sym (is front s.cut)) s
 
 sign_at : (cs : List ℕ) (i : ℕ) → list_all (λ c. c == 35) cs ≡ true → get_or cs i 0 < 128
 sign_at [] i h = IsAscii-nil i
-sign_at (x ∷ cs) zero h = let e : x ≡ 35 = eqb-true x 35 (head_passes (λ c. c == 35) x cs h) in omega arith
+sign_at (x ∷ cs) zero h = let e : x ≡ 35 = eqb-true x 35 (head_passes (λ c. c == 35) x cs h) in
+    omega arith
 sign_at (x ∷ cs) (suc i) h = sign_at cs i (tail_passes (λ c. c == 35) x cs h)
 
 -- each takes one byte
-pub signs_length : (bytes : List ℕ) → IsUtf8 bytes → list_all (λ c. c == 35) (chars bytes) ≡ true → length bytes ≡ length (chars bytes)
-signs_length bytes u h = ap length (sym (encodes-chars bytes u) ∙ encodes-IsAscii (chars bytes) (λ i. sign_at (chars bytes) i h))
+pub signs_length : (bytes : List ℕ) → IsUtf8 bytes → list_all (λ c. c == 35) (chars bytes)
+    ≡ true → length bytes ≡ length (chars bytes)
+signs_length bytes u h =
+    ap length (sym (encodes-chars bytes u)
+    ∙ encodes-IsAscii (chars bytes) (λ i. sign_at (chars bytes) i h))

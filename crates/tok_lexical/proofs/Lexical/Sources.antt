@@ -1,5 +1,6 @@
 -- Where a source begins.
-use Rattle.std.proofs.Common.{◌≡◌, ◌∙◌, ◌<◌, ℕ, suc, List, [], ◌∷◌, ◌++◌, refl, sym, ap, subst, arith, true, false, Bool, length, append_assoc}
+use Rattle.std.proofs.Common.{◌≡◌, ◌∙◌, ◌<◌, ℕ, suc, List, [], ◌∷◌, ◌++◌, refl, sym, ap, subst}
+use Rattle.std.proofs.Common.{arith, true, false, Bool, length, append_assoc}
 use Rattle.std.specs.Prelude.{◌==◌, if◌then◌else◌, MatchBool}
 use Rattle.std.proofs.lemmas.Bool.{false≢true, eqb-true}
 use Rattle.tok_lexical.specs.Characters.{is_whitespace}
@@ -8,9 +9,11 @@ use Rattle.tok_lexical.specs.Pieces.{Skips, begins_with}
 use Rattle.tok_lexical.specs.Fits.{IsFirstFit, here, later, NoneBefore}
 use Rattle.tok_lexical.specs.Rules.{source_rules}
 use Rattle.tok_lexical.specs.declared.edition.Edition.TheVariants.{Edition2021}
-use Rattle.tok_lexical.specs.Sources.{is_blank_piece, Blanks, over, blank, OpensAttribute, Begins, shebang, no_shebang, past_mark, BeginsAt}
+use Rattle.tok_lexical.specs.Sources.{is_blank_piece, Blanks, over, blank, OpensAttribute}
+use Rattle.tok_lexical.specs.Sources.{Begins, shebang, no_shebang, past_mark, BeginsAt}
 use Rattle.tok_lexical.specs.declared.rule.Rule.{Rule}
-use Rattle.tok_lexical.specs.declared.rule.Rule.TheVariants.{Whitespace, SourceLineComment, SourceBlockComment}
+use Rattle.tok_lexical.specs.declared.rule.Rule.TheVariants.{Whitespace, SourceLineComment}
+use Rattle.tok_lexical.specs.declared.rule.Rule.TheVariants.{SourceBlockComment}
 use Rattle.tok_lexical.proofs.Lexical.Escapes.{heads, tails}
 use Rattle.std.specs.Str.{chars, IsUtf8}
 use Rattle.std.proofs.lemmas.Str.{length-le-encodes}
@@ -19,31 +22,43 @@ use Rattle.tok_lexical.proofs.Lexical.Fits.{decided, decides_unique, spelled_one
 use Rattle.tok_lexical.proofs.Lexical.Numbers.{all_stops}
 
 abbrev pub IsLast : List ℕ → Type 0
-IsLast text = (rule : Rule) → (taken after : List ℕ) → IsFirstFit text (source_rules Edition2021) rule taken after → is_blank_piece rule taken ≡ true → ⊥
+IsLast text = (rule : Rule) → (taken after : List ℕ) → IsFirstFit text (source_rules Edition2021)
+    rule taken after → is_blank_piece rule taken ≡ true → ⊥
 
 -- pieces after others
-pub blanks_more : {text mid rest : List ℕ} → Blanks text mid → Blanks mid rest → Blanks text rest
+blanks_more : {text mid rest : List ℕ} → Blanks text mid → Blanks mid rest → Blanks text rest
 blanks_more over b = b
 blanks_more (blank d h a) b = blank d h (blanks_more a b)
 
 -- one more such piece
-pub blanks_one : {text mid rest : List ℕ} {rule : Rule} {taken : List ℕ} → Blanks text mid → IsFirstFit mid (source_rules Edition2021) rule taken rest → is_blank_piece rule taken ≡ true → Blanks text rest
+pub blanks_one : {text mid rest : List ℕ} {rule : Rule} {taken : List ℕ} → Blanks text mid →
+    IsFirstFit mid (source_rules Edition2021) rule taken rest → is_blank_piece rule taken
+    ≡ true → Blanks text rest
 blanks_one b d h = blanks_more b (blank d h over)
 
-pub last_found : {text taken rest : List ℕ} {rule : Rule} → IsFirstFit text (source_rules Edition2021) rule taken rest → is_blank_piece rule taken ≡ false → IsLast text
+pub last_found : {text taken rest : List ℕ} {rule : Rule} →
+    IsFirstFit text (source_rules Edition2021) rule taken rest → is_blank_piece rule taken
+    ≡ false → IsLast text
 last_found {taken = taken} d h other front after e k =
     let w = decides_unique d e in
     false≢true (sym h ∙ ap (λ r. is_blank_piece r taken) w.0 ∙ ap (is_blank_piece other) w.1 ∙ k)
 
-pub last_none : (text : List ℕ) → NoneBefore (source_rules Edition2021) text (length (source_rules Edition2021)) → IsLast text
-last_none text n other front after d h = none_decides (source_rules Edition2021) text other front after n d
+pub last_none : (text : List ℕ) → NoneBefore (source_rules Edition2021) text
+    (length (source_rules Edition2021)) → IsLast text
+last_none text n other front after d h = none_decides (source_rules Edition2021) text other front
+    after n d
   where
-    none_decides : (rules : List Rule) (text : List ℕ) (rule : Rule) (piece rest : List ℕ) → NoneBefore rules text (length rules) → IsFirstFit text rules rule piece rest → ⊥
+    none_decides : (rules : List Rule) (text : List ℕ) (rule : Rule) (piece rest : List ℕ) →
+        NoneBefore rules text (length rules) → IsFirstFit text rules rule piece rest → ⊥
     none_decides [] text rule piece rest n d = elim d [ ]
-    none_decides (r ∷ rules) text rule piece rest n (here t) = n.none 0 r (omega arith) (omega arith) (piece, rest, t.cut, t.spelled)
-    none_decides (r ∷ rules) text rule piece rest n (later m d) = none_decides rules text rule piece rest (record { none = λ j q k l. n.none (suc j) q (omega arith) (omega arith) }) d
+    none_decides (r ∷ rules) text rule piece rest n (here t) =
+        n.none 0 r (omega arith) (omega arith) (piece, rest, t.cut, t.spelled)
+    none_decides (r ∷ rules) text rule piece rest n (later m d) = none_decides rules text rule
+        piece rest (record { none = λ j q k l. n.none (suc j) q (omega arith) (omega arith) }) d
 
-pub shorter_piece : (text rest : List ℕ) (rule : Rule) (taken : List ℕ) → IsUtf8 text → IsUtf8 rest → IsFirstFit (chars text) (source_rules Edition2021) rule taken (chars rest) → length rest < length text
+pub shorter_piece : (text rest : List ℕ) (rule : Rule) (taken : List ℕ) → IsUtf8 text →
+    IsUtf8 rest → IsFirstFit (chars text) (source_rules Edition2021) rule taken (chars rest) →
+    length rest < length text
 shorter_piece text rest rule taken u v d =
     let t = decided d in
     let one = spelled_one rule taken t.spelled in
@@ -52,7 +67,8 @@ shorter_piece text rest rule taken u v d =
     omega arith
 
 -- such pieces end at one place
-blanks_same : {text one other : List ℕ} → Blanks text one → IsLast one → Blanks text other → IsLast other → one ≡ other
+blanks_same : {text one other : List ℕ} → Blanks text one → IsLast one → Blanks text other →
+    IsLast other → one ≡ other
 blanks_same over n over m = refl
 blanks_same over n (blank d h b) m = absurd (n _ _ _ d h)
 blanks_same (blank d h a) n over m = absurd (m _ _ _ d h)
@@ -64,7 +80,8 @@ blanks_same {one = one} {other = other} (blank d h a) n (blank d' h' b) m =
 bracket_last : (after : List ℕ) → IsLast (91 ∷ after)
 bracket_last after rule taken rest d h = go rule d h
   where
-    go : (rule : Rule) → IsFirstFit (91 ∷ after) (source_rules Edition2021) rule taken rest → is_blank_piece rule taken ≡ true → ⊥
+    go : (rule : Rule) → IsFirstFit (91 ∷ after) (source_rules Edition2021) rule taken rest →
+        is_blank_piece rule taken ≡ true → ⊥
     go Whitespace d h =
         let t = decided d in
         let s = t.spelled in
@@ -73,38 +90,47 @@ bracket_last after rule taken rest d h = go rule d h
     go SourceLineComment d h =
         let t = decided d in
         let s = t.spelled in
-        absurd (let w = heads 91 47 after (47 ∷ (s.0 ++ rest)) (t.cut ∙ ap (λ w. w ++ rest) s.1) in omega arith)
+        absurd (let w = heads 91 47 after (47 ∷ (s.0 ++ rest)) (t.cut ∙ ap (λ w. w ++ rest) s.1)
+        in omega arith)
     go SourceBlockComment d h =
         let t = decided d in
         let s = t.spelled in
-        absurd (let w = heads 91 47 after (42 ∷ (s.0 ++ rest)) (t.cut ∙ ap (λ w. w ++ rest) s.1) in omega arith)
+        absurd (let w = heads 91 47 after (42 ∷ (s.0 ++ rest)) (t.cut ∙ ap (λ w. w ++ rest) s.1)
+        in omega arith)
     go rule d h = absurd (false≢true h)
 
 begun : (text rest : List ℕ) → begins_with 91 rest ≡ true → Blanks text rest → OpensAttribute text
 begun text [] h b = absurd (false≢true h)
 begun text (c ∷ rest) h b = (rest, subst (λ w. Blanks text (w ∷ rest)) (eqb-true c 91 h) b)
 
-pub attribute : (text rest : List ℕ) (found : Bool) → found ≡ begins_with 91 rest → Blanks text rest → IsLast rest → MatchBool found (OpensAttribute text) (OpensAttribute text → ⊥)
+pub attribute : (text rest : List ℕ) (found : Bool) → found ≡ begins_with 91 rest →
+    Blanks text rest → IsLast rest → MatchBool found (OpensAttribute text) (OpensAttribute text →
+    ⊥)
 attribute text rest true e b n = begun text rest (sym e) b
 attribute text rest false e b n = λ (after, c).
     let same = blanks_same b n c (bracket_last after) in
     false≢true (e ∙ ap (begins_with 91) same)
 
-pub line_after : (text rest line : List ℕ) → text ≡ 35 ∷ 33 ∷ rest → (OpensAttribute rest → ⊥) → (front : List ℕ) × Skips is_not_line_feed text front line → Begins text line
+pub line_after : (text rest line : List ℕ) → text ≡ 35 ∷ 33 ∷ rest → (OpensAttribute rest → ⊥) →
+    (front : List ℕ) × Skips is_not_line_feed text front line → Begins text line
 line_after text rest line e n (front, s) = shebang (rest, e, n) s
 
 pub not_begun : (text : List ℕ) → ((more : List ℕ) → text ≡ 35 ∷ 33 ∷ more → ⊥) → Begins text text
 not_begun text n = no_shebang (λ (rest, e, o). n rest e)
 
-pub is_attribute : (text rest : List ℕ) → text ≡ 35 ∷ 33 ∷ rest → OpensAttribute rest → Begins text text
+pub is_attribute : (text rest : List ℕ) → text ≡ 35 ∷ 33 ∷ rest → OpensAttribute rest →
+    Begins text text
 is_attribute text rest e o = no_shebang (λ (other, f, n).
-    let same : rest ≡ other = tails 33 33 rest other (tails 35 35 (33 ∷ rest) (33 ∷ other) (sym e ∙ f)) in
+    let same : rest ≡ other =
+    tails 33 33 rest other (tails 35 35 (33 ∷ rest) (33 ∷ other) (sym e ∙ f)) in
     n (subst OpensAttribute same o))
 
-pub marked : (text : List ℕ) (c : ℕ) (rest : List ℕ) → text ≡ c ∷ rest → c ≡ 0xFEFF → rest ≡ past_mark text
+pub marked : (text : List ℕ) (c : ℕ) (rest : List ℕ) → text ≡ c ∷ rest → c ≡ 0xFEFF →
+    rest ≡ past_mark text
 marked text c rest e k = sym (ap past_mark (e ∙ ap (λ w. w ∷ rest) k))
 
-pub unmarked : (text : List ℕ) → ((rest : List ℕ) → text ≡ 0xFEFF ∷ rest → ⊥) → text ≡ past_mark text
+pub unmarked : (text : List ℕ) → ((rest : List ℕ) → text ≡ 0xFEFF ∷ rest → ⊥) →
+    text ≡ past_mark text
 unmarked [] n = refl
 unmarked (c ∷ text) n = go (c == 0xFEFF) refl
   where
@@ -113,11 +139,15 @@ unmarked (c ∷ text) n = go (c == 0xFEFF) refl
     go false e = refl
 
 -- a source begins at one place
-skips_same : (text one other front other_front : List ℕ) → Skips is_not_line_feed text front one → Skips is_not_line_feed text other_front other → one ≡ other
-skips_same text one other front other_front s t = (all_stops is_not_line_feed front other_front one other s.pass t.pass s.stops t.stops (sym s.cut ∙ t.cut)).1
+skips_same : (text one other front other_front : List ℕ) → Skips is_not_line_feed text front
+    one → Skips is_not_line_feed text other_front other → one ≡ other
+skips_same text one other front other_front s t =
+    (all_stops is_not_line_feed front other_front one other s.pass t.pass s.stops t.stops
+    (sym s.cut ∙ t.cut)).1
 
 pub begins_once : {text one other : List ℕ} → Begins text one → Begins text other → one ≡ other
-begins_once {text} {one} {other} (shebang {front = f} i s) (shebang {front = g} j t) = skips_same text one other f g s t
+begins_once {text} {one} {other} (shebang {front = f} i s) (shebang {front = g} j t) =
+    skips_same text one other f g s t
 begins_once (shebang i s) (no_shebang n) = absurd (n i)
 begins_once (no_shebang n) (shebang i s) = absurd (n i)
 begins_once (no_shebang n) (no_shebang m) = refl
@@ -135,7 +165,8 @@ mark_cut (c ∷ text) = go (c == 0xFEFF)
     go true = (c ∷ [], refl)
     go false = ([], refl)
 
-pub source_cut : (text rest : List ℕ) → BeginsAt text rest → (front : List ℕ) × (text ≡ front ++ rest)
+pub source_cut : (text rest : List ℕ) → BeginsAt text rest → (front : List ℕ)
+    × (text ≡ front ++ rest)
 source_cut text rest b =
     let m = mark_cut text in
     let c = begins_cut b in

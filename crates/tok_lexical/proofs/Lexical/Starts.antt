@@ -8,7 +8,9 @@ use Rattle.tok_lexical.specs.Characters.{is_whitespace, is_punct}
 use Rattle.tok_lexical.specs.Starts.{start_of, is_mark, is_prefix}
 use Rattle.tok_lexical.specs.declared.delimiter.Delimiter.TheVariants.{Parenthesis, Brace, Bracket}
 use Rattle.tok_lexical.specs.declared.start.Start.{Start}
-use Rattle.tok_lexical.specs.declared.start.Start.TheVariants.{Whitespace, Zero, Digit, Prefix, Letter, Slash, Quote, Apostrophe, Opening, Closing, Punct, Rest}
+use Rattle.tok_lexical.specs.declared.start.Start.TheVariants.{Whitespace, Zero, Digit, Prefix}
+use Rattle.tok_lexical.specs.declared.start.Start.TheVariants.{Letter, Slash, Quote, Apostrophe}
+use Rattle.tok_lexical.specs.declared.start.Start.TheVariants.{Opening, Closing, Punct, Rest}
 use Rattle.tok_lexical.specs.declared.start.TheConstants.{ASCII}
 
 -- where this is the answer on letters
@@ -61,4 +63,5 @@ by_table c h = in_table meant ascii_start ASCII Rest c refl refl h
 
 pub start_by : (c b : ℕ) → c < 128 → get_or ASCII c 0 ≡ b → meant b ≡ start_of c
 start_by c b h e =
-    ap meant (sym e) ∙ by_table c h ∙ ap (λ letter. start_if (letter || (c == 95)) c) (sym (is_xid_start-ascii c h))
+    ap meant (sym e) ∙ by_table c h ∙ ap (λ letter. start_if (letter || (c == 95)) c)
+    (sym (is_xid_start-ascii c h))

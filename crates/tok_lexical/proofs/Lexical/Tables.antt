@@ -9,9 +9,13 @@ use Rattle.unicode_ident.specs.Ident.{is_xid_continue}
 use Rattle.unicode_ident.proofs.IdentLemmas.{is_xid_continue-ascii}
 use Rattle.tok_lexical.specs.declared.words.TheConstants.{CONTINUES}
 
-pub in_table : {X : Type 0} (meant defined : ℕ → X) (table : List ℕ) (d : X) (c : ℕ) → map meant table ≡ map defined (range_with_len 0 128) → length table ≡ 128 → c < 128 → meant (get_or table c 0) ≡ defined c
+pub in_table : {X : Type 0} (meant defined : ℕ → X) (table : List ℕ) (d : X) (c : ℕ) →
+    map meant table ≡ map defined (range_with_len 0 128) → length table ≡ 128 → c < 128 →
+    meant (get_or table c 0) ≡ defined c
 in_table meant defined table d c same l h =
-    sym (get_or-map meant table c 0 d (omega arith)) ∙ ap (λ w. get_or w c d) same ∙ get_or-map-range_with_len defined 0 128 c c d h (omega arith)
+    sym (get_or-map meant table c 0 d (omega arith)) ∙ ap (λ w. get_or w c d) same
+    ∙ get_or-map-range_with_len defined 0 128 c c d h (omega arith)
 
 pub continues_by : (c : ℕ) → c < 128 → not (get_or CONTINUES c 0 == 45) ≡ is_xid_continue c
-continues_by c h = in_table (λ b. not (b == 45)) (λ d. is_ascii_alphanumeric d || (d == 95)) CONTINUES true c refl refl h ∙ sym (is_xid_continue-ascii c h)
+continues_by c h = in_table (λ b. not (b == 45)) (λ d. is_ascii_alphanumeric d || (d == 95))
+    CONTINUES true c refl refl h ∙ sym (is_xid_continue-ascii c h)

@@ -1,5 +1,7 @@
 -- Texts and their characters.
-use Rattle.std.proofs.Common.{◌≡◌, ◌∙◌, ℕ, zero, suc, ◌+◌, ◌-◌, ◌<◌, List, [], ◌∷◌, ◌++◌, length, take, drop, get_or, sym, ap, subst, length-append, arith, rules, tests, ◌≤◌}
+use Rattle.std.proofs.Common.{◌≡◌, ◌∙◌, ℕ, zero, suc, ◌+◌, ◌-◌, ◌<◌, List, [], ◌∷◌, ◌++◌, length}
+use Rattle.std.proofs.Common.{take, drop, get_or, sym, ap, subst, length-append, arith, rules}
+use Rattle.std.proofs.Common.{tests, ◌≤◌}
 use Rattle.std.specs.Str.{chars, IsUtf8, IsAscii, IsCharBoundary}
 use Rattle.std.specs.Char.{is_ascii_graphic}
 use Rattle.std.specs.Prelude.{Bool, encode_utf8, encode_utf8_all, true, false}
@@ -7,41 +9,65 @@ use Rattle.std.proofs.Common.{refl}
 use Rattle.tok_lexical.specs.Characters.{begins_visibly}
 use Rattle.tok_lexical.specs.Widths.{width, is_group_mark}
 use Rattle.tok_lexical.specs.declared.rule.Rule.{Rule}
-use Rattle.std.proofs.lemmas.Str.{encodes-append, encodes-chars, chars-nil, chars-append, chars-IsAscii, byte_from_char, char_from_byte, length-encode, len_utf8_bounds, IsCharBoundary-at_seam, IsUtf8-take, IsUtf8-from_ascii}
+use Rattle.std.proofs.lemmas.Str.{encodes-append, encodes-chars, chars-nil, chars-append}
+use Rattle.std.proofs.lemmas.Str.{chars-IsAscii, byte_from_char, char_from_byte, length-encode}
+use Rattle.std.proofs.lemmas.Str.{len_utf8_bounds, IsCharBoundary-at_seam, IsUtf8-take}
+use Rattle.std.proofs.lemmas.Str.{IsUtf8-from_ascii}
 use Rattle.std.proofs.lemmas.List.{take_at, append_cancel_right}
 
 -- the bytes of the front and of the rest
-pub cut_bytes : (text rest front : List ℕ) → IsUtf8 text → IsUtf8 rest → chars text ≡ front ++ chars rest → text ≡ encode_utf8_all front ++ rest
+cut_bytes : (text rest front : List ℕ) → IsUtf8 text → IsUtf8 rest → chars text ≡ front
+    ++ chars rest → text ≡ encode_utf8_all front ++ rest
 cut_bytes text rest front u v e =
-    sym (encodes-chars text u) ∙ ap encode_utf8_all e ∙ encodes-append front (chars rest) ∙ ap (λ w. encode_utf8_all front ++ w) (encodes-chars rest v)
+    sym (encodes-chars text u) ∙ ap encode_utf8_all e ∙ encodes-append front (chars rest)
+    ∙ ap (λ w. encode_utf8_all front ++ w) (encodes-chars rest v)
 
-pub cut_length : (text rest front : List ℕ) → IsUtf8 text → IsUtf8 rest → chars text ≡ front ++ chars rest → length text ≡ length (encode_utf8_all front) + length rest
-cut_length text rest front u v e = ap length (cut_bytes text rest front u v e) ∙ length-append (encode_utf8_all front) rest
+pub cut_length : (text rest front : List ℕ) → IsUtf8 text → IsUtf8 rest → chars text ≡ front
+    ++ chars rest → length text ≡ length (encode_utf8_all front) + length rest
+cut_length text rest front u v e = ap length (cut_bytes text rest front u v e)
+    ∙ length-append (encode_utf8_all front) rest
 
-pub cut_boundary : (text rest front : List ℕ) → IsUtf8 text → IsUtf8 rest → chars text ≡ front ++ chars rest → IsCharBoundary text (length text - length rest)
+pub cut_boundary : (text rest front : List ℕ) → IsUtf8 text → IsUtf8 rest → chars text ≡ front
+    ++ chars rest → IsCharBoundary text (length text - length rest)
 cut_boundary text rest front u v e =
-    let b = IsCharBoundary-at_seam text (encode_utf8_all front) rest (cut_bytes text rest front u v e) v in
-    let l : length (encode_utf8_all front) ≡ length text - length rest = let k = cut_length text rest front u v e in omega arith in
+    let b = IsCharBoundary-at_seam text (encode_utf8_all front) rest
+    (cut_bytes text rest front u v e) v in
+    let l : length (encode_utf8_all front) ≡ length text - length rest =
+    let k = cut_length text rest front u v e in omega arith in
     subst (λ n. IsCharBoundary text n) l b
 
-pub cut_front : (text rest front taken : List ℕ) → IsUtf8 text → IsUtf8 rest → chars text ≡ front ++ chars rest → taken ≡ take (length text - length rest) text → taken ≡ encode_utf8_all front
+pub cut_front : (text rest front taken : List ℕ) → IsUtf8 text → IsUtf8 rest → chars text ≡ front
+    ++ chars rest → taken ≡ take (length text - length rest) text → taken ≡ encode_utf8_all front
 cut_front text rest front taken u v e t =
-    let l : length (encode_utf8_all front) ≡ length text - length rest = let k = cut_length text rest front u v e in omega arith in
-    t ∙ ap (λ w. take (length text - length rest) w) (cut_bytes text rest front u v e) ∙ take_at (encode_utf8_all front) rest _ l
+    let l : length (encode_utf8_all front) ≡ length text - length rest =
+    let k = cut_length text rest front u v e in omega arith in
+    t ∙ ap (λ w. take (length text - length rest) w) (cut_bytes text rest front u v e)
+    ∙ take_at (encode_utf8_all front) rest _ l
 
-pub cut_chars : (text rest front taken : List ℕ) → IsUtf8 text → IsUtf8 rest → chars text ≡ front ++ chars rest → taken ≡ take (length text - length rest) text → chars text ≡ chars taken ++ chars rest
+pub cut_chars : (text rest front taken : List ℕ) → IsUtf8 text → IsUtf8 rest → chars text ≡ front
+    ++ chars rest → taken ≡ take (length text - length rest) text → chars text ≡ chars taken
+    ++ chars rest
 cut_chars text rest front taken u v e t =
-    let w : IsUtf8 taken = subst IsUtf8 (sym t) (IsUtf8-take text (length text - length rest) u (cut_boundary text rest front u v e)) in
-    let whole : text ≡ taken ++ rest = cut_bytes text rest front u v e ∙ ap (λ x. x ++ rest) (sym (cut_front text rest front taken u v e t)) in
+    let w : IsUtf8 taken =
+    subst IsUtf8 (sym t)
+    (IsUtf8-take text (length text - length rest) u (cut_boundary text rest front u v e))
+    in
+    let whole : text ≡ taken ++ rest = cut_bytes text rest front u v e
+    ∙ ap (λ x. x ++ rest) (sym (cut_front text rest front taken u v e t)) in
     ap chars whole ∙ chars-append taken rest w
 
-pub cut_len : (text rest front taken : List ℕ) → IsUtf8 text → IsUtf8 rest → chars text ≡ front ++ chars rest → length taken ≡ length text - length rest → length taken + length rest ≡ length text
+pub cut_len : (text rest front taken : List ℕ) → IsUtf8 text → IsUtf8 rest → chars text ≡ front
+    ++ chars rest → length taken ≡ length text - length rest → length taken + length rest
+    ≡ length text
 cut_len text rest front taken u v e t = let k = cut_length text rest front u v e in omega arith
 
-pub front_chars : (text rest front taken : List ℕ) → chars text ≡ front ++ chars rest → chars text ≡ chars taken ++ chars rest → chars taken ≡ front
-front_chars text rest front taken e t = append_cancel_right (chars taken) front (chars rest) (sym t ∙ e)
+pub front_chars : (text rest front taken : List ℕ) → chars text ≡ front ++ chars rest →
+    chars text ≡ chars taken ++ chars rest → chars taken ≡ front
+front_chars text rest front taken e t = append_cancel_right (chars taken) front (chars rest)
+    (sym t ∙ e)
 
-pub width_plain : (rule : Rule) (bytes : List ℕ) → IsUtf8 bytes → is_group_mark rule ≡ false → length bytes ≡ width rule (chars bytes)
+pub width_plain : (rule : Rule) (bytes : List ℕ) → IsUtf8 bytes → is_group_mark rule ≡ false →
+    length bytes ≡ width rule (chars bytes)
 width_plain rule bytes u m = rw m (ap length (sym (encodes-chars bytes u)))
 
 pub width_mark : (rule : Rule) (taken : List ℕ) → is_group_mark rule ≡ true → 0 ≡ width rule taken
@@ -52,7 +78,8 @@ ascii_one x l zero = l
 ascii_one x l (suc i) = omega arith
 
 -- a text whose first byte is an ASCII character, and what follows it
-pub ascii_first : (text rest : List ℕ) (c : ℕ) → IsUtf8 text → 0 < length text → c ≡ get_or text 0 0 → c < 128 → rest ≡ drop 1 text → chars text ≡ c ∷ chars rest
+pub ascii_first : (text rest : List ℕ) (c : ℕ) → IsUtf8 text → 0 < length text →
+    c ≡ get_or text 0 0 → c < 128 → rest ≡ drop 1 text → chars text ≡ c ∷ chars rest
 ascii_first [] rest c u l e m f = absurd (omega arith)
 ascii_first (x ∷ tail) rest c u l e m f =
     let a : IsAscii (x ∷ []) = ascii_one x (subst (λ w. w < 128) e m) in
@@ -62,33 +89,42 @@ ascii_first (x ∷ tail) rest c u l e m f =
     ∙ ap (λ w. c ∷ chars w) (sym f)
 
 -- a text whose first byte is another
-pub ascii_misses : (text : List ℕ) (c : ℕ) → IsUtf8 text → c < 128 → (get_or text 0 0 ≡ c → ⊥) → (more : List ℕ) → chars text ≡ c ∷ more → ⊥
+pub ascii_misses : (text : List ℕ) (c : ℕ) → IsUtf8 text → c < 128 → (get_or text 0 0 ≡ c → ⊥) →
+    (more : List ℕ) → chars text ≡ c ∷ more → ⊥
 ascii_misses text c u l other more e =
-    other (byte_from_char text (encode_utf8_all more) c (sym (encodes-chars text u) ∙ ap encode_utf8_all e) l)
+    other (byte_from_char text (encode_utf8_all more) c (sym (encodes-chars text u)
+    ∙ ap encode_utf8_all e) l)
 
-pub nothing_first : (text : List ℕ) (c : ℕ) → length text ≡ 0 → (more : List ℕ) → chars text ≡ c ∷ more → ⊥
+pub nothing_first : (text : List ℕ) (c : ℕ) → length text ≡ 0 → (more : List ℕ) →
+    chars text ≡ c ∷ more → ⊥
 nothing_first [] c z more e = absurd (omega (arith, ap length (sym chars-nil ∙ e)))
 nothing_first (x ∷ text) c z more e = absurd (omega arith)
 
 -- the first byte of a text, where it or the first character is ASCII
-pub first_byte : (p : ℕ → Bool) → ((x : ℕ) → p x ≡ true → x < 128) → (text rest : List ℕ) (c : ℕ) → IsUtf8 text → chars text ≡ c ∷ rest → p (get_or text 0 0) ≡ p c
+pub first_byte : (p : ℕ → Bool) → ((x : ℕ) → p x ≡ true → x < 128) →
+    (text rest : List ℕ) (c : ℕ) → IsUtf8 text → chars text ≡ c ∷ rest → p (get_or text 0 0)
+    ≡ p c
 first_byte p low text rest c u e = go (p (get_or text 0 0)) (p c) refl refl
   where
     whole : text ≡ encode_utf8 c ++ encode_utf8_all rest
     whole = sym (encodes-chars text u) ∙ ap encode_utf8_all e
 
     some : 0 < length text
-    some = let l = ap length whole ∙ length-append (encode_utf8 c) (encode_utf8_all rest) in let w = length-encode c in let b = (len_utf8_bounds c).0 in omega arith
+    some = let l = ap length whole ∙ length-append (encode_utf8 c) (encode_utf8_all rest) in
+        let w = length-encode c in let b = (len_utf8_bounds c).0 in omega arith
 
     go : (a b : Bool) → p (get_or text 0 0) ≡ a → p c ≡ b → p (get_or text 0 0) ≡ p c
-    go true b f g = ap p (sym (char_from_byte text (encode_utf8_all rest) c whole (low (get_or text 0 0) f) some))
+    go true b f g =
+        ap p (sym (char_from_byte text (encode_utf8_all rest) c whole (low (get_or text 0 0) f)
+        some))
     go false true f g = ap p (byte_from_char text (encode_utf8_all rest) c whole (low c g))
     go false false f g = f ∙ sym g
 
 visible_low : (x : ℕ) → is_ascii_graphic x ≡ true → x < 128
 visible_low x h = let l : x ≤ 126 = search (rules, tests) in omega arith
 
-pub visible_first : (text : List ℕ) (x : ℕ) → IsUtf8 text → 0 < length text → x ≡ get_or text 0 0 → is_ascii_graphic x ≡ begins_visibly (chars text)
+pub visible_first : (text : List ℕ) (x : ℕ) → IsUtf8 text → 0 < length text →
+    x ≡ get_or text 0 0 → is_ascii_graphic x ≡ begins_visibly (chars text)
 visible_first text x u l e = go (chars text) refl
   where
     go : (cs : List ℕ) → chars text ≡ cs → is_ascii_graphic x ≡ begins_visibly cs

@@ -1,6 +1,8 @@
 -- Identifiers, plain and raw.
-use Rattle.std.proofs.Common.{◌≡◌, ◌∙◌, ℕ, ◌<◌, inl, inr, List, [], ◌∷◌, ◌++◌, refl, sym, ap, subst, arith, append_assoc, true, false, Bool, zero, suc}
-use Rattle.std.specs.Prelude.{◌==◌, ◌||◌, Option, Some, None, length, MatchBool, codes, nat_lt, slice_index, encode_utf8_all}
+use Rattle.std.proofs.Common.{◌≡◌, ◌∙◌, ℕ, ◌<◌, inl, inr, List, [], ◌∷◌, ◌++◌, refl, sym, ap}
+use Rattle.std.proofs.Common.{subst, arith, append_assoc, true, false, Bool, zero, suc}
+use Rattle.std.specs.Prelude.{◌==◌, ◌||◌, Option, Some, None, length, MatchBool, codes, nat_lt}
+use Rattle.std.specs.Prelude.{slice_index, encode_utf8_all}
 use Rattle.std.specs.List.{list_all}
 use Rattle.std.specs.Char.{is_ascii_alphabetic}
 use Rattle.std.specs.Str.{chars, IsUtf8, bytes_eq}
@@ -11,7 +13,8 @@ use Rattle.unicode_ident.specs.Ident.{is_xid_continue}
 use Rattle.unicode_ident.proofs.IdentLemmas.{is_xid_continue-ascii, is_xid_start-ascii}
 use Rattle.tok_lexical.specs.Pieces.{IsLongestPrefix, HasPrefix, ReadsLongest}
 use Rattle.tok_lexical.specs.Following.{starts_name}
-use Rattle.tok_lexical.specs.Words.{is_identifier_start, IsIdentifier, IsRawIdentifier, IsName, has_no_raw, is_raw_prefix}
+use Rattle.tok_lexical.specs.Words.{is_identifier_start, IsIdentifier, IsRawIdentifier, IsName}
+use Rattle.tok_lexical.specs.Words.{has_no_raw, is_raw_prefix}
 use Rattle.tok_lexical.proofs.Lexical.Numbers.{head_passes, tail_passes, not_true}
 use Rattle.std.proofs.lemmas.Str.{encodes-chars, encodes-IsAscii, chars-IsAscii, chars-nil}
 use Rattle.std.proofs.lemmas.Str.Ascii.{IsAscii-nil}
@@ -21,8 +24,11 @@ use Rattle.std.proofs.lemmas.Slice.Eq.{bytes_eq-Decides}
 word_head : (name : List ℕ) → IsRawIdentifier name → (more : List ℕ) × (name ≡ 114 ∷ 35 ∷ more)
 word_head name (more, e, (last, f, w)) = (last, e ∙ ap (λ v. 114 ∷ v) f)
 
-pub name_plain : (text : List ℕ) (answer : Option (Bor (List ℕ))) → (HasPrefix IsRawIdentifier text → ⊥) → ReadsLongest IsIdentifier text answer → ReadsLongest IsName text answer
-name_plain text None raw misses = λ (piece, after, cut, h). elim h [ inl w ↦ misses (piece, after, cut, w) | inr r ↦ raw (piece, after, cut, r) ]
+pub name_plain : (text : List ℕ) (answer : Option (Bor (List ℕ))) →
+    (HasPrefix IsRawIdentifier text → ⊥) → ReadsLongest IsIdentifier text answer →
+    ReadsLongest IsName text answer
+name_plain text None raw misses = λ (piece, after, cut, h). elim h
+    [ inl w ↦ misses (piece, after, cut, w) | inr r ↦ raw (piece, after, cut, r) ]
 name_plain text (Some rest) raw (piece, t) = (
   piece,
   record {
@@ -30,7 +36,14 @@ name_plain text (Some rest) raw (piece, t) = (
     spelled = inl t.spelled;
     longest = λ more after e h. elim h [
       | inl w ↦ t.longest more after e w
-      | inr r ↦ absurd (raw (piece ++ more, after, t.cut ∙ ap (λ w. piece ++ w) e ∙ sym (append_assoc piece more after), r))
+      | inr r ↦ absurd
+          (raw (
+            piece ++ more,
+            after,
+            t.cut ∙ ap (λ w. piece ++ w) e
+                ∙ sym (append_assoc piece more after),
+            r,
+          ))
     ];
   },
 )
@@ -41,7 +54,8 @@ no_name text e ([], after, cut, s) = s
 no_name text e (c ∷ piece, after, cut, s) = false≢true (sym e ∙ ap starts_name cut ∙ s.0)
 
 -- an identifier may begin with an ASCII letter and with an underscore
-pub letter_start : (c : ℕ) → c < 128 → (is_letter : Bool) → is_letter ≡ is_ascii_alphabetic c → (is_letter || (c == 95)) ≡ is_identifier_start c
+pub letter_start : (c : ℕ) → c < 128 → (is_letter : Bool) → is_letter ≡ is_ascii_alphabetic c →
+    (is_letter || (c == 95)) ≡ is_identifier_start c
 letter_start c h is_letter e = ap (λ w. w || (c == 95)) (e ∙ sym (is_xid_start-ascii c h))
 
 -- a word has no number sign
@@ -49,9 +63,11 @@ raw_no_word : (name more : List ℕ) → IsRawIdentifier name → IsIdentifier (
 raw_no_word name more r w =
     let h = word_head name r in
     let v : IsIdentifier (114 ∷ 35 ∷ (h.0 ++ more)) = subst (λ u. IsIdentifier (u ++ more)) h.1 w in
-    false≢true (sym (is_xid_continue-ascii 35 (omega arith)) ∙ head_passes is_xid_continue 35 (h.0 ++ more) v.1)
+    false≢true (sym (is_xid_continue-ascii 35 (omega arith)) ∙ head_passes is_xid_continue 35
+    (h.0 ++ more) v.1)
 
-pub name_raw : (text rest piece : List ℕ) → IsLongestPrefix IsRawIdentifier text piece rest → IsLongestPrefix IsName text piece rest
+pub name_raw : (text rest piece : List ℕ) → IsLongestPrefix IsRawIdentifier text piece rest →
+    IsLongestPrefix IsName text piece rest
 name_raw text rest piece t = record {
   cut = t.cut;
   spelled = inr t.spelled;
@@ -66,16 +82,19 @@ ascii_at [] i h = IsAscii-nil i
 ascii_at (x ∷ t) zero h = ltb-true x 128 (head_passes (λ c. nat_lt c 128) x t h)
 ascii_at (x ∷ t) (suc i) h = ascii_at t i (tail_passes (λ c. nat_lt c 128) x t h)
 
-same_text : (bytes t : List ℕ) → IsUtf8 bytes → list_all (λ c. nat_lt c 128) t ≡ true → bytes_eq bytes t ≡ bytes_eq (chars bytes) t
+same_text : (bytes t : List ℕ) → IsUtf8 bytes → list_all (λ c. nat_lt c 128) t ≡ true →
+    bytes_eq bytes t ≡ bytes_eq (chars bytes) t
 same_text bytes t u h = go (bytes_eq bytes t) refl
   where
     go : (b : Bool) → bytes_eq bytes t ≡ b → bytes_eq bytes t ≡ bytes_eq (chars bytes) t
     go true e =
         let same : bytes ≡ t = (bytes_eq-Decides bytes t).0 e in
-        e ∙ sym ((bytes_eq-Decides (chars bytes) t).1 (ap chars same ∙ chars-IsAscii t (λ i. ascii_at t i h)))
+        e ∙ sym ((bytes_eq-Decides (chars bytes) t).1
+        (ap chars same ∙ chars-IsAscii t (λ i. ascii_at t i h)))
     go false e = e ∙ sym (not_true (bytes_eq (chars bytes) t) (λ f.
         let same : chars bytes ≡ t = (bytes_eq-Decides (chars bytes) t).0 f in
-        let back : bytes ≡ t = sym (encodes-chars bytes u) ∙ ap encode_utf8_all same ∙ encodes-IsAscii t (λ i. ascii_at t i h) in
+        let back : bytes ≡ t = sym (encodes-chars bytes u) ∙ ap encode_utf8_all same
+        ∙ encodes-IsAscii t (λ i. ascii_at t i h) in
         false≢true (sym e ∙ (bytes_eq-Decides bytes t).1 back)))
 
 either : (a b c d : Bool) → a ≡ b → c ≡ d → (a || c) ≡ (b || d)
@@ -87,21 +106,34 @@ no_raw_chars bytes u =
     either _ _ _ _ (same_text bytes (codes "_") u refl)
     (either _ _ _ _ (same_text bytes (codes "self") u refl)
     (either _ _ _ _ (same_text bytes (codes "Self") u refl)
-    (either _ _ _ _ (same_text bytes (codes "super") u refl) (same_text bytes (codes "crate") u refl))))
+    (either _ _ _ _ (same_text bytes (codes "super") u refl)
+    (same_text bytes (codes "crate") u refl))))
 
-pub raw_prefix_chars : (bytes : List ℕ) → IsUtf8 bytes → is_raw_prefix bytes ≡ is_raw_prefix (chars bytes)
-raw_prefix_chars bytes u = either _ _ _ _ (same_text bytes (codes "r") u refl) (same_text bytes (codes "br") u refl)
+pub raw_prefix_chars : (bytes : List ℕ) → IsUtf8 bytes → is_raw_prefix bytes
+    ≡ is_raw_prefix (chars bytes)
+raw_prefix_chars bytes u = either _ _ _ _ (same_text bytes (codes "r") u refl)
+    (same_text bytes (codes "br") u refl)
 
 -- a text of which all is taken, or some is left
-pub is_whole : (text rest : List ℕ) → rest ≡ [] → (piece : List ℕ) × IsLongestPrefix IsIdentifier text piece rest → IsIdentifier text
-is_whole text rest e (piece, t) = subst IsIdentifier (sym (t.cut ∙ ap (λ w. piece ++ w) e ∙ append-nil piece)) t.spelled
+pub is_whole : (text rest : List ℕ) → rest ≡ [] → (piece : List ℕ)
+    × IsLongestPrefix IsIdentifier text piece rest → IsIdentifier text
+is_whole text rest e (piece, t) =
+    subst IsIdentifier (sym (t.cut ∙ ap (λ w. piece ++ w) e ∙ append-nil piece)) t.spelled
 
-pub is_part : (text rest : List ℕ) → (rest ≡ [] → ⊥) → (piece : List ℕ) × IsLongestPrefix IsIdentifier text piece rest → IsIdentifier text → ⊥
-is_part text rest some (piece, t) whole = some (t.longest rest [] (sym (append-nil rest)) (subst IsIdentifier t.cut whole))
+is_part : (text rest : List ℕ) → (rest ≡ [] → ⊥) → (piece : List ℕ)
+    × IsLongestPrefix IsIdentifier text piece rest → IsIdentifier text → ⊥
+is_part text rest some (piece, t) whole =
+    some (t.longest rest [] (sym (append-nil rest)) (subst IsIdentifier t.cut whole))
 
 -- the same of the answer
-pub whole_identifier : (text rest : List ℕ) (b : Bool) → b ≡ (length rest == 0) → IsUtf8 rest → (piece : List ℕ) × IsLongestPrefix IsIdentifier text piece (chars rest) → MatchBool b (IsIdentifier text) (IsIdentifier text → ⊥)
+pub whole_identifier : (text rest : List ℕ) (b : Bool) → b ≡ (length rest == 0) → IsUtf8 rest →
+    (piece : List ℕ) × IsLongestPrefix IsIdentifier text piece (chars rest) →
+    MatchBool b (IsIdentifier text) (IsIdentifier text → ⊥)
 whole_identifier text [] true e u t = is_whole text (chars []) chars-nil t
 whole_identifier text [] false e u t = absurd (false≢true e)
-whole_identifier text (x ∷ rest) true e u t = absurd (false≢true (sym (ne_eqb (length (x ∷ rest)) 0 (λ z. absurd (omega arith))) ∙ sym e))
-whole_identifier text (x ∷ rest) false e u t = is_part text (chars (x ∷ rest)) (λ none. let bytes : x ∷ rest ≡ [] = sym (encodes-chars (x ∷ rest) u) ∙ ap encode_utf8_all none in cc) t
+whole_identifier text (x ∷ rest) true e u t =
+    absurd (false≢true (sym (ne_eqb (length (x ∷ rest)) 0 (λ z. absurd (omega arith))) ∙ sym e))
+whole_identifier text (x ∷ rest) false e u t = is_part text (chars (x ∷ rest))
+    (λ none.
+    let bytes : x ∷ rest ≡ [] = sym (encodes-chars (x ∷ rest) u) ∙ ap encode_utf8_all none in cc)
+    t

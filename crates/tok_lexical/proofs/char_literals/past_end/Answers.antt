@@ -3,4 +3,5 @@ use Rattle.tok_lexical.proofs.Lexical.Units.{takes_after}
 use Rattle.tok_lexical.proofs.char_literals.past_end.Goals as goal
 
 pub returns-clause-tries : goal.returns-clause-tries
-returns-clause-tries c = takes_after 39 IsSuffix _ _ _ _ c.in_ok-rest.ensures.chars c.past_suffix.ensures.1
+returns-clause-tries c = takes_after 39 IsSuffix _ _ _ _ c.in_ok-rest.ensures.chars
+    c.past_suffix.ensures.1

@@ -4,4 +4,5 @@ use Rattle.tok_lexical.proofs.Lexical.Longest.{finds_after}
 use Rattle.tok_lexical.proofs.char_literals.past_escaped.Goals as goal
 
 pub returns-clause-finds : goal.returns-clause-finds
-returns-clause-finds c = finds_after 92 (IsEscape false false) _ _ _ c.in_ok-rest.ensures.chars c.past_escape.ensures.finds
+returns-clause-finds c = finds_after 92 (IsEscape false false) _ _ _ c.in_ok-rest.ensures.chars
+    c.past_escape.ensures.finds

@@ -4,4 +4,5 @@ use Rattle.tok_lexical.proofs.Lexical.Codes.{one_found}
 use Rattle.tok_lexical.proofs.char_literals.past_plain.Goals as goal
 
 pub returns-then-is_char-clause-finds : goal.returns-then-is_char-clause-finds
-returns-then-is_char-clause-finds c = one_found is_char _ _ c.in_ok-first.first c.in_ok-first.ensures.chars (sym c.is_char.ensures ∙ c.if-is_char.true)
+returns-then-is_char-clause-finds c = one_found is_char _ _ c.in_ok-first.first
+    c.in_ok-first.ensures.chars (sym c.is_char.ensures ∙ c.if-is_char.true)

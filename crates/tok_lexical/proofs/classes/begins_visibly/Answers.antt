@@ -6,7 +6,8 @@ pub returns-in-Some : goal.returns-in-Some
 returns-in-Some c =
     let some : 0 < length c.args.text.now = search rules in
     let is : c.in-Some.byte.now ≡ get_or c.args.text.now 0 0 = search rules in
-    c.is_ascii_graphic.ensures.value ∙ visible_first c.args.text.now c.in-Some.byte.now c.utf8.text some is
+    c.is_ascii_graphic.ensures.value ∙ visible_first c.args.text.now c.in-Some.byte.now
+    c.utf8.text some is
 
 pub returns-in-None : goal.returns-in-None
 returns-in-None c =

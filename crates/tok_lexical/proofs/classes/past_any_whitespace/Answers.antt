@@ -9,5 +9,10 @@ loop-c-preserved c =
     let b = c.loop-c.invariant.1 in
     let s = c.in-Some.ensures.shorter in
     let t = c.past_spaces-rest.ensures.shorter in
-    let more = skips_more is_whitespace _ _ _ i.0 c.in-Some.c i.1 i.2 c.in-Some.ensures.chars (sym c.is_whitespace.ensures ∙ c.if-not-is_whitespace.false) in
-    (c.past_spaces-rest.utf8, omega arith, skips_spaces _ _ _ more.0 more.1 more.2 c.past_spaces-rest.ensures.skips)
+    let more = skips_more is_whitespace _ _ _ i.0 c.in-Some.c i.1 i.2 c.in-Some.ensures.chars
+    (sym c.is_whitespace.ensures ∙ c.if-not-is_whitespace.false) in (
+      c.past_spaces-rest.utf8,
+      omega arith,
+      skips_spaces _ _ _ more.0 more.1 more.2
+          c.past_spaces-rest.ensures.skips,
+    )

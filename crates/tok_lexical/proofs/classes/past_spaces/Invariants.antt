@@ -7,7 +7,9 @@ use Rattle.tok_lexical.specs.Characters.{is_space}
 use Rattle.tok_lexical.proofs.classes.past_spaces.Given as goal
 
 abbrev pub invariant-loop-after : goal.invariant-loop-after
-invariant-loop-after l = shadow (Utf8 l.rest) × (length l.rest ≤ length l.fn.text) × ((front : List ℕ) × (chars l.fn.text ≡ front ++ chars l.rest) × (list_all is_space front ≡ true))
+invariant-loop-after l = shadow (Utf8 l.rest) × (length l.rest ≤ length l.fn.text)
+    × ((front : List ℕ) × (chars l.fn.text ≡ front ++ chars l.rest)
+    × (list_all is_space front ≡ true))
 
 abbrev pub decreases-loop-after : goal.decreases-loop-after
 decreases-loop-after l = length l.rest

@@ -7,7 +7,8 @@ use Rattle.tok_lexical.specs.Contents.{has_zero}
 use Rattle.tok_lexical.proofs.contents.has_zero.Given as goal
 
 abbrev pub invariant-loop-c : goal.invariant-loop-c
-invariant-loop-c l = shadow (Utf8 l.rest) × (has_zero false (chars l.fn.piece) ≡ has_zero l.escaped (chars l.rest))
+invariant-loop-c l = shadow (Utf8 l.rest)
+    × (has_zero false (chars l.fn.piece) ≡ has_zero l.escaped (chars l.rest))
 
 abbrev pub decreases-loop-c : goal.decreases-loop-c
 decreases-loop-c l = length l.rest

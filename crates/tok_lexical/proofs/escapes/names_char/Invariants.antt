@@ -6,7 +6,8 @@ use Rattle.tok_lexical.proofs.Lexical.Codes.{Counts}
 use Rattle.tok_lexical.proofs.escapes.names_char.Given as goal
 
 abbrev pub invariant-loop-c : goal.invariant-loop-c
-invariant-loop-c l = shadow (Utf8 l.rest) × Counts (chars l.fn.digits) (chars l.rest) l.value l.count
+invariant-loop-c l = shadow (Utf8 l.rest) × Counts (chars l.fn.digits) (chars l.rest) l.value
+    l.count
 
 abbrev pub decreases-loop-c : goal.decreases-loop-c
 decreases-loop-c l = length l.rest

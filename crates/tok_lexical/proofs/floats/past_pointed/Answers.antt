@@ -5,7 +5,11 @@ use Rattle.tok_lexical.proofs.Lexical.Numbers.{tries_run, none_decimal, digits_s
 use Rattle.tok_lexical.proofs.floats.past_pointed.Goals as goal
 
 pub returns-then-not-starts_digit-clause-tries : goal.returns-then-not-starts_digit-clause-tries
-returns-then-not-starts_digit-clause-tries c = none_decimal _ _ (sym c.starts_digit.ensures ∙ c.if-not-starts_digit.true)
+returns-then-not-starts_digit-clause-tries c = none_decimal _ _ (sym c.starts_digit.ensures
+    ∙ c.if-not-starts_digit.true)
 
 pub returns-clause-tries : goal.returns-clause-tries
-returns-clause-tries c = tries_run 10 starts_digit (λ tail. tail ≡ 46 ∷ []) point_begins _ _ c.past_digits.ensures.skips.0 _ c.past_digits.ensures.skips.1 (digits_start _ _ _ c.past_digits.ensures.skips.1 (sym c.starts_digit.ensures ∙ c.if-not-starts_digit.false)) (tries_point _ _ c.past_char.ensures.chars)
+returns-clause-tries c = tries_run 10 starts_digit (λ tail. tail ≡ 46 ∷ []) point_begins _ _
+    c.past_digits.ensures.skips.0 _ c.past_digits.ensures.skips.1
+    (digits_start _ _ _ c.past_digits.ensures.skips.1 (sym c.starts_digit.ensures
+    ∙ c.if-not-starts_digit.false)) (tries_point _ _ c.past_char.ensures.chars)

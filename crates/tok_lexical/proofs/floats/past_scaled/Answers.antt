@@ -6,7 +6,11 @@ use Rattle.tok_lexical.proofs.Lexical.Numbers.{tries_run, none_decimal, digits_s
 use Rattle.tok_lexical.proofs.floats.past_scaled.Goals as goal
 
 pub returns-then-not-starts_digit-clause-tries : goal.returns-then-not-starts_digit-clause-tries
-returns-then-not-starts_digit-clause-tries c = none_decimal _ _ (sym c.starts_digit.ensures ∙ c.if-not-starts_digit.true)
+returns-then-not-starts_digit-clause-tries c = none_decimal _ _ (sym c.starts_digit.ensures
+    ∙ c.if-not-starts_digit.true)
 
 pub returns-clause-tries : goal.returns-clause-tries
-returns-clause-tries c = tries_run 10 starts_digit IsExponent exponent_begins _ _ c.past_digits.ensures.skips.0 _ c.past_digits.ensures.skips.1 (digits_start _ _ _ c.past_digits.ensures.skips.1 (sym c.starts_digit.ensures ∙ c.if-not-starts_digit.false)) c.past_exponent.ensures.tries
+returns-clause-tries c = tries_run 10 starts_digit IsExponent exponent_begins _ _
+    c.past_digits.ensures.skips.0 _ c.past_digits.ensures.skips.1
+    (digits_start _ _ _ c.past_digits.ensures.skips.1 (sym c.starts_digit.ensures
+    ∙ c.if-not-starts_digit.false)) c.past_exponent.ensures.tries

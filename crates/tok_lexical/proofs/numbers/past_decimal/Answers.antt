@@ -4,7 +4,11 @@ use Rattle.tok_lexical.proofs.Lexical.Numbers.{takes_run, none_decimal, suffix_s
 use Rattle.tok_lexical.proofs.numbers.past_decimal.Goals as goal
 
 pub returns-then-not-starts_digit-clause-tries : goal.returns-then-not-starts_digit-clause-tries
-returns-then-not-starts_digit-clause-tries c = none_decimal _ _ (sym c.starts_digit.ensures ∙ c.if-not-starts_digit.true)
+returns-then-not-starts_digit-clause-tries c = none_decimal _ _ (sym c.starts_digit.ensures
+    ∙ c.if-not-starts_digit.true)
 
 pub returns-clause-tries : goal.returns-clause-tries
-returns-clause-tries c = takes_run 10 starts_digit (IsNumberSuffix 10) (suffix_stops 10) _ _ _ c.past_digits.ensures.skips.0 _ c.past_digits.ensures.skips.1 (digits_start _ _ _ c.past_digits.ensures.skips.1 (sym c.starts_digit.ensures ∙ c.if-not-starts_digit.false)) c.past_number_suffix.ensures.1
+returns-clause-tries c = takes_run 10 starts_digit (IsNumberSuffix 10) (suffix_stops 10) _ _ _
+    c.past_digits.ensures.skips.0 _ c.past_digits.ensures.skips.1
+    (digits_start _ _ _ c.past_digits.ensures.skips.1 (sym c.starts_digit.ensures
+    ∙ c.if-not-starts_digit.false)) c.past_number_suffix.ensures.1

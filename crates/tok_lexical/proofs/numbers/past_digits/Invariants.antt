@@ -7,7 +7,10 @@ use Rattle.tok_lexical.specs.Numbers.{is_digit_or_underscore, has_digit}
 use Rattle.tok_lexical.proofs.numbers.past_digits.Given as goal
 
 abbrev pub invariant-loop-c : goal.invariant-loop-c
-invariant-loop-c l = shadow (Utf8 l.rest) × (length l.rest ≤ length l.fn.text) × ((front : List ℕ) × (chars l.fn.text ≡ front ++ chars l.rest) × (list_all (is_digit_or_underscore l.radix) front ≡ true) × (l.found ≡ has_digit l.radix front))
+invariant-loop-c l = shadow (Utf8 l.rest) × (length l.rest ≤ length l.fn.text)
+    × ((front : List ℕ) × (chars l.fn.text ≡ front ++ chars l.rest)
+    × (list_all (is_digit_or_underscore l.radix) front ≡ true)
+    × (l.found ≡ has_digit l.radix front))
 
 abbrev pub decreases-loop-c : goal.decreases-loop-c
 decreases-loop-c l = length l.rest

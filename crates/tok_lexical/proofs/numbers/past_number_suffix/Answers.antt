@@ -2,15 +2,30 @@ use Rattle.std.proofs.Common.{◌∙◌, ℕ, List, [], sym, subst}
 use Rattle.std.specs.Str.{chars}
 use Rattle.tok_lexical.specs.Pieces.{IsLongestPrefix}
 use Rattle.tok_lexical.specs.Numbers.{IsNumberSuffix}
-use Rattle.tok_lexical.proofs.Lexical.Numbers.{takes_no_suffix, no_suffix_start, no_suffix_word, takes_number_suffix}
+use Rattle.tok_lexical.proofs.Lexical.Numbers.{takes_no_suffix, no_suffix_start, no_suffix_word}
+use Rattle.tok_lexical.proofs.Lexical.Numbers.{takes_number_suffix}
 use Rattle.tok_lexical.proofs.Lexical.Words.{no_name}
 use Rattle.tok_lexical.proofs.numbers.past_number_suffix.Goals as goal
 
 pub returns-then-not-starts_name : goal.returns-then-not-starts_name
-returns-then-not-starts_name c = ([], takes_no_suffix c.args.radix _ (no_suffix_word c.args.radix _ (no_name _ (sym c.starts_name.ensures ∙ c.if-not-starts_name.true))))
+returns-then-not-starts_name c = (
+  [],
+  takes_no_suffix c.args.radix _
+      (no_suffix_word c.args.radix _
+      (no_name _ (sym c.starts_name.ensures ∙ c.if-not-starts_name.true))),
+)
 
 pub returns-then-not-starts_number_suffix : goal.returns-then-not-starts_number_suffix
-returns-then-not-starts_number_suffix c = ([], takes_no_suffix c.args.radix _ (no_suffix_start c.args.radix _ _ c.in-Some.first c.in-Some.ensures.chars (sym c.starts_number_suffix.ensures ∙ c.if-not-starts_number_suffix.true)))
+returns-then-not-starts_number_suffix c = (
+  [],
+  takes_no_suffix c.args.radix _ (no_suffix_start c.args.radix _ _ c.in-Some.first
+      c.in-Some.ensures.chars (sym c.starts_number_suffix.ensures
+      ∙ c.if-not-starts_number_suffix.true)),
+)
 
 pub returns : goal.returns
-returns c = subst (λ rest. (suffix : List ℕ) × IsLongestPrefix (IsNumberSuffix c.args.radix) (chars c.args.text.now) suffix (chars rest.now)) (sym c.unwrap_or.ensures) (takes_number_suffix c.args.radix c.in-Some.first _ c.args.text c.past_identifier.result c.in-Some.ensures.chars (sym c.starts_number_suffix.ensures ∙ c.if-not-starts_number_suffix.false) c.past_identifier.ensures.tries)
+returns c = subst (λ rest. (suffix : List ℕ) × IsLongestPrefix (IsNumberSuffix c.args.radix)
+    (chars c.args.text.now) suffix (chars rest.now)) (sym c.unwrap_or.ensures)
+    (takes_number_suffix c.args.radix c.in-Some.first _ c.args.text c.past_identifier.result
+    c.in-Some.ensures.chars (sym c.starts_number_suffix.ensures
+    ∙ c.if-not-starts_number_suffix.false) c.past_identifier.ensures.tries)

@@ -6,7 +6,8 @@ use Rattle.tok_lexical.proofs.Lexical.Raw.{Stands}
 use Rattle.tok_lexical.proofs.raw.past_raw_body.Given as goal
 
 abbrev pub invariant-loop-after : goal.invariant-loop-after
-invariant-loop-after l = shadow (Utf8 l.rest) × ((front : List ℕ) × Stands (34 ∷ chars l.hashes) (chars l.fn.text) (chars l.rest) front)
+invariant-loop-after l = shadow (Utf8 l.rest)
+    × ((front : List ℕ) × Stands (34 ∷ chars l.hashes) (chars l.fn.text) (chars l.rest) front)
 
 abbrev pub decreases-loop-after : goal.decreases-loop-after
 decreases-loop-after l = length l.rest

@@ -3,4 +3,5 @@ use Rattle.tok_lexical.proofs.Lexical.Longest.{tries_after}
 use Rattle.tok_lexical.proofs.raw.past_raw_text.Goals as goal
 
 pub returns-clause-tries : goal.returns-clause-tries
-returns-clause-tries c = tries_after 114 IsRaw _ _ _ c.in_ok-rest.ensures.chars c.past_raw_rest.ensures.tries
+returns-clause-tries c = tries_after 114 IsRaw _ _ _ c.in_ok-rest.ensures.chars
+    c.past_raw_rest.ensures.tries

@@ -13,15 +13,22 @@ front_of-requires c = (c.in-Some.ensures.tries.0, (decided c.in-Some.ensures.tri
 pub returns-then-not-is_blank_piece-clause-last : goal.returns-then-not-is_blank_piece-clause-last
 returns-then-not-is_blank_piece-clause-last c =
     let d = c.in-Some.ensures.tries in
-    last_found d.1 (ap (is_blank_piece c.in-Some.rule) (sym (c.front_of.ensures.is _ (decided d.1).cut)) ∙ sym c.is_blank_piece.ensures ∙ c.if-not-is_blank_piece.true)
+    last_found d.1
+    (ap (is_blank_piece c.in-Some.rule) (sym (c.front_of.ensures.is _ (decided d.1).cut))
+    ∙ sym c.is_blank_piece.ensures ∙ c.if-not-is_blank_piece.true)
 
 pub loop-rule-smaller : goal.loop-rule-smaller
-loop-rule-smaller c = shorter_piece _ _ c.in-Some.rule _ c.loop-rule.invariant.0 c.in-Some.ensures.utf8 c.in-Some.ensures.tries.1
+loop-rule-smaller c = shorter_piece _ _ c.in-Some.rule _ c.loop-rule.invariant.0
+    c.in-Some.ensures.utf8 c.in-Some.ensures.tries.1
 
 pub loop-rule-preserved : goal.loop-rule-preserved
 loop-rule-preserved c =
-    let d = c.in-Some.ensures.tries in
-    (c.in-Some.ensures.utf8, blanks_one c.loop-rule.invariant.1 d.1 (ap (is_blank_piece c.in-Some.rule) (sym (c.front_of.ensures.is _ (decided d.1).cut)) ∙ sym c.is_blank_piece.ensures ∙ c.if-not-is_blank_piece.false))
+    let d = c.in-Some.ensures.tries in (
+      c.in-Some.ensures.utf8,
+      blanks_one c.loop-rule.invariant.1 d.1
+          (ap (is_blank_piece c.in-Some.rule) (sym (c.front_of.ensures.is _ (decided d.1).cut))
+          ∙ sym c.is_blank_piece.ensures ∙ c.if-not-is_blank_piece.false),
+    )
 
 pub returns-clause-last : goal.returns-clause-last
 returns-clause-last c = last_none _ c.in_default.ensures.tries

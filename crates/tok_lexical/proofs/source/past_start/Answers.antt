@@ -5,7 +5,10 @@ use Rattle.tok_lexical.proofs.Lexical.Sources.{source_cut}
 use Rattle.tok_lexical.proofs.source.past_start.Goals as goal
 
 pub returns-clause-begins : goal.returns-clause-begins
-returns-clause-begins c = subst (λ w. Begins w (chars c.past_shebang.result.now)) c.past_mark.ensures c.past_shebang.ensures
+returns-clause-begins c = subst (λ w. Begins w (chars c.past_shebang.result.now))
+    c.past_mark.ensures c.past_shebang.ensures
 
 pub returns-clause-cut : goal.returns-clause-cut
-returns-clause-cut c = source_cut (chars c.args.text.now) (chars c.past_shebang.result.now) (subst (λ w. Begins w (chars c.past_shebang.result.now)) c.past_mark.ensures c.past_shebang.ensures)
+returns-clause-cut c = source_cut (chars c.args.text.now) (chars c.past_shebang.result.now)
+    (subst (λ w. Begins w (chars c.past_shebang.result.now)) c.past_mark.ensures
+    c.past_shebang.ensures)

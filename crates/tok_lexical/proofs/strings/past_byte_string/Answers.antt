@@ -4,4 +4,5 @@ use Rattle.tok_lexical.proofs.Lexical.Longest.{tries_after}
 use Rattle.tok_lexical.proofs.strings.past_byte_string.Goals as goal
 
 pub returns-clause-tries : goal.returns-clause-tries
-returns-clause-tries c = tries_after 98 (IsString Bytes) _ _ _ c.in_ok-rest.ensures.chars c.past_string_of.ensures.tries
+returns-clause-tries c = tries_after 98 (IsString Bytes) _ _ _ c.in_ok-rest.ensures.chars
+    c.past_string_of.ensures.tries

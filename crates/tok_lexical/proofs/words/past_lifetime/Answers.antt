@@ -3,4 +3,5 @@ use Rattle.tok_lexical.proofs.Lexical.Longest.{tries_after}
 use Rattle.tok_lexical.proofs.words.past_lifetime.Goals as goal
 
 pub returns-clause-tries : goal.returns-clause-tries
-returns-clause-tries c = tries_after 39 IsName _ _ _ c.in_ok-name.ensures.chars c.past_name.ensures.tries
+returns-clause-tries c = tries_after 39 IsName _ _ _ c.in_ok-name.ensures.chars
+    c.past_name.ensures.tries

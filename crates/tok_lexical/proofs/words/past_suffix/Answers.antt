@@ -8,7 +8,11 @@ use Rattle.tok_lexical.proofs.Lexical.Words.{no_name}
 use Rattle.tok_lexical.proofs.words.past_suffix.Goals as goal
 
 pub returns-then-starts_name : goal.returns-then-starts_name
-returns-then-starts_name c = subst (λ rest. (suffix : List ℕ) × IsLongestPrefix IsSuffix (chars c.args.text.now) suffix (chars rest.now)) (sym c.unwrap_or.ensures) (takes_suffix c.args.text c.past_identifier.result c.past_identifier.ensures.tries)
+returns-then-starts_name c =
+    subst (λ rest. (suffix : List ℕ) × IsLongestPrefix IsSuffix (chars c.args.text.now) suffix
+    (chars rest.now)) (sym c.unwrap_or.ensures)
+    (takes_suffix c.args.text c.past_identifier.result c.past_identifier.ensures.tries)
 
 pub returns-else-starts_name : goal.returns-else-starts_name
-returns-else-starts_name c = takes_suffix c.args.text None (no_name _ (sym c.starts_name.ensures ∙ c.if-starts_name.false))
+returns-else-starts_name c = takes_suffix c.args.text None
+    (no_name _ (sym c.starts_name.ensures ∙ c.if-starts_name.false))

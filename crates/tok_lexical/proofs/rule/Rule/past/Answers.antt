@@ -4,49 +4,111 @@ use Rattle.tok_lexical.proofs.Lexical.Longest.{takes_one, tries_pair, tries_two}
 use Rattle.tok_lexical.proofs.rule.Rule.past.Goals as goal
 
 pub returns-in-ByteOrderMark-clause-tries : goal.returns-in-ByteOrderMark-clause-tries
-returns-in-ByteOrderMark-clause-tries c = rw c.in-ByteOrderMark.is (_, takes_one (λ d. d == 0xFEFF) _ _ c.in_ok-first.first c.in_ok-first.ensures.chars (eq-eqb _ _ c.if-first-eq65279.true))
+returns-in-ByteOrderMark-clause-tries c =
+    rw c.in-ByteOrderMark.is (
+      _,
+      takes_one (λ d. d == 0xFEFF) _ _ c.in_ok-first.first
+          c.in_ok-first.ensures.chars (eq-eqb _ _ c.if-first-eq65279.true),
+    )
 
 pub returns-in-Whitespace-clause-tries : goal.returns-in-Whitespace-clause-tries
-returns-in-Whitespace-clause-tries c = rw c.in-Whitespace.is (_, takes_one is_whitespace _ _ c.in_ok-first.first c.in_ok-first.ensures.chars (sym c.is_whitespace.ensures ∙ c.if-is_whitespace.true))
+returns-in-Whitespace-clause-tries c =
+    rw c.in-Whitespace.is (
+      _,
+      takes_one is_whitespace _ _ c.in_ok-first.first
+          c.in_ok-first.ensures.chars (sym c.is_whitespace.ensures ∙ c.if-is_whitespace.true),
+    )
 
 pub returns-in-Opening-clause-tries : goal.returns-in-Opening-clause-tries
-returns-in-Opening-clause-tries c = rw c.in-Opening.is (_, takes_one (λ d. d == opening_mark c.in-Opening.delimiter) _ _ c.in_ok-first.first c.in_ok-first.ensures.chars (eq-eqb _ _ (c.if-first-opening_mark.true ∙ c.opening_mark.ensures)))
+returns-in-Opening-clause-tries c =
+    rw c.in-Opening.is (
+      _,
+      takes_one (λ d. d == opening_mark c.in-Opening.delimiter) _ _
+          c.in_ok-first.first c.in_ok-first.ensures.chars
+          (eq-eqb _ _ (c.if-first-opening_mark.true ∙ c.opening_mark.ensures)),
+    )
 
 pub returns-in-Closing-clause-tries : goal.returns-in-Closing-clause-tries
-returns-in-Closing-clause-tries c = rw c.in-Closing.is (_, takes_one (λ d. d == closing_mark c.in-Closing.delimiter) _ _ c.in_ok-first.first c.in_ok-first.ensures.chars (eq-eqb _ _ (c.if-first-closing_mark.true ∙ c.closing_mark.ensures)))
+returns-in-Closing-clause-tries c =
+    rw c.in-Closing.is (
+      _,
+      takes_one (λ d. d == closing_mark c.in-Closing.delimiter) _ _
+          c.in_ok-first.first c.in_ok-first.ensures.chars
+          (eq-eqb _ _ (c.if-first-closing_mark.true ∙ c.closing_mark.ensures)),
+    )
 
 pub returns-in-BadString-clause-tries : goal.returns-in-BadString-clause-tries
-returns-in-BadString-clause-tries c = rw c.in-BadString.is (_, takes_one (λ d. d == 34) _ _ c.in_ok-first.first c.in_ok-first.ensures.chars (eq-eqb _ _ c.if-first-eq34.true))
+returns-in-BadString-clause-tries c =
+    rw c.in-BadString.is (
+      _,
+      takes_one (λ d. d == 34) _ _ c.in_ok-first.first
+          c.in_ok-first.ensures.chars (eq-eqb _ _ c.if-first-eq34.true),
+    )
 
 pub returns-in-Apostrophe-clause-tries : goal.returns-in-Apostrophe-clause-tries
-returns-in-Apostrophe-clause-tries c = rw c.in-Apostrophe.is (_, takes_one (λ d. d == 39) _ _ c.in_ok-first.first c.in_ok-first.ensures.chars (eq-eqb _ _ c.if-first-eq39.true))
+returns-in-Apostrophe-clause-tries c =
+    rw c.in-Apostrophe.is (
+      _,
+      takes_one (λ d. d == 39) _ _ c.in_ok-first.first
+          c.in_ok-first.ensures.chars (eq-eqb _ _ c.if-first-eq39.true),
+    )
 
 pub returns-in-MarkedApostrophe-clause-tries : goal.returns-in-MarkedApostrophe-clause-tries
-returns-in-MarkedApostrophe-clause-tries c = rw c.in-MarkedApostrophe.is (_, takes_one (λ d. d == 39) _ _ c.in_ok-first.first c.in_ok-first.ensures.chars (eq-eqb _ _ c.if-first-eq39-2.true))
+returns-in-MarkedApostrophe-clause-tries c =
+    rw c.in-MarkedApostrophe.is (
+      _,
+      takes_one (λ d. d == 39) _ _ c.in_ok-first.first
+          c.in_ok-first.ensures.chars (eq-eqb _ _ c.if-first-eq39-2.true),
+    )
 
 pub returns-in-Punct-clause-tries : goal.returns-in-Punct-clause-tries
-returns-in-Punct-clause-tries c = rw c.in-Punct.is (_, takes_one is_punct _ _ c.in_ok-first.first c.in_ok-first.ensures.chars (sym c.is_punct.ensures ∙ c.if-is_punct.true))
+returns-in-Punct-clause-tries c =
+    rw c.in-Punct.is (
+      _,
+      takes_one is_punct _ _ c.in_ok-first.first c.in_ok-first.ensures.chars
+          (sym c.is_punct.ensures ∙ c.if-is_punct.true),
+    )
 
 pub returns-in-MarkedPunct-clause-tries : goal.returns-in-MarkedPunct-clause-tries
-returns-in-MarkedPunct-clause-tries c = rw c.in-MarkedPunct.is (_, takes_one is_punct _ _ c.in_ok-first.first c.in_ok-first.ensures.chars (sym c.if-is_punct-2.ensures))
+returns-in-MarkedPunct-clause-tries c =
+    rw c.in-MarkedPunct.is (
+      _,
+      takes_one is_punct _ _ c.in_ok-first.first c.in_ok-first.ensures.chars
+          (sym c.if-is_punct-2.ensures),
+    )
 
 pub returns-in-SourcePunct-clause-tries : goal.returns-in-SourcePunct-clause-tries
-returns-in-SourcePunct-clause-tries c = rw c.in-SourcePunct.is (_, takes_one is_punct _ _ c.in_ok-first.first c.in_ok-first.ensures.chars (sym c.if-is_punct-3.ensures))
+returns-in-SourcePunct-clause-tries c =
+    rw c.in-SourcePunct.is (
+      _,
+      takes_one is_punct _ _ c.in_ok-first.first c.in_ok-first.ensures.chars
+          (sym c.if-is_punct-3.ensures),
+    )
 
 pub returns-in-Other-clause-tries : goal.returns-in-Other-clause-tries
-returns-in-Other-clause-tries c = rw c.in-Other.is (_, takes_one (λ d. true) _ _ c.in_ok-first.first c.in_ok-first.ensures.chars refl)
+returns-in-Other-clause-tries c =
+    rw c.in-Other.is (
+      _,
+      takes_one (λ d. true) _ _ c.in_ok-first.first
+          c.in_ok-first.ensures.chars refl,
+    )
 
 pub returns-in-OpenComment-clause-tries : goal.returns-in-OpenComment-clause-tries
-returns-in-OpenComment-clause-tries c = rw c.in-OpenComment.is (tries_pair 47 42 _ _ c.past_pair.ensures.chars)
+returns-in-OpenComment-clause-tries c =
+    rw c.in-OpenComment.is (tries_pair 47 42 _ _ c.past_pair.ensures.chars)
 
 pub returns-in-BadByteChar-clause-tries : goal.returns-in-BadByteChar-clause-tries
-returns-in-BadByteChar-clause-tries c = rw c.in-BadByteChar.is (tries_pair 98 39 _ _ c.past_pair-in-BadByteChar.ensures.chars)
+returns-in-BadByteChar-clause-tries c =
+    rw c.in-BadByteChar.is (tries_pair 98 39 _ _ c.past_pair-in-BadByteChar.ensures.chars)
 
 pub returns-in-BadEscapedChar-clause-tries : goal.returns-in-BadEscapedChar-clause-tries
-returns-in-BadEscapedChar-clause-tries c = rw c.in-BadEscapedChar.is (tries_pair 39 92 _ _ c.past_pair-in-BadEscapedChar.ensures.chars)
+returns-in-BadEscapedChar-clause-tries c =
+    rw c.in-BadEscapedChar.is (tries_pair 39 92 _ _ c.past_pair-in-BadEscapedChar.ensures.chars)
 
 pub returns-in-Based-clause-tries : goal.returns-in-Based-clause-tries
 returns-in-Based-clause-tries c = rw c.in-Based.is c.past_based.ensures.tries
 
 pub returns-in-BadBased-clause-tries : goal.returns-in-BadBased-clause-tries
-returns-in-BadBased-clause-tries c = rw c.in-BadBased.is (tries_two 48 _ _ _ _ c.mark.ensures c.past_pair-in-BadBased.ensures.chars)
+returns-in-BadBased-clause-tries c =
+    rw c.in-BadBased.is
+    (tries_two 48 _ _ _ _ c.mark.ensures c.past_pair-in-BadBased.ensures.chars)

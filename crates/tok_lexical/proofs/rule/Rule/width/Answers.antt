@@ -3,7 +3,9 @@ use Rattle.tok_lexical.proofs.Lexical.Texts.{width_plain, width_mark}
 use Rattle.tok_lexical.proofs.rule.Rule.width.Goals as goal
 
 pub returns-then-is_group_mark : goal.returns-then-is_group_mark
-returns-then-is_group_mark c = width_mark c.args.self _ (sym c.is_group_mark.ensures ∙ c.if-is_group_mark.true)
+returns-then-is_group_mark c = width_mark c.args.self _ (sym c.is_group_mark.ensures
+    ∙ c.if-is_group_mark.true)
 
 pub returns-else-is_group_mark : goal.returns-else-is_group_mark
-returns-else-is_group_mark c = width_plain c.args.self _ c.utf8.piece (sym c.is_group_mark.ensures ∙ c.if-is_group_mark.false)
+returns-else-is_group_mark c = width_plain c.args.self _ c.utf8.piece
+    (sym c.is_group_mark.ensures ∙ c.if-is_group_mark.false)
