@@ -1,5 +1,7 @@
 -- The names of lifetimes, and why a text is none.
-use Rattle.std.proofs.Common.{◌≡◌, ◌∙◌, sym, ap, refl, ℕ, Bool, true, false, ◌&&◌, List, [], ◌∷◌, length, None, Some, ◌⊎◌, inl, inr, arith, eqb-true, encode_utf8_all}
+use Rattle.std.proofs.Common.{◌≡◌, ◌∙◌, sym, ap, refl, ℕ, Bool, true, false, ◌&&◌, List, [], ◌∷◌}
+use Rattle.std.proofs.Common.{length, None, Some, ◌⊎◌, inl, inr, arith, eqb-true}
+use Rattle.std.proofs.Common.{encode_utf8_all}
 use Rattle.std.specs.Prelude.{◌==◌}
 use Rattle.std.specs.List.{list_all}
 use Rattle.std.specs.Str.{chars, IsUtf8}
@@ -9,7 +11,8 @@ use Rattle.std.proofs.lemmas.Str.{chars-nil, encodes-chars}
 use Rattle.tok_lexical.specs.Words.{IsIdentifier, HasRaw, has_no_raw}
 use Rattle.tok_leaves.specs.declared.ident.MakeFault.{MakeFault}
 use Rattle.tok_leaves.specs.declared.ident.MakeFault.TheVariants.{Refused, Memory}
-use Rattle.tok_leaves.specs.Lifetimes.{is_identifier, plain_refusal, raw_refusal, name_fault, refusal_in}
+use Rattle.tok_leaves.specs.Lifetimes.{is_identifier, plain_refusal, raw_refusal, name_fault}
+use Rattle.tok_leaves.specs.Lifetimes.{refusal_in}
 use Rattle.tok_leaves.specs.declared.lifetime.LifetimeFault.TheVariants.{Empty, NotIdentifier}
 
 pub no_text : (bs : List ℕ) → (length bs == 0) ≡ true → bs ≡ []
@@ -20,8 +23,10 @@ no_text (b ∷ bs) h = absurd (omega (arith, eqb-true (length (b ∷ bs)) 0 h))
 pub empty_plain : (bs : List ℕ) → (length bs == 0) ≡ true → plain_refusal (chars bs) ≡ Some Empty
 empty_plain bs h = ap (λ x. plain_refusal (chars x)) (no_text bs h) ∙ ap plain_refusal chars-nil
 
-pub empty_raw : (bs : List ℕ) → has_no_raw (chars bs) ≡ false → (length bs == 0) ≡ true → raw_refusal (chars bs) ≡ Some Empty
-empty_raw bs q h = cond-false (has_no_raw (chars bs)) _ (plain_refusal (chars bs)) q ∙ empty_plain bs h
+pub empty_raw : (bs : List ℕ) → has_no_raw (chars bs) ≡ false → (length bs == 0) ≡ true →
+    raw_refusal (chars bs) ≡ Some Empty
+empty_raw bs q h = cond-false (has_no_raw (chars bs)) _ (plain_refusal (chars bs)) q
+    ∙ empty_plain bs h
 
 -- a test and the fact that it tells
 tells : (cs : List ℕ) → is_identifier cs ≡ true → IsIdentifier cs
@@ -35,7 +40,8 @@ told : (cs : List ℕ) → IsIdentifier cs → is_identifier cs ≡ true
 told [] h = absurd h
 told (c ∷ cs) h = ap (λ b. b && list_all is_xid_continue cs) h.0 ∙ h.1
 
-decided : (cs : List ℕ) (b : Bool) → is_identifier cs ≡ b → (is_identifier cs ≡ true) ⊎ (IsIdentifier cs → ⊥)
+decided : (cs : List ℕ) (b : Bool) → is_identifier cs ≡ b → (is_identifier cs ≡ true)
+    ⊎ (IsIdentifier cs → ⊥)
 decided cs true e = inl e
 decided cs false e = inr (λ h. false≢true (sym e ∙ told cs h))
 
@@ -43,31 +49,38 @@ plain_made : (cs : List ℕ) → is_identifier cs ≡ true → plain_refusal cs 
 plain_made [] h = absurd (false≢true h)
 plain_made (c ∷ cs) h = cond-true (is_identifier (c ∷ cs)) None (Some NotIdentifier) h
 
-plain_refused : (cs : List ℕ) → (cs ≡ [] → ⊥) → is_identifier cs ≡ false → plain_refusal cs ≡ Some NotIdentifier
+plain_refused : (cs : List ℕ) → (cs ≡ [] → ⊥) → is_identifier cs ≡ false → plain_refusal cs
+    ≡ Some NotIdentifier
 plain_refused [] some h = absurd (some refl)
 plain_refused (c ∷ cs) some h = cond-false (is_identifier (c ∷ cs)) None (Some NotIdentifier) h
 
-not_told : (cs : List ℕ) (b : Bool) → is_identifier cs ≡ b → (IsIdentifier cs → ⊥) → is_identifier cs ≡ false
+not_told : (cs : List ℕ) (b : Bool) → is_identifier cs ≡ b → (IsIdentifier cs → ⊥) →
+    is_identifier cs ≡ false
 not_told cs true e never = absurd (never (tells cs e))
 not_told cs false e never = e
 
 -- some text has some characters
 some_chars : (bs : List ℕ) → IsUtf8 bs → (length bs == 0) ≡ false → chars bs ≡ [] → ⊥
-some_chars bs u h e = false≢true (sym h ∙ ap (λ n. n == 0) (ap length (sym (encodes-chars bs u) ∙ ap encode_utf8_all e)))
+some_chars bs u h e =
+    false≢true (sym h
+    ∙ ap (λ n. n == 0) (ap length (sym (encodes-chars bs u) ∙ ap encode_utf8_all e)))
 
 -- the maker's fault says what is wrong with a name
 pub plain_fault : (bs : List ℕ) (fault : MakeFault) → IsUtf8 bs → (length bs == 0) ≡ false
     → (IsIdentifier (chars bs) → fault ≡ Memory) → ((IsIdentifier (chars bs) → ⊥) → fault ≡ Refused)
     → plain_refusal (chars bs) ≡ refusal_in (name_fault fault)
 plain_fault bs Refused u h takes refuses =
-    plain_refused (chars bs) (some_chars bs u h) (not_told (chars bs) (is_identifier (chars bs)) refl (λ i. let wrong : Refused ≡ Memory = takes i in cc))
+    plain_refused (chars bs) (some_chars bs u h)
+    (not_told (chars bs) (is_identifier (chars bs)) refl
+    (λ i. let wrong : Refused ≡ Memory = takes i in cc))
 plain_fault bs Memory u h takes refuses =
     elim (decided (chars bs) (is_identifier (chars bs)) refl) [
       | inl e ↦ plain_made (chars bs) e
       | inr never ↦ let wrong : Memory ≡ Refused = refuses never in cc
     ]
 
-pub raw_fault : (bs : List ℕ) (fault : MakeFault) → IsUtf8 bs → (length bs == 0) ≡ false → has_no_raw (chars bs) ≡ false
+pub raw_fault : (bs : List ℕ) (fault : MakeFault) → IsUtf8 bs → (length bs == 0) ≡ false →
+    has_no_raw (chars bs) ≡ false
     → (HasRaw (chars bs) → fault ≡ Memory) → ((HasRaw (chars bs) → ⊥) → fault ≡ Refused)
     → raw_refusal (chars bs) ≡ refusal_in (name_fault fault)
 raw_fault bs fault u h raw takes refuses =

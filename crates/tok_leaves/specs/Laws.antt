@@ -23,6 +23,14 @@ module _ {A B : Type 0} (shown : A → B) where
   abbrev pub HashedBy : (B → List (List ℕ)) → (A → List (List ℕ)) → Type 0
   HashedBy input feeds = (value : A) → feeds value ≡ input (shown value)
 
+-- two values are equal exactly where they are the same
+abbrev pub EqualAsValues : {A : Type 0} → (A → A → Bool) → Type 0
+EqualAsValues {A} equal = (left right : A) → (equal left right ≡ true) ↔ (left ≡ right)
+
+-- a clone is the value that was cloned
+abbrev pub ClonesKeep : {A : Type 0} → (A → A → Type 0) → Type 0
+ClonesKeep {A} is_clone = (value clone : A) → is_clone value clone → clone ≡ value
+
 -- two values are equal exactly where neither comes first, and any two are in order
 abbrev pub OrderAgrees : {A : Type 0} → (A → A → Bool) → (A → A → Ordering) →
     (A → A → Option Ordering) → Type 0

@@ -1,7 +1,9 @@
 -- Leaves, as contracts see them, and their parts.
-use Rattle.std.specs.Prelude.{ℕ, ◌==◌, ◌&&◌, cond, List, ◌∷◌, encode_utf8}
+use Rattle.std.specs.Prelude.{ℕ, ◌==◌, ◌&&◌, cond, List, ◌∷◌, codes, encode_utf8}
 use Rattle.tok_leaves.specs.declared.span.Span.{Span}
 use Rattle.tok_leaves.specs.declared.ident.Ident.{Ident}
+use Rattle.tok_leaves.specs.declared.ident.MakeFault.{MakeFault}
+use Rattle.tok_leaves.specs.declared.ident.MakeFault.TheVariants.{Refused, Memory}
 use Rattle.tok_leaves.specs.declared.punct.Punct.{Punct}
 use Rattle.tok_leaves.specs.declared.punct.Spacing.{Spacing}
 use Rattle.tok_leaves.specs.declared.punct.Spacing.TheVariants.{Alone}
@@ -46,6 +48,11 @@ leaf_spacing l = Alone
 abbrev pub unraw : List ℕ → List ℕ
 unraw (c ∷ (d ∷ word)) = cond (c == 114 && d == 35) word (c ∷ (d ∷ word))
 unraw text = text
+
+-- why no identifier was made, in words
+abbrev pub make_fault_words : MakeFault → List ℕ
+make_fault_words Refused = codes "not an identifier"
+make_fault_words Memory = codes "out of memory"
 
 abbrev pub apostrophe : ℕ
 apostrophe = 39

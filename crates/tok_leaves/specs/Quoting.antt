@@ -1,7 +1,7 @@
 -- The texts of literals that are made from characters and bytes. Each is given as bytes.
-use Rattle.std.specs.Prelude.{ℕ, List, ◌++◌, ◌==◌, codes, encode_utf8, if◌then◌else◌}
-use Rattle.std.specs.Prelude.{encode_utf8_all}
-use Rattle.std.specs.Char.Escape.{escape_ascii}
+use Rattle.std.specs.Prelude.{ℕ, List, Bool, ◌++◌, ◌==◌, ◌||◌, ◌&&◌, nat_le, codes, encode_utf8}
+use Rattle.std.specs.Prelude.{encode_utf8_all, if◌then◌else◌}
+use Rattle.std.specs.Char.Escape.{escape_ascii, escape_unicode}
 use Rattle.std.specs.List.{flat_map}
 
 -- a character, or the escape that stands for it
@@ -18,7 +18,30 @@ escaped c =
 abbrev pub in_quotes : List ℕ → List ℕ
 in_quotes text = codes "\"" ++ (flat_map escaped text ++ codes "\"")
 
--- the same between apostrophes, where the quote needs no escape and the apostrophe does
+abbrev pub is_within : ℕ → ℕ → ℕ → Bool
+is_within first last c = nat_le first c && nat_le c last
+
+-- A character that shows nothing by itself: a control without an escape of one letter, a space but
+-- U+0020, a separator, a format, a mark that combines with letters of any script, private use, or a
+-- plane that holds nothing that shows. All of these are ones that `char::escape_debug` escapes.
+abbrev pub is_unseen : ℕ → Bool
+is_unseen c =
+    is_within 0x1 0x8 c || is_within 0xB 0xC c || is_within 0xE 0x1F c || is_within 0x7F 0xA0 c
+    || (c == 0xAD) || is_within 0x300 0x36F c || (c == 0x1680) || is_within 0x1AB0 0x1AFF c
+    || is_within 0x1DC0 0x1DFF c || is_within 0x2000 0x200F c || is_within 0x2028 0x202F c
+    || is_within 0x205F 0x206F c || is_within 0x20D0 0x20FF c || (c == 0x3000)
+    || is_within 0xE000 0xF8FF c || is_within 0xFE00 0xFE0F c || is_within 0xFE20 0xFE2F c
+    || (c == 0xFEFF) || is_within 0xFFF0 0xFFFB c || nat_le 0xE0000 c
+
+-- a character, the escape that stands for it, or its code if it shows nothing
+abbrev pub shown : ℕ → List ℕ
+shown c = if is_unseen c then encode_utf8_all (escape_unicode c) else escaped c
+
+-- the literal of a doc comment's text
+abbrev pub shown_in_quotes : List ℕ → List ℕ
+shown_in_quotes text = codes "\"" ++ (flat_map shown text ++ codes "\"")
+
+-- a character between apostrophes, where the quote needs no escape and the apostrophe does
 abbrev pub in_apostrophes : ℕ → List ℕ
 in_apostrophes c =
     if c == 39 then codes "'\\''" else

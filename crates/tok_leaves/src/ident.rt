@@ -1,12 +1,13 @@
 //! Identifiers.
-ghost use Rattle.std.specs.Prelude.{◌≡◌, ◌++◌, codes, IfOk, IfErr, Err};
+ghost use Rattle.std.specs.Prelude.{◌≡◌, ◌++◌, codes, IfOk, IfErr, Err, Some};
 ghost use Rattle.std.specs.Str.{chars};
-ghost use Rattle.tok_leaves.specs.Leaves.{ident, ident_of, leaf_span, leaf_text, unraw};
+ghost use Rattle.tok_leaves.specs.Leaves.{ident, ident_of, leaf_span, leaf_text, make_fault_words, unraw};
 ghost use Rattle.tok_lexical.specs.Words.{IsIdentifier, HasRaw};
 
 use crate::span::Span;
 use crate::text::Text;
 use std::alloc::{AllocError, Global};
+use std::fmt::{self, Display, Formatter, Write};
 use tok_lexical::words::{has_no_raw, is_identifier};
 
 /// An identifier or a keyword. The text of a raw identifier begins with `r#`.
@@ -21,7 +22,7 @@ use tok_lexical::words::{has_no_raw, is_identifier};
 /// let raw = Ident::new_raw(alloc, "fn", Span::call_site())?;
 /// assert_eq!(rt; raw.as_str(), "r#fn");
 /// ```
-#[derive(Drop)]
+#[derive(Drop, Debug)]
 #[derive_where(PartialEq, Eq, PartialOrd, Ord, Hash)]
 pub struct Ident {
     text: Text,
@@ -47,6 +48,27 @@ impl From<AllocError> for MakeFault {
         MakeFault::Memory
     }
 }
+
+impl MakeFault {
+    fn words(self) -> &'static str
+        ensures { result.now ≡ make_fault_words self }
+    {
+        match self {
+            MakeFault::Refused => "not an identifier",
+            MakeFault::Memory => "out of memory",
+        }
+    }
+}
+
+impl Display for MakeFault {
+    ghost output = { λ fault. Some (make_fault_words fault) };
+
+    fn fmt<W: Write>(&self, f: &mut Formatter<W>) -> fmt::Result {
+        f.write_str(self.words())
+    }
+}
+
+impl std::error::Error for MakeFault {}
 
 // Removes a leading `r#`.
 fn without_raw(text: &str) -> &str
@@ -129,16 +151,25 @@ impl Ident {
         let text = Text::from_str(alloc, without_raw(self.as_str()))?;
         Ok(Ident::unchecked(text, self.span))
     }
+}
 
-    /// Copies the identifier, with its span.
-    ///
-    /// Returns an error if the allocation fails.
-    pub fn clone(&self) -> Result<Ident, AllocError>
-        ensures { IfOk result (λ i. i ≡ self.now) }
-    {
+/// Copies the identifier, with its span.
+impl Clone for Ident {
+    ghost is_clone = { λ i j. j ≡ i };
+
+    fn clone(&self) -> Result<Ident, AllocError> {
         Ok(Ident {
             text: self.text.clone()?,
             span: self.span,
         })
+    }
+}
+
+/// Writes the text.
+impl Display for Ident {
+    ghost output = { λ i. Some (leaf_text (ident_of i)) };
+
+    fn fmt<W: Write>(&self, f: &mut Formatter<W>) -> fmt::Result {
+        f.write_str(self.as_str())
     }
 }

@@ -24,7 +24,7 @@ use tok_lexical::words::has_no_raw;
 /// let lifetime = Lifetime::new(alloc, "'a", Span::call_site())?;
 /// assert_eq!(rt; lifetime.ident.as_str(), "a");
 /// ```
-#[derive(Drop)]
+#[derive(Drop, Debug)]
 #[derive_where(PartialEq, Eq, PartialOrd, Ord, Hash)]
 pub struct Lifetime {
     #[derive_where(skip(EqHashOrd))]
@@ -111,13 +111,13 @@ impl Lifetime {
         self.apostrophe = span;
         self.ident.set_span(span);
     }
+}
 
-    /// Copies the lifetime, with its spans.
-    ///
-    /// Returns an error if the allocation fails.
-    pub fn clone(&self) -> Result<Lifetime, AllocError>
-        ensures { IfOk result (λ l. l ≡ self.now) }
-    {
+/// Copies the lifetime, with its spans.
+impl Clone for Lifetime {
+    ghost is_clone = { λ l m. m ≡ l };
+
+    fn clone(&self) -> Result<Lifetime, AllocError> {
         Ok(Lifetime {
             apostrophe: self.apostrophe,
             ident: self.ident.clone()?,

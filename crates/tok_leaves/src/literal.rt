@@ -1,15 +1,16 @@
 //! Literals.
-ghost use Rattle.std.specs.Prelude.{◌≡◌, ◌++◌, [], ◌∷◌, codes, string_bytes, IfOk, OnOk};
+ghost use Rattle.std.specs.Prelude.{◌≡◌, ◌++◌, [], ◌∷◌, codes, string_bytes, IfOk, OnOk, Some};
 ghost use Rattle.std.specs.Str.{chars};
 ghost use Rattle.std.specs.CStr.{c_str_bytes};
 ghost use Rattle.tok_leaves.specs.Leaves.{literal, literal_of, leaf_span, leaf_text};
-ghost use Rattle.tok_leaves.specs.Quoting.{escaped, in_quotes, in_apostrophes, escaped_byte, bytes_between};
+ghost use Rattle.tok_leaves.specs.Quoting.{escaped, in_quotes, in_apostrophes, is_unseen, shown, shown_in_quotes, escaped_byte, bytes_between};
 ghost use Rattle.tok_leaves.specs.Spans.{call_site};
 
 use crate::span::Span;
 use crate::text::Text;
 use std::alloc::{AllocError, Global};
 use std::ffi::CStr;
+use std::fmt::{self, Display, Formatter, Write};
 
 /// A literal: its text, with quotes, prefix and suffix, and its span.
 ///
@@ -19,7 +20,7 @@ use std::ffi::CStr;
 /// let literal = Literal::string(alloc, "a \"b\"")?;
 /// assert_eq!(rt; literal.as_str(), "\"a \\\"b\\\"\"");
 /// ```
-#[derive(Drop)]
+#[derive(Drop, Debug)]
 pub struct Literal {
     text: Text,
     span: Span,
@@ -47,6 +48,48 @@ fn push_escaped(to: &mut String, c: char) -> Result<(), AllocError>
         '\t' => to.push_str("\\t"),
         '\0' => to.push_str("\\0"),
         _ => to.push(c),
+    }
+}
+
+// Returns `true` for a character that shows nothing by itself.
+fn is_unseen(c: char) -> bool
+    ensures { result ≡ is_unseen c }
+{
+    matches!(
+        c,
+        '\u{1}'..='\u{8}'
+            | '\u{B}'..='\u{C}'
+            | '\u{E}'..='\u{1F}'
+            | '\u{7F}'..='\u{A0}'
+            | '\u{AD}'
+            | '\u{300}'..='\u{36F}'
+            | '\u{1680}'
+            | '\u{1AB0}'..='\u{1AFF}'
+            | '\u{1DC0}'..='\u{1DFF}'
+            | '\u{2000}'..='\u{200F}'
+            | '\u{2028}'..='\u{202F}'
+            | '\u{205F}'..='\u{206F}'
+            | '\u{20D0}'..='\u{20FF}'
+            | '\u{3000}'
+            | '\u{E000}'..='\u{F8FF}'
+            | '\u{FE00}'..='\u{FE0F}'
+            | '\u{FE20}'..='\u{FE2F}'
+            | '\u{FEFF}'
+            | '\u{FFF0}'..='\u{FFFB}'
+            | '\u{E0000}'..='\u{10FFFF}'
+    )
+}
+
+fn push_shown(to: &mut String, c: char) -> Result<(), AllocError>
+    ensures { OnOk result (string_bytes to.new ≡ string_bytes to.old ++ shown c) }
+{
+    if is_unseen(c) {
+        for part in c.escape_unicode() {
+            to.push(part)?;
+        }
+        Ok(())
+    } else {
+        push_escaped(to, c)
     }
 }
 
@@ -92,6 +135,25 @@ impl Literal {
         out.push('"')?;
         for c in text.chars() {
             push_escaped(&mut out, c)?;
+        }
+        out.push('"')?;
+        let text = Text::from_string(alloc, out)?;
+        Ok(Literal::unchecked(text, Span::call_site()))
+    }
+
+    /// Creates the string literal of a doc comment's text, at the call site.
+    ///
+    /// It is written as by [`Literal::string`], but a character that shows nothing by itself is
+    /// written as `\u{..}`: controls, spaces but U+0020, separators, formats, marks that combine
+    /// with letters of any script, and private use. Returns an error if an allocation fails.
+    pub fn doc_comment(alloc: Global, text: &str) -> Result<Literal, AllocError>
+        ensures { IfOk result (λ l. literal_of l
+            ≡ literal (shown_in_quotes (chars text.now)) call_site) }
+    {
+        let mut out = String::with_capacity(alloc, quoted_len(text))?;
+        out.push('"')?;
+        for c in text.chars() {
+            push_shown(&mut out, c)?;
         }
         out.push('"')?;
         let text = Text::from_string(alloc, out)?;
@@ -177,16 +239,25 @@ impl Literal {
     {
         self.span = span;
     }
+}
 
-    /// Copies the literal, with its span.
-    ///
-    /// Returns an error if the allocation fails.
-    pub fn clone(&self) -> Result<Literal, AllocError>
-        ensures { IfOk result (λ l. l ≡ self.now) }
-    {
+/// Copies the literal, with its span.
+impl Clone for Literal {
+    ghost is_clone = { λ l m. m ≡ l };
+
+    fn clone(&self) -> Result<Literal, AllocError> {
         Ok(Literal {
             text: self.text.clone()?,
             span: self.span,
         })
+    }
+}
+
+/// Writes the text.
+impl Display for Literal {
+    ghost output = { λ l. Some (leaf_text (literal_of l)) };
+
+    fn fmt<W: Write>(&self, f: &mut Formatter<W>) -> fmt::Result {
+        f.write_str(self.as_str())
     }
 }

@@ -1,10 +1,11 @@
 //! Puncts.
-ghost use Rattle.std.specs.Prelude.{◌≡◌, MatchOption, true, false};
-ghost use Rattle.tok_leaves.specs.Leaves.{leaf_char, leaf_spacing, punct, punct_of, leaf_span};
+ghost use Rattle.std.specs.Prelude.{◌≡◌, MatchOption, true, false, Some};
+ghost use Rattle.tok_leaves.specs.Leaves.{leaf_char, leaf_spacing, leaf_text, punct, punct_of, leaf_span};
 ghost use Rattle.tok_lexical.specs.Characters.{is_punct_or_apostrophe};
 ghost use Rattle.tok_leaves.specs.Spans.{call_site};
 
 use crate::span::Span;
+use std::fmt::{self, Display, Formatter, Write};
 use tok_lexical::classes::is_punct_or_apostrophe;
 
 /// Whether a punct is directly followed by another: `+` is joint in `+=`, and alone in `+ =`.
@@ -15,7 +16,7 @@ pub enum Spacing {
 }
 
 /// One punctuation character, its spacing and its span.
-#[derive(Clone, Copy)]
+#[derive(Clone, Copy, Debug)]
 pub struct Punct {
     ch: char,
     spacing: Spacing,
@@ -78,5 +79,14 @@ impl Punct {
             ≡ punct (leaf_char (punct_of self.old)) (leaf_spacing (punct_of self.old)) span }
     {
         self.span = span;
+    }
+}
+
+/// Writes the character.
+impl Display for Punct {
+    ghost output = { λ p. Some (leaf_text (punct_of p)) };
+
+    fn fmt<W: Write>(&self, f: &mut Formatter<W>) -> fmt::Result {
+        f.write_char(self.ch)
     }
 }

@@ -8,6 +8,7 @@ ghost use Rattle.std.proofs.Common.{rules};
 
 use std::alloc::{AllocError, Global};
 use std::cmp::Ordering;
+use std::fmt::{self, Debug, Display, Formatter, Write};
 use std::hash::{Hash, Hasher};
 use std::marker::Model;
 use std::str::from_utf8;
@@ -98,13 +99,13 @@ impl Text {
             Node::Long(text) => text.as_str(),
         }
     }
+}
 
-    /// Copies the text. A text of up to 14 bytes takes no memory.
-    ///
-    /// Returns an error if the allocation fails.
-    pub fn clone(&self) -> Result<Text, AllocError>
-        ensures { IfOk result (λ t. t ≡ self.now) }
-    {
+/// Copies the text. A text of up to 14 bytes takes no memory.
+impl Clone for Text {
+    ghost is_clone = { λ t u. u ≡ t };
+
+    fn clone(&self) -> Result<Text, AllocError> {
         match &self.node {
             Node::Short(len, bytes) => Ok(Text {
                 node: Node::Short(*len, *bytes),
@@ -115,6 +116,22 @@ impl Text {
                 String::from_str(self.alloc, text.as_str())?,
             ),
         }
+    }
+}
+
+/// Writes the text.
+impl Display for Text {
+    ghost output = { λ t. Some t };
+
+    fn fmt<W: Write>(&self, f: &mut Formatter<W>) -> fmt::Result {
+        f.write_str(self.as_str())
+    }
+}
+
+/// Writes the text in quotes.
+impl Debug for Text {
+    fn fmt<W: Write>(&self, f: &mut Formatter<W>) -> fmt::Result {
+        write!(f, "{:?}", self.as_str())
     }
 }
 

@@ -1,5 +1,5 @@
-use Rattle.std.proofs.Common.{◌≡◌, ◌≤◌, ◌++◌, encode_utf8_all, string_bytes}
-use Rattle.std.specs.Char.Iter.{escape_byte_rest, escape_byte_end}
+use Rattle.std.proofs.Common.{◌≡◌, ◌++◌, encode_utf8_all, string_bytes}
+use Rattle.std.specs.Char.Iter.{escape_byte_rest}
 use Rattle.tok_leaves.specs.Quoting.{escaped_byte}
 use Rattle.tok_leaves.proofs.literal.push_escaped_byte.Given as goal
 

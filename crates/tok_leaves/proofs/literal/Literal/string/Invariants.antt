@@ -8,4 +8,6 @@ use Rattle.tok_leaves.proofs.literal.Literal.string.Given as goal
 
 abbrev pub invariant-loop-c : goal.invariant-loop-c
 invariant-loop-c l =
-    IsUtf8 (chars_rest l.c-iterator) × (string_bytes l.out ++ flat_map escaped (chars (chars_rest l.c-iterator)) ≡ codes "\"" ++ flat_map escaped (chars l.fn.text))
+    IsUtf8 (chars_rest l.c-iterator)
+    × (string_bytes l.out ++ flat_map escaped (chars (chars_rest l.c-iterator)) ≡ codes "\""
+    ++ flat_map escaped (chars l.fn.text))

@@ -5,10 +5,13 @@ use Rattle.tok_leaves.specs.Private.Kept.{IsKept, bytes_of}
 use Rattle.tok_leaves.proofs.text.Text.as_str.Goals as goal
 
 pub unreachable-requires : goal.unreachable-requires
-unreachable-requires c = c.in-Err.ensures.cases.0 (IsUtf8-from_is_utf8 _ (subst IsKept c.in-Short.is c.self.invariant).1)
+unreachable-requires c =
+    c.in-Err.ensures.cases.0
+    (IsUtf8-from_is_utf8 _ (subst IsKept c.in-Short.is c.self.invariant).1)
 
 pub returns-in-Ok : goal.returns-in-Ok
 returns-in-Ok c = c.in-Ok.ensures.cases.0 ∙ sym (ap bytes_of c.in-Short.is) ∙ c.self.view_is
 
 pub returns-in-Long : goal.returns-in-Long
-returns-in-Long c = c.as_str.ensures.value ∙ ap string_bytes c.deref.ensures ∙ sym (ap bytes_of c.in-Long.is) ∙ c.self.view_is
+returns-in-Long c = c.as_str.ensures.value ∙ ap string_bytes c.deref.ensures
+    ∙ sym (ap bytes_of c.in-Long.is) ∙ c.self.view_is
