@@ -1,6 +1,8 @@
 -- Clear forests, one tree at a time.
-use Rattle.std.proofs.Common.{◌≡◌, ◌∙◌, sym, ap, refl, ◌-◌, ◌≤◌, Bool, true, false, not, ◌&&◌, List, [], ◌∷◌, length, get_or, arith}
-use Rattle.tok_core.specs.Clear.{clear, tree_clear, ends_joint, is_invisible_group, is_joint_apostrophe, starts_invisible}
+use Rattle.std.proofs.Common.{◌≡◌, ◌∙◌, sym, ap, refl, ◌-◌, ◌≤◌, Bool, true, false, not, ◌&&◌}
+use Rattle.std.proofs.Common.{List, [], ◌∷◌, length, get_or, arith}
+use Rattle.tok_core.specs.Clear.{clear, tree_clear, ends_joint, is_invisible_group}
+use Rattle.tok_core.specs.Clear.{is_joint_apostrophe, starts_invisible}
 use Rattle.tok_core.specs.Forest.{Tree, Forest, tree}
 use Rattle.tok_core.specs.declared.stream.TokenTree.{TokenTree}
 use Rattle.tok_core.specs.Seen.{tree_of, trees_of}
@@ -13,30 +15,44 @@ and_assoc : (a b c : Bool) → (a && b && c) ≡ (a && (b && c))
 and_assoc true b c = refl
 and_assoc false b c = refl
 
-clear-tree : (t : Tree) (f : Forest) → clear (tree t f) ≡ (tree_clear t && clear_after (is_joint_apostrophe t) f)
-clear-tree t f = and_assoc (tree_clear t) (not (is_joint_apostrophe t && starts_invisible f)) (clear f)
+clear_tree : (t : Tree) (f : Forest) → clear (tree t f)
+    ≡ (tree_clear t && clear_after (is_joint_apostrophe t) f)
+clear_tree t f = and_assoc (tree_clear t) (not (is_joint_apostrophe t && starts_invisible f))
+    (clear f)
 
-pub clear-edge : (joint : Bool) (t : Tree) (f : Forest) → (joint && is_invisible_group t) ≡ true → clear_after joint (tree t f) ≡ false
-clear-edge joint t f e = ap (λ b. not b && clear (tree t f)) e
+pub clear_edge : (joint : Bool) (t : Tree) (f : Forest) → (joint && is_invisible_group t)
+    ≡ true → clear_after joint (tree t f) ≡ false
+clear_edge joint t f e = ap (λ b. not b && clear (tree t f)) e
 
-pub clear-torn : (joint : Bool) (t : Tree) (f : Forest) → tree_clear t ≡ false → clear_after joint (tree t f) ≡ false
-clear-torn joint t f e =
-    ap (λ b. not (joint && is_invisible_group t) && b) (clear-tree t f ∙ ap (λ b. b && clear_after (is_joint_apostrophe t) f) e) ∙ none (not (joint && is_invisible_group t)) where
+pub clear_torn : (joint : Bool) (t : Tree) (f : Forest) → tree_clear t ≡ false →
+    clear_after joint (tree t f) ≡ false
+clear_torn joint t f e =
+    ap (λ b. not (joint && is_invisible_group t) && b)
+    (clear_tree t f ∙ ap (λ b. b && clear_after (is_joint_apostrophe t) f) e)
+    ∙ none (not (joint && is_invisible_group t)) where
       none : (b : Bool) → (b && false) ≡ false
       none true = refl
       none false = refl
 
-pub clear-later : (joint : Bool) (t : Tree) (f : Forest) → (joint && is_invisible_group t) ≡ false → tree_clear t ≡ true → clear_after (is_joint_apostrophe t) f ≡ clear_after joint (tree t f)
-clear-later joint t f e h =
-    sym (ap (λ b. not b && clear (tree t f)) e ∙ clear-tree t f ∙ ap (λ b. b && clear_after (is_joint_apostrophe t) f) h)
+pub clear_later : (joint : Bool) (t : Tree) (f : Forest) → (joint && is_invisible_group t)
+    ≡ false → tree_clear t ≡ true → clear_after (is_joint_apostrophe t) f
+    ≡ clear_after joint (tree t f)
+clear_later joint t f e h =
+    sym (ap (λ b. not b && clear (tree t f)) e ∙ clear_tree t f
+    ∙ ap (λ b. b && clear_after (is_joint_apostrophe t) f) h)
 
 -- the last tree decides, whatever stands before the first
-ends_joint-more : (before : Bool) (t u : TokenTree) (ts : List TokenTree) → ends_joint before (trees_of (t ∷ ts)) ≡ is_joint_apostrophe (tree_of (get_or (t ∷ ts) (length ts) u))
-ends_joint-more before t u [] = refl
-ends_joint-more before t u (v ∷ ts) = ends_joint-more (is_joint_apostrophe (tree_of t)) v u ts
+ends_joint_more : (before : Bool) (t u : TokenTree) (ts : List TokenTree) →
+    ends_joint before (trees_of (t ∷ ts)) ≡ is_joint_apostrophe
+    (tree_of (get_or (t ∷ ts) (length ts) u))
+ends_joint_more before t u [] = refl
+ends_joint_more before t u (v ∷ ts) = ends_joint_more (is_joint_apostrophe (tree_of t)) v u ts
 
-pub ends_joint-last : (ts : List TokenTree) (t : TokenTree) → 1 ≤ length ts → t ≡ get_or ts (length ts - 1) t → ends_joint false (trees_of ts) ≡ is_joint_apostrophe (tree_of t)
-ends_joint-last [] t h is = absurd (omega arith)
-ends_joint-last (u ∷ ts) t h is =
+pub ends_joint_last : (ts : List TokenTree) (t : TokenTree) → 1 ≤ length ts →
+    t ≡ get_or ts (length ts - 1) t → ends_joint false (trees_of ts) ≡ is_joint_apostrophe
+    (tree_of t)
+ends_joint_last [] t h is = absurd (omega arith)
+ends_joint_last (u ∷ ts) t h is =
     let at : length (u ∷ ts) - 1 ≡ length ts = omega arith in
-    ends_joint-more false u t ts ∙ ap (λ i. is_joint_apostrophe (tree_of (get_or (u ∷ ts) i t))) (sym at) ∙ ap (λ v. is_joint_apostrophe (tree_of v)) (sym is)
+    ends_joint_more false u t ts ∙ ap (λ i. is_joint_apostrophe (tree_of (get_or (u ∷ ts) i t)))
+    (sym at) ∙ ap (λ v. is_joint_apostrophe (tree_of v)) (sym is)

@@ -1,34 +1,43 @@
 -- Forests that are put after others, from their first tree on.
-use Rattle.std.proofs.Common.{◌≡◌, ◌∙◌, sym, ap, refl, ℕ, ◌+◌, ◌<◌, List, [], ◌∷◌, ◌++◌, length, take, drop, get_or, Ok, Err}
+use Rattle.std.proofs.Common.{◌≡◌, ◌∙◌, sym, ap, refl, ℕ, ◌+◌, ◌<◌, List, [], ◌∷◌, ◌++◌, length}
+use Rattle.std.proofs.Common.{take, drop, get_or, Ok, Err}
 use Rattle.std.proofs.lemmas.List.{take-append-drop, take_more}
 use Rattle.std.specs.Prelude.{Result, OnErr}
 use Rattle.tok_core.specs.declared.stream.TokenTree.{TokenTree}
 use Rattle.tok_core.specs.Forest.{AppendsFront, Tree, Forest, no_trees, tree, concat}
 use Rattle.tok_core.specs.Seen.{tree_of, trees_of}
 use Rattle.tok_core.proofs.Facts.{concat-none, joined_assoc}
-use Rattle.tok_core.proofs.Trees.{trees_of-push, trees_of-drop}
+use Rattle.tok_core.proofs.Trees.{trees_of_push, trees_of_drop}
 
 -- a refusal that left all as it was
-pub none_appended : {T E : Type 0} (r : Result T E) (old : Forest) (t : Tree) (rest : Forest) (new : Forest) → OnErr r (new ≡ old) → OnErr r (AppendsFront old (tree t rest) new)
+pub none_appended : {T E : Type 0} (r : Result T E) (old : Forest) (t : Tree) (rest : Forest)
+    (new : Forest) → OnErr r (new ≡ old) → OnErr r (AppendsFront old (tree t rest) new)
 none_appended (Ok x) old t rest new e = e
 none_appended (Err x) old t rest new e = (no_trees, t, rest, refl, e ∙ sym (concat-none old))
 
-trees_of-append : (ts us : List TokenTree) → trees_of (ts ++ us) ≡ concat (trees_of ts) (trees_of us)
-trees_of-append [] us = refl
-trees_of-append (t ∷ ts) us = ap (tree (tree_of t)) (trees_of-append ts us)
+trees_of_append : (ts us : List TokenTree) → trees_of (ts ++ us) ≡ concat (trees_of ts)
+    (trees_of us)
+trees_of_append [] us = refl
+trees_of_append (t ∷ ts) us = ap (tree (tree_of t)) (trees_of_append ts us)
 
 -- a loop over the trees, one tree further
-pub trees_of-take : (old : Forest) (ts : List TokenTree) (i : ℕ) (t : TokenTree) → i < length ts → t ≡ get_or ts i t → concat (concat old (trees_of (take i ts))) (tree (tree_of t) no_trees) ≡ concat old (trees_of (take (i + 1) ts))
-trees_of-take old ts i t h is =
+pub trees_of_take : (old : Forest) (ts : List TokenTree) (i : ℕ) (t : TokenTree) →
+    i < length ts → t ≡ get_or ts i t → concat (concat old (trees_of (take i ts)))
+    (tree (tree_of t) no_trees) ≡ concat old (trees_of (take (i + 1) ts))
+trees_of_take old ts i t h is =
     joined_assoc old (trees_of (take i ts)) (tree (tree_of t) no_trees)
-    ∙ ap (concat old) (sym (trees_of-push (take i ts) t) ∙ ap (λ u. trees_of (take i ts ++ u ∷ [])) is ∙ sym (ap trees_of (take_more ts i t h)))
+    ∙ ap (concat old) (sym (trees_of_push (take i ts) t)
+    ∙ ap (λ u. trees_of (take i ts ++ u ∷ [])) is ∙ sym (ap trees_of (take_more ts i t h)))
 
 -- and stopped there
-pub some_appended : (old new : Forest) (ts : List TokenTree) (i : ℕ) (t : TokenTree) → i < length ts → t ≡ get_or ts i t → new ≡ concat old (trees_of (take i ts)) → AppendsFront old (trees_of ts) new
+pub some_appended : (old new : Forest) (ts : List TokenTree) (i : ℕ) (t : TokenTree) →
+    i < length ts → t ≡ get_or ts i t → new ≡ concat old (trees_of (take i ts)) →
+    AppendsFront old (trees_of ts) new
 some_appended old new ts i t h is e = (
   trees_of (take i ts),
   tree_of t,
   trees_of (drop (i + 1) ts),
-  ap trees_of (sym (take-append-drop i ts)) ∙ trees_of-append (take i ts) (drop i ts) ∙ ap (concat (trees_of (take i ts))) (trees_of-drop ts i t h is),
+  ap trees_of (sym (take-append-drop i ts)) ∙ trees_of_append (take i ts) (drop i ts)
+      ∙ ap (concat (trees_of (take i ts))) (trees_of_drop ts i t h is),
   e,
 )

@@ -32,9 +32,9 @@ abbrev pub place_of : SpanCode → Origin
 place_of None = CallSite
 place_of (Some c) = Source c.0 c.1.0 c.1.1
 
-pub origin-back : (p : Origin) → place_of (origin_code p) ≡ p
-origin-back CallSite = refl
-origin-back (Source n a b) = refl
+pub origin_back : (p : Origin) → place_of (origin_code p) ≡ p
+origin_back CallSite = refl
+origin_back (Source n a b) = refl
 
 abbrev pub span_code : Span → SpanCode
 span_code s = origin_code s.origin
@@ -42,8 +42,8 @@ span_code s = origin_code s.origin
 abbrev pub span_of : SpanCode → Span
 span_of c = record { origin = place_of c }
 
-pub span-back : (s : Span) → span_of (span_code s) ≡ s
-span-back s = ap (λ p. record { origin = p }) (origin-back s.origin)
+pub span_back : (s : Span) → span_of (span_code s) ≡ s
+span_back s = ap (λ p. record { origin = p }) (origin_back s.origin)
 
 abbrev pub spacing_code : Spacing → Bool
 spacing_code Alone = false
@@ -53,9 +53,9 @@ abbrev pub spacing_of : Bool → Spacing
 spacing_of false = Alone
 spacing_of true = Joint
 
-pub spacing-back : (s : Spacing) → spacing_of (spacing_code s) ≡ s
-spacing-back Alone = refl
-spacing-back Joint = refl
+pub spacing_back : (s : Spacing) → spacing_of (spacing_code s) ≡ s
+spacing_back Alone = refl
+spacing_back Joint = refl
 
 abbrev pub delimiter_code : Delimiter → ℕ
 delimiter_code delimiter.Parenthesis = 0
@@ -69,11 +69,11 @@ delimiter_of (suc zero) = delimiter.Brace
 delimiter_of (suc (suc zero)) = delimiter.Bracket
 delimiter_of (suc (suc (suc n))) = delimiter.None
 
-pub delimiter-back : (d : Delimiter) → delimiter_of (delimiter_code d) ≡ d
-delimiter-back delimiter.Parenthesis = refl
-delimiter-back delimiter.Brace = refl
-delimiter-back delimiter.Bracket = refl
-delimiter-back delimiter.None = refl
+pub delimiter_back : (d : Delimiter) → delimiter_of (delimiter_code d) ≡ d
+delimiter_back delimiter.Parenthesis = refl
+delimiter_back delimiter.Brace = refl
+delimiter_back delimiter.Bracket = refl
+delimiter_back delimiter.None = refl
 
 abbrev pub leaf_code : Leaf → LeafCode
 leaf_code (ident text span) = inl (text, span_code span)
@@ -85,12 +85,12 @@ leaf_of (inl c) = ident c.0 (span_of c.1)
 leaf_of (inr (inl c)) = punct c.0 (spacing_of c.1.0) (span_of c.1.1)
 leaf_of (inr (inr c)) = literal c.0 (span_of c.1)
 
-pub leaf-back : (l : Leaf) → leaf_of (leaf_code l) ≡ l
-leaf-back (ident text span) = ap (ident text) (span-back span)
-leaf-back (punct c spacing span) =
-    ap (λ s. punct c s (span_of (span_code span))) (spacing-back spacing)
-    ∙ ap (punct c spacing) (span-back span)
-leaf-back (literal text span) = ap (literal text) (span-back span)
+pub leaf_back : (l : Leaf) → leaf_of (leaf_code l) ≡ l
+leaf_back (ident text span) = ap (ident text) (span_back span)
+leaf_back (punct c spacing span) =
+    ap (λ s. punct c s (span_of (span_code span))) (spacing_back spacing)
+    ∙ ap (punct c spacing) (span_back span)
+leaf_back (literal text span) = ap (literal text) (span_back span)
 
 abbrev pub encode : Forest → List ItemCode
 encode no_trees = inl tt ∷ []
@@ -117,26 +117,26 @@ top (f ∷ s) = f
 abbrev pub decode : List ItemCode → Forest
 decode xs = top (stack_items xs [])
 
-pub stack_items-append : (xs ys : List ItemCode) (s : List Forest) →
+pub stack_items_append : (xs ys : List ItemCode) (s : List Forest) →
     stack_items (xs ++ ys) s ≡ stack_items xs (stack_items ys s)
-stack_items-append [] ys s = refl
-stack_items-append (x ∷ xs) ys s = ap (stack_item x) (stack_items-append xs ys s)
+stack_items_append [] ys s = refl
+stack_items_append (x ∷ xs) ys s = ap (stack_item x) (stack_items_append xs ys s)
 
-pub stack_items-encode : (f : Forest) (s : List Forest) → stack_items (encode f) s ≡ f ∷ s
-stack_items-encode no_trees s = refl
-stack_items-encode (tree (leaf l) f) s =
-    ap (stack_item (inr (inl (leaf_code l)))) (stack_items-encode f s)
-    ∙ ap (λ k. tree (leaf k) f ∷ s) (leaf-back l)
-stack_items-encode (tree (group d c p) f) s =
+pub stack_items_encode : (f : Forest) (s : List Forest) → stack_items (encode f) s ≡ f ∷ s
+stack_items_encode no_trees s = refl
+stack_items_encode (tree (leaf l) f) s =
+    ap (stack_item (inr (inl (leaf_code l)))) (stack_items_encode f s)
+    ∙ ap (λ k. tree (leaf k) f ∷ s) (leaf_back l)
+stack_items_encode (tree (group d c p) f) s =
     ap (stack_item (inr (inr (delimiter_code d, span_code p))))
-    (stack_items-append (encode c) (encode f) s
-    ∙ ap (stack_items (encode c)) (stack_items-encode f s)
-    ∙ stack_items-encode c (f ∷ s))
-    ∙ ap (λ e. tree (group e c (span_of (span_code p))) f ∷ s) (delimiter-back d)
-    ∙ ap (λ q. tree (group d c q) f ∷ s) (span-back p)
+    (stack_items_append (encode c) (encode f) s
+    ∙ ap (stack_items (encode c)) (stack_items_encode f s)
+    ∙ stack_items_encode c (f ∷ s))
+    ∙ ap (λ e. tree (group e c (span_of (span_code p))) f ∷ s) (delimiter_back d)
+    ∙ ap (λ q. tree (group d c q) f ∷ s) (span_back p)
 
-pub decode-encode : (f : Forest) → decode (encode f) ≡ f
-decode-encode f = ap top (stack_items-encode f [])
+pub decode_encode : (f : Forest) → decode (encode f) ≡ f
+decode_encode f = ap top (stack_items_encode f [])
 
 abbrev pub coded_span : Coded SpanCode
 coded_span = coded_option (coded× coded_ℕ (coded× coded_ℕ coded_ℕ))
@@ -149,4 +149,4 @@ forest_code =
     (coded⊎ (coded⊎ (coded× (coded_list coded_ℕ) coded_span)
     (coded⊎ (coded× coded_ℕ (coded× coded_bool coded_span))
     (coded× (coded_list coded_ℕ) coded_span)))
-    (coded× coded_ℕ coded_span)))) encode decode decode-encode
+    (coded× coded_ℕ coded_span)))) encode decode decode_encode

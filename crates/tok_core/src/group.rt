@@ -1,5 +1,5 @@
 //! Groups.
-ghost use Rattle.std.specs.Prelude.{◌≡◌, IfOk};
+ghost use Rattle.std.specs.Prelude.{◌≡◌};
 ghost use Rattle.tok_core.specs.Forest.{tree_delimiter, tree_inside, group, tree_span};
 ghost use Rattle.tok_core.specs.Seen.{group_of};
 ghost use Rattle.tok_leaves.specs.Spans.{opening_span, closing_span, whole_span};
@@ -81,14 +81,14 @@ impl Group {
     {
         self.bounds = Bounds::new(self.delimiter(), span);
     }
+}
 
-    /// Copies the group, spans included.
-    ///
-    /// Returns an error if an allocation fails.
+/// Copies the group, spans included.
+impl Clone for Group {
+    ghost is_clone = { λ g h. h ≡ g };
+
     #[cycle(clone)]
-    pub fn clone(&self) -> Result<Group, AllocError>
-        ensures { IfOk result (λ g. g ≡ self.now) }
-    {
+    fn clone(&self) -> Result<Group, AllocError> {
         let stream = self.stream.clone()?;
         Ok(Group {
             bounds: self.bounds,

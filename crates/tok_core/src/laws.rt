@@ -1,13 +1,16 @@
 //! Laws of the definitions that contracts cite, and of comparing and hashing. Each is the contract
 //! of a function that does nothing.
-ghost use Rattle.tok_leaves.specs.Laws.{EqualBy, HashedBy};
+ghost use Rattle.tok_leaves.specs.Laws.{ClonesKeep, EqualAsValues, EqualBy, HashedBy};
 ghost use Rattle.tok_core.specs.Laws.{stream_shown, tree_shown};
 ghost use Rattle.tok_core.specs.Lexical.Laws.{IsReadOnce, IsRefusedOnce, IsNeverBoth, IsBegunOnce};
 ghost use Rattle.tok_core.specs.Spanless.{forest_input, tree_input};
 
+use crate::group::Group;
+use crate::lexer::{LexError, LexFault};
+use crate::stream::{TokenStream, TokenTree};
 use crate::tt::{TokenStreamHelper, TokenTreeHelper};
 use std::hash::Hash;
-pub use tok_leaves::laws::idents_by_text;
+pub use tok_leaves::laws::{clones_keep_all, idents_by_text, spans_are_compared_whole};
 
 /// A text reads as at most one forest.
 pub fn forest_once()
@@ -40,4 +43,19 @@ pub fn streams_without_spans<'a>()
 pub fn trees_without_spans<'a>()
     ensures equal { EqualBy tree_shown ⟦<TokenTreeHelper<'a> as PartialEq>⟧.eq }
     ensures hash { HashedBy tree_shown tree_input ⟦<TokenTreeHelper<'a> as Hash>⟧.hash_input }
+{}
+
+/// The lexer's errors are equal if and only if they are the same.
+pub fn errors_are_compared_whole()
+    ensures errors { EqualAsValues ⟦<LexError as PartialEq>⟧.eq }
+    ensures faults { EqualAsValues ⟦<LexFault as PartialEq>⟧.eq }
+{}
+
+/// A clone is the stream, tree, group or error that was cloned, spans included.
+pub fn clones_keep_trees()
+    ensures streams { ClonesKeep ⟦<TokenStream as Clone>⟧.is_clone }
+    ensures trees { ClonesKeep ⟦<TokenTree as Clone>⟧.is_clone }
+    ensures groups { ClonesKeep ⟦<Group as Clone>⟧.is_clone }
+    ensures errors { ClonesKeep ⟦<LexError as Clone>⟧.is_clone }
+    ensures faults { ClonesKeep ⟦<LexFault as Clone>⟧.is_clone }
 {}

@@ -1,6 +1,7 @@
 //! The lexer: from a text to trees, or to what a builder makes of them.
-ghost use Rattle.std.specs.Prelude.{◌≡◌, [], IfOk, IfErr, ◌+◌, ◌<◌, ◌^◌, length};
+ghost use Rattle.std.specs.Prelude.{◌≡◌, [], true, IfOk, IfErr, ◌+◌, ◌<◌, ◌^◌, length};
 ghost use Rattle.std.specs.Str.{chars};
+ghost use Rattle.tok_lexical.specs.Contents.{has_return};
 ghost use Rattle.tok_lexical.specs.Starts.{rules_of};
 ghost use Rattle.tok_core.specs.Building.{nothing};
 ghost use Rattle.tok_core.specs.Lexical.Errors.{OnRefused};
@@ -23,7 +24,20 @@ use nest::Nest;
 use std::alloc::Global;
 use tok_lexical::source::past_start;
 use tok_lexical::text::front_of;
-use tok_lexical::{Edition, Reason, Rules, first_rule};
+use tok_lexical::{Edition, Reason, Rules, first_rule, has_return};
+
+// Returns `false` only if the text has no U+000D. It is searched if the rules ask pieces for one.
+//
+// A string of a source may have none that no line feed follows, and few sources have any: one search
+// of the whole text spares a search of each string.
+fn may_have_return(rules: Rules, text: &str) -> bool
+    ensures { has_return (chars text.now) ≡ true → result ≡ true }
+{
+    match rules {
+        Rules::Source(_) => has_return(text),
+        _ => true,
+    }
+}
 
 /// Reads a text with `rules` into `builder`. Callers that want trees call `lex`.
 ///
@@ -57,13 +71,14 @@ pub fn read<B: Build + Drop>(
         (λ fault. OnRefused fault
         (IsRefusedFrom start (rules_of rules) source (chars text.now))) }
 {
+    let returns = may_have_return(rules, text);
     let mut nest = Nest::new(alloc, source, builder);
     let mut rest = text;
     let mut at = start;
     while let Some((rule, after)) = first_rule(rules, rest) {
         let piece = front_of(rest, after);
         let end = at + rule.width(piece);
-        match nest.take_in(rule, at, end, piece, after) {
+        match nest.take_in(rule, at, end, piece, after, returns) {
             Ok(()) => {}
             Err(halt) => return Err(halt.fault(source, at)),
         }

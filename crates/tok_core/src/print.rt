@@ -1,12 +1,13 @@
 //! The text of a stream.
 ghost use Rattle.std.specs.Prelude.{◌≡◌, Some};
 ghost use Rattle.std.specs.Fmt.{WritesOnOk};
-ghost use Rattle.tok_core.specs.Seen.{tree_of};
+ghost use Rattle.tok_core.specs.Seen.{group_of, tree_of};
 ghost use Rattle.tok_core.specs.Text as spec;
 
+use crate::group::Group;
 use crate::stream::{TokenStream, TokenTree};
 use std::fmt;
-use std::fmt::{Formatter, Write};
+use std::fmt::{Debug, Formatter, Write};
 use tok_leaves::Spacing;
 
 impl fmt::Display for TokenStream {
@@ -14,6 +15,38 @@ impl fmt::Display for TokenStream {
 
     fn fmt<W: Write>(&self, f: &mut Formatter<W>) -> fmt::Result {
         write_stream(f, self)
+    }
+}
+
+impl fmt::Display for TokenTree {
+    ghost output = { λ t. Some (spec.tree_text (tree_of t)) };
+
+    fn fmt<W: Write>(&self, f: &mut Formatter<W>) -> fmt::Result {
+        write_tree(f, self)
+    }
+}
+
+impl fmt::Display for Group {
+    ghost output = { λ g. Some (spec.tree_text (group_of g)) };
+
+    fn fmt<W: Write>(&self, f: &mut Formatter<W>) -> fmt::Result {
+        f.write_str(self.delimiter().opening())?;
+        write_stream(f, self.stream())?;
+        f.write_str(self.delimiter().closing())
+    }
+}
+
+/// Writes the text, as `TokenStream(a b)`.
+impl Debug for TokenStream {
+    fn fmt<W: Write>(&self, f: &mut Formatter<W>) -> fmt::Result {
+        write!(f, "TokenStream({self})")
+    }
+}
+
+/// Writes the text and the span, as `Group((a b), Span { .. })`.
+impl Debug for Group {
+    fn fmt<W: Write>(&self, f: &mut Formatter<W>) -> fmt::Result {
+        write!(f, "Group({self}, {:?})", self.span())
     }
 }
 

@@ -1,15 +1,19 @@
 //! Streams of trees.
-ghost use Rattle.std.specs.Prelude.{◌≡◌, ◌+◌, not, min, IfOk, IfErr, OnOk, OnErr};
+ghost use Rattle.std.specs.Prelude.{◌≡◌, ◌+◌, not, min, IfErr, OnOk, OnErr};
+ghost use Rattle.std.specs.Slice.Iter.{iter_rest};
+ghost use Rattle.std.specs.Vec.Iter.{into_iter_items};
 ghost use Rattle.tok_core.specs.Filled.{has_trees};
-ghost use Rattle.tok_core.specs.Forest.{concat, group, no_trees, tree, tree_span, with_span};
+ghost use Rattle.tok_core.specs.Forest.{concat, group, leaf, no_trees, tree, tree_span, with_span};
 ghost use Rattle.tok_core.specs.Laws.{IsTheOnly};
 ghost use Rattle.tok_core.specs.Private.Excess.{excess};
-ghost use Rattle.tok_core.specs.Seen.{tree_of, trees_of};
+ghost use Rattle.tok_core.specs.Seen.{group_of, tree_of, trees_of};
+ghost use Rattle.tok_leaves.specs.Leaves.{ident_of, literal_of, punct_of};
 ghost use Rattle.tok_core.specs.Weight.{weight};
 
 use crate::group::Group;
 use std::alloc::{AllocError, Global};
 use std::marker::Model;
+use std::{slice, vec};
 use tok_leaves::{Ident, Literal, Punct, Span};
 use tok_lexical::Delimiter;
 
@@ -32,7 +36,7 @@ pub struct TokenStream {
 
 /// A leaf or a group.
 #[cycle(trees)]
-#[derive(Drop)]
+#[derive(Drop, Debug)]
 pub enum TokenTree {
     Group(Group),
     Ident(Ident),
@@ -159,14 +163,14 @@ impl TokenStream {
         }
         sum
     }
+}
 
-    /// Copies the stream, spans included.
-    ///
-    /// Returns an error if an allocation fails.
+/// Copies the stream, spans included.
+impl Clone for TokenStream {
+    ghost is_clone = { λ s t. t ≡ s };
+
     #[cycle(clone)]
-    pub fn clone(&self) -> Result<TokenStream, AllocError>
-        ensures { IfOk result (λ s. s ≡ self.now) }
-    {
+    fn clone(&self) -> Result<TokenStream, AllocError> {
         let mut trees = Vec::with_capacity(self.alloc, self.trees.len())?;
         for next in &self.trees {
             trees.push(next.clone()?)?;
@@ -202,19 +206,77 @@ impl TokenTree {
             TokenTree::Literal(literal) => literal.set_span(span),
         }
     }
+}
 
-    /// Copies the tree, spans included.
-    ///
-    /// Returns an error if an allocation fails.
+/// Copies the tree, spans included.
+impl Clone for TokenTree {
+    ghost is_clone = { λ t u. u ≡ t };
+
     #[cycle(clone)]
-    pub fn clone(&self) -> Result<TokenTree, AllocError>
-        ensures { IfOk result (λ t. t ≡ self.now) }
-    {
+    fn clone(&self) -> Result<TokenTree, AllocError> {
         match self {
             TokenTree::Group(group) => Ok(TokenTree::Group(group.clone()?)),
             TokenTree::Ident(ident) => Ok(TokenTree::Ident(ident.clone()?)),
             TokenTree::Punct(punct) => Ok(TokenTree::Punct(*punct)),
             TokenTree::Literal(literal) => Ok(TokenTree::Literal(literal.clone()?)),
         }
+    }
+}
+
+impl From<Group> for TokenTree {
+    ghost from_gives = { λ group tree. tree_of tree ≡ group_of group };
+
+    fn from(group: Group) -> Self {
+        TokenTree::Group(group)
+    }
+}
+
+impl From<Ident> for TokenTree {
+    ghost from_gives = { λ ident tree. tree_of tree ≡ leaf (ident_of ident) };
+
+    fn from(ident: Ident) -> Self {
+        TokenTree::Ident(ident)
+    }
+}
+
+impl From<Punct> for TokenTree {
+    ghost from_gives = { λ punct tree. tree_of tree ≡ leaf (punct_of punct) };
+
+    fn from(punct: Punct) -> Self {
+        TokenTree::Punct(punct)
+    }
+}
+
+impl From<Literal> for TokenTree {
+    ghost from_gives = { λ literal tree. tree_of tree ≡ leaf (literal_of literal) };
+
+    fn from(literal: Literal) -> Self {
+        TokenTree::Literal(literal)
+    }
+}
+
+/// Yields the trees in order.
+impl IntoIterator for TokenStream {
+    type Item = TokenTree;
+
+    type IntoIter = vec::IntoIter<TokenTree>;
+
+    ghost into_iter_gives = { λ stream trees. trees_of (into_iter_items trees) ≡ stream };
+
+    fn into_iter(self) -> vec::IntoIter<TokenTree> {
+        self.into_trees().into_iter()
+    }
+}
+
+/// Yields references to the trees in order.
+impl<'a> IntoIterator for &'a TokenStream {
+    type Item = &'a TokenTree;
+
+    type IntoIter = slice::Iter<'a, TokenTree>;
+
+    ghost into_iter_gives = { λ stream trees. trees_of (iter_rest trees) ≡ stream.now };
+
+    fn into_iter(self) -> slice::Iter<'a, TokenTree> {
+        self.trees().iter()
     }
 }

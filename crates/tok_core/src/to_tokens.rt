@@ -65,6 +65,15 @@ fn alone(alloc: Global, only: TokenTree) -> Result<TokenStream, AllocError>
     Ok(tokens)
 }
 
+/// Writes what the value behind the reference writes.
+impl<T: ToTokens> ToTokens for &T {
+    ghost printed = { λ value. T.printed value.now };
+
+    fn to_tokens(&self, tokens: &mut TokenStream) -> Result<(), AllocError> {
+        (*self).to_tokens(tokens)
+    }
+}
+
 impl ToTokens for Ident {
     ghost printed = { λ i. tree (leaf (ident_of i)) no_trees };
 

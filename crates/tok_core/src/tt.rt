@@ -4,18 +4,18 @@ ghost use Rattle.std.specs.Cmp.{partial_equiv_from_equiv, on_equiv};
 ghost use Rattle.tok_core.specs.Code.{delimiter_code};
 ghost use Rattle.tok_core.specs.Seen.{tree_of};
 ghost use Rattle.tok_core.specs.Spanless.{alike, spanless, tree_alike, tree_spanless, same_delimiter, same_spacing, spacing_number, tree_input, forest_input};
-ghost use Rattle.tok_core.specs.Private.Alikes.{alike_equivalence, tree_alike_equivalence, forest_input-alike, tree_input-alike};
+ghost use Rattle.tok_core.specs.Private.Alikes.{alike_equivalence, tree_alike_equivalence, forest_input_alike, tree_input_alike};
 
 use crate::stream::{TokenStream, TokenTree};
 use std::hash::{Hash, Hasher};
 use tok_leaves::{Delimiter, Spacing};
 
 /// A tree that is compared and hashed without spans.
-#[derive(Clone, Copy)]
+#[derive(Clone, Copy, Debug)]
 pub struct TokenTreeHelper<'a>(pub &'a TokenTree);
 
 /// A stream that is compared and hashed without spans.
-#[derive(Clone, Copy)]
+#[derive(Clone, Copy, Debug)]
 pub struct TokenStreamHelper<'a>(pub &'a TokenStream);
 
 impl<'a> PartialEq for TokenTreeHelper<'a> {
@@ -40,7 +40,7 @@ impl<'a> Eq for TokenTreeHelper<'a> {
 impl<'a> Hash for TokenTreeHelper<'a> {
     ghost hash_input = { λ h. tree_input (tree_of h.0.now) };
 
-    ghost respects_eq = { λ left right e. tree_input-alike (tree_of left.0.now)
+    ghost respects_eq = { λ left right e. tree_input_alike (tree_of left.0.now)
         (tree_of right.0.now) e };
 
     fn hash<H: Hasher>(&self, state: &mut H) {
@@ -68,7 +68,7 @@ impl<'a> Eq for TokenStreamHelper<'a> {
 impl<'a> Hash for TokenStreamHelper<'a> {
     ghost hash_input = { λ h. forest_input h.0.now };
 
-    ghost respects_eq = { λ left right e. forest_input-alike left.0.now right.0.now e };
+    ghost respects_eq = { λ left right e. forest_input_alike left.0.now right.0.now e };
 
     fn hash<H: Hasher>(&self, state: &mut H) {
         hash_stream(self.0, state);

@@ -1,5 +1,6 @@
 -- White space and comments mean nothing, unless they are doc comments.
-use Rattle.std.proofs.Common.{◌≡◌, ◌∙◌, ◌+◌, ◌-◌, ◌<◌, ◌≤◌, refl, sym, ℕ, List, [], ◌∷◌, ◌++◌, ap, subst, length, length-append, arith}
+use Rattle.std.proofs.Common.{◌≡◌, ◌∙◌, ◌+◌, ◌-◌, ◌<◌, ◌≤◌, refl, sym, ℕ, List, [], ◌∷◌, ◌++◌}
+use Rattle.std.proofs.Common.{ap, subst, length, length-append, arith}
 use Rattle.std.proofs.lemmas.List.{append-nil}
 use Rattle.std.proofs.lemmas.Str.{length-le-encodes}
 use Rattle.std.specs.Borrow.{Bor}
@@ -18,18 +19,35 @@ use Rattle.tok_lexical.proofs.Lexical.Fits.{decided}
 use Rattle.tok_lexical.proofs.Lexical.Longest.{takes_one}
 use Rattle.tok_lexical.proofs.Lexical.Texts.{cut_length}
 use Rattle.std.proofs.lemmas.Bool.{false≢true, eqb-true}
-use Rattle.std.specs.Prelude.{Bool, true, false, not, ◌==◌, ◌||◌, ◌&&◌, Option, Some, None, IfSome, encode_utf8, encode_utf8_all}
+use Rattle.std.specs.Prelude.{Bool, true, false, not, ◌==◌, ◌||◌, ◌&&◌, Option, Some, None}
+use Rattle.std.specs.Prelude.{IfSome, encode_utf8, encode_utf8_all}
 use Rattle.std.specs.List.{list_all}
 use Rattle.tok_core.specs.Private.Built.{IsBlank}
-use Rattle.tok_lexical.specs.Comments.{is_line_doc, is_block_doc, is_not_line_feed, opens_line_doc, opens_block_doc, Closes, plain}
+use Rattle.tok_lexical.specs.Comments.{is_line_doc, is_block_doc, is_not_line_feed}
+use Rattle.tok_lexical.specs.Comments.{opens_line_doc, opens_block_doc, Closes, plain}
 use Rattle.tok_lexical.specs.Refusals.{refusal}
 use Rattle.tok_core.specs.Lexical.Meaning.{items}
 use Rattle.tok_lexical.specs.Widths.{width}
 use Rattle.tok_lexical.specs.Pieces.{IsLongestPrefix}
 use Rattle.tok_lexical.specs.Rules.{Spells}
 use Rattle.tok_lexical.specs.declared.rule.Rule.{Rule}
-use Rattle.tok_lexical.specs.declared.rule.Rule.TheVariants.{ByteOrderMark, Whitespace, LineComment, BlockComment, OpenComment, Opening, Closing, QuotedString, BadString, ByteChar, BadByteChar, StringPrefix, EscapedChar, BadEscapedChar, PlainChar, Lifetime, Apostrophe, MarkedApostrophe, Based, BadBased, Decimal, RawIdentifier, Identifier, Punct, MarkedPunct, Other, SourceString, RawString, BadPrefixed, SourceIdentifier, SourceLifetime, SourcePunct, Float, PointedDecimal, SourceDecimal, SourceLineComment, SourceBlockComment}
-use Rattle.tok_lexical.proofs.Lexical.Longest.{list_all-push}
+use Rattle.tok_lexical.specs.declared.rule.Rule.TheVariants.{ByteOrderMark, Whitespace}
+use Rattle.tok_lexical.specs.declared.rule.Rule.TheVariants.{LineComment, BlockComment}
+use Rattle.tok_lexical.specs.declared.rule.Rule.TheVariants.{OpenComment, Opening, Closing}
+use Rattle.tok_lexical.specs.declared.rule.Rule.TheVariants.{QuotedString, BadString, ByteChar}
+use Rattle.tok_lexical.specs.declared.rule.Rule.TheVariants.{BadByteChar, StringPrefix}
+use Rattle.tok_lexical.specs.declared.rule.Rule.TheVariants.{EscapedChar, BadEscapedChar}
+use Rattle.tok_lexical.specs.declared.rule.Rule.TheVariants.{PlainChar, Lifetime, Apostrophe}
+use Rattle.tok_lexical.specs.declared.rule.Rule.TheVariants.{MarkedApostrophe, Based, BadBased}
+use Rattle.tok_lexical.specs.declared.rule.Rule.TheVariants.{Decimal, RawIdentifier, Identifier}
+use Rattle.tok_lexical.specs.declared.rule.Rule.TheVariants.{Punct, MarkedPunct, Other}
+use Rattle.tok_lexical.specs.declared.rule.Rule.TheVariants.{SourceString, RawString}
+use Rattle.tok_lexical.specs.declared.rule.Rule.TheVariants.{BadPrefixed, SourceIdentifier}
+use Rattle.tok_lexical.specs.declared.rule.Rule.TheVariants.{SourceLifetime, SourcePunct, Float}
+use Rattle.tok_lexical.specs.declared.rule.Rule.TheVariants.{PointedDecimal, SourceDecimal}
+use Rattle.tok_lexical.specs.declared.rule.Rule.TheVariants.{SourceLineComment}
+use Rattle.tok_lexical.specs.declared.rule.Rule.TheVariants.{SourceBlockComment}
+use Rattle.tok_lexical.proofs.Lexical.Longest.{list_all_push}
 
 -- white space and comments, doc comments aside
 abbrev is_blank : Rule → List ℕ → Bool
@@ -45,42 +63,56 @@ and_true true = refl
 and_true false = refl
 
 -- what follows a line comment begins with a line feed
-ends_line : (text body after : List ℕ) (c : ℕ) → IsLongestPrefix (Spells LineComment) text (47 ∷ 47 ∷ body) (c ∷ after) → list_all is_not_line_feed body ≡ true → c ≡ 10
+ends_line : (text body after : List ℕ) (c : ℕ) → IsLongestPrefix (Spells LineComment) text
+    (47 ∷ 47 ∷ body) (c ∷ after) → list_all is_not_line_feed body ≡ true → c ≡ 10
 ends_line text body after c t a = go (c == 10) refl
   where
     go : (b : Bool) → (c == 10) ≡ b → c ≡ 10
     go true e = eqb-true c 10 e
     go false e =
-        let longer : list_all is_not_line_feed (body ++ c ∷ []) ≡ true = list_all-push is_not_line_feed body c a (ap not e) in
+        let longer : list_all is_not_line_feed (body ++ c ∷ []) ≡ true =
+        list_all_push is_not_line_feed body c a (ap not e) in
         let none : c ∷ [] ≡ [] = t.longest (c ∷ []) after refl (body ++ c ∷ [], refl, longer) in
         absurd (cc)
 
-line_doc : (body after : List ℕ) → ((c : ℕ) (rest : List ℕ) → after ≡ c ∷ rest → c ≡ 10) → is_line_doc (47 ∷ 47 ∷ (body ++ after)) ≡ is_line_doc (47 ∷ 47 ∷ body)
+line_doc : (body after : List ℕ) → ((c : ℕ) (rest : List ℕ) → after ≡ c ∷ rest → c ≡ 10) →
+    is_line_doc (47 ∷ 47 ∷ (body ++ after)) ≡ is_line_doc (47 ∷ 47 ∷ body)
 line_doc [] [] feed = refl
 line_doc [] (x ∷ []) feed = rw (feed x [] refl) refl
 line_doc [] (x ∷ y ∷ rest) feed = rw (feed x (y ∷ rest) refl) refl
 line_doc (c ∷ []) [] feed = refl
-line_doc (c ∷ []) (x ∷ rest) feed = rw (feed x rest refl) (ap (λ b. (c == 33) || b) (and_true (c == 47)))
+line_doc (c ∷ []) (x ∷ rest) feed =
+    rw (feed x rest refl) (ap (λ b. (c == 33) || b) (and_true (c == 47)))
 line_doc (c ∷ d ∷ body) after feed = refl
 
-block_doc : (body after : List ℕ) → Closes 1 body → is_block_doc (47 ∷ 42 ∷ (body ++ after)) ≡ is_block_doc (47 ∷ 42 ∷ body)
+block_doc : (body after : List ℕ) → Closes 1 body → is_block_doc (47 ∷ 42 ∷ (body ++ after))
+    ≡ is_block_doc (47 ∷ 42 ∷ body)
 block_doc [] after k = elim k [ ]
 block_doc (c ∷ []) after (plain p k) = elim k [ ]
 block_doc (c ∷ d ∷ body) after k = refl
 
-line_piece : (text taken after : List ℕ) → IsLongestPrefix (Spells LineComment) text taken after → is_line_doc text ≡ is_line_doc taken
+line_piece : (text taken after : List ℕ) → IsLongestPrefix (Spells LineComment) text taken
+    after → is_line_doc text ≡ is_line_doc taken
 line_piece text taken after t = go taken t.spelled t
   where
-    go : (p : List ℕ) → Spells LineComment p → IsLongestPrefix (Spells LineComment) text p after → is_line_doc text ≡ is_line_doc p
+    go : (p : List ℕ) → Spells LineComment p → IsLongestPrefix (Spells LineComment) text p
+        after → is_line_doc text ≡ is_line_doc p
     go p (body, e, a) u =
-        let v : IsLongestPrefix (Spells LineComment) text (47 ∷ 47 ∷ body) after = subst (λ w. IsLongestPrefix (Spells LineComment) text w after) e u in
-        ap is_line_doc v.cut ∙ line_doc body after (λ c rest f. ends_line text body rest c (subst (λ w. IsLongestPrefix (Spells LineComment) text (47 ∷ 47 ∷ body) w) f v) a) ∙ ap is_line_doc (sym e)
+        let v : IsLongestPrefix (Spells LineComment) text (47 ∷ 47 ∷ body) after =
+        subst (λ w. IsLongestPrefix (Spells LineComment) text w after) e u in
+        ap is_line_doc v.cut
+        ∙ line_doc body after
+        (λ c rest f. ends_line text body rest c
+        (subst (λ w. IsLongestPrefix (Spells LineComment) text (47 ∷ 47 ∷ body) w) f v) a)
+        ∙ ap is_line_doc (sym e)
 
-block_piece : (text taken after : List ℕ) → IsLongestPrefix (Spells BlockComment) text taken after → is_block_doc text ≡ is_block_doc taken
+block_piece : (text taken after : List ℕ) → IsLongestPrefix (Spells BlockComment) text taken
+    after → is_block_doc text ≡ is_block_doc taken
 block_piece text taken after t = go t.spelled
   where
     go : Spells BlockComment taken → is_block_doc text ≡ is_block_doc taken
-    go (body, e, k) = ap is_block_doc (t.cut ∙ ap (λ w. w ++ after) e) ∙ block_doc body after k ∙ ap is_block_doc (sym e)
+    go (body, e, k) = ap is_block_doc (t.cut ∙ ap (λ w. w ++ after) e) ∙ block_doc body after k
+        ∙ ap is_block_doc (sym e)
 
 not_true : (b : Bool) → not b ≡ true → b ≡ false
 not_true true e = absurd (false≢true e)
@@ -92,15 +124,32 @@ record MeansNothing (rule : Rule) (number at : ℕ) (taken after : List ℕ) : T
   pub adds_none : items number rule at taken after ≡ []
   pub wide : width rule taken ≡ length (encode_utf8_all taken)
 
-blank : (rule : Rule) (number at : ℕ) (text taken after : List ℕ) → IsLongestPrefix (Spells rule) text taken after → is_blank rule text ≡ true → MeansNothing rule number at taken after
-blank Whitespace number at text taken after t b = record { passes = refl; adds_none = refl; wide = refl }
-blank LineComment number at text taken after t b = record { passes = rw (sym (line_piece text taken after t) ∙ not_true (is_line_doc text) b) refl; adds_none = refl; wide = refl }
-blank BlockComment number at text taken after t b = record { passes = rw (sym (block_piece text taken after t) ∙ not_true (is_block_doc text) b) refl; adds_none = refl; wide = refl }
+blank : (rule : Rule) (number at : ℕ) (text taken after : List ℕ) →
+    IsLongestPrefix (Spells rule) text taken after → is_blank rule text ≡ true →
+    MeansNothing rule number at taken after
+blank Whitespace number at text taken after t b =
+    record { passes = refl; adds_none = refl; wide = refl }
+blank LineComment number at text taken after t b =
+    record {
+      passes = rw (sym (line_piece text taken after t) ∙ not_true (is_line_doc text) b)
+          refl;
+      adds_none = refl;
+      wide = refl;
+    }
+blank BlockComment number at text taken after t b =
+    record {
+      passes = rw (sym (block_piece text taken after t) ∙ not_true (is_block_doc text) b)
+          refl;
+      adds_none = refl;
+      wide = refl;
+    }
 blank SourceLineComment number at text taken after t b =
-    let calm : is_line_doc taken ≡ false = sym (line_piece text taken after t) ∙ not_true (is_line_doc text) b in
+    let calm : is_line_doc taken ≡ false = sym (line_piece text taken after t)
+    ∙ not_true (is_line_doc text) b in
     record { passes = rw calm refl; adds_none = rw calm refl; wide = refl }
 blank SourceBlockComment number at text taken after t b =
-    let calm : is_block_doc taken ≡ false = sym (block_piece text taken after t) ∙ not_true (is_block_doc text) b in
+    let calm : is_block_doc taken ≡ false = sym (block_piece text taken after t)
+    ∙ not_true (is_block_doc text) b in
     record { passes = rw calm refl; adds_none = rw calm refl; wide = refl }
 blank ByteOrderMark number at text taken after t b = absurd (false≢true b)
 blank OpenComment number at text taken after t b = absurd (false≢true b)
@@ -135,11 +184,17 @@ blank Float number at text taken after t b = absurd (false≢true b)
 blank PointedDecimal number at text taken after t b = absurd (false≢true b)
 blank SourceDecimal number at text taken after t b = absurd (false≢true b)
 
-pub recut : {rules : List Rule} {number at end to : ℕ} {text rest after : List ℕ} {some others : List Item} → some ≡ others → end ≡ to → rest ≡ after → Cut rules number at text some end rest → Cut rules number at text others to after
+pub recut : {rules : List Rule} {number at end to : ℕ} {text rest after : List ℕ}
+    {some others : List Item} → some ≡ others → end ≡ to → rest ≡ after →
+    Cut rules number at text some end rest → Cut rules number at text others to after
 recut {rules} {number} {at} {end} {to} {text} {rest} {after} {some} {others} i e r c =
-    subst (λ w. Cut rules number at text others to w) r (subst (λ w. Cut rules number at text others w rest) e (subst (λ w. Cut rules number at text w end rest) i c))
+    subst (λ w. Cut rules number at text others to w) r
+    (subst (λ w. Cut rules number at text others w rest) e
+    (subst (λ w. Cut rules number at text w end rest) i c))
 
-pub shorter : (rules : List Rule) (rule : Rule) (text rest taken : List ℕ) → IsUtf8 text → IsUtf8 rest → IsFirstFit (chars text) rules rule taken (chars rest) → length rest < length text
+pub shorter : (rules : List Rule) (rule : Rule) (text rest taken : List ℕ) → IsUtf8 text →
+    IsUtf8 rest → IsFirstFit (chars text) rules rule taken (chars rest) →
+    length rest < length text
 shorter rules rule text rest taken u v d =
     let t = decided d in
     let one = spelled_one rule taken t.spelled in
@@ -148,23 +203,31 @@ shorter rules rule text rest taken u v d =
     omega arith
 
 -- a front that one rule takes, by the rules of every text
-pub blank_front : (text rest : List ℕ) (rule : Rules → Rule) → IsUtf8 text → IsUtf8 rest → ((every : Rules) → is_blank (rule every) (chars text) ≡ true) → ((every : Rules) → (taken : List ℕ) × IsFirstFit (chars text) (rules_of every) (rule every) taken (chars rest)) → IsBlank (chars text) (chars rest) (length text - length rest)
+blank_front : (text rest : List ℕ) (rule : Rules → Rule) → IsUtf8 text → IsUtf8 rest →
+    ((every : Rules) → is_blank (rule every) (chars text) ≡ true) →
+    ((every : Rules) → (taken : List ℕ) × IsFirstFit (chars text) (rules_of every) (rule every)
+    taken (chars rest)) → IsBlank (chars text) (chars rest) (length text - length rest)
 blank_front text rest rule u v is d every number at =
     let p = d every in
     let t = decided p.1 in
     let nothing = blank (rule every) number at (chars text) p.0 (chars rest) t (is every) in
     let l = cut_length text rest p.0 u v t.cut in
     let wide = nothing.wide in
-    recut (append-nil (items number (rule every) at p.0 (chars rest)) ∙ nothing.adds_none) (omega arith) refl (piece p.1 nothing.passes stop)
+    recut (append-nil (items number (rule every) at p.0 (chars rest)) ∙ nothing.adds_none)
+    (omega arith) refl (piece p.1 nothing.passes stop)
 
-pub blank_none : (text rest : List ℕ) → rest ≡ text → IsBlank (chars text) (chars rest) (length text - length rest)
+pub blank_none : (text rest : List ℕ) → rest ≡ text → IsBlank (chars text) (chars rest)
+    (length text - length rest)
 blank_none text rest e every number at =
     let l : length rest ≡ length text = ap length e in
     recut refl (omega arith) (ap chars (sym e)) stop
 
-cut_on : {rules : List Rule} {number at end to : ℕ} {text rest after : List ℕ} {some : List Item} → Cut rules number at text some end rest → some ≡ [] → Cut rules number end rest [] to after → Cut rules number at text [] to after
+cut_on : {rules : List Rule} {number at end to : ℕ} {text rest after : List ℕ}
+    {some : List Item} → Cut rules number at text some end rest → some ≡ [] →
+    Cut rules number end rest [] to after → Cut rules number at text [] to after
 cut_on stop none d = d
-cut_on {rules} {number} {at} {end} {to} {text} {rest} {after} (piece {taken = taken} {after = next} {rule = rule} {more = more} e n c) none d =
+cut_on {rules} {number} {at} {end} {to} {text} {rest} {after}
+    (piece {taken = taken} {after = next} {rule = rule} {more = more} e n c) none d =
     let apart = append_nothing (items number rule at taken next) more none in
     recut (ap (λ w. w ++ []) apart.0) refl refl (piece e n (cut_on c apart.1 d))
   where
@@ -172,11 +235,17 @@ cut_on {rules} {number} {at} {end} {to} {text} {rest} {after} (piece {taken = ta
     append_nothing [] ys e = (refl, e)
     append_nothing (x ∷ xs) ys e = absurd (cc)
 
-pub blank_more : (text mid rest : List ℕ) → length rest ≤ length mid → length mid ≤ length text → IsBlank (chars text) (chars mid) (length text - length mid) → IsBlank (chars mid) (chars rest) (length mid - length rest) → IsBlank (chars text) (chars rest) (length text - length rest)
+pub blank_more : (text mid rest : List ℕ) → length rest ≤ length mid → length mid ≤ length text →
+    IsBlank (chars text) (chars mid) (length text - length mid) →
+    IsBlank (chars mid) (chars rest) (length mid - length rest) →
+    IsBlank (chars text) (chars rest) (length text - length rest)
 blank_more text mid rest l m first second every number at =
-    recut refl (omega arith) refl (cut_on (first every number at) refl (second every number (at + (length text - length mid))))
+    recut refl (omega arith) refl
+    (cut_on (first every number at) refl
+    (second every number (at + (length text - length mid))))
 
-decides_space : (rules : Rules) (c : ℕ) (more : List ℕ) → is_whitespace c ≡ true → IsFirstFit (c ∷ more) (rules_of rules) Whitespace (c ∷ []) more
+decides_space : (rules : Rules) (c : ℕ) (more : List ℕ) → is_whitespace c ≡ true →
+    IsFirstFit (c ∷ more) (rules_of rules) Whitespace (c ∷ []) more
 decides_space rules c more h = go rules
   where
     no_mark : HasPrefix (Spells ByteOrderMark) (c ∷ more) → ⊥
@@ -190,58 +259,92 @@ decides_space rules c more h = go rules
     go Marked = later no_mark (here (takes_one is_whitespace (c ∷ more) more c refl h))
     go (Source edition) = later no_mark (here (takes_one is_whitespace (c ∷ more) more c refl h))
 
-all_first : (p : ℕ → Bool) (c : ℕ) (cs : List ℕ) → list_all p (c ∷ cs) ≡ true → (p c ≡ true) × (list_all p cs ≡ true)
+all_first : (p : ℕ → Bool) (c : ℕ) (cs : List ℕ) → list_all p (c ∷ cs) ≡ true → (p c ≡ true)
+    × (list_all p cs ≡ true)
 all_first p c cs h = go (p c) refl h
   where
     go : (b : Bool) → p c ≡ b → b && list_all p cs ≡ true → (p c ≡ true) × (list_all p cs ≡ true)
     go true e k = (e, k)
     go false e k = absurd (false≢true k)
 
-cut_spaces : (rules : Rules) (number at : ℕ) (front after : List ℕ) → list_all is_whitespace front ≡ true → Cut (rules_of rules) number at (front ++ after) [] (at + length (encode_utf8_all front)) after
+cut_spaces : (rules : Rules) (number at : ℕ) (front after : List ℕ) →
+    list_all is_whitespace front ≡ true → Cut (rules_of rules) number at (front ++ after) []
+    (at + length (encode_utf8_all front)) after
 cut_spaces rules number at [] after h = recut refl (omega arith) refl stop
 cut_spaces rules number at (x ∷ front) after h =
     let space = all_first is_whitespace x front h in
-    let wide : length (encode_utf8_all (x ∷ [])) ≡ length (encode_utf8 x) = ap length (append-nil (encode_utf8 x)) in
+    let wide : length (encode_utf8_all (x ∷ [])) ≡ length (encode_utf8 x) =
+    ap length (append-nil (encode_utf8 x)) in
     let both = length-append (encode_utf8 x) (encode_utf8_all front) in
-    recut refl (omega arith) refl (piece (decides_space rules x (front ++ after) space.0) refl (cut_spaces rules number (at + length (encode_utf8_all (x ∷ []))) front after space.1))
+    recut refl (omega arith) refl (piece (decides_space rules x (front ++ after) space.0) refl
+    (cut_spaces rules number (at + length (encode_utf8_all (x ∷ []))) front after space.1))
 
-pub blank_spaces : (text rest : List ℕ) → IsUtf8 text → IsUtf8 rest → (front : List ℕ) × Skips is_whitespace (chars text) front (chars rest) → IsBlank (chars text) (chars rest) (length text - length rest)
+pub blank_spaces : (text rest : List ℕ) → IsUtf8 text → IsUtf8 rest → (front : List ℕ)
+    × Skips is_whitespace (chars text) front (chars rest) → IsBlank (chars text) (chars rest)
+    (length text - length rest)
 blank_spaces text rest u v (front, skips) every number at =
     let l = cut_length text rest front u v skips.cut in
-    subst (λ w. Cut (rules_of every) number at w [] (at + (length text - length rest)) (chars rest)) (sym skips.cut) (recut refl (omega arith) refl (cut_spaces every number at front (chars rest) skips.pass))
+    subst (λ w. Cut (rules_of every) number at w [] (at + (length text - length rest))
+    (chars rest)) (sym skips.cut)
+    (recut refl (omega arith) refl
+    (cut_spaces every number at front (chars rest) skips.pass))
 
-pub line_front : (every : Rules) (text after body rest : List ℕ) → chars text ≡ 47 ∷ chars after → chars after ≡ 47 ∷ chars body → (front : List ℕ) × Skips is_not_line_feed (chars body) front (chars rest) → (taken : List ℕ) × IsFirstFit (chars text) (rules_of every) (line_rule every) taken (chars rest)
+pub line_front : (every : Rules) (text after body rest : List ℕ) →
+    chars text ≡ 47 ∷ chars after → chars after ≡ 47 ∷ chars body → (front : List ℕ)
+    × Skips is_not_line_feed (chars body) front (chars rest) → (taken : List ℕ)
+    × IsFirstFit (chars text) (rules_of every) (line_rule every) taken (chars rest)
 line_front every text after body rest e f skips =
     let d = decides_line every (chars after) (chars body) (chars rest) f skips in
     (d.0, subst (λ w. IsFirstFit w (rules_of every) (line_rule every) d.0 (chars rest)) (sym e) d.1)
 
-calm_line : (text : List ℕ) → not (is_line_doc text) ≡ true → (every : Rules) → is_blank (line_rule every) text ≡ true
+calm_line : (text : List ℕ) → not (is_line_doc text) ≡ true → (every : Rules) →
+    is_blank (line_rule every) text ≡ true
 calm_line text h Plain = h
 calm_line text h Marked = h
 calm_line text h (Source edition) = h
 
-calm_block : (text : List ℕ) → not (is_block_doc text) ≡ true → (every : Rules) → is_blank (block_rule every) text ≡ true
+calm_block : (text : List ℕ) → not (is_block_doc text) ≡ true → (every : Rules) →
+    is_blank (block_rule every) text ≡ true
 calm_block text h Plain = h
 calm_block text h Marked = h
 calm_block text h (Source edition) = h
 
-pub blank_line : (text after body rest : List ℕ) → IsUtf8 text → IsUtf8 rest → chars text ≡ 47 ∷ chars after → chars after ≡ 47 ∷ chars body → opens_line_doc (chars body) ≡ false → (front : List ℕ) × Skips is_not_line_feed (chars body) front (chars rest) → IsBlank (chars text) (chars rest) (length text - length rest)
+pub blank_line : (text after body rest : List ℕ) → IsUtf8 text → IsUtf8 rest →
+    chars text ≡ 47 ∷ chars after → chars after ≡ 47 ∷ chars body → opens_line_doc (chars body)
+    ≡ false → (front : List ℕ) × Skips is_not_line_feed (chars body) front (chars rest) →
+    IsBlank (chars text) (chars rest) (length text - length rest)
 blank_line text after body rest u v e f calm skips =
-    blank_front text rest line_rule u v (calm_line (chars text) (ap (λ w. not (is_line_doc w)) (e ∙ ap (λ w. 47 ∷ w) f) ∙ ap not calm)) (λ every. line_front every text after body rest e f skips)
+    blank_front text rest line_rule u v
+    (calm_line (chars text) (ap (λ w. not (is_line_doc w)) (e ∙ ap (λ w. 47 ∷ w) f)
+    ∙ ap not calm)) (λ every. line_front every text after body rest e f skips)
 
-block_front : (every : Rules) (text after body rest : List ℕ) → chars text ≡ 47 ∷ chars after → chars after ≡ 42 ∷ chars body → (front : List ℕ) × IsLongestPrefix (Closes 1) (chars body) front (chars rest) → (taken : List ℕ) × IsFirstFit (chars text) (rules_of every) (block_rule every) taken (chars rest)
+block_front : (every : Rules) (text after body rest : List ℕ) → chars text ≡ 47 ∷ chars after →
+    chars after ≡ 42 ∷ chars body → (front : List ℕ) × IsLongestPrefix (Closes 1) (chars body)
+    front (chars rest) → (taken : List ℕ) × IsFirstFit (chars text) (rules_of every)
+    (block_rule every) taken (chars rest)
 block_front every text after body rest e f closed =
-    let d = decides_block every (chars after) (chars body) (chars rest) f closed in
-    (d.0, subst (λ w. IsFirstFit w (rules_of every) (block_rule every) d.0 (chars rest)) (sym e) d.1)
+    let d = decides_block every (chars after) (chars body) (chars rest) f closed in (
+      d.0,
+      subst (λ w. IsFirstFit w (rules_of every) (block_rule every) d.0 (chars rest)) (sym e)
+          d.1,
+    )
 
 -- a block comment, where one ends
-module _ (text after body : List ℕ) (u : IsUtf8 text) (e : chars text ≡ 47 ∷ chars after) (f : chars after ≡ 42 ∷ chars body) where
-  pub blank_block : (answer : Option (Bor (List ℕ))) → ReadsLongest (Closes 1) (chars body) answer → IfSome answer (λ rest. IsUtf8 rest.now) → opens_block_doc (chars body) ≡ false → IfSome answer (λ rest. IsBlank (chars text) (chars rest.now) (length text - length rest.now))
+module _ (text after body : List ℕ) (u : IsUtf8 text) (e : chars text ≡ 47 ∷ chars after)
+    (f : chars after ≡ 42 ∷ chars body) where
+  pub blank_block : (answer : Option (Bor (List ℕ))) → ReadsLongest (Closes 1) (chars body)
+      answer → IfSome answer (λ rest. IsUtf8 rest.now) → opens_block_doc (chars body) ≡ false →
+      IfSome answer
+      (λ rest. IsBlank (chars text) (chars rest.now) (length text - length rest.now))
   blank_block None t v calm = tt
   blank_block (Some rest) t v calm =
-      blank_front text rest.now block_rule u v (calm_block (chars text) (ap (λ w. not (is_block_doc w)) (e ∙ ap (λ w. 47 ∷ w) f) ∙ ap not calm)) (λ every. block_front every text after body rest.now e f t)
+      blank_front text rest.now block_rule u v
+      (calm_block (chars text) (ap (λ w. not (is_block_doc w)) (e ∙ ap (λ w. 47 ∷ w) f)
+      ∙ ap not calm)) (λ every. block_front every text after body rest.now e f t)
 
-  pub shorter_block : (answer : Option (Bor (List ℕ))) → ReadsLongest (Closes 1) (chars body) answer → IfSome answer (λ rest. IsUtf8 rest.now) → IfSome answer (λ rest. length rest.now < length text)
+  pub shorter_block : (answer : Option (Bor (List ℕ))) → ReadsLongest (Closes 1) (chars body)
+      answer → IfSome answer (λ rest. IsUtf8 rest.now) →
+      IfSome answer (λ rest. length rest.now < length text)
   shorter_block None t v = tt
   shorter_block (Some rest) t v =
       let d = block_front Plain text after body rest.now e f t in

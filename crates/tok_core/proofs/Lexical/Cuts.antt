@@ -1,12 +1,16 @@
 -- The cut of a front of the text, one piece further.
-use Rattle.std.proofs.Common.{◌≡◌, ◌∙◌, ℕ, ◌+◌, ◌≤◌, List, [], ◌∷◌, ◌++◌, length, refl, sym, ap, subst, arith, append_assoc}
-use Rattle.std.specs.Prelude.{Bool, encode_utf8_all, ◌-◌, true, false, None}
+use Rattle.std.proofs.Common.{◌≡◌, ◌∙◌, ℕ, ◌+◌, ◌≤◌, List, [], ◌∷◌, ◌++◌, length, refl, sym, ap}
+use Rattle.std.proofs.Common.{subst, arith, append_assoc}
+use Rattle.std.specs.Prelude.{Bool, encode_utf8_all, ◌-◌, ◌==◌, ◌||◌, true, false, None}
 use Rattle.std.specs.Str.{chars, IsUtf8}
 use Rattle.std.proofs.lemmas.List.{append-nil}
+use Rattle.std.proofs.lemmas.List.Folds.{list_any-append}
+use Rattle.tok_lexical.specs.Contents.{has_return}
 use Rattle.tok_core.specs.Forest.{Forest}
 use Rattle.tok_lexical.specs.Fits.{NoneBefore}
 use Rattle.tok_core.specs.Building.{nothing}
-use Rattle.tok_core.specs.Private.Built.{EndsInOther, IsBlank, State, IsPaired, Holds, HoldsAll, last, outer, Reached, Grows, Halts}
+use Rattle.tok_core.specs.Private.Built.{EndsInOther, IsBlank, State, IsPaired, Holds, HoldsAll}
+use Rattle.tok_core.specs.Private.Built.{last, outer, Reached, Grows, Halts}
 use Rattle.tok_lexical.specs.Starts.{rules_of}
 use Rattle.tok_core.specs.Lexical.Errors.{OnRefused}
 use Rattle.tok_core.specs.Private.Halted.{OnHalted, fault_of}
@@ -16,7 +20,8 @@ use Rattle.tok_core.specs.Lexical.Meaning.{items}
 use Rattle.tok_lexical.specs.Widths.{width, is_group_mark}
 use Rattle.tok_lexical.specs.Pieces.{HasPrefix}
 use Rattle.tok_lexical.specs.Fits.{IsFirstFit}
-use Rattle.tok_core.specs.Lexical.Reading.{Cut, stop, piece, ReadsFrom, Refuses, unclosed, IsRefusedFrom}
+use Rattle.tok_core.specs.Lexical.Reading.{Cut, stop, piece, ReadsFrom, Refuses, unclosed}
+use Rattle.tok_core.specs.Lexical.Reading.{IsRefusedFrom}
 use Rattle.tok_lexical.specs.Rules.{Spells}
 use Rattle.tok_core.specs.declared.lexer.error.LexError.{LexError}
 use Rattle.tok_core.specs.declared.lexer.error.LexFault.{LexFault}
@@ -26,7 +31,8 @@ use Rattle.tok_lexical.specs.declared.reason.Reason.TheVariants.{UnclosedGroup}
 use Rattle.tok_lexical.specs.declared.delimiter.Delimiter.{Delimiter}
 use Rattle.tok_lexical.specs.declared.rule.Rules.{Rules}
 use Rattle.tok_lexical.specs.declared.rule.Rules.TheVariants.{Plain, Marked, Source}
-use Rattle.tok_lexical.specs.declared.edition.Edition.TheVariants.{Edition2015, Edition2018, Edition2021, Edition2024}
+use Rattle.tok_lexical.specs.declared.edition.Edition.TheVariants.{Edition2015, Edition2018}
+use Rattle.tok_lexical.specs.declared.edition.Edition.TheVariants.{Edition2021, Edition2024}
 use Rattle.tok_lexical.specs.declared.rule.Rule.{Rule}
 use Rattle.tok_lexical.specs.declared.rule.Rule.TheVariants.{Whitespace}
 use Rattle.tok_core.proofs.Lexical.Blanks.{recut}
@@ -35,16 +41,48 @@ use Rattle.tok_lexical.proofs.Lexical.Fits.{decided}
 use Rattle.tok_core.proofs.Lexical.Steps.{refuses}
 use Rattle.tok_lexical.proofs.Lexical.Texts.{cut_length}
 
-cut_more : {rules : List Rule} {number at end : ℕ} {text rest taken after : List ℕ} {rule : Rule} {some : List Item} → Cut rules number at text some end rest → IsFirstFit rest rules rule taken after → refusal rule end taken after ≡ None → Cut rules number at text (some ++ items number rule end taken after) (end + width rule taken) after
-cut_more {number = number} {end = end} {taken = taken} {after = after} {rule = rule} stop d m = recut (append-nil (items number rule end taken after)) refl refl (piece d m stop)
-cut_more (piece {more = others} e n c) d m = recut (sym (append_assoc _ others _)) refl refl (piece e n (cut_more c d m))
+cut_more : {rules : List Rule} {number at end : ℕ} {text rest taken after : List ℕ} {rule : Rule}
+    {some : List Item} → Cut rules number at text some end rest →
+    IsFirstFit rest rules rule taken after → refusal rule end taken after ≡ None →
+    Cut rules number at text (some ++ items number rule end taken after) (end + width rule taken)
+    after
+cut_more {number = number} {end = end} {taken = taken} {after = after} {rule = rule} stop d m =
+    recut (append-nil (items number rule end taken after)) refl refl (piece d m stop)
+cut_more (piece {more = others} e n c) d m = recut (sym (append_assoc _ others _)) refl refl
+    (piece e n (cut_more c d m))
 
-cut_then : {rules : List Rule} {number at end to : ℕ} {text rest after : List ℕ} {some others : List Item} → Cut rules number at text some end rest → Cut rules number end rest others to after → Cut rules number at text (some ++ others) to after
+cut_then : {rules : List Rule} {number at end to : ℕ} {text rest after : List ℕ}
+    {some others : List Item} → Cut rules number at text some end rest →
+    Cut rules number end rest others to after → Cut rules number at text (some ++ others) to
+    after
 cut_then stop d = d
-cut_then (piece {more = more} e n c) d = recut (sym (append_assoc _ more _)) refl refl (piece e n (cut_then c d))
+cut_then (piece {more = more} e n c) d = recut (sym (append_assoc _ more _)) refl refl
+    (piece e n (cut_then c d))
+
+-- a U+000D of the piece, or of what follows, is one of the text
+has_piece_return : (text taken after : List ℕ) → text ≡ taken ++ after → has_return taken
+    ≡ true → has_return text ≡ true
+has_piece_return text taken after e h = ap has_return e ∙ list_any-append (λ c. c == 13) taken
+    after ∙ ap (λ b. b || has_return after) h
+
+or_true : (b : Bool) → b || true ≡ true
+or_true true = refl
+or_true false = refl
+
+has_later_return : (text taken after : List ℕ) → text ≡ taken ++ after → has_return after
+    ≡ true → has_return text ≡ true
+has_later_return text taken after e h = ap has_return e ∙ list_any-append (λ c. c == 13) taken
+    after ∙ ap (λ b. has_return taken || b) h ∙ or_true (has_return taken)
+
+cut_return : {rules : List Rule} {number at end : ℕ} {text rest : List ℕ} {some : List Item} →
+    Cut rules number at text some end rest → has_return rest ≡ true → has_return text ≡ true
+cut_return stop h = h
+cut_return {text = text} (piece {taken = taken} {after = after} e n c) h =
+    has_later_return text taken after (decided e).cut (cut_return c h)
 
 -- where the loop stands
-pub record SoFar (begin : ℕ) (rules : List Rule) (number : ℕ) (text rest : List ℕ) (at : ℕ) (nest : State) : Type 0 where
+pub record SoFar (begin : ℕ) (rules : List Rule) (number : ℕ) (text rest : List ℕ) (at : ℕ)
+    (nest : State) : Type 0 where
   pub short : at + length rest ≤ begin + length text
   pub same_source : nest.source ≡ number
   pub reached : Reached nest.groups at
@@ -60,22 +98,34 @@ width_le rule taken = go (is_group_mark rule) refl
     go false e = rw e (omega arith)
 
 -- the same piece, by another name
-pub decided_piece : (rules : List Rule) (rule : Rule) (text rest taken other : List ℕ) → other ≡ taken → IsFirstFit text rules rule taken rest → IsFirstFit text rules rule other rest
-decided_piece rules rule text rest taken other e d = subst (λ w. IsFirstFit text rules rule w rest) (sym e) d
+pub decided_piece : (rules : List Rule) (rule : Rule) (text rest taken other : List ℕ) →
+    other ≡ taken → IsFirstFit text rules rule taken rest → IsFirstFit text rules rule other rest
+decided_piece rules rule text rest taken other e d =
+    subst (λ w. IsFirstFit text rules rule w rest) (sym e) d
 
-module _ (begin : ℕ) (rules : List Rule) (number : ℕ) (text rest : List ℕ) (at : ℕ) (nest : State) (s : SoFar begin rules number text rest at nest) where
+module _ (begin : ℕ) (rules : List Rule) (number : ℕ) (text rest : List ℕ) (at : ℕ)
+    (nest : State) (s : SoFar begin rules number text rest at nest) where
   -- the piece ends within the text
-  pub place_fits : (rule : Rule) (after taken : List ℕ) → IsUtf8 rest → IsUtf8 after → IsFirstFit (chars rest) rules rule taken (chars after) → (at + width rule taken) + length after ≤ begin + length text
+  place_fits : (rule : Rule) (after taken : List ℕ) → IsUtf8 rest → IsUtf8 after →
+      IsFirstFit (chars rest) rules rule taken (chars after) → (at + width rule taken) + length
+      after ≤ begin + length text
   place_fits rule after taken u v d =
       let l = cut_length rest after taken u v (decided d).cut in
       let short = s.short in
       let w = width_le rule taken in
       omega arith
 
-  pub so_far_more : (after taken : List ℕ) (end : ℕ) (new : State) (rule : Rule) → IsUtf8 rest → IsUtf8 after → IsFirstFit (chars rest) rules rule taken (chars after) → end ≡ at + width rule taken → refusal rule at taken (chars after) ≡ None → Grows at nest new (items nest.source rule at taken (chars after)) → SoFar begin rules number text after end new
+  pub so_far_more : (after taken : List ℕ) (end : ℕ) (new : State) (rule : Rule) → IsUtf8 rest →
+      IsUtf8 after → IsFirstFit (chars rest) rules rule taken (chars after) →
+      end ≡ at + width rule taken → refusal rule at taken (chars after) ≡ None →
+      Grows at nest new (items nest.source rule at taken (chars after)) →
+      SoFar begin rules number text after end new
   so_far_more after taken end new rule u v d e m g =
       let p = place_fits rule after taken u v d in
-      let h : HoldsAll number new (s.all ++ items number rule at taken (chars after)) = subst (λ w. HoldsAll w new (s.all ++ items w rule at taken (chars after))) s.same_source (g.holds s.all (subst (λ w. HoldsAll w nest s.all) (sym s.same_source) s.holds)) in
+      let h : HoldsAll number new (s.all ++ items number rule at taken (chars after)) =
+      subst (λ w. HoldsAll w new (s.all ++ items w rule at taken (chars after)))
+      s.same_source
+      (g.holds s.all (subst (λ w. HoldsAll w nest s.all) (sym s.same_source) s.holds)) in
       record {
         short = omega arith;
         same_source = g.same_source ∙ s.same_source;
@@ -86,7 +136,10 @@ module _ (begin : ℕ) (rules : List Rule) (number : ℕ) (text rest : List ℕ)
       }
 
   -- white space and comments add no trees
-  pub so_far_blank : (every : Rules) → rules ≡ rules_of every → (after : List ℕ) (end : ℕ) → end ≡ at + (length rest - length after) → length after ≤ length rest → IsBlank (chars rest) (chars after) (length rest - length after) → SoFar begin rules number text after end nest
+  pub so_far_blank : (every : Rules) → rules ≡ rules_of every → (after : List ℕ) (end : ℕ) →
+      end ≡ at + (length rest - length after) → length after ≤ length rest →
+      IsBlank (chars rest) (chars after) (length rest - length after) →
+      SoFar begin rules number text after end nest
   so_far_blank every is after end e l blank =
       let short = s.short in
       record {
@@ -94,32 +147,60 @@ module _ (begin : ℕ) (rules : List Rule) (number : ℕ) (text rest : List ℕ)
         same_source = s.same_source;
         reached = reached_later nest.groups at end (omega arith) s.reached;
         all = s.all;
-        cut = recut (append-nil s.all) (sym e) refl (cut_then s.cut (subst (λ w. Cut w number at (chars rest) [] (at + (length rest - length after)) (chars after)) (sym is) (blank every number at)));
+        cut = recut (append-nil s.all) (sym e) refl
+            (cut_then s.cut
+            (subst (λ w. Cut w number at (chars rest) [] (at + (length rest - length after))
+            (chars after)) (sym is) (blank every number at)));
         holds = s.holds;
       }
+
+  -- a U+000D of the next piece is one of the whole text
+  pub returns_from : (rule : Rule) (taken after : List ℕ) → IsFirstFit (chars rest) rules rule
+      taken after → has_return taken ≡ true → has_return (chars text) ≡ true
+  returns_from rule taken after d h =
+      cut_return s.cut (has_piece_return (chars rest) taken after (decided d).cut h)
 
   pub paired : IsPaired nest
   paired = paired_of s.holds
 
-  reads_held : (all : List Item) → Cut rules number begin (chars text) all at [] → (groups : List (Delimiter × ℕ)) (levels : List Forest) (f : Forest) → groups ≡ [] → Holds number 256 groups levels f all → (levels ≡ []) × ReadsFrom begin rules number (chars text) f
+  reads_held : (all : List Item) → Cut rules number begin (chars text) all at [] →
+      (groups : List (Delimiter × ℕ)) (levels : List Forest) (f : Forest) → groups ≡ [] →
+      Holds number 256 groups levels f all → (levels ≡ [])
+      × ReadsFrom begin rules number (chars text) f
   reads_held all c groups levels f o (last d k) = (refl, (d, (all, k, (at, c))))
   reads_held all c groups levels f o (outer d k h) = absurd (cc)
 
-  pub reads_all : chars rest ≡ [] → nest.groups ≡ [] → (nest.levels.outer ≡ []) × ReadsFrom begin rules number (chars text) nest.levels.inner
-  reads_all e o = reads_held s.all (recut refl refl e s.cut) nest.groups nest.levels.outer nest.levels.inner o s.holds
+  pub reads_all : chars rest ≡ [] → nest.groups ≡ [] → (nest.levels.outer ≡ [])
+      × ReadsFrom begin rules number (chars text) nest.levels.inner
+  reads_all e o = reads_held s.all (recut refl refl e s.cut) nest.groups nest.levels.outer
+      nest.levels.inner o s.holds
 
-  refused : (error : LexError) → error.source ≡ nest.source → Refuses rules nest.groups at (chars rest) error.refusal error.at → IsRefusedFrom begin rules number (chars text) error
-  refused error e r = (e ∙ s.same_source, (s.all, at, chars rest, nest.groups, s.cut, opens_of s.holds, r))
+  refused : (error : LexError) → error.source ≡ nest.source →
+      Refuses rules nest.groups at (chars rest) error.refusal error.at →
+      IsRefusedFrom begin rules number (chars text) error
+  refused error e r =
+      (e ∙ s.same_source, (s.all, at, chars rest, nest.groups, s.cut, opens_of s.holds, r))
 
-  pub refused_unclosed : (fewer : List (Delimiter × ℕ)) (group : Delimiter × ℕ) (error : LexError) → chars rest ≡ [] → nest.groups ≡ fewer ++ group ∷ [] → error ≡ record { refusal = UnclosedGroup; source = number; at = group.1 } → IsRefusedFrom begin rules number (chars text) error
+  pub refused_unclosed : (fewer : List (Delimiter × ℕ)) (group : Delimiter × ℕ)
+      (error : LexError) → chars rest ≡ [] → nest.groups ≡ fewer ++ group ∷ [] →
+      error ≡ record { refusal = UnclosedGroup; source = number; at = group.1 } →
+      IsRefusedFrom begin rules number (chars text) error
   refused_unclosed fewer group error e o is =
-      refused error (ap (λ w. w.source) is ∙ sym s.same_source) (subst (λ w. Refuses rules nest.groups at (chars rest) w.refusal w.at) (sym is) (unclosed group.0 fewer e o))
+      refused error (ap (λ w. w.source) is ∙ sym s.same_source)
+      (subst (λ w. Refuses rules nest.groups at (chars rest) w.refusal w.at) (sym is)
+      (unclosed group.0 fewer e o))
 
   -- a fault at the next piece
-  pub fault_here : (taken after : List ℕ) (rule : Rule) (halt : Halt) (fault : LexFault) → IsFirstFit (chars rest) rules rule taken after → OnHalted halt (Halts nest.groups rule at taken after) → fault ≡ fault_of number at halt → OnRefused fault (IsRefusedFrom begin rules number (chars text))
-  fault_here taken after rule Memory fault d h is = subst (λ w. OnRefused w (IsRefusedFrom begin rules number (chars text))) (sym is) tt
+  pub fault_here : (taken after : List ℕ) (rule : Rule) (halt : Halt) (fault : LexFault) →
+      IsFirstFit (chars rest) rules rule taken after →
+      OnHalted halt (Halts nest.groups rule at taken after) → fault ≡ fault_of number at halt →
+      OnRefused fault (IsRefusedFrom begin rules number (chars text))
+  fault_here taken after rule Memory fault d h is =
+      subst (λ w. OnRefused w (IsRefusedFrom begin rules number (chars text))) (sym is) tt
   fault_here taken after rule (Refused why) fault d h is =
-      subst (λ w. OnRefused w (IsRefusedFrom begin rules number (chars text))) (sym is) (refused (record { refusal = why; source = number; at = at }) (sym s.same_source) (refuses rules nest.groups rule at why (chars rest) taken after d h))
+      subst (λ w. OnRefused w (IsRefusedFrom begin rules number (chars text))) (sym is)
+      (refused (record { refusal = why; source = number; at = at }) (sym s.same_source)
+      (refuses rules nest.groups rule at why (chars rest) taken after d h))
 
 pub ends_in_other : (rules : Rules) → EndsInOther (rules_of rules)
 ends_in_other Plain = refl
@@ -130,20 +211,27 @@ ends_in_other (Source Edition2021) = refl
 ends_in_other (Source Edition2024) = refl
 
 -- the last rule takes any character
-pub all_tried : (rules : List Rule) (text : List ℕ) → EndsInOther rules → NoneBefore rules text (length rules) → text ≡ []
+pub all_tried : (rules : List Rule) (text : List ℕ) → EndsInOther rules →
+    NoneBefore rules text (length rules) → text ≡ []
 all_tried rules [] ends before = refl
 all_tried [] (c ∷ text) ends before = cc
 all_tried (r ∷ rules) (c ∷ text) ends before =
-    absurd (before.none (length (r ∷ rules) - 1) Whitespace (omega arith) (omega arith) (subst (λ w. HasPrefix (Spells w) (c ∷ text)) (sym ends) (c ∷ [], text, refl, (c, refl, refl))))
+    absurd (before.none (length (r ∷ rules) - 1) Whitespace (omega arith) (omega arith)
+    (subst (λ w. HasPrefix (Spells w) (c ∷ text)) (sym ends)
+    (c ∷ [], text, refl, (c, refl, refl))))
 
-pub so_far_start : (begin : ℕ) (rules : List Rule) (number : ℕ) (text : List ℕ) (nest : State) → nest.source ≡ number → nest.groups ≡ [] → nest.levels ≡ nothing → SoFar begin rules number text text begin nest
+pub so_far_start : (begin : ℕ) (rules : List Rule) (number : ℕ) (text : List ℕ) (nest : State) →
+    nest.source ≡ number → nest.groups ≡ [] → nest.levels ≡ nothing →
+    SoFar begin rules number text text begin nest
 so_far_start begin rules number text nest n o t = record {
   short = omega arith;
   same_source = n;
   reached = subst (λ w. Reached w begin) (sym o) tt;
   all = [];
   cut = stop;
-  holds = subst (λ w. Holds number 256 w nest.levels.outer nest.levels.inner []) (sym o) (subst (λ w. Holds number 256 [] w.outer w.inner []) (sym t) (last (omega arith) no_items));
+  holds = subst (λ w. Holds number 256 w nest.levels.outer nest.levels.inner []) (sym o)
+      (subst (λ w. Holds number 256 [] w.outer w.inner []) (sym t)
+      (last (omega arith) no_items));
 }
 
 pub none_left : (groups : List (Delimiter × ℕ)) (n : ℕ) → n ≡ 0 → n ≡ length groups → groups ≡ []

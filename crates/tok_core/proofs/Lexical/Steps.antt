@@ -1,5 +1,5 @@
 -- Why a piece is refused, and so the text.
-use Rattle.std.proofs.Common.{◌≡◌, ◌∙◌, ℕ, List, sym, ap, subst, Ok, Err, Result}
+use Rattle.std.proofs.Common.{◌≡◌, ◌∙◌, ℕ, List, sym, subst, Ok, Err, Result}
 use Rattle.std.specs.Prelude.{Option, Some, None, true}
 use Rattle.std.specs.Result.{IfErr}
 use Rattle.tok_core.specs.Private.Built.{Halts, by_meaning, unfit, deep, State, IsTooDeep, IsUnfit}
@@ -16,21 +16,32 @@ use Rattle.tok_lexical.specs.declared.rule.Rule.{Rule}
 use Rattle.tok_lexical.specs.declared.rule.Rule.TheVariants.{Closing}
 
 module _ (nest : State) (rule : Rule) (at : ℕ) (piece after : List ℕ) where
-  pub halts_meaning : (why : Reason) (found : Option Reason) → found ≡ refusal rule at piece after → found ≡ Some why → Halts nest.groups rule at piece after why
+  pub halts_meaning : (why : Reason) (found : Option Reason) →
+      found ≡ refusal rule at piece after → found ≡ Some why →
+      Halts nest.groups rule at piece after why
   halts_meaning why found f s = by_meaning (sym f ∙ s)
 
-  pub halts_deep : {T : Type 0} (r : Result T Halt) → refusal rule at piece after ≡ None → opens_group rule piece ≡ true → IfErr r (λ halt. OnHalted halt (IsTooDeep nest)) → IfErr r (λ halt. OnHalted halt (Halts nest.groups rule at piece after))
+  pub halts_deep : {T : Type 0} (r : Result T Halt) → refusal rule at piece after ≡ None →
+      opens_group rule piece ≡ true → IfErr r (λ halt. OnHalted halt (IsTooDeep nest)) →
+      IfErr r (λ halt. OnHalted halt (Halts nest.groups rule at piece after))
   halts_deep (Ok x) m is h = tt
   halts_deep (Err Memory) m is h = tt
-  halts_deep (Err (Refused why)) m is (e, l) = subst (Halts nest.groups rule at piece after) (sym e) (deep m is l)
+  halts_deep (Err (Refused why)) m is (e, l) = subst (Halts nest.groups rule at piece after)
+      (sym e) (deep m is l)
 
-  pub halts_unfit : {T : Type 0} (delimiter : Delimiter) (r : Result T Halt) → rule ≡ Closing delimiter → IfErr r (λ halt. OnHalted halt (IsUnfit nest delimiter)) → IfErr r (λ halt. OnHalted halt (Halts nest.groups rule at piece after))
+  pub halts_unfit : {T : Type 0} (delimiter : Delimiter) (r : Result T Halt) →
+      rule ≡ Closing delimiter → IfErr r (λ halt. OnHalted halt (IsUnfit nest delimiter)) →
+      IfErr r (λ halt. OnHalted halt (Halts nest.groups rule at piece after))
   halts_unfit delimiter (Ok x) is h = tt
   halts_unfit delimiter (Err Memory) is h = tt
-  halts_unfit delimiter (Err (Refused why)) is (e, misfit) = subst (Halts nest.groups rule at piece after) (sym e) (unfit delimiter is misfit)
+  halts_unfit delimiter (Err (Refused why)) is (e, misfit) =
+      subst (Halts nest.groups rule at piece after) (sym e) (unfit delimiter is misfit)
 
 -- a piece that halts refuses the text
-pub refuses : (rules : List Rule) (levels : List (Delimiter × ℕ)) (rule : Rule) (at : ℕ) (why : Reason) (rest piece after : List ℕ) → IsFirstFit rest rules rule piece after → Halts levels rule at piece after why → Refuses rules levels at rest why at
+pub refuses : (rules : List Rule) (levels : List (Delimiter × ℕ)) (rule : Rule) (at : ℕ)
+    (why : Reason) (rest piece after : List ℕ) → IsFirstFit rest rules rule piece after →
+    Halts levels rule at piece after why → Refuses rules levels at rest why at
 refuses rules levels rule at why rest piece after d (by_meaning m) = by_rule d m
-refuses rules levels rule at why rest piece after d (unfit delimiter r misfit) = unopened delimiter piece after (subst (λ w. IsFirstFit rest rules w piece after) r d) misfit
+refuses rules levels rule at why rest piece after d (unfit delimiter r misfit) =
+    unopened delimiter piece after (subst (λ w. IsFirstFit rest rules w piece after) r d) misfit
 refuses rules levels rule at why rest piece after d (deep m is l) = too_deep piece after d m is l

@@ -1,5 +1,5 @@
 -- Refusals: their numbers and words, and where they are.
-use Rattle.std.specs.Prelude.{ℕ, List}
+use Rattle.std.specs.Prelude.{ℕ, List, codes}
 use Rattle.tok_lexical.specs.Refusals.{refusal_number, refusal_words}
 use Rattle.tok_leaves.specs.Spans.{source}
 use Rattle.tok_leaves.specs.declared.span.Span.{Span}
@@ -21,6 +21,10 @@ error_byte error = error.at
 -- the empty range at that byte of that source
 abbrev pub error_span : LexError → Span
 error_span error = source error.source error.at error.at
+
+abbrev pub fault_words : LexFault → List ℕ
+fault_words (Refused error) = error_words error
+fault_words Memory = codes "out of memory"
 
 -- a fault that isn't an allocation failure has an error of which this holds
 abbrev pub OnRefused : LexFault → (LexError → Type 0) → Type 0

@@ -7,7 +7,7 @@ use Rattle.tok_lexical.specs.Docs.{is_inner_doc, line_doc_text, block_doc_text}
 use Rattle.tok_lexical.specs.Widths.{bytes, width}
 use Rattle.tok_leaves.specs.Leaves.{ident, punct, literal}
 use Rattle.tok_leaves.specs.Spans.{source}
-use Rattle.tok_leaves.specs.Quoting.{in_quotes}
+use Rattle.tok_leaves.specs.Quoting.{shown_in_quotes}
 use Rattle.tok_lexical.specs.Following.{makes_joint, makes_joint_apostrophe, past_marks}
 use Rattle.tok_lexical.specs.Following.{takes_point}
 use Rattle.tok_lexical.specs.declared.delimiter.Delimiter.TheVariants.{Bracket}
@@ -60,7 +60,8 @@ doc_items number start end inner text =
     (bang_items number start end inner ++ opening Bracket start
     ∷ leaf_item (ident (codes "doc") (source number start end))
     ∷ leaf_item (punct 61 Alone (source number start end))
-    ∷ leaf_item (literal (in_quotes text) (source number start end)) ∷ closing Bracket end ∷ [])
+    ∷ leaf_item (literal (shown_in_quotes text) (source number start end))
+    ∷ closing Bracket end ∷ [])
 
 -- the piece opens a group: a delimiter, or a doc comment
 abbrev pub opens_group : Rule → List ℕ → Bool

@@ -21,7 +21,7 @@ fn append_group<B: Build>(
         (B.levels built.new
         ≡ add_forest (tree (doc_group span (chars text.now)) no_trees) (B.levels built.old)) }
 {
-    let mut literal = Literal::string(alloc, text)?;
+    let mut literal = Literal::doc_comment(alloc, text)?;
     literal.set_span(span);
     let word = Text::from_str(alloc, "doc")?;
     built.open()?;

@@ -1,6 +1,6 @@
 //! Why the lexer rejects a text.
 ghost use Rattle.std.specs.Prelude.{◌≡◌, Some};
-ghost use Rattle.tok_core.specs.Lexical.Errors.{error_number, error_byte, error_span, error_words};
+ghost use Rattle.tok_core.specs.Lexical.Errors.{error_number, error_byte, error_span, error_words, fault_words};
 ghost use Rattle.tok_core.specs.Private.Halted.{fault_of};
 
 use std::alloc::AllocError;
@@ -66,6 +66,8 @@ impl fmt::Display for LexError {
     }
 }
 
+impl std::error::Error for LexError {}
+
 /// Why the lexer returns no stream.
 #[derive(Clone, Copy, PartialEq, Eq, Debug)]
 pub enum LexFault {
@@ -84,6 +86,30 @@ impl From<AllocError> for LexFault {
         LexFault::Memory
     }
 }
+
+impl From<LexError> for LexFault {
+    ghost use Rattle.tok_core.specs.declared.lexer.error.LexFault.TheVariants.{Refused};
+
+    ghost from_gives = { λ error fault. fault ≡ Refused error };
+
+    fn from(error: LexError) -> Self {
+        LexFault::Refused(error)
+    }
+}
+
+/// Writes the text of the error.
+impl fmt::Display for LexFault {
+    ghost output = { λ fault. Some (fault_words fault) };
+
+    fn fmt<W: Write>(&self, f: &mut Formatter<W>) -> fmt::Result {
+        match self {
+            LexFault::Refused(error) => write!(f, "{error}"),
+            LexFault::Memory => f.write_str("out of memory"),
+        }
+    }
+}
+
+impl std::error::Error for LexFault {}
 
 /// Why a piece isn't taken in: it is rejected, or an allocation failed.
 // Smaller than a `LexFault`: the loop over pieces would move one for each piece.

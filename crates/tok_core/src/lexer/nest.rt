@@ -4,6 +4,7 @@ ghost use Rattle.std.specs.Str.{chars};
 ghost use Rattle.tok_core.specs.Private.Built.{state, Grows, Reached, IsPaired, Halts, IsTooDeep, IsUnfit};
 ghost use Rattle.tok_core.specs.Private.Halted.{OnHalted};
 ghost use Rattle.tok_core.specs.Lexical.Items.{opening, closing};
+ghost use Rattle.tok_lexical.specs.Contents.{has_return};
 ghost use Rattle.tok_lexical.specs.Refusals.{refusal};
 ghost use Rattle.tok_core.specs.Lexical.Meaning.{items, ident_item, literal_item, punct_item, pointed_items, doc_items};
 ghost use Rattle.tok_lexical.specs.Widths.{bytes, width};
@@ -195,6 +196,10 @@ impl<B: Build + Drop> Nest<B> {
     }
 
     /// Appends the piece that `rule` found from `at` to `end`, before the text `after`.
+    ///
+    /// # Requires
+    ///
+    /// If the piece has a U+000D, `returns` must be `true`.
     pub fn take_in(
         &mut self,
         rule: Rule,
@@ -202,7 +207,9 @@ impl<B: Build + Drop> Nest<B> {
         end: usize,
         piece: &str,
         after: &str,
+        returns: bool,
     ) -> Result<(), Halt>
+        requires returns { has_return (chars piece.now) ≡ true → returns ≡ true }
         requires spelled { Spells rule (chars piece.now) }
         requires ends { end ≡ at + width rule (chars piece.now) }
         requires fits { at + 1 < 2 ^ 64 }
@@ -222,7 +229,7 @@ impl<B: Build + Drop> Nest<B> {
             Rule::Closing(delimiter) => return self.close(delimiter, at, end),
             _ => {}
         }
-        if let Some(refusal) = refusal(rule, at, piece, after) {
+        if let Some(refusal) = refusal(rule, at, piece, after, returns) {
             return Err(Halt::Refused(refusal));
         }
         match rule {

@@ -12,4 +12,5 @@ abbrev pub decreases-is_tree_clear : goal.decreases-is_tree_clear
 decreases-is_tree_clear l = tree_weight (tree_of l.next.now)
 
 abbrev pub invariant-is_clear-loop-next : goal.invariant-is_clear-loop-next
-invariant-is_clear-loop-next l = clear_after l.joint (trees_of (drop l.next-index l.next-items)) ≡ clear (trees_of l.next-items)
+invariant-is_clear-loop-next l = clear_after l.joint (trees_of (drop l.next-index l.next-items))
+    ≡ clear (trees_of l.next-items)

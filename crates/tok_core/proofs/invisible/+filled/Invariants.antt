@@ -11,4 +11,5 @@ abbrev pub decreases-is_tree_filled : goal.decreases-is_tree_filled
 decreases-is_tree_filled l = tree_weight (tree_of l.next.now)
 
 abbrev pub invariant-is_filled-loop-next : goal.invariant-is_filled-loop-next
-invariant-is_filled-loop-next l = filled (trees_of (drop l.next-index l.next-items)) ≡ filled (trees_of l.next-items)
+invariant-is_filled-loop-next l = filled (trees_of (drop l.next-index l.next-items))
+    ≡ filled (trees_of l.next-items)

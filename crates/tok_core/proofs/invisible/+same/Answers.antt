@@ -22,7 +22,13 @@ same_tree-returns-then-same_edges t c =
     let edges = (c.same_edges.ensures).0 c.if-same_edges.true in
     answered c.same_visible.result (λ b h. (
       λ y. ap erased left
-          ∙ group_same (bounds_delimiter l.bounds) (bounds_delimiter r.bounds) l.stream r.stream (bounds_span l.bounds) (bounds_span r.bounds) seen_left seen_right edges.0 edges.1 (ap erase (sym c.stream.ensures) ∙ h.0 y ∙ ap erase c.stream-then-same_edges.ensures)
+          ∙ group_same (bounds_delimiter l.bounds) (bounds_delimiter r.bounds) l.stream r.stream
+          (bounds_span l.bounds) (bounds_span r.bounds) seen_left seen_right edges.0 edges.1
+          (ap erase (sym c.stream.ensures) ∙ h.0 y
+          ∙ ap erase c.stream-then-same_edges.ensures)
           ∙ sym (ap erased right),
-      λ e. h.1 (ap erase c.stream.ensures ∙ group_content (bounds_delimiter l.bounds) (bounds_delimiter r.bounds) l.stream r.stream (bounds_span l.bounds) (bounds_span r.bounds) seen_left seen_right (sym (ap erased left) ∙ e ∙ ap erased right) ∙ sym (ap erase c.stream-then-same_edges.ensures)),
+      λ e. h.1 (ap erase c.stream.ensures ∙ group_content (bounds_delimiter l.bounds)
+          (bounds_delimiter r.bounds) l.stream r.stream (bounds_span l.bounds)
+          (bounds_span r.bounds) seen_left seen_right (sym (ap erased left) ∙ e
+          ∙ ap erased right) ∙ sym (ap erase c.stream-then-same_edges.ensures)),
     )) c.same_visible.ensures

@@ -17,4 +17,5 @@ decreases-same_visible-loop-theirs l = pending_weight (all_of l.ours)
 
 abbrev pub invariant-same_visible-loop-theirs : goal.invariant-same_visible-loop-theirs
 invariant-same_visible-loop-theirs l =
-    SameAs (pending (all_of l.ours)) (pending (all_of l.theirs)) (erase l.left) (erase l.right) × (pending_weight (all_of l.ours) ≤ weight l.left)
+    SameAs (pending (all_of l.ours)) (pending (all_of l.theirs)) (erase l.left) (erase l.right)
+    × (pending_weight (all_of l.ours) ≤ weight l.left)

@@ -13,4 +13,5 @@ decreases-is_alike l = tree_weight (tree_of l.left.now)
 abbrev pub invariant-are_alike-loop-i : goal.invariant-are_alike-loop-i
 invariant-are_alike-loop-i l =
     (length l.ours ≡ length l.theirs)
-    × (alike (trees_of (drop l.i l.ours)) (trees_of (drop l.i l.theirs)) ≡ alike (trees_of l.ours) (trees_of l.theirs))
+    × (alike (trees_of (drop l.i l.ours)) (trees_of (drop l.i l.theirs))
+    ≡ alike (trees_of l.ours) (trees_of l.theirs))

@@ -12,4 +12,5 @@ decreases-hash_tree g l = tree_weight (tree_of l.next.now)
 
 abbrev pub invariant-hash_stream-loop-next : goal.invariant-hash_stream-loop-next
 invariant-hash_stream-loop-next g l =
-    fold g.H.Hasher.write l.state (forest_input (trees_of (drop l.next-index l.next-items))) ≡ fold g.H.Hasher.write l.fn.state (forest_input (trees_of l.next-items))
+    fold g.H.Hasher.write l.state (forest_input (trees_of (drop l.next-index l.next-items)))
+    ≡ fold g.H.Hasher.write l.fn.state (forest_input (trees_of l.next-items))

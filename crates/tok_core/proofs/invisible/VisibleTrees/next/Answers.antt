@@ -5,42 +5,64 @@ use Rattle.tok_core.specs.Seen.{tree_of}
 use Rattle.tok_core.proofs.Pendings.{popped_none, taken, entered}
 use Rattle.tok_core.proofs.invisible.VisibleTrees.next.Goals as goal
 
-pub returns-in_default-invisible_content-clause-erased : goal.returns-in_default-invisible_content-clause-erased
+pub returns-in_default-invisible_content-clause-erased :
+    goal.returns-in_default-invisible_content-clause-erased
 returns-in_default-invisible_content-clause-erased c =
     let v = c.loop-first.self in
-    let t = taken (all_of v) (v.outer.items ++ c.in-Some.rest ∷ []) v.outer.items v.trees c.in-Some.rest c.in-Some.first.now refl c.in-Some.ensures.cases.0 refl in
+    let t = taken (all_of v) (v.outer.items ++ c.in-Some.rest ∷ []) v.outer.items v.trees
+    c.in-Some.rest c.in-Some.first.now refl c.in-Some.ensures.cases.0 refl in
     sym c.loop-first.invariant.0 ∙ t.same
 
-pub returns-in_default-invisible_content-clause-smaller : goal.returns-in_default-invisible_content-clause-smaller
+pub returns-in_default-invisible_content-clause-smaller :
+    goal.returns-in_default-invisible_content-clause-smaller
 returns-in_default-invisible_content-clause-smaller c =
     let v = c.loop-first.self in
-    let t = taken (all_of v) (v.outer.items ++ c.in-Some.rest ∷ []) v.outer.items v.trees c.in-Some.rest c.in-Some.first.now refl c.in-Some.ensures.cases.0 refl in
+    let t = taken (all_of v) (v.outer.items ++ c.in-Some.rest ∷ []) v.outer.items v.trees
+    c.in-Some.rest c.in-Some.first.now refl c.in-Some.ensures.cases.0 refl in
     omega (arith, t.weight, c.loop-first.invariant.1)
 
 pub loop-first-preserved-in-Some : goal.loop-first-preserved-in-Some
 loop-first-preserved-in-Some c =
     let v = c.loop-first.self in
     let content = c.trees-self.result in
-    let t = taken (all_of v) (v.outer.items ++ c.in-Some.rest ∷ []) v.outer.items v.trees c.in-Some.rest c.in-Some.first.now refl c.in-Some.ensures.cases.0 refl in
+    let t = taken (all_of v) (v.outer.items ++ c.in-Some.rest ∷ []) v.outer.items v.trees
+    c.in-Some.rest c.in-Some.first.now refl c.in-Some.ensures.cases.0 refl in
     let is = c.in-Some-invisible_content.ensures in
-    let e = entered (all_of v) (v.outer.items ++ c.in-Some.rest ∷ []) (c.push.new.self.items ++ content ∷ []) (tree_of c.in-Some.first.now) c.in-Some-invisible_content.content.now is.0 content t is.1 c.trees-self.ensures (ap (λ xs. xs ++ content ∷ []) c.in_ok-push.ensures.items) in
+    let e = entered (all_of v) (v.outer.items ++ c.in-Some.rest ∷ [])
+    (c.push.new.self.items ++ content ∷ []) (tree_of c.in-Some.first.now)
+    c.in-Some-invisible_content.content.now is.0 content t is.1 c.trees-self.ensures
+    (ap (λ xs. xs ++ content ∷ []) c.in_ok-push.ensures.items) in
     (e.0 ∙ c.loop-first.invariant.0, omega (arith, e.1, c.loop-first.invariant.1))
 
 pub loop-first-smaller-in-Some : goal.loop-first-smaller-in-Some
 loop-first-smaller-in-Some c =
     let v = c.loop-first.self in
     let content = c.trees-self.result in
-    let t = taken (all_of v) (v.outer.items ++ c.in-Some.rest ∷ []) v.outer.items v.trees c.in-Some.rest c.in-Some.first.now refl c.in-Some.ensures.cases.0 refl in
+    let t = taken (all_of v) (v.outer.items ++ c.in-Some.rest ∷ []) v.outer.items v.trees
+    c.in-Some.rest c.in-Some.first.now refl c.in-Some.ensures.cases.0 refl in
     let is = c.in-Some-invisible_content.ensures in
-    let e = entered (all_of v) (v.outer.items ++ c.in-Some.rest ∷ []) (c.push.new.self.items ++ content ∷ []) (tree_of c.in-Some.first.now) c.in-Some-invisible_content.content.now is.0 content t is.1 c.trees-self.ensures (ap (λ xs. xs ++ content ∷ []) c.in_ok-push.ensures.items) in
-    omega (arith, e.1, ap (λ xs. length xs) c.in_ok-push.ensures.items, length-append v.outer.items (c.in-Some.rest ∷ []))
+    let e = entered (all_of v) (v.outer.items ++ c.in-Some.rest ∷ [])
+    (c.push.new.self.items ++ content ∷ []) (tree_of c.in-Some.first.now)
+    c.in-Some-invisible_content.content.now is.0 content t is.1 c.trees-self.ensures
+    (ap (λ xs. xs ++ content ∷ []) c.in_ok-push.ensures.items) in
+    omega (
+      arith,
+      e.1,
+      ap (λ xs. length xs) c.in_ok-push.ensures.items,
+      length-append v.outer.items (c.in-Some.rest ∷ []),
+    )
 
 pub loop-first-preserved : goal.loop-first-preserved
 loop-first-preserved c =
     let v = c.loop-first.self in
     let p = popped_none (all_of v) v.outer.items v.trees refl c.in_default.ensures.cases in (
       ap pending (sym c.in-Some-pop.ensures.items) ∙ p.same ∙ c.loop-first.invariant.0,
-      omega (arith, ap pending_weight c.in-Some-pop.ensures.items, p.weight, c.loop-first.invariant.1),
+      omega (
+        arith,
+        ap pending_weight c.in-Some-pop.ensures.items,
+        p.weight,
+        c.loop-first.invariant.1,
+      ),
     )
 
 pub loop-first-smaller : goal.loop-first-smaller

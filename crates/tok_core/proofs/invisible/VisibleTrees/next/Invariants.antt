@@ -7,4 +7,5 @@ decreases-loop-first l = pending_weight (all_of l.self) + length l.self.outer.it
 
 abbrev pub invariant-loop-first : goal.invariant-loop-first
 invariant-loop-first l =
-    (pending (all_of l.self) ≡ pending (all_of l.fn.self)) × (pending_weight (all_of l.self) ≤ pending_weight (all_of l.fn.self))
+    (pending (all_of l.self) ≡ pending (all_of l.fn.self))
+    × (pending_weight (all_of l.self) ≤ pending_weight (all_of l.fn.self))

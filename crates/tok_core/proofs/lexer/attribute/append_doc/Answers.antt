@@ -12,5 +12,8 @@ returns g c =
     let between = bang c.args.span c.args.is_inner in
     let last = tree (doc_group c.args.span (chars c.args.text.now)) no_trees in
     c.in_ok-append_group.ensures
-    ∙ ap (add_forest last) (c.in_ok-append_bang.ensures ∙ ap (add_forest between) (c.in_ok-punct.ensures.ok ∙ ap (λ l. add_leaf l old) c.punct.ensures))
-    ∙ ap (λ f. record { outer = old.outer; inner = f }) (joined_assoc _ between last ∙ joined_assoc old.inner _ (concat between last))
+    ∙ ap (add_forest last) (c.in_ok-append_bang.ensures
+    ∙ ap (add_forest between) (c.in_ok-punct.ensures.ok
+    ∙ ap (λ l. add_leaf l old) c.punct.ensures))
+    ∙ ap (λ f. record { outer = old.outer; inner = f }) (joined_assoc _ between last
+    ∙ joined_assoc old.inner _ (concat between last))

@@ -15,5 +15,7 @@ returns-in_err-append-clause-err c = none_appended _ _ _ _ _ (search rules)
 pub returns-clause-ok : goal.returns-clause-ok
 returns-clause-ok c =
     let old : Forest = c.args.tokens.now in
-    let one = then_tree old old c.append.new.self _ _ _ (sym (concat-none old)) c.in_ok-append.ensures.ok (ap leaf c.punct-mark.ensures) in
-    then_tree old c.append.new.self c.append-2.new.self _ _ _ one c.in_ok-append-2.ensures.ok (ap (λ i. leaf (ident_of i)) c.in_ok-ident.ensures)
+    let one = then_tree old old c.append.new.self _ _ _ (sym (concat-none old))
+    c.in_ok-append.ensures.ok (ap leaf c.punct-mark.ensures) in
+    then_tree old c.append.new.self c.append-2.new.self _ _ _ one c.in_ok-append-2.ensures.ok
+    (ap (λ i. leaf (ident_of i)) c.in_ok-ident.ensures.cases)
