@@ -1,0 +1,4 @@
+mod Codes
+mod Digits
+mod Quoted
+mod Units

@@ -1,0 +1,143 @@
+-- What the text of a made string literal means.
+use Rattle.std.proofs.Common.{◌≡◌, ◌∙◌, ◌<◌, ℕ, zero, suc, List, [], ◌∷◌, ◌++◌, Option, Some, None, Bool, true, false, refl, sym, ap, append_assoc, eqb-true, arith}
+use Rattle.std.specs.Prelude.{◌==◌, ◌&&◌, if◌then◌else◌, codes, encode_utf8, encode_utf8_all}
+use Rattle.std.specs.List.{flat_map}
+use Rattle.std.specs.Str.{IsAscii, IsUtf8, chars}
+use lib.Utf8.{scalars}
+use Rattle.std.proofs.lemmas.List.{append-nil}
+use Rattle.std.proofs.lemmas.Str.{chars-encodes, encodes-IsAscii, encodes-append, encodes-chars, scalars-chars}
+use Rattle.tok_leaves.specs.Quoting.{escaped, in_quotes}
+use Rattle.tok_values.specs.Strings.{IsStringValue, Means, line_feed, more, nothing, unit}
+use Rattle.tok_values.specs.Strings as strings
+
+-- a character, or the escape that stands for it
+abbrev written : ℕ → List ℕ
+written c =
+    if c == 34 then 92 ∷ 34 ∷ [] else
+    if c == 92 then 92 ∷ 92 ∷ [] else
+    if c == 10 then 92 ∷ 110 ∷ [] else
+    if c == 13 then 92 ∷ 114 ∷ [] else
+    if c == 9 then 92 ∷ 116 ∷ [] else
+    if c == 0 then 92 ∷ 48 ∷ [] else c ∷ []
+
+two : (a b : ℕ) → a < 128 → b < 128 → encode_utf8_all (a ∷ b ∷ []) ≡ a ∷ b ∷ []
+two a b p q = encodes-IsAscii (a ∷ b ∷ []) ascii
+  where
+    ascii : IsAscii (a ∷ b ∷ [])
+    ascii zero = p
+    ascii (suc zero) = q
+    ascii (suc (suc i)) = omega arith
+
+pick : (b : Bool) (x y u v : List ℕ) → encode_utf8_all x ≡ u → encode_utf8_all y ≡ v
+    → encode_utf8_all (if b then x else y) ≡ (if b then u else v)
+pick true x y u v e f = e
+pick false x y u v e f = f
+
+encoded : (c : ℕ) → encode_utf8_all (written c) ≡ escaped c
+encoded c =
+    pick (c == 34) _ _ _ _ (two 92 34 (omega arith) (omega arith))
+    (pick (c == 92) _ _ _ _ (two 92 92 (omega arith) (omega arith))
+    (pick (c == 10) _ _ _ _ (two 92 110 (omega arith) (omega arith))
+    (pick (c == 13) _ _ _ _ (two 92 114 (omega arith) (omega arith))
+    (pick (c == 9) _ _ _ _ (two 92 116 (omega arith) (omega arith))
+    (pick (c == 0) _ _ _ _ (two 92 48 (omega arith) (omega arith)) (append-nil (encode_utf8 c)))))))
+
+all_encoded : (cs : List ℕ) → encode_utf8_all (flat_map written cs) ≡ flat_map escaped cs
+all_encoded [] = refl
+all_encoded (c ∷ cs) =
+    encodes-append (written c) (flat_map written cs)
+    ∙ ap (λ w. w ++ encode_utf8_all (flat_map written cs)) (encoded c) ∙ ap (λ w. escaped c ++ w) (all_encoded cs)
+
+pick_scalars : (b : Bool) (x y : List ℕ) → scalars x ≡ true → scalars y ≡ true
+    → scalars (if b then x else y) ≡ true
+pick_scalars true x y e f = e
+pick_scalars false x y e f = f
+
+one_scalars : (c : ℕ) → scalars (c ∷ []) ≡ true → scalars (written c) ≡ true
+one_scalars c h =
+    pick_scalars (c == 34) _ _ refl
+    (pick_scalars (c == 92) _ _ refl
+    (pick_scalars (c == 10) _ _ refl
+    (pick_scalars (c == 13) _ _ refl (pick_scalars (c == 9) _ _ refl (pick_scalars (c == 0) _ _ refl h)))))
+
+both : (a b : Bool) → (a && b) ≡ true → (a ≡ true) × (b ≡ true)
+both true b h = (refl, h)
+both false b h = absurd (cc)
+
+and : (a b : Bool) → a ≡ true → b ≡ true → (a && b) ≡ true
+and true b ha hb = hb
+and false b ha hb = absurd (cc)
+
+scalars-append : (xs ys : List ℕ) → scalars xs ≡ true → scalars ys ≡ true → scalars (xs ++ ys) ≡ true
+scalars-append [] ys h k = k
+scalars-append (x ∷ xs) ys h k =
+    let w = both _ (scalars xs) h in
+    and _ (scalars (xs ++ ys)) w.0 (scalars-append xs ys w.1 k)
+
+all_scalars : (cs : List ℕ) → scalars cs ≡ true → scalars (flat_map written cs) ≡ true
+all_scalars [] h = refl
+all_scalars (c ∷ cs) h =
+    let w = both _ (scalars cs) h in
+    scalars-append (written c) (flat_map written cs) (one_scalars c (and _ true w.0 refl)) (all_scalars cs w.1)
+
+choose : (b : Bool) (x y rest : List ℕ) (c : ℕ)
+    → (b ≡ true → unit false (x ++ rest) ≡ Some (c ∷ [], rest))
+    → (b ≡ false → unit false (y ++ rest) ≡ Some (c ∷ [], rest))
+    → unit false ((if b then x else y) ++ rest) ≡ Some (c ∷ [], rest)
+choose true x y rest c f g = f refl
+choose false x y rest c f g = g refl
+
+plain : (c : ℕ) (rest : List ℕ) → (c == 34) ≡ false → (c == 92) ≡ false → (c == 13) ≡ false
+    → unit false (c ∷ rest) ≡ Some (c ∷ [], rest)
+plain c rest quote slash return =
+    ap (λ b. if b then strings.escaped false rest else
+    if c == 34 then None else
+    if c == 13 then line_feed rest else Some (c ∷ [], rest)) slash
+    ∙ ap (λ b. if b then None else if c == 13 then line_feed rest else Some (c ∷ [], rest)) quote
+    ∙ ap (λ b. if b then line_feed rest else Some (c ∷ [], rest)) return
+
+abbrev one : ℕ → List ℕ → Option (List ℕ × List ℕ)
+one n rest = Some (n ∷ [], rest)
+
+same_one : (c n : ℕ) (rest : List ℕ) → (c == n) ≡ true → one n rest ≡ one c rest
+same_one c n rest e = ap (λ x. one x rest) (sym (eqb-true c n e))
+
+unit_is : (c : ℕ) (rest : List ℕ) → unit false (written c ++ rest) ≡ Some (c ∷ [], rest)
+unit_is c rest =
+    choose (c == 34) _ _ rest c (same_one c 34 rest)
+    (λ quote. choose (c == 92) _ _ rest c (same_one c 92 rest)
+    (λ slash. choose (c == 10) _ _ rest c (same_one c 10 rest)
+    (λ feed. choose (c == 13) _ _ rest c (same_one c 13 rest)
+    (λ return. choose (c == 9) _ _ rest c (same_one c 9 rest)
+    (λ tab. choose (c == 0) _ _ rest c (same_one c 0 rest) (λ nul. plain c rest quote slash return))))))
+
+units : (cs : List ℕ) → Means false (flat_map written cs ++ 34 ∷ []) (34 ∷ []) cs
+units [] = nothing (34 ∷ [])
+units (c ∷ cs) =
+    more ((written c ++ flat_map written cs) ++ 34 ∷ []) (flat_map written cs ++ 34 ∷ []) (34 ∷ []) (c ∷ []) cs
+    (ap (unit false) (append_assoc (written c) (flat_map written cs) (34 ∷ [])) ∙ unit_is c (flat_map written cs ++ 34 ∷ []))
+    (units cs)
+
+quote_bytes : encode_utf8_all (34 ∷ []) ≡ codes "\""
+quote_bytes = encodes-IsAscii (34 ∷ []) ascii
+  where
+    ascii : IsAscii (34 ∷ [])
+    ascii zero = omega arith
+    ascii (suc i) = omega arith
+
+spelled : (cs : List ℕ) → scalars cs ≡ true → chars (in_quotes cs) ≡ 34 ∷ (flat_map written cs ++ 34 ∷ [])
+spelled cs h =
+    let inner = flat_map written cs ++ 34 ∷ [] in
+    let bytes : encode_utf8_all ((34 ∷ []) ++ inner) ≡ in_quotes cs =
+    encodes-append (34 ∷ []) inner ∙ ap (λ w. w ++ encode_utf8_all inner) quote_bytes
+    ∙ ap (λ w. codes "\"" ++ w) (encodes-append (flat_map written cs) (34 ∷ [])
+    ∙ ap (λ w. w ++ encode_utf8_all (34 ∷ [])) (all_encoded cs) ∙ ap (λ w. flat_map escaped cs ++ w) quote_bytes) in
+    ap chars (sym bytes)
+    ∙ chars-encodes (34 ∷ inner) (scalars-append (34 ∷ []) inner refl (scalars-append (flat_map written cs) (34 ∷ []) (all_scalars cs h) refl))
+
+pub strings_keep_text : (text : List ℕ) → IsUtf8 text → IsStringValue (chars (in_quotes (chars text))) text
+strings_keep_text text u = (
+  chars text,
+  (flat_map written (chars text) ++ 34 ∷ [], spelled (chars text) (scalars-chars text u), units (chars text)),
+  sym (encodes-chars text u),
+)

@@ -1,0 +1,5 @@
+use Rattle.tok_values.proofs.Quoted.{strings_keep_text}
+use Rattle.tok_values.proofs.laws.strings_keep_text.Goals as goal
+
+pub returns : goal.returns
+returns c = strings_keep_text

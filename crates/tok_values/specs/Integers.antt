@@ -1,0 +1,40 @@
+-- What integer literals mean (Rust Reference: Tokens, Integer literals).
+use Rattle.std.specs.Prelude.{◌≡◌, ◌≤◌, ◌^◌, ℕ, ◌==◌, ◌&&◌, List, [], ◌∷◌, true, if◌then◌else◌}
+use Rattle.std.specs.Prelude.{Result, Ok, Err}
+use Rattle.std.specs.Str.{chars}
+use Rattle.tok_lexical.specs.Numbers.{IsNumberSuffix, has_digit, is_digit_or_underscore, starts_digit}
+use Rattle.tok_lexical.specs.Pieces.{Skips}
+use Rattle.tok_values.specs.Numbers.{number}
+use Rattle.tok_values.specs.declared.integers.Integer.{Integer}
+use Rattle.tok_values.specs.declared.integers.IntegerFault.{IntegerFault}
+use Rattle.tok_values.specs.declared.integers.IntegerFault.TheVariants.{NotInteger, TooLarge}
+
+-- the base that a number names, and what is after its name
+abbrev pub base_of : List ℕ → ℕ × List ℕ
+base_of [] = (10, [])
+base_of (c ∷ []) = (10, c ∷ [])
+base_of (c ∷ (d ∷ rest)) =
+    if (c == 48) && (d == 120) then (16, rest) else
+    if (c == 48) && (d == 111) then (8, rest) else
+    if (c == 48) && (d == 98) then (2, rest) else (10, c ∷ (d ∷ rest))
+
+-- digits of a base with their number, perhaps with underscores, and a suffix
+pub record IsDigits (radix : ℕ) (text suffix : List ℕ) (value : ℕ) : Type 0 where
+  pub digits : List ℕ
+  pub skips : Skips (is_digit_or_underscore radix) text digits suffix
+  pub some : has_digit radix digits ≡ true
+  pub ends : IsNumberSuffix radix suffix
+  pub is : value ≡ number radix digits
+
+-- an integer literal, its value and its suffix
+abbrev pub IsInteger : (text : List ℕ) → (value : ℕ) → (suffix : List ℕ) → Type 0
+IsInteger text value suffix =
+    (starts_digit text ≡ true) × IsDigits (base_of text).0 (base_of text).1 suffix value
+
+-- an integer is read; or the text is none, or one of a value that no `u64` has
+abbrev pub ReadsInteger : List ℕ → Result Integer IntegerFault → Type 0
+ReadsInteger text (Ok i) = IsInteger text i.value (chars i.suffix.now)
+ReadsInteger text (Err NotInteger) =
+    (value : ℕ) → (suffix : List ℕ) → IsInteger text value suffix → ⊥
+ReadsInteger text (Err TooLarge) =
+    (value : ℕ) × (suffix : List ℕ) × IsInteger text value suffix × (2 ^ 64 ≤ value)

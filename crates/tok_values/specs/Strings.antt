@@ -1,0 +1,101 @@
+-- What quoted literals mean (Rust Reference: Tokens, Character literals; String literals; Byte
+-- literals; Byte string literals).
+use Rattle.std.specs.Prelude.{◌≡◌, ℕ, ◌==◌, ◌||◌, ◌&&◌, not, nat_le, List, [], ◌∷◌, ◌++◌, Bool, true, false}
+use Rattle.std.specs.Prelude.{Option, None, Some, MatchOption, encode_utf8_all, if◌then◌else◌}
+use Rattle.std.specs.Prelude.{bytes_eq, codes}
+use Rattle.std.specs.Borrow.{Bor}
+use Rattle.std.specs.Str.{chars}
+use Rattle.tok_lexical.specs.Pieces.{After, after_first, begins_with}
+use Rattle.tok_lexical.specs.Strings.{is_char}
+use Rattle.tok_values.specs.Escapes.{escape}
+
+-- what a line that goes on skips: space, tab, line feed, carriage return
+abbrev pub is_blank : ℕ → Bool
+is_blank c = (c == 32) || ((c == 9) || ((c == 10) || (c == 13)))
+
+abbrev pub without_blanks : List ℕ → List ℕ
+without_blanks [] = []
+without_blanks (c ∷ rest) = if is_blank c then without_blanks rest else c ∷ rest
+
+-- a line feed, perhaps with a carriage return before it
+abbrev pub ends_line : List ℕ → Bool
+ends_line text = begins_with 10 text || (begins_with 13 text && begins_with 10 (after_first text))
+
+-- one character, and the text after it
+abbrev pub alone : Option (ℕ × List ℕ) → Option (List ℕ × List ℕ)
+alone None = None
+alone (Some (c, rest)) = Some (c ∷ [], rest)
+
+-- after a `\`: an escape, or the end of a line, which means nothing, nor do the blanks after it
+abbrev pub escaped : (wide : Bool) → List ℕ → Option (List ℕ × List ℕ)
+escaped wide text =
+    if ends_line text then Some ([], without_blanks text) else alone (escape wide text)
+
+-- after a carriage return: the line feed that both mean
+abbrev pub line_feed : List ℕ → Option (List ℕ × List ℕ)
+line_feed text = if begins_with 10 text then Some (10 ∷ [], after_first text) else None
+
+-- the front of a text in quotes: the characters that it means, and the text after it; none before a
+-- quote, nor before what may not be in a string. In bytes characters are ASCII.
+abbrev pub unit : (wide : Bool) → List ℕ → Option (List ℕ × List ℕ)
+unit wide [] = None
+unit wide (c ∷ rest) =
+    if c == 92 then escaped wide rest else
+    if c == 34 then None else
+    if c == 13 then line_feed rest else
+    if wide && nat_le 128 c then None else Some (c ∷ [], rest)
+
+-- one unit after another: the text means these characters up to the rest
+pub data Means (wide : Bool) : (text rest characters : List ℕ) → Type 0 where
+  nothing : (text : List ℕ) → Means wide text text []
+  more : (text after rest front characters : List ℕ) → unit wide text ≡ Some (front, after)
+      → Means wide after rest characters → Means wide text rest (front ++ characters)
+
+-- a quote, units and a quote
+abbrev pub InQuotes : (wide : Bool) → (text characters : List ℕ) → Type 0
+InQuotes wide text characters =
+    (inner : List ℕ) × (text ≡ 34 ∷ inner) × Means wide inner (34 ∷ []) characters
+
+-- a string literal without a suffix, and its value in UTF-8
+abbrev pub IsStringValue : (text value : List ℕ) → Type 0
+IsStringValue text value =
+    (characters : List ℕ) × InQuotes false text characters × (value ≡ encode_utf8_all characters)
+
+-- a byte string literal without a suffix, and its value
+abbrev pub IsBytesValue : (text value : List ℕ) → Type 0
+IsBytesValue text value = After 98 (λ quoted. InQuotes true quoted value) text
+
+-- one character or one escape, and the text after it
+abbrev pub one_char : (wide : Bool) → List ℕ → Option (ℕ × List ℕ)
+one_char wide [] = None
+one_char wide (c ∷ rest) =
+    if c == 92 then escape wide rest else
+    if is_char c && not (wide && nat_le 128 c) then Some (c, rest) else None
+
+-- an apostrophe, one character and an apostrophe
+abbrev pub InApostrophes : (wide : Bool) → List ℕ → (c : ℕ) → Type 0
+InApostrophes wide text c = After 39 (λ inner. one_char wide inner ≡ Some (c, 39 ∷ [])) text
+
+-- a character literal without a suffix, and its value
+abbrev pub IsCharValue : List ℕ → (c : ℕ) → Type 0
+IsCharValue text c = InApostrophes false text c
+
+-- a byte literal without a suffix, and its value
+abbrev pub IsByteValue : List ℕ → (byte : ℕ) → Type 0
+IsByteValue text byte = After 98 (λ quoted. InApostrophes true quoted byte) text
+
+-- `true` and `false`, by their bytes
+abbrev pub bool_of : List ℕ → Option Bool
+bool_of text =
+    if bytes_eq text (codes "true") then Some true else
+    if bytes_eq text (codes "false") then Some false else None
+
+-- the characters of a unit
+abbrev pub characters_of : Option ℕ → List ℕ
+characters_of None = []
+characters_of (Some c) = c ∷ []
+
+-- what a function that looks for a unit returns
+abbrev pub FindsUnit : Option (List ℕ × List ℕ) → Option (Option ℕ × Bor (List ℕ)) → Type 0
+FindsUnit wanted answer =
+    MatchOption answer (wanted ≡ None) (λ r. wanted ≡ Some (characters_of r.0, chars r.1.now))

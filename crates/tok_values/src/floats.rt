@@ -1,0 +1,42 @@
+//! The values of floats.
+ghost use Rattle.std.specs.Prelude.{◌≡◌, IfOk};
+ghost use Rattle.tok_values.specs.Floats.{begins_decimal, float_value, without_type};
+
+use std::alloc::{AllocError, Global};
+
+fn begins_decimal(bytes: &[u8]) -> bool
+    ensures { result ≡ begins_decimal bytes.now }
+{
+    match bytes.first() {
+        Some(first) => first.is_ascii_digit(),
+        None => false,
+    }
+}
+
+// Returns the text without a suffix `f32` or `f64`.
+fn without_type(bytes: &[u8]) -> &[u8]
+    ensures { result.now ≡ without_type bytes.now }
+{
+    let (front, last) = bytes.split_at(bytes.len().saturating_sub(3));
+    if last == b"f32".as_slice() || last == b"f64".as_slice() {
+        front
+    } else {
+        bytes
+    }
+}
+
+/// Returns the value of a float or a decimal integer, or `None` if the text is neither.
+pub fn float_value(alloc: Global, text: &str) -> Result<Option<f64>, AllocError>
+    ensures { IfOk result (λ value. value ≡ float_value text.now) }
+{
+    let bytes = text.as_bytes();
+    if !begins_decimal(bytes) {
+        return Ok(None);
+    }
+    let digits: Vec<u8> = without_type(bytes)
+        .iter()
+        .copied()
+        .filter(|byte| *byte != b'_')
+        .collect(alloc)?;
+    Ok(fast_float::parse::<f64, _>(digits.as_slice()).ok())
+}
