@@ -1,10 +1,13 @@
 -- A descent is entering, again and again.
-use Rattle.std.proofs.Common.{◌≡◌, ℕ, zero, suc, ◌+◌, ◌≤◌, Bool, true, false, List, [], ◌∷◌, refl, sym, subst, arith}
+use Rattle.std.proofs.Common.{◌≡◌, ℕ, zero, suc, ◌+◌, ◌≤◌, Bool, true, false, List, [], ◌∷◌}
+use Rattle.std.proofs.Common.{refl, sym, subst, arith}
 use Rattle.tok_lexical.specs.declared.delimiter.Delimiter.TheVariants as delimiter
 use Rattle.tok_core.specs.Forest.{leaf, group, no_trees, tree}
-use Rattle.tok_buffer.specs.Descent.{descend, is_before_invisible, inwards, Descends, stop, enters, DescentsEnter}
+use Rattle.tok_buffer.specs.Descent.{descend, is_before_invisible, inwards, Descends, stop}
+use Rattle.tok_buffer.specs.Descent.{enters, DescentsEnter}
 use Rattle.tok_buffer.specs.Moves.{is_settled}
-use Rattle.tok_buffer.specs.Place.{in_group, Level, level, Place, empty_place, at, absorb, settle, settled}
+use Rattle.tok_buffer.specs.Place.{in_group, Level, level, Place, empty_place, at, absorb}
+use Rattle.tok_buffer.specs.Place.{settle, settled}
 use Rattle.tok_buffer.specs.Progress.{remaining}
 use Rattle.tok_buffer.proofs.Descents.{descend-settle, descend_step, descend_done}
 use Rattle.tok_buffer.proofs.Onwards.{settle_remaining}
@@ -28,18 +31,30 @@ stopped p q e h = subst (Enters p) (sym e) (stop p h, h)
 
 enters_down : (fuel : ℕ) (p : Place) → remaining p ≤ fuel → at_rest p ≡ true → Enters p (descend p)
 enters_down fuel empty_place h r = (stop empty_place refl, refl)
-enters_down fuel (at n s c (level o p no_trees) ls) h r = stopped _ _ (descend_done n s c (level o p no_trees) ls r refl) refl
-enters_down fuel (at n s c (level o p (tree (leaf l) f)) ls) h r = stopped _ _ (descend_done n s c (level o p (tree (leaf l) f)) ls r refl) refl
-enters_down fuel (at n s c (level o p (tree (group delimiter.Parenthesis inside span) f)) ls) h r = stopped _ _ (descend_done n s c (level o p (tree (group delimiter.Parenthesis inside span) f)) ls r refl) refl
-enters_down fuel (at n s c (level o p (tree (group delimiter.Brace inside span) f)) ls) h r = stopped _ _ (descend_done n s c (level o p (tree (group delimiter.Brace inside span) f)) ls r refl) refl
-enters_down fuel (at n s c (level o p (tree (group delimiter.Bracket inside span) f)) ls) h r = stopped _ _ (descend_done n s c (level o p (tree (group delimiter.Bracket inside span) f)) ls r refl) refl
-enters_down zero (at n s c (level o p (tree (group delimiter.None inside span) f)) ls) h r = absurd (omega (arith, h))
+enters_down fuel (at n s c (level o p no_trees) ls) h r =
+    stopped _ _ (descend_done n s c (level o p no_trees) ls r refl) refl
+enters_down fuel (at n s c (level o p (tree (leaf l) f)) ls) h r =
+    stopped _ _ (descend_done n s c (level o p (tree (leaf l) f)) ls r refl) refl
+enters_down fuel (at n s c (level o p (tree (group delimiter.Parenthesis inside span) f)) ls) h
+    r = stopped _ _
+    (descend_done n s c (level o p (tree (group delimiter.Parenthesis inside span) f)) ls r refl)
+    refl
+enters_down fuel (at n s c (level o p (tree (group delimiter.Brace inside span) f)) ls) h r =
+    stopped _ _ (descend_done n s c (level o p (tree (group delimiter.Brace inside span) f)) ls r
+    refl) refl
+enters_down fuel (at n s c (level o p (tree (group delimiter.Bracket inside span) f)) ls) h r =
+    stopped _ _ (descend_done n s c (level o p (tree (group delimiter.Bracket inside span) f)) ls
+    r refl) refl
+enters_down zero (at n s c (level o p (tree (group delimiter.None inside span) f)) ls) h r =
+    absurd (omega (arith, h))
 enters_down (suc k) (at n s c (level o p (tree (group delimiter.None inside span) f)) ls) h r =
     let here = at n s c (level o p (tree (group delimiter.None inside span) f)) ls in
     let l = level (in_group delimiter.None span) no_trees inside in
     let us = level o p f ∷ ls in
-    let e : descend (inwards here) ≡ descend here = descend_step n s c (level o p (tree (group delimiter.None inside span) f)) ls refl in
-    let down = enters_down k (inwards here) (omega (arith, h, settle_remaining n s (c + 1) l us)) (settle_rests n s (c + 1) l us) in
+    let e : descend (inwards here) ≡ descend here =
+    descend_step n s c (level o p (tree (group delimiter.None inside span) f)) ls refl in
+    let down = enters_down k (inwards here) (omega (arith, h, settle_remaining n s (c + 1) l us))
+    (settle_rests n s (c + 1) l us) in
     subst (Enters here) e (enters here (descend (inwards here)) refl down.0, down.1)
 
 descend-settled : (p : Place) → descend (settled p) ≡ descend p
@@ -51,4 +66,5 @@ settled_rests empty_place = refl
 settled_rests (at n s c l ls) = settle_rests n s c l ls
 
 pub descents_enter : DescentsEnter
-descents_enter p = subst (Enters (settled p)) (descend-settled p) (enters_down (remaining (settled p)) (settled p) (omega arith) (settled_rests p))
+descents_enter p = subst (Enters (settled p)) (descend-settled p)
+    (enters_down (remaining (settled p)) (settled p) (omega arith) (settled_rests p))

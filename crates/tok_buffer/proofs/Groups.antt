@@ -1,5 +1,6 @@
 -- A group in front: its content, and the place after.
-use Rattle.std.proofs.Common.{◌≡◌, ℕ, ◌+◌, ◌≤◌, true, eqb, [], ◌∷◌, Option, Some, refl, ap, sym, ◌∙◌, subst, arith, eq-eqb}
+use Rattle.std.proofs.Common.{◌≡◌, ℕ, ◌+◌, ◌≤◌, true, eqb, [], ◌∷◌, Option, Some, refl, ap, sym}
+use Rattle.std.proofs.Common.{◌∙◌, subst, arith, eq-eqb}
 use Rattle.std.proofs.lemmas.Bool.{or_left, cond-true}
 use Rattle.tok_leaves.specs.declared.span.Span.{Span}
 use Rattle.tok_lexical.specs.declared.delimiter.Delimiter.{Delimiter}
@@ -7,7 +8,9 @@ use Rattle.tok_core.specs.Forest.{leaf, group, Forest, no_trees, tree}
 use Rattle.tok_core.specs.Weight.{weight}
 use Rattle.tok_buffer.specs.Entry.{Entered, enter_any}
 use Rattle.tok_buffer.specs.Place.{in_group, Level, level, Place, at, settle, settled}
-use Rattle.tok_buffer.specs.Moves.{level_ahead, level_passed, level_owner, move, levels_at, up_to, some_ends, end_of, place_at, is_settled, in_scope, settled_at}
+use Rattle.tok_buffer.specs.Moves.{level_ahead, level_passed, level_owner, move, levels_at}
+use Rattle.tok_buffer.specs.Moves.{up_to, some_ends, end_of, place_at, is_settled, in_scope}
+use Rattle.tok_buffer.specs.Moves.{settled_at}
 use Rattle.tok_buffer.specs.Private.Layout.{entry_here}
 use Rattle.tok_buffer.specs.declared.entry.Opening.{Opening as Sort}
 use Rattle.tok_buffer.specs.declared.entry.Entry.TheVariants.{Group}
@@ -19,7 +22,8 @@ use Rattle.tok_buffer.proofs.InScope.{ends_later, In, seen, root_settled}
 abbrev pub Fronts : Level → Delimiter → Span → Forest → Forest → Type 0
 Fronts l d t c f = l ≡ level (level_owner l) (level_passed l) (tree (group d c t) f)
 
-pub group_front : (l : Level) (g : Sort) (k : ℕ) → entry_here l ≡ Group g k → (c : Forest) × (f : Forest) × (Fronts l g.delimiter g.span c f × (k ≡ weight c + 1))
+pub group_front : (l : Level) (g : Sort) (k : ℕ) → entry_here l ≡ Group g k → (c : Forest)
+    × (f : Forest) × (Fronts l g.delimiter g.span c f × (k ≡ weight c + 1))
 group_front (level o p no_trees) g k e = cc
 group_front (level o p (tree (leaf i) f)) g k e = absurd (not_leaf (Group g k) i refl e)
 group_front (level o p (tree (group d c t) f)) g k e =
@@ -28,30 +32,51 @@ group_front (level o p (tree (group d c t) f)) g k e =
     let q : weight c + 1 ≡ k = cc in
     (c, f, (ap (λ x. level o p (tree (group x.delimiter c x.span) f)) h, sym q))
 
-module _ (F : Forest) (n s : ℕ) (d : Delimiter) (t : Span) (c f : Forest) (h : in_scope F n s ≡ true) (fronts : Fronts (levels_at F n).0 d t c f) where
+module _ (F : Forest) (n s : ℕ) (d : Delimiter) (t : Span) (c f : Forest)
+    (h : in_scope F n s ≡ true) (fronts : Fronts (levels_at F n).0 d t c f) where
   pub group_fits : n + (weight c + 1) + 1 ≤ s
   group_fits =
-      omega (arith, ap (λ l. weight (level_ahead l)) fronts, ends_later (end_of n (levels_at F n).0) s (levels_at F n).1 h)
+      omega (
+        arith,
+        ap (λ l. weight (level_ahead l)) fronts,
+        ends_later (end_of n (levels_at F n).0) s (levels_at F n).1 h,
+      )
 
-  inside : levels_at F (n + 1) ≡ (level (in_group d t) no_trees c, level (level_owner (levels_at F n).0) (level_passed (levels_at F n).0) f ∷ (levels_at F n).1)
+  inside : levels_at F (n + 1)
+      ≡ (
+        level (in_group d t) no_trees c,
+        level (level_owner (levels_at F n).0)
+            (level_passed (levels_at F n).0) f ∷ (levels_at F n).1,
+      )
   inside = levels_next F n ∙ ap (λ l. move l (levels_at F n).1) fronts
 
-  after : levels_at F (n + (weight c + 1) + 1) ≡ (level (level_owner (levels_at F n).0) (tree (group d c t) (level_passed (levels_at F n).0)) f, (levels_at F n).1)
+  after : levels_at F (n + (weight c + 1) + 1)
+      ≡ (
+        level (level_owner (levels_at F n).0)
+            (tree (group d c t) (level_passed (levels_at F n).0)) f,
+        (levels_at F n).1,
+      )
   after =
       let q : n + (weight c + 1) + 1 ≡ n + (2 + weight c + 0) = omega arith in
       ap (levels_at F) q
-      ∙ jump F (tree (group d c t) no_trees) n (level_owner (levels_at F n).0) (level_passed (levels_at F n).0) f (levels_at F n).1 (ap (λ l. (l, (levels_at F n).1)) fronts)
+      ∙ jump F (tree (group d c t) no_trees) n (level_owner (levels_at F n).0)
+      (level_passed (levels_at F n).0) f (levels_at F n).1
+      (ap (λ l. (l, (levels_at F n).1)) fronts)
 
   pub inside_within : in_scope F (n + 1) (n + (weight c + 1)) ≡ true
   inside_within =
       subst
       (In (n + 1) (n + (weight c + 1)))
       (sym inside)
-      (or_left (eqb (n + 1 + weight c) (n + (weight c + 1))) _ (eq-eqb (n + 1 + weight c) (n + (weight c + 1)) (omega arith)))
+      (or_left (eqb (n + 1 + weight c) (n + (weight c + 1))) _
+      (eq-eqb (n + 1 + weight c) (n + (weight c + 1)) (omega arith)))
 
-  no_outer : up_to (n + 1 + weight c) (n + (weight c + 1)) (level (level_owner (levels_at F n).0) (level_passed (levels_at F n).0) f ∷ (levels_at F n).1) ≡ []
+  no_outer : up_to (n + 1 + weight c) (n + (weight c + 1))
+      (level (level_owner (levels_at F n).0) (level_passed (levels_at F n).0) f
+      ∷ (levels_at F n).1) ≡ []
   no_outer =
-      cond-true (eqb (n + 1 + weight c) (n + (weight c + 1))) [] _ (eq-eqb (n + 1 + weight c) (n + (weight c + 1)) (omega arith))
+      cond-true (eqb (n + 1 + weight c) (n + (weight c + 1))) [] _
+      (eq-eqb (n + 1 + weight c) (n + (weight c + 1)) (omega arith))
 
   pub inside_settled : settled_at F (n + 1) (n + (weight c + 1)) ≡ true
   inside_settled =
@@ -59,7 +84,8 @@ module _ (F : Forest) (n s : ℕ) (d : Delimiter) (t : Span) (c f : Forest) (h :
       ∙ ap (is_settled (level (in_group d t) no_trees c)) no_outer
       ∙ root_settled (in_group d t) no_trees c
 
-  pub inside_place : (k : ℕ) → place_at k F (n + 1) (n + (weight c + 1)) ≡ at k (n + 1 + weight c) (n + 1) (level (in_group d t) no_trees c) []
+  pub inside_place : (k : ℕ) → place_at k F (n + 1) (n + (weight c + 1))
+      ≡ at k (n + 1 + weight c) (n + 1) (level (in_group d t) no_trees c) []
   inside_place k =
       let q : n + (weight c + 1) ≡ n + 1 + weight c = omega arith in
       ap (seen k (n + (weight c + 1)) (n + 1)) inside
@@ -76,7 +102,11 @@ module _ (F : Forest) (n s : ℕ) (d : Delimiter) (t : Span) (c f : Forest) (h :
       (sym after)
       (subst (λ e. some_ends e s (levels_at F n).1 ≡ true) (sym same_end) h)
 
-  pub after_place : (k : ℕ) → place_at k F (n + (weight c + 1) + 1) s ≡ at k s (n + (2 + weight c)) (level (level_owner (levels_at F n).0) (tree (group d c t) (level_passed (levels_at F n).0)) f) (up_to (end_of n (levels_at F n).0) s (levels_at F n).1)
+  pub after_place : (k : ℕ) → place_at k F (n + (weight c + 1) + 1) s
+      ≡ at k s (n + (2 + weight c))
+      (level (level_owner (levels_at F n).0)
+      (tree (group d c t) (level_passed (levels_at F n).0)) f)
+      (up_to (end_of n (levels_at F n).0) s (levels_at F n).1)
   after_place k =
       let l = levels_at F n in
       let e = n + (weight c + 1) + 1 in
@@ -87,7 +117,8 @@ module _ (F : Forest) (n s : ℕ) (d : Delimiter) (t : Span) (c f : Forest) (h :
       ∙ ap (λ z. at k s z m (up_to (end_of n l.0) s l.1)) q
 
 -- the same of the group that an entry holds, at its offset k
-module _ (F : Forest) (n s : ℕ) (g : Sort) (k : ℕ) (h : in_scope F n s ≡ true) (e : entry_here (levels_at F n).0 ≡ Group g k) where
+module _ (F : Forest) (n s : ℕ) (g : Sort) (k : ℕ) (h : in_scope F n s ≡ true)
+    (e : entry_here (levels_at F n).0 ≡ Group g k) where
   pub held_fits : n + k + 1 ≤ s
   held_fits =
       let w = group_front (levels_at F n).0 g k e in
@@ -96,26 +127,44 @@ module _ (F : Forest) (n s : ℕ) (g : Sort) (k : ℕ) (h : in_scope F n s ≡ t
   pub held_within : in_scope F (n + 1) (n + k) ≡ true
   held_within =
       let w = group_front (levels_at F n).0 g k e in
-      subst (λ z. in_scope F (n + 1) (n + z) ≡ true) (sym w.2.1) (inside_within F n s g.delimiter g.span w.0 w.1 h w.2.0)
+      subst (λ z. in_scope F (n + 1) (n + z) ≡ true) (sym w.2.1)
+      (inside_within F n s g.delimiter g.span w.0 w.1 h w.2.0)
 
   pub held_settled : settled_at F (n + 1) (n + k) ≡ true
   held_settled =
       let w = group_front (levels_at F n).0 g k e in
-      subst (λ z. settled_at F (n + 1) (n + z) ≡ true) (sym w.2.1) (inside_settled F n s g.delimiter g.span w.0 w.1 h w.2.0)
+      subst (λ z. settled_at F (n + 1) (n + z) ≡ true) (sym w.2.1)
+      (inside_settled F n s g.delimiter g.span w.0 w.1 h w.2.0)
 
   pub held_after : in_scope F (n + k + 1) s ≡ true
   held_after =
       let w = group_front (levels_at F n).0 g k e in
-      subst (λ z. in_scope F (n + z + 1) s ≡ true) (sym w.2.1) (after_within F n s g.delimiter g.span w.0 w.1 h w.2.0)
+      subst (λ z. in_scope F (n + z + 1) s ≡ true) (sym w.2.1)
+      (after_within F n s g.delimiter g.span w.0 w.1 h w.2.0)
 
-  pub entered : (m : ℕ) (a b : Place) → a ≡ place_at m F (n + 1) (n + k) → b ≡ settled (place_at m F (n + k + 1) s) → enter_any (place_at m F n s) ≡ Some (record { delimiter = g.delimiter; span = g.span; content = a; after = b })
+  pub entered : (m : ℕ) (a b : Place) → a ≡ place_at m F (n + 1) (n + k) →
+      b ≡ settled (place_at m F (n + k + 1) s) → enter_any (place_at m F n s)
+      ≡ Some (record { delimiter = g.delimiter; span = g.span; content = a; after = b })
   entered m a b ea eb =
       let w = group_front (levels_at F n).0 g k e in
       let us = up_to (end_of n (levels_at F n).0) s (levels_at F n).1 in
-      let held : Place → Place → Option Entered = λ y z. Some (record { delimiter = g.delimiter; span = g.span; content = y; after = z }) in
+      let held : Place → Place → Option Entered =
+      λ y z. Some (record {
+        delimiter = g.delimiter;
+        span = g.span;
+        content = y;
+        after =
+            z;
+      }) in
       ap (λ x. enter_any (at m s n x us)) w.2.0
-      ∙ ap (λ z. held z (settle m s (n + (2 + weight w.0)) (level (level_owner (levels_at F n).0) (tree (group g.delimiter w.0 g.span) (level_passed (levels_at F n).0)) w.1) us)) (sym (inside_place F n s g.delimiter g.span w.0 w.1 h w.2.0 m))
-      ∙ ap (λ z. held (place_at m F (n + 1) (n + (weight w.0 + 1))) (settled z)) (sym (after_place F n s g.delimiter g.span w.0 w.1 h w.2.0 m))
-      ∙ ap (λ z. held (place_at m F (n + 1) (n + z)) (settled (place_at m F (n + z + 1) s))) (sym w.2.1)
+      ∙ ap (λ z. held z
+      (settle m s (n + (2 + weight w.0))
+      (level (level_owner (levels_at F n).0)
+      (tree (group g.delimiter w.0 g.span) (level_passed (levels_at F n).0)) w.1) us))
+      (sym (inside_place F n s g.delimiter g.span w.0 w.1 h w.2.0 m))
+      ∙ ap (λ z. held (place_at m F (n + 1) (n + (weight w.0 + 1))) (settled z))
+      (sym (after_place F n s g.delimiter g.span w.0 w.1 h w.2.0 m))
+      ∙ ap (λ z. held (place_at m F (n + 1) (n + z)) (settled (place_at m F (n + z + 1) s)))
+      (sym w.2.1)
       ∙ ap (λ z. held z (settled (place_at m F (n + k + 1) s))) (sym ea)
       ∙ ap (held a) (sym eb)

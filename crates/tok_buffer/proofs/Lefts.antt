@@ -7,7 +7,9 @@ use Rattle.tok_core.specs.Forest.{Tree, tree_span}
 use Rattle.tok_buffer.specs.Ahead.{first_left}
 use Rattle.tok_buffer.specs.Ahead.{first_of, left_of}
 
-pub left_first : (scope : Delimiter) (xs : List (Bool × Tree)) (m : Bool) (span : Span) → first_of xs ≡ Some (m, span) → left_of (Some (span, cond m delimiter.None scope)) ≡ first_left scope xs
+pub left_first : (scope : Delimiter) (xs : List (Bool × Tree)) (m : Bool) (span : Span) →
+    first_of xs ≡ Some (m, span) → left_of (Some (span, cond m delimiter.None scope))
+    ≡ first_left scope xs
 left_first scope [] m span e = cc
 left_first scope (x ∷ xs) m span e =
     let q : (x.0, tree_span x.1) ≡ (m, span) = cc in

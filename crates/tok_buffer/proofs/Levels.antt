@@ -1,5 +1,6 @@
 -- The entries of levels that are open.
-use Rattle.std.proofs.Common.{◌≡◌, ℕ, suc, ◌+◌, ◌-◌, ◌<◌, List, [], ◌∷◌, ◌++◌, length, set, refl, ap, sym, ◌∙◌, subst, arith, append_assoc, length-append}
+use Rattle.std.proofs.Common.{◌≡◌, ℕ, suc, ◌+◌, ◌-◌, ◌<◌, List, [], ◌∷◌, ◌++◌, length, set, refl}
+use Rattle.std.proofs.Common.{ap, sym, ◌∙◌, subst, arith, append_assoc, length-append}
 use Rattle.tok_leaves.specs.declared.span.Span.{Span}
 use Rattle.tok_leaves.specs.Leaves.{Leaf}
 use Rattle.tok_lexical.specs.declared.delimiter.Delimiter.{Delimiter}
@@ -9,8 +10,11 @@ use Rattle.tok_core.specs.Weight.{weight}
 use Rattle.tok_core.proofs.Facts.{concat-none}
 use Rattle.tok_buffer.specs.declared.entry.Entry.{Entry}
 use Rattle.tok_buffer.specs.declared.entry.Entry.TheVariants.{Group, End}
-use Rattle.tok_buffer.specs.Private.Layout.{leaf_entry, layout, entries_of, laid, places, but_last, last_of, levels_of, levels_in, stack_entries}
-use Rattle.tok_buffer.proofs.Layouts.{length-layout, layout-concat, stack_entries-append, stack_entries-layout, filled}
+use Rattle.tok_buffer.specs.Private.Layout.{leaf_entry, layout, entries_of, laid, places}
+use Rattle.tok_buffer.specs.Private.Layout.{but_last, last_of, levels_of, levels_in}
+use Rattle.tok_buffer.specs.Private.Layout.{stack_entries}
+use Rattle.tok_buffer.proofs.Layouts.{length-layout, layout-concat, stack_entries-append}
+use Rattle.tok_buffer.proofs.Layouts.{stack_entries-layout, filled}
 
 but_last-put : (f : Forest) (s : List Forest) (g : Forest) → but_last f (s ++ g ∷ []) ≡ f ∷ s
 but_last-put f [] g = refl
@@ -20,11 +24,13 @@ last_of-put : (f : Forest) (s : List Forest) (g : Forest) → last_of f (s ++ g 
 last_of-put f [] g = refl
 last_of-put f (h ∷ s) g = last_of-put h s g
 
-levels_of-put : (s : List Forest) (f : Forest) → levels_of (s ++ f ∷ []) ≡ record { outer = s; inner = f }
+levels_of-put : (s : List Forest) (f : Forest) → levels_of (s ++ f ∷ [])
+    ≡ record { outer = s; inner = f }
 levels_of-put [] f = refl
 levels_of-put (g ∷ s) f = λ i. record { outer = but_last-put g s f i; inner = last_of-put g s f i }
 
-stack-laid : (s : List Forest) (f : Forest) → stack_entries (laid s ++ layout f) (no_trees ∷ []) ≡ s ++ f ∷ []
+stack-laid : (s : List Forest) (f : Forest) → stack_entries (laid s ++ layout f) (no_trees ∷ [])
+    ≡ s ++ f ∷ []
 stack-laid [] f = stack_entries-layout f no_trees [] ∙ ap (λ w. w ∷ []) (concat-none f)
 stack-laid (g ∷ s) f =
     ap (λ w. stack_entries w (no_trees ∷ [])) (append_assoc (layout g) (End 0 ∷ laid s) (layout f))
@@ -34,17 +40,20 @@ stack-laid (g ∷ s) f =
     ∙ ap (λ w. w ∷ (s ++ f ∷ [])) (concat-none g)
 
 -- entries that are laid so have these levels
-pub levels_are : (xs : List Entry) (s : List Forest) (f : Forest) → xs ≡ laid s ++ layout f → levels_in xs ≡ record { outer = s; inner = f }
+pub levels_are : (xs : List Entry) (s : List Forest) (f : Forest) → xs ≡ laid s ++ layout f →
+    levels_in xs ≡ record { outer = s; inner = f }
 levels_are xs s f e = ap levels_in e ∙ ap levels_of (stack-laid s f) ∙ levels_of-put s f
 
 -- what holds of a builder
 abbrev pub IsBuilt : List Entry → List ℕ → Levels → Type 0
 IsBuilt xs ps s = (xs ≡ laid s.outer ++ layout s.inner) × (ps ≡ places 0 s.outer)
 
-pub built : (xs : List Entry) (ps : List ℕ) (s : Levels) → IsBuilt xs ps s → IsBuilt xs ps (levels_in xs)
+pub built : (xs : List Entry) (ps : List ℕ) (s : Levels) → IsBuilt xs ps s →
+    IsBuilt xs ps (levels_in xs)
 built xs ps s h = subst (IsBuilt xs ps) (sym (levels_are xs s.outer s.inner h.0)) h
 
-pub built_leaf : (xs ys : List Entry) (ps : List ℕ) (s : Levels) (l : Leaf) → IsBuilt xs ps s → ys ≡ xs ++ leaf_entry l ∷ [] → IsBuilt ys ps (add_leaf l s)
+pub built_leaf : (xs ys : List Entry) (ps : List ℕ) (s : Levels) (l : Leaf) → IsBuilt xs ps s →
+    ys ≡ xs ++ leaf_entry l ∷ [] → IsBuilt ys ps (add_leaf l s)
 built_leaf xs ys ps s l (e, p) h = (
   h ∙ ap (λ w. w ++ leaf_entry l ∷ []) e
       ∙ append_assoc (laid s.outer) (layout s.inner) (leaf_entry l ∷ [])
@@ -53,12 +62,14 @@ built_leaf xs ys ps s l (e, p) h = (
 )
 
 -- the same, of the levels that are in the entries
-module _ (xs ys : List Entry) (ps : List ℕ) (l : Leaf) (h : IsBuilt xs ps (levels_in xs)) (y : ys ≡ xs ++ leaf_entry l ∷ []) where
+module _ (xs ys : List Entry) (ps : List ℕ) (l : Leaf) (h : IsBuilt xs ps (levels_in xs))
+    (y : ys ≡ xs ++ leaf_entry l ∷ []) where
   pub leaf_built : IsBuilt ys ps (levels_in ys)
   leaf_built = built ys ps (add_leaf l (levels_in xs)) (built_leaf xs ys ps (levels_in xs) l h y)
 
   pub leaf_shown : (old : Levels) → levels_in xs ≡ old → levels_in ys ≡ add_leaf l old
-  leaf_shown old e = levels_are ys (levels_in xs).outer (add_leaf l (levels_in xs)).inner (built_leaf xs ys ps (levels_in xs) l h y).0 ∙ ap (add_leaf l) e
+  leaf_shown old e = levels_are ys (levels_in xs).outer (add_leaf l (levels_in xs)).inner
+      (built_leaf xs ys ps (levels_in xs) l h y).0 ∙ ap (add_leaf l) e
 
 laid-put : (s : List Forest) (f : Forest) → laid (s ++ f ∷ []) ≡ (laid s ++ layout f) ++ End 0 ∷ []
 laid-put [] f = refl
@@ -67,40 +78,56 @@ laid-put (g ∷ s) f =
     ∙ sym (append_assoc (layout g) (End 0 ∷ (laid s ++ layout f)) (End 0 ∷ []))
     ∙ ap (λ w. w ++ End 0 ∷ []) (sym (append_assoc (layout g) (End 0 ∷ laid s) (layout f)))
 
-place : (n : ℕ) (s : List Forest) (f : Forest) → places n (s ++ f ∷ []) ≡ places n s ++ (n + length (laid s ++ layout f)) ∷ []
+place : (n : ℕ) (s : List Forest) (f : Forest) → places n (s ++ f ∷ []) ≡ places n s
+    ++ (n + length (laid s ++ layout f)) ∷ []
 place n [] f = ap (λ w. (n + w) ∷ []) (sym (length-layout f))
 place n (g ∷ s) f =
-    let l : n + weight g + 1 + length (laid s ++ layout f) ≡ n + length ((layout g ++ End 0 ∷ laid s) ++ layout f) = omega (arith, ap length (append_assoc (layout g) (End 0 ∷ laid s) (layout f)), length-append (layout g) (End 0 ∷ (laid s ++ layout f)), length-layout g) in
-    ap (λ w. (n + weight g) ∷ w) (place (n + weight g + 1) s f ∙ ap (λ w. places (n + weight g + 1) s ++ w ∷ []) l)
+    let l : n + weight g + 1 + length (laid s ++ layout f)
+    ≡ n + length ((layout g ++ End 0 ∷ laid s) ++ layout f) =
+    omega (
+      arith,
+      ap length (append_assoc (layout g) (End 0 ∷ laid s) (layout f)),
+      length-append (layout g) (End 0 ∷ (laid s ++ layout f)),
+      length-layout g,
+    ) in
+    ap (λ w. (n + weight g) ∷ w) (place (n + weight g + 1) s f
+    ∙ ap (λ w. places (n + weight g + 1) s ++ w ∷ []) l)
 
-first_place : (s : List Forest) (f : Forest) → places 0 (s ++ f ∷ []) ≡ places 0 s ++ length (laid s ++ layout f) ∷ []
+first_place : (s : List Forest) (f : Forest) → places 0 (s ++ f ∷ []) ≡ places 0 s
+    ++ length (laid s ++ layout f) ∷ []
 first_place s f =
     let l : 0 + length (laid s ++ layout f) ≡ length (laid s ++ layout f) = omega arith in
     place 0 s f ∙ ap (λ w. places 0 s ++ w ∷ []) l
 
-pub built_open : (xs ys : List Entry) (ps qs : List ℕ) (s : Levels) → IsBuilt xs ps s → ys ≡ xs ++ End 0 ∷ [] → qs ≡ ps ++ length xs ∷ [] → IsBuilt ys qs (opened s)
+pub built_open : (xs ys : List Entry) (ps qs : List ℕ) (s : Levels) → IsBuilt xs ps s →
+    ys ≡ xs ++ End 0 ∷ [] → qs ≡ ps ++ length xs ∷ [] → IsBuilt ys qs (opened s)
 built_open xs ys ps qs s (e, p) h q = (
-  h ∙ ap (λ w. w ++ End 0 ∷ []) e ∙ sym (laid-put s.outer s.inner) ∙ sym (append_none (laid (s.outer ++ s.inner ∷ []))),
-  q ∙ ap (λ w. w ++ length xs ∷ []) p ∙ ap (λ w. places 0 s.outer ++ length w ∷ []) e ∙ sym (first_place s.outer s.inner),
+  h ∙ ap (λ w. w ++ End 0 ∷ []) e ∙ sym (laid-put s.outer s.inner)
+      ∙ sym (append_none (laid (s.outer ++ s.inner ∷ []))),
+  q ∙ ap (λ w. w ++ length xs ∷ []) p ∙ ap (λ w. places 0 s.outer ++ length w ∷ []) e
+      ∙ sym (first_place s.outer s.inner),
 )
   where
     append_none : (zs : List Entry) → zs ++ [] ≡ zs
     append_none [] = refl
     append_none (z ∷ zs) = ap (λ w. z ∷ w) (append_none zs)
 
-module _ (xs ys : List Entry) (ps qs : List ℕ) (h : IsBuilt xs ps (levels_in xs)) (y : ys ≡ xs ++ End 0 ∷ []) (q : qs ≡ ps ++ length xs ∷ []) where
+module _ (xs ys : List Entry) (ps qs : List ℕ) (h : IsBuilt xs ps (levels_in xs))
+    (y : ys ≡ xs ++ End 0 ∷ []) (q : qs ≡ ps ++ length xs ∷ []) where
   pub open_built : IsBuilt ys qs (levels_in ys)
   open_built = built ys qs (opened (levels_in xs)) (built_open xs ys ps qs (levels_in xs) h y q)
 
   pub open_shown : (old : Levels) → levels_in xs ≡ old → levels_in ys ≡ opened old
-  open_shown old e = levels_are ys (opened (levels_in xs)).outer no_trees (built_open xs ys ps qs (levels_in xs) h y q).0 ∙ ap opened e
+  open_shown old e = levels_are ys (opened (levels_in xs)).outer no_trees
+      (built_open xs ys ps qs (levels_in xs) h y q).0 ∙ ap opened e
 
 -- the last of a list, and what is before it
 parted : (f : Forest) (s : List Forest) → f ∷ s ≡ but_last f s ++ last_of f s ∷ []
 parted f [] = refl
 parted f (g ∷ s) = ap (λ w. f ∷ w) (parted g s)
 
-one_end : {A : Type 0} (xs ys : List A) (x y : A) → xs ++ x ∷ [] ≡ ys ++ y ∷ [] → (xs ≡ ys) × (x ≡ y)
+one_end : {A : Type 0} (xs ys : List A) (x y : A) → xs ++ x ∷ [] ≡ ys ++ y ∷ [] → (xs ≡ ys)
+    × (x ≡ y)
 one_end [] [] x y e = (refl, cc)
 one_end {A = A} [] (w ∷ ys) x y e = absurd (longer ys y (ap length e))
   where
@@ -125,47 +152,66 @@ pub record Left (xs : List Entry) (ps : List ℕ) (n : ℕ) (s : Levels) : Type 
   pub places : ps ≡ places 0 outer
   pub entries : xs ≡ ((laid outer ++ layout before) ++ End 0 ∷ []) ++ layout s.inner
 
-pub left : (xs : List Entry) (os ps : List ℕ) (n : ℕ) (s : Levels) → IsBuilt xs os s → 0 < length s.outer → os ≡ ps ++ n ∷ [] → Left xs ps n s
+pub left : (xs : List Entry) (os ps : List ℕ) (n : ℕ) (s : Levels) → IsBuilt xs os s →
+    0 < length s.outer → os ≡ ps ++ n ∷ [] → Left xs ps n s
 left xs os ps n s (e, p) some o = go s.outer refl some
   where
     go : (t : List Forest) → s.outer ≡ t → 0 < length t → Left xs ps n s
     go [] is some = absurd (omega (arith, some))
     go (f ∷ t) is some =
-        let ends = one_end ps (places 0 (but_last f t)) n (length (laid (but_last f t) ++ layout (last_of f t))) (sym o ∙ p ∙ ap (places 0) (is ∙ parted f t) ∙ first_place (but_last f t) (last_of f t)) in
+        let ends = one_end ps (places 0 (but_last f t)) n
+        (length (laid (but_last f t) ++ layout (last_of f t)))
+        (sym o ∙ p ∙ ap (places 0) (is ∙ parted f t)
+        ∙ first_place (but_last f t) (last_of f t)) in
         record {
           outer = but_last f t;
           before = last_of f t;
           is = is ∙ parted f t;
           place = ends.1;
           places = ends.0;
-          entries = e ∙ ap (λ w. w ++ layout s.inner) (ap laid (is ∙ parted f t) ∙ laid-put (but_last f t) (last_of f t));
+          entries = e ∙ ap (λ w. w ++ layout s.inner) (ap laid (is ∙ parted f t)
+              ∙ laid-put (but_last f t) (last_of f t));
         }
 
 -- the place is one of the entries
-pub left_before : (xs : List Entry) (ps : List ℕ) (n : ℕ) (s : Levels) → Left xs ps n s → n < length xs
+pub left_before : (xs : List Entry) (ps : List ℕ) (n : ℕ) (s : Levels) → Left xs ps n s →
+    n < length xs
 left_before xs ps n s h =
     let x = laid h.outer ++ layout h.before in
-    omega (arith, h.place, ap length h.entries, length-append (x ++ End 0 ∷ []) (layout s.inner), length-append x (End 0 ∷ []))
+    omega (
+      arith,
+      h.place,
+      ap length h.entries,
+      length-append (x ++ End 0 ∷ []) (layout s.inner),
+      length-append x (End 0 ∷ []),
+    )
 
 pub places_length : (n : ℕ) (s : List Forest) → length (places n s) ≡ length s
 places_length n [] = refl
 places_length n (f ∷ s) = ap suc (places_length (n + weight f + 1) s)
 
-module _ (xs ys : List Entry) (ps : List ℕ) (n k : ℕ) (s : Levels) (d : Delimiter) (p : Span) (h : Left xs ps n s) (q : k ≡ length xs) (y : ys ≡ xs ++ End (k - n) ∷ []) where
-  pub built_close : IsBuilt (set ys n (Group (record { delimiter = d; span = p }) (k - n))) ps (record { outer = h.outer; inner = concat h.before (tree (group d s.inner p) no_trees) })
+module _ (xs ys : List Entry) (ps : List ℕ) (n k : ℕ) (s : Levels) (d : Delimiter) (p : Span)
+    (h : Left xs ps n s) (q : k ≡ length xs) (y : ys ≡ xs ++ End (k - n) ∷ []) where
+  pub built_close : IsBuilt (set ys n (Group (record { delimiter = d; span = p }) (k - n))) ps
+      (record { outer = h.outer; inner = concat h.before (tree (group d s.inner p) no_trees) })
   built_close = (
     filled (laid h.outer ++ layout h.before) d p s.inner xs ys n k h.place h.entries q y
         ∙ append_assoc (laid h.outer) (layout h.before) (layout (tree (group d s.inner p) no_trees))
-        ∙ ap (λ w. laid h.outer ++ w) (sym (layout-concat h.before (tree (group d s.inner p) no_trees))),
+        ∙ ap (λ w. laid h.outer ++ w)
+        (sym (layout-concat h.before (tree (group d s.inner p) no_trees))),
     h.places,
   )
 
-  pub closes : (old : Levels) → s ≡ old → Closes d p old (levels_in (set ys n (Group (record { delimiter = d; span = p }) (k - n))))
+  pub closes : (old : Levels) → s ≡ old →
+      Closes d p old (levels_in (set ys n (Group (record { delimiter = d; span = p }) (k - n))))
   closes old same =
-      let e = levels_are (set ys n (Group (record { delimiter = d; span = p }) (k - n))) h.outer (concat h.before (tree (group d s.inner p) no_trees)) built_close.0 in
-      subst (λ w. Closes d p w (levels_in (set ys n (Group (record { delimiter = d; span = p }) (k - n))))) same
+      let e = levels_are (set ys n (Group (record { delimiter = d; span = p }) (k - n))) h.outer
+      (concat h.before (tree (group d s.inner p) no_trees)) built_close.0 in
+      subst (λ w. Closes d p w
+      (levels_in (set ys n (Group (record { delimiter = d; span = p }) (k - n))))) same
       (h.before, h.is ∙ ap (λ w. w.outer ++ h.before ∷ []) (sym e), ap (λ w. w.inner) e)
 
 -- entries of one level alone, and an end after them
-pub ended : (xs ys : List Entry) (s : Levels) → xs ≡ laid s.outer ++ layout s.inner → s.outer ≡ [] → ys ≡ xs ++ End 0 ∷ [] → ys ≡ entries_of s.inner
+pub ended : (xs ys : List Entry) (s : Levels) → xs ≡ laid s.outer ++ layout s.inner →
+    s.outer ≡ [] → ys ≡ xs ++ End 0 ∷ [] → ys ≡ entries_of s.inner
 ended xs ys s e o y = y ∙ ap (λ w. w ++ End 0 ∷ []) (e ∙ ap (λ w. laid w ++ layout s.inner) o)

@@ -1,5 +1,6 @@
 -- What is left at a cursor is as far as its scope's end is off.
-use Rattle.std.proofs.Common.{◌≡◌, inl, inr, ℕ, ◌+◌, ◌≤◌, ◌<◌, ◌≢◌, true, false, List, [], ◌∷◌, sym, ◌∙◌, ap, eq-eqb, arith, eqb-true, Option, Some, None}
+use Rattle.std.proofs.Common.{◌≡◌, inl, inr, ℕ, ◌+◌, ◌≤◌, ◌<◌, ◌≢◌, true, false, List, [], ◌∷◌}
+use Rattle.std.proofs.Common.{sym, ◌∙◌, ap, eq-eqb, arith, eqb-true, Option, Some, None}
 use Rattle.std.proofs.lemmas.Bool.{or_cases, cond_both, false≢true}
 use Rattle.std.specs.Prelude.{◌==◌, ◌&&◌}
 use Rattle.tok_core.specs.Weight.{weight}
@@ -16,22 +17,28 @@ abbrev IsMeasured : Place → Type 0
 IsMeasured empty_place = Unit {0}
 IsMeasured (at n s c (level o p f) ls) = c + weight f + remaining_around ls ≡ s
 
-measured_up_to : (e s : ℕ) (us : List Level) → some_ends e s us ≡ true → e + remaining_around (up_to e s us) ≡ s
+measured_up_to : (e s : ℕ) (us : List Level) → some_ends e s us ≡ true →
+    e + remaining_around (up_to e s us) ≡ s
 measured_up_to e s [] h = let q : e ≡ s = eqb-true e s h in omega arith
 measured_up_to e s (level o p f ∷ us) h =
-    cond_both (e == s) [] (level o p f ∷ up_to (e + 1 + weight f) s us) (λ ls. e + remaining_around ls ≡ s)
+    cond_both (e == s) [] (level o p f ∷ up_to (e + 1 + weight f) s us)
+    (λ ls. e + remaining_around ls ≡ s)
     (λ q. let r : e ≡ s = eqb-true e s q in omega arith)
     (λ q. elim (or_cases (e == s) _ h) [
       | inl k ↦ absurd (false≢true (sym q ∙ k))
       | inr k ↦ omega (arith, measured_up_to (e + 1 + weight f) s us k)
     ])
 
-measured_at : (n c s : ℕ) (l : Level) (us : List Level) → some_ends (end_of c l) s us ≡ true → IsMeasured (at n s c l (up_to (end_of c l) s us))
+measured_at : (n c s : ℕ) (l : Level) (us : List Level) → some_ends (end_of c l) s us ≡ true →
+    IsMeasured (at n s c l (up_to (end_of c l) s us))
 measured_at n c s (level o p f) us h = omega (arith, measured_up_to (c + weight f) s us h)
 
-spot_measured : (spot : Option Spot) → IsMeasured (elim spot [ None ↦ empty_place | Some s ↦ spot_place s ])
+spot_measured : (spot : Option Spot) →
+    IsMeasured (elim spot [ None ↦ empty_place | Some s ↦ spot_place s ])
 spot_measured None = tt
-spot_measured (Some s) = measured_at s.buffer.now.number s.position s.scope (levels_at s.buffer.now.forest s.position).0 (levels_at s.buffer.now.forest s.position).1 s.within
+spot_measured (Some s) = measured_at s.buffer.now.number s.position s.scope
+    (levels_at s.buffer.now.forest s.position).0 (levels_at s.buffer.now.forest s.position).1
+    s.within
 
 measured : (c : Cursor) → IsMeasured (place_of c)
 measured c = spot_measured c.spot

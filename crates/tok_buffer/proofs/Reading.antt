@@ -17,41 +17,82 @@ use Rattle.tok_buffer.specs.Buffer.{Laid, forest_of, KeepsReading, SameReading}
 use Rattle.tok_core.specs.Forest.{Forest}
 
 module _ (begin : ℕ) (rules : List Rule) (number : ℕ) (text : List ℕ) where
-  on_forest : (r : Result Laid LexFault) → IfOk r (λ b. ReadsFrom begin rules number text b.forest) → IfOk (forest_of r) (ReadsFrom begin rules number text)
+  on_forest : (r : Result Laid LexFault) →
+      IfOk r (λ b. ReadsFrom begin rules number text b.forest) →
+      IfOk (forest_of r) (ReadsFrom begin rules number text)
   on_forest (Ok b) h = h
   on_forest (Err e) h = tt
 
-  on_fault : (r : Result Laid LexFault) → IfErr r (λ fault. OnRefused fault (IsRefusedFrom begin rules number text)) → IfErr (forest_of r) (λ fault. OnRefused fault (IsRefusedFrom begin rules number text))
+  on_fault : (r : Result Laid LexFault) →
+      IfErr r (λ fault. OnRefused fault (IsRefusedFrom begin rules number text)) →
+      IfErr (forest_of r) (λ fault. OnRefused fault (IsRefusedFrom begin rules number text))
   on_fault (Ok b) h = tt
   on_fault (Err e) h = h
 
-  pub buffer_follows : (r : Result Laid LexFault) → IfOk r (λ b. ReadsFrom begin rules number text b.forest) → IfErr r (λ fault. OnRefused fault (IsRefusedFrom begin rules number text)) → FollowsFrom begin rules number text (forest_of r)
-  buffer_follows r reads refuses = follows begin rules number text (forest_of r) (on_forest r reads) (on_fault r refuses)
+  pub buffer_follows : (r : Result Laid LexFault) →
+      IfOk r (λ b. ReadsFrom begin rules number text b.forest) →
+      IfErr r (λ fault. OnRefused fault (IsRefusedFrom begin rules number text)) →
+      FollowsFrom begin rules number text (forest_of r)
+  buffer_follows r reads refuses = follows begin rules number text (forest_of r)
+      (on_forest r reads) (on_fault r refuses)
 
   -- two readings of one text are the same
-  pub same_reading : (one other : Result Laid LexFault) (n : ℕ) → IfOk one (λ b. b.number ≡ n) → IfOk other (λ b. b.number ≡ n) → FollowsFrom begin rules number text (forest_of one) → FollowsFrom begin rules number text (forest_of other) → SameReading one other
-  same_reading (Ok a) (Ok b) n p q f g = λ i. record { number = (p ∙ sym q) i; forest = forest_once begin rules number text a.forest b.forest f.reads g.reads i }
-  same_reading (Ok a) (Err (Refused e)) n p q f g = never_both begin rules number text a.forest e f.reads g.refuses
+  pub same_reading : (one other : Result Laid LexFault) (n : ℕ) → IfOk one (λ b. b.number ≡ n) →
+      IfOk other (λ b. b.number ≡ n) → FollowsFrom begin rules number text (forest_of one) →
+      FollowsFrom begin rules number text (forest_of other) → SameReading one other
+  same_reading (Ok a) (Ok b) n p q f g =
+      λ i. record {
+        number = (p ∙ sym q) i;
+        forest = forest_once begin rules number text a.forest
+            b.forest f.reads g.reads i;
+      }
+  same_reading (Ok a) (Err (Refused e)) n p q f g = never_both begin rules number text a.forest e
+      f.reads g.refuses
   same_reading (Ok a) (Err Memory) n p q f g = tt
-  same_reading (Err (Refused e)) (Ok b) n p q f g = never_both begin rules number text b.forest e g.reads f.refuses
-  same_reading (Err (Refused e)) (Err (Refused o)) n p q f g = refused_once begin rules number text e o f.refuses g.refuses
+  same_reading (Err (Refused e)) (Ok b) n p q f g = never_both begin rules number text b.forest e
+      g.reads f.refuses
+  same_reading (Err (Refused e)) (Err (Refused o)) n p q f g = refused_once begin rules number
+      text e o f.refuses g.refuses
   same_reading (Err (Refused e)) (Err Memory) n p q f g = tt
   same_reading (Err Memory) other n p q f g = tt
 
   -- a stream that is laid out follows what was read
-  pub kept_follows : (read out : Result Forest LexFault) → KeepsReading read out → FollowsFrom begin rules number text read → FollowsFrom begin rules number text out
+  pub kept_follows : (read out : Result Forest LexFault) → KeepsReading read out →
+      FollowsFrom begin rules number text read → FollowsFrom begin rules number text out
   kept_follows read (Ok f) k h = subst (FollowsFrom begin rules number text) k h
   kept_follows read (Err (Refused e)) k h = subst (FollowsFrom begin rules number text) k h
-  kept_follows read (Err Memory) k h = record { reads = tt; only_read = λ f r. refl; refuses = tt; only_refused = λ e r. tt }
+  kept_follows read (Err Memory) k h = record {
+    reads = tt;
+    only_read = λ f r. refl;
+    refuses =
+        tt;
+    only_refused = λ e r. tt;
+  }
 
-pub kept_source : (edition : Edition) (number : ℕ) (text : List ℕ) (read out : Result Forest LexFault) → KeepsReading read out → FollowsSource edition number text read → FollowsSource edition number text out
-kept_source edition number text read out k (front, rest, cut, begins, f) = (front, rest, cut, begins, kept_follows (bytes front) (source_rules edition) number rest read out k f)
+pub kept_source : (edition : Edition) (number : ℕ) (text : List ℕ)
+    (read out : Result Forest LexFault) → KeepsReading read out →
+    FollowsSource edition number text read → FollowsSource edition number text out
+kept_source edition number text read out k (front, rest, cut, begins, f) = (
+  front,
+  rest,
+  cut,
+  begins,
+  kept_follows (bytes front) (source_rules edition) number rest read
+      out k f,
+)
 
 -- two readings of one source are the same: it begins at one place
-pub same_source : (edition : Edition) (number : ℕ) (text : List ℕ) (one other : Result Laid LexFault) (n : ℕ) → IfOk one (λ b. b.number ≡ n) → IfOk other (λ b. b.number ≡ n) → FollowsSource edition number text (forest_of one) → FollowsSource edition number text (forest_of other) → SameReading one other
-same_source edition number text one other n p q (front, rest, cut, begins, f) (front', rest', cut', begins', g) =
+pub same_source : (edition : Edition) (number : ℕ) (text : List ℕ)
+    (one other : Result Laid LexFault) (n : ℕ) → IfOk one (λ b. b.number ≡ n) →
+    IfOk other (λ b. b.number ≡ n) → FollowsSource edition number text (forest_of one) →
+    FollowsSource edition number text (forest_of other) → SameReading one other
+same_source edition number text one other n p q (front, rest, cut, begins, f)
+    (front', rest', cut', begins', g) =
     let at_rest : rest' ≡ rest = begins_once begins' begins in
-    let at_front : front' ≡ front = append_cancel_right front' front rest (ap (λ w. front' ++ w) (sym at_rest) ∙ sym cut' ∙ cut) in
+    let at_front : front' ≡ front = append_cancel_right front' front rest
+    (ap (λ w. front' ++ w) (sym at_rest) ∙ sym cut' ∙ cut) in
     same_reading (bytes front) (source_rules edition) number rest one other n p q f
-    (subst (λ w. FollowsFrom (bytes w) (source_rules edition) number rest (forest_of other)) at_front
-    (subst (λ w. FollowsFrom (bytes front') (source_rules edition) number w (forest_of other)) at_rest g))
+    (subst (λ w. FollowsFrom (bytes w) (source_rules edition) number rest (forest_of other))
+    at_front
+    (subst (λ w. FollowsFrom (bytes front') (source_rules edition) number w (forest_of other))
+    at_rest g))

@@ -1,5 +1,6 @@
 -- The trees ahead, entry by entry.
-use Rattle.std.proofs.Common.{◌≡◌, ℕ, ◌+◌, ◌≢◌, true, eqb, List, [], ◌∷◌, refl, ap, sym, ◌∙◌, subst, arith, eq-eqb}
+use Rattle.std.proofs.Common.{◌≡◌, ℕ, ◌+◌, ◌≢◌, true, eqb, List, [], ◌∷◌, refl, ap, sym, ◌∙◌}
+use Rattle.std.proofs.Common.{subst, arith, eq-eqb}
 use Rattle.std.proofs.lemmas.Bool.{cond-true}
 use Rattle.tok_leaves.specs.Leaves.{Leaf}
 use Rattle.tok_core.specs.Forest.{Tree, leaf, group, Forest, no_trees, tree, concat}
@@ -18,7 +19,8 @@ use Rattle.tok_buffer.proofs.Groups.{group_front, inside_place, after_place}
 abbrev pub rest_at : Forest → ℕ → ℕ → Forest
 rest_at F n s = rest (place_at 0 F n s)
 
-rest_is : (k s n : ℕ) (l : Level) (us : List Level) → rest (at k s n l us) ≡ concat (level_ahead l) (rest_in us)
+rest_is : (k s n : ℕ) (l : Level) (us : List Level) → rest (at k s n l us)
+    ≡ concat (level_ahead l) (rest_in us)
 rest_is k s n (level o p f) us = refl
 
 pub rest_any : (k : ℕ) (F : Forest) (n s : ℕ) → rest (place_at k F n s) ≡ rest_at F n s
@@ -27,20 +29,28 @@ rest_any k F n s =
     let us = up_to (end_of n x.0) s x.1 in
     rest_is k s n x.0 us ∙ sym (rest_is 0 s n x.0 us)
 
-leaf_rest : (l : Level) (us : List Level) (i : Leaf) → entry_here l ≡ leaf_entry i → concat (level_ahead l) (rest_in us) ≡ tree (leaf i) (concat (level_ahead (move l us).0) (rest_in (move l us).1))
+leaf_rest : (l : Level) (us : List Level) (i : Leaf) → entry_here l ≡ leaf_entry i →
+    concat (level_ahead l) (rest_in us)
+    ≡ tree (leaf i) (concat (level_ahead (move l us).0) (rest_in (move l us).1))
 leaf_rest (level o p no_trees) us i e = absurd (not_leaf _ i refl (sym e))
 leaf_rest (level o p (tree (group x c t) f)) us i e = absurd (not_leaf _ i refl (sym e))
 leaf_rest (level o p (tree (leaf j) f)) us i e =
     ap (λ y. tree (leaf y) (concat f (rest_in us))) (same_leaf j i e)
 
-pub rest_leaf : (F : Forest) (n s : ℕ) (i : Leaf) → in_scope F n s ≡ true → n ≢ s → entry_here (levels_at F n).0 ≡ leaf_entry i → rest_at F n s ≡ tree (leaf i) (rest_at F (n + 1) s)
+pub rest_leaf : (F : Forest) (n s : ℕ) (i : Leaf) → in_scope F n s ≡ true → n ≢ s →
+    entry_here (levels_at F n).0 ≡ leaf_entry i → rest_at F n s
+    ≡ tree (leaf i) (rest_at F (n + 1) s)
 rest_leaf F n s i h ne e =
     let x = levels_at F n in
     let us = up_to (end_of n x.0) s x.1 in
     rest_is 0 s n x.0 us ∙ leaf_rest x.0 us i e
-    ∙ ap (tree (leaf i)) (sym (rest_is 0 s (n + 1) (move x.0 us).0 (move x.0 us).1) ∙ sym (ap rest (place_step 0 n s F h ne).1))
+    ∙ ap (tree (leaf i)) (sym (rest_is 0 s (n + 1) (move x.0 us).0 (move x.0 us).1)
+    ∙ sym (ap rest (place_step 0 n s F h ne).1))
 
-close_rest : (n s : ℕ) (l : Level) (us : List Level) (k : ℕ) → In n s (l, us) → n ≢ s → entry_here l ≡ End k → concat (level_ahead l) (rest_in (up_to (end_of n l) s us)) ≡ concat (level_ahead (move l (up_to (end_of n l) s us)).0) (rest_in (move l (up_to (end_of n l) s us)).1)
+close_rest : (n s : ℕ) (l : Level) (us : List Level) (k : ℕ) → In n s (l, us) → n ≢ s →
+    entry_here l ≡ End k → concat (level_ahead l) (rest_in (up_to (end_of n l) s us))
+    ≡ concat (level_ahead (move l (up_to (end_of n l) s us)).0)
+    (rest_in (move l (up_to (end_of n l) s us)).1)
 close_rest n s (level o p (tree (leaf i) f)) us k h ne e = absurd (not_leaf (End k) i refl e)
 close_rest n s (level o p (tree (group x c t) f)) us k h ne e = cc
 close_rest n s (level o p no_trees) us k h ne e =
@@ -53,39 +63,52 @@ close_rest n s (level o p no_trees) us k h ne e =
       out : (u : Level) (vs : List Level) → rest_in (u ∷ vs) ≡ concat (level_ahead u) (rest_in vs)
       out (level a b c) vs = refl
 
-pub rest_close : (F : Forest) (n s k : ℕ) → in_scope F n s ≡ true → n ≢ s → entry_here (levels_at F n).0 ≡ End k → rest_at F n s ≡ rest_at F (n + 1) s
+pub rest_close : (F : Forest) (n s k : ℕ) → in_scope F n s ≡ true → n ≢ s →
+    entry_here (levels_at F n).0 ≡ End k → rest_at F n s ≡ rest_at F (n + 1) s
 rest_close F n s k h ne e =
     let x = levels_at F n in
     let us = up_to (end_of n x.0) s x.1 in
     rest_is 0 s n x.0 us ∙ close_rest n s x.0 x.1 k h ne e
-    ∙ sym (rest_is 0 s (n + 1) (move x.0 us).0 (move x.0 us).1) ∙ ap rest (sym (place_step 0 n s F h ne).1)
+    ∙ sym (rest_is 0 s (n + 1) (move x.0 us).0 (move x.0 us).1)
+    ∙ ap rest (sym (place_step 0 n s F h ne).1)
 
-end_rest : (s : ℕ) (l : Level) (us : List Level) → In s s (l, us) → concat (level_ahead l) (rest_in (up_to (end_of s l) s us)) ≡ no_trees
+end_rest : (s : ℕ) (l : Level) (us : List Level) → In s s (l, us) →
+    concat (level_ahead l) (rest_in (up_to (end_of s l) s us)) ≡ no_trees
 end_rest s (level o p (tree (leaf i) f)) us h = absurd (omega (arith, ends_later _ s us h))
 end_rest s (level o p (tree (group x c t) f)) us h = absurd (omega (arith, ends_later _ s us h))
 end_rest s (level o p no_trees) [] h = refl
-end_rest s (level o p no_trees) (u ∷ us) h = ap rest_in (cond-true (eqb (s + 0) s) [] _ (eq-eqb (s + 0) s (omega arith)))
+end_rest s (level o p no_trees) (u ∷ us) h =
+    ap rest_in (cond-true (eqb (s + 0) s) [] _ (eq-eqb (s + 0) s (omega arith)))
 
 pub rest_done : (F : Forest) (n s : ℕ) → in_scope F n s ≡ true → n ≡ s → rest_at F n s ≡ no_trees
 rest_done F n s h e =
     let x = levels_at F n in
-    let P : ℕ → Type 0 = λ m. In n m x → concat (level_ahead x.0) (rest_in (up_to (end_of n x.0) m x.1)) ≡ no_trees in
+    let P : ℕ → Type 0 = λ m. In n m x →
+    concat (level_ahead x.0) (rest_in (up_to (end_of n x.0) m x.1)) ≡ no_trees in
     rest_is 0 s n x.0 (up_to (end_of n x.0) s x.1) ∙ subst P e (end_rest n x.0 x.1) h
 
 -- a group: its content, then what follows it
-pub rest_group : (F : Forest) (n s : ℕ) (g : Sort) (k : ℕ) → in_scope F n s ≡ true → entry_here (levels_at F n).0 ≡ Group g k → rest_at F n s ≡ tree (group g.delimiter (rest_at F (n + 1) (n + k)) g.span) (rest_at F (n + k + 1) s)
+pub rest_group : (F : Forest) (n s : ℕ) (g : Sort) (k : ℕ) → in_scope F n s ≡ true →
+    entry_here (levels_at F n).0 ≡ Group g k → rest_at F n s
+    ≡ tree (group g.delimiter (rest_at F (n + 1) (n + k)) g.span) (rest_at F (n + k + 1) s)
 rest_group F n s g k h e =
     let w = group_front (levels_at F n).0 g k e in
     let x = levels_at F n in
     let us = up_to (end_of n x.0) s x.1 in
-    let inner : rest_at F (n + 1) (n + k) ≡ w.0 = subst (λ z. rest_at F (n + 1) (n + z) ≡ w.0) (sym w.2.1) (ap rest (inside_place F n s g.delimiter g.span w.0 w.1 h w.2.0 0) ∙ concat-none w.0) in
-    let outer : rest_at F (n + k + 1) s ≡ concat w.1 (rest_in us) = subst (λ z. rest_at F (n + z + 1) s ≡ concat w.1 (rest_in us)) (sym w.2.1) (ap rest (after_place F n s g.delimiter g.span w.0 w.1 h w.2.0 0)) in
+    let inner : rest_at F (n + 1) (n + k) ≡ w.0 = subst (λ z. rest_at F (n + 1) (n + z) ≡ w.0)
+    (sym w.2.1) (ap rest (inside_place F n s g.delimiter g.span w.0 w.1 h w.2.0 0)
+    ∙ concat-none w.0) in
+    let outer : rest_at F (n + k + 1) s ≡ concat w.1 (rest_in us) =
+    subst (λ z. rest_at F (n + z + 1) s ≡ concat w.1 (rest_in us)) (sym w.2.1)
+    (ap rest (after_place F n s g.delimiter g.span w.0 w.1 h w.2.0 0)) in
     rest_is 0 s n x.0 us
     ∙ ap (λ l. concat (level_ahead l) (rest_in us)) w.2.0
     ∙ ap (λ z. tree (group g.delimiter z g.span) (concat w.1 (rest_in us))) (sym inner)
     ∙ ap (tree (group g.delimiter (rest_at F (n + 1) (n + k)) g.span)) (sym outer)
 
-pub tree_copied : (new old later all : Forest) (t u : Tree) → new ≡ concat old (tree u no_trees) → u ≡ t → all ≡ tree t later → concat new later ≡ concat old all
+pub tree_copied : (new old later all : Forest) (t u : Tree) →
+    new ≡ concat old (tree u no_trees) → u ≡ t → all ≡ tree t later → concat new later
+    ≡ concat old all
 tree_copied new old later all t u e q h =
     ap (λ z. concat z later) e
     ∙ joined_assoc old (tree u no_trees) later

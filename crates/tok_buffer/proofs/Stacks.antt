@@ -1,5 +1,7 @@
 -- The levels at a count, against the entries.
-use Rattle.std.proofs.Common.{◌≡◌, ◌⊎◌, inl, inr, ℕ, zero, suc, ◌+◌, ◌≤◌, ◌<◌, List, [], ◌∷◌, ◌++◌, length, get_or, refl, ap, sym, ◌∙◌, arith, append_assoc, length-append, add-zero, add-one}
+use Rattle.std.proofs.Common.{◌≡◌, ◌⊎◌, inl, inr, ℕ, zero, suc, ◌+◌, ◌≤◌, ◌<◌, List, [], ◌∷◌}
+use Rattle.std.proofs.Common.{◌++◌, length, get_or, refl, ap, sym, ◌∙◌, arith, append_assoc}
+use Rattle.std.proofs.Common.{length-append, add-zero, add-one}
 use Rattle.std.proofs.lemmas.List.{get_or_at, append-nil}
 use Rattle.tok_leaves.specs.declared.span.Span.{Span}
 use Rattle.tok_lexical.specs.declared.delimiter.Delimiter.{Delimiter}
@@ -11,7 +13,8 @@ use Rattle.tok_buffer.specs.Place.{Owner, whole, in_group, Level, level}
 use Rattle.tok_buffer.specs.Moves.{move, levels_at}
 use Rattle.tok_buffer.specs.declared.entry.Entry.{Entry}
 use Rattle.tok_buffer.specs.declared.entry.Entry.TheVariants.{End}
-use Rattle.tok_buffer.specs.Private.Layout.{leaf_entry, layout, entries_of, forest_in, group_entry, entry_here}
+use Rattle.tok_buffer.specs.Private.Layout.{leaf_entry, layout, entries_of, forest_in}
+use Rattle.tok_buffer.specs.Private.Layout.{group_entry, entry_here}
 use Rattle.tok_buffer.proofs.Layouts.{layout-turned, length-layout}
 
 -- what lies before and after a level's content c
@@ -19,7 +22,8 @@ abbrev pub outside : Owner → Forest → List Level → List Entry × List Entr
 outside whole c us = ([], End 0 ∷ [])
 outside (in_group d s) c [] = ([], End (weight c + 1) ∷ [])
 outside (in_group d s) c (level o p f ∷ us) = (
-  ((outside o (turned_onto p (tree (group d c s) f)) us).0 ++ layout (turned_onto p no_trees)) ++ group_entry d s c ∷ [],
+  ((outside o (turned_onto p (tree (group d c s) f)) us).0 ++ layout (turned_onto p no_trees))
+      ++ group_entry d s c ∷ [],
   End (weight c + 1) ∷ (layout f ++ (outside o (turned_onto p (tree (group d c s) f)) us).1),
 )
 
@@ -58,39 +62,61 @@ Moves l us =
     (before (move l us).0 (move l us).1 ≡ before l us ++ entry_here l ∷ [])
     × (after l us ≡ entry_here l ∷ after (move l us).0 (move l us).1)
 
-leaf_moves : (r : List Entry × List Entry) (p : Forest) (i : Leaf) (f : Forest) → (r.0 ++ layout (turned_onto p (tree (leaf i) no_trees)) ≡ (r.0 ++ layout (turned_onto p no_trees)) ++ leaf_entry i ∷ []) × (leaf_entry i ∷ (layout f ++ r.1) ≡ leaf_entry i ∷ (layout f ++ r.1))
+leaf_moves : (r : List Entry × List Entry) (p : Forest) (i : Leaf) (f : Forest) →
+    (r.0 ++ layout (turned_onto p (tree (leaf i) no_trees))
+    ≡ (r.0 ++ layout (turned_onto p no_trees)) ++ leaf_entry i ∷ [])
+    × (leaf_entry i ∷ (layout f ++ r.1) ≡ leaf_entry i ∷ (layout f ++ r.1))
 leaf_moves r p i f = (
-  ap (λ z. r.0 ++ z) (layout-turned p (tree (leaf i) no_trees)) ∙ sym (append_assoc r.0 (layout (turned_onto p no_trees)) (leaf_entry i ∷ [])),
+  ap (λ z. r.0 ++ z) (layout-turned p (tree (leaf i) no_trees))
+      ∙ sym (append_assoc r.0 (layout (turned_onto p no_trees)) (leaf_entry i ∷ [])),
   refl,
 )
 
-open_moves : (r : List Entry × List Entry) (p : Forest) (d : Delimiter) (s : Span) (c f : Forest) → ((((r.0 ++ layout (turned_onto p no_trees)) ++ group_entry d s c ∷ []) ++ []) ≡ (r.0 ++ layout (turned_onto p no_trees)) ++ group_entry d s c ∷ []) × (group_entry d s c ∷ ((layout c ++ End (weight c + 1) ∷ layout f) ++ r.1) ≡ group_entry d s c ∷ (layout c ++ End (weight c + 1) ∷ (layout f ++ r.1)))
-open_moves r p d s c f =
-    (append-nil _, ap (λ x. group_entry d s c ∷ x) (append_assoc (layout c) (End (weight c + 1) ∷ layout f) r.1))
+open_moves : (r : List Entry × List Entry) (p : Forest) (d : Delimiter) (s : Span)
+    (c f : Forest) →
+    ((((r.0 ++ layout (turned_onto p no_trees)) ++ group_entry d s c ∷ []) ++ [])
+    ≡ (r.0 ++ layout (turned_onto p no_trees)) ++ group_entry d s c ∷ [])
+    × (group_entry d s c ∷ ((layout c ++ End (weight c + 1) ∷ layout f) ++ r.1)
+    ≡ group_entry d s c ∷ (layout c ++ End (weight c + 1) ∷ (layout f ++ r.1)))
+open_moves r p d s c f = (
+  append-nil _,
+  ap (λ x. group_entry d s c ∷ x)
+      (append_assoc (layout c) (End (weight c + 1) ∷ layout f) r.1),
+)
 
-close_moves : (r : List Entry × List Entry) (q : Forest) (d : Delimiter) (s : Span) (x g : Forest) → (r.0 ++ layout (turned_onto q (tree (group d x s) no_trees)) ≡ (((r.0 ++ layout (turned_onto q no_trees)) ++ group_entry d s x ∷ []) ++ layout x) ++ End (weight x + 1) ∷ []) × (End (weight x + 1) ∷ (layout g ++ r.1) ≡ End (weight x + 1) ∷ (layout g ++ r.1))
+close_moves : (r : List Entry × List Entry) (q : Forest) (d : Delimiter) (s : Span)
+    (x g : Forest) → (r.0 ++ layout (turned_onto q (tree (group d x s) no_trees))
+    ≡ (((r.0 ++ layout (turned_onto q no_trees)) ++ group_entry d s x ∷ []) ++ layout x)
+    ++ End (weight x + 1) ∷ [])
+    × (End (weight x + 1) ∷ (layout g ++ r.1) ≡ End (weight x + 1) ∷ (layout g ++ r.1))
 close_moves r q d s x g =
     (ap (λ z. r.0 ++ z) (layout-turned q (tree (group d x s) no_trees)) ∙ simp append_assoc, refl)
 
-pub move_past : (o : Owner) (p f : Forest) (us : List Level) → nested (level o p f) us → 0 < weight f + length us → Moves (level o p f) us
-move_past o p (tree (leaf i) f) us h k = leaf_moves (outside o (turned_onto p (tree (leaf i) f)) us) p i f
-move_past o p (tree (group d c s) f) us h k = open_moves (outside o (turned_onto p (tree (group d c s) f)) us) p d s c f
+pub move_past : (o : Owner) (p f : Forest) (us : List Level) → nested (level o p f) us →
+    0 < weight f + length us → Moves (level o p f) us
+move_past o p (tree (leaf i) f) us h k =
+    leaf_moves (outside o (turned_onto p (tree (leaf i) f)) us) p i f
+move_past o p (tree (group d c s) f) us h k =
+    open_moves (outside o (turned_onto p (tree (group d c s) f)) us) p d s c f
 move_past o p no_trees [] h k = absurd (omega arith)
 move_past whole p no_trees (u ∷ us) h k = absurd h
 move_past (in_group d s) p no_trees (level o q g ∷ us) h k =
-    let x = turned_onto p no_trees in close_moves (outside o (turned_onto q (tree (group d x s) g)) us) q d s x g
+    let x = turned_onto p no_trees in
+    close_moves (outside o (turned_onto q (tree (group d x s) g)) us) q d s x g
 
 abbrev pub At : List Entry → Level → List Level → ℕ → Type 0
 At E l us n = nested l us × (E ≡ before l us ++ after l us) × (length (before l us) ≡ n)
 
-pub last_or : (o : Owner) (p f : Forest) (us : List Level) → nested (level o p f) us → (length (after (level o p f) us) ≤ 1) ⊎ (0 < weight f + length us)
+pub last_or : (o : Owner) (p f : Forest) (us : List Level) → nested (level o p f) us →
+    (length (after (level o p f) us) ≤ 1) ⊎ (0 < weight f + length us)
 last_or o p (tree (leaf i) f) us h = inr (omega arith)
 last_or o p (tree (group d c s) f) us h = inr (omega arith)
 last_or whole p no_trees [] h = inl (omega arith)
 last_or (in_group d s) p no_trees [] h = absurd h
 last_or o p no_trees (u ∷ us) h = inr (omega arith)
 
-step_at : (E : List Entry) (w n : ℕ) (l : Level) (us : List Level) → length E ≡ w + 1 → n < w → At E l us n → At E (move l us).0 (move l us).1 (suc n)
+step_at : (E : List Entry) (w n : ℕ) (l : Level) (us : List Level) → length E ≡ w + 1 → n < w →
+    At E l us n → At E (move l us).0 (move l us).1 (suc n)
 step_at E w n (level o p f) us he hn (h, hw, hl) =
     let b = before (level o p f) us in
     let a = after (level o p f) us in
@@ -101,7 +127,8 @@ step_at E w n (level o p f) us he hn (h, hw, hl) =
           let x = entry_here (level o p f) in
           let a' = after (move (level o p f) us).0 (move (level o p f) us).1 in (
             move-nested (level o p f) us h,
-            hw ∙ ap (λ z. b ++ z) m.1 ∙ sym (append_assoc b (x ∷ []) a') ∙ ap (λ z. z ++ a') (sym m.0),
+            hw ∙ ap (λ z. b ++ z) m.1 ∙ sym (append_assoc b (x ∷ []) a')
+                ∙ ap (λ z. z ++ a') (sym m.0),
             omega (arith, ap length m.0, length-append b (x ∷ [])),
           )
     ]
@@ -109,13 +136,16 @@ step_at E w n (level o p f) us he hn (h, hw, hl) =
 pub length-entries_of : (F : Forest) → length (entries_of F) ≡ weight F + 1
 length-entries_of F = omega (arith, length-append (layout F) (End 0 ∷ []), length-layout F)
 
-pub at_all : (F : Forest) (n : ℕ) → n ≤ weight F → At (entries_of F) (levels_at F n).0 (levels_at F n).1 n
+pub at_all : (F : Forest) (n : ℕ) → n ≤ weight F → At (entries_of F) (levels_at F n).0
+    (levels_at F n).1 n
 unfolding levels_at
 at_all F zero h = (tt, refl, refl)
 at_all F (suc n) h =
-    step_at (entries_of F) (weight F) n (levels_at F n).0 (levels_at F n).1 (length-entries_of F) h (at_all F n (omega arith))
+    step_at (entries_of F) (weight F) n (levels_at F n).0 (levels_at F n).1 (length-entries_of F)
+    h (at_all F n (omega arith))
 
-after_here : (l : Level) (us : List Level) → nested l us → (rest : List Entry) × (after l us ≡ entry_here l ∷ rest)
+after_here : (l : Level) (us : List Level) → nested l us → (rest : List Entry)
+    × (after l us ≡ entry_here l ∷ rest)
 after_here (level o p (tree (leaf i) f)) us h = (_, refl)
 after_here (level o p (tree (group d c s) f)) us h = (_, refl)
 after_here (level whole p no_trees) [] h = ([], refl)
@@ -123,17 +153,21 @@ after_here (level (in_group d s) p no_trees) [] h = absurd h
 after_here (level whole p no_trees) (u ∷ us) h = absurd h
 after_here (level (in_group d s) p no_trees) (level o q g ∷ us) h = (_, refl)
 
-entry_from : (E : List Entry) (l : Level) (us : List Level) (n : ℕ) (d : Entry) → At E l us n → get_or E n d ≡ entry_here l
+entry_from : (E : List Entry) (l : Level) (us : List Level) (n : ℕ) (d : Entry) → At E l us n →
+    get_or E n d ≡ entry_here l
 entry_from E l us n d (h, hw, hl) =
     let r = after_here l us h in
     rw (hw, r.1) (get_or_at (before l us) (entry_here l) r.0 d n hl)
 
 -- the entry at a count
-pub entry_at : (F : Forest) (n : ℕ) (d : Entry) → n ≤ weight F → get_or (entries_of F) n d ≡ entry_here (levels_at F n).0
+pub entry_at : (F : Forest) (n : ℕ) (d : Entry) → n ≤ weight F → get_or (entries_of F) n d
+    ≡ entry_here (levels_at F n).0
 entry_at F n d h = entry_from (entries_of F) (levels_at F n).0 (levels_at F n).1 n d (at_all F n h)
 
 -- moving past a whole forest
-pub jump : (F g : Forest) (n : ℕ) (o : Owner) (p f : Forest) (us : List Level) → levels_at F n ≡ (level o p (concat g f), us) → levels_at F (n + weight g) ≡ (level o (turned_onto g p) f, us)
+pub jump : (F g : Forest) (n : ℕ) (o : Owner) (p f : Forest) (us : List Level) → levels_at F n
+    ≡ (level o p (concat g f), us) → levels_at F (n + weight g)
+    ≡ (level o (turned_onto g p) f, us)
 unfolding levels_at
 jump F no_trees n o p f us e = rw add-zero e
 jump F (tree (leaf i) g) n o p f us e =
@@ -142,18 +176,27 @@ jump F (tree (leaf i) g) n o p f us e =
 jump F (tree (group d c s) g) n o p f us e =
     let q : n + (2 + weight c + weight g) ≡ suc (suc n + weight c) + weight g = omega arith in
     let inside =
-    jump F c (suc n) (in_group d s) no_trees no_trees (level o p (concat g f) ∷ us) (ap (λ x. move x.0 x.1) e ∙ ap (λ z. (level (in_group d s) no_trees z, level o p (concat g f) ∷ us)) (sym (concat-none c)))
+    jump F c (suc n) (in_group d s) no_trees no_trees (level o p (concat g f) ∷ us)
+    (ap (λ x. move x.0 x.1) e
+    ∙ ap (λ z. (level (in_group d s) no_trees z, level o p (concat g f) ∷ us))
+    (sym (concat-none c)))
     in
     ap (levels_at F) q
-    ∙ jump F g (suc (suc n + weight c)) o (tree (group d c s) p) f us (ap (λ x. move x.0 x.1) inside ∙ ap (λ z. (level o (tree (group d z s) p) (concat g f), us)) (turned_back c))
+    ∙ jump F g (suc (suc n + weight c)) o (tree (group d c s) p) f us
+    (ap (λ x. move x.0 x.1) inside
+    ∙ ap (λ z. (level o (tree (group d z s) p) (concat g f), us)) (turned_back c))
 
-pub levels_next : (F : Forest) (n : ℕ) → levels_at F (n + 1) ≡ move (levels_at F n).0 (levels_at F n).1
+pub levels_next : (F : Forest) (n : ℕ) → levels_at F (n + 1) ≡ move (levels_at F n).0
+    (levels_at F n).1
 unfolding levels_at
 levels_next F n = rw add-one refl
 
 -- what a buffer's entries tell
-pub laid_length : (E : List Entry) (F : Forest) → E ≡ entries_of (forest_in E) → forest_in E ≡ F → length E ≡ weight F + 1
+pub laid_length : (E : List Entry) (F : Forest) → E ≡ entries_of (forest_in E) →
+    forest_in E ≡ F → length E ≡ weight F + 1
 laid_length E F e v = ap length (e ∙ ap entries_of v) ∙ length-entries_of F
 
-pub laid_entry : (E : List Entry) (F : Forest) (n : ℕ) (x : Entry) → E ≡ entries_of (forest_in E) → forest_in E ≡ F → n ≤ weight F → x ≡ get_or E n x → x ≡ entry_here (levels_at F n).0
+pub laid_entry : (E : List Entry) (F : Forest) (n : ℕ) (x : Entry) →
+    E ≡ entries_of (forest_in E) → forest_in E ≡ F → n ≤ weight F → x ≡ get_or E n x →
+    x ≡ entry_here (levels_at F n).0
 laid_entry E F n x e v h q = q ∙ ap (λ z. get_or z n x) (e ∙ ap entries_of v) ∙ entry_at F n x h

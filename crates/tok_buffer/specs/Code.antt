@@ -2,15 +2,15 @@
 use Rattle.std.specs.Prelude.{◌≡◌, ℕ, List, Option, Some, None, refl}
 use Rattle.std.proofs.Common.{ap, ◌∙◌}
 use Rattle.std.specs.Coded.{Coded, code_by, coded×, coded_ℕ, coded_list, coded_option}
-use Rattle.tok_core.specs.Code.{SpanCode, span_code, span_of, span-back, coded_span, delimiter_code}
-use Rattle.tok_core.specs.Code.{delimiter_of, delimiter-back, forest_code}
+use Rattle.tok_core.specs.Code.{SpanCode, span_code, span_of, span_back, coded_span, delimiter_code}
+use Rattle.tok_core.specs.Code.{delimiter_of, delimiter_back, forest_code}
 use Rattle.tok_core.specs.Forest.{Forest}
 use Rattle.tok_leaves.specs.declared.span.Span.{Span}
 use Rattle.tok_buffer.specs.Ahead.{Leftover}
 use Rattle.tok_buffer.specs.Place.{Owner, whole, in_group, Level, level, Place, empty_place, at}
 
 abbrev pub coded_spans : Coded Span
-coded_spans = code_by SpanCode coded_span span_code span_of span-back
+coded_spans = code_by SpanCode coded_span span_code span_of span_back
 
 abbrev pub OwnerCode : Type 0
 OwnerCode = Option (ℕ × SpanCode)
@@ -26,8 +26,8 @@ owner_of (Some c) = in_group (delimiter_of c.0) (span_of c.1)
 pub owner-back : (o : Owner) → owner_of (owner_code o) ≡ o
 owner-back whole = refl
 owner-back (in_group d span) =
-    ap (λ e. in_group e (span_of (span_code span))) (delimiter-back d)
-    ∙ ap (in_group d) (span-back span)
+    ap (λ e. in_group e (span_of (span_code span))) (delimiter_back d)
+    ∙ ap (in_group d) (span_back span)
 
 abbrev pub coded_owner : Coded Owner
 coded_owner =
@@ -85,8 +85,8 @@ leftover_from c = record { span = span_of c.0; delimiter = delimiter_of c.1 }
 pub leftover-back : (l : Leftover) → leftover_from (leftover_code l) ≡ l
 leftover-back l =
     ap (λ s. record { span = s; delimiter = delimiter_of (delimiter_code l.delimiter) })
-    (span-back l.span)
-    ∙ ap (λ d. record { span = l.span; delimiter = d }) (delimiter-back l.delimiter)
+    (span_back l.span)
+    ∙ ap (λ d. record { span = l.span; delimiter = d }) (delimiter_back l.delimiter)
 
 abbrev pub coded_leftover : Coded Leftover
 coded_leftover =

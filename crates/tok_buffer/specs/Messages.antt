@@ -1,11 +1,13 @@
 -- An error as the list of its messages.
 use Rattle.std.specs.Prelude.{◌≡◌, ℕ, List, [], ◌∷◌, ◌++◌, map, Option, MatchOption, Result}
-use Rattle.std.specs.Prelude.{IfOk, IfSome}
+use Rattle.std.specs.Prelude.{IfOk, IfSome, MatchResult, Some}
+use Rattle.std.specs.Iterator.{Drains, YieldsThen}
 use Rattle.std.specs.declared.alloc.AllocError.{AllocError}
+use Rattle.std.specs.Global.{Box}
 use Rattle.std.specs.List.{flat_map}
 use Rattle.std.specs.Coded.{Coded, code_by, coded×, coded_ℕ, coded_list}
 use Rattle.std.proofs.Common.{ap, ◌∙◌}
-use Rattle.tok_core.specs.Code.{SpanCode, span_code, span_of, span-back, coded_span}
+use Rattle.tok_core.specs.Code.{SpanCode, span_code, span_of, span_back, coded_span}
 use Rattle.tok_leaves.specs.declared.span.Span.{Span}
 use Rattle.tok_leaves.specs.Spans.{call_site, covering}
 use Rattle.tok_buffer.specs.declared.error.Message.{Message}
@@ -14,6 +16,10 @@ use Rattle.tok_buffer.specs.Refusals.{Refusal}
 -- a message: the spans of the first and the last token that it speaks of, and its text
 abbrev pub message : (start end : Span) → List ℕ → Message
 message start end text = record { start = start; end = end; text = text }
+
+-- the messages in their boxes
+abbrev pub unboxed : List (Box Message) → List Message
+unboxed = map (λ (m : Box Message). m.value)
 
 -- an error of one message
 abbrev pub error_of : (start end : Span) → List ℕ → List Message
@@ -49,6 +55,18 @@ each_message e = map (λ m. m ∷ []) e
 abbrev pub AddsMessages : List Message → List (List Message) → List Message → Type 0
 AddsMessages old others new = new ≡ old ++ flat_map (λ e. e) others
 
+-- The messages of each error that an iterator gives are added in turn: of all of them, or of some
+-- first ones, after which it gave one more.
+abbrev pub ExtendsWithErrors : {U T : Type 0} → (U → T → Type 0) →
+    (T → Option (List Message) → T → Type 0) → U → List Message → List Message →
+    Result (Unit {0}) AllocError → Type 0
+ExtendsWithErrors {U} {T} becomes gives errors old new result =
+    (iterator : T) × (added : List (List Message)) × becomes errors iterator
+    × AddsMessages old added new
+    × MatchResult result (λ _. Drains gives iterator added)
+    (λ _. (missing : List Message) × (after : T)
+    × YieldsThen gives iterator added (Some missing) after)
+
 -- a list of errors gives its first, unless memory for a copy was refused
 abbrev pub GivesFirst : List (List Message) → Option (Result (List Message) AllocError) →
     List (List Message) → Type 0
@@ -68,8 +86,8 @@ message_of c = message (span_of c.0) (span_of c.1.0) c.1.1
 
 pub message-back : (m : Message) → message_of (message_code m) ≡ m
 message-back m =
-    ap (λ s. message s (span_of (span_code m.end)) m.text) (span-back m.start)
-    ∙ ap (λ s. message m.start s m.text) (span-back m.end)
+    ap (λ s. message s (span_of (span_code m.end)) m.text) (span_back m.start)
+    ∙ ap (λ s. message m.start s m.text) (span_back m.end)
 
 abbrev pub messages_code : Coded (List Message)
 messages_code =

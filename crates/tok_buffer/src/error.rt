@@ -34,33 +34,37 @@ struct Message {
 /// assert_eq!(rt; error.span(), Span::source(0, 2, 5));
 /// assert_eq!(rt; error.into_iter().count(), 2);
 /// ```
+//
+// The messages are boxed, so that an error takes 32 bytes: each `Result` of a parser is as large as
+// its largest value, and is moved at each call.
 #[derive(Drop)]
 pub struct Error {
-    first: Message,
-    more: Vec<Message>,
+    first: Box<Message>,
+    more: Vec<Box<Message>>,
 }
 
 impl Model for Error {
     ghost use Rattle.std.specs.Prelude.{List, ◌∷◌};
     ghost use Rattle.tok_buffer.specs.declared.error.Message.{Message};
-    ghost use Rattle.tok_buffer.specs.Messages.{messages_code};
+    ghost use Rattle.tok_buffer.specs.Messages.{messages_code, unboxed};
 
     ghost Value = { List Message };
 
     ghost coded = { messages_code };
 
-    ghost view = { λ e. e.first ∷ e.more.items };
+    ghost view = { λ e. e.first.value ∷ unboxed e.more.items };
 }
 
 impl Message {
-    fn clone(&self) -> Result<Message, AllocError>
-        ensures { IfOk result (λ m. m ≡ self.now) }
+    fn boxed_clone(&self, alloc: Global) -> Result<Box<Message>, AllocError>
+        ensures { IfOk result (λ m. m.value ≡ self.now) }
     {
-        Ok(Message {
+        let copy = Message {
             start: self.start,
             end: self.end,
             text: self.text.clone()?,
-        })
+        };
+        Ok(Box::new(alloc, copy)?)
     }
 }
 
@@ -76,11 +80,11 @@ fn ends(trees: &[TokenTree]) -> (Span, Span)
 
 impl Error {
     ghost use Rattle.std.specs.Prelude.{IsTrue, IfSome, OnOk, OnErr};
-    ghost use Rattle.std.specs.Iterator.{ExtendsWithItems, IsFiniteIterable};
+    ghost use Rattle.std.specs.Iterator.{IsFiniteIterable};
     ghost use Rattle.std.specs.Ordering.{partial_le};
     ghost use Rattle.tok_core.specs.Lexical.Errors.{error_span, error_words};
     ghost use Rattle.tok_buffer.specs.Cursors.{place_of};
-    ghost use Rattle.tok_buffer.specs.Messages.{AddsMessages, HasMessage, error_of, refused, spans_of, first_message_span, first_text};
+    ghost use Rattle.tok_buffer.specs.Messages.{ExtendsWithErrors, HasMessage, error_of, refused, spans_of, first_message_span, first_text};
     ghost use Rattle.tok_buffer.specs.Order.{order};
     ghost use Rattle.tok_buffer.specs.Spans.{current_span, range_end};
     ghost use Rattle.tok_buffer.specs.Refusals.{stream_span, at_stream};
@@ -108,8 +112,9 @@ impl Error {
         ensures { IfOk result (HasMessage (start, end) (T.output message)) }
     {
         let text = Text::from_string(alloc, format!(in alloc; "{message}")?)?;
+        let first = Box::new(alloc, Message { start, end, text })?;
         Ok(Error {
-            first: Message { start, end, text },
+            first,
             more: Vec::new(alloc),
         })
     }
@@ -229,7 +234,8 @@ impl Error {
 
     /// Appends the messages of each of these errors, in order.
     ///
-    /// If an allocation fails, the messages of the errors before it stay.
+    /// If an allocation fails, the messages of some first errors were appended, and at least one
+    /// error is missing.
     ///
     /// # Requires
     ///
@@ -237,25 +243,26 @@ impl Error {
     pub fn extend<I: IntoIterator<Item = Error>>(&mut self, errors: I) -> Result<(), AllocError>
         requires { IsFiniteIterable I.into_iter_gives I.IntoIter.can_next
             I.IntoIter.remaining errors }
-        ensures { ExtendsWithItems I.into_iter_gives I.IntoIter.next_gives AddsMessages errors
-            self.old self.new result }
+        ensures { ExtendsWithErrors I.into_iter_gives I.IntoIter.next_gives errors self.old self.new
+            result }
     {
         for another in errors {
             self.combine(another)?;
         }
         Ok(())
     }
+}
 
-    /// Copies the error, messages and spans.
-    ///
-    /// Returns an `AllocError` if an allocation fails.
-    pub fn clone(&self) -> Result<Error, AllocError>
-        ensures { IfOk result (λ e. e ≡ self.now) }
-    {
-        let first = self.first.clone()?;
-        let mut more = Vec::with_capacity(*self.more.allocator(), self.more.len())?;
+/// Copies the error, messages and spans.
+impl Clone for Error {
+    ghost is_clone = { λ e f. f ≡ e };
+
+    fn clone(&self) -> Result<Error, AllocError> {
+        let alloc = *self.more.allocator();
+        let first = self.first.boxed_clone(alloc)?;
+        let mut more = Vec::with_capacity(alloc, self.more.len())?;
         for message in &self.more {
-            more.push(message.clone()?)?;
+            more.push(message.boxed_clone(alloc)?)?;
         }
         Ok(Error { first, more })
     }

@@ -9,11 +9,14 @@ ghost use Rattle.tok_buffer.specs.InFront.{AheadTellsAll, AheadTellsEnds, AllAhe
 ghost use Rattle.tok_buffer.specs.Order.{equal, order};
 ghost use Rattle.tok_buffer.specs.Place.{Place, start};
 ghost use Rattle.tok_buffer.specs.Progress.{EntriesGoOn, MovesStay, ReadsGoLater, ReadsGoOn, ReadsKeepScope, SkipsGoOn, StaysAlong};
+ghost use Rattle.tok_leaves.specs.Laws.{ClonesKeep};
 ghost use Rattle.tok_buffer.specs.Rest.{rest};
 ghost use Rattle.tok_buffer.specs.SameView.{CallsLeadOn, StartsAgree, ViewsDecide, ViewsTellDelimiters, ViewsTellScopes};
 
 use crate::buffer::TokenBuffer;
 use crate::cursor::Cursor;
+use crate::error::Error;
+use crate::lifetime::LifetimeRef;
 use std::alloc::{AllocError, Global};
 use std::cmp::Ordering;
 use tok_core::{Edition, LexFault, TokenStream, lex, lex_marked, lex_source};
@@ -179,4 +182,11 @@ pub fn ahead_tells()
     ensures calls { AheadTellsAll }
     ensures ends { AheadTellsEnds }
     ensures start { AllAheadAtStart }
+{}
+
+/// A clone is the error, cursor or lifetime that was cloned.
+pub fn clones_keep_errors<'a>()
+    ensures errors { ClonesKeep ⟦<Error as Clone>⟧.is_clone }
+    ensures cursors { ClonesKeep ⟦<Cursor<'a> as Clone>⟧.is_clone }
+    ensures lifetimes { ClonesKeep ⟦<LifetimeRef<'a> as Clone>⟧.is_clone }
 {}

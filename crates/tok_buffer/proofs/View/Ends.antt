@@ -6,8 +6,8 @@ use Rattle.tok_lexical.specs.declared.delimiter.Delimiter.TheVariants as delimit
 use Rattle.tok_core.specs.Erase.{erase}
 use Rattle.tok_core.specs.Filled.{filled, has_trees}
 use Rattle.tok_core.specs.Forest.{leaf, group, Forest, no_trees, tree, concat}
-use Rattle.tok_core.proofs.Erasures.{erase-concat}
-use Rattle.tok_core.proofs.Facts.{has_trees-concat}
+use Rattle.tok_core.proofs.Erasures.{erase_concat}
+use Rattle.tok_core.proofs.Facts.{has_trees_concat}
 use Rattle.tok_buffer.specs.Place.{Owner, whole, in_group, Level, level, Place, empty_place, at}
 use Rattle.tok_buffer.specs.Place.{absorb, settle, is_at_end}
 use Rattle.tok_buffer.specs.View.{View, empty_view, seen, view}
@@ -59,7 +59,7 @@ end_in_view empty_view = true
 end_in_view (seen k f) = not (has_trees f)
 
 has-front : (a b : Forest) → has_trees a ≡ true → has_trees (concat a b) ≡ true
-has-front a b h = has_trees-concat a b ∙ ap (λ x. x || has_trees b) h
+has-front a b h = has_trees_concat a b ∙ ap (λ x. x || has_trees b) h
 
 -- in a filled forest a place is at an end exactly where its view has no tree
 pub view-end : (g : Forest) (p : Place) → IsSettled p → IsFilledPlace p
@@ -73,8 +73,8 @@ view-end g (at n s c (level o p (tree (group delimiter.None inside span) f)) ls)
     let inner = and_parts (has_trees (erase inside)) (filled inside) outer.0 in
     sym (ap (λ e. not (has_trees e)) (
     erased_ahead_is (at n s c (level o p (tree (group delimiter.None inside span) f)) ls)
-    ∙ erase-concat (concat (unmarked inside) (unmarked f)) (unmarked_in ls)
-    ∙ ap (λ e. concat e (erase (unmarked_in ls))) (erase-concat (unmarked inside) (unmarked f))
+    ∙ erase_concat (concat (unmarked inside) (unmarked f)) (unmarked_in ls)
+    ∙ ap (λ e. concat e (erase (unmarked_in ls))) (erase_concat (unmarked inside) (unmarked f))
     )
     ∙ ap not
     (has-front (concat (erase (unmarked inside)) (erase (unmarked f)))

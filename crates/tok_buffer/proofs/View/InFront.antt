@@ -60,7 +60,8 @@ first-view wanted (seen k (tree t f)) = first-cond (wanted t) t k f
 tells-leaf : (wanted : Tree → Bool) → IsOfLeaves wanted → (p : Place)
     → with_ahead (read_if wanted (descend p)) ≡ first_if wanted (erased_ahead p)
 tells-leaf wanted leaves p =
-    with_ahead-view (read_if wanted (descend p)) ∙ ap with_trees (view-leaf no_trees wanted leaves p)
+    with_ahead-view (read_if wanted (descend p))
+    ∙ ap with_trees (view-leaf no_trees wanted leaves p)
     ∙ first-view wanted (view no_trees p)
     ∙ ap (first_if wanted) (sym (trees-view p))
 

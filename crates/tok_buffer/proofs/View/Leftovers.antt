@@ -7,7 +7,7 @@ use Rattle.tok_lexical.specs.declared.delimiter.Delimiter.{Delimiter}
 use Rattle.tok_lexical.specs.declared.delimiter.Delimiter.TheVariants as delimiter
 use Rattle.tok_core.specs.Erase.{erase}
 use Rattle.tok_core.specs.Forest.{Tree, leaf, group, Forest, no_trees, tree, concat, tree_span}
-use Rattle.tok_core.proofs.Erasures.{erase-concat}
+use Rattle.tok_core.proofs.Erasures.{erase_concat}
 use Rattle.tok_buffer.specs.Ahead.{first_left, leftover, ahead}
 use Rattle.tok_buffer.specs.Place.{Level, level, Place, empty_place, at}
 use Rattle.tok_buffer.specs.Rest.{scope_delimiter}
@@ -25,7 +25,8 @@ first_visible_span-concat : (f g : Forest)
 first_visible_span-concat no_trees g = refl
 first_visible_span-concat (tree t f) g = refl
 
-first_visible_span-erase : (f : Forest) → first_visible_span (erase f) ≡ first_visible_span (unmarked f)
+first_visible_span-erase : (f : Forest) → first_visible_span (erase f) ≡ first_visible_span
+    (unmarked f)
 first_visible_span-erase no_trees = refl
 first_visible_span-erase (tree (leaf l) f) = refl
 first_visible_span-erase (tree (group delimiter.None inside span) f) =
@@ -39,14 +40,15 @@ first_visible_span-levels : (ls : List Level)
     → first_visible_span (erase (unmarked_in ls)) ≡ first_visible_span (unmarked_in ls)
 first_visible_span-levels [] = refl
 first_visible_span-levels (level o p a ∷ ls) =
-    ap first_visible_span (erase-concat (unmarked a) (unmarked_in ls))
+    ap first_visible_span (erase_concat (unmarked a) (unmarked_in ls))
     ∙ first_visible_span-concat (erase (unmarked a)) (erase (unmarked_in ls))
     ∙ ap (λ o. option_or o (first_visible_span (erase (unmarked_in ls))))
     (ap first_visible_span (erase-unmarked a) ∙ first_visible_span-erase a)
     ∙ ap (option_or (first_visible_span (unmarked a))) (first_visible_span-levels ls)
     ∙ sym (first_visible_span-concat (unmarked a) (unmarked_in ls))
 
-first_visible_span-ahead : (p : Place) → first_visible_span (erased_ahead p) ≡ first_visible_span (trees_ahead p)
+first_visible_span-ahead : (p : Place) → first_visible_span (erased_ahead p) ≡ first_visible_span
+    (trees_ahead p)
 first_visible_span-ahead empty_place = refl
 first_visible_span-ahead (at n s c l ls) =
     ap first_visible_span (erased_ahead_is (at n s c l ls)) ∙ first_visible_span-levels (l ∷ ls)

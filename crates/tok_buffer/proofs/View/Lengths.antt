@@ -3,7 +3,7 @@ use Rattle.std.proofs.Common.{◌≡◌, ◌∙◌, sym, ap, refl, ℕ, ◌+◌,
 use Rattle.tok_lexical.specs.declared.delimiter.Delimiter.TheVariants as delimiter
 use Rattle.tok_core.specs.Erase.{erase}
 use Rattle.tok_core.specs.Forest.{Tree, leaf, group, Forest, no_trees, tree, concat}
-use Rattle.tok_core.proofs.Erasures.{erase-concat}
+use Rattle.tok_core.proofs.Erasures.{erase_concat}
 use Rattle.tok_buffer.specs.Ahead.{ahead}
 use Rattle.tok_buffer.specs.Place.{Level, level, Place, empty_place, at}
 use Rattle.tok_buffer.specs.View.{View, empty_view, seen, view}
@@ -36,7 +36,7 @@ count-levels : (ls : List Level) → tree_count (erase (unmarked_in ls)) ≡ tre
 count-levels [] = refl
 count-levels (level o p a ∷ ls) =
     ap tree_count
-    (erase-concat (unmarked a) (unmarked_in ls)
+    (erase_concat (unmarked a) (unmarked_in ls)
     ∙ ap (λ e. concat e (erase (unmarked_in ls))) (erase-unmarked a))
     ∙ omega (
       arith,

@@ -7,7 +7,8 @@ use Rattle.tok_core.specs.Weight.{tree_weight}
 use Rattle.tok_core.specs.Clear.{is_joint_apostrophe}
 use Rattle.tok_buffer.specs.Descent.{descend}
 use Rattle.tok_buffer.specs.Place.{Owner, Level, level, Place, empty_place, at, front, pass}
-use Rattle.tok_buffer.specs.Reads.{read_if, and_then, place_after, read_tree, is_ident_of, is_punct_of}
+use Rattle.tok_buffer.specs.Reads.{read_if, and_then, place_after, read_tree, is_ident_of}
+use Rattle.tok_buffer.specs.Reads.{is_punct_of}
 use Rattle.tok_buffer.specs.Reads.{is_joint_of, any_tree, read_word, read_lifetime}
 use Rattle.tok_buffer.specs.Reads.{read_punctuation, any_text, skip}
 use Rattle.tok_buffer.proofs.View.Keeps.{IsKept, kept-settle, kept-descend}

@@ -11,7 +11,7 @@ use Rattle.tok_lexical.specs.declared.delimiter.Delimiter.TheVariants as delimit
 use Rattle.tok_core.specs.Erase.{erase}
 use Rattle.tok_core.specs.Forest.{leaf, group, Forest, no_trees, tree, concat}
 use Rattle.tok_core.specs.Weight.{weight}
-use Rattle.tok_core.proofs.Erasures.{erase-concat}
+use Rattle.tok_core.proofs.Erasures.{erase_concat}
 use Rattle.tok_core.proofs.Facts.{concat-none}
 use Rattle.tok_buffer.specs.Descent.{descend}
 use Rattle.tok_buffer.specs.Entry.{enter, enter_any, entered_of, same_delimiter}
@@ -173,7 +173,7 @@ pub erase-unmarked : (f : Forest) → erase (unmarked f) ≡ erase f
 erase-unmarked no_trees = refl
 erase-unmarked (tree (leaf l) f) = ap (tree (leaf l)) (erase-unmarked f)
 erase-unmarked (tree (group delimiter.None inside span) f) =
-    erase-concat (unmarked inside) (unmarked f)
+    erase_concat (unmarked inside) (unmarked f)
     ∙ ap (λ g. concat g (erase (unmarked f))) (erase-unmarked inside)
     ∙ ap (concat (erase inside)) (erase-unmarked f)
 erase-unmarked (tree (group d inside span) f) =
@@ -183,7 +183,7 @@ groups-level : (a : Forest) (ls : List Level)
     → groups (erase (concat (unmarked a) (unmarked_in ls))) ≡ groups a
     + groups (erase (unmarked_in ls))
 groups-level a ls =
-    ap groups (erase-concat (unmarked a) (unmarked_in ls))
+    ap groups (erase_concat (unmarked a) (unmarked_in ls))
     ∙ groups-concat (erase (unmarked a)) (erase (unmarked_in ls))
     ∙ ap (λ k. k + groups (erase (unmarked_in ls))) (ap groups (erase-unmarked a) ∙ groups-erase a)
 

@@ -10,7 +10,7 @@ use Rattle.tok_leaves.specs.declared.span.Span.{Span}
 use Rattle.tok_core.specs.Filled.{filled}
 use Rattle.tok_core.specs.Forest.{Tree, leaf, group, Forest, no_trees, tree}
 use Rattle.tok_core.specs.Weight.{weight, tree_weight}
-use Rattle.tok_core.proofs.Facts.{filled-tree}
+use Rattle.tok_core.proofs.Facts.{filled_tree}
 use Rattle.tok_buffer.specs.Descent.{descend}
 use Rattle.tok_buffer.specs.Entry.{Entered, enter, enter_any, entered_of, same_delimiter}
 use Rattle.tok_buffer.specs.Order.{same_scope}
@@ -71,7 +71,7 @@ marks-tree (group d inside span) a =
     ap (λ xs. 0 ∷ xs) (sym (append_assoc (closing_marks inside) (1 ∷ []) (closing_marks a)))
 
 filled-past : (t : Tree) (a : Forest) → filled (tree t a) ≡ true → filled a ≡ true
-filled-past t a h = (and_parts (filled (tree t no_trees)) (filled a) (sym (filled-tree t a) ∙ h)).1
+filled-past t a h = (and_parts (filled (tree t no_trees)) (filled a) (sym (filled_tree t a) ∙ h)).1
 
 same_tests : (n m s t a b : ℕ) → n ≡ m → (s ≡ t → a ≡ b) → (a ≡ b → s ≡ t)
     → (n == m && s == t) ≡ (a == b)

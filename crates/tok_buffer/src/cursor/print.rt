@@ -15,7 +15,7 @@ use crate::buffer::TokenBuffer;
 use crate::cursor::Cursor;
 use crate::entry::{Held, Leaf};
 use std::fmt;
-use std::fmt::{Formatter, Write};
+use std::fmt::{Debug, Formatter, Write};
 use tok_core::{Delimiter, Spacing};
 
 impl<'a> Cursor<'a> {
@@ -31,6 +31,24 @@ impl<'a> Cursor<'a> {
             None => Ok(()),
             Some(spot) => write_from(f, spot.buffer, spot.position, spot.scope),
         }
+    }
+}
+
+/// Writes the text that is ahead, as `Cursor(a b)`.
+impl<'a> Debug for Cursor<'a> {
+    fn fmt<W: Write>(&self, f: &mut Formatter<W>) -> fmt::Result {
+        f.write_str("Cursor(")?;
+        self.write_ahead(f)?;
+        f.write_str(")")
+    }
+}
+
+/// Writes the text, as `TokenBuffer(a b)`.
+impl Debug for TokenBuffer {
+    fn fmt<W: Write>(&self, f: &mut Formatter<W>) -> fmt::Result {
+        f.write_str("TokenBuffer(")?;
+        self.begin().write_ahead(f)?;
+        f.write_str(")")
     }
 }
 

@@ -46,6 +46,9 @@ impl<'a> Cursor<'a> {
     ///
     /// A text is never found if it is empty or has another number of characters than `spans` has
     /// elements. Nothing is allocated. After `None`, the elements of `spans` are unspecified.
+    // Inlined, with what it calls: parsers know the text and the number of spans, so nothing is left
+    // of the decoding and of the loop.
+    #[inline(always)]
     pub fn puncts(self, text: &str, spans: &mut [Span]) -> Option<Cursor<'a>>
         ensures { MatchOption result
             (read_punctuation (sized (length spans.old) (chars text.now)) (place_of self.entry)
@@ -79,6 +82,7 @@ impl<'a> Cursor<'a> {
 
 impl<'a> Spot<'a> {
     // Reads the first of the wanted characters, joint if more of them follow.
+    #[inline(always)]
     fn next_of(self, wanted: char, rest: &str) -> Option<(&'a Punct, Spot<'a>)>
         ensures { Gives result (read_next wanted (chars rest.now) (spot_place self.entry))
             (λ r. (leaf (punct_of r.0.now) ∷ [], spot_place r.1)) }
@@ -109,12 +113,14 @@ impl<'a> Spot<'a> {
 }
 
 // Returns `true` for a punct of this character, joint if more characters follow.
+#[inline(always)]
 fn is_next_of(punct: Punct, wanted: char, rest: &str) -> bool
     ensures { result ≡ spec.is_next_of wanted (chars rest.now) (leaf (punct_of punct)) }
 {
     is_punct_of(punct, wanted) && (rest.is_empty() || matches!(punct.spacing(), Spacing::Joint))
 }
 
+#[inline(always)]
 fn is_punct_of(punct: Punct, wanted: char) -> bool
     ensures { result ≡ spec.is_punct_of wanted (leaf (punct_of punct)) }
 {

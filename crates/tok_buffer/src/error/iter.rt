@@ -12,8 +12,8 @@ use std::{slice, vec};
 /// allocate.
 #[derive(Drop)]
 pub struct IntoIter {
-    first: Option<Message>,
-    more: vec::IntoIter<Message>,
+    first: Option<Box<Message>>,
+    more: vec::IntoIter<Box<Message>>,
     alloc: Global,
 }
 
@@ -23,7 +23,7 @@ pub struct IntoIter {
 #[derive(Drop)]
 pub struct Iter<'a> {
     first: Option<&'a Message>,
-    more: slice::Iter<'a, Message>,
+    more: slice::Iter<'a, Box<Message>>,
     alloc: Global,
 }
 
@@ -31,13 +31,14 @@ impl Model for IntoIter {
     ghost use Rattle.std.specs.Prelude.{List, ◌++◌, option_to_list};
     ghost use Rattle.std.specs.Vec.Iter.{into_iter_items};
     ghost use Rattle.tok_buffer.specs.declared.error.Message.{Message};
-    ghost use Rattle.tok_buffer.specs.Messages.{each_message, errors_code};
+    ghost use Rattle.tok_buffer.specs.Messages.{each_message, errors_code, unboxed};
 
     ghost Value = { List (List Message) };
 
     ghost coded = { errors_code };
 
-    ghost view = { λ i. each_message (option_to_list i.first ++ into_iter_items i.more) };
+    ghost view = { λ i.
+        each_message (unboxed (option_to_list i.first ++ into_iter_items i.more)) };
 }
 
 impl<'a> Model for Iter<'a> {
@@ -45,13 +46,14 @@ impl<'a> Model for Iter<'a> {
     ghost use Rattle.std.specs.Option.{option_copied, option_to_list};
     ghost use Rattle.std.specs.Slice.Iter.{iter_rest};
     ghost use Rattle.tok_buffer.specs.declared.error.Message.{Message};
-    ghost use Rattle.tok_buffer.specs.Messages.{each_message, errors_code};
+    ghost use Rattle.tok_buffer.specs.Messages.{each_message, errors_code, unboxed};
 
     ghost Value = { List (List Message) };
 
     ghost coded = { errors_code };
 
-    ghost view = { λ i. each_message (option_to_list (option_copied i.first) ++ iter_rest i.more) };
+    ghost view = { λ i.
+        each_message (option_to_list (option_copied i.first) ++ unboxed (iter_rest i.more)) };
 }
 
 impl Iterator for IntoIter {
@@ -85,9 +87,9 @@ impl<'a> Iterator for Iter<'a> {
     fn next(&mut self) -> Option<Result<Error, AllocError>> {
         let message = match self.first.take() {
             Some(message) => message,
-            None => self.more.next()?,
+            None => self.more.next()?.as_ref(),
         };
-        match message.clone() {
+        match message.boxed_clone(self.alloc) {
             Ok(first) => Some(Ok(Error {
                 first,
                 more: Vec::new(self.alloc),
@@ -128,7 +130,7 @@ impl<'a> IntoIterator for &'a Error {
 
     fn into_iter(self) -> Iter<'a> {
         Iter {
-            first: Some(&self.first),
+            first: Some(self.first.as_ref()),
             more: self.more.as_slice().iter(),
             alloc: *self.more.allocator(),
         }

@@ -10,4 +10,5 @@ returns-in-Some-Some c =
     let b = c.in-Some-Some.last.now in
     ap (λ s. (s, c.span-in-Some-Some.result)) c.span.ensures
     ∙ ap (λ s. (tree_span (tree_of a), s)) c.span-in-Some-Some.ensures
-    ∙ sym (ends_are a b c.args.trees.now (sym c.in-Some-Some.ensures.value) (sym c.in-Some-Some.ensures'.value))
+    ∙ sym (ends_are a b c.args.trees.now (sym c.in-Some-Some.ensures.value)
+    (sym c.in-Some-Some.ensures'.value))

@@ -7,5 +7,9 @@ use Rattle.tok_buffer.proofs.laws.marked_as_stream.Goals as goal
 pub returns : goal.returns
 returns c =
     let text = chars c.args.text.now in
-    let follows = kept_follows 0 marked_rules c.args.source text c.lex_marked.result (forest_of c.laid_out-laid.result) c.laid_out-laid.ensures.kept c.lex_marked.ensures in
-    same_reading 0 marked_rules c.args.source text c.from_marked-read.result c.laid_out-laid.result c.args.number c.from_marked-read.ensures.number c.laid_out-laid.ensures.number c.from_marked-read.ensures.follows follows
+    let follows = kept_follows 0 marked_rules c.args.source text c.lex_marked.result
+    (forest_of c.laid_out-laid.result) c.laid_out-laid.ensures.kept c.lex_marked.ensures
+    in
+    same_reading 0 marked_rules c.args.source text c.from_marked-read.result
+    c.laid_out-laid.result c.args.number c.from_marked-read.ensures.number
+    c.laid_out-laid.ensures.number c.from_marked-read.ensures.follows follows

@@ -15,4 +15,5 @@ returns-clause-places c n f = concat-none f
 pub returns-clause-calls : goal.returns-clause-calls
 returns-clause-calls c =
     let laid = c.in_ok-buffer.buffer.forest in
-    c.in_ok-copy.ensures ∙ ap rest c.begin.ensures ∙ concat-none laid ∙ ap (λ b. b.forest) c.in_ok-buffer.ensures
+    c.in_ok-copy.ensures ∙ ap rest c.begin.ensures ∙ concat-none laid
+    ∙ ap (λ b. b.forest) c.in_ok-buffer.ensures

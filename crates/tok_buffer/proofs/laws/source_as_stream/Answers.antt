@@ -6,5 +6,9 @@ use Rattle.tok_buffer.proofs.laws.source_as_stream.Goals as goal
 pub returns : goal.returns
 returns c =
     let text = chars c.args.text.now in
-    let follows = kept_source c.args.edition c.args.source text c.lex_source.result (forest_of c.laid_out-laid.result) c.laid_out-laid.ensures.kept c.lex_source.ensures in
-    same_source c.args.edition c.args.source text c.from_source-read.result c.laid_out-laid.result c.args.number c.from_source-read.ensures.number c.laid_out-laid.ensures.number c.from_source-read.ensures.follows follows
+    let follows = kept_source c.args.edition c.args.source text c.lex_source.result
+    (forest_of c.laid_out-laid.result) c.laid_out-laid.ensures.kept c.lex_source.ensures
+    in
+    same_source c.args.edition c.args.source text c.from_source-read.result
+    c.laid_out-laid.result c.args.number c.from_source-read.ensures.number
+    c.laid_out-laid.ensures.number c.from_source-read.ensures.follows follows

@@ -16,4 +16,6 @@ invariant_of-at c = record {
 pub returns : goal.returns
 unfolding levels_at
 returns c =
-    c.at.ensures ∙ ap (λ s. at c.args.self.now.number s 0 (level whole no_trees c.args.self.now.forest) _) c.last.ensures
+    c.at.ensures ∙ ap
+    (λ s. at c.args.self.now.number s 0 (level whole no_trees c.args.self.now.forest) _)
+    c.last.ensures

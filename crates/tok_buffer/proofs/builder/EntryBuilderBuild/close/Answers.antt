@@ -6,30 +6,60 @@ use Rattle.tok_buffer.proofs.builder.EntryBuilderBuild.close.Goals as goal
 pub unreachable-requires : goal.unreachable-requires
 unreachable-requires c =
     let s = levels_in c.self.inside.entries.items in
-    omega (arith, c.in_default.ensures.cases.0, c.self.inside.«open».ok.0, ap length c.self.invariant.1, places_length 0 s.outer, ap (λ w. length w.outer) c.self.view_is, c.requires)
+    omega (
+      arith,
+      c.in_default.ensures.cases.0,
+      c.self.inside.«open».ok.0,
+      ap length c.self.invariant.1,
+      places_length 0 s.outer,
+      ap (λ w. length w.outer)
+          c.self.view_is,
+      c.requires,
+    )
 
 pub overflow_sub-offset : goal.overflow_sub-offset
 overflow_sub-offset c =
     let xs = c.self.inside.entries.items in
-    let h = left xs c.self.inside.«open».items c.pop.new.self.items c.in-Some.start (levels_in xs) c.self.invariant (subst (λ w. 0 < length w.outer) (sym c.self.view_is) c.requires) c.in-Some.ensures.items in
-    omega (arith, left_before xs c.pop.new.self.items c.in-Some.start (levels_in xs) h, c.len.ensures, c.self.inside.entries.ok.0)
+    let h = left xs c.self.inside.«open».items c.pop.new.self.items c.in-Some.start
+    (levels_in xs) c.self.invariant (subst (λ w. 0 < length w.outer) (sym c.self.view_is)
+    c.requires) c.in-Some.ensures.items in
+    omega (
+      arith,
+      left_before xs c.pop.new.self.items c.in-Some.start (levels_in xs) h,
+      c.len.ensures,
+      c.self.inside.entries.ok.0,
+    )
 
 pub index_mut-requires : goal.index_mut-requires
 index_mut-requires c =
     let xs = c.self.inside.entries.items in
-    let h = left xs c.self.inside.«open».items c.pop.new.self.items c.in-Some.start (levels_in xs) c.self.invariant (subst (λ w. 0 < length w.outer) (sym c.self.view_is) c.requires) c.in-Some.ensures.items in
-    omega (arith, left_before xs c.pop.new.self.items c.in-Some.start (levels_in xs) h, c.in-Ok.ensures.len, c.self.inside.entries.ok.0)
+    let h = left xs c.self.inside.«open».items c.pop.new.self.items c.in-Some.start
+    (levels_in xs) c.self.invariant (subst (λ w. 0 < length w.outer) (sym c.self.view_is)
+    c.requires) c.in-Some.ensures.items in
+    omega (
+      arith,
+      left_before xs c.pop.new.self.items c.in-Some.start (levels_in xs) h,
+      c.in-Ok.ensures.len,
+      c.self.inside.entries.ok.0,
+    )
 
 pub invariant_of-self : goal.invariant_of-self
 invariant_of-self c =
     let xs = c.self.inside.entries.items in
-    let h = left xs c.self.inside.«open».items c.pop.new.self.items c.in-Some.start (levels_in xs) c.self.invariant (subst (λ w. 0 < length w.outer) (sym c.self.view_is) c.requires) c.in-Some.ensures.items in
+    let h = left xs c.self.inside.«open».items c.pop.new.self.items c.in-Some.start
+    (levels_in xs) c.self.invariant (subst (λ w. 0 < length w.outer) (sym c.self.view_is)
+    c.requires) c.in-Some.ensures.items in
     let k : c.len.result ≡ length xs = c.len.ensures ∙ c.self.inside.entries.ok.0 in
-    built _ _ _ (built_close xs c.push.new.self.items c.pop.new.self.items c.in-Some.start c.len.result (levels_in xs) c.args.delimiter c.args.span h k c.in-Ok.ensures.items)
+    built _ _ _ (built_close xs c.push.new.self.items c.pop.new.self.items c.in-Some.start
+    c.len.result (levels_in xs) c.args.delimiter c.args.span h k c.in-Ok.ensures.items)
 
 pub returns-in-Ok-clause-ok : goal.returns-in-Ok-clause-ok
 returns-in-Ok-clause-ok c =
     let xs = c.self.inside.entries.items in
-    let h = left xs c.self.inside.«open».items c.pop.new.self.items c.in-Some.start (levels_in xs) c.self.invariant (subst (λ w. 0 < length w.outer) (sym c.self.view_is) c.requires) c.in-Some.ensures.items in
+    let h = left xs c.self.inside.«open».items c.pop.new.self.items c.in-Some.start
+    (levels_in xs) c.self.invariant (subst (λ w. 0 < length w.outer) (sym c.self.view_is)
+    c.requires) c.in-Some.ensures.items in
     let k : c.len.result ≡ length xs = c.len.ensures ∙ c.self.inside.entries.ok.0 in
-    closes xs c.push.new.self.items c.pop.new.self.items c.in-Some.start c.len.result (levels_in xs) c.args.delimiter c.args.span h k c.in-Ok.ensures.items c.args.self.now c.self.view_is
+    closes xs c.push.new.self.items c.pop.new.self.items c.in-Some.start c.len.result
+    (levels_in xs) c.args.delimiter c.args.span h k c.in-Ok.ensures.items c.args.self.now
+    c.self.view_is

@@ -10,7 +10,8 @@ pub inside-content-requires : goal.inside-content-requires
 inside-content-requires c =
     let s = c.in_ok-spot.spot in
     let F = s.buffer.now.forest in
-    let e : entry_here (levels_at F s.position).0 ≡ Group c.in-Group.group c.in-Group.offset = sym c.entry.ensures ∙ c.in-Group.is in
+    let e : entry_here (levels_at F s.position).0 ≡ Group c.in-Group.group c.in-Group.offset =
+    sym c.entry.ensures ∙ c.in-Group.is in
     record {
       in_buffer = s.in_buffer;
       in_front = held_fits F s.position s.scope c.in-Group.group c.in-Group.offset s.within e;
@@ -22,7 +23,8 @@ pub past-after-requires : goal.past-after-requires
 past-after-requires c =
     let s = c.in_ok-spot.spot in
     let F = s.buffer.now.forest in
-    let e : entry_here (levels_at F s.position).0 ≡ Group c.in-Group.group c.in-Group.offset = sym c.entry.ensures ∙ c.in-Group.is in
+    let e : entry_here (levels_at F s.position).0 ≡ Group c.in-Group.group c.in-Group.offset =
+    sym c.entry.ensures ∙ c.in-Group.is in
     record {
       in_buffer = s.in_buffer;
       in_front = held_fits F s.position s.scope c.in-Group.group c.in-Group.offset s.within e;
@@ -34,6 +36,9 @@ returns-in-Group c =
     let s = c.in_ok-spot.spot in
     let F = s.buffer.now.forest in
     let g = c.in-Group.group in
-    let e : entry_here (levels_at F s.position).0 ≡ Group g c.in-Group.offset = sym c.entry.ensures ∙ c.in-Group.is in
+    let e : entry_here (levels_at F s.position).0 ≡ Group g c.in-Group.offset =
+    sym c.entry.ensures ∙ c.in-Group.is in
     rw (c.in_ok-spot.was, c.new.ensures, c.at.ensures, c.at-in-Group.ensures)
-    (entered F s.position s.scope g c.in-Group.offset s.within e s.buffer.now.number (spot_place c.inside-content.result) (spot_place c.past-after.result) c.inside-content.ensures c.past-after.ensures)
+    (entered F s.position s.scope g c.in-Group.offset s.within e s.buffer.now.number
+    (spot_place c.inside-content.result) (spot_place c.past-after.result)
+    c.inside-content.ensures c.past-after.ensures)

@@ -9,4 +9,5 @@ returns-in-Some c =
     let x = levels_at s.buffer.now.forest s.position in
     rw c.in-Some.is
     (end_seen s.position s.scope x.0 x.1 s.within s.settled
-    ∙ sym (end_is s.buffer.now.number s.scope s.position x.0 (up_to (end_of s.position x.0) s.scope x.1)))
+    ∙ sym (end_is s.buffer.now.number s.scope s.position x.0
+    (up_to (end_of s.position x.0) s.scope x.1)))

@@ -10,5 +10,8 @@ pub returns-else-marked : goal.returns-else-marked
 returns-else-marked c =
     let p = place_of c.args.self in
     ap (λ d. left_of (Some (c.in_ok-marked.span, d))) c.scope_delimiter.ensures
-    ∙ sym (ap (λ m. left_of (Some (c.in_ok-marked.span, cond m delimiter.None (scope_delimiter p)))) c.if-marked.false)
-    ∙ left_first (scope_delimiter p) (ahead p) c.in_ok-marked.marked c.in_ok-marked.span (rw c.in_ok-spot.was (sym c.scan.ensures ∙ c.in_ok-marked.was))
+    ∙ sym (ap (λ m. left_of
+    (Some (c.in_ok-marked.span, cond m delimiter.None (scope_delimiter p))))
+    c.if-marked.false)
+    ∙ left_first (scope_delimiter p) (ahead p) c.in_ok-marked.marked c.in_ok-marked.span
+    (rw c.in_ok-spot.was (sym c.scan.ensures ∙ c.in_ok-marked.was))

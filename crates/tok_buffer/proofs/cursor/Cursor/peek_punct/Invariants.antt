@@ -9,7 +9,8 @@ use Rattle.tok_buffer.proofs.cursor.Cursor.peek_punct.Given as goal
 abbrev pub invariant-loop-next : goal.invariant-loop-next
 invariant-loop-next l =
     shadow (Utf8 l.rest)
-    × (is_some (read_punctuation (l.wanted ∷ chars l.rest) (spot_place l.spot)) ≡ is_some (read_punctuation (chars l.fn.text) (place_of l.fn.self)))
+    × (is_some (read_punctuation (l.wanted ∷ chars l.rest) (spot_place l.spot))
+    ≡ is_some (read_punctuation (chars l.fn.text) (place_of l.fn.self)))
 
 abbrev pub decreases-loop-next : goal.decreases-loop-next
 decreases-loop-next l = length l.rest

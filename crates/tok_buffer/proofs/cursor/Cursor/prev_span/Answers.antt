@@ -14,8 +14,10 @@ returns-then-spot-eq0 c =
     let s = c.in-Some.spot in
     let F = s.buffer.now.forest in
     let x = levels_at F s.position in
-    rw c.in-Some.is (c.span_at.ensures ∙ sym (previous_start F) ∙ sym (ap (λ n. level_previous (levels_at F n).0) c.if-spot-eq0.true)
-    ∙ sym (previous_is s.buffer.now.number s.scope s.position x.0 (up_to (end_of s.position x.0) s.scope x.1)))
+    rw c.in-Some.is (c.span_at.ensures ∙ sym (previous_start F)
+    ∙ sym (ap (λ n. level_previous (levels_at F n).0) c.if-spot-eq0.true)
+    ∙ sym (previous_is s.buffer.now.number s.scope s.position x.0
+    (up_to (end_of s.position x.0) s.scope x.1)))
 
 pub returns-else-spot-eq0 : goal.returns-else-spot-eq0
 returns-else-spot-eq0 c =
@@ -24,6 +26,8 @@ returns-else-spot-eq0 c =
     let x = levels_at F s.position in
     let q : s.position - 1 + 1 ≡ s.position = omega arith in
     rw c.in-Some.is (c.span_at-else-spot-eq0.ensures
-    ∙ sym (previous_at F (s.position - 1) (omega (arith, before_scope F s.position s.scope s.within, s.in_buffer)))
+    ∙ sym (previous_at F (s.position - 1)
+    (omega (arith, before_scope F s.position s.scope s.within, s.in_buffer)))
     ∙ ap (λ n. level_previous (levels_at F n).0) q
-    ∙ sym (previous_is s.buffer.now.number s.scope s.position x.0 (up_to (end_of s.position x.0) s.scope x.1)))
+    ∙ sym (previous_is s.buffer.now.number s.scope s.position x.0
+    (up_to (end_of s.position x.0) s.scope x.1)))

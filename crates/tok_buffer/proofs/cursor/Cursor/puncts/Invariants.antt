@@ -7,4 +7,5 @@ use Rattle.tok_buffer.proofs.cursor.Cursor.puncts.Given as goal
 
 abbrev pub invariant-loop-span : goal.invariant-loop-span
 invariant-loop-span l =
-    shadow (Utf8 l.rest) × SoFar (chars l.fn.text) (place_of l.fn.self) l.span-index l.spans (chars l.rest) (spot_place l.spot)
+    shadow (Utf8 l.rest) × SoFar (chars l.fn.text) (place_of l.fn.self) l.span-index l.spans
+    (chars l.rest) (spot_place l.spot)

@@ -9,4 +9,5 @@ owner_at-requires-clause-is_end c =
 pub returns-in-Some : goal.returns-in-Some
 returns-in-Some c =
     let s = c.in-Some.spot in
-    rw c.in-Some.is (ap (λ r. r.0) c.owner_at.ensures ∙ sym (scope_owner s.buffer.now.number s.buffer.now.forest s.position s.scope s.within))
+    rw c.in-Some.is (ap (λ r. r.0) c.owner_at.ensures
+    ∙ sym (scope_owner s.buffer.now.number s.buffer.now.forest s.position s.scope s.within))

@@ -13,4 +13,6 @@ pub returns-in-Some : goal.returns-in-Some
 returns-in-Some c =
     let s = c.in-Some.spot in
     let x = levels_at s.buffer.now.forest s.position in
-    rw c.in-Some.is (c.span_at.ensures ∙ sym (current_is s.buffer.now.number s.scope s.position x.0 (up_to (end_of s.position x.0) s.scope x.1)))
+    rw c.in-Some.is (c.span_at.ensures
+    ∙ sym (current_is s.buffer.now.number s.scope s.position x.0
+    (up_to (end_of s.position x.0) s.scope x.1)))

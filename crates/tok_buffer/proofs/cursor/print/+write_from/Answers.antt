@@ -1,4 +1,5 @@
-use Rattle.std.proofs.Common.{◌≡◌, ◌∙◌, ◌+◌, ◌-◌, ◌≤◌, ◌<◌, ◌++◌, ℕ, List, true, false, append_assoc, refl, sym, ap, subst, arith, rules}
+use Rattle.std.proofs.Common.{◌≡◌, ◌∙◌, ◌+◌, ◌-◌, ◌≤◌, ◌<◌, ◌++◌, ℕ, List, true, false}
+use Rattle.std.proofs.Common.{append_assoc, refl, sym, ap, subst, arith, rules}
 use Rattle.std.proofs.Output.{has_written_append}
 use Rattle.std.proofs.lemmas.Grind.{put_four}
 use Rattle.std.proofs.lemmas.List.{append-nil}
@@ -16,28 +17,52 @@ use Rattle.tok_buffer.proofs.Groups.{held_fits, held_within, held_after}
 use Rattle.tok_buffer.proofs.Rests.{rest_at, rest_any, rest_leaf, rest_close, rest_done, rest_group}
 use Rattle.tok_buffer.proofs.cursor.print.+write_from.Goals as goal
 
-leaf_written : (done space mine rest : List ℕ) → (done ++ (space ++ mine)) ++ rest ≡ done ++ (space ++ (mine ++ rest))
-leaf_written done space mine rest = append_assoc done (space ++ mine) rest ∙ ap (λ z. done ++ z) (append_assoc space mine rest)
+leaf_written : (done space mine rest : List ℕ) → (done ++ (space ++ mine)) ++ rest ≡ done
+    ++ (space ++ (mine ++ rest))
+leaf_written done space mine rest = append_assoc done (space ++ mine) rest
+    ∙ ap (λ z. done ++ z) (append_assoc space mine rest)
 
-group_written : (done space front inside close rest : List ℕ) → (done ++ ((space ++ front) ++ (inside ++ close))) ++ rest ≡ done ++ (space ++ ((front ++ (inside ++ close)) ++ rest))
+group_written : (done space front inside close rest : List ℕ) →
+    (done ++ ((space ++ front) ++ (inside ++ close))) ++ rest ≡ done
+    ++ (space ++ ((front ++ (inside ++ close)) ++ rest))
 group_written done space front inside close rest =
     append_assoc done ((space ++ front) ++ (inside ++ close)) rest
-    ∙ ap (λ z. done ++ z) (ap (λ z. z ++ rest) (append_assoc space front (inside ++ close)) ∙ append_assoc space (front ++ (inside ++ close)) rest)
+    ∙ ap (λ z. done ++ z) (ap (λ z. z ++ rest) (append_assoc space front (inside ++ close))
+    ∙ append_assoc space (front ++ (inside ++ close)) rest)
 
 pub loop-position-init : goal.loop-position-init
-loop-position-init g t c = record { within = c.requires.within; later = omega arith; written = search rules }
+loop-position-init g t c = record {
+  within = c.requires.within;
+  later = omega arith;
+  written =
+      search rules;
+}
 
 pub entry-requires : goal.entry-requires
 entry-requires g t c =
-    omega (arith, before_scope c.args.buffer.now.forest c.loop-position.position c.args.scope c.loop-position.invariant.within, c.requires.in_buffer)
+    omega (
+      arith,
+      before_scope c.args.buffer.now.forest c.loop-position.position c.args.scope
+          c.loop-position.invariant.within,
+      c.requires.in_buffer,
+    )
 
 pub overflow_add-position : goal.overflow_add-position
 overflow_add-position g t c =
-    omega (arith, before_scope c.args.buffer.now.forest c.loop-position.position c.args.scope c.loop-position.invariant.within, c.ranges.scope.fits)
+    omega (
+      arith,
+      before_scope c.args.buffer.now.forest c.loop-position.position c.args.scope
+          c.loop-position.invariant.within,
+      c.ranges.scope.fits,
+    )
 
 pub loop-position-smaller-in-Leaf : goal.loop-position-smaller-in-Leaf
 loop-position-smaller-in-Leaf g t c =
-    omega (arith, before_scope c.args.buffer.now.forest c.loop-position.position c.args.scope c.loop-position.invariant.within)
+    omega (
+      arith,
+      before_scope c.args.buffer.now.forest c.loop-position.position c.args.scope
+          c.loop-position.invariant.within,
+    )
 
 pub loop-position-preserved-in-Leaf : goal.loop-position-preserved-in-Leaf
 loop-position-preserved-in-Leaf g t c =
@@ -47,7 +72,8 @@ loop-position-preserved-in-Leaf g t c =
     let i = c.loop-position.invariant in
     let l = leaf_in c.in-Leaf.leaf in
     let b = c.loop-position.is_glued in
-    let here = rest_leaf F n s (leaf_in c.in-Leaf.leaf) i.within c.loop-position-test.true (sym c.entry.ensures ∙ c.held.ensures ∙ ap entry_of c.in-Leaf.is) in
+    let here = rest_leaf F n s (leaf_in c.in-Leaf.leaf) i.within c.loop-position-test.true
+    (sym c.entry.ensures ∙ c.held.ensures ∙ ap entry_of c.in-Leaf.is) in
     record {
       within = (place_step 0 n s F i.within c.loop-position-test.true).0;
       later = omega (arith, i.later);
@@ -58,7 +84,9 @@ loop-position-preserved-in-Leaf g t c =
             done ++ (space b ++ leaf_text l),
             has_written_append _ _ _ _ _ _ wrote one,
             leaf_written done (space b) (leaf_text l) _
-                ∙ ap (λ z. done ++ (space b ++ (leaf_text l ++ text_after z (rest_at F (n + 1) s)))) c.is_joint-is_glued.ensures
+                ∙ ap (λ z. done
+                ++ (space b ++ (leaf_text l ++ text_after z (rest_at F (n + 1) s))))
+                c.is_joint-is_glued.ensures
                 ∙ ap (λ z. done ++ text_after b z) (sym here)
                 ∙ more,
           );
@@ -66,11 +94,22 @@ loop-position-preserved-in-Leaf g t c =
 
 pub overflow_add-position-in-Group : goal.overflow_add-position-in-Group
 overflow_add-position-in-Group g t c =
-    omega (arith, before_scope c.args.buffer.now.forest c.loop-position.position c.args.scope c.loop-position.invariant.within, c.ranges.scope.fits)
+    omega (
+      arith,
+      before_scope c.args.buffer.now.forest c.loop-position.position c.args.scope
+          c.loop-position.invariant.within,
+      c.ranges.scope.fits,
+    )
 
 pub overflow_add-position-in-Group-2 : goal.overflow_add-position-in-Group-2
 overflow_add-position-in-Group-2 g t c =
-    omega (arith, held_fits c.args.buffer.now.forest c.loop-position.position c.args.scope c.in-Group.group.now c.in-Group.offset c.loop-position.invariant.within (sym c.entry.ensures ∙ c.held.ensures ∙ ap entry_of c.in-Group.is), c.ranges.scope.fits)
+    omega (
+      arith,
+      held_fits c.args.buffer.now.forest c.loop-position.position c.args.scope
+          c.in-Group.group.now c.in-Group.offset c.loop-position.invariant.within
+          (sym c.entry.ensures ∙ c.held.ensures ∙ ap entry_of c.in-Group.is),
+      c.ranges.scope.fits,
+    )
 
 pub write_from-requires : goal.write_from-requires
 write_from-requires g t c κs within =
@@ -78,24 +117,44 @@ write_from-requires g t c κs within =
     let k = c.in-Group.offset in
     let s = c.args.scope in
     let F = c.args.buffer.now.forest in
-    let fits = held_fits F n s c.in-Group.group.now k c.loop-position.invariant.within (sym c.entry.ensures ∙ c.held.ensures ∙ ap entry_of c.in-Group.is) in
+    let fits = held_fits F n s c.in-Group.group.now k c.loop-position.invariant.within
+    (sym c.entry.ensures ∙ c.held.ensures ∙ ap entry_of c.in-Group.is) in
     let later : c.args.from ≤ n = c.loop-position.invariant.later in
-    let inner : in_scope F (n + 1) (n + k) ≡ true = held_within F n s c.in-Group.group.now k c.loop-position.invariant.within (sym c.entry.ensures ∙ c.held.ensures ∙ ap entry_of c.in-Group.is) in
+    let inner : in_scope F (n + 1) (n + k) ≡ true = held_within F n s c.in-Group.group.now k
+    c.loop-position.invariant.within (sym c.entry.ensures ∙ c.held.ensures
+    ∙ ap entry_of c.in-Group.is) in
     let room : n + k ≤ weight F = omega (arith, fits, c.requires.in_buffer) in
     let fewer : n + k - (n + 1) < s - c.args.from = omega (arith, fits, later) in
     search rules
 
 pub overflow_add-position-in-Group-3 : goal.overflow_add-position-in-Group-3
 overflow_add-position-in-Group-3 g t c =
-    omega (arith, held_fits c.args.buffer.now.forest c.loop-position.position c.args.scope c.in-Group.group.now c.in-Group.offset c.loop-position.invariant.within (sym c.entry.ensures ∙ c.held.ensures ∙ ap entry_of c.in-Group.is), c.ranges.scope.fits)
+    omega (
+      arith,
+      held_fits c.args.buffer.now.forest c.loop-position.position c.args.scope
+          c.in-Group.group.now c.in-Group.offset c.loop-position.invariant.within
+          (sym c.entry.ensures ∙ c.held.ensures ∙ ap entry_of c.in-Group.is),
+      c.ranges.scope.fits,
+    )
 
 pub overflow_add-position-in-Group-4 : goal.overflow_add-position-in-Group-4
 overflow_add-position-in-Group-4 g t c =
-    omega (arith, held_fits c.args.buffer.now.forest c.loop-position.position c.args.scope c.in-Group.group.now c.in-Group.offset c.loop-position.invariant.within (sym c.entry.ensures ∙ c.held.ensures ∙ ap entry_of c.in-Group.is), c.ranges.scope.fits)
+    omega (
+      arith,
+      held_fits c.args.buffer.now.forest c.loop-position.position c.args.scope
+          c.in-Group.group.now c.in-Group.offset c.loop-position.invariant.within
+          (sym c.entry.ensures ∙ c.held.ensures ∙ ap entry_of c.in-Group.is),
+      c.ranges.scope.fits,
+    )
 
 pub loop-position-smaller-in-Group : goal.loop-position-smaller-in-Group
 loop-position-smaller-in-Group g t c =
-    omega (arith, held_fits c.args.buffer.now.forest c.loop-position.position c.args.scope c.in-Group.group.now c.in-Group.offset c.loop-position.invariant.within (sym c.entry.ensures ∙ c.held.ensures ∙ ap entry_of c.in-Group.is))
+    omega (
+      arith,
+      held_fits c.args.buffer.now.forest c.loop-position.position c.args.scope
+          c.in-Group.group.now c.in-Group.offset c.loop-position.invariant.within
+          (sym c.entry.ensures ∙ c.held.ensures ∙ ap entry_of c.in-Group.is),
+    )
 
 pub loop-position-preserved-in-Group : goal.loop-position-preserved-in-Group
 loop-position-preserved-in-Group g t c =
@@ -106,7 +165,8 @@ loop-position-preserved-in-Group g t c =
     let o = c.in-Group.group.now in
     let k = c.in-Group.offset in
     let b = c.loop-position.is_glued in
-    let e : entry_here (levels_at F n).0 ≡ Group o k = sym c.entry.ensures ∙ c.held.ensures ∙ ap entry_of c.in-Group.is in
+    let e : entry_here (levels_at F n).0 ≡ Group o k = sym c.entry.ensures ∙ c.held.ensures
+    ∙ ap entry_of c.in-Group.is in
     let inside = text (rest_at F (n + 1) (n + k)) in
     record {
       within = held_after F n s o k i.within e;
@@ -122,8 +182,13 @@ loop-position-preserved-in-Group g t c =
             done ++ ((space b ++ opening o.delimiter) ++ (body ++ last)),
             put_four _ _ _ _ _ _ _ _ _ _ _ wrote one two three refl,
             group_written done (space b) (opening o.delimiter) body last _
-                ∙ ap (λ z. done ++ (space b ++ ((opening o.delimiter ++ (text z ++ last)) ++ text_after false (rest_at F (n + k + 1) s)))) (rest_any c.args.buffer.now.number F (n + 1) (n + k))
-                ∙ ap (λ z. done ++ (space b ++ ((opening o.delimiter ++ (inside ++ z)) ++ text_after false (rest_at F (n + k + 1) s)))) c.closing.ensures
+                ∙ ap (λ z. done
+                ++ (space b ++ ((opening o.delimiter ++ (text z ++ last)) ++ text_after false
+                (rest_at F (n + k + 1) s))))
+                (rest_any c.args.buffer.now.number F (n + 1) (n + k))
+                ∙ ap (λ z. done
+                ++ (space b ++ ((opening o.delimiter ++ (inside ++ z)) ++ text_after false
+                (rest_at F (n + k + 1) s)))) c.closing.ensures
                 ∙ ap (λ z. done ++ text_after b z) (sym (rest_group F n s o k i.within e))
                 ∙ more,
           );
@@ -131,11 +196,20 @@ loop-position-preserved-in-Group g t c =
 
 pub overflow_add-position-in-End : goal.overflow_add-position-in-End
 overflow_add-position-in-End g t c =
-    omega (arith, before_scope c.args.buffer.now.forest c.loop-position.position c.args.scope c.loop-position.invariant.within, c.ranges.scope.fits)
+    omega (
+      arith,
+      before_scope c.args.buffer.now.forest c.loop-position.position c.args.scope
+          c.loop-position.invariant.within,
+      c.ranges.scope.fits,
+    )
 
 pub loop-position-smaller : goal.loop-position-smaller
 loop-position-smaller g t c =
-    omega (arith, before_scope c.args.buffer.now.forest c.loop-position.position c.args.scope c.loop-position.invariant.within)
+    omega (
+      arith,
+      before_scope c.args.buffer.now.forest c.loop-position.position c.args.scope
+          c.loop-position.invariant.within,
+    )
 
 pub loop-position-preserved : goal.loop-position-preserved
 loop-position-preserved g t c =
@@ -143,7 +217,8 @@ loop-position-preserved g t c =
     let n = c.loop-position.position in
     let s = c.args.scope in
     let i = c.loop-position.invariant in
-    let same = rest_close F n s c.in-End.field-0 i.within c.loop-position-test.true (sym c.entry.ensures ∙ c.held.ensures ∙ ap entry_of c.in-End.is) in
+    let same = rest_close F n s c.in-End.field-0 i.within c.loop-position-test.true
+    (sym c.entry.ensures ∙ c.held.ensures ∙ ap entry_of c.in-End.is) in
     record {
       within = (place_step 0 n s F i.within c.loop-position-test.true).0;
       later = omega (arith, i.later);
@@ -163,7 +238,8 @@ returns g t c =
     let (done, wrote, more) = i.written plain in
     let whole : done ≡ text (rest (place_at c.args.buffer.now.number F c.args.from s)) =
     sym (append-nil done)
-    ∙ ap (λ z. done ++ text_after c.loop-position.is_glued z) (sym (rest_done F n s i.within c.loop-position-test.false))
+    ∙ ap (λ z. done ++ text_after c.loop-position.is_glued z)
+    (sym (rest_done F n s i.within c.loop-position-test.false))
     ∙ more
     ∙ ap text (sym (rest_any c.args.buffer.now.number F c.args.from s))
     in

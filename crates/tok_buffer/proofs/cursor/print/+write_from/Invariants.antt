@@ -12,8 +12,10 @@ abbrev pub invariant-loop-position : goal.invariant-loop-position
 invariant-loop-position g l = record {
   within : in_scope l.buffer.forest l.position l.scope ≡ true;
   later : l.from ≤ l.position;
-  written : IsPlainFormatter l.initial.f → (done : List ℕ) × HasWritten g.W.Write.write_str_gives l.initial.f done l.f
-      × (done ++ text_after l.is_glued (rest_at l.buffer.forest l.position l.scope) ≡ text_after true (rest_at l.buffer.forest l.from l.scope));
+  written : IsPlainFormatter l.initial.f → (done : List ℕ) × HasWritten g.W.Write.write_str_gives
+      l.initial.f done l.f
+      × (done ++ text_after l.is_glued (rest_at l.buffer.forest l.position l.scope)
+      ≡ text_after true (rest_at l.buffer.forest l.from l.scope));
 }
 
 abbrev pub decreases-loop-position : goal.decreases-loop-position

@@ -8,20 +8,35 @@ use Rattle.tok_buffer.specs.Private.Layout.{entry_here, entry_of, leaf_in}
 use Rattle.tok_buffer.specs.declared.entry.Entry.TheVariants.{Group}
 use Rattle.tok_buffer.proofs.InScope.{before_scope, place_step}
 use Rattle.tok_buffer.proofs.Groups.{held_fits, held_within, held_after}
-use Rattle.tok_buffer.proofs.Rests.{rest_at, rest_any, rest_leaf, rest_close, rest_done, rest_group, tree_copied}
+use Rattle.tok_buffer.proofs.Rests.{rest_at, rest_any, rest_leaf, rest_close, rest_done}
+use Rattle.tok_buffer.proofs.Rests.{rest_group, tree_copied}
 use Rattle.tok_buffer.proofs.cursor.rebuild.+copy_ahead.Goals as goal
 
 pub entry-requires : goal.entry-requires
 entry-requires t c =
-    omega (arith, before_scope c.args.buffer.now.forest c.loop-position.position c.args.scope c.loop-position.invariant.within, c.requires.in_buffer)
+    omega (
+      arith,
+      before_scope c.args.buffer.now.forest c.loop-position.position c.args.scope
+          c.loop-position.invariant.within,
+      c.requires.in_buffer,
+    )
 
 pub overflow_add-position : goal.overflow_add-position
 overflow_add-position t c =
-    omega (arith, before_scope c.args.buffer.now.forest c.loop-position.position c.args.scope c.loop-position.invariant.within, c.ranges.scope.fits)
+    omega (
+      arith,
+      before_scope c.args.buffer.now.forest c.loop-position.position c.args.scope
+          c.loop-position.invariant.within,
+      c.ranges.scope.fits,
+    )
 
 pub loop-position-smaller-in-Leaf : goal.loop-position-smaller-in-Leaf
 loop-position-smaller-in-Leaf t c =
-    omega (arith, before_scope c.args.buffer.now.forest c.loop-position.position c.args.scope c.loop-position.invariant.within)
+    omega (
+      arith,
+      before_scope c.args.buffer.now.forest c.loop-position.position c.args.scope
+          c.loop-position.invariant.within,
+    )
 
 pub loop-position-preserved-in-Leaf : goal.loop-position-preserved-in-Leaf
 loop-position-preserved-in-Leaf t c =
@@ -32,38 +47,75 @@ loop-position-preserved-in-Leaf t c =
     record {
       within = (place_step 0 n s F i.within c.loop-position-test.true).0;
       later = omega (arith, i.later);
-      same = tree_copied c.append.new.self c.loop-position.stream (rest_at F (n + 1) s) (rest_at F n s) (leaf (leaf_in c.in-Leaf.leaf)) (tree_of c.in_ok-copied-in-Leaf.field-0) (c.in_ok-append-in-Leaf.ensures {u = tt}).ok (c.in_ok-copied-in-Leaf.ensures {u = tt}) (rest_leaf F n s (leaf_in c.in-Leaf.leaf) i.within c.loop-position-test.true (sym c.entry.ensures ∙ c.held.ensures ∙ ap entry_of c.in-Leaf.is)) ∙ i.same;
+      same = tree_copied c.append.new.self c.loop-position.stream (rest_at F (n + 1) s)
+          (rest_at F n s) (leaf (leaf_in c.in-Leaf.leaf))
+          (tree_of c.in_ok-copied-in-Leaf.field-0) (c.in_ok-append-in-Leaf.ensures {u = tt}).ok
+          (c.in_ok-copied-in-Leaf.ensures {u = tt})
+          (rest_leaf F n s (leaf_in c.in-Leaf.leaf) i.within c.loop-position-test.true
+          (sym c.entry.ensures ∙ c.held.ensures ∙ ap entry_of c.in-Leaf.is)) ∙ i.same;
     }
 
 pub overflow_add-position-in-Group : goal.overflow_add-position-in-Group
 overflow_add-position-in-Group t c =
-    omega (arith, before_scope c.args.buffer.now.forest c.loop-position.position c.args.scope c.loop-position.invariant.within, c.ranges.scope.fits)
+    omega (
+      arith,
+      before_scope c.args.buffer.now.forest c.loop-position.position c.args.scope
+          c.loop-position.invariant.within,
+      c.ranges.scope.fits,
+    )
 
 pub overflow_add-position-in-Group-2 : goal.overflow_add-position-in-Group-2
 overflow_add-position-in-Group-2 t c =
-    omega (arith, held_fits c.args.buffer.now.forest c.loop-position.position c.args.scope c.in-Group.group.now c.in-Group.offset c.loop-position.invariant.within (sym c.entry.ensures ∙ c.held.ensures ∙ ap entry_of c.in-Group.is), c.ranges.scope.fits)
+    omega (
+      arith,
+      held_fits c.args.buffer.now.forest c.loop-position.position c.args.scope
+          c.in-Group.group.now c.in-Group.offset c.loop-position.invariant.within
+          (sym c.entry.ensures ∙ c.held.ensures ∙ ap entry_of c.in-Group.is),
+      c.ranges.scope.fits,
+    )
 
 pub copy_ahead-requires : goal.copy_ahead-requires
 copy_ahead-requires t c =
-    let f = held_fits c.args.buffer.now.forest c.loop-position.position c.args.scope c.in-Group.group.now c.in-Group.offset c.loop-position.invariant.within (sym c.entry.ensures ∙ c.held.ensures ∙ ap entry_of c.in-Group.is) in (
+    let f = held_fits c.args.buffer.now.forest c.loop-position.position c.args.scope
+    c.in-Group.group.now c.in-Group.offset c.loop-position.invariant.within
+    (sym c.entry.ensures ∙ c.held.ensures ∙ ap entry_of c.in-Group.is) in (
       omega (arith, f, c.decreases, c.loop-position.invariant.later),
       (
         omega (arith, f, c.requires.in_buffer),
-        held_within c.args.buffer.now.forest c.loop-position.position c.args.scope c.in-Group.group.now c.in-Group.offset c.loop-position.invariant.within (sym c.entry.ensures ∙ c.held.ensures ∙ ap entry_of c.in-Group.is),
+        held_within c.args.buffer.now.forest c.loop-position.position c.args.scope
+            c.in-Group.group.now c.in-Group.offset c.loop-position.invariant.within
+            (sym c.entry.ensures ∙ c.held.ensures ∙ ap entry_of c.in-Group.is),
       ),
     )
 
 pub overflow_add-position-in-Group-3 : goal.overflow_add-position-in-Group-3
 overflow_add-position-in-Group-3 t c =
-    omega (arith, held_fits c.args.buffer.now.forest c.loop-position.position c.args.scope c.in-Group.group.now c.in-Group.offset c.loop-position.invariant.within (sym c.entry.ensures ∙ c.held.ensures ∙ ap entry_of c.in-Group.is), c.ranges.scope.fits)
+    omega (
+      arith,
+      held_fits c.args.buffer.now.forest c.loop-position.position c.args.scope
+          c.in-Group.group.now c.in-Group.offset c.loop-position.invariant.within
+          (sym c.entry.ensures ∙ c.held.ensures ∙ ap entry_of c.in-Group.is),
+      c.ranges.scope.fits,
+    )
 
 pub overflow_add-position-in-Group-4 : goal.overflow_add-position-in-Group-4
 overflow_add-position-in-Group-4 t c =
-    omega (arith, held_fits c.args.buffer.now.forest c.loop-position.position c.args.scope c.in-Group.group.now c.in-Group.offset c.loop-position.invariant.within (sym c.entry.ensures ∙ c.held.ensures ∙ ap entry_of c.in-Group.is), c.ranges.scope.fits)
+    omega (
+      arith,
+      held_fits c.args.buffer.now.forest c.loop-position.position c.args.scope
+          c.in-Group.group.now c.in-Group.offset c.loop-position.invariant.within
+          (sym c.entry.ensures ∙ c.held.ensures ∙ ap entry_of c.in-Group.is),
+      c.ranges.scope.fits,
+    )
 
 pub loop-position-smaller-in-Group : goal.loop-position-smaller-in-Group
 loop-position-smaller-in-Group t c =
-    omega (arith, held_fits c.args.buffer.now.forest c.loop-position.position c.args.scope c.in-Group.group.now c.in-Group.offset c.loop-position.invariant.within (sym c.entry.ensures ∙ c.held.ensures ∙ ap entry_of c.in-Group.is))
+    omega (
+      arith,
+      held_fits c.args.buffer.now.forest c.loop-position.position c.args.scope
+          c.in-Group.group.now c.in-Group.offset c.loop-position.invariant.within
+          (sym c.entry.ensures ∙ c.held.ensures ∙ ap entry_of c.in-Group.is),
+    )
 
 pub loop-position-preserved-in-Group : goal.loop-position-preserved-in-Group
 loop-position-preserved-in-Group t c =
@@ -73,21 +125,37 @@ loop-position-preserved-in-Group t c =
     let i = c.loop-position.invariant in
     let g = c.in-Group.group.now in
     let k = c.in-Group.offset in
-    let e : entry_here (levels_at F n).0 ≡ Group g k = sym c.entry.ensures ∙ c.held.ensures ∙ ap entry_of c.in-Group.is in
+    let e : entry_here (levels_at F n).0 ≡ Group g k = sym c.entry.ensures ∙ c.held.ensures
+    ∙ ap entry_of c.in-Group.is in
     let inner = rest_at F (n + 1) (n + k) in
     record {
       within = held_after F n s g k i.within e;
       later = omega (arith, i.later);
-      same = tree_copied c.append-in-Group.new.self c.loop-position.stream (rest_at F (n + k + 1) s) (rest_at F n s) (group g.delimiter inner g.span) (tree_of (made.Group c.new-copy.result)) (c.in_ok-append-in-Group.ensures {u = tt}).ok (c.new-copy.ensures ∙ ap (λ z. group g.delimiter z g.span) (c.in_ok-copy_ahead-in-Group.ensures {u = tt} ∙ ap (λ z. concat z inner) c.new-content.ensures ∙ rest_any c.args.buffer.now.number F (n + 1) (n + k))) (rest_group F n s g k i.within e) ∙ i.same;
+      same = tree_copied c.append-in-Group.new.self c.loop-position.stream
+          (rest_at F (n + k + 1) s) (rest_at F n s) (group g.delimiter inner g.span)
+          (tree_of (made.Group c.new-copy.result)) (c.in_ok-append-in-Group.ensures {u = tt}).ok
+          (c.new-copy.ensures ∙ ap (λ z. group g.delimiter z g.span)
+          (c.in_ok-copy_ahead-in-Group.ensures {u = tt}
+          ∙ ap (λ z. concat z inner) c.new-content.ensures ∙ rest_any c.args.buffer.now.number F
+          (n + 1) (n + k))) (rest_group F n s g k i.within e) ∙ i.same;
     }
 
 pub overflow_add-position-in-End : goal.overflow_add-position-in-End
 overflow_add-position-in-End t c =
-    omega (arith, before_scope c.args.buffer.now.forest c.loop-position.position c.args.scope c.loop-position.invariant.within, c.ranges.scope.fits)
+    omega (
+      arith,
+      before_scope c.args.buffer.now.forest c.loop-position.position c.args.scope
+          c.loop-position.invariant.within,
+      c.ranges.scope.fits,
+    )
 
 pub loop-position-smaller : goal.loop-position-smaller
 loop-position-smaller t c =
-    omega (arith, before_scope c.args.buffer.now.forest c.loop-position.position c.args.scope c.loop-position.invariant.within)
+    omega (
+      arith,
+      before_scope c.args.buffer.now.forest c.loop-position.position c.args.scope
+          c.loop-position.invariant.within,
+    )
 
 pub loop-position-preserved : goal.loop-position-preserved
 loop-position-preserved t c =
@@ -98,7 +166,9 @@ loop-position-preserved t c =
     record {
       within = (place_step 0 n s F i.within c.loop-position-test.true).0;
       later = omega (arith, i.later);
-      same = ap (concat c.loop-position.stream) (sym (rest_close F n s c.in-End.field-0 i.within c.loop-position-test.true (sym c.entry.ensures ∙ c.held.ensures ∙ ap entry_of c.in-End.is))) ∙ i.same;
+      same = ap (concat c.loop-position.stream)
+          (sym (rest_close F n s c.in-End.field-0 i.within c.loop-position-test.true
+          (sym c.entry.ensures ∙ c.held.ensures ∙ ap entry_of c.in-End.is))) ∙ i.same;
     }
 
 pub returns : goal.returns

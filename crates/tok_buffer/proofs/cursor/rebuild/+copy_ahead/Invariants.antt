@@ -11,7 +11,8 @@ abbrev pub invariant-loop-position : goal.invariant-loop-position
 invariant-loop-position l = record {
   within : in_scope l.buffer.forest l.position l.scope ≡ true;
   later : l.from ≤ l.position;
-  same : concat l.stream (rest_at l.buffer.forest l.position l.scope) ≡ concat l.fn.stream (rest_at l.buffer.forest l.from l.scope);
+  same : concat l.stream (rest_at l.buffer.forest l.position l.scope) ≡ concat l.fn.stream
+      (rest_at l.buffer.forest l.from l.scope);
 }
 
 abbrev pub decreases-loop-position : goal.decreases-loop-position

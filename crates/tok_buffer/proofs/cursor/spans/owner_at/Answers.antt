@@ -6,9 +6,12 @@ use Rattle.tok_buffer.proofs.cursor.spans.owner_at.Goals as goal
 
 pub overflow_sub-end : goal.overflow_sub-end
 overflow_sub-end c =
-    (owner_entry c.args.buffer.now.forest c.args.end c.in-End.back c.requires.in_buffer (sym c.entry.ensures ∙ c.in-End.is)).0
+    (owner_entry c.args.buffer.now.forest c.args.end c.in-End.back c.requires.in_buffer
+    (sym c.entry.ensures ∙ c.in-End.is)).0
 
 pub returns-in-End : goal.returns-in-End
 returns-in-End c =
-    let r = owner_entry c.args.buffer.now.forest c.args.end c.in-End.back c.requires.in_buffer (sym c.entry.ensures ∙ c.in-End.is) in
-    c.closing.ensures ∙ ap (λ e. closing_of (entry_owner e)) c.entry-in-End.ensures ∙ ap closing_of r.1
+    let r = owner_entry c.args.buffer.now.forest c.args.end c.in-End.back c.requires.in_buffer
+    (sym c.entry.ensures ∙ c.in-End.is) in
+    c.closing.ensures ∙ ap (λ e. closing_of (entry_owner e)) c.entry-in-End.ensures
+    ∙ ap closing_of r.1

@@ -3,25 +3,46 @@ use Rattle.tok_buffer.specs.Moves.{levels_at, up_to, end_of}
 use Rattle.tok_buffer.specs.Ahead.{first_of}
 use Rattle.tok_buffer.specs.Private.Layout.{entry_of, leaf_in}
 use Rattle.tok_buffer.proofs.InScope.{before_scope, place_step}
-use Rattle.tok_buffer.proofs.Scans.{shown_from, shown_is, shown_done, shown_open, shown_close, scan_leaf, scan_group, marked, marked_is}
+use Rattle.tok_buffer.proofs.Scans.{shown_from, shown_is, shown_done, shown_open, shown_close}
+use Rattle.tok_buffer.proofs.Scans.{scan_leaf, scan_group, marked, marked_is}
 use Rattle.tok_buffer.proofs.cursor.spans.scan.Goals as goal
 use Rattle.tok_buffer.proofs.cursor.spans.scan.Goals.{in-Group+else-not-same, in-End}
 
 pub entry-requires : goal.entry-requires
 entry-requires c =
-    omega (arith, before_scope c.args.buffer.now.forest c.loop-position.position c.args.scope c.loop-position.invariant.within, c.requires.in_buffer)
+    omega (
+      arith,
+      before_scope c.args.buffer.now.forest c.loop-position.position c.args.scope
+          c.loop-position.invariant.within,
+      c.requires.in_buffer,
+    )
 
 pub overflow_add-depth : goal.overflow_add-depth
 overflow_add-depth c =
-    omega (arith, before_scope c.args.buffer.now.forest c.loop-position.position c.args.scope c.loop-position.invariant.within, c.loop-position.invariant.small, c.ranges.scope.fits)
+    omega (
+      arith,
+      before_scope c.args.buffer.now.forest c.loop-position.position c.args.scope
+          c.loop-position.invariant.within,
+      c.loop-position.invariant.small,
+      c.ranges.scope.fits,
+    )
 
 pub overflow_add-position : goal.overflow_add-position
 overflow_add-position c =
-    omega (arith, before_scope c.args.buffer.now.forest c.loop-position.position c.args.scope c.loop-position.invariant.within, c.ranges.scope.fits)
+    omega (
+      arith,
+      before_scope c.args.buffer.now.forest c.loop-position.position c.args.scope
+          c.loop-position.invariant.within,
+      c.ranges.scope.fits,
+    )
 
 pub loop-position-smaller : goal.loop-position-smaller
 loop-position-smaller c =
-    omega (arith, before_scope c.args.buffer.now.forest c.loop-position.position c.args.scope c.loop-position.invariant.within)
+    omega (
+      arith,
+      before_scope c.args.buffer.now.forest c.loop-position.position c.args.scope
+          c.loop-position.invariant.within,
+    )
 
 pub loop-position-preserved : goal.loop-position-preserved
 loop-position-preserved c =
@@ -34,14 +55,18 @@ loop-position-preserved c =
         within = (place_step 0 n s F i.within c.loop-position-test.true).0;
         small = omega (arith, w.depth-is, i.small);
         same = ap (λ z. shown_from z F (n + 1) s) w.depth-is
-            ∙ shown_open c.loop-position.depth F n s w.in-Group.group.now w.in-Group.field-1 i.within c.loop-position-test.true (sym c.entry.ensures ∙ c.held.ensures ∙ ap entry_of w.in-Group.is) (sym w.same.ensures ∙ w.if-not-same.false)
+            ∙ shown_open c.loop-position.depth F n s w.in-Group.group.now w.in-Group.field-1
+            i.within c.loop-position-test.true (sym c.entry.ensures ∙ c.held.ensures
+            ∙ ap entry_of w.in-Group.is) (sym w.same.ensures ∙ w.if-not-same.false)
             ∙ i.same;
       }
       | in-End w ↦ record {
         within = (place_step 0 n s F i.within c.loop-position-test.true).0;
         small = omega (arith, w.depth-is, w.saturating_sub-depth.ensures, i.small);
         same = ap (λ z. shown_from z F (n + 1) s) (w.depth-is ∙ w.saturating_sub-depth.ensures)
-            ∙ shown_close c.loop-position.depth F n s w.in-End.field-0 i.within c.loop-position-test.true (sym c.entry.ensures ∙ c.held.ensures ∙ ap entry_of w.in-End.is)
+            ∙ shown_close c.loop-position.depth F n s w.in-End.field-0 i.within
+            c.loop-position-test.true (sym c.entry.ensures ∙ c.held.ensures
+            ∙ ap entry_of w.in-End.is)
             ∙ i.same;
       }
     ]
@@ -55,8 +80,11 @@ returns-in-Leaf c =
     let us = up_to (end_of n x.0) c.args.scope x.1 in
     ap (λ z. Some (z, c.span.result)) (sym (marked_is c.loop-position.depth))
     ∙ ap (λ z. Some (marked c.loop-position.depth, z)) c.span.ensures
-    ∙ sym (scan_leaf c.loop-position.depth x.0 us (leaf_in c.in-Leaf.leaf) (sym c.entry.ensures ∙ c.held.ensures ∙ ap entry_of c.in-Leaf.is))
-    ∙ ap first_of (c.loop-position.invariant.same ∙ sym (shown_is c.args.buffer.now.number c.args.scope c.args.from y.0 (up_to (end_of c.args.from y.0) c.args.scope y.1)))
+    ∙ sym (scan_leaf c.loop-position.depth x.0 us (leaf_in c.in-Leaf.leaf) (sym c.entry.ensures
+    ∙ c.held.ensures ∙ ap entry_of c.in-Leaf.is))
+    ∙ ap first_of (c.loop-position.invariant.same
+    ∙ sym (shown_is c.args.buffer.now.number c.args.scope c.args.from y.0
+    (up_to (end_of c.args.from y.0) c.args.scope y.1)))
 
 pub returns-then-not-same : goal.returns-then-not-same
 returns-then-not-same c =
@@ -66,13 +94,19 @@ returns-then-not-same c =
     let y = levels_at F c.args.from in
     let us = up_to (end_of n x.0) c.args.scope x.1 in
     ap (λ z. Some (z, c.in-Group.group.now.span)) (sym (marked_is c.loop-position.depth))
-    ∙ sym (scan_group c.loop-position.depth x.0 us c.in-Group.group.now c.in-Group.field-1 (sym c.entry.ensures ∙ c.held.ensures ∙ ap entry_of c.in-Group.is) (sym c.same.ensures ∙ c.if-not-same.true))
-    ∙ ap first_of (c.loop-position.invariant.same ∙ sym (shown_is c.args.buffer.now.number c.args.scope c.args.from y.0 (up_to (end_of c.args.from y.0) c.args.scope y.1)))
+    ∙ sym (scan_group c.loop-position.depth x.0 us c.in-Group.group.now c.in-Group.field-1
+    (sym c.entry.ensures ∙ c.held.ensures ∙ ap entry_of c.in-Group.is) (sym c.same.ensures
+    ∙ c.if-not-same.true))
+    ∙ ap first_of (c.loop-position.invariant.same
+    ∙ sym (shown_is c.args.buffer.now.number c.args.scope c.args.from y.0
+    (up_to (end_of c.args.from y.0) c.args.scope y.1)))
 
 pub returns : goal.returns
 returns c =
     let F = c.args.buffer.now.forest in
     let y = levels_at F c.args.from in
-    ap first_of (sym (shown_done c.loop-position.depth F c.loop-position.position c.args.scope c.loop-position.invariant.within c.loop-position-test.false)
+    ap first_of (sym (shown_done c.loop-position.depth F c.loop-position.position c.args.scope
+    c.loop-position.invariant.within c.loop-position-test.false)
     ∙ c.loop-position.invariant.same
-    ∙ sym (shown_is c.args.buffer.now.number c.args.scope c.args.from y.0 (up_to (end_of c.args.from y.0) c.args.scope y.1)))
+    ∙ sym (shown_is c.args.buffer.now.number c.args.scope c.args.from y.0
+    (up_to (end_of c.args.from y.0) c.args.scope y.1)))

@@ -7,7 +7,8 @@ abbrev pub invariant-loop-position : goal.invariant-loop-position
 invariant-loop-position l = record {
   within : in_scope l.buffer.forest l.position l.scope ≡ true;
   small : l.depth ≤ l.position;
-  same : shown_from l.depth l.buffer.forest l.position l.scope ≡ shown_from 0 l.buffer.forest l.from l.scope;
+  same : shown_from l.depth l.buffer.forest l.position l.scope ≡ shown_from 0 l.buffer.forest
+      l.from l.scope;
 }
 
 abbrev pub decreases-loop-position : goal.decreases-loop-position

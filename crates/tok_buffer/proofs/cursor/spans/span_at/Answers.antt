@@ -9,18 +9,24 @@ use Rattle.tok_buffer.proofs.cursor.spans.span_at.Goals as goal
 
 pub overflow_sub-position : goal.overflow_sub-position
 overflow_sub-position c =
-    (owner_entry c.args.buffer.now.forest c.args.position c.in-End.back c.requires (sym c.entry.ensures ∙ c.held.ensures ∙ ap entry_of c.in-End.is)).0
+    (owner_entry c.args.buffer.now.forest c.args.position c.in-End.back c.requires
+    (sym c.entry.ensures ∙ c.held.ensures ∙ ap entry_of c.in-End.is)).0
 
 pub returns-in-Leaf : goal.returns-in-Leaf
-returns-in-Leaf c = c.span.ensures ∙ leaf_current (levels_at c.args.buffer.now.forest c.args.position).0 (leaf_in c.in-Leaf.leaf) (sym c.entry.ensures ∙ c.held.ensures ∙ ap entry_of c.in-Leaf.is)
+returns-in-Leaf c = c.span.ensures
+    ∙ leaf_current (levels_at c.args.buffer.now.forest c.args.position).0
+    (leaf_in c.in-Leaf.leaf) (sym c.entry.ensures ∙ c.held.ensures ∙ ap entry_of c.in-Leaf.is)
 
 pub returns-in-Group : goal.returns-in-Group
-returns-in-Group c = group_current (levels_at c.args.buffer.now.forest c.args.position).0 c.in-Group.group.now c.in-Group.field-1 (sym c.entry.ensures ∙ c.held.ensures ∙ ap entry_of c.in-Group.is)
+returns-in-Group c = group_current (levels_at c.args.buffer.now.forest c.args.position).0
+    c.in-Group.group.now c.in-Group.field-1 (sym c.entry.ensures ∙ c.held.ensures
+    ∙ ap entry_of c.in-Group.is)
 
 pub returns-in-End : goal.returns-in-End
 returns-in-End c =
     let F = c.args.buffer.now.forest in
-    let e : entry_here (levels_at F c.args.position).0 ≡ End c.in-End.back = sym c.entry.ensures ∙ c.held.ensures ∙ ap entry_of c.in-End.is in
+    let e : entry_here (levels_at F c.args.position).0 ≡ End c.in-End.back = sym c.entry.ensures
+    ∙ c.held.ensures ∙ ap entry_of c.in-End.is in
     ap (λ r. r.1) c.closing.ensures
     ∙ ap (λ x. owner_closing (entry_owner x)) c.entry-in-End.ensures
     ∙ ap owner_closing (owner_entry F c.args.position c.in-End.back c.requires e).1

@@ -4,8 +4,10 @@ use Rattle.tok_buffer.proofs.error.Error.extend.Goals as goal
 
 pub loop-another-init : goal.loop-another-init
 loop-another-init g c = record {
-  can = (c.requires c.into_iter-another-iterator.result c.into_iter-another-iterator.ensures.into_iter_gives).0;
-  ends = (c.requires c.into_iter-another-iterator.result c.into_iter-another-iterator.ensures.into_iter_gives).1;
+  can = (c.requires c.into_iter-another-iterator.result
+      c.into_iter-another-iterator.ensures.into_iter_gives).0;
+  ends = (c.requires c.into_iter-another-iterator.result
+      c.into_iter-another-iterator.ensures.into_iter_gives).1;
   added = sym (append-nil c.args.self.now);
 }
 

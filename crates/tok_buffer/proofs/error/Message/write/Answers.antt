@@ -20,6 +20,11 @@ returns c =
     let m = c.args.self.now in
     let a = segment (codes "core") m.start in
     let b = segment (codes "compile_error") m.start in
-    let two = then_forest c.args.tokens.now c.write_segment.new.tokens c.write_segment-2.new.tokens a b c.in_ok-write_segment.ensures c.in_ok-write_segment-2.ensures in
-    then_forest c.args.tokens.now c.write_segment-2.new.tokens c.write_invocation.new.tokens (concat a b) (invocation m.start m.end m.text) two
-    (c.in_ok-write_invocation.ensures ∙ ap (λ t. concat c.write_segment-2.new.tokens (invocation m.start m.end t)) c.as_str.ensures)
+    let two = then_forest c.args.tokens.now c.write_segment.new.tokens
+    c.write_segment-2.new.tokens a b c.in_ok-write_segment.ensures
+    c.in_ok-write_segment-2.ensures in
+    then_forest c.args.tokens.now c.write_segment-2.new.tokens c.write_invocation.new.tokens
+    (concat a b) (invocation m.start m.end m.text) two
+    (c.in_ok-write_invocation.ensures
+    ∙ ap (λ t. concat c.write_segment-2.new.tokens (invocation m.start m.end t))
+    c.as_str.ensures)
