@@ -1,0 +1,17 @@
+//! Errors with the line of the text that they are about, and carets under it, as rustc shows them.
+//!
+//!     error: expected `,`
+//!      --> config:1:16
+//!       |
+//!     1 | server { a: [1 2] }
+//!       |                ^
+//!
+//! `Source` names a text, and its calls show an `Error`, a `LexError` or words at a span. Contracts
+//! say which line and which carets are shown (`specs/Shown.antt`).
+#![tactic(auto)]
+
+mod line;
+mod source;
+
+pub use line::{LineColumn, line_column};
+pub use source::Source;
