@@ -1,6 +1,6 @@
 pub mod Identifiers
 pub mod Puncts
-pub mod Searches
+pub mod Reserved
 pub mod Seen
 pub mod Views
 pub mod Words

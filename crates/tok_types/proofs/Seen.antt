@@ -1,14 +1,15 @@
 -- Peeks see what is first of the visible trees ahead.
-use Rattle.std.proofs.Common.{◌≡◌, ◌∙◌, sym, ap, refl, ℕ, zero, suc, List, [], ◌∷◌, ◌++◌, Option, Some, None}
+use Rattle.std.proofs.Common.{◌≡◌, ◌∙◌, sym, ap, refl, ℕ, zero, suc, List, [], ◌∷◌, ◌++◌, Option}
+use Rattle.std.proofs.Common.{Some, None}
 use Rattle.std.proofs.Common.{Bool, true, false, cond}
 use Rattle.std.specs.Prelude.{bytes_eq, codes, is_some, option_map}
 use Rattle.tok_lexical.specs.declared.delimiter.Delimiter.{Delimiter}
 use Rattle.tok_core.specs.Clear.{is_joint_apostrophe}
 use Rattle.tok_core.specs.Forest.{Tree, Forest, no_trees, tree}
 use Rattle.tok_buffer.specs.Entry.{enter}
-use Rattle.tok_buffer.specs.InFront.{and_first, entered_ahead, first_group, first_if, first_puncts, with_ahead}
+use Rattle.tok_buffer.specs.InFront.{and_first, entered_ahead, first_if, with_ahead}
 use Rattle.tok_buffer.specs.Place.{Place, empty_place, at}
-use Rattle.tok_buffer.specs.Reads.{is_ident, is_ident_of, is_literal, is_punct, read_ident, read_keyword, read_literal}
+use Rattle.tok_buffer.specs.Reads.{is_ident_of, read_ident, read_keyword, read_literal}
 use Rattle.tok_buffer.specs.Reads.{any_text, read_lifetime, read_punct, read_punctuation, read_word}
 use Rattle.tok_buffer.specs.View.{IsVisibleDelimiter, View, empty_view, seen, erased_ahead, view}
 use Rattle.tok_buffer.proofs.View.Erased.{leaf_in_view, with_view}
@@ -16,7 +17,8 @@ use Rattle.tok_buffer.proofs.View.InFront.{ahead_tells}
 use Rattle.tok_buffer.proofs.View.LeafReads.{lifetime_in_view, then_in_view, view-lifetime}
 use Rattle.tok_types.specs.Delimiters.{delimiter_at}
 use Rattle.tok_types.specs.Looks.{Finds}
-use Rattle.tok_types.specs.Sees.{any_ident_first, first_lifetime, first_word, group_first, ident_first, keyword_first}
+use Rattle.tok_types.specs.Sees.{any_ident_first, first_lifetime, first_word, group_first}
+use Rattle.tok_types.specs.Sees.{ident_first, keyword_first}
 use Rattle.tok_types.specs.Sees.{lifetime_first, literal_first}
 use Rattle.tok_types.specs.Sees.{punct_first, punctuation_first, underscore_first}
 use Rattle.tok_types.specs.Texts.{accept_as_ident, keyword_text, punctuation_word}
@@ -41,7 +43,8 @@ pub ident_seen : (p : Place) (b : Bool) → Finds (read_word accept_as_ident) p 
 unfolding ident_first
 ident_seen p b h = h ∙ found_as _ _ _ ((ahead_tells p).words accept_as_ident)
 
-pub any_ident_seen : (p : Place) (b : Bool) → Finds read_ident p b → b ≡ any_ident_first (erased_ahead p)
+pub any_ident_seen : (p : Place) (b : Bool) → Finds read_ident p b →
+    b ≡ any_ident_first (erased_ahead p)
 unfolding any_ident_first
 any_ident_seen p b h = h ∙ found_as _ _ _ (ahead_tells p).idents
 
@@ -84,7 +87,8 @@ then-first : (wanted : Tree → Bool) (r : Option (List Tree × View))
     ≡ and_first (with_trees r) (first_if wanted)
 then-first wanted None = refl
 then-first wanted (Some r) =
-    more-first r.0 (leaf_in_view wanted r.1) (first_if wanted (trees_in r.1)) (leaf-first wanted r.1)
+    more-first r.0 (leaf_in_view wanted r.1) (first_if wanted (trees_in r.1))
+    (leaf-first wanted r.1)
 
 pub lifetime-first-in : (wanted : List ℕ → Bool) (v : View)
     → with_trees (lifetime_in_view wanted v) ≡ first_lifetime wanted (trees_in v)
@@ -96,14 +100,16 @@ pub lifetimes-tell : (wanted : List ℕ → Bool) (p : Place)
     → with_ahead (read_lifetime wanted p) ≡ first_lifetime wanted (erased_ahead p)
 lifetimes-tell wanted p =
     with-trees (read_lifetime wanted p) ∙ ap with_trees (view-lifetime no_trees wanted p)
-    ∙ lifetime-first-in wanted (view no_trees p) ∙ ap (first_lifetime wanted) (sym (trees-in-view p))
+    ∙ lifetime-first-in wanted (view no_trees p)
+    ∙ ap (first_lifetime wanted) (sym (trees-in-view p))
 
 pub lifetime_seen : (p : Place) (b : Bool) → Finds (read_lifetime any_text) p b
     → b ≡ lifetime_first (erased_ahead p)
 unfolding lifetime_first
 lifetime_seen p b h = h ∙ found_as _ _ _ (lifetimes-tell any_text p)
 
-pub literal_seen : (p : Place) (b : Bool) → Finds read_literal p b → b ≡ literal_first (erased_ahead p)
+pub literal_seen : (p : Place) (b : Bool) → Finds read_literal p b →
+    b ≡ literal_first (erased_ahead p)
 unfolding literal_first
 literal_seen p b h = h ∙ found_as _ _ _ (ahead_tells p).literals
 
@@ -122,9 +128,11 @@ unfolding keyword_first
 keyword_seen k p b h = h ∙ found_as _ _ _ (words-tell (keyword_text k) p)
 
 pub punctuation_seen : (k n : ℕ) (p : Place) (b : Bool)
-    → Finds (read_punctuation (punctuation_word k n)) p b → b ≡ punctuation_first k n (erased_ahead p)
+    → Finds (read_punctuation (punctuation_word k n)) p b →
+    b ≡ punctuation_first k n (erased_ahead p)
 unfolding punctuation_first
-punctuation_seen k n p b h = h ∙ found_as _ _ _ ((ahead_tells p).punctuations (punctuation_word k n))
+punctuation_seen k n p b h = h
+    ∙ found_as _ _ _ ((ahead_tells p).punctuations (punctuation_word k n))
 
 pub group_seen : (d : Delimiter) → IsVisibleDelimiter d → (p : Place) (b : Bool)
     → Finds (enter d) p b → b ≡ group_first d (erased_ahead p)

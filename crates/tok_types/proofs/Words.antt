@@ -1,5 +1,7 @@
 -- The texts of the tables are ASCII, and those of keywords are identifiers.
-use Rattle.std.proofs.Common.{◌≡◌, ◌∙◌, ◌<◌, sym, ap, subst, refl, ℕ, zero, suc, Bool, true, false, ◌&&◌, ◌||◌, cond, List, [], ◌∷◌, get_or, length, inl, inr, arith, eqb-true, encode_utf8_all}
+use Rattle.std.proofs.Common.{◌≡◌, ◌∙◌, ◌<◌, sym, ap, subst, refl, ℕ, zero, suc, Bool, true}
+use Rattle.std.proofs.Common.{false, ◌&&◌, ◌||◌, cond, List, [], ◌∷◌, get_or, length, ◌≤◌, ◌⊎◌}
+use Rattle.std.proofs.Common.{inl, inr, arith, eqb-true, encode_utf8_all}
 use Rattle.std.specs.Prelude.{codes, nat_lt, slice_index, ◌==◌, Result, OnErr}
 use Rattle.std.specs.List.{list_all}
 use Rattle.std.specs.Char.{is_ascii_alphabetic, is_ascii_alphanumeric}
@@ -15,23 +17,26 @@ use Rattle.tok_core.specs.Forest.{AppendsFront, Forest, leaf, no_trees}
 use Rattle.tok_leaves.specs.Leaves.{ident}
 use Rattle.tok_core.proofs.Fronts.{none_appended}
 use Rattle.tok_types.specs.Printed.{word}
-use Rattle.tok_types.proofs.Searches.{below_or_not}
-use Rattle.tok_types.specs.Texts.{keywords, keyword_text, punctuations, punctuation_text, punctuation_word}
+use Rattle.tok_types.specs.Texts.{keywords, keyword_text, punctuations, punctuation_text}
+use Rattle.tok_types.specs.Texts.{punctuation_word}
 
 both : (a b : Bool) → (a && b) ≡ true → (a ≡ true) × (b ≡ true)
 both true b h = (refl, h)
 both false b h = absurd (false≢true h)
 
 -- what holds of each text of a table and of the empty text holds of the text of any number
-of_each : (holds : List ℕ → Bool) (ts : List (List ℕ)) (k : ℕ) → holds [] ≡ true → list_all holds ts ≡ true → holds (get_or ts k []) ≡ true
+of_each : (holds : List ℕ → Bool) (ts : List (List ℕ)) (k : ℕ) → holds [] ≡ true →
+    list_all holds ts ≡ true → holds (get_or ts k []) ≡ true
 of_each holds [] k e h = e
 of_each holds (t ∷ ts) zero e h = (both (holds t) (list_all holds ts) h).0
 of_each holds (t ∷ ts) (suc k) e h = of_each holds ts k e (both (holds t) (list_all holds ts) h).1
 
-of_each_in : (holds : List ℕ → Bool) (ts : List (List ℕ)) (k : ℕ) → k < length ts → list_all holds ts ≡ true → holds (get_or ts k []) ≡ true
+of_each_in : (holds : List ℕ → Bool) (ts : List (List ℕ)) (k : ℕ) → k < length ts →
+    list_all holds ts ≡ true → holds (get_or ts k []) ≡ true
 of_each_in holds [] k low h = absurd (omega arith)
 of_each_in holds (t ∷ ts) zero low h = (both (holds t) (list_all holds ts) h).0
-of_each_in holds (t ∷ ts) (suc k) low h = of_each_in holds ts k (omega arith) (both (holds t) (list_all holds ts) h).1
+of_each_in holds (t ∷ ts) (suc k) low h = of_each_in holds ts k (omega arith)
+    (both (holds t) (list_all holds ts) h).1
 
 abbrev is_ascii : List ℕ → Bool
 is_ascii t = list_all (λ c. nat_lt c 128) t
@@ -56,19 +61,24 @@ and : (a b : Bool) → a ≡ true → b ≡ true → (a && b) ≡ true
 and true b ha hb = hb
 and false b ha hb = absurd (false≢true ha)
 
-continues : (cs : List ℕ) → is_ascii cs ≡ true → list_all is_ascii_continue cs ≡ true → list_all is_xid_continue cs ≡ true
+continues : (cs : List ℕ) → is_ascii cs ≡ true → list_all is_ascii_continue cs ≡ true →
+    list_all is_xid_continue cs ≡ true
 continues [] a h = refl
 continues (c ∷ cs) a h =
     let ascii = both (nat_lt c 128) (is_ascii cs) a in
     let parts = both (is_ascii_continue c) (list_all is_ascii_continue cs) h in
-    and (is_xid_continue c) (list_all is_xid_continue cs) (is_xid_continue-ascii c (ltb-true c 128 ascii.0) ∙ parts.0) (continues cs ascii.1 parts.1)
+    and (is_xid_continue c) (list_all is_xid_continue cs)
+    (is_xid_continue-ascii c (ltb-true c 128 ascii.0) ∙ parts.0)
+    (continues cs ascii.1 parts.1)
 
 told : (t : List ℕ) → is_ascii t ≡ true → is_word t ≡ true → IsIdentifier t
 told [] a h = absurd (false≢true h)
 told (c ∷ cs) a h =
     let ascii = both (nat_lt c 128) (is_ascii cs) a in
-    let parts = both (is_ascii_alphabetic c || (c == 95)) (list_all is_ascii_continue cs) h in
-    (ap (λ b. b || (c == 95)) (is_xid_start-ascii c (ltb-true c 128 ascii.0)) ∙ parts.0, continues cs ascii.1 parts.1)
+    let parts = both (is_ascii_alphabetic c || (c == 95)) (list_all is_ascii_continue cs) h in (
+      ap (λ b. b || (c == 95)) (is_xid_start-ascii c (ltb-true c 128 ascii.0)) ∙ parts.0,
+      continues cs ascii.1 parts.1,
+    )
 
 word-chars : (t : List ℕ) → is_ascii t ≡ true → is_word t ≡ true → IsIdentifier (chars t)
 word-chars t a h = subst IsIdentifier (sym (ascii_chars t a)) (told t a h)
@@ -78,7 +88,14 @@ keywords-are-words = refl
 
 -- the text of a keyword of the table
 pub keyword-identifier : (k : ℕ) → k < 54 → IsIdentifier (chars (keyword_text k))
-keyword-identifier k h = word-chars (keyword_text k) (of_each is_ascii keywords k refl refl) (of_each_in is_word keywords k h keywords-are-words)
+keyword-identifier k h = word-chars (keyword_text k) (of_each is_ascii keywords k refl refl)
+    (of_each_in is_word keywords k h keywords-are-words)
+
+below_or_not : (k i : ℕ) → (k < i) ⊎ (i ≤ k)
+below_or_not k zero = inr (omega arith)
+below_or_not zero (suc i) = inl (omega arith)
+below_or_not (suc k) (suc i) =
+    elim (below_or_not k i) [ inl h ↦ inl (omega (arith, h)) | inr h ↦ inr (omega (arith, h)) ]
 
 -- and the text of any number
 pub keyword-suffix : (k : ℕ) → IsSuffix (chars (keyword_text k))
@@ -92,8 +109,10 @@ some : (t : List ℕ) → (length t == 0) ≡ false → t ≡ [] → ⊥
 some t h e = false≢true (sym h ∙ ap (λ u. length u == 0) e)
 
 -- a text that isn't empty spells some character
-pub suffix-identifier : (t : List ℕ) → IsUtf8 t → (length t == 0) ≡ false → IsSuffix (chars t) → IsIdentifier (chars t)
-suffix-identifier t u h (inl none) = absurd (some t h (sym (encodes-chars t u) ∙ ap encode_utf8_all none))
+pub suffix-identifier : (t : List ℕ) → IsUtf8 t → (length t == 0) ≡ false → IsSuffix (chars t) →
+    IsIdentifier (chars t)
+suffix-identifier t u h (inl none) =
+    absurd (some t h (sym (encodes-chars t u) ∙ ap encode_utf8_all none))
 suffix-identifier t u h (inr word) = word
 
 pub word-empty : (t : List ℕ) (span : Span) → (length t == 0) ≡ true → word t span ≡ no_trees
@@ -101,9 +120,12 @@ word-empty [] span h = refl
 word-empty (c ∷ cs) span h = absurd (omega (arith, eqb-true (length (c ∷ cs)) 0 h))
 
 -- where a word that is written is refused, nothing of it went out
-pub word-refused : {T E : Type 0} (r : Result T E) (t : List ℕ) (span : Span) (old new : Forest) → (length t == 0) ≡ false → OnErr r (new ≡ old) → OnErr r (AppendsFront old (word t span) new)
+pub word-refused : {T E : Type 0} (r : Result T E) (t : List ℕ) (span : Span)
+    (old new : Forest) → (length t == 0) ≡ false → OnErr r (new ≡ old) →
+    OnErr r (AppendsFront old (word t span) new)
 word-refused r [] span old new h e = absurd (eqb-false 0 0 h refl)
-word-refused r (c ∷ cs) span old new h e = none_appended r old (leaf (ident (c ∷ cs) span)) no_trees new e
+word-refused r (c ∷ cs) span old new h e = none_appended r old (leaf (ident (c ∷ cs) span))
+    no_trees new e
 
 pub underscore-identifier : IsIdentifier (chars (codes "_"))
 underscore-identifier = word-chars (codes "_") refl refl
@@ -113,4 +135,6 @@ chosen true t h = h
 chosen false t h = refl
 
 pub punctuation-chars : (k n : ℕ) → chars (punctuation_word k n) ≡ punctuation_word k n
-punctuation-chars k n = ascii_chars (punctuation_word k n) (chosen (length (punctuation_text k) == n) (punctuation_text k) (of_each is_ascii punctuations k refl refl))
+punctuation-chars k n = ascii_chars (punctuation_word k n)
+    (chosen (length (punctuation_text k) == n) (punctuation_text k)
+    (of_each is_ascii punctuations k refl refl))

@@ -1,9 +1,8 @@
 -- The texts of tokens.
-use Rattle.std.specs.Prelude.{ℕ, Bool, true, false, ◌||◌, ◌&&◌, ◌==◌, not, cond, List, [], ◌∷◌}
+use Rattle.std.specs.Prelude.{ℕ, Bool, false, ◌||◌, ◌==◌, not, cond, List, [], ◌∷◌}
 use Rattle.std.specs.Prelude.{◌++◌, length, map, get_or, bytes_eq, codes}
 use Rattle.std.specs.Borrow.{Bor}
-use Rattle.std.specs.Cmp.Lexicographic.{slice_cmp}
-use Rattle.std.specs.Ordering.{is_lt, nat_cmp}
+use Rattle.std.specs.List.{filter}
 
 -- the keywords of the Rust Reference (Keywords), strict, reserved and weak, and those that only a
 -- parser of tokens names
@@ -79,11 +78,13 @@ text_in row = row.0.now
 abbrev pub display_in : Bor (List ℕ) × Bor (List ℕ) → List ℕ
 display_in row = row.1.now
 
--- no text is below the one before it, by its bytes
-abbrev pub is_ascending : List (List ℕ) → Bool
-is_ascending [] = true
-is_ascending (t ∷ []) = true
-is_ascending (t ∷ (u ∷ ts)) = not (is_lt (slice_cmp nat_cmp u t)) && is_ascending (u ∷ ts)
+-- the texts that begin with this byte
+abbrev pub begins_with : ℕ → List ℕ → Bool
+begins_with b [] = false
+begins_with b (c ∷ s) = c == b
+
+abbrev pub beginning : ℕ → List (List ℕ) → List (List ℕ)
+beginning b = filter (begins_with b)
 
 abbrev pub accept_as_ident : List ℕ → Bool
 accept_as_ident s = not (is_among reserved s)

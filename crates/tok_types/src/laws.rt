@@ -1,5 +1,6 @@
 //! Laws of token types. Each is the contract of a function that does nothing.
 ghost use Rattle.std.specs.Prelude.{◌≡◌, ◌≤◌, length};
+ghost use Rattle.tok_leaves.specs.Laws.{ClonesKeep};
 ghost use Rattle.tok_types.specs.Laws.{AreEqual, WriteNothing, IsNeverFound};
 ghost use Rattle.tok_types.specs.Texts.{punctuation_text};
 ghost use Rattle.tok_types.specs.Views.{IgnoresInvisible};
@@ -54,6 +55,15 @@ pub fn delimiters_are_equal<const D: usize>()
 pub fn groups_are_equal()
     ensures equal { AreEqual ⟦<Group as PartialEq>⟧.eq }
     ensures hash { WriteNothing ⟦<Group as Hash>⟧.hash_input }
+{}
+
+/// A clone of a token has its spans.
+pub fn clones_keep_tokens<const K: usize, const N: usize, const D: usize>()
+    ensures keywords { ClonesKeep ⟦<Keyword<K> as Clone>⟧.is_clone }
+    ensures punctuations { ClonesKeep ⟦<Punctuation<K, N> as Clone>⟧.is_clone }
+    ensures underscores { ClonesKeep ⟦<Underscore as Clone>⟧.is_clone }
+    ensures delimiters { ClonesKeep ⟦<Visible<D> as Clone>⟧.is_clone }
+    ensures groups { ClonesKeep ⟦<Group as Clone>⟧.is_clone }
 {}
 
 /// Invisible groups do not matter to a peek of a leaf, a lifetime or the end: it is the same at

@@ -12,7 +12,7 @@ use tok_buffer::{Cursor, Lifetime};
 use tok_core::{Group, Ident, Literal, Punct, TokenTree};
 
 /// The end of a stream's scope: of the whole text, or of a group's contents.
-#[derive(Clone, Copy)]
+#[derive(Clone, Copy, PartialEq, Eq, Hash, Debug, Default)]
 pub struct End;
 
 /// An identifier of any text, reserved words included.

@@ -5,4 +5,5 @@ use Rattle.tok_types.specs.Texts.{keywords}
 use Rattle.tok_types.proofs.laws.keyword_past_the_table.Goals as goal
 
 pub returns : goal.returns
-returns g c = λ past place found finds. finds ∙ ap (λ t. is_some (read_keyword t place)) (get_or_past keywords g.row.K [] past)
+returns g c = λ past place found finds. finds ∙ ap (λ t. is_some (read_keyword t place))
+    (get_or_past keywords g.row.K [] past)
