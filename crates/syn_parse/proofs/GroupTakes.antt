@@ -97,6 +97,11 @@ after-remains : (d : Delimiter) (p : Place) (e : Entered) → enter d p ≡ Some
     → remaining e.after ≤ remaining p
 after-remains d p e h = omega (arith, (entries_go_on.groups d).lowers p e h)
 
+-- less remains in a group than before it
+content-remains : (d : Delimiter) (p : Place) (e : Entered) → enter d p ≡ Some e
+    → remaining e.content < remaining p
+content-remains d p e h = (entries_go_on.groups d).inwards p e h
+
 -- a group's content weighs less than what is ahead before it
 pub content-lighter : (d : Delimiter) → IsVisibleDelimiter d → (p : Place) (e : Entered)
     → enter d p ≡ Some e → weight (erased_ahead e.content) < weight (erased_ahead p)
@@ -324,6 +329,7 @@ module _ {T : Type 0} (span_of : T → DelimSpan) (content : T → State) (d : D
     ap (λ u. (ahead u).clean) j,
     ap (λ u. (ahead u).clean) k,
     λ f. subst (λ u. IsFilled u.place) (sym j) (both-filled d visible s.place e h f).0,
+    subst (λ u. remaining u.place < remaining s.place) (sym j) (content-remains d s.place e h),
     (
       λ f. subst (λ u. IsFilled u.place) (sym k) (both-filled d visible s.place e h f).1,
       ap (λ u. scope_of u.place) k ∙ after-scope d s.place e h,

@@ -1,29 +1,61 @@
--- Which trees are taken: in both directions.
-use Rattle.std.proofs.Common.{◌≡◌, ◌∙◌, sym, ap, subst, refl, ℕ, ◌==◌, ◌&&◌, not, Bool, true, false, cond}
-use Rattle.std.proofs.Common.{List, [], ◌∷◌, Option, Some, None, eqb-true}
+-- Which trees are taken, in both directions: what is found is these trees, and these trees are
+-- found.
+use Rattle.std.proofs.Common.{◌≡◌, ◌∙◌, sym, ap, subst, refl, ℕ, ◌==◌, ◌&&◌, not, Bool, true, false}
+use Rattle.std.proofs.Common.{cond}
+use Rattle.std.proofs.Common.{List, [], ◌∷◌, ◌++◌, map, Option, Some, None, eq-eqb, eqb-true}
+use Rattle.std.proofs.Common.{bytes_eq}
+use Rattle.std.proofs.lemmas.Bool.{and_parts, false≢true}
+use Rattle.std.proofs.lemmas.Slice.Eq.{bytes_eq-Decides}
+use Rattle.std.specs.Prelude.{codes}
 use Rattle.tok_lexical.specs.declared.delimiter.Delimiter.{Delimiter}
 use Rattle.tok_lexical.specs.declared.delimiter.Delimiter.TheVariants as delimiter
 use Rattle.tok_leaves.specs.declared.ident.Ident.{Ident}
+use Rattle.tok_leaves.specs.declared.lifetime.Lifetime.{Lifetime}
 use Rattle.tok_leaves.specs.declared.literal.Literal.{Literal}
+use Rattle.tok_leaves.specs.declared.punct.Punct.{Punct}
 use Rattle.tok_leaves.specs.declared.punct.Spacing.{Spacing}
+use Rattle.tok_leaves.specs.declared.punct.Spacing.TheVariants.{Alone, Joint}
 use Rattle.tok_leaves.specs.declared.span.DelimSpan.{DelimSpan}
 use Rattle.tok_leaves.specs.declared.span.Span.{Span}
-use Rattle.tok_leaves.specs.Leaves.{ident, punct, literal, ident_of, literal_of}
-use Rattle.tok_core.specs.Forest.{Tree, leaf, group, Forest, no_trees, tree}
-use Rattle.std.specs.Prelude.{map}
+use Rattle.tok_leaves.specs.Leaves.{apostrophe, ident, punct, literal, ident_of, literal_of}
+use Rattle.tok_leaves.specs.Leaves.{punct_of}
+use Rattle.tok_core.specs.Clear.{is_joint_apostrophe}
+use Rattle.tok_core.specs.Forest.{Tree, leaf, group, Forest, no_trees, tree, forest, concat}
 use Rattle.tok_core.specs.Forest.{tree_span}
-use Rattle.tok_buffer.specs.InFront.{first_if}
-use Rattle.tok_buffer.specs.Reads.{is_ident}
-use Rattle.syn_parse.specs.RefusalWords.{expected}
-use Rattle.tok_types.specs.Texts.{accept_as_ident, in_backquotes, punctuation_word}
+use Rattle.tok_buffer.specs.Entry.{same_delimiter}
+use Rattle.tok_buffer.specs.InFront.{EnteredAhead, and_first, first_group, first_if, first_puncts}
+use Rattle.tok_buffer.specs.Reads.{any_text, is_ident as any_ident, is_ident_of, is_joint_of}
+use Rattle.tok_buffer.specs.Reads.{is_literal, is_punct, is_punct_of}
+use Rattle.tok_types.specs.Texts.{accept_as_ident, keyword_text, punctuation_word}
 use Rattle.tok_types.specs.declared.punctuation.Punctuation.{Punctuation}
-use Rattle.syn_parse.specs.TreesAhead.{Ahead, is_spent}
-use Rattle.syn_parse.specs.Takes.{Outcome, Taking, after_inside, found, missing, and_then, or_end, read_as}
-use Rattle.syn_parse.specs.Takes.{take_group}
-use Rattle.syn_parse.specs.Tokens.{ident_in, ident_missing, take_ident, take_literal, take_punctuation}
+use Rattle.tok_types.specs.declared.keyword.Keyword.{Keyword}
+use Rattle.tok_types.specs.Sees.{first_lifetime, first_word}
+use Rattle.syn_parse.specs.Parses.{AreSpans, IsIdent, IsLifetime, IsLiteral, IsPunct, IsSpanOf}
+use Rattle.syn_parse.specs.Parses.{accept_as_lifetime}
+use Rattle.syn_parse.specs.RefusalWords.{expected}
+use Rattle.syn_parse.specs.Tokens.{ident_in, ident_missing, lifetime_in, lifetime_missing}
+use Rattle.syn_parse.specs.Tokens.{literal_in, punct_in, span_in}
+use Rattle.syn_parse.specs.Tokens.{take_any_ident, take_any_lifetime, take_ident, take_keyword}
+use Rattle.syn_parse.specs.Tokens.{take_lifetime, take_literal, take_nothing}
+use Rattle.syn_parse.specs.Tokens.{take_punct, take_punctuation, take_underscore}
+use Rattle.syn_parse.specs.TreesAhead.{Ahead, all_taken, is_spent}
+use Rattle.syn_parse.specs.Takes.{Outcome, Taking, after_inside, found, inside_first, missing}
+use Rattle.syn_parse.specs.Takes.{and_then}
+use Rattle.syn_parse.specs.Takes.{read_as, take_by, take_group}
+
+-- these trees are ahead first
+abbrev pub before : List Tree → Ahead → Ahead
+before ts b = record b { trees = concat (forest ts) b.trees }
+
+-- what is taken is these trees, and these trees are taken
+pub record Shape {A : Type 0} (Is : A → List Tree → Type 0) (take : Taking A) : Type 0 where
+  pub taken : (a b : Ahead) (v : A) → take a ≡ found v b → (ts : List Tree) × Is v ts × (a
+      ≡ before ts b)
+  pub takes : (b : Ahead) (v : A) (ts : List Tree) → Is v ts → take (before ts b) ≡ found v b
 
 -- one after another
-pub record Then {A B : Type 0} (o : Outcome A) (k : A → Ahead → Outcome B) (w : B) (b : Ahead) : Type 0 where
+pub record Then {A B : Type 0} (o : Outcome A) (k : A → Ahead
+    → Outcome B) (w : B) (b : Ahead) : Type 0 where
   pub value : A
   pub after : Ahead
   pub first : o ≡ found value after
@@ -34,156 +66,450 @@ pub then_found : {A B : Type 0} (o : Outcome A) (k : A → Ahead → Outcome B) 
 then_found (found v c) k w b e = record { value = v; after = c; first = refl; rest = e }
 then_found (missing words) k w b e = absurd (cc)
 
-pub found-second : {A : Type 0} {x y : A} {a b : Ahead} → found x a ≡ found y b → a ≡ b
-found-second e = cc
+pub found_first : {A : Type 0} {x y : A} {a b : Ahead} → found x a ≡ found y b → x ≡ y
+found_first e = cc
 
-pub found-first : {A : Type 0} {x y : A} {a b : Ahead} → found x a ≡ found y b → x ≡ y
-found-first e = cc
+pub found_second : {A : Type 0} {x y : A} {a b : Ahead} → found x a ≡ found y b → a ≡ b
+found_second e = cc
 
--- the tree in front was taken
-pub record Front (t : Tree) (a b : Ahead) : Type 0 where
-  pub trees : a.trees ≡ tree t b.trees
-  pub clean : a.clean ≡ b.clean
+-- trees that a read returns, and those that it is found at
+record ReadShape (read : Forest → Option (List Tree × Forest)) (Are : List Tree
+    → Type 0) : Type 0 where
+  taken : (f g : Forest) (ts : List Tree) → read f ≡ Some (ts, g) → Are ts × (f
+      ≡ concat (forest ts) g)
+  takes : (g : Forest) (ts : List Tree) → Are ts → read (concat (forest ts) g) ≡ Some (ts, g)
 
-front : {A : Type 0} (t : Tree) (f : Forest) (c : Bool) (v w : A) (b : Ahead)
-    → found v (record { trees = f; clean = c }) ≡ found w b → Front t (record { trees = tree t f; clean = c }) b
-front t f c v w b e =
-    let k : record { trees = f; clean = c } ≡ b = cc in
-    record { trees = ap (λ (x : Ahead). tree t x.trees) k; clean = ap (λ (x : Ahead). x.clean) k }
+by_read : {T : Type 0} (Is : T → List Tree → Type 0) (read : Forest → Option (List Tree × Forest))
+    (Are : List Tree → Type 0) (means : List Tree → T) (words : Forest → List ℕ)
+    → ReadShape read Are
+    → ((ts : List Tree) → Are ts → Is (means ts) ts)
+    → ((v : T) (ts : List Tree) → Is v ts → Are ts × (means ts ≡ v))
+    → Shape Is (take_by read means words)
+by_read {T} Is read Are means words r is are = record {
+  taken = λ a b v e. go a b v (read a.trees) refl e;
+  takes = λ b v ts i.
+      let k = are v ts i in
+      ap (read_as means words (before ts b)) (r.takes b.trees ts k.0) ∙ ap (λ w. found w b) k.1;
+} where
+  go : (a b : Ahead) (v : T) (o : Option (List Tree × Forest)) → read a.trees ≡ o
+      → read_as means words a o ≡ found v b → (ts : List Tree) × Is v ts × (a ≡ before ts b)
+  go a b v None h e = absurd (cc)
+  go a b v (Some (ts, g)) h e =
+      let k = r.taken a.trees g ts h in
+      let same : means ts ≡ v = found_first e in
+      let after : record { trees = g; clean = a.clean } ≡ b = found_second e in (
+        ts,
+        subst (λ w. Is w ts) same (is ts k.0),
+        ap (λ f. record { trees = f; clean = a.clean }) k.1 ∙ ap (before ts) after,
+      )
 
--- an identifier that is no reserved word
-pub record IdentTaken (v : Ident) (a b : Ahead) : Type 0 where
-  pub accepted : accept_as_ident v.text ≡ true
-  pub front : Front (leaf (ident_of v)) a b
+abbrev Read : Type 0
+Read = Option (List Tree × Forest)
 
-pub ident_taken : (f : Forest) (c : Bool) (b : Ahead) (v : Ident)
-    → take_ident (record { trees = f; clean = c }) ≡ found v b
-    → IdentTaken v (record { trees = f; clean = c }) b
+abbrev found_read : List Tree → Forest → Read
+found_read ts f = Some (ts, f)
+
+is_read : (x y : List Tree × Forest) → Some x ≡ Some y → x ≡ y
+is_read x y e = cc
+
+trees_are : {us ts : List Tree} {f g : Forest} → found_read us f ≡ found_read ts g → us ≡ ts
+trees_are e = ap (λ (r : List Tree × Forest). r.0) (is_read _ _ e)
+
+rest_is : {us ts : List Tree} {f g : Forest} → found_read us f ≡ found_read ts g → f ≡ g
+rest_is e = ap (λ (r : List Tree × Forest). r.1) (is_read _ _ e)
+
+-- the first tree, by a test
+first_tree : (wanted : Tree → Bool)
+    → ReadShape (first_if wanted) (λ ts. (t : Tree) × (ts ≡ t ∷ []) × (wanted t ≡ true))
+first_tree wanted = record {
+  taken = λ f g ts e. go f g ts e;
+  takes = λ g ts i.
+      subst (λ us. first_if wanted (concat (forest us) g) ≡ Some (us, g)) (sym i.1)
+      (ap (λ c. cond {A = Read} c (Some (i.0 ∷ [], g)) None) i.2);
+} where
+  by_test : (t : Tree) (f g : Forest) (ts : List Tree) (c : Bool) → wanted t ≡ c
+      → cond {A = Read} c (Some (t ∷ [], f)) None ≡ Some (ts, g)
+      → ((u : Tree) × (ts ≡ u ∷ []) × (wanted u ≡ true)) × (tree t f ≡ concat (forest ts) g)
+  by_test t f g ts false h e = absurd (cc)
+  by_test t f g ts true h e =
+      let us = trees_are e in
+      ((t, sym us, h), ap (tree t) (rest_is e) ∙ ap (λ x. concat (forest x) g) us)
+
+  go : (f g : Forest) (ts : List Tree) → first_if wanted f ≡ Some (ts, g)
+      → ((u : Tree) × (ts ≡ u ∷ []) × (wanted u ≡ true)) × (f ≡ concat (forest ts) g)
+  go no_trees g ts e = absurd (cc)
+  go (tree t f) g ts e = by_test t f g ts (wanted t) refl e
+
+-- an identifier of an accepted text
+abbrev pub IsAccepted : (List ℕ → Bool) → Ident → List Tree → Type 0
+IsAccepted accept v ts = IsIdent v ts × (accept v.text ≡ true)
+
+abbrev One : (Tree → Bool) → List Tree → Type 0
+One wanted ts = (t : Tree) × (ts ≡ t ∷ []) × (wanted t ≡ true)
+
+ident_is : (accept : List ℕ → Bool) (t : Tree) → is_ident_of accept t ≡ true
+    → IsAccepted accept (ident_in (t ∷ [])) (t ∷ [])
+ident_is accept (leaf (ident text span)) h = (refl, h)
+ident_is accept (leaf (punct c x y)) h = absurd (false≢true h)
+ident_is accept (leaf (literal x y)) h = absurd (false≢true h)
+ident_is accept (group d x y) h = absurd (false≢true h)
+
+is_ident : (accept : List ℕ → Bool) (ts : List Tree) → One (is_ident_of accept) ts
+    → IsAccepted accept (ident_in ts) ts
+is_ident accept ts i = subst (λ us. IsAccepted accept (ident_in us) us) (sym i.1)
+    (ident_is accept i.0 i.2)
+
+are_ident : (accept : List ℕ → Bool) (v : Ident) (ts : List Tree) → IsAccepted accept v ts
+    → One (is_ident_of accept) ts × (ident_in ts ≡ v)
+are_ident accept v ts i = ((leaf (ident_of v), i.0, i.1), ap ident_in i.0)
+
+pub ident_shape : Shape (IsAccepted accept_as_ident) take_ident
 unfolding take_ident
-ident_taken no_trees c b v e = absurd (cc)
-ident_taken (tree (leaf (punct k x y)) f) c b v e = absurd (cc)
-ident_taken (tree (leaf (literal x y)) f) c b v e = absurd (cc)
-ident_taken (tree (group d x y) f) c b v e = absurd (cc)
-ident_taken (tree (leaf (ident text span)) f) c b v e = go (accept_as_ident text) refl e where
-  go : (t : Bool) → accept_as_ident text ≡ t
-      → read_as ident_in (λ g. or_end (ident_missing (first_if is_ident g)) g)
-      (record { trees = tree (leaf (ident text span)) f; clean = c })
-      (cond t (Some (leaf (ident text span) ∷ [], f)) None) ≡ found v b
-      → IdentTaken v (record { trees = tree (leaf (ident text span)) f; clean = c }) b
-  go false h k = absurd (cc)
-  go true h k =
-      let same : record { text = text; span = span } ≡ v = cc in
-      subst (λ w. IdentTaken w (record { trees = tree (leaf (ident text span)) f; clean = c }) b) same
-      (record { accepted = h; front = front (leaf (ident text span)) f c _ _ b k })
+ident_shape =
+    by_read _ _ _ ident_in _ (first_tree (is_ident_of accept_as_ident)) (is_ident accept_as_ident)
+    (are_ident accept_as_ident)
 
-pub takes_ident : (f : Forest) (c : Bool) (v : Ident) → accept_as_ident v.text ≡ true
-    → take_ident (record { trees = tree (leaf (ident_of v)) f; clean = c })
-    ≡ found v (record { trees = f; clean = c })
-unfolding take_ident
-takes_ident f c v h =
-    ap (λ t. read_as ident_in (λ g. or_end (ident_missing (first_if is_ident g)) g)
-    (record { trees = tree (leaf (ident_of v)) f; clean = c })
-    (cond t (Some (leaf (ident_of v) ∷ [], f)) None)) h
+literal_is : (t : Tree) → is_literal t ≡ true → IsLiteral (literal_in (t ∷ [])) (t ∷ [])
+literal_is (leaf (literal text span)) h = refl
+literal_is (leaf (punct c x y)) h = absurd (false≢true h)
+literal_is (leaf (ident x y)) h = absurd (false≢true h)
+literal_is (group d x y) h = absurd (false≢true h)
 
--- a literal
-pub literal_taken : (f : Forest) (c : Bool) (b : Ahead) (v : Literal)
-    → take_literal (record { trees = f; clean = c }) ≡ found v b
-    → Front (leaf (literal_of v)) (record { trees = f; clean = c }) b
+pub literal_shape : Shape IsLiteral take_literal
 unfolding take_literal
-literal_taken no_trees c b v e = absurd (cc)
-literal_taken (tree (leaf (punct k x y)) f) c b v e = absurd (cc)
-literal_taken (tree (leaf (ident x y)) f) c b v e = absurd (cc)
-literal_taken (tree (group d x y) f) c b v e = absurd (cc)
-literal_taken (tree (leaf (literal text span)) f) c b v e =
-    let same : record { text = text; span = span } ≡ v = cc in
-    subst (λ (w : Literal). Front (leaf (literal_of w)) (record { trees = tree (leaf (literal text span)) f; clean = c }) b)
-    same (front (leaf (literal text span)) f c _ _ b e)
+literal_shape =
+    by_read _ _ _ literal_in _ (first_tree is_literal)
+    (λ ts i. subst (λ us. IsLiteral (literal_in us) us) (sym i.1) (literal_is i.0 i.2))
+    (λ v ts i. ((leaf (literal_of v), i, refl), ap literal_in i))
 
-pub takes_literal : (f : Forest) (c : Bool) (v : Literal)
-    → take_literal (record { trees = tree (leaf (literal_of v)) f; clean = c })
-    ≡ found v (record { trees = f; clean = c })
-unfolding take_literal
-takes_literal f c v = refl
+-- a punct other than an apostrophe
+abbrev pub IsOwnPunct : Punct → List Tree → Type 0
+IsOwnPunct v ts = IsPunct v ts × (not (v.ch == apostrophe) ≡ true)
 
--- the punct of one character, other than an apostrophe
-pub record SignTaken (k : ℕ) {n : ℕ} (v : Punctuation n 1) (a b : Ahead) : Type 0 where
-  pub spacing : Spacing
-  pub span : Span
-  pub value : v ≡ record { spans = span ∷ [] }
-  pub front : Front (leaf (punct k spacing span)) a b
+punct_is : (t : Tree) → is_punct t ≡ true → IsOwnPunct (punct_in (t ∷ [])) (t ∷ [])
+punct_is (leaf (punct c spacing span)) h = (refl, h)
+punct_is (leaf (literal x y)) h = absurd (false≢true h)
+punct_is (leaf (ident x y)) h = absurd (false≢true h)
+punct_is (group d x y) h = absurd (false≢true h)
 
-pub comma_taken : (f : Forest) (c : Bool) (b : Ahead) (v : Punctuation 7 1)
-    → take_punctuation 7 1 (record { trees = f; clean = c }) ≡ found v b
-    → SignTaken 44 v (record { trees = f; clean = c }) b
+pub punct_shape : Shape IsOwnPunct take_punct
+unfolding take_punct
+punct_shape =
+    by_read _ _ _ punct_in _ (first_tree is_punct)
+    (λ ts i. subst (λ us. IsOwnPunct (punct_in us) us) (sym i.1) (punct_is i.0 i.2))
+    (λ v ts i. ((leaf (punct_of v), i.0, i.1), ap punct_in i.0))
+
+-- puncts of these characters, each but the last joint
+abbrev pub Spells : List ℕ → List Tree → Type 0
+Spells [] ts = ⊥
+Spells (c ∷ []) ts = One (is_punct_of c) ts
+Spells (c ∷ (d ∷ cs)) ts =
+    (us : List Tree) × (ws : List Tree) × (ts ≡ us ++ ws) × One (is_joint_of c) us
+    × Spells (d ∷ cs) ws
+
+-- the trees of two lists, one after the other
+joined : (us ws : List Tree) (g : Forest)
+    → concat (forest us) (concat (forest ws) g) ≡ concat (forest (us ++ ws)) g
+joined [] ws g = refl
+joined (u ∷ us) ws g = ap (tree u) (joined us ws g)
+
+-- what is read after these trees
+abbrev behind : List Tree → Read → Read
+behind us o = elim o [ Some q ↦ Some (us ++ q.0, q.1) | None ↦ None ]
+
+module _ (read more : Forest → Option (List Tree × Forest)) (Are Others : List Tree → Type 0)
+    (h : ReadShape read Are) (k : ReadShape more Others) where
+  abbrev Both : List Tree → Type 0
+  Both ts = (us : List Tree) × (ws : List Tree) × (ts ≡ us ++ ws) × Are us × Others ws
+
+  second : (us : List Tree) (m : Forest) (f g : Forest) (ts : List Tree) → Are us → f
+      ≡ concat (forest us) m
+      → (o : Option (List Tree × Forest)) → more m ≡ o
+      → behind us o ≡ Some (ts, g)
+      → Both ts × (f ≡ concat (forest ts) g)
+  second us m f g ts a e None x y = absurd (cc)
+  second us m f g ts a e (Some (ws, l)) x y =
+      let b = k.taken m l ws x in
+      let same = trees_are y in
+      let end = rest_is y in (
+        (us, ws, sym same, a, b.0),
+        e ∙ ap (concat (forest us)) b.1 ∙ joined us ws l ∙ ap (λ xs. concat (forest xs) l) same
+            ∙ ap (concat (forest ts)) end,
+      )
+
+  first : (f g : Forest) (ts : List Tree) (o : Option (List Tree × Forest)) → read f ≡ o
+      → and_first o more ≡ Some (ts, g) → Both ts × (f ≡ concat (forest ts) g)
+  first f g ts None x y = absurd (cc)
+  first f g ts (Some (us, m)) x y =
+      let a = h.taken f m us x in
+      second us m f g ts a.0 a.1 (more m) refl y
+
+  two_reads : ReadShape (λ f. and_first (read f) more) Both
+  two_reads = record {
+    taken = λ f g ts e. first f g ts (read f) refl e;
+    takes = λ g ts i.
+        subst (λ xs. and_first (read (concat (forest xs) g)) more ≡ Some (xs, g)) (sym i.2)
+        (ap (λ f. and_first (read f) more) (sym (joined i.0 i.1 g))
+        ∙ ap (λ o. and_first o more) (h.takes (concat (forest i.1) g) i.0 i.3)
+        ∙ ap (behind i.0) (k.takes g i.1 i.4));
+  }
+
+puncts : (text : List ℕ) → ReadShape (first_puncts text) (Spells text)
+puncts [] = record { taken = λ f g ts e. absurd (cc); takes = λ g ts i. absurd i }
+puncts (c ∷ []) = first_tree (is_punct_of c)
+puncts (c ∷ (d ∷ cs)) = two_reads _ _ _ _ (first_tree (is_joint_of c)) (puncts (d ∷ cs))
+
+-- a punctuation of these characters
+abbrev pub IsPunctuation : (k n : ℕ) → Punctuation k n → List Tree → Type 0
+IsPunctuation k n v ts = Spells (punctuation_word k n) ts × AreSpans v.spans ts
+
+pub punctuation_shape : (k n : ℕ) → Shape (IsPunctuation k n) (take_punctuation k n)
 unfolding take_punctuation
-comma_taken no_trees c b v e = absurd (cc)
-comma_taken (tree (leaf (literal x y)) f) c b v e = absurd (cc)
-comma_taken (tree (leaf (ident x y)) f) c b v e = absurd (cc)
-comma_taken (tree (group d x y) f) c b v e = absurd (cc)
-comma_taken (tree (leaf (punct k spacing span)) f) c b v e = go (k == 44) refl e where
-  go : (t : Bool) → (k == 44) ≡ t
-      → read_as (λ ts. record { spans = map tree_span ts }) (λ g. expected (in_backquotes (punctuation_word 7 1)))
-      (record { trees = tree (leaf (punct k spacing span)) f; clean = c })
-      (cond (t && not (k == 39)) (Some (leaf (punct k spacing span) ∷ [], f)) None) ≡ found v b
-      → SignTaken 44 v (record { trees = tree (leaf (punct k spacing span)) f; clean = c }) b
-  go false h m = absurd (cc)
-  go true h m = sign (k == 39) m where
-    sign : (u : Bool)
-        → read_as (λ ts. record { spans = map tree_span ts }) (λ g. expected (in_backquotes (punctuation_word 7 1)))
-        (record { trees = tree (leaf (punct k spacing span)) f; clean = c })
-        (cond (not u) (Some (leaf (punct k spacing span) ∷ [], f)) None) ≡ found v b
-        → SignTaken 44 v (record { trees = tree (leaf (punct k spacing span)) f; clean = c }) b
-    sign true m = absurd (cc)
-    sign false m =
-        let same : record { spans = span ∷ [] } ≡ v = cc in
-        record {
-          spacing = spacing;
-          span = span;
-          value = sym same;
-          front =
-              subst (λ j. Front (leaf (punct j spacing span)) (record { trees = tree (leaf (punct k spacing span)) f; clean = c }) b)
-              (eqb-true k 44 h) (front (leaf (punct k spacing span)) f c _ _ b m);
-        }
+punctuation_shape k n =
+    by_read _ _ _ (λ ts. record { spans = map tree_span ts }) _ (puncts (punctuation_word k n))
+    (λ ts i. (i, refl)) (λ v ts i. (i.0, ap (λ xs. record { spans = xs }) (sym i.1)))
 
-pub takes_comma : (f : Forest) (c : Bool) (spacing : Spacing) (span : Span)
-    → take_punctuation 7 1 (record { trees = tree (leaf (punct 44 spacing span)) f; clean = c })
-    ≡ found (record { spans = span ∷ [] }) (record { trees = f; clean = c })
-unfolding take_punctuation
-takes_comma f c spacing span = refl
+any_ident_is : (t : Tree) → any_ident t ≡ true → IsIdent (ident_in (t ∷ [])) (t ∷ [])
+any_ident_is (leaf (ident text span)) h = refl
+any_ident_is (leaf (punct c x y)) h = absurd (false≢true h)
+any_ident_is (leaf (literal x y)) h = absurd (false≢true h)
+any_ident_is (group d x y) h = absurd (false≢true h)
 
--- parentheses around what is taken inside
-pub record ParensTaken {A : Type 0} (inner : Taking A) (v : DelimSpan × A) (a b : Ahead) : Type 0 where
+pub any_ident_shape : Shape IsIdent take_any_ident
+unfolding take_any_ident
+any_ident_shape =
+    by_read _ _ _ ident_in _ (first_tree any_ident)
+    (λ ts i. subst (λ us. IsIdent (ident_in us) us) (sym i.1) (any_ident_is i.0 i.2))
+    (λ v ts i. ((leaf (ident_of v), i, refl), ap ident_in i))
+
+-- an identifier of one text
+text_is : (text : List ℕ) (t : Tree) → is_ident_of (bytes_eq text) t ≡ true
+    → IsSpanOf text (span_in (t ∷ [])) (t ∷ [])
+text_is text (leaf (ident word span)) h =
+    ap (λ x. leaf (ident x span) ∷ []) (sym ((bytes_eq-Decides text word).0 h))
+text_is text (leaf (punct k x y)) h = absurd (false≢true h)
+text_is text (leaf (literal x y)) h = absurd (false≢true h)
+text_is text (group d x y) h = absurd (false≢true h)
+
+word_is : (text : List ℕ) (ts : List Tree) → One (is_ident_of (bytes_eq text)) ts
+    → IsSpanOf text (span_in ts) ts
+word_is text ts i = subst (λ us. IsSpanOf text (span_in us) us) (sym i.1) (text_is text i.0 i.2)
+
+is_word : (text : List ℕ) (span : Span) (ts : List Tree) → IsSpanOf text span ts
+    → One (is_ident_of (bytes_eq text)) ts × (span_in ts ≡ span)
+is_word text span ts i = (
+  (leaf (ident text span), i, (bytes_eq-Decides text text).1 refl),
+  ap
+      span_in i,
+)
+
+a_word : (text : List ℕ) (c : ℕ) (cs : List ℕ) → text ≡ c ∷ cs
+    → ReadShape (first_word text) (One (is_ident_of (bytes_eq text)))
+a_word text c cs e =
+    subst (λ t. ReadShape (first_word t) (One (is_ident_of (bytes_eq t)))) (sym e) (first_tree _)
+
+-- a keyword of the table
+pub keyword_shape : (k c : ℕ) (cs : List ℕ) → keyword_text k ≡ c ∷ cs
+    → Shape (λ v. IsSpanOf (keyword_text k) v.span) (take_keyword k)
+unfolding take_keyword
+keyword_shape k c cs e =
+    by_read _ _ _ (λ ts. record { span = span_in ts }) _ (a_word (keyword_text k) c cs e)
+    (word_is (keyword_text k)) (λ v ts i.
+    let w = is_word (keyword_text k) v.span ts i in (w.0, ap (λ s. record { span = s }) w.1))
+
+pub underscore_shape : Shape (IsSpanOf (codes "_")) take_underscore
+unfolding take_underscore
+underscore_shape = by_read _ _ _ span_in _ (first_tree _) (word_is (codes "_"))
+    (is_word (codes "_"))
+
+-- an apostrophe and an identifier of an accepted text
+abbrev pub IsAcceptedLifetime : (List ℕ → Bool) → Lifetime → List Tree → Type 0
+IsAcceptedLifetime accept v ts = IsLifetime v ts × (accept v.ident.text ≡ true)
+
+abbrev Pair : (List ℕ → Bool) → List Tree → Type 0
+Pair accept ts =
+    (us : List Tree) × (ws : List Tree) × (ts ≡ us ++ ws) × One is_joint_apostrophe us
+    × One (is_ident_of accept) ws
+
+mark_is : (t : Tree) → is_joint_apostrophe t ≡ true → t
+    ≡ leaf (punct apostrophe Joint (tree_span t))
+mark_is (leaf (punct c Joint span)) h = ap (λ d. leaf (punct d Joint span))
+    (eqb-true c apostrophe h)
+mark_is (leaf (punct c Alone span)) h = absurd (false≢true h)
+mark_is (leaf (ident x y)) h = absurd (false≢true h)
+mark_is (leaf (literal x y)) h = absurd (false≢true h)
+mark_is (group d x y) h = absurd (false≢true h)
+
+pair_is : (accept : List ℕ → Bool) (ts : List Tree) → Pair accept ts
+    → IsAcceptedLifetime accept (lifetime_in ts) ts
+pair_is accept ts i =
+    let name = ident_is accept i.4.0 i.4.2 in
+    subst (λ us. IsAcceptedLifetime accept (lifetime_in us) us)
+    (sym (i.2 ∙ ap (λ us. us ++ i.1) i.3.1 ∙ ap (λ ws. i.3.0 ∷ ws) i.4.1)) (
+      ap (λ t. t ∷ i.4.0 ∷ []) (mark_is i.3.0 i.3.2)
+          ∙ ap (λ ws. leaf (punct apostrophe Joint (tree_span i.3.0)) ∷ ws) name.0,
+      name.1,
+    )
+
+is_pair : (accept : List ℕ → Bool) (v : Lifetime) (ts : List Tree) → IsAcceptedLifetime accept v ts
+    → Pair accept ts × (lifetime_in ts ≡ v)
+is_pair accept v ts i = (
+  (
+    leaf (punct apostrophe Joint v.apostrophe) ∷ [],
+    leaf (ident_of v.ident) ∷ [],
+    i.0,
+    (leaf (punct apostrophe Joint v.apostrophe), refl, refl),
+    (leaf (ident_of v.ident), refl, i.1),
+  ),
+  ap lifetime_in i.0,
+)
+
+lifetimes : (accept : List ℕ → Bool) → ReadShape (first_lifetime accept) (Pair accept)
+lifetimes accept =
+    two_reads _ _ _ _ (first_tree is_joint_apostrophe) (first_tree (is_ident_of accept))
+
+pub lifetime_shape : Shape (IsAcceptedLifetime accept_as_lifetime) take_lifetime
+unfolding take_lifetime
+lifetime_shape =
+    by_read _ _ _ lifetime_in _ (lifetimes accept_as_lifetime) (pair_is accept_as_lifetime)
+    (is_pair accept_as_lifetime)
+
+pub any_lifetime_shape : Shape (IsAcceptedLifetime any_text) take_any_lifetime
+unfolding take_any_lifetime
+any_lifetime_shape =
+    by_read _ _ _ lifetime_in _ (lifetimes any_text) (pair_is any_text) (is_pair any_text)
+
+pub nothing_shape : Shape (λ v ts. ts ≡ []) take_nothing
+nothing_shape = record {
+  taken = λ a b v e. ([], refl, found_second e);
+  takes = λ b v ts i. ap (λ us. found v (before us b)) i;
+}
+
+-- a group, and what is left within it
+pub record GroupTaken {A : Type 0} (d : Delimiter) (inner : Taking A) (v : DelimSpan
+    × A) (a b : Ahead)
+    : Type 0 where
   pub content : Forest
   pub left : Ahead
   pub inside : inner (record { trees = content; clean = true }) ≡ found v.1 left
-  pub trees : a.trees ≡ tree (group delimiter.Parenthesis content v.0.join) b.trees
+  pub trees : a.trees ≡ tree (group d content v.0.join) b.trees
   pub clean : b.clean ≡ (a.clean && left.clean && is_spent left)
 
-pub parens_taken : {A : Type 0} (inner : Taking A) (f : Forest) (c : Bool) (b : Ahead) (v : DelimSpan × A)
-    → take_group delimiter.Parenthesis inner (record { trees = f; clean = c }) ≡ found v b
-    → ParensTaken inner v (record { trees = f; clean = c }) b
-unfolding take_group
-parens_taken inner no_trees c b v e = absurd (cc)
-parens_taken inner (tree (leaf x) f) c b v e = absurd (cc)
-parens_taken inner (tree (group delimiter.Brace x y) f) c b v e = absurd (cc)
-parens_taken inner (tree (group delimiter.Bracket x y) f) c b v e = absurd (cc)
-parens_taken inner (tree (group delimiter.None x y) f) c b v e = absurd (cc)
-parens_taken {A} inner (tree (group delimiter.Parenthesis content span) f) c b v e =
-    go (inner (record { trees = content; clean = true })) refl e where
-      go : (o : Outcome A) → inner (record { trees = content; clean = true }) ≡ o
-          → after_inside (record { trees = tree (group delimiter.Parenthesis content span) f; clean = c })
-          (record { delimiter = delimiter.Parenthesis; span = span; content = content; after = f }) o ≡ found v b
-          → ParensTaken inner v (record { trees = tree (group delimiter.Parenthesis content span) f; clean = c }) b
-      go (missing words) h k = absurd (cc)
-      go (found w left) h k =
-          let both : (record { join = span }, w) ≡ v = found-first k in
-          let after : record { trees = f; clean = c && left.clean && is_spent left } ≡ b = found-second k in
-          record {
-            content = content;
-            left = left;
-            inside = h ∙ ap (λ (x : DelimSpan × A). found x.1 left) both;
-            trees =
-                ap (λ (x : DelimSpan × A). tree (group delimiter.Parenthesis content x.0.join) f) both
-                ∙ ap (λ (y : Ahead). tree (group delimiter.Parenthesis content v.0.join) y.trees) after;
-            clean = sym (ap (λ (y : Ahead). y.clean) after);
-          }
+same_is : (d c : Delimiter) → same_delimiter d c ≡ true → c ≡ d
+same_is delimiter.Parenthesis delimiter.Parenthesis h = refl
+same_is delimiter.Brace delimiter.Brace h = refl
+same_is delimiter.Bracket delimiter.Bracket h = refl
+same_is delimiter.None delimiter.None h = refl
+same_is d c h = absurd (false≢true h)
+
+itself : (d : Delimiter) → same_delimiter d d ≡ true
+itself delimiter.Parenthesis = refl
+itself delimiter.Brace = refl
+itself delimiter.Bracket = refl
+itself delimiter.None = refl
+
+module _ {A : Type 0} (d : Delimiter) (inner : Taking A) where
+  inside_taken : (a : Ahead) (e : EnteredAhead) (b : Ahead) (v : DelimSpan × A) (o : Outcome A)
+      → inner (record { trees = e.content; clean = true }) ≡ o → after_inside a e o ≡ found v b
+      → a.trees ≡ tree (group d e.content e.span) e.after → GroupTaken d inner v a b
+  inside_taken a e b v (missing words) h k m = absurd (cc)
+  inside_taken a e b v (found w left) h k m =
+      let first : (record { join = e.span }, w) ≡ v = found_first k in
+      let after = found_second k in
+      record {
+        content = e.content;
+        left = left;
+        inside = h ∙ ap (λ (x : DelimSpan × A). found x.1 left) first;
+        trees =
+            m ∙ ap (λ (x : DelimSpan × A). tree (group d e.content x.0.join) e.after) first
+            ∙ ap (λ (x : Ahead). tree (group d e.content v.0.join) x.trees) after;
+        clean = sym (ap (λ (x : Ahead). x.clean) after);
+      }
+
+  entered : (f : Forest) (e : EnteredAhead) → first_group d f ≡ Some e
+      → f ≡ tree (group d e.content e.span) e.after
+  entered no_trees e h = absurd (cc)
+  entered (tree (leaf l) f) e h = absurd (cc)
+  entered (tree (group c content span) f) e h = go (same_delimiter d c) refl h where
+    go : (t : Bool) → same_delimiter d c ≡ t
+        → cond t (Some (record { delimiter = c; span = span; content = content; after = f })) None ≡
+        Some e
+        → tree (group c content span) f ≡ tree (group d e.content e.span) e.after
+    go false k m = absurd (cc)
+    go true k m =
+        let x : record { delimiter = c; span = span; content = content; after = f } ≡ e = cc in
+        ap (λ z. tree (group z content span) f) (same_is d c k)
+        ∙ ap (λ (y : EnteredAhead). tree (group d y.content y.span) y.after) x
+
+  pub group_taken : (a b : Ahead) (v : DelimSpan × A) → take_group d inner a ≡ found v b
+      → GroupTaken d inner v a b
+  unfolding take_group
+  group_taken a b v e = go (first_group d a.trees) refl e where
+    go : (x : Option EnteredAhead) → first_group d a.trees ≡ x → inside_first d inner a x
+        ≡ found v b
+        → GroupTaken d inner v a b
+    go None h k = absurd (cc)
+    go (Some x) h k = inside_taken a x b v _ refl k (entered a.trees x h)
+
+  pub takes_group : (content : Forest) (span : Span) (x : A) (b : Ahead)
+      → inner (record { trees = content; clean = true }) ≡ found x all_taken
+      → take_group d inner (before (group d content span ∷ []) b)
+      ≡ found (record { join = span }, x) b
+  unfolding take_group
+  takes_group content span x b h =
+      let e : EnteredAhead = record {
+        delimiter = d;
+        span = span;
+        content = content;
+        after = b.trees;
+      } in
+      let a = before (group d content span ∷ []) b in
+      ap (λ t. inside_first d inner a (cond t (Some e) None)) (itself d)
+      ∙ ap (after_inside a e) h
+      ∙ ap (λ c. found (record { join = span }, x) (record { trees = b.trees; clean = c }))
+      (still b.clean) where
+        still : (c : Bool) → (c && true && true) ≡ c
+        still true = refl
+        still false = refl
+
+abbrev is_own : ℕ → Bool
+is_own c = not (c == apostrophe)
+
+-- a punctuation of one character
+abbrev pub IsSign : (c : ℕ) {k : ℕ} → Punctuation k 1 → List Tree → Type 0
+IsSign c v ts =
+    (spacing : Spacing) × (span : Span) × (ts ≡ leaf (punct c spacing span) ∷ [])
+    × (v ≡ record { spans = span ∷ [] })
+
+sign_is : (c : ℕ) {k : ℕ} (v : Punctuation k 1) (t : Tree) → is_punct_of c t ≡ true
+    → v.spans ≡ tree_span t ∷ [] → IsSign c v (t ∷ [])
+sign_is c v (leaf (punct d spacing span)) h e = (
+  spacing,
+  span,
+  ap (λ x. leaf (punct x spacing span) ∷ []) (eqb-true d c (and_parts _ _ h).0),
+  ap (λ xs. record { spans = xs }) e,
+)
+sign_is c v (leaf (ident x y)) h e = absurd (false≢true h)
+sign_is c v (leaf (literal x y)) h e = absurd (false≢true h)
+sign_is c v (group d x y) h e = absurd (false≢true h)
+
+pub sign_shape : (k c : ℕ) → punctuation_word k 1 ≡ c ∷ [] → is_own c ≡ true
+    → Shape (IsSign c) (take_punctuation k 1)
+sign_shape k c e own =
+    let shape = punctuation_shape k 1 in
+    record {
+      taken = λ a b v h.
+          let t = shape.taken a b v h in
+          let one = subst (λ text. Spells text t.0) e t.1.0 in (
+            t.0,
+            subst (IsSign c v) (sym one.1) (sign_is c v one.0 one.2 (t.1.1
+                ∙ ap (map tree_span) one.1)),
+            t.2,
+          );
+      takes = λ b v ts i.
+          shape.takes b v ts (
+            subst (λ text. Spells text ts) (sym e)
+                (leaf (punct c i.0 i.1), i.2, ap (λ x. x && is_own c) (eq-eqb c c refl) ∙ own),
+            ap (λ (w : Punctuation k 1). w.spans) i.3 ∙ sym (ap (map tree_span) i.2),
+          );
+    }

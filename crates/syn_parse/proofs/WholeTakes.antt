@@ -1,10 +1,11 @@
 -- A whole stream takes what its type states.
-use Rattle.std.proofs.Common.{◌≡◌, Ok, Err}
+use Rattle.std.proofs.Common.{◌≡◌, Ok, Err, inl, inr}
 use Rattle.std.specs.Prelude.{Result}
 use Rattle.tok_core.specs.Forest.{Forest}
 use Rattle.tok_leaves.specs.Spans.{call_site}
 use Rattle.syn_parse.proofs.Finished.{ended, memory-fails, results_agree, start-filled, words_agree}
-use Rattle.syn_parse.specs.Parsers.{Finishes, OnMemory, whole_stream}
+use Rattle.syn_parse.specs.Parsers.{Finishes, OnMemory, ParsesWhole, whole_stream}
+use Rattle.syn_parse.specs.Reads.{Call}
 use Rattle.syn_parse.specs.State.{State}
 use Rattle.syn_parse.specs.Takings.{Keeps, KeepsBoth, KeepsWhole, KeepsWords, Takings, told, told_filled}
 use Rattle.syn_parse.specs.Takings.{untold}
@@ -24,6 +25,15 @@ module _ {T : Type 0} where
   memory_keeps untold f result m = tt
   memory_keeps (told form take w) f result m = memory-fails form take f result m
   memory_keeps (told_filled form take w) f result m = λ i. memory-fails form take f result m
+
+  -- a parser of a whole stream, if each of its calls keeps what is stated
+  pub parser_keeps : (takes : Takings T) (f : Forest) (calls : Call T)
+      → ((s t : State) (r : Result T Fault) → calls s r t → Keeps takes s r t)
+      → (result : Result T Fault) → ParsesWhole calls (whole_stream f call_site) result
+      → KeepsWhole takes f result
+  parser_keeps takes f calls each result (inl h) =
+      whole_keeps takes f h.0 h.1 result (each _ h.1 h.0 h.2) h.3
+  parser_keeps takes f calls each result (inr h) = memory_keeps takes f result h
 
   pub both_keep : (takes : Takings T) (left right : Forest) (x y : Result T Fault)
       → KeepsWhole takes left x → KeepsWhole takes right y → KeepsBoth takes left right x y

@@ -18,6 +18,7 @@ use Rattle.syn_parse.specs.Takes.{or_end, read_as, refuses, take_by, take_group,
 use Rattle.tok_types.specs.Sees.{first_lifetime, first_word}
 use Rattle.syn_parse.specs.Tokens.{take_any_ident, take_any_lifetime, take_ident, take_keyword}
 use Rattle.syn_parse.specs.Tokens.{take_lifetime, take_literal, take_punct, take_punctuation}
+use Rattle.syn_parse.specs.Owned.{take_own}
 use Rattle.syn_parse.specs.Tokens.{span_in, take_underscore}
 use Rattle.syn_parse.specs.RefusalWords.{expected}
 use Rattle.tok_types.specs.Texts.{in_backquotes}
@@ -155,6 +156,10 @@ pub lowers_keyword : (k : ℕ) → Lowers (take_keyword k)
 unfolding take_keyword
 lowers_keyword k = by-lowers _ _ _ (word-shorter _)
 
+pub lowers_own : (text : List ℕ) → Lowers (take_own text)
+unfolding take_own
+lowers_own text = by-lowers _ _ _ (word-shorter _)
+
 pub lowers_punctuation : (k n : ℕ) → Lowers (take_punctuation k n)
 unfolding take_punctuation
 lowers_punctuation k n = by-lowers _ _ _ (puncts-shorter _)
@@ -221,6 +226,9 @@ lightens_literal = lightens_lower take_literal lowers_literal
 pub lightens_keyword : (k : ℕ) → Lightens (take_keyword k)
 lightens_keyword k = lightens_lower (take_keyword k) (lowers_keyword k)
 
+pub lightens_own : (text : List ℕ) → Lightens (take_own text)
+lightens_own text = lightens_lower (take_own text) (lowers_own text)
+
 pub lightens_punctuation : (k n : ℕ) → Lightens (take_punctuation k n)
 lightens_punctuation k n = lightens_lower (take_punctuation k n) (lowers_punctuation k n)
 
@@ -241,6 +249,7 @@ pub ruleset lightening = (
   lightens_underscore,
   lightens_literal,
   lightens_keyword,
+  lightens_own,
   lightens_punctuation,
   lightens_group,
 )
@@ -257,6 +266,7 @@ pub ruleset lowering = (
   lowers_underscore,
   lowers_literal,
   lowers_keyword,
+  lowers_own,
   lowers_punctuation,
   lowers_group,
 )

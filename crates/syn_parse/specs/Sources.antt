@@ -7,8 +7,14 @@ use Rattle.tok_leaves.specs.Spans.{call_site}
 use Rattle.tok_lexical.specs.declared.edition.Edition.{Edition}
 use Rattle.syn_parse.specs.Parsers.{IsUnread, ParsesWhole, whole_stream}
 use Rattle.syn_parse.specs.Reads.{Call}
+use Rattle.syn_parse.specs.State.{State}
 use Rattle.syn_parse.specs.Takings.{KeepsWhole, Takings}
 use Rattle.syn_parse.specs.declared.fault.Fault.{Fault}
+
+-- what holds of the stream of a source's tokens, if the source has any
+abbrev pub OnSource : Edition → (State → Type 0) → List ℕ → Type 0
+OnSource edition holds text =
+    (f : Forest) → FollowsSource edition 0 text (Ok f) → holds (whole_stream f call_site)
 
 -- the tokens that were read are parsed, or the lexer's fault is returned
 abbrev pub ParsesRead : {T : Type 0} → Call T → Result Forest LexFault → Result T Fault → Type 0

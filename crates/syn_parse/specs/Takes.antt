@@ -146,8 +146,8 @@ TakeWithinBy {T} start Is take calls =
 abbrev pub Within : {T A : Type 0} → (T → A → Type 0) → DelimSpan × T → DelimSpan × A → Type 0
 Within Is v x = (x.0 ≡ v.0) × Is v.1 x.1
 
--- A group is entered: its contents are ahead of a stream of their own, and what is after it is
--- ahead of this one. Or there is none.
+-- A group is entered: its contents are ahead of a stream of their own, in which less remains, and
+-- what is after it is ahead of this one. Or there is none.
 abbrev pub EntersAhead : {T : Type 0} → (T → DelimSpan) → (T → State) → Delimiter → Call T
 EntersAhead span_of content_of d s (Ok v) t =
     (first_group d (ahead s).trees ≡ Some (record {
@@ -159,6 +159,7 @@ EntersAhead span_of content_of d s (Ok v) t =
     × ((ahead (content_of v)).clean ≡ true)
     × ((ahead t).clean ≡ (ahead s).clean)
     × (IsFilled s.place → IsFilled (content_of v).place)
+    × (remaining (content_of v).place < remaining s.place)
     × Stays s t
 EntersAhead span_of content_of d s (Err f) t =
     MemoryOr f (first_group d (ahead s).trees ≡ None)

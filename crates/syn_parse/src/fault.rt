@@ -1,12 +1,15 @@
 //! Why a call on a stream returns no value.
-ghost use Rattle.std.specs.Prelude.{◌≡◌, MatchResult};
+ghost use Rattle.std.specs.Prelude.{◌≡◌, IfSome, MatchResult};
+ghost use Rattle.syn_parse.specs.Faults.{Refuses, RefusesAt};
 ghost use Rattle.syn_parse.specs.declared.fault.Fault.TheVariants.{Memory, Refused};
 
-use std::alloc::{AllocError, AllocFailed};
+use std::alloc::{AllocError, AllocFailed, Global};
+use std::fmt::{self, Display, Formatter, Write};
 use tok_buffer::Error;
+use tok_core::Span;
 
 /// Why a call on a stream returns no value.
-#[derive(Drop)]
+#[derive(Drop, Debug)]
 pub enum Fault {
     /// The tokens are rejected.
     Refused(Error),
@@ -18,6 +21,22 @@ pub enum Fault {
 pub type Result<T> = std::result::Result<T, Fault>;
 
 impl Fault {
+    /// Creates the fault of an error of one message at `span`. If an allocation fails, it is
+    /// `Memory`.
+    ///
+    /// # Examples
+    ///
+    /// ```rust
+    /// let fault = Fault::at(alloc, name.span(), "this name is taken");
+    /// ```
+    pub fn at<T: Display + Drop>(alloc: Global, span: Span, message: T) -> Fault
+        ensures span { RefusesAt span result }
+        ensures words { IfSome (T.output message)
+            (λ words. Refuses (record { span = span; words = words }) result) }
+    {
+        Fault::refused(Error::new(alloc, span, message))
+    }
+
     // Returns the fault of an error, or the allocation failure in its place.
     pub(crate) fn refused(error: std::result::Result<Error, AllocError>) -> Fault
         ensures { MatchResult error (λ e. result ≡ Refused e) (λ e. result ≡ Memory e) }
@@ -26,6 +45,34 @@ impl Fault {
             Ok(error) => Fault::Refused(error),
             Err(error) => Fault::Memory(error),
         }
+    }
+}
+
+/// Writes the text of the error's first message.
+impl Display for Fault {
+    ghost use Rattle.std.specs.Prelude.{Some};
+    ghost use Rattle.syn_parse.specs.Faults.{fault_words};
+
+    ghost output = { λ fault. Some (fault_words fault) };
+
+    fn fmt<W: Write>(&self, f: &mut Formatter<W>) -> fmt::Result {
+        match self {
+            Fault::Refused(error) => f.write_str(error.as_str()),
+            Fault::Memory(_) => f.write_str("out of memory"),
+        }
+    }
+}
+
+impl std::error::Error for Fault {}
+
+impl From<Error> for Fault {
+    ghost use Rattle.std.specs.Prelude.{◌≡◌};
+    ghost use Rattle.syn_parse.specs.declared.fault.Fault.TheVariants.{Refused};
+
+    ghost from_gives = { λ e f. f ≡ Refused e };
+
+    fn from(error: Error) -> Self {
+        Fault::Refused(error)
     }
 }
 

@@ -21,6 +21,7 @@ use tok_core::{DelimSpan, Delimiter};
 use tok_types::token;
 
 /// A group that has been entered: its token, and the stream of its contents.
+#[derive(Debug)]
 pub struct Delimited<'a, T> {
     pub token: T,
     pub content: ParseBuffer<'a>,

@@ -3,9 +3,15 @@ ghost use Rattle.syn_parse.specs.Laws.{ForksFollow, PeekTells, ScopesTell, Visib
 ghost use Rattle.syn_parse.specs.Progress.{ParsesGoOn};
 ghost use Rattle.syn_parse.specs.Reads.{Peeks2, Peeks3};
 ghost use Rattle.syn_parse.specs.Views.{ViewsDecideLookaheads, ViewsDecideWords};
+ghost use Rattle.tok_leaves.specs.Laws.{ClonesKeep};
+ghost use Rattle.tok_types.specs.Laws.{AreEqual, WriteNothing};
 ghost use Rattle.tok_types.specs.Views.{IgnoresInvisible};
 
 use crate::parse::Parse;
+use crate::step::StepCursor;
+use crate::stream::paused::Paused;
+use crate::tokens::Nothing;
+use std::hash::Hash;
 use tok_buffer::laws::reads_go_on;
 use tok_core::{Ident, Literal, Punct, TokenTree};
 use tok_types::token::{Keyword, Punctuation, Token, Underscore, Visible};
@@ -68,4 +74,17 @@ pub fn views_decide_words()
 pub fn peeks_past_ignore_invisible<T: Token>()
     ensures second { IgnoresInvisible T.peeks → IgnoresInvisible (Peeks2 T.peeks) }
     ensures third { IgnoresInvisible T.peeks → IgnoresInvisible (Peeks3 T.peeks) }
+{}
+
+/// All values of `Nothing` are equal, and write nothing to a hasher.
+pub fn nothings_are_equal()
+    ensures equal { AreEqual ⟦<Nothing as PartialEq>⟧.eq }
+    ensures hash { WriteNothing ⟦<Nothing as Hash>⟧.hash_input }
+{}
+
+/// A clone of a paused stream, or of the argument of a step, is what was cloned: its place, its
+/// scope, and what it has recorded.
+pub fn clones_keep_streams<'a>()
+    ensures paused { ClonesKeep ⟦<Paused<'a> as Clone>⟧.is_clone }
+    ensures cursors { ClonesKeep ⟦<StepCursor<'a> as Clone>⟧.is_clone }
 {}

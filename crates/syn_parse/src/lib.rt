@@ -10,6 +10,7 @@ mod fault;
 mod group;
 pub mod laws;
 mod lookahead;
+mod own;
 mod parse;
 mod parser;
 pub mod parsing;
@@ -27,6 +28,7 @@ pub use group::{
     parse_parens,
 };
 pub use lookahead::Lookahead1;
+pub use own::{Own, Word};
 pub use parse::Parse;
 pub use parser::Parser;
 pub use step::StepCursor;

@@ -31,7 +31,7 @@ use tok_types::token::Token;
 ///     Err(lookahead.error())
 /// }
 /// ```
-#[derive(Drop)]
+#[derive(Drop, Debug)]
 pub struct Lookahead1<'a> {
     alloc: Global,
     cursor: Cursor<'a>,

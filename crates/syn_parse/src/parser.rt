@@ -1,10 +1,10 @@
 //! Parsers of whole texts and streams of tokens.
 ghost use Rattle.std.specs.Prelude.{Result};
 ghost use Rattle.std.specs.Str.{chars};
-ghost use Rattle.std.specs.Fn.{FnOnceReturnsAtMut};
+ghost use Rattle.std.specs.Fn.{FnOnceReturnsAtMut, FnOnceTakesAtMut};
 ghost use Rattle.tok_leaves.specs.Spans.{call_site};
-ghost use Rattle.syn_parse.specs.Parsers.{Finishes, IsUnread, ParsesText, ParsesWhole, whole_stream};
-ghost use Rattle.syn_parse.specs.Sources.{ParsesSource};
+ghost use Rattle.syn_parse.specs.Parsers.{Finishes, IsUnread, OnText, ParsesText, ParsesWhole, whole_stream};
+ghost use Rattle.syn_parse.specs.Sources.{OnSource, ParsesSource};
 ghost use Rattle.syn_parse.specs.State.{State};
 ghost use Rattle.syn_parse.specs.declared.fault.Fault.{Fault};
 
@@ -28,26 +28,26 @@ pub trait Parser: Sized {
     // Relates the stream before a call, its result and the stream after it.
     ghost parses: { Self → State → Result Self.Output Fault → State → Type 0 };
 
-    // The parser may be called on every stream.
-    ghost callable: { Self → Type 0 };
+    // The parser may be called on this stream.
+    ghost callable: { Self → State → Type 0 };
 
     /// Parses all of these tokens. A leftover token is an error, unless the parser has returned
     /// one.
     ///
     /// # Requires
     ///
-    /// The parser must be callable on every stream.
+    /// The parser must be callable on the stream of these tokens.
     fn parse2(self, alloc: Global, tokens: TokenStream) -> Result<Self::Output>
-        requires { callable self }
+        requires { callable self (whole_stream tokens call_site) }
         ensures { ParsesWhole (parses self) (whole_stream tokens call_site) result };
 
     /// Lexes a text as source 0, and parses its tokens as `parse2` does.
     ///
     /// # Requires
     ///
-    /// The parser must be callable on every stream.
+    /// The parser must be callable on the stream of the text's tokens, if it has any.
     fn parse_str(self, alloc: Global, text: &str) -> Result<Self::Output>
-        requires { callable self }
+        requires { OnText (callable self) (chars text.now) }
         ensures { ParsesText (parses self) (chars text.now) result };
 
     /// Lexes a Rust source of an edition by the rules of `lex_source`, as source 0, and parses its
@@ -55,18 +55,18 @@ pub trait Parser: Sized {
     ///
     /// # Requires
     ///
-    /// The parser must be callable on every stream.
+    /// The parser must be callable on the stream of the source's tokens, if it has any.
     fn parse_source(self, alloc: Global, edition: Edition, text: &str) -> Result<Self::Output>
-        requires { callable self }
+        requires { OnSource edition (callable self) (chars text.now) }
         ensures { ParsesSource edition (parses self) (chars text.now) result };
 
     /// Parses all of these tokens as `parse2` does. At their end the stream's span is `scope`.
     ///
     /// # Requires
     ///
-    /// The parser must be callable on every stream.
+    /// The parser must be callable on the stream of these tokens.
     fn parse_scoped(self, alloc: Global, scope: Span, tokens: TokenStream) -> Result<Self::Output>
-        requires { callable self }
+        requires { callable self (whole_stream tokens scope) }
         ensures { ParsesWhole (parses self) (whole_stream tokens scope) result };
 }
 
@@ -78,7 +78,7 @@ where
 
     ghost parses = { λ f s r t. FnOnceReturnsAtMut F.FnOnce f s r t };
 
-    ghost callable = { λ f. F.IsAlwaysCallable f };
+    ghost callable = { λ f s. FnOnceTakesAtMut F.FnOnce f s };
 
     fn parse2(self, alloc: Global, tokens: TokenStream) -> Result<T> {
         self.parse_scoped(alloc, Span::call_site(), tokens)

@@ -46,6 +46,8 @@ pub fn keyword(input: ParseStream<'_, '_>, text: &str) -> Result<Span>
 /// ```rust
 /// let spans: [Span; 2] = parsing::punct(input, "=~")?;
 /// ```
+// Inlined: callers know the text, so nothing of it is decoded.
+#[inline(always)]
 pub fn punct<const N: usize>(input: ParseStream<'_, '_>, text: &str) -> Result<[Span; N]>
     ensures { let text = sized N text.now in PunctuationParses (λ spans. spans) (ascii_chars text)
         text input.old result input.new }
@@ -71,6 +73,8 @@ pub fn peek_punct(cursor: Cursor<'_>, text: &str) -> bool
 impl<'a> ParseBuffer<'a> {
     // Returns the error of a punctuation: without the words for an end, and at the next punct if
     // there is one.
+    // Kept out of line, since `punct` is inlined.
+    #[inline(never)]
     fn punct_error(&self, text: &str) -> Fault
         ensures { Refuses (punctuation_refusal text.now self.now) result }
     {

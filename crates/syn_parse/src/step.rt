@@ -17,7 +17,7 @@ use tok_buffer::{Cursor, Error};
 use tok_core::Span;
 
 /// The argument of the function of a `step`: the stream's cursor, and errors at it.
-#[derive(Clone, Copy)]
+#[derive(Clone, Copy, Debug)]
 pub struct StepCursor<'a> {
     alloc: Global,
     cursor: Cursor<'a>,

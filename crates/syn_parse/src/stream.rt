@@ -20,7 +20,7 @@ use crate::words::words_of;
 use paused::Paused;
 use std::alloc::Global;
 use std::fmt;
-use std::fmt::{Display, Formatter, Write};
+use std::fmt::{Debug, Display, Formatter, Write};
 use std::marker::Model;
 use tok_buffer::{Cursor, Error, TokenBuffer};
 use tok_core::{Delimiter, Span};
@@ -335,5 +335,12 @@ impl Display for ParseBuffer<'_> {
 
     fn fmt<W: Write>(&self, f: &mut Formatter<W>) -> fmt::Result {
         self.cursor.write_ahead(f)
+    }
+}
+
+/// Writes the trees that are left, as `ParseBuffer(a b)`.
+impl Debug for ParseBuffer<'_> {
+    fn fmt<W: Write>(&self, f: &mut Formatter<W>) -> fmt::Result {
+        write!(f, "ParseBuffer({self})")
     }
 }

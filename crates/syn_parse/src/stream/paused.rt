@@ -9,7 +9,7 @@ use tok_core::{Delimiter, Span};
 
 /// A stream at rest, made by `ParseBuffer::pause`. It may be copied and dropped: what a dropped one
 /// leaves unread is recorded nowhere.
-#[derive(Clone, Copy)]
+#[derive(Clone, Copy, Debug)]
 pub struct Paused<'a> {
     pub(crate) alloc: Global,
     pub(crate) cursor: Cursor<'a>,

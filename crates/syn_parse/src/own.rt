@@ -1,0 +1,150 @@
+//! Keywords of one's own.
+ghost use Rattle.std.specs.Prelude.{◌≡◌, ℕ, List, Some};
+ghost use Rattle.tok_leaves.specs.Spans.{call_site};
+ghost use Rattle.tok_buffer.specs.Reads.{read_keyword};
+ghost use Rattle.tok_types.specs.Looks.{Finds, IsText};
+ghost use Rattle.tok_types.specs.Texts.{in_backquotes};
+ghost use Rattle.syn_parse.specs.Owned.{own_first, own_word, take_own};
+ghost use Rattle.syn_parse.specs.Parses.{WordParses};
+ghost use Rattle.syn_parse.specs.Takings.{lower, told};
+ghost use Rattle.syn_parse.specs.Lighter.{lowers_own};
+
+use crate::fault::Result;
+use crate::parse::Parse;
+use crate::parsing::keyword;
+use crate::stream::ParseStream;
+use std::alloc::AllocError;
+use std::fmt;
+use std::fmt::{Debug, Display, Formatter, Write};
+use std::marker::PhantomData;
+use tok_buffer::Cursor;
+use tok_core::{Ident, MakeFault, Span, ToTokens, TokenStream, TokenTree};
+use tok_types::token::Token;
+
+/// The text of a keyword of your own. `Own` makes a token type of it.
+///
+/// # Examples
+///
+/// ```rust
+/// struct ServerWord;
+///
+/// impl Word for ServerWord {
+///     ghost text = { codes "server" };
+///
+///     fn text() -> &'static str {
+///         "server"
+///     }
+///
+///     fn display() -> &'static str {
+///         "`server`"
+///     }
+/// }
+///
+/// type Server = Own<ServerWord>;
+/// ```
+pub trait Word {
+    ghost text: { List ℕ };
+
+    /// Returns the text.
+    fn text() -> &'static str
+        ensures { result.now ≡ text };
+
+    /// Returns the text in backquotes, as errors name it.
+    fn display() -> &'static str
+        ensures { result.now ≡ in_backquotes text };
+}
+
+/// The keyword with the text of `W`: an identifier of this text. All values of a type are equal.
+///
+/// It is a token type as those of `token`: it can be parsed, looked for and written.
+#[derive_where(Clone, Copy, PartialEq, Eq, Hash)]
+pub struct Own<W> {
+    #[derive_where(skip(EqHashOrd))]
+    pub span: Span,
+    #[derive_where(skip(EqHashOrd))]
+    word: PhantomData<W>,
+}
+
+impl<W: Word> Own<W> {
+    /// Creates the keyword at `span`.
+    pub fn new(span: Span) -> Self
+        ensures { result.span ≡ span }
+    {
+        Own {
+            span,
+            word: PhantomData,
+        }
+    }
+}
+
+impl<W: Word> Token for Own<W> {
+    ghost peeks = { Finds (read_keyword W.text) };
+
+    ghost sees = { Some (own_first W.text) };
+
+    ghost shown = { IsText (in_backquotes W.text) };
+
+    fn peek(cursor: Cursor<'_>) -> bool {
+        cursor.peek_keyword(W::text())
+    }
+
+    fn display() -> &'static str {
+        W::display()
+    }
+}
+
+impl<W: Word> Parse for Own<W> {
+    ghost parses = { WordParses (λ own. own.span) W.text };
+
+    ghost takes = { told (λ own. own.span) (take_own W.text) (lower (lowers_own W.text)) };
+
+    fn parse(input: ParseStream<'_, '_>) -> Result<Self> {
+        own_token(input)
+    }
+}
+
+// Does what `Own::parse` does.
+fn own_token<W: Word>(input: ParseStream<'_, '_>) -> Result<Own<W>>
+    ensures { WordParses (λ own. own.span) W.text input.old result input.new }
+{
+    let span = keyword(input, W::text())?;
+    Ok(Own::new(span))
+}
+
+/// Writes an identifier with the text, or nothing if the text is no identifier.
+impl<W: Word> ToTokens for Own<W> {
+    ghost printed = { λ own. own_word W.text own.span };
+
+    fn to_tokens(&self, tokens: &mut TokenStream) -> std::result::Result<(), AllocError> {
+        match Ident::new(tokens.allocator(), W::text(), self.span) {
+            Ok(ident) => tokens.append(TokenTree::Ident(ident)),
+            Err(MakeFault::Refused) => Ok(()),
+            Err(MakeFault::Memory) => Err(AllocError),
+        }
+    }
+}
+
+/// Creates the keyword at the call site.
+impl<W: Word> Default for Own<W> {
+    ghost is_default = { λ own. own.span ≡ call_site };
+
+    fn default() -> Self {
+        Own::new(Span::call_site())
+    }
+}
+
+/// Writes the text.
+impl<W: Word> Display for Own<W> {
+    ghost output = { λ _. Some W.text };
+
+    fn fmt<F: Write>(&self, f: &mut Formatter<F>) -> fmt::Result {
+        f.write_str(W::text())
+    }
+}
+
+/// Writes `Token![server]` for the text `server`.
+impl<W: Word> Debug for Own<W> {
+    fn fmt<F: Write>(&self, f: &mut Formatter<F>) -> fmt::Result {
+        write!(f, "Token![{}]", W::text())
+    }
+}
