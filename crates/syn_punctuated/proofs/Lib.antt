@@ -3,6 +3,9 @@ pub mod Equality
 pub mod Hashes
 pub mod Inserts
 pub mod IterRuns
+pub mod ListShapes
+pub mod ListTakes
+pub mod Mapped
 pub mod PairedUp
 pub mod PairsAdded
 pub mod Progress
@@ -11,6 +14,8 @@ pub mod ReadTokens
 pub mod RetainSteps
 pub mod Retold
 pub mod Runs
+pub mod TakeTurns
+pub mod TakenRuns
 pub mod Taken
 pub mod Trailing
 pub mod TreesPassed

@@ -143,7 +143,7 @@ module _ {T P : Type 0} (value_parses : Call T) (value_printed : T → Forest)
       let l : c < z.1.0 = omega (arith, w.1.2, z.1.2) in
       let place : t.place ≡ flat o n s z.1.0 z.1.1 (ahead xs ys) =
       ap (λ (state : State). state.place) (q ∙ z.1.3) in
-      absurd (false≢true (sym u ∙ (rw (e, place) (later_progresses o n s c z.1.0 p z.1.1
+      absurd (false≢true (sym u.0 ∙ (rw (e, place) (later_progresses o n s c z.1.0 p z.1.1
       (ahead (x ∷ xs) (y ∷ ys)) (ahead xs ys) l))))
 
   ends : (all : List (Turn T P (Unit {0}))) (xs : List T) (ys : List P) (c : ℕ) (p : Forest)

@@ -1,6 +1,6 @@
 -- How `retain` goes over a list.
-use Rattle.std.proofs.Common.{◌≡◌, ℕ, ◌+◌, ◌-◌, ◌<◌, ◌≤◌, Bool, true, false, cond, List, [], ◌∷◌, ◌++◌, map, take, drop, length, get_or, set, refl, sym, ap, subst, ◌∙◌, arith, drop-set-lt, length-set, inl, inr, add-zero, append-nil, length-append, eq-or-lt_of_le, Option, None, Some}
-use Rattle.std.proofs.lemmas.List.{take_more, take_more_set, take-set-le, get_or-set_same, map-append, take_all, take-append-le, get_or-drop, length-map}
+use Rattle.std.proofs.Common.{◌≡◌, ℕ, ◌+◌, ◌-◌, ◌<◌, ◌≤◌, Bool, true, false, cond, List, [], ◌∷◌, ◌++◌, map, take, drop, length, get_or, set, refl, sym, ap, subst, ◌∙◌, arith, drop-set-lt, length-set, inl, inr, add-zero, append-nil, append_assoc, length-append, eq-or-lt_of_le, Option, None, Some}
+use Rattle.std.proofs.lemmas.List.{take_more, take_more_set, take-set-le, get_or-set_same, map-append, take_all, take-append-le, get_or-drop, length-map, take-append-drop}
 use Rattle.std.proofs.lemmas.Grind.{drop_more_same}
 use Rattle.std.specs.List.{SwappedAt}
 use Rattle.std.specs.Option.{option_to_list}
@@ -8,7 +8,7 @@ use Rattle.std.specs.Global.{Box}
 use Rattle.syn_punctuated.specs.Private.Boxes.{boxed_values}
 use Rattle.syn_punctuated.specs.Lists.{values_of, separators_of}
 use Rattle.syn_punctuated.specs.declared.punctuated.Punctuated.{Punctuated}
-use Rattle.syn_punctuated.specs.Retained.{RunsOver, kept_pairs, kept_values, kept_separators, RetainsPairs, Retains}
+use Rattle.syn_punctuated.specs.Retained.{AtEach, RunsOver, kept_pairs, kept_values, kept_separators, RetainsPairs, Retains}
 
 module _ {S X : Type 0} (R : S → X → Bool → S → X → Type 0) where
   pub runs_more : (s : S) (xs : List X) (zs : List (Bool × X)) (t : S) (x : X) (b : Bool) (u : S) (y : X) → RunsOver R s xs zs t → R t x b u y → RunsOver R s (xs ++ x ∷ []) (zs ++ (b, y) ∷ []) u
@@ -55,6 +55,19 @@ module _ {S X Y : Type 0} (R : S → X → Bool → S → X → Type 0) (s : S) 
     pub run : List (Bool × X)
     pub runs : RunsOver R s (map (λ p. p.0) (take i old)) run t
     pub front : take k now ≡ kept_pairs run (take i old)
+
+  -- what holds at each value holds at the next pair's
+  pub next_pair : (holds : S → X → Type 0) → AtEach R holds s (map (λ p. p.0) old) → (i k : ℕ) (now : List (X × Y)) (t : S) (p : X × Y) → i < length now → Going i k now t → p ≡ get_or now i p → holds t p.0
+  next_pair holds each i k now t p lt h is =
+      let item : get_or old i p ≡ p = sym (same_item now old i p h.rest) ∙ sym is in
+      let small : i < length old = omega (arith, h.long) in
+      let front : take (i + 1) old ≡ take i old ++ p ∷ [] = take_more old i p small ∙ ap (λ q. take i old ++ q ∷ []) item in
+      let whole : old ≡ (take i old ++ p ∷ []) ++ drop (i + 1) old = sym (take-append-drop (i + 1) old) ∙ ap (λ q. q ++ drop (i + 1) old) front in
+      each (map (λ p. p.0) (take i old)) p.0 (map (λ p. p.0) (drop (i + 1) old)) h.run t
+      (ap (map (λ p. p.0)) whole ∙ map-append (λ p. p.0) (take i old ++ p ∷ []) (drop (i + 1) old)
+      ∙ ap (λ q. q ++ map (λ p. p.0) (drop (i + 1) old)) (map-append (λ p. p.0) (take i old) (p ∷ []))
+      ∙ append_assoc (map (λ p. p.0) (take i old)) (p.0 ∷ []) (map (λ p. p.0) (drop (i + 1) old)))
+      h.runs
 
   -- one more pair was shown to R
   shown : (i k : ℕ) (now : List (X × Y)) (t : S) (p : X × Y) (b : Bool) (u : S) (y : X) → i < length now → (h : Going i k now t) → p ≡ get_or now i p → R t p.0 b u y → RunsOver R s (map (λ p. p.0) (take (i + 1) old)) (h.run ++ (b, y) ∷ []) u × (kept_pairs (h.run ++ (b, y) ∷ []) (take (i + 1) old) ≡ kept_pairs h.run (take i old) ++ cond b ((y, p.1) ∷ []) [])
@@ -103,6 +116,14 @@ module _ {S X Y : Type 0} (R : S → X → Bool → S → X → Type 0) (s : S) 
       subst (λ (r : X × Y). Going (i + 1) k (set now i r) u) (sym e) (going_drops i k now t p u q.0 lt h is step)
 
 -- ---- from the pairs to the whole list
+
+module _ {S X : Type 0} (R : S → X → Bool → S → X → Type 0) (holds : S → X → Type 0) (s : S) where
+  pub each_front : (xs ys : List X) → AtEach R holds s (xs ++ ys) → AtEach R holds s xs
+  each_front xs ys each before x after run t e runs =
+      each before x (after ++ ys) run t (ap (λ q. q ++ ys) e ∙ append_assoc before (x ∷ after) ys) runs
+
+  pub each_last : (xs : List X) (x : X) (run : List (Bool × X)) (t : S) → AtEach R holds s (xs ++ x ∷ []) → RunsOver R s xs run t → holds t x
+  each_last xs x run t each runs = each xs x [] run t refl runs
 
 pub kept_first : {X Y : Type 0} (run : List (Bool × X)) (pairs : List (X × Y)) → length run ≡ length pairs → map (λ p. p.0) (kept_pairs run pairs) ≡ kept_values run
 kept_first [] [] e = refl

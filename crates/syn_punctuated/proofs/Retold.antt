@@ -1,19 +1,48 @@
--- A run is one too where its values are said to be read in other words, and the state of the value
--- parser is seen otherwise.
+-- A run is one too where less is said of its rule, its values and its separators, and where the
+-- state of the value parser is seen otherwise.
 use Rattle.std.proofs.Common.{◌≡◌, ◌∙◌, ap, refl, List, [], ◌∷◌, ◌++◌, map, Ok, Err}
-use Rattle.std.specs.Prelude.{Result}
+use Rattle.std.specs.Prelude.{Bool, Option, Result}
+use Rattle.tok_core.specs.Forest.{Forest}
+use Rattle.tok_buffer.specs.Place.{Place}
+use Rattle.tok_types.specs.Sees.{Sees}
 use Rattle.syn_parse.specs.Reads.{Call}
 use Rattle.syn_parse.specs.State.{State}
 use Rattle.syn_parse.specs.declared.fault.Fault.{Fault}
 use Rattle.syn_punctuated.specs.Turns.{Rule, ValueCall, Turn, turn_value, turn_separator, Chain}
 use Rattle.syn_punctuated.specs.Turns.{Holds, IsTurn, IsRun, Ending, at_end, bare, value_refused}
-use Rattle.syn_punctuated.specs.Turns.{separator_refused, value_lost, turn_lost, stuck}
+use Rattle.syn_punctuated.specs.Turns.{separated, separator_refused, value_lost, turn_lost, stuck}
 use Rattle.syn_punctuated.specs.declared.punctuated.Punctuated.{Punctuated}
 
-module _ {T P F G : Type 0} (rule : Rule) (reads : ValueCall F T) (tells : ValueCall G T)
-    (separates : Call P) (seen : F → G)
+-- a rule that says less
+pub record Says (rule less : Rule) : Type 0 where
+  pub begins : (p : Place) → rule.begins p → less.begins p
+  pub ends : (p : Place) → rule.ends p → less.ends p
+  pub goes_on : (p : Place) → rule.goes_on p → less.goes_on p
+  pub stops : (p : Place) → rule.stops p → less.stops p
+
+pub same_rule : (rule : Rule) → Says rule rule
+same_rule rule = record {
+  begins = λ p h. h;
+  ends = λ p h. h;
+  goes_on = λ p h. h;
+  stops = λ p h. h;
+}
+
+-- what a peek sees is left out
+pub only_peeks : (peeks : Place → Bool → Type 0) (sees : Option (Forest → Bool))
+    → Says (separated (λ p found. peeks p found × Sees sees p found)) (separated peeks)
+only_peeks peeks sees = record {
+  begins = λ p h. h;
+  ends = λ p h. h;
+  goes_on = λ p h. h.0;
+  stops = λ p h. h.0;
+}
+
+module _ {T P F G : Type 0} (rule less : Rule) (says : Says rule less) (reads : ValueCall F T)
+    (tells : ValueCall G T) (separates signs : Call P) (seen : F → G)
     (retold : (f g : F) (s t : State) (r : Result T Fault) → reads f s r g t
-    → tells (seen f) s r (seen g) t) where
+    → tells (seen f) s r (seen g) t)
+    (signed : (s t : State) (r : Result P Fault) → separates s r t → signs s r t) where
   abbrev turn_seen : Turn T P F → Turn T P G
   turn_seen turn = record {
     value = turn.value;
@@ -34,20 +63,19 @@ module _ {T P F G : Type 0} (rule : Rule) (reads : ValueCall F T) (tells : Value
   separators_seen (turn ∷ turns) = ap (λ xs. turn.separator ∷ xs) (separators_seen turns)
 
   is_turn_seen : (f : F) (s : State) (turn : Turn T P F) → IsTurn rule reads separates f s turn
-      → IsTurn rule tells separates (seen f) s (turn_seen turn)
+      → IsTurn less tells signs (seen f) s (turn_seen turn)
   is_turn_seen f s turn i = record {
     opens = (
-      i.opens.0,
-      retold f turn.parser s turn.between
-          (Ok turn.value) i.opens.1,
+      says.begins s.place i.opens.0,
+      retold f turn.parser s turn.between (Ok turn.value) i.opens.1,
     );
-    goes_on = i.goes_on;
-    closes = i.closes;
+    goes_on = says.goes_on turn.between.place i.goes_on;
+    closes = signed turn.between turn.after (Ok turn.separator) i.closes;
   }
 
   chain_seen : (turns : List (Turn T P F)) (f g : F) (s t : State)
       → Chain rule reads separates f s turns g t
-      → Chain rule tells separates (seen f) s (map turn_seen turns) (seen g) t
+      → Chain less tells signs (seen f) s (map turn_seen turns) (seen g) t
   chain_seen [] f g s t c = (ap seen c.0, c.1)
   chain_seen (turn ∷ turns) f g s t c =
       (is_turn_seen f s turn c.0, c.1, chain_seen turns turn.parser g turn.after t c.2)
@@ -60,23 +88,27 @@ module _ {T P F G : Type 0} (rule : Rule) (reads : ValueCall F T) (tells : Value
 
   ending_seen : (turns : List (Turn T P F)) (f : F) (s t : State)
       (r : Result (Punctuated T P) Fault) → Ending rule reads separates f s turns r t
-      → Ending rule tells separates (seen f) s (map turn_seen turns) r t
-  ending_seen turns f s t r (at_end i q h) = at_end i q (holds_seen turns [] r h)
+      → Ending less tells signs (seen f) s (map turn_seen turns) r t
+  ending_seen turns f s t r (at_end i q h) =
+      at_end (says.ends s.place i) q (holds_seen turns [] r h)
   ending_seen turns f s t r (bare v g i q h) =
-      bare v (seen g) (i.0, retold f g s t (Ok v) i.1) q (holds_seen turns (v ∷ []) r h)
+      bare v (seen g) (says.begins s.place i.0, retold f g s t (Ok v) i.1) (says.stops t.place q)
+      (holds_seen turns (v ∷ []) r h)
   ending_seen turns f s t r (value_refused e g i q) =
-      value_refused e (seen g) (i.0, retold f g s t (Err e) i.1) q
+      value_refused e (seen g) (says.begins s.place i.0, retold f g s t (Err e) i.1) q
   ending_seen turns f s t r (separator_refused v g m e i q p h) =
-      separator_refused v (seen g) m e (i.0, retold f g s m (Ok v) i.1) q p h
+      separator_refused v (seen g) m e (says.begins s.place i.0, retold f g s m (Ok v) i.1)
+      (says.goes_on m.place q) (signed m t (Err e) p) h
   ending_seen turns f s t r (value_lost v g e i q p h) =
-      value_lost v (seen g) e (i.0, retold f g s t (Ok v) i.1) q p h
+      value_lost v (seen g) e (says.begins s.place i.0, retold f g s t (Ok v) i.1)
+      (says.stops t.place q) p h
   ending_seen turns f s t r (turn_lost turn e i q p h) =
       turn_lost (turn_seen turn) e (is_turn_seen f s turn i) q p h
   ending_seen turns f s t r (stuck turn e i q p n h) =
       stuck (turn_seen turn) e (is_turn_seen f s turn i) q p n h
 
   pub run_seen : (f : F) (s t : State) (r : Result (Punctuated T P) Fault)
-      → IsRun rule reads separates f s r t → IsRun rule tells separates (seen f) s r t
+      → IsRun rule reads separates f s r t → IsRun less tells signs (seen f) s r t
   run_seen f s t r i = record {
     turns = map turn_seen i.turns;
     parser = seen i.parser;

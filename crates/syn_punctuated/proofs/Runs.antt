@@ -8,7 +8,7 @@ use Rattle.syn_parse.specs.State.{State}
 use Rattle.syn_parse.specs.declared.fault.Fault.{Fault}
 use Rattle.syn_parse.specs.declared.fault.Fault.TheVariants.{Memory}
 use Rattle.syn_punctuated.specs.Private.Pieces.{IsPiece, Keeps}
-use Rattle.syn_punctuated.specs.Progress.{progresses}
+use Rattle.syn_punctuated.specs.Progress.{MakesNone, progresses}
 use Rattle.syn_punctuated.specs.Turns.{Rule, ValueCall, Turn, turn_value, turn_separator, Chain}
 use Rattle.syn_punctuated.specs.Turns.{IsTurn, IsRun, bare, value_refused}
 use Rattle.syn_punctuated.specs.Turns.{separator_refused, value_lost, turn_lost, stuck, no_progress}
@@ -111,7 +111,7 @@ module _ {T P F : Type 0} (rule : Rule) (reads : ValueCall F T) (separates : Cal
 
   pub run-stuck : (f h g : F) (s m t : State) (pairs : List (T × P)) (v : T) (p : P) (e : Fault)
       (r : Result (Punctuated T P) Fault) → SoFar f s pairs h m
-      → IsPiece rule reads separates h m (Ok (Full v p)) g t → (progresses m.place t.place ≡ false)
+      → IsPiece rule reads separates h m (Ok (Full v p)) g t → MakesNone m.place t.place
       × Refuses (no_progress t) e → r ≡ Err e → IsRun rule reads separates f s r t
   run-stuck f h g s m t pairs v p e r so i q n = record {
     turns = so.turns;

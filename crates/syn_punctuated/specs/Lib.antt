@@ -4,6 +4,7 @@ pub mod Hashed
 pub mod Lends
 pub mod Lent
 pub mod Lists
+pub mod NestedLists
 pub mod PairLends
 pub mod Paired
 pub mod Pairs
@@ -11,6 +12,7 @@ pub mod Printed
 pub mod Progress
 pub mod ReadBack
 pub mod Retained
+pub mod TakeLists
 pub mod Trees
 pub mod Turns
 pub mod Private

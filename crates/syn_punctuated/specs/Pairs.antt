@@ -1,5 +1,7 @@
 -- Pairs of a value and the separator after it.
-use Rattle.std.specs.Prelude.{Option, None, Some}
+use Rattle.std.specs.Prelude.{◌&&◌, ◌++◌, pos, Bool, false, Option, None, Some}
+use Rattle.std.specs.Hash as fed
+use Rattle.std.specs.Hash.{HashWrites}
 use Rattle.syn_punctuated.specs.declared.pair.Pair.{Pair}
 use Rattle.syn_punctuated.specs.declared.pair.Pair.TheVariants.{Punctuated, End}
 use denote.Ref.{Bor, MutBor}
@@ -31,3 +33,16 @@ module _ {X Y : Type 0} where
   abbrev pub deref_both_mut : Pair (MutBor X) (MutBor Y) → Pair X Y
   deref_both_mut (Punctuated x y) = Punctuated x.now y.now
   deref_both_mut (End x) = End x.now
+
+-- pairs are equal if both have a separator or neither has, and their parts are equal
+abbrev pub equal_pairs : {X Y : Type 0} → (X → X → Bool) → (Y → Y → Bool) → Pair X Y → Pair X Y →
+    Bool
+equal_pairs value separator (Punctuated x y) (Punctuated v w) = value x v && separator y w
+equal_pairs value separator (End x) (End v) = value x v
+equal_pairs value separator left right = false
+
+-- what a pair feeds to a hasher: whether it has a separator, and its parts
+abbrev pub pair_input : {X Y : Type 0} → (X → HashWrites) → (Y → HashWrites) → Pair X Y →
+    HashWrites
+pair_input value separator (Punctuated x y) = fed.isize (pos 0) ++ value x ++ separator y
+pair_input value separator (End x) = fed.isize (pos 1) ++ value x

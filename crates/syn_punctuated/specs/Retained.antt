@@ -1,5 +1,7 @@
--- What `retain` leaves of a list.
-use Rattle.std.specs.Prelude.{◌≡◌, ◌+◌, ◌-◌, Bool, cond, List, [], ◌∷◌, length, map, take}
+-- What `retain` asks of its predicate, and what it leaves of a list.
+use denote.Param.Members.{Mut}
+use denote.Ref.{MutBor}
+use Rattle.std.specs.Prelude.{◌≡◌, ◌+◌, ◌-◌, Bool, cond, List, [], ◌∷◌, ◌++◌, length, map, take}
 use Rattle.syn_punctuated.specs.declared.punctuated.Punctuated.{Punctuated}
 use Rattle.syn_punctuated.specs.Lists.{values_of, separators_of}
 
@@ -11,6 +13,16 @@ module _ {S X : Type 0} (R : S → X → Bool → S → X → Type 0) where
   RunsOver s [] (z ∷ zs) t = ⊥
   RunsOver s (x ∷ xs) [] t = ⊥
   RunsOver s (x ∷ xs) (z ∷ zs) t = (u : S) × R s x z.0 u z.1 × RunsOver u xs zs t
+
+  -- wherever a run over the first values ends, this holds of its state and the next value
+  abbrev pub AtEach : (S → X → Type 0) → S → List X → Type 0
+  AtEach holds s xs =
+      (before : List X) (x : X) (after : List X) (run : List (Bool × X)) (t : S)
+      → xs ≡ before ++ x ∷ after → RunsOver s before run t → holds t x
+
+-- a predicate may be called at a value
+abbrev pub TakesAtMut : {S X A : Type 0} → Mut S (MutBor X × Unit {0}) A → S → X → Type 0
+TakesAtMut {S} {X} calls f x = (lent : MutBor X) → lent.now ≡ x → calls.pre f (lent, tt)
 
 -- what the run left of the values at which it returned true
 abbrev pub kept_values : {X : Type 0} → List (Bool × X) → List X

@@ -8,7 +8,7 @@ use Rattle.syn_parse.specs.Reads.{Call}
 use Rattle.syn_parse.specs.State.{State}
 use Rattle.syn_parse.specs.declared.fault.Fault.{Fault}
 use Rattle.syn_punctuated.specs.Lists.{values_of, separators_of}
-use Rattle.syn_punctuated.specs.Progress.{progresses}
+use Rattle.syn_punctuated.specs.Progress.{MakesNone, progresses}
 use Rattle.syn_punctuated.specs.declared.punctuated.Punctuated.{Punctuated}
 
 -- what a call of a value parser does: the parser and the stream before it, its result, and the
@@ -116,7 +116,7 @@ module _ {T P F : Type 0} (rule : Rule) (reads : ValueCall F T) (separates : Cal
     -- with a full turn that made no progress
     stuck :
         (turn : Turn T P F) (e : Fault) → IsTurn f s turn → t ≡ turn.after
-        → progresses s.place t.place ≡ false → Refuses (no_progress t) e → result ≡ Err e
+        → MakesNone s.place t.place → Refuses (no_progress t) e → result ≡ Err e
         → Ending f s turns result t
 
   -- a run from a value parser and a stream, with its result and what it leaves of the stream

@@ -10,11 +10,14 @@ ghost use Rattle.tok_types.specs.declared.punctuation.Punctuation.{Punctuation};
 ghost use Rattle.syn_punctuated.specs.Hashed.{list_input};
 ghost use Rattle.syn_punctuated.specs.Lends.{with_value, WritesValue};
 ghost use Rattle.syn_punctuated.specs.Lists.{values_of, separators_of, is_trailing};
+ghost use Rattle.syn_punctuated.specs.Pairs.{equal_pairs, pair_input};
+ghost use Rattle.syn_punctuated.specs.declared.pair.Pair.{Pair};
 ghost use Rattle.syn_punctuated.specs.ReadBack.{IsAccepted, IsInTable, IsReadBack, ListsAreReadBack, ReadsAgain};
 ghost use Rattle.syn_punctuated.specs.Retained.{Retains};
 ghost use Rattle.syn_punctuated.specs.Trees.{ListsHaveTheirTrees, StatesTrees, ident_sources, punctuation_sources};
 ghost use Rattle.syn_punctuated.specs.declared.punctuated.Punctuated.{Punctuated};
 
+use crate::pair::Pair;
 use crate::punctuated::Punctuated;
 use std::alloc::Global;
 use std::hash::Hash;
@@ -43,6 +46,15 @@ pub fn equality_is_pointwise<T: PartialEq, P: PartialEq>()
 pub fn lists_hash_all<T: Hash, P: Hash>()
     ensures { (list : Punctuated T P)
         → ⟦<Punctuated<T, P> as Hash>⟧.hash_input list ≡ list_input T.hash_input P.hash_input list }
+{}
+
+/// Two pairs are equal if and only if both or neither has a separator, and their parts are equal. So
+/// equal pairs feed a hasher the same input: whether they have a separator, and their parts.
+pub fn pairs_are_compared_by_parts<T: Hash + PartialEq, P: Hash + PartialEq>()
+    ensures equal { (left : Pair T P) (right : Pair T P) → ⟦<Pair<T, P> as PartialEq>⟧.eq left right
+        ≡ equal_pairs T.PartialEq.eq P.PartialEq.eq left right }
+    ensures hash { (pair : Pair T P) → ⟦<Pair<T, P> as Hash>⟧.hash_input pair
+        ≡ pair_input T.hash_input P.hash_input pair }
 {}
 
 /// After `retain`, a list that isn't empty ends in a separator if and only if it did before.

@@ -6,7 +6,8 @@ ghost use Rattle.tok_buffer.specs.Progress.{remaining};
 ghost use Rattle.syn_parse.specs.Faults.{Refuses};
 ghost use Rattle.syn_punctuated.specs.Lists.{values_of};
 ghost use Rattle.syn_punctuated.specs.Private.Pieces.{IsPiece, Keeps};
-ghost use Rattle.syn_punctuated.specs.Progress.{progresses};
+ghost use Rattle.syn_punctuated.specs.Progress.{MakesNone, progresses};
+ghost use Rattle.syn_punctuated.specs.TakeLists.{Separates};
 ghost use Rattle.syn_punctuated.specs.Turns.{Rule, IsRun, no_progress};
 
 use crate::punctuated::Punctuated;
@@ -43,7 +44,7 @@ where
     F: FnMut(ParseStream<'_, 'a>) -> Result<T>,
     requires { (f : F) (y : _) → remaining y.now.place ≤ remaining input.old.place → F.pre f y }
     ensures run { IsRun R.rule (CalledAtMut F.FnMut)
-        P.parses parser input.old result input.new }
+        (Separates P.parses P.takes) parser input.old result input.new }
     ensures bounded { IfOk result
         (λ list. length (values_of list) ≤ remaining input.old.place + 1) }
 {
@@ -85,7 +86,7 @@ where
     F: FnMut(ParseStream<'_, 'a>) -> Result<T>,
     requires { (y : _) → y.now ≡ input.old → F.pre parser.old y }
     ensures { IsPiece R.rule (CalledAtMut F.FnMut)
-        P.parses parser.old input.old result parser.new input.new }
+        (Separates P.parses P.takes) parser.old input.old result parser.new input.new }
 {
     if !R::begins(input) {
         return Ok(Piece::End);
@@ -106,11 +107,12 @@ fn next_turn<'a>(input: &ParseBuffer<'a>, start: Cursor<'a>) -> Result<Cursor<'a
     ensures progress { MatchResult result
         (λ now. (place_of now ≡ input.now.place)
         × (progresses (place_of start.entry) input.now.place ≡ true))
-        (λ fault. (progresses (place_of start.entry) input.now.place ≡ false)
+        (λ fault. MakesNone (place_of start.entry) input.now.place
         × Refuses (no_progress input.now) fault) }
     ensures lowers { IfOk result
         (λ _. remaining input.now.place < remaining (place_of start.entry)) }
 {
+    staying_adds_nothing();
     let now = input.cursor();
     if has_passed(now, start) {
         Ok(now)

@@ -1,23 +1,22 @@
 //! Removing values by a condition.
-ghost use Rattle.std.specs.Prelude.{◌≡◌};
+ghost use Rattle.std.specs.Prelude.{◌≡◌, map};
 ghost use Rattle.std.specs.Fn.{CalledAtMut};
-ghost use Rattle.syn_punctuated.specs.Retained.{Retains, RetainsPairs};
+ghost use Rattle.syn_punctuated.specs.Retained.{AtEach, Retains, RetainsPairs, TakesAtMut};
+ghost use Rattle.syn_punctuated.specs.Lists.{values_of};
 
 use crate::punctuated::Punctuated;
 
 /// Calls `f` on a value.
 fn test<T, F: FnMut(&mut T) -> bool>(value: &mut T, f: &mut F) -> bool
-    requires { F.IsAlwaysCallable f.old }
-    ensures callable { F.IsAlwaysCallable f.new }
-    ensures called { CalledAtMut F.FnMut f.old value.old result f.new value.new }
+    requires { TakesAtMut F.FnMut f.old value.old }
+    ensures { CalledAtMut F.FnMut f.old value.old result f.new value.new }
 {
     f(value)
 }
 
 /// Calls `f` on the value of a pair.
 fn test_value<T, P, F: FnMut(&mut T) -> bool>(pair: &mut (T, P), f: &mut F) -> bool
-    requires { F.IsAlwaysCallable f.old }
-    ensures callable { F.IsAlwaysCallable f.new }
+    requires { TakesAtMut F.FnMut f.old pair.old.0 }
     ensures called { CalledAtMut F.FnMut f.old pair.old.0 result f.new pair.new.0 }
     ensures separator { pair.new.1 ≡ pair.old.1 }
 {
@@ -26,9 +25,9 @@ fn test_value<T, P, F: FnMut(&mut T) -> bool>(pair: &mut (T, P), f: &mut F) -> b
 
 /// Keeps the pairs for whose values `f` returns `true`.
 fn retain_pairs<T: Drop, P: Drop, F: FnMut(&mut T) -> bool>(pairs: &mut Vec<(T, P)>, f: &mut F)
-    requires { F.IsAlwaysCallable f.old }
-    ensures callable { F.IsAlwaysCallable f.new }
-    ensures kept { RetainsPairs (CalledAtMut F.FnMut) f.old pairs.old.items pairs.new.items f.new }
+    requires { AtEach (CalledAtMut F.FnMut) (TakesAtMut F.FnMut) f.old
+        (map (λ p. p.0) pairs.old.items) }
+    ensures { RetainsPairs (CalledAtMut F.FnMut) f.old pairs.old.items pairs.new.items f.new }
 {
     let mut kept = 0;
     for i in 0..pairs.len() {
@@ -49,9 +48,9 @@ impl<T: Drop, P: Drop> Punctuated<T, P> {
     ///
     /// # Requires
     ///
-    /// `f` must be callable on every value.
+    /// `f` must be callable on each value in turn, as the calls before leave it.
     pub fn retain<F: FnMut(&mut T) -> bool>(&mut self, mut f: F)
-        requires { F.IsAlwaysCallable f }
+        requires { AtEach (CalledAtMut F.FnMut) (TakesAtMut F.FnMut) f (values_of self.old) }
         ensures { Retains (CalledAtMut F.FnMut) f self.old self.new }
     {
         retain_pairs(&mut self.inner, &mut f);

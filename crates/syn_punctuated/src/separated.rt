@@ -2,7 +2,12 @@
 ghost use Rattle.std.specs.Prelude.{◌+◌, ◌≤◌, length, IfOk};
 ghost use Rattle.std.specs.Fn.{CalledAtMut};
 ghost use Rattle.tok_buffer.specs.Progress.{remaining};
+ghost use Rattle.syn_parse.specs.Progress.{ParsesOn};
+ghost use Rattle.syn_parse.specs.Takes.{Taking};
+ghost use Rattle.syn_parse.specs.Takings.{Keeps, Lightens, lighter, told};
 ghost use Rattle.syn_punctuated.specs.Lists.{values_of};
+ghost use Rattle.syn_punctuated.specs.TakeLists.{EachTakes, Separates, separated_list};
+ghost use Rattle.tok_types.specs.Sees.{Sees};
 ghost use Rattle.syn_punctuated.specs.Turns.{separated, IsRun, IsPlainRun};
 
 use crate::parse::{ListRule, parse_list};
@@ -14,7 +19,7 @@ use tok_types::token::Token;
 pub(crate) enum Separated {}
 
 impl<P: Token> ListRule<P> for Separated {
-    ghost rule = { separated P.peeks };
+    ghost rule = { separated (λ p found. P.peeks p found × Sees P.sees p found) };
 
     fn begins(_: &ParseBuffer<'_>) -> bool {
         true
@@ -52,8 +57,14 @@ impl<T: Drop, P: Parse + Token + Drop> Punctuated<T, P> {
         requires { (f : F) (y : _) → remaining y.now.place ≤ remaining input.old.place → F.pre f y }
         ensures run { IsRun (separated P.peeks) (CalledAtMut F.FnMut)
             P.parses parser input.old result input.new }
+        ensures turns { IsRun (separated (λ p found. P.peeks p found × Sees P.sees p found))
+            (CalledAtMut F.FnMut) (Separates P.parses P.takes) parser input.old result input.new }
         ensures bounded { IfOk result
             (λ list. length (values_of list) ≤ remaining input.old.place + 1) }
+        ensures takes { (value : Taking T) (less : Lightens value)
+            → EachTakes value (CalledAtMut F.FnMut) → ParsesOn P.parses
+            → Keeps (separated_list P.sees (told (λ v. v) value (lighter less)) P.takes) input.old
+            result input.new }
     {
         parse_list::<Separated, T, P, F>(input, parser)
     }
@@ -73,7 +84,9 @@ impl<T: Parse + Drop, P: Parse + Token + Drop> Punctuated<T, P> {
         ensures run { IsPlainRun (separated P.peeks) T.parses P.parses input.old result input.new }
         ensures bounded { IfOk result
             (λ list. length (values_of list) ≤ remaining input.old.place + 1) }
+        ensures takes { ParsesOn P.parses
+            → Keeps (separated_list P.sees T.takes P.takes) input.old result input.new }
     {
-        Self::parse_separated_nonempty_with(input, |stream| T::parse(stream))
+        parse_list::<Separated, T, P, _>(input, |stream| T::parse(stream))
     }
 }

@@ -3,7 +3,11 @@ ghost use Rattle.std.specs.Prelude.{◌+◌, ◌≤◌, length, IfOk};
 ghost use Rattle.std.specs.Fn.{CalledAtMut};
 ghost use Rattle.tok_buffer.specs.Progress.{remaining};
 ghost use Rattle.syn_parse.specs.State.{State};
+ghost use Rattle.syn_parse.specs.Progress.{ParsesOn};
+ghost use Rattle.syn_parse.specs.Takes.{Taking};
+ghost use Rattle.syn_parse.specs.Takings.{Keeps, Lightens, lighter, told};
 ghost use Rattle.syn_punctuated.specs.Lists.{values_of};
+ghost use Rattle.syn_punctuated.specs.TakeLists.{EachTakes, Separates, terminated_list};
 ghost use Rattle.syn_punctuated.specs.Turns.{terminated, IsRun, IsPlainRun};
 
 use crate::parse::{ListRule, parse_list};
@@ -51,8 +55,14 @@ impl<T: Drop, P: Parse + Drop> Punctuated<T, P> {
         requires { (f : F) (y : _) → remaining y.now.place ≤ remaining input.old.place → F.pre f y }
         ensures run { IsRun terminated (CalledAtMut F.FnMut)
             P.parses parser input.old result input.new }
+        ensures turns { IsRun terminated (CalledAtMut F.FnMut)
+            (Separates P.parses P.takes) parser input.old result input.new }
         ensures bounded { IfOk result
             (λ list. length (values_of list) ≤ remaining input.old.place + 1) }
+        ensures takes { (value : Taking T) (less : Lightens value)
+            → EachTakes value (CalledAtMut F.FnMut) → ParsesOn P.parses
+            → Keeps (terminated_list (told (λ v. v) value (lighter less)) P.takes) input.old result
+            input.new }
     {
         parse_list::<Terminated, T, P, F>(input, parser)
     }
@@ -73,8 +83,10 @@ impl<T: Parse + Drop, P: Parse + Drop> Punctuated<T, P> {
         ensures run { IsPlainRun terminated T.parses P.parses input.old result input.new }
         ensures bounded { IfOk result
             (λ list. length (values_of list) ≤ remaining input.old.place + 1) }
+        ensures takes { ParsesOn P.parses
+            → Keeps (terminated_list T.takes P.takes) input.old result input.new }
     {
-        Self::parse_terminated_with(input, |stream| T::parse(stream))
+        parse_list::<Terminated, T, P, _>(input, |stream| T::parse(stream))
     }
 }
 

@@ -1,0 +1,109 @@
+-- Which lists are taken, in both directions: turn by turn.
+use Rattle.std.proofs.Common.{◌≡◌, ◌∙◌, ap, subst, refl, arith, ℕ, zero, suc, ◌<◌, Bool, true}
+use Rattle.std.proofs.Common.{false, cond}
+use Rattle.std.proofs.Common.{List, [], ◌∷◌}
+use Rattle.tok_core.specs.Weight.{weight}
+use Rattle.syn_parse.proofs.Shapes.{found_first, found_second}
+use Rattle.syn_parse.specs.TreesAhead.{Ahead}
+use Rattle.syn_parse.specs.Takes.{Outcome, Taking, and_then, found, missing}
+use Rattle.syn_parse.specs.Takings.{Lightens, Lowers}
+use Rattle.syn_punctuated.specs.TakeLists.{take_list, take_turns}
+
+module _ {A P : Type 0} (begins goes_on : Ahead → Bool) (value : Taking A) (sign : Taking P) where
+  -- values and separators in turn, and what is ahead before and after them
+  pub data Turns : Ahead → List A → List P → Ahead → Type 0 where
+    done : (a : Ahead) → begins a ≡ false → Turns a [] [] a
+    bare :
+        (a b : Ahead) (v : A) → begins a ≡ true → value a ≡ found v b → goes_on b ≡ false
+        → Turns a (v ∷ []) [] b
+    turn :
+        (a b c d : Ahead) (v : A) (p : P) (vs : List A) (ps : List P) → begins a ≡ true
+        → value a ≡ found v b → goes_on b ≡ true → sign b ≡ found p c → Turns c vs ps d
+        → Turns a (v ∷ vs) (p ∷ ps) d
+
+  abbrev Both : Type 0
+  Both = List A × List P
+
+  abbrev turns : ℕ → Taking Both
+  turns n = take_turns n begins goes_on value sign
+
+  abbrev after_sign : ℕ → A → P → Ahead → Outcome Both
+  after_sign n v p c = and_then (turns n c) (λ rest d. found (v ∷ rest.0, p ∷ rest.1) d)
+
+  abbrev after_value : ℕ → A → Ahead → Outcome Both
+  after_value n v b =
+      cond (goes_on b) (and_then (sign b) (λ p c. after_sign n v p c)) (found (v ∷ [], []) b)
+
+  abbrev Is : Ahead → Both → Ahead → Type 0
+  Is a x d = Turns a x.0 x.1 d
+
+  of_found : (a b d : Ahead) (x y : Both) → Is a x b → found x b ≡ found y d → Is a y d
+  of_found a b d x y t e =
+      subst (λ z. Is a y z) (found_second e) (subst (λ z. Is a z b) (found_first e) t)
+
+  -- what is found is so many turns
+  module _ (n : ℕ) (more : (c d : Ahead) (x : Both) → turns n c ≡ found x d → Is c x d)
+      (a d : Ahead) (x : Both) (t : begins a ≡ true) where
+    at_rest : (v : A) (b : Ahead) (p : P) (c : Ahead) → value a ≡ found v b → goes_on b ≡ true
+        → sign b ≡ found p c → (o : Outcome Both) → turns n c ≡ o
+        → and_then o (λ rest d. found (v ∷ rest.0, p ∷ rest.1) d) ≡ found x d → Is a x d
+    at_rest v b p c h g s (missing words) k e = absurd (cc)
+    at_rest v b p c h g s (found r f) k e =
+        of_found a f d (v ∷ r.0, p ∷ r.1) x (turn a b c f v p r.0 r.1 t h g s (more c f r k)) e
+
+    at_sign : (v : A) (b : Ahead) → value a ≡ found v b → goes_on b ≡ true → (o : Outcome P)
+        → sign b ≡ o → and_then o (λ p c. after_sign n v p c) ≡ found x d → Is a x d
+    at_sign v b h g (missing words) s e = absurd (cc)
+    at_sign v b h g (found p c) s e = at_rest v b p c h g s (turns n c) refl e
+
+    at_value : (v : A) (b : Ahead) → value a ≡ found v b → (g : Bool) → goes_on b ≡ g
+        → cond g (and_then (sign b) (λ p c. after_sign n v p c)) (found (v ∷ [], []) b) ≡ found x d
+        → Is a x d
+    at_value v b h true g e = at_sign v b h g (sign b) refl e
+    at_value v b h false g e = of_found a b d (v ∷ [], []) x (bare a b v t h g) e
+
+    at_turn : (o : Outcome A) → value a ≡ o → and_then o (after_value n) ≡ found x d → Is a x d
+    at_turn (missing words) h e = absurd (cc)
+    at_turn (found v b) h e = at_value v b h (goes_on b) refl e
+
+  from_begins : (n : ℕ) (more : (c d : Ahead) (x : Both) → turns n c ≡ found x d → Is c x d)
+      (a d : Ahead) (x : Both) (t : Bool) → begins a ≡ t
+      → cond t (and_then (value a) (after_value n)) (found ([], []) a) ≡ found x d → Is a x d
+  from_begins n more a d x false t k = of_found a a d ([], []) x (done a t) k
+  from_begins n more a d x true t k = at_turn n more a d x t (value a) refl k
+
+  from_turns : (n : ℕ) (a d : Ahead) (x : Both) → turns n a ≡ found x d → Is a x d
+  from_turns zero a d x e = absurd (cc)
+  from_turns (suc n) a d x e =
+      from_begins n (λ c b y h. from_turns n c b y h) a d x (begins a) refl e
+
+  pub list_taken : (a d : Ahead) (x : Both) → take_list begins goes_on value sign a ≡ found x d
+      → Is a x d
+  unfolding take_list
+  list_taken a d x e = from_turns (suc (weight a.trees)) a d x e
+
+  -- so many turns are found
+  module _ (light : Lightens value) (lower : Lowers sign) where
+    to_turns : (n : ℕ) (a d : Ahead) (vs : List A) (ps : List P) → weight a.trees < n
+        → Turns a vs ps d → turns n a ≡ found (vs, ps) d
+    to_turns zero a d vs ps w t = absurd (omega arith)
+    to_turns (suc n) _ _ _ _ w (done a e) =
+        ap (λ t. cond t (and_then (value a) (after_value n)) (found ([], []) a)) e
+    to_turns (suc n) _ _ _ _ w (bare a b v e h g) =
+        ap (λ t. cond t (and_then (value a) (after_value n)) (found ([], []) a)) e
+        ∙ ap (λ o. and_then o (after_value n)) h
+        ∙ ap (λ t. cond t (and_then (sign b) (λ p c. after_sign n v p c)) (found (v ∷ [], []) b)) g
+    to_turns (suc n) _ _ _ _ w (turn a b c d v p vs ps e h g s t) =
+        let one = light.less a b v h in
+        let two = lower.less b c p s in
+        ap (λ t. cond t (and_then (value a) (after_value n)) (found ([], []) a)) e
+        ∙ ap (λ o. and_then o (after_value n)) h
+        ∙ ap (λ t. cond t (and_then (sign b) (λ p c. after_sign n v p c)) (found (v ∷ [], []) b)) g
+        ∙ ap (λ o. and_then o (λ p c. after_sign n v p c)) s
+        ∙ ap (λ o. and_then o (λ rest d. found (v ∷ rest.0, p ∷ rest.1) d))
+        (to_turns n c d vs ps (omega (arith, w, one, two)) t)
+
+    pub takes_list : (a d : Ahead) (vs : List A) (ps : List P) → Turns a vs ps d
+        → take_list begins goes_on value sign a ≡ found (vs, ps) d
+    unfolding take_list
+    takes_list a d vs ps t = to_turns (suc (weight a.trees)) a d vs ps (omega arith) t

@@ -1,0 +1,39 @@
+-- A list whose values are replaced, each by one of another type.
+use Rattle.std.proofs.Common.{◌≡◌, ap, refl, List, [], ◌∷◌, ◌++◌, map, Option, Some, None}
+use Rattle.std.specs.Global.{Box, Vec}
+use Rattle.syn_punctuated.specs.declared.punctuated.Punctuated.{Punctuated}
+
+abbrev pub of_parts : {T P : Type 0} → Vec (T × P) → Option (Box T) → Punctuated T P
+of_parts inner last = record { inner = inner; last = last }
+
+-- what holds of lists without a last value and with one holds of all
+pub by_last : {T P : Type 0} (Q : Punctuated T P → Type 0)
+    → ((inner : Vec (T × P)) → Q (of_parts inner None))
+    → ((inner : Vec (T × P)) (b : Box T) → Q (of_parts inner (Some b)))
+    → (list : Punctuated T P) → Q list
+by_last {T} {P} Q without with list = go list.inner list.last where
+  go : (inner : Vec (T × P)) (last : Option (Box T)) → Q (of_parts inner last)
+  go inner None = without inner
+  go inner (Some b) = with inner b
+
+module _ {T A P : Type 0} (f : T → A) where
+  abbrev pub replaced : T × P → A × P
+  replaced pair = (f pair.0, pair.1)
+
+  -- the values and the separators of a list, and those of the list with other values
+  abbrev Both : List (T × P) → List T → List A × List P
+  Both pairs more = (
+    map f (map {A = T × P} (λ pair. pair.0) pairs ++ more),
+    map (λ sign. sign) (map {A = T × P} (λ pair. pair.1) pairs),
+  )
+
+  abbrev Mapped : List (T × P) → List T → List A × List P
+  Mapped pairs more = (
+    map {A = A × P} (λ pair. pair.0) (map replaced pairs) ++ map f more,
+    map {A = A × P} (λ pair. pair.1) (map replaced pairs),
+  )
+
+  pub list_mapped : (pairs : List (T × P)) (more : List T) → Mapped pairs more ≡ Both pairs more
+  list_mapped [] more = refl
+  list_mapped (pair ∷ pairs) more =
+      ap (λ (x : List A × List P). (f pair.0 ∷ x.0, pair.1 ∷ x.1)) (list_mapped pairs more)

@@ -1,0 +1,45 @@
+-- Lists in values that hold values of their own kind.
+use Rattle.std.proofs.Common.{ℕ, zero, suc, Bool}
+use Rattle.tok_core.specs.Weight.{weight}
+use Rattle.syn_parse.specs.Lighter.{lightens_gives}
+use Rattle.syn_parse.specs.Nested.{Descends, descending, descends_bind, descends_same}
+use Rattle.syn_parse.specs.Nested.{descends_where}
+use Rattle.syn_parse.specs.Takes.{Taking}
+use Rattle.syn_parse.specs.Takings.{Lightens}
+use Rattle.syn_parse.specs.TreesAhead.{Ahead}
+use Rattle.syn_punctuated.specs.TakeLists.{take_list, take_turns}
+
+module _ (slack : ℕ) {A B P : Type 0} (begins goes_on : Ahead → Bool)
+    (value : Taking A → Taking B) (sign : Taking P) (h : Descends slack value)
+    (light : Lightens sign) where
+  turns_descend : (n : ℕ) → Descends slack (λ m. take_turns n begins goes_on (value m) sign)
+  turns_descend zero = descends_same slack _ (record { less = λ a b v e. absurd (cc) })
+  turns_descend (suc n) =
+      descends_where slack begins _ _
+      (descends_bind slack value _ h (λ v. descends_where slack goes_on _ _
+      (descends_bind slack (λ m. sign) _ (descends_same slack sign light)
+      (λ p. descends_bind slack (λ m. take_turns n begins goes_on (value m) sign) _
+      (turns_descend n) (λ rest. descends_same slack _ (lightens_gives _))))
+      (descends_same slack _ (lightens_gives _)))) (descends_same slack _ (lightens_gives _))
+
+  -- a list asks no more of the parser that it is made of than its values do
+  pub descends_list : Descends slack (λ m. take_list begins goes_on (value m) sign)
+  unfolding take_list
+  descends_list = record {
+    light = λ m l. record {
+      less = λ a b v e.
+          ((turns_descend (suc (weight a.trees))).light m l).less a b v e;
+    };
+    same = λ m n l j a e. (turns_descend (suc (weight a.trees))).same m n l j a e;
+  }
+
+-- a list of values that take no more than is ahead takes no more
+pub lightens_list : {A P : Type 0} (begins goes_on : Ahead → Bool) (value : Taking A)
+    (sign : Taking P) → Lightens value → Lightens sign
+    → Lightens (take_list begins goes_on value sign)
+lightens_list {A} begins goes_on value sign h k =
+    (descends_list 0 begins goes_on (λ m. value) sign (descends_same 0 {A = A} value h) k).light
+    value h
+
+-- with these `search` proves it of what has lists too
+pub ruleset descending_lists = (descending, lightens_list, descends_list)
