@@ -1,9 +1,4 @@
-pub mod Calls
-pub mod Tokens
-pub mod ValueSteps
-pub mod ArgumentSteps
-pub mod ListSteps
-pub mod Written
+pub mod Formed
+pub mod Outcomes
 pub mod Sound
-pub mod Same
-pub mod Whole
+pub mod Written

@@ -1,221 +1,199 @@
--- What comes of reading tree by tree, the grammar has as arguments.
-use Rattle.std.proofs.Common.{◌≡◌, ◌∙◌, sym, ap, subst, refl, ℕ, ◌==◌, Bool, true, false, cond}
-use Rattle.std.proofs.Common.{List, [], ◌∷◌, Ok, Err, inl, inr, ◌⊎◌, Result, eqb-true}
-use Rattle.tok_leaves.specs.Leaves.{ident, punct, literal, ident_of, literal_of}
-use Rattle.tok_core.specs.Forest.{Tree, leaf, group, Forest, no_trees, tree, forest, concat}
-use Rattle.tok_lexical.specs.declared.delimiter.Delimiter.TheVariants as delimiter
+-- What is taken as arguments, the grammar has as arguments.
+use Rattle.std.proofs.Common.{◌≡◌, ◌∙◌, sym, ap, subst, refl, arith, ℕ, zero, suc, ◌<◌, ◌&&◌, Bool}
+use Rattle.std.proofs.Common.{true, false, cond}
+use Rattle.std.proofs.Common.{List, [], ◌∷◌}
+use Rattle.std.proofs.lemmas.Bool.{false≢true}
+use Rattle.tok_lexical.specs.declared.delimiter.Delimiter.TheVariants.{Parenthesis}
 use Rattle.tok_leaves.specs.declared.ident.Ident.{Ident}
-use Rattle.tok_leaves.specs.declared.literal.Literal.{Literal}
-use Rattle.tok_leaves.specs.declared.punct.Spacing.{Spacing}
-use Rattle.tok_leaves.specs.declared.span.Span.{Span}
-use Rattle.tok_types.specs.Texts.{accept_as_ident}
-use Rattle.syn_parse.specs.declared.fault.Fault.{Fault}
-use Rattle.syn_punctuated.specs.Lists.{values_of, separators_of}
-use Rattle.arguments.specs.Private.Forms.{Form, flag, assigned, with_list, Forms, no_forms, next_form}
-use Rattle.arguments.specs.Private.Forms.{one_form, IsForm, AreForms, of_flag, of_assigned, of_list}
-use Rattle.arguments.specs.Private.Forms.{are_none, are_next}
-use Rattle.arguments.specs.Grammar.{comma, equals_sign, sign, IsArgument, is_flag, is_assigned}
-use Rattle.arguments.specs.Grammar.{is_list, AreListed, nothing, last, and_more, AreNoArguments}
-use Rattle.arguments.specs.Private.Outcomes.{Outcome, Found, Refused, added, and_then, arguments_in}
-use Rattle.arguments.specs.Private.Outcomes.{after_name, after_equals, after_argument}
-use Rattle.arguments.specs.Private.Outcomes.{no_comma, reserved_name}
-use Rattle.arguments.specs.Private.Reading.{IsOutcome}
-use Rattle.arguments.specs.Results.{Parses}
-use Rattle.arguments.specs.Values as values
-use Rattle.arguments.specs.Values.{Comma, Arguments, IsName, sign_at}
-use Rattle.arguments.specs.declared.argument.Argument.{Argument}
-use Rattle.arguments.proofs.Written.{written}
+use Rattle.tok_leaves.specs.Leaves.{ident_of, literal_of}
+use Rattle.tok_core.specs.Forest.{Tree, leaf, group, Forest, no_trees, tree, forest, concat}
+use Rattle.tok_core.specs.Weight.{weight}
+use Rattle.syn_parse.proofs.Shapes.{before, found_first, found_second, group_taken, ident_shape}
+use Rattle.syn_parse.proofs.Shapes.{literal_shape}
+use Rattle.syn_parse.proofs.Shapes.{sign_shape, then_found}
+use Rattle.syn_parse.specs.Nested.{lightens_nested}
+use Rattle.syn_parse.specs.Takes.{and_then, found, take_group}
+use Rattle.syn_parse.specs.Takings.{Lightens}
+use Rattle.syn_parse.specs.Lighter.{lowers_punctuation}
+use Rattle.syn_parse.specs.Tokens.{sees_group, take_ident, take_literal}
+use Rattle.syn_parse.specs.TokenNames.{sees_eq, take_comma, take_eq}
+use Rattle.syn_parse.specs.TreesAhead.{Ahead, all_taken, is_spent}
+use Rattle.syn_punctuated.proofs.ListShapes.{Turns, bare, done, list_taken, turn}
+use Rattle.syn_punctuated.specs.TakeLists.{is_left}
+use Rattle.arguments.specs.Forms.{Form, ListForm, assigned, flag, forms, with_list}
+use Rattle.arguments.specs.Grammar.{AreListed, IsArgument, and_more, equals_sign, is_assigned}
+use Rattle.arguments.specs.Grammar.{is_flag, is_list}
+use Rattle.arguments.specs.Grammar.{last, nothing, sign}
+use Rattle.arguments.specs.Reading.{argument_again, argument_descends, argument_step, take_argument}
+use Rattle.arguments.specs.Reading.{take_arguments, take_value}
+use Rattle.arguments.specs.Values.{Comma, IsName, sign_at}
 
-concat-none : (f : Forest) → concat f no_trees ≡ f
-concat-none no_trees = refl
-concat-none (tree t f) = ap (tree t) (concat-none f)
+pub lightens_argument : Lightens take_argument
+lightens_argument = lightens_nested argument_step argument_descends
 
--- parts of an outcome
-abbrev pub forms_in : Outcome → Forms
-forms_in (Found fs cs) = fs
-forms_in (Refused words) = no_forms
+-- an argument was taken: these trees
+record Taken (f : Form) (a b : Ahead) : Type 0 where
+  trees : List Tree
+  is : IsArgument trees f
+  ahead : a.trees ≡ concat (forest trees) b.trees
+  clean : b.clean ≡ a.clean
 
-abbrev pub commas_in : Outcome → List Comma
-commas_in (Found fs cs) = cs
-commas_in (Refused words) = []
+-- within groups all is taken, and is what the grammar has
+abbrev Inner : ℕ → Type 0
+Inner n =
+    (inside : Forest) (x : ListForm) (left : Ahead) → weight inside < n
+    → take_arguments (record { trees = inside; clean = true }) ≡ found x left
+    → (left ≡ all_taken) × AreListed inside x.0 x.1
 
--- all arguments of these forms are so listed
-abbrev Lists : Forest → Forms → List Comma → Type 0
-Lists f fs cs = (values : List Argument) → AreForms fs values → AreListed f values cs
+ended : (a : Ahead) → is_left a ≡ false → a.trees ≡ no_trees
+ended a = go a.trees where
+  go : (f : Forest) → is_left (record { trees = f; clean = true }) ≡ false → f ≡ no_trees
+  go no_trees e = refl
+  go (tree t f) e = absurd (false≢true (sym e))
 
--- each argument of this form is written so
-abbrev Writes : List Tree → Form → Type 0
-Writes ts form = (argument : Argument) → IsForm form argument → IsArgument ts argument
+pub none_after : (f : Forest) → concat f no_trees ≡ f
+none_after no_trees = refl
+none_after (tree t f) = ap (tree t) (none_after f)
 
-as-found : (f : Forest) (gs fs : Forms) (ds cs : List Comma) → Found gs ds ≡ Found fs cs
-    → Lists f gs ds → Lists f fs cs
-as-found f gs fs ds cs e h =
-    subst (λ c. Lists f fs c) (ap commas_in e) (subst (λ x. Lists f x ds) (ap forms_in e) h)
+still : (c : Bool) → (c && true && true) ≡ c
+still true = refl
+still false = refl
 
-chosen : (b : Bool) (x : Outcome) (words : List ℕ) (fs : Forms) (cs : List Comma)
-    → cond b x (Refused words) ≡ Found fs cs → (b ≡ true) × (x ≡ Found fs cs)
-chosen true x words fs cs e = (refl, e)
-chosen false x words fs cs e = absurd (cc)
+module _ (n : ℕ) (within : Inner n) where
+  module _ (a c b : Ahead) (name : Ident) (accepted : IsName name)
+      (start : a ≡ before (leaf (ident_of name) ∷ []) c) (small : weight a.trees < suc n) where
+    as_assigned : (f : Form)
+        → and_then (take_eq c) (λ e d. and_then (take_literal d) (λ t. found (assigned name e t)))
+        ≡ found f b → Taken f a b
+    as_assigned f k =
+        let equals = then_found (take_eq c) _ f b k in
+        let is_sign = (sign_shape 13 equals_sign refl refl).taken c equals.after equals.value
+        equals.first in
+        let text = then_found (take_literal equals.after) _ f b equals.rest in
+        let is_text = literal_shape.taken equals.after text.after text.value text.first in
+        let one = leaf (ident_of name) ∷ [] in
+        let two = sign equals_sign is_sign.1.0 is_sign.1.1 ∷ [] in
+        let three = leaf (literal_of text.value) ∷ [] in
+        let all : a ≡ before one (before two (before three b)) =
+        start ∙ ap (before one) (is_sign.2 ∙ ap (λ ts. before ts equals.after) is_sign.1.2
+        ∙ ap (before two) (is_text.2 ∙ ap (λ ts. before ts text.after) is_text.1
+        ∙ ap (before three) (found_second text.rest))) in
+        record {
+          trees = leaf (ident_of name) ∷ sign equals_sign is_sign.1.0 is_sign.1.1 ∷ leaf
+              (literal_of text.value) ∷ [];
+          is =
+              subst (IsArgument _)
+              (ap (λ e. assigned name e text.value) (sym is_sign.1.3) ∙ found_first text.rest)
+              (is_assigned name is_sign.1.0 is_sign.1.1 text.value accepted);
+          ahead = ap (λ (x : Ahead). x.trees) all;
+          clean = sym (ap (λ (x : Ahead). x.clean) all);
+        }
 
-either-way : (b : Bool) (x y : Outcome) (fs : Forms) (cs : List Comma)
-    → cond b x y ≡ Found fs cs → ((b ≡ true) × (x ≡ Found fs cs)) ⊎ (y ≡ Found fs cs)
-either-way true x y fs cs e = inl (refl, e)
-either-way false x y fs cs e = inr e
+    as_list : (f : Form)
+        → and_then (take_group Parenthesis take_arguments c)
+        (λ x. found (with_list name x.0.join (forms x.1.0) x.1.1)) ≡ found f b → Taken f a b
+    as_list f k =
+        let parens = then_found (take_group Parenthesis take_arguments c) _ f b k in
+        let taken = group_taken Parenthesis take_arguments c parens.after parens.value parens.first
+        in
+        let span = parens.value.0.join in
+        let trees : a.trees ≡ tree (leaf (ident_of name))
+        (tree (group Parenthesis taken.content span) parens.after.trees) =
+        ap (λ (x : Ahead). x.trees) start ∙ ap (tree (leaf (ident_of name))) taken.trees in
+        let w = ap weight trees in
+        let inner = within taken.content parens.value.1 taken.left (omega (arith, w, small))
+        taken.inside in
+        record {
+          trees = leaf (ident_of name) ∷ group Parenthesis taken.content span ∷ [];
+          is =
+              subst (IsArgument _) (found_first parens.rest)
+              (is_list name taken.content span parens.value.1.0 parens.value.1.1 accepted inner.1);
+          ahead =
+              trees
+              ∙ ap (λ (x : Ahead). tree (leaf (ident_of name))
+              (tree (group Parenthesis taken.content span) x.trees))
+              (found_second parens.rest);
+          clean =
+              sym (ap (λ (x : Ahead). x.clean) (found_second parens.rest)) ∙ taken.clean
+              ∙ ap (λ (x : Ahead). c.clean && x.clean && is_spent x) inner.0 ∙ still c.clean
+              ∙ sym (ap (λ (x : Ahead). x.clean) start);
+        }
 
-record Inner (more : Forms → List Comma → Outcome) (x : Outcome) (fs : Forms)
-    (cs : List Comma) : Type 0 where
-  forms : Forms
-  commas : List Comma
-  inner : x ≡ Found forms commas
-  outer : more forms commas ≡ Found fs cs
+    as_flag : (f : Form) → found (flag name) c ≡ found f b → Taken f a b
+    as_flag f k = record {
+      trees = leaf (ident_of name) ∷ [];
+      is = subst (IsArgument _) (found_first k) (is_flag name accepted);
+      ahead = ap (λ (x : Ahead). x.trees) (start
+          ∙ ap (before (leaf (ident_of name) ∷ [])) (found_second k));
+      clean = sym (ap (λ (x : Ahead). x.clean) (start
+          ∙ ap (before (leaf (ident_of name) ∷ [])) (found_second k)));
+    }
 
-inner-of : (more : Forms → List Comma → Outcome) (x : Outcome) (fs : Forms)
-    (cs : List Comma) → and_then more x ≡ Found fs cs → Inner more x fs cs
-inner-of more (Found gs ds) fs cs e =
-    record { forms = gs; commas = ds; inner = refl; outer = e }
-inner-of more (Refused words) fs cs e = absurd (cc)
+    as_value : (f : Form) (s t : Bool) → cond s
+        (and_then (take_eq c) (λ e d. and_then (take_literal d) (λ t. found (assigned name e t))))
+        (cond t (and_then (take_group Parenthesis take_arguments c)
+        (λ x. found (with_list name x.0.join (forms x.1.0) x.1.1))) (found (flag name) c))
+        ≡ found f b
+        → Taken f a b
+    as_value f true t = as_assigned f
+    as_value f false true = as_list f
+    as_value f false false = as_flag f
 
--- what is written by each form
-flag-writes : (name : Ident) → IsName name → Writes (leaf (ident_of name) ∷ []) (flag name)
-flag-writes name a _ (of_flag _) = is_flag name a
+  as_argument : (a b : Ahead) (f : Form) → weight a.trees < suc n
+      → take_argument a ≡ found f b → Taken f a b
+  as_argument a b f small e =
+      let name = then_found (take_ident a) (take_value take_arguments) f b
+      (sym (argument_again a) ∙ e) in
+      let ident = ident_shape.taken a name.after name.value name.first in
+      as_value a name.after b name.value ident.1.1
+      (ident.2 ∙ ap (λ ts. before ts name.after) ident.1.0) small f (sees_eq name.after)
+      (sees_group Parenthesis name.after) name.rest
 
-assigned-writes : (name : Ident) (spacing : Spacing) (span : Span) (text : Literal) → IsName name
-    → Writes (leaf (ident_of name) ∷ sign equals_sign spacing span ∷ leaf (literal_of text) ∷ [])
-    (assigned name (sign_at span) text)
-assigned-writes name spacing span text a _ (of_assigned _ _ _) =
-    is_assigned name spacing span text a
+  abbrev AreTurns : Ahead → List Form → List Comma → Ahead → Type 0
+  AreTurns = Turns is_left is_left take_argument take_comma
 
-list-writes : (name : Ident) (inside : Forest) (span : Span) (fs : Forms) (cs : List Comma)
-    → IsName name → Lists inside fs cs
-    → Writes (leaf (ident_of name) ∷ group delimiter.Parenthesis inside span ∷ [])
-    (with_list name span fs cs)
-list-writes name inside span fs cs a l _ (of_list _ _ _ _ paren inner at commas h) =
-    subst
-    (λ place. IsArgument
-    (leaf (ident_of name) ∷ group delimiter.Parenthesis inside place ∷ [])
-    (values.with_list name paren inner)) at
-    (is_list name inside paren inner a
-    (subst (AreListed inside (values_of inner)) (sym commas) (l (values_of inner) h)))
+  as_turns : (a d : Ahead) (vs : List Form) (ps : List Comma) → weight a.trees < suc n
+      → AreTurns a vs ps d
+      → AreListed a.trees vs ps × (d.trees ≡ no_trees) × (d.clean ≡ a.clean)
+  as_turns _ _ _ _ small (done a e) =
+      (subst (λ f. AreListed f [] []) (sym (ended a e)) nothing, ended a e, refl)
+  as_turns _ _ _ _ small (bare a b v e h g) =
+      let t = as_argument a b v small h in (
+        subst (λ f. AreListed f (v ∷ []) [])
+            (sym (t.ahead ∙ ap (concat (forest t.trees)) (ended b g) ∙ none_after (forest t.trees)))
+            (last t.trees v t.is),
+        ended b g,
+        t.clean,
+      )
+  as_turns _ _ _ _ small (turn a b c d v p vs ps e h g s rest) =
+      let t = as_argument a b v small h in
+      let comma_ = (sign_shape 7 44 refl refl).taken b c p s in
+      let one = lightens_argument.less a b v h in
+      let two = (lowers_punctuation 7 1).less b c p s in
+      let more = as_turns c d vs ps (omega (arith, small, one, two)) rest in
+      let after = comma_.2 ∙ ap (λ ts. before ts c) comma_.1.2 in (
+        subst (λ x. AreListed a.trees (v ∷ vs) (x ∷ ps)) (sym comma_.1.3)
+            (subst (λ f. AreListed f (v ∷ vs) (sign_at comma_.1.1 ∷ ps))
+            (sym (t.ahead ∙ ap (λ (x : Ahead). concat (forest t.trees) x.trees) after))
+            (and_more t.trees v comma_.1.0 comma_.1.1 c.trees vs ps t.is more.0)),
+        more.1,
+        more.2 ∙ sym (ap (λ (x : Ahead). x.clean) after) ∙ t.clean,
+      )
 
-none-listed : Lists no_trees no_forms []
-none-listed _ are_none = nothing
+nothing_left : (d : Ahead) → d.trees ≡ no_trees → d.clean ≡ true → d ≡ all_taken
+nothing_left d e c = ap (λ f. record { trees = f; clean = d.clean }) e
+    ∙ ap (λ b. record { trees = no_trees; clean = b }) c
 
-last-listed : (ts : List Tree) (form : Form) → Writes ts form → Lists (forest ts) (one_form form) []
-last-listed ts form w _ (are_next _ argument _ _ i are_none) = last ts argument (w argument i)
+sound_below : (n : ℕ) → Inner n
+sound_below zero inside x left w e = absurd (omega arith)
+sound_below (suc n) inside x left w e =
+    let a : Ahead = record { trees = inside; clean = true } in
+    let t = as_turns n (sound_below n) a left x.0 x.1 w
+    (list_taken is_left is_left take_argument take_comma a left x e) in
+    (nothing_left left t.1 t.2, t.0)
 
-more-listed : (ts : List Tree) (form : Form) (spacing : Spacing) (span : Span) (rest : Forest)
-    (gs : Forms) (ds : List Comma) → Writes ts form → Lists rest gs ds
-    → Lists (concat (forest ts) (tree (sign comma spacing span) rest)) (next_form form gs)
-    (sign_at span ∷ ds)
-more-listed ts form spacing span rest gs ds w l _ (are_next _ argument _ others i h) =
-    and_more ts argument spacing span rest others ds (w argument i) (l others h)
-
--- an argument, a comma and more
-added-sound : (ts : List Tree) (form : Form) (spacing : Spacing) (span : Span) (rest : Forest)
-    (o : Outcome) (fs : Forms) (cs : List Comma) → Writes ts form
-    → ((gs : Forms) (ds : List Comma) → o ≡ Found gs ds → Lists rest gs ds)
-    → added (one_form form) (sign_at span ∷ []) o ≡ Found fs cs
-    → Lists (concat (forest ts) (tree (sign comma spacing span) rest)) fs cs
-added-sound ts form spacing span rest (Found gs ds) fs cs w k e =
-    as-found _ (next_form form gs) fs (sign_at span ∷ ds) cs e
-    (more-listed ts form spacing span rest gs ds w (k gs ds refl))
-added-sound ts form spacing span rest (Refused words) fs cs w k e = absurd (cc)
-
--- the character is the comma
-comma-sound : (ts : List Tree) (c : ℕ) (spacing : Spacing) (span : Span) (rest : Forest)
-    (fs : Forms) (cs : List Comma) → (c == comma) ≡ true
-    → Lists (concat (forest ts) (tree (sign comma spacing span) rest)) fs cs
-    → Lists (concat (forest ts) (tree (sign c spacing span) rest)) fs cs
-comma-sound ts c spacing span rest fs cs e h =
-    subst (λ d. Lists (concat (forest ts) (tree (sign d spacing span) rest)) fs cs)
-    (sym (eqb-true c comma e)) h
-
-mutual
-  listed-sound : (f : Forest) (fs : Forms) (cs : List Comma) → arguments_in f ≡ Found fs cs
-      → Lists f fs cs
-  listed-sound no_trees fs cs e = as-found no_trees no_forms fs [] cs e none-listed
-  listed-sound (tree (leaf (ident text span)) f) fs cs e =
-      let name : Ident = record { text = text; span = span } in
-      let p = chosen (accept_as_ident text) (after_name name f) (reserved_name text) fs cs e in
-      name-sound name f fs cs p.0 p.1
-  listed-sound (tree (leaf (punct c spacing span)) f) fs cs e = absurd (cc)
-  listed-sound (tree (leaf (literal text span)) f) fs cs e = absurd (cc)
-  listed-sound (tree (group d inside span) f) fs cs e = absurd (cc)
-
-  name-sound : (name : Ident) (f : Forest) (fs : Forms) (cs : List Comma) → IsName name
-      → after_name name f ≡ Found fs cs → Lists (tree (leaf (ident_of name)) f) fs cs
-  name-sound name no_trees fs cs a e =
-      as-found _ (one_form (flag name)) fs [] cs e
-      (last-listed (leaf (ident_of name) ∷ []) (flag name) (flag-writes name a))
-  name-sound name (tree (leaf (punct c spacing span)) f) fs cs a e =
-      let ts = leaf (ident_of name) ∷ [] in
-      let one = added (one_form (flag name)) (sign_at span ∷ []) (arguments_in f) in
-      elim (either-way (c == equals_sign) (after_equals name (sign_at span) f)
-      (cond (c == comma) one (Refused no_comma)) fs cs e) [
-        | inl p ↦
-            subst
-            (λ d. Lists (tree (leaf (ident_of name)) (tree (sign d spacing span) f)) fs cs)
-            (sym (eqb-true c equals_sign p.0)) (equals-sound name spacing span f fs cs a p.1)
-        | inr q ↦
-            let p = chosen (c == comma) one no_comma fs cs q in
-            comma-sound ts c spacing span f fs cs p.0
-            (added-sound ts (flag name) spacing span f (arguments_in f) fs cs (flag-writes name a)
-            (listed-sound f) p.1)
-      ]
-  name-sound name (tree (leaf (ident text span)) f) fs cs a e = absurd (cc)
-  name-sound name (tree (leaf (literal text span)) f) fs cs a e = absurd (cc)
-  name-sound name (tree (group delimiter.Parenthesis inside span) f) fs cs a e =
-      let ts = leaf (ident_of name) ∷ group delimiter.Parenthesis inside span ∷ [] in
-      let p =
-      inner-of (λ gs ds. after_argument (with_list name span gs ds) f) (arguments_in inside)
-      fs cs e in
-      argument-sound ts (with_list name span p.forms p.commas) f fs cs
-      (list-writes name inside span p.forms p.commas a
-      (listed-sound inside p.forms p.commas p.inner)) p.outer
-  name-sound name (tree (group delimiter.Brace inside span) f) fs cs a e = absurd (cc)
-  name-sound name (tree (group delimiter.Bracket inside span) f) fs cs a e = absurd (cc)
-  name-sound name (tree (group delimiter.None inside span) f) fs cs a e = absurd (cc)
-
-  equals-sound : (name : Ident) (spacing : Spacing) (span : Span) (f : Forest) (fs : Forms)
-      (cs : List Comma) → IsName name → after_equals name (sign_at span) f ≡ Found fs cs
-      → Lists (tree (leaf (ident_of name)) (tree (sign equals_sign spacing span) f)) fs cs
-  equals-sound name spacing span no_trees fs cs a e = absurd (cc)
-  equals-sound name spacing span (tree (leaf (literal text place)) f) fs cs a e =
-      let value : Literal = record { text = text; span = place } in
-      argument-sound
-      (leaf (ident_of name) ∷ sign equals_sign spacing span ∷ leaf (literal_of value) ∷ [])
-      (assigned name (sign_at span) value) f fs cs (assigned-writes name spacing span value a) e
-  equals-sound name spacing span (tree (leaf (ident text place)) f) fs cs a e = absurd (cc)
-  equals-sound name spacing span (tree (leaf (punct c s place)) f) fs cs a e = absurd (cc)
-  equals-sound name spacing span (tree (group d inside place) f) fs cs a e = absurd (cc)
-
-  argument-sound : (ts : List Tree) (form : Form) (f : Forest) (fs : Forms) (cs : List Comma)
-      → Writes ts form → after_argument form f ≡ Found fs cs
-      → Lists (concat (forest ts) f) fs cs
-  argument-sound ts form no_trees fs cs w e =
-      subst (λ g. Lists g fs cs) (sym (concat-none (forest ts)))
-      (as-found (forest ts) (one_form form) fs [] cs e (last-listed ts form w))
-  argument-sound ts form (tree (leaf (punct c spacing span)) f) fs cs w e =
-      let one = added (one_form form) (sign_at span ∷ []) (arguments_in f) in
-      let p = chosen (c == comma) one no_comma fs cs e in
-      comma-sound ts c spacing span f fs cs p.0
-      (added-sound ts form spacing span f (arguments_in f) fs cs w (listed-sound f) p.1)
-  argument-sound ts form (tree (leaf (ident text span)) f) fs cs w e = absurd (cc)
-  argument-sound ts form (tree (leaf (literal text span)) f) fs cs w e = absurd (cc)
-  argument-sound ts form (tree (group d inside span) f) fs cs w e = absurd (cc)
-
-none-found : (f : Forest) (words : List ℕ) → arguments_in f ≡ Refused words → AreNoArguments f
-none-found f words e arguments l =
-    let h = written f arguments l in
-    let wrong : Found h.forms (separators_of arguments) ≡ Refused words = sym h.is ∙ e in
-    cc
-
--- an outcome is what the grammar says
-pub parses : (f : Forest) (r : Result Arguments Fault) → IsOutcome (arguments_in f) r
-    → Parses f r
-parses f (Ok arguments) h =
-    listed-sound f h.forms (separators_of arguments) h.is (values_of arguments) h.seen
-parses f (Err fault) h = go (arguments_in f) refl h where
-  go : (o : Outcome) → arguments_in f ≡ o → IsOutcome o (Err fault) → Parses f (Err fault)
-  go (Found fs cs) e k = inl k
-  go (Refused words) e k = inr (none-found f words e)
+-- arguments are taken to the end, and are what the grammar has
+pub sound : (f : Forest) (x : ListForm) (left : Ahead)
+    → take_arguments (record { trees = f; clean = true }) ≡ found x left
+    → (left ≡ all_taken) × AreListed f x.0 x.1
+sound f x left e = sound_below (suc (weight f)) f x left (omega arith) e

@@ -1,89 +1,116 @@
--- What the grammar has as arguments comes of reading tree by tree.
-use Rattle.std.proofs.Common.{◌≡◌, ◌∙◌, ap, refl, Bool, true, cond, List, [], ◌∷◌}
-use Rattle.tok_leaves.specs.Leaves.{punct}
-use Rattle.tok_core.specs.Forest.{Tree, leaf, Forest, no_trees, tree, forest, concat}
-use Rattle.tok_leaves.specs.Spans.{whole_span}
+-- What the grammar has as arguments is taken as arguments.
+use Rattle.std.proofs.Common.{◌≡◌, ◌∙◌, ap, subst, refl, Bool, true, List, []}
+use Rattle.std.proofs.Common.{◌∷◌}
+use Rattle.tok_lexical.specs.declared.delimiter.Delimiter.TheVariants.{Parenthesis}
+use Rattle.tok_leaves.specs.declared.ident.Ident.{Ident}
+use Rattle.tok_leaves.specs.declared.literal.Literal.{Literal}
 use Rattle.tok_leaves.specs.declared.punct.Spacing.{Spacing}
 use Rattle.tok_leaves.specs.declared.span.Span.{Span}
-use Rattle.syn_punctuated.specs.Lists.{separators_of}
-use Rattle.arguments.specs.Private.Forms.{Form, flag, assigned, with_list, Forms, no_forms, next_form}
-use Rattle.arguments.specs.Private.Forms.{one_form, IsForm, AreForms, of_flag, of_assigned, of_list}
-use Rattle.arguments.specs.Private.Forms.{are_none, are_next}
-use Rattle.arguments.specs.Grammar.{comma, IsArgument, is_flag, is_assigned, is_list}
-use Rattle.arguments.specs.Grammar.{AreListed, nothing, last, and_more, AreArguments}
-use Rattle.arguments.specs.Private.Outcomes.{Outcome, Found, added, and_then, arguments_in, after_argument}
-use Rattle.arguments.specs.Private.Reading.{Gives}
-use Rattle.arguments.specs.Values.{Comma, Arguments, sign_at}
-use Rattle.arguments.specs.declared.argument.Argument.{Argument}
+use Rattle.tok_leaves.specs.Leaves.{ident_of, literal_of}
+use Rattle.tok_core.specs.Forest.{Tree, leaf, group, Forest, no_trees, tree, forest}
+use Rattle.tok_types.specs.Sees.{group_first, punctuation_first}
+use Rattle.syn_parse.proofs.Shapes.{before, ident_shape, literal_shape, sign_shape, takes_group}
+use Rattle.syn_parse.specs.Lighter.{lowers_punctuation}
+use Rattle.syn_parse.specs.Takes.{and_then, found}
+use Rattle.syn_parse.specs.Tokens.{take_literal}
+use Rattle.syn_parse.specs.TokenNames.{take_comma}
+use Rattle.syn_parse.specs.TreesAhead.{Ahead, all_taken}
+use Rattle.syn_punctuated.proofs.ListShapes.{Turns, bare, done, takes_list, turn}
+use Rattle.syn_punctuated.specs.TakeLists.{is_left}
+use Rattle.arguments.proofs.Sound.{lightens_argument, none_after}
+use Rattle.arguments.specs.Forms.{Form, ListForm, assigned, flag, forms, with_list}
+use Rattle.arguments.specs.Grammar.{AreListed, IsArgument, and_more, comma, equals_sign}
+use Rattle.arguments.specs.Grammar.{is_assigned, is_flag}
+use Rattle.arguments.specs.Grammar.{is_list, last, nothing, sign}
+use Rattle.arguments.specs.Reading.{argument_again, take_argument, take_arguments, take_value}
+use Rattle.arguments.specs.Values.{Comma, IsName, sign_at}
 
--- what is written reads as itself: at the end, and before a comma
-record ReadsAs (ts : List Tree) (argument : Argument) : Type 0 where
-  form : Form
-  seen : IsForm form argument
-  last_one : arguments_in (forest ts) ≡ Found (one_form form) []
-  before : (spacing : Spacing) (span : Span) (rest : Forest)
-      → arguments_in (concat (forest ts) (tree (leaf (punct comma spacing span)) rest))
-      ≡ added (one_form form) (sign_at span ∷ []) (arguments_in rest)
+abbrev AreTurns : Ahead → List Form → List Comma → Ahead → Type 0
+AreTurns = Turns is_left is_left take_argument take_comma
 
-record Lists (ts : Forest) (values : List Argument) (commas : List Comma) : Type 0 where
-  forms : Forms
-  seen : AreForms forms values
-  is : arguments_in ts ≡ Found forms commas
+-- nothing is left after an argument, or a comma is next
+data Ends : Ahead → Type 0 where
+  at_end : (c : Bool) → Ends (record { trees = no_trees; clean = c })
+  at_comma : (spacing : Spacing) (span : Span) (f : Forest) (c : Bool)
+      → Ends (record { trees = tree (sign comma spacing span) f; clean = c })
 
-accepted : (b : Bool) (o p : Outcome) → b ≡ true → cond b o p ≡ o
-accepted b o p e = ap (λ x. cond x o p) e
+flag_alone : (name : Ident) (b : Ahead) → Ends b → take_value take_arguments name b
+    ≡ found (flag name) b
+unfolding punctuation_first group_first
+flag_alone name _ (at_end c) = refl
+flag_alone name _ (at_comma spacing span f c) = refl
+
+named : (name : Ident) (b : Ahead) → IsName name
+    → take_argument (before (leaf (ident_of name) ∷ []) b) ≡ take_value take_arguments name b
+named name b accepted =
+    argument_again (before (leaf (ident_of name) ∷ []) b)
+    ∙ ap (λ o. and_then o (take_value take_arguments)) (ident_shape.takes b name _ (refl, accepted))
+
+value_assigned : (name : Ident) (spacing : Spacing) (span : Span) (text : Literal) (b : Ahead)
+    → take_value take_arguments name
+    (before (sign equals_sign spacing span ∷ leaf (literal_of text) ∷ []) b)
+    ≡ found (assigned name (sign_at span) text) b
+unfolding punctuation_first
+value_assigned name spacing span text b =
+    ap (λ o. and_then o (λ e d. and_then (take_literal d) (λ t. found (assigned name e t))))
+    ((sign_shape 13 equals_sign refl refl).takes (before (leaf (literal_of text) ∷ []) b)
+    (sign_at span) _
+    (spacing, span, refl, refl))
+    ∙ ap (λ o. and_then o (λ t. found (assigned name (sign_at span) t)))
+    (literal_shape.takes b text _ refl)
+
+value_list : (name : Ident) (inside : Forest) (span : Span) (x : ListForm) (b : Ahead)
+    → take_arguments (record { trees = inside; clean = true }) ≡ found x all_taken
+    → take_value take_arguments name (before (group Parenthesis inside span ∷ []) b)
+    ≡ found (with_list name span (forms x.0) x.1) b
+unfolding punctuation_first group_first
+value_list name inside span x b h =
+    ap (λ o. and_then o (λ y. found (with_list name y.0.join (forms y.1.0) y.1.1)))
+    (takes_group Parenthesis take_arguments inside span x b h)
+
+starts : (ts : List Tree) (f : Form) → IsArgument ts f → (b : Ahead) → is_left (before ts b) ≡ true
+starts _ _ (is_flag name accepted) b = refl
+starts _ _ (is_assigned name spacing span text accepted) b = refl
+starts _ _ (is_list name inside span inner commas accepted l) b = refl
+
+by_turns : (f : Forest) (vs : List Form) (ps : List Comma)
+    → AreTurns (record { trees = f; clean = true }) vs ps all_taken
+    → take_arguments (record { trees = f; clean = true }) ≡ found (vs, ps) all_taken
+by_turns f vs ps t =
+    takes_list is_left is_left take_argument take_comma lightens_argument (lowers_punctuation 7 1) _
+    _ vs
+    ps t
 
 mutual
-  argument-reads : (ts : List Tree) (argument : Argument) → IsArgument ts argument
-      → ReadsAs ts argument
-  argument-reads _ _ (is_flag name a) = record {
-    form = flag name;
-    seen = of_flag name;
-    last_one = accepted _ _ _ a;
-    before = λ spacing span rest. accepted _ _ _ a;
-  }
-  argument-reads _ _ (is_assigned name spacing span text a) = record {
-    form = assigned name (sign_at span) text;
-    seen = of_assigned name (sign_at span) text;
-    last_one = accepted _ _ _ a;
-    before = λ joint place rest. accepted _ _ _ a;
-  }
-  argument-reads _ _ (is_list name inside paren inner a l) =
-      let span = whole_span paren.span in
-      let h = list-reads inside _ (separators_of inner) l in
-      record {
-        form = with_list name span h.forms (separators_of inner);
-        seen = of_list name span h.forms (separators_of inner) paren inner refl refl h.seen;
-        last_one =
-            accepted _ _ _ a
-            ∙ ap (and_then (λ fs cs. after_argument (with_list name span fs cs) no_trees)) h.is;
-        before = λ spacing place rest.
-            let more = tree (leaf (punct comma spacing place)) rest in
-            accepted _ _ _ a
-            ∙ ap (and_then (λ fs cs. after_argument (with_list name span fs cs) more)) h.is;
-      }
+  argument_takes : (ts : List Tree) (f : Form) → IsArgument ts f → (b : Ahead) → Ends b
+      → take_argument (before ts b) ≡ found f b
+  argument_takes _ _ (is_flag name accepted) b e = named name b accepted ∙ flag_alone name b e
+  argument_takes _ _ (is_assigned name spacing span text accepted) b e =
+      named name (before (sign equals_sign spacing span ∷ leaf (literal_of text) ∷ []) b) accepted
+      ∙ value_assigned name spacing span text b
+  argument_takes _ _ (is_list name inside span inner commas accepted l) b e =
+      named name (before (group Parenthesis inside span ∷ []) b) accepted
+      ∙ value_list name inside span (inner, commas) b
+      (by_turns inside inner commas (list_takes inside inner commas l))
 
-  list-reads : (ts : Forest) (values : List Argument) (commas : List Comma)
-      → AreListed ts values commas → Lists ts values commas
-  list-reads _ _ _ nothing = record { forms = no_forms; seen = are_none; is = refl }
-  list-reads _ _ _ (last ts argument a) =
-      let h = argument-reads ts argument a in
-      record {
-        forms = one_form h.form;
-        seen = are_next h.form argument no_forms [] h.seen are_none;
-        is = h.last_one;
-      }
-  list-reads _ _ _ (and_more ts argument spacing span rest others commas a l) =
-      let h = argument-reads ts argument a in
-      let k = list-reads rest others commas l in
-      record {
-        forms = next_form h.form k.forms;
-        seen = are_next h.form argument k.forms others h.seen k.seen;
-        is = h.before spacing span rest ∙ ap (added (one_form h.form) (sign_at span ∷ [])) k.is;
-      }
+  list_takes : (f : Forest) (vs : List Form) (ps : List Comma) → AreListed f vs ps
+      → AreTurns (record { trees = f; clean = true }) vs ps all_taken
+  list_takes _ _ _ nothing = done all_taken refl
+  list_takes _ _ _ (last ts argument a) =
+      subst (λ f. AreTurns (record { trees = f; clean = true }) (argument ∷ []) [] all_taken)
+      (none_after (forest ts))
+      (bare (before ts all_taken) all_taken argument (starts ts argument a all_taken)
+      (argument_takes ts argument a all_taken (at_end true)) refl)
+  list_takes _ _ _ (and_more ts argument spacing span rest others commas a l) =
+      let b : Ahead = record { trees = tree (sign comma spacing span) rest; clean = true } in
+      let c : Ahead = record { trees = rest; clean = true } in
+      turn (before ts b) b c all_taken argument (sign_at span) others commas
+      (starts ts argument a b)
+      (argument_takes ts argument a b (at_comma spacing span rest true)) refl
+      ((sign_shape 7 comma refl refl).takes c (sign_at span) _ (spacing, span, refl, refl))
+      (list_takes rest others commas l)
 
-pub written : (ts : Forest) (arguments : Arguments) → AreArguments ts arguments
-    → Gives (arguments_in ts) arguments
-written ts arguments l =
-    let h = list-reads ts _ (separators_of arguments) l in
-    record { forms = h.forms; seen = h.seen; is = h.is }
+-- the arguments that the grammar has are taken, to the end
+pub written : (f : Forest) (x : ListForm) → AreListed f x.0 x.1
+    → take_arguments (record { trees = f; clean = true }) ≡ found x all_taken
+written f x l = by_turns f x.0 x.1 (list_takes f x.0 x.1 l)

@@ -1,8 +1,9 @@
-pub mod Values
+pub mod Forms
 pub mod Grammar
-pub mod Same
+pub mod Reading
 pub mod Results
-pub mod Private
+pub mod Same
+pub mod Values
 pub use Rattle.tok_core.specs.Erase
 pub use Rattle.tok_core.specs.Filled
 pub use Rattle.tok_core.specs.Forest

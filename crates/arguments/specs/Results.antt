@@ -7,6 +7,7 @@ use Rattle.syn_parse.specs.Faults.{IsMemory}
 use Rattle.syn_parse.specs.declared.fault.Fault.{Fault}
 use Rattle.syn_parse.specs.declared.fault.Fault.TheVariants as fault
 use Rattle.arguments.specs.Grammar.{AreArguments, AreNoArguments}
+use Rattle.arguments.specs.Reading.{IsMissing}
 use Rattle.arguments.specs.Same.{SameArguments}
 use Rattle.arguments.specs.Values.{Arguments}
 
@@ -14,6 +15,11 @@ use Rattle.arguments.specs.Values.{Arguments}
 abbrev pub Parses : Forest → Result Arguments Fault → Type 0
 Parses trees (Ok arguments) = AreArguments trees arguments
 Parses trees (Err f) = IsMemory f ⊎ AreNoArguments trees
+
+-- a refusal has the words that reading in order finds missing
+abbrev pub SaysWhy : Forest → Result Arguments Fault → Type 0
+SaysWhy trees (Err (fault.Refused error)) = IsMissing trees (first_text error)
+SaysWhy trees result = Unit {0}
 
 -- the arguments that these trees are, or a refusal where they are none
 abbrev pub ParsesTo : Forest → Result Arguments (List Message) → Type 0

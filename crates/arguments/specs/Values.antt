@@ -1,14 +1,11 @@
--- What contracts see of arguments.
+-- The tokens of arguments.
 use Rattle.std.specs.Prelude.{◌≡◌, ℕ, true, [], ◌∷◌}
 use Rattle.tok_leaves.specs.declared.ident.Ident.{Ident}
-use Rattle.tok_leaves.specs.declared.literal.Literal.{Literal}
 use Rattle.tok_leaves.specs.declared.span.Span.{Span}
 use Rattle.tok_types.specs.Texts.{accept_as_ident}
-use Rattle.tok_types.specs.declared.delimiter.Visible.{Visible}
 use Rattle.tok_types.specs.declared.punctuation.Punctuation.{Punctuation}
 use Rattle.syn_punctuated.specs.declared.punctuated.Punctuated.{Punctuated}
 use Rattle.arguments.specs.declared.argument.Argument.{Argument}
-use Rattle.arguments.specs.declared.argument.Value.TheVariants as made
 
 -- the tokens `=` and `,`, by their numbers in the table of punctuations
 abbrev pub Equals : Type 0
@@ -16,10 +13,6 @@ Equals = Punctuation 13 1
 
 abbrev pub Comma : Type 0
 Comma = Punctuation 7 1
-
--- the token `( )`, by its number among the visible delimiters
-abbrev pub Paren : Type 0
-Paren = Visible 0
 
 -- arguments and the commas between them
 abbrev pub Arguments : Type 0
@@ -32,15 +25,3 @@ sign_at span = record { spans = span ∷ [] }
 -- a name is an identifier that is no reserved word
 abbrev pub IsName : Ident → Type 0
 IsName name = accept_as_ident name.text ≡ true
-
--- a name alone
-abbrev pub flag : Ident → Argument
-flag name = record { name = name; value = made.Flag }
-
--- a name, `=` and a literal
-abbrev pub assigned : Ident → Equals → Literal → Argument
-assigned name equals text = record { name = name; value = made.Literal equals text }
-
--- a name, and arguments in parentheses
-abbrev pub with_list : Ident → Paren → Arguments → Argument
-with_list name paren inner = record { name = name; value = made.List paren inner }

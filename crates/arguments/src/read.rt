@@ -1,21 +1,19 @@
 //! The parser of arguments.
-ghost use Rattle.std.specs.Prelude.{◌≡◌, ◌<◌, ◌≤◌, true, IfOk};
+ghost use Rattle.std.specs.Prelude.{◌≡◌, true, IfOk};
 ghost use Rattle.tok_core.specs.Erase.{erase};
 ghost use Rattle.tok_core.specs.Filled.{filled};
-ghost use Rattle.tok_core.specs.Weight.{weight};
 ghost use Rattle.tok_leaves.specs.declared.ident.Ident.{Ident};
-ghost use Rattle.tok_buffer.specs.View.{erased_ahead};
-ghost use Rattle.arguments.specs.Private.Outcomes.{arguments_in};
-ghost use Rattle.arguments.specs.Private.Reading.{AheadDecides, IsOutcome, ReadsArgument, ReadsArguments, ReadsValue};
-ghost use Rattle.arguments.specs.Results.{Agree, Parses, ParsesTo, with_fault};
+ghost use Rattle.syn_parse.specs.Takings.{Keeps, KeepsWhole};
+ghost use Rattle.arguments.specs.Reading.{argument, arguments, value_after};
+ghost use Rattle.arguments.specs.Results.{Agree, Parses, ParsesTo, SaysWhy, with_fault};
 
 use crate::argument::{Argument, Arguments, Value};
 use std::alloc::{AllocError, Global};
+use syn_parse::laws::parses_go_on;
 use syn_parse::{Fault, Parens, ParseStream, Parser, Result, parse_parens};
 use syn_punctuated::Punctuated;
 use tok_buffer::Error;
-use tok_buffer::laws::{ahead_tells, calls_lead_on};
-use tok_core::{Ident, Literal, TokenStream};
+use tok_core::TokenStream;
 use tok_types::token;
 
 /// Parses all of these tokens as arguments. If they are none, returns the error of the first parser
@@ -29,7 +27,8 @@ use tok_types::token;
 /// assert_eq!(rt; list.len(), 3);
 /// ```
 pub fn parse_arguments(alloc: Global, tokens: TokenStream) -> Result<Arguments>
-    ensures { filled tokens ≡ true → Parses (erase tokens) result }
+    ensures parses { filled tokens ≡ true → Parses (erase tokens) result }
+    ensures says { filled tokens ≡ true → SaysWhy (erase tokens) result }
 {
     parse_whole(alloc, tokens)
 }
@@ -73,67 +72,47 @@ fn without_memory(
     }
 }
 
-// Parses all of these tokens, and rejects them with the words that the trees decide.
+// Parses all of these tokens as what the reader takes.
 fn parse_whole(alloc: Global, tokens: TokenStream) -> Result<Arguments>
-    ensures { filled tokens ≡ true → IsOutcome (arguments_in (erase tokens)) result }
+    ensures { KeepsWhole arguments tokens result }
 {
-    trees_ahead_decide();
     read_arguments.parse2(alloc, tokens)
-}
-
-// States the laws that this module is proved by.
-fn trees_ahead_decide()
-    ensures { AheadDecides }
-{
-    ahead_tells();
-    calls_lead_on();
 }
 
 // Parses the arguments up to the end.
 #[cycle(reading)]
 fn read_arguments(input: ParseStream<'_, '_>) -> Result<Arguments>
-    ensures { ReadsArguments input.old result input.new }
+    ensures { Keeps arguments input.old result input.new }
 {
-    trees_ahead_decide();
-    let mut list = Punctuated::new(input.allocator());
-    loop {
-        if input.is_empty() {
-            return Ok(list);
-        }
-        let argument = read_argument(input)?;
-        list.push_value(argument)?;
-        if input.is_empty() {
-            return Ok(list);
-        }
-        let comma = input.parse::<token::Comma>()?;
-        list.push_punct(comma)?;
-    }
+    parses_go_on();
+    Punctuated::parse_terminated_with(
+        input,
+        |input|
+            ensures { Keeps argument input.old result input.new }
+        { read_argument(input) },
+    )
 }
 
 // Parses the next argument.
 #[cycle(reading)]
+#[tactic(auto, using(crate::proofs::Formed::all))]
 fn read_argument(input: ParseStream<'_, '_>) -> Result<Argument>
-    ensures reads { ReadsArgument input.old result input.new }
-    ensures lighter { IfOk result
-        (λ _. weight (erased_ahead input.new.place) < weight (erased_ahead input.old.place)) }
+    ensures { Keeps argument input.old result input.new }
 {
-    trees_ahead_decide();
-    let name = input.parse::<Ident>()?;
+    let name = input.parse()?;
     let value = read_value(input)?;
     Ok(Argument { name, value })
 }
 
 // Parses the value after a name.
 #[cycle(reading)]
+#[tactic(auto, using(crate::proofs::Formed::all), unfolding(syn_parse::specs::Takes::take_group))]
 fn read_value(input: ParseStream<'_, '_>) -> Result<Value>
-    ensures reads { (name : Ident) → ReadsValue name input.old result input.new }
-    ensures no_heavier { IfOk result
-        (λ _. weight (erased_ahead input.new.place) ≤ weight (erased_ahead input.old.place)) }
+    ensures { (name : Ident) → Keeps (value_after name) input.old result input.new }
 {
-    trees_ahead_decide();
     if input.peek::<token::Eq>() {
-        let equals = input.parse::<token::Eq>()?;
-        let literal = input.parse::<Literal>()?;
+        let equals = input.parse()?;
+        let literal = input.parse()?;
         return Ok(Value::Literal(equals, literal));
     }
     if input.peek::<token::Paren>() {

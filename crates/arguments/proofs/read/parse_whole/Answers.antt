@@ -1,8 +1,11 @@
 use Rattle.std.specs.Fn.{FnOnceReturnsAtMut}
-use Rattle.arguments.proofs.Whole.{at-states, whole}
+use Rattle.syn_parse.proofs.GroupTakes.{at-states}
+use Rattle.syn_parse.proofs.WholeTakes.{parser_keeps}
+use Rattle.syn_parse.specs.Takings.{Keeps}
+use Rattle.arguments.specs.Reading.{arguments}
 use Rattle.arguments.proofs.read.parse_whole.Goals as goal
 
 pub returns : goal.returns
 returns c =
-    whole c.trees_ahead_decide.ensures c.args.tokens (FnOnceReturnsAtMut _ _)
-    (λ from r to h. at-states _ _ from to r h.shows h.leaves h.met) _ c.parse2.ensures
+    parser_keeps arguments c.args.tokens (FnOnceReturnsAtMut _ _)
+    (λ s t r h. at-states (Keeps arguments) _ _ s t r h.shows h.leaves h.met) _ c.parse2.ensures

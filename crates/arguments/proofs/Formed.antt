@@ -1,0 +1,50 @@
+-- The forms of arguments, level by level.
+use Rattle.std.proofs.Common.{◌≡◌, ◌∙◌, sym, ap, Some, None, [], ◌∷◌}
+use Rattle.tok_leaves.specs.Spans.{whole_span}
+use Rattle.tok_leaves.specs.declared.ident.Ident.{Ident}
+use Rattle.tok_leaves.specs.declared.literal.Literal.{Literal}
+use Rattle.tok_types.specs.declared.delimiter.Visible.{Visible}
+use Rattle.syn_punctuated.proofs.Mapped.{by_last, list_mapped, of_parts}
+use Rattle.arguments.specs.Forms.{Form, argument_form, argument_level, assigned, flag, list_form}
+use Rattle.arguments.specs.Forms.{listed, value_form, value_level}
+use Rattle.arguments.specs.Reading.{argument_again}
+use Rattle.arguments.specs.Values.{Arguments, Equals}
+use Rattle.arguments.specs.declared.argument.Argument.{Argument}
+use Rattle.arguments.specs.declared.argument.Value.{Value}
+use Rattle.arguments.specs.declared.argument.Value.TheFolds.{fold-roll-Argument, fold-roll-Value}
+use Rattle.arguments.specs.declared.argument.Value.TheFolds.{map-Value}
+use Rattle.arguments.specs.declared.argument.Value.TheOpen.{Value-F}
+use Rattle.arguments.specs.declared.argument.Value.TheVariants as made
+use Rattle.arguments.specs.declared.argument.Value.TheViews.{roll-Value}
+
+level : (name : Ident) (layer : Value-F Value Argument) → value_form (roll-Value layer) name
+    ≡ value_level (map-Value Value Argument (Ident → Form) Form value_form argument_form layer) name
+level name layer = ap (λ f. f name) (fold-roll-Value _ _ value_level argument_level layer)
+
+pub form_flag : (name : Ident) → value_form made.Flag name ≡ flag name
+form_flag name = ap (λ v. value_form v name) (sym made.rolls-Flag) ∙ level name Value-F.Flag
+
+pub form_assigned : (name : Ident) (equals : Equals) (text : Literal)
+    → value_form (made.Literal equals text) name ≡ assigned name equals text
+form_assigned name equals text =
+    ap (λ v. value_form v name) (sym (made.rolls-Literal equals text))
+    ∙ level name (Value-F.Literal equals text)
+
+pub form_argument : (name : Ident) (value : Value)
+    → argument_form (record { name = name; value = value }) ≡ value_form value name
+form_argument name value =
+    fold-roll-Argument _ _ value_level argument_level (record { name = name; value = value })
+
+pub form_list : (name : Ident) (paren : Visible 0) (list : Arguments)
+    → value_form (made.List paren list) name ≡ listed name (whole_span paren.span) (list_form list)
+form_list name paren =
+    by_last (λ list. value_form (made.List paren list) name
+    ≡ listed name (whole_span paren.span) (list_form list))
+    (λ inner. ap (λ v. value_form v name) (sym (made.rolls-List paren (of_parts inner None)))
+    ∙ level name (Value-F.List paren (of_parts inner None))
+    ∙ ap (listed name (whole_span paren.span)) (list_mapped argument_form inner.items []))
+    (λ inner b. ap (λ v. value_form v name) (sym (made.rolls-List paren (of_parts inner (Some b))))
+    ∙ level name (Value-F.List paren (of_parts inner (Some b)))
+    ∙ ap (listed name (whole_span paren.span)) (list_mapped argument_form inner.items (b.value ∷ [])))
+
+pub ruleset all = (argument_again, form_flag, form_assigned, form_argument, form_list)

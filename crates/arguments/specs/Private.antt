@@ -1,4 +1,0 @@
--- Definitions that only contracts of private items cite.
-pub mod Forms
-pub mod Outcomes
-pub mod Reading
