@@ -8,3 +8,4 @@ pub mod Outcomes
 pub mod Parts
 pub mod SameViews
 pub mod Text
+pub mod Values

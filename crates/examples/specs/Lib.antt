@@ -4,8 +4,11 @@ pub mod Lists
 pub mod Looks
 pub mod Loops
 pub mod Nested
+pub mod Records
+pub mod Routes
 pub mod Settings
 pub mod Streams
 pub mod Text
 pub mod Trees
+pub mod Values
 pub mod Views

@@ -1,7 +1,10 @@
-//! The parsers of `examples::entry` and `examples::setting`.
+//! The parsers of `examples::entry`, `setting`, `records`, `route` and `value`.
 use crate::said::all_said;
-use examples::entry::{Call, Entry, Pair, parse_entry, parse_entry_both, parse_entry_text};
-use examples::setting::{Field, Flag, read_setting};
+use examples::entry::{Call, Entry, Mark, Pair, parse_entry, parse_entry_both, parse_entry_text};
+use examples::records::Record;
+use examples::route::Route;
+use examples::setting::{Field, Flag, read_label, read_setting, try_field};
+use examples::value::Value;
 use std::alloc::{AllocGlobal, Global};
 use std::process::Abort;
 use syn_parse::{ParseStream, Parser, Result};
@@ -18,10 +21,21 @@ fn whole_call(input: ParseStream<'_, '_>) -> Result<String> {
     Ok(format!(in input.allocator(); "{} {}", call.name.as_str(), call.value.as_str())?)
 }
 
+fn whole_mark(input: ParseStream<'_, '_>) -> Result<String> {
+    let mark: Mark = input.parse()?;
+    Ok(format!(in input.allocator(); "{} {}", mark.name.as_str(), mark.value.as_str())?)
+}
+
 // The parsers of this module.
 enum Read {
     WholePair,
     WholeCall,
+    WholeMark,
+    WholeLabel,
+    WholeTried,
+    WholeRecord,
+    WholeRoute,
+    WholeValue,
     WholeSetting,
     WholeFlag,
     WholeField,
@@ -32,6 +46,12 @@ impl Sample for Read {
         match self {
             Read::WholePair => whole_pair.parse_str(alloc, text),
             Read::WholeCall => whole_call.parse_str(alloc, text),
+            Read::WholeMark => whole_mark.parse_str(alloc, text),
+            Read::WholeLabel => whole_label.parse_str(alloc, text),
+            Read::WholeTried => whole_tried.parse_str(alloc, text),
+            Read::WholeRecord => whole_record.parse_str(alloc, text),
+            Read::WholeRoute => whole_route.parse_str(alloc, text),
+            Read::WholeValue => whole_value.parse_str(alloc, text),
             Read::WholeSetting => whole_setting.parse_str(alloc, text),
             Read::WholeFlag => whole_flag.parse_str(alloc, text),
             Read::WholeField => whole_field.parse_str(alloc, text),
@@ -62,6 +82,124 @@ fn reads_pairs_and_calls(rt: HostRuntime) {
                 "f()",
                 "2..3 unexpected end of input, expected literal token",
             ),
+        ],
+    );
+}
+
+#[test]
+fn reads_marks(rt: HostRuntime) {
+    all_said(
+        &rt,
+        &Read::WholeMark,
+        &[
+            ("a [1]", "a 1"),
+            ("a (1)", "2..3 expected square brackets"),
+            ("a [1 2]", "5..6 unexpected token, expected `]`"),
+        ],
+    );
+}
+
+// Returns a label or nothing, and then a field tried on a fork.
+fn whole_label(input: ParseStream<'_, '_>) -> Result<String> {
+    match read_label(input)? {
+        Some(name) => Ok(format!(in input.allocator(); "{}", name.as_str())?),
+        None => Ok(format!(in input.allocator(); "none")?),
+    }
+}
+
+fn whole_tried(input: ParseStream<'_, '_>) -> Result<String> {
+    let field = try_field(input)?;
+    Ok(format!(in input.allocator(); "{} {}", field.name.as_str(), field.kind.as_str())?)
+}
+
+#[test]
+fn reads_labels_and_tries_fields(rt: HostRuntime) {
+    all_said(
+        &rt,
+        &Read::WholeLabel,
+        &[
+            ("a:", "a"),
+            ("", "none"),
+            ("a b", "0..1 unexpected token"),
+            ("1:", "0..1 expected identifier"),
+        ],
+    );
+    all_said(
+        &rt,
+        &Read::WholeTried,
+        &[("a: B", "a B"), ("a B", "2..3 expected `:`")],
+    );
+}
+
+// Returns the name of a record, and how many fields it has.
+fn whole_record(input: ParseStream<'_, '_>) -> Result<String> {
+    let record: Record = input.parse()?;
+    let count = record.fields.list.len();
+    Ok(format!(in input.allocator(); "{} {count}", record.name.as_str())?)
+}
+
+// Returns the parts of a route, and how many names its path and its arguments have.
+fn whole_route(input: ParseStream<'_, '_>) -> Result<String> {
+    let route: Route = input.parse()?;
+    let method = route.method.as_str();
+    let pattern = route.pattern.as_str();
+    let names = route.target.path.names.len();
+    let arguments = route.target.arguments.list.len();
+    Ok(format!(in input.allocator(); "{method} {pattern} {names} {arguments}")?)
+}
+
+#[test]
+fn reads_records_and_routes(rt: HostRuntime) {
+    all_said(
+        &rt,
+        &Read::WholeRecord,
+        &[
+            ("struct A {}", "A 0"),
+            ("struct A { b: C, d: E }", "A 2"),
+            ("struct A { b: C, }", "A 1"),
+            ("struct A { b: C d: E }", "16..17 expected `,`"),
+            ("struct A { b C }", "13..14 expected `:`"),
+        ],
+    );
+    all_said(
+        &rt,
+        &Read::WholeRoute,
+        &[
+            ("get \"/a\" -> a::b (c, d);", "get \"/a\" 2 2"),
+            ("get \"/a\" -> a ();", "get \"/a\" 1 0"),
+            ("get \"/a\" a ();", "9..10 expected `->`"),
+            ("get \"/a\" -> a (1);", "15..16 expected identifier"),
+        ],
+    );
+}
+
+// Returns a name or a literal, or how many values are in the brackets, and the last of them.
+fn whole_value(input: ParseStream<'_, '_>) -> Result<String> {
+    let value: Value = input.parse()?;
+    match value {
+        Value::Name(name) => Ok(format!(in input.allocator(); "{}", name.as_str())?),
+        Value::Text(text) => Ok(format!(in input.allocator(); "{}", text.as_str())?),
+        Value::List(_, values) => {
+            let count = values.len();
+            Ok(format!(in input.allocator(); "{count}")?)
+        }
+    }
+}
+
+#[test]
+fn reads_values(rt: HostRuntime) {
+    all_said(
+        &rt,
+        &Read::WholeValue,
+        &[
+            ("a", "a"),
+            ("1", "1"),
+            ("[]", "0"),
+            ("[a, [1, b], []]", "3"),
+            ("[a, [1 b]]", "7..8 expected `,`"),
+            ("[a] b", "4..5 unexpected token"),
+            ("", "call unexpected end of input, expected literal token"),
+            ("[fn]", "1..3 expected literal token"),
         ],
     );
 }

@@ -1,0 +1,33 @@
+-- The forms of values, level by level.
+use Rattle.std.proofs.Common.{◌≡◌, ◌∙◌, sym, ap, [], ◌∷◌, Some, None}
+use Rattle.tok_leaves.specs.declared.ident.Ident.{Ident}
+use Rattle.tok_leaves.specs.declared.literal.Literal.{Literal}
+use Rattle.tok_leaves.specs.Spans.{whole_span}
+use Rattle.tok_types.specs.declared.delimiter.Visible.{Visible}
+use Rattle.tok_types.specs.declared.punctuation.Punctuation.{Punctuation}
+use Rattle.syn_punctuated.proofs.Mapped.{by_last, list_mapped, of_parts}
+use Rattle.syn_punctuated.specs.TakeLists.{list_form}
+use Rattle.syn_punctuated.specs.declared.punctuated.Punctuated.{Punctuated}
+use Rattle.examples.specs.Values.{Form, listed, name, one_level, text, value_again, value_form}
+use Rattle.examples.specs.declared.value.Value.{Value}
+use Rattle.examples.specs.declared.value.Value.TheFolds.{fold-roll-Value}
+use Rattle.examples.specs.declared.value.Value.TheVariants as made
+
+pub form_name : (ident : Ident) → value_form (made.Name ident) ≡ name ident
+form_name ident = ap value_form (sym (made.rolls-Name ident)) ∙ fold-roll-Value Form one_level _
+
+pub form_text : (literal : Literal) → value_form (made.Text literal) ≡ text literal
+form_text literal = ap value_form (sym (made.rolls-Text literal)) ∙ fold-roll-Value Form one_level _
+
+pub form_list : (bracket : Visible 2) (values : Punctuated Value (Punctuation 7 1))
+    → value_form (made.List bracket values)
+    ≡ listed (whole_span bracket.span) (list_form value_form (λ sign. sign) values)
+form_list bracket =
+    by_last (λ values. value_form (made.List bracket values)
+    ≡ listed (whole_span bracket.span) (list_form value_form (λ sign. sign) values))
+    (λ inner. ap value_form (sym (made.rolls-List bracket (of_parts inner None))) ∙ fold-roll-Value Form one_level _
+    ∙ ap (listed (whole_span bracket.span)) (list_mapped value_form inner.items []))
+    (λ inner b. ap value_form (sym (made.rolls-List bracket (of_parts inner (Some b)))) ∙ fold-roll-Value Form one_level _
+    ∙ ap (listed (whole_span bracket.span)) (list_mapped value_form inner.items (b.value ∷ [])))
+
+pub ruleset all = (value_again, form_name, form_text, form_list)
