@@ -293,7 +293,7 @@ or_both true b h = cc
 or_both false b h = (refl, h)
 
 -- a content of what is discarded is inside it
-content_inside : (st : State) (fork k p : ℕ) (s : Stream) → stream_at st k ≡ Some s → s.kind ≡ content_of p → p < k → is_inside st fork k ≡ ((fork == p) || is_inside st fork p)
+pub content_inside : (st : State) (fork k p : ℕ) (s : Stream) → stream_at st k ≡ Some s → s.kind ≡ content_of p → p < k → is_inside st fork k ≡ ((fork == p) || is_inside st fork p)
 content_inside st fork k p s e f l =
     let plain : 0 + k ≡ k = omega arith in
     ap (contains (inside_of (fork ∷ []) 0 st)) (sym plain)
@@ -396,7 +396,7 @@ take_clean X mid after k f u follows clean j x s e = go (which f k j) where
       ∙ none_either u.stream.note u.fork.note (clean j x u.stream (ap (stream_at mid) q ∙ u.here)) (clean f (follows (subst X q x)) u.fork u.there)
   go (is_other d g) = clean j x s (sym (u.others j d g) ∙ e)
 
-content_or_not : (kind : StreamKind) → ((p : ℕ) × (kind ≡ content_of p)) ⊎ ((p : ℕ) → kind ≡ content_of p → ⊥)
+pub content_or_not : (kind : StreamKind) → ((p : ℕ) × (kind ≡ content_of p)) ⊎ ((p : ℕ) → kind ≡ content_of p → ⊥)
 content_or_not outermost = inr whole_is_none
 content_or_not (content_of p) = inl (p, refl)
 content_or_not a_fork = inr no_content
@@ -613,7 +613,7 @@ steps X c st tidy = go (misuse c st) refl where
 abbrev nothing : ℕ → Type 0
 nothing k = ⊥
 
-first_tidy : (f : Forest) → Tidy (first_state f)
+pub first_tidy : (f : Forest) → Tidy (first_state f)
 first_tidy f zero p s e o g = absurd (whole_is_none p (ap (λ z. z.kind) (one_stream (stream_at (first_state f) 0) _ s refl e) ∙ g))
 first_tidy f (suc k) p s e o g = cc
 
@@ -621,7 +621,7 @@ first_clean : (X : ℕ → Type 0) (f : Forest) → AllClean X (first_state f)
 first_clean X f zero x s e = sym (ap (λ z. z.note) (one_stream (stream_at (first_state f) 0) _ s refl e))
 first_clean X f (suc k) x s e = cc
 
-run_tidy : (st : State) (cs : List Command) → Tidy st → Tidy (last_state st cs)
+pub run_tidy : (st : State) (cs : List Command) → Tidy st → Tidy (last_state st cs)
 run_tidy st [] tidy = tidy
 run_tidy st (c ∷ cs) tidy = run_tidy (step c st).state cs (steps nothing c st tidy).tidy
 

@@ -7,7 +7,7 @@ pub mod Closing
 pub mod Comparing
 pub mod Discards
 pub mod Entered
-pub mod FewerAhead
+pub mod Followed
 pub mod Inside
 pub mod Linked
 pub mod ListRuns
@@ -18,6 +18,5 @@ pub mod Runs
 pub mod Spending
 pub mod Tables
 pub mod Tracks
-pub mod TurnsEnough
 pub mod Verdicts
 pub mod Views

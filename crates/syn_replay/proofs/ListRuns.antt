@@ -49,7 +49,7 @@ use Rattle.syn_replay.specs.declared.report.Answer.TheVariants as answer
 use Rattle.syn_replay.specs.declared.report.Piece.{Piece}
 use Rattle.syn_replay.proofs.ReadPieces.{punctuation-pieces}
 use Rattle.syn_replay.proofs.Refusals.{refusal_of-refused}
-use Rattle.syn_replay.proofs.TurnsEnough.{more_turns_change_nothing}
+use Rattle.syn_replay.proofs.Views.EnoughTurns.{more_turns_change_nothing}
 
 -- progress is to begin later
 less_is : (c d : ℕ) → is_lt (nat_cmp c d) ≡ nat_lt c d
@@ -409,7 +409,7 @@ module _ {F : Type 0} (k n : ℕ) (kind : Kind) (reads : ValueCall F (Vec Piece)
         concludes_refused s _ turns x r t (runs.no_progress t) j h
         (stopped m s.place turn.between.place turn.after.place v.trees p.trees i.opens.0 v.is
         i.goes_on p.is (sym (progress_is s.place turn.after.place)
-        ∙ ap (progresses s.place) (sym place) ∙ u)
+        ∙ ap (progresses s.place) (sym place) ∙ u.0)
         ∙ ap (λ z. refused_at (no_progress z scope) z) (sym place)
         ∙ ap (λ z. refused_at (no_progress t.place z) t.place) (sym (in_scope s t to ∙ e))) to
 
@@ -534,7 +534,7 @@ module _ {F : Type 0} (k n : ℕ) (kind : Kind) (reads : ValueCall F (Vec Piece)
         let place : t.place ≡ turn.after.place = ap (λ (z : State). z.place) q in
         concludes_refused s _ turns x r t (runs.no_progress t) j h
         (stopped-separated m s.place turn.between.place turn.after.place v.trees p.trees v.is p.is
-        (sym (progress_is s.place turn.after.place) ∙ ap (progresses s.place) (sym place) ∙ u)
+        (sym (progress_is s.place turn.after.place) ∙ ap (progresses s.place) (sym place) ∙ u.0)
         ∙ ap (λ z. refused_at (no_progress z scope) z) (sym place)
         ∙ ap (λ z. refused_at (no_progress t.place z) t.place) (sym (in_scope s t to ∙ e))) to
 

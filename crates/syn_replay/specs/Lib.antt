@@ -1,5 +1,6 @@
 pub mod Agree
 pub mod Commands
+pub mod Forks
 pub mod Kinds
 pub mod ReportText
 pub mod Meanings

@@ -1,6 +1,10 @@
 //! Laws of replays. Each is the contract of a function that does nothing.
+ghost use Rattle.syn_replay.specs.Forks.{ForksFollowCommands};
+ghost use Rattle.tok_leaves.specs.Laws.{EqualAsValues};
 ghost use Rattle.syn_replay.specs.Transparent.{InvisibleGroupsDoNotMatter};
 ghost use Rattle.syn_replay.specs.Turns.{MoreTurnsChangeNothing};
+
+use crate::report::Position;
 
 /// If two streams differ only in invisible groups, and each of these contains a visible token,
 /// every list of transparent commands has equal answers and errors with equal texts on both. The
@@ -13,4 +17,19 @@ pub fn invisible_groups_do_not_matter()
 /// turns changes nothing.
 pub fn more_turns_change_nothing()
     ensures { MoreTurnsChangeNothing }
+{}
+
+/// If a stream advances to a fork after self-contained commands on it, the answers, the place and
+/// the leftover are those of running the commands on the stream itself.
+///
+/// The commands are those for which `is_self_contained` returns `true`. The fork must still be in
+/// the stream's scope. The numbers of streams differ by the fork. The contents that the commands
+/// leave open are closed.
+pub fn forks_follow_commands()
+    ensures { ForksFollowCommands }
+{}
+
+/// Positions are equal if and only if they are the same.
+pub fn positions_are_compared_whole()
+    ensures { EqualAsValues ⟦<Position as PartialEq>⟧.eq }
 {}

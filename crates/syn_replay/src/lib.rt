@@ -4,6 +4,7 @@
 
 mod agreement;
 mod command;
+mod forks;
 pub mod laws;
 mod report;
 mod session;
@@ -12,5 +13,6 @@ pub use agreement::agree;
 pub use agreement::both::replay_both;
 pub use agreement::transparent::is_transparent;
 pub use command::{Command, Kind, Look, Separator};
+pub use forks::is_self_contained;
 pub use report::{Answer, Line, Piece, Position, Report, Verdict};
 pub use session::{replay, replay_in};

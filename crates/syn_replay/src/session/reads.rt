@@ -24,7 +24,7 @@ pub fn answer(input: ParseStream<'_, '_>, command: &Command) -> Result<Answer>
         Command::Peek(_, look) => Ok(Answer::Truth(look.peek(input.cursor()))),
         Command::Peek2(_, look) => Ok(Answer::Truth(look.peek2(input.cursor()))),
         Command::Peek3(_, look) => Ok(Answer::Truth(look.peek3(input.cursor()))),
-        Command::Parse(_, kind) => Ok(Answer::Read(tokens::parse(input, *kind)?)),
+        Command::Parse(_, kind) => parse(input, *kind),
         Command::Optional(_, kind) => optional(input, *kind),
         Command::Empty(_) => Ok(Answer::Truth(input.is_empty())),
         Command::Terminated(_, kind, separator) => {
@@ -48,6 +48,13 @@ pub fn answer(input: ParseStream<'_, '_>, command: &Command) -> Result<Answer>
         | Command::Discard(_)
         | Command::Close(_) => Ok(Answer::Done),
     }
+}
+
+// Parses a token of this kind.
+fn parse(input: ParseStream<'_, '_>, kind: Kind) -> Result<Answer>
+    ensures { IsRead (commands.parse 0 (kind_of kind)) input.old result input.new }
+{
+    Ok(Answer::Read(tokens::parse(input, kind)?))
 }
 
 // Parses a token of this kind, if it is next.

@@ -1,7 +1,7 @@
 use Rattle.std.proofs.Common.{◌≤◌, false, rules}
 use Rattle.tok_core.specs.Seen.{tree_of}
 use Rattle.tok_core.specs.Weight.{weight, tree_weight}
-use Rattle.tok_core.proofs.Trees.{weight-here}
+use Rattle.tok_core.proofs.Trees.{weight_here}
 use Rattle.syn_replay.proofs.Agreements.{compares_trees, of_streams}
 use Rattle.syn_replay.proofs.Comparing.{not_as_many}
 use Rattle.syn_replay.proofs.agreement.same.+same.Goals as goal
@@ -17,6 +17,6 @@ same_streams-returns-then-ours-theirs t c =
 pub same_streams-same_tree-requires : goal.same_streams-same_tree-requires
 same_streams-same_tree-requires t c =
     let small : tree_weight (tree_of c.index-ours-i.result) ≤ weight c.args.left.now =
-    weight-here c.trees-ours.result.now c.loop-i.i c.index-ours-i.result _ c.trees-ours.ensures
+    weight_here c.trees-ours.result.now c.loop-i.i c.index-ours-i.result _ c.trees-ours.ensures
     c.loop-i-test.true c.index-ours-i.is in
     search rules

@@ -1,0 +1,5 @@
+use Rattle.syn_replay.proofs.Followed.{forks_follow_commands}
+use Rattle.syn_replay.proofs.laws.forks_follow_commands.Goals as goal
+
+pub returns : goal.returns
+returns c = forks_follow_commands

@@ -1,0 +1,66 @@
+//! Commands that may run on a fork in place of its stream.
+ghost use Rattle.std.specs.Prelude.{◌≡◌, map};
+ghost use Rattle.syn_replay.specs.Forks as spec;
+ghost use Rattle.syn_replay.specs.Meanings.{command_of};
+
+use crate::command::Command;
+
+// Returns `true` for the stream, and for the numbers of streams that are made later.
+fn is_own(stream: usize, made: usize, number: usize) -> bool
+    ensures { result ≡ spec.is_own stream made number }
+{
+    number == stream || made <= number
+}
+
+impl Command {
+    fn is_own(&self, stream: usize, made: usize) -> bool
+        ensures { result ≡ spec.is_own_command stream made (command_of self.now) }
+    {
+        match self {
+            Command::Advance(..) | Command::Discard(_) => false,
+            Command::Close(n) => *n != stream && is_own(stream, made, *n),
+            Command::Peek(n, _)
+            | Command::Peek2(n, _)
+            | Command::Peek3(n, _)
+            | Command::Parse(n, _)
+            | Command::Optional(n, _)
+            | Command::Empty(n)
+            | Command::Enter(n, _)
+            | Command::EnterAny(n)
+            | Command::Terminated(n, _, _)
+            | Command::Separated(n, _, _)
+            | Command::Lookahead(n, _)
+            | Command::Fork(n)
+            | Command::StreamSpan(n)
+            | Command::CursorSpan(n)
+            | Command::PreviousSpan(n)
+            | Command::Tree(n)
+            | Command::Rest(n)
+            | Command::GroupTree(n) => is_own(stream, made, *n),
+        }
+    }
+}
+
+/// Returns `true` if the commands do on a fork of `stream` what they do on `stream` itself, once
+/// `stream` has advanced to that fork. `made` is the number that the next stream gets.
+///
+/// Such commands name only `stream` and streams that they make. None of them advances a stream,
+/// discards a fork, or closes `stream`.
+///
+/// # Examples
+///
+/// ```rust
+/// let commands = [Command::Parse(0, Kind::Ident), Command::Empty(0)];
+/// assert_eq!(rt; is_self_contained(0, 1, &commands), true);
+/// assert_eq!(rt; is_self_contained(0, 1, &[Command::Discard(0)]), false);
+/// ```
+pub fn is_self_contained(stream: usize, made: usize, commands: &[Command]) -> bool
+    ensures { result ≡ spec.is_self_contained stream made (map command_of commands.now) }
+{
+    for command in commands {
+        if !command.is_own(stream, made) {
+            return false;
+        }
+    }
+    true
+}
