@@ -14,6 +14,7 @@ use Rattle.syn_replay.specs.Commands.{Command}
 use Rattle.syn_tokens.specs.Program.Comparison.{AreFacts, Facts, Comparison, Compares, Outcome, reported}
 use Rattle.syn_tokens.specs.Program.Comparison.{compared, outcome_text, outcome_status}
 use Rattle.syn_tokens.specs.Program.Faults.{unreadable_text}
+use Rattle.syn_tokens.specs.Program.Failures.{Reading, Writing, all_read}
 use Rattle.syn_tokens.specs.Program.Output.{GoesOut}
 use Rattle.syn_replay.specs.ReportText.{ended}
 use Rattle.syn_tokens.specs.Program.{HasParts, HasForests, IsForest, IsOther, IsUnreadable}
@@ -275,28 +276,33 @@ pub prints_only : (bytes printed : List ℕ) (status : ℕ) → Prints bytes pri
 prints_only bytes printed status h other code k = prints_once bytes printed other status code h k
 
 -- what comes of a run is what the program prints
-pub serves_only : (unread unwritten : Type 0) (bytes : List ℕ) (status : ℕ) (old new : Option (List ℕ))
-    → Serves unread unwritten bytes status old new
-    → ServesOnly unread unwritten bytes status old new
-serves_only unread unwritten bytes status old new (inl (printed, mine, h, a)) other code k =
+pub serves_only : (read : Reading) (written : Writing) (bytes : List ℕ) (status : ℕ)
+    (old new : Option (List ℕ))
+    → Serves read written bytes status old new
+    → ServesOnly read written bytes status old new
+serves_only read written bytes status old new (inl (printed, mine, h, all, a)) other code k =
     let (same, codes) = prints_once bytes printed other mine code h k in
-    inl
-    (subst (λ text. GoesOut unwritten text code status old new) same
-    (subst (λ n. GoesOut unwritten printed n status old new) codes a))
-serves_only unread unwritten bytes status old new (inr failed) other code k = inr failed
+    inl (
+      all,
+      subst (λ text. GoesOut written text code status old new) same
+          (subst (λ n. GoesOut written printed n status old new) codes a),
+    )
+serves_only read written bytes status old new (inr failed) other code k = inr failed
 
--- a run in which no read failed is one in which any might
-may_fail : (unread unwritten : Type 0) (status : ℕ) (old new : Option (List ℕ))
-    → Fails ⊥ unwritten status old new → Fails unread unwritten status old new
-may_fail unread unwritten status old new (inl told) = inl told
-may_fail unread unwritten status old new (inr (two, none, kept)) = absurd none
+-- a run over bytes that were read is one of the source that was read whole
+may_fail : (read : Reading) (written : Writing) (status : ℕ) (old new : Option (List ℕ))
+    → read.whole → Fails all_read written status old new → Fails read written status old new
+may_fail read written status old new whole (inl (all, told)) = inl (inl whole, told)
+may_fail read written status old new whole (inr (two, none, kept)) = absurd none
 
-pub serves_read : (unread unwritten : Type 0) (bytes : List ℕ) (status : ℕ) (old new : Option (List ℕ))
-    → Serves ⊥ unwritten bytes status old new
-    → Serves unread unwritten bytes status old new
-serves_read unread unwritten bytes status old new (inl served) = inl served
-serves_read unread unwritten bytes status old new (inr failed) =
-    inr (may_fail unread unwritten status old new failed)
+pub serves_read : (read : Reading) (written : Writing) (bytes : List ℕ) (status : ℕ)
+    (old new : Option (List ℕ))
+    → read.whole → Serves all_read written bytes status old new
+    → Serves read written bytes status old new
+serves_read read written bytes status old new whole (inl (printed, code, h, all, a)) =
+    inl (printed, code, h, whole, a)
+serves_read read written bytes status old new whole (inr failed) =
+    inr (may_fail read written status old new whole failed)
 
 -- what holds of the bytes that were read
 pub known_read : (P : List ℕ → Type 0) (known : Option (List ℕ)) (read : List ℕ)

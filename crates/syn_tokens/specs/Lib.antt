@@ -1,21 +1,96 @@
 pub mod Program
+pub use Rattle.tok_lexical.specs.Delimiters as DelimiterTexts
+pub use Rattle.tok_lexical.specs.Editions
+pub use Rattle.tok_lexical.specs.Refusals as LexRefusals
+pub use Rattle.tok_lexical.specs.Rules
+pub use Rattle.tok_lexical.specs.Words
+pub use Rattle.tok_leaves.specs.Laws as LeafLaws
+pub use Rattle.tok_leaves.specs.Leaves
+pub use Rattle.tok_leaves.specs.Lifetimes
+pub use Rattle.tok_leaves.specs.Quoting
+pub use Rattle.tok_leaves.specs.Spans as Spans
+pub use Rattle.tok_core.specs.Clear
+pub use Rattle.tok_core.specs.Erase
+pub use Rattle.tok_core.specs.Filled
+pub use Rattle.tok_core.specs.Forest
+pub use Rattle.tok_core.specs.Laws as TreeLaws
+pub use Rattle.tok_core.specs.Lexical
+pub use Rattle.tok_core.specs.Seen as TreeSeen
+pub use Rattle.tok_core.specs.Spanless
+pub use Rattle.tok_core.specs.Text
+pub use Rattle.tok_core.specs.Weight
+pub use Rattle.tok_buffer.specs.Ahead
+pub use Rattle.tok_buffer.specs.Buffer
+pub use Rattle.tok_buffer.specs.CompileErrors
+pub use Rattle.tok_buffer.specs.Cursors
+pub use Rattle.tok_buffer.specs.Descent
+pub use Rattle.tok_buffer.specs.Entry
+pub use Rattle.tok_buffer.specs.InFront
+pub use Rattle.tok_buffer.specs.Messages
+pub use Rattle.tok_buffer.specs.Order
+pub use Rattle.tok_buffer.specs.Place
+pub use Rattle.tok_buffer.specs.Progress
+pub use Rattle.tok_buffer.specs.Reached
+pub use Rattle.tok_buffer.specs.Reads
+pub use Rattle.tok_buffer.specs.Refusals
+pub use Rattle.tok_buffer.specs.Rest
+pub use Rattle.tok_buffer.specs.SameView
+pub use Rattle.tok_buffer.specs.Spans as CursorSpans
+pub use Rattle.tok_buffer.specs.View
+pub use Rattle.tok_types.specs.Delimiters
+pub use Rattle.tok_types.specs.Laws as TokenLaws
+pub use Rattle.tok_types.specs.Looks
+pub use Rattle.tok_types.specs.Printed
+pub use Rattle.tok_types.specs.Sees
+pub use Rattle.tok_types.specs.Texts
+pub use Rattle.tok_types.specs.Views as TokenViews
+pub use Rattle.syn_parse.specs.Faults
+pub use Rattle.syn_parse.specs.Grouped
+pub use Rattle.syn_parse.specs.Groups
+pub use Rattle.syn_parse.specs.Laws as StreamLaws
+pub use Rattle.syn_parse.specs.Lighter
+pub use Rattle.syn_parse.specs.Lookahead
+pub use Rattle.syn_parse.specs.Optional
+pub use Rattle.syn_parse.specs.Parsers
+pub use Rattle.syn_parse.specs.Parses
+pub use Rattle.syn_parse.specs.Pauses
+pub use Rattle.syn_parse.specs.Progress as ParseProgress
+pub use Rattle.syn_parse.specs.Reads as ParseReads
+pub use Rattle.syn_parse.specs.RefusalWords
+pub use Rattle.syn_parse.specs.Skips
+pub use Rattle.syn_parse.specs.Sources
+pub use Rattle.syn_parse.specs.State
+pub use Rattle.syn_parse.specs.Steps
+pub use Rattle.syn_parse.specs.Takes
+pub use Rattle.syn_parse.specs.Takings
+pub use Rattle.syn_parse.specs.TokenNames
+pub use Rattle.syn_parse.specs.Tokens
+pub use Rattle.syn_parse.specs.TreesAhead
+pub use Rattle.syn_parse.specs.Views as ParseViews
+pub use Rattle.syn_punctuated.specs.Adds
+pub use Rattle.syn_punctuated.specs.Faults as ListFaults
+pub use Rattle.syn_punctuated.specs.Hashed
+pub use Rattle.syn_punctuated.specs.Lends
+pub use Rattle.syn_punctuated.specs.Lists
+pub use Rattle.syn_punctuated.specs.PairLends
+pub use Rattle.syn_punctuated.specs.Paired
+pub use Rattle.syn_punctuated.specs.Pairs
+pub use Rattle.syn_punctuated.specs.Printed as ListPrinted
+pub use Rattle.syn_punctuated.specs.Progress as TurnProgress
+pub use Rattle.syn_punctuated.specs.ReadBack
+pub use Rattle.syn_punctuated.specs.Retained
+pub use Rattle.syn_punctuated.specs.Trees as ListTrees
+pub use Rattle.syn_punctuated.specs.Turns as ListTurns
+pub use Rattle.arguments.specs.Grammar as ArgumentGrammar
+pub use Rattle.arguments.specs.Results as ArgumentResults
+pub use Rattle.arguments.specs.Same as ArgumentsSame
+pub use Rattle.arguments.specs.Values as ArgumentValues
 pub use Rattle.syn_replay.specs.Agree
 pub use Rattle.syn_replay.specs.Commands
+pub use Rattle.syn_replay.specs.Forks
 pub use Rattle.syn_replay.specs.Kinds
-pub use Rattle.syn_replay.specs.ReportText
 pub use Rattle.syn_replay.specs.Meanings
+pub use Rattle.syn_replay.specs.ReportText
 pub use Rattle.syn_replay.specs.Session
 pub use Rattle.syn_replay.specs.Transparent
 pub use Rattle.syn_replay.specs.Turns
-pub use Rattle.tok_core.specs.Forest
-pub use Rattle.tok_core.specs.Seen as TreeSeen
-pub use Rattle.tok_core.specs.Text
-pub use Rattle.tok_buffer.specs.Cursors
-pub use Rattle.tok_buffer.specs.Order
-pub use Rattle.tok_buffer.specs.Reads
-pub use Rattle.tok_types.specs.Texts
-pub use Rattle.syn_parse.specs.Groups
-pub use Rattle.syn_parse.specs.Pauses
-pub use Rattle.syn_parse.specs.RefusalWords
-pub use Rattle.syn_punctuated.specs.Lists
-pub use Rattle.syn_punctuated.specs.Paired

@@ -18,6 +18,7 @@ use Rattle.syn_tokens.specs.Program.Comparison.{Compares, Outcome, reported, com
 use Rattle.syn_tokens.specs.Program.Comparison.{outcome_status}
 use Rattle.syn_tokens.specs.Program.Faults.{unreadable_text}
 use Rattle.syn_tokens.specs.Program.Input.{parts_of}
+use Rattle.syn_tokens.specs.Program.Failures.{Reading, Writing}
 use Rattle.syn_tokens.specs.Program.Output.{GoesOut}
 use Rattle.syn_replay.specs.ReportText.{ended}
 use Rattle.syn_replay.specs.Session.Walk.{walk}
@@ -91,22 +92,22 @@ abbrev pub PrintsOnly : List ℕ → List ℕ → ℕ → Type 0
 PrintsOnly bytes printed status =
     (other : List ℕ) (code : ℕ) → Prints bytes other code → (printed ≡ other) × (status ≡ code)
 
--- unread and unwritten say that a read failed, and that a write did
-module _ (unread unwritten : Type 0) where
+-- of how the source was read, and how the sink was written to
+module _ (read : Reading) (written : Writing) where
   -- memory was refused, and one line says so with 3; or a read failed, and nothing went out
   abbrev pub Fails : ℕ → Option (List ℕ) → Option (List ℕ) → Type 0
   Fails status old new =
-      GoesOut unwritten (ended (codes "memory")) 3 status old new
-      ⊎ ((status ≡ 2) × unread × Keeps old new)
+      ((read.whole ⊎ read.part) × GoesOut written (ended (codes "memory")) 3 status old new)
+      ⊎ ((status ≡ 2) × read.failed × Keeps old new)
 
-  -- what the program prints for these bytes went out, or it failed
+  -- all was read, and what the program prints for these bytes went out; or it failed
   abbrev pub Serves : List ℕ → ℕ → Option (List ℕ) → Option (List ℕ) → Type 0
   Serves bytes status old new =
-      ((printed : List ℕ) × (code : ℕ) × Prints bytes printed code
-      × GoesOut unwritten printed code status old new) ⊎ Fails status old new
+      ((printed : List ℕ) × (code : ℕ) × Prints bytes printed code × read.whole
+      × GoesOut written printed code status old new) ⊎ Fails status old new
 
-  -- whatever the program prints for these bytes went out, or it failed
+  -- all was read, and whatever the program prints for these bytes went out; or it failed
   abbrev pub ServesOnly : List ℕ → ℕ → Option (List ℕ) → Option (List ℕ) → Type 0
   ServesOnly bytes status old new =
       (printed : List ℕ) (code : ℕ) → Prints bytes printed code
-      → GoesOut unwritten printed code status old new ⊎ Fails status old new
+      → (read.whole × GoesOut written printed code status old new) ⊎ Fails status old new

@@ -1,5 +1,6 @@
 //! The front of the library: the public items of all crates below, under the paths of `syn`, so
-//! that a user depends on one crate. It also has the program, `respond` and `serve`.
+//! that a user depends on one crate. The definitions of the crates below are in `specs/`, under
+//! their names. It also has the program, `respond` and `serve`.
 #![tactic(auto)]
 
 mod program;
@@ -7,11 +8,11 @@ mod program;
 pub use arguments;
 pub use program::channel::{Sink, Source};
 pub use program::{respond, serve};
-pub use syn_parse::{Fault, Result, parse_both, parse_source, parse_str, parse2};
+pub use syn_parse::{Fault, Own, Result, Word, parse_both, parse_source, parse_str, parse2};
 pub use syn_punctuated as punctuated;
 pub use syn_replay::{
     Answer, Command, Kind, Line, Look, Piece, Position, Report, Separator, Verdict, agree,
-    is_transparent, laws, replay, replay_both,
+    is_self_contained, is_transparent, replay, replay_both,
 };
 pub use tok_buffer::{Error, Lifetime, LifetimeFault, error};
 pub use tok_core::{
@@ -20,6 +21,43 @@ pub use tok_core::{
     is_clear, is_filled, lex, lex_marked, lex_source, same_visible,
 };
 pub use tok_types::accept_as_ident;
+
+/// Laws. Each is the contract of a function that does nothing, or nearly nothing: a proof that calls
+/// it may use the law.
+pub mod laws {
+    pub use arguments::laws::arguments_once;
+    pub use syn_parse::laws::{
+        clones_keep_streams, forks_follow, nothings_are_equal, parses_go_on,
+        peeks_past_ignore_invisible, peeks_tell_groups, peeks_tell_parses, peeks_tell_tokens,
+        scopes_tell, views_decide_words,
+    };
+    pub use syn_punctuated::laws::{
+        equality_is_pointwise, indexing_writes_one_value, lists_are_read_back, lists_hash_all,
+        lists_have_their_trees, names_and_punctuations_are_read_back, pairs_are_compared_by_parts,
+        read_again, retain_keeps_trailing, separators_follow_values, tokens_state_trees,
+    };
+    pub use syn_replay::laws::{
+        forks_follow_commands, invisible_groups_do_not_matter, more_turns_change_nothing,
+        positions_are_compared_whole,
+    };
+    pub use tok_buffer::laws::{
+        ahead_tells, calls_lead_on, clones_keep_errors, descents_enter, entries_go_on,
+        equal_in_order, lifetimes_by_name, lifetimes_in_order, marked_as_stream, moves_stay,
+        reads_go_later, reads_go_on, reads_keep_scope, same_stream, skips_go_on, source_as_stream,
+        staying_adds_nothing, stays_along, text_as_stream, views_decide,
+    };
+    pub use tok_core::laws::{
+        begins_once, clones_keep_all, clones_keep_trees, errors_are_compared_whole, forest_once,
+        idents_by_text, never_both, refused_once, spans_are_compared_whole, streams_without_spans,
+        trees_without_spans,
+    };
+    pub use tok_types::laws::{
+        clones_keep_tokens, delimiters_are_equal, delimiters_ignore_invisible, groups_are_equal,
+        keyword_past_the_table, keywords_are_equal, peeks_ignore_invisible,
+        punctuation_past_the_table, punctuations_are_equal, tokens_ignore_invisible,
+        underscores_are_equal,
+    };
+}
 
 /// Token buffers and cursors.
 pub mod buffer {
@@ -30,6 +68,12 @@ pub mod buffer {
 pub mod ext {
     pub use syn_parse::{IdentExt, LifetimeExt};
     pub use tok_types::IdentAny;
+    pub use tok_values::{Integer, IntegerFault, LiteralExt, bool_value};
+}
+
+/// Errors with the line that they are about.
+pub mod carets {
+    pub use syn_carets::{LineColumn, Source, line_column};
 }
 
 /// Parsers that enter groups.
@@ -167,4 +211,38 @@ pub mod token {
     pub use tok_types::token::printing;
     pub use tok_types::token::punctuation_display;
     pub use tok_types::token::punctuation_text;
+}
+
+/// Enters parentheses: returns their token, and puts the stream of their contents into a variable
+/// that is declared before. The function around it must return a `Result`, since it uses `?`.
+#[macro_export]
+macro_rules! parenthesized {
+    ($content:ident in $input:expr) => {{
+        let parens = $crate::group::parse_parens($input)?;
+        let $crate::group::Parens { token, content: inner } = parens;
+        $content = inner;
+        token
+    }};
+}
+
+/// Enters braces, as `parenthesized!` does parentheses.
+#[macro_export]
+macro_rules! braced {
+    ($content:ident in $input:expr) => {{
+        let braces = $crate::group::parse_braces($input)?;
+        let $crate::group::Braces { token, content: inner } = braces;
+        $content = inner;
+        token
+    }};
+}
+
+/// Enters brackets, as `parenthesized!` does parentheses.
+#[macro_export]
+macro_rules! bracketed {
+    ($content:ident in $input:expr) => {{
+        let brackets = $crate::group::parse_brackets($input)?;
+        let $crate::group::Brackets { token, content: inner } = brackets;
+        $content = inner;
+        token
+    }};
 }

@@ -7,7 +7,7 @@ pub mod input;
 pub mod output;
 
 ghost use Rattle.std.specs.Prelude.{◌≡◌, IfOk, IfSome, MatchResult, Some, string_bytes};
-ghost use Rattle.syn_tokens.specs.Program.Failures.{FailsToRead, FailsToWrite};
+ghost use Rattle.syn_tokens.specs.Program.Failures.{all_read, reading, writing};
 ghost use Rattle.syn_tokens.specs.Program.Faults.{OnUnreadable};
 ghost use Rattle.syn_tokens.specs.Program.Outcomes.{outcome_of};
 ghost use Rattle.syn_tokens.specs.Program.{HasOutcome, IsForest, IsUnreadable, IsUnreadableOther, Prints, PrintsOnly, Serves, ServesOnly};
@@ -37,19 +37,20 @@ use tok_core::{TokenStream, lex_marked};
 ///
 /// An input that has not ended after 4,294,967,295 reads counts as a failed read.
 ///
-/// If the status is 2 and the text was not written whole, the contract says which call of the
-/// reader or writer failed, in the relations that `Source` and `Sink` name. It is proved for all
-/// relations.
+/// The contract follows the calls of the reader and the writer, in the relations that `Source` and
+/// `Sink` name. Each read or write before the last moved some bytes or was interrupted. The last
+/// read found the end, and the sink was then flushed; or a call failed, and the status is 2. It is
+/// proved for all relations.
 pub fn serve<R: Source, W: Sink>(alloc: Global, input: &mut R, output: &mut W) -> u8
-    ensures serves { let unread = FailsToRead R.reads input.old input.new in
-        let unwritten = FailsToWrite W.writes W.flushes output.old output.new in
+    ensures serves { let read = reading R.reads input.old input.new in
+        let written = writing W.writes W.flushes output.old output.new in
         IfSome (R.remaining input.old)
-        (λ bytes. Serves unread unwritten bytes result (W.contents output.old)
+        (λ bytes. Serves read written bytes result (W.contents output.old)
         (W.contents output.new)) }
-    ensures only { let unread = FailsToRead R.reads input.old input.new in
-        let unwritten = FailsToWrite W.writes W.flushes output.old output.new in
+    ensures only { let read = reading R.reads input.old input.new in
+        let written = writing W.writes W.flushes output.old output.new in
         IfSome (R.remaining input.old)
-        (λ bytes. ServesOnly unread unwritten bytes result (W.contents output.old)
+        (λ bytes. ServesOnly read written bytes result (W.contents output.old)
         (W.contents output.new)) }
 {
     match read_input(alloc, input) {
@@ -61,10 +62,12 @@ pub fn serve<R: Source, W: Sink>(alloc: Global, input: &mut R, output: &mut W) -
 
 // Writes the output for an input that was read.
 fn answer<W: Sink>(alloc: Global, input: &[u8], output: &mut W) -> u8
-    ensures serves { let unwritten = FailsToWrite W.writes W.flushes output.old output.new in
-        Serves ⊥ unwritten input.now result (W.contents output.old) (W.contents output.new) }
-    ensures only { let unwritten = FailsToWrite W.writes W.flushes output.old output.new in
-        ServesOnly ⊥ unwritten input.now result (W.contents output.old) (W.contents output.new) }
+    ensures serves { let written = writing W.writes W.flushes output.old output.new in
+        Serves all_read written input.now result (W.contents output.old)
+        (W.contents output.new) }
+    ensures only { let written = writing W.writes W.flushes output.old output.new in
+        ServesOnly all_read written input.now result (W.contents output.old)
+        (W.contents output.new) }
 {
     match respond(alloc, input) {
         Ok((text, status)) => send(output, text.as_str(), status),

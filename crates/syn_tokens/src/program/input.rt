@@ -2,7 +2,7 @@
 ghost use Rattle.std.specs.Prelude.{◌≡◌, ◌∷◌, [], ◌++◌, List, ℕ, IfErr, IfOk, IfSome, Some, None, MatchOption};
 ghost use Rattle.std.specs.List.{slice_split};
 ghost use Rattle.std.specs.Str.{IsUtf8};
-ghost use Rattle.syn_tokens.specs.Program.Failures.{FailsToRead};
+ghost use Rattle.syn_tokens.specs.Program.Failures.{reading};
 ghost use Rattle.syn_tokens.specs.Program.Input as spec;
 ghost use Rattle.syn_replay.specs.ReportText.{ended};
 
@@ -22,8 +22,11 @@ pub enum ReadFault {
 /// Reads a source to its end, in at most 4,294,967,295 reads. An interrupted read is repeated.
 pub fn read_input<S: Source>(alloc: Global, input: &mut S) -> Result<Vec<u8>, ReadFault>
     ensures bytes { IfSome (S.remaining input.old) (λ bytes. IfOk result (λ v. v.items ≡ bytes)) }
+    ensures whole { IfOk result (λ _. (reading S.reads input.old input.new).whole) }
+    ensures part { IfErr result
+        (λ fault. fault ≡ ReadFault.Memory → (reading S.reads input.old input.new).part) }
     ensures failed { IfErr result
-        (λ fault. fault ≡ ReadFault.Failed → FailsToRead S.reads input.old input.new) }
+        (λ fault. fault ≡ ReadFault.Failed → (reading S.reads input.old input.new).failed) }
 {
     let mut bytes = Vec::new(alloc);
     let mut chunk = [0u8; 4096];

@@ -1,8 +1,8 @@
 //! The program's output.
 ghost use Rattle.std.specs.Bool.{MatchBool};
-ghost use Rattle.std.specs.Prelude.{◌≡◌, false};
+ghost use Rattle.std.specs.Prelude.{◌≡◌, false, true};
 ghost use Rattle.std.specs.Io.KnownBytes.{Appends};
-ghost use Rattle.syn_tokens.specs.Program.Failures.{FailsToWrite};
+ghost use Rattle.syn_tokens.specs.Program.Failures.{writing};
 ghost use Rattle.syn_tokens.specs.Program.Output.{AppendsFront, GoesOut};
 
 use crate::program::channel::Sink;
@@ -10,7 +10,7 @@ use std::io::ErrorKind;
 
 /// Writes a text and returns `status`, or 2 unless all of it was written.
 pub fn send<S: Sink>(output: &mut S, text: &str, status: u8) -> u8
-    ensures { GoesOut (FailsToWrite S.writes S.flushes output.old output.new) text.now status result
+    ensures { GoesOut (writing S.writes S.flushes output.old output.new) text.now status result
         (S.contents output.old) (S.contents output.new) }
 {
     if write_whole(output, text.as_bytes()) {
@@ -26,7 +26,8 @@ fn write_whole<S: Sink>(output: &mut S, bytes: &[u8]) -> bool
     ensures bytes { MatchBool result
         (Appends (S.contents output.old) (S.contents output.new) bytes.now)
         (AppendsFront (S.contents output.old) (S.contents output.new) bytes.now) }
-    ensures failed { result ≡ false → FailsToWrite S.writes S.flushes output.old output.new }
+    ensures whole { result ≡ true → (writing S.writes S.flushes output.old output.new).whole }
+    ensures failed { result ≡ false → (writing S.writes S.flushes output.old output.new).failed }
 {
     let mut rest = bytes;
     for _i in 0..u64::MAX {

@@ -1,5 +1,5 @@
 use Rattle.std.proofs.Common.{rules}
-use Rattle.syn_tokens.specs.Program.Failures.{FailsToWrite}
+use Rattle.syn_tokens.specs.Program.Failures.{all_read, writing}
 use Rattle.syn_tokens.specs.Program.{Serves}
 use Rattle.syn_tokens.proofs.Once.{serves_only}
 use Rattle.syn_tokens.proofs.program.answer.Goals as goal
@@ -9,6 +9,6 @@ returns-in-Ok-clause-only g c =
     let bytes = c.args.input.now in
     let old = g.W.Sink.contents c.args.output.now in
     let new = g.W.Sink.contents c.send.new.output in
-    let unwritten = FailsToWrite g.W.Sink.writes g.W.Sink.flushes c.args.output.now c.send.new.output in
-    let served : Serves ⊥ unwritten bytes c.send.result old new = search rules in
-    serves_only ⊥ unwritten bytes c.send.result old new served
+    let written = writing g.W.Sink.writes g.W.Sink.flushes c.args.output.now c.send.new.output in
+    let served : Serves all_read written bytes c.send.result old new = search rules in
+    serves_only all_read written bytes c.send.result old new served

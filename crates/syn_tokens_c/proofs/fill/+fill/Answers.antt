@@ -3,14 +3,14 @@ use Rattle.tok_core.specs.Forest.{group, tree_span}
 use Rattle.tok_core.specs.Seen.{tree_of, group_of}
 use Rattle.tok_leaves.specs.Spans.{bounds_delimiter}
 use Rattle.tok_core.specs.Weight.{weight, tree_weight}
-use Rattle.tok_core.proofs.Trees.{weight-here}
+use Rattle.tok_core.proofs.Trees.{weight_here}
 use Rattle.syn_tokens_c.specs.Entries.{texts}
 use Rattle.syn_tokens_c.proofs.Fillings.{filled}
 use Rattle.syn_tokens_c.proofs.fill.+fill.Goals as goal
 
 pub fill-fill_tree-requires : goal.fill-fill_tree-requires
 fill-fill_tree-requires t c =
-    let small : tree_weight (tree_of c.next-item.result) ≤ weight c.args.stream.now = weight-here c.trees-next-items.result.now c.loop-next.next-index c.next-item.result _ c.trees-next-items.ensures c.loop-next-test.true c.next-item.is in
+    let small : tree_weight (tree_of c.next-item.result) ≤ weight c.args.stream.now = weight_here c.trees-next-items.result.now c.loop-next.next-index c.next-item.result _ c.trees-next-items.ensures c.loop-next-test.true c.next-item.is in
     search rules
 
 pub fill_tree-returns-in_ok-push-in-Group-2-clause-entries :

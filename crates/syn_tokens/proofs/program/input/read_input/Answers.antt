@@ -1,8 +1,9 @@
-use Rattle.std.proofs.Common.{◌≡◌, ◌++◌, ◌∙◌, true, not, List, ℕ, ap, sym, subst, take}
+use Rattle.std.proofs.Common.{◌≡◌, ◌++◌, ◌∙◌, true, not, List, ℕ, ap, sym, subst, suc, take, rules}
 use Rattle.std.proofs.KnownBytes.{Consumes-kept, Consumes-trans}
 use Rattle.std.specs.Bool.{if◌then◌else◌}
 use Rattle.std.specs.Result.{is_ok}
 use Rattle.std.specs.Io.KnownBytes.{Consumes}
+use Rattle.syn_tokens.specs.Program.Failures.{GoesOn}
 use Rattle.syn_tokens.proofs.Failing.{one_more}
 use Rattle.syn_tokens.proofs.program.input.read_input.Goals as goal
 use Rattle.syn_tokens.proofs.program.input.read_input.Goals.{in-Ok+else-is_err, in-Err}
@@ -22,4 +23,16 @@ loop-i-preserved g c =
           subst (λ (xs : List ℕ). Consumes old new xs) grown (Consumes-trans old mid new c.loop-i.bytes.items (take w.in-Ok.n c.read_some.new.chunk) before w.in-Ok.ensures.bytes.0)
       | in-Err w ↦ subst (λ (xs : List ℕ). Consumes old new xs) (ap (λ v. v.items) (sym w.bytes-is)) (Consumes-kept old mid new c.loop-i.bytes.items before w.in-Err.ensures.bytes)
     ] in
-    (consumed, one_more g.S.Source.reads c.args.input.now c.loop-i._i c.loop-i.input c.read_some.result c.read_some.new.self c.loop-i.invariant.1 c.read_some.ensures.call)
+    let goes : GoesOn c.read_some.result =
+    elim c.match-read_some.branch [
+      | in-Ok+else-is_err w ↦ search rules
+      | in-Err w ↦ search rules
+    ] in
+    (consumed, one_more g.S.Source.reads c.args.input.now c.loop-i._i c.loop-i.input c.read_some.result c.read_some.new.self c.loop-i.invariant.1 c.read_some.ensures.call goes)
+
+pub returns-then-is_err-clause-part : goal.returns-then-is_err-clause-part
+returns-then-is_err-clause-part g c =
+    λ _.
+    let (n, _, calls) = c.loop-i.invariant.1 in
+    let goes : GoesOn c.read_some.result = search rules in
+    (suc n, (c.loop-i.input, c.read_some.result, calls, c.read_some.ensures.call, goes))

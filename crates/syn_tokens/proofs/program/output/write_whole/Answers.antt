@@ -1,5 +1,6 @@
-use Rattle.std.proofs.Common.{◌≡◌, drop, ap, ◌∙◌, List, ℕ, ◌++◌}
+use Rattle.std.proofs.Common.{◌≡◌, drop, ap, ◌∙◌, List, ℕ, ◌++◌, rules}
 use Rattle.std.specs.Io.KnownBytes.{Appends}
+use Rattle.syn_tokens.specs.Program.Failures.{GoesOn}
 use Rattle.syn_tokens.proofs.Failing.{one_more}
 use Rattle.syn_tokens.proofs.Fronts.{front_more, front_kept, part_from}
 use Rattle.syn_tokens.proofs.program.output.write_whole.Goals as goal
@@ -19,4 +20,9 @@ loop-i-preserved g c =
       | in-Ok-write_some w ↦ let left : next ≡ drop w.in-Ok-write_some.n rest = ap (λ r. r.now) w.rest-is ∙ part_from w.in-Ok-write_some.n rest in front_more bytes front rest next w.in-Ok-write_some.n old so_far new all out w.in-Ok-write_some.ensures.bytes left
       | in-Err-write_some w ↦ front_kept bytes front rest next old so_far new all out w.in-Err-write_some.ensures.bytes (ap (λ r. r.now) w.rest-is)
     ] in
-    (more, one_more g.S.Sink.writes c.args.output.now c.loop-i._i c.loop-i.output c.write_some.result c.write_some.new.self c.loop-i.invariant.1 c.write_some.ensures.call)
+    let goes : GoesOn c.write_some.result =
+    elim c.match-write_some.branch [
+      | in-Ok-write_some w ↦ search rules
+      | in-Err-write_some w ↦ search rules
+    ] in
+    (more, one_more g.S.Sink.writes c.args.output.now c.loop-i._i c.loop-i.output c.write_some.result c.write_some.new.self c.loop-i.invariant.1 c.write_some.ensures.call goes)
