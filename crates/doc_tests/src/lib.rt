@@ -14,3 +14,5 @@ mod streams;
 mod tokens;
 #[cfg(test)]
 mod trees;
+#[cfg(test)]
+mod values;

@@ -1,7 +1,7 @@
 //! Examples of `syn_replay`, and of the program in `syn_tokens`.
 use std::alloc::{AllocError, AllocGlobal, Global};
 use std::process::Abort;
-use syn_replay::{Command, Kind, agree, is_transparent, replay, replay_both};
+use syn_replay::{Command, Kind, agree, is_self_contained, is_transparent, replay, replay_both};
 use syn_tokens::respond;
 use tok_core::{LexFault, lex, lex_marked};
 
@@ -24,6 +24,12 @@ fn two(rt: &(impl Abort + AllocGlobal), alloc: Global) -> Result<(), LexFault> {
     Ok(())
 }
 
+fn contained(rt: &(impl Abort + AllocGlobal)) {
+    let commands = [Command::Parse(0, Kind::Ident), Command::Empty(0)];
+    assert_eq!(rt; is_self_contained(0, 1, &commands), true);
+    assert_eq!(rt; is_self_contained(0, 1, &[Command::Discard(0)]), false);
+}
+
 fn program(rt: &(impl Abort + AllocGlobal), alloc: Global) -> Result<(), AllocError> {
     let (output, status) = respond(alloc, b"a\n---\nparse 0 Ident\n")?;
     assert_eq!(rt; output.as_str(), "read a 0..1 @1\naccepted\n");
@@ -35,5 +41,6 @@ fn program(rt: &(impl Abort + AllocGlobal), alloc: Global) -> Result<(), AllocEr
 fn replays(rt: HostRuntime) {
     assert!(rt; one(&rt, rt.alloc()).is_ok());
     assert!(rt; two(&rt, rt.alloc()).is_ok());
+    contained(&rt);
     assert!(rt; program(&rt, rt.alloc()).is_ok());
 }

@@ -1,13 +1,13 @@
 //! Examples of `syn_parse`.
-ghost use Rattle.std.specs.Prelude.{IfOk};
+ghost use Rattle.std.specs.Prelude.{IfOk, codes};
 ghost use Rattle.syn_parse.specs.Steps.{step_state};
 ghost use Rattle.tok_buffer.specs.Cursors.{place_of};
 ghost use Rattle.tok_buffer.specs.Progress.{StaysIn};
 
 use std::alloc::Global;
 use syn_parse::{
-    IdentExt, Parens, Parse, ParseStream, Parser, Result, parenthesized, parse_parens, parse_str,
-    parse2, parsing,
+    Fault, IdentExt, Own, Parens, Parse, ParseStream, Parser, Result, Word, parenthesized,
+    parse_parens, parse_str, parse2, parsing,
 };
 use syn_punctuated::Punctuated;
 use tok_buffer::laws::reads_go_on;
@@ -125,6 +125,34 @@ fn sealed(input: ParseStream<'_, '_>) -> Result<Span> {
     Ok(span)
 }
 
+struct ServerWord;
+
+impl Word for ServerWord {
+    ghost text = { codes "server" };
+
+    fn text() -> &'static str {
+        "server"
+    }
+
+    fn display() -> &'static str {
+        "`server`"
+    }
+}
+
+type Server = Own<ServerWord>;
+
+fn server(input: ParseStream<'_, '_>) -> Result<Span> {
+    let server: Server = input.parse()?;
+    Ok(server.span)
+}
+
+fn taken(input: ParseStream<'_, '_>) -> Result<Span> {
+    let name: Ident = input.parse()?;
+    let alloc = input.allocator();
+    let fault = Fault::at(alloc, name.span(), "this name is taken");
+    Err(fault)
+}
+
 fn matches(input: ParseStream<'_, '_>) -> Result<Span> {
     let spans: [Span; 2] = parsing::punct(input, "=~")?;
     Ok(spans[1])
@@ -193,6 +221,12 @@ fn values(rt: HostRuntime) {
         sealed.parse_str(alloc, "sealed").ok(),
         Some(Span::source(0, 0, 6))
     );
+    assert_eq!(rt;
+        server.parse_str(alloc, "server").ok(),
+        Some(Span::source(0, 0, 6))
+    );
+    assert!(rt; server.parse_str(alloc, "servers").is_err());
+    assert!(rt; taken.parse_str(alloc, "a").is_err());
     assert_eq!(rt;
         matches.parse_str(alloc, "=~").ok(),
         Some(Span::source(0, 1, 2))

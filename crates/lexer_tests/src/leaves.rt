@@ -100,6 +100,7 @@ fn makes_puncts(rt: HostRuntime) {
 // A literal to make.
 enum Made<'a> {
     String(&'a str),
+    DocComment(&'a str),
     Character(char),
     ByteCharacter(u8),
     ByteString(&'a [u8]),
@@ -110,6 +111,7 @@ enum Made<'a> {
 fn literal(alloc: Global, made: &Made<'_>) -> Option<Literal> {
     match made {
         Made::String(text) => Literal::string(alloc, text).ok(),
+        Made::DocComment(text) => Literal::doc_comment(alloc, text).ok(),
         Made::Character(c) => Literal::character(alloc, *c).ok(),
         Made::ByteCharacter(byte) => Literal::byte_character(alloc, *byte).ok(),
         Made::ByteString(bytes) => Literal::byte_string(alloc, bytes).ok(),
@@ -152,6 +154,36 @@ fn makes_literals(rt: HostRuntime) {
         &[
             (Made::String("a\"b"), "\"a\\\"b\""),
             (Made::String("\\\n\r\t\0'é"), "\"\\\\\\n\\r\\t\\0'é\""),
+            (Made::DocComment(" it's \"é\"\\"), "\" it's \\\"é\\\"\\\\\""),
+            (Made::DocComment("\n\r\t\0"), "\"\\n\\r\\t\\0\""),
+            (
+                Made::DocComment("\u{1}\u{8}\u{B}\u{C}\u{E}\u{1F}\u{7F}\u{A0}\u{AD}"),
+                "\"\\u{1}\\u{8}\\u{b}\\u{c}\\u{e}\\u{1f}\\u{7f}\\u{a0}\\u{ad}\"",
+            ),
+            (
+                Made::DocComment("\u{300}\u{36F}\u{1680}\u{1AB0}\u{1AFF}\u{1DC0}\u{1DFF}"),
+                "\"\\u{300}\\u{36f}\\u{1680}\\u{1ab0}\\u{1aff}\\u{1dc0}\\u{1dff}\"",
+            ),
+            (
+                Made::DocComment(
+                    "\u{2000}\u{200F}\u{2028}\u{202F}\u{205F}\u{206F}\u{20D0}\u{20FF}",
+                ),
+                "\"\\u{2000}\\u{200f}\\u{2028}\\u{202f}\\u{205f}\\u{206f}\\u{20d0}\\u{20ff}\"",
+            ),
+            (
+                Made::DocComment(
+                    "\u{3000}\u{E000}\u{F8FF}\u{FE00}\u{FE0F}\u{FE20}\u{FE2F}\u{FEFF}",
+                ),
+                "\"\\u{3000}\\u{e000}\\u{f8ff}\\u{fe00}\\u{fe0f}\\u{fe20}\\u{fe2f}\\u{feff}\"",
+            ),
+            (
+                Made::DocComment("\u{FFF0}\u{FFFB}\u{E0000}\u{10FFFF}"),
+                "\"\\u{fff0}\\u{fffb}\\u{e0000}\\u{10ffff}\"",
+            ),
+            (
+                Made::DocComment(" ~¡¬®ʯͰ\u{1E00}‐‑‧‰⁞⁰₠℀、〈豈︐︰︱\u{FF01}\u{FFFC}\u{FFFD}𐀀\u{2FA1D}"),
+                "\" ~¡¬®ʯͰ\u{1E00}‐‑‧‰⁞⁰₠℀、〈豈︐︰︱\u{FF01}\u{FFFC}\u{FFFD}𐀀\u{2FA1D}\"",
+            ),
             (Made::Character('a'), "'a'"),
             (Made::Character('é'), "'é'"),
             (Made::Character('"'), "'\"'"),

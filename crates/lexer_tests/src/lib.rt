@@ -16,3 +16,5 @@ mod sources;
 mod texts;
 #[cfg(test)]
 mod trees;
+#[cfg(test)]
+mod values;

@@ -7,6 +7,7 @@ mod pairs;
 mod tokens;
 
 use std::alloc::{AllocGlobal, Global};
+use std::cell::Cell;
 use std::collections::HashSet;
 use std::process::Abort;
 use syn_punctuated::{Pair, PairsFault, Punctuated};
@@ -302,7 +303,51 @@ fn all_retained(rt: &(impl Abort + AllocGlobal), rows: &[(&str, u32, &str)]) {
 
 #[test]
 fn shows_each_value_to_the_predicate_once(rt: HostRuntime) {
-    all_retained(&rt, &[("1,2,3", 123, "5,7")]);
+    all_retained(
+        &rt,
+        &[
+            ("1,2,3", 123, "5,7"),
+            ("1,2,", 12, "5,"),
+            ("1,2", 12, "5"),
+            ("2", 2, ""),
+            ("", 0, ""),
+        ],
+    );
+}
+
+// A value or a separator that counts how many are dropped.
+struct Counted<'a>(&'a Cell<u32>);
+
+impl Drop for Counted<'_> {
+    fn drop(self) {
+        let Counted(dropped) = self;
+        dropped.set(dropped.get().wrapping_add(1));
+    }
+}
+
+// Returns how many values and separators of a list of three pairs are dropped by `clear`, and then
+// with the list.
+fn cleared(alloc: Global) -> Option<(u32, u32)> {
+    let dropped = Cell::new(0);
+    let mut list = Punctuated::new(alloc);
+    for _ in 0..3u32 {
+        if list.empty_or_trailing() {
+            list.push_value(Counted(&dropped)).ok()?;
+            list.push_punct(Counted(&dropped)).ok()?;
+        }
+    }
+    if list.empty_or_trailing() {
+        list.push_value(Counted(&dropped)).ok()?;
+    }
+    list.clear();
+    let by_clear = dropped.get();
+    drop(list);
+    Some((by_clear, dropped.get()))
+}
+
+#[test]
+fn clear_drops_each_value_and_separator(rt: HostRuntime) {
+    assert_eq!(rt; cleared(rt.alloc()), Some((7, 7)));
 }
 
 // Returns pairs of these values and separators.

@@ -1,7 +1,7 @@
 //! The calls of `syn_punctuated` that allocate.
 ghost use Rattle.std.specs.Prelude.{◌≡◌};
 
-use crate::outcome::{Outcome, Stop, stands, worst};
+use crate::outcome::{Outcome, Stop, expect, stands, worst};
 use std::alloc::{AllocError, Global};
 use std::marker::Model;
 use std::rc::Rc;
@@ -73,6 +73,36 @@ pub fn calls(alloc: Global) -> Outcome {
         tokens_of_list(alloc),
         tokens_of_pair(alloc),
     ])
+}
+
+/// Makes three lists, and does nothing with them.
+pub fn listed(alloc: Global) -> Outcome {
+    let _lists = three(alloc)?;
+    Ok(())
+}
+
+/// Makes the same lists, and takes values out of them by calls that don't allocate.
+pub fn emptied(alloc: Global) -> Outcome {
+    let (mut retained, mut popped, mut cleared) = three(alloc)?;
+    retained.retain(|letter| *letter == 'a');
+    cleared.clear();
+    let last = popped.pop();
+    let pair = popped.pop_pair();
+    let right = [
+        shows(&retained, "a"),
+        last == Some('b'),
+        pair == Some(Pair::Punctuated('a', Mark(';'))),
+        popped.is_empty(),
+        cleared.is_empty(),
+    ];
+    expect(right == [true; 5], "retain, pop, pop_pair, clear")
+}
+
+// Returns three lists `a;b`.
+fn three(alloc: Global) -> Result<(Letters, Letters, Letters), PairsFault> {
+    let first = two_letters(alloc)?;
+    let second = two_letters(alloc)?;
+    Ok((first, second, two_letters(alloc)?))
 }
 
 // Judges what is left, by whether the call succeeded.

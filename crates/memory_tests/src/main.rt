@@ -7,8 +7,9 @@
 //!
 //! Some inputs are names. For `buffer` it lays out an empty stream and does nothing else. For `laid
 //! out` it lays out some tokens, and for `free` the same tokens, on which it then makes calls that
-//! don't allocate. For `kept` and the name of a call it adds several things by that call: if an
-//! allocation fails, the status is 10 and how many are there.
+//! don't allocate. For `listed` it makes lists, and for `emptied` the same ones, which it then
+//! empties. For `kept` and the name of a call it adds several things by that call: if an allocation
+//! fails, the status is 10 and how many are there.
 #![tactic(auto)]
 
 mod argument_lists;
@@ -20,6 +21,7 @@ mod replays;
 mod streams;
 mod tokens;
 mod trees;
+mod values;
 
 use kept::Kept;
 use outcome::{Outcome, Stop};
@@ -39,6 +41,10 @@ fn main(rt: HostRuntime) -> ExitCode {
         streams::free::laid_out(alloc)
     } else if bytes.starts_with(b"free") {
         streams::free::calls(alloc)
+    } else if bytes.starts_with(b"listed") {
+        lists::listed(alloc)
+    } else if bytes.starts_with(b"emptied") {
+        lists::emptied(alloc)
     } else if bytes.starts_with(b"kept ") {
         match kept_by(alloc, &bytes[5..], count) {
             Ok(kept) if kept.is_refused => return ExitCode::from(status(kept.count)),
@@ -79,6 +85,7 @@ fn status(count: usize) -> u8 {
 fn run(alloc: Global, before: usize) -> Outcome {
     spend(alloc, before)?;
     trees::calls(alloc)?;
+    values::calls(alloc)?;
     cursors::calls(alloc)?;
     tokens::calls(alloc)?;
     lists::calls(alloc)?;

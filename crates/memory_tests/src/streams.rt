@@ -7,9 +7,10 @@ mod own;
 mod whole;
 
 use crate::outcome::{Outcome, Stop, expect, shows, worst};
-use own::{AnyIdent, AnyLifetime, Plus, Word};
+use crate::trees::{span, write};
+use own::{AnyIdent, AnyLifetime, LongWord, Plus, Word};
 use std::alloc::Global;
-use syn_parse::{Fault, IdentExt, Parse, tokens_to_parse_buffer};
+use syn_parse::{Fault, IdentExt, Own, Parse, tokens_to_parse_buffer};
 use tok_buffer::{Lifetime, TokenBuffer};
 use tok_core::{Group, Ident, Literal, Punct, Span, TokenStream, TokenTree, lex};
 use tok_types::token;
@@ -20,6 +21,7 @@ pub fn calls(alloc: Global) -> Outcome {
         values(alloc),
         boxed(alloc),
         unraw(alloc),
+        own_word(alloc),
         refusals_of_trees(alloc),
         refusals_of_tokens(alloc),
         groups::calls(alloc),
@@ -130,5 +132,23 @@ fn refusals_of_tokens(alloc: Global) -> Outcome {
         refuses::<token::Underscore>(alloc, "a", "expected `_`", "Underscore::parse"),
         refuses::<Word>(alloc, "a", "expected `word`", "parsing::keyword"),
         refuses::<Plus>(alloc, "a", "expected `+`", "parsing::punct"),
+        refuses::<Own<LongWord>>(alloc, "a", "expected `a_keyword_of_ones_own`", "Own::parse"),
+        fault_at(alloc),
     ])
+}
+
+fn own_word(alloc: Global) -> Outcome {
+    let own = Own::<LongWord>::new(span());
+    let fronts = ["+ + + +", "+ + + + a_keyword_of_ones_own"];
+    write(alloc, &own, &fronts, "Own::to_tokens")
+}
+
+fn fault_at(alloc: Global) -> Outcome {
+    match Fault::at(alloc, Span::source(1, 2, 4), "an error at this span") {
+        Fault::Memory(_) => Err(Stop::Refused),
+        Fault::Refused(error) => expect(
+            shows(&error, "an error at this span") && error.span() == Span::source(1, 2, 4),
+            "Fault::at",
+        ),
+    }
 }

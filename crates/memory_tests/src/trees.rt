@@ -75,7 +75,7 @@ fn idents(alloc: Global) -> Outcome {
     let plain = raw.unraw(alloc);
     expect(is_ident(&raw, RAW_NAME), "Ident::unraw")?;
     expect(is_ident(&plain?, NAME), "Ident::unraw")?;
-    let copy = ident.clone();
+    let copy: Result<_, AllocError> = ident.clone();
     expect(is_ident(&ident, NAME), "Ident::clone")?;
     expect(is_ident(&copy?, NAME), "Ident::clone")
 }
@@ -86,7 +86,7 @@ fn literals(alloc: Global) -> Outcome {
         is_literal(&literal, "\"abcdefghijklm\\n\""),
         "Literal::string",
     )?;
-    let copy = literal.clone();
+    let copy: Result<_, AllocError> = literal.clone();
     expect(
         is_literal(&literal, "\"abcdefghijklm\\n\""),
         "Literal::clone",
@@ -95,6 +95,11 @@ fn literals(alloc: Global) -> Outcome {
 }
 
 fn made_literals(alloc: Global) -> Outcome {
+    let literal = Literal::doc_comment(alloc, "abcdefghij\u{301}")?;
+    expect(
+        is_literal(&literal, "\"abcdefghij\\u{301}\""),
+        "Literal::doc_comment",
+    )?;
     let literal = Literal::character(alloc, 'é')?;
     expect(is_literal(&literal, "'é'"), "Literal::character")?;
     let literal = Literal::byte_character(alloc, 0xFF)?;
@@ -117,7 +122,7 @@ fn made_literals(alloc: Global) -> Outcome {
 fn texts(alloc: Global) -> Outcome {
     let text = Text::from_str(alloc, NAME)?;
     expect(text.as_str() == NAME, "Text::from_str")?;
-    let copy = text.clone();
+    let copy: Result<_, AllocError> = text.clone();
     expect(text.as_str() == NAME, "Text::clone")?;
     expect(copy?.as_str() == NAME, "Text::clone")?;
     let taken = Text::from_string(alloc, String::from_str(alloc, NAME)?)?;
@@ -165,12 +170,12 @@ fn is_group(group: &Group) -> bool {
 
 fn clones(alloc: Global) -> Outcome {
     let group = group(alloc)?;
-    let copy = group.clone();
+    let copy: Result<_, AllocError> = group.clone();
     expect(is_group(&group), "Group::clone")?;
     expect(is_group(&copy?), "Group::clone")?;
     let mut stream = TokenStream::new(alloc);
     let tree = TokenTree::Group(group);
-    let copy = tree.clone();
+    let copy: Result<_, AllocError> = tree.clone();
     stream.append(tree)?;
     expect(is_stream(&stream, "{abcdefghijklmnop}"), "TokenTree::clone")?;
     stream.append(copy?)?;
@@ -178,7 +183,7 @@ fn clones(alloc: Global) -> Outcome {
         is_stream(&stream, "{abcdefghijklmnop} {abcdefghijklmnop}"),
         "TokenTree::clone",
     )?;
-    let copy = stream.clone();
+    let copy: Result<_, AllocError> = stream.clone();
     expect(
         is_stream(&stream, "{abcdefghijklmnop} {abcdefghijklmnop}"),
         "TokenStream::clone",

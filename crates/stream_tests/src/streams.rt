@@ -2,6 +2,7 @@
 mod groups;
 mod hostile;
 mod lists;
+mod own;
 
 use crate::said::all_said;
 use std::alloc::{AllocGlobal, Global};

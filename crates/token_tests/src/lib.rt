@@ -3,3 +3,5 @@
 
 #[cfg(test)]
 mod buffer;
+#[cfg(test)]
+mod carets;

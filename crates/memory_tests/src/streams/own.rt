@@ -1,4 +1,6 @@
 //! Types whose parsers make the calls that no library type's parser makes.
+ghost use Rattle.std.specs.Prelude.{codes};
+
 use syn_parse::{
     Braces, Brackets, Group, IdentExt, LifetimeExt, Parens, Parse, ParseStream, Result,
     parse_braces, parse_brackets, parse_group, parse_parens, parsing,
@@ -33,6 +35,21 @@ pub struct Word(Span);
 impl Parse for Word {
     fn parse(input: ParseStream<'_, '_>) -> Result<Self> {
         Ok(Word(parsing::keyword(input, "word")?))
+    }
+}
+
+/// A keyword with a text that a `Text` does not store in place.
+pub struct LongWord;
+
+impl syn_parse::Word for LongWord {
+    ghost text = { codes "a_keyword_of_ones_own" };
+
+    fn text() -> &'static str {
+        "a_keyword_of_ones_own"
+    }
+
+    fn display() -> &'static str {
+        "`a_keyword_of_ones_own`"
     }
 }
 

@@ -1,7 +1,7 @@
 //! Groups, leftovers and lookahead.
 use crate::said::all_said;
 use std::alloc::Global;
-use syn_parse::{ParseStream, Parser, Result, parenthesized};
+use syn_parse::{ParseStream, Parser, Result, braced, bracketed, parenthesized};
 use test_outcomes::{READ, Sample};
 use tok_buffer::Lifetime;
 use tok_core::{Delimiter, Ident};
@@ -30,6 +30,22 @@ fn by_macro(input: ParseStream<'_, '_>) -> Result<Ident> {
     name
 }
 
+fn braced_name(input: ParseStream<'_, '_>) -> Result<String> {
+    let mut content;
+    let _: token::Brace = braced!(content in input);
+    let name = content.parse::<Ident>();
+    input.close(content);
+    Ok(format!(in input.allocator(); "{}", name?.as_str())?)
+}
+
+fn bracketed_name(input: ParseStream<'_, '_>) -> Result<String> {
+    let mut content;
+    let _: token::Bracket = bracketed!(content in input);
+    let name = content.parse::<Ident>();
+    input.close(content);
+    Ok(format!(in input.allocator(); "{}", name?.as_str())?)
+}
+
 fn name_by_macro(input: ParseStream<'_, '_>) -> Result<String> {
     let name = by_macro(input)?;
     Ok(format!(in input.allocator(); "{}", name.as_str())?)
@@ -40,6 +56,8 @@ enum Read {
     OneInside,
     OwnWordsInside,
     ByMacro,
+    Braced,
+    Bracketed,
     OneOfThree,
     CommaOrEndInside,
     OnlyEnd,
@@ -51,6 +69,8 @@ impl Sample for Read {
             Read::OneInside => one_inside.parse_str(alloc, text),
             Read::OwnWordsInside => own_words_inside.parse_str(alloc, text),
             Read::ByMacro => name_by_macro.parse_str(alloc, text),
+            Read::Braced => braced_name.parse_str(alloc, text),
+            Read::Bracketed => bracketed_name.parse_str(alloc, text),
             Read::OneOfThree => one_of_three.parse_str(alloc, text),
             Read::CommaOrEndInside => comma_or_end_inside.parse_str(alloc, text),
             Read::OnlyEnd => only_end.parse_str(alloc, text),
@@ -76,6 +96,24 @@ fn contents(rt: HostRuntime) {
         &[
             ("(a)", "a"),
             ("(a b)", "3..4 unexpected token, expected `)`"),
+        ],
+    );
+    all_said(
+        &rt,
+        &Read::Braced,
+        &[
+            ("{a}", "a"),
+            ("[a]", "0..1 expected curly braces"),
+            ("{a b}", "3..4 unexpected token, expected `}`"),
+        ],
+    );
+    all_said(
+        &rt,
+        &Read::Bracketed,
+        &[
+            ("[a]", "a"),
+            ("{a}", "0..1 expected square brackets"),
+            ("[a b]", "3..4 unexpected token, expected `]`"),
         ],
     );
 }

@@ -37,8 +37,31 @@ fn by_stream(input: ParseStream<'_, '_>) -> Result<String> {
     counted(input.allocator(), &list)
 }
 
+// Returns how many names a list has, and how often its parser was called.
+fn terminated_calls(input: ParseStream<'_, '_>) -> Result<String> {
+    let alloc = input.allocator();
+    let mut calls = 0u32;
+    let list: Names = Punctuated::parse_terminated_with(input, |stream| {
+        calls = calls.wrapping_add(1);
+        Ident::parse(stream)
+    })?;
+    Ok(format!(in alloc; "{} {calls}", list.len())?)
+}
+
+fn separated_calls(input: ParseStream<'_, '_>) -> Result<String> {
+    let alloc = input.allocator();
+    let mut calls = 0u32;
+    let list: Names = Punctuated::parse_separated_nonempty_with(input, |stream| {
+        calls = calls.wrapping_add(1);
+        Ident::parse(stream)
+    })?;
+    Ok(format!(in alloc; "{} {calls}", list.len())?)
+}
+
 // The parsers of this module.
 enum Read {
+    TerminatedCalls,
+    SeparatedCalls,
     Terminated,
     Separated,
     ByStream,
@@ -51,6 +74,8 @@ enum Read {
 impl Sample for Read {
     fn run(&self, alloc: Global, text: &str) -> Result<String> {
         match self {
+            Read::TerminatedCalls => terminated_calls.parse_str(alloc, text),
+            Read::SeparatedCalls => separated_calls.parse_str(alloc, text),
             Read::Terminated => terminated.parse_str(alloc, text),
             Read::Separated => separated.parse_str(alloc, text),
             Read::ByStream => by_stream.parse_str(alloc, text),
@@ -83,6 +108,16 @@ fn lists_of_names(rt: HostRuntime) {
             ("a,", "call unexpected end of input, expected identifier"),
         ],
     );
+}
+
+#[test]
+fn a_parser_is_called_once_for_each_value(rt: HostRuntime) {
+    all_said(
+        &rt,
+        &Read::TerminatedCalls,
+        &[("", "0 0"), ("a", "1 1"), ("a, b", "2 2"), ("a, b,", "2 2")],
+    );
+    all_said(&rt, &Read::SeparatedCalls, &[("a", "1 1"), ("a, b", "2 2")]);
 }
 
 fn nothing_by_nothing(input: ParseStream<'_, '_>) -> Result<String> {
