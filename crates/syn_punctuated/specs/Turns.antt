@@ -88,6 +88,12 @@ module _ {T P F : Type 0} (rule : Rule) (reads : ValueCall F T) (separates : Cal
       IsTurn f s turn × (progresses s.place turn.after.place ≡ true)
       × Chain turn.parser turn.after turns g t
 
+  -- full turns lead from the first parser and stream to these, and another turn begins here
+  pub record LeadsToTurn (f : F) (s : State) (g : F) (t : State) : Type 0 where
+    pub turns : List (Turn T P F)
+    pub chain : Chain f s turns g t
+    pub begins : rule.begins t.place
+
   -- how a run ends from here, after these turns
   pub data Ending (f : F) (s : State) (turns : List (Turn T P F))
       (result : Result (Punctuated T P) Fault) (t : State) : Type 0 where

@@ -8,7 +8,7 @@ ghost use Rattle.syn_punctuated.specs.Lists.{values_of};
 ghost use Rattle.syn_punctuated.specs.Private.Pieces.{IsPiece, Keeps};
 ghost use Rattle.syn_punctuated.specs.Progress.{MakesNone, progresses};
 ghost use Rattle.syn_punctuated.specs.TakeLists.{Separates};
-ghost use Rattle.syn_punctuated.specs.Turns.{Rule, IsRun, no_progress};
+ghost use Rattle.syn_punctuated.specs.Turns.{Rule, IsRun, LeadsToTurn, no_progress};
 
 use crate::punctuated::Punctuated;
 use std::alloc::Global;
@@ -42,7 +42,9 @@ where
     T: Drop,
     P: Parse + Drop,
     F: FnMut(ParseStream<'_, 'a>) -> Result<T>,
-    requires { (f : F) (y : _) → remaining y.now.place ≤ remaining input.old.place → F.pre f y }
+    requires { (f : F) (y : _) → remaining y.now.place ≤ remaining input.old.place
+        → LeadsToTurn R.rule (CalledAtMut F.FnMut) (Separates P.parses P.takes) parser input.old
+        f y.now → F.pre f y }
     ensures run { IsRun R.rule (CalledAtMut F.FnMut)
         (Separates P.parses P.takes) parser input.old result input.new }
     ensures bounded { IfOk result
@@ -84,7 +86,7 @@ where
     T: Drop,
     P: Parse + Drop,
     F: FnMut(ParseStream<'_, 'a>) -> Result<T>,
-    requires { (y : _) → y.now ≡ input.old → F.pre parser.old y }
+    requires { (y : _) → y.now ≡ input.old → R.rule.begins input.old.place → F.pre parser.old y }
     ensures { IsPiece R.rule (CalledAtMut F.FnMut)
         (Separates P.parses P.takes) parser.old input.old result parser.new input.new }
 {

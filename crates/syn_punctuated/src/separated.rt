@@ -8,7 +8,7 @@ ghost use Rattle.syn_parse.specs.Takings.{Keeps, Lightens, lighter, told};
 ghost use Rattle.syn_punctuated.specs.Lists.{values_of};
 ghost use Rattle.syn_punctuated.specs.TakeLists.{EachTakes, Separates, separated_list};
 ghost use Rattle.tok_types.specs.Sees.{Sees};
-ghost use Rattle.syn_punctuated.specs.Turns.{separated, IsRun, IsPlainRun};
+ghost use Rattle.syn_punctuated.specs.Turns.{separated, IsRun, IsPlainRun, LeadsToTurn};
 
 use crate::parse::{ListRule, parse_list};
 use crate::punctuated::Punctuated;
@@ -39,7 +39,8 @@ impl<T: Drop, P: Parse + Token + Drop> Punctuated<T, P> {
     ///
     /// # Requires
     ///
-    /// The parser must be callable on every stream with no more remaining than this one.
+    /// The parser must be callable wherever a value begins: on this stream, and on what each turn
+    /// leaves of it. No more remains there than at the start.
     ///
     /// # Examples
     ///
@@ -54,7 +55,10 @@ impl<T: Drop, P: Parse + Token + Drop> Punctuated<T, P> {
     ) -> Result<Self>
     where
         F: FnMut(ParseStream<'_, 'a>) -> Result<T>,
-        requires { (f : F) (y : _) → remaining y.now.place ≤ remaining input.old.place → F.pre f y }
+        requires { (f : F) (y : _) → remaining y.now.place ≤ remaining input.old.place
+            → LeadsToTurn (separated (λ p found. P.peeks p found × Sees P.sees p found))
+            (CalledAtMut F.FnMut) (Separates P.parses P.takes) parser input.old f y.now
+            → F.pre f y }
         ensures run { IsRun (separated P.peeks) (CalledAtMut F.FnMut)
             P.parses parser input.old result input.new }
         ensures turns { IsRun (separated (λ p found. P.peeks p found × Sees P.sees p found))

@@ -8,7 +8,7 @@ ghost use Rattle.syn_parse.specs.Takes.{Taking};
 ghost use Rattle.syn_parse.specs.Takings.{Keeps, Lightens, lighter, told};
 ghost use Rattle.syn_punctuated.specs.Lists.{values_of};
 ghost use Rattle.syn_punctuated.specs.TakeLists.{EachTakes, Separates, terminated_list};
-ghost use Rattle.syn_punctuated.specs.Turns.{terminated, IsRun, IsPlainRun};
+ghost use Rattle.syn_punctuated.specs.Turns.{terminated, IsRun, IsPlainRun, LeadsToTurn};
 
 use crate::parse::{ListRule, parse_list};
 use crate::punctuated::Punctuated;
@@ -40,7 +40,8 @@ impl<T: Drop, P: Parse + Drop> Punctuated<T, P> {
     ///
     /// # Requires
     ///
-    /// The parser must be callable on every stream with no more remaining than this one.
+    /// The parser must be callable wherever a value begins: on this stream unless it is at its end,
+    /// and on what each turn leaves of it. No more remains there than at the start.
     ///
     /// # Examples
     ///
@@ -52,7 +53,9 @@ impl<T: Drop, P: Parse + Drop> Punctuated<T, P> {
     pub fn parse_terminated_with<'a, F>(input: ParseStream<'_, 'a>, parser: F) -> Result<Self>
     where
         F: FnMut(ParseStream<'_, 'a>) -> Result<T>,
-        requires { (f : F) (y : _) → remaining y.now.place ≤ remaining input.old.place → F.pre f y }
+        requires { (f : F) (y : _) → remaining y.now.place ≤ remaining input.old.place
+            → LeadsToTurn terminated (CalledAtMut F.FnMut) (Separates P.parses P.takes) parser
+            input.old f y.now → F.pre f y }
         ensures run { IsRun terminated (CalledAtMut F.FnMut)
             P.parses parser input.old result input.new }
         ensures turns { IsRun terminated (CalledAtMut F.FnMut)
@@ -98,7 +101,8 @@ pub trait ParseTerminated {
     ///
     /// # Requires
     ///
-    /// The parser must be callable on every stream with no more remaining than this one.
+    /// The parser must be callable wherever a value begins: on this stream unless it is at its end,
+    /// and on what each turn leaves of it. No more remains there than at the start.
     ///
     /// # Examples
     ///
@@ -112,7 +116,8 @@ pub trait ParseTerminated {
     where
         F: FnMut(ParseStream<'_, '_>) -> Result<T>,
         requires { (f : F) (y : _) → remaining y.now.place ≤ remaining (state self.old).place
-            → F.pre f y }
+            → LeadsToTurn terminated (CalledAtMut F.FnMut) (Separates P.parses P.takes) parser
+            (state self.old) f y.now → F.pre f y }
         ensures run { IsRun terminated (CalledAtMut F.FnMut) P.parses parser (state self.old)
             result (state self.new) }
         ensures bounded { IfOk result
