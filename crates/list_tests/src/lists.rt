@@ -671,3 +671,53 @@ fn all_debugged(rt: &(impl Abort + AllocGlobal), rows: &[(&str, &str)]) {
 fn shows_for_debugging(rt: HostRuntime) {
     all_debugged(&rt, &[("2,3", "[2, Mark(','), 3]")]);
 }
+
+// What each iterator over a list shows for debugging.
+fn iterators_debugged(alloc: Global, text: &str) -> Option<[String; 6]> {
+    let mut list = numbers(alloc, text)?;
+    let iter = format!(in alloc; "{:?}", list.iter()).ok()?;
+    let pairs = format!(in alloc; "{:?}", list.pairs()).ok()?;
+    let iter_mut = format!(in alloc; "{:?}", list.iter_mut()).ok()?;
+    let pairs_mut = format!(in alloc; "{:?}", list.pairs_mut()).ok()?;
+    let into_pairs = format!(in alloc; "{:?}", list.clone().ok()?.into_pairs()).ok()?;
+    let into_iter = format!(in alloc; "{:?}", list.into_iter()).ok()?;
+    Some([iter, pairs, iter_mut, pairs_mut, into_pairs, into_iter])
+}
+
+fn are_debugged(alloc: Global, text: &str, wanted: &[&str; 6]) -> Option<bool> {
+    let found = iterators_debugged(alloc, text)?;
+    Some(
+        found
+            .iter()
+            .zip(wanted)
+            .all(|(one, other)| one.as_str() == *other),
+    )
+}
+
+fn all_iterators_debugged(rt: &(impl Abort + AllocGlobal), rows: &[(&str, [&str; 6])]) {
+    for (text, wanted) in rows {
+        assert_eq!(rt;
+            are_debugged(rt.alloc(), text, wanted),
+            Some(true),
+            "at {text}"
+        );
+    }
+}
+
+#[test]
+fn shows_iterators_for_debugging(rt: HostRuntime) {
+    all_iterators_debugged(
+        &rt,
+        &[(
+            "2,3",
+            [
+                "Iter { pairs: Pairs { inner: Iter([(2, Mark(','))]), last: Some(3) } }",
+                "Pairs { inner: Iter([(2, Mark(','))]), last: Some(3) }",
+                "IterMut { pairs: PairsMut { inner: IterMut([(2, Mark(','))]), last: Some(3) } }",
+                "PairsMut { inner: IterMut([(2, Mark(','))]), last: Some(3) }",
+                "IntoPairs { inner: [(2, Mark(','))], last: Some(3) }",
+                "IntoIter { pairs: IntoPairs { inner: [(2, Mark(','))], last: Some(3) } }",
+            ],
+        )],
+    );
+}

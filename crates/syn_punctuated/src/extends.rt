@@ -32,6 +32,8 @@ impl fmt::Display for PairsFault {
     }
 }
 
+impl std::error::Error for PairsFault {}
+
 impl From<AllocError> for PairsFault {
     ghost use Rattle.syn_punctuated.specs.declared.extends.PairsFault.TheVariants.{Memory};
 

@@ -26,7 +26,7 @@ impl<T: Drop, P: Drop> IntoIterator for Punctuated<T, P> {
 }
 
 /// An iterator that moves out the values that are left. A `for` loop over a list makes it.
-#[derive(Drop)]
+#[derive(Drop, Debug)]
 pub struct IntoIter<T, P> {
     pub(crate) pairs: IntoPairs<T, P>,
 }

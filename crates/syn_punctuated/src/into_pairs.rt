@@ -29,7 +29,7 @@ impl<T, P> Punctuated<T, P> {
 }
 
 /// An iterator that moves out the pairs that are left. `into_pairs` returns it.
-#[derive(Drop)]
+#[derive(Drop, Debug)]
 pub struct IntoPairs<T, P> {
     pub(crate) inner: VecDeque<(T, P)>,
     pub(crate) last: Option<Box<T>>,

@@ -38,7 +38,7 @@ impl<'a, T, P> IntoIterator for &'a Punctuated<T, P> {
 }
 
 /// An iterator over the values that are left. `iter` returns it.
-#[derive(Drop)]
+#[derive(Drop, Debug)]
 pub struct Iter<'a, T, P> {
     pairs: Pairs<'a, T, P>,
 }

@@ -37,7 +37,7 @@ impl<'a, T, P> IntoIterator for &'a mut Punctuated<T, P> {
 }
 
 /// An iterator over the values that are left, for writing. `iter_mut` returns it.
-#[derive(Drop)]
+#[derive(Drop, Debug)]
 pub struct IterMut<'a, T, P> {
     pairs: PairsMut<'a, T, P>,
 }

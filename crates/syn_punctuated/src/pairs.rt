@@ -42,7 +42,7 @@ impl<T, P> Punctuated<T, P> {
 }
 
 /// An iterator over the pairs that are left. `pairs` returns it.
-#[derive(Drop)]
+#[derive(Drop, Debug)]
 pub struct Pairs<'a, T, P> {
     pub(crate) inner: slice::Iter<'a, (T, P)>,
     pub(crate) last: Option<&'a T>,

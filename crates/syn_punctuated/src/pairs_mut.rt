@@ -46,7 +46,7 @@ fn lend_last<'a, T, P>(last: Option<&'a mut T>) -> Option<Pair<&'a mut T, &'a mu
 }
 
 /// An iterator over the pairs that are left, for writing. `pairs_mut` returns it.
-#[derive(Drop)]
+#[derive(Drop, Debug)]
 pub struct PairsMut<'a, T, P> {
     pub(crate) inner: slice::IterMut<'a, (T, P)>,
     pub(crate) last: Option<&'a mut T>,
