@@ -14,21 +14,25 @@ use Rattle.syn_replay.specs.Session.Walk.{walk}
 abbrev pub all_ignore_invisible : List Look → Bool
 all_ignore_invisible looks = list_all ignores_invisible looks
 
--- not transparent: what shows spans or whole trees, enters invisible groups, or looks for them
+-- transparent: what shows no span and no whole tree, and neither enters an invisible group nor
+-- looks for one
 abbrev pub is_transparent : Command → Bool
 is_transparent (Commands.peek n l) = ignores_invisible l
 is_transparent (Commands.peek2 n l) = ignores_invisible l
 is_transparent (Commands.peek3 n l) = ignores_invisible l
-is_transparent (Commands.enter n delimiter.None) = false
 is_transparent (Commands.lookahead n ls) = all_ignore_invisible ls
-is_transparent (Commands.enter_any n) = false
-is_transparent (Commands.stream_span n) = false
-is_transparent (Commands.cursor_span n) = false
-is_transparent (Commands.previous_span n) = false
-is_transparent (Commands.next_tree n) = false
-is_transparent (Commands.rest n) = false
-is_transparent (Commands.next_group n) = false
-is_transparent c = true
+is_transparent (Commands.enter n delimiter.None) = false
+is_transparent (Commands.enter n d) = true
+is_transparent (Commands.parse n kind) = true
+is_transparent (Commands.optional n kind) = true
+is_transparent (Commands.empty n) = true
+is_transparent (Commands.terminated n kind separator) = true
+is_transparent (Commands.separated n kind separator) = true
+is_transparent (Commands.fork n) = true
+is_transparent (Commands.advance n m) = true
+is_transparent (Commands.discard n) = true
+is_transparent (Commands.close n) = true
+is_transparent c = false
 
 abbrev pub all_transparent : List Command → Bool
 all_transparent commands = list_all is_transparent commands

@@ -198,7 +198,6 @@ module _ (f g : Laid) (visible : erase f.forest ≡ erase g.forest) where
     alike-on_stream (Commands.enter n Parenthesis) e = alike-enters Parenthesis tt
     alike-on_stream (Commands.enter n Brace) e = alike-enters Brace tt
     alike-on_stream (Commands.enter n Bracket) e = alike-enters Bracket tt
-    alike-on_stream (Commands.enter_any n) e = absurd (cc)
     alike-on_stream (Commands.terminated n kind separator) e =
         alike-lists (terminated_turns kind separator)
         (alike-terminated f g kind separator s.scope_span t.scope_span)
@@ -237,12 +236,7 @@ module _ (f g : Laid) (visible : erase f.forest ≡ erase g.forest) where
         record { answer = refl; state = alike-spent_with f g (k ∷ []) 0 st su h }
     alike-on_stream (Commands.close n) e =
         record { answer = refl; state = alike-closed f g k st su h }
-    alike-on_stream (Commands.stream_span n) e = absurd (cc)
-    alike-on_stream (Commands.cursor_span n) e = absurd (cc)
-    alike-on_stream (Commands.previous_span n) e = absurd (cc)
-    alike-on_stream (Commands.next_tree n) e = absurd (cc)
-    alike-on_stream (Commands.rest n) e = absurd (cc)
-    alike-on_stream (Commands.next_group n) e = absurd (cc)
+    alike-on_stream c e = absurd (cc)
 
   -- The refusals of streams.
   same-tested : (without : Bool) (test : Stream → Bool)

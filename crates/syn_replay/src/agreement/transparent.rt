@@ -34,8 +34,8 @@ fn all_ignore_invisible(looks: &[Look]) -> bool
 
 /// Returns `true` if invisible groups that contain a visible token do not matter to the command.
 ///
-/// Such a command doesn't ask for a stream's span or a whole tree, and can't enter or find an
-/// invisible group.
+/// Such a command asks for no stream's span and no whole tree, and can enter or find no invisible
+/// group. A command that is not listed here is not transparent.
 pub fn is_transparent(command: &Command) -> bool
     ensures { result ≡ spec.is_transparent (command_of command.now) }
 {
@@ -43,15 +43,17 @@ pub fn is_transparent(command: &Command) -> bool
         Command::Peek(_, look) => look.ignores_invisible(),
         Command::Peek2(_, look) => look.ignores_invisible(),
         Command::Peek3(_, look) => look.ignores_invisible(),
-        Command::Enter(_, delimiter) => *delimiter != Delimiter::None,
-        Command::EnterAny(_) => false,
         Command::Lookahead(_, looks) => all_ignore_invisible(looks),
-        Command::StreamSpan(_) => false,
-        Command::CursorSpan(_) => false,
-        Command::PreviousSpan(_) => false,
-        Command::Tree(_) => false,
-        Command::Rest(_) => false,
-        Command::GroupTree(_) => false,
-        _ => true,
+        Command::Enter(_, delimiter) => *delimiter != Delimiter::None,
+        Command::Parse(..) => true,
+        Command::Optional(..) => true,
+        Command::Empty(_) => true,
+        Command::Terminated(..) => true,
+        Command::Separated(..) => true,
+        Command::Fork(_) => true,
+        Command::Advance(..) => true,
+        Command::Discard(_) => true,
+        Command::Close(_) => true,
+        _ => false,
     }
 }
