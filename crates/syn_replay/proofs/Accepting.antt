@@ -1,31 +1,31 @@
 -- A walk accepts exactly where nothing is left.
 use Rattle.std.proofs.Common.{◌≡◌, ◌≢◌, ◌∙◌, sym, ap, subst, refl, ℕ, zero, suc, ◌+◌, ◌<◌, Bool, true, false, List, [], ◌∷◌, ◌++◌, length, Option, Some, None, arith, inl, inr, ◌⊎◌}
-use Rattle.std.proofs.lemmas.Bool.{eq-eqb}
+use Rattle.std.proofs.lemmas.Bool.{eq-eqb, or_parts, or_right, cases_Bool, cases_eq}
+use Rattle.std.specs.Option.{option_map}
 use Rattle.std.specs.Prelude.{◌==◌, ◌&&◌, ◌||◌, not, cond}
-use Rattle.tok_core.specs.Forest.{Forest, Tree}
+use Rattle.tok_core.specs.Forest.{Forest}
 use Rattle.tok_leaves.specs.declared.span.Span.{Span}
 use Rattle.tok_leaves.specs.Spans.{closing_span}
 use Rattle.tok_buffer.specs.Ahead.{Leftover, leftover}
-use Rattle.tok_buffer.specs.Entry as entry
 use Rattle.tok_buffer.specs.Entry.{Entered}
 use Rattle.tok_buffer.specs.Order.{same_scope}
 use Rattle.tok_buffer.specs.Place.{Place}
-use Rattle.tok_buffer.specs.Reads as reads
-use Rattle.syn_parse.specs.Parses.{read_group}
 use Rattle.syn_parse.specs.State as parse
 use Rattle.syn_parse.specs.RefusalWords.{leftover_refusal}
 use Rattle.syn_replay.specs.Session.Acceptance.{IsShut, is_discard, Comes, begins, goes_on, all_run, Closes, by_command, at_end, Advances, Counts, NothingLeft, IsExact}
 use Rattle.syn_replay.specs.Session.Acceptance as acceptance
 use Rattle.syn_replay.specs.Commands as commands
-use Rattle.syn_replay.specs.Commands.{Answer, Command, done, unfit, Verdict, accepted}
-use Rattle.syn_replay.specs.Kinds.{Kind, read, peek_kind, refusal}
-use Rattle.syn_replay.specs.Session.State.{Stream, State, StreamKind, outermost, content_of, a_fork, first_state, stream_at, at_rest, put, with_stream, moved_to, spent, handed_note, handed_up, closed_inside, closed, advanced, taken_over, all_spent, is_inside, inside_of, contains}
-use Rattle.syn_replay.specs.Session.Step.{Stepped, any_of, is_content, is_fork, is_missing, is_spent, kind_refusal, misuse, moves, first_named, named, new_stream, into_group, on_stream, one_tree, parsed, place_of, run_list, stays, step, step_on, tested}
-use Rattle.syn_replay.specs.Turns.{Outcome, pieces_of, read_all, refused_at, terminated_turns, separated_turns, turns_left}
+use Rattle.syn_replay.specs.Reports as reports
+use Rattle.syn_replay.specs.Commands.{Action, Command, read_answer}
+use Rattle.syn_replay.specs.Reports.{Answer, done, unfit, Verdict, accepted}
+use Rattle.syn_replay.specs.Session.State.{Stream, State, StreamKind, outermost, content_of, a_fork, first_state, stream_at, at_rest, put, with_stream, moved_to, spent, handed_note, handed_up, closed_inside, closed, advanced, taken_over, all_spent, is_inside, is_or_inside, inside_of, contains}
+use Rattle.syn_replay.specs.Session.Step.{Stepped, any_of, is_content, is_fork, is_missing, is_spent, kind_refusal, misuse, named, new_stream, into_group, on_stream, other_named, place_of, stays, step, step_on, tested, with_other}
+use Rattle.syn_replay.specs.Session.Entering.{entered_by, entering_words}
 use Rattle.syn_replay.specs.Session.Walk.{last_state, stream_verdict, walk}
-use Rattle.syn_replay.proofs.Notes.{Ages, AllClean, Closed, HasNoOpen, Holds, HoldsOpen, IsClean, IsFed, IsIn, Later, Older, ShutWhen, afterwards, before, Tidy, Under, first, deeper, Which, ages_self, all_shut, clean_after, clean_before, cleans_on, inside_closed, is_shut_at, kept_on, none_either, none_of, not_both, older_on, older_self, one_stream, open_or_not, shut_first, shut_is, shut_when, tells, there_below, up, up_cleans, up_kept, which, is_it, is_parent, is_other}
-use Rattle.syn_replay.proofs.Inside.{among_either, inside_at}
-use Rattle.syn_replay.proofs.Spending.{all_spent_at, changed_at, changed_not, discards, mapped, mirrored, spent_when}
+use Rattle.syn_replay.proofs.Notes.{Ages, AllClean, Closed, HasNoOpen, Holds, HoldsOpen, IsClean, IsFed, IsIn, Later, Older, ShutWhen, afterwards, before, Tidy, Under, first, deeper, Which, ages_self, all_shut, clean_after, clean_before, cleans_on, inside_closed, is_shut_at, kept_on, none_either, none_of, not_both, older_on, older_self, one_stream, shut_first, shut_is, shut_when, up, up_cleans, up_kept, which, is_it, is_parent, is_other}
+use Rattle.syn_replay.proofs.Inside.{among_either, inside_at, or_false}
+use Rattle.syn_replay.proofs.Spending.{all_spent_at, mirrored, spent_when}
+use Rattle.syn_replay.proofs.Changes.{at_front, changed_at, changed_not, there_within}
 
 same_number : (p r : ℕ) → content_of p ≡ content_of r → p ≡ r
 same_number p r e = cc
@@ -46,9 +46,9 @@ pub record HoldsShut (st : State) (k : ℕ) : Type 0 where
 pub record StepsTo (X : ℕ → Type 0) (c : Command) (st : State) (r : Stepped) : Type 0 where
   pub older : Older st r.state
   pub tidy : Tidy r.state
-  pub shut_clean : is_discard c ≡ false → (k p : ℕ) (q : Place) → IsShut st r.state k p q → IsClean r.state p → IsClean r.state k × (leftover q ≡ None)
-  pub taken : (s f : ℕ) → c ≡ commands.advance s f → r.answer ≡ done → IsClean r.state s → IsClean r.state f × HoldsShut r.state f
-  pub cleans : (is_discard c ≡ false → IsFed X st r.state) → ((s f : ℕ) → c ≡ commands.advance s f → r.answer ≡ done → X s → X f) → AllClean X st → AllClean X r.state
+  pub shut_clean : is_discard c.action ≡ false → (k p : ℕ) (q : Place) → IsShut st r.state k p q → IsClean r.state p → IsClean r.state k × (leftover q ≡ None)
+  pub taken : (s f : ℕ) → c ≡ commands.on s (commands.advance f) → r.answer ≡ done → IsClean r.state s → IsClean r.state f × HoldsShut r.state f
+  pub cleans : (is_discard c.action ≡ false → IsFed X st r.state) → ((s f : ℕ) → c ≡ commands.on s (commands.advance f) → r.answer ≡ done → X s → X f) → AllClean X st → AllClean X r.state
 
 -- stream k after a command that notes nothing and spends nothing
 pub record Same (s : Stream) (after : State) (k : ℕ) : Type 0 where
@@ -128,7 +128,7 @@ quiet_clean X st after quiet clean k x t h = go (quiet.newer k t h) where
       ap (λ v. v.note) (one_stream (stream_at after k) t z.stream h z.there) ∙ z.note ∙ clean k x y.stream y.there
 
 -- a command that spends nothing and notes nothing
-calm : (X : ℕ → Type 0) (c : Command) (st : State) (r : Stepped) → Tidy st → ((s f : ℕ) → c ≡ commands.advance s f → r.answer ≡ done → ⊥) → Quiet st r.state → StepsTo X c st r
+calm : (X : ℕ → Type 0) (c : Command) (st : State) (r : Stepped) → Tidy st → ((s f : ℕ) → c ≡ commands.on s (commands.advance f) → r.answer ≡ done → ⊥) → Quiet st r.state → StepsTo X c st r
 calm X c st r tidy other quiet = record {
   older = quiet_older st r.state quiet;
   tidy = quiet_tidy st r.state tidy quiet;
@@ -140,15 +140,15 @@ calm X c st r tidy other quiet = record {
 -- an open stream goes elsewhere
 quiet_moved : (st : State) (k : ℕ) (p : Place) → HoldsOpen st k → Quiet st (with_stream st k (moved_to p))
 quiet_moved st k p h = record {
-  same = λ j s e. same j s e (tells j k);
-  newer = λ j t e. newer j t e (tells j k);
+  same = λ j s e. same j s e (cases_eq j k);
+  newer = λ j t e. newer j t e (cases_eq j k);
 } where
   same : (j : ℕ) (s : Stream) → stream_at st j ≡ Some s → (j ≡ k) ⊎ (j ≢ k) → Same s (with_stream st k (moved_to p)) j
   same j s e (inl q) =
       let was : h.stream ≡ s = one_stream (stream_at st k) h.stream s h.there (ap (stream_at st) (sym q) ∙ e) in
       record {
         stream = moved_to p s;
-        there = ap (stream_at (with_stream st k (moved_to p))) q ∙ changed_at st k (moved_to p) ∙ ap (mapped (moved_to p)) (ap (stream_at st) (sym q) ∙ e);
+        there = ap (stream_at (with_stream st k (moved_to p))) q ∙ changed_at st k (moved_to p) ∙ ap (option_map (moved_to p)) (ap (stream_at st) (sym q) ∙ e);
         kind = refl;
         is_open = refl;
         note = refl;
@@ -159,11 +159,6 @@ quiet_moved st k p h = record {
   newer : (j : ℕ) (t : Stream) → stream_at (with_stream st k (moved_to p)) j ≡ Some t → (j ≡ k) ⊎ (j ≢ k) → Holds st j ⊎ IsNew (with_stream st k (moved_to p)) j t
   newer j t e (inl q) = inl (record { stream = h.stream; there = ap (stream_at st) q ∙ h.there })
   newer j t e (inr d) = inl (record { stream = t; there = sym (changed_not st k j (moved_to p) d) ∙ e })
-
-left_at : (st us : State) (k : ℕ) (s : Stream) → stream_at st k ≡ Some s → stream_at (st ++ us) k ≡ Some s
-left_at [] us k s e = cc
-left_at (x ∷ st) us zero s e = e
-left_at (x ∷ st) us (suc k) s e = left_at st us k s e
 
 -- one stream more
 pub data IsLast (st : State) (x : Stream) (k : ℕ) (t : Stream) : Type 0 where
@@ -181,7 +176,7 @@ one_more (y ∷ st) x (suc k) t e = go (one_more st x k t e) where
 
 quiet_more : (st : State) (x : Stream) → x.note ≡ None → ((p : ℕ) → x.kind ≡ content_of p → IsIn st (length st) p) → Quiet st (st ++ x ∷ [])
 quiet_more st x none inside = record {
-  same = λ k s e. record { stream = s; there = left_at st (x ∷ []) k s e; kind = refl; is_open = refl; note = refl; whole = λ c. refl };
+  same = λ k s e. record { stream = s; there = at_front st (x ∷ []) k s e; kind = refl; is_open = refl; note = refl; whole = λ c. refl };
   newer = λ k t e. go k t (one_more st x k t e);
 } where
   go : (k : ℕ) (t : Stream) → IsLast st x k t → Holds st k ⊎ IsNew (st ++ x ∷ []) k t
@@ -190,33 +185,9 @@ quiet_more st x none inside = record {
     no_note = ap (λ z. z.note) e ∙ none;
     inside = λ p f. (let i = inside p (ap (λ z. z.kind) (sym e) ∙ f) in let b = i.below in record {
       below = omega (arith, b, q);
-      parent = record { stream = i.parent.stream; there = left_at st (x ∷ []) p i.parent.stream i.parent.there; is_open = i.parent.is_open };
+      parent = record { stream = i.parent.stream; there = at_front st (x ∷ []) p i.parent.stream i.parent.there; is_open = i.parent.is_open };
     });
   })
-
--- what a command on one stream does
-quiet_parsed : (st : State) (k : ℕ) (s : Stream) (kind : Kind) → HoldsOpen st k → Quiet st (parsed st k s kind).state
-quiet_parsed st k s kind h = go (read kind s.place) where
-  go : (o : Option (List Tree × Place)) → Quiet st (elim o as (λ _. Stepped) [ Some r ↦ moves st k r.1 (commands.pieces (pieces_of r.0)) | None ↦ stays st (commands.refused (refusal kind (at_rest s))) ]).state
-  go None = quiet_self st
-  go (Some r) = quiet_moved st k r.1 h
-
-quiet_optional : (b : Bool) (st : State) (k : ℕ) (s : Stream) (kind : Kind) → HoldsOpen st k → Quiet st (cond b (parsed st k s kind) (stays st commands.absent)).state
-quiet_optional true st k s kind h = quiet_parsed st k s kind h
-quiet_optional false st k s kind h = quiet_self st
-
-quiet_list : (o : Outcome) (st : State) (k : ℕ) → HoldsOpen st k → Quiet st (run_list st k o).state
-quiet_list (read_all parts p) st k h = quiet_moved st k p h
-quiet_list (refused_at r p) st k h = quiet_moved st k p h
-
-quiet_tree : (o : Option (List Tree × Place)) (st : State) (k : ℕ) (s : Stream) (words : List ℕ) → HoldsOpen st k → Quiet st (one_tree st k s words o).state
-quiet_tree None st k s words h = quiet_self st
-quiet_tree (Some r) st k s words h = quiet_moved st k r.1 h
-
-length-with_stream : (st : State) (k : ℕ) (f : Stream → Stream) → length (with_stream st k f) ≡ length st
-length-with_stream [] k f = refl
-length-with_stream (s ∷ st) zero f = grind arith
-length-with_stream (s ∷ st) (suc k) f = let e = length-with_stream st k f in grind arith
 
 quiet_entered : (o : Option Entered) (st : State) (k : ℕ) (s : Stream) (words : List ℕ) → HoldsOpen st k → Quiet st (into_group st k s words o).state
 quiet_entered None st k s words h = quiet_self st
@@ -224,7 +195,7 @@ quiet_entered (Some e) st k s words h =
     let mid = with_stream st k (moved_to e.after) in
     let moved = quiet_moved st k e.after h in
     let parent = same_open st mid k moved h in
-    let below = there_below mid k parent.stream parent.there in
+    let below = there_within mid k parent.stream parent.there in
     let new = new_stream e.content (closing_span e.span) (content_of k) in
     quiet_on st mid (mid ++ new ∷ []) moved (quiet_more mid new refl (λ p f. let q : k ≡ p = same_number k p f in record { below = omega (arith, below, q); parent = subst (HoldsOpen mid) q parent }))
 
@@ -232,7 +203,7 @@ quiet_forked : (st : State) (p : Place) (scope : Span) → Quiet st (st ++ new_s
 quiet_forked st p scope = quiet_more st (new_stream p scope a_fork) refl (λ q f. absurd (no_content q f))
 
 -- a content is closed
-close_steps : (X : ℕ → Type 0) (n : ℕ) (st : State) (k p : ℕ) (s : Stream) (a : Answer) → Tidy st → stream_at st k ≡ Some s → s.is_open ≡ true → s.kind ≡ content_of p → StepsTo X (commands.close n) st (record { answer = a; state = closed k st })
+close_steps : (X : ℕ → Type 0) (n : ℕ) (st : State) (k p : ℕ) (s : Stream) (a : Answer) → Tidy st → stream_at st k ≡ Some s → s.is_open ≡ true → s.kind ≡ content_of p → StepsTo X (commands.on n commands.close) st (record { answer = a; state = closed k st })
 close_steps X n st k p s a tidy e o f =
     let mid = closed_inside k st in
     let c = inside_closed X k st tidy in
@@ -250,8 +221,9 @@ close_steps X n st k p s a tidy e o f =
       taken = λ t g w b clean. absurd (no_close n t g w);
       cleans = λ fed follows clean. cleans_on X st mid (handed_up k mid) c.kept kept.older c.cleans (up_cleans X mid (handed_up k mid) k p u) (fed refl) clean;
     } where
-      no_close : (n t g : ℕ) → commands.close n ≡ commands.advance t g → ⊥
-      no_close n t g w = cc
+      no_close : (n t g : ℕ) → commands.on n commands.close ≡ commands.on t (commands.advance g) → ⊥
+      no_close n t g w =
+          let same : commands.close ≡ commands.advance g = ap (λ z. z.action) w in cc
 
 -- a fork is discarded
 ages_cond : (b : Bool) (s : Stream) → Ages s (cond b (spent s) s)
@@ -270,27 +242,15 @@ kind_cond : (b : Bool) (s : Stream) → (cond b (spent s) s).kind ≡ s.kind
 kind_cond true s = refl
 kind_cond false s = refl
 
-was_at : (st : State) (fork k : ℕ) (o : Option Stream) (t : Stream) → stream_at st k ≡ o → spent_when (discards st fork k) o ≡ Some t → Holds st k
+was_at : (st : State) (fork k : ℕ) (o : Option Stream) (t : Stream) → stream_at st k ≡ o → spent_when (is_or_inside st fork k) o ≡ Some t → Holds st k
 was_at st fork k None t e h = cc
 was_at st fork k (Some s) t e h = record { stream = s; there = e }
 
-discarded_at : (st : State) (fork k : ℕ) (s : Stream) → stream_at st k ≡ Some s → stream_at (all_spent fork st) k ≡ Some (cond (discards st fork k) (spent s) s)
-discarded_at st fork k s e = all_spent_at fork st k ∙ ap (spent_when (discards st fork k)) e
+discarded_at : (st : State) (fork k : ℕ) (s : Stream) → stream_at st k ≡ Some s → stream_at (all_spent fork st) k ≡ Some (cond (is_or_inside st fork k) (spent s) s)
+discarded_at st fork k s e = all_spent_at fork st k ∙ ap (spent_when (is_or_inside st fork k)) e
 
 discarded_was : (st : State) (fork k : ℕ) (t : Stream) → stream_at (all_spent fork st) k ≡ Some t → Holds st k
 discarded_was st fork k t e = was_at st fork k (stream_at st k) t refl (sym (all_spent_at fork st k) ∙ e)
-
-or_false : (b : Bool) → (b || false) ≡ b
-or_false true = refl
-or_false false = refl
-
-or_true : (b : Bool) → (b || true) ≡ true
-or_true true = refl
-or_true false = refl
-
-or_both : (a b : Bool) → (a || b) ≡ false → (a ≡ false) × (b ≡ false)
-or_both true b h = cc
-or_both false b h = (refl, h)
 
 -- a content of what is discarded is inside it
 pub content_inside : (st : State) (fork k p : ℕ) (s : Stream) → stream_at st k ≡ Some s → s.kind ≡ content_of p → p < k → is_inside st fork k ≡ ((fork == p) || is_inside st fork p)
@@ -305,28 +265,29 @@ discard_tidy : (st : State) (fork : ℕ) → Tidy st → Tidy (all_spent fork st
 discard_tidy st fork tidy k p t h o f =
     let x = discarded_was st fork k t h in
     let s = x.stream in
-    let e : t ≡ cond (discards st fork k) (spent s) s = one_stream (stream_at (all_spent fork st) k) t (cond (discards st fork k) (spent s) s) h (discarded_at st fork k s x.there) in
-    let (left, is_open) = open_cond (discards st fork k) s (ap (λ z. z.is_open) (sym e) ∙ o) in
-    let kind : s.kind ≡ content_of p = sym (kind_cond (discards st fork k) s) ∙ ap (λ z. z.kind) (sym e) ∙ f in
+    let e : t ≡ cond (is_or_inside st fork k) (spent s) s = one_stream (stream_at (all_spent fork st) k) t (cond (is_or_inside st fork k) (spent s) s) h (discarded_at st fork k s x.there) in
+    let (left, is_open) = open_cond (is_or_inside st fork k) s (ap (λ z. z.is_open) (sym e) ∙ o) in
+    let kind : s.kind ≡ content_of p = sym (kind_cond (is_or_inside st fork k) s) ∙ ap (λ z. z.kind) (sym e) ∙ f in
     let i = tidy k p s x.there is_open kind in
     let parent = i.parent in
-    let outside = or_both (k == fork) (is_inside st fork k) left in
-    let there = or_both (fork == p) (is_inside st fork p) (sym (content_inside st fork k p s x.there kind i.below) ∙ outside.1) in
-    let keeps : discards st fork p ≡ false = ap (λ z. z || is_inside st fork p) (mirrored p fork ∙ there.0) ∙ there.1 in
+    let outside = or_parts (k == fork) (is_inside st fork k) left in
+    let there = or_parts (fork == p) (is_inside st fork p) (sym (content_inside st fork k p s x.there kind i.below) ∙ outside.1) in
+    let keeps : is_or_inside st fork p ≡ false = ap (λ z. z || is_inside st fork p) (mirrored p fork ∙ there.0) ∙ there.1 in
     record { below = i.below; parent = record { stream = parent.stream; there = discarded_at st fork p parent.stream parent.there ∙ ap (λ b. Some (cond b (spent parent.stream) parent.stream)) keeps; is_open = parent.is_open } }
 
-discard_steps : (X : ℕ → Type 0) (n : ℕ) (st : State) (k : ℕ) (a : Answer) → Tidy st → StepsTo X (commands.discard n) st (record { answer = a; state = all_spent k st })
+discard_steps : (X : ℕ → Type 0) (n : ℕ) (st : State) (k : ℕ) (a : Answer) → Tidy st → StepsTo X (commands.on n commands.discard) st (record { answer = a; state = all_spent k st })
 discard_steps X n st k a tidy = record {
-  older = λ j s e. record { stream = cond (discards st k j) (spent s) s; there = discarded_at st k j s e; ages = ages_cond (discards st k j) s };
+  older = λ j s e. record { stream = cond (is_or_inside st k j) (spent s) s; there = discarded_at st k j s e; ages = ages_cond (is_or_inside st k j) s };
   tidy = discard_tidy st k tidy;
   shut_clean = λ d j p q h clean. absurd (not_both true refl d);
   taken = λ s f e b clean. absurd (no_discard n s f e);
   cleans = λ fed follows clean j x t e. (let y = discarded_was st k j t e in
-      ap (λ z. z.note) (one_stream (stream_at (all_spent k st) j) t (cond (discards st k j) (spent y.stream) y.stream) e (discarded_at st k j y.stream y.there))
-      ∙ note_cond (discards st k j) y.stream ∙ clean j x y.stream y.there);
+      ap (λ z. z.note) (one_stream (stream_at (all_spent k st) j) t (cond (is_or_inside st k j) (spent y.stream) y.stream) e (discarded_at st k j y.stream y.there))
+      ∙ note_cond (is_or_inside st k j) y.stream ∙ clean j x y.stream y.there);
 } where
-  no_discard : (n t g : ℕ) → commands.discard n ≡ commands.advance t g → ⊥
-  no_discard n t g w = cc
+  no_discard : (n t g : ℕ) → commands.on n commands.discard ≡ commands.on t (commands.advance g) → ⊥
+  no_discard n t g w =
+      let same : commands.discard ≡ commands.advance g = ap (λ z. z.action) w in cc
 
 -- a stream advances to a fork whose contents are closed
 pub record Take (mid after : State) (k f : ℕ) : Type 0 where
@@ -404,7 +365,7 @@ content_or_not a_fork = inr no_content
 -- what is under a stream is inside it
 under_inside : (st : State) (outer k : ℕ) → Under st outer k → is_inside st outer k ≡ true
 under_inside st outer k (first j s e f l) = content_inside st outer j outer s e f l ∙ ap (λ z. z || is_inside st outer outer) (eq-eqb outer outer refl)
-under_inside st outer k (deeper j p s e f l u) = content_inside st outer j p s e f l ∙ ap (λ z. (outer == p) || z) (under_inside st outer p u) ∙ or_true (outer == p)
+under_inside st outer k (deeper j p s e f l u) = content_inside st outer j p s e f l ∙ ap (λ z. (outer == p) || z) (under_inside st outer p u) ∙ or_right (outer == p) true refl
 
 -- a stream that is not inside the fork stays open
 outside_open : (X : ℕ → Type 0) (st mid : State) (k f : ℕ) → Closed X st mid f (f + 1) → is_inside st f k ≡ false → HoldsOpen st k → HoldsOpen mid k
@@ -413,12 +374,12 @@ outside_open X st mid k f c outside h = go (content_or_not h.stream.kind) where
   go (inr d) = c.range.no_others k h.stream h.there h.is_open d
   go (inl (p, kind)) =
       let x = c.kept.older k h.stream h.there in
-      elim (open_or_not x.stream.is_open) [
+      elim (cases_Bool x.stream.is_open) [
         | inl o ↦ record { stream = x.stream; there = x.there; is_open = o }
         | inr s ↦ absurd (not_both (is_inside st f k) (under_inside st f k (c.range.under k p h.stream.place (record { stream = h.stream; here = h.there; was_open = h.is_open; inside = kind; at_place = refl; is_shut = shut_is mid k x.stream x.there s }))) outside)
       ]
 
-advance_steps : (X : ℕ → Type 0) (st : State) (k f : ℕ) (s : Stream) → Tidy st → HoldsOpen st k → stream_at st f ≡ Some s → s.is_open ≡ true → s.kind ≡ a_fork → k ≢ f → is_inside st f k ≡ false → StepsTo X (commands.advance k f) st (record { answer = done; state = advanced k f st })
+advance_steps : (X : ℕ → Type 0) (st : State) (k f : ℕ) (s : Stream) → Tidy st → HoldsOpen st k → stream_at st f ≡ Some s → s.is_open ≡ true → s.kind ≡ a_fork → k ≢ f → is_inside st f k ≡ false → StepsTo X (commands.on k (commands.advance f)) st (record { answer = done; state = advanced k f st })
 advance_steps X st k f s tidy h e o g apart outside =
     let mid = closed_inside f st in
     let c = inside_closed X f st tidy in
@@ -448,8 +409,8 @@ advance_steps X st k f s tidy h e o g apart outside =
             there = y.there;
             fork_open = y.is_open;
             kind = kind;
-            mine = changed_not (with_stream mid k (taken_over (stream_at mid f))) f k spent apart ∙ changed_at mid k (taken_over (stream_at mid f)) ∙ ap (mapped (taken_over (stream_at mid f))) x.there ∙ ap (λ w. Some (taken_over w x.stream)) y.there;
-            forks = changed_at (with_stream mid k (taken_over (stream_at mid f))) f spent ∙ ap (mapped spent) (changed_not mid k f (taken_over (stream_at mid f)) (λ q. apart (sym q)) ∙ y.there);
+            mine = changed_not (with_stream mid k (taken_over (stream_at mid f))) f k spent apart ∙ changed_at mid k (taken_over (stream_at mid f)) ∙ ap (option_map (taken_over (stream_at mid f))) x.there ∙ ap (λ w. Some (taken_over w x.stream)) y.there;
+            forks = changed_at (with_stream mid k (taken_over (stream_at mid f))) f spent ∙ ap (option_map spent) (changed_not mid k f (taken_over (stream_at mid f)) (λ q. apart (sym q)) ∙ y.there);
             others = λ j d w. changed_not (with_stream mid k (taken_over (stream_at mid f))) f j spent d ∙ changed_not mid k j (taken_over (stream_at mid f)) w;
           }
 
@@ -460,9 +421,10 @@ advance_steps X st k f s tidy h e o g apart outside =
           let (mine, nothing) = c.kept.shut_clean j p q w (clean_before (closed_inside f st) after p older clean) in
           (clean_after (closed_inside f st) after j x.stream older x.there (is_shut_at (closed_inside f st) j x.stream x.there w.is_shut) mine, nothing)
 
-      taken : (after : State) → Take (closed_inside f st) after k f → (t v : ℕ) → commands.advance k f ≡ commands.advance t v → IsClean after t → IsClean after v × HoldsShut after v
+      taken : (after : State) → Take (closed_inside f st) after k f → (t v : ℕ) → commands.on k (commands.advance f) ≡ commands.on t (commands.advance v) → IsClean after t → IsClean after v × HoldsShut after v
       taken after u t v w clean =
-          let a : k ≡ t = cc in
+          let a : k ≡ t = ap (λ z. z.stream) w in
+          let same : commands.advance f ≡ commands.advance v = ap (λ z. z.action) w in
           let b : f ≡ v = cc in
           let notes = none_of u.stream.note u.fork.note (clean (put (parse.advanced (at_rest u.fork) (at_rest u.stream)) u.stream) (ap (stream_at after) (sym a) ∙ u.mine)) in
           let there : stream_at after v ≡ Some (spent u.fork) = ap (stream_at after) (sym b) ∙ u.forks in
@@ -482,12 +444,12 @@ cond_none false n rest h = (refl, h)
 pub record Fits (c : Command) (st : State) : Type 0 where
   pub there : any_of (is_missing st) (named c) ≡ false
   pub is_open : any_of (is_spent st) (named c) ≡ false
-  pub kind : kind_refusal c st ≡ None
+  pub kind : kind_refusal c.action st c.stream ≡ None
 
 fits : (c : Command) (st : State) → misuse c st ≡ None → Fits c st
 fits c st h =
-    let (a, rest) = cond_none (any_of (is_missing st) (named c)) 1 (cond (any_of (is_spent st) (named c)) (Some 2) (kind_refusal c st)) h in
-    let (b, d) = cond_none (any_of (is_spent st) (named c)) 2 (kind_refusal c st) rest in
+    let (a, rest) = cond_none (any_of (is_missing st) (named c)) 1 (cond (any_of (is_spent st) (named c)) (Some 2) (kind_refusal c.action st c.stream)) h in
+    let (b, d) = cond_none (any_of (is_spent st) (named c)) 2 (kind_refusal c.action st c.stream) rest in
     record { there = a; is_open = b; kind = d }
 
 opened : (o : Option Stream) → tested true (λ s. false) o ≡ false → tested false (λ s. not s.is_open) o ≡ false → (s : Stream) × (o ≡ Some s) × (s.is_open ≡ true)
@@ -501,21 +463,21 @@ open_at : (st : State) (n : ℕ) → is_missing st n ≡ false → is_spent st n
 open_at st n a b = let (s, e, o) = opened (stream_at st n) a b in record { stream = s; there = e; is_open = o }
 
 one_open : (st : State) (n : ℕ) → (is_missing st n || false) ≡ false → (is_spent st n || false) ≡ false → HoldsOpen st n
-one_open st n a b = open_at st n (or_both (is_missing st n) false a).0 (or_both (is_spent st n) false b).0
+one_open st n a b = open_at st n (or_parts (is_missing st n) false a).0 (or_parts (is_spent st n) false b).0
 
-abbrev is_advance : Command → Bool
-is_advance (commands.advance s f) = true
-is_advance c = false
+abbrev is_advance : Action → Bool
+is_advance (commands.advance f) = true
+is_advance a = false
 
 -- a command that is no advance, discard or close
-calmly : (X : ℕ → Type 0) (c : Command) (st : State) (r : Stepped) → Tidy st → is_advance c ≡ false → Quiet st r.state → StepsTo X c st r
-calmly X c st r tidy other quiet = calm X c st r tidy (λ s f e a. not_both (is_advance c) (ap is_advance e) other) quiet
+calmly : (X : ℕ → Type 0) (c : Command) (st : State) (r : Stepped) → Tidy st → is_advance c.action ≡ false → Quiet st r.state → StepsTo X c st r
+calmly X c st r tidy other quiet = calm X c st r tidy (λ s f e a. not_both (is_advance c.action) (ap (λ z. is_advance z.action) e) other) quiet
 
 -- the test of C5 where an advance is done, and where it is refused
-advance_or_not : (X : ℕ → Type 0) (st : State) (k f : ℕ) (s : Stream) (b : Bool) → Tidy st → HoldsOpen st k → stream_at st f ≡ Some s → s.is_open ≡ true → s.kind ≡ a_fork → (scope : Bool) → (scope && not (k == f || is_inside st f k)) ≡ b → StepsTo X (commands.advance k f) st (cond b (record { answer = done; state = advanced k f st }) (stays st (unfit 5)))
-advance_or_not X st k f s false tidy h e o g scope q = refused_steps X (commands.advance k f) st 5 tidy
+advance_or_not : (X : ℕ → Type 0) (st : State) (k f : ℕ) (s : Stream) (b : Bool) → Tidy st → HoldsOpen st k → stream_at st f ≡ Some s → s.is_open ≡ true → s.kind ≡ a_fork → (scope : Bool) → (scope && not (k == f || is_inside st f k)) ≡ b → StepsTo X (commands.on k (commands.advance f)) st (cond b (record { answer = done; state = advanced k f st }) (stays st (unfit 5)))
+advance_or_not X st k f s false tidy h e o g scope q = refused_steps X (commands.on k (commands.advance f)) st 5 tidy
 advance_or_not X st k f s true tidy h e o g scope q =
-    let (a, b) = or_both (k == f) (is_inside st f k) (apart scope (k == f || is_inside st f k) q) in
+    let (a, b) = or_parts (k == f) (is_inside st f k) (apart scope (k == f || is_inside st f k) q) in
     advance_steps X st k f s tidy h e o g (λ same. not_both (k == f) (eq-eqb k f same) a) b where
       apart : (scope b : Bool) → (scope && not b) ≡ true → b ≡ false
       apart true true w = cc
@@ -539,75 +501,63 @@ content_is outermost h = cc
 content_is (content_of p) h = (p, refl)
 content_is a_fork h = cc
 
-on_steps : (X : ℕ → Type 0) (c : Command) (st : State) (k : ℕ) (h : HoldsOpen st k) → named c ≡ k ∷ [] → is_advance c ≡ false → kind_refusal c st ≡ None → Tidy st → StepsTo X c st (on_stream c st k h.stream)
-on_steps X (commands.peek n l) st k h e a q tidy = calmly X _ st _ tidy refl (quiet_self st)
-on_steps X (commands.peek2 n l) st k h e a q tidy = calmly X _ st _ tidy refl (quiet_self st)
-on_steps X (commands.peek3 n l) st k h e a q tidy = calmly X _ st _ tidy refl (quiet_self st)
-on_steps X (commands.parse n kind) st k h e a q tidy = calmly X _ st _ tidy refl (quiet_parsed st k h.stream kind h)
-on_steps X (commands.optional n kind) st k h e a q tidy = calmly X _ st _ tidy refl (quiet_optional (peek_kind kind h.stream.place) st k h.stream kind h)
-on_steps X (commands.empty n) st k h e a q tidy = calmly X _ st _ tidy refl (quiet_self st)
-on_steps X (commands.enter n d) st k h e a q tidy = calmly X _ st _ tidy refl (quiet_entered (entry.enter d h.stream.place) st k h.stream _ h)
-on_steps X (commands.enter_any n) st k h e a q tidy = calmly X _ st _ tidy refl (quiet_entered (entry.enter_any h.stream.place) st k h.stream _ h)
-on_steps X (commands.terminated n kind separator) st k h e a q tidy = calmly X _ st _ tidy refl (quiet_list (terminated_turns kind separator h.stream.scope_span (turns_left h.stream.place) h.stream.place) st k h)
-on_steps X (commands.separated n kind separator) st k h e a q tidy = calmly X _ st _ tidy refl (quiet_list (separated_turns kind separator h.stream.scope_span (turns_left h.stream.place) h.stream.place) st k h)
-on_steps X (commands.lookahead n ls) st k h e a q tidy = calmly X _ st _ tidy refl (quiet_self st)
-on_steps X (commands.fork n) st k h e a q tidy = calmly X _ st _ tidy refl (quiet_forked st h.stream.place h.stream.scope_span)
-on_steps X (commands.advance n f) st k h e a q tidy = absurd (not_both true refl a)
-on_steps X (commands.discard n) st k h e a q tidy = discard_steps X n st k done tidy
-on_steps X (commands.close n) st k h e a q tidy =
-    let same : n ≡ k = cc in
-    let (p, kind) = content_is h.stream.kind (kind_there (stream_at st n) is_content 4 h.stream q (ap (stream_at st) same ∙ h.there)) in
-    close_steps X n st k p h.stream done tidy h.there h.is_open kind
-on_steps X (commands.stream_span n) st k h e a q tidy = calmly X _ st _ tidy refl (quiet_self st)
-on_steps X (commands.cursor_span n) st k h e a q tidy = calmly X _ st _ tidy refl (quiet_self st)
-on_steps X (commands.previous_span n) st k h e a q tidy = calmly X _ st _ tidy refl (quiet_self st)
-on_steps X (commands.next_tree n) st k h e a q tidy = calmly X _ st _ tidy refl (quiet_tree (reads.read_tree h.stream.place) st k h.stream _ h)
-on_steps X (commands.rest n) st k h e a q tidy = calmly X _ st _ tidy refl (quiet_moved st k _ h)
-on_steps X (commands.next_group n) st k h e a q tidy = calmly X _ st _ tidy refl (quiet_tree (read_group h.stream.place) st k h.stream _ h)
+on_steps : (X : ℕ → Type 0) (a : Action) (st : State) (k : ℕ) (h : HoldsOpen st k)
+    → is_advance a ≡ false → kind_refusal a st k ≡ None → Tidy st
+    → StepsTo X (commands.on k a) st (on_stream a st k h.stream)
+on_steps X (commands.read r) st k h e q tidy =
+    calmly X _ st _ tidy refl
+    (quiet_moved st k (read_answer r h.stream.place h.stream.scope_span).1 h)
+on_steps X (commands.enter wanted) st k h e q tidy =
+    calmly X _ st _ tidy refl
+    (quiet_entered (entered_by wanted h.stream.place) st k h.stream (entering_words wanted) h)
+on_steps X commands.fork st k h e q tidy =
+    calmly X _ st _ tidy refl (quiet_forked st h.stream.place h.stream.scope_span)
+on_steps X (commands.advance f) st k h e q tidy = absurd (not_both true refl e)
+on_steps X commands.discard st k h e q tidy = discard_steps X k st k done tidy
+on_steps X commands.close st k h e q tidy =
+    let test = kind_there (stream_at st k) is_content 4 h.stream q h.there in
+    let (p, kind) = content_is h.stream.kind test in
+    close_steps X k st k p h.stream done tidy h.there h.is_open kind
 
 -- a command that fits its streams and names one
-one_named : (X : ℕ → Type 0) (c : Command) (st : State) (n : ℕ) → Tidy st → Fits c st → named c ≡ n ∷ [] → is_advance c ≡ false → StepsTo X c st (step_on c st n (stream_at st n))
-one_named X c st n tidy h e a =
-    let x = one_open st n (ap (any_of (is_missing st)) (sym e) ∙ h.there) (ap (any_of (is_spent st)) (sym e) ∙ h.is_open) in
-    subst (λ o. StepsTo X c st (step_on c st n o)) (sym x.there) (on_steps X c st n x e a h.kind tidy)
+one_named : (X : ℕ → Type 0) (a : Action) (st : State) (n : ℕ) → Tidy st
+    → Fits (commands.on n a) st → other_named a ≡ None → is_advance a ≡ false
+    → StepsTo X (commands.on n a) st (step_on a st n (stream_at st n))
+one_named X a st n tidy h e other =
+    let named_is : with_other n None ≡ named (commands.on n a) = ap (with_other n) (sym e) in
+    let x = one_open st n (ap (any_of (is_missing st)) named_is ∙ h.there)
+    (ap (any_of (is_spent st)) named_is ∙ h.is_open) in
+    subst (λ o. StepsTo X (commands.on n a) st (step_on a st n o)) (sym x.there)
+    (on_steps X a st n x other h.kind tidy)
 
-two_named : (X : ℕ → Type 0) (st : State) (n f : ℕ) → Tidy st → Fits (commands.advance n f) st → StepsTo X (commands.advance n f) st (step_on (commands.advance n f) st n (stream_at st n))
+two_named : (X : ℕ → Type 0) (st : State) (n f : ℕ) → Tidy st
+    → Fits (commands.on n (commands.advance f)) st
+    → StepsTo X (commands.on n (commands.advance f)) st
+    (step_on (commands.advance f) st n (stream_at st n))
 two_named X st n f tidy h =
-    let there = or_both (is_missing st n) (is_missing st f || false) h.there in
-    let is_open = or_both (is_spent st n) (is_spent st f || false) h.is_open in
+    let there = or_parts (is_missing st n) (is_missing st f || false) h.there in
+    let is_open = or_parts (is_spent st n) (is_spent st f || false) h.is_open in
     let x = open_at st n there.0 is_open.0 in
     let y = one_open st f there.1 is_open.1 in
-    let kind = fork_is y.stream.kind (kind_there (stream_at st f) is_fork 3 y.stream h.kind y.there) in
-    subst (λ o. StepsTo X (commands.advance n f) st (step_on (commands.advance n f) st n o)) (sym x.there) (advance_or_not X st n f y.stream (same_scope x.stream.place (place_of (stream_at st f)) && not (n == f || is_inside st f n)) tidy x y.there y.is_open kind (same_scope x.stream.place (place_of (stream_at st f))) refl)
+    let kind = fork_is y.stream.kind
+    (kind_there (stream_at st f) is_fork 3 y.stream h.kind y.there) in
+    subst
+    (λ o. StepsTo X (commands.on n (commands.advance f)) st
+    (step_on (commands.advance f) st n o)) (sym x.there)
+    (advance_or_not X st n f y.stream
+    (same_scope x.stream.place (place_of (stream_at st f)) && not (n == f || is_inside st f n))
+    tidy x y.there y.is_open kind (same_scope x.stream.place (place_of (stream_at st f))) refl)
 
-fitting : (X : ℕ → Type 0) (c : Command) (st : State) → Tidy st → Fits c st → StepsTo X c st (step_on c st (first_named (named c)) (stream_at st (first_named (named c))))
-fitting X (commands.peek n l) st tidy h = one_named X _ st n tidy h refl refl
-fitting X (commands.peek2 n l) st tidy h = one_named X _ st n tidy h refl refl
-fitting X (commands.peek3 n l) st tidy h = one_named X _ st n tidy h refl refl
-fitting X (commands.parse n kind) st tidy h = one_named X _ st n tidy h refl refl
-fitting X (commands.optional n kind) st tidy h = one_named X _ st n tidy h refl refl
-fitting X (commands.empty n) st tidy h = one_named X _ st n tidy h refl refl
-fitting X (commands.enter n d) st tidy h = one_named X _ st n tidy h refl refl
-fitting X (commands.enter_any n) st tidy h = one_named X _ st n tidy h refl refl
-fitting X (commands.terminated n kind separator) st tidy h = one_named X _ st n tidy h refl refl
-fitting X (commands.separated n kind separator) st tidy h = one_named X _ st n tidy h refl refl
-fitting X (commands.lookahead n ls) st tidy h = one_named X _ st n tidy h refl refl
-fitting X (commands.fork n) st tidy h = one_named X _ st n tidy h refl refl
-fitting X (commands.advance n f) st tidy h = two_named X st n f tidy h
-fitting X (commands.discard n) st tidy h = one_named X _ st n tidy h refl refl
-fitting X (commands.close n) st tidy h = one_named X _ st n tidy h refl refl
-fitting X (commands.stream_span n) st tidy h = one_named X _ st n tidy h refl refl
-fitting X (commands.cursor_span n) st tidy h = one_named X _ st n tidy h refl refl
-fitting X (commands.previous_span n) st tidy h = one_named X _ st n tidy h refl refl
-fitting X (commands.next_tree n) st tidy h = one_named X _ st n tidy h refl refl
-fitting X (commands.rest n) st tidy h = one_named X _ st n tidy h refl refl
-fitting X (commands.next_group n) st tidy h = one_named X _ st n tidy h refl refl
+fitting : (X : ℕ → Type 0) (a : Action) (st : State) (n : ℕ) → Tidy st → Fits (commands.on n a) st
+    → StepsTo X (commands.on n a) st (step_on a st n (stream_at st n))
+fitting X (commands.advance f) st n tidy h = two_named X st n f tidy h
+fitting X a st n tidy h = one_named X a st n tidy h refl refl
 
 steps : (X : ℕ → Type 0) (c : Command) (st : State) → Tidy st → StepsTo X c st (step c st)
 steps X c st tidy = go (misuse c st) refl where
-  go : (o : Option ℕ) → misuse c st ≡ o → StepsTo X c st (elim o [ Some n ↦ stays st (unfit n) | None ↦ step_on c st (first_named (named c)) (stream_at st (first_named (named c))) ])
+  go : (o : Option ℕ) → misuse c st ≡ o → StepsTo X c st (elim o [ Some n ↦ stays st (unfit n) | None ↦ step_on c.action st c.stream (stream_at st c.stream) ])
   go (Some n) e = refused_steps X c st n tidy
-  go None e = fitting X c st tidy (fits c st e)
+  go None e = fitting X c.action st c.stream tidy (fits c st e)
 
 -- no set of streams is asked for
 abbrev nothing : ℕ → Type 0
@@ -669,9 +619,9 @@ module _ (f : Forest) (cs : List Command) where
   counts_clean clean k (acceptance.content j p q h c) = (closes_clean j p q h (counts_clean clean p c)).0
   counts_clean clean k (acceptance.fork s j a c) =
       let st = a.before in
-      let after = (step (commands.advance s j) st).state in
-      let r = steps nothing (commands.advance s j) st (comes_tidy st (commands.advance s j ∷ a.rest) a.comes) in
-      let older = to_end after a.rest (goes_on st (commands.advance s j) a.rest a.comes) in
+      let after = (step (commands.on s (commands.advance j)) st).state in
+      let r = steps nothing (commands.on s (commands.advance j)) st (comes_tidy st (commands.on s (commands.advance j) ∷ a.rest) a.comes) in
+      let older = to_end after a.rest (goes_on st (commands.on s (commands.advance j)) a.rest a.comes) in
       let (mine, shut) = r.taken s j refl a.advances (clean_before after ends s older (counts_clean clean s c)) in
       clean_after after ends j shut.stream older shut.there shut.is_shut mine
 
@@ -697,7 +647,7 @@ module _ (f : Forest) (cs : List Command) where
   accepts_then : (o : Option Stream) (s : Stream) → o ≡ Some s → stream_verdict o ≡ accepted → handed_note s ≡ None
   accepts_then None s e h = cc
   accepts_then (Some t) s e h = let q : t ≡ s = cc in ap handed_note (sym q) ∙ go (handed_note t) h where
-    go : (o : Option Leftover) → ◌≡◌ {A = Verdict} (elim o [ None ↦ accepted | Some l ↦ commands.left_over (leftover_refusal l) ]) accepted → o ≡ None
+    go : (o : Option Leftover) → ◌≡◌ {A = Verdict} (elim o [ None ↦ accepted | Some l ↦ reports.left_over (leftover_refusal l) ]) accepted → o ≡ None
     go None h = refl
     go (Some l) h = cc
 
@@ -706,7 +656,7 @@ module _ (f : Forest) (cs : List Command) where
   then_accepts (Some t) s e h =
       let q : t ≡ s = cc in
       go (handed_note t) (ap handed_note q ∙ h) where
-        go : (o : Option Leftover) → o ≡ None → ◌≡◌ {A = Verdict} (elim o [ None ↦ accepted | Some l ↦ commands.left_over (leftover_refusal l) ]) accepted
+        go : (o : Option Leftover) → o ≡ None → ◌≡◌ {A = Verdict} (elim o [ None ↦ accepted | Some l ↦ reports.left_over (leftover_refusal l) ]) accepted
         go None h = refl
         go (Some l) h = cc
 

@@ -15,7 +15,7 @@ use Rattle.syn_parse.specs.State as parse
 use Rattle.syn_parse.specs.RefusalWords.{refused_at}
 use Rattle.syn_parse.specs.declared.fault.Fault.{Fault}
 use Rattle.syn_parse.specs.declared.fault.Fault.TheVariants.{Refused, Memory}
-use Rattle.syn_replay.specs.Commands as spec
+use Rattle.syn_replay.specs.Reports as reports
 use Rattle.syn_replay.specs.Session.State.{State, at_rest, with_stream, content_of, put, standing, stream_at}
 use Rattle.syn_replay.specs.Session.State as states
 use Rattle.syn_replay.specs.Session.Step.{into_group}
@@ -23,21 +23,21 @@ use Rattle.syn_replay.specs.Meanings.{IsAnswer, refusal_of}
 use Rattle.syn_replay.specs.Session.Stepping.{Answers, IsStepped}
 use Rattle.syn_replay.specs.declared.report.Answer.{Answer}
 use Rattle.syn_replay.proofs.Refusals.{refusal_of-refused}
-use Rattle.syn_replay.proofs.Tracks.{changed_alike}
+use Rattle.syn_replay.proofs.Changes.{changed_alike}
 
 -- an answer of the refusal that is wanted
-pub answered-refusal : (r : Refusal) (e : List Message) (a : Answer) → e ≡ messages.refused r → Answers (Refused e) (Ok a) → IsAnswer a (spec.refused r)
+pub answered-refusal : (r : Refusal) (e : List Message) (a : Answer) → e ≡ messages.refused r → Answers (Refused e) (Ok a) → IsAnswer a (reports.refused r)
 answered-refusal r e a h q =
-    let same : refusal_of e ≡ r = ap refusal_of h ∙ refusal_of-refused r in (q.0 ∙ ap spec.refused same, q.1 (h ∙ ap messages.refused (sym same)))
+    let same : refusal_of e ≡ r = ap refusal_of h ∙ refusal_of-refused r in (q.0 ∙ ap reports.refused same, q.1 (h ∙ ap messages.refused (sym same)))
 
 abbrev pub AreEntered : (Delimiter × DelimSpan × parse.State) → Entered → Type 0
 AreEntered p e = (p.0 ≡ e.delimiter) × AreParts p.1 p.2 e
 
 module _ (st : State) (n : ℕ) (s : states.Stream) (here : stream_at st n ≡ Some s) (words : List ℕ) where
-  pub entered-value : (x : Option Entered) (d : Delimiter) (span : DelimSpan) (content t : parse.State) → Enters AreEntered x (refused_at (at_rest s) words) (at_rest s) (Ok (d, span, content)) t → (spec.entered (length st) d (whole_span span) ≡ (into_group st n s words x).answer) × (with_stream st n (put t) ++ standing content (content_of n) true ∷ [] ≡ (into_group st n s words x).state)
+  pub entered-value : (x : Option Entered) (d : Delimiter) (span : DelimSpan) (content t : parse.State) → Enters AreEntered x (refused_at (at_rest s) words) (at_rest s) (Ok (d, span, content)) t → (reports.entered (length st) d (whole_span span) ≡ (into_group st n s words x).answer) × (with_stream st n (put t) ++ standing content (content_of n) true ∷ [] ≡ (into_group st n s words x).state)
   entered-value None d span content t h = absurd h.0
   entered-value (Some e) d span content t h = (
-    ap (λ z. spec.entered (length st) z (whole_span span)) h.0.0 ∙ ap (spec.entered (length st) e.delimiter) h.0.1.0,
+    ap (λ z. reports.entered (length st) z (whole_span span)) h.0.0 ∙ ap (reports.entered (length st) e.delimiter) h.0.1.0,
     ap (λ u. with_stream st n (put u) ++ standing content (content_of n) true ∷ []) h.1
         ∙ ap (λ c. with_stream st n (put (after_group e (at_rest s))) ++ standing c (content_of n) true ∷ []) h.0.1.1
         ∙ ap (λ us. us ++ standing (parse.content_of e) (content_of n) true ∷ []) (changed_alike st n s (put (after_group e (at_rest s))) (states.moved_to e.after) here refl),

@@ -27,7 +27,7 @@ abbrev pub among_either : List ℕ → List ℕ → StreamKind → Bool
 among_either ns found (content_of p) = contains ns p || contains found p
 among_either ns found kind = false
 
-or_false : (b : Bool) → (b || false) ≡ b
+pub or_false : (b : Bool) → (b || false) ≡ b
 or_false true = refl
 or_false false = refl
 

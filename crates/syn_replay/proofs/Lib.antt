@@ -1,8 +1,8 @@
 pub mod Accepting
 pub mod Acting
 pub mod Agreements
-pub mod Anywhere
 pub mod Appended
+pub mod Changes
 pub mod Closing
 pub mod Comparing
 pub mod Discards

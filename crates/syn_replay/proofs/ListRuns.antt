@@ -11,11 +11,11 @@ use Rattle.std.specs.declared.cmp.Ordering.{Ordering}
 use Rattle.tok_leaves.specs.declared.span.Span.{Span}
 use Rattle.tok_core.specs.Forest.{Tree}
 use Rattle.tok_buffer.specs.Messages as messages
-use Rattle.tok_buffer.specs.Place.{Place, empty_place, at, is_at_end}
+use Rattle.tok_buffer.specs.Place.{Place, empty_place, at}
 use Rattle.tok_buffer.specs.Reads.{read_punctuation}
 use Rattle.tok_buffer.specs.Refusals.{Refusal}
 use Rattle.tok_types.specs.Looks.{Finds}
-use Rattle.tok_types.specs.Texts.{punctuation_text, punctuation_word}
+use Rattle.tok_types.specs.Texts.{punctuation_word}
 use Rattle.tok_types.specs.declared.punctuation.Punctuation.{Punctuation}
 use Rattle.syn_parse.specs.Faults.{IsMemory, Refuses}
 use Rattle.syn_parse.specs.Parses.{AreSpans, PunctuationParses}
@@ -29,26 +29,24 @@ use Rattle.syn_punctuated.specs.Paired.{paired}
 use Rattle.syn_punctuated.specs.Progress.{progresses}
 use Rattle.syn_punctuated.specs.Turns.{ValueCall, Turn, turn_value, turn_separator, Chain, IsTurn}
 use Rattle.syn_punctuated.specs.Turns.{IsRun, Ending, at_end, bare, value_refused}
-use Rattle.syn_punctuated.specs.Turns.{separator_refused, value_lost, turn_lost, stuck, terminated}
-use Rattle.syn_punctuated.specs.Turns.{separated}
+use Rattle.syn_punctuated.specs.Turns.{separator_refused, value_lost, turn_lost, stuck}
 use Rattle.syn_punctuated.specs.Turns as runs
 use Rattle.syn_punctuated.specs.declared.punctuated.Punctuated.{Punctuated}
-use Rattle.syn_replay.specs.Commands as spec
-use Rattle.syn_replay.specs.Kinds.{Kind, ident, ident_any, lifetime, lifetime_any, literal, punct}
-use Rattle.syn_replay.specs.Kinds.{underscore, keyword, punctuation, read, refusal}
-use Rattle.syn_replay.specs.Session.Reading.{IsRead, ReadsPieces, AfterPieces, GivesAnswer, LeavesAlone}
+use Rattle.syn_replay.specs.Commands as commands
+use Rattle.syn_replay.specs.Commands.{listed_to}
+use Rattle.syn_replay.specs.Reports as reports
+use Rattle.syn_replay.specs.Kinds.{Kind, read, refusal}
+use Rattle.syn_replay.specs.Session.Reading.{IsRead, ReadsPieces, AfterPieces, GivesAnswer, LeavesAt}
 use Rattle.syn_replay.specs.Session.Reading.{pair_parts, punct_pieces}
 use Rattle.syn_replay.specs.Meanings.{pieces_in, refusal_of}
-use Rattle.syn_replay.specs.Session.State.{outermost, standing}
-use Rattle.syn_replay.specs.Session.Step.{Stepped, run_list}
 use Rattle.syn_replay.specs.Turns.{Outcome, read_all, refused_at, with_parts, is_later, no_progress}
-use Rattle.syn_replay.specs.Turns.{pieces_of, separator_refusal, terminated_turns, separated_turns}
-use Rattle.syn_replay.specs.Turns.{turns_left}
+use Rattle.syn_replay.specs.Turns.{pieces_of, separator_refusal, Rule, terminated, separated, is_over}
+use Rattle.syn_replay.specs.Turns.{turns, turns_left}
 use Rattle.syn_replay.specs.declared.report.Answer.{Answer}
 use Rattle.syn_replay.specs.declared.report.Answer.TheVariants as answer
 use Rattle.syn_replay.specs.declared.report.Piece.{Piece}
 use Rattle.syn_replay.proofs.ReadPieces.{punctuation-pieces}
-use Rattle.syn_replay.proofs.Refusals.{refusal_of-refused}
+use Rattle.syn_replay.proofs.Refusals.{refusal_of-refused, refusal_there, separator_there}
 use Rattle.syn_replay.proofs.Views.EnoughTurns.{more_turns_change_nothing}
 
 -- progress is to begin later
@@ -70,24 +68,6 @@ progress_is empty_place (at m t d k ks) = refl
 progress_is (at n s c l ls) empty_place = refl
 progress_is (at n s c l ls) (at m t d k ks) = or_false _
     ∙ in_one (n == m) (s == t) (nat_cmp c d) (nat_lt c d) (less_is c d)
-
--- a refusal is said of the place and the scope's span alone
-separator_there : (text : List ℕ) (s : State)
-    → punctuation_refusal text s ≡ punctuation_refusal text (fresh s.place s.scope_span)
-separator_there [] s = refl
-separator_there (c ∷ cs) s = refl
-
-refusal_there : (kind : Kind) (s : State)
-    → refusal kind s ≡ refusal kind (fresh s.place s.scope_span)
-refusal_there ident s = refl
-refusal_there ident_any s = refl
-refusal_there lifetime s = refl
-refusal_there lifetime_any s = refl
-refusal_there literal s = refl
-refusal_there punct s = refl
-refusal_there underscore s = refl
-refusal_there (keyword k) s = refl
-refusal_there (punctuation k) s = separator_there (punctuation_text k) s
 
 -- the same stream at another place
 here : (s t : State) → t ≡ s → t ≡ moved t.place s
@@ -179,7 +159,7 @@ module _ {F : Type 0} (k n : ℕ) (kind : Kind) (reads : ValueCall F (Vec Piece)
   T = Turn (Vec Piece) (Punctuation k n) F
 
   -- what the turns read
-  abbrev parts_of : List T → List (List spec.Piece)
+  abbrev parts_of : List T → List (List reports.Piece)
   parts_of [] = []
   parts_of (turn ∷ turns) = pieces_in turn.value ∷ (punct_pieces word
       turn.separator.spans ∷ parts_of turns)
@@ -205,7 +185,7 @@ module _ {F : Type 0} (k n : ℕ) (kind : Kind) (reads : ValueCall F (Vec Piece)
   paired_parts (turn ∷ turns) more = ap (λ z. pieces_in turn.value
       ∷ (punct_pieces word turn.separator.spans ∷ z)) (paired_parts turns more)
 
-  two_more : (a b : List spec.Piece) (xs : List (List spec.Piece)) (o : Outcome)
+  two_more : (a b : List reports.Piece) (xs : List (List reports.Piece)) (o : Outcome)
       → with_parts (a ∷ (b ∷ [])) (with_parts xs o) ≡ with_parts (a ∷ (b ∷ xs)) o
   two_more a b xs (read_all more p) = refl
   two_more a b xs (refused_at r p) = refl
@@ -284,63 +264,94 @@ module _ {F : Type 0} (k n : ℕ) (kind : Kind) (reads : ValueCall F (Vec Piece)
       (c.0, e ∙ ap (with_parts (parts_of turns)) c.1, c.2, along s m t h c.3)
   told s m t whole rest turns (Err (Memory f)) e h c = tt
 
-  module _ (scope : Span) where
-    abbrev rounds : ℕ → Place → Outcome
-    rounds m p = terminated_turns kind word scope m p
+  -- the rule of the run that reads a list of this rule
+  abbrev pub run_rule : Rule → runs.Rule
+  run_rule terminated = runs.terminated
+  run_rule separated = runs.separated peeks
 
+  nothing_there : {A : Type 0} (x : Option A) → false ≡ is_some x → x ≡ None
+  nothing_there None e = refl
+  nothing_there (Some a) e = absurd (false≢true e)
+
+  begins : (rule : Rule) (p : Place) → (run_rule rule).begins p → is_over rule p ≡ false
+  begins terminated p h = h
+  begins separated p h = refl
+
+  ends : (rule : Rule) (p : Place) → (run_rule rule).ends p → is_over rule p ≡ true
+  ends terminated p h = h
+  ends separated p h = absurd h
+
+  goes_on : (rule : Rule) (p : Place) → (run_rule rule).goes_on p → is_over rule p ≡ false
+  goes_on terminated p h = h
+  goes_on separated p h = refl
+
+  module _ (scope : Span) where
+    abbrev rounds : Rule → ℕ → Place → Outcome
+    rounds rule m p = turns kind word scope rule m p
+
+    -- the list ends with a value
+    last : (rule : Rule) (m : ℕ) (p q : Place) (ts : List Tree) → is_over rule p ≡ false
+        → read kind p ≡ Some (ts, q) → (run_rule rule).stops q
+        → rounds rule (suc m) p ≡ read_all (pieces_of ts ∷ []) q
+    last terminated m p q ts a b c = rw (a, b, c) refl
+    last separated m p q ts a b c =
+        let none = nothing_there (read_punctuation word q) c in rw (b, none) refl
+
+    -- the separator of a value is refused
+    without : (rule : Rule) (m : ℕ) (p q : Place) (ts : List Tree) → is_over rule p ≡ false
+        → read kind p ≡ Some (ts, q) → (run_rule rule).goes_on q → read_punctuation word q ≡ None
+        → rounds rule (suc m) p ≡ refused_at (separator_refusal kind word scope q) q
+    without terminated m p q ts a b c d = rw (a, b, c, d) refl
+    without separated m p q ts a b c d = absurd (false≢true (ap is_some (sym d) ∙ sym c))
+
+  module _ (rule : Rule) (scope : Span) where
     -- a full turn, and the outcomes where none is full
-    full : (m : ℕ) (p q r : Place) (ts us : List Tree) → is_at_end p ≡ false
-        → read kind p ≡ Some (ts, q) → is_at_end q ≡ false → read_punctuation word q ≡ Some (us, r)
-        → is_later p r ≡ true
-        → rounds (suc m) p ≡ with_parts (pieces_of ts ∷ (pieces_of us ∷ [])) (rounds m r)
+    full : (m : ℕ) (p q r : Place) (ts us : List Tree) → is_over rule p ≡ false
+        → read kind p ≡ Some (ts, q) → is_over rule q ≡ false
+        → read_punctuation word q ≡ Some (us, r) → is_later p r ≡ true
+        → rounds scope rule (suc m) p
+        ≡ with_parts (pieces_of ts ∷ (pieces_of us ∷ [])) (rounds scope rule m r)
     full m p q r ts us a b c d e = rw (a, b, c, d, e) refl
 
-    stopped : (m : ℕ) (p q r : Place) (ts us : List Tree) → is_at_end p ≡ false
-        → read kind p ≡ Some (ts, q) → is_at_end q ≡ false → read_punctuation word q ≡ Some (us, r)
-        → is_later p r ≡ false
-        → rounds (suc m) p ≡ refused_at (no_progress r scope) r
+    stopped : (m : ℕ) (p q r : Place) (ts us : List Tree) → is_over rule p ≡ false
+        → read kind p ≡ Some (ts, q) → is_over rule q ≡ false
+        → read_punctuation word q ≡ Some (us, r) → is_later p r ≡ false
+        → rounds scope rule (suc m) p ≡ refused_at (no_progress r scope) r
     stopped m p q r ts us a b c d e = rw (a, b, c, d, e) refl
 
-    without : (m : ℕ) (p q : Place) (ts : List Tree) → is_at_end p ≡ false
-        → read kind p ≡ Some (ts, q) → is_at_end q ≡ false → read_punctuation word q ≡ None
-        → rounds (suc m) p ≡ refused_at (separator_refusal kind word scope q) q
-    without m p q ts a b c d = rw (a, b, c, d) refl
-
-    last : (m : ℕ) (p q : Place) (ts : List Tree) → is_at_end p ≡ false → read kind p ≡ Some (ts, q)
-        → is_at_end q ≡ true → rounds (suc m) p ≡ read_all (pieces_of ts ∷ []) q
-    last m p q ts a b c = rw (a, b, c) refl
-
-    none : (m : ℕ) (p : Place) → is_at_end p ≡ false → read kind p ≡ None
-        → rounds (suc m) p ≡ refused_at (refusal kind (fresh p scope)) p
+    none : (m : ℕ) (p : Place) → is_over rule p ≡ false → read kind p ≡ None
+        → rounds scope rule (suc m) p ≡ refused_at (refusal kind (fresh p scope)) p
     none m p a b = rw (a, b) refl
 
-    at_the_end : (m : ℕ) (p : Place) → is_at_end p ≡ true → rounds (suc m) p ≡ read_all [] p
+    at_the_end : (m : ℕ) (p : Place) → is_over rule p ≡ true
+        → rounds scope rule (suc m) p ≡ read_all [] p
     at_the_end m p a = rw a refl
 
     one_turn : (m : ℕ) (f : F) (s : State) (turn : T) → Fits f
-        → IsTurn terminated reads separates f s turn → is_later s.place turn.after.place ≡ true
-        → (rounds (suc m) s.place ≡ with_parts
+        → IsTurn (run_rule rule) reads separates f s turn → is_later s.place turn.after.place ≡ true
+        → (rounds scope rule (suc m) s.place ≡ with_parts
         (pieces_in turn.value ∷ (punct_pieces word turn.separator.spans ∷ []))
-        (rounds m turn.after.place)) × (turn.after ≡ moved turn.after.place s)
+        (rounds scope rule m turn.after.place)) × (turn.after ≡ moved turn.after.place s)
     one_turn m f s turn fit i e =
         let v = value f turn.parser s turn.between turn.value fit i.opens.1 in
         let p = separator turn.between turn.after turn.separator i.closes in (
-          full m s.place turn.between.place turn.after.place v.trees p.trees i.opens.0 v.is
-              i.goes_on p.is e
-              ∙ ap (λ z. with_parts (z ∷ (pieces_of p.trees ∷ [])) (rounds m turn.after.place))
-              v.pieces
-              ∙ ap (λ z. with_parts (pieces_in turn.value ∷ (z ∷ [])) (rounds m turn.after.place))
-              p.pieces,
+          full m s.place turn.between.place turn.after.place v.trees p.trees
+              (begins rule s.place i.opens.0) v.is (goes_on rule turn.between.place i.goes_on) p.is e
+              ∙ ap (λ z. with_parts (z ∷ (pieces_of p.trees ∷ []))
+              (rounds scope rule m turn.after.place)) v.pieces
+              ∙ ap (λ z. with_parts (pieces_in turn.value ∷ (z ∷ []))
+              (rounds scope rule m turn.after.place)) p.pieces,
           along s turn.between turn.after v.then p.then,
         )
 
     chained : (m : ℕ) (turns : List T) (f g : F) (s t : State) → Fits f
-        → Chain terminated reads separates f s turns g t
-        → (rounds (fuel turns m) s.place ≡ with_parts (parts_of turns) (rounds m t.place))
+        → Chain (run_rule rule) reads separates f s turns g t
+        → (rounds scope rule (fuel turns m) s.place
+        ≡ with_parts (parts_of turns) (rounds scope rule m t.place))
         × (t ≡ moved t.place s) × Fits g
     chained m [] f g s t fit c = (
-      ap (λ (u : State). rounds m u.place) c.1
-          ∙ no_parts (rounds m t.place),
+      ap (λ (u : State). rounds scope rule m u.place) c.1
+          ∙ no_parts (rounds scope rule m t.place),
       here s t (sym c.1),
       subst Fits c.0 fit,
     )
@@ -352,7 +363,7 @@ module _ {F : Type 0} (k n : ℕ) (kind : Kind) (reads : ValueCall F (Vec Piece)
           one.0 ∙ ap (with_parts (pieces_in turn.value ∷ (punct_pieces word
               turn.separator.spans ∷ []))) more.0
               ∙ two_more (pieces_in turn.value) (punct_pieces word turn.separator.spans)
-              (parts_of turns) (rounds m t.place),
+              (parts_of turns) (rounds scope rule m t.place),
           along s turn.after t one.1 more.1,
           more.2,
         )
@@ -360,13 +371,13 @@ module _ {F : Type 0} (k n : ℕ) (kind : Kind) (reads : ValueCall F (Vec Piece)
     ended : (m : ℕ) (turns : List T) (f : F) (s t : State)
         (r : Result (Punctuated (Vec Piece) (Punctuation k n)) Fault) → Fits f
         → s.scope_span ≡ scope
-        → Ending terminated reads separates f s turns r t
-        → Concludes s (rounds (suc m) s.place) turns r t
+        → Ending (run_rule rule) reads separates f s turns r t
+        → Concludes s (rounds scope rule (suc m) s.place) turns r t
     ended m turns f s t (Ok list) fit e (at_end i q h) = (
       [],
       h.0,
       h.1,
-      at_the_end m s.place i
+      at_the_end m s.place (ends rule s.place i)
           ∙ ap (λ (u : State). read_all [] u.place) (sym q),
       here s t q,
     )
@@ -376,7 +387,7 @@ module _ {F : Type 0} (k n : ℕ) (kind : Kind) (reads : ValueCall F (Vec Piece)
           v ∷ [],
           h.0,
           h.1,
-          last m s.place t.place w.trees b.0 w.is i
+          last scope rule m s.place t.place w.trees (begins rule s.place b.0) w.is i
               ∙ ap (λ z. read_all (z ∷ []) t.place) w.pieces,
           w.then,
         )
@@ -385,13 +396,13 @@ module _ {F : Type 0} (k n : ℕ) (kind : Kind) (reads : ValueCall F (Vec Piece)
         concludes_no_value s _ turns x r t (refusal kind (fresh s.place scope))
         (tells f g s t (Err x) fit b.1).0 q
         (refusal_there kind s ∙ ap (λ z. refusal kind (fresh s.place z)) e)
-        (λ h. none m s.place b.0 h)
+        (λ h. none m s.place (begins rule s.place b.0) h)
     ended m turns f s t r fit e (separator_refused v g u x b i h q) =
         let w = value f g s u v fit b.1 in
         let p = no_separator u t x h in
         let back : t.place ≡ u.place = ap (λ (z : State). z.place) p.then in
         concludes_refused s _ turns x r t (punctuation_refusal word u) q p.refuses
-        (without m s.place u.place w.trees b.0 w.is i p.none
+        (without scope rule m s.place u.place w.trees (begins rule s.place b.0) w.is i p.none
         ∙ ap (λ z. refused_at (punctuation_refusal word (fresh u.place z)) u.place)
         (sym (in_scope s u w.then ∙ e))
         ∙ ap (λ z. refused_at z u.place) (sym (separator_there word u))
@@ -407,209 +418,64 @@ module _ {F : Type 0} (k n : ℕ) (kind : Kind) (reads : ValueCall F (Vec Piece)
         let to : t ≡ moved t.place s = rw q same in
         let place : t.place ≡ turn.after.place = ap (λ (z : State). z.place) q in
         concludes_refused s _ turns x r t (runs.no_progress t) j h
-        (stopped m s.place turn.between.place turn.after.place v.trees p.trees i.opens.0 v.is
-        i.goes_on p.is (sym (progress_is s.place turn.after.place)
+        (stopped m s.place turn.between.place turn.after.place v.trees p.trees
+        (begins rule s.place i.opens.0) v.is (goes_on rule turn.between.place i.goes_on) p.is (sym (progress_is s.place turn.after.place)
         ∙ ap (progresses s.place) (sym place) ∙ u.0)
         ∙ ap (λ z. refused_at (no_progress z scope) z) (sym place)
         ∙ ap (λ z. refused_at (no_progress t.place z) t.place) (sym (in_scope s t to ∙ e))) to
 
-  pub terminated-told : (f : F) (s t : State)
+  pub list-told : (rule : Rule) (f : F) (s t : State)
       (r : Result (Punctuated (Vec Piece) (Punctuation k n)) Fault) → Fits f
-      → IsRun terminated reads separates f s r t
-      → Told s (terminated_turns kind word s.scope_span (turns_left s.place) s.place) r t
-  terminated-told f s t r fit run =
+      → IsRun (run_rule rule) reads separates f s r t
+      → Told s (turns kind word s.scope_span rule (turns_left s.place) s.place) r t
+  list-told rule f s t r fit run =
       let m = turns_left s.place in
-      let c = chained s.scope_span (suc m) run.turns f run.parser s run.last fit run.chain in
+      let c = chained rule s.scope_span (suc m) run.turns f run.parser s run.last fit run.chain in
       let large : m ≤ fuel run.turns (suc m) = omega (arith, enough run.turns (suc m)) in
-      told s run.last t _ _ run.turns r (sym (more_turns_change_nothing kind word s.scope_span
-      (fuel run.turns (suc m)) s.place large).0 ∙ c.0) c.1
-      (ended s.scope_span m run.turns run.parser run.last t r c.2 (in_scope s run.last c.1)
+      told s run.last t _ _ run.turns r (sym (more_turns_change_nothing kind word s.scope_span rule
+      (fuel run.turns (suc m)) s.place large) ∙ c.0) c.1
+      (ended rule s.scope_span m run.turns run.parser run.last t r c.2 (in_scope s run.last c.1)
       run.ending)
 
-  nothing_there : {A : Type 0} (x : Option A) → false ≡ is_some x → x ≡ None
-  nothing_there None e = refl
-  nothing_there (Some a) e = absurd (false≢true e)
-
-  not_there : (p : Place) → peeks p false → read_punctuation word p ≡ None
-  not_there p e = nothing_there (read_punctuation word p) e
-
-  module _ (scope : Span) where
-    abbrev rounds-separated : ℕ → Place → Outcome
-    rounds-separated m p = separated_turns kind word scope m p
-
-    -- a full-separated turn, and the outcomes where none-separated is full-separated
-    full-separated : (m : ℕ) (p q r : Place) (ts us : List Tree) → read kind p ≡ Some (ts, q)
-        → read_punctuation word q ≡ Some (us, r) → is_later p r ≡ true
-        → rounds-separated (suc m) p ≡ with_parts (pieces_of ts ∷ (pieces_of us ∷ []))
-        (rounds-separated m r)
-    full-separated m p q r ts us b d e = rw (b, d, e) refl
-
-    stopped-separated : (m : ℕ) (p q r : Place) (ts us : List Tree) → read kind p ≡ Some (ts, q)
-        → read_punctuation word q ≡ Some (us, r) → is_later p r ≡ false
-        → rounds-separated (suc m) p ≡ refused_at (no_progress r scope) r
-    stopped-separated m p q r ts us b d e = rw (b, d, e) refl
-
-    last-separated : (m : ℕ) (p q : Place) (ts : List Tree) → read kind p ≡ Some (ts, q)
-        → read_punctuation word q ≡ None → rounds-separated (suc m) p ≡ read_all (pieces_of ts ∷ [])
-        q
-    last-separated m p q ts b c = rw (b, c) refl
-
-    none-separated : (m : ℕ) (p : Place) → read kind p ≡ None
-        → rounds-separated (suc m) p ≡ refused_at (refusal kind (fresh p scope)) p
-    none-separated m p b = rw b refl
-
-    one_turn-separated : (m : ℕ) (f : F) (s : State) (turn : T) → Fits f
-        → IsTurn (separated peeks) reads separates f s turn
-        → is_later s.place turn.after.place ≡ true
-        → (rounds-separated (suc m) s.place ≡ with_parts
-        (pieces_in turn.value ∷ (punct_pieces word turn.separator.spans ∷ []))
-        (rounds-separated m turn.after.place)) × (turn.after ≡ moved turn.after.place s)
-    one_turn-separated m f s turn fit i e =
-        let v = value f turn.parser s turn.between turn.value fit i.opens.1 in
-        let p = separator turn.between turn.after turn.separator i.closes in (
-          full-separated m s.place turn.between.place turn.after.place v.trees p.trees v.is p.is e
-              ∙ ap (λ z. with_parts (z ∷ (pieces_of p.trees ∷ []))
-              (rounds-separated m turn.after.place)) v.pieces
-              ∙ ap (λ z. with_parts (pieces_in turn.value ∷ (z ∷ []))
-              (rounds-separated m turn.after.place)) p.pieces,
-          along s turn.between turn.after v.then p.then,
-        )
-
-    chained-separated : (m : ℕ) (turns : List T) (f g : F) (s t : State) → Fits f
-        → Chain (separated peeks) reads separates f s turns g t
-        → (rounds-separated (fuel turns m) s.place ≡ with_parts (parts_of turns)
-        (rounds-separated m t.place)) × (t ≡ moved t.place s) × Fits g
-    chained-separated m [] f g s t fit c = (
-      ap (λ (u : State). rounds-separated m u.place) c.1
-          ∙ no_parts (rounds-separated m t.place),
-      here s t (sym c.1),
-      subst Fits c.0 fit,
-    )
-    chained-separated m (turn ∷ turns) f g s t fit c =
-        let next = (tells f turn.parser s turn.between (Ok turn.value) fit c.0.opens.1).1 in
-        let one = one_turn-separated (fuel turns m) f s turn fit c.0
-        (sym (progress_is s.place turn.after.place) ∙ c.1) in
-        let more = chained-separated m turns turn.parser g turn.after t next c.2 in (
-          one.0 ∙ ap (with_parts (pieces_in turn.value ∷ (punct_pieces word
-              turn.separator.spans ∷ []))) more.0
-              ∙ two_more (pieces_in turn.value) (punct_pieces word turn.separator.spans)
-              (parts_of turns) (rounds-separated m t.place),
-          along s turn.after t one.1 more.1,
-          more.2,
-        )
-
-    ended-separated : (m : ℕ) (turns : List T) (f : F) (s t : State)
-        (r : Result (Punctuated (Vec Piece) (Punctuation k n)) Fault) → Fits f
-        → s.scope_span ≡ scope
-        → Ending (separated peeks) reads separates f s turns r t
-        → Concludes s (rounds-separated (suc m) s.place) turns r t
-    ended-separated m turns f s t r fit e (at_end i q h) = absurd i
-    ended-separated m turns f s t (Ok list) fit e (bare v g b i h) =
-        let w = value f g s t v fit b.1 in (
-          v ∷ [],
-          h.0,
-          h.1,
-          last-separated m s.place t.place w.trees w.is (not_there t.place i)
-              ∙ ap (λ z. read_all (z ∷ []) t.place) w.pieces,
-          w.then,
-        )
-    ended-separated m turns f s t (Err x) fit e (bare v g b i h) = absurd h
-    ended-separated m turns f s t r fit e (value_refused x g b q) =
-        concludes_no_value s _ turns x r t (refusal kind (fresh s.place scope))
-        (tells f g s t (Err x) fit b.1).0 q
-        (refusal_there kind s ∙ ap (λ z. refusal kind (fresh s.place z)) e)
-        (λ h. none-separated m s.place h)
-    ended-separated m turns f s t r fit e (separator_refused v g u x b i h q) =
-        absurd (false≢true (ap is_some (sym (no_separator u t x h).none) ∙ sym i))
-    ended-separated m turns f s t r fit e (value_lost v g x b i h q) =
-        concludes_lost s _ turns x r t q h
-    ended-separated m turns f s t r fit e (turn_lost turn x i q h j) =
-        concludes_lost s _ turns x r t j h
-    ended-separated m turns f s t r fit e (stuck turn x i q u h j) =
-        let v = value f turn.parser s turn.between turn.value fit i.opens.1 in
-        let p = separator turn.between turn.after turn.separator i.closes in
-        let same : turn.after ≡ moved turn.after.place s =
-        along s turn.between turn.after v.then p.then in
-        let to : t ≡ moved t.place s = rw q same in
-        let place : t.place ≡ turn.after.place = ap (λ (z : State). z.place) q in
-        concludes_refused s _ turns x r t (runs.no_progress t) j h
-        (stopped-separated m s.place turn.between.place turn.after.place v.trees p.trees v.is p.is
-        (sym (progress_is s.place turn.after.place) ∙ ap (progresses s.place) (sym place) ∙ u.0)
-        ∙ ap (λ z. refused_at (no_progress z scope) z) (sym place)
-        ∙ ap (λ z. refused_at (no_progress t.place z) t.place) (sym (in_scope s t to ∙ e))) to
-
-  pub separated-told : (f : F) (s t : State)
-      (r : Result (Punctuated (Vec Piece) (Punctuation k n)) Fault) → Fits f
-      → IsRun (separated peeks) reads separates f s r t
-      → Told s (separated_turns kind word s.scope_span (turns_left s.place) s.place) r t
-  separated-told f s t r fit run =
-      let m = turns_left s.place in
-      let c = chained-separated s.scope_span (suc m) run.turns f run.parser s run.last fit run.chain
-      in
-      let large : m ≤ fuel run.turns (suc m) = omega (arith, enough run.turns (suc m)) in
-      told s run.last t _ _ run.turns r (sym (more_turns_change_nothing kind word s.scope_span
-      (fuel run.turns (suc m)) s.place large).1 ∙ c.0) c.1
-      (ended-separated s.scope_span m run.turns run.parser run.last t r c.2
-      (in_scope s run.last c.1) run.ending)
-
-  -- what a run says of a list command on a stream that is alone
-  abbrev me : State → Outcome → Stepped
-  me s o = run_list (standing s outermost true ∷ []) 0 o
-
+  -- what a run says of the command that reads a list
   told-answer : (s t : State) (o : Outcome) (list : Punctuated (Vec Piece) (Punctuation k n))
       (ps : Vec (Vec Piece)) → Told s o (Ok list) t
       → map pieces_in ps.items ≡ flat_map (pair_parts word)
       (paired (values_of list) (separators_of list))
-      → GivesAnswer (me s o).answer (Ok (answer.List ps))
-      × LeavesAlone (Ok (answer.List ps)) t (me s o)
+      → GivesAnswer (listed_to o).0 (Ok (answer.List ps))
+      × LeavesAt (Ok (answer.List ps)) t (moved (listed_to o).1 s)
   told-answer s t o list ps h e = (
-    (ap spec.listed e ∙ ap (λ z. (me s z).answer) (sym h.0), tt),
-    ap (λ z. standing z outermost true ∷ []) h.1 ∙ ap (λ z. (me s z).state) (sym h.0),
+    (ap reports.listed e ∙ ap (λ z. (listed_to z).0) (sym h.0), tt),
+    h.1 ∙ ap (λ z. moved (listed_to z).1 s) (sym h.0),
   )
 
   told-refusal : (s t : State) (o : Outcome) (f : Fault) → Told s o (Err f) t
-      → GivesAnswer (me s o).answer (Err f) × LeavesAlone (Err f) t (me s o)
+      → GivesAnswer (listed_to o).0 (Err f) × LeavesAt (Err f) t (moved (listed_to o).1 s)
   told-refusal s t o (Refused e) h =
-      let same : refusal_of e ≡ h.0 = ap refusal_of h.2 ∙ refusal_of-refused h.0 in
-      rw h.1 (
-        (ap spec.refused same, h.2 ∙ ap messages.refused (sym same)),
-        ap (λ z. standing z outermost true ∷ []) h.3,
+      let same : refusal_of e ≡ h.0 = ap refusal_of h.2 ∙ refusal_of-refused h.0 in (
+        (
+          ap reports.refused same ∙ ap (λ z. (listed_to z).0) (sym h.1),
+          h.2 ∙ ap messages.refused (sym same),
+        ),
+        h.3 ∙ ap (λ z. moved (listed_to z).1 s) (sym h.1),
       )
   told-refusal s t o (Memory e) h = (tt, tt)
 
-  module _ (text : List ℕ) (is : text ≡ word) where
-    pub terminated-read : (f : F) (s t : State) (list : Punctuated (Vec Piece) (Punctuation k n))
-        (ps : Vec (Vec Piece)) → Fits f → IsRun terminated reads separates f s (Ok list) t
+  module _ (rule : Rule) (text : List ℕ) (is : text ≡ word) where
+    pub list-read : (f : F) (s t : State) (list : Punctuated (Vec Piece) (Punctuation k n))
+        (ps : Vec (Vec Piece)) → Fits f → IsRun (run_rule rule) reads separates f s (Ok list) t
         → map pieces_in ps.items ≡ flat_map (pair_parts text)
         (paired (values_of list) (separators_of list))
-        → IsRead (spec.terminated 0 kind text) s (Ok (answer.List ps)) t
-    terminated-read f s t list ps fit run =
+        → IsRead (commands.list rule kind text) s (Ok (answer.List ps)) t
+    list-read f s t list ps fit run =
         subst (λ z. map pieces_in ps.items ≡ flat_map (pair_parts z)
         (paired (values_of list) (separators_of list))
-        → IsRead (spec.terminated 0 kind z) s (Ok (answer.List ps)) t) (sym is)
-        (λ e. told-answer s t _ list ps (terminated-told f s t (Ok list) fit run) e)
+        → IsRead (commands.list rule kind z) s (Ok (answer.List ps)) t) (sym is)
+        (λ e. told-answer s t _ list ps (list-told rule f s t (Ok list) fit run) e)
 
-    pub terminated-refused : (f : F) (s t : State) (e : Fault) (r : Result Answer Fault) → Fits f
-        → IsRun terminated reads separates f s (Err e) t → r ≡ Err e
-        → IsRead (spec.terminated 0 kind text) s r t
-    terminated-refused f s t e r fit run q =
-        rw q (subst (λ z. IsRead (spec.terminated 0 kind z) s (Err e) t) (sym is)
-        (told-refusal s t _ e (terminated-told f s t (Err e) fit run)))
-
-    pub separated-read : (f : F) (s t : State) (list : Punctuated (Vec Piece) (Punctuation k n))
-        (ps : Vec (Vec Piece)) → Fits f → IsRun (separated peeks) reads separates f s (Ok list) t
-        → map pieces_in ps.items ≡ flat_map (pair_parts text)
-        (paired (values_of list) (separators_of list))
-        → IsRead (spec.separated 0 kind text) s (Ok (answer.List ps)) t
-    separated-read f s t list ps fit run =
-        subst (λ z. map pieces_in ps.items ≡ flat_map (pair_parts z)
-        (paired (values_of list) (separators_of list))
-        → IsRead (spec.separated 0 kind z) s (Ok (answer.List ps)) t) (sym is)
-        (λ e. told-answer s t _ list ps (separated-told f s t (Ok list) fit run) e)
-
-    pub separated-refused : (f : F) (s t : State) (e : Fault) (r : Result Answer Fault) → Fits f
-        → IsRun (separated peeks) reads separates f s (Err e) t → r ≡ Err e
-        → IsRead (spec.separated 0 kind text) s r t
-    separated-refused f s t e r fit run q =
-        rw q (subst (λ z. IsRead (spec.separated 0 kind z) s (Err e) t) (sym is)
-        (told-refusal s t _ e (separated-told f s t (Err e) fit run)))
+    pub list-refused : (f : F) (s t : State) (e : Fault) (r : Result Answer Fault) → Fits f
+        → IsRun (run_rule rule) reads separates f s (Err e) t → r ≡ Err e
+        → IsRead (commands.list rule kind text) s r t
+    list-refused f s t e r fit run q =
+        rw q (subst (λ z. IsRead (commands.list rule kind z) s (Err e) t) (sym is)
+        (told-refusal s t _ e (list-told rule f s t (Err e) fit run)))

@@ -1,15 +1,15 @@
 -- What closing contents does to each stream: its note, and whether it is open.
 use Rattle.std.proofs.Common.{◌≡◌, ◌≢◌, ◌∙◌, sym, ap, subst, refl, ℕ, zero, suc, ◌+◌, ◌-◌, ◌<◌, ◌≤◌, Bool, true, false, [], ◌∷◌, length, Option, Some, None, arith, inl, inr, ◌⊎◌}
-use Rattle.std.proofs.lemmas.Bool.{eqb-true, eq-eqb}
+use Rattle.std.proofs.lemmas.Bool.{eqb-true, eq-eqb, cases_Bool, cases_eq}
 use Rattle.std.proofs.lemmas.Bool.Decides.{eqb_tells}
-use Rattle.std.specs.Option.{option_or}
+use Rattle.std.specs.Option.{option_map, option_or}
 use Rattle.std.specs.Prelude.{◌&&◌, not, cond}
 use Rattle.tok_buffer.specs.Ahead.{Leftover, leftover}
 use Rattle.tok_buffer.specs.Place.{Place}
 use Rattle.syn_replay.specs.Session.Acceptance.{IsShut}
 use Rattle.syn_replay.specs.Session.State.{Stream, State, StreamKind, outermost, content_of, a_fork, stream_at, with_stream, spent, with_note, handed_note, is_content_of, is_open_content_of, with_note_on_parent, handed_up, contents_closed, closed_inside}
 use Rattle.syn_replay.specs.Session.Step.{is_spent, tested}
-use Rattle.syn_replay.proofs.Spending.{changed_at, changed_not, mapped}
+use Rattle.syn_replay.proofs.Changes.{changed_at, changed_not, there_within}
 
 -- what may become of a stream: it may be noted and spent, and once it is spent it stays as it is
 pub record Ages (s t : Stream) : Type 0 where
@@ -106,10 +106,6 @@ clean_after st after k s older e h clean t f =
     let same : s ≡ t = one_stream (stream_at after k) s t (stays_shut st after k s older e h) f in
     ap (λ z. z.note) (sym same) ∙ clean s e
 
-pub open_or_not : (b : Bool) → (b ≡ true) ⊎ (b ≡ false)
-open_or_not true = inl refl
-open_or_not false = inr refl
-
 pub not_both : (b : Bool) → b ≡ true → b ≡ false → ⊥
 not_both b e f = let q : true ≡ false = sym e ∙ f in cc
 
@@ -162,7 +158,7 @@ pub data ShutWhen (st mid after : State) (k p : ℕ) (q : Place) : Type 0 where
 pub shut_when : (st mid after : State) (k p : ℕ) (q : Place) → Kept st mid → Older mid after → IsShut st after k p q → ShutWhen st mid after k p q
 shut_when st mid after k p q kept older h =
     let x = kept.older k h.stream h.here in
-    elim (open_or_not x.stream.is_open) [
+    elim (cases_Bool x.stream.is_open) [
       | inl o ↦ afterwards (record {
         stream = x.stream;
         here = x.there;
@@ -259,8 +255,8 @@ up st k p s tidy e o f =
       below = below;
       there = t.there;
       parent_open = t.is_open;
-      mine = ap (λ z. stream_at z k) same ∙ changed_at mid k spent ∙ ap (mapped spent) (changed_not st p k (with_note h) apart ∙ e);
-      noted_there = ap (λ z. stream_at z p) same ∙ changed_not mid k p spent apart_back ∙ changed_at st p (with_note h) ∙ ap (mapped (with_note h)) t.there;
+      mine = ap (λ z. stream_at z k) same ∙ changed_at mid k spent ∙ ap (option_map spent) (changed_not st p k (with_note h) apart ∙ e);
+      noted_there = ap (λ z. stream_at z p) same ∙ changed_not mid k p spent apart_back ∙ changed_at st p (with_note h) ∙ ap (option_map (with_note h)) t.there;
       others = λ j d g. ap (λ z. stream_at z j) same ∙ changed_not mid k j spent d ∙ changed_not st p j (with_note h) g;
     }
 
@@ -273,9 +269,6 @@ none_of (Some x) b h = cc
 
 ages_noted : (n : Option Leftover) (s : Stream) → s.is_open ≡ true → Ages s (with_note n s)
 ages_noted n s h = record { kind = refl; open_before = λ q. q; note_before = λ q. (none_of s.note n q).0; whole = λ q. absurd (not_both s.is_open h q) }
-
-pub tells : (j k : ℕ) → (j ≡ k) ⊎ (j ≢ k)
-tells j k = elim (eqb_tells j k) [ inl e ↦ inl e.1 | inr d ↦ inr d.1 ]
 
 -- what each stream is after a content was handed up
 pub data Which (k p j : ℕ) : Type 0 where
@@ -445,7 +438,7 @@ found None p h = cc
 found (Some s) p h = let (a, b) = open_content s.is_open s.kind p h in (s, refl, a, b)
 
 not_found : (st : State) (k p : ℕ) (s : Stream) → is_open_content_of p (stream_at st k) ≡ false → stream_at st k ≡ Some s → s.kind ≡ content_of p → s.is_open ≡ false
-not_found st k p s h e f = elim (open_or_not s.is_open) [ inl o ↦ absurd (not_both (is_open_content_of p (stream_at st k)) (ap (is_open_content_of p) e ∙ content_open s.is_open s.kind p o f) h) | inr c ↦ c ]
+not_found st k p s h e f = elim (cases_Bool s.is_open) [ inl o ↦ absurd (not_both (is_open_content_of p (stream_at st k)) (ap (is_open_content_of p) e ∙ content_open s.is_open s.kind p o f) h) | inr c ↦ c ]
 
 -- all streams have numbers below this one
 abbrev pub IsBound : State → ℕ → Type 0
@@ -467,7 +460,7 @@ pass_over X st after stream next e c = record {
     under = c.range.under;
     low = λ k s l f o. c.range.low k s (omega (arith, l)) f o;
     no_others = c.range.no_others;
-    none_open = λ k s l f g. none k s l f g (tells k next);
+    none_open = λ k s l f g. none k s l f g (cases_eq k next);
   };
 } where
   none : (k : ℕ) (s : Stream) → next ≤ k → stream_at after k ≡ Some s → s.kind ≡ content_of stream → (k ≡ next) ⊎ (k ≢ next) → s.is_open ≡ false
@@ -490,7 +483,7 @@ close_first X st mid up after stream next s above e f a u none b = record {
     under = λ k p q h. under k p q (shut_when st mid after k p q a.kept rest.older h);
     low = λ k t l g o. low k t l g o;
     no_others = λ k t g o d. no_others k t g o d;
-    none_open = λ k t l g d. none_open k t l g d (tells k next);
+    none_open = λ k t l g d. none_open k t l g d (cases_eq k next);
   };
 } where
   kept : Kept mid up
@@ -534,7 +527,7 @@ close_first X st mid up after stream next s above e f a u none b = record {
 -- after that it has no open content
 pub all_shut : (X : ℕ → Type 0) (k : ℕ) (st after : State) → Closed X st after k (k + 1) → HasNoOpen after k
 all_shut X k st after c j s e f =
-    elim (open_or_not s.is_open) [
+    elim (cases_Bool s.is_open) [
       | inl o ↦ (let i = c.kept.tidy j k s e o f in c.range.none_open j s (omega (arith, i.below)) e f)
       | inr h ↦ h
     ]
@@ -575,13 +568,8 @@ closed_from X zero stream next st tidy above bound = record {
 }
 closed_from X (suc room) stream next st tidy above bound = close_next X room stream next st tidy above bound (λ outer from us t l b. closed_from X room outer from us t l b) (is_open_content_of stream (stream_at st next)) refl
 
-pub there_below : (st : State) (j : ℕ) (s : Stream) → stream_at st j ≡ Some s → j < length st
-there_below [] j s e = cc
-there_below (t ∷ st) zero s e = omega arith
-there_below (t ∷ st) (suc j) s e = let h = there_below st j s e in omega (arith, h)
-
 -- all open contents inside a stream are closed
 pub inside_closed : (X : ℕ → Type 0) (k : ℕ) (st : State) → Tidy st → Closed X st (closed_inside k st) k (k + 1)
 inside_closed X k st tidy =
     let over : k < k + 1 = omega arith in
-    closed_from X (length st - (k + 1)) k (k + 1) st tidy over (λ j s e. let b = there_below st j s e in omega (arith, b))
+    closed_from X (length st - (k + 1)) k (k + 1) st tidy over (λ j s e. let b = there_within st j s e in omega (arith, b))

@@ -1,6 +1,6 @@
 -- The pieces of what was read.
 use Rattle.std.proofs.Common.{◌≡◌, ◌∙◌, sym, ap, subst, refl, ℕ, ◌<◌, ◌⊎◌, inl, inr, Bool, true, false, List, [], ◌∷◌, ◌++◌, length, map, arith, Option, Some, None, Ok, Err, eqb-true}
-use Rattle.std.proofs.lemmas.Bool.{cond-true, eq-eqb}
+use Rattle.std.proofs.lemmas.Bool.{cond-true, eq-eqb, and_parts}
 use Rattle.std.proofs.lemmas.List.{append-nil, append_assoc, map-append}
 use Rattle.std.specs.Prelude.{◌==◌, ◌&&◌, not, cond, encode_utf8}
 use Rattle.std.specs.Global.{Vec}
@@ -21,7 +21,7 @@ use Rattle.syn_parse.specs.State.{State}
 use Rattle.syn_parse.specs.RefusalWords.{punctuation_refusal}
 use Rattle.syn_parse.specs.declared.fault.Fault.{Fault}
 use Rattle.syn_parse.specs.declared.fault.Fault.TheVariants.{Refused, Memory}
-use Rattle.syn_replay.specs.Commands as spec
+use Rattle.syn_replay.specs.Reports as reports
 use Rattle.syn_replay.specs.Turns.{pieces_of}
 use Rattle.syn_replay.specs.Session.Reading.{ArePieces, AfterPieces, ReadsPieces, punct_pieces}
 use Rattle.syn_replay.specs.Meanings.{piece_of}
@@ -46,10 +46,6 @@ pub value-pieces-at-once : {T : Type 0} (trees_of : T → List Tree) (words : Re
 value-pieces-at-once trees_of words s x v ps t h made =
     at-once-pieces (λ v ts. ts ≡ trees_of v) words s x v ps t (λ ts m _. made ∙ ap pieces_of (sym m)) h
 
-both : (a b : Bool) → (a && b) ≡ true → (a ≡ true) × (b ≡ true)
-both true b h = (refl, h)
-both false b h = cc
-
 -- a punct of a character
 record IsPunctOf (c : ℕ) (t : Tree) : Type 0 where
   spacing : Spacing
@@ -58,14 +54,14 @@ record IsPunctOf (c : ℕ) (t : Tree) : Type 0 where
 
 of_single : (c : ℕ) (t : Tree) → is_punct_of c t ≡ true → IsPunctOf c t
 of_single c (leaf (punct k spacing span)) h =
-    record { spacing = spacing; span = span; whole = ap (λ z. leaf (punct z spacing span)) (eqb-true k c (both (k == c) (not (k == apostrophe)) h).0) }
+    record { spacing = spacing; span = span; whole = ap (λ z. leaf (punct z spacing span)) (eqb-true k c (and_parts (k == c) (not (k == apostrophe)) h).0) }
 of_single c (leaf (ident text span)) h = cc
 of_single c (leaf (literal text span)) h = cc
 of_single c (group d inside span) h = cc
 
 of_joint : (c : ℕ) (t : Tree) → is_joint_of c t ≡ true → IsPunctOf c t
 of_joint c (leaf (punct k Joint span)) h =
-    record { spacing = Joint; span = span; whole = ap (λ z. leaf (punct z Joint span)) (eqb-true k c (both (k == c) (not (k == apostrophe)) h).0) }
+    record { spacing = Joint; span = span; whole = ap (λ z. leaf (punct z Joint span)) (eqb-true k c (and_parts (k == c) (not (k == apostrophe)) h).0) }
 of_joint c (leaf (punct k Alone span)) h = cc
 of_joint c (leaf (ident text span)) h = cc
 of_joint c (leaf (literal text span)) h = cc
@@ -88,7 +84,7 @@ taken : (wanted : Tree → Bool) (d : Place) (r : List Tree × Place) → reads.
 taken wanted d r e = taken_in wanted (front d) (pass d) r e
 
 -- no character is left, or no span: all have become pieces
-pub all_pieces : (made whole : List spec.Piece) (text : List ℕ) (spans : List Span) → (text ≡ []) ⊎ (spans ≡ []) → made ++ punct_pieces text spans ≡ whole → made ≡ whole
+pub all_pieces : (made whole : List reports.Piece) (text : List ℕ) (spans : List Span) → (text ≡ []) ⊎ (spans ≡ []) → made ++ punct_pieces text spans ≡ whole → made ≡ whole
 all_pieces made whole text spans none e = sym (append-nil made) ∙ ap (λ z. made ++ z) (sym (nothing text spans none)) ∙ e where
   nothing : (text : List ℕ) (spans : List Span) → (text ≡ []) ⊎ (spans ≡ []) → punct_pieces text spans ≡ []
   nothing [] spans none = refl
@@ -97,7 +93,7 @@ all_pieces made whole text spans none e = sym (append-nil made) ∙ ap (λ z. ma
   nothing (c ∷ cs) (s ∷ spans) (inr h) = cc
 
 -- one more character has become a piece
-pub one_more_piece : (items : List Piece) (piece : Piece) (whole : List spec.Piece) (text after : List ℕ) (spans others : List Span) (c : ℕ) (span : Span)
+pub one_more_piece : (items : List Piece) (piece : Piece) (whole : List reports.Piece) (text after : List ℕ) (spans others : List Span) (c : ℕ) (span : Span)
     → piece_of piece ≡ record { text = encode_utf8 c; span = span } → text ≡ c ∷ after → spans ≡ span ∷ others
     → map piece_of items ++ punct_pieces text spans ≡ whole → map piece_of (items ++ piece ∷ []) ++ punct_pieces after others ≡ whole
 one_more_piece items piece whole text after spans others c span made t s e =

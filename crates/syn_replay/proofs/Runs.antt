@@ -6,7 +6,8 @@ use Rattle.std.proofs.lemmas.List.Elements.{All-append}
 use Rattle.syn_replay.specs.Session.Step.{line}
 use Rattle.syn_replay.specs.Session.State.{State}
 use Rattle.syn_replay.specs.Session.Walk.{lines_from, last_state}
-use Rattle.syn_replay.specs.Meanings.{command_of, line_of, IsPlain}
+use Rattle.syn_replay.specs.Commands.{command_of}
+use Rattle.syn_replay.specs.Meanings.{line_of, IsPlain}
 use Rattle.syn_replay.specs.Session.Stepping.{ArePlain, IsLine}
 use Rattle.syn_replay.specs.declared.report.Line.{Line}
 use Rattle.syn_replay.specs.declared.command.Command.{Command}

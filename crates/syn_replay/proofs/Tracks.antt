@@ -49,18 +49,6 @@ length-state xs = length-map xs stream_of
 pub state_kept : (xs : List Stream) (n : ℕ) (x y : Stream) → x ≡ get_or xs n x → stream_of y ≡ stream_of x → state_of_list (set xs n y) ≡ state_of_list xs
 state_kept xs n x y e q = map-set_same stream_of xs n y x (q ∙ ap stream_of e)
 
--- two changes that are the same at the stream that is there
-pub changed_alike : (st : State) (n : ℕ) (s : states.Stream) (f g : states.Stream → states.Stream) → stream_at st n ≡ Some s → f s ≡ g s → with_stream st n f ≡ with_stream st n g
-changed_alike [] n s f g e h = refl
-changed_alike (x ∷ st) zero s f g e h =
-    let same : x ≡ s = cc in ap (λ z. z ∷ st) (ap f same ∙ h ∙ ap g (sym same))
-changed_alike (x ∷ st) (suc n) s f g e h = ap (λ z. x ∷ z) (changed_alike st n s f g e h)
-
-pub with_stream-append : (st us : State) (n : ℕ) (f : states.Stream → states.Stream) → n < length st → with_stream (st ++ us) n f ≡ with_stream st n f ++ us
-with_stream-append [] us n f h = absurd (omega arith)
-with_stream-append (s ∷ st) us zero f h = refl
-with_stream-append (s ∷ st) us (suc n) f h = ap (λ z. s ∷ z) (with_stream-append st us n f (omega arith))
-
 -- a stream hands up
 abbrev handed_with : ℕ → State → Option states.Stream → State
 handed_with k st o = elim o [ None ↦ st | Some s ↦ with_stream (with_note_on_parent s.kind (handed_note s) st) k spent ]
@@ -71,11 +59,6 @@ handed_there k st us vs s e q r =
 
 pub length-along : (xs ys : List Stream) → state_of_list xs ≡ state_of_list ys → length xs ≡ length ys
 length-along xs ys e = sym (length-state xs) ∙ ap length e ∙ length-state ys
-
-pub there_within : (st : State) (n : ℕ) (s : states.Stream) → stream_at st n ≡ Some s → n < length st
-there_within [] n s e = absurd (cc)
-there_within (x ∷ st) zero s e = omega arith
-there_within (x ∷ st) (suc n) s e = let t : n < length st = there_within st n s e in omega arith
 
 -- one that is no content notes on none
 pub noted_apart : (is_fork : Bool) (o : Option ℕ) (n : Option Leftover) (st : State) → o ≡ None → st ≡ with_note_on_parent (kind_of is_fork o) n st

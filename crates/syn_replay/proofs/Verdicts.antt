@@ -8,7 +8,7 @@ use Rattle.syn_parse.specs.RefusalWords.{leftover_refusal}
 use Rattle.syn_parse.specs.declared.fault.Fault.{Fault}
 use Rattle.syn_parse.specs.declared.fault.Fault.TheVariants.{Refused}
 use Rattle.tok_buffer.specs.declared.error.Error.{Error}
-use Rattle.syn_replay.specs.Commands.{accepted, left_over}
+use Rattle.syn_replay.specs.Reports.{accepted, left_over}
 use Rattle.syn_replay.specs.Meanings.{refusal_of, IsOneMessage}
 use Rattle.syn_replay.proofs.Refusals.{refusal_of-refused}
 

@@ -1,7 +1,7 @@
 -- Reports that agree.
 use Rattle.std.specs.Prelude.{◌≡◌, List, ⊤}
 use Rattle.std.specs.List.{AllZip}
-use Rattle.syn_replay.specs.Commands.{Answer, refused, Line, Verdict, accepted, left_over, Report}
+use Rattle.syn_replay.specs.Reports.{Answer, refused, Line, Verdict, accepted, left_over, Report}
 
 -- refusals agree where their words are equal, other answers where they are equal
 abbrev pub AnswersAgree : Answer → Answer → Type 0

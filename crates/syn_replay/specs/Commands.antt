@@ -1,66 +1,125 @@
--- Commands, and what a report holds.
-use Rattle.std.specs.Prelude.{ℕ, Bool, List}
+-- Commands: what each asks, what a read answers, and what the program's stand for.
+use Rattle.std.specs.Prelude.{ℕ, ◌+◌, Bool, cond, List, [], ◌∷◌, ◌++◌, map, Option, Some, None, codes}
 use Rattle.tok_lexical.specs.declared.delimiter.Delimiter.{Delimiter}
 use Rattle.tok_leaves.specs.declared.span.Span.{Span}
-use Rattle.tok_core.specs.Forest.{Forest}
-use Rattle.syn_replay.specs.Kinds.{Kind, Look}
-use Rattle.tok_buffer.specs.Refusals.{Refusal}
+use Rattle.tok_core.specs.Forest.{Tree, forest}
+use Rattle.tok_buffer.specs.Place.{Place, empty_place, is_at_end}
+use Rattle.tok_buffer.specs.Reads as reads
+use Rattle.tok_buffer.specs.Refusals.{Refusal, at_stream}
+use Rattle.tok_buffer.specs.Refusals as refusals
+use Rattle.tok_buffer.specs.Rest as rests
+use Rattle.tok_buffer.specs.Spans as spans
+use Rattle.syn_parse.specs.Lookahead.{look_refusal}
+use Rattle.syn_parse.specs.Parses.{read_group}
+use Rattle.syn_parse.specs.State.{fresh}
+use Rattle.syn_replay.specs.Kinds as kinds
+use Rattle.syn_replay.specs.Kinds.{Kind, Look, peek_kind, refusal}
+use Rattle.syn_replay.specs.Meanings.{kind_of, look_of, separator_of}
+use Rattle.syn_replay.specs.Reports.{Answer, truth, pieces, absent, listed, found, shown, trees}
+use Rattle.syn_replay.specs.Reports.{refused}
+use Rattle.syn_replay.specs.Turns.{Outcome, Rule, read_all, refused_at, pieces_of, turns, turns_left}
+use Rattle.syn_replay.specs.Turns.{terminated, separated}
+use Rattle.syn_replay.specs.declared.command.Command as program
+use Rattle.syn_replay.specs.declared.command.Command.TheVariants as command
 
-pub data Command : Type 0 where
-  peek : ℕ → Look → Command
-  peek2 : ℕ → Look → Command
-  peek3 : ℕ → Look → Command
-  parse : ℕ → Kind → Command
-  optional : ℕ → Kind → Command
-  empty : ℕ → Command
-  enter : ℕ → Delimiter → Command
-  enter_any : ℕ → Command
-  terminated : ℕ → Kind → (separator : List ℕ) → Command
-  separated : ℕ → Kind → (separator : List ℕ) → Command
-  lookahead : ℕ → List Look → Command
-  fork : ℕ → Command
-  advance : ℕ → (fork : ℕ) → Command
-  discard : ℕ → Command
-  close : ℕ → Command
-  stream_span : ℕ → Command
-  cursor_span : ℕ → Command
-  previous_span : ℕ → Command
-  next_tree : ℕ → Command
-  rest : ℕ → Command
-  next_group : ℕ → Command
+-- what concerns one stream alone
+pub data Read : Type 0 where
+  peek : Look → Read
+  peek2 : Look → Read
+  peek3 : Look → Read
+  parse : Kind → Read
+  optional : Kind → Read
+  empty : Read
+  list : Rule → Kind → (separator : List ℕ) → Read
+  lookahead : List Look → Read
+  stream_span : Read
+  cursor_span : Read
+  previous_span : Read
+  next_tree : Read
+  rest : Read
+  next_group : Read
 
--- one leaf read: its text and span
-pub record Piece : Type 0 where
-  pub text : List ℕ
-  pub span : Span
+-- what is done on a stream: a read, or what concerns other streams too
+pub data Action : Type 0 where
+  read : Read → Action
+  enter : (wanted : Option Delimiter) → Action
+  fork : Action
+  advance : (fork : ℕ) → Action
+  discard : Action
+  close : Action
 
-pub data Answer : Type 0 where
-  truth : Bool → Answer
-  pieces : List Piece → Answer
-  absent : Answer
-  entered : ℕ → Delimiter → Span → Answer
-  forked : ℕ → Answer
-  listed : List (List Piece) → Answer
-  found : ℕ → Answer
-  done : Answer
-  shown : Span → Answer
-  trees : Forest → Answer
-  refused : Refusal → Answer
-  unfit : ℕ → Answer
+pub record Command : Type 0 where
+  pub stream : ℕ
+  pub action : Action
 
-pub data Position : Type 0 where
-  stands_at : ℕ → Position
-  at_empty : Position
-  missing : Position
+abbrev pub on : ℕ → Action → Command
+on n a = record { stream = n; action = a }
 
-pub record Line : Type 0 where
-  pub answer : Answer
-  pub position : Position
+-- the trees read, and the place after them; or a refusal, which leaves the place
+abbrev pub taken : (List Tree → Answer) → Refusal → Place → Option (List Tree × Place)
+    → Answer × Place
+taken answers words p None = (refused words, p)
+taken answers words p (Some r) = (answers r.0, r.1)
 
-pub data Verdict : Type 0 where
-  accepted : Verdict
-  left_over : Refusal → Verdict
+abbrev pub parsed : Kind → Place → Span → Answer × Place
+parsed kind p scope =
+    taken (λ ts. pieces (pieces_of ts)) (refusal kind (fresh p scope)) p (kinds.read kind p)
 
-pub record Report : Type 0 where
-  pub lines : List Line
-  pub verdict : Verdict
+-- whole trees
+abbrev pub trees_taken : List ℕ → Place → Span → Option (List Tree × Place) → Answer × Place
+trees_taken words p scope r = taken (λ ts. trees (forest ts)) (at_stream p scope words) p r
+
+abbrev pub listed_to : Outcome → Answer × Place
+listed_to (read_all parts p) = (listed parts, p)
+listed_to (refused_at r p) = (refused r, p)
+
+-- the first look that is true, or the displays of all
+abbrev pub looked : ℕ → List Look → List (List ℕ) → Place → Span → Answer
+looked n [] noted p scope =
+    refused (look_refusal (record { place = p; scope_span = scope; missed = noted }))
+looked n (l ∷ ls) noted p scope =
+    cond (kinds.peek l p) (found n) (looked (n + 1) ls (noted ++ kinds.display l ∷ []) p scope)
+
+-- what a read answers at a place of a scope with this span, and the place after it
+abbrev pub read_answer : Read → Place → Span → Answer × Place
+read_answer (peek l) p scope = (truth (kinds.peek l p), p)
+read_answer (peek2 l) p scope = (truth (kinds.peek2 l p), p)
+read_answer (peek3 l) p scope = (truth (kinds.peek3 l p), p)
+read_answer (parse kind) p scope = parsed kind p scope
+read_answer (optional kind) p scope = cond (peek_kind kind p) (parsed kind p scope) (absent, p)
+read_answer empty p scope = (truth (is_at_end p), p)
+read_answer (list rule kind separator) p scope =
+    listed_to (turns kind separator scope rule (turns_left p) p)
+read_answer (lookahead ls) p scope = (looked 0 ls [] p scope, p)
+read_answer stream_span p scope = (shown (refusals.stream_span p scope), p)
+read_answer cursor_span p scope = (shown (spans.current_span p), p)
+read_answer previous_span p scope = (shown (spans.previous_span p), p)
+read_answer next_tree p scope =
+    trees_taken (codes "expected token tree") p scope (reads.read_tree p)
+read_answer rest p scope = (trees (rests.rest p), empty_place)
+read_answer next_group p scope =
+    trees_taken (codes "expected group token") p scope (read_group p)
+
+-- what a command of the program stands for
+abbrev pub command_of : program.Command → Command
+command_of (command.Peek n l) = on n (read (peek (look_of l)))
+command_of (command.Peek2 n l) = on n (read (peek2 (look_of l)))
+command_of (command.Peek3 n l) = on n (read (peek3 (look_of l)))
+command_of (command.Parse n k) = on n (read (parse (kind_of k)))
+command_of (command.Optional n k) = on n (read (optional (kind_of k)))
+command_of (command.Empty n) = on n (read empty)
+command_of (command.Enter n d) = on n (enter (Some d))
+command_of (command.EnterAny n) = on n (enter None)
+command_of (command.Terminated n k s) = on n (read (list terminated (kind_of k) (separator_of s)))
+command_of (command.Separated n k s) = on n (read (list separated (kind_of k) (separator_of s)))
+command_of (command.Lookahead n ls) = on n (read (lookahead (map look_of ls.items)))
+command_of (command.Fork n) = on n fork
+command_of (command.Advance n f) = on n (advance f)
+command_of (command.Discard n) = on n discard
+command_of (command.Close n) = on n close
+command_of (command.StreamSpan n) = on n (read stream_span)
+command_of (command.CursorSpan n) = on n (read cursor_span)
+command_of (command.PreviousSpan n) = on n (read previous_span)
+command_of (command.Tree n) = on n (read next_tree)
+command_of (command.Rest n) = on n (read rest)
+command_of (command.GroupTree n) = on n (read next_group)

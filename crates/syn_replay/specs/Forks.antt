@@ -4,10 +4,10 @@ use Rattle.std.specs.Prelude.{List, length, map}
 use Rattle.std.specs.List.{list_all}
 use Rattle.tok_core.specs.Forest.{Forest}
 use Rattle.tok_buffer.specs.Order.{same_scope}
-use Rattle.syn_replay.specs.Commands
-use Rattle.syn_replay.specs.Commands.{Answer, Command, Line, done, entered, forked}
+use Rattle.syn_replay.specs.Commands.{Action, Command, on, fork, advance, discard, close}
+use Rattle.syn_replay.specs.Reports.{Answer, Line, done, entered, forked}
 use Rattle.syn_replay.specs.Session.State.{State, contents_closed, first_state, is_open_content_of, stream_at}
-use Rattle.syn_replay.specs.Session.Step.{named, place_of, step, tested}
+use Rattle.syn_replay.specs.Session.Step.{place_of, step, tested}
 use Rattle.syn_replay.specs.Session.Walk.{last_state, lines_from}
 
 -- of a stream, and the number of the next stream that is made
@@ -16,12 +16,16 @@ module _ (stream made : ℕ) where
   abbrev pub is_own : ℕ → Bool
   is_own n = (n == stream) || nat_le made n
 
-  -- a command that names such a stream alone, and neither ends the stream nor goes to a fork
+  -- what neither ends the stream, this one or another, nor goes to a fork
+  abbrev pub is_own_action : ℕ → Action → Bool
+  is_own_action n (advance f) = false
+  is_own_action n discard = false
+  is_own_action n close = not (n == stream)
+  is_own_action n a = true
+
+  -- a command that names such a stream alone, and does such a thing
   abbrev pub is_own_command : Command → Bool
-  is_own_command (Commands.advance n f) = false
-  is_own_command (Commands.discard n) = false
-  is_own_command (Commands.close n) = not (n == stream) && is_own n
-  is_own_command c = list_all is_own (named c)
+  is_own_command c = is_own_action c.stream c.action && is_own c.stream
 
   abbrev pub is_self_contained : List Command → Bool
   is_self_contained commands = list_all is_own_command commands
@@ -31,30 +35,12 @@ module _ (stream made : ℕ) where
   abbrev pub on_fork : ℕ → ℕ
   on_fork n = cond (n == stream) made (n + 1)
 
+  abbrev pub action_on_fork : Action → Action
+  action_on_fork (advance f) = advance (on_fork f)
+  action_on_fork a = a
+
   abbrev pub command_on_fork : Command → Command
-  command_on_fork (Commands.peek n l) = Commands.peek (on_fork n) l
-  command_on_fork (Commands.peek2 n l) = Commands.peek2 (on_fork n) l
-  command_on_fork (Commands.peek3 n l) = Commands.peek3 (on_fork n) l
-  command_on_fork (Commands.parse n kind) = Commands.parse (on_fork n) kind
-  command_on_fork (Commands.optional n kind) = Commands.optional (on_fork n) kind
-  command_on_fork (Commands.empty n) = Commands.empty (on_fork n)
-  command_on_fork (Commands.enter n d) = Commands.enter (on_fork n) d
-  command_on_fork (Commands.enter_any n) = Commands.enter_any (on_fork n)
-  command_on_fork (Commands.terminated n kind separator) =
-      Commands.terminated (on_fork n) kind separator
-  command_on_fork (Commands.separated n kind separator) =
-      Commands.separated (on_fork n) kind separator
-  command_on_fork (Commands.lookahead n ls) = Commands.lookahead (on_fork n) ls
-  command_on_fork (Commands.fork n) = Commands.fork (on_fork n)
-  command_on_fork (Commands.advance n f) = Commands.advance (on_fork n) (on_fork f)
-  command_on_fork (Commands.discard n) = Commands.discard (on_fork n)
-  command_on_fork (Commands.close n) = Commands.close (on_fork n)
-  command_on_fork (Commands.stream_span n) = Commands.stream_span (on_fork n)
-  command_on_fork (Commands.cursor_span n) = Commands.cursor_span (on_fork n)
-  command_on_fork (Commands.previous_span n) = Commands.previous_span (on_fork n)
-  command_on_fork (Commands.next_tree n) = Commands.next_tree (on_fork n)
-  command_on_fork (Commands.rest n) = Commands.rest (on_fork n)
-  command_on_fork (Commands.next_group n) = Commands.next_group (on_fork n)
+  command_on_fork c = on (on_fork c.stream) (action_on_fork c.action)
 
 -- the same answer, but for the number of a stream that is made
 abbrev pub answer_on_fork : Answer → Answer
@@ -83,19 +69,19 @@ ClosesAll st stream commands =
 -- stream ends where such a run ends, with its leftover. Contents that are left open are closed.
 pub record IsFollowed (st : State) (stream : ℕ) (commands : List Command) : Type 0 where
   pub lines :
-      lines_from (step (Commands.fork stream) st).state
+      lines_from (step (on stream fork) st).state
       (map (command_on_fork stream (length st)) commands)
       ≡ map line_on_fork (lines_from st commands)
   pub done :
-      let tried = last_state (step (Commands.fork stream) st).state
+      let tried = last_state (step (on stream fork) st).state
       (map (command_on_fork stream (length st)) commands) in
       same_scope (place_of (stream_at tried stream)) (place_of (stream_at tried (length st))) ≡ true
-      → (step (Commands.advance stream (length st)) tried).answer ≡ done
+      → (step (on stream (advance (length st))) tried).answer ≡ done
   pub stream_after :
-      let tried = last_state (step (Commands.fork stream) st).state
+      let tried = last_state (step (on stream fork) st).state
       (map (command_on_fork stream (length st)) commands) in
       same_scope (place_of (stream_at tried stream)) (place_of (stream_at tried (length st))) ≡ true
-      → stream_at (step (Commands.advance stream (length st)) tried).state stream
+      → stream_at (step (on stream (advance (length st))) tried).state stream
       ≡ stream_at (made_closed stream (length st) (last_state st commands)) stream
   pub if_closed :
       ClosesAll st stream commands

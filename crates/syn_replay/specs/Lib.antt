@@ -2,6 +2,7 @@ pub mod Agree
 pub mod Commands
 pub mod Forks
 pub mod Kinds
+pub mod Reports
 pub mod ReportText
 pub mod Meanings
 pub mod Session

@@ -1,4 +1,4 @@
--- What commands, answers and reports of the program stand for.
+-- What kinds, answers and reports of the program stand for.
 use Rattle.std.specs.Prelude.{◌≡◌, ℕ, List, map, codes, string_bytes}
 use Rattle.std.specs.Global.{Vec}
 use Rattle.tok_leaves.specs.Spans.{whole_span}
@@ -6,10 +6,8 @@ use Rattle.tok_buffer.specs.Messages.{first_message_span, first_text}
 use Rattle.tok_buffer.specs.Messages as messages
 use Rattle.tok_buffer.specs.Refusals.{Refusal}
 use Rattle.tok_buffer.specs.declared.error.Message.{Message}
-use Rattle.syn_replay.specs.Commands as spec
 use Rattle.syn_replay.specs.Kinds as kinds
-use Rattle.syn_replay.specs.declared.command.Command as program
-use Rattle.syn_replay.specs.declared.command.Command.TheVariants as command
+use Rattle.syn_replay.specs.Reports as spec
 use Rattle.syn_replay.specs.declared.command.Kind.{Kind}
 use Rattle.syn_replay.specs.declared.command.Kind.TheVariants as kind
 use Rattle.syn_replay.specs.declared.command.Look.{Look}
@@ -61,29 +59,6 @@ separator_of separator.Comma = codes ","
 separator_of separator.Semi = codes ";"
 separator_of separator.Plus = codes "+"
 separator_of separator.PathSep = codes "::"
-
-abbrev pub command_of : program.Command → spec.Command
-command_of (command.Peek n l) = spec.peek n (look_of l)
-command_of (command.Peek2 n l) = spec.peek2 n (look_of l)
-command_of (command.Peek3 n l) = spec.peek3 n (look_of l)
-command_of (command.Parse n k) = spec.parse n (kind_of k)
-command_of (command.Optional n k) = spec.optional n (kind_of k)
-command_of (command.Empty n) = spec.empty n
-command_of (command.Enter n d) = spec.enter n d
-command_of (command.EnterAny n) = spec.enter_any n
-command_of (command.Terminated n k s) = spec.terminated n (kind_of k) (separator_of s)
-command_of (command.Separated n k s) = spec.separated n (kind_of k) (separator_of s)
-command_of (command.Lookahead n ls) = spec.lookahead n (map look_of ls.items)
-command_of (command.Fork n) = spec.fork n
-command_of (command.Advance n f) = spec.advance n f
-command_of (command.Discard n) = spec.discard n
-command_of (command.Close n) = spec.close n
-command_of (command.StreamSpan n) = spec.stream_span n
-command_of (command.CursorSpan n) = spec.cursor_span n
-command_of (command.PreviousSpan n) = spec.previous_span n
-command_of (command.Tree n) = spec.next_tree n
-command_of (command.Rest n) = spec.rest n
-command_of (command.GroupTree n) = spec.next_group n
 
 abbrev pub piece_of : pieces.Piece → spec.Piece
 piece_of p = record { text = string_bytes p.text; span = p.span }

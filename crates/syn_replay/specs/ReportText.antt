@@ -9,10 +9,10 @@ use Rattle.tok_leaves.specs.Spans.{range}
 use Rattle.tok_lexical.specs.Delimiters.{opening}
 use Rattle.tok_core.specs.Text.{text}
 use Rattle.tok_buffer.specs.Refusals.{Refusal}
-use Rattle.syn_replay.specs.Commands.{Piece, Answer, truth, pieces, absent, entered, forked, listed}
-use Rattle.syn_replay.specs.Commands.{found, done, shown, trees, refused, unfit, Position}
-use Rattle.syn_replay.specs.Commands.{stands_at, at_empty, missing, Line, Verdict, accepted}
-use Rattle.syn_replay.specs.Commands.{left_over, Report}
+use Rattle.syn_replay.specs.Reports.{Piece, Answer, truth, pieces, absent, entered, forked, listed}
+use Rattle.syn_replay.specs.Reports.{found, done, shown, trees, refused, unfit, Position}
+use Rattle.syn_replay.specs.Reports.{stands_at, at_empty, missing, Line, Verdict, accepted}
+use Rattle.syn_replay.specs.Reports.{left_over, Report}
 
 -- a line, with its line feed
 abbrev pub ended : List ℕ → List ℕ

@@ -1,38 +1,40 @@
 -- Commands to which invisible groups do not matter, and the promise on them.
-use Rattle.std.specs.Prelude.{◌≡◌, Bool, true, false, List}
+use Rattle.std.specs.Prelude.{◌≡◌, Bool, true, false, List, Some, None}
 use Rattle.std.specs.List.{list_all}
 use Rattle.tok_lexical.specs.declared.delimiter.Delimiter.TheVariants as delimiter
 use Rattle.tok_core.specs.Erase.{erase}
 use Rattle.tok_core.specs.Filled.{filled}
 use Rattle.tok_core.specs.Forest.{Forest}
 use Rattle.syn_replay.specs.Agree.{ReportsAgree}
-use Rattle.syn_replay.specs.Commands
-use Rattle.syn_replay.specs.Commands.{Command}
+use Rattle.syn_replay.specs.Commands.{Action, Command, Read, read, enter, peek, peek2, peek3, parse}
+use Rattle.syn_replay.specs.Commands.{optional, empty, list, lookahead}
 use Rattle.syn_replay.specs.Kinds.{Look, ignores_invisible}
 use Rattle.syn_replay.specs.Session.Walk.{walk}
 
 abbrev pub all_ignore_invisible : List Look → Bool
 all_ignore_invisible looks = list_all ignores_invisible looks
 
--- transparent: what shows no span and no whole tree, and neither enters an invisible group nor
--- looks for one
+-- a read that shows no span and no whole tree, and looks for no invisible group
+abbrev pub is_transparent_read : Read → Bool
+is_transparent_read (peek l) = ignores_invisible l
+is_transparent_read (peek2 l) = ignores_invisible l
+is_transparent_read (peek3 l) = ignores_invisible l
+is_transparent_read (lookahead ls) = all_ignore_invisible ls
+is_transparent_read (parse kind) = true
+is_transparent_read (optional kind) = true
+is_transparent_read empty = true
+is_transparent_read (list rule kind separator) = true
+is_transparent_read r = false
+
+-- such a read, or what enters no invisible group
+abbrev pub is_transparent_action : Action → Bool
+is_transparent_action (read r) = is_transparent_read r
+is_transparent_action (enter None) = false
+is_transparent_action (enter (Some delimiter.None)) = false
+is_transparent_action a = true
+
 abbrev pub is_transparent : Command → Bool
-is_transparent (Commands.peek n l) = ignores_invisible l
-is_transparent (Commands.peek2 n l) = ignores_invisible l
-is_transparent (Commands.peek3 n l) = ignores_invisible l
-is_transparent (Commands.lookahead n ls) = all_ignore_invisible ls
-is_transparent (Commands.enter n delimiter.None) = false
-is_transparent (Commands.enter n d) = true
-is_transparent (Commands.parse n kind) = true
-is_transparent (Commands.optional n kind) = true
-is_transparent (Commands.empty n) = true
-is_transparent (Commands.terminated n kind separator) = true
-is_transparent (Commands.separated n kind separator) = true
-is_transparent (Commands.fork n) = true
-is_transparent (Commands.advance n m) = true
-is_transparent (Commands.discard n) = true
-is_transparent (Commands.close n) = true
-is_transparent c = false
+is_transparent c = is_transparent_action c.action
 
 abbrev pub all_transparent : List Command → Bool
 all_transparent commands = list_all is_transparent commands

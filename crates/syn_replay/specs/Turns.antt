@@ -12,7 +12,7 @@ use Rattle.tok_buffer.specs.Refusals.{Refusal, plain}
 use Rattle.syn_parse.specs.State.{fresh}
 use Rattle.syn_parse.specs.RefusalWords.{punctuation_refusal}
 use Rattle.syn_replay.specs.Kinds.{Kind, read, refusal}
-use Rattle.syn_replay.specs.Commands.{Piece}
+use Rattle.syn_replay.specs.Reports.{Piece}
 
 -- the leaves among the trees read
 abbrev pub pieces_of : List Tree → List Piece
@@ -43,6 +43,17 @@ is_later empty_place q = false
 abbrev pub no_progress : Place → Span → Refusal
 no_progress p scope = plain p scope (codes "parser made no progress")
 
+-- when a list ends: at the end of the scope, where the last separator may be missing, or with a
+-- value that no separator follows
+pub data Rule : Type 0 where
+  terminated : Rule
+  separated : Rule
+
+-- a list that is over here, before a value or after one
+abbrev pub is_over : Rule → Place → Bool
+is_over terminated p = is_at_end p
+is_over separated p = false
+
 module _ (kind : Kind) (separator : List ℕ) (scope : Span) where
   abbrev pub separator_refusal : Place → Refusal
   separator_refusal p = punctuation_refusal separator (fresh p scope)
@@ -58,21 +69,20 @@ module _ (kind : Kind) (separator : List ℕ) (scope : Span) where
       after bare (λ s q. with_parts (v ∷ (s ∷ [])) (next_turn before q go))
       (reads.read_punctuation separator p)
 
-  -- the turns of a terminated list, as many at most as are allowed
-  abbrev pub terminated_turns : ℕ → Place → Outcome
-  terminated_turns zero p = refused_at (no_progress p scope) p
-  terminated_turns (suc n) p =
-      cond (is_at_end p) (read_all [] p)
-      (after (refused_at (refusal kind (fresh p scope)) p)
-      (λ v q. cond (is_at_end q) (read_all (v ∷ []) q)
-      (after_value p v (refused_at (separator_refusal q) q) (terminated_turns n) q))
-      (read kind p))
+  -- the outcome at a value that no separator follows
+  abbrev pub without_separator : Rule → List Piece → Place → Outcome
+  without_separator terminated v p = refused_at (separator_refusal p) p
+  without_separator separated v p = read_all (v ∷ []) p
 
-  abbrev pub separated_turns : ℕ → Place → Outcome
-  separated_turns zero p = refused_at (no_progress p scope) p
-  separated_turns (suc n) p =
-      after (refused_at (refusal kind (fresh p scope)) p)
-      (λ v q. after_value p v (read_all (v ∷ []) q) (separated_turns n) q) (read kind p)
+  -- the turns of a list, as many at most as are allowed
+  abbrev pub turns : Rule → ℕ → Place → Outcome
+  turns rule zero p = refused_at (no_progress p scope) p
+  turns rule (suc n) p =
+      cond (is_over rule p) (read_all [] p)
+      (after (refused_at (refusal kind (fresh p scope)) p)
+      (λ v q. cond (is_over rule q) (read_all (v ∷ []) q)
+      (after_value p v (without_separator rule v q) (turns rule n) q))
+      (read kind p))
 
 -- a turn that is followed by another reads a tree of the list ahead, so one more than are ahead is
 -- enough
@@ -82,8 +92,6 @@ turns_left p = length (ahead p) + 1
 -- more turns than are allowed change nothing
 abbrev pub MoreTurnsChangeNothing : Type 0
 MoreTurnsChangeNothing =
-    (kind : Kind) (separator : List ℕ) (scope : Span) (n : ℕ) (p : Place) → turns_left p ≤ n
-    → (terminated_turns kind separator scope n p ≡ terminated_turns kind separator scope
-    (turns_left p) p)
-    × (separated_turns kind separator scope n p ≡ separated_turns kind separator scope
-    (turns_left p) p)
+    (kind : Kind) (separator : List ℕ) (scope : Span) (rule : Rule) (n : ℕ) (p : Place)
+    → turns_left p ≤ n
+    → turns kind separator scope rule n p ≡ turns kind separator scope rule (turns_left p) p

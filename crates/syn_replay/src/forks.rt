@@ -1,7 +1,7 @@
 //! Commands that may run on a fork in place of its stream.
 ghost use Rattle.std.specs.Prelude.{◌≡◌, map};
 ghost use Rattle.syn_replay.specs.Forks as spec;
-ghost use Rattle.syn_replay.specs.Meanings.{command_of};
+ghost use Rattle.syn_replay.specs.Commands.{command_of};
 
 use crate::command::Command;
 
@@ -16,27 +16,11 @@ impl Command {
     fn is_own(&self, stream: usize, made: usize) -> bool
         ensures { result ≡ spec.is_own_command stream made (command_of self.now) }
     {
+        let (n, _) = self.streams();
         match self {
             Command::Advance(..) | Command::Discard(_) => false,
-            Command::Close(n) => *n != stream && is_own(stream, made, *n),
-            Command::Peek(n, _)
-            | Command::Peek2(n, _)
-            | Command::Peek3(n, _)
-            | Command::Parse(n, _)
-            | Command::Optional(n, _)
-            | Command::Empty(n)
-            | Command::Enter(n, _)
-            | Command::EnterAny(n)
-            | Command::Terminated(n, _, _)
-            | Command::Separated(n, _, _)
-            | Command::Lookahead(n, _)
-            | Command::Fork(n)
-            | Command::StreamSpan(n)
-            | Command::CursorSpan(n)
-            | Command::PreviousSpan(n)
-            | Command::Tree(n)
-            | Command::Rest(n)
-            | Command::GroupTree(n) => is_own(stream, made, *n),
+            Command::Close(_) => n != stream && is_own(stream, made, n),
+            _ => is_own(stream, made, n),
         }
     }
 }

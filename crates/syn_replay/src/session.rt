@@ -12,12 +12,13 @@ pub mod tokens;
 ghost use Rattle.std.specs.Prelude.{◌≡◌, ◌<◌, ◌∷◌, length, Some, None, IfOk, map, true};
 ghost use Rattle.syn_replay.specs.Session.State.{stream_at};
 ghost use Rattle.syn_replay.specs.Session.Step as spec;
-ghost use Rattle.syn_replay.specs.Session.Step.{any_of, is_missing, is_spent, first_named, named, on_stream, place_of, step, position_in};
+ghost use Rattle.syn_replay.specs.Session.Step.{any_of, is_missing, is_spent, named, on_stream, place_of, step, position_in, with_other};
 ghost use Rattle.syn_replay.specs.Session.Acceptance.{IsExact};
 ghost use Rattle.syn_replay.specs.Session.Walk.{walk, stream_verdict};
 ghost use Rattle.syn_replay.specs.Session.Reading.{is_read};
-ghost use Rattle.syn_replay.specs.Meanings.{command_of, position_of, verdict_of, report_of};
-ghost use Rattle.syn_replay.specs.Session.Stepping.{IsStepped, IsLine, HasRun, IsPlainVerdict, ArePlain, stands, with_other};
+ghost use Rattle.syn_replay.specs.Commands.{command_of};
+ghost use Rattle.syn_replay.specs.Meanings.{position_of, verdict_of, report_of};
+ghost use Rattle.syn_replay.specs.Session.Stepping.{IsStepped, IsLine, HasRun, IsPlainVerdict, ArePlain, stands};
 ghost use Rattle.syn_replay.specs.Session.Tracks.{stream_of, state_of};
 
 use crate::command::Command;
@@ -37,10 +38,11 @@ fn read<'a>(
     command: &Command,
 ) -> Result<Answer, AllocError>
     requires here { stream_at (state_of streams.old) n ≡ Some (stream_of stream) }
-    requires read { is_read (command_of command.now) ≡ true }
+    requires read { is_read (command_of command.now).action ≡ true }
     ensures { IfOk result
         (λ a. IsStepped a (state_of streams.new)
-        (on_stream (command_of command.now) (state_of streams.old) n (stream_of stream.entry))) }
+        (on_stream (command_of command.now).action (state_of streams.old) n
+        (stream_of stream.entry))) }
 {
     let mut input = stream.paused.resume();
     let answer = reads::answer(&mut input, command);
@@ -74,37 +76,6 @@ fn act<'a>(streams: &mut Streams<'a>, command: &Command) -> Result<Answer, Alloc
             Ok(Answer::Done)
         }
         _ => read(streams, n, stream, command),
-    }
-}
-
-impl Command {
-    // Returns the streams that the command names: the first, and the second if there is one.
-    fn streams(&self) -> (usize, Option<usize>)
-        ensures { named (command_of self.now) ≡ with_other result.0 result.1 }
-    {
-        match self {
-            Command::Advance(n, fork) => (*n, Some(*fork)),
-            Command::Peek(n, _)
-            | Command::Peek2(n, _)
-            | Command::Peek3(n, _)
-            | Command::Parse(n, _)
-            | Command::Optional(n, _)
-            | Command::Empty(n)
-            | Command::Enter(n, _)
-            | Command::EnterAny(n)
-            | Command::Terminated(n, _, _)
-            | Command::Separated(n, _, _)
-            | Command::Lookahead(n, _)
-            | Command::Fork(n)
-            | Command::Discard(n)
-            | Command::Close(n)
-            | Command::StreamSpan(n)
-            | Command::CursorSpan(n)
-            | Command::PreviousSpan(n)
-            | Command::Tree(n)
-            | Command::Rest(n)
-            | Command::GroupTree(n) => (*n, None),
-        }
     }
 }
 
@@ -157,7 +128,9 @@ fn is_content<'a>(streams: &Streams<'a>, n: usize) -> bool
 
 // Returns the reason if a stream isn't of the kind that the command needs.
 fn kind_refusal<'a>(streams: &Streams<'a>, command: &Command) -> Option<u8>
-    ensures { result ≡ spec.kind_refusal (command_of command.now) (state_of streams.now) }
+    ensures { result
+        ≡ spec.kind_refusal (command_of command.now).action (state_of streams.now)
+        (command_of command.now).stream }
 {
     match command {
         Command::Advance(_, fork) | Command::Discard(fork) => {

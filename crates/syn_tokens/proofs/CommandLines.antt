@@ -13,7 +13,7 @@ use Rattle.syn_replay.specs.Commands as spec
 use Rattle.syn_tokens.specs.Program.CommandText.{words, command, is_unreadable, unreadable_line, commands_in}
 use Rattle.syn_tokens.specs.Program.Input.{lines, lines_left}
 use Rattle.syn_replay.specs.ReportText.{ended}
-use Rattle.syn_replay.specs.Meanings.{command_of}
+use Rattle.syn_replay.specs.Commands.{command_of}
 use Rattle.syn_replay.specs.declared.command.Command.{Command}
 use Rattle.syn_tokens.proofs.Lines.{left_len, left_less}
 

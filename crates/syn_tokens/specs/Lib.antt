@@ -91,6 +91,7 @@ pub use Rattle.syn_replay.specs.Forks
 pub use Rattle.syn_replay.specs.Kinds
 pub use Rattle.syn_replay.specs.Meanings
 pub use Rattle.syn_replay.specs.ReportText
+pub use Rattle.syn_replay.specs.Reports
 pub use Rattle.syn_replay.specs.Session
 pub use Rattle.syn_replay.specs.Transparent
 pub use Rattle.syn_replay.specs.Turns

@@ -4,17 +4,16 @@ use Rattle.std.proofs.Common.{Option, Some, None, arith, le_refl}
 use Rattle.tok_leaves.specs.declared.span.Span.{Span}
 use Rattle.tok_core.specs.Forest.{Tree}
 use Rattle.tok_buffer.specs.Ahead.{ahead}
-use Rattle.tok_buffer.specs.Place.{Place, is_at_end}
+use Rattle.tok_buffer.specs.Place.{Place}
 use Rattle.tok_buffer.specs.Reads.{read_punctuation}
 use Rattle.tok_buffer.proofs.View.Shortens.{LeavesFewer, fewer-punctuation}
 use Rattle.syn_replay.specs.Kinds.{Kind, read, refusal}
 use Rattle.syn_parse.specs.State.{fresh}
 use Rattle.syn_replay.proofs.Views.KindReads.{fewer-read}
-use Rattle.syn_replay.specs.Commands.{Piece}
+use Rattle.syn_replay.specs.Reports.{Piece}
 use Rattle.syn_replay.specs.Turns.{Outcome, read_all, refused_at, with_parts, is_later, no_progress}
-use Rattle.syn_replay.specs.Turns.{after, after_value, separator_refusal, pieces_of}
-use Rattle.syn_replay.specs.Turns.{terminated_turns, separated_turns, turns_left}
-use Rattle.syn_replay.specs.Turns.{MoreTurnsChangeNothing}
+use Rattle.syn_replay.specs.Turns.{after, after_value, pieces_of, Rule, is_over, without_separator}
+use Rattle.syn_replay.specs.Turns.{turns, turns_left, MoreTurnsChangeNothing}
 
 -- as many turns as there are visible trees ahead, and one more
 abbrev pub IsEnough : ℕ → Place → Type 0
@@ -42,36 +41,23 @@ module _ (kind : Kind) (separator : List ℕ) (scope : Span) where
       (cond (is_later p r) o (refused_at (no_progress r scope) r)))
       (same r (omega (arith, h, f)) (omega (arith, k, f))))
 
-  pub enough-terminated : (n m : ℕ) (p : Place) → IsEnough n p → IsEnough m p
-      → terminated_turns kind separator scope n p ≡ terminated_turns kind separator scope m p
-  enough-terminated zero m p h k = absurd (omega (arith, h))
-  enough-terminated (suc n) zero p h k = absurd (omega (arith, k))
-  enough-terminated (suc n) (suc m) p h k =
-      let again = enough-terminated n m in
-      ap (λ o. cond (is_at_end p) (read_all [] p) o)
-      (after_fewer p (refused_at (refusal kind (fresh p scope)) p) _ _ (read kind p)
-      (fewer-read kind p)
-      (λ x q f.
-      ap (λ o. cond (is_at_end q) (read_all (x ∷ []) q) o)
-      (more_turns n m (terminated_turns kind separator scope n)
-      (terminated_turns kind separator scope m) again p q x
-      (refused_at (separator_refusal kind separator scope q) q) (omega (arith, h, f))
-      (omega (arith, k, f)))))
-
-  pub enough-separated : (n m : ℕ) (p : Place) → IsEnough n p → IsEnough m p
-      → separated_turns kind separator scope n p ≡ separated_turns kind separator scope m p
-  enough-separated zero m p h k = absurd (omega (arith, h))
-  enough-separated (suc n) zero p h k = absurd (omega (arith, k))
-  enough-separated (suc n) (suc m) p h k =
-      let again = enough-separated n m in
-      after_fewer p (refused_at (refusal kind (fresh p scope)) p) _ _ (read kind p)
-      (fewer-read kind p)
-      (λ x q f. more_turns n m (separated_turns kind separator scope n)
-      (separated_turns kind separator scope m) again p q x (read_all (x ∷ []) q)
-      (omega (arith, h, f)) (omega (arith, k, f)))
+  -- for each rule
+  module _ (rule : Rule) where
+    pub enough-turns : (n m : ℕ) (p : Place) → IsEnough n p → IsEnough m p
+        → turns kind separator scope rule n p ≡ turns kind separator scope rule m p
+    enough-turns zero m p h k = absurd (omega (arith, h))
+    enough-turns (suc n) zero p h k = absurd (omega (arith, k))
+    enough-turns (suc n) (suc m) p h k =
+        let again = enough-turns n m in
+        ap (λ o. cond (is_over rule p) (read_all [] p) o)
+        (after_fewer p (refused_at (refusal kind (fresh p scope)) p) _ _ (read kind p)
+        (fewer-read kind p)
+        (λ x q f.
+        ap (λ o. cond (is_over rule q) (read_all (x ∷ []) q) o)
+        (more_turns n m (turns kind separator scope rule n) (turns kind separator scope rule m)
+        again p q x (without_separator kind separator scope rule x q) (omega (arith, h, f))
+        (omega (arith, k, f)))))
 
 pub more_turns_change_nothing : MoreTurnsChangeNothing
-more_turns_change_nothing kind separator scope n p h = (
-  enough-terminated kind separator scope n (turns_left p) p h (le_refl (turns_left p)),
-  enough-separated kind separator scope n (turns_left p) p h (le_refl (turns_left p)),
-)
+more_turns_change_nothing kind separator scope rule n p h =
+    enough-turns kind separator scope rule n (turns_left p) p h (le_refl (turns_left p))

@@ -6,7 +6,7 @@ use Rattle.std.proofs.lemmas.Bool.Decides.{nat_tests}
 use Rattle.tok_leaves.specs.declared.span.Span.{Span}
 use Rattle.tok_core.specs.Forest.{Tree}
 use Rattle.tok_buffer.specs.Buffer.{Laid}
-use Rattle.tok_buffer.specs.Place.{Place, empty_place, at, is_at_end}
+use Rattle.tok_buffer.specs.Place.{Place, empty_place, at}
 use Rattle.tok_buffer.specs.Reads.{read_punctuation}
 use Rattle.tok_buffer.proofs.View.Alike.{Alike, ReadsAlike, alike-end, alike-punctuation}
 use Rattle.tok_buffer.proofs.View.Lengths.{length_in_view, view-length}
@@ -16,10 +16,10 @@ use Rattle.syn_replay.specs.Kinds.{Kind, read, refusal}
 use Rattle.syn_parse.specs.State.{fresh}
 use Rattle.syn_replay.proofs.Views.KindReads.{leads-read}
 use Rattle.syn_replay.proofs.Views.KindsAlike.{alike-kind, alike-refusal}
-use Rattle.syn_replay.specs.Commands.{Piece}
+use Rattle.syn_replay.specs.Reports.{Piece}
 use Rattle.syn_replay.specs.Turns.{Outcome, read_all, refused_at, with_parts, is_later, no_progress}
-use Rattle.syn_replay.specs.Turns.{after, after_value, next_turn, separator_refusal, pieces_of}
-use Rattle.syn_replay.specs.Turns.{terminated_turns, separated_turns, turns_left}
+use Rattle.syn_replay.specs.Turns.{after, after_value, next_turn, pieces_of, without_separator}
+use Rattle.syn_replay.specs.Turns.{Rule, terminated, separated, is_over, turns, turns_left}
 
 -- each read leads to a later place of the same scope
 abbrev pub IsLaterThan : Place → Place → Type 0
@@ -114,39 +114,33 @@ module _ (f g : Laid) where
         (alike-punctuation f g separator i j h) (later-separator separator p i k)
         (later-separator separator q j m)
 
-    pub alike-terminated : (n : ℕ) (p q : Place) → Alike f g p q
-        → OutcomesAlike (terminated_turns kind separator left n p)
-        (terminated_turns kind separator right n q)
-    alike-terminated zero p q h = (refl, h)
-    alike-terminated (suc n) p q h =
-        let again = alike-terminated n in
-        either-outcome (is_at_end p) (is_at_end q) (read_all [] p) (read_all [] q) _ _
-        (alike-end f g p q h) (refl, h)
+    alike-over : (rule : Rule) (p q : Place) → Alike f g p q → is_over rule p ≡ is_over rule q
+    alike-over terminated p q h = alike-end f g p q h
+    alike-over separated p q h = refl
+
+    alike-without : (rule : Rule) (x : List Piece) (p q : Place) → Alike f g p q
+        → OutcomesAlike (without_separator kind separator left rule x p)
+        (without_separator kind separator right rule x q)
+    alike-without terminated x p q h = (refl, h)
+    alike-without separated x p q h = (refl, h)
+
+    pub alike-turns : (rule : Rule) (n : ℕ) (p q : Place) → Alike f g p q
+        → OutcomesAlike (turns kind separator left rule n p) (turns kind separator right rule n q)
+    alike-turns rule zero p q h = (refl, h)
+    alike-turns rule (suc n) p q h =
+        either-outcome (is_over rule p) (is_over rule q) (read_all [] p) (read_all [] q) _ _
+        (alike-over rule p q h) (refl, h)
         (after-read p q (refused_at (refusal kind (fresh p left)) p)
         (refused_at (refusal kind (fresh q right)) q) _ _ (read kind p) (read kind q)
         (alike-refusal f g kind (fresh p left) (fresh q right) h, h)
         (λ x i j k l m.
-        either-outcome (is_at_end i) (is_at_end j) (read_all (x ∷ []) i) (read_all (x ∷ []) j) _ _
-        (alike-end f g i j k) (refl, k)
-        (after-value p q x (refused_at (separator_refusal kind separator left i) i)
-        (refused_at (separator_refusal kind separator right j) j)
-        (terminated_turns kind separator left n) (terminated_turns kind separator right n) i
-        j (refl, k) again k l m))
+        either-outcome (is_over rule i) (is_over rule j) (read_all (x ∷ []) i) (read_all (x ∷ []) j) _ _
+        (alike-over rule i j k) (refl, k)
+        (after-value p q x (without_separator kind separator left rule x i)
+        (without_separator kind separator right rule x j) (turns kind separator left rule n)
+        (turns kind separator right rule n) i j (alike-without rule x i j k)
+        (alike-turns rule n) k l m))
         (alike-kind f g kind p q h) (later-read kind p) (later-read kind q))
-
-    pub alike-separated : (n : ℕ) (p q : Place) → Alike f g p q
-        → OutcomesAlike (separated_turns kind separator left n p)
-        (separated_turns kind separator right n q)
-    alike-separated zero p q h = (refl, h)
-    alike-separated (suc n) p q h =
-        let again = alike-separated n in
-        after-read p q (refused_at (refusal kind (fresh p left)) p)
-        (refused_at (refusal kind (fresh q right)) q) _ _ (read kind p) (read kind q)
-        (alike-refusal f g kind (fresh p left) (fresh q right) h, h)
-        (λ x i j k l m. after-value p q x (read_all (x ∷ []) i) (read_all (x ∷ []) j)
-        (separated_turns kind separator left n) (separated_turns kind separator right n) i j
-        (refl, k) again k l m)
-        (alike-kind f g kind p q h) (later-read kind p) (later-read kind q)
 
   -- as many turns are allowed at both places
   pub alike-turns_left : (p q : Place) → Alike f g p q → turns_left p ≡ turns_left q

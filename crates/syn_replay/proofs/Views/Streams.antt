@@ -1,6 +1,6 @@
 -- Streams of two walks that are alike: at places with equal views, with equal spans of what is
 -- noted.
-use Rattle.std.proofs.Common.{◌≡◌, ◌∙◌, ap, ap₂, subst, refl, ℕ, zero, suc, ◌+◌, ◌-◌, ◌&&◌, ◌||◌}
+use Rattle.std.proofs.Common.{◌≡◌, ◌∙◌, ap, ap₂, subst, refl, ℕ, zero, suc, ◌+◌, ◌-◌, ◌==◌, ◌&&◌, ◌||◌}
 use Rattle.std.proofs.Common.{Bool, true, false, cond, List, [], ◌∷◌, ◌++◌, length, Option, Some}
 use Rattle.std.proofs.Common.{None}
 use Rattle.std.specs.Prelude.{⊤, option_map}
@@ -13,7 +13,7 @@ use Rattle.tok_buffer.proofs.View.Alike.{Alike, alike-leftover}
 use Rattle.syn_replay.specs.Session.State.{Stream, StreamKind, outermost, content_of, a_fork, State}
 use Rattle.syn_replay.specs.Session.State.{stream_at, with_stream, moved_to, spent, with_note, is_content_of}
 use Rattle.syn_replay.specs.Session.State.{is_open_content_of, contains, is_content_among, inside_of}
-use Rattle.syn_replay.specs.Session.State.{is_inside, spent_with, handed_note, with_note_on_parent, handed_up}
+use Rattle.syn_replay.specs.Session.State.{is_inside, is_or_inside, spent_where, all_spent, handed_note, with_note_on_parent, handed_up}
 use Rattle.syn_replay.specs.Session.State.{contents_closed, closed_inside, closed, taken_over, advanced}
 
 -- a leftover is compared by its span alone
@@ -212,20 +212,6 @@ module _ (f g : Laid) where
       (alike-stream_at (closed_inside n st) (closed_inside n su) n now)) now)
 
   -- Discarding, and what is inside a stream.
-  pub alike-spent_with : (ns : List ℕ) (k : ℕ) (st su : State) → StatesAlike st su
-      → StatesAlike (spent_with ns k st) (spent_with ns k su)
-  alike-spent_with ns k [] [] h = tt
-  alike-spent_with ns k [] (t ∷ su) h = absurd h
-  alike-spent_with ns k (s ∷ st) [] h = absurd h
-  alike-spent_with ns k (s ∷ st) (t ∷ su) h =
-      alike-cond (contains ns k || is_content_among ns s.kind)
-      (contains ns k || is_content_among ns t.kind)
-      (spent s ∷ spent_with (k ∷ ns) (k + 1) st) (spent t ∷ spent_with (k ∷ ns) (k + 1) su)
-      (s ∷ spent_with ns (k + 1) st) (t ∷ spent_with ns (k + 1) su)
-      (ap (λ x. contains ns k || is_content_among ns x) h.0.kind)
-      (alike-spent s t h.0, alike-spent_with (k ∷ ns) (k + 1) st su h.1)
-      (h.0, alike-spent_with ns (k + 1) st su h.1)
-
   same-inside_of : (ns : List ℕ) (k : ℕ) (st su : State) → StatesAlike st su
       → inside_of ns k st ≡ inside_of ns k su
   same-inside_of ns k [] [] h = refl
@@ -242,3 +228,26 @@ module _ (f g : Laid) where
       → is_inside st outer inner ≡ is_inside su outer inner
   same-inside st su outer inner h =
       ap (λ x. contains x inner) (same-inside_of (outer ∷ []) 0 st su h)
+
+  alike-spent_when : (a b : Bool) (s t : Stream) → a ≡ b → StreamsAlike s t
+      → StreamsAlike (cond a (spent s) s) (cond b (spent t) t)
+  alike-spent_when true true s t e h = alike-spent s t h
+  alike-spent_when true false s t e h = absurd (cc)
+  alike-spent_when false true s t e h = absurd (cc)
+  alike-spent_when false false s t e h = h
+
+  alike-spent_where : (a b : ℕ → Bool) → ((n : ℕ) → a n ≡ b n) → (k : ℕ) (st su : State)
+      → StatesAlike st su → StatesAlike (spent_where a k st) (spent_where b k su)
+  alike-spent_where a b e k [] [] h = tt
+  alike-spent_where a b e k [] (t ∷ su) h = absurd h
+  alike-spent_where a b e k (s ∷ st) [] h = absurd h
+  alike-spent_where a b e k (s ∷ st) (t ∷ su) h = (
+    alike-spent_when (a k) (b k) s t (e k) h.0,
+    alike-spent_where a b e (k + 1) st su h.1,
+  )
+
+  pub alike-all_spent : (k : ℕ) (st su : State) → StatesAlike st su
+      → StatesAlike (all_spent k st) (all_spent k su)
+  alike-all_spent k st su h =
+      alike-spent_where (is_or_inside st k) (is_or_inside su k)
+      (λ n. ap (λ x. n == k || x) (same-inside st su k n h)) 0 st su h

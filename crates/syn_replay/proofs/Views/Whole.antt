@@ -1,5 +1,6 @@
 -- Invisible groups do not matter to walks: the proof.
 use Rattle.std.proofs.Common.{◌≡◌, refl, Bool, true, false, ◌&&◌, List, [], ◌∷◌, Option, Some, None}
+use Rattle.std.proofs.lemmas.Bool.{and_parts}
 use Rattle.tok_core.specs.Erase.{erase}
 use Rattle.tok_core.specs.Forest.{Forest}
 use Rattle.tok_buffer.specs.Buffer.{Laid}
@@ -7,7 +8,8 @@ use Rattle.tok_buffer.specs.Ahead.{Leftover}
 use Rattle.tok_buffer.proofs.View.Alike.{alike-start}
 use Rattle.syn_parse.specs.RefusalWords.{leftover_refusal}
 use Rattle.syn_replay.specs.Agree.{LinesAgree, VerdictsAgree}
-use Rattle.syn_replay.specs.Commands.{Command, accepted, left_over}
+use Rattle.syn_replay.specs.Commands.{Command}
+use Rattle.syn_replay.specs.Reports.{accepted, left_over}
 use Rattle.syn_replay.specs.Transparent.{is_transparent, all_transparent, DifferInInvisibleGroups}
 use Rattle.syn_replay.specs.Transparent.{InvisibleGroupsDoNotMatter}
 use Rattle.syn_replay.specs.Session.State.{Stream, State, first_state, stream_at, closed_inside}
@@ -18,16 +20,12 @@ use Rattle.syn_replay.proofs.Views.Steps.{alike-step}
 use Rattle.syn_replay.proofs.Views.Streams.{BothAlike, StatesAlike, span_of, alike-handed}
 use Rattle.syn_replay.proofs.Views.Streams.{alike-stream_at, alike-closed_inside}
 
-both_true : (a b : Bool) → (a && b) ≡ true → (a ≡ true) × (b ≡ true)
-both_true true b e = (refl, e)
-both_true false b e = absurd (cc)
-
 module _ (f g : Laid) (visible : erase f.forest ≡ erase g.forest) where
   lines-agree : (cs : List Command) → all_transparent cs ≡ true → (st su : State)
       → StatesAlike f g st su → LinesAgree (lines_from st cs) (lines_from su cs)
   lines-agree [] e st su h = tt
   lines-agree (c ∷ cs) e st su h =
-      let parts = both_true (is_transparent c) (all_transparent cs) e in
+      let parts = and_parts (is_transparent c) (all_transparent cs) e in
       let next = alike-step f g visible st su h c parts.0 in
       (next.answer, lines-agree cs parts.1 (step c st).state (step c su).state next.state)
 
@@ -35,7 +33,7 @@ module _ (f g : Laid) (visible : erase f.forest ≡ erase g.forest) where
       → StatesAlike f g st su → StatesAlike f g (last_state st cs) (last_state su cs)
   alike-last [] e st su h = h
   alike-last (c ∷ cs) e st su h =
-      let parts = both_true (is_transparent c) (all_transparent cs) e in
+      let parts = and_parts (is_transparent c) (all_transparent cs) e in
       alike-last cs parts.1 (step c st).state (step c su).state
       (alike-step f g visible st su h c parts.0).state
 

@@ -3,8 +3,8 @@ use Rattle.std.specs.Prelude.{◌≡◌, ℕ, Bool, true, false, List, ◌∷◌
 use Rattle.tok_core.specs.Forest.{Forest}
 use Rattle.tok_buffer.specs.Ahead.{leftover}
 use Rattle.tok_buffer.specs.Place.{Place}
-use Rattle.syn_replay.specs.Commands as commands
-use Rattle.syn_replay.specs.Commands.{Command, done, Verdict, accepted}
+use Rattle.syn_replay.specs.Commands.{Action, Command, on, advance, discard}
+use Rattle.syn_replay.specs.Reports.{done, Verdict, accepted}
 use Rattle.syn_replay.specs.Session.State.{Stream, content_of, State, first_state, stream_at}
 use Rattle.syn_replay.specs.Session.State.{closed_inside}
 use Rattle.syn_replay.specs.Session.Step.{is_spent, step}
@@ -19,9 +19,9 @@ pub record IsShut (before after : State) (content parent : ℕ) (p : Place) : Ty
   pub at_place : stream.place ≡ p
   pub is_shut : is_spent after content ≡ true
 
-abbrev pub is_discard : Command → Bool
-is_discard (commands.discard n) = true
-is_discard c = false
+abbrev pub is_discard : Action → Bool
+is_discard discard = true
+is_discard a = false
 
 -- of the walk over this forest by these commands
 module _ (f : Forest) (cs : List Command) where
@@ -39,7 +39,7 @@ module _ (f : Forest) (cs : List Command) where
   -- the end
   pub data Closes (content parent : ℕ) (p : Place) : Type 0 where
     by_command : (st : State) (c : Command) (rest : List Command) →
-        Comes st (c ∷ rest) → is_discard c ≡ false →
+        Comes st (c ∷ rest) → is_discard c.action ≡ false →
         IsShut st (step c st).state content parent p → Closes content parent p
     at_end : IsShut all_run (closed_inside 0 all_run) content parent p → Closes content parent p
 
@@ -47,8 +47,8 @@ module _ (f : Forest) (cs : List Command) where
   pub record Advances (stream fork : ℕ) : Type 0 where
     pub before : State
     pub rest : List Command
-    pub comes : Comes before (commands.advance stream fork ∷ rest)
-    pub advances : (step (commands.advance stream fork) before).answer ≡ done
+    pub comes : Comes before (on stream (advance fork) ∷ rest)
+    pub advances : (step (on stream (advance fork)) before).answer ≡ done
 
   -- stream 0 counts, a content that is closed into a stream that counts, and a fork to which one
   -- advances

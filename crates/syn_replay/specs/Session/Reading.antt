@@ -15,11 +15,9 @@ use Rattle.syn_parse.specs.declared.fault.Fault.TheVariants.{Refused, Memory}
 use Rattle.syn_punctuated.specs.declared.pair.Pair.{Pair}
 use Rattle.syn_punctuated.specs.declared.pair.Pair.TheVariants.{Punctuated, End}
 use Rattle.tok_types.specs.declared.punctuation.Punctuation.{Punctuation}
-use Rattle.syn_replay.specs.Commands as spec
-use Rattle.syn_replay.specs.Kinds.{Kind}
-use Rattle.syn_replay.specs.Session.State.{outermost, standing}
-use Rattle.syn_replay.specs.Session.Step.{Stepped, on_stream}
-use Rattle.syn_replay.specs.Turns.{pieces_of}
+use Rattle.syn_replay.specs.Commands.{Action, Read, read, read_answer}
+use Rattle.syn_replay.specs.Reports as reports
+use Rattle.syn_replay.specs.Turns.{Rule, pieces_of, terminated, separated}
 use Rattle.syn_replay.specs.Meanings.{IsAnswer, IsOneMessage, piece_of, pieces_in, refusal_of}
 use Rattle.syn_replay.specs.declared.report.Answer.{Answer}
 use Rattle.syn_replay.specs.declared.report.Piece.{Piece}
@@ -31,7 +29,7 @@ abbrev pub ArePieces : List Tree → Vec Piece → Type 0
 ArePieces ts ps = map piece_of ps.items ≡ pieces_of ts
 
 -- characters, each with its span
-abbrev pub punct_pieces : List ℕ → List Span → List spec.Piece
+abbrev pub punct_pieces : List ℕ → List Span → List reports.Piece
 punct_pieces [] spans = []
 punct_pieces (c ∷ cs) [] = []
 punct_pieces (c ∷ cs) (s ∷ spans) =
@@ -39,59 +37,58 @@ punct_pieces (c ∷ cs) (s ∷ spans) =
 
 -- a value and its separator, in pieces
 abbrev pub pair_parts :
-    {k n : ℕ} → List ℕ → Pair (Vec Piece) (Punctuation k n) → List (List spec.Piece)
+    {k n : ℕ} → List ℕ → Pair (Vec Piece) (Punctuation k n) → List (List reports.Piece)
 pair_parts text (Punctuated v p) = pieces_in v ∷ (punct_pieces text p.spans ∷ [])
 pair_parts text (End v) = pieces_in v ∷ []
 
 -- trees are read, the pieces are theirs, and the stream is after them
 abbrev pub AfterPieces : Option (List Tree × Place) → parse.State → Vec Piece → parse.State →
     Type 0
-AfterPieces read s ps t =
-    (r : List Tree × Place) × (read ≡ Some r) × ArePieces r.0 ps × (t ≡ moved r.1 s)
+AfterPieces x s ps t =
+    (r : List Tree × Place) × (x ≡ Some r) × ArePieces r.0 ps × (t ≡ moved r.1 s)
 
 -- Where trees are read, their pieces are answered and the stream is after them; where none
 -- are, the call refuses and the stream stays. An allocation failure may come instead of both.
 abbrev pub ReadsPieces : Option (List Tree × Place) → Refusal → parse.State →
     Result (Vec Piece) Fault → parse.State → Type 0
-ReadsPieces read words s (Ok ps) t = AfterPieces read s ps t
-ReadsPieces read words s (Err (Refused e)) t =
-    (read ≡ None) × (e ≡ messages.refused words) × (t ≡ s)
-ReadsPieces read words s (Err (Memory e)) t = Unit {0}
-
--- a command on a stream that is alone
-abbrev pub alone : spec.Command → parse.State → Stepped
-alone c s = on_stream c (standing s outermost true ∷ []) 0 (standing s outermost true)
+ReadsPieces x words s (Ok ps) t = AfterPieces x s ps t
+ReadsPieces x words s (Err (Refused e)) t =
+    (x ≡ None) × (e ≡ messages.refused words) × (t ≡ s)
+ReadsPieces x words s (Err (Memory e)) t = Unit {0}
 
 -- a refusal, in one message
-abbrev pub IsRefusal : List Message → spec.Answer → Type 0
-IsRefusal e x = (spec.refused (refusal_of e) ≡ x) × IsOneMessage e
+abbrev pub IsRefusal : List Message → reports.Answer → Type 0
+IsRefusal e x = (reports.refused (refusal_of e) ≡ x) × IsOneMessage e
 
 -- an answer, or its refusal
-abbrev pub GivesAnswer : spec.Answer → Result Answer Fault → Type 0
+abbrev pub GivesAnswer : reports.Answer → Result Answer Fault → Type 0
 GivesAnswer x (Ok a) = IsAnswer a x
 GivesAnswer x (Err (Refused e)) = IsRefusal e x
 GivesAnswer x (Err (Memory e)) = Unit {0}
 
 -- where the stream is then; nothing is said of an allocation failure
-abbrev pub LeavesAlone : Result Answer Fault → parse.State → Stepped → Type 0
-LeavesAlone (Ok a) t step = standing t outermost true ∷ [] ≡ step.state
-LeavesAlone (Err (Refused e)) t step = standing t outermost true ∷ [] ≡ step.state
-LeavesAlone (Err (Memory e)) t step = Unit {0}
+abbrev pub LeavesAt : Result Answer Fault → parse.State → parse.State → Type 0
+LeavesAt (Ok a) t wanted = t ≡ wanted
+LeavesAt (Err (Refused e)) t wanted = t ≡ wanted
+LeavesAt (Err (Memory e)) t wanted = Unit {0}
 
-abbrev pub IsRead : spec.Command → parse.State → Result Answer Fault → parse.State → Type 0
-IsRead c s result t = GivesAnswer (alone c s).answer result × LeavesAlone result t (alone c s)
+-- the answer of a read, and the stream after it
+abbrev pub IsRead : Read → parse.State → Result Answer Fault → parse.State → Type 0
+IsRead r s result t =
+    GivesAnswer (read_answer r s.place s.scope_span).0 result
+    × LeavesAt result t (moved (read_answer r s.place s.scope_span).1 s)
 
--- the command that reads a list of this form
-abbrev pub list_command : Form → Kind → List ℕ → spec.Command
-list_command Terminated = spec.terminated 0
-list_command Separated = spec.separated 0
+-- whether a command concerns no other stream
+abbrev pub is_read : Action → Bool
+is_read (read r) = true
+is_read a = false
 
--- a command that concerns no other stream
-abbrev pub is_read : spec.Command → Bool
-is_read (spec.enter n d) = false
-is_read (spec.enter_any n) = false
-is_read (spec.fork n) = false
-is_read (spec.advance n f) = false
-is_read (spec.discard n) = false
-is_read (spec.close n) = false
-is_read c = true
+-- an action that is a read is done
+abbrev pub IsDone : Action → parse.State → Result Answer Fault → parse.State → Type 0
+IsDone (read r) s result t = IsRead r s result t
+IsDone a s result t = Unit {0}
+
+-- the rule of a list of this form
+abbrev pub rule_of : Form → Rule
+rule_of Terminated = terminated
+rule_of Separated = separated

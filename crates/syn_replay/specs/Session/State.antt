@@ -8,7 +8,7 @@ use Rattle.tok_leaves.specs.Spans.{call_site}
 use Rattle.tok_buffer.specs.Ahead.{Leftover, leftover}
 use Rattle.tok_buffer.specs.Place.{Place, empty_place, at, start}
 use Rattle.syn_parse.specs.State as parse
-use Rattle.syn_replay.specs.Commands.{Position, stands_at, at_empty}
+use Rattle.syn_replay.specs.Reports.{Position, stands_at, at_empty}
 
 -- the whole forest's stream, or a group's, with the number of the stream from which the group was
 -- entered, or a fork
@@ -151,15 +151,17 @@ inside_of ns k (s ∷ st) =
 abbrev pub is_inside : State → (outer inner : ℕ) → Bool
 is_inside st outer inner = contains (inside_of (outer ∷ []) 0 st) inner
 
--- some streams and all contents inside them are spent
-abbrev pub spent_with : List ℕ → ℕ → State → State
-spent_with ns k [] = []
-spent_with ns k (s ∷ st) =
-    cond (contains ns k || is_content_among ns s.kind) (spent s ∷ spent_with (k ∷ ns) (k + 1) st)
-    (s ∷ spent_with ns (k + 1) st)
+abbrev pub is_or_inside : State → (outer n : ℕ) → Bool
+is_or_inside st outer n = n == outer || is_inside st outer n
 
+-- each stream whose number passes a test is spent, from this number on
+abbrev pub spent_where : (ℕ → Bool) → ℕ → State → State
+spent_where test k [] = []
+spent_where test k (s ∷ st) = cond (test k) (spent s) s ∷ spent_where test (k + 1) st
+
+-- a stream and all contents inside it are spent
 abbrev pub all_spent : ℕ → State → State
-all_spent k st = spent_with (k ∷ []) 0 st
+all_spent k st = spent_where (is_or_inside st k) 0 st
 
 abbrev pub position_of : Place → Position
 position_of empty_place = at_empty

@@ -1,15 +1,16 @@
 -- What the parts of a replay promise.
-use Rattle.std.specs.Prelude.{◌≡◌, ℕ, List, [], ◌∷◌, map, Option, Some, None, Result, Ok, Err}
+use Rattle.std.specs.Prelude.{◌≡◌, ℕ, List, map, Some, None, Result, Ok, Err}
 use Rattle.std.specs.List.{All}
 use Rattle.std.specs.declared.alloc.AllocError.{AllocError}
 use Rattle.syn_parse.specs.declared.fault.Fault.{Fault}
 use Rattle.syn_parse.specs.declared.fault.Fault.TheVariants.{Refused, Memory}
-use Rattle.syn_replay.specs.Commands as spec
-use Rattle.syn_replay.specs.Commands.{Position, missing}
+use Rattle.syn_replay.specs.Commands.{command_of}
+use Rattle.syn_replay.specs.Reports as reports
+use Rattle.syn_replay.specs.Reports.{Position, missing}
 use Rattle.syn_replay.specs.Session.State.{State, position_of, stream_at}
 use Rattle.syn_replay.specs.Session.Step.{Stepped, step, line}
 use Rattle.syn_replay.specs.Session.Walk.{lines_from, last_state}
-use Rattle.syn_replay.specs.Meanings.{IsAnswer, IsPlain, command_of, answer_of, line_of, refusal_of}
+use Rattle.syn_replay.specs.Meanings.{IsAnswer, IsPlain, answer_of, line_of, refusal_of}
 use Rattle.syn_replay.specs.Meanings.{IsOneMessage}
 use Rattle.syn_replay.specs.declared.command.Command.{Command}
 use Rattle.syn_replay.specs.declared.report.Answer.{Answer}
@@ -37,7 +38,7 @@ HasRun ls new old cs =
 -- a stream's fault as an answer: a refusal's error, or an allocation failure
 abbrev pub Answers : Fault → Result Answer AllocError → Type 0
 Answers (Refused e) (Ok a) =
-    (answer_of a ≡ spec.refused (refusal_of e)) × (IsOneMessage e → IsPlain a)
+    (answer_of a ≡ reports.refused (refusal_of e)) × (IsOneMessage e → IsPlain a)
 Answers (Refused e) (Err m) = ⊥
 Answers (Memory e) (Ok a) = ⊥
 Answers (Memory e) (Err m) = Unit {0}
@@ -45,11 +46,6 @@ Answers (Memory e) (Err m) = Unit {0}
 abbrev pub IsPlainVerdict : Verdict → Type 0
 IsPlainVerdict verdict.Accepted = Unit {0}
 IsPlainVerdict (verdict.Refused e) = IsOneMessage e
-
--- a stream, and another if there is one
-abbrev pub with_other : ℕ → Option ℕ → List ℕ
-with_other n None = n ∷ []
-with_other n (Some m) = n ∷ (m ∷ [])
 
 -- where a stream is
 abbrev pub stands : State → ℕ → Position

@@ -2,7 +2,8 @@
 use Rattle.std.specs.Prelude.{List, [], ◌∷◌, Option, Some, None}
 use Rattle.tok_core.specs.Forest.{Forest}
 use Rattle.syn_parse.specs.RefusalWords.{leftover_refusal}
-use Rattle.syn_replay.specs.Commands.{Command, Line, Verdict, accepted, left_over, Report}
+use Rattle.syn_replay.specs.Commands.{Command}
+use Rattle.syn_replay.specs.Reports.{Line, Verdict, accepted, left_over, Report}
 use Rattle.syn_replay.specs.Session.State.{Stream, State, first_state, stream_at, closed_inside}
 use Rattle.syn_replay.specs.Session.State.{handed_note}
 use Rattle.syn_replay.specs.Session.Step.{step, line}

@@ -1,7 +1,8 @@
 //! Two streams under one list of commands.
 ghost use Rattle.std.specs.Prelude.{◌≡◌, true, IfOk, map};
 ghost use Rattle.syn_replay.specs.Agree.{ReportsAgree};
-ghost use Rattle.syn_replay.specs.Meanings.{command_of, report_of};
+ghost use Rattle.syn_replay.specs.Commands.{command_of};
+ghost use Rattle.syn_replay.specs.Meanings.{report_of};
 ghost use Rattle.syn_replay.specs.Session.Stepping.{ArePlain, IsPlainVerdict};
 ghost use Rattle.syn_replay.specs.Transparent.{DifferInInvisibleGroups, all_transparent};
 ghost use Rattle.syn_replay.specs.Session.Walk.{walk};

@@ -1,7 +1,8 @@
 //! Commands to which invisible groups do not matter.
 ghost use Rattle.std.specs.Prelude.{◌≡◌, map};
 ghost use Rattle.syn_replay.specs.Kinds.{ignores_invisible};
-ghost use Rattle.syn_replay.specs.Meanings.{command_of, look_of};
+ghost use Rattle.syn_replay.specs.Commands.{command_of};
+ghost use Rattle.syn_replay.specs.Meanings.{look_of};
 ghost use Rattle.syn_replay.specs.Transparent as spec;
 
 use crate::command::{Command, Look};

@@ -4,7 +4,8 @@ ghost use Rattle.std.specs.List.{flat_map};
 ghost use Rattle.tok_types.specs.Texts.{punctuation_word};
 ghost use Rattle.syn_punctuated.specs.Lists.{values_of, separators_of};
 ghost use Rattle.syn_punctuated.specs.Paired.{paired};
-ghost use Rattle.syn_replay.specs.Session.Reading.{IsRead, list_command, pair_parts};
+ghost use Rattle.syn_replay.specs.Commands as commands;
+ghost use Rattle.syn_replay.specs.Session.Reading.{IsRead, pair_parts, rule_of};
 ghost use Rattle.syn_replay.specs.Meanings.{kind_of, pieces_in, separator_of};
 
 use crate::command::{Kind, Separator};
@@ -31,7 +32,7 @@ pub fn read(
     kind: Kind,
     separator: Separator,
 ) -> Result<Answer>
-    ensures { IsRead (list_command form (kind_of kind) (separator_of separator))
+    ensures { IsRead (commands.list (rule_of form) (kind_of kind) (separator_of separator))
         input.old result input.new }
 {
     match separator {
@@ -51,7 +52,8 @@ fn list_by<const K: usize, const N: usize>(
     _: Punctuation<K, N>,
 ) -> Result<Answer>
     requires { text.now ≡ punctuation_word K N }
-    ensures { IsRead (list_command form (kind_of kind) text.now) input.old result input.new }
+    ensures { IsRead (commands.list (rule_of form) (kind_of kind) text.now)
+        input.old result input.new }
 {
     let alloc = input.allocator();
     let token = |stream: ParseStream<'_, '_>| tokens::parse(stream, kind);

@@ -3,9 +3,9 @@ ghost use Rattle.std.specs.Prelude.{◌≡◌, ◌∷◌, [], true, map, IfOk};
 ghost use Rattle.tok_core.specs.Forest.{forest};
 ghost use Rattle.tok_core.specs.Seen.{tree_of};
 ghost use Rattle.syn_replay.specs.Commands as commands;
-ghost use Rattle.syn_replay.specs.Session.Step.{looked};
-ghost use Rattle.syn_replay.specs.Session.Reading.{GivesAnswer, IsRead, is_read};
-ghost use Rattle.syn_replay.specs.Meanings.{command_of, kind_of, look_of};
+ghost use Rattle.syn_replay.specs.Session.Reading.{GivesAnswer, IsDone, IsRead, is_read};
+ghost use Rattle.syn_replay.specs.Commands.{command_of, looked};
+ghost use Rattle.syn_replay.specs.Meanings.{kind_of, look_of};
 
 use crate::command::{Command, Kind, Look};
 use crate::report::Answer;
@@ -17,8 +17,8 @@ use tok_core::{Group, TokenStream, TokenTree};
 
 /// Runs a command that concerns no other stream.
 pub fn answer(input: ParseStream<'_, '_>, command: &Command) -> Result<Answer>
-    requires { is_read (command_of command.now) ≡ true }
-    ensures { IsRead (command_of command.now) input.old result input.new }
+    requires { is_read (command_of command.now).action ≡ true }
+    ensures { IsDone (command_of command.now).action input.old result input.new }
 {
     match command {
         Command::Peek(_, look) => Ok(Answer::Truth(look.peek(input.cursor()))),
@@ -52,17 +52,17 @@ pub fn answer(input: ParseStream<'_, '_>, command: &Command) -> Result<Answer>
 
 // Parses a token of this kind.
 fn parse(input: ParseStream<'_, '_>, kind: Kind) -> Result<Answer>
-    ensures { IsRead (commands.parse 0 (kind_of kind)) input.old result input.new }
+    ensures { IsRead (commands.parse (kind_of kind)) input.old result input.new }
 {
     Ok(Answer::Read(tokens::parse(input, kind)?))
 }
 
 // Parses a token of this kind, if it is next.
 fn optional(input: ParseStream<'_, '_>, kind: Kind) -> Result<Answer>
-    ensures { IsRead (commands.optional 0 (kind_of kind)) input.old result input.new }
+    ensures { IsRead (commands.optional (kind_of kind)) input.old result input.new }
 {
     if kind.peek(input.cursor()) {
-        Ok(Answer::Read(tokens::parse(input, kind)?))
+        parse(input, kind)
     } else {
         Ok(Answer::Absent)
     }
@@ -85,7 +85,7 @@ fn look_ahead(input: &ParseBuffer<'_>, looks: &[Look]) -> Result<Answer>
 
 // Parses the next tree.
 fn tree(input: ParseStream<'_, '_>) -> Result<Answer>
-    ensures { IsRead (commands.next_tree 0) input.old result input.new }
+    ensures { IsRead commands.next_tree input.old result input.new }
 {
     let alloc = input.allocator();
     let tree = TokenTree::parse(input)?;
@@ -94,7 +94,7 @@ fn tree(input: ParseStream<'_, '_>) -> Result<Answer>
 
 // Parses the next tree if it is a visible group.
 fn group(input: ParseStream<'_, '_>) -> Result<Answer>
-    ensures { IsRead (commands.next_group 0) input.old result input.new }
+    ensures { IsRead commands.next_group input.old result input.new }
 {
     let alloc = input.allocator();
     let group = Group::parse(input)?;

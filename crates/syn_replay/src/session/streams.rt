@@ -21,10 +21,10 @@ pub struct Streams<'a> {
 }
 
 impl<'a> Streams<'a> {
-    ghost use Rattle.std.specs.Prelude.{◌≡◌, ◌<◌, ◌==◌, ◌||◌, ◌∷◌, [], ◌++◌, length, Some, None, MatchOption, IfOk, OnOk, OnErr, true};
+    ghost use Rattle.std.specs.Prelude.{◌≡◌, ◌<◌, ◌∷◌, [], ◌++◌, length, Some, None, MatchOption, IfOk, OnOk, OnErr, true};
     ghost use Rattle.tok_buffer.specs.Order.{same_scope};
     ghost use Rattle.syn_parse.specs.Pauses.{paused_state};
-    ghost use Rattle.syn_replay.specs.Session.State.{outermost, content_of, a_fork, stream_at, with_stream, standing, put, handed_up, closed_inside, closed, spent, advanced, all_spent, is_inside};
+    ghost use Rattle.syn_replay.specs.Session.State.{outermost, content_of, a_fork, stream_at, with_stream, standing, put, handed_up, closed_inside, closed, spent, advanced, all_spent, is_inside, is_or_inside};
     ghost use Rattle.syn_replay.specs.Session.Step.{place_of};
     ghost use Rattle.syn_replay.specs.Session.Tracks.{stream_of, state_of};
 
@@ -196,7 +196,7 @@ impl<'a> Streams<'a> {
     /// Returns `true` if a stream is another, or was entered inside it.
     pub fn is_or_inside(&self, outer: usize, n: usize) -> bool
         requires { n < length (state_of self.now) }
-        ensures { result ≡ ((n == outer) || is_inside (state_of self.now) outer n) }
+        ensures { result ≡ is_or_inside (state_of self.now) outer n }
     {
         n == outer || self.is_inside(outer, n)
     }

@@ -4,7 +4,7 @@ ghost use Rattle.syn_parse.specs.Groups.{AreParts, Enters};
 ghost use Rattle.syn_parse.specs.RefusalWords.{refused_at};
 ghost use Rattle.syn_replay.specs.Commands as commands;
 ghost use Rattle.syn_replay.specs.Session.State.{stream_at};
-ghost use Rattle.syn_replay.specs.Session.Step.{into_group, on_stream};
+ghost use Rattle.syn_replay.specs.Session.Step.{on_stream};
 ghost use Rattle.syn_replay.specs.Session.Entering.{entered_by, entering_words};
 ghost use Rattle.syn_replay.specs.Session.Stepping.{Answers, IsStepped};
 ghost use Rattle.syn_replay.specs.Session.Tracks.{stream_of, state_of};
@@ -70,8 +70,7 @@ pub fn enter<'a>(
     requires { stream_at (state_of streams.old) n ≡ Some (stream_of stream) }
     ensures { IfOk result
         (λ a. IsStepped a (state_of streams.new)
-        (into_group (state_of streams.old) n (stream_of stream.entry) (entering_words wanted)
-        (entered_by wanted (stream_of stream.entry).place))) }
+        (on_stream (commands.enter wanted) (state_of streams.old) n (stream_of stream.entry))) }
 {
     let mut input = stream.paused.resume();
     match enter_group(&mut input, wanted) {
@@ -95,7 +94,7 @@ pub fn fork<'a>(
     requires { stream_at (state_of streams.old) n ≡ Some (stream_of stream) }
     ensures { IfOk result
         (λ a. IsStepped a (state_of streams.new)
-        (on_stream (commands.fork n) (state_of streams.old) n (stream_of stream.entry))) }
+        (on_stream commands.fork (state_of streams.old) n (stream_of stream.entry))) }
 {
     let input = stream.paused.resume();
     let fork = input.fork();
@@ -111,7 +110,7 @@ pub fn advance<'a>(streams: &mut Streams<'a>, n: usize, stream: Stream<'a>, fork
     requires here { stream_at (state_of streams.old) n ≡ Some (stream_of stream) }
     requires fork { fork < length (state_of streams.old) }
     ensures { IsStepped result (state_of streams.new)
-        (on_stream (commands.advance n fork) (state_of streams.old) n (stream_of stream.entry)) }
+        (on_stream (commands.advance fork) (state_of streams.old) n (stream_of stream.entry)) }
 {
     let other = streams.at(fork);
     if stream.cursor().same_scope(other.cursor()) && !streams.is_or_inside(fork, n) {

@@ -10,10 +10,11 @@ use Rattle.tok_lexical.specs.declared.delimiter.Delimiter.TheVariants as delimit
 use Rattle.tok_lexical.specs.Delimiters.{opening}
 use Rattle.tok_types.specs.Texts.{keywords, punctuations}
 use Rattle.syn_replay.specs.Commands as commands
-use Rattle.syn_replay.specs.Commands.{Command, peek, peek2, peek3, parse, optional, empty, enter}
-use Rattle.syn_replay.specs.Commands.{enter_any, terminated, separated, lookahead, fork, advance}
-use Rattle.syn_replay.specs.Commands.{discard, close, stream_span, cursor_span, previous_span}
-use Rattle.syn_replay.specs.Commands.{next_tree, next_group}
+use Rattle.syn_replay.specs.Commands.{Command, Read, on, read, peek, peek2, peek3, parse}
+use Rattle.syn_replay.specs.Commands.{optional, empty, enter, lookahead, fork, advance, discard}
+use Rattle.syn_replay.specs.Commands.{close, stream_span, cursor_span, previous_span, next_tree}
+use Rattle.syn_replay.specs.Commands.{next_group}
+use Rattle.syn_replay.specs.Turns.{terminated, separated}
 use Rattle.syn_replay.specs.Kinds as looks
 use Rattle.syn_replay.specs.Kinds.{Kind, ident, ident_any, lifetime, lifetime_any, literal, punct}
 use Rattle.syn_replay.specs.Kinds.{underscore, keyword, punctuation, Look, paren, brace, bracket}
@@ -102,42 +103,49 @@ only_word ws = None
 abbrev pub alone : Command → List (List ℕ) → Option Command
 alone command rest = cond (is_empty rest) (Some command) None
 
+-- a read of a stream
+abbrev pub reads : ℕ → Read → Command
+reads n r = on n (read r)
+
 -- the command of this name on a stream, with the words that it takes
 abbrev pub command_named : List ℕ → ℕ → List (List ℕ) → Option Command
 command_named name n rest =
     cond (bytes_eq name (codes "peek"))
-    (option_map (peek n) (option_and_then look (only_word rest))) (
+    (option_map (λ l. reads n (peek l)) (option_and_then look (only_word rest))) (
     cond (bytes_eq name (codes "peek2"))
-    (option_map (peek2 n) (option_and_then look (only_word rest))) (
+    (option_map (λ l. reads n (peek2 l)) (option_and_then look (only_word rest))) (
     cond (bytes_eq name (codes "peek3"))
-    (option_map (peek3 n) (option_and_then look (only_word rest))) (
+    (option_map (λ l. reads n (peek3 l)) (option_and_then look (only_word rest))) (
     cond (bytes_eq name (codes "parse"))
-    (option_map (parse n) (option_and_then kind (only_word rest))) (
+    (option_map (λ k. reads n (parse k)) (option_and_then kind (only_word rest))) (
     cond (bytes_eq name (codes "optional"))
-    (option_map (optional n) (option_and_then kind (only_word rest))) (
-    cond (bytes_eq name (codes "empty")) (alone (empty n) rest) (
+    (option_map (λ k. reads n (optional k)) (option_and_then kind (only_word rest))) (
+    cond (bytes_eq name (codes "empty")) (alone (reads n empty) rest) (
     cond (bytes_eq name (codes "enter"))
-    (option_map (enter n) (option_and_then delimiter (only_word rest))) (
-    cond (bytes_eq name (codes "any")) (alone (enter_any n) rest) (
-    cond (bytes_eq name (codes "terminated")) (option_map (λ l. terminated n l.0 l.1) (list rest)) (
-    cond (bytes_eq name (codes "separated")) (option_map (λ l. separated n l.0 l.1) (list rest)) (
-    cond (bytes_eq name (codes "fork")) (alone (fork n) rest) (
+    (option_map (λ d. on n (enter (Some d))) (option_and_then delimiter (only_word rest))) (
+    cond (bytes_eq name (codes "any")) (alone (on n (enter None)) rest) (
+    cond (bytes_eq name (codes "terminated"))
+    (option_map (λ l. reads n (commands.list terminated l.0 l.1)) (list rest)) (
+    cond (bytes_eq name (codes "separated"))
+    (option_map (λ l. reads n (commands.list separated l.0 l.1)) (list rest)) (
+    cond (bytes_eq name (codes "fork")) (alone (on n fork) rest) (
     cond (bytes_eq name (codes "advance"))
-    (option_map (advance n) (option_and_then number (only_word rest))) (
-    cond (bytes_eq name (codes "discard")) (alone (discard n) rest) (
-    cond (bytes_eq name (codes "close")) (alone (close n) rest) (
-    cond (bytes_eq name (codes "span")) (alone (stream_span n) rest) (
-    cond (bytes_eq name (codes "cursor")) (alone (cursor_span n) rest) (
-    cond (bytes_eq name (codes "previous")) (alone (previous_span n) rest) (
-    cond (bytes_eq name (codes "tree")) (alone (next_tree n) rest) (
-    cond (bytes_eq name (codes "rest")) (alone (commands.rest n) rest) (
-    cond (bytes_eq name (codes "group")) (alone (next_group n) rest) None)))))))))))))))))))
+    (option_map (λ f. on n (advance f)) (option_and_then number (only_word rest))) (
+    cond (bytes_eq name (codes "discard")) (alone (on n discard) rest) (
+    cond (bytes_eq name (codes "close")) (alone (on n close) rest) (
+    cond (bytes_eq name (codes "span")) (alone (reads n stream_span) rest) (
+    cond (bytes_eq name (codes "cursor")) (alone (reads n cursor_span) rest) (
+    cond (bytes_eq name (codes "previous")) (alone (reads n previous_span) rest) (
+    cond (bytes_eq name (codes "tree")) (alone (reads n next_tree) rest) (
+    cond (bytes_eq name (codes "rest")) (alone (reads n commands.rest) rest) (
+    cond (bytes_eq name (codes "group")) (alone (reads n next_group) rest)
+    None)))))))))))))))))))
 
 -- a lookahead takes any number of words
 abbrev pub command_on : List ℕ → ℕ → List (List ℕ) → Option Command
 command_on name n rest =
-    cond (bytes_eq name (codes "lookahead")) (option_map (lookahead n) (all_looks rest))
-    (command_named name n rest)
+    cond (bytes_eq name (codes "lookahead"))
+    (option_map (λ ls. reads n (lookahead ls)) (all_looks rest)) (command_named name n rest)
 
 -- a name, a stream's number, and what the command takes
 abbrev pub command : List (List ℕ) → Option Command

@@ -5,7 +5,8 @@ use Rattle.tok_core.specs.Erase.{erase}
 use Rattle.tok_core.specs.Filled.{filled}
 use Rattle.tok_core.specs.Forest.{Forest}
 use Rattle.syn_replay.specs.Agree.{ReportsAgree}
-use Rattle.syn_replay.specs.Commands.{Command, Verdict, accepted, left_over, Report}
+use Rattle.syn_replay.specs.Commands.{Command}
+use Rattle.syn_replay.specs.Reports.{Verdict, accepted, left_over, Report}
 use Rattle.syn_replay.specs.ReportText.{ended, report_text}
 use Rattle.syn_replay.specs.Transparent.{all_transparent}
 use Rattle.syn_replay.specs.Session.Walk.{walk}

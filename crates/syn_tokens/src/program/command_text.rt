@@ -7,7 +7,8 @@ ghost use Rattle.syn_replay.specs.Commands as commands;
 ghost use Rattle.syn_tokens.specs.Program.CommandText as spec;
 ghost use Rattle.syn_tokens.specs.Program.Faults.{IsUnreadableLine, OnUnreadable};
 ghost use Rattle.syn_tokens.specs.Program.Input.{lines_left};
-ghost use Rattle.syn_replay.specs.Meanings.{command_of, kind_of, look_of, separator_of};
+ghost use Rattle.syn_replay.specs.Commands.{command_of};
+ghost use Rattle.syn_replay.specs.Meanings.{kind_of, look_of, separator_of};
 ghost use Rattle.syn_tokens.specs.declared.program.fault.Unreadable.TheVariants as unreadable;
 
 use crate::program::fault::{Fault, Unreadable};
@@ -104,7 +105,8 @@ fn read_command(alloc: Global, name: &str, rest: &str) -> Result<Option<Command>
 fn lookahead(alloc: Global, n: usize, rest: &str) -> Result<Option<Command>, AllocError>
     ensures { IfOk result
         (λ c. option_map command_of c
-        ≡ option_map (commands.lookahead n) (spec.all_looks (spec.words rest.now))) }
+        ≡ option_map (λ ls. spec.reads n (commands.lookahead ls))
+        (spec.all_looks (spec.words rest.now))) }
 {
     match looks(alloc, rest)? {
         None => Ok(None),

@@ -2,7 +2,8 @@
 ghost use Rattle.std.specs.Prelude.{◌≡◌, Some, IfOk, map};
 ghost use Rattle.syn_tokens.specs.Program.Comparison as spec;
 ghost use Rattle.syn_tokens.specs.Program.Outcomes.{comparison_of};
-ghost use Rattle.syn_replay.specs.Meanings.{command_of, verdict_of};
+ghost use Rattle.syn_replay.specs.Commands.{command_of};
+ghost use Rattle.syn_replay.specs.Meanings.{verdict_of};
 ghost use Rattle.syn_replay.specs.Transparent as transparent;
 
 use std::alloc::{AllocError, Global};

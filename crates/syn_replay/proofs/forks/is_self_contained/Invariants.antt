@@ -1,6 +1,6 @@
 use Rattle.std.proofs.Common.{◌≡◌, drop, map}
 use Rattle.syn_replay.specs.Forks.{is_self_contained}
-use Rattle.syn_replay.specs.Meanings.{command_of}
+use Rattle.syn_replay.specs.Commands.{command_of}
 use Rattle.syn_replay.proofs.forks.is_self_contained.Given as goal
 
 abbrev pub invariant-loop-command : goal.invariant-loop-command

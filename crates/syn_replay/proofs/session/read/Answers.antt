@@ -1,11 +1,50 @@
-use Rattle.std.proofs.Common.{◌∙◌, ap, subst, Ok, Err}
-use Rattle.syn_replay.specs.Session.State.{with_stream, put}
-use Rattle.syn_replay.specs.Session.Reading.{IsRead}
-use Rattle.syn_replay.specs.Meanings.{command_of}
+use Rattle.std.proofs.Common.{◌≡◌, ◌∙◌, ap, subst, refl, true, Some, Ok, Err, ℕ}
+use Rattle.std.specs.Prelude.{IfOk, Result}
+use Rattle.std.specs.declared.alloc.AllocError.{AllocError}
+use Rattle.tok_buffer.specs.Place.{Place}
+use Rattle.syn_parse.specs.State as parse
+use Rattle.syn_parse.specs.State.{moved}
+use Rattle.syn_parse.specs.declared.fault.Fault.{Fault}
+use Rattle.syn_parse.specs.declared.fault.Fault.TheVariants.{Refused, Memory}
+use Rattle.syn_replay.specs.Commands.{Action, command_of}
+use Rattle.syn_replay.specs.Commands as commands
+use Rattle.syn_replay.specs.Session.State.{State, at_rest, moved_to, put, stream_at, with_stream}
+use Rattle.syn_replay.specs.Session.State as states
+use Rattle.syn_replay.specs.Session.Reading.{IsDone, is_read}
+use Rattle.syn_replay.specs.Session.Step.{on_stream}
+use Rattle.syn_replay.specs.Session.Stepping.{Answers, IsStepped}
 use Rattle.syn_replay.specs.Session.Tracks.{stream_of, state_of}
-use Rattle.syn_replay.proofs.Anywhere.{read-answer, read-refusal}
-use Rattle.syn_replay.proofs.Tracks.{there_within}
+use Rattle.syn_replay.specs.declared.report.Answer.{Answer}
+use Rattle.syn_replay.proofs.Changes.{changed_alike, there_within}
 use Rattle.syn_replay.proofs.session.read.Goals as goal
+
+-- A stream that is put where a read leaves it, with the answer of that read.
+module _ (st : State) (k : ℕ) (s : states.Stream) (here : stream_at st k ≡ Some s) where
+  put_there : (new : State) (t : parse.State) (p : Place) → new ≡ with_stream st k (put t)
+      → t ≡ moved p (at_rest s) → new ≡ with_stream st k (moved_to p)
+  put_there new t p e is =
+      e ∙ ap (λ u. with_stream st k (put u)) is
+      ∙ changed_alike st k s (put (moved p (at_rest s))) (moved_to p) here refl
+
+  answer_read : (a : Action) → is_read a ≡ true → (x : Answer) (t : parse.State) (new : State)
+      → IsDone a (at_rest s) (Ok x) t → new ≡ with_stream st k (put t)
+      → IsStepped x new (on_stream a st k s)
+  answer_read (commands.read r) is x t new h e = (h.0, put_there new t _ e h.1)
+  answer_read (commands.enter w) is x t new h e = cc
+  answer_read commands.fork is x t new h e = cc
+  answer_read (commands.advance f) is x t new h e = cc
+  answer_read commands.discard is x t new h e = cc
+  answer_read commands.close is x t new h e = cc
+
+  refusal_read : (a : Action) → is_read a ≡ true → (f : Fault) (t : parse.State) (new : State)
+      (result : Result Answer AllocError) → IsDone a (at_rest s) (Err f) t
+      → new ≡ with_stream st k (put t) → Answers f result
+      → IfOk result (λ x. IsStepped x new (on_stream a st k s))
+  refusal_read (commands.read r) is (Refused m) t new (Ok x) h e q =
+      ((q.0 ∙ h.0.0, q.1 h.0.1), put_there new t _ e h.1)
+  refusal_read a is f t new (Err w) h e q = tt
+  refusal_read a is (Memory m) t new (Ok x) h e q = absurd q
+  refusal_read a is f t new (Ok x) h e q = cc
 
 pub put-requires : goal.put-requires
 put-requires c = there_within (state_of c.args.streams.now) c.args.n (stream_of c.args.stream) c.requires.here
@@ -14,14 +53,21 @@ pub returns-in-Ok : goal.returns-in-Ok
 returns-in-Ok c =
     let st = state_of c.args.streams.now in
     let t = c.answer-answer.new.input in
-    let what = command_of c.args.command.now in
-    let read = subst (λ s. IsRead what s (Ok c.in-Ok.answer) t) c.resume-input.ensures c.in-Ok.ensures in
-    read-answer st c.args.n (stream_of c.args.stream) c.requires.here what c.requires.read c.in-Ok.answer t (state_of c.put.new.self) read (c.put.ensures.after ∙ ap (λ z. with_stream st c.args.n (put z)) c.pause.ensures)
+    let a = (command_of c.args.command.now).action in
+    let read = subst (λ s. IsDone a s (Ok c.in-Ok.answer) t) c.resume-input.ensures
+    c.in-Ok.ensures in
+    answer_read st c.args.n (stream_of c.args.stream) c.requires.here a c.requires.read
+    c.in-Ok.answer t (state_of c.put.new.self) read
+    (c.put.ensures.after ∙ ap (λ z. with_stream st c.args.n (put z)) c.pause.ensures)
 
 pub returns-in-Err : goal.returns-in-Err
 returns-in-Err c =
     let st = state_of c.args.streams.now in
     let t = c.answer-answer.new.input in
-    let what = command_of c.args.command.now in
-    let read = subst (λ s. IsRead what s (Err c.in-Err.fault) t) c.resume-input.ensures c.in-Err.ensures in
-    read-refusal st c.args.n (stream_of c.args.stream) c.requires.here what c.requires.read c.in-Err.fault t (state_of c.put.new.self) c.refused.result read (c.put.ensures.after ∙ ap (λ z. with_stream st c.args.n (put z)) c.pause.ensures) c.refused.ensures
+    let a = (command_of c.args.command.now).action in
+    let read = subst (λ s. IsDone a s (Err c.in-Err.fault) t) c.resume-input.ensures
+    c.in-Err.ensures in
+    refusal_read st c.args.n (stream_of c.args.stream) c.requires.here a c.requires.read
+    c.in-Err.fault t (state_of c.put.new.self) c.refused.result read
+    (c.put.ensures.after ∙ ap (λ z. with_stream st c.args.n (put z)) c.pause.ensures)
+    c.refused.ensures

@@ -1,6 +1,7 @@
 use Rattle.std.proofs.Common.{map, subst, sym}
 use Rattle.syn_replay.specs.Agree.{ReportsAgree}
-use Rattle.syn_replay.specs.Meanings.{command_of, report_of}
+use Rattle.syn_replay.specs.Commands.{command_of}
+use Rattle.syn_replay.specs.Meanings.{report_of}
 use Rattle.syn_replay.specs.Session.Walk.{walk}
 use Rattle.syn_replay.proofs.Views.Whole.{invisible_groups_do_not_matter}
 use Rattle.syn_replay.proofs.agreement.both.replay_both.Goals as goal

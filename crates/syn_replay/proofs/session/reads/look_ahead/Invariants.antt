@@ -1,5 +1,5 @@
 use Rattle.std.proofs.Common.{◌≡◌, [], drop, map}
-use Rattle.syn_replay.specs.Session.Step.{looked}
+use Rattle.syn_replay.specs.Commands.{looked}
 use Rattle.syn_replay.specs.Meanings.{look_of}
 use Rattle.syn_replay.proofs.session.reads.look_ahead.Given as goal
 

@@ -3,12 +3,12 @@ use Rattle.tok_leaves.specs.Spans.{whole_span}
 use Rattle.syn_parse.specs.Groups.{Enters}
 use Rattle.syn_parse.specs.Pauses.{paused_state}
 use Rattle.syn_parse.specs.RefusalWords.{refused_at}
-use Rattle.syn_replay.specs.Commands as commands
+use Rattle.syn_replay.specs.Reports as reports
 use Rattle.syn_replay.specs.Session.State.{with_stream, content_of, put, standing}
 use Rattle.syn_replay.specs.Session.Entering.{entered_by, entering_words}
 use Rattle.syn_replay.specs.Session.Tracks.{stream_of, state_of}
 use Rattle.syn_replay.proofs.Entered.{AreEntered, entered-value, entered-refusal}
-use Rattle.syn_replay.proofs.Tracks.{there_within}
+use Rattle.syn_replay.proofs.Changes.{there_within}
 use Rattle.syn_replay.proofs.session.table.enter.Goals as goal
 
 pub enter-requires : goal.enter-requires
@@ -25,7 +25,7 @@ returns-in_ok-number-in-Ok c =
     let read = subst (λ s. Enters AreEntered (entered_by w s.place) (refused_at s (entering_words w)) s (Ok (d, span, c.in-Ok.content)) c.enter_group.new.input) c.resume-input.ensures c.in-Ok.ensures in
     let value = entered-value st n s c.requires (entering_words w) (entered_by w s.place) d span c.in-Ok.content c.enter_group.new.input read in
     let made = c.in_ok-number-in-Ok.ensures {u = tt} in (
-      (ap (λ k. commands.entered k d (whole_span span)) made.number ∙ value.0, tt),
+      (ap (λ k. reports.entered k d (whole_span span)) made.number ∙ value.0, tt),
       made.ok ∙ ap (λ t. with_stream st n (put t) ++ standing (paused_state c.pause.result) (content_of n) true ∷ []) c.pause-in-Ok.ensures ∙ ap (λ t. with_stream st n (put c.enter_group.new.input) ++ standing t (content_of n) true ∷ []) c.pause.ensures ∙ value.1,
     )
 

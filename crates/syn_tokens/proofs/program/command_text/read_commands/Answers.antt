@@ -2,7 +2,7 @@ use Rattle.std.proofs.Common.{◌+◌, Some, None, refl, subst, ap, sym, ◌∙�
 use Rattle.std.proofs.lemmas.List.{append-nil}
 use Rattle.std.specs.Option.{option_map}
 use Rattle.syn_tokens.specs.Program.Faults.{IsUnreadableLine}
-use Rattle.syn_replay.specs.Meanings.{command_of}
+use Rattle.syn_replay.specs.Commands.{command_of}
 use Rattle.syn_tokens.proofs.CommandLines.{AreRead, read_more, read_stop, read_done}
 use Rattle.syn_tokens.proofs.program.command_text.read_commands.Goals as goal
 

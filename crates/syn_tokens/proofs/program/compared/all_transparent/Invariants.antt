@@ -1,5 +1,5 @@
 use Rattle.std.proofs.Common.{◌≡◌, drop, map}
-use Rattle.syn_replay.specs.Meanings.{command_of}
+use Rattle.syn_replay.specs.Commands.{command_of}
 use Rattle.syn_replay.specs.Transparent.{all_transparent}
 use Rattle.syn_tokens.proofs.program.compared.all_transparent.Given as goal
 

@@ -6,7 +6,8 @@ use Rattle.syn_replay.specs.Session.State.{with_stream, content_of, put, standin
 use Rattle.syn_replay.specs.Session.Tracks.{stream_of, state_of_list}
 use Rattle.syn_replay.specs.declared.session.stream.Stream.{Stream}
 use Rattle.syn_replay.proofs.Linked.{linked_along, linked_kept}
-use Rattle.syn_replay.proofs.Tracks.{changed_there, with_stream-append, length-state, length-along}
+use Rattle.syn_replay.proofs.Tracks.{changed_there, length-state, length-along}
+use Rattle.syn_replay.proofs.Changes.{changed_front}
 use Rattle.syn_replay.proofs.session.streams.Streams.enter.Goals as goal
 
 pub invariant_of-self : goal.invariant_of-self
@@ -36,4 +37,4 @@ returns-clause-ok c =
     let len : length zs ≡ length xs + 1 = sym (length-state zs) ∙ ap length pushed ∙ length-append (state_of_list xs) new ∙ ap (λ z. z + 1) (length-state xs) in
     let within : n < length zs = omega (arith, len, length-state xs, c.requires) in
     changed_there zs n x y f c.index_mut.ensures.value within refl
-    ∙ ap (λ z. with_stream z n f) pushed ∙ with_stream-append (state_of_list xs) new n f c.requires
+    ∙ ap (λ z. with_stream z n f) pushed ∙ changed_front (state_of_list xs) new n f c.requires

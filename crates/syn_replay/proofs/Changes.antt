@@ -1,0 +1,69 @@
+-- A list of streams in which one is changed: what each then is.
+use Rattle.std.proofs.Common.{◌≡◌, ◌≢◌, ◌∙◌, sym, ap, refl, ℕ, zero, suc, ◌+◌, ◌<◌, ◌≤◌, [], ◌∷◌, ◌++◌, length}
+use Rattle.std.proofs.Common.{Option, Some, None, arith}
+use Rattle.std.specs.Option.{option_map}
+use Rattle.syn_replay.specs.Session.State.{State, Stream, stream_at, with_stream}
+
+pub changed_at : (st : State) (n : ℕ) (f : Stream → Stream)
+    → stream_at (with_stream st n f) n ≡ option_map f (stream_at st n)
+changed_at [] n f = refl
+changed_at (s ∷ st) zero f = refl
+changed_at (s ∷ st) (suc n) f = changed_at st n f
+
+pub changed_not : (st : State) (n i : ℕ) (f : Stream → Stream) → i ≢ n
+    → stream_at (with_stream st n f) i ≡ stream_at st i
+changed_not [] n i f h = refl
+changed_not (s ∷ st) zero zero f h = absurd (h refl)
+changed_not (s ∷ st) zero (suc i) f h = refl
+changed_not (s ∷ st) (suc n) zero f h = refl
+changed_not (s ∷ st) (suc n) (suc i) f h = changed_not st n i f (λ e. h (ap suc e))
+
+-- two changes that are the same at the stream that is there
+pub changed_alike : (st : State) (n : ℕ) (s : Stream) (f g : Stream → Stream)
+    → stream_at st n ≡ Some s → f s ≡ g s → with_stream st n f ≡ with_stream st n g
+changed_alike [] n s f g e h = refl
+changed_alike (x ∷ st) zero s f g e h =
+    let same : x ≡ s = cc in ap (λ z. z ∷ st) (ap f same ∙ h ∙ ap g (sym same))
+changed_alike (x ∷ st) (suc n) s f g e h = ap (λ z. x ∷ z) (changed_alike st n s f g e h)
+
+pub length_changed : (st : State) (n : ℕ) (f : Stream → Stream)
+    → length (with_stream st n f) ≡ length st
+length_changed [] n f = refl
+length_changed (s ∷ st) zero f = refl
+length_changed (s ∷ st) (suc n) f = ap suc (length_changed st n f)
+
+pub there_within : (st : State) (n : ℕ) (s : Stream) → stream_at st n ≡ Some s → n < length st
+there_within [] n s e = absurd (cc)
+there_within (x ∷ st) zero s e = omega arith
+there_within (x ∷ st) (suc n) s e =
+    let t : n < length st = there_within st n s e in omega arith
+
+-- streams with others after them
+pub at_front : (st us : State) (n : ℕ) (s : Stream) → stream_at st n ≡ Some s
+    → stream_at (st ++ us) n ≡ Some s
+at_front [] us n s e = cc
+at_front (x ∷ st) us zero s e = e
+at_front (x ∷ st) us (suc n) s e = at_front st us n s e
+
+pub changed_front : (st us : State) (n : ℕ) (f : Stream → Stream) → n < length st
+    → with_stream (st ++ us) n f ≡ with_stream st n f ++ us
+changed_front [] us n f h = absurd (omega arith)
+changed_front (s ∷ st) us zero f h = refl
+changed_front (s ∷ st) us (suc n) f h = ap (λ z. s ∷ z) (changed_front st us n f (omega arith))
+
+pub before_end : (st us : State) (n : ℕ) → n < length st
+    → stream_at (st ++ us) n ≡ stream_at st n
+before_end [] us n h = absurd (omega arith)
+before_end (s ∷ st) us zero h = refl
+before_end (s ∷ st) us (suc n) h = before_end st us n (omega arith)
+
+pub past_end : (st us : State) (n i : ℕ) → n ≡ length st + i
+    → stream_at (st ++ us) n ≡ stream_at us i
+past_end [] us n i e = ap (stream_at us) (omega arith)
+past_end (s ∷ st) us zero i e = absurd (omega arith)
+past_end (s ∷ st) us (suc n) i e = past_end st us n i (omega arith)
+
+pub nothing_past : (st : State) (n : ℕ) → length st ≤ n → stream_at st n ≡ None
+nothing_past [] n h = refl
+nothing_past (s ∷ st) zero h = absurd (omega arith)
+nothing_past (s ∷ st) (suc n) h = nothing_past st n (omega arith)

@@ -1,0 +1,42 @@
+-- What a report holds: an answer and a position a command, and a verdict.
+use Rattle.std.specs.Prelude.{ℕ, Bool, List}
+use Rattle.tok_lexical.specs.declared.delimiter.Delimiter.{Delimiter}
+use Rattle.tok_leaves.specs.declared.span.Span.{Span}
+use Rattle.tok_core.specs.Forest.{Forest}
+use Rattle.tok_buffer.specs.Refusals.{Refusal}
+
+-- one leaf read: its text and span
+pub record Piece : Type 0 where
+  pub text : List ℕ
+  pub span : Span
+
+pub data Answer : Type 0 where
+  truth : Bool → Answer
+  pieces : List Piece → Answer
+  absent : Answer
+  entered : ℕ → Delimiter → Span → Answer
+  forked : ℕ → Answer
+  listed : List (List Piece) → Answer
+  found : ℕ → Answer
+  done : Answer
+  shown : Span → Answer
+  trees : Forest → Answer
+  refused : Refusal → Answer
+  unfit : ℕ → Answer
+
+pub data Position : Type 0 where
+  stands_at : ℕ → Position
+  at_empty : Position
+  missing : Position
+
+pub record Line : Type 0 where
+  pub answer : Answer
+  pub position : Position
+
+pub data Verdict : Type 0 where
+  accepted : Verdict
+  left_over : Refusal → Verdict
+
+pub record Report : Type 0 where
+  pub lines : List Line
+  pub verdict : Verdict
