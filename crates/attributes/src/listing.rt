@@ -6,8 +6,29 @@ use crate::find::{Found, Style, find};
 use crate::position::{Place, Position};
 use std::alloc::{AllocError, Global};
 use std::str::from_utf8;
+use syn_carets::Source;
 use tok_buffer::TokenBuffer;
 use tok_core::{Edition, LexError, LexFault, Span};
+
+// The number that spans have for the file.
+const SOURCE: u32 = 0;
+
+/// How an error is shown.
+#[derive(Clone, Copy)]
+pub enum ErrorStyle {
+    /// One line, with the file, the line and the column.
+    Line,
+    /// Its text, and the line of the file with carets under it.
+    Carets,
+}
+
+// A file's text, and how errors in it are shown.
+#[derive(Clone, Copy)]
+struct File<'a> {
+    name: &'a str,
+    text: &'a str,
+    style: ErrorStyle,
+}
 
 /// The lines of a file's attributes, and of its errors.
 #[derive(Drop)]
@@ -18,51 +39,70 @@ pub struct Listing {
 }
 
 /// Lists the attributes of a file with this name and contents.
-pub fn list(
+pub fn list<'a>(
     alloc: Global,
     edition: Edition,
-    file: &str,
-    bytes: &[u8],
+    style: ErrorStyle,
+    name: &'a str,
+    bytes: &'a [u8],
 ) -> Result<Listing, AllocError> {
     match from_utf8(bytes) {
-        Ok(text) => list_text(alloc, edition, file, text),
+        Ok(text) => list_text(alloc, edition, File { name, text, style }),
         Err(error) => {
             let front = bytes.get(..error.valid_up_to()).unwrap_or(&[]);
             let text = from_utf8(front).unwrap_or("");
-            let place = Place::new(text).moved_to(text.len());
-            failed(alloc, file, place, "not UTF-8, expected a character")
+            let end = Span::source(SOURCE, text.len(), text.len());
+            let words = "not UTF-8, expected a character";
+            failed(alloc, File { name, text, style }, end, words)
         }
     }
 }
 
-fn list_text(
-    alloc: Global,
-    edition: Edition,
-    file: &str,
-    text: &str,
-) -> Result<Listing, AllocError> {
-    match TokenBuffer::from_source(alloc, 0, edition, 0, text) {
+fn list_text(alloc: Global, edition: Edition, file: File<'_>) -> Result<Listing, AllocError> {
+    match TokenBuffer::from_source(alloc, 0, edition, SOURCE, file.text) {
         Ok(buffer) => {
             let mut found = Vec::new(alloc);
             find(&mut found, buffer.begin())?;
-            list_found(alloc, file, text, found.as_slice())
+            list_found(alloc, file, found.as_slice())
         }
         Err(LexFault::Refused(error)) => {
-            let place = Place::new(text).moved_to(error.at());
             let words = format!(in alloc; "{error}, expected {}", expected(error))?;
-            failed(alloc, file, place, words.as_str())
+            failed(alloc, file, error.span(), words.as_str())
         }
         Err(LexFault::Memory) => Err(AllocError),
     }
 }
 
 // Returns the listing of a file that is rejected as a whole.
-fn failed(alloc: Global, file: &str, place: Place<'_>, words: &str) -> Result<Listing, AllocError> {
+fn failed(alloc: Global, file: File<'_>, span: Span, words: &str) -> Result<Listing, AllocError> {
+    let place = Place::new(file.text).moved_to(start(span));
     Ok(Listing {
         lines: String::new(alloc),
-        errors: error_of(alloc, file, place.position, words)?,
+        errors: shown(alloc, file, place.position, span, words)?,
         is_found: false,
     })
+}
+
+// Returns an error at a span, which begins at this position.
+fn shown(
+    alloc: Global,
+    file: File<'_>,
+    position: Position,
+    span: Span,
+    words: &str,
+) -> Result<String, AllocError> {
+    let File { name, text, style } = file;
+    match style {
+        ErrorStyle::Line => error_of(alloc, name, position, words),
+        ErrorStyle::Carets => {
+            let source = Source {
+                name,
+                number: SOURCE,
+                text,
+            };
+            source.show(alloc, span, words)
+        }
+    }
 }
 
 // Returns what is expected where a text is rejected.
@@ -83,18 +123,13 @@ fn expected(error: LexError) -> &'static str {
 }
 
 // Lists the attributes that were found, in order.
-fn list_found(
-    alloc: Global,
-    file: &str,
-    text: &str,
-    found: &[Found<'_>],
-) -> Result<Listing, AllocError> {
+fn list_found(alloc: Global, file: File<'_>, found: &[Found<'_>]) -> Result<Listing, AllocError> {
     let mut listing = Listing {
         lines: String::new(alloc),
         errors: String::new(alloc),
         is_found: false,
     };
-    let mut place = Place::new(text);
+    let mut place = Place::new(file.text);
     for it in found {
         place = place.moved_to(start(it.span));
         match read(alloc, it.contents) {
@@ -106,15 +141,15 @@ fn list_found(
                     attribute.arguments.as_str(),
                 )?;
                 let style = style_text(it.style);
-                let line = line_of(alloc, file, place.position, style, words.as_str())?;
+                let line = line_of(alloc, file.name, place.position, style, words.as_str())?;
                 listing.lines.push_str(line.as_str())?;
                 listing.is_found = true;
             }
             Err(Fault::Expected(span, words)) => {
                 let words = format!(in alloc; "expected {words}")?;
                 let position = place.moved_to(start(span)).position;
-                let line = error_of(alloc, file, position, words.as_str())?;
-                listing.errors.push_str(line.as_str())?;
+                let error = shown(alloc, file, position, span, words.as_str())?;
+                listing.errors.push_str(error.as_str())?;
             }
             Err(Fault::Placeholder) => {}
             Err(Fault::Memory) => return Err(AllocError),

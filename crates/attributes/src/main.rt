@@ -9,8 +9,8 @@ mod position;
 mod show;
 
 use clap::Error;
-use listing::{Listing, list};
-use options::{command, edition};
+use listing::{ErrorStyle, Listing, list};
+use options::{command, edition, error_style};
 use std::process::ExitCode;
 use std::{env, fs, io};
 use tok_core::Edition;
@@ -49,6 +49,7 @@ fn run(rt: &HostRuntime) -> io::Result<u8> {
     list_files(
         rt,
         edition(&matches),
+        error_style(&matches),
         matches.get_strs("FILE").unwrap_or(&[]),
     )
 }
@@ -58,14 +59,19 @@ fn matches<'a>(rt: &HostRuntime, words: &'a [String]) -> Result<clap::ArgMatches
 }
 
 // Lists each file, and returns whether an attribute was found.
-fn list_files(rt: &HostRuntime, edition: Edition, files: &[&str]) -> io::Result<u8> {
+fn list_files(
+    rt: &HostRuntime,
+    edition: Edition,
+    style: ErrorStyle,
+    files: &[&str],
+) -> io::Result<u8> {
     let mut status = NONE_FOUND;
     for file in files {
         let Listing {
             lines,
             errors,
             is_found,
-        } = list_file(rt, edition, file)?;
+        } = list_file(rt, edition, style, file)?;
         rt.print(lines)?;
         if !errors.is_empty() {
             status = FAILED;
@@ -78,9 +84,14 @@ fn list_files(rt: &HostRuntime, edition: Edition, files: &[&str]) -> io::Result<
 }
 
 // Lists a file, or says why it can't be read.
-fn list_file(rt: &HostRuntime, edition: Edition, file: &str) -> io::Result<Listing> {
+fn list_file(
+    rt: &HostRuntime,
+    edition: Edition,
+    style: ErrorStyle,
+    file: &str,
+) -> io::Result<Listing> {
     match fs::read(rt, file) {
-        Ok(bytes) => Ok(list(rt.alloc(), edition, file, bytes.as_slice())?),
+        Ok(bytes) => Ok(list(rt.alloc(), edition, style, file, bytes.as_slice())?),
         Err(error) => Ok(Listing {
             lines: String::new(rt.alloc()),
             errors: format!(in rt.alloc(); "{file}: {error}\n")?,

@@ -1,4 +1,5 @@
 //! The command line.
+use crate::listing::ErrorStyle;
 use clap::{Arg, ArgAction, ArgMatches, Command, Error};
 use std::alloc::Global;
 use tok_core::Edition;
@@ -26,12 +27,17 @@ pub fn command<'a>(alloc: Global) -> Result<Command<'a>, Error> {
         .help("The edition of Rust of the files")
         .value_parser(EDITIONS.as_slice())
         .default_value("2021");
+    let carets = Arg::new(alloc, "carets")
+        .long("carets")
+        .help("Show the line of each error, with carets under it")
+        .action(ArgAction::SetTrue);
     let command = Command::new(alloc, "attributes")
         .bin_name("attributes")?
         .about(ABOUT)
         .after_help(AFTER)
         .arg(file)?
-        .arg(edition)?;
+        .arg(edition)?
+        .arg(carets)?;
     Ok(command)
 }
 
@@ -42,5 +48,14 @@ pub fn edition(matches: &ArgMatches<'_>) -> Edition {
         Some("2018") => Edition::Edition2018,
         Some("2024") => Edition::Edition2024,
         _ => Edition::Edition2021,
+    }
+}
+
+/// Returns how errors are shown.
+pub fn error_style(matches: &ArgMatches<'_>) -> ErrorStyle {
+    if matches.get_flag("carets") {
+        ErrorStyle::Carets
+    } else {
+        ErrorStyle::Line
     }
 }
