@@ -1,10 +1,10 @@
 -- The forms of arguments, level by level.
-use Rattle.std.proofs.Common.{◌≡◌, ◌∙◌, sym, ap, Some, None, [], ◌∷◌}
+use Rattle.std.proofs.Common.{◌≡◌, ◌∙◌, sym, ap, refl}
 use Rattle.tok_leaves.specs.Spans.{whole_span}
 use Rattle.tok_leaves.specs.declared.ident.Ident.{Ident}
 use Rattle.tok_leaves.specs.declared.literal.Literal.{Literal}
 use Rattle.tok_types.specs.declared.delimiter.Visible.{Visible}
-use Rattle.syn_punctuated.proofs.Mapped.{by_last, list_mapped, of_parts}
+use Rattle.syn_punctuated.proofs.Mapped.{values_mapped}
 use Rattle.arguments.specs.Forms.{Form, argument_form, argument_level, assigned, flag, list_form}
 use Rattle.arguments.specs.Forms.{listed, value_form, value_level}
 use Rattle.arguments.specs.Reading.{argument_again}
@@ -38,13 +38,9 @@ form_argument name value =
 pub form_list : (name : Ident) (paren : Visible 0) (list : Arguments)
     → value_form (made.List paren list) name ≡ listed name (whole_span paren.span) (list_form list)
 form_list name paren =
-    by_last (λ list. value_form (made.List paren list) name
-    ≡ listed name (whole_span paren.span) (list_form list))
-    (λ inner. ap (λ v. value_form v name) (sym (made.rolls-List paren (of_parts inner None)))
-    ∙ level name (Value-F.List paren (of_parts inner None))
-    ∙ ap (listed name (whole_span paren.span)) (list_mapped argument_form inner.items []))
-    (λ inner b. ap (λ v. value_form v name) (sym (made.rolls-List paren (of_parts inner (Some b))))
-    ∙ level name (Value-F.List paren (of_parts inner (Some b)))
-    ∙ ap (listed name (whole_span paren.span)) (list_mapped argument_form inner.items (b.value ∷ [])))
+    values_mapped argument_form (λ list. value_form (made.List paren list) name)
+    (listed name (whole_span paren.span)) _
+    (λ list. ap (λ v. value_form v name) (sym (made.rolls-List paren list)) ∙ level name _)
+    (λ inner. refl) (λ inner b. refl)
 
 pub ruleset all = (argument_again, form_flag, form_assigned, form_argument, form_list)

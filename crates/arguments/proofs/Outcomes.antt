@@ -4,6 +4,7 @@ use Rattle.std.specs.Prelude.{Result}
 use Rattle.tok_core.specs.Erase.{erase}
 use Rattle.tok_core.specs.Filled.{filled}
 use Rattle.tok_core.specs.Forest.{Forest}
+use Rattle.tok_buffer.specs.Messages.{first_text}
 use Rattle.tok_buffer.specs.declared.error.Message.{Message}
 use Rattle.syn_parse.proofs.Shapes.{found_first}
 use Rattle.syn_parse.specs.Takes.{Outcome, SaysAll, TakesAll, found, missing}
@@ -12,38 +13,40 @@ use Rattle.syn_parse.specs.declared.fault.Fault.{Fault}
 use Rattle.syn_parse.specs.declared.fault.Fault.TheVariants.{Memory, Refused}
 use Rattle.arguments.specs.Forms.{ListForm, list_form}
 use Rattle.arguments.specs.Grammar.{AreArguments}
-use Rattle.arguments.specs.Reading.{take_arguments}
+use Rattle.arguments.specs.Reading.{IsMissing, take_arguments}
 use Rattle.arguments.specs.Results.{Agree, Parses, ParsesTo, SaysWhy, with_fault}
 use Rattle.arguments.specs.Same.{SameArguments}
 use Rattle.arguments.specs.Values.{Arguments}
 use Rattle.arguments.proofs.Sound.{sound}
 use Rattle.arguments.proofs.Written.{written}
 
-abbrev Taken : Forest → Result Arguments Fault → Type 0
+abbrev pub Taken : Forest → Result Arguments Fault → Type 0
 Taken = TakesAll list_form take_arguments
 
 pub parses : (f : Forest) (r : Result Arguments Fault) → Taken f r → Parses (erase f) r
 parses f (Ok arguments) h = (sound (erase f) (list_form arguments) all_taken h).1
 parses f (Err (Refused e)) h = inr
-    (λ arguments l. h.0 (list_form arguments) (written (erase f) (list_form arguments) l))
+    (λ arguments l. h.0.0 (list_form arguments) (written (erase f) (list_form arguments) l))
 parses f (Err (Memory e)) h = inl tt
 
 pub says : (f : Forest) (r : Result Arguments Fault) → filled f ≡ true → Taken f r
     → SaysWhy (erase f) r
 says f (Ok arguments) i h = tt
 says f (Err (Memory e)) i h = tt
-says f (Err (Refused e)) i h = go (take_arguments (whole f)) refl (h.1 i) where
+says f (Err (Refused e)) i h = (go (take_arguments (whole f)) refl (h.1 i), h.0.1) where
   go : (o : Outcome ListForm) → take_arguments (whole f) ≡ o → SaysAll o (Refused e)
-      → SaysWhy (erase f) (Err (Refused e))
+      → IsMissing (erase f) (first_text e)
   go (found x left) k m =
-      absurd (h.0 x (k ∙ ap (found x) (sound (erase f) x left k).0))
+      absurd (h.0.0 x (k ∙ ap (found x) (sound (erase f) x left k).0))
   go (missing words) k m = k ∙ ap missing (sym m)
 
-pub parses_to : (f : Forest) (r : Result Arguments (List Message)) → Taken f (with_fault r)
-    → ParsesTo (erase f) r
-parses_to f (Ok arguments) h = parses f (Ok arguments) h
-parses_to f (Err e) h = λ arguments l. h.0 (list_form arguments)
-    (written (erase f) (list_form arguments) l)
+pub parses_to : (f : Forest) (r : Result Arguments (List Message)) → filled f ≡ true
+    → Taken f (with_fault r) → ParsesTo (erase f) r
+parses_to f (Ok arguments) i h = parses f (Ok arguments) h
+parses_to f (Err e) i h = (
+  λ arguments l. h.0.0 (list_form arguments) (written (erase f) (list_form arguments) l),
+  says f (Err (Refused e)) i h,
+)
 
 -- the grammar has one list for the same trees
 pub one_list : (f : Forest) (left right : Arguments) → AreArguments f left → AreArguments f right
@@ -62,11 +65,11 @@ agree f g e i j (Ok a) (Ok b) h k =
     one_list (erase f) a b (parses f (Ok a) h)
     (subst (λ z. AreArguments z b) (sym e) (parses g (Ok b) k))
 agree f g e i j (Ok a) (Err d) h k =
-    absurd (k.0 (list_form a) (ap (λ z. take_arguments (record { trees = z; clean = true })) (sym e)
+    absurd (k.0.0 (list_form a) (ap (λ z. take_arguments (record { trees = z; clean = true })) (sym e)
     ∙ h))
 agree f g e i j (Err d) (Ok b) h k =
-    absurd (h.0 (list_form b) (ap (λ z. take_arguments (record { trees = z; clean = true })) e ∙ k))
+    absurd (h.0.0 (list_form b) (ap (λ z. take_arguments (record { trees = z; clean = true })) e ∙ k))
 agree f g e i j (Err c) (Err d) h k =
-    let left = says f (Err (Refused c)) i h in
-    let right = says g (Err (Refused d)) j k in
+    let left = (says f (Err (Refused c)) i h).0 in
+    let right = (says g (Err (Refused d)) j k).0 in
     same_words _ _ _ left (ap (λ z. take_arguments (record { trees = z; clean = true })) e ∙ right)

@@ -18,7 +18,7 @@ use Rattle.syn_parse.specs.Lighter.{lowers_punctuation}
 use Rattle.syn_parse.specs.Tokens.{sees_group, take_ident, take_literal}
 use Rattle.syn_parse.specs.TokenNames.{sees_eq, take_comma, take_eq}
 use Rattle.syn_parse.specs.TreesAhead.{Ahead, all_taken, is_spent}
-use Rattle.syn_punctuated.proofs.ListShapes.{Turns, bare, done, list_taken, turn}
+use Rattle.syn_punctuated.proofs.ListShapes.{Turns, bare, done, ended, list_taken, nothing_left, turn}
 use Rattle.syn_punctuated.specs.TakeLists.{is_left}
 use Rattle.arguments.specs.Forms.{Form, ListForm, assigned, flag, forms, with_list}
 use Rattle.arguments.specs.Grammar.{AreListed, IsArgument, and_more, equals_sign, is_assigned}
@@ -30,6 +30,9 @@ use Rattle.arguments.specs.Values.{Comma, IsName, sign_at}
 
 pub lightens_argument : Lightens take_argument
 lightens_argument = lightens_nested argument_step argument_descends
+
+abbrev pub AreTurns : Ahead → List Form → List Comma → Ahead → Type 0
+AreTurns = Turns is_left is_left take_argument take_comma
 
 -- an argument was taken: these trees
 record Taken (f : Form) (a b : Ahead) : Type 0 where
@@ -44,12 +47,6 @@ Inner n =
     (inside : Forest) (x : ListForm) (left : Ahead) → weight inside < n
     → take_arguments (record { trees = inside; clean = true }) ≡ found x left
     → (left ≡ all_taken) × AreListed inside x.0 x.1
-
-ended : (a : Ahead) → is_left a ≡ false → a.trees ≡ no_trees
-ended a = go a.trees where
-  go : (f : Forest) → is_left (record { trees = f; clean = true }) ≡ false → f ≡ no_trees
-  go no_trees e = refl
-  go (tree t f) e = absurd (false≢true (sym e))
 
 pub none_after : (f : Forest) → concat f no_trees ≡ f
 none_after no_trees = refl
@@ -149,9 +146,6 @@ module _ (n : ℕ) (within : Inner n) where
       (ident.2 ∙ ap (λ ts. before ts name.after) ident.1.0) small f (sees_eq name.after)
       (sees_group Parenthesis name.after) name.rest
 
-  abbrev AreTurns : Ahead → List Form → List Comma → Ahead → Type 0
-  AreTurns = Turns is_left is_left take_argument take_comma
-
   as_turns : (a d : Ahead) (vs : List Form) (ps : List Comma) → weight a.trees < suc n
       → AreTurns a vs ps d
       → AreListed a.trees vs ps × (d.trees ≡ no_trees) × (d.clean ≡ a.clean)
@@ -179,10 +173,6 @@ module _ (n : ℕ) (within : Inner n) where
         more.1,
         more.2 ∙ sym (ap (λ (x : Ahead). x.clean) after) ∙ t.clean,
       )
-
-nothing_left : (d : Ahead) → d.trees ≡ no_trees → d.clean ≡ true → d ≡ all_taken
-nothing_left d e c = ap (λ f. record { trees = f; clean = d.clean }) e
-    ∙ ap (λ b. record { trees = no_trees; clean = b }) c
 
 sound_below : (n : ℕ) → Inner n
 sound_below zero inside x left w e = absurd (omega arith)

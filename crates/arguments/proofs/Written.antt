@@ -15,18 +15,15 @@ use Rattle.syn_parse.specs.Takes.{and_then, found}
 use Rattle.syn_parse.specs.Tokens.{take_literal}
 use Rattle.syn_parse.specs.TokenNames.{take_comma}
 use Rattle.syn_parse.specs.TreesAhead.{Ahead, all_taken}
-use Rattle.syn_punctuated.proofs.ListShapes.{Turns, bare, done, takes_list, turn}
+use Rattle.syn_punctuated.proofs.ListShapes.{bare, done, takes_list, turn}
 use Rattle.syn_punctuated.specs.TakeLists.{is_left}
-use Rattle.arguments.proofs.Sound.{lightens_argument, none_after}
+use Rattle.arguments.proofs.Sound.{AreTurns, lightens_argument, none_after}
 use Rattle.arguments.specs.Forms.{Form, ListForm, assigned, flag, forms, with_list}
 use Rattle.arguments.specs.Grammar.{AreListed, IsArgument, and_more, comma, equals_sign}
 use Rattle.arguments.specs.Grammar.{is_assigned, is_flag}
 use Rattle.arguments.specs.Grammar.{is_list, last, nothing, sign}
 use Rattle.arguments.specs.Reading.{argument_again, take_argument, take_arguments, take_value}
 use Rattle.arguments.specs.Values.{Comma, IsName, sign_at}
-
-abbrev AreTurns : Ahead → List Form → List Comma → Ahead → Type 0
-AreTurns = Turns is_left is_left take_argument take_comma
 
 -- nothing is left after an argument, or a comma is next
 data Ends : Ahead → Type 0 where

@@ -1,5 +1,5 @@
 -- What the reader returns.
-use Rattle.std.specs.Prelude.{◌≡◌, List, ◌⊎◌, Result, Ok, Err}
+use Rattle.std.specs.Prelude.{◌≡◌, List, ◌⊎◌, Result, Ok, Err, length}
 use Rattle.tok_buffer.specs.Messages.{first_text}
 use Rattle.tok_buffer.specs.declared.error.Message.{Message}
 use Rattle.tok_core.specs.Forest.{Forest}
@@ -16,15 +16,19 @@ abbrev pub Parses : Forest → Result Arguments Fault → Type 0
 Parses trees (Ok arguments) = AreArguments trees arguments
 Parses trees (Err f) = IsMemory f ⊎ AreNoArguments trees
 
--- a refusal has the words that reading in order finds missing
+-- an error is one message, with the words that reading in order finds missing
+abbrev pub IsWhy : Forest → List Message → Type 0
+IsWhy trees error = IsMissing trees (first_text error) × (length error ≡ 1)
+
+-- so is a refusal
 abbrev pub SaysWhy : Forest → Result Arguments Fault → Type 0
-SaysWhy trees (Err (fault.Refused error)) = IsMissing trees (first_text error)
+SaysWhy trees (Err (fault.Refused error)) = IsWhy trees error
 SaysWhy trees result = Unit {0}
 
--- the arguments that these trees are, or a refusal where they are none
+-- the arguments that these trees are, or a refusal that says why they are none
 abbrev pub ParsesTo : Forest → Result Arguments (List Message) → Type 0
 ParsesTo trees (Ok arguments) = AreArguments trees arguments
-ParsesTo trees (Err error) = AreNoArguments trees
+ParsesTo trees (Err error) = AreNoArguments trees × IsWhy trees error
 
 -- the same arguments, spans included, or refusals with equal words
 abbrev pub Agree : Result Arguments (List Message) → Result Arguments (List Message) → Type 0

@@ -85,12 +85,7 @@ fn read_arguments(input: ParseStream<'_, '_>) -> Result<Arguments>
     ensures { Keeps arguments input.old result input.new }
 {
     parses_go_on();
-    Punctuated::parse_terminated_with(
-        input,
-        |input|
-            ensures { Keeps argument input.old result input.new }
-        { read_argument(input) },
-    )
+    Punctuated::parse_terminated_with(input, read_argument)
 }
 
 // Parses the next argument.

@@ -1,11 +1,11 @@
 -- The forms of values, level by level.
-use Rattle.std.proofs.Common.{◌≡◌, ◌∙◌, sym, ap, [], ◌∷◌, Some, None}
+use Rattle.std.proofs.Common.{◌≡◌, ◌∙◌, sym, ap, refl}
 use Rattle.tok_leaves.specs.declared.ident.Ident.{Ident}
 use Rattle.tok_leaves.specs.declared.literal.Literal.{Literal}
 use Rattle.tok_leaves.specs.Spans.{whole_span}
 use Rattle.tok_types.specs.declared.delimiter.Visible.{Visible}
 use Rattle.tok_types.specs.declared.punctuation.Punctuation.{Punctuation}
-use Rattle.syn_punctuated.proofs.Mapped.{by_last, list_mapped, of_parts}
+use Rattle.syn_punctuated.proofs.Mapped.{values_mapped}
 use Rattle.syn_punctuated.specs.TakeLists.{list_form}
 use Rattle.syn_punctuated.specs.declared.punctuated.Punctuated.{Punctuated}
 use Rattle.examples.specs.Values.{Form, listed, name, one_level, text, value_again, value_form}
@@ -23,11 +23,9 @@ pub form_list : (bracket : Visible 2) (values : Punctuated Value (Punctuation 7 
     → value_form (made.List bracket values)
     ≡ listed (whole_span bracket.span) (list_form value_form (λ sign. sign) values)
 form_list bracket =
-    by_last (λ values. value_form (made.List bracket values)
-    ≡ listed (whole_span bracket.span) (list_form value_form (λ sign. sign) values))
-    (λ inner. ap value_form (sym (made.rolls-List bracket (of_parts inner None))) ∙ fold-roll-Value Form one_level _
-    ∙ ap (listed (whole_span bracket.span)) (list_mapped value_form inner.items []))
-    (λ inner b. ap value_form (sym (made.rolls-List bracket (of_parts inner (Some b)))) ∙ fold-roll-Value Form one_level _
-    ∙ ap (listed (whole_span bracket.span)) (list_mapped value_form inner.items (b.value ∷ [])))
+    values_mapped value_form (λ list. value_form (made.List bracket list))
+    (listed (whole_span bracket.span)) _
+    (λ list. ap value_form (sym (made.rolls-List bracket list)) ∙ fold-roll-Value Form one_level _)
+    (λ inner. refl) (λ inner b. refl)
 
 pub ruleset all = (value_again, form_name, form_text, form_list)

@@ -47,10 +47,5 @@ fn read_values(input: ParseStream<'_, '_>) -> Result<Punctuated<Value, token::Co
     ensures { Keeps lists input.old result input.new }
 {
     parses_go_on();
-    Punctuated::parse_terminated_with(
-        input,
-        |input|
-            ensures { Keeps values input.old result input.new }
-        { read_value(input) },
-    )
+    Punctuated::parse_terminated_with(input, read_value)
 }

@@ -12,7 +12,7 @@ module _ {A B : Type 0} (o : Outcome A) (q : Outcome B)
   is-missing (missing words) e h = subst IsMissing (sym (then words e)) tt
 
   missing-on : (f : Fault) → MemoryOr f (IsMissing o) → MemoryOr f (IsMissing q)
-  missing-on (Refused e) h = is-missing o refl h
+  missing-on (Refused e) h = (is-missing o refl h.0, h.1)
   missing-on (Memory e) h = tt
 
   says-on : (f : Fault) → Says o f → Says q f

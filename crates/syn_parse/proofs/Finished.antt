@@ -1,7 +1,7 @@
 -- Whole streams, by what is taken of them.
 use Rattle.std.proofs.Common.{◌≡◌, ◌∙◌, sym, ap, subst, refl, Bool, true, false, not}
 use Rattle.std.proofs.Common.{Option, Some, None, Ok, Err, inl, inr}
-use Rattle.std.specs.Prelude.{Result, is_some, MatchOption}
+use Rattle.std.specs.Prelude.{Result, is_some, length, MatchOption}
 use Rattle.std.specs.Option.{option_or}
 use Rattle.tok_core.specs.Erase.{erase}
 use Rattle.tok_core.specs.Filled.{filled, has_trees}
@@ -11,9 +11,10 @@ use Rattle.tok_core.specs.Forest.{Forest, no_trees, tree}
 use Rattle.tok_leaves.specs.Spans.{call_site}
 use Rattle.tok_buffer.specs.Ahead.{Leftover, leftover}
 use Rattle.tok_buffer.specs.Place.{Place}
+use Rattle.tok_buffer.specs.Refusals.{Refusal}
 use Rattle.tok_buffer.specs.View.{erased_ahead}
 use Rattle.tok_buffer.proofs.View.InFront.{all_ahead_at_start}
-use Rattle.syn_parse.specs.Faults.{IsRefused}
+use Rattle.syn_parse.specs.Faults.{IsMemory, IsRefused, Refuses}
 use Rattle.syn_parse.specs.Parsers.{Finishes, OnMemory, whole_stream}
 use Rattle.syn_parse.specs.RefusalWords.{leftover_refusal}
 use Rattle.syn_parse.specs.State.{State, handed}
@@ -70,20 +71,20 @@ module _ {T A : Type 0} (form : T → A) (take : Taking A) (f : Forest) where
   none-refuses : (e : Fault) → MemoryOr e (IsMissing (take (whole f)))
       → (filled f ≡ true → Says (take (whole f)) e) → TakesAll form take f (Err e)
   none-refuses (Refused d) h k =
-      (λ x q. not-all (take (whole f)) x h q, λ i. says-all (take (whole f)) (Refused d) (k i))
+      ((λ x q. not-all (take (whole f)) x h.0 q, h.1), λ i. says-all (take (whole f)) (Refused d) (k i))
   none-refuses (Memory d) h k = (tt, λ i. says-all (take (whole f)) (Memory d) (k i))
 
   left-says : (o : Outcome A) (x : A) (y : Ahead) (e : Fault) → o ≡ found x y → SaysAll o e
   left-says (found v a) x y e h = tt
   left-says (missing words) x y e h = absurd (cc)
 
-  left-refuses : (e : Fault) (x : A) (y : Ahead) → take (whole f) ≡ found x y → (y ≡ all_taken → ⊥)
-      → TakesAll form take f (Err e)
-  left-refuses (Refused d) x y h other = (
-    λ z k. other (found-second (sym h ∙ k)),
+  left-refuses : (e : Fault) (x : A) (y : Ahead) (l : Refusal) → Refuses l e
+      → take (whole f) ≡ found x y → (y ≡ all_taken → ⊥) → TakesAll form take f (Err e)
+  left-refuses (Refused d) x y l r h other = (
+    (λ z k. other (found-second (sym h ∙ k)), ap length r),
     λ i. left-says (take (whole f)) x y (Refused d) h,
   )
-  left-refuses (Memory d) x y h other = (tt, λ i. left-says (take (whole f)) x y (Memory d) h)
+  left-refuses (Memory d) x y l r h other = (tt, λ i. left-says (take (whole f)) x y (Memory d) h)
 
   finished : (v : T) (left : State) (result : Result T Fault) (o : Option Leftover)
       → handed left ≡ o → take (whole f) ≡ found (form v) (ahead left)
@@ -95,7 +96,7 @@ module _ {T A : Type 0} (form : T → A) (take : Taking A) (f : Forest) where
       (spent-in left.noted (leftover left.place) (erased_ahead left.place) (leftover-trees left.place) h))
   finished v left (Ok w) (Some l) h k m = absurd m
   finished v left (Err e) (Some l) h k m =
-      left-refuses e (form v) (ahead left) k (λ a.
+      left-refuses e (form v) (ahead left) (leftover_refusal l) m k (λ a.
       let other : Some l ≡ None = sym h ∙ handed-in left.noted (leftover left.place)
       (erased_ahead left.place) (leftover-trees left.place) a in
       absurd (cc))
@@ -126,8 +127,8 @@ module _ {T A : Type 0} (form : T → A) (take : Taking A) (f : Forest) where
   ValueOf (Err e) = MemoryOr e ((x : A) → IsAll take f x → ⊥)
 
   no-value : (e : Fault) (x : A) → IsAll take f x → MemoryOr e ((y : A) → IsAll take f y → ⊥)
-      → MemoryOr e ⊥
-  no-value (Refused d) x h k = k x h
+      → IsMemory e
+  no-value (Refused d) x h k = k.0 x h
   no-value (Memory d) x h k = tt
 
   agree-in : (x y : Result T Fault) → TakesAll form take f x → ValueOf y → Agree form x y
@@ -144,7 +145,7 @@ module _ {T A : Type 0} (form : T → A) (take : Taking A) (f : Forest) where
 
     over : (z : Result T Fault) → TakesAll form take g z → ValueOf z
     over (Ok v) k = ap take (sym same) ∙ k
-    over (Err (Refused d)) k = λ x q. k.0 x (ap take same ∙ q)
+    over (Err (Refused d)) k = (λ x q. k.0.0 x (ap take same ∙ q), k.0.1)
     over (Err (Memory d)) k = tt
 
   says-both : (o : Outcome A) (x y : Fault) → SaysAll o x → SaysAll o y

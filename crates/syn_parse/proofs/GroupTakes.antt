@@ -2,7 +2,7 @@
 use Rattle.std.proofs.Common.{◌≡◌, ◌∙◌, sym, ap, subst, refl, arith, ◌<◌, ◌≤◌, Bool, true, false, not, ◌&&◌}
 use Rattle.std.proofs.Common.{Option, Some, None, Ok, Err, cond}
 use Rattle.std.specs.Option.{option_or}
-use Rattle.std.specs.Prelude.{Result, IfSome, is_some, option_map}
+use Rattle.std.specs.Prelude.{Result, IfSome, is_some, length, option_map}
 use Rattle.std.proofs.lemmas.Bool.{false≢true}
 use Rattle.tok_lexical.specs.declared.delimiter.Delimiter.{Delimiter}
 use Rattle.tok_lexical.specs.declared.delimiter.Delimiter.TheVariants as delimiter
@@ -75,7 +75,7 @@ span-is : (d : DelimSpan) (x : Span) → d.join ≡ x → d ≡ record { join = 
 span-is d x e = ap (λ y. record { join = y }) e
 
 memory-or : (f : Fault) (P Q : Type 0) → (P → Q) → MemoryOr f P → MemoryOr f Q
-memory-or (Refused e) P Q h m = h m
+memory-or (Refused e) P Q h m = (h m.0, m.1)
 memory-or (Memory e) P Q h m = tt
 
 both-filled : (d : Delimiter) → IsVisibleDelimiter d → (p : Place) (e : Entered) → enter d p ≡ Some e
@@ -163,7 +163,7 @@ module _ {T A : Type 0} (form : T → A) (inner : Taking A) (calls : Call T)
   refused : (f : Fault) → enter d s.place ≡ None → Refuses (refused_at s (delimiter_words d)) f
       → TakesAs both (take_group d inner) s (Err f) t
   refused (Refused e) h r = (
-    subst IsMissing (sym (is-first None h)) tt,
+    (subst IsMissing (sym (is-first None h)) tt, ap length r),
     λ i. is-first None h ∙ ap missing (sym (words_told (delimiter_words d) s i) ∙ sym (ap first_text r)),
   )
   refused (Memory e) h r = (tt, λ i. tt)
@@ -245,7 +245,7 @@ module _ {T A : Type 0} (Is : T → A → Type 0) (inner : Taking A) (calls : Ca
   refused-by : (f : Fault) → enter d s.place ≡ None → Refuses (refused_at s (delimiter_words d)) f
       → TakesBy (Within Is) (take_group d inner) s (Err f) t
   refused-by (Refused e) h r = (
-    subst IsMissing (sym (is-first-by None h)) tt,
+    (subst IsMissing (sym (is-first-by None h)) tt, ap length r),
     λ i. is-first-by None h ∙ ap missing (sym (words_told (delimiter_words d) s i) ∙ sym (ap first_text r)),
   )
   refused-by (Memory e) h r = (tt, λ i. tt)
@@ -340,7 +340,7 @@ module _ {T : Type 0} (span_of : T → DelimSpan) (content : T → State) (d : D
   not-entered : (f : Fault) → enter d s.place ≡ None → Refuses (refused_at s (delimiter_words d)) f
       → EntersAhead span_of content d s (Err f) t
   not-entered (Refused e) h r = (
-    sym ((ahead_tells s.place).enters d visible) ∙ ap (option_map entered_ahead) h,
+    (sym ((ahead_tells s.place).enters d visible) ∙ ap (option_map entered_ahead) h, ap length r),
     λ i. ap first_text r ∙ words_told (delimiter_words d) s i,
   )
   not-entered (Memory e) h r = (tt, λ i. tt)

@@ -1,6 +1,6 @@
 -- Parses of one read take what is ahead.
 use Rattle.std.proofs.Common.{◌≡◌, ◌∙◌, sym, ap, subst, refl, arith, ◌<◌, ◌≤◌, ℕ, List, [], ◌∷◌, Option, Some, None, Ok, Err}
-use Rattle.std.specs.Prelude.{Bool, Result, IfSome, true, false, cond, codes, not, ◌++◌, map}
+use Rattle.std.specs.Prelude.{Bool, Result, IfSome, true, false, cond, codes, not, ◌++◌, length, map}
 use Rattle.tok_leaves.specs.declared.ident.Ident.{Ident}
 use Rattle.tok_leaves.specs.declared.lifetime.Lifetime.{Lifetime}
 use Rattle.tok_leaves.specs.declared.literal.Literal.{Literal}
@@ -132,7 +132,7 @@ module _ {T A : Type 0} (form : T → A) (Means : T → List Tree → Type 0) (m
   none : (f : Fault) → None ≡ first (erased_ahead s.place) → Refuses refusal f
       → TakesAs form take s (Err f) t
   none (Refused e) h r = (
-    subst (λ o. IsMissing o) (ap seen h) tt,
+    (subst (λ o. IsMissing o) (ap seen h) tt, ap length r),
     λ i. ap seen (sym h) ∙ ap missing (sym (worded i)) ∙ ap missing (sym (ap first_text r)),
   )
   none (Memory e) h r = (tt, λ i. tt)

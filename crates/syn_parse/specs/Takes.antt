@@ -1,6 +1,6 @@
 -- Parsers as functions of what is ahead.
 use Rattle.std.specs.Prelude.{◌≡◌, ◌<◌, ◌≤◌, ℕ, Bool, ◌&&◌, true, cond, not, List, ◌++◌, codes}
-use Rattle.std.specs.Prelude.{Option, Some, None, Result, Ok, Err}
+use Rattle.std.specs.Prelude.{Option, Some, None, Result, Ok, Err, length}
 use Rattle.tok_lexical.specs.declared.delimiter.Delimiter.{Delimiter}
 use Rattle.tok_leaves.specs.declared.span.DelimSpan.{DelimSpan}
 use Rattle.tok_core.specs.Filled.{filled, has_trees}
@@ -10,6 +10,7 @@ use Rattle.tok_buffer.specs.InFront.{EnteredAhead, first_group}
 use Rattle.tok_buffer.specs.Messages.{first_text}
 use Rattle.tok_buffer.specs.Progress.{remaining}
 use Rattle.tok_buffer.specs.View.{IsVisibleDelimiter}
+use Rattle.syn_parse.specs.Faults.{IsMemory}
 use Rattle.syn_parse.specs.Reads.{Call}
 use Rattle.syn_parse.specs.RefusalWords.{delimiter_words}
 use Rattle.syn_parse.specs.State.{State}
@@ -86,9 +87,9 @@ abbrev pub IsMissing : {A : Type 0} → Outcome A → Type 0
 IsMissing (found v a) = ⊥
 IsMissing (missing words) = Unit {0}
 
--- a refusal of which this holds, or an allocation failure
+-- a refusal of one message, where this holds, or an allocation failure
 abbrev pub MemoryOr : Fault → Type 0 → Type 0
-MemoryOr (Refused e) P = P
+MemoryOr (Refused e) P = P × (length e ≡ 1)
 MemoryOr (Memory e) P = Unit {0}
 
 -- a refusal has these words
@@ -201,8 +202,8 @@ TakesAll {A} form take f (Err e) =
 -- two results agree: values of one form, or none in both; an allocation failure agrees with each
 abbrev pub Agree : {T A : Type 0} → (T → A) → Result T Fault → Result T Fault → Type 0
 Agree form (Ok v) (Ok w) = form v ≡ form w
-Agree form (Ok v) (Err f) = MemoryOr f ⊥
-Agree form (Err f) (Ok w) = MemoryOr f ⊥
+Agree form (Ok v) (Err f) = IsMemory f
+Agree form (Err f) (Ok w) = IsMemory f
 Agree form (Err f) (Err g) = Unit {0}
 
 -- two refusals agree where words are found missing, and not a tree left over

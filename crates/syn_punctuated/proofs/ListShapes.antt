@@ -1,13 +1,15 @@
 -- Which lists are taken, in both directions: turn by turn.
-use Rattle.std.proofs.Common.{◌≡◌, ◌∙◌, ap, subst, refl, arith, ℕ, zero, suc, ◌<◌, Bool, true}
+use Rattle.std.proofs.Common.{◌≡◌, ◌∙◌, sym, ap, subst, refl, arith, ℕ, zero, suc, ◌<◌, Bool, true}
 use Rattle.std.proofs.Common.{false, cond}
 use Rattle.std.proofs.Common.{List, [], ◌∷◌}
+use Rattle.std.proofs.lemmas.Bool.{false≢true}
+use Rattle.tok_core.specs.Forest.{Forest, no_trees, tree}
 use Rattle.tok_core.specs.Weight.{weight}
 use Rattle.syn_parse.proofs.Shapes.{found_first, found_second}
-use Rattle.syn_parse.specs.TreesAhead.{Ahead}
+use Rattle.syn_parse.specs.TreesAhead.{Ahead, all_taken}
 use Rattle.syn_parse.specs.Takes.{Outcome, Taking, and_then, found, missing}
 use Rattle.syn_parse.specs.Takings.{Lightens, Lowers}
-use Rattle.syn_punctuated.specs.TakeLists.{take_list, take_turns}
+use Rattle.syn_punctuated.specs.TakeLists.{is_left, take_list, take_turns}
 
 module _ {A P : Type 0} (begins goes_on : Ahead → Bool) (value : Taking A) (sign : Taking P) where
   -- values and separators in turn, and what is ahead before and after them
@@ -107,3 +109,15 @@ module _ {A P : Type 0} (begins goes_on : Ahead → Bool) (value : Taking A) (si
         → take_list begins goes_on value sign a ≡ found (vs, ps) d
     unfolding take_list
     takes_list a d vs ps t = to_turns (suc (weight a.trees)) a d vs ps (omega arith) t
+
+-- at the end nothing is left
+pub ended : (a : Ahead) → is_left a ≡ false → a.trees ≡ no_trees
+ended a = go a.trees where
+  go : (f : Forest) → is_left (record { trees = f; clean = true }) ≡ false → f ≡ no_trees
+  go no_trees e = refl
+  go (tree t f) e = absurd (false≢true (sym e))
+
+pub nothing_left : (a : Ahead) → a.trees ≡ no_trees → a.clean ≡ true → a ≡ all_taken
+nothing_left a e c =
+    ap (λ f. record { trees = f; clean = a.clean }) e
+    ∙ ap (λ b. record { trees = no_trees; clean = b }) c

@@ -1,18 +1,20 @@
 -- Terminated and separated lists take what their values and separators do.
-use Rattle.std.proofs.Common.{◌≡◌, ◌∙◌, sym, ap, refl, Bool, true, false, not, Option, Some}
+use Rattle.std.proofs.Common.{◌≡◌, ◌∙◌, sym, ap, refl, ℕ, Bool, true, false, not, Option, Some}
 use Rattle.std.specs.Prelude.{Result}
 use Rattle.tok_core.specs.Forest.{Forest}
 use Rattle.tok_buffer.specs.Place.{Place, is_at_end}
 use Rattle.tok_types.specs.Sees.{Sees}
+use Rattle.tok_types.specs.declared.punctuation.Punctuation.{Punctuation}
 use Rattle.syn_parse.proofs.Told.{end_told}
-use Rattle.syn_parse.specs.Lighter.{lightens_lower}
-use Rattle.syn_parse.specs.Progress.{ParsesOn}
+use Rattle.syn_parse.specs.Lighter.{lightens_lower, lowers_punctuation}
+use Rattle.syn_parse.specs.Progress.{ParsesGoOn, ParsesOn, PunctuationTypeParses}
 use Rattle.syn_parse.specs.Reads.{Call}
 use Rattle.syn_parse.specs.State.{State}
 use Rattle.syn_parse.specs.Takes.{TakesAs, Taking}
 use Rattle.syn_parse.specs.Takings as states
 use Rattle.syn_parse.specs.Takings.{Lightens, Lowers, Takings, lighter, lower, told, told_filled, untold}
 use Rattle.syn_parse.specs.Takings.{unweighed}
+use Rattle.syn_parse.specs.Tokens.{take_punctuation}
 use Rattle.syn_parse.specs.TreesAhead.{IsFilled, ahead}
 use Rattle.syn_parse.specs.declared.fault.Fault.{Fault}
 use Rattle.syn_punctuated.proofs.TakenRuns.{Tells, run_takes}
@@ -105,3 +107,17 @@ module _ {T P F : Type 0} (reads : ValueCall F T) (parses : Call P) (go : Parses
   separated_keeps peeks (Some sees) (told form value (lower h)) (told shape sign (lower k)) each f s t r run =
       by-sign shape sign k form value (lightens_lower value h) peeks sees each f s t r run
   separated_keeps peeks sees values signs each f s t r run = tt
+
+-- what punctuations state
+abbrev pub signs : (k n : ℕ) → Takings (Punctuation k n)
+signs k n = told (λ p. p) (take_punctuation k n) (lower (lowers_punctuation k n))
+
+-- values with a punctuation between them, to the end
+pub punctuated_keeps : {T F : Type 0} {k n : ℕ} (values : Takings T) {reads : ValueCall F T} {f : F}
+    {s t : State} {r : Result (Punctuated T (Punctuation k n)) Fault} → ParsesGoOn
+    → ((f g : F) (s t : State) (r : Result T Fault) → reads f s r g t → states.Keeps values s r t)
+    → IsRun terminated reads (Separates (PunctuationTypeParses k n) (signs k n)) f s r t
+    → states.Keeps (terminated_list values (signs k n)) s r t
+punctuated_keeps {k = k} {n = n} values {reads} {f} {s} {t} {r} go each run =
+    terminated_keeps reads (PunctuationTypeParses k n) (go.punctuations k n) values (signs k n) each
+    f s t r run

@@ -1,13 +1,14 @@
 -- A list whose values are replaced, each by one of another type.
-use Rattle.std.proofs.Common.{◌≡◌, ap, refl, List, [], ◌∷◌, ◌++◌, map, Option, Some, None}
+use Rattle.std.proofs.Common.{◌≡◌, ◌∙◌, ap, refl, List, [], ◌∷◌, ◌++◌, map, Option, Some, None}
 use Rattle.std.specs.Global.{Box, Vec}
+use Rattle.syn_punctuated.specs.TakeLists.{list_form}
 use Rattle.syn_punctuated.specs.declared.punctuated.Punctuated.{Punctuated}
 
 abbrev pub of_parts : {T P : Type 0} → Vec (T × P) → Option (Box T) → Punctuated T P
 of_parts inner last = record { inner = inner; last = last }
 
 -- what holds of lists without a last value and with one holds of all
-pub by_last : {T P : Type 0} (Q : Punctuated T P → Type 0)
+by_last : {T P : Type 0} (Q : Punctuated T P → Type 0)
     → ((inner : Vec (T × P)) → Q (of_parts inner None))
     → ((inner : Vec (T × P)) (b : Box T) → Q (of_parts inner (Some b)))
     → (list : Punctuated T P) → Q list
@@ -27,13 +28,27 @@ module _ {T A P : Type 0} (f : T → A) where
     map (λ sign. sign) (map {A = T × P} (λ pair. pair.1) pairs),
   )
 
-  abbrev Mapped : List (T × P) → List T → List A × List P
+  abbrev pub Mapped : List (T × P) → List T → List A × List P
   Mapped pairs more = (
     map {A = A × P} (λ pair. pair.0) (map replaced pairs) ++ map f more,
     map {A = A × P} (λ pair. pair.1) (map replaced pairs),
   )
 
-  pub list_mapped : (pairs : List (T × P)) (more : List T) → Mapped pairs more ≡ Both pairs more
+  list_mapped : (pairs : List (T × P)) (more : List T) → Mapped pairs more ≡ Both pairs more
   list_mapped [] more = refl
   list_mapped (pair ∷ pairs) more =
       ap (λ (x : List A × List P). (f pair.0 ∷ x.0, pair.1 ∷ x.1)) (list_mapped pairs more)
+
+  -- One level of a value that holds a list, where the level has the list's values replaced: so is
+  -- the form of the list. A list without a last value and one with it compute on their own.
+  pub values_mapped : {F : Type 0} (make : Punctuated T P → F) (listed : List A × List P → F)
+      (level : Punctuated T P → F) → ((list : Punctuated T P) → make list ≡ level list)
+      → ((inner : Vec (T × P)) → level (of_parts inner None) ≡ listed (Mapped inner.items []))
+      → ((inner : Vec (T × P)) (b : Box T)
+      → level (of_parts inner (Some b)) ≡ listed (Mapped inner.items (b.value ∷ [])))
+      → (list : Punctuated T P) → make list ≡ listed (list_form f (λ sign. sign) list)
+  values_mapped make listed level made none some =
+      by_last (λ list. make list ≡ listed (list_form f (λ sign. sign) list))
+      (λ inner. made (of_parts inner None) ∙ none inner ∙ ap listed (list_mapped inner.items []))
+      (λ inner b. made (of_parts inner (Some b)) ∙ some inner b
+      ∙ ap listed (list_mapped inner.items (b.value ∷ [])))

@@ -120,8 +120,14 @@ pub trait ParseTerminated {
             (state self.old) f y.now → F.pre f y }
         ensures run { IsRun terminated (CalledAtMut F.FnMut) P.parses parser (state self.old)
             result (state self.new) }
+        ensures turns { IsRun terminated (CalledAtMut F.FnMut) (Separates P.parses P.takes) parser
+            (state self.old) result (state self.new) }
         ensures bounded { IfOk result
-            (λ list. length (values_of list) ≤ remaining (state self.old).place + 1) };
+            (λ list. length (values_of list) ≤ remaining (state self.old).place + 1) }
+        ensures takes { (value : Taking T) (less : Lightens value)
+            → EachTakes value (CalledAtMut F.FnMut) → ParsesOn P.parses
+            → Keeps (terminated_list (told (λ v. v) value (lighter less)) P.takes)
+            (state self.old) result (state self.new) };
 }
 
 impl<'a> ParseTerminated for ParseBuffer<'a> {

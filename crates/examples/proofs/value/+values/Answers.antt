@@ -1,13 +1,9 @@
-use Rattle.syn_parse.proofs.GroupTakes.{at-states}
-use Rattle.syn_punctuated.proofs.ListTakes.{terminated_keeps}
-use Rattle.syn_parse.specs.Lighter.{lowers_punctuation}
-use Rattle.syn_parse.specs.Takings.{Keeps, lower, told}
+use Rattle.std.proofs.Common.{rules}
+use Rattle.syn_punctuated.proofs.ListTakes.{punctuated_keeps}
 use Rattle.examples.specs.Values.{values}
 use Rattle.examples.proofs.value.+values.Goals as goal
 
 pub read_values-returns : goal.read_values-returns
 read_values-returns t c =
-    terminated_keeps _ _ (c.parses_go_on.ensures.punctuations 7 1) values
-    (told (λ p. p) _ (lower (lowers_punctuation 7 1)))
-    (λ f h s t r k. at-states (Keeps values) _ _ s t r k.shows k.leaves k.called.met) _ _ _ _
+    punctuated_keeps values c.parses_go_on.ensures (λ f g s u r k. search rules)
     c.parse_terminated_with.ensures.turns
