@@ -1,5 +1,6 @@
 -- Commands: what each asks, what a read answers, and what the program's stand for.
-use Rattle.std.specs.Prelude.{ℕ, ◌+◌, Bool, cond, List, [], ◌∷◌, ◌++◌, map, Option, Some, None, codes}
+use Rattle.std.specs.Prelude.{ℕ, ◌+◌, Bool, true, false, cond, List, [], ◌∷◌, ◌++◌, map, Option, Some, None, codes}
+use Rattle.std.specs.List.{list_all}
 use Rattle.tok_lexical.specs.declared.delimiter.Delimiter.{Delimiter}
 use Rattle.tok_leaves.specs.declared.span.Span.{Span}
 use Rattle.tok_core.specs.Forest.{Tree, forest}
@@ -13,7 +14,7 @@ use Rattle.syn_parse.specs.Lookahead.{look_refusal}
 use Rattle.syn_parse.specs.Parses.{read_group}
 use Rattle.syn_parse.specs.State.{fresh}
 use Rattle.syn_replay.specs.Kinds as kinds
-use Rattle.syn_replay.specs.Kinds.{Kind, Look, peek_kind, refusal}
+use Rattle.syn_replay.specs.Kinds.{Kind, Look, ignores_invisible, peek_kind, refusal}
 use Rattle.syn_replay.specs.Meanings.{kind_of, look_of, separator_of}
 use Rattle.syn_replay.specs.Reports.{Answer, truth, pieces, absent, listed, found, shown, trees}
 use Rattle.syn_replay.specs.Reports.{refused}
@@ -99,6 +100,21 @@ read_answer next_tree p scope =
 read_answer rest p scope = (trees (rests.rest p), empty_place)
 read_answer next_group p scope =
     trees_taken (codes "expected group token") p scope (read_group p)
+
+abbrev pub all_ignore_invisible : List Look → Bool
+all_ignore_invisible looks = list_all ignores_invisible looks
+
+-- a read that shows no span and no whole tree, and looks for no invisible group
+abbrev pub is_transparent_read : Read → Bool
+is_transparent_read (peek l) = ignores_invisible l
+is_transparent_read (peek2 l) = ignores_invisible l
+is_transparent_read (peek3 l) = ignores_invisible l
+is_transparent_read (lookahead ls) = all_ignore_invisible ls
+is_transparent_read (parse kind) = true
+is_transparent_read (optional kind) = true
+is_transparent_read empty = true
+is_transparent_read (list rule kind separator) = true
+is_transparent_read r = false
 
 -- what a command of the program stands for
 abbrev pub command_of : program.Command → Command

@@ -6,27 +6,10 @@ use Rattle.tok_core.specs.Erase.{erase}
 use Rattle.tok_core.specs.Filled.{filled}
 use Rattle.tok_core.specs.Forest.{Forest}
 use Rattle.syn_replay.specs.Agree.{ReportsAgree}
-use Rattle.syn_replay.specs.Commands.{Action, Command, Read, read, enter, peek, peek2, peek3, parse}
-use Rattle.syn_replay.specs.Commands.{optional, empty, list, lookahead}
-use Rattle.syn_replay.specs.Kinds.{Look, ignores_invisible}
+use Rattle.syn_replay.specs.Commands.{Action, Command, read, enter, is_transparent_read}
 use Rattle.syn_replay.specs.Session.Walk.{walk}
 
-abbrev pub all_ignore_invisible : List Look → Bool
-all_ignore_invisible looks = list_all ignores_invisible looks
-
--- a read that shows no span and no whole tree, and looks for no invisible group
-abbrev pub is_transparent_read : Read → Bool
-is_transparent_read (peek l) = ignores_invisible l
-is_transparent_read (peek2 l) = ignores_invisible l
-is_transparent_read (peek3 l) = ignores_invisible l
-is_transparent_read (lookahead ls) = all_ignore_invisible ls
-is_transparent_read (parse kind) = true
-is_transparent_read (optional kind) = true
-is_transparent_read empty = true
-is_transparent_read (list rule kind separator) = true
-is_transparent_read r = false
-
--- such a read, or what enters no invisible group
+-- a read to which they do not matter, or what enters none
 abbrev pub is_transparent_action : Action → Bool
 is_transparent_action (read r) = is_transparent_read r
 is_transparent_action (enter None) = false

@@ -1,7 +1,6 @@
 //! Reports that agree.
 pub mod both;
 mod same;
-pub mod transparent;
 
 ghost use Rattle.std.specs.Prelude.{◌↔◌, map, IsTrue};
 ghost use Rattle.syn_replay.specs.Agree.{AnswersAgree, LinesAgree, ReportsAgree, VerdictsAgree};

@@ -11,8 +11,7 @@ mod session;
 
 pub use agreement::agree;
 pub use agreement::both::replay_both;
-pub use agreement::transparent::is_transparent;
-pub use command::{Command, Kind, Look, Separator};
+pub use command::{Command, Kind, Look, Separator, is_transparent};
 pub use forks::is_self_contained;
 pub use report::{Answer, Line, Piece, Position, Report, Verdict};
 pub use session::{replay, replay_in};

@@ -25,11 +25,11 @@ use Rattle.syn_parse.proofs.SameWords.{alike-at_stream, alike-look}
 use Rattle.syn_replay.proofs.Views.KindsAlike.{alike-kind, alike-peek, alike-peek2, alike-peek3}
 use Rattle.syn_replay.proofs.Views.KindsAlike.{alike-peek_kind, alike-refusal}
 use Rattle.syn_replay.specs.Agree.{AnswersAgree}
-use Rattle.syn_replay.specs.Transparent.{all_ignore_invisible, is_transparent}
-use Rattle.syn_replay.specs.Transparent.{is_transparent_read, is_transparent_action}
+use Rattle.syn_replay.specs.Transparent.{is_transparent, is_transparent_action}
 use Rattle.syn_replay.specs.Commands as commands
 use Rattle.syn_replay.specs.Commands.{Command, Action, Read, enter, fork, advance, discard, close}
-use Rattle.syn_replay.specs.Commands.{taken, parsed, listed_to, looked, read_answer}
+use Rattle.syn_replay.specs.Commands.{taken, parsed, listed_to, looked, read_answer, all_ignore_invisible}
+use Rattle.syn_replay.specs.Commands.{is_transparent_read}
 use Rattle.syn_replay.specs.Reports.{Answer, truth, pieces, absent, entered, forked}
 use Rattle.syn_replay.specs.Reports.{listed, found, done, refused, unfit}
 use Rattle.syn_replay.specs.Session.State.{Stream, StreamKind, content_of, a_fork, State, stream_at}
