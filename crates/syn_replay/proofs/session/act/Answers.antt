@@ -1,7 +1,7 @@
 use Rattle.std.proofs.Common.{ap}
 use Rattle.syn_replay.specs.Commands.{command_of}
 use Rattle.syn_replay.specs.Session.Tracks.{state_of}
-use Rattle.syn_replay.proofs.Acting.{fork_there, own_there}
+use Rattle.syn_replay.proofs.Walk.Misuse.{fork_there, own_there}
 use Rattle.syn_replay.proofs.session.act.Goals as goal
 
 pub at-stream-requires : goal.at-stream-requires

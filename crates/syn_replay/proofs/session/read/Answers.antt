@@ -15,7 +15,7 @@ use Rattle.syn_replay.specs.Session.Step.{on_stream}
 use Rattle.syn_replay.specs.Session.Stepping.{Answers, IsStepped}
 use Rattle.syn_replay.specs.Session.Tracks.{stream_of, state_of}
 use Rattle.syn_replay.specs.declared.report.Answer.{Answer}
-use Rattle.syn_replay.proofs.Changes.{changed_alike, there_within}
+use Rattle.syn_replay.proofs.Walk.Changes.{changed_alike, there_within}
 use Rattle.syn_replay.proofs.session.read.Goals as goal
 
 -- A stream that is put where a read leaves it, with the answer of that read.

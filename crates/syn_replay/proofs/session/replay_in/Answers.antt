@@ -1,6 +1,6 @@
 use Rattle.std.proofs.Common.{arith, rules}
-use Rattle.syn_replay.proofs.Accepting.{accepts_when}
-use Rattle.syn_replay.proofs.Tracks.{length-state}
+use Rattle.syn_replay.proofs.Walk.Acceptance.{accepts_when}
+use Rattle.syn_replay.proofs.Walk.Tracks.{length-state}
 use Rattle.syn_replay.proofs.session.replay_in.Goals as goal
 
 pub close_contents-requires : goal.close_contents-requires

@@ -1,4 +1,4 @@
-use Rattle.syn_replay.proofs.Runs.{runs_on}
+use Rattle.syn_replay.proofs.Walk.Runs.{runs_on}
 use Rattle.syn_replay.proofs.session.run.Goals as goal
 
 pub loop-command-preserved : goal.loop-command-preserved

@@ -1,6 +1,6 @@
 use Rattle.std.proofs.Common.{drop}
 use Rattle.syn_replay.specs.Session.Tracks.{state_of}
-use Rattle.syn_replay.proofs.Runs.{RunsOn}
+use Rattle.syn_replay.proofs.Walk.Runs.{RunsOn}
 use Rattle.syn_replay.proofs.session.run.Given as goal
 
 abbrev pub invariant-loop-command : goal.invariant-loop-command

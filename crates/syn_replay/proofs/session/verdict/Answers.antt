@@ -4,7 +4,7 @@ use Rattle.syn_parse.specs.Faults.{IsRefused}
 use Rattle.syn_parse.specs.State.{handed}
 use Rattle.syn_parse.specs.RefusalWords.{leftover_refusal}
 use Rattle.syn_replay.specs.Session.Walk.{stream_verdict}
-use Rattle.syn_replay.proofs.Verdicts.{verdict_refused}
+use Rattle.syn_replay.proofs.Walk.Verdict.{verdict_refused}
 use Rattle.syn_replay.proofs.session.verdict.Goals as goal
 
 pub returns-in-Err-Refused : goal.returns-in-Err-Refused

@@ -5,7 +5,7 @@ use Rattle.tok_buffer.specs.Cursors.{place_of}
 use Rattle.tok_buffer.specs.Reads.{read_punctuation}
 use Rattle.syn_replay.specs.Kinds.{peek_kind}
 use Rattle.syn_replay.specs.Meanings.{kind_of}
-use Rattle.syn_replay.proofs.Tables.{punctuation-text-chars}
+use Rattle.syn_replay.proofs.Punctuations.{punctuation-text-chars}
 use Rattle.syn_replay.proofs.command.Kind.peek.Goals as goal
 
 pub returns-in-Punctuation : goal.returns-in-Punctuation

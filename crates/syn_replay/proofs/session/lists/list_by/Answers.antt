@@ -1,7 +1,7 @@
 use Rattle.std.proofs.Common.{◌≡◌, rules, refl}
 use Rattle.syn_replay.specs.Meanings.{kind_of}
 use Rattle.syn_replay.specs.Turns.{terminated, separated}
-use Rattle.syn_replay.proofs.ListRuns.{list-read, list-refused}
+use Rattle.syn_replay.proofs.Walk.Lists.{list-read, list-refused}
 use Rattle.syn_replay.proofs.session.lists.list_by.Goals.{in-Terminated+in_ok-list-in-Terminated}
 use Rattle.syn_replay.proofs.session.lists.list_by.Goals.{in-Separated+in_ok-list-in-Separated}
 use Rattle.syn_replay.proofs.session.lists.list_by.Goals as goal

@@ -1,6 +1,6 @@
 use Rattle.std.proofs.Common.{rules}
 use Rattle.std.proofs.lemmas.Slice.Zip.{Zip-more, either_empty_from_Zip}
-use Rattle.syn_replay.proofs.ReadPieces.{all_pieces, one_more_piece}
+use Rattle.syn_replay.proofs.Walk.Pieces.{all_pieces, one_more_piece}
 use Rattle.syn_replay.proofs.session.pieces.characters.Goals as goal
 
 pub loop-byte-preserved : goal.loop-byte-preserved

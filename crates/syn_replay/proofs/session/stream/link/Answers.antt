@@ -1,8 +1,8 @@
 use Rattle.std.proofs.Common.{ap, ◌∙◌, refl, Some, arith}
 use Rattle.syn_replay.specs.Session.Tracks.{state_of_list}
 use Rattle.syn_replay.specs.declared.session.stream.Stream.{Stream}
-use Rattle.syn_replay.proofs.Appended.{link_first, link_next, last_within}
-use Rattle.syn_replay.proofs.Tracks.{state_kept}
+use Rattle.syn_replay.proofs.Walk.NewLinks.{link_first, link_next, last_within}
+use Rattle.syn_replay.proofs.Walk.Tracks.{state_kept}
 use Rattle.syn_replay.proofs.session.stream.link.Goals as goal
 use Rattle.syn_replay.proofs.session.stream.link.Goals.{in-None, in-Some}
 

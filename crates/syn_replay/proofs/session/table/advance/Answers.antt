@@ -1,5 +1,5 @@
 use Rattle.syn_replay.specs.Session.Tracks.{stream_of, state_of}
-use Rattle.syn_replay.proofs.Changes.{there_within}
+use Rattle.syn_replay.proofs.Walk.Changes.{there_within}
 use Rattle.syn_replay.proofs.session.table.advance.Goals as goal
 
 pub is_or_inside-requires : goal.is_or_inside-requires

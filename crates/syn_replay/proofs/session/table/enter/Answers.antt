@@ -7,8 +7,8 @@ use Rattle.syn_replay.specs.Reports as reports
 use Rattle.syn_replay.specs.Session.State.{with_stream, content_of, put, standing}
 use Rattle.syn_replay.specs.Session.Entering.{entered_by, entering_words}
 use Rattle.syn_replay.specs.Session.Tracks.{stream_of, state_of}
-use Rattle.syn_replay.proofs.Entered.{AreEntered, entered-value, entered-refusal}
-use Rattle.syn_replay.proofs.Changes.{there_within}
+use Rattle.syn_replay.proofs.Walk.Entering.{AreEntered, entered-value, entered-refusal}
+use Rattle.syn_replay.proofs.Walk.Changes.{there_within}
 use Rattle.syn_replay.proofs.session.table.enter.Goals as goal
 
 pub enter-requires : goal.enter-requires

@@ -7,8 +7,8 @@ use Rattle.syn_replay.specs.Session.Reading.{AfterPieces}
 use Rattle.syn_replay.specs.Meanings.{kind_of}
 use Rattle.syn_replay.specs.declared.command.Kind.TheVariants.{Ident, IdentAny, Lifetime, LifetimeAny, Literal, Punct}
 use Rattle.syn_replay.specs.Kinds.{read}
-use Rattle.syn_replay.proofs.ReadPieces.{value-pieces, value-pieces-at-once}
-use Rattle.syn_replay.proofs.Tables.{punctuation-short, punctuation-text-chars}
+use Rattle.syn_replay.proofs.Walk.Pieces.{value-pieces, value-pieces-at-once}
+use Rattle.syn_replay.proofs.Punctuations.{punctuation-short, punctuation-text-chars}
 use Rattle.syn_replay.proofs.session.tokens.parse.Goals as goal
 
 pub punctuation-requires-clause-short : goal.punctuation-requires-clause-short

@@ -1,7 +1,7 @@
 use Rattle.std.proofs.Common.{◌≡◌, ◌<◌, ◌∙◌, ap, map, length, rules, arith}
 use Rattle.syn_replay.specs.Session.Reading.{punct_pieces}
 use Rattle.syn_replay.specs.Meanings.{piece_of}
-use Rattle.syn_replay.proofs.ReadPieces.{sized-pieces, sized-refused, sized_same, sized_short}
+use Rattle.syn_replay.proofs.Walk.Pieces.{sized-pieces, sized-refused, sized_same, sized_short}
 use Rattle.syn_replay.proofs.session.tokens.punctuation.Goals as goal
 
 pub returns-in_err-spans-in_default : goal.returns-in_err-spans-in_default

@@ -2,9 +2,9 @@ use Rattle.std.proofs.Common.{◌≡◌, ◌-◌, ◌<◌, ap, sym, ◌∙◌, r
 use Rattle.syn_replay.specs.Session.Links.{links_of}
 use Rattle.syn_replay.specs.Session.State.{closed_inside}
 use Rattle.syn_replay.specs.Session.Tracks.{state_of}
-use Rattle.syn_replay.proofs.Closing.{left_along, left_first, left_none, left_within, left_spent, left_closed, left_falls}
-use Rattle.syn_replay.proofs.Linked.{length-links}
-use Rattle.syn_replay.proofs.Tracks.{length-state}
+use Rattle.syn_replay.proofs.Walk.Closing.{left_along, left_first, left_none, left_within, left_spent, left_closed, left_falls}
+use Rattle.syn_replay.proofs.Walk.Links.{length-links}
+use Rattle.syn_replay.proofs.Walk.Tracks.{length-state}
 use Rattle.syn_replay.proofs.session.streams.Streams.+close_contents.Goals as goal
 use Rattle.syn_replay.proofs.session.streams.Streams.+close_contents.Goals.{then-stream, else-stream}
 

@@ -2,7 +2,7 @@ use Rattle.std.proofs.Common.{◌≡◌, ◌-◌, length}
 use Rattle.syn_replay.specs.Session.Links.{links_of}
 use Rattle.syn_replay.specs.Session.State.{closed_inside}
 use Rattle.syn_replay.specs.Session.Tracks.{state_of_list}
-use Rattle.syn_replay.proofs.Closing.{LeftToClose, left_to}
+use Rattle.syn_replay.proofs.Walk.Closing.{LeftToClose, left_to}
 use Rattle.syn_replay.proofs.session.streams.Streams.+close_contents.Given as goal
 
 abbrev pub decreases-close_contents : goal.decreases-close_contents

@@ -1,9 +1,9 @@
 use Rattle.std.proofs.Common.{◌≡◌, ◌-◌, ◌<◌, ap, sym, ◌∙◌, refl, length, Some, None, arith}
 use Rattle.syn_replay.specs.Session.Tracks.{state_of}
-use Rattle.syn_replay.proofs.Discards.{spend_along, spend_falls, spend_first, spend_more, spend_none, spend_within}
-use Rattle.syn_replay.proofs.Linked.{length-links}
-use Rattle.syn_replay.proofs.Spending.{all_spent_kinds, kinds}
-use Rattle.syn_replay.proofs.Tracks.{length-state}
+use Rattle.syn_replay.proofs.Walk.Discarding.{spend_along, spend_falls, spend_first, spend_more, spend_none, spend_within}
+use Rattle.syn_replay.proofs.Walk.Links.{length-links}
+use Rattle.syn_replay.proofs.Walk.Spending.{all_spent_kinds, kinds}
+use Rattle.syn_replay.proofs.Walk.Tracks.{length-state}
 use Rattle.syn_replay.proofs.session.streams.Streams.+discard.Goals as goal
 
 pub loop-next-init : goal.loop-next-init

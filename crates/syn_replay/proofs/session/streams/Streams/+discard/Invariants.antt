@@ -1,9 +1,9 @@
 use Rattle.std.proofs.Common.{◌≡◌, ◌-◌, length}
 use Rattle.syn_replay.specs.Session.Links.{links_of}
 use Rattle.syn_replay.specs.Session.Tracks.{state_of_list}
-use Rattle.syn_replay.proofs.Closing.{left_to}
-use Rattle.syn_replay.proofs.Discards.{LeftToSpend}
-use Rattle.syn_replay.proofs.Spending.{kinds}
+use Rattle.syn_replay.proofs.Walk.Closing.{left_to}
+use Rattle.syn_replay.proofs.Walk.Discarding.{LeftToSpend}
+use Rattle.syn_replay.proofs.Walk.Spending.{kinds}
 use Rattle.syn_replay.proofs.session.streams.Streams.+discard.Given as goal
 
 abbrev pub decreases-discard : goal.decreases-discard

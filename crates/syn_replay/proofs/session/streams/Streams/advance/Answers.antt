@@ -7,9 +7,9 @@ use Rattle.syn_replay.specs.Session.Step.{place_of}
 use Rattle.syn_replay.specs.Session.Links.{links_of}
 use Rattle.syn_replay.specs.Session.Tracks.{stream_of, state_of_list}
 use Rattle.syn_replay.specs.declared.session.stream.Stream.{Stream}
-use Rattle.syn_replay.proofs.Linked.{length-links}
-use Rattle.syn_replay.proofs.Changes.{changed_alike}
-use Rattle.syn_replay.proofs.Tracks.{inside_place, length-state, stream_there}
+use Rattle.syn_replay.proofs.Walk.Links.{length-links}
+use Rattle.syn_replay.proofs.Walk.Changes.{changed_alike}
+use Rattle.syn_replay.proofs.Walk.Tracks.{inside_place, length-state, stream_there}
 use Rattle.syn_replay.proofs.session.streams.Streams.advance.Goals as goal
 
 -- closing keeps where a stream stands

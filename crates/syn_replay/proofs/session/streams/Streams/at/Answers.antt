@@ -1,5 +1,5 @@
 use Rattle.std.proofs.Common.{arith}
-use Rattle.syn_replay.proofs.Tracks.{stream_there, length-state}
+use Rattle.syn_replay.proofs.Walk.Tracks.{stream_there, length-state}
 use Rattle.syn_replay.proofs.session.streams.Streams.at.Goals as goal
 
 pub returns : goal.returns

@@ -5,9 +5,9 @@ use Rattle.syn_replay.specs.Session.Links.{links_of}
 use Rattle.syn_replay.specs.Session.State.{with_stream, content_of, put, standing}
 use Rattle.syn_replay.specs.Session.Tracks.{stream_of, state_of_list}
 use Rattle.syn_replay.specs.declared.session.stream.Stream.{Stream}
-use Rattle.syn_replay.proofs.Linked.{linked_along, linked_kept}
-use Rattle.syn_replay.proofs.Tracks.{changed_there, length-state, length-along}
-use Rattle.syn_replay.proofs.Changes.{changed_front}
+use Rattle.syn_replay.proofs.Walk.Links.{linked_along, linked_kept}
+use Rattle.syn_replay.proofs.Walk.Tracks.{changed_there, length-state, length-along}
+use Rattle.syn_replay.proofs.Walk.Changes.{changed_front}
 use Rattle.syn_replay.proofs.session.streams.Streams.enter.Goals as goal
 
 pub invariant_of-self : goal.invariant_of-self

@@ -1,5 +1,5 @@
 use Rattle.std.specs.Prelude.{is_ok}
-use Rattle.syn_replay.proofs.Linked.{pushed_linked, pushed_some}
+use Rattle.syn_replay.proofs.Walk.Links.{pushed_linked, pushed_some}
 use Rattle.syn_replay.proofs.session.streams.Streams.fork.Goals as goal
 
 pub invariant_of-self : goal.invariant_of-self

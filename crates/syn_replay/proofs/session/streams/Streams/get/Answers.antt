@@ -1,5 +1,5 @@
 use Rattle.std.proofs.Common.{arith}
-use Rattle.syn_replay.proofs.Tracks.{stream_there, stream_past}
+use Rattle.syn_replay.proofs.Walk.Tracks.{stream_there, stream_past}
 use Rattle.syn_replay.proofs.session.streams.Streams.get.Goals as goal
 
 pub returns-then-n-len : goal.returns-then-n-len

@@ -5,9 +5,9 @@ use Rattle.syn_replay.specs.Session.Links.{links_of, AreLinked}
 use Rattle.syn_replay.specs.Session.State.{handed_note, with_note_on_parent, with_stream, with_note, put, spent}
 use Rattle.syn_replay.specs.Session.Tracks.{kind_of, stream_of, state_of}
 use Rattle.syn_replay.specs.declared.session.stream.Stream.{Stream}
-use Rattle.syn_replay.proofs.Linked.{linked_kept, links_kept, length-links, parent_below}
-use Rattle.syn_replay.proofs.Changes.{changed_alike}
-use Rattle.syn_replay.proofs.Tracks.{stream_there, changed_there, handed_there, length-state, noted_apart}
+use Rattle.syn_replay.proofs.Walk.Links.{linked_kept, links_kept, length-links, parent_below}
+use Rattle.syn_replay.proofs.Walk.Changes.{changed_alike}
+use Rattle.syn_replay.proofs.Walk.Tracks.{stream_there, changed_there, handed_there, length-state, noted_apart}
 use Rattle.syn_replay.proofs.session.streams.Streams.hand_up.Goals as goal
 use Rattle.syn_replay.proofs.session.streams.Streams.hand_up.Goals.{in-Some, in_default}
 

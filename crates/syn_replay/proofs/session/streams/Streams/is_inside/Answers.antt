@@ -1,7 +1,7 @@
 use Rattle.std.proofs.Common.{◌<◌, ◌∙◌, sym, length, arith}
-use Rattle.syn_replay.proofs.Inside.{falls, inside_step, up}
-use Rattle.syn_replay.proofs.Linked.{parent_below}
-use Rattle.syn_replay.proofs.Tracks.{length-state}
+use Rattle.syn_replay.proofs.Walk.Inside.{falls, inside_step, up}
+use Rattle.syn_replay.proofs.Walk.Links.{parent_below}
+use Rattle.syn_replay.proofs.Walk.Tracks.{length-state}
 use Rattle.syn_replay.proofs.session.streams.Streams.is_inside.Goals as goal
 
 pub loop-next-init : goal.loop-next-init

@@ -1,7 +1,7 @@
 use Rattle.std.proofs.Common.{◌≡◌, ◌<◌, ℕ, length, Some}
 use Rattle.syn_replay.specs.Session.State.{is_inside}
 use Rattle.syn_replay.specs.Session.Tracks.{state_of}
-use Rattle.syn_replay.proofs.Inside.{is_parent_inside, above}
+use Rattle.syn_replay.proofs.Walk.Inside.{is_parent_inside, above}
 use Rattle.syn_replay.proofs.session.streams.Streams.is_inside.Given as goal
 
 abbrev pub invariant-loop-next : goal.invariant-loop-next

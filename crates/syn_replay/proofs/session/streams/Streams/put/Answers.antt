@@ -1,7 +1,7 @@
 use Rattle.std.proofs.Common.{refl, length-set, arith}
 use Rattle.syn_replay.specs.declared.session.stream.Stream.{Stream}
-use Rattle.syn_replay.proofs.Linked.{linked_kept, links_kept}
-use Rattle.syn_replay.proofs.Tracks.{changed_there, length-state}
+use Rattle.syn_replay.proofs.Walk.Links.{linked_kept, links_kept}
+use Rattle.syn_replay.proofs.Walk.Tracks.{changed_there, length-state}
 use Rattle.syn_replay.proofs.session.streams.Streams.put.Goals as goal
 
 pub invariant_of-self : goal.invariant_of-self

@@ -1,4 +1,4 @@
-use Rattle.syn_replay.proofs.Tracks.{stream_there}
+use Rattle.syn_replay.proofs.Walk.Tracks.{stream_there}
 use Rattle.syn_replay.proofs.session.streams.Streams.whole.Goals as goal
 
 pub returns : goal.returns

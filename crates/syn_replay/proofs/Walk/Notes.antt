@@ -9,7 +9,7 @@ use Rattle.tok_buffer.specs.Place.{Place}
 use Rattle.syn_replay.specs.Session.Acceptance.{IsShut}
 use Rattle.syn_replay.specs.Session.State.{Stream, State, StreamKind, outermost, content_of, a_fork, stream_at, with_stream, spent, with_note, handed_note, is_content_of, is_open_content_of, with_note_on_parent, handed_up, contents_closed, closed_inside}
 use Rattle.syn_replay.specs.Session.Step.{is_spent, tested}
-use Rattle.syn_replay.proofs.Changes.{changed_at, changed_not, there_within}
+use Rattle.syn_replay.proofs.Walk.Changes.{changed_at, changed_not, there_within}
 
 -- what may become of a stream: it may be noted and spent, and once it is spent it stays as it is
 pub record Ages (s t : Stream) : Type 0 where

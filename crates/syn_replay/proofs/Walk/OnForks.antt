@@ -37,11 +37,11 @@ use Rattle.syn_replay.specs.Session.Step.{new_stream, into_group, on_stream, pla
 use Rattle.syn_replay.specs.Session.Step.{step_on, tested, position_in, line}
 use Rattle.syn_replay.specs.Session.Walk.{last_state, lines_from}
 use Rattle.syn_replay.specs.Turns.{Outcome, read_all, refused_at, turns, turns_left}
-use Rattle.syn_replay.proofs.Accepting.{content_inside, content_or_not, first_tidy, run_tidy}
-use Rattle.syn_replay.proofs.Changes.{at_front, before_end, changed_at, changed_not, length_changed}
-use Rattle.syn_replay.proofs.Changes.{nothing_past, past_end, there_within}
-use Rattle.syn_replay.proofs.Inside.{among_either, inside_at}
-use Rattle.syn_replay.proofs.Notes.{HoldsOpen, IsIn, Tidy}
+use Rattle.syn_replay.proofs.Walk.Acceptance.{content_inside, content_or_not, first_tidy, run_tidy}
+use Rattle.syn_replay.proofs.Walk.Changes.{at_front, before_end, changed_at, changed_not, length_changed}
+use Rattle.syn_replay.proofs.Walk.Changes.{nothing_past, past_end, there_within}
+use Rattle.syn_replay.proofs.Walk.Inside.{among_either, inside_at}
+use Rattle.syn_replay.proofs.Walk.Notes.{HoldsOpen, IsIn, Tidy}
 
 noted_on : (a b c : Option Leftover) → option_or (option_or a b) c ≡ option_or a (option_or b c)
 noted_on None b c = refl

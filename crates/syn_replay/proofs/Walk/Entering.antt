@@ -23,7 +23,7 @@ use Rattle.syn_replay.specs.Meanings.{IsAnswer, refusal_of}
 use Rattle.syn_replay.specs.Session.Stepping.{Answers, IsStepped}
 use Rattle.syn_replay.specs.declared.report.Answer.{Answer}
 use Rattle.syn_replay.proofs.Refusals.{refusal_of-refused}
-use Rattle.syn_replay.proofs.Changes.{changed_alike}
+use Rattle.syn_replay.proofs.Walk.Changes.{changed_alike}
 
 -- an answer of the refusal that is wanted
 pub answered-refusal : (r : Refusal) (e : List Message) (a : Answer) → e ≡ messages.refused r → Answers (Refused e) (Ok a) → IsAnswer a (reports.refused r)

@@ -22,10 +22,10 @@ use Rattle.syn_replay.specs.Session.State.{Stream, State, StreamKind, outermost,
 use Rattle.syn_replay.specs.Session.Step.{Stepped, any_of, is_content, is_fork, is_missing, is_spent, kind_refusal, misuse, named, new_stream, into_group, on_stream, other_named, place_of, stays, step, step_on, tested, with_other}
 use Rattle.syn_replay.specs.Session.Entering.{entered_by, entering_words}
 use Rattle.syn_replay.specs.Session.Walk.{last_state, stream_verdict, walk}
-use Rattle.syn_replay.proofs.Notes.{Ages, AllClean, Closed, HasNoOpen, Holds, HoldsOpen, IsClean, IsFed, IsIn, Later, Older, ShutWhen, afterwards, before, Tidy, Under, first, deeper, Which, ages_self, all_shut, clean_after, clean_before, cleans_on, inside_closed, is_shut_at, kept_on, none_either, none_of, not_both, older_on, older_self, one_stream, shut_first, shut_is, shut_when, up, up_cleans, up_kept, which, is_it, is_parent, is_other}
-use Rattle.syn_replay.proofs.Inside.{among_either, inside_at, or_false}
-use Rattle.syn_replay.proofs.Spending.{all_spent_at, mirrored, spent_when}
-use Rattle.syn_replay.proofs.Changes.{at_front, changed_at, changed_not, there_within}
+use Rattle.syn_replay.proofs.Walk.Notes.{Ages, AllClean, Closed, HasNoOpen, Holds, HoldsOpen, IsClean, IsFed, IsIn, Later, Older, ShutWhen, afterwards, before, Tidy, Under, first, deeper, Which, ages_self, all_shut, clean_after, clean_before, cleans_on, inside_closed, is_shut_at, kept_on, none_either, none_of, not_both, older_on, older_self, one_stream, shut_first, shut_is, shut_when, up, up_cleans, up_kept, which, is_it, is_parent, is_other}
+use Rattle.syn_replay.proofs.Walk.Inside.{among_either, inside_at, or_false}
+use Rattle.syn_replay.proofs.Walk.Spending.{all_spent_at, mirrored, spent_when}
+use Rattle.syn_replay.proofs.Walk.Changes.{at_front, changed_at, changed_not, there_within}
 
 same_number : (p r : ℕ) → content_of p ≡ content_of r → p ≡ r
 same_number p r e = cc

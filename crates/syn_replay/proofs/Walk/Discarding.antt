@@ -10,12 +10,12 @@ use Rattle.syn_replay.specs.Session.State as states
 use Rattle.syn_replay.specs.Session.Tracks.{state_of_list}
 use Rattle.syn_replay.specs.declared.session.links.Links.{Links}
 use Rattle.syn_replay.specs.declared.session.stream.Stream.{Stream}
-use Rattle.syn_replay.proofs.Closing.{next_first, left_less, left_to}
-use Rattle.syn_replay.proofs.Inside.{inside_step, is_parent_inside}
-use Rattle.syn_replay.proofs.Linked.{content_within, length-links, links_there}
-use Rattle.syn_replay.proofs.Spending.{all_spent_at, kinds, mirrored, same_is_or_inside, same_streams, spent_false, spent_true, spent_when}
-use Rattle.syn_replay.proofs.Changes.{changed_at, changed_not, there_within}
-use Rattle.syn_replay.proofs.Tracks.{length-state}
+use Rattle.syn_replay.proofs.Walk.Closing.{next_first, left_less, left_to}
+use Rattle.syn_replay.proofs.Walk.Inside.{inside_step, is_parent_inside}
+use Rattle.syn_replay.proofs.Walk.Links.{content_within, length-links, links_there}
+use Rattle.syn_replay.proofs.Walk.Spending.{all_spent_at, kinds, mirrored, same_is_or_inside, same_streams, spent_false, spent_true, spent_when}
+use Rattle.syn_replay.proofs.Walk.Changes.{changed_at, changed_not, there_within}
+use Rattle.syn_replay.proofs.Walk.Tracks.{length-state}
 
 -- the stream of a number
 taken : (xs : List Stream) (j : ℕ) → j < length xs → (x : Stream) × (x ≡ get_or xs j x)

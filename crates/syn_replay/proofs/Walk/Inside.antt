@@ -7,8 +7,8 @@ use Rattle.syn_replay.specs.Session.State as states
 use Rattle.syn_replay.specs.Session.Links.{links_of, AreLinked}
 use Rattle.syn_replay.specs.Session.Tracks.{kind_of, stream_of, state_of_list}
 use Rattle.syn_replay.specs.declared.session.stream.Stream.{Stream}
-use Rattle.syn_replay.proofs.Linked.{parent_below}
-use Rattle.syn_replay.proofs.Tracks.{stream_there}
+use Rattle.syn_replay.proofs.Walk.Links.{parent_below}
+use Rattle.syn_replay.proofs.Walk.Tracks.{stream_there}
 
 -- those that are found have higher numbers
 contains_low : (ns : List ℕ) (k : ℕ) (st : State) (p : ℕ) → p < k → contains (inside_of ns k st) p ≡ false

@@ -45,7 +45,7 @@ use Rattle.syn_replay.specs.Turns.{turns, turns_left}
 use Rattle.syn_replay.specs.declared.report.Answer.{Answer}
 use Rattle.syn_replay.specs.declared.report.Answer.TheVariants as answer
 use Rattle.syn_replay.specs.declared.report.Piece.{Piece}
-use Rattle.syn_replay.proofs.ReadPieces.{punctuation-pieces}
+use Rattle.syn_replay.proofs.Walk.Pieces.{punctuation-pieces}
 use Rattle.syn_replay.proofs.Refusals.{refusal_of-refused, refusal_there, separator_there}
 use Rattle.syn_replay.proofs.Views.EnoughTurns.{more_turns_change_nothing}
 

@@ -6,7 +6,7 @@ use Rattle.std.proofs.lemmas.List.{get_or-set_same, get_or-set_other, map-set, l
 use Rattle.syn_replay.specs.Session.Links.{links_of, no_links, unlinked, links_at, AreLinked, IsNew}
 use Rattle.syn_replay.specs.declared.session.links.Links.{Links}
 use Rattle.syn_replay.specs.declared.session.stream.Stream.{Stream}
-use Rattle.syn_replay.proofs.Linked.{links_there, linked_along, content_within, last_of, IsAppended, appended_linked}
+use Rattle.syn_replay.proofs.Walk.Links.{links_there, linked_along, content_within, last_of, IsAppended, appended_linked}
 
 abbrev with_last : ℕ → Links → Links
 with_last c l = record l { last = Some c }

@@ -7,8 +7,8 @@ use Rattle.syn_replay.specs.Session.State.{State, stream_at, is_content_of, is_o
 use Rattle.syn_replay.specs.Session.Tracks.{kind_of, state_of_list}
 use Rattle.syn_replay.specs.declared.session.links.Links.{Links}
 use Rattle.syn_replay.specs.declared.session.stream.Stream.{Stream}
-use Rattle.syn_replay.proofs.Linked.{content_within, length-links, links_there}
-use Rattle.syn_replay.proofs.Tracks.{stream_there, contents_taken, contents_left, contents_done, length-state}
+use Rattle.syn_replay.proofs.Walk.Links.{content_within, length-links, links_there}
+use Rattle.syn_replay.proofs.Walk.Tracks.{stream_there, contents_taken, contents_left, contents_done, length-state}
 
 not_content : (b f : Bool) (k : ℕ) (o : Option ℕ) → (o ≡ Some k → ⊥) → (b && is_content_of k (kind_of f o)) ≡ false
 not_content false f k o h = refl

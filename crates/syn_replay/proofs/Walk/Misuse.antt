@@ -7,7 +7,7 @@ use Rattle.syn_replay.specs.Commands as spec
 use Rattle.syn_replay.specs.Session.State.{State, stream_at}
 use Rattle.syn_replay.specs.Session.State as states
 use Rattle.syn_replay.specs.Session.Step.{any_of, is_missing, is_spent, kind_refusal, misuse, named, other_named, tested, with_other}
-use Rattle.syn_replay.proofs.Changes.{there_within}
+use Rattle.syn_replay.proofs.Walk.Changes.{there_within}
 
 is_there : (st : State) (n : ℕ) → is_missing st n ≡ false → n < length st
 is_there st n h = go (stream_at st n) refl h where

@@ -1,0 +1,18 @@
+-- The streams of a replay, and the commands on them.
+pub mod Acceptance
+pub mod Changes
+pub mod Closing
+pub mod Discarding
+pub mod Entering
+pub mod Inside
+pub mod Links
+pub mod Lists
+pub mod Misuse
+pub mod NewLinks
+pub mod Notes
+pub mod OnForks
+pub mod Pieces
+pub mod Runs
+pub mod Spending
+pub mod Tracks
+pub mod Verdict
