@@ -7,9 +7,6 @@ use Rattle.tok_core.specs.Forest.{Tree, Forest, tree}
 use Rattle.tok_core.specs.Seen.{tree_of, trees_of}
 use Rattle.syn_replay.proofs.Comparing.{Compares}
 
-heads : {A : Type 0} (x y : A) (xs ys : List A) → x ∷ xs ≡ y ∷ ys → (x ≡ y) × (xs ≡ ys)
-heads x y xs ys e = (cc, cc)
-
 first_trees : (t u : Tree) (f g : Forest) → tree t f ≡ tree u g → (t ≡ u) × (f ≡ g)
 first_trees t u f g e = (cc, cc)
 

@@ -1,4 +1,5 @@
 -- Walks of forests that differ only in invisible groups.
+pub mod Choices
 pub mod EnoughTurns
 pub mod KindReads
 pub mod KindsAlike

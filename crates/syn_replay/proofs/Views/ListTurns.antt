@@ -20,6 +20,7 @@ use Rattle.syn_replay.specs.Reports.{Piece}
 use Rattle.syn_replay.specs.Turns.{Outcome, read_all, refused_at, with_parts, is_later, no_progress}
 use Rattle.syn_replay.specs.Turns.{after, after_value, next_turn, pieces_of, without_separator}
 use Rattle.syn_replay.specs.Turns.{Rule, terminated, separated, is_over, turns, turns_left}
+use Rattle.syn_replay.proofs.Views.Choices.{either}
 
 -- each read leads to a later place of the same scope
 abbrev pub IsLaterThan : Place → Place → Type 0
@@ -53,13 +54,6 @@ module _ (f g : Laid) where
   OutcomesAlike (read_all a p) (read_all b q) = (a ≡ b) × Alike f g p q
   OutcomesAlike (refused_at r p) (refused_at s q) = (r.words ≡ s.words) × Alike f g p q
   OutcomesAlike x y = ⊥
-
-  either-outcome : (a b : Bool) (x y z w : Outcome) → a ≡ b → OutcomesAlike x y → OutcomesAlike z w
-      → OutcomesAlike (cond a x z) (cond b y w)
-  either-outcome true true x y z w e h k = h
-  either-outcome true false x y z w e h k = absurd (cc)
-  either-outcome false true x y z w e h k = absurd (cc)
-  either-outcome false false x y z w e h k = k
 
   with-parts : (a b : List (List Piece)) (x y : Outcome) → a ≡ b → OutcomesAlike x y
       → OutcomesAlike (with_parts a x) (with_parts b y)
@@ -128,13 +122,14 @@ module _ (f g : Laid) where
         → OutcomesAlike (turns kind separator left rule n p) (turns kind separator right rule n q)
     alike-turns rule zero p q h = (refl, h)
     alike-turns rule (suc n) p q h =
-        either-outcome (is_over rule p) (is_over rule q) (read_all [] p) (read_all [] q) _ _
+        either OutcomesAlike (is_over rule p) (is_over rule q) (read_all [] p) (read_all [] q) _ _
         (alike-over rule p q h) (refl, h)
         (after-read p q (refused_at (refusal kind (fresh p left)) p)
         (refused_at (refusal kind (fresh q right)) q) _ _ (read kind p) (read kind q)
         (alike-refusal f g kind (fresh p left) (fresh q right) h, h)
         (λ x i j k l m.
-        either-outcome (is_over rule i) (is_over rule j) (read_all (x ∷ []) i) (read_all (x ∷ []) j) _ _
+        either OutcomesAlike (is_over rule i) (is_over rule j) (read_all (x ∷ []) i)
+        (read_all (x ∷ []) j) _ _
         (alike-over rule i j k) (refl, k)
         (after-value p q x (without_separator kind separator left rule x i)
         (without_separator kind separator right rule x j) (turns kind separator left rule n)

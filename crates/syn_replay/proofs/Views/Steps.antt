@@ -17,7 +17,7 @@ use Rattle.tok_buffer.specs.Place.{Place, empty_place}
 use Rattle.tok_buffer.proofs.View.Alike.{Alike, ReadsAlike, EntriesAlike, alike-end, alike-scope}
 use Rattle.tok_buffer.proofs.View.Alike.{alike-empty, alike-enter}
 use Rattle.tok_buffer.specs.View.{IsVisibleDelimiter}
-use Rattle.syn_replay.specs.Kinds.{Kind, Look, read, peek, peek2, peek3, peek_kind, display}
+use Rattle.syn_replay.specs.Kinds.{Kind, Look, read, peek, peek_kind, display}
 use Rattle.syn_replay.specs.Kinds.{ignores_invisible, refusal}
 use Rattle.syn_parse.specs.RefusalWords.{delimiter_words}
 use Rattle.syn_parse.specs.State.{fresh}
@@ -31,7 +31,7 @@ use Rattle.syn_replay.specs.Commands.{Command, Action, Read, enter, fork, advanc
 use Rattle.syn_replay.specs.Commands.{taken, parsed, listed_to, looked, read_answer, all_ignore_invisible}
 use Rattle.syn_replay.specs.Commands.{is_transparent_read}
 use Rattle.syn_replay.specs.Reports.{Answer, truth, pieces, absent, entered, forked}
-use Rattle.syn_replay.specs.Reports.{listed, found, done, refused, unfit}
+use Rattle.syn_replay.specs.Reports.{listed, found, unfit}
 use Rattle.syn_replay.specs.Session.State.{Stream, StreamKind, content_of, a_fork, State, stream_at}
 use Rattle.syn_replay.specs.Session.State.{with_stream, moved_to, is_inside}
 use Rattle.syn_replay.specs.Session.Step.{Stepped, stays, new_stream, into_group, place_of, tested}
@@ -43,36 +43,16 @@ use Rattle.syn_replay.proofs.Views.Streams.{StreamsAlike, BothAlike, StatesAlike
 use Rattle.syn_replay.proofs.Views.Streams.{alike-length, alike-append, alike-with_stream, alike-moved}
 use Rattle.syn_replay.proofs.Views.Streams.{alike-closed, alike-advanced, alike-all_spent}
 use Rattle.syn_replay.proofs.Views.Streams.{same-inside}
+use Rattle.syn_replay.proofs.Views.Choices.{either}
 
 module _ (f g : Laid) (visible : erase f.forest ≡ erase g.forest) where
   pub record StepsAlike (a b : Stepped) : Type 0 where
     pub answer : AnswersAgree a.answer b.answer
     pub state : StatesAlike f g a.state b.state
 
-  either-step : (a b : Bool) (x y z w : Stepped) → a ≡ b → StepsAlike x y → StepsAlike z w
-      → StepsAlike (cond a x z) (cond b y w)
-  either-step true true x y z w e h k = h
-  either-step true false x y z w e h k = absurd (cc)
-  either-step false true x y z w e h k = absurd (cc)
-  either-step false false x y z w e h k = k
-
   -- Reads.
   abbrev AnsweredAlike : Answer × Place → Answer × Place → Type 0
   AnsweredAlike x y = AnswersAgree x.0 y.0 × Alike f g x.1 y.1
-
-  either-answer : (a b : Bool) (x y z w : Answer × Place) → a ≡ b → AnsweredAlike x y
-      → AnsweredAlike z w → AnsweredAlike (cond a x z) (cond b y w)
-  either-answer true true x y z w e h k = h
-  either-answer true false x y z w e h k = absurd (cc)
-  either-answer false true x y z w e h k = absurd (cc)
-  either-answer false false x y z w e h k = k
-
-  either-look : (a b : Bool) (n : ℕ) (x y : Answer) → a ≡ b → AnswersAgree x y
-      → AnswersAgree (cond a (found n) x) (cond b (found n) y)
-  either-look true true n x y e j = refl
-  either-look true false n x y e j = absurd (cc)
-  either-look false true n x y e j = absurd (cc)
-  either-look false false n x y e j = j
 
   module _ (p q : Place) (left right : Span) (i : Alike f g p q) where
     alike-taken : (kind : Kind) (r u : Option (List Tree × Place)) → ReadsAlike f g r u
@@ -99,8 +79,9 @@ module _ (f g : Laid) (visible : erase f.forest ≡ erase g.forest) where
     alike-looked n [] noted e = alike-look f g visible noted p q left right i
     alike-looked n (l ∷ ls) noted e =
         let parts = and_parts (ignores_invisible l) (all_ignore_invisible ls) e in
-        either-look (peek l p) (peek l q) n (looked (n + 1) ls (noted ++ display l ∷ []) p left)
-        (looked (n + 1) ls (noted ++ display l ∷ []) q right) (alike-peek f g l parts.0 p q i)
+        either AnswersAgree (peek l p) (peek l q) (found n) (found n)
+        (looked (n + 1) ls (noted ++ display l ∷ []) p left)
+        (looked (n + 1) ls (noted ++ display l ∷ []) q right) (alike-peek f g l parts.0 p q i) refl
         (alike-looked (n + 1) ls (noted ++ display l ∷ []) parts.1)
 
     alike-answer : (r : Read) → is_transparent_read r ≡ true
@@ -111,7 +92,7 @@ module _ (f g : Laid) (visible : erase f.forest ≡ erase g.forest) where
     alike-answer (commands.lookahead ls) e = (alike-looked 0 ls [] e, i)
     alike-answer (commands.parse kind) e = alike-parsed kind
     alike-answer (commands.optional kind) e =
-        either-answer (peek_kind kind p) (peek_kind kind q) (parsed kind p left)
+        either AnsweredAlike (peek_kind kind p) (peek_kind kind q) (parsed kind p left)
         (parsed kind q right) (absent, p) (absent, q) (alike-peek_kind f g kind p q i)
         (alike-parsed kind) (refl, i)
     alike-answer commands.empty e = (ap truth (alike-end f g p q i), i)
@@ -199,7 +180,7 @@ module _ (f g : Laid) (visible : erase f.forest ≡ erase g.forest) where
           });
     }
     alike-on_stream (advance m) e =
-        either-step
+        either StepsAlike
         (same_scope s.place (place_of (stream_at st m)) && not (k == m || is_inside st m k))
         (same_scope t.place (place_of (stream_at su m)) && not (k == m || is_inside su m k))
         _

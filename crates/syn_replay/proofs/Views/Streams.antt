@@ -1,7 +1,7 @@
 -- Streams of two walks that are alike: at places with equal views, with equal spans of what is
 -- noted.
 use Rattle.std.proofs.Common.{◌≡◌, ◌∙◌, ap, ap₂, subst, refl, ℕ, zero, suc, ◌+◌, ◌-◌, ◌==◌, ◌&&◌, ◌||◌}
-use Rattle.std.proofs.Common.{Bool, true, false, cond, List, [], ◌∷◌, ◌++◌, length, Option, Some}
+use Rattle.std.proofs.Common.{Bool, cond, List, [], ◌∷◌, ◌++◌, length, Option, Some}
 use Rattle.std.proofs.Common.{None}
 use Rattle.std.specs.Prelude.{⊤, option_map}
 use Rattle.std.specs.Option.{option_or}
@@ -15,6 +15,7 @@ use Rattle.syn_replay.specs.Session.State.{stream_at, with_stream, moved_to, spe
 use Rattle.syn_replay.specs.Session.State.{is_open_content_of, contains, is_content_among, inside_of}
 use Rattle.syn_replay.specs.Session.State.{is_inside, is_or_inside, spent_where, all_spent, handed_note, with_note_on_parent, handed_up}
 use Rattle.syn_replay.specs.Session.State.{contents_closed, closed_inside, closed, taken_over, advanced}
+use Rattle.syn_replay.proofs.Views.Choices.{either}
 
 -- a leftover is compared by its span alone
 abbrev pub span_of : Option Leftover → Option Span
@@ -58,13 +59,6 @@ module _ (f g : Laid) where
   alike-append [] (y ∷ su) s t h k = absurd h
   alike-append (x ∷ st) [] s t h k = absurd h
   alike-append (x ∷ st) (y ∷ su) s t h k = (h.0, alike-append st su s t h.1 k)
-
-  pub alike-cond : (a b : Bool) (x y z w : State) → a ≡ b → StatesAlike x y → StatesAlike z w
-      → StatesAlike (cond a x z) (cond b y w)
-  alike-cond true true x y z w e h k = h
-  alike-cond true false x y z w e h k = absurd (cc)
-  alike-cond false true x y z w e h k = absurd (cc)
-  alike-cond false false x y z w e h k = k
 
   -- a change of one stream
   abbrev pub ChangesAlike : (Stream → Stream) → (Stream → Stream) → Type 0
@@ -166,7 +160,7 @@ module _ (f g : Laid) where
   alike-contents zero k next st su h = h
   alike-contents (suc room) k next st su h =
       alike-contents room k (next + 1) _ _
-      (alike-cond (is_open_content_of k (stream_at st next))
+      (either StatesAlike (is_open_content_of k (stream_at st next))
       (is_open_content_of k (stream_at su next))
       (handed_up next (contents_closed room next (next + 1) st))
       (handed_up next (contents_closed room next (next + 1) su)) st su
@@ -229,20 +223,13 @@ module _ (f g : Laid) where
   same-inside st su outer inner h =
       ap (λ x. contains x inner) (same-inside_of (outer ∷ []) 0 st su h)
 
-  alike-spent_when : (a b : Bool) (s t : Stream) → a ≡ b → StreamsAlike s t
-      → StreamsAlike (cond a (spent s) s) (cond b (spent t) t)
-  alike-spent_when true true s t e h = alike-spent s t h
-  alike-spent_when true false s t e h = absurd (cc)
-  alike-spent_when false true s t e h = absurd (cc)
-  alike-spent_when false false s t e h = h
-
   alike-spent_where : (a b : ℕ → Bool) → ((n : ℕ) → a n ≡ b n) → (k : ℕ) (st su : State)
       → StatesAlike st su → StatesAlike (spent_where a k st) (spent_where b k su)
   alike-spent_where a b e k [] [] h = tt
   alike-spent_where a b e k [] (t ∷ su) h = absurd h
   alike-spent_where a b e k (s ∷ st) [] h = absurd h
   alike-spent_where a b e k (s ∷ st) (t ∷ su) h = (
-    alike-spent_when (a k) (b k) s t (e k) h.0,
+    either StreamsAlike (a k) (b k) (spent s) (spent t) s t (e k) (alike-spent s t h.0) h.0,
     alike-spent_where a b e (k + 1) st su h.1,
   )
 

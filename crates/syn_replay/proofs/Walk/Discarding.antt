@@ -40,7 +40,7 @@ inside_when : (xs : List Stream) (k j p : ℕ) → AreLinked (links_of xs) → j
 inside_when xs k j p linked h e t = by_parent xs k j linked h ∙ ap (is_parent_inside (state_of_list xs) k) e ∙ t
 
 -- what is a content of a stream, or inside one, is inside the stream
-pub inside_through : (n : ℕ) (xs : List Stream) (k c j : ℕ) → AreLinked (links_of xs) → IsContent (links_of xs) k c → j < n → j < length xs → is_or_inside (state_of_list xs) c j ≡ true → is_inside (state_of_list xs) k j ≡ true
+inside_through : (n : ℕ) (xs : List Stream) (k c j : ℕ) → AreLinked (links_of xs) → IsContent (links_of xs) k c → j < n → j < length xs → is_or_inside (state_of_list xs) c j ≡ true → is_inside (state_of_list xs) k j ≡ true
 inside_through zero xs k c j linked content small h d = absurd (omega arith)
 inside_through (suc n) xs k c j linked content small h d =
     let st = state_of_list xs in
@@ -61,7 +61,7 @@ inside_through (suc n) xs k c j linked content small h d =
           inside_when xs k j p linked h e (or_right (k == p) (is_inside st k p) (again p (omega arith) (omega arith) d))
 
 -- what is inside a stream is a content of it, or inside one
-pub content_around : (n : ℕ) (xs : List Stream) (k j : ℕ) → AreLinked (links_of xs) → j < n → j < length xs → is_inside (state_of_list xs) k j ≡ true → (c : ℕ) × IsContent (links_of xs) k c × (is_or_inside (state_of_list xs) c j ≡ true)
+content_around : (n : ℕ) (xs : List Stream) (k j : ℕ) → AreLinked (links_of xs) → j < n → j < length xs → is_inside (state_of_list xs) k j ≡ true → (c : ℕ) × IsContent (links_of xs) k c × (is_or_inside (state_of_list xs) c j ≡ true)
 content_around zero xs k j linked small h t = absurd (omega arith)
 content_around (suc n) xs k j linked small h t = climb (λ p below within e. content_around n xs k p linked below within e) (parent_in xs j) refl (sym (by_parent xs k j linked h) ∙ t) where
   climb : ((p : ℕ) → p < n → p < length xs → is_inside (state_of_list xs) k p ≡ true → (c : ℕ) × IsContent (links_of xs) k c × (is_or_inside (state_of_list xs) c p ≡ true)) → (o : Option ℕ) → parent_in xs j ≡ o → is_parent_inside (state_of_list xs) k (parent_in xs j) ≡ true → (c : ℕ) × IsContent (links_of xs) k c × (is_or_inside (state_of_list xs) c j ≡ true)

@@ -26,7 +26,7 @@ use Rattle.syn_replay.proofs.Refusals.{refusal_of-refused}
 use Rattle.syn_replay.proofs.Walk.Changes.{changed_alike}
 
 -- an answer of the refusal that is wanted
-pub answered-refusal : (r : Refusal) (e : List Message) (a : Answer) → e ≡ messages.refused r → Answers (Refused e) (Ok a) → IsAnswer a (reports.refused r)
+answered-refusal : (r : Refusal) (e : List Message) (a : Answer) → e ≡ messages.refused r → Answers (Refused e) (Ok a) → IsAnswer a (reports.refused r)
 answered-refusal r e a h q =
     let same : refusal_of e ≡ r = ap refusal_of h ∙ refusal_of-refused r in (q.0 ∙ ap reports.refused same, q.1 (h ∙ ap messages.refused (sym same)))
 

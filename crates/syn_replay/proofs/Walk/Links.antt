@@ -273,7 +273,7 @@ links_apart (l ∷ ls) zero = refl
 links_apart (l ∷ ls) (suc j) = links_apart ls j
 
 -- a stream that is no content is linked to none
-pub apart_linked : (ls : List Links) → AreLinked ls → AreLinked (ls ++ no_links ∷ [])
+apart_linked : (ls : List Links) → AreLinked ls → AreLinked (ls ++ no_links ∷ [])
 apart_linked ls h i t =
     let n = length ls in
     let new = ls ++ no_links ∷ [] in

@@ -219,11 +219,6 @@ module _ {F : Type 0} (k n : ℕ) (kind : Kind) (reads : ValueCall F (Vec Piece)
   concludes_lost s o turns (Memory e) r t q h = rw q tt
 
   -- a value that is refused
-  record NoValue (s t : State) (e : Fault) : Type 0 where
-    none : read kind s.place ≡ None
-    refuses : Refuses (refusal kind s) e
-    then : t ≡ s
-
   concludes_no_value : (s : State) (o : Outcome) (turns : List T) (f : Fault)
       (r : Result (Punctuated (Vec Piece) (Punctuation k n)) Fault) (t : State) (w : Refusal)
       → ReadsPieces (read kind s.place) (refusal kind s) s (Err f) t → r ≡ Err f

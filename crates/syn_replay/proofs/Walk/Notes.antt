@@ -1,5 +1,5 @@
 -- What closing contents does to each stream: its note, and whether it is open.
-use Rattle.std.proofs.Common.{◌≡◌, ◌≢◌, ◌∙◌, sym, ap, subst, refl, ℕ, zero, suc, ◌+◌, ◌-◌, ◌<◌, ◌≤◌, Bool, true, false, [], ◌∷◌, length, Option, Some, None, arith, inl, inr, ◌⊎◌}
+use Rattle.std.proofs.Common.{◌≡◌, ◌≢◌, ◌∙◌, sym, ap, subst, refl, ℕ, zero, suc, ◌+◌, ◌-◌, ◌<◌, ◌≤◌, Bool, true, false, length, Option, Some, None, arith, inl, inr, ◌⊎◌}
 use Rattle.std.proofs.lemmas.Bool.{eqb-true, eq-eqb, cases_Bool, cases_eq}
 use Rattle.std.proofs.lemmas.Bool.Decides.{eqb_tells}
 use Rattle.std.specs.Option.{option_map, option_or}
@@ -60,7 +60,7 @@ one_stream o s t e f = let q : Some s ≡ Some t = sym e ∙ f in cc
 pub ages_self : (s : Stream) → Ages s s
 ages_self s = record { kind = refl; open_before = λ h. h; note_before = λ h. h; whole = λ h. refl }
 
-pub ages_on : (s t u : Stream) → Ages s t → Ages t u → Ages s u
+ages_on : (s t u : Stream) → Ages s t → Ages t u → Ages s u
 ages_on s t u a b = record {
   kind = b.kind ∙ a.kind;
   open_before = λ h. a.open_before (b.open_before h);
@@ -98,7 +98,7 @@ pub shut_is : (st : State) (k : ℕ) (s : Stream) → stream_at st k ≡ Some s 
 shut_is st k s e h = flag_spent (stream_at st k) s e h
 
 -- a spent stream stays as it is
-pub stays_shut : (st after : State) (k : ℕ) (s : Stream) → Older st after → stream_at st k ≡ Some s → s.is_open ≡ false → stream_at after k ≡ Some s
+stays_shut : (st after : State) (k : ℕ) (s : Stream) → Older st after → stream_at st k ≡ Some s → s.is_open ≡ false → stream_at after k ≡ Some s
 stays_shut st after k s older e h = let x = older k s e in x.there ∙ ap (λ z. Some z) (x.ages.whole h)
 
 pub clean_after : (st after : State) (k : ℕ) (s : Stream) → Older st after → stream_at st k ≡ Some s → s.is_open ≡ false → IsClean st k → IsClean after k

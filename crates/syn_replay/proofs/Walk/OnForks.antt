@@ -8,7 +8,7 @@ use Rattle.std.specs.Prelude.{◌==◌, ◌&&◌, ◌||◌, not, cond, nat_le}
 use Rattle.std.specs.Option.{option_map, option_or}
 use Rattle.tok_leaves.specs.declared.span.Span.{Span}
 use Rattle.tok_leaves.specs.Spans.{closing_span}
-use Rattle.tok_core.specs.Forest.{Forest, Tree}
+use Rattle.tok_core.specs.Forest.{Tree}
 use Rattle.tok_buffer.specs.Ahead.{Leftover}
 use Rattle.tok_buffer.specs.Entry.{Entered}
 use Rattle.tok_buffer.specs.Order.{same_scope}

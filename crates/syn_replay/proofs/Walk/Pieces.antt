@@ -2,7 +2,7 @@
 use Rattle.std.proofs.Common.{◌≡◌, ◌∙◌, sym, ap, subst, refl, ℕ, ◌<◌, ◌⊎◌, inl, inr, Bool, true, false, List, [], ◌∷◌, ◌++◌, length, map, arith, Option, Some, None, Ok, Err, eqb-true}
 use Rattle.std.proofs.lemmas.Bool.{cond-true, eq-eqb, and_parts}
 use Rattle.std.proofs.lemmas.List.{append-nil, append_assoc, map-append}
-use Rattle.std.specs.Prelude.{◌==◌, ◌&&◌, not, cond, encode_utf8}
+use Rattle.std.specs.Prelude.{◌==◌, not, cond, encode_utf8}
 use Rattle.std.specs.Global.{Vec}
 use Rattle.std.specs.Str.{chars}
 use Rattle.tok_leaves.specs.declared.punct.Spacing.{Spacing}

@@ -1,5 +1,5 @@
 -- Streams and what they stand for.
-use Rattle.std.proofs.Common.{◌≡◌, ℕ, zero, suc, ◌+◌, ◌-◌, ◌≤◌, ◌<◌, Bool, true, false, List, [], ◌∷◌, ◌++◌, length, get_or, set, Option, Some, None, refl, ap, sym, ◌∙◌, arith}
+use Rattle.std.proofs.Common.{◌≡◌, ℕ, zero, suc, ◌+◌, ◌-◌, ◌≤◌, ◌<◌, Bool, true, false, List, [], ◌∷◌, length, get_or, set, Option, Some, None, refl, ap, sym, ◌∙◌, arith}
 use Rattle.std.proofs.Math.Seq.{map-set_same}
 use Rattle.std.proofs.lemmas.List.{length-map}
 use Rattle.std.proofs.lemmas.Bool.{cond-true, cond-false}
@@ -27,7 +27,7 @@ changed_there (z ∷ zs) zero x y f e h q = ap (λ s. s ∷ state_of_list zs) (q
 changed_there (z ∷ zs) (suc n) x y f e h q = ap (λ s. stream_of z ∷ s) (changed_there zs n x y f e (omega arith) q)
 
 -- one content more
-pub contents_step : (count i k : ℕ) (st : State) → i < count → contents_closed (count - i) k i st ≡ contents_closed (count - (i + 1)) k (i + 1) (cond (is_open_content_of k (stream_at st i)) (handed_up i (contents_closed (count - (i + 1)) i (i + 1) st)) st)
+contents_step : (count i k : ℕ) (st : State) → i < count → contents_closed (count - i) k i st ≡ contents_closed (count - (i + 1)) k (i + 1) (cond (is_open_content_of k (stream_at st i)) (handed_up i (contents_closed (count - (i + 1)) i (i + 1) st)) st)
 contents_step count i k st h =
     let q : count - i ≡ suc (count - (i + 1)) = omega arith in rw q refl
 
