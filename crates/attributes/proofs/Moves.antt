@@ -15,7 +15,8 @@ pub starts : (p : Position) (text : List ℕ) → GoesOn p text p text
 starts p text = ([], refl, refl)
 
 -- and so on, by one character
-pub goes_past : (p : Position) (text : List ℕ) (q : Position) (rest : List ℕ) (c : ℕ) (after : List ℕ) →
+pub goes_past : (p : Position) (text : List ℕ) (q : Position) (rest : List ℕ) (c : ℕ)
+    (after : List ℕ) →
     GoesOn p text q rest → chars rest ≡ c ∷ chars after → GoesOn p text (step q c) after
 goes_past p text q rest c after goes e =
     let front = goes.0 in (

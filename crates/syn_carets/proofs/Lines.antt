@@ -1,5 +1,6 @@
 -- Lines, one character or one line feed further.
-use Rattle.std.proofs.Common.{◌≡◌, ◌∙◌, ℕ, ◌+◌, ◌-◌, List, [], ◌∷◌, ◌++◌, Bool, true, false, refl, sym, ap, append_assoc, eqb-true, inl, inr}
+use Rattle.std.proofs.Common.{◌≡◌, ◌∙◌, ℕ, ◌+◌, ◌-◌, List, [], ◌∷◌, ◌++◌, Bool, true, false, refl}
+use Rattle.std.proofs.Common.{sym, ap, append_assoc, eqb-true, inl, inr}
 use Rattle.std.specs.Prelude.{◌⊎◌, ◌==◌, ◌&&◌, ◌||◌, not, if◌then◌else◌}
 use Rattle.std.specs.Char.{len_utf8}
 use Rattle.std.specs.List.{list_all}
@@ -12,18 +13,24 @@ abbrev Longer : (text after whole : List ℕ) → (rest : List ℕ) → Type 0
 Longer text after whole rest = (front : List ℕ) × (text ≡ front ++ after) × (whole ≡ front ++ rest)
 
 pub within_more : (text rest after front whole : List ℕ) (left less c : ℕ) → text ≡ front ++ rest
-    → whole ≡ front ++ within left rest → rest ≡ c ∷ after → (left ≡ 0 → ⊥) → less ≡ left - len_utf8 c
+    → whole ≡ front ++ within left rest → rest ≡ c ∷ after → (left ≡ 0 → ⊥)
+    → less ≡ left - len_utf8 c
     → Longer text after whole (within less after)
 within_more text rest after front whole left less c e w h some l = (
   front ++ c ∷ [],
   e ∙ ap (λ x. front ++ x) h ∙ sym (append_assoc front (c ∷ []) after),
   w ∙ ap (λ x. front ++ within left x) h
-      ∙ ap (λ b. front ++ (if b then [] else c ∷ within (left - len_utf8 c) after)) (not_true (left == 0) (λ z. some (eqb-true left 0 z)))
-      ∙ ap (λ n. front ++ c ∷ within n after) (sym l) ∙ sym (append_assoc front (c ∷ []) (within less after)),
+      ∙ ap (λ b. front ++ (if b then [] else c ∷ within (left - len_utf8 c) after))
+      (not_true (left == 0) (λ z. some (eqb-true left 0 z)))
+      ∙ ap (λ n. front ++ c ∷ within n after) (sym l)
+      ∙ sym (append_assoc front (c ∷ []) (within less after)),
 )
 
-kept : (c : ℕ) (after : List ℕ) → (c ∷ after ≡ 13 ∷ [] → ⊥) → without_return (c ∷ after) ≡ c ∷ without_return after
-kept c [] other = ap (λ b. if b then [] else c ∷ []) (not_true (c == 13) (λ e. other (ap (λ x. x ∷ []) (eqb-true c 13 e))))
+kept : (c : ℕ) (after : List ℕ) → (c ∷ after ≡ 13 ∷ [] → ⊥)
+    → without_return (c ∷ after) ≡ c ∷ without_return after
+kept c [] other =
+    ap (λ b. if b then [] else c ∷ [])
+    (not_true (c == 13) (λ e. other (ap (λ x. x ∷ []) (eqb-true c 13 e))))
 kept c (d ∷ after) other = refl
 
 pub return_kept : (text rest after front whole : List ℕ) (c : ℕ) → text ≡ front ++ rest
@@ -32,7 +39,8 @@ pub return_kept : (text rest after front whole : List ℕ) (c : ℕ) → text �
 return_kept text rest after front whole c e w h other = (
   front ++ c ∷ [],
   e ∙ ap (λ x. front ++ x) h ∙ sym (append_assoc front (c ∷ []) after),
-  w ∙ ap (λ x. front ++ without_return x) h ∙ ap (λ x. front ++ x) (kept c after (λ k. other (h ∙ k)))
+  w ∙ ap (λ x. front ++ without_return x) h
+      ∙ ap (λ x. front ++ x) (kept c after (λ k. other (h ∙ k)))
       ∙ sym (append_assoc front (c ∷ []) (without_return after)),
 )
 
@@ -44,29 +52,38 @@ no_feed : (b : Bool) → not (b || b) ≡ true → b ≡ false
 no_feed true h = absurd (false≢true h)
 no_feed false h = refl
 
-skipped : (front rest : List ℕ) → list_all (is_neither 10 10) front ≡ true → line_feeds (front ++ rest) ≡ line_feeds rest
+skipped : (front rest : List ℕ) → list_all (is_neither 10 10) front ≡ true
+    → line_feeds (front ++ rest) ≡ line_feeds rest
 skipped [] rest h = refl
 skipped (c ∷ front) rest h =
     let w = both (is_neither 10 10 c) (list_all (is_neither 10 10) front) h in
-    ap (λ b. if b then 1 + line_feeds (front ++ rest) else line_feeds (front ++ rest)) (no_feed (c == 10) w.0) ∙ skipped front rest w.1
+    ap (λ b. if b then 1 + line_feeds (front ++ rest) else line_feeds (front ++ rest))
+    (no_feed (c == 10) w.0) ∙ skipped front rest w.1
 
 module _ (text rest front middle : List ℕ) (s : Skips (is_neither 10 10) rest front middle) where
   pub feeds_more : (after : List ℕ) → middle ≡ 10 ∷ after → line_feeds rest ≡ 1 + line_feeds after
-  feeds_more after e = ap line_feeds (s.cut ∙ ap (λ x. front ++ x) e) ∙ skipped front (10 ∷ after) s.pass
+  feeds_more after e =
+      ap line_feeds (s.cut ∙ ap (λ x. front ++ x) e) ∙ skipped front (10 ∷ after) s.pass
 
   pub feeds_end : ((more : List ℕ) → middle ≡ 10 ∷ more → ⊥) → line_feeds rest ≡ 0
   feeds_end misses = ap line_feeds s.cut ∙ skipped front middle s.pass ∙ ended middle s.stops misses
     where
-      ended : (m : List ℕ) → Stops (is_neither 10 10) m → ((more : List ℕ) → m ≡ 10 ∷ more → ⊥) → line_feeds m ≡ 0
+      ended : (m : List ℕ) → Stops (is_neither 10 10) m → ((more : List ℕ) → m ≡ 10 ∷ more → ⊥)
+          → line_feeds m ≡ 0
       ended [] stops h = refl
       ended (c ∷ m) stops h = go (c == 10) refl stops
         where
-          go : (b : Bool) → (c == 10) ≡ b → not (b || b) ≡ false → (if b then 1 + line_feeds m else line_feeds m) ≡ 0
+          go : (b : Bool) → (c == 10) ≡ b → not (b || b) ≡ false
+              → (if b then 1 + line_feeds m else line_feeds m) ≡ 0
           go true e k = absurd (h m (ap (λ x. x ∷ m) (eqb-true c 10 e)))
           go false e k = absurd (false≢true (sym k))
 
   pub line_found : (after : List ℕ) → middle ≡ 10 ∷ after
-      → (text ≡ rest) ⊎ ((first : List ℕ) × (text ≡ first ++ 10 ∷ rest)) → (first : List ℕ) × (text ≡ first ++ 10 ∷ after)
+      → (text ≡ rest) ⊎ ((first : List ℕ) × (text ≡ first ++ 10 ∷ rest))
+      → (first : List ℕ) × (text ≡ first ++ 10 ∷ after)
   line_found after e (inl h) = (front, h ∙ s.cut ∙ ap (λ x. front ++ x) e)
-  line_found after e (inr (first, h)) =
-      (first ++ 10 ∷ front, h ∙ ap (λ x. first ++ 10 ∷ x) (s.cut ∙ ap (λ x. front ++ x) e) ∙ sym (append_assoc first (10 ∷ front) (10 ∷ after)))
+  line_found after e (inr (first, h)) = (
+    first ++ 10 ∷ front,
+    h ∙ ap (λ x. first ++ 10 ∷ x) (s.cut ∙ ap (λ x. front ++ x) e)
+        ∙ sym (append_assoc first (10 ∷ front) (10 ∷ after)),
+  )

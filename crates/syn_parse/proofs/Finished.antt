@@ -21,7 +21,8 @@ use Rattle.syn_parse.specs.State.{State, handed}
 use Rattle.syn_parse.specs.declared.fault.Fault.{Fault}
 use Rattle.syn_parse.specs.declared.fault.Fault.TheVariants.{Refused, Memory}
 use Rattle.syn_parse.specs.TreesAhead.{Ahead, IsFilled, ahead, all_taken, whole}
-use Rattle.syn_parse.specs.Takes.{Agree, IsAll, IsMissing, MemoryOr, Outcome, Says, SaysAll, TakesAll, WordsAgree}
+use Rattle.syn_parse.specs.Takes.{Agree, IsAll, IsMissing, MemoryOr, Outcome, Says, SaysAll}
+use Rattle.syn_parse.specs.Takes.{TakesAll, WordsAgree}
 use Rattle.syn_parse.specs.Takes.{TakesAs, Taking, found, missing}
 use Rattle.syn_parse.proofs.GroupTakes.{leftover-trees}
 
@@ -39,7 +40,8 @@ spent-in (Some n) l f e h = absurd (cc)
 handed-in : (n l : Option Leftover) (f : Forest) → is_some l ≡ has_trees f
     → record { trees = f; clean = not (is_some n) } ≡ all_taken → option_or n l ≡ None
 handed-in None None f e h = refl
-handed-in None (Some l) f e h = absurd (let k : true ≡ false = e ∙ ap (λ a. has_trees a.trees) h in cc)
+handed-in None (Some l) f e h =
+    absurd (let k : true ≡ false = e ∙ ap (λ a. has_trees a.trees) h in cc)
 handed-in (Some n) l f e h = absurd (let k : false ≡ true = ap (λ a. a.clean) h in cc)
 
 found-second : {A : Type 0} {x y : A} {a b : Ahead} → found x a ≡ found y b → a ≡ b
@@ -70,8 +72,10 @@ module _ {T A : Type 0} (form : T → A) (take : Taking A) (f : Forest) where
 
   none-refuses : (e : Fault) → MemoryOr e (IsMissing (take (whole f)))
       → (filled f ≡ true → Says (take (whole f)) e) → TakesAll form take f (Err e)
-  none-refuses (Refused d) h k =
-      ((λ x q. not-all (take (whole f)) x h.0 q, h.1), λ i. says-all (take (whole f)) (Refused d) (k i))
+  none-refuses (Refused d) h k = (
+    (λ x q. not-all (take (whole f)) x h.0 q, h.1),
+    λ i. says-all (take (whole f)) (Refused d) (k i),
+  )
   none-refuses (Memory d) h k = (tt, λ i. says-all (take (whole f)) (Memory d) (k i))
 
   left-says : (o : Outcome A) (x : A) (y : Ahead) (e : Fault) → o ≡ found x y → SaysAll o e
@@ -93,7 +97,8 @@ module _ {T A : Type 0} (form : T → A) (take : Taking A) (f : Forest) where
   finished v left result None h k m =
       subst (TakesAll form take f) (sym m)
       (k ∙ ap (found (form v))
-      (spent-in left.noted (leftover left.place) (erased_ahead left.place) (leftover-trees left.place) h))
+      (spent-in left.noted (leftover left.place) (erased_ahead left.place)
+      (leftover-trees left.place) h))
   finished v left (Ok w) (Some l) h k m = absurd m
   finished v left (Err e) (Some l) h k m =
       left-refuses e (form v) (ahead left) (leftover_refusal l) m k (λ a.

@@ -1,5 +1,6 @@
 -- Loops: what is taken again and again up to the end.
-use Rattle.std.proofs.Common.{◌≡◌, ◌∙◌, ap, refl, arith, ℕ, zero, suc, ◌<◌, Bool, true, false, cond, List, []}
+use Rattle.std.proofs.Common.{◌≡◌, ◌∙◌, ap, refl, arith, ℕ, zero, suc, ◌<◌, Bool, true, false, cond}
+use Rattle.std.proofs.Common.{List, []}
 use Rattle.tok_core.specs.Weight.{weight}
 use Rattle.syn_parse.specs.TreesAhead.{Ahead, is_spent}
 use Rattle.syn_parse.specs.Takings.{Lowers}
@@ -30,18 +31,22 @@ module _ {A B : Type 0} (f : B → A → B) (item : Taking A) (lower : Lowers it
   enough (suc n) zero b a h k = absurd (omega arith)
   enough (suc n) (suc m) b a h k =
       ap (cond (is_spent a) (found b a))
-      (one-turn n m a (λ d c l. enough n m d c (omega (arith, h, l)) (omega (arith, k, l))) b (item a) refl)
+      (one-turn n m a (λ d c l. enough n m d c (omega (arith, h, l)) (omega (arith, k, l))) b
+      (item a) refl)
 
   pub fold_end : (b : B) (a : Ahead) → is_spent a ≡ true → take_fold f b item a ≡ found b a
   unfolding take_fold
   fold_end b a e =
-      ap (λ t. cond t (found b a) (and_then (item a) (λ v c. fold_turns (weight a.trees) f (f b v) item c))) e
+      ap (λ t. cond t (found b a)
+      (and_then (item a) (λ v c. fold_turns (weight a.trees) f (f b v) item c))) e
 
   turn : (b : B) (a : Ahead) → is_spent a ≡ false
-      → take_fold f b item a ≡ and_then (item a) (λ v c. fold_turns (weight a.trees) f (f b v) item c)
+      → take_fold f b item a ≡ and_then (item a)
+      (λ v c. fold_turns (weight a.trees) f (f b v) item c)
   unfolding take_fold
   turn b a e =
-      ap (λ t. cond t (found b a) (and_then (item a) (λ v c. fold_turns (weight a.trees) f (f b v) item c))) e
+      ap (λ t. cond t (found b a)
+      (and_then (item a) (λ v c. fold_turns (weight a.trees) f (f b v) item c))) e
 
   pub fold_step : (b : B) (a : Ahead) (v : A) (c : Ahead) → is_spent a ≡ false → item a ≡ found v c
       → take_fold f b item a ≡ take_fold f (f b v) item c

@@ -1,5 +1,6 @@
 -- A group takes what is inside, and then what is after it.
-use Rattle.std.proofs.Common.{◌≡◌, ◌∙◌, sym, ap, subst, refl, arith, ◌<◌, ◌≤◌, Bool, true, false, not, ◌&&◌}
+use Rattle.std.proofs.Common.{◌≡◌, ◌∙◌, sym, ap, subst, refl, arith, ◌<◌, ◌≤◌, Bool, true, false}
+use Rattle.std.proofs.Common.{not, ◌&&◌}
 use Rattle.std.proofs.Common.{Option, Some, None, Ok, Err, cond}
 use Rattle.std.specs.Option.{option_or}
 use Rattle.std.specs.Prelude.{Result, IfSome, is_some, length, option_map}
@@ -35,7 +36,8 @@ use Rattle.syn_parse.specs.Lighter.{group_weighs}
 use Rattle.syn_parse.specs.Grouped.{grouped}
 use Rattle.syn_parse.specs.Takings.{Keeps, Takings, told, told_filled, untold}
 use Rattle.syn_parse.specs.Takes.{Finds, TakeWithinBy, TakesBy, Within}
-use Rattle.syn_parse.specs.Takes.{EntersAhead, IsMissing, MemoryOr, Outcome, Says, TakeWithin, TakesAs, Taking}
+use Rattle.syn_parse.specs.Takes.{EntersAhead, IsMissing, MemoryOr, Outcome, Says, TakeWithin}
+use Rattle.syn_parse.specs.Takes.{TakesAs, Taking}
 use Rattle.syn_parse.specs.Takes.{after_inside, found, inside_first, missing, take_group}
 use Rattle.syn_parse.proofs.Scopes.{one_scope}
 use Rattle.syn_parse.proofs.Told.{words_told}
@@ -69,7 +71,8 @@ after-closed : (left s : State) (e : Entered)
 after-closed left s e =
     ap (λ b. record { trees = erased_ahead e.after; clean = b })
     (clean-or s.noted left.noted (leftover left.place)
-    ∙ ap (λ b. not (is_some s.noted) && not (is_some left.noted) && not b) (leftover-trees left.place))
+    ∙ ap (λ b. not (is_some s.noted) && not (is_some left.noted) && not b)
+    (leftover-trees left.place))
 
 span-is : (d : DelimSpan) (x : Span) → d.join ≡ x → d ≡ record { join = x }
 span-is d x e = ap (λ y. record { join = y }) e
@@ -78,7 +81,8 @@ memory-or : (f : Fault) (P Q : Type 0) → (P → Q) → MemoryOr f P → Memory
 memory-or (Refused e) P Q h m = (h m.0, m.1)
 memory-or (Memory e) P Q h m = tt
 
-both-filled : (d : Delimiter) → IsVisibleDelimiter d → (p : Place) (e : Entered) → enter d p ≡ Some e
+both-filled : (d : Delimiter) → IsVisibleDelimiter d → (p : Place) (e : Entered)
+    → enter d p ≡ Some e
     → IsFilled p → IsFilled e.content × IsFilled e.after
 both-filled d v p e h i =
     let leads =
@@ -155,7 +159,8 @@ module _ {T A : Type 0} (form : T → A) (inner : Taking A) (calls : Call T)
   ran e (Err f) left (Err g) h i w k =
       subst (λ x. TakesAs both (take_group d inner) s (Err x) t) (sym w) (
         memory-or f _ _
-            (λ n. subst IsMissing (sym (is-first (Some e) h)) (inside-missing (entered_ahead e) _ n)) i.0,
+            (λ n. subst IsMissing (sym (is-first (Some e) h))
+            (inside-missing (entered_ahead e) _ n)) i.0,
         λ j. subst (λ o. Says o f) (sym (is-first (Some e) h))
             (inside-says (entered_ahead e) _ f (i.1 (both-filled d visible s.place e h j).0)),
       )
@@ -164,7 +169,8 @@ module _ {T A : Type 0} (form : T → A) (inner : Taking A) (calls : Call T)
       → TakesAs both (take_group d inner) s (Err f) t
   refused (Refused e) h r = (
     (subst IsMissing (sym (is-first None h)) tt, ap length r),
-    λ i. is-first None h ∙ ap missing (sym (words_told (delimiter_words d) s i) ∙ sym (ap first_text r)),
+    λ i. is-first None h ∙ ap missing (sym (words_told (delimiter_words d) s i)
+        ∙ sym (ap first_text r)),
   )
   refused (Memory e) h r = (tt, λ i. tt)
 
@@ -173,7 +179,11 @@ module _ {T A : Type 0} (form : T → A) (inner : Taking A) (calls : Call T)
       → TakesAs both (take_group d inner) s r t
   within None (Ok v) h w = absurd w.0
   within None (Err f) h w = refused f h w.0
-  within (Some e) r h w = ran e w.0 w.1 r h (each (content_of e) w.0 w.1 (content-lighter d visible s.place e h, λ i. (both-filled d visible s.place e h i).0) w.2) w.3 w.4
+  within (Some e) r h w =
+      ran e w.0 w.1 r h (each (content_of e) w.0 w.1 (
+        content-lighter d visible s.place e h,
+        λ i. (both-filled d visible s.place e h i).0,
+      ) w.2) w.3 w.4
 
   pub group_told : (r : Result (DelimSpan × T) Fault)
       → RunsWithin calls (enter d s.place) (refused_at s (delimiter_words d)) s r t
@@ -181,7 +191,8 @@ module _ {T A : Type 0} (form : T → A) (inner : Taking A) (calls : Call T)
   group_told r w = within (enter d s.place) r refl w
 
 -- a value within a group takes what its type states
-pub group_keeps : {T : Type 0} (takes : Takings T) (calls : Call T) (d : Delimiter) → IsVisibleDelimiter d
+pub group_keeps : {T : Type 0} (takes : Takings T) (calls : Call T) (d : Delimiter)
+    → IsVisibleDelimiter d
     → (s t : State) (r : Result (DelimSpan × T) Fault)
     → ((x : State) (y : Result T Fault) (z : State) → calls x y z → Keeps takes x y z)
     → RunsWithin calls (enter d s.place) (refused_at s (delimiter_words d)) s r t
@@ -212,7 +223,8 @@ module _ {T A : Type 0} (Is : T → A → Type 0) (inner : Taking A) (calls : Ca
   inside-says-by e o (Refused d) h = ap (after_inside (ahead s) e) h
   inside-says-by e o (Memory d) h = tt
 
-  ran-by : (e : Entered) (returned : Result T Fault) (left : State) (r : Result (DelimSpan × T) Fault)
+  ran-by : (e : Entered) (returned : Result T Fault) (left : State)
+      (r : Result (DelimSpan × T) Fault)
       → enter d s.place ≡ Some e → TakesBy Is inner (content_of e) returned left
       → SpanWith e.span returned r → t ≡ closed left (after_group e s)
       → TakesBy (Within Is) (take_group d inner) s r t
@@ -229,7 +241,11 @@ module _ {T A : Type 0} (Is : T → A → Type 0) (inner : Taking A) (calls : Ca
     both (missing words) f = f
     both (found x c) f = (
       (sym (span-is found_.0 e.span w.0), subst (λ u. Is u x) (sym w.1) f.0),
-      ap (λ (y : Ahead). record { trees = erased_ahead e.after; clean = (ahead s).clean && y.clean && is_spent y }) f.1
+      ap (λ (y : Ahead). record {
+        trees =
+            erased_ahead e.after;
+        clean = (ahead s).clean && y.clean && is_spent y;
+      }) f.1
           ∙ sym (ap ahead k ∙ after-closed left s e),
     )
   ran-by e (Ok v) left (Err g) h i w k = absurd w
@@ -237,7 +253,8 @@ module _ {T A : Type 0} (Is : T → A → Type 0) (inner : Taking A) (calls : Ca
   ran-by e (Err f) left (Err g) h i w k =
       subst (λ x. TakesBy (Within Is) (take_group d inner) s (Err x) t) (sym w) (
         memory-or f _ _
-            (λ n. subst IsMissing (sym (is-first-by (Some e) h)) (inside-missing-by (entered_ahead e) _ n)) i.0,
+            (λ n. subst IsMissing (sym (is-first-by (Some e) h))
+            (inside-missing-by (entered_ahead e) _ n)) i.0,
         λ j. subst (λ o. Says o f) (sym (is-first-by (Some e) h))
             (inside-says-by (entered_ahead e) _ f (i.1 (both-filled d visible s.place e h j).0)),
       )
@@ -246,7 +263,8 @@ module _ {T A : Type 0} (Is : T → A → Type 0) (inner : Taking A) (calls : Ca
       → TakesBy (Within Is) (take_group d inner) s (Err f) t
   refused-by (Refused e) h r = (
     (subst IsMissing (sym (is-first-by None h)) tt, ap length r),
-    λ i. is-first-by None h ∙ ap missing (sym (words_told (delimiter_words d) s i) ∙ sym (ap first_text r)),
+    λ i. is-first-by None h ∙ ap missing (sym (words_told (delimiter_words d) s i)
+        ∙ sym (ap first_text r)),
   )
   refused-by (Memory e) h r = (tt, λ i. tt)
 
@@ -255,7 +273,11 @@ module _ {T A : Type 0} (Is : T → A → Type 0) (inner : Taking A) (calls : Ca
       → TakesBy (Within Is) (take_group d inner) s r t
   within-by None (Ok v) h w = absurd w.0
   within-by None (Err f) h w = refused-by f h w.0
-  within-by (Some e) r h w = ran-by e w.0 w.1 r h (each (content_of e) w.0 w.1 (content-lighter d visible s.place e h, λ i. (both-filled d visible s.place e h i).0) w.2) w.3 w.4
+  within-by (Some e) r h w =
+      ran-by e w.0 w.1 r h (each (content_of e) w.0 w.1 (
+        content-lighter d visible s.place e h,
+        λ i. (both-filled d visible s.place e h i).0,
+      ) w.2) w.3 w.4
 
   pub group_told_by : (r : Result (DelimSpan × T) Fault)
       → RunsWithin calls (enter d s.place) (refused_at s (delimiter_words d)) s r t
@@ -263,11 +285,13 @@ module _ {T A : Type 0} (Is : T → A → Type 0) (inner : Taking A) (calls : Ca
   group_told_by r w = within-by (enter d s.place) r refl w
 
 -- a content is closed
-pub closed_ahead : (content s : State) → ahead (closed content s) ≡ after_content (ahead content) (ahead s)
+pub closed_ahead : (content s : State)
+    → ahead (closed content s) ≡ after_content (ahead content) (ahead s)
 closed_ahead content s =
     ap (λ b. record { trees = erased_ahead s.place; clean = b })
     (clean-or s.noted content.noted (leftover content.place)
-    ∙ ap (λ b. not (is_some s.noted) && not (is_some content.noted) && not b) (leftover-trees content.place))
+    ∙ ap (λ b. not (is_some s.noted) && not (is_some content.noted) && not b)
+    (leftover-trees content.place))
 
 -- the delimiter of a group that is entered
 same-is : (d c : Delimiter) → same_delimiter d c ≡ true → c ≡ d
@@ -346,7 +370,8 @@ module _ {T : Type 0} (span_of : T → DelimSpan) (content : T → State) (d : D
   not-entered (Memory e) h r = (tt, λ i. tt)
 
   enters : (x : Option Entered) (r : Result T Fault) → enter d s.place ≡ x
-      → Enters (λ v e. AreParts (span_of v) (content v) e) x (refused_at s (delimiter_words d)) s r t
+      → Enters (λ v e. AreParts (span_of v) (content v) e) x (refused_at s (delimiter_words d)) s r
+      t
       → EntersAhead span_of content d s r t
   enters None (Ok v) h w = absurd w.0
   enters None (Err f) h w = not-entered f h w.0

@@ -1,5 +1,6 @@
 -- An optional value takes what its type states.
-use Rattle.std.proofs.Common.{◌≡◌, ◌∙◌, sym, ap, refl, arith, true, false, cond, Option, Some, None, Ok, Err}
+use Rattle.std.proofs.Common.{◌≡◌, ◌∙◌, sym, ap, refl, arith, true, false, cond, Option, Some, None}
+use Rattle.std.proofs.Common.{Ok, Err}
 use Rattle.std.specs.Prelude.{Bool, option_map}
 use Rattle.tok_core.specs.Forest.{Forest}
 use Rattle.tok_buffer.specs.View.{erased_ahead}
@@ -24,13 +25,15 @@ module _ {T A : Type 0} (form : T → A) (take : Taking A) (test : Forest → Bo
   some-taken : (v : T) → true ≡ test (erased_ahead s.place) → TakesAs form take s (Ok v) t
       → TakesAs (option_map form) either s (Ok (Some v)) t
   some-taken v h k = (
-    where-true (λ a. test a.trees) take (ahead s) h ∙ ap (λ o. and_then o (λ x b. found (Some x) b)) k.0,
+    where-true (λ a. test a.trees) take (ahead s) h
+        ∙ ap (λ o. and_then o (λ x b. found (Some x) b)) k.0,
     k.1,
   )
 
   none-taken : false ≡ test (erased_ahead s.place) → TakesAs (option_map form) either s (Ok None) s
   none-taken h = (
-    ap (λ c. cond c (and_then (take (ahead s)) (λ x b. found (Some x) b)) (found None (ahead s))) (sym h),
+    ap (λ c. cond c (and_then (take (ahead s)) (λ x b. found (Some x) b)) (found None (ahead s)))
+        (sym h),
     (λ i. i, refl, omega arith),
   )
 
@@ -39,14 +42,18 @@ module _ {T A : Type 0} (form : T → A) (take : Taking A) (test : Forest → Bo
   error-taken f h k =
       fails_on (take (ahead s)) (either (ahead s))
       (λ words e. where-true (λ a. test a.trees) take (ahead s) h
-      ∙ ap (λ o. and_then o (λ x b. found (Some x) b)) e) f (IsFilled s.place) (IsFilled s.place) (λ i. i) k
+      ∙ ap (λ o. and_then o (λ x b. found (Some x) b)) e) f (IsFilled s.place) (IsFilled s.place)
+      (λ i. i) k
 
-pub some_keeps : {T : Type 0} (sees : Option (Forest → Bool)) (takes : Takings T) (s t : State) (v : T)
-    → Sees sees s.place true → Keeps takes s (Ok v) t → Keeps (optional sees takes) s (Ok (Some v)) t
+pub some_keeps : {T : Type 0} (sees : Option (Forest → Bool)) (takes : Takings T) (s t : State)
+    (v : T)
+    → Sees sees s.place true → Keeps takes s (Ok v) t
+    → Keeps (optional sees takes) s (Ok (Some v)) t
 some_keeps None takes s t v h k = tt
 some_keeps (Some test) untold s t v h k = tt
 some_keeps (Some test) (told form take w) s t v h k = some-taken form take test s t v h k
-some_keeps (Some test) (told_filled form take w) s t v h k = λ i. some-taken form take test s t v h (k i)
+some_keeps (Some test) (told_filled form take w) s t v h k =
+    λ i. some-taken form take test s t v h (k i)
 
 pub none_keeps : {T : Type 0} (sees : Option (Forest → Bool)) (takes : Takings T) (s : State)
     → Sees sees s.place false → Keeps (optional sees takes) s (Ok None) s
@@ -55,7 +62,8 @@ none_keeps (Some test) untold s h = tt
 none_keeps (Some test) (told form take w) s h = none-taken form take test s s h
 none_keeps (Some test) (told_filled form take w) s h = λ i. none-taken form take test s s h
 
-pub error_keeps : {T : Type 0} (sees : Option (Forest → Bool)) (takes : Takings T) (s t : State) (f : Fault)
+pub error_keeps : {T : Type 0} (sees : Option (Forest → Bool)) (takes : Takings T) (s t : State)
+    (f : Fault)
     → Sees sees s.place true → Keeps takes s (Err f) t → Keeps (optional sees takes) s (Err f) t
 error_keeps None takes s t f h k = tt
 error_keeps (Some test) untold s t f h k = tt

@@ -1,5 +1,6 @@
 -- Keywords of one's own: what a peek sees, and whether a text can be written.
-use Rattle.std.proofs.Common.{◌≡◌, ◌∙◌, sym, ap, refl, ℕ, List, [], ◌∷◌, Option, Some, None, Bool, true, false, Ok, Err, inl, inr}
+use Rattle.std.proofs.Common.{◌≡◌, ◌∙◌, sym, ap, refl, ℕ, List, [], ◌∷◌, Option, Some, None, Bool}
+use Rattle.std.proofs.Common.{true, false, Ok, Err, inl, inr}
 use Rattle.std.specs.Prelude.{◌⊎◌, ◌&&◌, cond, Result, IfErr}
 use Rattle.std.specs.List.{list_all}
 use Rattle.std.specs.Str.{chars}
@@ -29,18 +30,22 @@ pub own_seen : (text : List ℕ) (p : Place) (b : Bool) → Finds (read_keyword 
 unfolding own_first
 own_seen text p b h = h ∙ found_as _ _ _ (words-tell text p)
 
-pub own_told : {T : Type 0} (span_of : T → Span) (text : List ℕ) (s : State) (r : Result T Fault) (t : State)
+pub own_told : {T : Type 0} (span_of : T
+    → Span) (text : List ℕ) (s : State) (r : Result T Fault) (t : State)
     → WordParses span_of text s r t → TakesAs span_of (take_own text) s r t
 unfolding take_own
-own_told span_of text s r t h = word_told span_of span_of span_in text (λ v ts m. sym (ap span_in m)) s r t h
+own_told span_of text s r t h =
+    word_told span_of span_of span_in text (λ v ts m. sym (ap span_in m)) s r t h
 
 -- a text is an identifier or not
-decided : (t : List ℕ) → (IsIdentifier t × (is_word t ≡ true)) ⊎ ((IsIdentifier t → ⊥) × (is_word t ≡ false))
+decided : (t : List ℕ) → (IsIdentifier t × (is_word t ≡ true))
+    ⊎ ((IsIdentifier t → ⊥) × (is_word t ≡ false))
 decided [] = inr (λ h. h, refl)
 decided (c ∷ cs) = go (is_identifier_start c) (list_all is_xid_continue cs) refl refl
   where
     go : (a b : Bool) → is_identifier_start c ≡ a → list_all is_xid_continue cs ≡ b
-        → (IsIdentifier (c ∷ cs) × (is_word (c ∷ cs) ≡ true)) ⊎ ((IsIdentifier (c ∷ cs) → ⊥) × (is_word (c ∷ cs) ≡ false))
+        → (IsIdentifier (c ∷ cs) × (is_word (c ∷ cs) ≡ true))
+        ⊎ ((IsIdentifier (c ∷ cs) → ⊥) × (is_word (c ∷ cs) ≡ false))
     go true true e f = inl ((e, f), ap (λ x. x && list_all is_xid_continue cs) e ∙ f)
     go true false e f = inr ((λ h. absurd (cc)), ap (λ x. x && list_all is_xid_continue cs) e ∙ f)
     go false b e f = inr ((λ h. absurd (cc)), ap (λ x. x && list_all is_xid_continue cs) e)
@@ -48,7 +53,8 @@ decided (c ∷ cs) = go (is_identifier_start c) (list_all is_xid_continue cs) re
 module _ (text : List ℕ) (span : Span) (made : Result Ident MakeFault)
     (takes : IsIdentifier (chars text) → IfErr made (λ f. f ≡ fault.Memory))
     (refuses : (IsIdentifier (chars text) → ⊥) → made ≡ Err fault.Refused) where
-  pub word_if_made : (made ≡ Err fault.Refused → ⊥) → own_word text span ≡ tree (leaf (ident text span)) no_trees
+  pub word_if_made : (made ≡ Err fault.Refused → ⊥)
+      → own_word text span ≡ tree (leaf (ident text span)) no_trees
   word_if_made other = elim (decided (chars text)) [
     | inl h ↦ ap (λ b. cond b (tree (leaf (ident text span)) no_trees) no_trees) h.1
     | inr h ↦ absurd (other (refuses h.0))
@@ -60,7 +66,8 @@ module _ (text : List ℕ) (span : Span) (made : Result Ident MakeFault)
     | inr h ↦ ap (λ b. cond b (tree (leaf (ident text span)) no_trees) no_trees) h.1
   ]
     where
-      apart : (r : Result Ident MakeFault) → IfErr r (λ f. f ≡ fault.Memory) → r ≡ Err fault.Refused → ⊥
+      apart : (r : Result Ident MakeFault) → IfErr r (λ f. f ≡ fault.Memory) → r ≡ Err fault.Refused
+          → ⊥
       apart (Ok i) h e = cc
       apart (Err fault.Refused) h e = cc
       apart (Err fault.Memory) h e = cc

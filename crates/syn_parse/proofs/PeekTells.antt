@@ -8,8 +8,10 @@ use Rattle.syn_parse.specs.State.{State}
 use Rattle.syn_parse.specs.declared.fault.Fault.{Fault}
 use Rattle.syn_parse.specs.declared.fault.Fault.TheVariants.{Refused, Memory}
 
-module _ {T : Type 0} (Means : T → List Tree → Type 0) (words : Refusal) (s t : State) (found : Bool) where
-  pub reads_at_once_tell : (x : Read) (r : Result T Fault) → found ≡ is_some x → ReadsAtOnce Means x words s r t → Tells found r
+module _ {T : Type 0} (Means : T → List Tree
+    → Type 0) (words : Refusal) (s t : State) (found : Bool) where
+  pub reads_at_once_tell : (x : Read) (r : Result T Fault) → found ≡ is_some x
+      → ReadsAtOnce Means x words s r t → Tells found r
   reads_at_once_tell (Some x) (Ok v) e h = e
   reads_at_once_tell None (Ok v) e h = absurd h
   reads_at_once_tell (Some x) (Err (Refused f)) e h = absurd h

@@ -21,28 +21,40 @@ pub record CameOf (x : Read) (t : State) : Type 0 where
   pub is_at : t.place ≡ after
 
 module _ {T : Type 0} (Means : T → List Tree → Type 0) (s : State) where
-  came_of : (x : Read) (words : Refusal) (v : T) (t : State) → Reads Means x words s (Ok v) t → CameOf x t
+  came_of : (x : Read) (words : Refusal) (v : T) (t : State) → Reads Means x words s (Ok v) t
+      → CameOf x t
   came_of None words v t h = absurd h
-  came_of (Some r) words v t h = record { trees = r.0; after = r.1; read = refl; is_at = ap (λ u. u.place) h.1 }
+  came_of (Some r) words v t h =
+      record { trees = r.0; after = r.1; read = refl; is_at = ap (λ u. u.place) h.1 }
 
-  came_at_once : (x : Read) (words : Refusal) (v : T) (t : State) → ReadsAtOnce Means x words s (Ok v) t → CameOf x t
+  came_at_once : (x : Read) (words : Refusal) (v : T) (t : State)
+      → ReadsAtOnce Means x words s (Ok v) t → CameOf x t
   came_at_once None words v t h = absurd h
-  came_at_once (Some r) words v t h = record { trees = r.0; after = r.1; read = refl; is_at = ap (λ u. u.place) h.1 }
+  came_at_once (Some r) words v t h =
+      record { trees = r.0; after = r.1; read = refl; is_at = ap (λ u. u.place) h.1 }
 
-module _ {T : Type 0} (Means : T → List Tree → Type 0) (read : Place → Read) (words : State → Refusal) (on : ReadsOn read) where
+module _ {T : Type 0} (Means : T → List Tree → Type 0) (read : Place → Read) (words : State
+    → Refusal) (on : ReadsOn read) where
   pub parses_on : ParsesOn {T = T} (λ s. Reads Means (read s.place) (words s) s)
   parses_on =
       record {
-        stays = λ s v t h. let c = came_of Means s (read s.place) (words s) v t h in rw c.is_at (on.stays s.place c.trees c.after c.read);
-        lowers = λ s v t h. let c = came_of Means s (read s.place) (words s) v t h in rw c.is_at (on.lowers s.place c.trees c.after c.read);
+        stays = λ s v t h. let c = came_of Means s (read s.place) (words s) v t h in
+            rw c.is_at (on.stays s.place c.trees c.after c.read);
+        lowers = λ s v t h. let c = came_of Means s (read s.place) (words s) v t h in
+            rw c.is_at (on.lowers s.place c.trees c.after c.read);
       }
 
   pub parses_on_at_once : ParsesOn {T = T} (λ s. ReadsAtOnce Means (read s.place) (words s) s)
   parses_on_at_once =
       record {
-        stays = λ s v t h. let c = came_at_once Means s (read s.place) (words s) v t h in rw c.is_at (on.stays s.place c.trees c.after c.read);
-        lowers = λ s v t h. let c = came_at_once Means s (read s.place) (words s) v t h in rw c.is_at (on.lowers s.place c.trees c.after c.read);
+        stays = λ s v t h. let c = came_at_once Means s (read s.place) (words s) v t h in
+            rw c.is_at (on.stays s.place c.trees c.after c.read);
+        lowers = λ s v t h. let c = came_at_once Means s (read s.place) (words s) v t h in
+            rw c.is_at (on.lowers s.place c.trees c.after c.read);
       }
 
-pub words_on : {T : Type 0} (span_of : T → Span) (text : List ℕ) → ReadsOn (read_keyword text) → ParsesOn (WordParses span_of text)
-words_on span_of text on = parses_on_at_once (λ v. IsSpanOf text (span_of v)) (read_keyword text) (λ s. refused_at s (expected (in_backquotes text))) on
+pub words_on : {T : Type 0} (span_of : T → Span) (text : List ℕ) → ReadsOn (read_keyword text)
+    → ParsesOn (WordParses span_of text)
+words_on span_of text on =
+    parses_on_at_once (λ v. IsSpanOf text (span_of v)) (read_keyword text)
+    (λ s. refused_at s (expected (in_backquotes text))) on

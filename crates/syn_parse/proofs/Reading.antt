@@ -14,31 +14,43 @@ use Rattle.syn_parse.specs.declared.fault.Fault.{Fault}
 use Rattle.syn_parse.specs.declared.fault.Fault.TheVariants.{Refused, Memory}
 
 module _ {T : Type 0} (Means : T → List Tree → Type 0) (words : Refusal) (s : State) where
-  pub reads-value : (x : Option (List Tree × Place)) (v : T) (ts : List Tree) (q : Place) → x ≡ Some (ts, q) → Means v ts → Reads Means x words s (Ok v) (moved q s)
+  pub reads-value : (x : Option (List Tree × Place)) (v : T) (ts : List Tree) (q : Place)
+      → x ≡ Some (ts, q) → Means v ts → Reads Means x words s (Ok v) (moved q s)
   reads-value x v ts q e m = rw e (m, refl)
 
-  pub reads-refused : (x : Option (List Tree × Place)) (f : Fault) → x ≡ None → Refuses words f → Reads Means x words s (Err f) s
+  pub reads-refused : (x : Option (List Tree × Place)) (f : Fault) → x ≡ None → Refuses words f
+      → Reads Means x words s (Err f) s
   reads-refused x f e r = rw e (r, refl)
 
-  pub reads-memory : (x : Option (List Tree × Place)) (f : Fault) → IsMemory f → Reads Means x words s (Err f) s
+  pub reads-memory : (x : Option (List Tree × Place)) (f : Fault) → IsMemory f
+      → Reads Means x words s (Err f) s
   reads-memory None (Memory e) m = (tt, refl)
   reads-memory (Some r) (Memory e) m = (tt, refl)
   reads-memory x (Refused e) m = absurd m
 
   -- at the exit of a `?` that wants memory
-  pub reads-stops : (x : Option (List Tree × Place)) (r : Result T Fault) (e : AllocError) → IsErrAnd r (λ f. f ≡ Memory e) → Reads Means x words s r s
-  reads-stops x r e h = let p = err_from_is_err_and r h in rw (p.1, p.2) (reads-memory x (Memory e) tt)
+  pub reads-stops : (x : Option (List Tree × Place)) (r : Result T Fault) (e : AllocError)
+      → IsErrAnd r (λ f. f ≡ Memory e) → Reads Means x words s r s
+  reads-stops x r e h = let p = err_from_is_err_and r h in
+      rw (p.1, p.2) (reads-memory x (Memory e) tt)
 
-module _ {T U : Type 0} (Means : T → List Tree → Type 0) (Tells : U → List Tree → Type 0) (words : Refusal) (s : State) where
+module _ {T U : Type 0} (Means : T → List Tree → Type 0) (Tells : U → List Tree
+    → Type 0) (words : Refusal) (s : State) where
   -- the same read, by a value that is made of the first
-  pub at-once-made : (x : Option (List Tree × Place)) (v : T) (u : U) (t : State) → ((ts : List Tree) → Means v ts → Tells u ts) → ReadsAtOnce Means x words s (Ok v) t → ReadsAtOnce Tells x words s (Ok u) t
+  pub at-once-made : (x : Option (List Tree × Place)) (v : T) (u : U) (t : State)
+      → ((ts : List Tree) → Means v ts → Tells u ts) → ReadsAtOnce Means x words s (Ok v) t
+      → ReadsAtOnce Tells x words s (Ok u) t
   at-once-made None v u t made h = absurd h
   at-once-made (Some r) v u t made h = (made r.0 h.0, h.1)
 
-  pub at-once-refused : (x : Option (List Tree × Place)) (f : Fault) (t : State) → ReadsAtOnce Means x words s (Err f) t → ReadsAtOnce Tells x words s (Err f) t
+  pub at-once-refused : (x : Option (List Tree × Place)) (f : Fault) (t : State)
+      → ReadsAtOnce Means x words s (Err f) t → ReadsAtOnce Tells x words s (Err f) t
   at-once-refused None f t h = h
   at-once-refused (Some r) f t h = absurd h
 
   -- at the exit of a `?`
-  pub at-once-stops : (x : Option (List Tree × Place)) (f : Fault) (r : Result U Fault) (t : State) → IsErrAnd r (λ g. g ≡ f) → ReadsAtOnce Means x words s (Err f) t → ReadsAtOnce Tells x words s r t
-  at-once-stops x f r t e h = let p = err_from_is_err_and r e in rw (p.1, p.2) (at-once-refused x f t h)
+  pub at-once-stops : (x : Option (List Tree × Place)) (f : Fault) (r : Result U Fault) (t : State)
+      → IsErrAnd r (λ g. g ≡ f) → ReadsAtOnce Means x words s (Err f) t
+      → ReadsAtOnce Tells x words s r t
+  at-once-stops x f r t e h = let p = err_from_is_err_and r e in
+      rw (p.1, p.2) (at-once-refused x f t h)

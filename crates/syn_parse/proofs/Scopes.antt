@@ -17,7 +17,8 @@ one_scope empty_place (at m t d k ks) h = absurd (false≢true h)
 one_scope (at n s c l ls) empty_place h = absurd (false≢true h)
 one_scope (at n s c l ls) (at m t d k ks) h =
     let both = and_parts (n == m) (s == t) h in
-    ap (λ x. Some (x, t)) (sym (eqb-true n m both.0)) ∙ ap (λ x. Some (n, x)) (sym (eqb-true s t both.1))
+    ap (λ x. Some (x, t)) (sym (eqb-true n m both.0))
+    ∙ ap (λ x. Some (n, x)) (sym (eqb-true s t both.1))
 
 same-number : (n : ℕ) → (n == n) ≡ true
 same-number n = grind arith

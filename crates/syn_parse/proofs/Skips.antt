@@ -11,7 +11,8 @@ use Rattle.tok_types.specs.Sees.{Sees, first_lifetime}
 use Rattle.tok_types.proofs.Seen.{lifetime-first-in, trees-in-view, trees_in, with_trees}
 use Rattle.syn_parse.specs.Skips.{next_passes, past_token, past_tree, second_sees}
 
-trees-after : (x : Option Place) → option_map erased_ahead x ≡ option_map trees_in (option_map (view no_trees) x)
+trees-after : (x : Option Place)
+    → option_map erased_ahead x ≡ option_map trees_in (option_map (view no_trees) x)
 trees-after None = refl
 trees-after (Some q) = ap Some (trees-in-view q)
 
@@ -20,7 +21,8 @@ front-after empty_view = refl
 front-after (seen k no_trees) = refl
 front-after (seen k (tree t f)) = refl
 
-either : (x : Option (List Tree × View)) (y : Option View) (z : Option Forest) → option_map trees_in y ≡ z
+either : (x : Option (List Tree × View)) (y : Option View) (z : Option Forest)
+    → option_map trees_in y ≡ z
     → option_map trees_in (elim x [ Some r ↦ Some r.1 | None ↦ y ])
     ≡ elim (with_trees x) [ Some r ↦ Some r.1 | None ↦ z ]
 either None y z e = e
@@ -30,12 +32,14 @@ after-in-view : (v : View) → option_map trees_in (skip_in_view v) ≡ past_tok
 unfolding past_token
 after-in-view v =
     either (lifetime_in_view any_text v) (front_passed v) (past_tree (trees_in v)) (front-after v)
-    ∙ ap (λ r. elim r [ Some q ↦ Some q.1 | None ↦ past_tree (trees_in v) ]) (lifetime-first-in any_text v)
+    ∙ ap (λ r. elim r [ Some q ↦ Some q.1 | None ↦ past_tree (trees_in v) ])
+    (lifetime-first-in any_text v)
 
 -- what is ahead after a skip
 pub skip_tells : (p : Place) → option_map erased_ahead (skip p) ≡ past_token (erased_ahead p)
 skip_tells p =
-    trees-after (skip p) ∙ ap (option_map trees_in) (view-skip no_trees p) ∙ after-in-view (view no_trees p)
+    trees-after (skip p) ∙ ap (option_map trees_in) (view-skip no_trees p)
+    ∙ after-in-view (view no_trees p)
     ∙ ap past_token (sym (trees-in-view p))
 
 pub seen_next : (sees : Option (Forest → Bool)) (p q : Place) (found : Bool) → skip p ≡ Some q
@@ -45,7 +49,8 @@ seen_next (Some test) p q found e h =
     h ∙ ap (λ x. elim x [ Some g ↦ test g | None ↦ false ])
     (sym (ap (option_map erased_ahead) e) ∙ skip_tells p)
 
-pub none_next : (sees : Option (Forest → Bool)) (p : Place) → skip p ≡ None → Sees (second_sees sees) p false
+pub none_next : (sees : Option (Forest → Bool)) (p : Place) → skip p ≡ None
+    → Sees (second_sees sees) p false
 none_next None p e = tt
 none_next (Some test) p e =
     ap (λ x. elim x [ Some g ↦ test g | None ↦ false ])

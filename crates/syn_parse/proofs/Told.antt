@@ -1,6 +1,8 @@
 -- Parses of one read take what is ahead.
-use Rattle.std.proofs.Common.{◌≡◌, ◌∙◌, sym, ap, subst, refl, arith, ◌<◌, ◌≤◌, ℕ, List, [], ◌∷◌, Option, Some, None, Ok, Err}
-use Rattle.std.specs.Prelude.{Bool, Result, IfSome, true, false, cond, codes, not, ◌++◌, length, map}
+use Rattle.std.proofs.Common.{◌≡◌, ◌∙◌, sym, ap, subst, refl, arith, ◌<◌, ◌≤◌, ℕ, List, [], ◌∷◌}
+use Rattle.std.proofs.Common.{Option, Some, None, Ok, Err}
+use Rattle.std.specs.Prelude.{Bool, Result, IfSome, true, false, cond, codes, not, ◌++◌, length}
+use Rattle.std.specs.Prelude.{map}
 use Rattle.tok_leaves.specs.declared.ident.Ident.{Ident}
 use Rattle.tok_leaves.specs.declared.lifetime.Lifetime.{Lifetime}
 use Rattle.tok_leaves.specs.declared.literal.Literal.{Literal}
@@ -14,7 +16,8 @@ use Rattle.tok_buffer.specs.Messages.{first_text}
 use Rattle.tok_buffer.specs.Order.{same_scope}
 use Rattle.tok_buffer.specs.Place.{Place, is_at_end}
 use Rattle.tok_buffer.specs.Reached.{Reached}
-use Rattle.tok_buffer.specs.Reads.{any_text, is_ident, is_ident_of, is_literal, is_punct, read_keyword}
+use Rattle.tok_buffer.specs.Reads.{any_text, is_ident, is_ident_of, is_literal, is_punct}
+use Rattle.tok_buffer.specs.Reads.{read_keyword}
 use Rattle.tok_buffer.specs.Reads.{read_literal, read_punctuation}
 use Rattle.tok_buffer.specs.Reads.{read_ident, read_lifetime, read_punct, read_word}
 use Rattle.tok_buffer.specs.Refusals.{Refusal}
@@ -31,7 +34,8 @@ use Rattle.tok_types.proofs.Seen.{lifetimes-tell, words-tell}
 use Rattle.tok_types.specs.declared.keyword.Keyword.{Keyword}
 use Rattle.tok_types.specs.declared.punctuation.Punctuation.{Punctuation}
 use Rattle.tok_types.specs.declared.underscore.Underscore.{Underscore}
-use Rattle.syn_parse.specs.Parses.{AnyIdentParses, AnyLifetimeParses, AreSpans, IdentParses, IsIdent}
+use Rattle.syn_parse.specs.Parses.{AnyIdentParses, AnyLifetimeParses, AreSpans, IdentParses}
+use Rattle.syn_parse.specs.Parses.{IsIdent}
 use Rattle.syn_parse.specs.Parses.{IsLifetime, IsLiteral, IsPunct, IsSpanOf, LifetimeParses}
 use Rattle.syn_parse.specs.Parses.{LiteralParses, PunctParses, WordParses, accept_as_lifetime}
 use Rattle.syn_parse.specs.Progress.{KeywordParses, PunctuationTypeParses, UnderscoreParses}
@@ -43,10 +47,13 @@ use Rattle.syn_parse.specs.State.{State, moved}
 use Rattle.syn_parse.specs.declared.fault.Fault.{Fault}
 use Rattle.syn_parse.specs.declared.fault.Fault.TheVariants.{Refused, Memory}
 use Rattle.syn_parse.specs.TreesAhead.{Ahead, IsFilled, ahead, scope_of}
-use Rattle.syn_parse.specs.Lookahead.{Look, closing_word, list_words, look_refusal, look_words, named_ends}
+use Rattle.syn_parse.specs.Lookahead.{Look, closing_word, list_words, look_refusal, look_words}
+use Rattle.syn_parse.specs.Lookahead.{named_ends}
 use Rattle.syn_parse.specs.Lookahead.{refusal_of, words_of_names}
-use Rattle.syn_parse.specs.Takes.{HasWords, IsMissing, Outcome, found, missing, Takes, TakesAs, or_end, read_as, take_by}
-use Rattle.syn_parse.specs.Tokens.{ident_in, ident_missing, lifetime_in, lifetime_missing, literal_in}
+use Rattle.syn_parse.specs.Takes.{HasWords, IsMissing, Outcome, found, missing, Takes, TakesAs}
+use Rattle.syn_parse.specs.Takes.{or_end, read_as, take_by}
+use Rattle.syn_parse.specs.Tokens.{ident_in, ident_missing, lifetime_in, lifetime_missing}
+use Rattle.syn_parse.specs.Tokens.{literal_in}
 use Rattle.syn_parse.specs.Tokens.{punct_in, span_in, take_any_ident, take_any_lifetime, take_ident}
 use Rattle.syn_parse.specs.Tokens.{take_keyword, take_lifetime, take_literal, take_punct}
 use Rattle.syn_parse.specs.Tokens.{take_punctuation, take_underscore}
@@ -80,7 +87,8 @@ names-told [] p scope i =
     either-words (is_at_end p) _ _
     ∙ ap (λ b. cond b (codes "unexpected end of input") (codes "unexpected token")) (end_told p i)
 names-told (d ∷ ds) p scope i =
-    ap (λ b. cond b (codes "unexpected end of input, " ++ list_words (d ∷ ds)) (list_words (d ∷ ds)))
+    ap (λ b. cond b (codes "unexpected end of input, " ++ list_words (d ∷ ds))
+    (list_words (d ∷ ds)))
     (end_told p i)
 
 -- a lookahead's refusal
@@ -88,7 +96,8 @@ pub look_told : (l : Look) (f : Fault) → Refuses (look_refusal l) f → IsFill
     → HasWords (look_words l) f
 look_told l (Refused e) h i =
     ap first_text h
-    ∙ names-told (named_ends (closing_word (scope_delimiter l.place)) l.missed) l.place l.scope_span i
+    ∙ names-told (named_ends (closing_word (scope_delimiter l.place)) l.missed) l.place l.scope_span
+    i
 look_told l (Memory e) h i = tt
 
 abbrev pub Leads : Read → Place → Type 0
@@ -111,8 +120,10 @@ module _ {T A : Type 0} (form : T → A) (Means : T → List Tree → Type 0) (m
   abbrev seen : Option (List Tree × Forest) → Outcome A
   seen = read_as means words (ahead s)
 
-  taken : (q : List Tree × Place) (v : T) → Some (q.0, erased_ahead q.1) ≡ first (erased_ahead s.place)
-      → ((b : Laid) → Reached b s.place → Reached b q.1) → (same_scope s.place q.1 ≡ true) × (remaining q.1 < remaining s.place)
+  taken : (q : List Tree × Place) (v : T)
+      → Some (q.0, erased_ahead q.1) ≡ first (erased_ahead s.place)
+      → ((b : Laid) → Reached b s.place → Reached b q.1)
+      → (same_scope s.place q.1 ≡ true) × (remaining q.1 < remaining s.place)
       → Means v q.0
       → t ≡ moved q.1 s → TakesAs form take s (Ok v) t
   taken q v e leads keeps m k = (
@@ -142,7 +153,8 @@ module _ {T A : Type 0} (form : T → A) (Means : T → List Tree → Type 0) (m
   memory (Memory e) m = (tt, λ i. tt)
 
   pub told : (x : Read) (r : Result T Fault) → with_ahead x ≡ first (erased_ahead s.place)
-      → Leads x s.place → KeepsScope x s.place → Reads Means x refusal s r t → TakesAs form take s r t
+      → Leads x s.place → KeepsScope x s.place → Reads Means x refusal s r t
+      → TakesAs form take s r t
   told None (Ok v) e leads keeps h = absurd h
   told (Some q) (Ok v) e leads keeps h = taken q v e leads (keeps q refl) h.0 h.1
   told None (Err f) e leads keeps h = none f e h.0
@@ -172,15 +184,21 @@ pub ident_told : (s : State) (r : Result Ident Fault) (t : State) → IdentParse
 unfolding take_ident
 ident_told s r t h =
     let tells = ahead_tells s.place in
-    let words : ident_words (read_ident s.place) ≡ ident_missing (first_if is_ident (erased_ahead s.place)) =
+    let words : ident_words (read_ident s.place)
+    ≡ ident_missing (first_if is_ident (erased_ahead s.place)) =
     ident-words (read_ident s.place) ∙ ap ident_missing tells.idents in
-    told same IsIdent ident_in (λ v ts m. sym (ap ident_in m)) (first_if (is_ident_of accept_as_ident))
+    told same IsIdent ident_in (λ v ts m. sym (ap ident_in m))
+    (first_if (is_ident_of accept_as_ident))
     (λ f. or_end (ident_missing (first_if is_ident f)) f)
     (refused_at s (ident_words (read_ident s.place))) s t
-    (λ i. words_told (ident_words (read_ident s.place)) s i ∙ ap (λ w. or_end w (erased_ahead s.place)) words)
+    (λ i. words_told (ident_words (read_ident s.place)) s i
+    ∙ ap (λ w. or_end w (erased_ahead s.place)) words)
     (read_word accept_as_ident s.place) r (tells.words accept_as_ident)
     (λ b q. (calls_lead_on b s.place q).words accept_as_ident)
-    (λ q e. (reads_keep_scope.words accept_as_ident s.place q.0 q.1 e, (reads_go_on.words accept_as_ident).lowers s.place q.0 q.1 e)) h
+    (λ q e. (
+      reads_keep_scope.words accept_as_ident s.place q.0 q.1 e,
+      (reads_go_on.words accept_as_ident).lowers s.place q.0 q.1 e,
+    )) h
 
 pub any_ident_told : (s : State) (r : Result Ident Fault) (t : State) → AnyIdentParses s r t
     → Takes take_any_ident s r t
@@ -190,43 +208,61 @@ any_ident_told s r t h =
     told same IsIdent ident_in (λ v ts m. sym (ap ident_in m)) (first_if is_ident) (or_end words)
     (refused_at s words) s t (words_told words s) (read_ident s.place) r
     (ahead_tells s.place).idents (λ b q. (calls_lead_on b s.place q).idents)
-    (λ q e. (reads_keep_scope.idents s.place q.0 q.1 e, reads_go_on.idents.lowers s.place q.0 q.1 e)) h
+    (λ q e. (
+      reads_keep_scope.idents s.place q.0 q.1 e,
+      reads_go_on.idents.lowers s.place q.0 q.1 e,
+    )) h
 
 pub literal_told : (s : State) (r : Result Literal Fault) (t : State) → LiteralParses s r t
     → Takes take_literal s r t
 unfolding take_literal
 literal_told s r t h =
     let words = codes "expected literal token" in
-    told same IsLiteral literal_in (λ v ts m. sym (ap literal_in m)) (first_if is_literal) (or_end words)
+    told same IsLiteral literal_in (λ v ts m. sym (ap literal_in m)) (first_if is_literal)
+    (or_end words)
     (refused_at s words) s t (words_told words s) (read_literal s.place) r
     (ahead_tells s.place).literals (λ b q. (calls_lead_on b s.place q).literals)
-    (λ q e. (reads_keep_scope.literals s.place q.0 q.1 e, reads_go_on.literals.lowers s.place q.0 q.1 e)) h
+    (λ q e. (
+      reads_keep_scope.literals s.place q.0 q.1 e,
+      reads_go_on.literals.lowers s.place q.0 q.1 e,
+    )) h
 
 pub punct_told : (s : State) (r : Result Punct Fault) (t : State) → PunctParses s r t
     → Takes take_punct s r t
 unfolding take_punct
 punct_told s r t h =
     let words = codes "expected punctuation token" in
-    told-at-once same IsPunct punct_in (λ v ts m. sym (ap punct_in m)) (first_if is_punct) (or_end words)
+    told-at-once same IsPunct punct_in (λ v ts m. sym (ap punct_in m)) (first_if is_punct)
+    (or_end words)
     (refused_at s words) s t (words_told words s) (read_punct s.place) r
     (ahead_tells s.place).puncts (λ b q. (calls_lead_on b s.place q).puncts)
-    (λ q e. (reads_keep_scope.puncts s.place q.0 q.1 e, reads_go_on.puncts.lowers s.place q.0 q.1 e)) h
+    (λ q e. (
+      reads_keep_scope.puncts s.place q.0 q.1 e,
+      reads_go_on.puncts.lowers s.place q.0 q.1 e,
+    )) h
 
 pub lifetime_told : (s : State) (r : Result Lifetime Fault) (t : State) → LifetimeParses s r t
     → Takes take_lifetime s r t
 unfolding take_lifetime
 lifetime_told s r t h =
     let read = read_lifetime any_text s.place in
-    let words : lifetime_words read ≡ lifetime_missing (first_lifetime any_text (erased_ahead s.place)) =
+    let words : lifetime_words read
+    ≡ lifetime_missing (first_lifetime any_text (erased_ahead s.place)) =
     lifetime-words read ∙ ap lifetime_missing (lifetimes-tell any_text s.place) in
-    told same IsLifetime lifetime_in (λ v ts m. sym (ap lifetime_in m)) (first_lifetime accept_as_lifetime)
-    (λ f. or_end (lifetime_missing (first_lifetime any_text f)) f) (refused_at s (lifetime_words read)) s t
+    told same IsLifetime lifetime_in (λ v ts m. sym (ap lifetime_in m))
+    (first_lifetime accept_as_lifetime)
+    (λ f. or_end (lifetime_missing (first_lifetime any_text f)) f)
+    (refused_at s (lifetime_words read)) s t
     (λ i. words_told (lifetime_words read) s i ∙ ap (λ w. or_end w (erased_ahead s.place)) words)
     (read_lifetime accept_as_lifetime s.place) r (lifetimes-tell accept_as_lifetime s.place)
     (λ b q. (calls_lead_on b s.place q).lifetimes accept_as_lifetime)
-    (λ q e. (reads_keep_scope.lifetimes accept_as_lifetime s.place q.0 q.1 e, (reads_go_on.lifetimes accept_as_lifetime).lowers s.place q.0 q.1 e)) h
+    (λ q e. (
+      reads_keep_scope.lifetimes accept_as_lifetime s.place q.0 q.1 e,
+      (reads_go_on.lifetimes accept_as_lifetime).lowers s.place q.0 q.1 e,
+    )) h
 
-pub any_lifetime_told : (s : State) (r : Result Lifetime Fault) (t : State) → AnyLifetimeParses s r t
+pub any_lifetime_told : (s : State) (r : Result Lifetime Fault) (t : State)
+    → AnyLifetimeParses s r t
     → Takes take_any_lifetime s r t
 unfolding take_any_lifetime
 any_lifetime_told s r t h =
@@ -234,18 +270,26 @@ any_lifetime_told s r t h =
     told same IsLifetime lifetime_in (λ v ts m. sym (ap lifetime_in m)) (first_lifetime any_text)
     (or_end words) (refused_at s words) s t (words_told words s) (read_lifetime any_text s.place) r
     (lifetimes-tell any_text s.place) (λ b q. (calls_lead_on b s.place q).lifetimes any_text)
-    (λ q e. (reads_keep_scope.lifetimes any_text s.place q.0 q.1 e, (reads_go_on.lifetimes any_text).lowers s.place q.0 q.1 e)) h
+    (λ q e. (
+      reads_keep_scope.lifetimes any_text s.place q.0 q.1 e,
+      (reads_go_on.lifetimes any_text).lowers s.place q.0 q.1 e,
+    )) h
 
 module _ {T A : Type 0} (form : T → A) (span_of : T → Span) (means : List Tree → A) (text : List ℕ)
     (fits : (v : T) (ts : List Tree) → IsSpanOf text (span_of v) ts → form v ≡ means ts) where
   pub word_told : (s : State) (r : Result T Fault) (t : State) → WordParses span_of text s r t
-      → TakesAs form (take_by (first_word text) means (or_end (expected (in_backquotes text)))) s r t
+      → TakesAs form (take_by (first_word text) means (or_end (expected (in_backquotes text)))) s r
+      t
   word_told s r t h =
       let words = expected (in_backquotes text) in
       told-at-once form (λ v. IsSpanOf text (span_of v)) means fits (first_word text) (or_end words)
-      (refused_at s words) s t (words_told words s) (read_keyword text s.place) r (words-tell text s.place)
+      (refused_at s words) s t (words_told words s) (read_keyword text s.place) r
+      (words-tell text s.place)
       (λ b q. (calls_lead_on b s.place q).keywords text)
-      (λ q e. (reads_keep_scope.keywords text s.place q.0 q.1 e, (reads_go_on.keywords text).lowers s.place q.0 q.1 e)) h
+      (λ q e. (
+        reads_keep_scope.keywords text s.place q.0 q.1 e,
+        (reads_go_on.keywords text).lowers s.place q.0 q.1 e,
+      )) h
 
 pub keyword_told : (k : ℕ) (s : State) (r : Result (Keyword k) Fault) (t : State)
     → KeywordParses k s r t → Takes (take_keyword k) s r t
@@ -271,4 +315,7 @@ punctuation_told k n s r t h =
     (λ f. expected (in_backquotes text)) (punctuation_refusal text s) s t (λ i. refl)
     (read_punctuation text s.place) r ((ahead_tells s.place).punctuations text)
     (λ b q. (calls_lead_on b s.place q).punctuations text)
-    (λ q e. (reads_keep_scope.punctuations text s.place q.0 q.1 e, (reads_go_on.punctuations text).lowers s.place q.0 q.1 e)) h
+    (λ q e. (
+      reads_keep_scope.punctuations text s.place q.0 q.1 e,
+      (reads_go_on.punctuations text).lowers s.place q.0 q.1 e,
+    )) h

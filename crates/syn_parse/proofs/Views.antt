@@ -51,7 +51,8 @@ views_decide_words b c s t v =
           (standing b c s.place t.place v);
       idents =
           same-words b c ident_words
-          (λ ts. codes "expected identifier, found keyword " ++ in_backquotes (name_in ts)) (λ r. refl)
+          (λ ts. codes "expected identifier, found keyword " ++ in_backquotes (name_in ts))
+          (λ r. refl)
           (read_ident s.place) (read_ident t.place) calls.idents;
       lifetimes =
           same-words b c lifetime_words

@@ -7,7 +7,8 @@ use Rattle.syn_parse.proofs.Finished.{ended, memory-fails, results_agree, start-
 use Rattle.syn_parse.specs.Parsers.{Finishes, OnMemory, ParsesWhole, whole_stream}
 use Rattle.syn_parse.specs.Reads.{Call}
 use Rattle.syn_parse.specs.State.{State}
-use Rattle.syn_parse.specs.Takings.{Keeps, KeepsBoth, KeepsWhole, KeepsWords, Takings, told, told_filled}
+use Rattle.syn_parse.specs.Takings.{Keeps, KeepsBoth, KeepsWhole, KeepsWords, Takings, told}
+use Rattle.syn_parse.specs.Takings.{told_filled}
 use Rattle.syn_parse.specs.Takings.{untold}
 use Rattle.syn_parse.specs.declared.fault.Fault.{Fault}
 
@@ -16,7 +17,8 @@ module _ {T : Type 0} where
       (result : Result T Fault) → Keeps takes (whole_stream f call_site) returned left
       → Finishes returned left result → KeepsWhole takes f result
   whole_keeps untold f returned left result h k = tt
-  whole_keeps (told form take w) f returned left result h k = ended form take f returned left result h k
+  whole_keeps (told form take w) f returned left result h k =
+      ended form take f returned left result h k
   whole_keeps (told_filled form take w) f returned left result h k =
       λ i. ended form take f returned left result (h (start-filled form take f i)) k
 
@@ -38,13 +40,15 @@ module _ {T : Type 0} where
   pub both_keep : (takes : Takings T) (left right : Forest) (x y : Result T Fault)
       → KeepsWhole takes left x → KeepsWhole takes right y → KeepsBoth takes left right x y
   both_keep untold left right x y h k = tt
-  both_keep (told form take w) left right x y h k = λ e. results_agree form take left right e x y h k
+  both_keep (told form take w) left right x y h k =
+      λ e. results_agree form take left right e x y h k
   both_keep (told_filled form take w) left right x y h k =
       λ e i j. results_agree form take left right e x y (h i) (k j)
 
   pub words_keep : (takes : Takings T) (left right : Forest) (x y : Result T Fault)
       → KeepsWhole takes left x → KeepsWhole takes right y → KeepsWords takes left right x y
   words_keep untold left right x y h k = tt
-  words_keep (told form take w) left right x y h k = λ e i j. words_agree form take left right e i j x y h k
+  words_keep (told form take w) left right x y h k =
+      λ e i j. words_agree form take left right e i j x y h k
   words_keep (told_filled form take w) left right x y h k =
       λ e i j. words_agree form take left right e i j x y (h i) (k j)

@@ -8,7 +8,8 @@ use Rattle.syn_punctuated.specs.Lists.{values_of}
 use Rattle.syn_punctuated.specs.Private.Boxes.{boxed_values}
 
 module _ {X : Type 0} (μ : X → ℕ) where
-  pub most_first : {Y : Type 0} (pairs : List (X × Y)) → most μ (map (λ pair. pair.0) pairs) ≡ most (λ pair. max (μ pair.0) 0) pairs
+  pub most_first : {Y : Type 0} (pairs : List (X × Y))
+      → most μ (map (λ pair. pair.0) pairs) ≡ most (λ pair. max (μ pair.0) 0) pairs
   most_first [] = refl
   most_first (p ∷ ps) = omega (arith, most_first ps)
 
@@ -24,7 +25,14 @@ module _ {X : Type 0} (μ : X → ℕ) where
 module _ {X Y : Type 0} (μ : X → ℕ) where
   -- the deepest value, as a recursive type that holds the list counts it
   abbrev pub deepest_value : Punctuated X Y → ℕ
-  deepest_value list = max (most (λ pair. max (μ pair.0) 0) list.inner.items) (max (deepest_last μ list.last) 0)
+  deepest_value list =
+      max (most (λ pair. max (μ pair.0) 0) list.inner.items) (max (deepest_last μ list.last) 0)
 
   pub most_values : (list : Punctuated X Y) → most μ (values_of list) ≡ deepest_value list
-  most_values list = omega (arith, most-append μ (map (λ pair. pair.0) list.inner.items) (boxed_values list.last), most_first μ list.inner.items, last_most μ list.last)
+  most_values list =
+      omega (
+        arith,
+        most-append μ (map (λ pair. pair.0) list.inner.items) (boxed_values list.last),
+        most_first μ list.inner.items,
+        last_most μ list.last,
+      )

@@ -1,5 +1,6 @@
 -- Equality of two lists: by their fields, and by their values and separators.
-use Rattle.std.proofs.Common.{◌≡◌, ◌&&◌, Bool, true, false, List, [], ◌∷◌, ◌++◌, map, Option, None, Some, refl}
+use Rattle.std.proofs.Common.{◌≡◌, ◌&&◌, Bool, true, false, List, [], ◌∷◌, ◌++◌, map, Option, None}
+use Rattle.std.proofs.Common.{Some, refl}
 use Rattle.std.specs.Cmp.Lexicographic.{pointwise}
 use Rattle.std.specs.Global.{Box}
 use Rattle.std.specs.Option.{option_eq}
@@ -9,7 +10,8 @@ and-true-true : (a : Bool) → a ≡ ((a && true) && true)
 and-true-true true = refl
 and-true-true false = refl
 
-regroup : (a b pairs last values separators : Bool) → (pairs && last) ≡ (values && separators) → (((a && b) && pairs) && last) ≡ ((a && values) && (b && separators))
+regroup : (a b pairs last values separators : Bool) → (pairs && last) ≡ (values && separators)
+    → (((a && b) && pairs) && last) ≡ ((a && values) && (b && separators))
 regroup true true pairs last values separators same = same
 regroup true false pairs last true separators same = refl
 regroup true false pairs last false separators same = refl
@@ -20,11 +22,18 @@ false-and-false true = refl
 false-and-false false = refl
 
 module _ {X Y : Type 0} (E : X → X → Bool) (F : Y → Y → Bool) where
-  pub equal_by_lists : (ps qs : List (X × Y)) (v w : Option (Box X)) → (pointwise (λ p q. E p.0 q.0 && F p.1 q.1) ps qs && option_eq (λ x y. E x.value y.value) v w) ≡ (pointwise E (map (λ p. p.0) ps ++ boxed_values v) (map (λ q. q.0) qs ++ boxed_values w) && pointwise F (map (λ p. p.1) ps) (map (λ q. q.1) qs))
+  pub equal_by_lists : (ps qs : List (X × Y)) (v w : Option (Box X))
+      → (pointwise (λ p q. E p.0 q.0 && F p.1 q.1) ps qs
+      && option_eq (λ x y. E x.value y.value) v w)
+      ≡ (pointwise E (map (λ p. p.0) ps ++ boxed_values v) (map (λ q. q.0) qs ++ boxed_values w)
+      && pointwise F (map (λ p. p.1) ps) (map (λ q. q.1) qs))
   equal_by_lists [] [] None None = refl
   equal_by_lists [] [] None (Some w) = refl
   equal_by_lists [] [] (Some v) None = refl
   equal_by_lists [] [] (Some v) (Some w) = and-true-true (E v.value w.value)
-  equal_by_lists [] (q ∷ qs) v w = false-and-false (pointwise E (boxed_values v) (q.0 ∷ (map (λ q. q.0) qs ++ boxed_values w)))
-  equal_by_lists (p ∷ ps) [] v w = false-and-false (pointwise E (p.0 ∷ (map (λ p. p.0) ps ++ boxed_values v)) (boxed_values w))
-  equal_by_lists (p ∷ ps) (q ∷ qs) v w = regroup (E p.0 q.0) (F p.1 q.1) _ _ _ _ (equal_by_lists ps qs v w)
+  equal_by_lists [] (q ∷ qs) v w =
+      false-and-false (pointwise E (boxed_values v) (q.0 ∷ (map (λ q. q.0) qs ++ boxed_values w)))
+  equal_by_lists (p ∷ ps) [] v w =
+      false-and-false (pointwise E (p.0 ∷ (map (λ p. p.0) ps ++ boxed_values v)) (boxed_values w))
+  equal_by_lists (p ∷ ps) (q ∷ qs) v w =
+      regroup (E p.0 q.0) (F p.1 q.1) _ _ _ _ (equal_by_lists ps qs v w)

@@ -12,13 +12,15 @@ use Rattle.syn_parse.specs.Reads.{Call}
 use Rattle.syn_parse.specs.State.{State}
 use Rattle.syn_parse.specs.Takes.{TakesAs, Taking}
 use Rattle.syn_parse.specs.Takings as states
-use Rattle.syn_parse.specs.Takings.{Lightens, Lowers, Takings, lighter, lower, told, told_filled, untold}
+use Rattle.syn_parse.specs.Takings.{Lightens, Lowers, Takings, lighter, lower, told, told_filled}
+use Rattle.syn_parse.specs.Takings.{untold}
 use Rattle.syn_parse.specs.Takings.{unweighed}
 use Rattle.syn_parse.specs.Tokens.{take_punctuation}
 use Rattle.syn_parse.specs.TreesAhead.{IsFilled, ahead}
 use Rattle.syn_parse.specs.declared.fault.Fault.{Fault}
 use Rattle.syn_punctuated.proofs.TakenRuns.{Tells, run_takes}
-use Rattle.syn_punctuated.specs.TakeLists.{Separates, always, is_left, list_form, separated_list, take_list}
+use Rattle.syn_punctuated.specs.TakeLists.{Separates, always, is_left, list_form, separated_list}
+use Rattle.syn_punctuated.specs.TakeLists.{take_list}
 use Rattle.syn_punctuated.specs.TakeLists.{terminated_list}
 use Rattle.syn_punctuated.specs.Turns.{IsRun, ValueCall, separated, terminated}
 use Rattle.syn_punctuated.specs.declared.punctuated.Punctuated.{Punctuated}
@@ -64,18 +66,23 @@ module _ {T P F : Type 0} (reads : ValueCall F T) (parses : Call P) (go : Parses
           → IsRun terminated reads (Separates parses takes) f s r t
           → TakesAs (list_form form shape) (take_list is_left is_left value sign) s r t
       by-end each f s t r i run =
-          run_takes terminated reads (Separates parses takes) is_left is_left Filled tells-terminated form
-          value light shape sign less each (λ x y q j k. k.1) (λ x p y k. go.lowers x p y k.0) f s t r i run
+          run_takes terminated reads (Separates parses takes) is_left is_left Filled
+          tells-terminated form
+          value light shape sign less each (λ x y q j k. k.1) (λ x p y k. go.lowers x p y k.0) f s t
+          r i run
 
       by-sign : (peeks : Place → Bool → Type 0) (sees : Forest → Bool)
-          → ((f g : F) (s t : State) (r : Result T Fault) → reads f s r g t → TakesAs form value s r t)
+          → ((f g : F) (s t : State) (r : Result T Fault) → reads f s r g t
+          → TakesAs form value s r t)
           → (f : F) (s t : State) (r : Result (Punctuated T P) Fault)
           → IsRun (separated (SeenBy peeks sees)) reads (Separates parses takes) f s r t
           → TakesAs (list_form form shape) (take_list always (λ a. sees a.trees) value sign) s r t
       by-sign peeks sees each f s t r run =
           run_takes (separated (SeenBy peeks sees)) reads (Separates parses takes) always
-          (λ a. sees a.trees) (λ x. Unit {0}) (tells-separated peeks sees) form value light shape sign less
-          (λ x y a b q j k. each x y a b q k) (λ x y q j k. k.1) (λ x p y k. go.lowers x p y k.0) f s t r tt
+          (λ a. sees a.trees) (λ x. Unit {0}) (tells-separated peeks sees) form value light shape
+          sign less
+          (λ x y a b q j k. each x y a b q k) (λ x y q j k. k.1) (λ x p y k. go.lowers x p y k.0) f
+          s t r tt
           run
 
   pub terminated_keeps : (values : Takings T) (signs : Takings P)
@@ -88,7 +95,8 @@ module _ {T P F : Type 0} (reads : ValueCall F T) (parses : Call P) (go : Parses
   terminated_keeps (told form value (lower h)) (told shape sign (lower k)) each f s t r run =
       λ i. by-end shape sign k form value (lightens_lower value h)
       (λ x y a b q j w. each x y a b q w) f s t r i run
-  terminated_keeps (told_filled form value (lighter h)) (told shape sign (lower k)) each f s t r run =
+  terminated_keeps (told_filled form value (lighter h)) (told shape sign (lower k)) each f s t r
+      run =
       λ i. by-end shape sign k form value h (λ x y a b q j w. each x y a b q w j) f s t r i run
   terminated_keeps (told_filled form value (lower h)) (told shape sign (lower k)) each f s t r run =
       λ i. by-end shape sign k form value (lightens_lower value h)
@@ -99,12 +107,15 @@ module _ {T P F : Type 0} (reads : ValueCall F T) (parses : Call P) (go : Parses
       (values : Takings T) (signs : Takings P)
       → ((f g : F) (s t : State) (r : Result T Fault) → reads f s r g t → states.Keeps values s r t)
       → (f : F) (s t : State) (r : Result (Punctuated T P) Fault)
-      → IsRun (separated (λ p found. peeks p found × Sees sees p found)) reads (Separates parses signs) f s r t
+      → IsRun (separated (λ p found. peeks p found × Sees sees p found)) reads
+      (Separates parses signs) f s r t
       → states.Keeps (separated_list sees values signs) s r t
-  separated_keeps peeks (Some sees) (told form value (lighter h)) (told shape sign (lower k)) each f s t r
+  separated_keeps peeks (Some sees) (told form value (lighter h)) (told shape sign (lower k)) each f
+      s t r
       run =
       by-sign shape sign k form value h peeks sees each f s t r run
-  separated_keeps peeks (Some sees) (told form value (lower h)) (told shape sign (lower k)) each f s t r run =
+  separated_keeps peeks (Some sees) (told form value (lower h)) (told shape sign (lower k)) each f s
+      t r run =
       by-sign shape sign k form value (lightens_lower value h) peeks sees each f s t r run
   separated_keeps peeks sees values signs each f s t r run = tt
 

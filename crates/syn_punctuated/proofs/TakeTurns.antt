@@ -1,6 +1,7 @@
 -- Turns that have been taken, and the turns that follow.
 use Rattle.std.proofs.Common.{◌≡◌, ◌∙◌, sym, ap, refl, arith, ℕ, zero, suc, ◌+◌, ◌<◌, ◌≤◌}
-use Rattle.std.proofs.Common.{Bool, true, false, cond, List, [], ◌∷◌, ◌++◌, append_assoc, append-nil}
+use Rattle.std.proofs.Common.{Bool, true, false, cond, List, [], ◌∷◌, ◌++◌, append_assoc}
+use Rattle.std.proofs.Common.{append-nil}
 use Rattle.tok_core.specs.Weight.{weight}
 use Rattle.syn_parse.specs.TreesAhead.{Ahead}
 use Rattle.syn_parse.specs.Takings.{Lightens, Lowers}
@@ -57,7 +58,8 @@ module _ {A P : Type 0} (begins goes_on : Ahead → Bool) (value : Taking A) (si
   enough zero m a h k = absurd (omega arith)
   enough (suc n) zero a h k = absurd (omega arith)
   enough (suc n) (suc m) a h k =
-      one-turn n m a (λ c l. enough n m c (omega (arith, h, l)) (omega (arith, k, l))) (value a) refl
+      one-turn n m a (λ c l. enough n m c (omega (arith, h, l)) (omega (arith, k, l))) (value a)
+      refl
 
   before-none : (o : Outcome Both) → o ≡ before ([], []) o
   before-none (missing words) = refl
@@ -71,7 +73,8 @@ module _ {A P : Type 0} (begins goes_on : Ahead → Bool) (value : Taking A) (si
   unfolding take_list
   all-turns s x a h e =
       h
-      ∙ ap (λ b. before x (cond b (and_then (value a) (after_value (weight a.trees))) (found ([], []) a)))
+      ∙ ap (λ b. before x (cond b (and_then (value a) (after_value (weight a.trees)))
+      (found ([], []) a)))
       e
       ∙ ap (λ ps. found (x.0 ++ [], ps) a) (append-nil x.1)
 
@@ -89,7 +92,8 @@ module _ {A P : Type 0} (begins goes_on : Ahead → Bool) (value : Taking A) (si
       h
       ∙ ap (before x) (begun a b v e k
       ∙ ap
-      (λ t. cond t (and_then (sign b) (λ p c. after_sign (weight a.trees) v p c)) (found (v ∷ [], []) b))
+      (λ t. cond t (and_then (sign b) (λ p c. after_sign (weight a.trees) v p c))
+      (found (v ∷ [], []) b))
       m)
       ∙ ap (λ ps. found (x.0 ++ v ∷ [], ps) b) (append-nil x.1)
 
@@ -101,11 +105,13 @@ module _ {A P : Type 0} (begins goes_on : Ahead → Bool) (value : Taking A) (si
       let no_more = lighter.less a b v h in
       begun a b v e h
       ∙ ap
-      (λ t. cond t (and_then (sign b) (λ q d. after_sign (weight a.trees) v q d)) (found (v ∷ [], []) b))
+      (λ t. cond t (and_then (sign b) (λ q d. after_sign (weight a.trees) v q d))
+      (found (v ∷ [], []) b))
       k
       ∙ ap (λ o. and_then o (λ q d. after_sign (weight a.trees) v q d)) m
       ∙ ap (λ o. and_then o (λ rest d. found (v ∷ rest.0, p ∷ rest.1) d))
-      (enough (weight a.trees) (suc (weight c.trees)) c (omega (arith, less, no_more)) (omega arith))
+      (enough (weight a.trees) (suc (weight c.trees)) c (omega (arith, less, no_more))
+      (omega arith))
 
   before-before : (x : Both) (v : A) (p : P) (o : Outcome Both)
       → before x (before (v ∷ [], p ∷ []) o) ≡ before (x.0 ++ v ∷ [], x.1 ++ p ∷ []) o
@@ -126,7 +132,8 @@ module _ {A P : Type 0} (begins goes_on : Ahead → Bool) (value : Taking A) (si
   unfolding take_list
   no-value s x a words h e k =
       h
-      ∙ ap (λ t. before x (cond t (and_then (value a) (after_value (weight a.trees))) (found ([], []) a))) e
+      ∙ ap (λ t. before x (cond t (and_then (value a) (after_value (weight a.trees)))
+      (found ([], []) a))) e
       ∙ ap (λ o. before x (and_then o (after_value (weight a.trees)))) k
 
   pub no-sign : (s : Ahead) (x : Both) (a b : Ahead) (v : A) (words : List ℕ) → SoFar s x a
@@ -136,6 +143,7 @@ module _ {A P : Type 0} (begins goes_on : Ahead → Bool) (value : Taking A) (si
       h
       ∙ ap (before x) (begun a b v e k
       ∙ ap
-      (λ t. cond t (and_then (sign b) (λ q d. after_sign (weight a.trees) v q d)) (found (v ∷ [], []) b))
+      (λ t. cond t (and_then (sign b) (λ q d. after_sign (weight a.trees) v q d))
+      (found (v ∷ [], []) b))
       m
       ∙ ap (λ o. and_then o (λ q d. after_sign (weight a.trees) v q d)) n)

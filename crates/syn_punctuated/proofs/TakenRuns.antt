@@ -14,7 +14,8 @@ use Rattle.syn_parse.specs.Takings.{Lightens, Lowers}
 use Rattle.syn_parse.specs.Takes.{Stays, TakesAs, Taking, found}
 use Rattle.syn_parse.specs.declared.fault.Fault.{Fault}
 use Rattle.syn_parse.specs.declared.fault.Fault.TheVariants.{Refused, Memory}
-use Rattle.syn_punctuated.proofs.TakeTurns.{SoFar, all-turns, last-turn, more-turns, no-sign, no-turns}
+use Rattle.syn_punctuated.proofs.TakeTurns.{SoFar, all-turns, last-turn, more-turns, no-sign}
+use Rattle.syn_punctuated.proofs.TakeTurns.{no-turns}
 use Rattle.syn_punctuated.proofs.TakeTurns.{no-value}
 use Rattle.syn_punctuated.specs.Lists.{values_of, separators_of}
 use Rattle.syn_punctuated.specs.TakeLists.{list_form, take_list}
@@ -27,7 +28,8 @@ stays-along : (s m t : State) → Stays s m → Stays m t → Stays s t
 stays-along s m t a b = (λ i. b.0 (a.0 i), b.1 ∙ a.1, omega (arith, a.2, b.2))
 
 -- a rule by two tests of what is ahead
-pub record Tells (rule : Rule) (begins goes_on : Ahead → Bool) (Good : State → Type 0) : Type 0 where
+pub record Tells (rule : Rule) (begins goes_on : Ahead → Bool) (Good : State
+    → Type 0) : Type 0 where
   pub begins_there : (s : State) → Good s → rule.begins s.place → begins (ahead s) ≡ true
   pub ends_there : (s : State) → Good s → rule.ends s.place → begins (ahead s) ≡ false
   pub goes_on_there : (s : State) → Good s → rule.goes_on s.place → goes_on (ahead s) ≡ true
@@ -51,7 +53,8 @@ module _ {T P F A S : Type 0} (rule : Rule) (reads : ValueCall F T) (separates :
   turns_form turns = (map form (map turn_value turns), map shape (map turn_separator turns))
 
   record Taken (start : State) (turns : List (Turn T P F)) (s : State) : Type 0 where
-    so_far : SoFar begins goes_on value sign lighter lower (ahead start) (turns_form turns) (ahead s)
+    so_far : SoFar begins goes_on value sign lighter lower (ahead start) (turns_form turns)
+        (ahead s)
     stays : Stays start s
     good : Good s
 
@@ -80,19 +83,25 @@ module _ {T P F A S : Type 0} (rule : Rule) (reads : ValueCall F T) (separates :
       let good = tells.stays_good s turn.between v.1 so.good in
       let p = signs turn.between turn.after (Ok turn.separator) good i.closes in
       record {
-        so_far = subst (λ x. SoFar begins goes_on value sign lighter lower (ahead start) x (ahead turn.after))
+        so_far =
+            subst (λ x. SoFar begins goes_on value sign lighter lower (ahead start) x
+            (ahead turn.after))
             (sym (form-last turns turn))
-            (more-turns begins goes_on value sign lighter lower (ahead start) (turns_form turns) (ahead s)
-            (ahead turn.between) (ahead turn.after) (form turn.value) (shape turn.separator) so.so_far
+            (more-turns begins goes_on value sign lighter lower (ahead start) (turns_form turns)
+            (ahead s)
+            (ahead turn.between) (ahead turn.after) (form turn.value) (shape turn.separator)
+            so.so_far
             (tells.begins_there s so.good i.opens.0) v.0
             (tells.goes_on_there turn.between good i.goes_on) p.0);
         stays =
-            stays-along start turn.between turn.after (stays-along start s turn.between so.stays v.1) p.1;
+            stays-along start turn.between turn.after
+            (stays-along start s turn.between so.stays v.1) p.1;
         good = tells.stays_good turn.between turn.after p.1 good;
       }
 
   chained : (start : State) (turns more : List (Turn T P F)) (f g : F) (s t : State)
-      → Chain rule reads separates f s more g t → Taken start turns s → Taken start (turns ++ more) t
+      → Chain rule reads separates f s more g t → Taken start turns s
+      → Taken start (turns ++ more) t
   chained start turns [] f g s t c so =
       subst (λ x. Taken start x t) (sym (append-nil turns)) (subst (Taken start turns) c.1 so)
   chained start turns (turn ∷ more) f g s t c so =
@@ -105,7 +114,8 @@ module _ {T P F A S : Type 0} (rule : Rule) (reads : ValueCall F T) (separates :
       → list_form form shape list ≡ ((turns_form turns).0 ++ map form more, (turns_form turns).1)
   as-list turns more list h =
       ap (λ vs. (map form vs, map shape (separators_of list))) h.0
-      ∙ ap (λ vs. (vs, map shape (separators_of list))) (map-append form (map turn_value turns) more)
+      ∙ ap (λ vs. (vs, map shape (separators_of list)))
+      (map-append form (map turn_value turns) more)
       ∙ ap (λ ps. ((turns_form turns).0 ++ map form more, map shape ps)) h.1
 
   lost : (start t : State) (r : Result (Punctuated T P) Fault) (e : Fault) → IsMemory e → r ≡ Err e
@@ -119,7 +129,8 @@ module _ {T P F A S : Type 0} (rule : Rule) (reads : ValueCall F T) (separates :
       → Ending rule reads separates f s turns r t
       → TakesAs (list_form form shape) take start r t
   ended start turns f s t (Ok list) so (at_end q e h) = (
-    all-turns begins goes_on value sign lighter lower (ahead start) (turns_form turns) (ahead s) so.so_far
+    all-turns begins goes_on value sign lighter lower (ahead start) (turns_form turns) (ahead s)
+        so.so_far
         (tells.ends_there s so.good q)
         ∙ ap (λ x. found x (ahead s)) (sym (as-list turns [] list h))
         ∙ ap (λ (u : State). found (list_form form shape list) (ahead u)) (sym e),
@@ -128,7 +139,8 @@ module _ {T P F A S : Type 0} (rule : Rule) (reads : ValueCall F T) (separates :
   ended start turns f s t (Err x) so (at_end q e h) = absurd h
   ended start turns f s t (Ok list) so (bare v g b q h) =
       let w = each f g s t (Ok v) so.good b.1 in (
-        last-turn begins goes_on value sign lighter lower (ahead start) (turns_form turns) (ahead s) (ahead t)
+        last-turn begins goes_on value sign lighter lower (ahead start) (turns_form turns) (ahead s)
+            (ahead t)
             (form v) so.so_far (tells.begins_there s so.good b.0) w.0
             (tells.stops_there t (tells.stays_good s t w.1 so.good) q)
             ∙ ap (λ x. found x (ahead t)) (sym (as-list turns (v ∷ []) list h)),
@@ -138,15 +150,18 @@ module _ {T P F A S : Type 0} (rule : Rule) (reads : ValueCall F T) (separates :
   ended start turns f s t r so (value_refused e g b q) =
       subst (λ x. TakesAs (list_form form shape) take start x t) (sym q)
       (fails_on (value (ahead s)) (take (ahead start))
-      (λ words k. no-value begins goes_on value sign lighter lower (ahead start) (turns_form turns) (ahead s)
-      words so.so_far (tells.begins_there s so.good b.0) k) e (IsFilled s.place) (IsFilled start.place)
+      (λ words k. no-value begins goes_on value sign lighter lower (ahead start) (turns_form turns)
+      (ahead s)
+      words so.so_far (tells.begins_there s so.good b.0) k) e (IsFilled s.place)
+      (IsFilled start.place)
       so.stays.0 (each f g s t (Err e) so.good b.1))
   ended start turns f s t r so (separator_refused v g m e b q p h) =
       let w = each f g s m (Ok v) so.good b.1 in
       let good = tells.stays_good s m w.1 so.good in
       subst (λ x. TakesAs (list_form form shape) take start x t) (sym h)
       (fails_on (sign (ahead m)) (take (ahead start))
-      (λ words k. no-sign begins goes_on value sign lighter lower (ahead start) (turns_form turns) (ahead s)
+      (λ words k. no-sign begins goes_on value sign lighter lower (ahead start) (turns_form turns)
+      (ahead s)
       (ahead m) (form v) words so.so_far (tells.begins_there s so.good b.0) w.0
       (tells.goes_on_there m good q) k) e (IsFilled m.place) (IsFilled start.place)
       (λ i. w.1.0 (so.stays.0 i)) (signs m t (Err e) good p))
@@ -159,7 +174,8 @@ module _ {T P F A S : Type 0} (rule : Rule) (reads : ValueCall F T) (separates :
       let all = stays-along s turn.between turn.after v.1 p.1 in
       let few = less turn.between turn.separator turn.after i.closes in
       let kept = subst (λ (u : State). remaining s.place ≤ remaining u.place) q
-      (n.1 (in_one_scope s.place t.place (subst (λ (u : State). scope_of u.place ≡ scope_of s.place) (sym q) all.1))) in
+      (n.1 (in_one_scope s.place t.place
+      (subst (λ (u : State). scope_of u.place ≡ scope_of s.place) (sym q) all.1))) in
       absurd (omega (arith, kept, few, v.1.2))
 
   pub run_takes : (f : F) (s t : State) (r : Result (Punctuated T P) Fault) → Good s

@@ -1,5 +1,6 @@
 -- How a list is written, a pair at a time.
-use Rattle.std.proofs.Common.{◌≡◌, ℕ, suc, ◌+◌, ◌<◌, List, [], ◌∷◌, ◌++◌, map, take, drop, length, get_or, Option, None, Some, refl, sym, ap, subst, ◌∙◌, drop-cons}
+use Rattle.std.proofs.Common.{◌≡◌, ℕ, suc, ◌+◌, ◌<◌, List, [], ◌∷◌, ◌++◌, map, take, drop, length}
+use Rattle.std.proofs.Common.{get_or, Option, None, Some, refl, sym, ap, subst, ◌∙◌, drop-cons}
 use Rattle.std.proofs.lemmas.List.{take-append-drop, take_more}
 use Rattle.std.specs.Global.{Box}
 use Rattle.std.specs.Prelude.{Result, Ok, Err, OnOk, OnErr}
@@ -19,12 +20,21 @@ on_err (Ok x) f h = h
 on_err (Err e) f h = f h
 
 -- a front of the first of two is a front of both
-pub front_first : (old f g new : Forest) → AppendsFront old f new → AppendsFront old (concat f g) new
-front_first old f g new h = (h.0, h.1, concat h.2 g, ap (λ all. concat all g) h.3 ∙ joined_assoc h.0 (tree h.1 h.2) g, h.4)
+pub front_first : (old f g new : Forest) → AppendsFront old f new
+    → AppendsFront old (concat f g) new
+front_first old f g new h =
+    (h.0, h.1, concat h.2 g, ap (λ all. concat all g) h.3 ∙ joined_assoc h.0 (tree h.1 h.2) g, h.4)
 
 -- where the first is written, a front of the second is a front of both
-pub front_second : (old f mid g new : Forest) → mid ≡ concat old f → AppendsFront mid g new → AppendsFront old (concat f g) new
-front_second old f mid g new written h = (concat f h.0, h.1, h.2, ap (concat f) h.3 ∙ sym (joined_assoc f h.0 (tree h.1 h.2)), h.4 ∙ ap (λ all. concat all h.0) written ∙ joined_assoc old f h.0)
+pub front_second : (old f mid g new : Forest) → mid ≡ concat old f → AppendsFront mid g new
+    → AppendsFront old (concat f g) new
+front_second old f mid g new written h = (
+  concat f h.0,
+  h.1,
+  h.2,
+  ap (concat f) h.3 ∙ sym (joined_assoc f h.0 (tree h.1 h.2)),
+  h.4 ∙ ap (λ all. concat all h.0) written ∙ joined_assoc old f h.0,
+)
 
 module _ {X Y : Type 0} (value : X → Forest) (separator : Y → Forest) where
   abbrev pub both : X × Y → Forest
@@ -38,41 +48,65 @@ module _ {X Y : Type 0} (value : X → Forest) (separator : Y → Forest) where
   last_written None = no_trees
   last_written (Some last) = value last.value
 
-  by_turns-pairs : (ps : List (X × Y)) (last : Option (Box X)) → by_turns value separator (map (λ p. p.0) ps ++ boxed_values last) (map (λ p. p.1) ps) ≡ concat (pairs_written ps) (last_written last)
+  by_turns-pairs : (ps : List (X × Y)) (last : Option (Box X))
+      → by_turns value separator (map (λ p. p.0) ps ++ boxed_values last) (map (λ p. p.1) ps)
+      ≡ concat (pairs_written ps) (last_written last)
   by_turns-pairs [] None = refl
   by_turns-pairs [] (Some last) = concat-none (value last.value)
   by_turns-pairs (p ∷ ps) last =
       ap (λ all. concat (value p.0) (concat (separator p.1) all)) (by_turns-pairs ps last)
-      ∙ sym (joined_assoc (value p.0) (separator p.1) (concat (pairs_written ps) (last_written last)))
+      ∙ sym (joined_assoc (value p.0) (separator p.1)
+      (concat (pairs_written ps) (last_written last)))
       ∙ sym (joined_assoc (both p) (pairs_written ps) (last_written last))
 
-  pairs_written-append : (ps qs : List (X × Y)) → pairs_written (ps ++ qs) ≡ concat (pairs_written ps) (pairs_written qs)
+  pairs_written-append : (ps qs : List (X × Y))
+      → pairs_written (ps ++ qs) ≡ concat (pairs_written ps) (pairs_written qs)
   pairs_written-append [] qs = refl
-  pairs_written-append (p ∷ ps) qs = ap (concat (both p)) (pairs_written-append ps qs) ∙ sym (joined_assoc (both p) (pairs_written ps) (pairs_written qs))
+  pairs_written-append (p ∷ ps) qs =
+      ap (concat (both p)) (pairs_written-append ps qs)
+      ∙ sym (joined_assoc (both p) (pairs_written ps) (pairs_written qs))
 
   -- the whole list, by its fields
-  pub list_written : (list : Punctuated X Y) → by_turns value separator (values_of list) (separators_of list) ≡ concat (pairs_written list.inner.items) (last_written list.last)
+  pub list_written : (list : Punctuated X Y)
+      → by_turns value separator (values_of list) (separators_of list)
+      ≡ concat (pairs_written list.inner.items) (last_written list.last)
   list_written list = by_turns-pairs list.inner.items list.last
 
   -- one pair further
-  pub pairs_more : (old mid new : Forest) (ps : List (X × Y)) (i : ℕ) (p : X × Y) → i < length ps → p ≡ get_or ps i p → mid ≡ concat old (pairs_written (take i ps)) → new ≡ concat mid (both p) → new ≡ concat old (pairs_written (take (i + 1) ps))
+  pub pairs_more : (old mid new : Forest) (ps : List (X × Y)) (i : ℕ) (p : X × Y) → i < length ps
+      → p ≡ get_or ps i p → mid ≡ concat old (pairs_written (take i ps)) → new ≡ concat mid (both p)
+      → new ≡ concat old (pairs_written (take (i + 1) ps))
   pairs_more old mid new ps i p lt is before step =
       step
       ∙ ap (λ all. concat all (both p)) before
       ∙ joined_assoc old (pairs_written (take i ps)) (both p)
-      ∙ ap (concat old) (ap (concat (pairs_written (take i ps))) (sym (concat-none (both p))) ∙ sym (pairs_written-append (take i ps) (p ∷ [])) ∙ ap (λ q. pairs_written (take i ps ++ q ∷ [])) is ∙ sym (ap pairs_written (take_more ps i p lt)))
+      ∙ ap (concat old) (ap (concat (pairs_written (take i ps))) (sym (concat-none (both p)))
+      ∙ sym (pairs_written-append (take i ps) (p ∷ []))
+      ∙ ap (λ q. pairs_written (take i ps ++ q ∷ [])) is
+      ∙ sym (ap pairs_written (take_more ps i p lt)))
 
-  pairs_at : (ps : List (X × Y)) (i : ℕ) (p : X × Y) → i < length ps → p ≡ get_or ps i p → pairs_written ps ≡ concat (concat (pairs_written (take i ps)) (both p)) (pairs_written (drop (suc i) ps))
+  pairs_at : (ps : List (X × Y)) (i : ℕ) (p : X × Y) → i < length ps → p ≡ get_or ps i p
+      → pairs_written ps ≡ concat (concat (pairs_written (take i ps)) (both p))
+      (pairs_written (drop (suc i) ps))
   pairs_at ps i p lt is =
       sym (ap pairs_written (take-append-drop i ps))
       ∙ pairs_written-append (take i ps) (drop i ps)
-      ∙ ap (λ qs. concat (pairs_written (take i ps)) (pairs_written qs)) (drop-cons ps i p lt ∙ ap (λ q. q ∷ drop (suc i) ps) (sym is))
+      ∙ ap (λ qs. concat (pairs_written (take i ps)) (pairs_written qs)) (drop-cons ps i p lt
+      ∙ ap (λ q. q ∷ drop (suc i) ps) (sym is))
       ∙ sym (joined_assoc (pairs_written (take i ps)) (both p) (pairs_written (drop (suc i) ps)))
 
   -- and refused there
-  pub pairs_stop : (old mid new : Forest) (list : Punctuated X Y) (i : ℕ) (p : X × Y) → i < length list.inner.items → p ≡ get_or list.inner.items i p → mid ≡ concat old (pairs_written (take i list.inner.items)) → AppendsFront mid (both p) new → AppendsFront old (by_turns value separator (values_of list) (separators_of list)) new
+  pub pairs_stop : (old mid new : Forest) (list : Punctuated X Y) (i : ℕ) (p : X × Y)
+      → i < length list.inner.items → p ≡ get_or list.inner.items i p
+      → mid ≡ concat old (pairs_written (take i list.inner.items)) → AppendsFront mid (both p) new
+      → AppendsFront old (by_turns value separator (values_of list) (separators_of list)) new
   pairs_stop old mid new list i p lt is before stopped =
       let ps = list.inner.items in
-      let front : AppendsFront old (concat (pairs_written (take i ps)) (both p)) new = front_second old (pairs_written (take i ps)) mid (both p) new before stopped in
-      let pairs : AppendsFront old (pairs_written ps) new = subst (λ (all : Forest). AppendsFront old all new) (sym (pairs_at ps i p lt is)) (front_first old (concat (pairs_written (take i ps)) (both p)) (pairs_written (drop (suc i) ps)) new front) in
-      subst (λ (all : Forest). AppendsFront old all new) (sym (list_written list)) (front_first old (pairs_written ps) (last_written list.last) new pairs)
+      let front : AppendsFront old (concat (pairs_written (take i ps)) (both p)) new =
+      front_second old (pairs_written (take i ps)) mid (both p) new before stopped in
+      let pairs : AppendsFront old (pairs_written ps) new =
+      subst (λ (all : Forest). AppendsFront old all new) (sym (pairs_at ps i p lt is))
+      (front_first old (concat (pairs_written (take i ps)) (both p))
+      (pairs_written (drop (suc i) ps)) new front) in
+      subst (λ (all : Forest). AppendsFront old all new) (sym (list_written list))
+      (front_first old (pairs_written ps) (last_written list.last) new pairs)

@@ -6,5 +6,7 @@ use Rattle.source_vectors.proofs.show.+lines.Goals as goal
 
 pub push_stream-push_tree-requires : goal.push_stream-push_tree-requires
 push_stream-push_tree-requires t c =
-    let small : tree_weight (tree_of c.next-item.result) ≤ weight c.args.stream.now = weight_here c.trees-next-items.result.now c.loop-next.next-index c.next-item.result _ c.trees-next-items.ensures c.loop-next-test.true c.next-item.is in
+    let small : tree_weight (tree_of c.next-item.result) ≤ weight c.args.stream.now =
+    weight_here c.trees-next-items.result.now c.loop-next.next-index c.next-item.result _
+    c.trees-next-items.ensures c.loop-next-test.true c.next-item.is in
     search rules

@@ -11,16 +11,21 @@ loop-after-preserved c =
     let less = c.in-Some.ensures.shorter in
     let size = i.1 in
     let number = i.2 in
-    let feeds = feeds_more (chars c.args.text.now) (chars c.loop-after.rest.now) s.0 _ s.1 (chars c.in-Some.after.now) c.in-Some.ensures.chars in (
+    let feeds =
+    feeds_more (chars c.args.text.now) (chars c.loop-after.rest.now) s.0 _ s.1
+    (chars c.in-Some.after.now) c.in-Some.ensures.chars in (
       c.in-Some.ensures.utf8,
       omega arith,
       omega arith,
-      inr (line_found (chars c.args.text.now) (chars c.loop-after.rest.now) s.0 _ s.1 (chars c.in-Some.after.now) c.in-Some.ensures.chars i.3),
+      inr (line_found (chars c.args.text.now) (chars c.loop-after.rest.now) s.0 _ s.1
+          (chars c.in-Some.after.now) c.in-Some.ensures.chars i.3),
     )
 
 pub returns-clause-number : goal.returns-clause-number
 returns-clause-number c =
     let s = c.past_others.ensures.skips in
     let number = c.loop-after.invariant.2 in
-    let feeds = feeds_end (chars c.args.text.now) (chars c.loop-after.rest.now) s.0 _ s.1 c.in_default.ensures.chars in
+    let feeds =
+    feeds_end (chars c.args.text.now) (chars c.loop-after.rest.now) s.0 _ s.1
+    c.in_default.ensures.chars in
     omega arith

@@ -15,5 +15,6 @@ pub loop-after-preserved : goal.loop-after-preserved
 loop-after-preserved c =
     let i = c.loop-after.invariant.1 in (
       c.in-Some.ensures.utf8,
-      return_kept (chars c.args.line.now) (chars c.loop-after.rest.now) (chars c.in-Some.after.now) i.0 _ _ i.1 i.2 c.in-Some.ensures.chars c.if-is_return.ensures,
+      return_kept (chars c.args.line.now) (chars c.loop-after.rest.now) (chars c.in-Some.after.now)
+          i.0 _ _ i.1 i.2 c.in-Some.ensures.chars c.if-is_return.ensures,
     )

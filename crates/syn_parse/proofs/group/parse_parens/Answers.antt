@@ -4,5 +4,6 @@ use Rattle.syn_parse.proofs.group.parse_parens.Goals as goal
 
 pub returns-clause-takes : goal.returns-clause-takes
 returns-clause-takes c =
-    enters_ahead (λ p. p.token.span) (λ p. p.content) Parenthesis tt c.args.input.now c.enter.new.input
+    enters_ahead (λ p. p.token.span) (λ p. p.content) Parenthesis tt c.args.input.now
+    c.enter.new.input
     c.enter.result c.enter.ensures

@@ -8,4 +8,5 @@ use Rattle.syn_parse.proofs.laws.peeks_tell_tokens.Goals as goal
 pub returns-clause-punctuations : goal.returns-clause-punctuations
 returns-clause-punctuations g c s found r t =
     let word = punctuation_word g.row.K g.row.N in
-    reads_at_once_tell (λ v. AreSpans v.spans) (punctuation_refusal word s) s t found (read_punctuation word s.place) r
+    reads_at_once_tell (λ v. AreSpans v.spans) (punctuation_refusal word s) s t found
+    (read_punctuation word s.place) r

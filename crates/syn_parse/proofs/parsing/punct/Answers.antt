@@ -14,9 +14,16 @@ returns-in-Some g c =
     let k = length (replicate g.row.N c.call_site-spans.result) in
     let characters : sized k (chars c.if-text.text.now) ≡ ascii_chars (sized g.row.N given) =
     elim c.if-text.branch [
-      | then-text w ↦ ap (λ t. sized k (chars t.now)) w.text-is ∙ counted g.row.N k given (length-replicate g.row.N c.call_site-spans.result) w.if-text.true
-      | else-text w ↦ ap (λ t. sized k (chars t.now)) w.text-is ∙ uncounted g.row.N k given w.if-text.false
+      | then-text w ↦ ap (λ t. sized k (chars t.now)) w.text-is
+          ∙ counted g.row.N k given (length-replicate g.row.N c.call_site-spans.result)
+          w.if-text.true
+      | else-text w ↦ ap (λ t. sized k (chars t.now)) w.text-is
+          ∙ uncounted g.row.N k given w.if-text.false
     ] in
-    let read : read_spans (read_punctuation (ascii_chars (sized g.row.N given)) c.args.input.now.place) ≡ Some (c.puncts.new.spans, place_of c.in-Some.rest) =
-    ap (λ cs. read_spans (read_punctuation cs c.args.input.now.place)) (sym characters) ∙ ap (λ p. read_spans (read_punctuation (sized k (chars c.if-text.text.now)) p)) (sym c.cursor.ensures) ∙ c.in-Some.ensures in
-    rw c.move_to.ensures (puncts-read _ c.puncts.new.spans (place_of c.in-Some.rest) _ c.args.input.now read)
+    let read : read_spans (read_punctuation (ascii_chars (sized g.row.N given))
+    c.args.input.now.place) ≡ Some (c.puncts.new.spans, place_of c.in-Some.rest) =
+    ap (λ cs. read_spans (read_punctuation cs c.args.input.now.place)) (sym characters)
+    ∙ ap (λ p. read_spans (read_punctuation (sized k (chars c.if-text.text.now)) p))
+    (sym c.cursor.ensures) ∙ c.in-Some.ensures in
+    rw c.move_to.ensures (puncts-read _ c.puncts.new.spans (place_of c.in-Some.rest) _
+    c.args.input.now read)

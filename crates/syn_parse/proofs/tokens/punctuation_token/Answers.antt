@@ -13,13 +13,33 @@ use Rattle.syn_parse.proofs.tokens.punctuation_token.Goals as goal
 pub returns : goal.returns
 returns g c =
     let word = punctuation_word g.row.K g.row.N in
-    let by_text = subst (λ text. PunctuationParses (λ (spans : List Span). spans) (ascii_chars (sized g.row.N text)) (sized g.row.N text) c.args.input.now (Ok c.in_ok-spans.spans) c.punct.new.input) c.punctuation_text.ensures c.in_ok-spans.ensures in
-    let read = subst (λ characters. PunctuationParses (λ (spans : List Span). spans) characters word c.args.input.now (Ok c.in_ok-spans.spans) c.punct.new.input) (ascii_chars-same word (punctuation-chars g.row.K g.row.N)) by_text in
-    at-once-made AreSpans (λ (p : Punctuation g.row.K g.row.N). AreSpans p.spans) (punctuation_refusal word c.args.input.now) c.args.input.now (read_punctuation word c.args.input.now.place) c.in_ok-spans.spans c.new.result c.punct.new.input (λ ts h. c.new.ensures ∙ h) read
+    let by_text =
+    subst (λ text. PunctuationParses (λ (spans : List Span). spans)
+    (ascii_chars (sized g.row.N text)) (sized g.row.N text) c.args.input.now
+    (Ok c.in_ok-spans.spans) c.punct.new.input) c.punctuation_text.ensures
+    c.in_ok-spans.ensures in
+    let read =
+    subst (λ characters. PunctuationParses (λ (spans : List Span). spans) characters word
+    c.args.input.now (Ok c.in_ok-spans.spans) c.punct.new.input)
+    (ascii_chars-same word (punctuation-chars g.row.K g.row.N)) by_text in
+    at-once-made AreSpans (λ (p : Punctuation g.row.K g.row.N). AreSpans p.spans)
+    (punctuation_refusal word c.args.input.now) c.args.input.now
+    (read_punctuation word c.args.input.now.place) c.in_ok-spans.spans c.new.result
+    c.punct.new.input (λ ts h. c.new.ensures ∙ h) read
 
 pub returns-in_err-spans : goal.returns-in_err-spans
 returns-in_err-spans g c =
     let word = punctuation_word g.row.K g.row.N in
-    let by_text = subst (λ text. PunctuationParses (λ (spans : List Span). spans) (ascii_chars (sized g.row.N text)) (sized g.row.N text) c.args.input.now (Err c.in_err-spans.field-0.0) c.punct.new.input) c.punctuation_text.ensures c.in_err-spans.ensures in
-    let read = subst (λ characters. PunctuationParses (λ (spans : List Span). spans) characters word c.args.input.now (Err c.in_err-spans.field-0.0) c.punct.new.input) (ascii_chars-same word (punctuation-chars g.row.K g.row.N)) by_text in
-    at-once-stops AreSpans (λ (p : Punctuation g.row.K g.row.N). AreSpans p.spans) (punctuation_refusal word c.args.input.now) c.args.input.now (read_punctuation word c.args.input.now.place) c.in_err-spans.field-0.0 c.from_residual.result c.punct.new.input c.from_residual.ensures.1 read
+    let by_text =
+    subst (λ text. PunctuationParses (λ (spans : List Span). spans)
+    (ascii_chars (sized g.row.N text)) (sized g.row.N text) c.args.input.now
+    (Err c.in_err-spans.field-0.0) c.punct.new.input) c.punctuation_text.ensures
+    c.in_err-spans.ensures in
+    let read =
+    subst (λ characters. PunctuationParses (λ (spans : List Span). spans) characters word
+    c.args.input.now (Err c.in_err-spans.field-0.0) c.punct.new.input)
+    (ascii_chars-same word (punctuation-chars g.row.K g.row.N)) by_text in
+    at-once-stops AreSpans (λ (p : Punctuation g.row.K g.row.N). AreSpans p.spans)
+    (punctuation_refusal word c.args.input.now) c.args.input.now
+    (read_punctuation word c.args.input.now.place) c.in_err-spans.field-0.0
+    c.from_residual.result c.punct.new.input c.from_residual.ensures.1 read

@@ -11,20 +11,37 @@ use Rattle.syn_parse.proofs.Reading.{reads-stops}
 use Rattle.syn_parse.proofs.trees.ident.Goals as goal
 
 pub returns-in_default : goal.returns-in_default
-returns-in_default c = ident-none c.args.input.now c.error.result (ap read_ident (sym c.cursor.ensures) ∙ c.in_default.ensures) c.error.ensures.words
+returns-in_default c =
+    ident-none c.args.input.now c.error.result (ap read_ident (sym c.cursor.ensures)
+    ∙ c.in_default.ensures) c.error.ensures.words
 
 pub returns-then-not-accept_as_ident : goal.returns-then-not-accept_as_ident
 returns-then-not-accept_as_ident c =
     let i = c.in-Some.ident.now in
-    let h : accept_as_ident i.text ≡ false = ap accept_as_ident (sym c.as_str-name.ensures) ∙ sym c.accept_as_ident.ensures ∙ c.if-not-accept_as_ident.true in
-    ident-keyword c.args.input.now c.error-then-not-accept_as_ident.result i.text i.span (place_of c.in-Some.rest) (ap read_ident (sym c.cursor.ensures) ∙ c.in-Some.ensures) h (subst (λ name. Refuses (refused_at c.args.input.now (codes "expected identifier, found keyword " ++ in_backquotes name)) c.error-then-not-accept_as_ident.result) c.as_str-name.ensures c.error-then-not-accept_as_ident.ensures.words)
+    let h : accept_as_ident i.text ≡ false =
+    ap accept_as_ident (sym c.as_str-name.ensures) ∙ sym c.accept_as_ident.ensures
+    ∙ c.if-not-accept_as_ident.true in
+    ident-keyword c.args.input.now c.error-then-not-accept_as_ident.result i.text i.span
+    (place_of c.in-Some.rest) (ap read_ident (sym c.cursor.ensures)
+    ∙ c.in-Some.ensures) h
+    (subst (λ name. Refuses
+    (refused_at c.args.input.now
+    (codes "expected identifier, found keyword " ++ in_backquotes name))
+    c.error-then-not-accept_as_ident.result) c.as_str-name.ensures
+    c.error-then-not-accept_as_ident.ensures.words)
 
 pub returns-in_err-ident : goal.returns-in_err-ident
-returns-in_err-ident c = reads-stops IsIdent _ c.args.input.now _ c.from_residual.result c.in_err-ident.field-0.0 c.from_residual.ensures.1
+returns-in_err-ident c =
+    reads-stops IsIdent _ c.args.input.now _ c.from_residual.result c.in_err-ident.field-0.0
+    c.from_residual.ensures.1
 
 pub returns : goal.returns
 returns c =
     let i = c.in-Some.ident.now in
-    let h : accept_as_ident i.text ≡ true = ap accept_as_ident (sym c.as_str-name.ensures) ∙ sym c.accept_as_ident.ensures ∙ c.if-not-accept_as_ident.false in
+    let h : accept_as_ident i.text ≡ true =
+    ap accept_as_ident (sym c.as_str-name.ensures) ∙ sym c.accept_as_ident.ensures
+    ∙ c.if-not-accept_as_ident.false in
     let copy : c.in_ok-ident.ident ≡ i = search rules in
-    rw (c.move_to.ensures, copy) (ident-value c.args.input.now i (place_of c.in-Some.rest) (ap read_ident (sym c.cursor.ensures) ∙ c.in-Some.ensures) h)
+    rw (c.move_to.ensures, copy)
+    (ident-value c.args.input.now i (place_of c.in-Some.rest)
+    (ap read_ident (sym c.cursor.ensures) ∙ c.in-Some.ensures) h)

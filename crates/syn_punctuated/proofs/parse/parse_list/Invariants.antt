@@ -9,7 +9,8 @@ use Rattle.syn_punctuated.proofs.parse.parse_list.Given as goal
 abbrev pub invariant-loop-pairs : goal.invariant-loop-pairs
 invariant-loop-pairs g l = record {
   so_far : SoFar g.R.ListRule.rule (CalledAtMut g.F.FnMut)
-      (Separates g.P.Parse.parses g.P.Parse.takes) l.fn.parser l.fn.input l.pairs.items l.parser l.input;
+      (Separates g.P.Parse.parses g.P.Parse.takes) l.fn.parser l.fn.input l.pairs.items l.parser
+      l.input;
   bounded : length l.pairs.items + remaining l.input.place ≤ remaining l.fn.input.place;
   here : place_of l.start ≡ l.input.place;
 }

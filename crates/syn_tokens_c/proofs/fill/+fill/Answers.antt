@@ -10,12 +10,30 @@ use Rattle.syn_tokens_c.proofs.fill.+fill.Goals as goal
 
 pub fill-fill_tree-requires : goal.fill-fill_tree-requires
 fill-fill_tree-requires t c =
-    let small : tree_weight (tree_of c.next-item.result) ≤ weight c.args.stream.now = weight_here c.trees-next-items.result.now c.loop-next.next-index c.next-item.result _ c.trees-next-items.ensures c.loop-next-test.true c.next-item.is in
+    let small : tree_weight (tree_of c.next-item.result) ≤ weight c.args.stream.now =
+    weight_here c.trees-next-items.result.now c.loop-next.next-index c.next-item.result _
+    c.trees-next-items.ensures c.loop-next-test.true c.next-item.is in
     search rules
 
 pub fill_tree-returns-in_ok-push-in-Group-2-clause-entries :
     goal.fill_tree-returns-in_ok-push-in-Group-2-clause-entries
 fill_tree-returns-in_ok-push-in-Group-2-clause-entries t c =
     let xs = c.args.entries.now.items in
-    filled xs c.push-in-Group.new.self.items c.fill.new.entries.items c.push-in-Group-2.new.self.items c.edge.result c.edge-in-Group.result c.edge-closing.result c.delimiter-delimiter.result c.stream.result.now (tree_span (group_of c.in-Group.group)) c.span_open-in-Group.result c.span_close.result (tree_of c.args.next.now) (length (string_bytes c.args.texts.now)) c.len-begin.result c.len-in-Group-2.result c.len-start.result c.len-in-Group.result
-    (search rules) (search rules) (search rules) (search rules) (search rules) (omega (arith, c.len-in-Group-2.ensures, ap length c.in_ok-fill-in-Group.ensures.texts, length-append (string_bytes c.args.texts.now) (texts c.stream.result.now))) (search rules) (search rules) (search rules) (search rules) (search rules) (ap tree_of c.in-Group.is ∙ ap (λ f. group (bounds_delimiter c.in-Group.group.bounds) f (tree_span (group_of c.in-Group.group))) (sym c.stream.ensures) ∙ ap (λ d. group d c.stream.result.now (tree_span (group_of c.in-Group.group))) (sym c.delimiter-delimiter.ensures))
+    filled xs c.push-in-Group.new.self.items c.fill.new.entries.items
+    c.push-in-Group-2.new.self.items c.edge.result c.edge-in-Group.result c.edge-closing.result
+    c.delimiter-delimiter.result c.stream.result.now (tree_span (group_of c.in-Group.group))
+    c.span_open-in-Group.result c.span_close.result (tree_of c.args.next.now)
+    (length (string_bytes c.args.texts.now)) c.len-begin.result c.len-in-Group-2.result
+    c.len-start.result c.len-in-Group.result
+    (search rules) (search rules) (search rules) (search rules) (search rules)
+    (omega (
+      arith,
+      c.len-in-Group-2.ensures,
+      ap length c.in_ok-fill-in-Group.ensures.texts,
+      length-append (string_bytes c.args.texts.now) (texts c.stream.result.now),
+    )) (search rules)
+    (search rules) (search rules) (search rules) (search rules) (ap tree_of c.in-Group.is
+    ∙ ap (λ f. group (bounds_delimiter c.in-Group.group.bounds) f
+    (tree_span (group_of c.in-Group.group))) (sym c.stream.ensures)
+    ∙ ap (λ d. group d c.stream.result.now (tree_span (group_of c.in-Group.group)))
+    (sym c.delimiter-delimiter.ensures))

@@ -12,6 +12,9 @@ decreases-fill_tree l = tree_weight (tree_of l.next.now)
 
 abbrev pub invariant-fill-loop-next : goal.invariant-fill-loop-next
 invariant-fill-loop-next l =
-    (l.entries.items ++ entries (length (string_bytes l.texts)) (trees_of (drop l.next-index l.next-items))
-    ≡ l.initial.entries.items ++ entries (length (string_bytes l.initial.texts)) (trees_of l.next-items))
-    × (string_bytes l.texts ++ texts (trees_of (drop l.next-index l.next-items)) ≡ string_bytes l.initial.texts ++ texts (trees_of l.next-items))
+    (l.entries.items ++ entries (length (string_bytes l.texts))
+    (trees_of (drop l.next-index l.next-items))
+    ≡ l.initial.entries.items
+    ++ entries (length (string_bytes l.initial.texts)) (trees_of l.next-items))
+    × (string_bytes l.texts ++ texts (trees_of (drop l.next-index l.next-items))
+    ≡ string_bytes l.initial.texts ++ texts (trees_of l.next-items))

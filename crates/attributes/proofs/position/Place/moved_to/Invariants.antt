@@ -6,7 +6,8 @@ use Rattle.attributes.proofs.position.Place.moved_to.Given as goal
 
 abbrev pub invariant-loop-place : goal.invariant-loop-place
 invariant-loop-place l =
-    shadow (Utf8 l.place.rest.now) × GoesOn l.fn.self.position l.fn.self.rest.now l.place.position l.place.rest.now
+    shadow (Utf8 l.place.rest.now)
+    × GoesOn l.fn.self.position l.fn.self.rest.now l.place.position l.place.rest.now
 
 abbrev pub decreases-loop-place : goal.decreases-loop-place
 decreases-loop-place l = length l.place.rest.now

@@ -3,16 +3,20 @@ use denote.Param.Weighed.{most}
 use Rattle.std.specs.Global.{Vec, Box}
 use Rattle.syn_punctuated.proofs.Depth.{deepest_value, most_values}
 use Rattle.syn_punctuated.specs.declared.punctuated.Punctuated.{Punctuated}
-use Rattle.list_tests.specs.declared.lists.nested.Argument.{Argument, size-Argument, size_is-Argument}
+use Rattle.list_tests.specs.declared.lists.nested.Argument.{Argument, size-Argument}
+use Rattle.list_tests.specs.declared.lists.nested.Argument.{size_is-Argument}
 use Rattle.list_tests.specs.declared.lists.nested.Value.{List, size-Value, the_lemmas}
 use Rattle.list_tests.proofs.lists.nested.+has.Goals as goal
 
-size-List-by : (inner : Vec (Argument × ℕ)) (last : Option (Box Argument)) → let list : Punctuated Argument ℕ = record { inner = inner; last = last } in size-Value (List list) ≡ max (deepest_value size-Argument list) 0 + 1
+size-List-by : (inner : Vec (Argument × ℕ)) (last : Option (Box Argument))
+    → let list : Punctuated Argument ℕ = record { inner = inner; last = last } in
+    size-Value (List list) ≡ max (deepest_value size-Argument list) 0 + 1
 size-List-by inner None = search (rules, the_lemmas)
 size-List-by inner (Some last) = search (rules, the_lemmas)
 
 -- how deep a list of arguments is
-size-List : (list : Punctuated Argument ℕ) → size-Value (List list) ≡ max (deepest_value size-Argument list) 0 + 1
+size-List : (list : Punctuated Argument ℕ)
+    → size-Value (List list) ≡ max (deepest_value size-Argument list) 0 + 1
 size-List list = size-List-by list.inner list.last
 
 pub loop-item-init : goal.loop-item-init

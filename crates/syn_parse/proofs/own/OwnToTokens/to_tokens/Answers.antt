@@ -12,20 +12,24 @@ pub returns-in-Ok-clause-err : goal.returns-in-Ok-clause-err
 returns-in-Ok-clause-err g c =
     let span = c.args.self.now.span in
     let e = subst (λ t. own_word t span ≡ tree (leaf (ident t span)) no_trees) c.text.ensures
-    (word_if_made c.text.result.now span c.new.result c.new.ensures.takes c.new.ensures.refuses (λ h. let k = sym c.in-Ok.is ∙ h in cc)) in
+    (word_if_made c.text.result.now span c.new.result c.new.ensures.takes c.new.ensures.refuses
+    (λ h. let k = sym c.in-Ok.is ∙ h in cc)) in
     subst (λ w. OnErr c.append.result (AppendsFront c.args.tokens.now w c.append.new.self)) (sym e)
-    (none_appended c.append.result c.args.tokens.now (leaf (ident g.W.Word.text span)) no_trees c.append.new.self c.append.ensures.err)
+    (none_appended c.append.result c.args.tokens.now (leaf (ident g.W.Word.text span)) no_trees
+    c.append.new.self c.append.ensures.err)
 
 pub returns-in-Err-Refused-clause-ok : goal.returns-in-Err-Refused-clause-ok
 returns-in-Err-Refused-clause-ok g c =
     let span = c.args.self.now.span in
     let e = subst (λ t. own_word t span ≡ no_trees) c.text.ensures
-    (nothing_if_refused c.text.result.now span c.new.result c.new.ensures.takes c.new.ensures.refuses (c.in-Err-Refused.is ∙ ap Err c.in-Err-Refused.field-0-is)) in
+    (nothing_if_refused c.text.result.now span c.new.result c.new.ensures.takes
+    c.new.ensures.refuses (c.in-Err-Refused.is ∙ ap Err c.in-Err-Refused.field-0-is)) in
     sym (ap (concat c.args.tokens.now) e ∙ concat-none c.args.tokens.now)
 
 pub returns-in-Err-Memory-clause-err : goal.returns-in-Err-Memory-clause-err
 returns-in-Err-Memory-clause-err g c =
     let span = c.args.self.now.span in
     let e = subst (λ t. own_word t span ≡ tree (leaf (ident t span)) no_trees) c.text.ensures
-    (word_if_made c.text.result.now span c.new.result c.new.ensures.takes c.new.ensures.refuses (λ h. let k = sym (c.in-Err-Memory.is ∙ ap Err c.in-Err-Memory.field-0-is) ∙ h in cc)) in
+    (word_if_made c.text.result.now span c.new.result c.new.ensures.takes c.new.ensures.refuses
+    (λ h. let k = sym (c.in-Err-Memory.is ∙ ap Err c.in-Err-Memory.field-0-is) ∙ h in cc)) in
     (no_trees, leaf (ident g.W.Word.text span), no_trees, e, sym (concat-none c.args.tokens.now))

@@ -5,7 +5,8 @@ use Rattle.syn_parse.proofs.stream.ParseBuffer.peek2.Goals as goal
 
 pub returns-in-Some-clause-sees : goal.returns-in-Some-clause-sees
 returns-in-Some-clause-sees g c =
-    seen_next g.T.Token.sees c.args.self.now.place (place_of c.in-Some.second) c.peek.result (search rules)
+    seen_next g.T.Token.sees c.args.self.now.place (place_of c.in-Some.second) c.peek.result
+    (search rules)
     c.peek.ensures.sees
 
 pub returns-in-None-clause-sees : goal.returns-in-None-clause-sees

@@ -3,7 +3,8 @@ use Rattle.syn_parse.proofs.GroupTakes.{group_told}
 use Rattle.syn_parse.proofs.stream.ParseBuffer.within.Goals as goal
 
 pub returns-clause-runs : goal.returns-clause-runs
-returns-clause-runs g c = as_does _ c.args.self.now c.run_within.result c.run_within.new.self c.run_within.ensures.runs
+returns-clause-runs g c =
+    as_does _ c.args.self.now c.run_within.result c.run_within.new.self c.run_within.ensures.runs
 
 pub returns-clause-takes : goal.returns-clause-takes
 returns-clause-takes g c visible inner each =

@@ -13,8 +13,11 @@ returns-clause-ok g c =
       taken = pushed.taken;
       starts = pushed.starts;
       drains = (pushed.ends.0, (pushed.rest, pushed.yields, pushed.ends.1));
-      values = pushed.adds.values ∙ ap (λ front. front ++ map value_of_pair pushed.taken) made.values;
-      separators = pushed.adds.separators ∙ ap (λ front. front ++ separators_in pushed.taken) made.separators;
+      values =
+          pushed.adds.values ∙ ap (λ front. front ++ map value_of_pair pushed.taken) made.values;
+      separators =
+          pushed.adds.separators
+          ∙ ap (λ front. front ++ separators_in pushed.taken) made.separators;
       are_pairs = pushed.adds.are_pairs;
     }
 

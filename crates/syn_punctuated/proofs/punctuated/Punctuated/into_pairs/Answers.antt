@@ -8,7 +8,8 @@ use Rattle.syn_punctuated.proofs.punctuated.Punctuated.into_pairs.Goals as goal
 pub returns-clause-rest : goal.returns-clause-rest
 returns-clause-rest g c =
     let list = c.args.self in
-    ap (λ items. map pair_of items ++ map end_of (boxed_values list.last)) c.from_vec.ensures.items ∙ paired_up list.inner.items (boxed_values list.last)
+    ap (λ items. map pair_of items ++ map end_of (boxed_values list.last)) c.from_vec.ensures.items
+    ∙ paired_up list.inner.items (boxed_values list.last)
 
 pub returns-clause-runs : goal.returns-clause-runs
 returns-clause-runs g c = gives_in_order

@@ -10,6 +10,7 @@ returns-clause-run g c =
 
 pub returns-clause-takes : goal.returns-clause-takes
 returns-clause-takes g c go =
-    separated_keeps _ g.P.Parse.parses go g.P.Token.peeks g.P.Token.sees g.T.Parse.takes g.P.Parse.takes
+    separated_keeps _ g.P.Parse.parses go g.P.Token.peeks g.P.Token.sees g.T.Parse.takes
+    g.P.Parse.takes
     (λ f h s t r k. search rules) _ c.args.input.now c.parse_list.new.input c.parse_list.result
     c.parse_list.ensures.run

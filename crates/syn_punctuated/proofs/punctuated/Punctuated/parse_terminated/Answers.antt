@@ -5,7 +5,8 @@ use Rattle.syn_punctuated.proofs.punctuated.Punctuated.parse_terminated.Goals as
 
 pub returns-clause-run : goal.returns-clause-run
 returns-clause-run g c =
-    run_seen _ _ (same_rule _) _ _ _ _ (λ _. tt {0}) (λ f h s t r k. search rules) (λ s t r k. k.0) _ _ _ _
+    run_seen _ _ (same_rule _) _ _ _ _ (λ _. tt {0}) (λ f h s t r k. search rules) (λ s t r k. k.0)
+    _ _ _ _
     c.parse_list.ensures.run
 
 pub returns-clause-takes : goal.returns-clause-takes

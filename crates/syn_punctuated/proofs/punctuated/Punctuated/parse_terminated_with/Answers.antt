@@ -11,4 +11,5 @@ returns-clause-run g c =
 pub returns-clause-takes : goal.returns-clause-takes
 returns-clause-takes g c value less each go =
     terminated_keeps _ g.P.Parse.parses go (told (λ v. v) value (lighter less)) g.P.Parse.takes each
-    c.args.parser c.args.input.now c.parse_list.new.input c.parse_list.result c.parse_list.ensures.run
+    c.args.parser c.args.input.now c.parse_list.new.input c.parse_list.result
+    c.parse_list.ensures.run

@@ -1,5 +1,6 @@
 use Rattle.std.proofs.Common.{rules, refl, sym, ◌∙◌}
-use Rattle.syn_punctuated.proofs.PairsAdded.{some_is_bare, none_is_trailing, adds_more, bare_after, trailing_after, match_fault}
+use Rattle.syn_punctuated.proofs.PairsAdded.{some_is_bare, none_is_trailing, adds_more, bare_after}
+use Rattle.syn_punctuated.proofs.PairsAdded.{trailing_after, match_fault}
 use Rattle.syn_punctuated.specs.declared.extends.PairsFault.TheVariants.{Memory}
 use Rattle.syn_punctuated.proofs.punctuated.Punctuated.push_pairs.Goals as goal
 
@@ -28,8 +29,19 @@ returns-in_err-push_pair g c =
       rest = c.loop-pair.pair-iterator;
       starts = c.into_iter-pair-iterator.ensures.into_iter_gives;
       yields = c.loop-pair.yielded_by;
-      adds = record { values = unchanged.0 ∙ i.added.values; separators = unchanged.1 ∙ i.added.separators; are_pairs = i.added.are_pairs };
-      ends = match_fault _ Memory _ c.from_residual.result c.from_residual.ensures.1 ((c.in-Some.pair, c.next.new.self, c.in-Some.ensures.steps), (λ e. cc, λ bare. absurd (i.trailing same bare)));
+      adds =
+          record {
+            values =
+                unchanged.0 ∙ i.added.values;
+            separators =
+                unchanged.1 ∙ i.added.separators;
+            are_pairs = i.added.are_pairs;
+          };
+      ends =
+          match_fault _ Memory _ c.from_residual.result c.from_residual.ensures.1 (
+            (c.in-Some.pair, c.next.new.self, c.in-Some.ensures.steps),
+            (λ e. cc, λ bare. absurd (i.trailing same bare)),
+          );
     }
 
 pub loop-pair-preserved : goal.loop-pair-preserved
@@ -43,7 +55,13 @@ loop-pair-preserved g c =
     record {
       can = search rules;
       ends = search rules;
-      added = adds_more c.args.self.now mid c.push_pair.new.self c.loop-pair.yielded c.in-Some.pair i.added shut values separators;
-      bare = bare_after mid c.push_pair.new.self c.loop-pair.yielded i.added.are_pairs shut same c.in-Some.pair values separators;
-      trailing = trailing_after mid c.push_pair.new.self c.loop-pair.yielded i.added.are_pairs shut same c.in-Some.pair values separators;
+      added =
+          adds_more c.args.self.now mid c.push_pair.new.self c.loop-pair.yielded c.in-Some.pair
+          i.added shut values separators;
+      bare =
+          bare_after mid c.push_pair.new.self c.loop-pair.yielded i.added.are_pairs shut same
+          c.in-Some.pair values separators;
+      trailing =
+          trailing_after mid c.push_pair.new.self c.loop-pair.yielded i.added.are_pairs shut same
+          c.in-Some.pair values separators;
     }
