@@ -1,5 +1,5 @@
--- What kinds, answers and reports of the program stand for.
-use Rattle.std.specs.Prelude.{◌≡◌, ℕ, List, map, codes, string_bytes}
+-- What commands, answers and reports of the program stand for.
+use Rattle.std.specs.Prelude.{◌≡◌, ℕ, List, map, codes}
 use Rattle.std.specs.Global.{Vec}
 use Rattle.tok_leaves.specs.Spans.{whole_span}
 use Rattle.tok_buffer.specs.Messages.{first_message_span, first_text}
@@ -61,7 +61,7 @@ separator_of separator.Plus = codes "+"
 separator_of separator.PathSep = codes "::"
 
 abbrev pub piece_of : pieces.Piece → spec.Piece
-piece_of p = record { text = string_bytes p.text; span = p.span }
+piece_of p = record { text = p.text; span = p.span }
 
 abbrev pub pieces_in : Vec pieces.Piece → List spec.Piece
 pieces_in ps = map piece_of ps.items

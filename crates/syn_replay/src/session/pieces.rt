@@ -1,5 +1,5 @@
 //! The leaves that were read, as pieces.
-ghost use Rattle.std.specs.Prelude.{◌≡◌, ◌<◌, ◌∷◌, [], length, map, IfOk, encode_utf8, take, string_bytes};
+ghost use Rattle.std.specs.Prelude.{◌≡◌, ◌<◌, ◌∷◌, [], length, map, IfOk, encode_utf8, take};
 ghost use Rattle.std.specs.Str.{chars};
 ghost use Rattle.tok_core.specs.Forest.{leaf};
 ghost use Rattle.tok_leaves.specs.Leaves.{ident_of, literal_of, punct_of};
@@ -10,13 +10,13 @@ ghost use Rattle.syn_replay.specs.Meanings.{piece_of};
 use crate::report::Piece;
 use std::alloc::{AllocError, Global};
 use tok_buffer::Lifetime;
-use tok_core::{Ident, Literal, Punct, Span};
+use tok_core::{Ident, Literal, Punct, Span, Text};
 
 fn piece(alloc: Global, text: &str, span: Span) -> Result<Piece, AllocError>
     ensures { IfOk result (λ p. piece_of p ≡ record { text = text.now; span = span }) }
 {
     Ok(Piece {
-        text: String::from_str(alloc, text)?,
+        text: Text::from_str(alloc, text)?,
         span,
     })
 }
@@ -49,9 +49,8 @@ pub fn literal(alloc: Global, literal: &Literal) -> Result<Vec<Piece>, AllocErro
 fn character(alloc: Global, c: char, span: Span) -> Result<Piece, AllocError>
     ensures { IfOk result (λ p. piece_of p ≡ record { text = encode_utf8 c; span = span }) }
 {
-    let mut text = String::new(alloc);
-    text.push(c)?;
-    Ok(Piece { text, span })
+    let mut bytes = [0u8; 4];
+    piece(alloc, c.encode_utf8(&mut bytes), span)
 }
 
 /// Returns the piece of a punct.
