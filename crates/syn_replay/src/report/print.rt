@@ -16,9 +16,11 @@ impl fmt::Display for Report {
 
     fn fmt<W: Write>(&self, f: &mut Formatter<W>) -> fmt::Result {
         for line in &self.lines {
-            writeln!(f, "{line}")?;
+            fmt::Display::fmt(line, f)?;
+            f.write_char('\n')?;
         }
-        writeln!(f, "{}", self.verdict)
+        fmt::Display::fmt(&self.verdict, f)?;
+        f.write_char('\n')
     }
 }
 
@@ -26,7 +28,9 @@ impl fmt::Display for Line {
     ghost output = { λ l. Some (spec.line_text (line_of l)) };
 
     fn fmt<W: Write>(&self, f: &mut Formatter<W>) -> fmt::Result {
-        write!(f, "{} {}", self.answer, self.position)
+        fmt::Display::fmt(&self.answer, f)?;
+        f.write_char(' ')?;
+        fmt::Display::fmt(&self.position, f)
     }
 }
 
@@ -177,6 +181,7 @@ fn write_spaced<W: Write>(f: &mut Formatter<W>, part: &str) -> fmt::Result
     if part.is_empty() {
         Ok(())
     } else {
-        write!(f, " {part}")
+        f.write_char(' ')?;
+        f.write_str(part)
     }
 }
