@@ -61,7 +61,7 @@ fn act<'a>(streams: &mut Streams<'a>, command: &Command) -> Result<Answer, Alloc
         (step (command_of command.now) (state_of streams.old))) }
 {
     let (n, _) = command.streams();
-    let stream = streams.at(n);
+    let stream = *streams.at(n);
     match command {
         Command::Enter(_, delimiter) => table::enter(streams, n, stream, Some(*delimiter)),
         Command::EnterAny(_) => table::enter(streams, n, stream, None),

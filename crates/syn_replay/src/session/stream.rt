@@ -48,8 +48,8 @@ impl<'a> Stream<'a> {
     }
 
     /// Returns the cursor at the stream's place.
-    pub fn cursor(self) -> Cursor<'a>
-        ensures { place_of result ≡ (stream_of self.entry).place }
+    pub fn cursor(&self) -> Cursor<'a>
+        ensures { place_of result ≡ (stream_of self.now).place }
     {
         let input = self.paused.resume();
         let cursor = input.cursor();

@@ -39,31 +39,31 @@ impl<'a> Streams<'a> {
     }
 
     /// Returns stream `n`, if it exists.
-    pub fn get(&self, n: usize) -> Option<Stream<'a>>
+    pub fn get(&self, n: usize) -> Option<&Stream<'a>>
         ensures { MatchOption result
             (stream_at (state_of self.now) n ≡ None)
-            (λ s. stream_at (state_of self.now) n ≡ Some (stream_of s)) }
+            (λ s. stream_at (state_of self.now) n ≡ Some (stream_of s.now)) }
     {
         if n < self.list.len() {
-            Some(self.list[n])
+            Some(&self.list[n])
         } else {
             None
         }
     }
 
     /// Returns stream `n`, which exists.
-    pub fn at(&self, n: usize) -> Stream<'a>
+    pub fn at(&self, n: usize) -> &Stream<'a>
         requires { n < length (state_of self.now) }
-        ensures { stream_at (state_of self.now) n ≡ Some (stream_of result) }
+        ensures { stream_at (state_of self.now) n ≡ Some (stream_of result.now) }
     {
-        self.list[n]
+        &self.list[n]
     }
 
     /// Returns the whole stream.
-    pub fn whole(&self) -> Stream<'a>
-        ensures { stream_at (state_of self.now) 0 ≡ Some (stream_of result) }
+    pub fn whole(&self) -> &Stream<'a>
+        ensures { stream_at (state_of self.now) 0 ≡ Some (stream_of result.now) }
     {
-        self.list[0]
+        &self.list[0]
     }
 
     /// Puts stream `n` at another place.
