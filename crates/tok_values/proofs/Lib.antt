@@ -2,3 +2,4 @@ mod Codes
 mod Digits
 mod Quoted
 mod Units
+mod Values

@@ -4,5 +4,6 @@ pub mod Integers
 pub mod Laws
 pub mod Numbers
 pub mod Strings
+pub mod Values
 pub use Rattle.tok_leaves.specs.Leaves
 pub use Rattle.tok_leaves.specs.Quoting

@@ -1,10 +1,11 @@
 //! The values of literals, by kind.
-ghost use Rattle.std.specs.Prelude.{◌≡◌, ℕ, List, IfOk, IfSome, MatchOption, true, ◌<◌, string_bytes};
+ghost use Rattle.std.specs.Prelude.{◌≡◌, ℕ, List, IfOk, IfSome, MatchOption, true, ◌<◌, option_map, string_bytes};
 ghost use Rattle.std.specs.Str.{chars};
 ghost use Rattle.tok_leaves.specs.Leaves.{ident_of, leaf_text, literal_of};
 ghost use Rattle.tok_values.specs.Floats.{float_value};
 ghost use Rattle.tok_values.specs.Integers.{ReadsInteger};
 ghost use Rattle.tok_values.specs.Strings.{InApostrophes, IsByteValue, IsBytesValue, IsCharValue, IsStringValue, bool_of};
+ghost use Rattle.tok_values.specs.Values.{HasValue, integer_value, string_value};
 
 use crate::floats::float_value;
 use crate::integers::{Integer, IntegerFault, read_integer};
@@ -53,20 +54,15 @@ pub trait LiteralExt {
 
 impl LiteralExt for Literal {
     fn string_value(&self, alloc: Global) -> Result<Option<String>, AllocError>
-        ensures { IfOk result (λ answer. let text = chars (leaf_text (literal_of self.now)) in
+        ensures grammar { IfOk result (λ answer.
+            let text = chars (leaf_text (literal_of self.now)) in
             MatchOption answer ((value : List ℕ) → IsStringValue text value → ⊥)
             (λ value. IsStringValue text (string_bytes value))) }
+        ensures value { IfOk result (λ answer.
+            option_map string_bytes answer
+            ≡ string_value (chars (leaf_text (literal_of self.now)))) }
     {
-        let Some(inner) = past_char(self.as_str(), '"') else {
-            return Ok(None);
-        };
-        let mut value = String::new(alloc);
-        let rest = push_text(&mut value, inner)?;
-        if is_only(rest, '"') {
-            Ok(Some(value))
-        } else {
-            Ok(None)
-        }
+        in_quotes(alloc, self.as_str())
     }
 
     fn bytes_value(&self, alloc: Global) -> Result<Option<Vec<u8>>, AllocError>
@@ -107,7 +103,8 @@ impl LiteralExt for Literal {
     }
 
     fn integer_value(&self) -> Result<Integer<'_>, IntegerFault>
-        ensures { ReadsInteger (chars (leaf_text (literal_of self.now))) result }
+        ensures grammar { ReadsInteger (chars (leaf_text (literal_of self.now))) result }
+        ensures value { HasValue (integer_value (chars (leaf_text (literal_of self.now)))) result }
     {
         read_integer(self.as_str())
     }
@@ -116,6 +113,24 @@ impl LiteralExt for Literal {
         ensures { IfOk result (λ value. value ≡ float_value (leaf_text (literal_of self.now))) }
     {
         float_value(alloc, self.as_str())
+    }
+}
+
+// Returns the text between two quotes.
+fn in_quotes(alloc: Global, text: &str) -> Result<Option<String>, AllocError>
+    ensures { IfOk result (λ answer.
+        MatchOption answer ((value : List ℕ) → IsStringValue (chars text.now) value → ⊥)
+        (λ value. IsStringValue (chars text.now) (string_bytes value))) }
+{
+    let Some(inner) = past_char(text, '"') else {
+        return Ok(None);
+    };
+    let mut value = String::new(alloc);
+    let rest = push_text(&mut value, inner)?;
+    if is_only(rest, '"') {
+        Ok(Some(value))
+    } else {
+        Ok(None)
     }
 }
 

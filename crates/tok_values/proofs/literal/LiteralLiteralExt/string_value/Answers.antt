@@ -1,10 +1,16 @@
-use Rattle.std.proofs.Common.{◌∙◌, false, sym, ap}
+use Rattle.std.proofs.Common.{ℕ, List, subst}
+use Rattle.std.specs.Prelude.{IfOk, MatchOption, string_bytes}
 use Rattle.std.specs.Str.{chars}
-use Rattle.tok_values.proofs.Units.{no_quotes}
+use Rattle.tok_values.specs.Strings.{IsStringValue}
+use Rattle.tok_values.proofs.Values.{string_found}
 use Rattle.tok_values.proofs.literal.LiteralLiteralExt.string_value.Goals as goal
 
-pub returns-else-is_only : goal.returns-else-is_only
-returns-else-is_only c =
-    let read = c.in_ok-rest.ensures in
-    λ value h. no_quotes false (chars c.args.self.now.text) (chars c.in-Some.inner.now) (chars c.in_ok-rest.rest.now) read.0
-    (ap chars (sym c.as_str.ensures) ∙ c.in-Some.ensures.chars) read.1 read.3 c.if-is_only.ensures h.0 h.1
+pub returns-clause-grammar : goal.returns-clause-grammar
+returns-clause-grammar c =
+    subst (λ text. IfOk c.in_quotes.result (λ answer.
+    MatchOption answer ((value : List ℕ) → IsStringValue (chars text) value → ⊥)
+    (λ value. IsStringValue (chars text) (string_bytes value))))
+    c.as_str.ensures c.in_quotes.ensures
+
+pub returns-clause-value : goal.returns-clause-value
+returns-clause-value c = string_found string_bytes _ _ (returns-clause-grammar c)
