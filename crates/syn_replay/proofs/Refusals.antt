@@ -27,7 +27,8 @@ max-same a = omega arith
 covered-same : (p : Origin) → let s : Span = record { origin = p } in unwrap_or (join s s) s ≡ s
 covered-same CallSite = refl
 covered-same (Source n a b) =
-    ap (λ o. unwrap_or o (source n a b)) (cond-true (n == n) _ None (eqb-same n)) ∙ ap (λ c. source n c (max b b)) (min-same a) ∙ ap (source n a) (max-same b)
+    ap (λ o. unwrap_or o (source n a b)) (cond-true (n == n) _ None (eqb-same n))
+    ∙ ap (λ c. source n c (max b b)) (min-same a) ∙ ap (source n a) (max-same b)
 
 pub refusal_of-refused : (r : Refusal) → refusal_of (refused r) ≡ r
 refusal_of-refused r = ap (λ s. record { span = s; words = r.words }) (covered-same r.span.origin)

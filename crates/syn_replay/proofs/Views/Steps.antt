@@ -28,7 +28,8 @@ use Rattle.syn_replay.specs.Agree.{AnswersAgree}
 use Rattle.syn_replay.specs.Transparent.{is_transparent, is_transparent_action}
 use Rattle.syn_replay.specs.Commands as commands
 use Rattle.syn_replay.specs.Commands.{Command, Action, Read, enter, fork, advance, discard, close}
-use Rattle.syn_replay.specs.Commands.{taken, parsed, listed_to, looked, read_answer, all_ignore_invisible}
+use Rattle.syn_replay.specs.Commands.{taken, parsed, listed_to, looked, read_answer}
+use Rattle.syn_replay.specs.Commands.{all_ignore_invisible}
 use Rattle.syn_replay.specs.Commands.{is_transparent_read}
 use Rattle.syn_replay.specs.Reports.{Answer, truth, pieces, absent, entered, forked}
 use Rattle.syn_replay.specs.Reports.{listed, found, unfit}
@@ -36,11 +37,13 @@ use Rattle.syn_replay.specs.Session.State.{Stream, StreamKind, content_of, a_for
 use Rattle.syn_replay.specs.Session.State.{with_stream, moved_to, is_inside}
 use Rattle.syn_replay.specs.Session.Step.{Stepped, stays, new_stream, into_group, place_of, tested}
 use Rattle.syn_replay.specs.Session.Step.{on_stream, named, is_missing, is_spent, step_on, step}
-use Rattle.syn_replay.specs.Session.Step.{any_of, is_fork, is_content, of_kind, kind_refusal, misuse}
+use Rattle.syn_replay.specs.Session.Step.{any_of, is_fork, is_content, of_kind, kind_refusal}
+use Rattle.syn_replay.specs.Session.Step.{misuse}
 use Rattle.syn_replay.specs.Turns.{Outcome, read_all, refused_at, pieces_of, turns, turns_left}
 use Rattle.syn_replay.proofs.Views.ListTurns.{OutcomesAlike, alike-turns, alike-turns_left}
 use Rattle.syn_replay.proofs.Views.Streams.{StreamsAlike, BothAlike, StatesAlike, alike-stream_at}
-use Rattle.syn_replay.proofs.Views.Streams.{alike-length, alike-append, alike-with_stream, alike-moved}
+use Rattle.syn_replay.proofs.Views.Streams.{alike-length, alike-append, alike-with_stream}
+use Rattle.syn_replay.proofs.Views.Streams.{alike-moved}
 use Rattle.syn_replay.proofs.Views.Streams.{alike-closed, alike-advanced, alike-all_spent}
 use Rattle.syn_replay.proofs.Views.Streams.{same-inside}
 use Rattle.syn_replay.proofs.Views.Choices.{either}
@@ -129,7 +132,8 @@ module _ (f g : Laid) (visible : erase f.forest ≡ erase g.forest) where
               ap (λ x. entered x a.delimiter a.span) size
               ∙ ap₂ (λ x y. entered (length su) x y) j.delimiter j.span;
           state =
-              alike-append f g (with_stream st k (moved_to a.after)) (with_stream su k (moved_to b.after))
+              alike-append f g (with_stream st k (moved_to a.after))
+              (with_stream su k (moved_to b.after))
               (new_stream a.content (closing_span a.span) (content_of k))
               (new_stream b.content (closing_span b.span) (content_of k))
               (moved a.after b.after j.after)
@@ -236,7 +240,8 @@ module _ (f g : Laid) (visible : erase f.forest ≡ erase g.forest) where
         (same-test false (λ s. not s.is_open) (λ s t i. ap not i.is_open)) (named c) in
         ap
         (λ b. cond b (Some 1)
-        (cond (any_of (is_spent st) (named c)) (Some 2) (kind_refusal c.action st c.stream))) missing
+        (cond (any_of (is_spent st) (named c)) (Some 2) (kind_refusal c.action st c.stream)))
+        missing
         ∙ ap₂ (λ b r. cond (any_of (is_missing su) (named c)) (Some 1) (cond b (Some 2) r)) over
         (same-kind_refusal c.action c.stream)
 

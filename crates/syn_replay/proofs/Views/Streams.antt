@@ -1,6 +1,7 @@
 -- Streams of two walks that are alike: at places with equal views, with equal spans of what is
 -- noted.
-use Rattle.std.proofs.Common.{◌≡◌, ◌∙◌, ap, ap₂, subst, refl, ℕ, zero, suc, ◌+◌, ◌-◌, ◌==◌, ◌&&◌, ◌||◌}
+use Rattle.std.proofs.Common.{◌≡◌, ◌∙◌, ap, ap₂, subst, refl, ℕ, zero, suc, ◌+◌, ◌-◌, ◌==◌, ◌&&◌}
+use Rattle.std.proofs.Common.{◌||◌}
 use Rattle.std.proofs.Common.{Bool, cond, List, [], ◌∷◌, ◌++◌, length, Option, Some}
 use Rattle.std.proofs.Common.{None}
 use Rattle.std.specs.Prelude.{⊤, option_map}
@@ -11,10 +12,14 @@ use Rattle.tok_buffer.specs.Ahead.{Leftover, leftover}
 use Rattle.tok_buffer.specs.Place.{Place}
 use Rattle.tok_buffer.proofs.View.Alike.{Alike, alike-leftover}
 use Rattle.syn_replay.specs.Session.State.{Stream, StreamKind, outermost, content_of, a_fork, State}
-use Rattle.syn_replay.specs.Session.State.{stream_at, with_stream, moved_to, spent, with_note, is_content_of}
-use Rattle.syn_replay.specs.Session.State.{is_open_content_of, contains, is_content_among, inside_of}
-use Rattle.syn_replay.specs.Session.State.{is_inside, is_or_inside, spent_where, all_spent, handed_note, with_note_on_parent, handed_up}
-use Rattle.syn_replay.specs.Session.State.{contents_closed, closed_inside, closed, taken_over, advanced}
+use Rattle.syn_replay.specs.Session.State.{stream_at, with_stream, moved_to, spent, with_note}
+use Rattle.syn_replay.specs.Session.State.{is_content_of}
+use Rattle.syn_replay.specs.Session.State.{is_open_content_of, contains, is_content_among}
+use Rattle.syn_replay.specs.Session.State.{inside_of}
+use Rattle.syn_replay.specs.Session.State.{is_inside, is_or_inside, spent_where, all_spent}
+use Rattle.syn_replay.specs.Session.State.{handed_note, with_note_on_parent, handed_up}
+use Rattle.syn_replay.specs.Session.State.{contents_closed, closed_inside, closed, taken_over}
+use Rattle.syn_replay.specs.Session.State.{advanced}
 use Rattle.syn_replay.proofs.Views.Choices.{either}
 
 -- a leftover is compared by its span alone
@@ -99,7 +104,8 @@ module _ (f g : Laid) where
   note-or (Some x) None n m e k = absurd (cc)
   note-or (Some x) (Some y) n m e k = e
 
-  alike-noted : (n m : Option Leftover) → span_of n ≡ span_of m → ChangesAlike (with_note n) (with_note m)
+  alike-noted : (n m : Option Leftover) → span_of n ≡ span_of m
+      → ChangesAlike (with_note n) (with_note m)
   alike-noted n m e s t k =
       record {
         place = k.place;
@@ -135,10 +141,16 @@ module _ (f g : Laid) where
   alike-handed_up k st su h = go (stream_at st k) (stream_at su k) (alike-stream_at st su k h) where
     go : (a b : Option Stream) → BothAlike a b
         → StatesAlike
-        (elim a
-        [ None ↦ st | Some s ↦ with_stream (with_note_on_parent s.kind (handed_note s) st) k spent ])
-        (elim b
-        [ None ↦ su | Some s ↦ with_stream (with_note_on_parent s.kind (handed_note s) su) k spent ])
+        (elim a [
+          | None ↦ st
+          | Some s ↦
+              with_stream (with_note_on_parent s.kind (handed_note s) st) k spent
+        ])
+        (elim b [
+          | None ↦ su
+          | Some s ↦
+              with_stream (with_note_on_parent s.kind (handed_note s) su) k spent
+        ])
     go None None i = h
     go None (Some t) i = absurd i
     go (Some s) None i = absurd i

@@ -1,5 +1,6 @@
 -- Entering a group, and refusals, as the steps of a replay.
-use Rattle.std.proofs.Common.{◌≡◌, ◌∙◌, ap, sym, refl, ℕ, List, [], ◌∷◌, ◌++◌, Option, Some, None, Ok, Err}
+use Rattle.std.proofs.Common.{◌≡◌, ◌∙◌, ap, sym, refl, ℕ, List, [], ◌∷◌, ◌++◌, Option, Some, None}
+use Rattle.std.proofs.Common.{Ok, Err}
 use Rattle.std.specs.Prelude.{true, length, IfOk, Result}
 use Rattle.std.specs.declared.alloc.AllocError.{AllocError}
 use Rattle.tok_lexical.specs.declared.delimiter.Delimiter.{Delimiter}
@@ -16,7 +17,8 @@ use Rattle.syn_parse.specs.RefusalWords.{refused_at}
 use Rattle.syn_parse.specs.declared.fault.Fault.{Fault}
 use Rattle.syn_parse.specs.declared.fault.Fault.TheVariants.{Refused, Memory}
 use Rattle.syn_replay.specs.Reports as reports
-use Rattle.syn_replay.specs.Session.State.{State, at_rest, with_stream, content_of, put, standing, stream_at}
+use Rattle.syn_replay.specs.Session.State.{State, at_rest, with_stream, content_of, put, standing}
+use Rattle.syn_replay.specs.Session.State.{stream_at}
 use Rattle.syn_replay.specs.Session.State as states
 use Rattle.syn_replay.specs.Session.Step.{into_group}
 use Rattle.syn_replay.specs.Meanings.{IsAnswer, refusal_of}
@@ -26,26 +28,43 @@ use Rattle.syn_replay.proofs.Refusals.{refusal_of-refused}
 use Rattle.syn_replay.proofs.Walk.Changes.{changed_alike}
 
 -- an answer of the refusal that is wanted
-answered-refusal : (r : Refusal) (e : List Message) (a : Answer) → e ≡ messages.refused r → Answers (Refused e) (Ok a) → IsAnswer a (reports.refused r)
+answered-refusal : (r : Refusal) (e : List Message) (a : Answer) → e ≡ messages.refused r
+    → Answers (Refused e) (Ok a) → IsAnswer a (reports.refused r)
 answered-refusal r e a h q =
-    let same : refusal_of e ≡ r = ap refusal_of h ∙ refusal_of-refused r in (q.0 ∙ ap reports.refused same, q.1 (h ∙ ap messages.refused (sym same)))
+    let same : refusal_of e ≡ r = ap refusal_of h ∙ refusal_of-refused r in
+    (q.0 ∙ ap reports.refused same, q.1 (h ∙ ap messages.refused (sym same)))
 
 abbrev pub AreEntered : (Delimiter × DelimSpan × parse.State) → Entered → Type 0
 AreEntered p e = (p.0 ≡ e.delimiter) × AreParts p.1 p.2 e
 
-module _ (st : State) (n : ℕ) (s : states.Stream) (here : stream_at st n ≡ Some s) (words : List ℕ) where
-  pub entered-value : (x : Option Entered) (d : Delimiter) (span : DelimSpan) (content t : parse.State) → Enters AreEntered x (refused_at (at_rest s) words) (at_rest s) (Ok (d, span, content)) t → (reports.entered (length st) d (whole_span span) ≡ (into_group st n s words x).answer) × (with_stream st n (put t) ++ standing content (content_of n) true ∷ [] ≡ (into_group st n s words x).state)
-  entered-value None d span content t h = absurd h.0
-  entered-value (Some e) d span content t h = (
-    ap (λ z. reports.entered (length st) z (whole_span span)) h.0.0 ∙ ap (reports.entered (length st) e.delimiter) h.0.1.0,
-    ap (λ u. with_stream st n (put u) ++ standing content (content_of n) true ∷ []) h.1
-        ∙ ap (λ c. with_stream st n (put (after_group e (at_rest s))) ++ standing c (content_of n) true ∷ []) h.0.1.1
-        ∙ ap (λ us. us ++ standing (parse.content_of e) (content_of n) true ∷ []) (changed_alike st n s (put (after_group e (at_rest s))) (states.moved_to e.after) here refl),
-  )
+module _ (st : State) (n : ℕ) (s : states.Stream) (here : stream_at st n ≡ Some s) (words : List ℕ)
+  where
+    pub entered-value : (x : Option Entered) (d : Delimiter) (span : DelimSpan)
+        (content t : parse.State)
+        → Enters AreEntered x (refused_at (at_rest s) words) (at_rest s) (Ok (d, span, content)) t
+        → (reports.entered (length st) d (whole_span span) ≡ (into_group st n s words x).answer)
+        × (with_stream st n (put t) ++ standing content (content_of n) true ∷ []
+        ≡ (into_group st n s words x).state)
+    entered-value None d span content t h = absurd h.0
+    entered-value (Some e) d span content t h = (
+      ap (λ z. reports.entered (length st) z (whole_span span)) h.0.0
+          ∙ ap (reports.entered (length st) e.delimiter) h.0.1.0,
+      ap (λ u. with_stream st n (put u) ++ standing content (content_of n) true ∷ []) h.1
+          ∙ ap (λ c. with_stream st n (put (after_group e (at_rest s)))
+          ++ standing c (content_of n) true ∷ []) h.0.1.1
+          ∙ ap (λ us. us ++ standing (parse.content_of e) (content_of n) true ∷ [])
+          (changed_alike st n s (put (after_group e (at_rest s))) (states.moved_to e.after) here
+          refl),
+    )
 
-  pub entered-refusal : (x : Option Entered) (f : Fault) (t : parse.State) (result : Result Answer AllocError) → Enters AreEntered x (refused_at (at_rest s) words) (at_rest s) (Err f) t → Answers f result → IfOk result (λ a. IsStepped a st (into_group st n s words x))
-  entered-refusal None (Refused e) t (Ok a) h q = (answered-refusal (refused_at (at_rest s) words) e a h.0 q, refl)
-  entered-refusal None (Refused e) t (Err m) h q = tt
-  entered-refusal None (Memory e) t (Ok a) h q = absurd q
-  entered-refusal None (Memory e) t (Err m) h q = tt
-  entered-refusal (Some e) f t result h q = absurd h
+    pub entered-refusal : (x : Option Entered) (f : Fault) (t : parse.State)
+        (result : Result Answer AllocError)
+        → Enters AreEntered x (refused_at (at_rest s) words) (at_rest s) (Err f) t
+        → Answers f result
+        → IfOk result (λ a. IsStepped a st (into_group st n s words x))
+    entered-refusal None (Refused e) t (Ok a) h q =
+        (answered-refusal (refused_at (at_rest s) words) e a h.0 q, refl)
+    entered-refusal None (Refused e) t (Err m) h q = tt
+    entered-refusal None (Memory e) t (Ok a) h q = absurd q
+    entered-refusal None (Memory e) t (Err m) h q = tt
+    entered-refusal (Some e) f t result h q = absurd h

@@ -36,11 +36,13 @@ use Rattle.syn_replay.specs.Commands as commands
 use Rattle.syn_replay.specs.Commands.{listed_to}
 use Rattle.syn_replay.specs.Reports as reports
 use Rattle.syn_replay.specs.Kinds.{Kind, read, refusal}
-use Rattle.syn_replay.specs.Session.Reading.{IsRead, ReadsPieces, AfterPieces, GivesAnswer, LeavesAt}
+use Rattle.syn_replay.specs.Session.Reading.{IsRead, ReadsPieces, AfterPieces, GivesAnswer}
+use Rattle.syn_replay.specs.Session.Reading.{LeavesAt}
 use Rattle.syn_replay.specs.Session.Reading.{pair_parts, punct_pieces}
 use Rattle.syn_replay.specs.Meanings.{pieces_in, refusal_of}
 use Rattle.syn_replay.specs.Turns.{Outcome, read_all, refused_at, with_parts, is_later, no_progress}
-use Rattle.syn_replay.specs.Turns.{pieces_of, separator_refusal, Rule, terminated, separated, is_over}
+use Rattle.syn_replay.specs.Turns.{pieces_of, separator_refusal, Rule, terminated, separated}
+use Rattle.syn_replay.specs.Turns.{is_over}
 use Rattle.syn_replay.specs.Turns.{turns, turns_left}
 use Rattle.syn_replay.specs.declared.report.Answer.{Answer}
 use Rattle.syn_replay.specs.declared.report.Answer.TheVariants as answer
@@ -250,9 +252,11 @@ module _ {F : Type 0} (k n : ℕ) (kind : Kind) (reads : ValueCall F (Vec Piece)
   told s m t whole rest turns (Ok list) e h c = (
     e ∙ ap (with_parts (parts_of turns)) c.3
         ∙ ap (λ z. read_all z t.place) (sym (paired_parts turns c.0))
-        ∙ ap (λ z. read_all (flat_map (pair_parts word) (paired z (map turn_separator turns))) t.place)
+        ∙ ap (λ z. read_all (flat_map (pair_parts word) (paired z (map turn_separator turns)))
+        t.place)
         (sym c.1)
-        ∙ ap (λ z. read_all (flat_map (pair_parts word) (paired (values_of list) z)) t.place) (sym c.2),
+        ∙ ap (λ z. read_all (flat_map (pair_parts word) (paired (values_of list) z)) t.place)
+        (sym c.2),
     along s m t h c.4,
   )
   told s m t whole rest turns (Err (Refused f)) e h c =
@@ -331,7 +335,8 @@ module _ {F : Type 0} (k n : ℕ) (kind : Kind) (reads : ValueCall F (Vec Piece)
         let v = value f turn.parser s turn.between turn.value fit i.opens.1 in
         let p = separator turn.between turn.after turn.separator i.closes in (
           full m s.place turn.between.place turn.after.place v.trees p.trees
-              (begins rule s.place i.opens.0) v.is (goes_on rule turn.between.place i.goes_on) p.is e
+              (begins rule s.place i.opens.0) v.is (goes_on rule turn.between.place i.goes_on) p.is
+              e
               ∙ ap (λ z. with_parts (z ∷ (pieces_of p.trees ∷ []))
               (rounds scope rule m turn.after.place)) v.pieces
               ∙ ap (λ z. with_parts (pieces_in turn.value ∷ (z ∷ []))
@@ -414,7 +419,8 @@ module _ {F : Type 0} (k n : ℕ) (kind : Kind) (reads : ValueCall F (Vec Piece)
         let place : t.place ≡ turn.after.place = ap (λ (z : State). z.place) q in
         concludes_refused s _ turns x r t (runs.no_progress t) j h
         (stopped m s.place turn.between.place turn.after.place v.trees p.trees
-        (begins rule s.place i.opens.0) v.is (goes_on rule turn.between.place i.goes_on) p.is (sym (progress_is s.place turn.after.place)
+        (begins rule s.place i.opens.0) v.is (goes_on rule turn.between.place i.goes_on) p.is
+        (sym (progress_is s.place turn.after.place)
         ∙ ap (progresses s.place) (sym place) ∙ u.0)
         ∙ ap (λ z. refused_at (no_progress z scope) z) (sym place)
         ∙ ap (λ z. refused_at (no_progress t.place z) t.place) (sym (in_scope s t to ∙ e))) to

@@ -1,12 +1,15 @@
 -- A new content is linked by two writes.
-use Rattle.std.proofs.Common.{◌≡◌, ◌≢◌, ℕ, zero, suc, ◌+◌, ◌<◌, inl, inr, List, [], ◌∷◌, ◌++◌, length, get_or, set, Some, None, refl, ap, sym, ◌∙◌, arith, length-set, length-append}
+use Rattle.std.proofs.Common.{◌≡◌, ◌≢◌, ℕ, zero, suc, ◌+◌, ◌<◌, inl, inr, List, [], ◌∷◌, ◌++◌}
+use Rattle.std.proofs.Common.{length, get_or, set, Some, None, refl, ap, sym, ◌∙◌, arith}
+use Rattle.std.proofs.Common.{length-set, length-append}
 use Rattle.std.proofs.Math.Seq.{get_or-append_seam}
 use Rattle.std.proofs.lemmas.Bool.Decides.{eqb_tells}
 use Rattle.std.proofs.lemmas.List.{get_or-set_same, get_or-set_other, map-set, length-map}
 use Rattle.syn_replay.specs.Session.Links.{links_of, no_links, unlinked, links_at, AreLinked, IsNew}
 use Rattle.syn_replay.specs.declared.session.links.Links.{Links}
 use Rattle.syn_replay.specs.declared.session.stream.Stream.{Stream}
-use Rattle.syn_replay.proofs.Walk.Links.{links_there, linked_along, content_within, last_of, IsAppended, appended_linked}
+use Rattle.syn_replay.proofs.Walk.Links.{links_there, linked_along, content_within, last_of}
+use Rattle.syn_replay.proofs.Walk.Links.{IsAppended, appended_linked}
 
 abbrev with_last : ℕ → Links → Links
 with_last c l = record l { last = Some c }
@@ -21,13 +24,15 @@ abbrev orphan : Links → Links
 orphan l = record l { parent = None }
 
 -- before the parent's, the links of the new content are those of no stream
-rest_same : (os : List Links) (k j : ℕ) → orphan (links_at (os ++ unlinked (Some k) ∷ []) j) ≡ orphan (links_at os j)
+rest_same : (os : List Links) (k j : ℕ)
+    → orphan (links_at (os ++ unlinked (Some k) ∷ []) j) ≡ orphan (links_at os j)
 rest_same [] k zero = refl
 rest_same [] k (suc j) = refl
 rest_same (o ∷ os) k zero = refl
 rest_same (o ∷ os) k (suc j) = rest_same os k j
 
-same_but_last : (os : List Links) (l : Links) (j : ℕ) → j ≢ length os → links_at (os ++ l ∷ []) j ≡ links_at os j
+same_but_last : (os : List Links) (l : Links) (j : ℕ) → j ≢ length os
+    → links_at (os ++ l ∷ []) j ≡ links_at os j
 same_but_last [] l zero h = absurd (h refl)
 same_but_last [] l (suc j) h = refl
 same_but_last (o ∷ os) l zero h = refl
@@ -44,18 +49,25 @@ record Before (ls os : List Links) (k : ℕ) : Type 0 where
 
 before_writes : (ls os : List Links) (k : ℕ) → ls ≡ os ++ unlinked (Some k) ∷ [] → Before ls os k
 before_writes ls os k e =
-    let same : (j : ℕ) → orphan (links_at ls j) ≡ orphan (links_at os j) = λ j. ap (λ z. orphan (links_at z j)) e ∙ rest_same os k j in
+    let same : (j : ℕ) → orphan (links_at ls j) ≡ orphan (links_at os j) =
+    λ j. ap (λ z. orphan (links_at z j)) e ∙ rest_same os k j in
     record {
       len = ap length e ∙ length-append os (unlinked (Some k) ∷ []);
-      parent = ap (λ z. (links_at z (length os)).parent) e ∙ ap (λ l. l.parent) (get_or-append_seam os (unlinked (Some k)) [] no_links);
-      parents = λ j ne. ap (λ z. (links_at z j).parent) e ∙ ap (λ l. l.parent) (same_but_last os (unlinked (Some k)) j ne);
+      parent =
+          ap (λ z. (links_at z (length os)).parent) e
+          ∙ ap (λ l. l.parent) (get_or-append_seam os (unlinked (Some k)) [] no_links);
+      parents =
+          λ j ne. ap (λ z. (links_at z j).parent) e
+          ∙ ap (λ l. l.parent) (same_but_last os (unlinked (Some k)) j ne);
       firsts = λ j. ap (λ l. l.first) (same j);
       lasts = λ j. ap (λ l. l.last) (same j);
       nexts = λ j. ap (λ l. l.next) (same j);
     }
 
 -- the parent had no content
-first_appended : (ls os : List Links) (k : ℕ) (a b : Links) → Before ls os k → k < length os → (links_at os k).last ≡ None → a ≡ record (links_at ls k) { first = Some (length os) } → b ≡ record a { last = Some (length os) } → IsAppended os (set (set ls k a) k b) k
+first_appended : (ls os : List Links) (k : ℕ) (a b : Links) → Before ls os k → k < length os
+    → (links_at os k).last ≡ None → a ≡ record (links_at ls k) { first = Some (length os) }
+    → b ≡ record a { last = Some (length os) } → IsAppended os (set (set ls k a) k b) k
 first_appended ls os k a b h below none e q =
     let c = length os in
     let new = set (set ls k a) k b in
@@ -63,8 +75,10 @@ first_appended ls os k a b h below none e q =
     let out : k < length (set ls k a) = omega (arith, h.len, length-set ls k a) in
     let there : links_at new k ≡ b = get_or-set_same (set ls k a) k b no_links out in
     let other : (j : ℕ) → j ≢ k → links_at new j ≡ links_at ls j =
-    λ j ne. get_or-set_other (set ls k a) k j b no_links ne ∙ get_or-set_other ls k j a no_links ne in
-    let written : links_at new k ≡ record (links_at ls k) { first = Some c; last = Some c } = there ∙ q ∙ ap (with_last c) e in
+    λ j ne. get_or-set_other (set ls k a) k j b no_links ne
+    ∙ get_or-set_other ls k j a no_links ne in
+    let written : links_at new k ≡ record (links_at ls k) { first = Some c; last = Some c } =
+    there ∙ q ∙ ap (with_last c) e in
     let ne : c ≢ k = omega arith in
     record {
       below = below;
@@ -72,7 +86,8 @@ first_appended ls os k a b h below none e q =
       parent = ap (λ l. l.parent) (other c ne) ∙ h.parent;
       parents = λ j d.
           elim (eqb_tells j k) [
-            | inl s ↦ ap (λ z. (links_at new z).parent) s.1 ∙ ap (λ l. l.parent) written ∙ ap (λ z. (links_at ls z).parent) (sym s.1) ∙ h.parents j d
+            | inl s ↦ ap (λ z. (links_at new z).parent) s.1 ∙ ap (λ l. l.parent) written
+                ∙ ap (λ z. (links_at ls z).parent) (sym s.1) ∙ h.parents j d
             | inr n ↦ ap (λ l. l.parent) (other j n.1) ∙ h.parents j d
           ];
       first_none = λ _. ap (λ l. l.first) written;
@@ -83,13 +98,18 @@ first_appended ls os k a b h below none e q =
       next = λ m r. absurd (cc);
       nexts = λ j _.
           elim (eqb_tells j k) [
-            | inl s ↦ ap (λ z. (links_at new z).next) s.1 ∙ ap (λ l. l.next) written ∙ ap (λ z. (links_at ls z).next) (sym s.1) ∙ h.nexts j
+            | inl s ↦ ap (λ z. (links_at new z).next) s.1 ∙ ap (λ l. l.next) written
+                ∙ ap (λ z. (links_at ls z).next) (sym s.1) ∙ h.nexts j
             | inr n ↦ ap (λ l. l.next) (other j n.1) ∙ h.nexts j
           ];
     }
 
 -- m was the parent's last content
-next_appended : (ls os : List Links) (k m : ℕ) (a b : Links) → Before ls os k → k < m → m < length os → (links_at os k).last ≡ Some m → a ≡ record (links_at ls m) { next = Some (length os) } → b ≡ record (links_at (set ls m a) k) { last = Some (length os) } → IsAppended os (set (set ls m a) k b) k
+next_appended : (ls os : List Links) (k m : ℕ) (a b : Links) → Before ls os k → k < m
+    → m < length os → (links_at os k).last ≡ Some m
+    → a ≡ record (links_at ls m) { next = Some (length os) }
+    → b ≡ record (links_at (set ls m a) k) { last = Some (length os) }
+    → IsAppended os (set (set ls m a) k b) k
 next_appended ls os k m a b h above below some e q =
     let c = length os in
     let new = set (set ls m a) k b in
@@ -99,26 +119,33 @@ next_appended ls os k m a b h above below some e q =
     let apart : k ≢ m = omega arith in
     let parted : m ≢ k = omega arith in
     let other : (j : ℕ) → j ≢ k → j ≢ m → links_at new j ≡ links_at ls j =
-    λ j n d. get_or-set_other (set ls m a) k j b no_links n ∙ get_or-set_other ls m j a no_links d in
+    λ j n d. get_or-set_other (set ls m a) k j b no_links n
+    ∙ get_or-set_other ls m j a no_links d in
     let parent_is : links_at new k ≡ record (links_at ls k) { last = Some c } =
-    get_or-set_same (set ls m a) k b no_links out ∙ q ∙ ap (with_last c) (get_or-set_other ls m k a no_links apart) in
+    get_or-set_same (set ls m a) k b no_links out ∙ q
+    ∙ ap (with_last c) (get_or-set_other ls m k a no_links apart) in
     let last_is : links_at new m ≡ record (links_at ls m) { next = Some c } =
-    get_or-set_other (set ls m a) k m b no_links parted ∙ get_or-set_same ls m a no_links in_list ∙ e in
+    get_or-set_other (set ls m a) k m b no_links parted ∙ get_or-set_same ls m a no_links in_list
+    ∙ e in
     let ne : c ≢ k = omega arith in
     let after : c ≢ m = omega arith in
     let parents : (j : ℕ) → (links_at new j).parent ≡ (links_at ls j).parent =
     λ j. elim (eqb_tells j k) [
-      | inl s ↦ ap (λ z. (links_at new z).parent) s.1 ∙ ap (λ l. l.parent) parent_is ∙ ap (λ z. (links_at ls z).parent) (sym s.1)
+      | inl s ↦ ap (λ z. (links_at new z).parent) s.1 ∙ ap (λ l. l.parent) parent_is
+          ∙ ap (λ z. (links_at ls z).parent) (sym s.1)
       | inr n ↦ elim (eqb_tells j m) [
-        | inl s ↦ ap (λ z. (links_at new z).parent) s.1 ∙ ap (λ l. l.parent) last_is ∙ ap (λ z. (links_at ls z).parent) (sym s.1)
+        | inl s ↦ ap (λ z. (links_at new z).parent) s.1 ∙ ap (λ l. l.parent) last_is
+            ∙ ap (λ z. (links_at ls z).parent) (sym s.1)
         | inr d ↦ ap (λ l. l.parent) (other j n.1 d.1)
       ]
     ] in
     let firsts : (j : ℕ) → (links_at new j).first ≡ (links_at ls j).first =
     λ j. elim (eqb_tells j k) [
-      | inl s ↦ ap (λ z. (links_at new z).first) s.1 ∙ ap (λ l. l.first) parent_is ∙ ap (λ z. (links_at ls z).first) (sym s.1)
+      | inl s ↦ ap (λ z. (links_at new z).first) s.1 ∙ ap (λ l. l.first) parent_is
+          ∙ ap (λ z. (links_at ls z).first) (sym s.1)
       | inr n ↦ elim (eqb_tells j m) [
-        | inl s ↦ ap (λ z. (links_at new z).first) s.1 ∙ ap (λ l. l.first) last_is ∙ ap (λ z. (links_at ls z).first) (sym s.1)
+        | inl s ↦ ap (λ z. (links_at new z).first) s.1 ∙ ap (λ l. l.first) last_is
+            ∙ ap (λ z. (links_at ls z).first) (sym s.1)
         | inr d ↦ ap (λ l. l.first) (other j n.1 d.1)
       ]
     ] in
@@ -133,69 +160,108 @@ next_appended ls os k m a b h above below some e q =
       last = ap (λ l. l.last) parent_is;
       lasts = λ j n.
           elim (eqb_tells j m) [
-            | inl s ↦ ap (λ z. (links_at new z).last) s.1 ∙ ap (λ l. l.last) last_is ∙ ap (λ z. (links_at ls z).last) (sym s.1) ∙ h.lasts j
+            | inl s ↦ ap (λ z. (links_at new z).last) s.1 ∙ ap (λ l. l.last) last_is
+                ∙ ap (λ z. (links_at ls z).last) (sym s.1) ∙ h.lasts j
             | inr d ↦ ap (λ l. l.last) (other j n d.1) ∙ h.lasts j
           ];
-      next = λ i r. let s : i ≡ m = cc in ap (λ z. (links_at new z).next) s ∙ ap (λ l. l.next) last_is;
+      next = λ i r. let s : i ≡ m = cc in
+          ap (λ z. (links_at new z).next) s ∙ ap (λ l. l.next) last_is;
       nexts = λ j r.
           let d : j ≢ m = λ s. r (some ∙ ap (λ z. Some z) (sym s)) in
           elim (eqb_tells j k) [
-            | inl s ↦ ap (λ z. (links_at new z).next) s.1 ∙ ap (λ l. l.next) parent_is ∙ ap (λ z. (links_at ls z).next) (sym s.1) ∙ h.nexts j
+            | inl s ↦ ap (λ z. (links_at new z).next) s.1 ∙ ap (λ l. l.next) parent_is
+                ∙ ap (λ z. (links_at ls z).next) (sym s.1) ∙ h.nexts j
             | inr n ↦ ap (λ l. l.next) (other j n.1 d) ∙ h.nexts j
           ];
     }
 
-links_set : (xs : List Stream) (n m : ℕ) (u v : Stream) → links_of (set (set xs n u) m v) ≡ set (set (links_of xs) n u.links) m v.links
+links_set : (xs : List Stream) (n m : ℕ) (u v : Stream)
+    → links_of (set (set xs n u) m v) ≡ set (set (links_of xs) n u.links) m v.links
 links_set xs n m u v =
-    map-set (λ s. s.links) (set xs n u) m v ∙ ap (λ z. set z m v.links) (map-set (λ s. s.links) xs n u)
+    map-set (λ s. s.links) (set xs n u) m v
+    ∙ ap (λ z. set z m v.links) (map-set (λ s. s.links) xs n u)
 
 -- the list is in order once both writes are done
-linked_writes : (xs : List Stream) (k n : ℕ) (u v : Stream) (os : List Links) → IsAppended os (set (set (links_of xs) n u.links) k v.links) k → AreLinked os → AreLinked (links_of (set (set xs n u) k v))
+linked_writes : (xs : List Stream) (k n : ℕ) (u v : Stream) (os : List Links)
+    → IsAppended os (set (set (links_of xs) n u.links) k v.links) k → AreLinked os
+    → AreLinked (links_of (set (set xs n u) k v))
 linked_writes xs k n u v os a h =
-    linked_along (links_of (set (set xs n u) k v)) (set (set (links_of xs) n u.links) k v.links) (links_set xs n k u v) (appended_linked os (set (set (links_of xs) n u.links) k v.links) k a h)
+    linked_along (links_of (set (set xs n u) k v)) (set (set (links_of xs) n u.links) k v.links)
+    (links_set xs n k u v)
+    (appended_linked os (set (set (links_of xs) n u.links) k v.links) k a h)
 
-read_back : (xs : List Stream) (n k : ℕ) (u y : Stream) → y ≡ get_or (set xs n u) k y → k < length xs → y.links ≡ links_at (set (links_of xs) n u.links) k
+read_back : (xs : List Stream) (n k : ℕ) (u y : Stream) → y ≡ get_or (set xs n u) k y
+    → k < length xs → y.links ≡ links_at (set (links_of xs) n u.links) k
 read_back xs n k u y f h =
     let within : k < length (set xs n u) = omega (arith, length-set xs n u) in
-    sym (links_there (set xs n u) k y f within) ∙ ap (λ z. links_at z k) (map-set (λ s. s.links) xs n u)
+    sym (links_there (set xs n u) k y f within)
+    ∙ ap (λ z. links_at z k) (map-set (λ s. s.links) xs n u)
 
-pub link_first : (xs ys : List Stream) (k c : ℕ) (x z u y v : Stream) → IsNew (links_of xs) k c → x ≡ get_or xs k x → x.links.last ≡ None → z ≡ get_or xs k z → u.links ≡ record z.links { first = Some c } → ys ≡ set xs k u → y ≡ get_or ys k y → v.links ≡ record y.links { last = Some c } → AreLinked (links_of (set ys k v))
+pub link_first : (xs ys : List Stream) (k c : ℕ) (x z u y v : Stream) → IsNew (links_of xs) k c
+    → x ≡ get_or xs k x → x.links.last ≡ None → z ≡ get_or xs k z
+    → u.links ≡ record z.links { first = Some c } → ys ≡ set xs k u → y ≡ get_or ys k y
+    → v.links ≡ record y.links { last = Some c } → AreLinked (links_of (set ys k v))
 link_first xs ys k c x z u y v h e none r p d f q =
     let os = h.before in
     let ls = links_of xs in
     let b = before_writes ls os k h.whole in
     let below : k < length os = omega (arith, h.at, h.parent) in
-    let within : k < length xs = omega (arith, b.len, length-map xs (λ s. s.links), h.at, h.parent) in
+    let within : k < length xs =
+    omega (arith, b.len, length-map xs (λ s. s.links), h.at, h.parent) in
     let inside : k < length ls = omega (arith, b.len, h.at, h.parent) in
     let there : links_at ls k ≡ x.links = links_there xs k x e within in
-    let first : u.links ≡ with_first (length os) (links_at ls k) = p ∙ ap (with_first c) (sym (links_there xs k z r within)) ∙ ap (λ w. with_first w (links_at ls k)) (sym h.at) in
-    let read : y.links ≡ u.links = read_back xs k k u y (f ∙ ap (λ w. get_or w k y) d) within ∙ get_or-set_same ls k u.links no_links inside in
-    let last : v.links ≡ with_last (length os) u.links = q ∙ ap (with_last c) read ∙ ap (λ z. with_last z u.links) (sym h.at) in
-    linked_along (links_of (set ys k v)) (links_of (set (set xs k u) k v)) (ap (λ w. links_of (set w k v)) d) (linked_writes xs k k u v os (first_appended ls os k u.links v.links b below (sym (b.lasts k) ∙ ap (λ l. l.last) there ∙ none) first last) h.linked)
+    let first : u.links ≡ with_first (length os) (links_at ls k) =
+    p ∙ ap (with_first c) (sym (links_there xs k z r within))
+    ∙ ap (λ w. with_first w (links_at ls k)) (sym h.at) in
+    let read : y.links ≡ u.links =
+    read_back xs k k u y (f ∙ ap (λ w. get_or w k y) d) within
+    ∙ get_or-set_same ls k u.links no_links inside in
+    let last : v.links ≡ with_last (length os) u.links =
+    q ∙ ap (with_last c) read ∙ ap (λ z. with_last z u.links) (sym h.at) in
+    linked_along (links_of (set ys k v)) (links_of (set (set xs k u) k v))
+    (ap (λ w. links_of (set w k v)) d)
+    (linked_writes xs k k u v os
+    (first_appended ls os k u.links v.links b below (sym (b.lasts k) ∙ ap (λ l. l.last) there
+    ∙ none) first last) h.linked)
 
-pub link_next : (xs ys : List Stream) (k c m : ℕ) (x w u y v : Stream) → IsNew (links_of xs) k c → x ≡ get_or xs k x → x.links.last ≡ Some m → w ≡ get_or xs m w → u.links ≡ record w.links { next = Some c } → ys ≡ set xs m u → y ≡ get_or ys k y → v.links ≡ record y.links { last = Some c } → AreLinked (links_of (set ys k v))
+pub link_next : (xs ys : List Stream) (k c m : ℕ) (x w u y v : Stream) → IsNew (links_of xs) k c
+    → x ≡ get_or xs k x → x.links.last ≡ Some m → w ≡ get_or xs m w
+    → u.links ≡ record w.links { next = Some c } → ys ≡ set xs m u → y ≡ get_or ys k y
+    → v.links ≡ record y.links { last = Some c } → AreLinked (links_of (set ys k v))
 link_next xs ys k c m x w u y v h e some r p d f q =
     let os = h.before in
     let ls = links_of xs in
     let b = before_writes ls os k h.whole in
-    let within : k < length xs = omega (arith, b.len, length-map xs (λ s. s.links), h.at, h.parent) in
+    let within : k < length xs =
+    omega (arith, b.len, length-map xs (λ s. s.links), h.at, h.parent) in
     let there : links_at ls k ≡ x.links = links_there xs k x e within in
     let last_is : (links_at os k).last ≡ Some m = sym (b.lasts k) ∙ ap (λ l. l.last) there ∙ some in
     let content = (last_of os k h.linked).content m last_is in
     let below : m < length os = content_within os k m content in
     let above : k < m = (h.linked m below).parent k content in
     let in_list : m < length xs = omega (arith, b.len, length-map xs (λ s. s.links)) in
-    let next : u.links ≡ with_next (length os) (links_at ls m) = p ∙ ap (with_next c) (sym (links_there xs m w r in_list)) ∙ ap (λ z. with_next z (links_at ls m)) (sym h.at) in
-    let read : y.links ≡ links_at (set ls m u.links) k = read_back xs m k u y (f ∙ ap (λ z. get_or z k y) d) within in
-    let last : v.links ≡ with_last (length os) (links_at (set ls m u.links) k) = q ∙ ap (with_last c) read ∙ ap (λ z. with_last z (links_at (set ls m u.links) k)) (sym h.at) in
-    linked_along (links_of (set ys k v)) (links_of (set (set xs m u) k v)) (ap (λ z. links_of (set z k v)) d) (linked_writes xs k m u v os (next_appended ls os k m u.links v.links b above below last_is next last) h.linked)
+    let next : u.links ≡ with_next (length os) (links_at ls m) =
+    p ∙ ap (with_next c) (sym (links_there xs m w r in_list))
+    ∙ ap (λ z. with_next z (links_at ls m)) (sym h.at) in
+    let read : y.links ≡ links_at (set ls m u.links) k =
+    read_back xs m k u y (f ∙ ap (λ z. get_or z k y) d) within in
+    let last : v.links ≡ with_last (length os) (links_at (set ls m u.links) k) =
+    q ∙ ap (with_last c) read
+    ∙ ap (λ z. with_last z (links_at (set ls m u.links) k)) (sym h.at) in
+    linked_along (links_of (set ys k v)) (links_of (set (set xs m u) k v))
+    (ap (λ z. links_of (set z k v)) d)
+    (linked_writes xs k m u v os
+    (next_appended ls os k m u.links v.links b above below last_is next last) h.linked)
 
 -- where the last content is, it is in the list
-pub last_within : (xs : List Stream) (k c m : ℕ) (x : Stream) → IsNew (links_of xs) k c → x ≡ get_or xs k x → x.links.last ≡ Some m → m < length xs
+pub last_within : (xs : List Stream) (k c m : ℕ) (x : Stream) → IsNew (links_of xs) k c
+    → x ≡ get_or xs k x → x.links.last ≡ Some m → m < length xs
 last_within xs k c m x h e some =
     let os = h.before in
     let b = before_writes (links_of xs) os k h.whole in
-    let within : k < length xs = omega (arith, b.len, length-map xs (λ s. s.links), h.at, h.parent) in
-    let last_is : (links_at os k).last ≡ Some m = sym (b.lasts k) ∙ ap (λ l. l.last) (links_there xs k x e within) ∙ some in
+    let within : k < length xs =
+    omega (arith, b.len, length-map xs (λ s. s.links), h.at, h.parent) in
+    let last_is : (links_at os k).last ≡ Some m =
+    sym (b.lasts k) ∙ ap (λ l. l.last) (links_there xs k x e within) ∙ some in
     let below : m < length os = content_within os k m ((last_of os k h.linked).content m last_is) in
     omega (arith, b.len, length-map xs (λ s. s.links))

@@ -1,8 +1,10 @@
 -- Commands do on a fork what they do on its stream.
 use Rattle.std.proofs.Common.{◌≡◌, ◌≢◌, ◌∙◌, sym, ap, subst, refl, ℕ, zero, suc, ◌+◌, ◌-◌, ◌<◌, ◌≤◌}
-use Rattle.std.proofs.Common.{Bool, true, false, List, [], ◌∷◌, ◌++◌, ◌⊎◌, length, map, Option, Some}
+use Rattle.std.proofs.Common.{Bool, true, false, List, [], ◌∷◌, ◌++◌, ◌⊎◌, length, map, Option}
+use Rattle.std.proofs.Common.{Some}
 use Rattle.std.proofs.Common.{None, arith, inl, inr, length-append}
-use Rattle.std.proofs.lemmas.Bool.{ne_eqb, eq-eqb, leb-true, le-leb, and_parts, not-true, cases_eq, cases_lt}
+use Rattle.std.proofs.lemmas.Bool.{ne_eqb, eq-eqb, leb-true, le-leb, and_parts, not-true, cases_eq}
+use Rattle.std.proofs.lemmas.Bool.{cases_lt}
 use Rattle.std.proofs.lemmas.Bool.Decides.{eqb_tells}
 use Rattle.std.specs.Prelude.{◌==◌, ◌&&◌, ◌||◌, not, cond, nat_le}
 use Rattle.std.specs.Option.{option_map, option_or}
@@ -18,7 +20,8 @@ use Rattle.tok_buffer.specs.Refusals.{Refusal, at_stream}
 use Rattle.syn_parse.specs.Parses.{read_group}
 use Rattle.syn_replay.specs.Commands as commands
 use Rattle.syn_replay.specs.Commands.{Action, Command, Read, listed_to, looked, parsed, read_answer}
-use Rattle.syn_replay.specs.Forks.{is_own, is_own_action, is_own_command, is_self_contained, on_fork}
+use Rattle.syn_replay.specs.Forks.{is_own, is_own_action, is_own_command, is_self_contained}
+use Rattle.syn_replay.specs.Forks.{on_fork}
 use Rattle.syn_replay.specs.Forks.{command_on_fork, answer_on_fork, line_on_fork, made_closed}
 use Rattle.syn_replay.specs.Forks.{IsFollowed, ForksFollowCommands}
 use Rattle.syn_replay.specs.Kinds.{Look, display, peek, peek_kind, read}
@@ -28,17 +31,22 @@ use Rattle.syn_replay.specs.Session.Entering.{entered_by, entering_words}
 use Rattle.syn_replay.specs.Session.State.{Stream, StreamKind, outermost, content_of, a_fork, State}
 use Rattle.syn_replay.specs.Session.State.{stream_at, with_stream, moved_to, with_note, spent}
 use Rattle.syn_replay.specs.Session.State.{with_note_on_parent, handed_note, handed_up}
-use Rattle.syn_replay.specs.Session.State.{contents_closed, closed_inside, closed, is_open_content_of}
-use Rattle.syn_replay.specs.Session.State.{is_content_of, advanced, taken_over, is_inside, inside_of}
+use Rattle.syn_replay.specs.Session.State.{contents_closed, closed_inside, closed}
+use Rattle.syn_replay.specs.Session.State.{is_open_content_of}
+use Rattle.syn_replay.specs.Session.State.{is_content_of, advanced, taken_over, is_inside}
+use Rattle.syn_replay.specs.Session.State.{inside_of}
 use Rattle.syn_replay.specs.Session.State.{contains, first_state, position_of}
-use Rattle.syn_replay.specs.Session.Step.{Stepped, any_of, is_content, is_fork, is_missing, is_spent}
-use Rattle.syn_replay.specs.Session.Step.{kind_refusal, misuse, moves, named, other_named, with_other}
+use Rattle.syn_replay.specs.Session.Step.{Stepped, any_of, is_content, is_fork, is_missing}
+use Rattle.syn_replay.specs.Session.Step.{is_spent}
+use Rattle.syn_replay.specs.Session.Step.{kind_refusal, misuse, moves, named, other_named}
+use Rattle.syn_replay.specs.Session.Step.{with_other}
 use Rattle.syn_replay.specs.Session.Step.{new_stream, into_group, on_stream, place_of, stays, step}
 use Rattle.syn_replay.specs.Session.Step.{step_on, tested, position_in, line}
 use Rattle.syn_replay.specs.Session.Walk.{last_state, lines_from}
 use Rattle.syn_replay.specs.Turns.{Outcome, read_all, refused_at, turns, turns_left}
 use Rattle.syn_replay.proofs.Walk.Acceptance.{content_inside, content_or_not, first_tidy, run_tidy}
-use Rattle.syn_replay.proofs.Walk.Changes.{at_front, before_end, changed_at, changed_not, length_changed}
+use Rattle.syn_replay.proofs.Walk.Changes.{at_front, before_end, changed_at, changed_not}
+use Rattle.syn_replay.proofs.Walk.Changes.{length_changed}
 use Rattle.syn_replay.proofs.Walk.Changes.{nothing_past, past_end, there_within}
 use Rattle.syn_replay.proofs.Walk.Inside.{among_either, inside_at}
 use Rattle.syn_replay.proofs.Walk.Notes.{HoldsOpen, IsIn, Tidy}
@@ -56,7 +64,13 @@ abbrev raised : ℕ → State → Option Stream → State
 raised n st None = st
 raised n st (Some s) = with_stream (with_note_on_parent s.kind (handed_note s) st) n spent
 
-raised_is : (n : ℕ) (st : State) (o : Option Stream) → ◌≡◌ {A = State} (elim o [ None ↦ st | Some s ↦ with_stream (with_note_on_parent s.kind (handed_note s) st) n spent ]) (raised n st o)
+raised_is : (n : ℕ) (st : State) (o : Option Stream)
+    → ◌≡◌ {A =
+    State} (elim o [
+      | None ↦ st
+      | Some s ↦ with_stream (with_note_on_parent s.kind (handed_note s) st) n spent
+    ])
+    (raised n st o)
 raised_is n st None = refl
 raised_is n st (Some s) = refl
 
@@ -132,7 +146,15 @@ module _ (front : State) (k : ℕ) (s0 : Stream) (here : stream_at front k ≡ S
   taken p n s = record s { place = p; note = option_or s.note n }
 
   abbrev fork_at : Place → Option Leftover → Stream
-  fork_at p n = record { place = p; scope_span = s0.scope_span; kind = a_fork; is_open = s0.is_open; note = n }
+  fork_at p n =
+      record {
+        place =
+            p;
+        scope_span = s0.scope_span;
+        kind = a_fork;
+        is_open = s0.is_open;
+        note = n;
+      }
 
   -- the parent is the stream, or was made
   abbrev OwnKind : StreamKind → Type 0
@@ -170,7 +192,8 @@ module _ (front : State) (k : ℕ) (s0 : Stream) (here : stream_at front k ≡ S
 
   on_later : (j : ℕ) → made ≤ j → on j ≡ j + 1
   on_later j h =
-      ap (λ b. cond b made (j + 1)) (ne_eqb j k (λ q. let low = k_below in omega (arith, h, low, q)))
+      ap (λ b. cond b made (j + 1)) (ne_eqb j k (λ q. let low = k_below in
+      omega (arith, h, low, q)))
 
   -- the streams of a number
   data Pair (a b : Option Stream) : Type 0 where
@@ -353,11 +376,17 @@ module _ (front : State) (k : ℕ) (s0 : Stream) (here : stream_at front k ≡ S
         abbrev t : Stream
         t = record s { kind = kind; note = note }
 
-        same_group : (words : List ℕ) (o : Option Entered) → Same (into_group x j s words o) (into_group y (on j) t words o)
-        same_group words None = same_stays (reports.refused (at_stream s.place s.scope_span words)) refl
+        same_group : (words : List ℕ) (o : Option Entered)
+            → Same (into_group x j s words o) (into_group y (on j) t words o)
+        same_group words None =
+            same_stays (reports.refused (at_stream s.place s.scope_span words)) refl
         same_group words (Some e) = record {
           answer = ap (λ n. reports.entered n e.delimiter e.span) b.longer;
-          after = made_beside (with_stream x j (moved_to e.after)) (with_stream y (on j) (moved_to e.after)) (new_stream e.content (closing_span e.span) (content_of j)) (moved_beside x y j e.after b own) is_own_j;
+          after =
+              made_beside (with_stream x j (moved_to e.after))
+              (with_stream y (on j) (moved_to e.after))
+              (new_stream e.content (closing_span e.span) (content_of j))
+              (moved_beside x y j e.after b own) is_own_j;
         }
 
         same_fork : Same (on_stream commands.fork x j s) (on_stream commands.fork y (on j) t)
@@ -367,7 +396,8 @@ module _ (front : State) (k : ℕ) (s0 : Stream) (here : stream_at front k ≡ S
         }
 
   -- closing
-  parents : (x y : State) (kind : StreamKind) (n : Option Leftover) → OwnKind kind → Beside x y → Beside (with_note_on_parent kind n x) (with_note_on_parent (kind_on kind) n y)
+  parents : (x y : State) (kind : StreamKind) (n : Option Leftover) → OwnKind kind → Beside x y
+      → Beside (with_note_on_parent kind n x) (with_note_on_parent (kind_on kind) n y)
   parents x y outermost n h b = b
   parents x y (content_of p) n h b = noted_beside x y p n b (owned p h)
   parents x y a_fork n h b = b
@@ -406,16 +436,19 @@ module _ (front : State) (k : ℕ) (s0 : Stream) (here : stream_at front k ≡ S
         | inr apart ↦ ne_eqb (on q) (on j) (apart_on q j a b apart.1) ∙ sym apart.0
       ]
 
-  content_test : (j : ℕ) → Own j → (kind : StreamKind) → OwnKind kind → is_content_of (on j) (kind_on kind) ≡ is_content_of j kind
+  content_test : (j : ℕ) → Own j → (kind : StreamKind) → OwnKind kind
+      → is_content_of (on j) (kind_on kind) ≡ is_content_of j kind
   content_test j own outermost h = refl
   content_test j own (content_of q) h = same_parent q j (owned q h) own
   content_test j own a_fork h = refl
 
-  open_test : (j : ℕ) → Own j → (o : Option Stream) → ((s : Stream) → o ≡ Some s → OwnKind s.kind) → is_open_content_of (on j) (option_map shifted o) ≡ is_open_content_of j o
+  open_test : (j : ℕ) → Own j → (o : Option Stream) → ((s : Stream) → o ≡ Some s → OwnKind s.kind)
+      → is_open_content_of (on j) (option_map shifted o) ≡ is_open_content_of j o
   open_test j own None h = refl
   open_test j own (Some s) h = ap (λ z. s.is_open && z) (content_test j own s.kind (h s refl))
 
-  chooses : (c d : Bool) (x y u v : State) → c ≡ d → Beside u v → Beside x y → Beside (cond c u x) (cond d v y)
+  chooses : (c d : Bool) (x y u v : State) → c ≡ d → Beside u v → Beside x y
+      → Beside (cond c u x) (cond d v y)
   chooses true d x y u v e g h = beside_eq _ _ _ _ refl (ap (λ z. cond z v y) (sym e)) g
   chooses false d x y u v e g h = beside_eq _ _ _ _ refl (ap (λ z. cond z v y) (sym e)) h
 
@@ -448,13 +481,19 @@ module _ (front : State) (k : ℕ) (s0 : Stream) (here : stream_at front k ≡ S
       (hands _ _ i le (closes (length x - (i + 1)) i (i + 1) x y (later le) next b))
 
   -- a command that names one stream
-  missing_alike : (a b : Option Stream) → Pair a b → tested true (λ (s : Stream). false) a ≡ tested true (λ (s : Stream). false) b
+  missing_alike : (a b : Option Stream) → Pair a b
+      → tested true (λ (s : Stream). false) a ≡ tested true (λ (s : Stream). false) b
   missing_alike a b (none e f) = ap (tested true (λ (s : Stream). false)) (e ∙ sym f)
-  missing_alike a b (both s kind left e f) = ap (tested true (λ (z : Stream). false)) e ∙ ap (tested true (λ (z : Stream). false)) (sym f)
+  missing_alike a b (both s kind left e f) =
+      ap (tested true (λ (z : Stream). false)) e ∙ ap (tested true (λ (z : Stream). false)) (sym f)
 
-  spent_alike : (a b : Option Stream) → Pair a b → tested false (λ (s : Stream). not s.is_open) a ≡ tested false (λ (s : Stream). not s.is_open) b
+  spent_alike : (a b : Option Stream) → Pair a b
+      → tested false (λ (s : Stream). not s.is_open) a
+      ≡ tested false (λ (s : Stream). not s.is_open) b
   spent_alike a b (none e f) = ap (tested false (λ (s : Stream). not s.is_open)) (e ∙ sym f)
-  spent_alike a b (both s kind left e f) = ap (tested false (λ (z : Stream). not z.is_open)) e ∙ ap (tested false (λ (z : Stream). not z.is_open)) (sym f)
+  spent_alike a b (both s kind left e f) =
+      ap (tested false (λ (z : Stream). not z.is_open)) e
+      ∙ ap (tested false (λ (z : Stream). not z.is_open)) (sym f)
 
   abbrev place_in : Option Stream → Position
   place_in o = elim o [ None ↦ missing | Some s ↦ position_of s.place ]
@@ -470,7 +509,8 @@ module _ (front : State) (k : ℕ) (s0 : Stream) (here : stream_at front k ≡ S
     same_line : line_on_fork (line c x) ≡ line d y
     after : Beside (step c x).state (step d y).state
 
-  same_chosen : (x y : State) → Beside x y → (v : Option ℕ) (r q : Stepped) → Same r q → Same (chosen x v r) (chosen y v q)
+  same_chosen : (x y : State) → Beside x y → (v : Option ℕ) (r q : Stepped) → Same r q
+      → Same (chosen x v r) (chosen y v q)
   same_chosen x y b None r q h = h
   same_chosen x y b (Some n) r q h = record { answer = refl; after = b }
 
@@ -537,7 +577,9 @@ module _ (front : State) (k : ℕ) (s0 : Stream) (here : stream_at front k ≡ S
   content_on (content_of q) = refl
   content_on a_fork = refl
 
-  kinds_on : (o : Option Stream) → tested false (λ (s : Stream). is_content s.kind) o ≡ tested false (λ (s : Stream). is_content s.kind) (option_map shifted o)
+  kinds_on : (o : Option Stream)
+      → tested false (λ (s : Stream). is_content s.kind) o
+      ≡ tested false (λ (s : Stream). is_content s.kind) (option_map shifted o)
   kinds_on None = refl
   kinds_on (Some s) = content_on s.kind
 
@@ -583,10 +625,12 @@ module _ (front : State) (k : ℕ) (s0 : Stream) (here : stream_at front k ≡ S
       follows_action c.action c.stream x y b a o
 
   record Runs (cs : List Command) (x y : State) : Type 0 where
-    same_lines : lines_from y (map (command_on_fork k (made)) cs) ≡ map line_on_fork (lines_from x cs)
+    same_lines : lines_from y (map (command_on_fork k (made)) cs)
+        ≡ map line_on_fork (lines_from x cs)
     after : Beside (last_state x cs) (last_state y (map (command_on_fork k (made)) cs))
 
-  runs : (cs : List Command) (x y : State) → Beside x y → is_self_contained k (made) cs ≡ true → Runs cs x y
+  runs : (cs : List Command) (x y : State) → Beside x y → is_self_contained k (made) cs ≡ true
+      → Runs cs x y
   runs [] x y b h = record { same_lines = refl; after = b }
   runs (c ∷ cs) x y b h =
       let (a, o) = and_parts (is_own_command k (made) c) (is_self_contained k (made) cs) h in
@@ -594,16 +638,21 @@ module _ (front : State) (k : ℕ) (s0 : Stream) (here : stream_at front k ≡ S
       let more = runs cs (step c x).state (step (command_on_fork k (made) c) y).state one.after o in
       record {
         same_lines =
-            ap (λ z. z ∷ lines_from (step (command_on_fork k (made) c) y).state (map (command_on_fork k (made)) cs)) (sym one.same_line)
+            ap (λ z. z ∷ lines_from (step (command_on_fork k (made) c) y).state
+            (map (command_on_fork k (made)) cs)) (sym one.same_line)
             ∙ ap (λ z. line_on_fork (line c x) ∷ z) more.same_lines;
         after = more.after;
       }
 
   -- nothing is closed where nothing is open
-  none_closed : (room j next : ℕ) (x : State) → ((n : ℕ) → next ≤ n → is_open_content_of j (stream_at x n) ≡ false) → contents_closed room j next x ≡ x
+  none_closed : (room j next : ℕ) (x : State)
+      → ((n : ℕ) → next ≤ n → is_open_content_of j (stream_at x n) ≡ false)
+      → contents_closed room j next x ≡ x
   none_closed zero j next x h = refl
   none_closed (suc room) j next x h =
-      ap (λ z. contents_closed room j (next + 1) (cond z (handed_up next (contents_closed room next (next + 1) x)) x)) (h next (omega arith))
+      ap (λ z. contents_closed room j (next + 1)
+      (cond z (handed_up next (contents_closed room next (next + 1) x)) x))
+      (h next (omega arith))
       ∙ none_closed room j (next + 1) x (λ n le. h n (omega arith))
 
   abbrev to_fork : Action
@@ -637,14 +686,17 @@ module _ (front : State) (k : ℕ) (s0 : Stream) (here : stream_at front k ≡ S
     there : (y : State) (j : ℕ) (s : Stream) → stream_at y j ≡ Some s → is_missing y j ≡ false
     there y j s e = ap (tested true (λ (z : Stream). false)) e
 
-    unspent : (y : State) (j : ℕ) (s : Stream) → stream_at y j ≡ Some s → s.is_open ≡ true → is_spent y j ≡ false
+    unspent : (y : State) (j : ℕ) (s : Stream) → stream_at y j ≡ Some s → s.is_open ≡ true
+        → is_spent y j ≡ false
     unspent y j s e o = ap (tested false (λ (z : Stream). not z.is_open)) e ∙ ap not o
 
     forks : step (commands.on k commands.fork) front ≡ on_stream commands.fork front k s0
     forks =
         chosen_is (commands.on k commands.fork) front (misuse (commands.on k commands.fork) front)
-        ∙ ap (λ z. chosen front (refused_by (z || false) (is_spent front k || false) None) (step_on commands.fork front k (stream_at front k))) (there front k s0 here)
-        ∙ ap (λ z. chosen front (refused_by false (z || false) None) (step_on commands.fork front k (stream_at front k))) (unspent front k s0 here is_open0)
+        ∙ ap (λ z. chosen front (refused_by (z || false) (is_spent front k || false) None)
+        (step_on commands.fork front k (stream_at front k))) (there front k s0 here)
+        ∙ ap (λ z. chosen front (refused_by false (z || false) None)
+        (step_on commands.fork front k (stream_at front k))) (unspent front k s0 here is_open0)
         ∙ ap (step_on commands.fork front k) here
 
     starts : Beside front (step (commands.on k commands.fork) front).state
@@ -655,26 +707,48 @@ module _ (front : State) (k : ℕ) (s0 : Stream) (here : stream_at front k ≡ S
 
     module _ (x y : State) (b : Beside x y) (out : is_inside y (made) k ≡ false) where
       abbrev reached : Bool
-      reached = same_scope s0.place (place_of (stream_at y (made))) && not (k == made || is_inside y (made) k)
+      reached =
+          same_scope s0.place (place_of (stream_at y (made)))
+          && not (k == made || is_inside y (made) k)
 
-      advances : step (commands.on k to_fork) y ≡ cond reached (record { answer = done; state = advanced k (made) y }) (stays y (unfit 5))
+      advances : step (commands.on k to_fork) y
+          ≡ cond reached (record { answer = done; state = advanced k (made) y }) (stays y (unfit 5))
       advances =
           chosen_is (commands.on k to_fork) y (misuse (commands.on k to_fork) y)
-          ∙ ap (λ z. chosen y (refused_by (z || (is_missing y (made) || false)) (is_spent y k || (is_spent y (made) || false)) (kind_refusal to_fork y k)) (step_on to_fork y k (stream_at y k))) (there y k s0 b.kept)
-          ∙ ap (λ z. chosen y (refused_by (z || false) (is_spent y k || (is_spent y (made) || false)) (kind_refusal to_fork y k)) (step_on to_fork y k (stream_at y k))) (there y (made) (fork_at b.p b.n) b.forks)
-          ∙ ap (λ z. chosen y (refused_by false (z || (is_spent y (made) || false)) (kind_refusal to_fork y k)) (step_on to_fork y k (stream_at y k))) (unspent y k s0 b.kept is_open0)
-          ∙ ap (λ z. chosen y (refused_by false (z || false) (kind_refusal to_fork y k)) (step_on to_fork y k (stream_at y k))) (unspent y (made) (fork_at b.p b.n) b.forks is_open0)
-          ∙ ap (λ z. chosen y (refused_by false false (cond (tested false (λ (s : Stream). is_fork s.kind) z) None (Some 3))) (step_on to_fork y k (stream_at y k))) b.forks
+          ∙ ap (λ z. chosen y
+          (refused_by (z || (is_missing y (made) || false))
+          (is_spent y k || (is_spent y (made) || false)) (kind_refusal to_fork y k))
+          (step_on to_fork y k (stream_at y k))) (there y k s0 b.kept)
+          ∙ ap (λ z. chosen y
+          (refused_by (z || false) (is_spent y k || (is_spent y (made) || false))
+          (kind_refusal to_fork y k)) (step_on to_fork y k (stream_at y k)))
+          (there y (made) (fork_at b.p b.n) b.forks)
+          ∙ ap (λ z. chosen y
+          (refused_by false (z || (is_spent y (made) || false)) (kind_refusal to_fork y k))
+          (step_on to_fork y k (stream_at y k))) (unspent y k s0 b.kept is_open0)
+          ∙ ap (λ z. chosen y (refused_by false (z || false) (kind_refusal to_fork y k))
+          (step_on to_fork y k (stream_at y k)))
+          (unspent y (made) (fork_at b.p b.n) b.forks is_open0)
+          ∙ ap (λ z. chosen y
+          (refused_by false false
+          (cond (tested false (λ (s : Stream). is_fork s.kind) z) None (Some 3)))
+          (step_on to_fork y k (stream_at y k))) b.forks
           ∙ ap (step_on to_fork y k) b.kept
 
-      may : same_scope (place_of (stream_at y k)) (place_of (stream_at y (made))) ≡ true → reached ≡ true
+      may : same_scope (place_of (stream_at y k)) (place_of (stream_at y (made))) ≡ true
+          → reached ≡ true
       may h =
-          ap (λ z. z && not (k == made || is_inside y (made) k)) (ap (λ z. same_scope (place_of z) (place_of (stream_at y (made)))) (sym b.kept) ∙ h)
+          ap (λ z. z && not (k == made || is_inside y (made) k))
+          (ap (λ z. same_scope (place_of z) (place_of (stream_at y (made)))) (sym b.kept) ∙ h)
           ∙ ap (λ z. not (z || is_inside y (made) k)) (ne_eqb k (made) not_it)
           ∙ ap not out
 
-      ends : same_scope (place_of (stream_at y k)) (place_of (stream_at y (made))) ≡ true → step (commands.on k to_fork) y ≡ record { answer = done; state = advanced k (made) y }
-      ends h = advances ∙ ap (λ z. cond z (record { answer = done; state = advanced k (made) y }) (stays y (unfit 5))) (may h)
+      ends : same_scope (place_of (stream_at y k)) (place_of (stream_at y (made))) ≡ true
+          → step (commands.on k to_fork) y ≡ record { answer = done; state = advanced k (made) y }
+      ends h =
+          advances ∙ ap (λ z.
+          cond z (record { answer = done; state = advanced k (made) y }) (stays y (unfit 5)))
+          (may h)
 
       abbrev closed_y : State
       closed_y = closed_inside (made) y
@@ -699,58 +773,86 @@ module _ (front : State) (k : ℕ) (s0 : Stream) (here : stream_at front k ≡ S
           ∙ ap (λ z. option_map (taken_over z) (stream_at closed_y k)) c.forks
           ∙ ap (option_map (taken_over (Some (fork_at c.p c.n)))) c.kept ∙ sym c.mine
 
-    pub is_followed : (cs : List Command) → is_self_contained k (made) cs ≡ true → is_inside (last_state (step (commands.on k commands.fork) front).state (map (command_on_fork k (made)) cs)) (made) k ≡ false → IsFollowed front k cs
+    pub is_followed : (cs : List Command) → is_self_contained k (made) cs ≡ true
+        → is_inside (last_state (step (commands.on k commands.fork) front).state
+        (map (command_on_fork k (made)) cs)) (made) k ≡ false → IsFollowed front k cs
     is_followed cs h out =
         let r = runs cs front (step (commands.on k commands.fork) front).state starts h in
         let x = last_state front cs in
-        let y = last_state (step (commands.on k commands.fork) front).state (map (command_on_fork k (made)) cs) in
+        let y =
+        last_state (step (commands.on k commands.fork) front).state
+        (map (command_on_fork k (made)) cs) in
         record {
           lines = r.same_lines;
           done = λ q. ap (λ z. z.answer) (ends x y r.after out q);
-          stream_after = λ q. ap (λ z. stream_at z.state k) (ends x y r.after out q) ∙ stream_then x y r.after out;
-          if_closed = λ q. ap (λ z. stream_at z k) (none_closed (length x - made) k (made) x (λ n le. q n (le-leb (made) n le)));
+          stream_after =
+              λ q. ap (λ z. stream_at z.state k) (ends x y r.after out q)
+              ∙ stream_then x y r.after out;
+          if_closed =
+              λ q. ap (λ z. stream_at z k)
+              (none_closed (length x - made) k (made) x (λ n le. q n (le-leb (made) n le)));
         }
 
 -- a stream is inside none with a higher number
-outside : (n : ℕ) (st : State) (f k : ℕ) → Tidy st → HoldsOpen st k → k < f → k < n → is_inside st f k ≡ false
+outside : (n : ℕ) (st : State) (f k : ℕ) → Tidy st → HoldsOpen st k → k < f → k < n
+    → is_inside st f k ≡ false
 outside zero st f k tidy h less small = absurd (omega arith)
-outside (suc n) st f k tidy h less small = go (content_or_not h.stream.kind) (λ p i. outside n st f p tidy i.parent (let b = i.below in omega arith) (let b = i.below in omega arith)) where
-  no_parent : (ns found : List ℕ) (kind : StreamKind) → ((p : ℕ) → kind ≡ content_of p → ⊥) → among_either ns found kind ≡ false
-  no_parent ns found outermost d = refl
-  no_parent ns found (content_of p) d = absurd (d p refl)
-  no_parent ns found a_fork d = refl
+outside (suc n) st f k tidy h less small =
+    go (content_or_not h.stream.kind) (λ p i. outside n st f p tidy i.parent (let b = i.below in
+    omega arith) (let b = i.below in omega arith)) where
+      no_parent : (ns found : List ℕ) (kind : StreamKind) → ((p : ℕ) → kind ≡ content_of p → ⊥)
+          → among_either ns found kind ≡ false
+      no_parent ns found outermost d = refl
+      no_parent ns found (content_of p) d = absurd (d p refl)
+      no_parent ns found a_fork d = refl
 
-  go : ((p : ℕ) × (h.stream.kind ≡ content_of p)) ⊎ ((p : ℕ) → h.stream.kind ≡ content_of p → ⊥) → ((p : ℕ) → IsIn st k p → is_inside st f p ≡ false) → is_inside st f k ≡ false
-  go (inr d) again =
-      let plain : 0 + k ≡ k = omega arith in
-      ap (contains (inside_of (f ∷ []) 0 st)) (sym plain)
-      ∙ inside_at (f ∷ []) 0 st k h.stream h.there (λ r g. absurd (d r g))
-      ∙ no_parent (f ∷ []) (inside_of (f ∷ []) 0 st) h.stream.kind d
-  go (inl (p, e)) again =
-      let i = tidy k p h.stream h.there h.is_open e in
-      let b = i.below in
-      content_inside st f k p h.stream h.there e b ∙ ap (λ z. z || is_inside st f p) (ne_eqb f p (λ q. omega arith)) ∙ again p i
+      go : ((p : ℕ) × (h.stream.kind ≡ content_of p)) ⊎ ((p : ℕ) → h.stream.kind ≡ content_of p → ⊥)
+          → ((p : ℕ) → IsIn st k p → is_inside st f p ≡ false) → is_inside st f k ≡ false
+      go (inr d) again =
+          let plain : 0 + k ≡ k = omega arith in
+          ap (contains (inside_of (f ∷ []) 0 st)) (sym plain)
+          ∙ inside_at (f ∷ []) 0 st k h.stream h.there (λ r g. absurd (d r g))
+          ∙ no_parent (f ∷ []) (inside_of (f ∷ []) 0 st) h.stream.kind d
+      go (inl (p, e)) again =
+          let i = tidy k p h.stream h.there h.is_open e in
+          let b = i.below in
+          content_inside st f k p h.stream h.there e b
+          ∙ ap (λ z. z || is_inside st f p) (ne_eqb f p (λ q. omega arith)) ∙ again p i
 
 -- a stream that is open is there
-open_there : (o : Option Stream) → tested false (λ (s : Stream). s.is_open) o ≡ true → (s : Stream) × ((o ≡ Some s) × (s.is_open ≡ true))
+open_there : (o : Option Stream) → tested false (λ (s : Stream). s.is_open) o ≡ true
+    → (s : Stream) × ((o ≡ Some s) × (s.is_open ≡ true))
 open_there None e = absurd (cc)
 open_there (Some s) e = (s, (refl, e))
 
 -- the stream stays open on the fork's side
-module _ (st : State) (k : ℕ) (cs : List Command) (s : Stream) (there_is : stream_at st k ≡ Some s) (open_is : s.is_open ≡ true) where
+module _ (st : State) (k : ℕ) (cs : List Command) (s : Stream) (there_is : stream_at st k ≡ Some s)
+    (open_is : s.is_open ≡ true) where
   abbrev tried_state : State
-  tried_state = last_state (step (commands.on k commands.fork) st).state (map (command_on_fork k (length st)) cs)
+  tried_state =
+      last_state (step (commands.on k commands.fork) st).state
+      (map (command_on_fork k (length st)) cs)
 
-  fork_out : Tidy tried_state → is_self_contained k (length st) cs ≡ true → is_inside tried_state (length st) k ≡ false
+  fork_out : Tidy tried_state → is_self_contained k (length st) cs ≡ true
+      → is_inside tried_state (length st) k ≡ false
   fork_out tidy contained =
-      let r = runs st k s there_is cs st (step (commands.on k commands.fork) st).state (starts st k s there_is open_is) contained in
+      let r =
+      runs st k s there_is cs st (step (commands.on k commands.fork) st).state
+      (starts st k s there_is open_is) contained in
       let less = there_within st k s there_is in
-      outside (length st) tried_state (length st) k tidy (record { stream = s; there = r.after.kept; is_open = open_is }) less less
+      outside (length st) tried_state (length st) k tidy (record {
+        stream =
+            s;
+        there = r.after.kept;
+        is_open = open_is;
+      }) less less
 
 pub forks_follow_commands : ForksFollowCommands
 forks_follow_commands f before cs k is contained =
     let st = last_state (first_state f) before in
     let (s, (there_is, open_is)) = open_there (stream_at st k) is in
     let tidy = run_tidy (first_state f) before (first_tidy f) in
-    let later = run_tidy st (commands.on k commands.fork ∷ map (command_on_fork k (length st)) cs) tidy in
-    is_followed st k s there_is open_is cs contained (fork_out st k cs s there_is open_is later contained)
+    let later =
+    run_tidy st (commands.on k commands.fork ∷ map (command_on_fork k (length st)) cs) tidy in
+    is_followed st k s there_is open_is cs contained
+    (fork_out st k cs s there_is open_is later contained)

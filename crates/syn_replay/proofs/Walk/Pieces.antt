@@ -1,5 +1,7 @@
 -- The pieces of what was read.
-use Rattle.std.proofs.Common.{◌≡◌, ◌∙◌, sym, ap, subst, refl, ℕ, ◌<◌, ◌⊎◌, inl, inr, Bool, true, false, List, [], ◌∷◌, ◌++◌, length, map, arith, Option, Some, None, Ok, Err, eqb-true}
+use Rattle.std.proofs.Common.{◌≡◌, ◌∙◌, sym, ap, subst, refl, ℕ, ◌<◌, ◌⊎◌, inl, inr, Bool, true}
+use Rattle.std.proofs.Common.{false, List, [], ◌∷◌, ◌++◌, length, map, arith, Option, Some, None}
+use Rattle.std.proofs.Common.{Ok, Err, eqb-true}
 use Rattle.std.proofs.lemmas.Bool.{cond-true, eq-eqb, and_parts}
 use Rattle.std.proofs.lemmas.List.{append-nil, append_assoc, map-append}
 use Rattle.std.specs.Prelude.{◌==◌, not, cond, encode_utf8}
@@ -29,22 +31,34 @@ use Rattle.syn_replay.specs.declared.report.Piece.{Piece}
 
 module _ {T : Type 0} (Means : T → List Tree → Type 0) (words : Refusal) (s : State) where
   -- a value that is read, as its pieces
-  read-pieces : (x : Option (List Tree × Place)) (v : T) (ps : Vec Piece) (t : State) → ((ts : List Tree) → Means v ts → ArePieces ts ps) → Reads Means x words s (Ok v) t → AfterPieces x s ps t
+  read-pieces : (x : Option (List Tree × Place)) (v : T) (ps : Vec Piece) (t : State)
+      → ((ts : List Tree) → Means v ts → ArePieces ts ps) → Reads Means x words s (Ok v) t
+      → AfterPieces x s ps t
   read-pieces None v ps t made h = absurd h
   read-pieces (Some r) v ps t made h = (r, refl, made r.0 h.0, h.1)
 
-  at-once-pieces : (x : Option (List Tree × Place)) (v : T) (ps : Vec Piece) (t : State) → ((ts : List Tree) → Means v ts → x ≡ Some (ts, t.place) → ArePieces ts ps) → ReadsAtOnce Means x words s (Ok v) t → AfterPieces x s ps t
+  at-once-pieces : (x : Option (List Tree × Place)) (v : T) (ps : Vec Piece) (t : State)
+      → ((ts : List Tree) → Means v ts → x ≡ Some (ts, t.place) → ArePieces ts ps)
+      → ReadsAtOnce Means x words s (Ok v) t → AfterPieces x s ps t
   at-once-pieces None v ps t made h = absurd h
-  at-once-pieces (Some r) v ps t made h = (r, refl, made r.0 h.0 (ap (λ u. Some (r.0, u.place)) (sym h.1)), h.1)
+  at-once-pieces (Some r) v ps t made h =
+      (r, refl, made r.0 h.0 (ap (λ u. Some (r.0, u.place)) (sym h.1)), h.1)
 
 -- the same of a value that stands for its trees
-pub value-pieces : {T : Type 0} (trees_of : T → List Tree) (words : Refusal) (s : State) (x : Option (List Tree × Place)) (v : T) (ps : Vec Piece) (t : State) → Reads (λ v ts. ts ≡ trees_of v) x words s (Ok v) t → ArePieces (trees_of v) ps → AfterPieces x s ps t
+pub value-pieces : {T : Type 0} (trees_of : T
+    → List Tree) (words : Refusal) (s : State) (x : Option (List Tree × Place)) (v : T)
+    (ps : Vec Piece) (t : State) → Reads (λ v ts. ts ≡ trees_of v) x words s (Ok v) t
+    → ArePieces (trees_of v) ps → AfterPieces x s ps t
 value-pieces trees_of words s x v ps t h made =
     read-pieces (λ v ts. ts ≡ trees_of v) words s x v ps t (λ ts m. made ∙ ap pieces_of (sym m)) h
 
-pub value-pieces-at-once : {T : Type 0} (trees_of : T → List Tree) (words : Refusal) (s : State) (x : Option (List Tree × Place)) (v : T) (ps : Vec Piece) (t : State) → ReadsAtOnce (λ v ts. ts ≡ trees_of v) x words s (Ok v) t → ArePieces (trees_of v) ps → AfterPieces x s ps t
+pub value-pieces-at-once : {T : Type 0} (trees_of : T
+    → List Tree) (words : Refusal) (s : State) (x : Option (List Tree × Place)) (v : T)
+    (ps : Vec Piece) (t : State) → ReadsAtOnce (λ v ts. ts ≡ trees_of v) x words s (Ok v) t
+    → ArePieces (trees_of v) ps → AfterPieces x s ps t
 value-pieces-at-once trees_of words s x v ps t h made =
-    at-once-pieces (λ v ts. ts ≡ trees_of v) words s x v ps t (λ ts m _. made ∙ ap pieces_of (sym m)) h
+    at-once-pieces (λ v ts. ts ≡ trees_of v) words s x v ps t (λ ts m _. made
+    ∙ ap pieces_of (sym m)) h
 
 -- a punct of a character
 record IsPunctOf (c : ℕ) (t : Tree) : Type 0 where
@@ -54,14 +68,30 @@ record IsPunctOf (c : ℕ) (t : Tree) : Type 0 where
 
 of_single : (c : ℕ) (t : Tree) → is_punct_of c t ≡ true → IsPunctOf c t
 of_single c (leaf (punct k spacing span)) h =
-    record { spacing = spacing; span = span; whole = ap (λ z. leaf (punct z spacing span)) (eqb-true k c (and_parts (k == c) (not (k == apostrophe)) h).0) }
+    record {
+      spacing =
+          spacing;
+      span =
+          span;
+      whole =
+          ap (λ z. leaf (punct z spacing span))
+          (eqb-true k c (and_parts (k == c) (not (k == apostrophe)) h).0);
+    }
 of_single c (leaf (ident text span)) h = cc
 of_single c (leaf (literal text span)) h = cc
 of_single c (group d inside span) h = cc
 
 of_joint : (c : ℕ) (t : Tree) → is_joint_of c t ≡ true → IsPunctOf c t
 of_joint c (leaf (punct k Joint span)) h =
-    record { spacing = Joint; span = span; whole = ap (λ z. leaf (punct z Joint span)) (eqb-true k c (and_parts (k == c) (not (k == apostrophe)) h).0) }
+    record {
+      spacing =
+          Joint;
+      span =
+          span;
+      whole =
+          ap (λ z. leaf (punct z Joint span))
+          (eqb-true k c (and_parts (k == c) (not (k == apostrophe)) h).0);
+    }
 of_joint c (leaf (punct k Alone span)) h = cc
 of_joint c (leaf (ident text span)) h = cc
 of_joint c (leaf (literal text span)) h = cc
@@ -73,29 +103,43 @@ record IsTaken (wanted : Tree → Bool) (ts : List Tree) : Type 0 where
   is_wanted : wanted one ≡ true
   whole : ts ≡ one ∷ []
 
-taken_in : (wanted : Tree → Bool) (x : Option Tree) (p : Place) (r : List Tree × Place) → elim x [ Some t ↦ cond {A = Option (List Tree × Place)} (wanted t) (Some (t ∷ [], p)) None | None ↦ None ] ≡ Some r → IsTaken wanted r.0
+taken_in : (wanted : Tree → Bool) (x : Option Tree) (p : Place) (r : List Tree × Place)
+    → elim x [
+      | Some t ↦ cond {A = Option (List Tree × Place)} (wanted t) (Some (t ∷ [], p)) None
+      | None ↦ None
+    ] ≡ Some r → IsTaken wanted r.0
 taken_in wanted None p r e = cc
 taken_in wanted (Some t) p r e = go (wanted t) refl e where
-  go : (b : Bool) → wanted t ≡ b → cond {A = Option (List Tree × Place)} b (Some (t ∷ [], p)) None ≡ Some r → IsTaken wanted r.0
-  go true w h = let same : (t ∷ [], p) ≡ r = cc in record { one = t; is_wanted = w; whole = ap (λ z. z.0) (sym same) }
+  go : (b : Bool) → wanted t ≡ b
+      → cond {A = Option (List Tree × Place)} b (Some (t ∷ [], p)) None ≡ Some r
+      → IsTaken wanted r.0
+  go true w h = let same : (t ∷ [], p) ≡ r = cc in
+      record { one = t; is_wanted = w; whole = ap (λ z. z.0) (sym same) }
   go false w h = cc
 
-taken : (wanted : Tree → Bool) (d : Place) (r : List Tree × Place) → reads.read_if wanted d ≡ Some r → IsTaken wanted r.0
+taken : (wanted : Tree → Bool) (d : Place) (r : List Tree × Place) → reads.read_if wanted d ≡ Some r
+    → IsTaken wanted r.0
 taken wanted d r e = taken_in wanted (front d) (pass d) r e
 
 -- no character is left, or no span: all have become pieces
-pub all_pieces : (made whole : List reports.Piece) (text : List ℕ) (spans : List Span) → (text ≡ []) ⊎ (spans ≡ []) → made ++ punct_pieces text spans ≡ whole → made ≡ whole
-all_pieces made whole text spans none e = sym (append-nil made) ∙ ap (λ z. made ++ z) (sym (nothing text spans none)) ∙ e where
-  nothing : (text : List ℕ) (spans : List Span) → (text ≡ []) ⊎ (spans ≡ []) → punct_pieces text spans ≡ []
-  nothing [] spans none = refl
-  nothing (c ∷ cs) [] none = refl
-  nothing (c ∷ cs) (s ∷ spans) (inl h) = cc
-  nothing (c ∷ cs) (s ∷ spans) (inr h) = cc
+pub all_pieces : (made whole : List reports.Piece) (text : List ℕ) (spans : List Span)
+    → (text ≡ []) ⊎ (spans ≡ []) → made ++ punct_pieces text spans ≡ whole → made ≡ whole
+all_pieces made whole text spans none e =
+    sym (append-nil made) ∙ ap (λ z. made ++ z) (sym (nothing text spans none)) ∙ e where
+      nothing : (text : List ℕ) (spans : List Span) → (text ≡ []) ⊎ (spans ≡ [])
+          → punct_pieces text spans ≡ []
+      nothing [] spans none = refl
+      nothing (c ∷ cs) [] none = refl
+      nothing (c ∷ cs) (s ∷ spans) (inl h) = cc
+      nothing (c ∷ cs) (s ∷ spans) (inr h) = cc
 
 -- one more character has become a piece
-pub one_more_piece : (items : List Piece) (piece : Piece) (whole : List reports.Piece) (text after : List ℕ) (spans others : List Span) (c : ℕ) (span : Span)
-    → piece_of piece ≡ record { text = encode_utf8 c; span = span } → text ≡ c ∷ after → spans ≡ span ∷ others
-    → map piece_of items ++ punct_pieces text spans ≡ whole → map piece_of (items ++ piece ∷ []) ++ punct_pieces after others ≡ whole
+pub one_more_piece : (items : List Piece) (piece : Piece) (whole : List reports.Piece)
+    (text after : List ℕ) (spans others : List Span) (c : ℕ) (span : Span)
+    → piece_of piece ≡ record { text = encode_utf8 c; span = span } → text ≡ c ∷ after
+    → spans ≡ span ∷ others
+    → map piece_of items ++ punct_pieces text spans ≡ whole
+    → map piece_of (items ++ piece ∷ []) ++ punct_pieces after others ≡ whole
 one_more_piece items piece whole text after spans others c span made t s e =
     ap (λ z. z ++ punct_pieces after others) (map-append piece_of items (piece ∷ []))
     ∙ append_assoc (map piece_of items) (piece_of piece ∷ []) (punct_pieces after others)
@@ -104,36 +148,54 @@ one_more_piece items piece whole text after spans others c span made t s e =
     ∙ ap (λ z. map piece_of items ++ punct_pieces text z) (sym s) ∙ e
 
 -- one read and then another
-record IsBoth (x : Option (List Tree × Place)) (g : Place → Option (List Tree × Place)) (ts : List Tree) : Type 0 where
+record IsBoth (x : Option (List Tree × Place)) (g : Place
+    → Option (List Tree × Place)) (ts : List Tree) : Type 0 where
   first : List Tree × Place
   second : List Tree × Place
   is_first : x ≡ Some first
   is_second : g first.1 ≡ Some second
   whole : ts ≡ first.0 ++ second.0
 
-both_read : (x : Option (List Tree × Place)) (g : Place → Option (List Tree × Place)) (r : List Tree × Place) → and_then x g ≡ Some r → IsBoth x g r.0
+both_read : (x : Option (List Tree × Place)) (g : Place
+    → Option (List Tree × Place)) (r : List Tree × Place) → and_then x g ≡ Some r → IsBoth x g r.0
 both_read None g r e = cc
 both_read (Some a) g r e = go (g a.1) refl e where
-  go : (y : Option (List Tree × Place)) → g a.1 ≡ y → elim y [ Some q ↦ Some (a.0 ++ q.0, q.1) | None ↦ None ] ≡ Some r → IsBoth (Some a) g r.0
+  go : (y : Option (List Tree × Place)) → g a.1 ≡ y
+      → elim y [ Some q ↦ Some (a.0 ++ q.0, q.1) | None ↦ None ] ≡ Some r → IsBoth (Some a) g r.0
   go None w h = cc
-  go (Some q) w h = let same : (a.0 ++ q.0, q.1) ≡ r = cc in record { first = a; second = q; is_first = refl; is_second = w; whole = ap (λ z. z.0) (sym same) }
+  go (Some q) w h = let same : (a.0 ++ q.0, q.1) ≡ r = cc in
+      record {
+        first =
+            a;
+        second = q;
+        is_first = refl;
+        is_second = w;
+        whole = ap (λ z. z.0) (sym same);
+      }
 
-single_pieces : (c : ℕ) (cs : List ℕ) (t : Tree) (ts more : List Tree) → IsPunctOf c t → ts ≡ t ∷ more → pieces_of more ≡ punct_pieces cs (map tree_span more) → pieces_of ts ≡ punct_pieces (c ∷ cs) (map tree_span ts)
+single_pieces : (c : ℕ) (cs : List ℕ) (t : Tree) (ts more : List Tree) → IsPunctOf c t
+    → ts ≡ t ∷ more → pieces_of more ≡ punct_pieces cs (map tree_span more)
+    → pieces_of ts ≡ punct_pieces (c ∷ cs) (map tree_span ts)
 single_pieces c cs t ts more one e h =
     let u = leaf (punct c one.spacing one.span) in
     let same : ts ≡ u ∷ more = e ∙ ap (λ z. z ∷ more) one.whole in
-    ap pieces_of same ∙ ap (λ z. record { text = encode_utf8 c; span = one.span } ∷ z) h ∙ ap (λ z. punct_pieces (c ∷ cs) (map tree_span z)) (sym same)
+    ap pieces_of same ∙ ap (λ z. record { text = encode_utf8 c; span = one.span } ∷ z) h
+    ∙ ap (λ z. punct_pieces (c ∷ cs) (map tree_span z)) (sym same)
 
 -- the pieces of a punctuation are its characters
-pub punctuation-pieces : (text : List ℕ) (p : Place) (r : List Tree × Place) → read_punctuation text p ≡ Some r → pieces_of r.0 ≡ punct_pieces text (map tree_span r.0)
+pub punctuation-pieces : (text : List ℕ) (p : Place) (r : List Tree × Place)
+    → read_punctuation text p ≡ Some r → pieces_of r.0 ≡ punct_pieces text (map tree_span r.0)
 punctuation-pieces [] p r e = cc
 punctuation-pieces (c ∷ []) p r e =
     let one = taken (is_punct_of c) (descend p) r e in
     single_pieces c [] one.one r.0 [] (of_single c one.one one.is_wanted) one.whole refl
 punctuation-pieces (c ∷ (d ∷ cs)) p r e =
-    let parts = both_read (reads.read_if (is_joint_of c) (descend p)) (read_punctuation (d ∷ cs)) r e in
+    let parts =
+    both_read (reads.read_if (is_joint_of c) (descend p)) (read_punctuation (d ∷ cs)) r e in
     let one = taken (is_joint_of c) (descend p) parts.first parts.is_first in
-    single_pieces c (d ∷ cs) one.one r.0 parts.second.0 (of_joint c one.one one.is_wanted) (parts.whole ∙ ap (λ z. z ++ parts.second.0) one.whole) (punctuation-pieces (d ∷ cs) parts.first.1 parts.second parts.is_second)
+    single_pieces c (d ∷ cs) one.one r.0 parts.second.0 (of_joint c one.one one.is_wanted)
+    (parts.whole ∙ ap (λ z. z ++ parts.second.0) one.whole)
+    (punctuation-pieces (d ∷ cs) parts.first.1 parts.second parts.is_second)
 
 -- the characters of an ASCII text of the length that is asked for
 module _ (n : ℕ) (text : List ℕ) (same : sized n text ≡ text) (ascii : chars text ≡ text) where
@@ -144,20 +206,30 @@ module _ (n : ℕ) (text : List ℕ) (same : sized n text ≡ text) (ascii : cha
       ∙ cond-true (length text == length text) text [] (eq-eqb (length text) (length text) refl)
 
   -- a punctuation that is read
-  pub sized-pieces : (s : State) (spans : List Span) (ps : Vec Piece) (t : State) → PunctuationParses (λ v. v) (ascii_chars (sized n text)) (sized n text) s (Ok spans) t → map piece_of ps.items ≡ punct_pieces text spans → AfterPieces (read_punctuation text s.place) s ps t
+  pub sized-pieces : (s : State) (spans : List Span) (ps : Vec Piece) (t : State)
+      → PunctuationParses (λ v. v) (ascii_chars (sized n text)) (sized n text) s (Ok spans) t
+      → map piece_of ps.items ≡ punct_pieces text spans
+      → AfterPieces (read_punctuation text s.place) s ps t
   sized-pieces s spans ps t h made =
       let P : List ℕ → Type 0 = λ z. PunctuationParses (λ v. v) z (sized n text) s (Ok spans) t in
       let Q : List ℕ → Type 0 = λ z. PunctuationParses (λ v. v) text z s (Ok spans) t in
-      at-once-pieces (λ v. AreSpans v) (punctuation_refusal text s) s (read_punctuation text s.place) spans ps t (λ ts m e.
-      made ∙ ap (punct_pieces text) m ∙ sym (punctuation-pieces text s.place (ts, t.place) e)) (subst Q same (subst P own_chars h))
+      at-once-pieces (λ v. AreSpans v) (punctuation_refusal text s) s
+      (read_punctuation text s.place) spans ps t (λ ts m e.
+      made ∙ ap (punct_pieces text) m
+      ∙ sym (punctuation-pieces text s.place (ts, t.place) e))
+      (subst Q same (subst P own_chars h))
 
   -- one that is refused
-  pub sized-refused : (s : State) (f : Fault) (t : State) → PunctuationParses (λ v. v) (ascii_chars (sized n text)) (sized n text) s (Err f) t → ReadsPieces (read_punctuation text s.place) (punctuation_refusal text s) s (Err f) t
+  pub sized-refused : (s : State) (f : Fault) (t : State)
+      → PunctuationParses (λ v. v) (ascii_chars (sized n text)) (sized n text) s (Err f) t
+      → ReadsPieces (read_punctuation text s.place) (punctuation_refusal text s) s (Err f) t
   sized-refused s f t h =
       let P : List ℕ → Type 0 = λ z. PunctuationParses (λ v. v) z (sized n text) s (Err f) t in
       let Q : List ℕ → Type 0 = λ z. PunctuationParses (λ v. v) text z s (Err f) t in
       refused (read_punctuation text s.place) f (subst Q same (subst P own_chars h)) where
-        refused : (x : Option (List Tree × Place)) (f : Fault) → ReadsAtOnce (λ v. AreSpans v) x (punctuation_refusal text s) s (Err f) t → ReadsPieces x (punctuation_refusal text s) s (Err f) t
+        refused : (x : Option (List Tree × Place)) (f : Fault)
+            → ReadsAtOnce (λ v. AreSpans v) x (punctuation_refusal text s) s (Err f) t
+            → ReadsPieces x (punctuation_refusal text s) s (Err f) t
         refused None (Refused e) h = (refl, h.0, h.1)
         refused x (Memory e) h = tt
         refused (Some r) (Refused e) h = absurd h

@@ -1,10 +1,13 @@
 -- A fork is spent with all that is inside it.
-use Rattle.std.proofs.Common.{◌≡◌, ◌∙◌, sym, ap, refl, ℕ, zero, suc, ◌+◌, Bool, true, false, List, [], ◌∷◌, map, Option, Some, None, arith, inl, inr}
+use Rattle.std.proofs.Common.{◌≡◌, ◌∙◌, sym, ap, refl, ℕ, zero, suc, ◌+◌, Bool, true, false, List}
+use Rattle.std.proofs.Common.{[], ◌∷◌, map, Option, Some, None, arith, inl, inr}
 use Rattle.std.proofs.lemmas.Bool.{ne_eqb, eq-eqb}
 use Rattle.std.proofs.lemmas.Bool.Decides.{eqb_tells}
 use Rattle.std.specs.Option.{option_map}
 use Rattle.std.specs.Prelude.{◌==◌, ◌||◌, cond}
-use Rattle.syn_replay.specs.Session.State.{State, StreamKind, all_spent, with_stream, contains, inside_of, is_content_among, is_or_inside, spent, spent_where, stream_at}
+use Rattle.syn_replay.specs.Session.State.{State, StreamKind, all_spent, with_stream, contains}
+use Rattle.syn_replay.specs.Session.State.{inside_of, is_content_among, is_or_inside, spent}
+use Rattle.syn_replay.specs.Session.State.{spent_where, stream_at}
 use Rattle.syn_replay.specs.Session.State as states
 
 -- a stream, spent or as it was
@@ -23,16 +26,22 @@ same_streams (u ∷ us) (v ∷ vs) h =
     ap (λ z. z ∷ us) first ∙ ap (λ z. v ∷ z) (same_streams us vs (λ i. h (suc i)))
 
 -- spending changes no kind, and so not what is inside
-inside_kinds : (ns : List ℕ) (k : ℕ) (us vs : State) → map (λ (s : states.Stream). s.kind) us ≡ map (λ (s : states.Stream). s.kind) vs → inside_of ns k us ≡ inside_of ns k vs
+inside_kinds : (ns : List ℕ) (k : ℕ) (us vs : State)
+    → map (λ (s : states.Stream). s.kind) us ≡ map (λ (s : states.Stream). s.kind) vs
+    → inside_of ns k us ≡ inside_of ns k vs
 inside_kinds ns k [] [] e = refl
 inside_kinds ns k [] (v ∷ vs) e = cc
 inside_kinds ns k (u ∷ us) [] e = cc
 inside_kinds ns k (u ∷ us) (v ∷ vs) e =
     let kind : u.kind ≡ v.kind = cc in
-    let rest : map (λ (s : states.Stream). s.kind) us ≡ map (λ (s : states.Stream). s.kind) vs = cc in
-    ap (λ z. cond (is_content_among ns z) (k ∷ inside_of (k ∷ ns) (k + 1) us) (inside_of ns (k + 1) us)) kind
-    ∙ ap (λ z. cond (is_content_among ns v.kind) (k ∷ z) (inside_of ns (k + 1) us)) (inside_kinds (k ∷ ns) (k + 1) us vs rest)
-    ∙ ap (λ z. cond (is_content_among ns v.kind) (k ∷ inside_of (k ∷ ns) (k + 1) vs) z) (inside_kinds ns (k + 1) us vs rest)
+    let rest : map (λ (s : states.Stream). s.kind) us ≡ map (λ (s : states.Stream). s.kind) vs =
+    cc in
+    ap (λ z. cond (is_content_among ns z) (k ∷ inside_of (k ∷ ns) (k + 1) us)
+    (inside_of ns (k + 1) us)) kind
+    ∙ ap (λ z. cond (is_content_among ns v.kind) (k ∷ z) (inside_of ns (k + 1) us))
+    (inside_kinds (k ∷ ns) (k + 1) us vs rest)
+    ∙ ap (λ z. cond (is_content_among ns v.kind) (k ∷ inside_of (k ∷ ns) (k + 1) vs) z)
+    (inside_kinds ns (k + 1) us vs rest)
 
 pub spent_false : (o : Option states.Stream) → spent_when false o ≡ o
 spent_false None = refl

@@ -5,4 +5,5 @@ use Rattle.syn_replay.proofs.Comparing.{Undecided}
 use Rattle.syn_replay.proofs.agreement.lines_agree.Given as goal
 
 abbrev pub invariant-loop-i : goal.invariant-loop-i
-invariant-loop-i l = Undecided (λ xs ys. LinesAgree (map line_of xs) (map line_of ys)) l.i l.left l.right
+invariant-loop-i l =
+    Undecided (λ xs ys. LinesAgree (map line_of xs) (map line_of ys)) l.i l.left l.right

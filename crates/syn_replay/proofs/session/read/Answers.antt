@@ -47,7 +47,8 @@ module _ (st : State) (k : ℕ) (s : states.Stream) (here : stream_at st k ≡ S
   refusal_read a is f t new (Ok x) h e q = cc
 
 pub put-requires : goal.put-requires
-put-requires c = there_within (state_of c.args.streams.now) c.args.n (stream_of c.args.stream) c.requires.here
+put-requires c =
+    there_within (state_of c.args.streams.now) c.args.n (stream_of c.args.stream) c.requires.here
 
 pub returns-in-Ok : goal.returns-in-Ok
 returns-in-Ok c =

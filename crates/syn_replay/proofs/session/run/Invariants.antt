@@ -5,4 +5,5 @@ use Rattle.syn_replay.proofs.session.run.Given as goal
 
 abbrev pub invariant-loop-command : goal.invariant-loop-command
 invariant-loop-command l =
-    RunsOn l.lines.items (state_of l.streams) (drop l.command-index l.commands) (state_of l.fn.streams) l.commands
+    RunsOn l.lines.items (state_of l.streams) (drop l.command-index l.commands)
+    (state_of l.fn.streams) l.commands

@@ -9,6 +9,10 @@ use Rattle.syn_replay.proofs.session.verdict.Goals as goal
 
 pub returns-in-Err-Refused : goal.returns-in-Err-Refused
 returns-in-Err-Refused c =
-    let left = subst (λ st. MatchOption (handed st) (c.finish.result ≡ Ok tt) (λ l. IsRefused (leftover_refusal l) c.finish.result)) c.resume.ensures c.finish.ensures in
-    let said = verdict_refused _ c.finish.result tt c.in-Err-Refused.error left (c.in-Err-Refused.is ∙ ap Err c.in-Err-Refused.field-0-is) in
+    let left =
+    subst (λ st. MatchOption (handed st) (c.finish.result ≡ Ok tt)
+    (λ l. IsRefused (leftover_refusal l) c.finish.result)) c.resume.ensures c.finish.ensures in
+    let said =
+    verdict_refused _ c.finish.result tt c.in-Err-Refused.error left (c.in-Err-Refused.is
+    ∙ ap Err c.in-Err-Refused.field-0-is) in
     (said.0 ∙ ap stream_verdict (sym c.whole.ensures), said.1)

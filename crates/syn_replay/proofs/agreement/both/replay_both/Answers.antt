@@ -9,6 +9,7 @@ use Rattle.syn_replay.proofs.agreement.both.replay_both.Goals as goal
 pub returns-clause-agree : goal.returns-clause-agree
 returns-clause-agree c differ transparent =
     let commands = map command_of c.args.commands.now in
-    let agree = invisible_groups_do_not_matter c.args.left c.args.right commands differ transparent in
+    let agree =
+    invisible_groups_do_not_matter c.args.left c.args.right commands differ transparent in
     subst (λ r. ReportsAgree r (report_of c.in_ok-right.right)) (sym c.in_ok-left.ensures.walk)
     (subst (ReportsAgree (walk c.args.left commands)) (sym c.in_ok-right.ensures.walk) agree)

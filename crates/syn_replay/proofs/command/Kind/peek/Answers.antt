@@ -12,5 +12,6 @@ pub returns-in-Punctuation : goal.returns-in-Punctuation
 returns-in-Punctuation c =
     let p = place_of c.args.cursor in
     c.peek_punct.ensures
-    ∙ ap (λ t. is_some (read_punctuation t p)) (ap chars c.punctuation_text.ensures ∙ punctuation-text-chars c.in-Punctuation.k)
+    ∙ ap (λ t. is_some (read_punctuation t p)) (ap chars c.punctuation_text.ensures
+    ∙ punctuation-text-chars c.in-Punctuation.k)
     ∙ ap (λ k. peek_kind (kind_of k) p) (sym c.in-Punctuation.is)

@@ -7,4 +7,6 @@ use Rattle.syn_replay.proofs.report.print.write_more.Given as goal
 
 abbrev pub invariant-loop-piece : goal.invariant-loop-piece
 invariant-loop-piece g l =
-    IsPlainFormatter l.initial.f → HasWritten g.W.Write.write_str_gives l.initial.f (flat_map piece_text (map piece_of (take l.piece-index l.pieces))) l.f
+    IsPlainFormatter l.initial.f
+    → HasWritten g.W.Write.write_str_gives l.initial.f
+    (flat_map piece_text (map piece_of (take l.piece-index l.pieces))) l.f

@@ -5,9 +5,17 @@ use Rattle.syn_replay.proofs.session.pieces.characters.Goals as goal
 
 pub loop-byte-preserved : goal.loop-byte-preserved
 loop-byte-preserved c =
-    let more = Zip-more c.loop-byte.byte-iterator c.next.new.self c.next.result (c.in-Some.field-0-0, c.in-Some.field-0-1) c.in-Some.is c.next.ensures.steps in
-    rw c.in_ok-push.ensures.items (one_more_piece c.loop-byte.pieces.items c.in_ok-character.field-0 _ _ _ _ _ c.in-Some.field-0-0.now c.in-Some.field-0-1.now (search rules) more.0 more.1 c.loop-byte.invariant)
+    let more =
+    Zip-more c.loop-byte.byte-iterator c.next.new.self c.next.result (
+      c.in-Some.field-0-0,
+      c.in-Some.field-0-1,
+    ) c.in-Some.is c.next.ensures.steps in
+    rw c.in_ok-push.ensures.items
+    (one_more_piece c.loop-byte.pieces.items c.in_ok-character.field-0 _ _ _ _ _
+    c.in-Some.field-0-0.now c.in-Some.field-0-1.now (search rules) more.0 more.1
+    c.loop-byte.invariant)
 
 pub returns : goal.returns
 returns c =
-    all_pieces _ _ _ _ (either_empty_from_Zip c.loop-byte.byte-iterator c.next.new.self c.next.result c.in-None.is c.next.ensures.steps) c.loop-byte.invariant
+    all_pieces _ _ _ _ (either_empty_from_Zip c.loop-byte.byte-iterator c.next.new.self
+    c.next.result c.in-None.is c.next.ensures.steps) c.loop-byte.invariant

@@ -7,4 +7,6 @@ use Rattle.syn_replay.proofs.session.pieces.characters.Given as goal
 
 abbrev pub invariant-loop-byte : goal.invariant-loop-byte
 invariant-loop-byte l =
-    map piece_of l.pieces.items ++ punct_pieces (iter_rest (zip_first l.byte-iterator)) (iter_rest (zip_second l.byte-iterator)) ≡ punct_pieces l.text l.spans
+    map piece_of l.pieces.items
+    ++ punct_pieces (iter_rest (zip_first l.byte-iterator))
+    (iter_rest (zip_second l.byte-iterator)) ≡ punct_pieces l.text l.spans

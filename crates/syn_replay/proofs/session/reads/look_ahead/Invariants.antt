@@ -7,5 +7,6 @@ abbrev pub invariant-loop-index : goal.invariant-loop-index
 invariant-loop-index l = record {
   place : l.lookahead.place ≡ l.input.place;
   scope : l.lookahead.scope_span ≡ l.input.scope_span;
-  rest : looked l.index (map look_of (drop l.index l.looks)) l.lookahead.missed l.input.place l.input.scope_span ≡ looked 0 (map look_of l.looks) [] l.input.place l.input.scope_span;
+  rest : looked l.index (map look_of (drop l.index l.looks)) l.lookahead.missed l.input.place
+      l.input.scope_span ≡ looked 0 (map look_of l.looks) [] l.input.place l.input.scope_span;
 }

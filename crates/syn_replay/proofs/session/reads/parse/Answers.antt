@@ -30,7 +30,8 @@ module _ (kind : Kind) (s : parse.State) where
   refusal_parsed t (Memory e) h = (tt, tt)
   refusal_parsed t (Refused e) (none, is, left) =
       let made = is ∙ ap messages.refused (refusal_there kind s) in
-      let same = ap refusal_of made ∙ refusal_of-refused (refusal kind (fresh s.place s.scope_span)) in
+      let same =
+      ap refusal_of made ∙ refusal_of-refused (refusal kind (fresh s.place s.scope_span)) in
       subst (λ x. IsRefusal e (parsed_by x).0 × (t ≡ moved (parsed_by x).1 s)) (sym none)
       ((ap reports.refused same, made ∙ ap messages.refused (sym same)), left)
 

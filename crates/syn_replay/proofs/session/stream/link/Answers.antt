@@ -9,7 +9,12 @@ use Rattle.syn_replay.proofs.session.stream.link.Goals.{in-None, in-Some}
 pub index_mut-requires-in-Some : goal.index_mut-requires-in-Some
 index_mut-requires-in-Some c =
     let v = c.args.list.now in
-    omega (arith, v.ok.0, last_within v.items c.args.parent c.args.number c.in-Some.last c.index.result.now c.requires c.index.ensures c.in-Some.is)
+    omega (
+      arith,
+      v.ok.0,
+      last_within v.items c.args.parent c.args.number c.in-Some.last
+          c.index.result.now c.requires c.index.ensures c.in-Some.is,
+    )
 
 pub returns-clause-linked : goal.returns-clause-linked
 returns-clause-linked c =
@@ -24,11 +29,15 @@ returns-clause-linked c =
       | in-None w ↦
           let z = w.index_mut.result.now in
           let u : Stream = record z { links = record z.links { first = Some n } } in
-          link_first xs ys k n x z u y v c.requires c.index.ensures w.in-None.is w.index_mut.ensures.value refl (ap (λ l. l.items) w.list-is) c.index_mut-2.ensures.value refl
+          link_first xs ys k n x z u y v c.requires c.index.ensures w.in-None.is
+          w.index_mut.ensures.value refl (ap (λ l. l.items) w.list-is)
+          c.index_mut-2.ensures.value refl
       | in-Some w ↦
           let z = w.index_mut-in-Some.result.now in
           let u : Stream = record z { links = record z.links { next = Some n } } in
-          link_next xs ys k n w.in-Some.last x z u y v c.requires c.index.ensures w.in-Some.is w.index_mut-in-Some.ensures.value refl (ap (λ l. l.items) w.list-is) c.index_mut-2.ensures.value refl
+          link_next xs ys k n w.in-Some.last x z u y v c.requires c.index.ensures w.in-Some.is
+          w.index_mut-in-Some.ensures.value refl (ap (λ l. l.items) w.list-is)
+          c.index_mut-2.ensures.value refl
     ]
 
 pub returns-clause-state : goal.returns-clause-state
@@ -43,9 +52,11 @@ returns-clause-state c =
       | in-None w ↦
           let z = w.index_mut.result.now in
           let u : Stream = record z { links = record z.links { first = Some n } } in
-          ap (λ l. state_of_list l.items) w.list-is ∙ state_kept xs c.args.parent z u w.index_mut.ensures.value refl
+          ap (λ l. state_of_list l.items) w.list-is
+          ∙ state_kept xs c.args.parent z u w.index_mut.ensures.value refl
       | in-Some w ↦
           let z = w.index_mut-in-Some.result.now in
           let u : Stream = record z { links = record z.links { next = Some n } } in
-          ap (λ l. state_of_list l.items) w.list-is ∙ state_kept xs w.in-Some.last z u w.index_mut-in-Some.ensures.value refl
+          ap (λ l. state_of_list l.items) w.list-is
+          ∙ state_kept xs w.in-Some.last z u w.index_mut-in-Some.ensures.value refl
     ]

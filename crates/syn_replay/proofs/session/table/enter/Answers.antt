@@ -12,7 +12,8 @@ use Rattle.syn_replay.proofs.Walk.Changes.{there_within}
 use Rattle.syn_replay.proofs.session.table.enter.Goals as goal
 
 pub enter-requires : goal.enter-requires
-enter-requires c = there_within (state_of c.args.streams.now) c.args.n (stream_of c.args.stream) c.requires
+enter-requires c =
+    there_within (state_of c.args.streams.now) c.args.n (stream_of c.args.stream) c.requires
 
 pub returns-in_ok-number-in-Ok : goal.returns-in_ok-number-in-Ok
 returns-in_ok-number-in-Ok c =
@@ -22,16 +23,28 @@ returns-in_ok-number-in-Ok c =
     let s = stream_of c.args.stream in
     let d = c.in-Ok.delimiter in
     let span = c.in-Ok.span in
-    let read = subst (λ s. Enters AreEntered (entered_by w s.place) (refused_at s (entering_words w)) s (Ok (d, span, c.in-Ok.content)) c.enter_group.new.input) c.resume-input.ensures c.in-Ok.ensures in
-    let value = entered-value st n s c.requires (entering_words w) (entered_by w s.place) d span c.in-Ok.content c.enter_group.new.input read in
+    let read =
+    subst (λ s. Enters AreEntered (entered_by w s.place) (refused_at s (entering_words w)) s
+    (Ok (d, span, c.in-Ok.content)) c.enter_group.new.input) c.resume-input.ensures
+    c.in-Ok.ensures in
+    let value =
+    entered-value st n s c.requires (entering_words w) (entered_by w s.place) d span
+    c.in-Ok.content c.enter_group.new.input read in
     let made = c.in_ok-number-in-Ok.ensures {u = tt} in (
       (ap (λ k. reports.entered k d (whole_span span)) made.number ∙ value.0, tt),
-      made.ok ∙ ap (λ t. with_stream st n (put t) ++ standing (paused_state c.pause.result) (content_of n) true ∷ []) c.pause-in-Ok.ensures ∙ ap (λ t. with_stream st n (put c.enter_group.new.input) ++ standing t (content_of n) true ∷ []) c.pause.ensures ∙ value.1,
+      made.ok ∙ ap (λ t. with_stream st n (put t)
+          ++ standing (paused_state c.pause.result) (content_of n) true ∷ []) c.pause-in-Ok.ensures
+          ∙ ap (λ t. with_stream st n (put c.enter_group.new.input)
+          ++ standing t (content_of n) true ∷ []) c.pause.ensures ∙ value.1,
     )
 
 pub returns-in-Err : goal.returns-in-Err
 returns-in-Err c =
     let w = c.args.wanted in
     let s = stream_of c.args.stream in
-    let read = subst (λ s. Enters AreEntered (entered_by w s.place) (refused_at s (entering_words w)) s (Err c.in-Err.fault) c.enter_group.new.input) c.resume-input.ensures c.in-Err.ensures in
-    entered-refusal (state_of c.args.streams.now) c.args.n s c.requires (entering_words w) (entered_by w s.place) c.in-Err.fault c.enter_group.new.input c.refused.result read c.refused.ensures
+    let read =
+    subst (λ s. Enters AreEntered (entered_by w s.place) (refused_at s (entering_words w)) s
+    (Err c.in-Err.fault) c.enter_group.new.input) c.resume-input.ensures c.in-Err.ensures in
+    entered-refusal (state_of c.args.streams.now) c.args.n s c.requires (entering_words w)
+    (entered_by w s.place) c.in-Err.fault c.enter_group.new.input c.refused.result read
+    c.refused.ensures

@@ -7,4 +7,6 @@ use Rattle.syn_replay.proofs.report.print.ReportDisplay.fmt.Given as goal
 
 abbrev pub invariant-loop-line : goal.invariant-loop-line
 invariant-loop-line g l =
-    IsPlainFormatter l.initial.f → HasWritten g.W.Write.write_str_gives l.initial.f (flat_map (λ x. ended (line_text x)) (map line_of (take l.line-index l.line-items))) l.f
+    IsPlainFormatter l.initial.f
+    → HasWritten g.W.Write.write_str_gives l.initial.f
+    (flat_map (λ x. ended (line_text x)) (map line_of (take l.line-index l.line-items))) l.f

@@ -11,7 +11,8 @@ decreases-close_contents l = length l.self.now.list.items - l.k
 abbrev pub invariant-loop-next : goal.invariant-loop-next
 invariant-loop-next l = record {
   links : links_of l.self.list.items ≡ links_of l.fn.self.list.items;
-  left : LeftToClose l.k l.self.list.items l.next (closed_inside l.k (state_of_list l.fn.self.list.items));
+  left : LeftToClose l.k l.self.list.items l.next
+      (closed_inside l.k (state_of_list l.fn.self.list.items));
 }
 
 abbrev pub decreases-loop-next : goal.decreases-loop-next

@@ -6,6 +6,10 @@ pub invariant_of-self : goal.invariant_of-self
 invariant_of-self c =
     let s = c.args.self.now in
     record {
-      rooted = pushed_some (is_ok c.push.result) s.list.items c.push.new.self.items c.fork.result c.push.ensures.items s.rooted;
-      linked = pushed_linked (is_ok c.push.result) s.list.items c.push.new.self.items c.fork.result c.push.ensures.items c.fork.ensures.links s.linked;
+      rooted =
+          pushed_some (is_ok c.push.result) s.list.items c.push.new.self.items c.fork.result
+          c.push.ensures.items s.rooted;
+      linked =
+          pushed_linked (is_ok c.push.result) s.list.items c.push.new.self.items c.fork.result
+          c.push.ensures.items c.fork.ensures.links s.linked;
     }

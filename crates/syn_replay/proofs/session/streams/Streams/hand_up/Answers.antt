@@ -1,30 +1,40 @@
-use Rattle.std.proofs.Common.{◌≡◌, ap, sym, ◌∙◌, refl, false, ◌<◌, ℕ, List, Some, get_or, length, length-set, arith}
+use Rattle.std.proofs.Common.{◌≡◌, ap, sym, ◌∙◌, refl, false, ◌<◌, ℕ, List, Some, get_or, length}
+use Rattle.std.proofs.Common.{length-set, arith}
 use Rattle.syn_parse.specs.Pauses.{paused_state}
 use Rattle.syn_parse.specs.State.{closed}
 use Rattle.syn_replay.specs.Session.Links.{links_of, AreLinked}
-use Rattle.syn_replay.specs.Session.State.{handed_note, with_note_on_parent, with_stream, with_note, put, spent}
+use Rattle.syn_replay.specs.Session.State.{handed_note, with_note_on_parent, with_stream, with_note}
+use Rattle.syn_replay.specs.Session.State.{put, spent}
 use Rattle.syn_replay.specs.Session.Tracks.{kind_of, stream_of, state_of}
 use Rattle.syn_replay.specs.declared.session.stream.Stream.{Stream}
 use Rattle.syn_replay.proofs.Walk.Links.{linked_kept, links_kept, length-links, parent_below}
 use Rattle.syn_replay.proofs.Walk.Changes.{changed_alike}
-use Rattle.syn_replay.proofs.Walk.Tracks.{stream_there, changed_there, handed_there, length-state, noted_apart}
+use Rattle.syn_replay.proofs.Walk.Tracks.{stream_there, changed_there, handed_there, length-state}
+use Rattle.syn_replay.proofs.Walk.Tracks.{noted_apart}
 use Rattle.syn_replay.proofs.session.streams.Streams.hand_up.Goals as goal
 use Rattle.syn_replay.proofs.session.streams.Streams.hand_up.Goals.{in-Some, in_default}
 
-parent_within : (xs : List Stream) (k p : ℕ) (x : Stream) → AreLinked (links_of xs) → x ≡ get_or xs k x → k < length xs → x.links.parent ≡ Some p → p < length xs
-parent_within xs k p x linked e h is = let below = parent_below xs k p x linked e h is in omega (arith, h)
+parent_within : (xs : List Stream) (k p : ℕ) (x : Stream) → AreLinked (links_of xs)
+    → x ≡ get_or xs k x → k < length xs → x.links.parent ≡ Some p → p < length xs
+parent_within xs k p x linked e h is = let below = parent_below xs k p x linked e h is in
+    omega (arith, h)
 
 pub index-requires : goal.index-requires
 index-requires c =
     let v = c.args.self.now.list in
-    let h = parent_within v.items c.args.k c.in-Some.parent c.index-stream.result.now c.args.self.now.linked c.index-stream.ensures (omega (arith, length-state v.items, c.requires)) c.in-Some.is in
+    let h =
+    parent_within v.items c.args.k c.in-Some.parent c.index-stream.result.now
+    c.args.self.now.linked c.index-stream.ensures
+    (omega (arith, length-state v.items, c.requires)) c.in-Some.is in
     omega (arith, v.ok.0, h)
 
 pub put-requires : goal.put-requires
 put-requires c =
     let s = c.args.self.now in
     let xs = s.list.items in
-    let h = parent_within xs c.args.k c.in-Some.parent c.index-stream.result.now s.linked c.index-stream.ensures (omega (arith, length-state xs, c.requires)) c.in-Some.is in
+    let h =
+    parent_within xs c.args.k c.in-Some.parent c.index-stream.result.now s.linked
+    c.index-stream.ensures (omega (arith, length-state xs, c.requires)) c.in-Some.is in
     omega (arith, h, length-state xs)
 
 pub invariant_of-self : goal.invariant_of-self
@@ -32,7 +42,12 @@ invariant_of-self c =
     let s = c.match-stream.self in
     let x = c.index_mut.result.now in
     let y : Stream = record x { is_open = false } in
-    record { rooted = omega (arith, length-set s.list.items c.args.k y, s.rooted); linked = linked_kept s.list.items c.args.k x y c.index_mut.ensures.value refl s.linked }
+    record {
+      rooted =
+          omega (arith, length-set s.list.items c.args.k y, s.rooted);
+      linked =
+          linked_kept s.list.items c.args.k x y c.index_mut.ensures.value refl s.linked;
+    }
 
 pub returns-clause-after : goal.returns-clause-after
 returns-clause-after c =
@@ -50,21 +65,32 @@ returns-clause-after c =
       | in-Some w ↦
           let p = w.in-Some.parent in
           let y = w.index.result.now in
-          let there = parent_within xs k p x c.args.self.now.linked c.index-stream.ensures within w.in-Some.is in
+          let there =
+          parent_within xs k p x c.args.self.now.linked c.index-stream.ensures within
+          w.in-Some.is in
           ap state_of w.self-is ∙ w.put.ensures.after
-          ∙ ap (λ t. with_stream st p (put t)) (w.pause.ensures ∙ w.close.ensures.closes ∙ ap (λ t. closed t w.resume-input.result) w.resume.ensures ∙ ap (closed (paused_state x.paused)) w.resume-input.ensures)
-          ∙ changed_alike st p (stream_of y) (put (closed (paused_state x.paused) (paused_state y.paused))) (with_note (handed_note s)) (stream_there xs p y w.index.ensures there) refl
-          ∙ ap (λ p. with_note_on_parent (kind_of x.is_fork p) (handed_note s) st) (sym w.in-Some.is)
+          ∙ ap (λ t. with_stream st p (put t)) (w.pause.ensures ∙ w.close.ensures.closes
+          ∙ ap (λ t. closed t w.resume-input.result) w.resume.ensures
+          ∙ ap (closed (paused_state x.paused)) w.resume-input.ensures)
+          ∙ changed_alike st p (stream_of y)
+          (put (closed (paused_state x.paused) (paused_state y.paused)))
+          (with_note (handed_note s)) (stream_there xs p y w.index.ensures there) refl
+          ∙ ap (λ p. with_note_on_parent (kind_of x.is_fork p) (handed_note s) st)
+          (sym w.in-Some.is)
       | in_default w ↦
-          ap state_of w.self-is ∙ noted_apart x.is_fork x.links.parent (handed_note s) st w.in_default.is
+          ap state_of w.self-is
+          ∙ noted_apart x.is_fork x.links.parent (handed_note s) st w.in_default.is
     ] in
     let len : length (links_of ys) ≡ length (links_of xs) =
     elim c.match-stream.branch [
-      | in-Some w ↦ ap (λ v. length (links_of v.list.items)) w.self-is ∙ ap length w.put.ensures.links
+      | in-Some w ↦ ap (λ v. length (links_of v.list.items)) w.self-is
+          ∙ ap length w.put.ensures.links
       | in_default w ↦ ap (λ v. length (links_of v.list.items)) w.self-is
     ] in
     let inside : k < length ys = omega (arith, len, length-links xs, length-links ys) in
-    handed_there k st (state_of c.match-stream.self) _ s (stream_there xs k x c.index-stream.ensures within) us (changed_there ys k z y spent c.index_mut.ensures.value inside refl)
+    handed_there k st (state_of c.match-stream.self) _ s
+    (stream_there xs k x c.index-stream.ensures within) us
+    (changed_there ys k z y spent c.index_mut.ensures.value inside refl)
 
 pub returns-clause-links : goal.returns-clause-links
 returns-clause-links c =

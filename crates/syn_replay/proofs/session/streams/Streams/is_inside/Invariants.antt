@@ -7,7 +7,8 @@ use Rattle.syn_replay.proofs.session.streams.Streams.is_inside.Given as goal
 abbrev pub invariant-loop-next : goal.invariant-loop-next
 invariant-loop-next l = record {
   within : (p : ℕ) → l.next ≡ Some p → p < length l.self.list.items;
-  rest : is_parent_inside (state_of l.self) l.outer l.next ≡ is_inside (state_of l.self) l.outer l.inner;
+  rest : is_parent_inside (state_of l.self) l.outer l.next
+      ≡ is_inside (state_of l.self) l.outer l.inner;
 }
 
 abbrev pub decreases-loop-next : goal.decreases-loop-next

@@ -9,14 +9,20 @@ invariant_of-self c =
     let s = c.args.self.now in
     let x = c.index_mut.result.now in
     let y : Stream = record x { paused = c.args.paused } in
-    record { rooted = omega (arith, length-set s.list.items c.args.n y, s.rooted); linked = linked_kept s.list.items c.args.n x y c.index_mut.ensures.value refl s.linked }
+    record {
+      rooted =
+          omega (arith, length-set s.list.items c.args.n y, s.rooted);
+      linked =
+          linked_kept s.list.items c.args.n x y c.index_mut.ensures.value refl s.linked;
+    }
 
 pub returns-clause-after : goal.returns-clause-after
 returns-clause-after c =
     let xs = c.args.self.now.list.items in
     let x = c.index_mut.result.now in
     let y : Stream = record x { paused = c.args.paused } in
-    changed_there xs c.args.n x y _ c.index_mut.ensures.value (omega (arith, length-state xs, c.requires)) refl
+    changed_there xs c.args.n x y _ c.index_mut.ensures.value
+    (omega (arith, length-state xs, c.requires)) refl
 
 pub returns-clause-links : goal.returns-clause-links
 returns-clause-links c =
