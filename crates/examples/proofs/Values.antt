@@ -14,17 +14,16 @@ use Rattle.examples.specs.declared.value.Value.TheFolds.{fold-roll-Value}
 use Rattle.examples.specs.declared.value.Value.TheVariants as made
 
 pub form_name : (ident : Ident) → value_form (made.Name ident) ≡ name ident
-form_name ident = ap value_form (sym (made.rolls-Name ident)) ∙ fold-roll-Value Form one_level _
+form_name ident = rw (← made.rolls-Name, fold-roll-Value)
 
 pub form_text : (literal : Literal) → value_form (made.Text literal) ≡ text literal
-form_text literal = ap value_form (sym (made.rolls-Text literal)) ∙ fold-roll-Value Form one_level _
+form_text literal = rw (← made.rolls-Text, fold-roll-Value)
 
 pub form_list : (bracket : Visible 2) (values : Punctuated Value (Punctuation 7 1))
     → value_form (made.List bracket values)
     ≡ listed (whole_span bracket.span) (list_form value_form (λ sign. sign) values)
 form_list bracket =
-    values_mapped value_form (λ list. value_form (made.List bracket list))
-    (listed (whole_span bracket.span)) _
+    values_mapped value_form _ (listed (whole_span bracket.span)) _
     (λ list. ap value_form (sym (made.rolls-List bracket list)) ∙ fold-roll-Value Form one_level _)
     (λ inner. refl) (λ inner b. refl)
 
