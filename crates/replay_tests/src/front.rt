@@ -1,10 +1,11 @@
 //! The library by one crate, under `syn`'s paths: from a text to values, and over a buffer by hand.
 use std::alloc::{AllocGlobal, Global};
 use std::process::Abort;
-use syn_tokens::buffer::TokenBuffer;
+use syn_tokens::buffer::{Cursor, TokenBuffer};
+use syn_tokens::laws::{parses_go_on, reads_go_on, reads_keep_scope};
 use syn_tokens::parse::{Parse, ParseStream, Parser};
 use syn_tokens::punctuated::Punctuated;
-use syn_tokens::{Delimiter, Ident, lex, parse, token};
+use syn_tokens::{Delimiter, Error, Ident, Span, TokenTree, lex, parenthesized, parse, token};
 
 /// `pub NAME(FIRST, SECOND, ..)`, as a user of the library would write it.
 #[derive(Drop)]
@@ -73,4 +74,146 @@ fn all_starts(rt: &(impl Abort + AllocGlobal), rows: &[(&str, &str, bool)]) {
 #[test]
 fn walks_a_buffer_by_one_crate(rt: HostRuntime) {
     all_starts(&rt, &[("a (b)", "a", true), ("a [b]", "a", false)]);
+}
+
+// Returns the cursor after all identifiers that are next.
+fn past_idents<'a>(cursor: Cursor<'a>) -> Cursor<'a> {
+    reads_go_on();
+    let mut after = cursor;
+    while let Some((_, next)) = after.ident() {
+        after = next;
+    }
+    after
+}
+
+// Parses all names that are left, each with a comma after it or not.
+fn names(input: ParseStream<'_, '_>) -> parse::Result<Vec<Ident>> {
+    parses_go_on();
+    let mut names = Vec::new(input.allocator());
+    while !input.is_empty() {
+        names.push(input.parse()?)?;
+    }
+    Ok(names)
+}
+
+// Parses a name on a fork.
+fn tried(input: ParseStream<'_, '_>) -> parse::Result<Option<Ident>> {
+    reads_keep_scope();
+    let mut fork = input.fork();
+    match fork.parse::<Ident>() {
+        Ok(name) => {
+            input.advance_to(fork);
+            Ok(Some(name))
+        }
+        Err(_) => {
+            fork.discard();
+            Ok(None)
+        }
+    }
+}
+
+// Parses parentheses around names.
+fn inside(input: ParseStream<'_, '_>) -> parse::Result<usize> {
+    let mut content;
+    let _: token::Paren = parenthesized!(content in input);
+    let found = names(&mut content);
+    input.close(content);
+    Ok(found?.len())
+}
+
+// Parses a name, if there is one, and names in parentheses. Returns whether there is a name, and
+// how many are in the parentheses.
+fn named(input: ParseStream<'_, '_>) -> parse::Result<(bool, usize)> {
+    let name = tried(input)?;
+    let count = inside(input)?;
+    Ok((name.is_some(), count))
+}
+
+fn counted(alloc: Global, text: &str) -> Option<(bool, usize)> {
+    named.parse_str(alloc, text).ok()
+}
+
+fn all_counted(rt: &(impl Abort + AllocGlobal), rows: &[(&str, Option<(bool, usize)>)]) {
+    for (text, wanted) in rows {
+        assert_eq!(rt; counted(rt.alloc(), text), *wanted, "at {text}");
+    }
+}
+
+#[test]
+fn uses_laws_and_macros_by_one_crate(rt: HostRuntime) {
+    all_counted(
+        &rt,
+        &[
+            ("a (b c)", Some((true, 2))),
+            ("(b)", Some((false, 1))),
+            ("a [b]", None),
+        ],
+    );
+}
+
+// A type of a user's own, by derives over the library's types.
+#[derive(Clone, Drop, Debug)]
+struct Field {
+    name: Ident,
+    comma: token::Comma,
+}
+
+// Rejects a name by an error of one's own.
+fn refused(input: ParseStream<'_, '_>) -> parse::Result<Ident> {
+    let name: Ident = input.parse()?;
+    Err(Error::new_spanned(input.allocator(), &name, "not this")?.into())
+}
+
+// Returns what is shown of a field and its copy, of a tree, and of an error.
+fn shown(alloc: Global, text: &str) -> Option<String> {
+    let name: Ident = Ident::parse.parse_str(alloc, text).ok()?;
+    let comma = token::Comma::from_span(Span::call_site());
+    let field = Field { name, comma }.clone().ok()?;
+    let Err(fault) = refused.parse_str(alloc, text) else {
+        return None;
+    };
+    let shown = format!(in alloc; "{} {field:?} {fault}", field.name).ok()?;
+    let tree = TokenTree::from(field.name);
+    format!(in alloc; "{shown} {tree}").ok()
+}
+
+fn is_shown(alloc: Global, text: &str, wanted: &str) -> bool {
+    match shown(alloc, text) {
+        Some(text) => text.as_str() == wanted,
+        None => false,
+    }
+}
+
+fn all_shown(rt: &(impl Abort + AllocGlobal), rows: &[(&str, &str)]) {
+    for (text, wanted) in rows {
+        assert!(rt; is_shown(rt.alloc(), text, wanted), "not {wanted}");
+    }
+}
+
+#[test]
+fn shows_and_clones_by_one_crate(rt: HostRuntime) {
+    all_shown(
+        &rt,
+        &[(
+            "a",
+            "a Field { name: Ident { text: \"a\", span: Span { origin: Source(0, 0, 1) } }, comma: Token![,] } not this a",
+        )],
+    );
+}
+
+// Returns where the identifiers of a text end.
+fn end_of_idents(alloc: Global, text: &str) -> Option<usize> {
+    let buffer = TokenBuffer::from_text(alloc, 0, 0, text).ok()?;
+    past_idents(buffer.begin()).position()
+}
+
+fn all_ends(rt: &(impl Abort + AllocGlobal), rows: &[(&str, Option<usize>)]) {
+    for (text, wanted) in rows {
+        assert_eq!(rt; end_of_idents(rt.alloc(), text), *wanted, "at {text}");
+    }
+}
+
+#[test]
+fn loops_by_one_crate(rt: HostRuntime) {
+    all_ends(&rt, &[("a b = c", Some(2)), ("", Some(0))]);
 }

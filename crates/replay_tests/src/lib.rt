@@ -4,6 +4,12 @@
 #[cfg(test)]
 mod channels;
 #[cfg(test)]
+mod forks;
+#[cfg(test)]
 mod front;
 #[cfg(test)]
+mod names;
+#[cfg(test)]
 mod session;
+#[cfg(test)]
+mod sizes;
