@@ -1,7 +1,9 @@
-//! Tests of the functions of `examples`.
+//! Tests of `examples` and of `config`.
 #![tactic(auto)]
 
 #[cfg(test)]
 mod callers;
 #[cfg(test)]
 mod said;
+#[cfg(test)]
+mod settings;

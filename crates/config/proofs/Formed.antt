@@ -1,0 +1,87 @@
+-- The forms of settings and values, level by level.
+use Rattle.std.proofs.Common.{◌≡◌, ◌∙◌, refl, sym, ap, Some, None, [], ◌∷◌, ℕ, Bool}
+use Rattle.tok_lexical.specs.declared.delimiter.Delimiter.TheVariants.{Brace, Bracket}
+use Rattle.tok_leaves.specs.Spans.{whole_span}
+use Rattle.tok_leaves.specs.declared.ident.Ident.{Ident}
+use Rattle.tok_leaves.specs.declared.span.Span.{Span}
+use Rattle.tok_types.specs.declared.delimiter.Visible.{Visible}
+use Rattle.syn_punctuated.proofs.Mapped.{by_last, list_mapped, of_parts}
+use Rattle.syn_parse.specs.Takes.{Taking, and_then, found, take_group}
+use Rattle.syn_parse.specs.TokenNames.{take_comma}
+use Rattle.syn_parse.specs.TreesAhead.{Ahead}
+use Rattle.syn_punctuated.specs.TakeLists.{list_form, take_terminated}
+use Rattle.syn_punctuated.specs.declared.punctuated.Punctuated.{Punctuated}
+use Rattle.config.specs.Forms.{Colon, Comma, Form, SettingForm, listed, mapped, number, setting_form}
+use Rattle.config.specs.Forms.{setting_level, truth, value_form, value_level}
+use Rattle.config.specs.Reading.{setting_step, take_list_value, take_map_value}
+use Rattle.config.specs.declared.value.Setting.{Setting}
+use Rattle.config.specs.declared.value.Value.{Value}
+use Rattle.config.specs.declared.value.Value.TheFolds.{fold-roll-Setting, fold-roll-Value}
+use Rattle.config.specs.declared.value.Value.TheFolds.{map-Value}
+use Rattle.config.specs.declared.value.Value.TheOpen.{Value-F}
+use Rattle.config.specs.declared.value.Value.TheVariants as made
+use Rattle.config.specs.declared.value.Value.TheViews.{roll-Value}
+
+level : (layer : Value-F Value Setting) → value_form (roll-Value layer)
+    ≡ value_level (map-Value Value Setting Form SettingForm value_form setting_form layer)
+level layer = fold-roll-Value _ _ value_level setting_level layer
+
+pub form_number : (span : Span) (n : ℕ) → value_form (made.Number span n) ≡ number span n
+form_number span n = ap value_form (sym (made.rolls-Number span n)) ∙ level (Value-F.Number span n)
+
+pub form_truth : (span : Span) (b : Bool) → value_form (made.Truth span b) ≡ truth span b
+form_truth span b = ap value_form (sym (made.rolls-Truth span b)) ∙ level (Value-F.Truth span b)
+
+pub form_setting : (key : Ident) (colon : Colon) (value : Value)
+    → setting_form (record { key = key; colon = colon; value = value })
+    ≡ (key, colon, value_form value)
+form_setting key colon value =
+    fold-roll-Setting _ _ value_level setting_level
+    (record { key = key; colon = colon; value = value })
+
+pub form_list : (bracket : Visible 2) (values : Punctuated Value Comma)
+    → value_form (made.List bracket values)
+    ≡ listed (whole_span bracket.span) (list_form value_form (λ sign. sign) values)
+form_list bracket =
+    by_last (λ values. value_form (made.List bracket values)
+    ≡ listed (whole_span bracket.span) (list_form value_form (λ sign. sign) values))
+    (λ inner. ap value_form (sym (made.rolls-List bracket (of_parts inner None)))
+    ∙ level (Value-F.List bracket (of_parts inner None))
+    ∙ ap (listed (whole_span bracket.span)) (list_mapped value_form inner.items []))
+    (λ inner b. ap value_form (sym (made.rolls-List bracket (of_parts inner (Some b))))
+    ∙ level (Value-F.List bracket (of_parts inner (Some b)))
+    ∙ ap (listed (whole_span bracket.span)) (list_mapped value_form inner.items (b.value ∷ [])))
+
+pub form_map : (brace : Visible 1) (settings : Punctuated Setting Comma)
+    → value_form (made.Map brace settings)
+    ≡ mapped (whole_span brace.span) (list_form setting_form (λ sign. sign) settings)
+form_map brace =
+    by_last (λ settings. value_form (made.Map brace settings)
+    ≡ mapped (whole_span brace.span) (list_form setting_form (λ sign. sign) settings))
+    (λ inner. ap value_form (sym (made.rolls-Map brace (of_parts inner None)))
+    ∙ level (Value-F.Map brace (of_parts inner None))
+    ∙ ap (mapped (whole_span brace.span)) (list_mapped setting_form inner.items []))
+    (λ inner b. ap value_form (sym (made.rolls-Map brace (of_parts inner (Some b))))
+    ∙ level (Value-F.Map brace (of_parts inner (Some b)))
+    ∙ ap (mapped (whole_span brace.span)) (list_mapped setting_form inner.items (b.value ∷ [])))
+
+pub ruleset plain = (form_number, form_truth)
+
+-- what a list and a map take
+pub list_is : (value : Taking Form) (a : Ahead)
+    → take_list_value value a
+    ≡ and_then (take_group Bracket (take_terminated value take_comma) a)
+    (λ values. found (listed values.0.join values.1))
+unfolding take_list_value
+list_is value a = refl
+
+pub map_is : (value : Taking Form) (a : Ahead)
+    → take_map_value value a
+    ≡ and_then (take_group Brace (take_terminated (setting_step value) take_comma) a)
+    (λ settings. found (mapped settings.0.join settings.1))
+unfolding take_map_value
+map_is value a = refl
+
+pub ruleset one = (form_setting)
+
+pub ruleset all = (form_list, form_map, list_is, map_is)

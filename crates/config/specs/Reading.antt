@@ -1,0 +1,212 @@
+-- How settings are read.
+use Rattle.std.specs.Prelude.{◌≡◌, ◌⊎◌, ◌^◌, ℕ, Bool, true, false, List, [], ◌∷◌, codes, nat_lt}
+use Rattle.std.specs.Prelude.{Option, None, Some, MatchResult, Result, if◌then◌else◌}
+use Rattle.std.specs.Str.{chars}
+use Rattle.tok_lexical.specs.Rules.{plain_rules}
+use Rattle.tok_lexical.specs.declared.delimiter.Delimiter.TheVariants.{Brace, Bracket}
+use Rattle.tok_leaves.specs.declared.literal.Literal.{Literal}
+use Rattle.tok_leaves.specs.declared.span.Span.{Span}
+use Rattle.tok_values.specs.Values.{integer_value, string_value}
+use Rattle.tok_core.specs.Forest.{Forest}
+use Rattle.tok_core.specs.Lexical.Reading as grammar
+use Rattle.tok_core.specs.declared.lexer.error.LexError.{LexError}
+use Rattle.syn_parse.specs.Faults.{IsRefused}
+use Rattle.syn_parse.specs.Lighter.{lightening, lightens_gives}
+use Rattle.syn_parse.specs.Nested.{Descends, lightens_nested, nested_again, take_nested}
+use Rattle.syn_parse.specs.Owned.{own_first, take_own}
+use Rattle.syn_parse.specs.Parsers.{OnMemory, lex_refusal}
+use Rattle.syn_parse.specs.Takes.{Says, Taking, ◌>>=◌, found, gives, missing, refuses, take_group}
+use Rattle.syn_parse.specs.Takes.{where_ahead}
+use Rattle.syn_parse.specs.Takings.{KeepsWhole, Lightens, Takings, lighter, taken_filled, told_filled}
+use Rattle.syn_parse.specs.TokenNames.{take_colon, take_comma}
+use Rattle.syn_parse.specs.Tokens.{sees_group, sees_literal, take_ident, take_literal}
+use Rattle.syn_parse.specs.TreesAhead.{Ahead}
+use Rattle.syn_parse.specs.declared.fault.Fault.{Fault}
+use Rattle.syn_punctuated.specs.NestedLists.{descending_lists}
+use Rattle.syn_punctuated.specs.TakeLists.{list_form, take_terminated}
+use Rattle.syn_punctuated.specs.declared.punctuated.Punctuated.{Punctuated}
+use Rattle.config.specs.Forms.{Comma, Form, SettingForm, listed, mapped, number, setting_form, text}
+use Rattle.config.specs.Forms.{truth, value_form}
+use Rattle.config.specs.declared.value.Setting.{Setting}
+use Rattle.config.specs.declared.value.Value.{Value}
+
+-- a refusal with these words
+abbrev pub rejects : {A : Type 0} → List ℕ → Taking A
+rejects words a = missing words
+
+pub lightens_rejects : {A : Type 0} (words : List ℕ) → Lightens {A = A} (rejects words)
+lightens_rejects words = record { less = λ a b v e. absurd (cc) }
+
+-- an integer without a suffix
+abbrev pub in_number : Span → (n : ℕ) → (suffix : List ℕ) → Taking Form
+in_number span n [] = gives (number span n)
+in_number span n (c ∷ cs) = rejects (codes "expected no suffix")
+
+-- the value of an integer literal, below 2^64
+abbrev pub in_integer : Span → Option (ℕ × List ℕ) → Taking Form
+in_integer span None = rejects (codes "expected a string without a suffix, or an integer")
+in_integer span (Some i) =
+    if nat_lt i.0 (2 ^ 64)
+    then in_number span i.0 i.1
+    else rejects (codes "expected an integer below 2^64")
+
+-- the value of a string literal, or else of an integer literal
+abbrev pub in_text : Literal → Option (List ℕ) → Taking Form
+in_text literal (Some t) = gives (text literal.span t)
+in_text literal None = in_integer literal.span (integer_value (chars literal.text))
+
+-- what a literal means
+unfoldable pub meaning : Literal → Taking Form
+meaning literal = in_text literal (string_value (chars literal.text))
+
+-- a value that is meant, or the words of a refusal
+abbrev pub Means : Taking Form → Result Value Fault → Type 0
+Means m result =
+    (a : Ahead) → MatchResult result (λ v. m a ≡ found (value_form v) a) (λ f. Says (m a) f)
+
+-- a literal, and what it means
+abbrev pub take_meaning : Taking Form
+take_meaning = do
+  literal ← take_literal
+  meaning literal
+
+-- the same, if a literal is next
+unfoldable pub take_literal_value : Taking Form
+take_literal_value =
+    where_ahead sees_literal take_meaning
+    (refuses (codes "expected a string, an integer, `true`, `false`, `[` or `{`"))
+
+-- a peek of one's own keyword
+abbrev pub sees_own : List ℕ → Ahead → Bool
+sees_own word a = own_first word a.trees
+
+-- a value that holds no others
+unfoldable pub take_plain : Taking Form
+take_plain =
+    where_ahead (sees_own (codes "true")) (do
+      span ← take_own (codes "true")
+      gives (truth span true)) (where_ahead (sees_own (codes "false")) (do
+        span ← take_own (codes "false")
+        gives (truth span false)) take_literal_value)
+
+-- a key that is not `include`, a colon and a value, by how values are taken
+unfoldable pub setting_step : Taking Form → Taking SettingForm
+setting_step value =
+    where_ahead (sees_own (codes "include")) (refuses (codes "this language has no `include`")) (do
+      key ← take_ident
+      colon ← take_colon
+      form ← value
+      gives (key, colon, form))
+
+-- values in brackets, and settings in braces
+unfoldable pub take_list_value : Taking Form → Taking Form
+take_list_value value = do
+  values ← take_group Bracket (take_terminated value take_comma)
+  gives (listed values.0.join values.1)
+
+unfoldable pub take_map_value : Taking Form → Taking Form
+take_map_value value = do
+  settings ← take_group Brace (take_terminated (setting_step value) take_comma)
+  gives (mapped settings.0.join settings.1)
+
+-- one value, by how those within it are taken
+abbrev pub value_step : Taking Form → Taking Form
+value_step value =
+    where_ahead (sees_group Bracket) (take_list_value value)
+    (where_ahead (sees_group Brace) (take_map_value value) take_plain)
+
+-- none of these adds anything to what is ahead
+lightens_number : (span : Span) (n : ℕ) (suffix : List ℕ) → Lightens (in_number span n suffix)
+lightens_number span n [] = lightens_gives _
+lightens_number span n (c ∷ cs) = lightens_rejects _
+
+lightens_integer : (span : Span) (o : Option (ℕ × List ℕ)) → Lightens (in_integer span o)
+lightens_integer span None = lightens_rejects _
+lightens_integer span (Some i) = below (nat_lt i.0 (2 ^ 64)) where
+  below : (b : Bool) → Lightens (if b
+      then in_number span i.0 i.1
+      else rejects (codes "expected an integer below 2^64"))
+  below true = lightens_number span i.0 i.1
+  below false = lightens_rejects _
+
+lightens_text : (literal : Literal) (o : Option (List ℕ)) → Lightens (in_text literal o)
+lightens_text literal (Some t) = lightens_gives _
+lightens_text literal None =
+    lightens_integer literal.span (integer_value (chars literal.text))
+
+lightens_meaning : (literal : Literal) → Lightens (meaning literal)
+unfolding meaning
+lightens_meaning literal = lightens_text literal (string_value (chars literal.text))
+
+ruleset literals = (lightening, lightens_meaning)
+
+lightens_literal_value : Lightens take_literal_value
+unfolding take_literal_value
+lightens_literal_value = search literals depth 20
+
+ruleset plain = (lightening, lightens_literal_value)
+
+lightens_plain : Lightens take_plain
+unfolding take_plain
+lightens_plain = search plain depth 20
+
+list_descends : Descends 0 take_list_value
+unfolding take_list_value
+list_descends = search descending_lists depth 20
+
+setting_descends : Descends 0 setting_step
+unfolding setting_step
+setting_descends = search descending_lists depth 20
+
+ruleset settings_nesting = (descending_lists, setting_descends)
+
+map_descends : Descends 0 take_map_value
+unfolding take_map_value
+map_descends = search settings_nesting depth 20
+
+ruleset nesting = (descending_lists, lightens_plain, list_descends, map_descends)
+
+pub value_descends : Descends 0 value_step
+value_descends = search nesting depth 20
+
+abbrev pub take_value : Taking Form
+take_value = take_nested value_step
+
+-- a value is one level around values
+pub value_again : (a : Ahead) → take_value a ≡ value_step take_value a
+value_again = nested_again value_step value_descends
+
+abbrev pub take_setting : Taking SettingForm
+take_setting = setting_step take_value
+
+pub lightens_value : Lightens take_value
+lightens_value = lightens_nested value_step value_descends
+
+pub lightens_setting : Lightens take_setting
+lightens_setting = setting_descends.light take_value lightens_value
+
+-- what the parsers state
+abbrev pub value : Takings Value
+value = told_filled value_form take_value (lighter lightens_value)
+
+abbrev pub list_value : Takings Value
+list_value = taken_filled value_form (take_list_value take_value)
+
+abbrev pub map_value : Takings Value
+map_value = taken_filled value_form (take_map_value take_value)
+
+abbrev pub setting : Takings Setting
+setting = told_filled setting_form take_setting (lighter lightens_setting)
+
+abbrev pub values : Takings (Punctuated Value Comma)
+values = taken_filled (list_form value_form (λ p. p)) (take_terminated take_value take_comma)
+
+abbrev pub settings : Takings (Punctuated Setting Comma)
+settings = taken_filled (list_form setting_form (λ p. p)) (take_terminated take_setting take_comma)
+
+-- the text of a source reads as settings; or the grammar of tokens refuses it
+abbrev pub ReadsText : (source : ℕ) → List ℕ → Result (Punctuated Setting Comma) Fault → Type 0
+ReadsText source cs r =
+    ((f : Forest) × grammar.Reads plain_rules source cs f × KeepsWhole settings f r)
+    ⊎ (((e : LexError) × grammar.IsRefused plain_rules source cs e × IsRefused (lex_refusal e) r)
+    ⊎ OnMemory r)
