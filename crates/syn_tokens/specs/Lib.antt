@@ -9,6 +9,13 @@ pub use Rattle.tok_leaves.specs.Leaves
 pub use Rattle.tok_leaves.specs.Lifetimes
 pub use Rattle.tok_leaves.specs.Quoting
 pub use Rattle.tok_leaves.specs.Spans as Spans
+pub use Rattle.tok_values.specs.Escapes
+pub use Rattle.tok_values.specs.Floats as FloatValues
+pub use Rattle.tok_values.specs.Integers
+pub use Rattle.tok_values.specs.Laws as ValueLaws
+pub use Rattle.tok_values.specs.Numbers as NumberValues
+pub use Rattle.tok_values.specs.Strings as StringValues
+pub use Rattle.tok_values.specs.Values
 pub use Rattle.tok_core.specs.Clear
 pub use Rattle.tok_core.specs.Erase
 pub use Rattle.tok_core.specs.Filled
@@ -37,6 +44,8 @@ pub use Rattle.tok_buffer.specs.Rest
 pub use Rattle.tok_buffer.specs.SameView
 pub use Rattle.tok_buffer.specs.Spans as CursorSpans
 pub use Rattle.tok_buffer.specs.View
+pub use Rattle.syn_carets.specs.Lines
+pub use Rattle.syn_carets.specs.Shown
 pub use Rattle.tok_types.specs.Delimiters
 pub use Rattle.tok_types.specs.Laws as TokenLaws
 pub use Rattle.tok_types.specs.Looks
@@ -50,7 +59,9 @@ pub use Rattle.syn_parse.specs.Groups
 pub use Rattle.syn_parse.specs.Laws as StreamLaws
 pub use Rattle.syn_parse.specs.Lighter
 pub use Rattle.syn_parse.specs.Lookahead
+pub use Rattle.syn_parse.specs.Nested
 pub use Rattle.syn_parse.specs.Optional
+pub use Rattle.syn_parse.specs.Owned
 pub use Rattle.syn_parse.specs.Parsers
 pub use Rattle.syn_parse.specs.Parses
 pub use Rattle.syn_parse.specs.Pauses
@@ -72,6 +83,7 @@ pub use Rattle.syn_punctuated.specs.Faults as ListFaults
 pub use Rattle.syn_punctuated.specs.Hashed
 pub use Rattle.syn_punctuated.specs.Lends
 pub use Rattle.syn_punctuated.specs.Lists
+pub use Rattle.syn_punctuated.specs.NestedLists
 pub use Rattle.syn_punctuated.specs.PairLends
 pub use Rattle.syn_punctuated.specs.Paired
 pub use Rattle.syn_punctuated.specs.Pairs
@@ -79,6 +91,7 @@ pub use Rattle.syn_punctuated.specs.Printed as ListPrinted
 pub use Rattle.syn_punctuated.specs.Progress as TurnProgress
 pub use Rattle.syn_punctuated.specs.ReadBack
 pub use Rattle.syn_punctuated.specs.Retained
+pub use Rattle.syn_punctuated.specs.TakeLists
 pub use Rattle.syn_punctuated.specs.Trees as ListTrees
 pub use Rattle.syn_punctuated.specs.Turns as ListTurns
 pub use Rattle.arguments.specs.Grammar as ArgumentGrammar
