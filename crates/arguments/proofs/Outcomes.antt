@@ -65,10 +65,12 @@ agree f g e i j (Ok a) (Ok b) h k =
     one_list (erase f) a b (parses f (Ok a) h)
     (subst (λ z. AreArguments z b) (sym e) (parses g (Ok b) k))
 agree f g e i j (Ok a) (Err d) h k =
-    absurd (k.0.0 (list_form a) (ap (λ z. take_arguments (record { trees = z; clean = true })) (sym e)
+    absurd (k.0.0 (list_form a)
+    (ap (λ z. take_arguments (record { trees = z; clean = true })) (sym e)
     ∙ h))
 agree f g e i j (Err d) (Ok b) h k =
-    absurd (h.0.0 (list_form b) (ap (λ z. take_arguments (record { trees = z; clean = true })) e ∙ k))
+    absurd (h.0.0 (list_form b) (ap (λ z. take_arguments (record { trees = z; clean = true })) e
+    ∙ k))
 agree f g e i j (Err c) (Err d) h k =
     let left = (says f (Err (Refused c)) i h).0 in
     let right = (says g (Err (Refused d)) j k).0 in

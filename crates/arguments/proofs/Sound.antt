@@ -18,7 +18,8 @@ use Rattle.syn_parse.specs.Lighter.{lowers_punctuation}
 use Rattle.syn_parse.specs.Tokens.{sees_group, take_ident, take_literal}
 use Rattle.syn_parse.specs.TokenNames.{sees_eq, take_comma, take_eq}
 use Rattle.syn_parse.specs.TreesAhead.{Ahead, all_taken, is_spent}
-use Rattle.syn_punctuated.proofs.ListShapes.{Turns, bare, done, ended, list_taken, nothing_left, turn}
+use Rattle.syn_punctuated.proofs.ListShapes.{Turns, bare, done, ended, list_taken, nothing_left}
+use Rattle.syn_punctuated.proofs.ListShapes.{turn}
 use Rattle.syn_punctuated.specs.TakeLists.{is_left}
 use Rattle.arguments.specs.Forms.{Form, ListForm, assigned, flag, forms, with_list}
 use Rattle.arguments.specs.Grammar.{AreListed, IsArgument, and_more, equals_sign, is_assigned}

@@ -108,9 +108,11 @@ module _ (s : State) where
       let first = was_read IsIdent (name_refusal s) s t (read_name s.place) name h in
       let words = punctuation_refusal (codes ":") t in
       let left = not_at_once (AreSpansOf 6) words t u (read_colon t.place) f k in
-      let gone : read_colon first.0.1 ≡ None = ap (λ z. read_colon z.place) (sym first.3) ∙ left.0 in
+      let gone : read_colon first.0.1 ≡ None =
+      ap (λ z. read_colon z.place) (sym first.3) ∙ left.0 in
       is_refused words f u
-      (ap (λ x. and_then x read_name) (then_none (read_name s.place) read_colon first.0 first.1 gone))
+      (ap (λ x. and_then x read_name)
+      (then_none (read_name s.place) read_colon first.0 first.1 gone))
       (ap refusal_by first.1 ∙ ap (colon_refusal (moved first.0.1 s)) gone
       ∙ ap (punctuation_refusal (codes ":")) (sym first.3))
       left.1

@@ -41,7 +41,8 @@ pub same_seconds : ViewsDecide → CallsLeadOn → (b c : Laid) (p q : Place) �
 same_seconds decide lead b c p q s =
     go (skip p) (skip q) refl refl
     (sym (mapped _ (skip p)) ∙ ap is_some (decide b c p q s).skips ∙ mapped _ (skip q)) where
-      go : (x y : Option Place) → skip p ≡ x → skip q ≡ y → is_some x ≡ is_some y → is_name x ≡ is_name y
+      go : (x y : Option Place) → skip p ≡ x → skip q ≡ y → is_some x ≡ is_some y
+          → is_name x ≡ is_name y
       go None None h k e = refl
       go None (Some t) h k e = absurd (false≢true e)
       go (Some r) None h k e = absurd (false≢true (sym e))

@@ -18,4 +18,6 @@ pairs_text (p ∷ ps) = pair_text p ++ pairs_text ps
 pub pairs_text-paired : (xs ys : List ℕ) → pairs_text (paired xs ys) ≡ text_of xs ys
 pairs_text-paired [] ys = refl
 pairs_text-paired (x ∷ xs) [] = ap (λ text. decimal x ++ text) (pairs_text-paired xs [])
-pairs_text-paired (x ∷ xs) (y ∷ ys) = append_assoc (decimal x) (encode_utf8 y) (pairs_text (paired xs ys)) ∙ ap (λ text. decimal x ++ (encode_utf8 y ++ text)) (pairs_text-paired xs ys)
+pairs_text-paired (x ∷ xs) (y ∷ ys) =
+    append_assoc (decimal x) (encode_utf8 y) (pairs_text (paired xs ys))
+    ∙ ap (λ text. decimal x ++ (encode_utf8 y ++ text)) (pairs_text-paired xs ys)

@@ -5,7 +5,8 @@ use Rattle.examples.proofs.lists.+parsing.Given as goal
 abbrev pub decreases-parse_item-within : goal.decreases-parse_item-within
 decreases-parse_item-within l = 4 * remaining l.content.now.place + 4
 
-abbrev pub decreases-parse_items-parse_terminated_with : goal.decreases-parse_items-parse_terminated_with
+abbrev pub decreases-parse_items-parse_terminated_with :
+    goal.decreases-parse_items-parse_terminated_with
 decreases-parse_items-parse_terminated_with l = 4 * remaining l.stream.now.place + 2
 
 abbrev pub decreases-parse_item : goal.decreases-parse_item

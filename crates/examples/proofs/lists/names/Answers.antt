@@ -7,14 +7,16 @@ use Rattle.examples.proofs.lists.names.Goals as goal
 
 pub returns-clause-trees : goal.returns-clause-trees
 returns-clause-trees c =
-    trees_if_ok ident_sources punctuation_sources _ _ (Finds (read_punctuation (punctuation_word 7 1)))
+    trees_if_ok ident_sources punctuation_sources _ _
+    (Finds (read_punctuation (punctuation_word 7 1)))
     (c.lists_have_their_trees.ensures ident_sources punctuation_sources)
     c.tokens_state_trees.ensures.idents c.tokens_state_trees.ensures.punctuations _ _ _
     c.parse_terminated.ensures.run
 
 pub returns-clause-end : goal.returns-clause-end
 returns-clause-end c =
-    end_if_ok ident_sources punctuation_sources _ _ (Finds (read_punctuation (punctuation_word 7 1)))
+    end_if_ok ident_sources punctuation_sources _ _
+    (Finds (read_punctuation (punctuation_word 7 1)))
     (c.lists_have_their_trees.ensures ident_sources punctuation_sources)
     c.tokens_state_trees.ensures.idents c.tokens_state_trees.ensures.punctuations _ _ _
     c.parse_terminated.ensures.run

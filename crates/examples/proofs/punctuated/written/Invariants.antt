@@ -5,4 +5,6 @@ use Rattle.examples.proofs.Text.{pairs_text}
 use Rattle.examples.proofs.punctuated.written.Given as goal
 
 abbrev pub invariant-loop-pair : goal.invariant-loop-pair
-invariant-loop-pair l = string_bytes l.text ++ pairs_text l.pair-iterator ≡ text_of (values_of l.fn.list) (separators_of l.fn.list)
+invariant-loop-pair l =
+    string_bytes l.text ++ pairs_text l.pair-iterator
+    ≡ text_of (values_of l.fn.list) (separators_of l.fn.list)

@@ -4,7 +4,8 @@ use Rattle.tok_buffer.specs.Place.{is_at_end}
 use Rattle.tok_buffer.specs.Progress.{remaining}
 use Rattle.examples.specs.Items.{read_name}
 use Rattle.examples.specs.Nested.{CountsEntries, CountsEntry}
-use Rattle.examples.proofs.Nested.{entries_end, entry_on, entry_refused, no_list, one_list, one_name}
+use Rattle.examples.proofs.Nested.{entries_end, entry_on, entry_refused, no_list, one_list}
+use Rattle.examples.proofs.Nested.{one_name}
 use Rattle.examples.proofs.Parts.{at_exit}
 use Rattle.syn_parse.specs.Reads.{does}
 use Rattle.examples.proofs.streams.+nested.Goals as goal
@@ -42,7 +43,8 @@ count_names-returns-in_err-count-clause-counts t c =
     let exit = c.from_residual-in_err-count in
     let no_name : read_name c.args.input.now.place ≡ None = search rules in
     at_exit (λ r. CountsEntry c.args.input.now r left) exit.result f exit.ensures.1
-    (no_list _ _ (λ a r b h. h) c.args.input.now left no_name f (does _ _ _ _ c.in_err-count.ensures.runs))
+    (no_list _ _ (λ a r b h. h) c.args.input.now left no_name f
+    (does _ _ _ _ c.in_err-count.ensures.runs))
 
 pub count_names-returns-in_ok-parse-clause-counts :
     goal.count_names-returns-in_ok-parse-clause-counts
@@ -52,7 +54,8 @@ count_names-returns-in_ok-parse-clause-counts t c = one_name c.args.input.now c.
 pub count_names-returns-in_ok-parse-clause-lowers :
     goal.count_names-returns-in_ok-parse-clause-lowers
 count_names-returns-in_ok-parse-clause-lowers t c =
-    c.parses_go_on.ensures.idents.lowers _ c.in_ok-parse.field-0 _ (does _ _ _ _ c.in_ok-parse.ensures.reads)
+    c.parses_go_on.ensures.idents.lowers _ c.in_ok-parse.field-0 _
+    (does _ _ _ _ c.in_ok-parse.ensures.reads)
 
 pub count_names-returns-in_ok-count-clause-counts :
     goal.count_names-returns-in_ok-count-clause-counts

@@ -29,7 +29,8 @@ returns-in_err-parse c =
     let more : is_at_end there.place ≡ false = search rules in
     at_exit (λ r. FieldsParse c.args.input.now r left) exit.result f exit.ensures.1
     (without_comma c.args.input.now here.input here.fields.items here.invariant there
-    c.in_ok-parse_field.field-0 c.in_ok-parse_field.ensures more left f (does _ _ _ _ c.in_err-parse.ensures.reads))
+    c.in_ok-parse_field.field-0 c.in_ok-parse_field.ensures more left f
+    (does _ _ _ _ c.in_err-parse.ensures.reads))
 
 pub loop-fields-smaller : goal.loop-fields-smaller
 loop-fields-smaller c =
@@ -69,7 +70,8 @@ loop-fields-preserved-then-not-is_empty c =
     let pushed : here.fields.items ++ field ∷ [] ≡ c.push.new.self.items = search rules in
     subst (GoesOn c.args.input.now left) pushed
     (comma_on c.args.input.now here.input here.fields.items here.invariant there field
-    c.in_ok-parse_field.ensures more left c.in_ok-parse.field-0 (does _ _ _ _ c.in_ok-parse.ensures.reads))
+    c.in_ok-parse_field.ensures more left c.in_ok-parse.field-0
+    (does _ _ _ _ c.in_ok-parse.ensures.reads))
 
 pub returns : goal.returns
 returns c =

@@ -16,11 +16,15 @@ returns c =
     let old = c.args.tokens.now in
     let mid = c.to_tokens.new.tokens in
     let parens : Forest → Span → Forest = λ f span. tree (group Parenthesis f span) no_trees in
-    let first : mid ≡ concat old (word (codes "pub") call_site) = c.in_ok-to_tokens.ensures.ok ∙ ap (λ span. concat old (word (codes "pub") span)) c.default.ensures in
+    let first : mid ≡ concat old (word (codes "pub") call_site) =
+    c.in_ok-to_tokens.ensures.ok
+    ∙ ap (λ span. concat old (word (codes "pub") span)) c.default.ensures in
     then_on_ok c.surround.result (λ s.
     s.2
-    ∙ ap (λ f. concat mid (parens f _)) (sym s.1.leaves ∙ s.1.met ∙ ap (λ f. concat f (word (codes "crate") call_site)) s.1.shows)
+    ∙ ap (λ f. concat mid (parens f _)) (sym s.1.leaves ∙ s.1.met
+    ∙ ap (λ f. concat f (word (codes "crate") call_site)) s.1.shows)
     ∙ ap (λ span. concat mid (parens (word (codes "crate") call_site) span)) c.default-2.ensures
     ∙ ap (λ f. concat f (parens (word (codes "crate") call_site) call_site)) first
-    ∙ joined_assoc old (word (codes "pub") call_site) (parens (word (codes "crate") call_site) call_site)
+    ∙ joined_assoc old (word (codes "pub") call_site)
+    (parens (word (codes "crate") call_site) call_site)
     ) c.surround.ensures.ok

@@ -6,10 +6,14 @@ use Rattle.examples.proofs.entry.EntryParse.parse.Goals as goal
 
 pub returns-in_err-tail-clause-takes : goal.returns-in_err-tail-clause-takes
 returns-in_err-tail-clause-takes c =
-    let group = c.in_err-tail.ensures.takes tt take_ident (λ s r t l h. at-states (Takes take_ident) _ _ s t r h.shows h.leaves h.met) in
+    let group =
+    c.in_err-tail.ensures.takes tt take_ident
+    (λ s r t l h. at-states (Takes take_ident) _ _ s t r h.shows h.leaves h.met) in
     grind (arith, group)
 
 pub returns-clause-takes : goal.returns-clause-takes
 returns-clause-takes c =
-    let group = c.in_ok-tail.ensures.takes tt take_ident (λ s r t l h. at-states (Takes take_ident) _ _ s t r h.shows h.leaves h.met) in
+    let group =
+    c.in_ok-tail.ensures.takes tt take_ident
+    (λ s r t l h. at-states (Takes take_ident) _ _ s t r h.shows h.leaves h.met) in
     grind (arith, group)
