@@ -11,7 +11,8 @@ use Rattle.syn_parse.specs.TokenNames.{take_comma}
 use Rattle.syn_parse.specs.TreesAhead.{Ahead}
 use Rattle.syn_punctuated.specs.TakeLists.{list_form, take_terminated}
 use Rattle.syn_punctuated.specs.declared.punctuated.Punctuated.{Punctuated}
-use Rattle.config.specs.Forms.{Colon, Comma, Form, SettingForm, listed, mapped, number, setting_form}
+use Rattle.config.specs.Forms.{Colon, Comma, Form, SettingForm, listed, mapped, number}
+use Rattle.config.specs.Forms.{setting_form}
 use Rattle.config.specs.Forms.{setting_level, truth, value_form, value_level}
 use Rattle.config.specs.Reading.{setting_step, take_list_value, take_map_value}
 use Rattle.config.specs.declared.value.Setting.{Setting}

@@ -1,5 +1,6 @@
 -- What integers mean, with a suffix and without one.
-use Rattle.std.proofs.Common.{◌≡◌, ◌∙◌, ◌<◌, ◌^◌, sym, ap, refl, ℕ, List, [], ◌∷◌, Some, true, false}
+use Rattle.std.proofs.Common.{◌≡◌, ◌∙◌, ◌<◌, ◌^◌, sym, ap, refl, ℕ, List, [], ◌∷◌, Some}
+use Rattle.std.proofs.Common.{true, false}
 use Rattle.std.proofs.Common.{Bool, Err, None, Ok, Option, arith, eqb-true, subst}
 use Rattle.std.specs.Prelude.{Result}
 use Rattle.std.proofs.lemmas.Bool.{false≢true, lt-ltb, ltb-true}
@@ -24,8 +25,8 @@ use Rattle.config.specs.Reading.{Means, in_integer, in_number, rejects}
 use Rattle.config.specs.declared.value.Value.{Value}
 
 -- an error with these words says what is missing
-pub says : {A : Type 0} (o : Outcome A) (r : Refusal) (f : Fault) → o ≡ missing r.words → Refuses r f
-    → Says o f
+pub says : {A : Type 0} (o : Outcome A) (r : Refusal) (f : Fault) → o ≡ missing r.words
+    → Refuses r f → Says o f
 says o r (Refused e) h k = h ∙ ap missing (sym (ap first_text k))
 says o r (Memory e) h k = tt
 

@@ -1,11 +1,13 @@
 -- The functions of values find what the grammar has.
-use Rattle.std.proofs.Common.{◌≡◌, ◌∙◌, ◌≤◌, ◌<◌, ◌^◌, Ok, Err, ℕ, zero, suc, List, [], ◌∷◌, ◌++◌, Option, Some, None}
+use Rattle.std.proofs.Common.{◌≡◌, ◌∙◌, ◌≤◌, ◌<◌, ◌^◌, Ok, Err, ℕ, zero, suc, List, []}
+use Rattle.std.proofs.Common.{◌∷◌, ◌++◌, Option, Some, None}
 use Rattle.std.proofs.Common.{Bool, true, false, refl, sym, ap, subst, arith, eqb-true}
 use Rattle.std.specs.Prelude.{◌==◌, ◌&&◌, length, option_map, encode_utf8_all, if◌then◌else◌}
 use Rattle.std.specs.Prelude.{IfOk, MatchOption, Result}
 use Rattle.std.specs.List.{list_all}
 use Rattle.std.proofs.lemmas.Bool.{false≢true, and_parts}
-use Rattle.tok_lexical.specs.Numbers.{IsNumberSuffix, has_digit, is_digit_or_underscore, starts_digit}
+use Rattle.tok_lexical.specs.Numbers.{IsNumberSuffix, has_digit, is_digit_or_underscore}
+use Rattle.tok_lexical.specs.Numbers.{starts_digit}
 use Rattle.unicode_ident.specs.Ident.{is_xid_continue}
 use Rattle.tok_lexical.specs.Words.{is_identifier_start}
 use Rattle.tok_lexical.specs.Pieces.{Skips, after_first, begins_with, from_first, up_to}
@@ -14,8 +16,9 @@ use Rattle.tok_values.specs.Integers.{IsDigits, IsInteger, ReadsInteger, base_of
 use Rattle.tok_values.specs.Numbers.{number}
 use Rattle.tok_values.specs.Strings.{InQuotes, IsStringValue, Means, alone, ends_line, escaped}
 use Rattle.tok_values.specs.Strings.{is_blank, line_feed, more, nothing, unit, without_blanks}
-use Rattle.tok_values.specs.Values.{HasValue, IntegersHaveOneValue, StringsHaveOneValue, and_rest_of}
-use Rattle.tok_values.specs.Values.{characters_in_quotes, digits_value, integer_value, is_number_suffix}
+use Rattle.tok_values.specs.Values.{HasValue, IntegersHaveOneValue, StringsHaveOneValue}
+use Rattle.tok_values.specs.Values.{and_rest_of, characters_in_quotes, digits_value, integer_value}
+use Rattle.tok_values.specs.Values.{is_number_suffix}
 use Rattle.tok_values.specs.Values.{is_quote, split, string_value, up_to_quote, value_in_base}
 use Rattle.tok_values.specs.declared.integers.Integer.{Integer}
 use Rattle.tok_values.specs.declared.integers.IntegerFault.{IntegerFault}
@@ -84,7 +87,8 @@ escape_leaves wide [] = nothing_found 0
 escape_leaves wide (c ∷ rest) =
     let n = length (c ∷ rest) in
     either n (c == 120) _ _ (hex_leaves n _ rest (omega arith))
-    (either n (c == 117) _ _ (either n wide _ _ (nothing_found n) (code_leaves n rest (omega arith)))
+    (either n (c == 117) _ _
+    (either n wide _ _ (nothing_found n) (code_leaves n rest (omega arith)))
     (rest_leaves n (simple c) rest (omega arith)))
 
 alone_leaves : (n : ℕ) (o : Option (ℕ × List ℕ)) → Leaves n o → Leaves n (alone o)
@@ -186,7 +190,8 @@ unquoted (c ∷ inner) characters e = at (c == 34) refl e where
   at : (b : Bool) → (c == 34) ≡ b
       → (if b then up_to_quote (length inner) inner else None) ≡ Some characters
       → InQuotes false (c ∷ inner) characters
-  at true q e = (inner, ap (λ x. x ∷ inner) (eqb-true c 34 q), found (length inner) inner characters e)
+  at true q e =
+      (inner, ap (λ x. x ∷ inner) (eqb-true c 34 q), found (length inner) inner characters e)
   at false q e = absurd (cc)
 
 pub strings_have_one_value : StringsHaveOneValue
@@ -240,9 +245,12 @@ digits_found : (radix : ℕ) (text suffix : List ℕ) (value : ℕ) → IsDigits
 digits_found radix text suffix value d =
     let parts = split (is_digit_or_underscore radix) text in
     let same = same_digits radix text suffix parts.0 parts.1 value d (splits _ text) in
-    ap (λ x. digits_value radix x parts.1) (sym same.0) ∙ ap (digits_value radix d.digits) (sym same.1)
-    ∙ ap (λ b. if b && is_number_suffix radix suffix then Some (number radix d.digits, suffix) else None) d.some
-    ∙ ap (λ b. if b then Some (number radix d.digits, suffix) else None) (suffix_is radix suffix d.ends)
+    ap (λ x. digits_value radix x parts.1) (sym same.0)
+    ∙ ap (digits_value radix d.digits) (sym same.1)
+    ∙ ap (λ b. if b && is_number_suffix radix suffix
+    then Some (number radix d.digits, suffix) else None) d.some
+    ∙ ap (λ b. if b then Some (number radix d.digits, suffix) else None)
+    (suffix_is radix suffix d.ends)
     ∙ ap (λ n. Some (n, suffix)) (sym d.is)
 
 abbrev found_value : ℕ → List ℕ → Option (ℕ × List ℕ)
@@ -301,12 +309,13 @@ module _ {S : Type 0} (bytes : S → List ℕ) (text : List ℕ) where
     at None e = sym e
     at (Some v) e = absurd (h v ((strings_have_one_value text v).1 e))
 
-  pub string_found : {E : Type 0} (answer : Result (Option S) E) → IfOk answer Reads → IfOk answer HasFound
+  pub string_found : {E : Type 0} (answer : Result (Option S) E) → IfOk answer Reads
+      → IfOk answer HasFound
   string_found (Ok o) h = one_string o h
   string_found (Err e) h = tt
 
-pub integer_found : (text : List ℕ) (answer : Result Integer IntegerFault) → ReadsInteger text answer
-    → HasValue (integer_value text) answer
+pub integer_found : (text : List ℕ) (answer : Result Integer IntegerFault)
+    → ReadsInteger text answer → HasValue (integer_value text) answer
 integer_found text (Ok i) h = (integers_have_one_value text i.value _).0 h
 integer_found text (Err NotInteger) h = at (integer_value text) refl where
   at : (o : Option (ℕ × List ℕ)) → integer_value text ≡ o → integer_value text ≡ None

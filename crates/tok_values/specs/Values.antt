@@ -1,7 +1,8 @@
 -- The values of strings and integers as functions of their texts.
 use Rattle.std.specs.Prelude.{◌≡◌, ◌↔◌, ◌≤◌, ◌^◌, ℕ, zero, suc, ◌==◌, ◌&&◌, Bool, true, false}
 use Rattle.std.specs.Prelude.{List, [], ◌∷◌, ◌++◌, Result, Ok, Err, MatchOption}
-use Rattle.std.specs.Prelude.{Option, None, Some, option_map, length, encode_utf8_all, if◌then◌else◌}
+use Rattle.std.specs.Prelude.{Option, None, Some, option_map, length, encode_utf8_all}
+use Rattle.std.specs.Prelude.{if◌then◌else◌}
 use Rattle.std.specs.List.{list_all}
 use Rattle.std.specs.Str.{chars}
 use Rattle.unicode_ident.specs.Ident.{is_xid_continue}

@@ -6,8 +6,8 @@ use Rattle.config.proofs.read.unsuffixed.Goals as goal
 
 pub returns-then-is_empty : goal.returns-then-is_empty
 returns-then-is_empty c = λ a.
-    without_suffix c.args.span c.args.number c.args.suffix.now a (omega (arith, c.ranges.number.fits))
-    c.if-is_empty.ensures
+    without_suffix c.args.span c.args.number c.args.suffix.now a
+    (omega (arith, c.ranges.number.fits)) c.if-is_empty.ensures
     ∙ ap (λ f. found f a) (sym (form_number c.args.span c.args.number))
 
 pub returns-else-is_empty : goal.returns-else-is_empty
