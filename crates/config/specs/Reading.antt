@@ -11,18 +11,16 @@ use Rattle.tok_core.specs.Forest.{Forest}
 use Rattle.tok_core.specs.Lexical.Reading as grammar
 use Rattle.tok_core.specs.declared.lexer.error.LexError.{LexError}
 use Rattle.syn_parse.specs.Faults.{IsRefused}
-use Rattle.syn_parse.specs.Lighter.{lightening, lightens_gives}
-use Rattle.syn_parse.specs.Nested.{Descends, lightens_nested, nested_again, take_nested}
+use Rattle.syn_parse.specs.Nested.{take_nested}
 use Rattle.syn_parse.specs.Owned.{own_first, take_own}
 use Rattle.syn_parse.specs.Parsers.{OnMemory, lex_refusal}
 use Rattle.syn_parse.specs.Takes.{Says, Taking, ◌>>=◌, found, gives, missing, refuses, take_group}
 use Rattle.syn_parse.specs.Takes.{where_ahead}
-use Rattle.syn_parse.specs.Takings.{KeepsWhole, Lightens, Takings, lighter, taken_filled, told_filled}
+use Rattle.syn_parse.specs.Takings.{KeepsWhole, Takings, taken_filled}
 use Rattle.syn_parse.specs.TokenNames.{take_colon, take_comma}
 use Rattle.syn_parse.specs.Tokens.{sees_group, sees_literal, take_ident, take_literal}
 use Rattle.syn_parse.specs.TreesAhead.{Ahead}
 use Rattle.syn_parse.specs.declared.fault.Fault.{Fault}
-use Rattle.syn_punctuated.specs.NestedLists.{descending_lists}
 use Rattle.syn_punctuated.specs.TakeLists.{list_form, take_terminated}
 use Rattle.syn_punctuated.specs.declared.punctuated.Punctuated.{Punctuated}
 use Rattle.config.specs.Forms.{Comma, Form, SettingForm, listed, mapped, number, setting_form, text}
@@ -33,9 +31,6 @@ use Rattle.config.specs.declared.value.Value.{Value}
 -- a refusal with these words
 abbrev pub rejects : {A : Type 0} → List ℕ → Taking A
 rejects words a = missing words
-
-pub lightens_rejects : {A : Type 0} (words : List ℕ) → Lightens {A = A} (rejects words)
-lightens_rejects words = record { less = λ a b v e. absurd (cc) }
 
 -- an integer without a suffix
 abbrev pub in_number : Span → (n : ℕ) → (suffix : List ℕ) → Taking Form
@@ -115,88 +110,20 @@ value_step value =
     where_ahead (sees_group Bracket) (take_list_value value)
     (where_ahead (sees_group Brace) (take_map_value value) take_plain)
 
--- none of these adds anything to what is ahead
-lightens_number : (span : Span) (n : ℕ) (suffix : List ℕ) → Lightens (in_number span n suffix)
-lightens_number span n [] = lightens_gives _
-lightens_number span n (c ∷ cs) = lightens_rejects _
-
-lightens_integer : (span : Span) (o : Option (ℕ × List ℕ)) → Lightens (in_integer span o)
-lightens_integer span None = lightens_rejects _
-lightens_integer span (Some i) = below (nat_lt i.0 (2 ^ 64)) where
-  below : (b : Bool) → Lightens (if b
-      then in_number span i.0 i.1
-      else rejects (codes "expected an integer below 2^64"))
-  below true = lightens_number span i.0 i.1
-  below false = lightens_rejects _
-
-lightens_text : (literal : Literal) (o : Option (List ℕ)) → Lightens (in_text literal o)
-lightens_text literal (Some t) = lightens_gives _
-lightens_text literal None =
-    lightens_integer literal.span (integer_value (chars literal.text))
-
-lightens_meaning : (literal : Literal) → Lightens (meaning literal)
-unfolding meaning
-lightens_meaning literal = lightens_text literal (string_value (chars literal.text))
-
-ruleset literals = (lightening, lightens_meaning)
-
-lightens_literal_value : Lightens take_literal_value
-unfolding take_literal_value
-lightens_literal_value = search literals depth 20
-
-ruleset plain = (lightening, lightens_literal_value)
-
-lightens_plain : Lightens take_plain
-unfolding take_plain
-lightens_plain = search plain depth 20
-
-list_descends : Descends 0 take_list_value
-unfolding take_list_value
-list_descends = search descending_lists depth 20
-
-setting_descends : Descends 0 setting_step
-unfolding setting_step
-setting_descends = search descending_lists depth 20
-
-ruleset settings_nesting = (descending_lists, setting_descends)
-
-map_descends : Descends 0 take_map_value
-unfolding take_map_value
-map_descends = search settings_nesting depth 20
-
-ruleset nesting = (descending_lists, lightens_plain, list_descends, map_descends)
-
-pub value_descends : Descends 0 value_step
-value_descends = search nesting depth 20
-
+-- a value, with values within it
 abbrev pub take_value : Taking Form
 take_value = take_nested value_step
 
--- a value is one level around values
-pub value_again : (a : Ahead) → take_value a ≡ value_step take_value a
-value_again = nested_again value_step value_descends
-
+-- a setting, with values within it
 abbrev pub take_setting : Taking SettingForm
 take_setting = setting_step take_value
 
-pub lightens_value : Lightens take_value
-lightens_value = lightens_nested value_step value_descends
-
-pub lightens_setting : Lightens take_setting
-lightens_setting = setting_descends.light take_value lightens_value
-
--- what the parsers state
-abbrev pub value : Takings Value
-value = told_filled value_form take_value (lighter lightens_value)
-
+-- what the parsers state of a list, a map, values and settings
 abbrev pub list_value : Takings Value
 list_value = taken_filled value_form (take_list_value take_value)
 
 abbrev pub map_value : Takings Value
 map_value = taken_filled value_form (take_map_value take_value)
-
-abbrev pub setting : Takings Setting
-setting = told_filled setting_form take_setting (lighter lightens_setting)
 
 abbrev pub values : Takings (Punctuated Value Comma)
 values = taken_filled (list_form value_form (λ p. p)) (take_terminated take_value take_comma)

@@ -6,7 +6,8 @@ ghost use Rattle.syn_parse.specs.TreesAhead.{Ahead};
 ghost use Rattle.syn_parse.specs.Takings.{Keeps, KeepsWhole};
 ghost use Rattle.tok_values.specs.Values.{HasValue};
 ghost use Rattle.config.specs.Forms.{value_form};
-ghost use Rattle.config.specs.Reading.{Means, ReadsText, in_integer, list_value, map_value, meaning, setting, settings, take_literal_value, take_meaning, take_plain, value, values};
+ghost use Rattle.config.specs.Nesting.{setting, value};
+ghost use Rattle.config.specs.Reading.{Means, ReadsText, in_integer, list_value, map_value, meaning, settings, take_literal_value, take_meaning, take_plain, values};
 
 use crate::value::{Config, False, Include, Setting, True, Value};
 use std::alloc::{AllocError, Global};
@@ -86,7 +87,7 @@ fn read_setting(input: ParseStream<'_, '_>) -> Result<Setting>
 
 // Reads a value.
 #[cycle(reading)]
-#[tactic(auto, using(crate::specs::Reading::value_again))]
+#[tactic(auto, using(crate::specs::Nesting::value_again))]
 fn read_value(input: ParseStream<'_, '_>) -> Result<Value>
     ensures { Keeps value input.old result input.new }
 {

@@ -2,7 +2,7 @@ use Rattle.syn_parse.proofs.GroupTakes.{at-states}
 use Rattle.syn_parse.specs.Lighter.{lowers_punctuation}
 use Rattle.syn_parse.specs.Takings.{Keeps, lower, told}
 use Rattle.syn_punctuated.proofs.ListTakes.{terminated_keeps}
-use Rattle.config.specs.Reading.{setting, value}
+use Rattle.config.specs.Nesting.{setting, value}
 use Rattle.config.proofs.read.+reading.Goals as goal
 
 pub read_settings-returns : goal.read_settings-returns
