@@ -1,12 +1,14 @@
 -- A text that is searched for in a table.
-use Rattle.std.proofs.Common.{◌≡◌, ◌≢◌, ℕ, ◌+◌, ◌<◌, ◌≤◌, true, false, List, [], length, get_or, Some, None, ap, sym, ◌∙◌, arith, inl, inr, lt-ltb, le-ltb}
-use Rattle.std.proofs.lemmas.Bool.{cond-true, cond-false, false_from_ne_true}
-use Rattle.std.proofs.lemmas.Bool.Decides.{eqb_tells}
+use Rattle.std.proofs.Common.{◌≡◌, ◌≢◌, ℕ, zero, suc, ◌+◌, ◌-◌, ◌<◌, ◌≤◌, Bool, true, false, cond, List, [], length, ◌∷◌, get_or, take, drop, Some, None, ap, sym, refl, ◌∙◌, ◌&&◌, arith, inl, inr, lt-ltb, le-ltb}
+use Rattle.std.proofs.lemmas.Bool.{cond-true, cond-false, false_from_ne_true, false≢true, leb-true}
+use Rattle.std.proofs.lemmas.Bool.Decides.{eqb_tells, leb_tells}
+use Rattle.std.proofs.lemmas.List.{get_or-drop, get_or-take}
 use Rattle.std.proofs.lemmas.List.Sums.{position_or_len_is}
 use Rattle.std.proofs.lemmas.Slice.Eq.{bytes_eq-Decides}
 use Rattle.std.specs.List.{position_or_len}
-use Rattle.std.specs.Prelude.{bytes_eq}
-use Rattle.syn_tokens.specs.Program.CommandText.{number_in}
+use Rattle.std.specs.Prelude.{bytes_eq, nat_le}
+use Rattle.tok_types.specs.Texts.{beginning, begins_with}
+use Rattle.syn_tokens.specs.Program.CommandText.{begin_within, is_empty, number_in}
 
 -- none of the first n is this text
 abbrev pub PassedOver : List (List ℕ) → List ℕ → ℕ → Type 0
@@ -35,3 +37,74 @@ not_found texts word n h out =
 -- words that differ
 pub differs : (xs ys : List ℕ) → (xs ≡ ys → ⊥) → bytes_eq xs ys ≡ false
 differs xs ys h = false_from_ne_true (bytes_eq xs ys) (λ e. h ((bytes_eq-Decides xs ys).0 e))
+
+-- the parts of a test
+parts : (a b c : Bool) → (a && (b && c)) ≡ true → (a ≡ true) × (b ≡ true) × (c ≡ true)
+parts true true c h = (refl, refl, h)
+parts true false c h = absurd (false≢true h)
+parts false b c h = absurd (false≢true h)
+
+sides : (texts : List (List ℕ)) (b low high : ℕ) → begin_within b low high texts ≡ true →
+    (nat_le high (length texts) ≡ true) × (is_empty (beginning b (take low texts)) ≡ true)
+    × (is_empty (beginning b (drop high texts)) ≡ true)
+sides texts b low high h =
+    parts (nat_le high (length texts)) (is_empty (beginning b (take low texts)))
+    (is_empty (beginning b (drop high texts))) h
+
+-- none of these texts begins with the byte
+none_begin : (b : ℕ) (texts : List (List ℕ)) → is_empty (beginning b texts) ≡ true → (j : ℕ) →
+    begins_with b (get_or texts j []) ≡ false
+none_begin b [] none j = refl
+none_begin b (text ∷ texts) none j = go (begins_with b text) refl none (none_begin b texts) j
+  where
+    go : (w : Bool) → begins_with b text ≡ w →
+        is_empty (cond w (text ∷ beginning b texts) (beginning b texts)) ≡ true →
+        (is_empty (beginning b texts) ≡ true → (i : ℕ) → begins_with b (get_or texts i []) ≡ false) →
+        (j : ℕ) → begins_with b (get_or (text ∷ texts) j []) ≡ false
+    go true is h more j = absurd (false≢true h)
+    go false is h more zero = is
+    go false is h more (suc j) = more h j
+
+-- a word of a byte and more begins with it
+pub begins_first : (word : List ℕ) (first : ℕ) → 0 < length word → first ≡ get_or word 0 0 →
+    begins_with first word ≡ true
+begins_first [] first l e = absurd (omega arith)
+begins_first (b ∷ word) first l e =
+    elim (eqb_tells b first) [
+      | inl s ↦ s.0
+      | inr d ↦ absurd (d.1 (sym e))
+    ]
+
+pub no_bytes : (word : List ℕ) → length word ≡ 0 → word ≡ []
+no_bytes [] h = refl
+no_bytes (b ∷ word) h = absurd (omega arith)
+
+-- the texts before those that begin alike
+pub passed_before : (texts : List (List ℕ)) (word : List ℕ) (b low high : ℕ) →
+    begins_with b word ≡ true → begin_within b low high texts ≡ true → PassedOver texts word low
+passed_before texts word b low high first within j small =
+    let none = (sides texts b low high within).1 in
+    differs (get_or texts j []) word (λ e. false≢true
+    (sym (none_begin b (take low texts) none j) ∙ ap (begins_with b) (get_or-take low texts j [] small ∙ e) ∙ first))
+
+-- and those after them
+pub passed_after : (texts : List (List ℕ)) (word : List ℕ) (b low high k : ℕ) →
+    begins_with b word ≡ true → begin_within b low high texts ≡ true → high ≤ k →
+    PassedOver texts word k → PassedOver texts word (length texts)
+passed_after texts word b low high k first within past h j small =
+    let none = (sides texts b low high within).2 in
+    elim (leb_tells k j) [
+      | inr s ↦ h j s.1
+      | inl d ↦
+          let e : high + (j - high) ≡ j = omega (arith, d.1, past) in
+          differs (get_or texts j []) word (λ is. false≢true
+          (sym (none_begin b (drop high texts) none (j - high))
+          ∙ ap (begins_with b) (get_or-drop high texts (j - high) [] ∙ ap (λ z. get_or texts z []) e ∙ is) ∙ first))
+    ]
+
+-- a text that is sought is in the table
+pub within_table : (texts : List (List ℕ)) (b low high k : ℕ) → begin_within b low high texts ≡ true →
+    k < high → k < length texts
+within_table texts b low high k within small =
+    let le = leb-true high (length texts) (sides texts b low high within).0 in
+    omega (arith, small, le)
