@@ -1,5 +1,7 @@
 -- A text that is searched for in a table.
-use Rattle.std.proofs.Common.{◌≡◌, ◌≢◌, ℕ, zero, suc, ◌+◌, ◌-◌, ◌<◌, ◌≤◌, Bool, true, false, cond, List, [], length, ◌∷◌, get_or, take, drop, Some, None, ap, sym, refl, ◌∙◌, ◌&&◌, arith, inl, inr, lt-ltb, le-ltb}
+use Rattle.std.proofs.Common.{◌≡◌, ◌≢◌, ℕ, zero, suc, ◌+◌, ◌-◌, ◌<◌, ◌≤◌, Bool, true, false, cond}
+use Rattle.std.proofs.Common.{List, [], length, ◌∷◌, get_or, take, drop, Some, None, ap, sym, refl}
+use Rattle.std.proofs.Common.{◌∙◌, ◌&&◌, arith, inl, inr, lt-ltb, le-ltb}
 use Rattle.std.proofs.lemmas.Bool.{cond-true, cond-false, false_from_ne_true, false≢true, leb-true}
 use Rattle.std.proofs.lemmas.Bool.Decides.{eqb_tells, leb_tells}
 use Rattle.std.proofs.lemmas.List.{get_or-drop, get_or-take}
@@ -14,24 +16,31 @@ use Rattle.syn_tokens.specs.Program.CommandText.{begin_within, is_empty, number_
 abbrev pub PassedOver : List (List ℕ) → List ℕ → ℕ → Type 0
 PassedOver texts word n = (j : ℕ) → j < n → bytes_eq (get_or texts j []) word ≡ false
 
-pub passed_more : (texts : List (List ℕ)) (word : List ℕ) (n : ℕ) → PassedOver texts word n → bytes_eq (get_or texts n []) word ≡ false → PassedOver texts word (n + 1)
+pub passed_more : (texts : List (List ℕ)) (word : List ℕ) (n : ℕ) → PassedOver texts word n
+    → bytes_eq (get_or texts n []) word ≡ false → PassedOver texts word (n + 1)
 passed_more texts word n h e j small =
     elim (eqb_tells j n) [
       | inl s ↦ ap (λ z. bytes_eq (get_or texts z []) word) s.1 ∙ e
       | inr d ↦ let w : j ≢ n = d.1 in h j (omega arith)
     ]
 
-pub found_at : (texts : List (List ℕ)) (word : List ℕ) (n : ℕ) → PassedOver texts word n → n < length texts → bytes_eq (get_or texts n []) word ≡ true → Some n ≡ number_in texts word
+pub found_at : (texts : List (List ℕ)) (word : List ℕ) (n : ℕ) → PassedOver texts word n
+    → n < length texts → bytes_eq (get_or texts n []) word ≡ true → Some n ≡ number_in texts word
 found_at texts word n h t e =
-    let at : position_or_len (λ text. bytes_eq text word) texts ≡ n = position_or_len_is (λ text. bytes_eq text word) texts n [] (omega arith) h (λ _. e) in
-    let inside : position_or_len (λ text. bytes_eq text word) texts < length texts = omega (arith, at, t) in
+    let at : position_or_len (λ text. bytes_eq text word) texts ≡ n =
+    position_or_len_is (λ text. bytes_eq text word) texts n [] (omega arith) h (λ _. e) in
+    let inside : position_or_len (λ text. bytes_eq text word) texts < length texts =
+    omega (arith, at, t) in
     sym (cond-true _ _ _ (lt-ltb _ _ inside) ∙ ap Some at)
 
-pub not_found : (texts : List (List ℕ)) (word : List ℕ) (n : ℕ) → PassedOver texts word n → length texts ≤ n → None ≡ number_in texts word
+pub not_found : (texts : List (List ℕ)) (word : List ℕ) (n : ℕ) → PassedOver texts word n
+    → length texts ≤ n → None ≡ number_in texts word
 not_found texts word n h out =
     let at : position_or_len (λ text. bytes_eq text word) texts ≡ length texts =
-    position_or_len_is (λ text. bytes_eq text word) texts (length texts) [] (omega arith) (λ k small. h k (omega (arith, small, out))) (λ past. absurd (omega arith)) in
-    let past : length texts ≤ position_or_len (λ text. bytes_eq text word) texts = omega (arith, at) in
+    position_or_len_is (λ text. bytes_eq text word) texts (length texts) [] (omega arith)
+    (λ k small. h k (omega (arith, small, out))) (λ past. absurd (omega arith)) in
+    let past : length texts ≤ position_or_len (λ text. bytes_eq text word) texts =
+    omega (arith, at) in
     sym (cond-false _ _ _ (le-ltb _ _ past))
 
 -- words that differ
@@ -59,7 +68,8 @@ none_begin b (text ∷ texts) none j = go (begins_with b text) refl none (none_b
   where
     go : (w : Bool) → begins_with b text ≡ w →
         is_empty (cond w (text ∷ beginning b texts) (beginning b texts)) ≡ true →
-        (is_empty (beginning b texts) ≡ true → (i : ℕ) → begins_with b (get_or texts i []) ≡ false) →
+        (is_empty (beginning b texts) ≡ true → (i : ℕ) → begins_with b (get_or texts i []) ≡ false)
+        →
         (j : ℕ) → begins_with b (get_or (text ∷ texts) j []) ≡ false
     go true is h more j = absurd (false≢true h)
     go false is h more zero = is
@@ -85,7 +95,8 @@ pub passed_before : (texts : List (List ℕ)) (word : List ℕ) (b low high : �
 passed_before texts word b low high first within j small =
     let none = (sides texts b low high within).1 in
     differs (get_or texts j []) word (λ e. false≢true
-    (sym (none_begin b (take low texts) none j) ∙ ap (begins_with b) (get_or-take low texts j [] small ∙ e) ∙ first))
+    (sym (none_begin b (take low texts) none j)
+    ∙ ap (begins_with b) (get_or-take low texts j [] small ∙ e) ∙ first))
 
 -- and those after them
 pub passed_after : (texts : List (List ℕ)) (word : List ℕ) (b low high k : ℕ) →
@@ -99,11 +110,13 @@ passed_after texts word b low high k first within past h j small =
           let e : high + (j - high) ≡ j = omega (arith, d.1, past) in
           differs (get_or texts j []) word (λ is. false≢true
           (sym (none_begin b (drop high texts) none (j - high))
-          ∙ ap (begins_with b) (get_or-drop high texts (j - high) [] ∙ ap (λ z. get_or texts z []) e ∙ is) ∙ first))
+          ∙ ap (begins_with b) (get_or-drop high texts (j - high) [] ∙ ap (λ z. get_or texts z []) e
+          ∙ is) ∙ first))
     ]
 
 -- a text that is sought is in the table
-pub within_table : (texts : List (List ℕ)) (b low high k : ℕ) → begin_within b low high texts ≡ true →
+pub within_table : (texts : List (List ℕ)) (b low high k : ℕ) → begin_within b low high texts ≡ true
+    →
     k < high → k < length texts
 within_table texts b low high k within small =
     let le = leb-true high (length texts) (sides texts b low high within).0 in

@@ -11,7 +11,8 @@ use Rattle.tok_core.specs.declared.lexer.error.LexError.{LexError}
 use Rattle.tok_core.proofs.Lexical.Laws.{forest_once, refused_once, never_both}
 use Rattle.syn_tokens.specs.Program.CommandText.{unreadable_line, commands_in}
 use Rattle.syn_replay.specs.Commands.{Command}
-use Rattle.syn_tokens.specs.Program.Comparison.{AreFacts, Facts, Comparison, Compares, Outcome, reported}
+use Rattle.syn_tokens.specs.Program.Comparison.{AreFacts, Facts, Comparison, Compares, Outcome}
+use Rattle.syn_tokens.specs.Program.Comparison.{reported}
 use Rattle.syn_tokens.specs.Program.Comparison.{compared, outcome_text, outcome_status}
 use Rattle.syn_tokens.specs.Program.Faults.{unreadable_text}
 use Rattle.syn_tokens.specs.Program.Failures.{Reading, Writing, all_read}
@@ -108,7 +109,8 @@ module _ (bytes : List ℕ) where
       → HasForests bytes forest more lines → HasForests bytes forest' more' lines'
       → unreadable_line lines ≡ o → unreadable_line lines' ≡ p → o ≡ p
   lines_once forest forest' more more' lines lines' o p h k e f =
-      sym e ∙ ap unreadable_line (forests_once forest forest' more more' lines lines' h k).commands ∙ f
+      sym e ∙ ap unreadable_line (forests_once forest forest' more more' lines lines' h k).commands
+      ∙ f
 
   -- what can't be read is no forest
   no_text : (text : List ℕ) (other : Option (List ℕ)) (lines lines' : List (List ℕ))

@@ -67,10 +67,12 @@ returns-in_err-buffer c =
     let text = c.in-Some.text.now in
     let lines = lines_left c.in-Some.lines in
     let (same, utf8) = c.in-Ok.ensures.cases in
-    let parts : HasParts bytes text (text_in c.in-Some.other) lines = (utf8, ap parts_of (sym same) ∙ c.in-Some.ensures.parts) in
+    let parts : HasParts bytes text (text_in c.in-Some.other) lines =
+    (utf8, ap parts_of (sym same) ∙ c.in-Some.ensures.parts) in
     let fault = c.in_err-buffer.field-0.0 in
     refuse bytes (fault_of fault) c.from_residual.result c.from_residual.ensures.1
-    (text_refused bytes text (text_in c.in-Some.other) lines parts fault c.in_err-buffer.ensures.follows.refuses)
+    (text_refused bytes text (text_in c.in-Some.other) lines parts fault
+    c.in_err-buffer.ensures.follows.refuses)
 
 pub returns-in_err-stream : goal.returns-in_err-stream
 returns-in_err-stream c =
@@ -79,10 +81,14 @@ returns-in_err-stream c =
     let lines = lines_left c.in-Some.lines in
     let (same, utf8) = c.in-Ok.ensures.cases in
     let other = c.in-Some-other.other.now in
-    let parts : HasParts bytes text (Some other) lines =
-    (utf8, ap parts_of (sym same) ∙ c.in-Some.ensures.parts ∙ ap (λ o. Some (text, text_in o, lines)) c.in-Some-other.is) in
+    let parts : HasParts bytes text (Some other) lines = (
+      utf8,
+      ap parts_of (sym same) ∙ c.in-Some.ensures.parts
+          ∙ ap (λ o. Some (text, text_in o, lines)) c.in-Some-other.is,
+    ) in
     let fault = c.in_err-stream.field-0.0 in
-    refuse bytes (fault_of fault) c.from_residual-in_err-stream.result c.from_residual-in_err-stream.ensures.1
+    refuse bytes (fault_of fault) c.from_residual-in_err-stream.result
+    c.from_residual-in_err-stream.ensures.1
     (text_refused bytes text (Some other) lines parts fault c.in_err-stream.ensures.refuses)
 
 pub returns-in_err-right : goal.returns-in_err-right
@@ -92,11 +98,15 @@ returns-in_err-right c =
     let lines = lines_left c.in-Some.lines in
     let (same, utf8) = c.in-Ok.ensures.cases in
     let other = c.in-Some-other.other.now in
-    let parts : HasParts bytes text (Some other) lines =
-    (utf8, ap parts_of (sym same) ∙ c.in-Some.ensures.parts ∙ ap (λ o. Some (text, text_in o, lines)) c.in-Some-other.is) in
+    let parts : HasParts bytes text (Some other) lines = (
+      utf8,
+      ap parts_of (sym same) ∙ c.in-Some.ensures.parts
+          ∙ ap (λ o. Some (text, text_in o, lines)) c.in-Some-other.is,
+    ) in
     let fault = c.in_err-right.field-0.0 in
     refuse bytes fault c.from_residual-in_err-right.result c.from_residual-in_err-right.ensures.1
-    (other_refused bytes text (Some other) lines parts c.in_ok-stream.stream c.in_ok-stream.ensures.reads fault
+    (other_refused bytes text (Some other) lines parts c.in_ok-stream.stream
+    c.in_ok-stream.ensures.reads fault
     c.in_err-right.ensures)
 
 pub returns-in_err-commands-2 : goal.returns-in_err-commands-2
@@ -106,12 +116,21 @@ returns-in_err-commands-2 c =
     let lines = lines_left c.in-Some.lines in
     let (same, utf8) = c.in-Ok.ensures.cases in
     let other = c.in-Some-other.other.now in
-    let parts : HasParts bytes text (Some other) lines =
-    (utf8, ap parts_of (sym same) ∙ c.in-Some.ensures.parts ∙ ap (λ o. Some (text, text_in o, lines)) c.in-Some-other.is) in
+    let parts : HasParts bytes text (Some other) lines = (
+      utf8,
+      ap parts_of (sym same) ∙ c.in-Some.ensures.parts
+          ∙ ap (λ o. Some (text, text_in o, lines)) c.in-Some-other.is,
+    ) in
     let fault = c.in_err-commands-2.field-0.0 in
-    refuse bytes fault c.from_residual-in_err-commands-2.result c.from_residual-in_err-commands-2.ensures.1
-    (commands_refused bytes c.in_ok-stream.stream (Some c.in_ok-right.right) lines
-    (text, Some other, parts, c.in_ok-stream.ensures.reads, c.in_ok-right.ensures) fault c.in_err-commands-2.ensures)
+    refuse bytes fault c.from_residual-in_err-commands-2.result
+    c.from_residual-in_err-commands-2.ensures.1
+    (commands_refused bytes c.in_ok-stream.stream (Some c.in_ok-right.right) lines (
+      text,
+      Some other,
+      parts,
+      c.in_ok-stream.ensures.reads,
+      c.in_ok-right.ensures,
+    ) fault c.in_err-commands-2.ensures)
 
 pub returns : goal.returns
 returns c =
@@ -120,8 +139,11 @@ returns c =
     let lines = lines_left c.in-Some.lines in
     let (same, utf8) = c.in-Ok.ensures.cases in
     let other = c.in-Some-other.other.now in
-    let parts : HasParts bytes text (Some other) lines =
-    (utf8, ap parts_of (sym same) ∙ c.in-Some.ensures.parts ∙ ap (λ o. Some (text, text_in o, lines)) c.in-Some-other.is) in
+    let parts : HasParts bytes text (Some other) lines = (
+      utf8,
+      ap parts_of (sym same) ∙ c.in-Some.ensures.parts
+          ∙ ap (λ o. Some (text, text_in o, lines)) c.in-Some-other.is,
+    ) in
     let left = c.in_ok-stream.stream in
     let right = c.in_ok-right.right in (
       left,
@@ -129,5 +151,7 @@ returns c =
       lines,
       (text, Some other, parts, c.in_ok-stream.ensures.reads, c.in_ok-right.ensures),
       c.in_ok-commands-2.ensures.0,
-      subst (λ cs. Compares left right cs (comparison_of c.in_ok-compare.field-0)) (ap (map command_of) c.deref-2.ensures.value ∙ c.in_ok-commands-2.ensures.1) c.in_ok-compare.ensures,
+      subst (λ cs. Compares left right cs (comparison_of c.in_ok-compare.field-0))
+          (ap (map command_of) c.deref-2.ensures.value
+          ∙ c.in_ok-commands-2.ensures.1) c.in_ok-compare.ensures,
     )

@@ -13,7 +13,9 @@ returns-in-Ok-clause-serves g c =
     let new = g.W.Sink.contents c.answer.new.output in
     let P : List ℕ → Type 0 = λ bytes. Serves read written bytes c.answer.result old new in
     known_read P (g.R.Source.remaining c.args.input.now) c.in-Ok.bytes.items c.in-Ok.ensures.bytes
-    (subst P c.deref.ensures.value (serves_read read written c.deref.result.now c.answer.result old new c.in-Ok.ensures.whole c.answer.ensures.serves))
+    (subst P c.deref.ensures.value
+    (serves_read read written c.deref.result.now c.answer.result old new c.in-Ok.ensures.whole
+    c.answer.ensures.serves))
 
 pub returns-in-Ok-clause-only : goal.returns-in-Ok-clause-only
 returns-in-Ok-clause-only g c =
@@ -23,12 +25,21 @@ returns-in-Ok-clause-only g c =
     let new = g.W.Sink.contents c.answer.new.output in
     let P : List ℕ → Type 0 = λ bytes. ServesOnly read written bytes c.answer.result old new in
     known_read P (g.R.Source.remaining c.args.input.now) c.in-Ok.bytes.items c.in-Ok.ensures.bytes
-    (subst P c.deref.ensures.value (serves_only read written c.deref.result.now c.answer.result old new (serves_read read written c.deref.result.now c.answer.result old new c.in-Ok.ensures.whole c.answer.ensures.serves)))
+    (subst P c.deref.ensures.value
+    (serves_only read written c.deref.result.now c.answer.result old new
+    (serves_read read written c.deref.result.now c.answer.result old new c.in-Ok.ensures.whole
+    c.answer.ensures.serves)))
 
 pub returns-in-Err-Failed-clause-only : goal.returns-in-Err-Failed-clause-only
 returns-in-Err-Failed-clause-only g c =
     let read = reading g.R.Source.reads c.args.input.now c.read_input.new.input in
     let written = writing g.W.Sink.writes g.W.Sink.flushes c.args.output.now c.args.output.now in
     let old = g.W.Sink.contents c.args.output.now in
-    known_any (λ bytes. ServesOnly read written bytes 2 old old) (g.R.Source.remaining c.args.input.now)
-    (λ bytes. serves_only read written bytes 2 old old (inr (inr (refl, c.in-Err-Failed.ensures.failed c.in-Err-Failed.field-0-is, Keeps-refl old))))
+    known_any (λ bytes. ServesOnly read written bytes 2 old old)
+    (g.R.Source.remaining c.args.input.now)
+    (λ bytes. serves_only read written bytes 2 old old
+    (inr (inr (
+      refl,
+      c.in-Err-Failed.ensures.failed c.in-Err-Failed.field-0-is,
+      Keeps-refl old,
+    ))))

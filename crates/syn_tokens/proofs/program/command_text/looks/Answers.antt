@@ -13,7 +13,8 @@ loop-word-preserved c =
     let rest = words c.in-Some.after.now in (
       c.in-Some.ensures.utf8.1,
       ap (λ z. option_map (λ ls. map look_of z ++ ls) (all_looks rest)) c.in_ok-push.ensures.items
-          ∙ ap (λ z. option_map (λ ls. z ++ ls) (all_looks rest)) (map-append look_of c.loop-word.looks.items _)
+          ∙ ap (λ z. option_map (λ ls. z ++ ls) (all_looks rest))
+          (map-append look_of c.loop-word.looks.items _)
           ∙ looks_more before word rest (look_of c.in-Some-look.look) (sym c.in-Some-look.ensures)
           ∙ ap (λ z. option_map (λ ls. before ++ ls) (all_looks z)) (sym c.in-Some.ensures.words)
           ∙ c.loop-word.invariant.1,

@@ -17,12 +17,21 @@ loop-i-preserved g c =
     let (front, all, out) = c.loop-i.invariant.0 in
     let more : (x : List ℕ) × (bytes ≡ x ++ next) × Appends old new x =
     elim c.match-write_some.branch [
-      | in-Ok-write_some w ↦ let left : next ≡ drop w.in-Ok-write_some.n rest = ap (λ r. r.now) w.rest-is ∙ part_from w.in-Ok-write_some.n rest in front_more bytes front rest next w.in-Ok-write_some.n old so_far new all out w.in-Ok-write_some.ensures.bytes left
-      | in-Err-write_some w ↦ front_kept bytes front rest next old so_far new all out w.in-Err-write_some.ensures.bytes (ap (λ r. r.now) w.rest-is)
+      | in-Ok-write_some w ↦ let left : next ≡ drop w.in-Ok-write_some.n rest =
+          ap (λ r. r.now) w.rest-is ∙ part_from w.in-Ok-write_some.n rest in
+          front_more bytes front rest next w.in-Ok-write_some.n old so_far new all out
+          w.in-Ok-write_some.ensures.bytes left
+      | in-Err-write_some w ↦
+          front_kept bytes front rest next old so_far new all out w.in-Err-write_some.ensures.bytes
+          (ap (λ r. r.now) w.rest-is)
     ] in
     let goes : GoesOn c.write_some.result =
     elim c.match-write_some.branch [
       | in-Ok-write_some w ↦ search rules
       | in-Err-write_some w ↦ search rules
-    ] in
-    (more, one_more g.S.Sink.writes c.args.output.now c.loop-i._i c.loop-i.output c.write_some.result c.write_some.new.self c.loop-i.invariant.1 c.write_some.ensures.call goes)
+    ] in (
+      more,
+      one_more g.S.Sink.writes c.args.output.now c.loop-i._i c.loop-i.output
+          c.write_some.result c.write_some.new.self c.loop-i.invariant.1 c.write_some.ensures.call
+          goes,
+    )
