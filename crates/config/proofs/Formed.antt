@@ -1,11 +1,11 @@
 -- The forms of settings and values, level by level.
-use Rattle.std.proofs.Common.{◌≡◌, ◌∙◌, refl, sym, ap, Some, None, [], ◌∷◌, ℕ, Bool}
+use Rattle.std.proofs.Common.{◌≡◌, ◌∙◌, refl, sym, ap, ℕ, Bool}
 use Rattle.tok_lexical.specs.declared.delimiter.Delimiter.TheVariants.{Brace, Bracket}
 use Rattle.tok_leaves.specs.Spans.{whole_span}
 use Rattle.tok_leaves.specs.declared.ident.Ident.{Ident}
 use Rattle.tok_leaves.specs.declared.span.Span.{Span}
 use Rattle.tok_types.specs.declared.delimiter.Visible.{Visible}
-use Rattle.syn_punctuated.proofs.Mapped.{by_last, list_mapped, of_parts}
+use Rattle.syn_punctuated.proofs.Mapped.{values_mapped}
 use Rattle.syn_parse.specs.Takes.{Taking, and_then, found, take_group}
 use Rattle.syn_parse.specs.TokenNames.{take_comma}
 use Rattle.syn_parse.specs.TreesAhead.{Ahead}
@@ -44,27 +44,19 @@ pub form_list : (bracket : Visible 2) (values : Punctuated Value Comma)
     → value_form (made.List bracket values)
     ≡ listed (whole_span bracket.span) (list_form value_form (λ sign. sign) values)
 form_list bracket =
-    by_last (λ values. value_form (made.List bracket values)
-    ≡ listed (whole_span bracket.span) (list_form value_form (λ sign. sign) values))
-    (λ inner. ap value_form (sym (made.rolls-List bracket (of_parts inner None)))
-    ∙ level (Value-F.List bracket (of_parts inner None))
-    ∙ ap (listed (whole_span bracket.span)) (list_mapped value_form inner.items []))
-    (λ inner b. ap value_form (sym (made.rolls-List bracket (of_parts inner (Some b))))
-    ∙ level (Value-F.List bracket (of_parts inner (Some b)))
-    ∙ ap (listed (whole_span bracket.span)) (list_mapped value_form inner.items (b.value ∷ [])))
+    values_mapped value_form _ (listed (whole_span bracket.span)) _
+    (λ values. ap value_form (sym (made.rolls-List bracket values))
+    ∙ level (Value-F.List bracket values))
+    (λ inner. refl) (λ inner b. refl)
 
 pub form_map : (brace : Visible 1) (settings : Punctuated Setting Comma)
     → value_form (made.Map brace settings)
     ≡ mapped (whole_span brace.span) (list_form setting_form (λ sign. sign) settings)
 form_map brace =
-    by_last (λ settings. value_form (made.Map brace settings)
-    ≡ mapped (whole_span brace.span) (list_form setting_form (λ sign. sign) settings))
-    (λ inner. ap value_form (sym (made.rolls-Map brace (of_parts inner None)))
-    ∙ level (Value-F.Map brace (of_parts inner None))
-    ∙ ap (mapped (whole_span brace.span)) (list_mapped setting_form inner.items []))
-    (λ inner b. ap value_form (sym (made.rolls-Map brace (of_parts inner (Some b))))
-    ∙ level (Value-F.Map brace (of_parts inner (Some b)))
-    ∙ ap (mapped (whole_span brace.span)) (list_mapped setting_form inner.items (b.value ∷ [])))
+    values_mapped setting_form _ (mapped (whole_span brace.span)) _
+    (λ settings. ap value_form (sym (made.rolls-Map brace settings))
+    ∙ level (Value-F.Map brace settings))
+    (λ inner. refl) (λ inner b. refl)
 
 pub ruleset plain = (form_number, form_truth)
 

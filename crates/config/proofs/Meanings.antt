@@ -15,19 +15,19 @@ use Rattle.syn_parse.specs.Faults.{Refuses}
 use Rattle.tok_values.specs.Values.{HasValue}
 use Rattle.tok_values.specs.declared.integers.IntegerFault.TheVariants.{TooLarge}
 use Rattle.syn_parse.specs.State.{State}
-use Rattle.syn_parse.specs.Takes.{IsMissing, Outcome, Says, Taking, TakesAs, ◌>>=◌, and_then, found}
+use Rattle.syn_parse.specs.Takes.{IsMissing, Outcome, Taking, TakesAs, ◌>>=◌, and_then, found}
 use Rattle.syn_parse.specs.Takes.{missing}
 use Rattle.syn_parse.specs.TreesAhead.{Ahead, ahead}
 use Rattle.syn_parse.specs.declared.fault.Fault.{Fault}
 use Rattle.syn_parse.specs.declared.fault.Fault.TheVariants.{Memory, Refused}
 use Rattle.config.specs.Forms.{Form, number, value_form}
-use Rattle.config.specs.Reading.{Means, in_integer, in_number, rejects}
+use Rattle.config.specs.Reading.{Means, SaysOnce, in_integer, in_number, rejects}
 use Rattle.config.specs.declared.value.Value.{Value}
 
--- an error with these words says what is missing
+-- an error of one message with these words says what is missing
 pub says : {A : Type 0} (o : Outcome A) (r : Refusal) (f : Fault) → o ≡ missing r.words
-    → Refuses r f → Says o f
-says o r (Refused e) h k = h ∙ ap missing (sym (ap first_text k))
+    → Refuses r f → SaysOnce o f
+says o r (Refused e) h k = (h ∙ ap missing (sym (ap first_text k)), ap length k)
 says o r (Memory e) h k = tt
 
 pub is_empty : (text : List ℕ) → true ≡ (length text == 0) → text ≡ []
@@ -75,6 +75,6 @@ module _ {B : Type 0} (take : Taking B) (m : B → Taking Form) (v : B) (s t : S
       → TakesAs value_form (take >>= m) s r t
   then_means (Ok x) h k = (ap (λ o. and_then o m) h.0 ∙ k (ahead t), h.1)
   then_means (Err (Refused e)) h k =
-      let missing_here = ap (λ o. and_then o m) h.0 ∙ k (ahead t) in
-      (subst IsMissing (sym missing_here) tt, λ i. missing_here)
+      let missing_here = ap (λ o. and_then o m) h.0 ∙ (k (ahead t)).0 in
+      ((subst IsMissing (sym missing_here) tt, (k (ahead t)).1), λ i. missing_here)
   then_means (Err (Memory e)) h k = (tt, λ i. tt)

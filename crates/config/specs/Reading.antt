@@ -14,8 +14,8 @@ use Rattle.syn_parse.specs.Faults.{IsRefused}
 use Rattle.syn_parse.specs.Nested.{take_nested}
 use Rattle.syn_parse.specs.Owned.{own_first, take_own}
 use Rattle.syn_parse.specs.Parsers.{OnMemory, lex_refusal}
-use Rattle.syn_parse.specs.Takes.{Says, Taking, ◌>>=◌, found, gives, missing, refuses, take_group}
-use Rattle.syn_parse.specs.Takes.{where_ahead}
+use Rattle.syn_parse.specs.Takes.{MemoryOr, Outcome, Says, Taking, ◌>>=◌, found, gives, missing}
+use Rattle.syn_parse.specs.Takes.{refuses, take_group, where_ahead}
 use Rattle.syn_parse.specs.Takings.{KeepsWhole, Takings, taken_filled}
 use Rattle.syn_parse.specs.TokenNames.{take_colon, take_comma}
 use Rattle.syn_parse.specs.Tokens.{sees_group, sees_literal, take_ident, take_literal}
@@ -54,10 +54,14 @@ in_text literal None = in_integer literal.span (integer_value (chars literal.tex
 unfoldable pub meaning : Literal → Taking Form
 meaning literal = in_text literal (string_value (chars literal.text))
 
+-- a refusal has one message, which says what is missing
+abbrev pub SaysOnce : {A : Type 0} → Outcome A → Fault → Type 0
+SaysOnce o f = MemoryOr f (Says o f)
+
 -- a value that is meant, or the words of a refusal
 abbrev pub Means : Taking Form → Result Value Fault → Type 0
 Means m result =
-    (a : Ahead) → MatchResult result (λ v. m a ≡ found (value_form v) a) (λ f. Says (m a) f)
+    (a : Ahead) → MatchResult result (λ v. m a ≡ found (value_form v) a) (λ f. SaysOnce (m a) f)
 
 -- a literal, and what it means
 abbrev pub take_meaning : Taking Form

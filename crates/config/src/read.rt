@@ -1,13 +1,13 @@
 //! The reader.
 ghost use Rattle.std.specs.Prelude.{ℕ, Err, List, Option, Some};
 ghost use Rattle.std.specs.Str.{chars};
-ghost use Rattle.syn_parse.specs.Takes.{Says, TakesAs};
+ghost use Rattle.syn_parse.specs.Takes.{TakesAs};
 ghost use Rattle.syn_parse.specs.TreesAhead.{Ahead};
 ghost use Rattle.syn_parse.specs.Takings.{Keeps, KeepsWhole};
 ghost use Rattle.tok_values.specs.Values.{HasValue};
 ghost use Rattle.config.specs.Forms.{value_form};
 ghost use Rattle.config.specs.Nesting.{setting, value};
-ghost use Rattle.config.specs.Reading.{Means, ReadsText, in_integer, list_value, map_value, meaning, settings, take_literal_value, take_meaning, take_plain, values};
+ghost use Rattle.config.specs.Reading.{Means, ReadsText, SaysOnce, in_integer, list_value, map_value, meaning, settings, take_literal_value, take_meaning, take_plain, values};
 
 use crate::value::{Config, False, Include, Setting, True, Value};
 use std::alloc::{AllocError, Global};
@@ -189,7 +189,7 @@ fn number_value(
 // Returns the error of a literal that is no number.
 fn no_number(alloc: Global, span: Span, fault: IntegerFault) -> Fault
     ensures { (wanted : Option (ℕ × List ℕ)) → HasValue wanted (Err fault) → (a : Ahead)
-        → Says (in_integer span wanted a) result }
+        → SaysOnce (in_integer span wanted a) result }
 {
     match fault {
         IntegerFault::TooLarge => Fault::at(alloc, span, "expected an integer below 2^64"),
