@@ -1,4 +1,4 @@
--- What commands, answers and reports of the program stand for.
+-- What kinds, answers and reports of the program stand for.
 use Rattle.std.specs.Prelude.{◌≡◌, ℕ, List, map, codes}
 use Rattle.std.specs.Global.{Vec}
 use Rattle.tok_leaves.specs.Spans.{whole_span}

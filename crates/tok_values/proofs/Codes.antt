@@ -8,19 +8,27 @@ use Rattle.tok_values.specs.Escapes.{and_rest, code, named_char}
 
 module _ (text start digits after : List ℕ) (cut : text ≡ 123 ∷ start)
     (s : Skips (is_neither 125 125) start digits after) where
-  pub code_is : code text ≡ (if begins_with 125 after then and_rest (named_char digits) (after_first after) else None)
+  pub code_is : code text ≡ (if begins_with 125 after then and_rest (named_char digits)
+      (after_first after) else None)
   code_is =
       let w = first_parts 125 start digits after s in
       ap code cut
-      ∙ ap (λ closed. if begins_with 125 closed then and_rest (named_char (up_to 125 start)) (after_first closed) else None) w.1
-      ∙ ap (λ front. if begins_with 125 after then and_rest (named_char front) (after_first after) else None) w.0
+      ∙ ap (λ closed. if begins_with 125 closed then and_rest (named_char (up_to 125 start))
+      (after_first closed) else None) w.1
+      ∙ ap (λ front. if begins_with 125 after then and_rest (named_char front) (after_first after)
+      else None) w.0
 
   pub code_open : ((rest : List ℕ) → after ≡ 125 ∷ rest → ⊥) → code text ≡ None
-  code_open misses = code_is ∙ ap (λ b. if b then and_rest (named_char digits) (after_first after) else None) (unbegun after misses)
+  code_open misses =
+      code_is ∙ ap (λ b. if b then and_rest (named_char digits) (after_first after) else None)
+      (unbegun after misses)
     where
       unbegun : (xs : List ℕ) → ((rest : List ℕ) → xs ≡ 125 ∷ rest → ⊥) → begins_with 125 xs ≡ false
       unbegun [] h = refl
       unbegun (c ∷ xs) h = not_true (c == 125) (λ e. h xs (ap (λ x. x ∷ xs) (eqb-true c 125 e)))
 
-  pub code_closed : (rest : List ℕ) → after ≡ 125 ∷ rest → code text ≡ and_rest (named_char digits) rest
-  code_closed rest e = code_is ∙ ap (λ x. if begins_with 125 x then and_rest (named_char digits) (after_first x) else None) e
+  pub code_closed : (rest : List ℕ) → after ≡ 125 ∷ rest
+      → code text ≡ and_rest (named_char digits) rest
+  code_closed rest e =
+      code_is ∙ ap (λ x. if begins_with 125 x then and_rest (named_char digits) (after_first x)
+      else None) e

@@ -1,11 +1,13 @@
 -- What the text of a made string literal means.
-use Rattle.std.proofs.Common.{◌≡◌, ◌∙◌, ◌<◌, ℕ, zero, suc, List, [], ◌∷◌, ◌++◌, Option, Some, None, Bool, true, false, refl, sym, ap, append_assoc, eqb-true, arith}
+use Rattle.std.proofs.Common.{◌≡◌, ◌∙◌, ◌<◌, ℕ, zero, suc, List, [], ◌∷◌, ◌++◌, Option, Some, None}
+use Rattle.std.proofs.Common.{Bool, true, false, refl, sym, ap, append_assoc, eqb-true, arith}
 use Rattle.std.specs.Prelude.{◌==◌, ◌&&◌, if◌then◌else◌, codes, encode_utf8, encode_utf8_all}
 use Rattle.std.specs.List.{flat_map}
 use Rattle.std.specs.Str.{IsAscii, IsUtf8, chars}
 use lib.Utf8.{scalars}
 use Rattle.std.proofs.lemmas.List.{append-nil}
-use Rattle.std.proofs.lemmas.Str.{chars-encodes, encodes-IsAscii, encodes-append, encodes-chars, scalars-chars}
+use Rattle.std.proofs.lemmas.Str.{chars-encodes, encodes-IsAscii, encodes-append, encodes-chars}
+use Rattle.std.proofs.lemmas.Str.{scalars-chars}
 use Rattle.tok_leaves.specs.Quoting.{escaped, in_quotes}
 use Rattle.tok_values.specs.Strings.{IsStringValue, Means, line_feed, more, nothing, unit}
 use Rattle.tok_values.specs.Strings as strings
@@ -46,7 +48,8 @@ all_encoded : (cs : List ℕ) → encode_utf8_all (flat_map written cs) ≡ flat
 all_encoded [] = refl
 all_encoded (c ∷ cs) =
     encodes-append (written c) (flat_map written cs)
-    ∙ ap (λ w. w ++ encode_utf8_all (flat_map written cs)) (encoded c) ∙ ap (λ w. escaped c ++ w) (all_encoded cs)
+    ∙ ap (λ w. w ++ encode_utf8_all (flat_map written cs)) (encoded c)
+    ∙ ap (λ w. escaped c ++ w) (all_encoded cs)
 
 pick_scalars : (b : Bool) (x y : List ℕ) → scalars x ≡ true → scalars y ≡ true
     → scalars (if b then x else y) ≡ true
@@ -58,7 +61,8 @@ one_scalars c h =
     pick_scalars (c == 34) _ _ refl
     (pick_scalars (c == 92) _ _ refl
     (pick_scalars (c == 10) _ _ refl
-    (pick_scalars (c == 13) _ _ refl (pick_scalars (c == 9) _ _ refl (pick_scalars (c == 0) _ _ refl h)))))
+    (pick_scalars (c == 13) _ _ refl
+    (pick_scalars (c == 9) _ _ refl (pick_scalars (c == 0) _ _ refl h)))))
 
 both : (a b : Bool) → (a && b) ≡ true → (a ≡ true) × (b ≡ true)
 both true b h = (refl, h)
@@ -68,7 +72,8 @@ and : (a b : Bool) → a ≡ true → b ≡ true → (a && b) ≡ true
 and true b ha hb = hb
 and false b ha hb = absurd (cc)
 
-scalars-append : (xs ys : List ℕ) → scalars xs ≡ true → scalars ys ≡ true → scalars (xs ++ ys) ≡ true
+scalars-append : (xs ys : List ℕ) → scalars xs ≡ true → scalars ys ≡ true
+    → scalars (xs ++ ys) ≡ true
 scalars-append [] ys h k = k
 scalars-append (x ∷ xs) ys h k =
     let w = both _ (scalars xs) h in
@@ -78,7 +83,8 @@ all_scalars : (cs : List ℕ) → scalars cs ≡ true → scalars (flat_map writ
 all_scalars [] h = refl
 all_scalars (c ∷ cs) h =
     let w = both _ (scalars cs) h in
-    scalars-append (written c) (flat_map written cs) (one_scalars c (and _ true w.0 refl)) (all_scalars cs w.1)
+    scalars-append (written c) (flat_map written cs) (one_scalars c (and _ true w.0 refl))
+    (all_scalars cs w.1)
 
 choose : (b : Bool) (x y rest : List ℕ) (c : ℕ)
     → (b ≡ true → unit false (x ++ rest) ≡ Some (c ∷ [], rest))
@@ -109,13 +115,16 @@ unit_is c rest =
     (λ slash. choose (c == 10) _ _ rest c (same_one c 10 rest)
     (λ feed. choose (c == 13) _ _ rest c (same_one c 13 rest)
     (λ return. choose (c == 9) _ _ rest c (same_one c 9 rest)
-    (λ tab. choose (c == 0) _ _ rest c (same_one c 0 rest) (λ nul. plain c rest quote slash return))))))
+    (λ tab. choose (c == 0) _ _ rest c (same_one c 0 rest)
+    (λ nul. plain c rest quote slash return))))))
 
 units : (cs : List ℕ) → Means false (flat_map written cs ++ 34 ∷ []) (34 ∷ []) cs
 units [] = nothing (34 ∷ [])
 units (c ∷ cs) =
-    more ((written c ++ flat_map written cs) ++ 34 ∷ []) (flat_map written cs ++ 34 ∷ []) (34 ∷ []) (c ∷ []) cs
-    (ap (unit false) (append_assoc (written c) (flat_map written cs) (34 ∷ [])) ∙ unit_is c (flat_map written cs ++ 34 ∷ []))
+    more ((written c ++ flat_map written cs) ++ 34 ∷ []) (flat_map written cs ++ 34 ∷ []) (34 ∷ [])
+    (c ∷ []) cs
+    (ap (unit false) (append_assoc (written c) (flat_map written cs) (34 ∷ []))
+    ∙ unit_is c (flat_map written cs ++ 34 ∷ []))
     (units cs)
 
 quote_bytes : encode_utf8_all (34 ∷ []) ≡ codes "\""
@@ -125,19 +134,28 @@ quote_bytes = encodes-IsAscii (34 ∷ []) ascii
     ascii zero = omega arith
     ascii (suc i) = omega arith
 
-spelled : (cs : List ℕ) → scalars cs ≡ true → chars (in_quotes cs) ≡ 34 ∷ (flat_map written cs ++ 34 ∷ [])
+spelled : (cs : List ℕ) → scalars cs ≡ true
+    → chars (in_quotes cs) ≡ 34 ∷ (flat_map written cs ++ 34 ∷ [])
 spelled cs h =
     let inner = flat_map written cs ++ 34 ∷ [] in
     let bytes : encode_utf8_all ((34 ∷ []) ++ inner) ≡ in_quotes cs =
     encodes-append (34 ∷ []) inner ∙ ap (λ w. w ++ encode_utf8_all inner) quote_bytes
     ∙ ap (λ w. codes "\"" ++ w) (encodes-append (flat_map written cs) (34 ∷ [])
-    ∙ ap (λ w. w ++ encode_utf8_all (34 ∷ [])) (all_encoded cs) ∙ ap (λ w. flat_map escaped cs ++ w) quote_bytes) in
+    ∙ ap (λ w. w ++ encode_utf8_all (34 ∷ [])) (all_encoded cs)
+    ∙ ap (λ w. flat_map escaped cs ++ w) quote_bytes) in
     ap chars (sym bytes)
-    ∙ chars-encodes (34 ∷ inner) (scalars-append (34 ∷ []) inner refl (scalars-append (flat_map written cs) (34 ∷ []) (all_scalars cs h) refl))
+    ∙ chars-encodes (34 ∷ inner)
+    (scalars-append (34 ∷ []) inner refl
+    (scalars-append (flat_map written cs) (34 ∷ []) (all_scalars cs h) refl))
 
-pub strings_keep_text : (text : List ℕ) → IsUtf8 text → IsStringValue (chars (in_quotes (chars text))) text
+pub strings_keep_text : (text : List ℕ) → IsUtf8 text
+    → IsStringValue (chars (in_quotes (chars text))) text
 strings_keep_text text u = (
   chars text,
-  (flat_map written (chars text) ++ 34 ∷ [], spelled (chars text) (scalars-chars text u), units (chars text)),
+  (
+    flat_map written (chars text) ++ 34 ∷ [],
+    spelled (chars text) (scalars-chars text u),
+    units (chars text),
+  ),
   sym (encodes-chars text u),
 )

@@ -9,7 +9,8 @@ use Rattle.tok_values.proofs.integers.number.Given as goal
 
 abbrev pub invariant-loop-c : goal.invariant-loop-c
 invariant-loop-c l =
-    shadow (Utf8 l.rest) × (fold (step l.radix) l.value (chars l.rest) ≡ number l.radix (chars l.fn.digits))
+    shadow (Utf8 l.rest) × (fold (step l.radix) l.value (chars l.rest)
+    ≡ number l.radix (chars l.fn.digits))
 
 abbrev pub decreases-loop-c : goal.decreases-loop-c
 decreases-loop-c l = length l.rest

@@ -7,7 +7,10 @@ use Rattle.tok_values.proofs.literal.LiteralLiteralExt.byte_value.Goals as goal
 
 pub returns-in_err-c : goal.returns-in_err-c
 returns-in_err-c c =
-    subst (λ r. MatchOption r ((byte : ℕ) → IsByteValue (chars c.args.self.now.text) byte → ⊥) (λ byte. IsByteValue (chars c.args.self.now.text) byte))
+    subst (λ r. MatchOption r ((byte : ℕ) → IsByteValue (chars c.args.self.now.text) byte
+    → ⊥) (λ byte. IsByteValue (chars c.args.self.now.text) byte))
     (sym c.from_residual-in_err-c.ensures)
     (λ byte h. c.in_err-c.ensures.finds byte
-    (subst (λ x. InApostrophes true x byte) (tails 98 98 h.0 _ (sym h.1 ∙ ap chars (sym c.as_str.ensures) ∙ c.in_ok-quoted.ensures.chars)) h.2))
+    (subst (λ x. InApostrophes true x byte)
+    (tails 98 98 h.0 _ (sym h.1 ∙ ap chars (sym c.as_str.ensures)
+    ∙ c.in_ok-quoted.ensures.chars)) h.2))

@@ -6,5 +6,6 @@ use Rattle.tok_values.proofs.literal.LiteralLiteralExt.char_value.Goals as goal
 
 pub returns : goal.returns
 returns c =
-    subst (λ t. MatchOption c.in_apostrophes.result ((d : ℕ) → InApostrophes false (chars t) d → ⊥) (λ d. InApostrophes false (chars t) d))
+    subst (λ t. MatchOption c.in_apostrophes.result ((d : ℕ) → InApostrophes false (chars t) d
+    → ⊥) (λ d. InApostrophes false (chars t) d))
     c.as_str.ensures c.in_apostrophes.ensures.finds
