@@ -1,14 +1,11 @@
-//! Cursors.
-mod groups;
-mod order;
-mod print;
-mod puncts;
+//! Cursors, and the lifetimes they read.
 mod reads;
-mod rebuild;
+mod rest;
 mod spans;
 
 use crate::buffer::TokenBuffer;
 use crate::spot::Spot;
+use tok_core::{Ident, Span};
 
 /// A place in a buffer, and its scope: the whole buffer or a group's contents.
 ///
@@ -31,6 +28,13 @@ use crate::spot::Spot;
 pub struct Cursor<'a> {
     // `None` is the empty place.
     spot: Option<Spot<'a>>,
+}
+
+/// A lifetime in a buffer: the span of its apostrophe, and its identifier.
+#[derive(Clone, Copy, Debug)]
+pub struct LifetimeRef<'a> {
+    pub apostrophe: Span,
+    pub ident: &'a Ident,
 }
 
 impl TokenBuffer {

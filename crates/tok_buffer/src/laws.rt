@@ -14,9 +14,8 @@ ghost use Rattle.tok_buffer.specs.Rest.{rest};
 ghost use Rattle.tok_buffer.specs.SameView.{CallsLeadOn, StartsAgree, ViewsDecide, ViewsTellDelimiters, ViewsTellScopes};
 
 use crate::buffer::TokenBuffer;
-use crate::cursor::Cursor;
+use crate::cursor::{Cursor, LifetimeRef};
 use crate::error::Error;
-use crate::lifetime::LifetimeRef;
 use std::alloc::{AllocError, Global};
 use std::cmp::Ordering;
 use tok_core::{Edition, LexFault, TokenStream, lex, lex_marked, lex_source};

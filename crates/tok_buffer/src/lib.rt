@@ -10,11 +10,9 @@ mod cursor;
 mod entry;
 pub mod error;
 pub mod laws;
-mod lifetime;
 mod spot;
 
 pub use buffer::TokenBuffer;
-pub use cursor::Cursor;
+pub use cursor::{Cursor, LifetimeRef};
 pub use error::Error;
-pub use lifetime::LifetimeRef;
 pub use tok_core::{Lifetime, LifetimeFault};

@@ -1,16 +1,22 @@
-//! The position and the spans of a cursor.
-ghost use Rattle.std.specs.Prelude.{◌≡◌, ◌≤◌, IsTrue, true};
+//! The position and the spans of a cursor, and cursors compared.
+ghost use Rattle.std.specs.Prelude.{◌≡◌, ◌≤◌, IsTrue, Some, true};
+ghost use Rattle.std.specs.Cmp.{on_per, partial_equiv_from_equiv, on_equiv, on_po};
+ghost use Rattle.std.specs.Ordering.{on};
+ghost use Rattle.std.specs.declared.cmp.Ordering.TheVariants.{Equal};
 ghost use Rattle.tok_core.specs.Weight.{weight};
 ghost use Rattle.tok_buffer.specs.Ahead.{ahead, first_of, left_of, leftover};
-ghost use Rattle.tok_buffer.specs.Moves.{in_scope, place_at, levels_at, level_ahead, level_owner, at_end};
-ghost use Rattle.tok_buffer.specs.Spans.{closing_of, level_span, current_span, start_span, previous_span};
 ghost use Rattle.tok_buffer.specs.Cursors.{place_of};
+ghost use Rattle.tok_buffer.specs.Moves.{in_scope, place_at, levels_at, level_ahead, level_owner, at_end};
+ghost use Rattle.tok_buffer.specs.Order.{same_buffer, same_scope, equal, order};
 ghost use Rattle.tok_buffer.specs.Place.{count_before};
+ghost use Rattle.tok_buffer.specs.Private.OrderLaws.{equal_equiv, order_partial};
 ghost use Rattle.tok_buffer.specs.Rest.{scope_delimiter};
+ghost use Rattle.tok_buffer.specs.Spans.{closing_of, level_span, current_span, start_span, previous_span};
 
 use crate::buffer::TokenBuffer;
 use crate::cursor::Cursor;
 use crate::entry::{Entry, Held, same};
+use std::cmp::Ordering;
 use tok_core::{DelimSpan, Delimiter, Span};
 
 impl<'a> Cursor<'a> {
@@ -95,6 +101,73 @@ impl<'a> Cursor<'a> {
             Some(spot) => owner_at(spot.buffer, spot.scope).0,
         }
     }
+
+    /// Returns `true` if the buffers of both cursors have the same number. The empty cursor is only
+    /// in the same buffer as another empty cursor.
+    pub fn same_buffer(self, other: Cursor<'_>) -> bool
+        ensures { result ≡ same_buffer (place_of self.entry) (place_of other.entry) }
+    {
+        match (self.spot, other.spot) {
+            (None, None) => true,
+            (Some(left), Some(right)) => left.buffer.number() == right.buffer.number(),
+            _ => false,
+        }
+    }
+
+    /// Returns `true` if both cursors have the same scope, in buffers with the same number. The
+    /// empty cursor is only in the same scope as another empty cursor.
+    pub fn same_scope(self, other: Cursor<'_>) -> bool
+        ensures { result ≡ same_scope (place_of self.entry) (place_of other.entry) }
+    {
+        match (self.spot, other.spot) {
+            (None, None) => true,
+            (Some(left), Some(right)) => self.same_buffer(other) && left.scope == right.scope,
+            _ => false,
+        }
+    }
+}
+
+/// Compares the numbers of the buffers and the positions, whatever the scopes. The empty cursor
+/// equals only itself.
+impl<'a> PartialEq for Cursor<'a> {
+    ghost eq = { on place_of equal };
+
+    fn eq(&self, other: &Cursor<'a>) -> bool {
+        match (self.spot, other.spot) {
+            (None, None) => true,
+            (Some(left), Some(right)) => self.same_buffer(*other)
+                && left.position == right.position,
+            _ => false,
+        }
+    }
+
+    ghost laws = { on_per place_of (partial_equiv_from_equiv equal_equiv) };
+}
+
+impl<'a> Eq for Cursor<'a> {
+    ghost laws = { on_equiv place_of equal_equiv };
+}
+
+/// Orders cursors by position if their buffers have the same number. The empty cursor is ordered
+/// only against itself.
+impl<'a> PartialOrd for Cursor<'a> {
+    ghost partial_cmp = { on place_of order };
+
+    fn partial_cmp(&self, other: &Cursor<'a>) -> Option<Ordering> {
+        match (self.spot, other.spot) {
+            (None, None) => Some(Ordering::Equal),
+            (Some(left), Some(right)) => {
+                if self.same_buffer(*other) {
+                    Some(left.position.cmp(&right.position))
+                } else {
+                    None
+                }
+            }
+            _ => None,
+        }
+    }
+
+    ghost laws = { on_po place_of order_partial };
 }
 
 // Returns the span of the whole tree at a position, or the closing span at an end.

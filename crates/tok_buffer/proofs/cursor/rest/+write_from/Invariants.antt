@@ -3,7 +3,7 @@ use Rattle.std.specs.Fmt.{HasWritten, IsPlainFormatter}
 use Rattle.tok_core.specs.Text.{text_after}
 use Rattle.tok_buffer.specs.Moves.{in_scope}
 use Rattle.tok_buffer.proofs.Rests.{rest_at}
-use Rattle.tok_buffer.proofs.cursor.print.+write_from.Given as goal
+use Rattle.tok_buffer.proofs.cursor.rest.+write_from.Given as goal
 
 abbrev pub decreases-write_from : goal.decreases-write_from
 decreases-write_from g l = l.scope - l.from

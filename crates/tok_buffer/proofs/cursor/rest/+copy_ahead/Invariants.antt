@@ -2,7 +2,7 @@ use Rattle.std.proofs.Common.{◌≡◌, ◌-◌, ◌≤◌, true}
 use Rattle.tok_core.specs.Forest.{concat}
 use Rattle.tok_buffer.specs.Moves.{in_scope}
 use Rattle.tok_buffer.proofs.Rests.{rest_at}
-use Rattle.tok_buffer.proofs.cursor.rebuild.+copy_ahead.Given as goal
+use Rattle.tok_buffer.proofs.cursor.rest.+copy_ahead.Given as goal
 
 abbrev pub decreases-copy_ahead : goal.decreases-copy_ahead
 decreases-copy_ahead l = l.scope - l.from

@@ -15,7 +15,7 @@ use Rattle.tok_buffer.specs.declared.entry.Entry.TheVariants.{Group}
 use Rattle.tok_buffer.proofs.InScope.{before_scope, place_step}
 use Rattle.tok_buffer.proofs.Groups.{held_fits, held_within, held_after}
 use Rattle.tok_buffer.proofs.Rests.{rest_at, rest_any, rest_leaf, rest_close, rest_done, rest_group}
-use Rattle.tok_buffer.proofs.cursor.print.+write_from.Goals as goal
+use Rattle.tok_buffer.proofs.cursor.rest.+write_from.Goals as goal
 
 leaf_written : (done space mine rest : List ℕ) → (done ++ (space ++ mine)) ++ rest ≡ done
     ++ (space ++ (mine ++ rest))

@@ -3,7 +3,7 @@ use Rattle.tok_leaves.specs.declared.punct.Spacing.TheVariants.{Alone}
 use Rattle.tok_core.specs.Forest.{leaf}
 use Rattle.tok_leaves.specs.Leaves.{punct_of}
 use Rattle.tok_buffer.proofs.Peeks.{last_next, alone_next, is_alone}
-use Rattle.tok_buffer.proofs.cursor.puncts.is_next_of.Goals as goal
+use Rattle.tok_buffer.proofs.cursor.reads.is_next_of.Goals as goal
 
 pub returns-then-is_empty : goal.returns-then-is_empty
 returns-then-is_empty c =

@@ -10,7 +10,7 @@ use Rattle.tok_buffer.proofs.InScope.{before_scope, place_step}
 use Rattle.tok_buffer.proofs.Groups.{held_fits, held_within, held_after}
 use Rattle.tok_buffer.proofs.Rests.{rest_at, rest_any, rest_leaf, rest_close, rest_done}
 use Rattle.tok_buffer.proofs.Rests.{rest_group, tree_copied}
-use Rattle.tok_buffer.proofs.cursor.rebuild.+copy_ahead.Goals as goal
+use Rattle.tok_buffer.proofs.cursor.rest.+copy_ahead.Goals as goal
 
 pub entry-requires : goal.entry-requires
 entry-requires t c =
