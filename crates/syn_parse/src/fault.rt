@@ -1,12 +1,13 @@
-//! Why a call on a stream returns no value.
+//! Why a call on a stream returns no value, and the texts of errors.
 ghost use Rattle.std.specs.Prelude.{◌≡◌, IfSome, MatchResult};
 ghost use Rattle.syn_parse.specs.Faults.{Refuses, RefusesAt};
+ghost use Rattle.syn_parse.specs.RefusalWords.{delimiter_words, leftover_words};
 ghost use Rattle.syn_parse.specs.declared.fault.Fault.TheVariants.{Memory, Refused};
 
 use std::alloc::{AllocError, AllocFailed, Global};
 use std::fmt::{self, Display, Formatter, Write};
 use tok_buffer::Error;
-use tok_core::Span;
+use tok_core::{Delimiter, Span};
 
 /// Why a call on a stream returns no value.
 #[derive(Drop, Debug)]
@@ -97,5 +98,19 @@ impl<T: Drop> From<AllocFailed<T>> for Fault {
 
     fn from(_: AllocFailed<T>) -> Self {
         Fault::Memory(AllocError)
+    }
+}
+
+/// Returns the texts of the errors if a group of this delimiter is missing, and if a token is left
+/// over in one.
+pub(crate) fn words_of(delimiter: Delimiter) -> (&'static str, &'static str)
+    ensures expected { result.0.now ≡ delimiter_words delimiter }
+    ensures leftover { result.1.now ≡ leftover_words delimiter }
+{
+    match delimiter {
+        Delimiter::Parenthesis => ("expected parentheses", "unexpected token, expected `)`"),
+        Delimiter::Brace => ("expected curly braces", "unexpected token, expected `}`"),
+        Delimiter::Bracket => ("expected square brackets", "unexpected token, expected `]`"),
+        Delimiter::None => ("expected invisible group", "unexpected token"),
     }
 }

@@ -13,10 +13,9 @@ ghost use Rattle.syn_parse.specs.Takes.{EntersAhead, RunsAhead};
 ghost use Rattle.syn_parse.specs.Takings.{Keeps};
 ghost use Rattle.tok_buffer.specs.View.{IsVisibleDelimiter};
 
-use crate::fault::Result;
+use crate::fault::{Result, words_of};
 use crate::parse::Parse;
 use crate::stream::{ParseBuffer, ParseStream};
-use crate::words::words_of;
 use tok_core::{DelimSpan, Delimiter};
 use tok_types::token;
 

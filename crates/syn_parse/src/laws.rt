@@ -9,7 +9,7 @@ ghost use Rattle.tok_types.specs.Views.{IgnoresInvisible};
 
 use crate::parse::Parse;
 use crate::step::StepCursor;
-use crate::stream::paused::Paused;
+use crate::stream::Paused;
 use crate::tokens::Nothing;
 use std::hash::Hash;
 use tok_buffer::laws::reads_go_on;

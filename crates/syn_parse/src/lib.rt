@@ -19,7 +19,6 @@ mod stream;
 mod tokens;
 mod trees;
 mod whole;
-mod words;
 
 pub use ext::{IdentExt, LifetimeExt};
 pub use fault::{Fault, Result};
@@ -32,7 +31,6 @@ pub use own::{Own, Word};
 pub use parse::Parse;
 pub use parser::Parser;
 pub use step::StepCursor;
-pub use stream::paused::Paused;
-pub use stream::{ParseBuffer, ParseStream, tokens_to_parse_buffer};
+pub use stream::{ParseBuffer, ParseStream, Paused, tokens_to_parse_buffer};
 pub use tokens::Nothing;
 pub use whole::{parse_both, parse_source, parse_str, parse2};

@@ -1,6 +1,4 @@
-//! Parse streams.
-pub mod paused;
-
+//! Parse streams, and streams at rest.
 ghost use Rattle.std.specs.Prelude.{◌≡◌, None, true, IfSome, MatchOption, Ok};
 ghost use Rattle.std.specs.Fn.{FnOnceReturnsAtMut, FnOnceTakesAtMut};
 ghost use Rattle.tok_core.specs.Laws.{IsTheOnly};
@@ -9,15 +7,12 @@ ghost use Rattle.tok_buffer.specs.Cursors.{place_of};
 ghost use Rattle.tok_buffer.specs.Order.{same_scope};
 ghost use Rattle.tok_buffer.specs.Place.{start, is_at_end};
 ghost use Rattle.syn_parse.specs.Faults.{Refuses, RefusesAt, IsRefused};
-ghost use Rattle.syn_parse.specs.Pauses.{paused_state};
 ghost use Rattle.syn_parse.specs.State.{fresh, moved, handed, closed, forked, advanced, state_span};
 ghost use Rattle.syn_parse.specs.RefusalWords.{refused_at, leftover_refusal};
 ghost use Rattle.syn_parse.specs.Takes.{HasWords, or_end};
 ghost use Rattle.syn_parse.specs.TreesAhead.{IsFilled, after_content, after_fork, ahead, is_spent};
 
-use crate::fault::{Fault, Result};
-use crate::words::words_of;
-use paused::Paused;
+use crate::fault::{Fault, Result, words_of};
 use std::alloc::Global;
 use std::fmt;
 use std::fmt::{Debug, Display, Formatter, Write};
@@ -74,6 +69,8 @@ pub fn tokens_to_parse_buffer<'a>(
 }
 
 impl<'a> ParseBuffer<'a> {
+    ghost use Rattle.syn_parse.specs.Pauses.{paused_state};
+
     pub(crate) fn made(
         alloc: Global,
         cursor: Cursor<'a>,
@@ -322,6 +319,27 @@ impl<'a> ParseBuffer<'a> {
         ensures { FnOnceReturnsAtMut F.FnOnce f self.old result self.new }
     {
         f(self)
+    }
+}
+
+/// A stream at rest, made by `ParseBuffer::pause`. It may be copied and dropped: what a dropped one
+/// leaves unread is recorded nowhere.
+#[derive(Clone, Copy, Debug)]
+pub struct Paused<'a> {
+    alloc: Global,
+    cursor: Cursor<'a>,
+    scope_span: Span,
+    noted: Option<(Span, Delimiter)>,
+}
+
+impl<'a> Paused<'a> {
+    ghost use Rattle.syn_parse.specs.Pauses.{paused_state};
+
+    /// Returns the stream, as it was when it was paused.
+    pub fn resume(self) -> ParseBuffer<'a>
+        ensures { result ≡ paused_state self.entry }
+    {
+        ParseBuffer::made(self.alloc, self.cursor, self.scope_span, self.noted)
     }
 }
 
