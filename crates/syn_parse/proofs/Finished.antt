@@ -1,6 +1,6 @@
 -- Whole streams, by what is taken of them.
-use Rattle.std.proofs.Common.{◌≡◌, ◌∙◌, sym, ap, subst, refl, Bool, true, false, not}
-use Rattle.std.proofs.Common.{Option, Some, None, Ok, Err, inl, inr}
+use Rattle.std.proofs.Common.{◌≡◌, ◌∙◌, sym, ap, subst, refl, true, false, not}
+use Rattle.std.proofs.Common.{Option, Some, None, Ok, Err}
 use Rattle.std.specs.Prelude.{Result, is_some, length, MatchOption}
 use Rattle.std.specs.Option.{option_or}
 use Rattle.tok_core.specs.Erase.{erase}
@@ -10,7 +10,6 @@ use Rattle.tok_buffer.specs.Reached.{begin}
 use Rattle.tok_core.specs.Forest.{Forest, no_trees, tree}
 use Rattle.tok_leaves.specs.Spans.{call_site}
 use Rattle.tok_buffer.specs.Ahead.{Leftover, leftover}
-use Rattle.tok_buffer.specs.Place.{Place}
 use Rattle.tok_buffer.specs.Refusals.{Refusal}
 use Rattle.tok_buffer.specs.View.{erased_ahead}
 use Rattle.tok_buffer.proofs.View.InFront.{all_ahead_at_start}

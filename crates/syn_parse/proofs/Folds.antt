@@ -1,10 +1,10 @@
 -- Loops: what is taken again and again up to the end.
-use Rattle.std.proofs.Common.{◌≡◌, ◌∙◌, ap, refl, arith, ℕ, zero, suc, ◌<◌, Bool, true, false, cond}
+use Rattle.std.proofs.Common.{◌≡◌, ◌∙◌, ap, refl, arith, ℕ, zero, suc, ◌<◌, true, false, cond}
 use Rattle.std.proofs.Common.{List, []}
 use Rattle.tok_core.specs.Weight.{weight}
 use Rattle.syn_parse.specs.TreesAhead.{Ahead, is_spent}
 use Rattle.syn_parse.specs.Takings.{Lowers}
-use Rattle.syn_parse.specs.Takes.{Outcome, Taking, found, missing, and_then, ◌>>=◌, where_ahead}
+use Rattle.syn_parse.specs.Takes.{Outcome, Taking, found, missing, and_then, ◌>>=◌}
 
 -- at most so many turns
 abbrev pub fold_turns : {A B : Type 0} → ℕ → (B → A → B) → B → Taking A → Taking B

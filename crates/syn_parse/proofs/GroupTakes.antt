@@ -28,7 +28,7 @@ use Rattle.syn_parse.specs.Faults.{Refuses}
 use Rattle.syn_parse.specs.RefusalWords.{delimiter_words, refused_at}
 use Rattle.syn_parse.specs.Groups.{AreParts, Enters, RunsWithin, SpanWith}
 use Rattle.syn_parse.specs.Reads.{Call}
-use Rattle.syn_parse.specs.State.{State, after_group, closed, content_of, handed}
+use Rattle.syn_parse.specs.State.{State, after_group, closed, content_of}
 use Rattle.syn_parse.specs.declared.fault.Fault.{Fault}
 use Rattle.syn_parse.specs.declared.fault.Fault.TheVariants.{Refused, Memory}
 use Rattle.syn_parse.specs.TreesAhead.{Ahead, IsFilled, after_content, ahead, is_spent, scope_of}

@@ -1,5 +1,5 @@
 -- Keywords of one's own: what a peek sees, and whether a text can be written.
-use Rattle.std.proofs.Common.{◌≡◌, ◌∙◌, sym, ap, refl, ℕ, List, [], ◌∷◌, Option, Some, None, Bool}
+use Rattle.std.proofs.Common.{◌≡◌, ◌∙◌, sym, ap, refl, ℕ, List, [], ◌∷◌, Bool}
 use Rattle.std.proofs.Common.{true, false, Ok, Err, inl, inr}
 use Rattle.std.specs.Prelude.{◌⊎◌, ◌&&◌, cond, Result, IfErr}
 use Rattle.std.specs.List.{list_all}
@@ -10,7 +10,7 @@ use Rattle.tok_leaves.specs.declared.ident.Ident.{Ident}
 use Rattle.tok_leaves.specs.declared.ident.MakeFault.{MakeFault}
 use Rattle.tok_leaves.specs.declared.ident.MakeFault.TheVariants as fault
 use Rattle.tok_leaves.specs.declared.span.Span.{Span}
-use Rattle.tok_core.specs.Forest.{Tree, leaf, no_trees, tree}
+use Rattle.tok_core.specs.Forest.{leaf, no_trees, tree}
 use Rattle.tok_leaves.specs.Leaves.{ident}
 use Rattle.tok_buffer.specs.Place.{Place}
 use Rattle.tok_buffer.specs.Reads.{read_keyword}

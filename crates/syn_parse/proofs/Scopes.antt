@@ -1,5 +1,5 @@
 -- Scopes, and what is ahead after calls that put two streams together.
-use Rattle.std.proofs.Common.{◌≡◌, ◌∙◌, sym, ap, refl, arith, ℕ, ◌==◌, ◌&&◌, Bool, true, false, not}
+use Rattle.std.proofs.Common.{◌≡◌, ◌∙◌, sym, ap, refl, arith, ℕ, ◌==◌, ◌&&◌, true, not}
 use Rattle.std.proofs.Common.{Option, Some, None, eqb-true}
 use Rattle.std.proofs.lemmas.Bool.{and_parts, false≢true}
 use Rattle.std.specs.Option.{option_or}

@@ -11,7 +11,6 @@ use Rattle.tok_lexical.specs.declared.delimiter.Delimiter.{Delimiter}
 use Rattle.tok_lexical.specs.declared.delimiter.Delimiter.TheVariants as delimiter
 use Rattle.tok_leaves.specs.declared.ident.Ident.{Ident}
 use Rattle.tok_leaves.specs.declared.lifetime.Lifetime.{Lifetime}
-use Rattle.tok_leaves.specs.declared.literal.Literal.{Literal}
 use Rattle.tok_leaves.specs.declared.punct.Punct.{Punct}
 use Rattle.tok_leaves.specs.declared.punct.Spacing.{Spacing}
 use Rattle.tok_leaves.specs.declared.punct.Spacing.TheVariants.{Alone, Joint}
@@ -28,12 +27,10 @@ use Rattle.tok_buffer.specs.Reads.{any_text, is_ident as any_ident, is_ident_of,
 use Rattle.tok_buffer.specs.Reads.{is_literal, is_punct, is_punct_of}
 use Rattle.tok_types.specs.Texts.{accept_as_ident, keyword_text, punctuation_word}
 use Rattle.tok_types.specs.declared.punctuation.Punctuation.{Punctuation}
-use Rattle.tok_types.specs.declared.keyword.Keyword.{Keyword}
 use Rattle.tok_types.specs.Sees.{first_lifetime, first_word}
 use Rattle.syn_parse.specs.Parses.{AreSpans, IsIdent, IsLifetime, IsLiteral, IsPunct, IsSpanOf}
 use Rattle.syn_parse.specs.Parses.{accept_as_lifetime}
-use Rattle.syn_parse.specs.RefusalWords.{expected}
-use Rattle.syn_parse.specs.Tokens.{ident_in, ident_missing, lifetime_in, lifetime_missing}
+use Rattle.syn_parse.specs.Tokens.{ident_in, lifetime_in}
 use Rattle.syn_parse.specs.Tokens.{literal_in, punct_in, span_in}
 use Rattle.syn_parse.specs.Tokens.{take_any_ident, take_any_lifetime, take_ident, take_keyword}
 use Rattle.syn_parse.specs.Tokens.{take_lifetime, take_literal, take_nothing}

@@ -1,5 +1,5 @@
 -- A skip, by the visible trees ahead.
-use Rattle.std.proofs.Common.{◌≡◌, ◌∙◌, sym, ap, refl, Bool, true, false, Option, Some, None, List}
+use Rattle.std.proofs.Common.{◌≡◌, ◌∙◌, sym, ap, refl, Bool, false, Option, Some, None, List}
 use Rattle.std.specs.Prelude.{option_map}
 use Rattle.tok_core.specs.Forest.{Tree, Forest, no_trees, tree}
 use Rattle.tok_buffer.specs.Place.{Place}
@@ -7,9 +7,9 @@ use Rattle.tok_buffer.specs.Reads.{any_text, skip}
 use Rattle.tok_buffer.specs.View.{View, empty_view, seen, erased_ahead, view}
 use Rattle.tok_buffer.proofs.View.LeafReads.{lifetime_in_view}
 use Rattle.tok_buffer.proofs.View.Skips.{front_passed, skip_in_view, view-skip}
-use Rattle.tok_types.specs.Sees.{Sees, first_lifetime}
+use Rattle.tok_types.specs.Sees.{Sees}
 use Rattle.tok_types.proofs.Seen.{lifetime-first-in, trees-in-view, trees_in, with_trees}
-use Rattle.syn_parse.specs.Skips.{next_passes, past_token, past_tree, second_sees}
+use Rattle.syn_parse.specs.Skips.{past_token, past_tree, second_sees}
 
 trees-after : (x : Option Place)
     → option_map erased_ahead x ≡ option_map trees_in (option_map (view no_trees) x)

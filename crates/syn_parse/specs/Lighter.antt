@@ -1,5 +1,5 @@
 -- What is taken makes what is ahead weigh less, or no more.
-use Rattle.std.proofs.Common.{◌≡◌, sym, ap, subst, refl, arith, ℕ, ◌+◌, ◌<◌, ◌≤◌, Bool, true, false, cond}
+use Rattle.std.proofs.Common.{◌≡◌, ap, subst, refl, arith, ℕ, ◌+◌, ◌<◌, ◌≤◌, Bool, true, false, cond}
 use Rattle.std.proofs.Common.{List, [], ◌∷◌, ◌++◌, Option, Some, None}
 use Rattle.std.specs.Prelude.{bytes_eq, codes}
 use Rattle.tok_lexical.specs.declared.delimiter.Delimiter.{Delimiter}
@@ -10,7 +10,6 @@ use Rattle.tok_core.specs.Clear.{is_joint_apostrophe}
 use Rattle.tok_buffer.specs.Entry.{same_delimiter}
 use Rattle.tok_buffer.specs.InFront.{EnteredAhead, first_if, first_group, first_puncts, and_first}
 use Rattle.tok_buffer.specs.Reads.{is_ident_of, is_joint_of, is_punct_of}
-use Rattle.syn_parse.specs.Reads.{Call}
 use Rattle.syn_parse.specs.TreesAhead.{Ahead}
 use Rattle.syn_parse.specs.Takings.{Lightens, Lowers}
 use Rattle.syn_parse.specs.Takes.{Outcome, Taking, found, missing, and_then, ◌>>=◌, gives, where_ahead}

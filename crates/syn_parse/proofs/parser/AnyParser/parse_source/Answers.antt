@@ -1,6 +1,4 @@
-use Rattle.std.proofs.Common.{◌≡◌, Ok, inl, subst, rules}
-use Rattle.tok_leaves.specs.Spans.{call_site}
-use Rattle.syn_parse.specs.Parsers.{whole_stream}
+use Rattle.std.proofs.Common.{◌≡◌, Ok, inl, rules}
 use Rattle.syn_parse.proofs.parser.AnyParser.parse_source.Goals as goal
 
 pub returns-in-Ok : goal.returns-in-Ok
