@@ -1,6 +1,6 @@
 -- How a run of a list parser is put together from its turns.
 use Rattle.std.proofs.Common.{◌≤◌, ◌<◌, ◌+◌, length, length-append, arith, ◌≡◌, ◌∙◌, sym, ap, refl}
-use Rattle.std.proofs.Common.{ℕ, List, [], ◌∷◌, ◌++◌, map, true, false, Ok, Err, inl, inr}
+use Rattle.std.proofs.Common.{ℕ, List, [], ◌∷◌, ◌++◌, map, true, Ok, Err, inl, inr}
 use Rattle.std.specs.Prelude.{Result, alloc_error}
 use Rattle.syn_parse.specs.Faults.{Refuses}
 use Rattle.syn_parse.specs.Reads.{Call}

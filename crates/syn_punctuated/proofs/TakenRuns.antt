@@ -17,7 +17,7 @@ use Rattle.syn_parse.specs.declared.fault.Fault.TheVariants.{Refused, Memory}
 use Rattle.syn_punctuated.proofs.TakeTurns.{SoFar, all-turns, last-turn, more-turns, no-sign}
 use Rattle.syn_punctuated.proofs.TakeTurns.{no-turns}
 use Rattle.syn_punctuated.proofs.TakeTurns.{no-value}
-use Rattle.syn_punctuated.specs.Lists.{values_of, separators_of}
+use Rattle.syn_punctuated.specs.Lists.{separators_of}
 use Rattle.syn_punctuated.specs.TakeLists.{list_form, take_list}
 use Rattle.syn_punctuated.specs.Turns.{Rule, ValueCall, Turn, turn_value, turn_separator, Chain}
 use Rattle.syn_punctuated.specs.Turns.{Holds, IsTurn, IsRun, Ending, at_end, bare, value_refused}

@@ -1,9 +1,6 @@
-use Rattle.std.proofs.Common.{◌≡◌, ◌≤◌, ◌∙◌, ap, subst, sym, true, false}
+use Rattle.std.proofs.Common.{◌≡◌, ◌≤◌, ◌∙◌, subst, sym, false}
 use Rattle.tok_buffer.specs.Cursors.{place_of}
-use Rattle.tok_buffer.specs.Order.{same_scope}
-use Rattle.tok_buffer.specs.Place.{Place}
-use Rattle.tok_buffer.specs.Progress.{remaining}
-use Rattle.syn_punctuated.specs.Progress.{MakesNone, progresses}
+use Rattle.syn_punctuated.specs.Progress.{MakesNone}
 use Rattle.syn_punctuated.proofs.Progress.{keeps_all}
 use Rattle.syn_punctuated.proofs.parse.next_turn.Goals as goal
 
