@@ -30,7 +30,9 @@ use Rattle.tok_types.specs.declared.punctuation.Punctuation.{Punctuation}
 use Rattle.tok_types.specs.Sees.{first_lifetime, first_word}
 use Rattle.syn_parse.specs.Parses.{AreSpans, IsIdent, IsLifetime, IsLiteral, IsPunct, IsSpanOf}
 use Rattle.syn_parse.specs.Parses.{accept_as_lifetime}
-use Rattle.syn_parse.specs.Tokens.{ident_in, lifetime_in}
+use Rattle.syn_parse.specs.Owned.{take_own}
+use Rattle.syn_parse.specs.RefusalWords.{expected}
+use Rattle.syn_parse.specs.Tokens.{ident_in, ident_missing, lifetime_in, lifetime_missing}
 use Rattle.syn_parse.specs.Tokens.{literal_in, punct_in, span_in}
 use Rattle.syn_parse.specs.Tokens.{take_any_ident, take_any_lifetime, take_ident, take_keyword}
 use Rattle.syn_parse.specs.Tokens.{take_lifetime, take_literal, take_nothing}
@@ -313,6 +315,12 @@ keyword_shape k c cs e =
     by_read _ _ _ (λ ts. record { span = span_in ts }) _ (a_word (keyword_text k) c cs e)
     (word_is (keyword_text k)) (λ v ts i.
     let w = is_word (keyword_text k) v.span ts i in (w.0, ap (λ s. record { span = s }) w.1))
+
+-- a keyword of one's own
+pub own_shape : (text : List ℕ) (c : ℕ) (cs : List ℕ) → text ≡ c ∷ cs
+    → Shape (IsSpanOf text) (take_own text)
+unfolding take_own
+own_shape text c cs e = by_read _ _ _ span_in _ (a_word text c cs e) (word_is text) (is_word text)
 
 pub underscore_shape : Shape (IsSpanOf (codes "_")) take_underscore
 unfolding take_underscore
