@@ -3,13 +3,14 @@ use Rattle.std.proofs.Common.{◌≡◌, ◌∙◌, sym, ap, subst, refl, arith,
 use Rattle.std.proofs.Common.{false, cond}
 use Rattle.std.proofs.Common.{List, [], ◌∷◌}
 use Rattle.std.proofs.lemmas.Bool.{false≢true}
-use Rattle.tok_core.specs.Forest.{Forest, no_trees, tree}
+use Rattle.tok_core.specs.Forest.{Tree, Forest, no_trees, tree, forest, concat}
 use Rattle.tok_core.specs.Weight.{weight}
 use Rattle.syn_parse.proofs.Shapes.{found_first, found_second}
+use Rattle.syn_parse.proofs.TakenTrees.{IsTaken}
 use Rattle.syn_parse.specs.TreesAhead.{Ahead, all_taken}
 use Rattle.syn_parse.specs.Takes.{Outcome, Taking, and_then, found, missing}
 use Rattle.syn_parse.specs.Takings.{Lightens, Lowers}
-use Rattle.syn_punctuated.specs.TakeLists.{is_left, take_list, take_turns}
+use Rattle.syn_punctuated.specs.TakeLists.{is_left, take_list, take_terminated, take_turns}
 
 module _ {A P : Type 0} (begins goes_on : Ahead → Bool) (value : Taking A) (sign : Taking P) where
   -- values and separators in turn, and what is ahead before and after them
@@ -121,3 +122,46 @@ pub nothing_left : (a : Ahead) → a.trees ≡ no_trees → a.clean ≡ true →
 nothing_left a e c =
     ap (λ f. record { trees = f; clean = a.clean }) e
     ∙ ap (λ b. record { trees = no_trees; clean = b }) c
+
+pub none_after : (f : Forest) → concat f no_trees ≡ f
+none_after no_trees = refl
+none_after (tree t f) = ap (tree t) (none_after f)
+
+-- A list that is taken to the end is one of a grammar, which has three clauses: no value, a last
+-- value, and a value with a separator and more.
+module _ {A P : Type 0} (Is : A → List Tree → Type 0) (IsSign : P → List Tree → Type 0)
+    (Are : Forest → List A → List P → Type 0) (value : Taking A) (sign : Taking P)
+    (h : IsTaken Is value) (k : IsTaken IsSign sign) (none : Are no_trees [] [])
+    (last : (ts : List Tree) (v : A) → Is v ts → Are (forest ts) (v ∷ []) [])
+    (more : (ts us : List Tree) (f : Forest) (v : A) (p : P) (vs : List A) (ps : List P)
+    → Is v ts → IsSign p us → Are f vs ps
+    → Are (concat (forest ts) (concat (forest us) f)) (v ∷ vs) (p ∷ ps)) where
+  turns_are : (a d : Ahead) (vs : List A) (ps : List P) → Turns is_left is_left value sign a vs ps d
+      → Are a.trees vs ps × (d.trees ≡ no_trees) × (d.clean ≡ a.clean)
+  turns_are _ _ _ _ (done a e) =
+      (subst (λ f. Are f [] []) (sym (ended a e)) none, ended a e, refl)
+  turns_are _ _ _ _ (bare a b v e i g) =
+      let t = h a b v i in (
+        subst (λ f. Are f (v ∷ []) []) (sym (ap (λ (x : Ahead). x.trees) t.2
+            ∙ ap (concat (forest t.0)) (ended b g) ∙ none_after (forest t.0))) (last t.0 v t.1),
+        ended b g,
+        sym (ap (λ (x : Ahead). x.clean) t.2),
+      )
+  turns_are _ _ _ _ (turn a b c d v p vs ps e i g s rest) =
+      let t = h a b v i in
+      let u = k b c p s in
+      let m = turns_are c d vs ps rest in (
+        subst (λ f. Are f (v ∷ vs) (p ∷ ps)) (sym (ap (λ (x : Ahead). x.trees) t.2
+            ∙ ap (λ (x : Ahead). concat (forest t.0) x.trees) u.2))
+            (more t.0 u.0 c.trees v p vs ps t.1 u.1 m.0),
+        m.1,
+        m.2 ∙ sym (ap (λ (x : Ahead). x.clean) u.2) ∙ sym (ap (λ (x : Ahead). x.clean) t.2),
+      )
+
+  pub list_is : (f : Forest) (d : Ahead) (x : List A × List P)
+      → take_terminated value sign (record { trees = f; clean = true }) ≡ found x d
+      → (d ≡ all_taken) × Are f x.0 x.1
+  list_is f d x e =
+      let a : Ahead = record { trees = f; clean = true } in
+      let t = turns_are a d x.0 x.1 (list_taken is_left is_left value sign a d x e) in
+      (nothing_left d t.1 t.2, t.0)
