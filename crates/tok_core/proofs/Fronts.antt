@@ -2,7 +2,7 @@
 use Rattle.std.proofs.Common.{◌≡◌, ◌∙◌, sym, ap, refl, ℕ, ◌+◌, ◌<◌, List, [], ◌∷◌, ◌++◌, length}
 use Rattle.std.proofs.Common.{take, drop, get_or, Ok, Err}
 use Rattle.std.proofs.lemmas.List.{take-append-drop, take_more}
-use Rattle.std.specs.Prelude.{Result, OnErr}
+use Rattle.std.specs.Prelude.{Result, OnErr, OnOk}
 use Rattle.tok_core.specs.declared.stream.TokenTree.{TokenTree}
 use Rattle.tok_core.specs.Forest.{AppendsFront, Tree, Forest, no_trees, tree, concat}
 use Rattle.tok_core.specs.Seen.{tree_of, trees_of}
@@ -41,3 +41,31 @@ some_appended old new ts i t h is e = (
       ∙ ap (concat (trees_of (take i ts))) (trees_of_drop ts i t h is),
   e,
 )
+
+-- a front of the first of two values is a front of both
+pub front_first : {T E : Type 0} (r : Result T E) (old f g new : Forest) → AppendsFront old f new
+    → OnErr r (AppendsFront old (concat f g) new)
+front_first (Ok x) old f g new h = tt
+front_first (Err x) old f g new h =
+    (h.0, h.1, concat h.2 g, ap (λ all. concat all g) h.3 ∙ joined_assoc h.0 (tree h.1 h.2) g, h.4)
+
+-- once the first is written, a front of the second is a front of both
+pub front_second : {T E : Type 0} (r : Result T E) (old f between g new : Forest)
+    → OnErr r (AppendsFront between g new) → between ≡ concat old f
+    → OnErr r (AppendsFront old (concat f g) new)
+front_second (Ok x) old f between g new h written = h
+front_second (Err x) old f between g new h written = (
+  concat f h.0,
+  h.1,
+  h.2,
+  ap (concat f) h.3 ∙ sym (joined_assoc f h.0 (tree h.1 h.2)),
+  h.4 ∙ ap (λ all. concat all h.0) written ∙ joined_assoc old f h.0,
+)
+
+-- and all of both, if the second is written too
+pub on_both : {T E : Type 0} (r : Result T E) (old f between g new : Forest)
+    → OnOk r (new ≡ concat between g) → between ≡ concat old f
+    → OnOk r (new ≡ concat old (concat f g))
+on_both (Ok x) old f between g new h written =
+    h ∙ ap (λ all. concat all g) written ∙ joined_assoc old f g
+on_both (Err x) old f between g new h written = h

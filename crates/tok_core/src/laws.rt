@@ -1,7 +1,7 @@
 //! Laws of the definitions that contracts cite, and of comparing and hashing. Each is the contract
 //! of a function that does nothing.
 ghost use Rattle.tok_leaves.specs.Laws.{ClonesKeep, EqualAsValues, EqualBy, HashedBy};
-ghost use Rattle.tok_core.specs.Laws.{stream_shown, tree_shown};
+ghost use Rattle.tok_core.specs.Laws.{AreWrittenInTurn, stream_shown, tree_shown};
 ghost use Rattle.tok_core.specs.Lexical.Laws.{IsReadOnce, IsRefusedOnce, IsNeverBoth, IsBegunOnce};
 ghost use Rattle.tok_core.specs.Spanless.{forest_input, tree_input};
 
@@ -58,4 +58,10 @@ pub fn clones_keep_trees()
     ensures groups { ClonesKeep ⟦<Group as Clone>⟧.is_clone }
     ensures errors { ClonesKeep ⟦<LexError as Clone>⟧.is_clone }
     ensures faults { ClonesKeep ⟦<LexFault as Clone>⟧.is_clone }
+{}
+
+/// Values that are written in turn are written as the trees of the first, and then those of the
+/// second. If an allocation fails, some first of these trees were written.
+pub fn writes_follow_writes()
+    ensures { AreWrittenInTurn }
 {}
