@@ -1,5 +1,6 @@
 //! Choosing by the next token.
-ghost use Rattle.std.specs.Prelude.{◌≡◌, ◌++◌, false, IfOk, OnOk, OnErr, string_bytes};
+ghost use Rattle.std.specs.Fmt.{WritesOnOk};
+ghost use Rattle.std.specs.Prelude.{◌≡◌, ◌++◌, false, IfOk, OnOk, OnErr};
 ghost use Rattle.tok_buffer.specs.Messages.{refused};
 ghost use Rattle.syn_parse.specs.Faults.{Refuses};
 ghost use Rattle.syn_parse.specs.Lookahead.{Looked, looks, look_words, noted_as, look_refusal, more_words, named, named_ends, texts_of};
@@ -11,6 +12,7 @@ ghost use Rattle.tok_types.specs.Sees.{Sees};
 use crate::fault::Fault;
 use crate::stream::ParseBuffer;
 use std::alloc::{AllocError, Global};
+use std::fmt::{self, Display, Formatter, Write};
 use std::marker::Model;
 use tok_buffer::{Cursor, Error};
 use tok_core::{Delimiter, Span};
@@ -116,8 +118,8 @@ impl<'a> Lookahead1<'a> {
         let closing = closing_word(self.cursor.scope_delimiter());
         let names = names(self.alloc, closing, &self.missed)?;
         if !names.is_empty() {
-            let words = list_words(self.alloc, &names)?;
-            return Error::new_at(self.alloc, self.scope_span, self.cursor, words.as_str());
+            let expected = Expected { names: &names };
+            return Error::new_at(self.alloc, self.scope_span, self.cursor, expected);
         }
         if self.cursor.eof() {
             Error::new(self.alloc, self.scope_span, "unexpected end of input")
@@ -181,32 +183,52 @@ fn add_name(
     Ok(())
 }
 
-// Returns the text of an error that lists these names.
-fn list_words(alloc: Global, names: &[&str]) -> Result<String, AllocError>
-    ensures { IfOk result (λ words. string_bytes words ≡ spec.list_words (texts_of names.now)) }
-{
-    let Some((first, others)) = names.split_first() else {
-        return Ok(String::new(alloc));
-    };
-    let Some((second, more)) = others.split_first() else {
-        return format!(in alloc; "expected {first}");
-    };
-    if more.is_empty() {
-        return format!(in alloc; "expected {first} or {second}");
-    }
-    let mut words = format!(in alloc; "expected one of: {first}")?;
-    add_words(&mut words, others)?;
-    Ok(words)
+// Names of tokens that were not found. An error writes its text straight from them.
+#[derive(Clone, Copy)]
+struct Expected<'a> {
+    names: &'a [&'static str],
 }
 
-// Adds further names to a list of three or more.
-fn add_words(words: &mut String, names: &[&str]) -> Result<(), AllocError>
-    ensures { OnOk result
-        (string_bytes words.new ≡ string_bytes words.old ++ more_words (texts_of names.now)) }
+impl Display for Expected<'_> {
+    ghost use Rattle.std.specs.Prelude.{Some};
+
+    ghost output = { λ e. Some (spec.list_words (texts_of e.names.now)) };
+
+    fn fmt<W: Write>(&self, f: &mut Formatter<W>) -> fmt::Result {
+        write_names(f, self.names)
+    }
+}
+
+// Writes the text of an error that lists these names.
+fn write_names<W: Write>(f: &mut Formatter<W>, names: &[&'static str]) -> fmt::Result
+    ensures { WritesOnOk W.write_str_gives f.old result
+        (spec.list_words (texts_of names.now)) f.new }
+{
+    let Some((first, others)) = names.split_first() else {
+        return Ok(());
+    };
+    let Some((second, more)) = others.split_first() else {
+        f.write_str("expected ")?;
+        return f.write_str(*first);
+    };
+    if more.is_empty() {
+        f.write_str("expected ")?;
+        f.write_str(*first)?;
+        f.write_str(" or ")?;
+        return f.write_str(*second);
+    }
+    f.write_str("expected one of: ")?;
+    f.write_str(*first)?;
+    write_more(f, others)
+}
+
+// Writes further names of a list of three or more.
+fn write_more<W: Write>(f: &mut Formatter<W>, names: &[&'static str]) -> fmt::Result
+    ensures { WritesOnOk W.write_str_gives f.old result (more_words (texts_of names.now)) f.new }
 {
     for name in names {
-        words.push_str(", ")?;
-        words.push_str(*name)?;
+        f.write_str(", ")?;
+        f.write_str(*name)?;
     }
     Ok(())
 }
