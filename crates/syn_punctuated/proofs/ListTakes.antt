@@ -133,8 +133,9 @@ punctuated_keeps {k = k} {n = n} values {reads} {f} {s} {t} {r} go each run =
 
 -- The same for `search`, of a value and its form: the list comes first, so that what reads its
 -- values is known.
-pub list_takes : {T A F : Type 0} {k n : ℕ} (form : T → A) (value : Taking A) {reads : ValueCall F T}
-    {f : F} {s t : State} {r : Result (Punctuated T (Punctuation k n)) Fault} → ParsesGoOn
+pub list_takes : {T A F : Type 0} {k n : ℕ} (form : T → A) (value : Taking A)
+    {reads : ValueCall F T} {f : F} {s t : State}
+    {r : Result (Punctuated T (Punctuation k n)) Fault} → ParsesGoOn
     → IsRun terminated reads (Separates (PunctuationTypeParses k n) (signs k n)) f s r t
     → Lightens value
     → ((f g : F) (s t : State) (r : Result T Fault) → reads f s r g t → IsFilled s.place

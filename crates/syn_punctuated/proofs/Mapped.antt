@@ -57,7 +57,8 @@ module _ {T A P : Type 0} (f : T → A) where
 -- type is made level by level.
 pub record IsOfList {B T A P F : Type 0} (f : T → A) (made : B → Punctuated T P → F)
     (listed : B → List A × List P → F) : Type 0 where
-  pub is : (b : B) (list : Punctuated T P) → made b list ≡ listed b (list_form f (λ sign. sign) list)
+  pub is : (b : B) (list : Punctuated T P)
+      → made b list ≡ listed b (list_form f (λ sign. sign) list)
 
 pub of_list : {B T A P V L F : Type 0} {f : T → A} {roll : L → V} (form : V → F)
     (layer : B → Punctuated T P → L) {listed : B → List A × List P → F}
