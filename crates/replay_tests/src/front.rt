@@ -1,11 +1,16 @@
 //! The library by one crate, under `syn`'s paths: from a text to values, and over a buffer by hand.
-use std::alloc::{AllocGlobal, Global};
+ghost use Rattle.syn_tokens.specs.TreeLaws.{followed_by};
+
+use std::alloc::{AllocError, AllocGlobal, Global};
 use std::process::Abort;
 use syn_tokens::buffer::{Cursor, TokenBuffer};
-use syn_tokens::laws::{parses_go_on, reads_go_on, reads_keep_scope};
+use syn_tokens::laws::{parses_go_on, reads_go_on, reads_keep_scope, writes_follow_writes};
 use syn_tokens::parse::{Parse, ParseStream, Parser};
 use syn_tokens::punctuated::Punctuated;
-use syn_tokens::{Delimiter, Error, Ident, Span, TokenTree, lex, parenthesized, parse, token};
+use syn_tokens::{
+    Delimiter, Error, Ident, Span, ToTokens, TokenStream, TokenTree, lex, parenthesized, parse,
+    token,
+};
 
 /// `pub NAME(FIRST, SECOND, ..)`, as a user of the library would write it.
 #[derive(Drop)]
@@ -216,4 +221,48 @@ fn all_ends(rt: &(impl Abort + AllocGlobal), rows: &[(&str, Option<usize>)]) {
 #[test]
 fn loops_by_one_crate(rt: HostRuntime) {
     all_ends(&rt, &[("a b = c", Some(2)), ("", Some(0))]);
+}
+
+// A type of a user's own that is written as tokens.
+#[derive(Drop)]
+struct Item {
+    name: Ident,
+    semi: token::Semi,
+}
+
+impl ToTokens for Item {
+    ghost printed = { λ item. followed_by (⟦<Ident as ToTokens>⟧.printed item.name)
+        (⟦<token::Semi as ToTokens>⟧.printed item.semi) };
+
+    fn to_tokens(&self, tokens: &mut TokenStream) -> Result<(), AllocError> {
+        writes_follow_writes();
+        self.name.to_tokens(tokens)?;
+        self.semi.to_tokens(tokens)
+    }
+}
+
+// Returns the text of an item of this name.
+fn written(alloc: Global, text: &str) -> Option<String> {
+    let name: Ident = Ident::parse.parse_str(alloc, text).ok()?;
+    let semi = token::Semi::from_span(Span::call_site());
+    let tokens = Item { name, semi }.to_token_stream(alloc).ok()?;
+    format!(in alloc; "{tokens}").ok()
+}
+
+fn is_written(alloc: Global, text: &str, wanted: &str) -> bool {
+    match written(alloc, text) {
+        Some(text) => text.as_str() == wanted,
+        None => false,
+    }
+}
+
+fn all_written(rt: &(impl Abort + AllocGlobal), rows: &[(&str, &str)]) {
+    for (text, wanted) in rows {
+        assert!(rt; is_written(rt.alloc(), text, wanted), "not {wanted}");
+    }
+}
+
+#[test]
+fn writes_a_value_by_one_crate(rt: HostRuntime) {
+    all_written(&rt, &[("a", "a ;")]);
 }
