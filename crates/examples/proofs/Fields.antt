@@ -1,18 +1,16 @@
 -- Fields, part by part.
-use Rattle.std.proofs.Common.{◌≡◌, ◌∙◌, ap, sym, subst, refl, inl, inr, arith, ◌<◌, ℕ, Bool}
-use Rattle.std.proofs.Common.{true, false, List, [], ◌∷◌, ◌++◌, Some, None, Ok, Err}
-use Rattle.std.proofs.Common.{append_assoc, append-nil}
-use Rattle.std.specs.Global.{Vec}
-use Rattle.std.specs.Prelude.{codes, cond}
+use Rattle.std.proofs.Common.{◌≡◌, ◌∙◌, ap, sym, subst, inl, inr, ℕ}
+use Rattle.std.proofs.Common.{true, List, [], ◌∷◌, ◌++◌, Some, None, Ok, Err}
+use Rattle.std.specs.Prelude.{codes}
 use Rattle.tok_leaves.specs.declared.ident.Ident.{Ident}
 use Rattle.tok_core.specs.Forest.{Tree, leaf}
 use Rattle.tok_leaves.specs.Leaves.{ident_of}
 use Rattle.tok_buffer.specs.declared.error.Error.{Error}
 use Rattle.tok_buffer.specs.Descent.{descend}
 use Rattle.tok_buffer.specs.Order.{same_scope}
-use Rattle.tok_buffer.specs.Place.{Place, is_at_end}
-use Rattle.tok_buffer.specs.Progress.{ReadsGoOn, ReadsKeepScope, remaining}
-use Rattle.tok_buffer.specs.Reads.{and_then, place_after, is_punct_of}
+use Rattle.tok_buffer.specs.Place.{Place}
+use Rattle.tok_buffer.specs.Progress.{ReadsKeepScope}
+use Rattle.tok_buffer.specs.Reads.{and_then, is_punct_of}
 use Rattle.tok_buffer.specs.Refusals.{Refusal}
 use Rattle.tok_types.specs.declared.punctuation.Punctuation.{Punctuation}
 use Rattle.tok_types.specs.Texts.{accept_as_ident}
@@ -26,9 +24,9 @@ use Rattle.syn_parse.specs.State.{State, moved}
 use Rattle.syn_parse.specs.RefusalWords.{punctuation_refusal}
 use Rattle.syn_parse.proofs.Reading.{reads-value, reads-refused, reads-memory}
 use Rattle.examples.specs.declared.streams.Field.{Field}
-use Rattle.examples.specs.Items.{AreFields, FieldParses, FieldsParse, FieldsRefused, IsField}
-use Rattle.examples.specs.Items.{field_refusal, name_refusal, past_comma, read_colon, read_comma}
-use Rattle.examples.specs.Items.{read_field, read_name, none, one_more, no_field, no_comma, later}
+use Rattle.examples.specs.Fields.{FieldParses, IsField}
+use Rattle.examples.specs.Fields.{field_refusal, name_refusal, read_colon}
+use Rattle.examples.specs.Fields.{read_field, read_name}
 use Rattle.examples.proofs.Parts.{HasRead, Leads, not_at_once, one_taken, then_leads, then_none}
 use Rattle.examples.proofs.Parts.{then_read, was_at_once, was_read, was_refused}
 
@@ -50,13 +48,6 @@ field_leads R trans names colons s t x h =
     let start = then_leads R trans p (read_name p) read_colon (names p) colons in
     let field = then_leads R trans p (read_start p) read_name start names in
     subst (R p) (ap (λ z. z.place) (sym w.3)) (field w.0.0 w.0.1 w.1)
-
-pub field_lowers :
-    ReadsGoOn → (s t : State) (x : Field) → FieldParses s (Ok x) t →
-    remaining t.place < remaining s.place
-field_lowers on =
-    field_leads (λ p q. remaining q < remaining p) (λ p q r h k. omega (arith, h, k))
-    (on.words accept_as_ident).lowers (on.punctuations (codes ":")).lowers
 
 pub field_keeps_scope :
     ReadsKeepScope → (s t : State) (x : Field) → FieldParses s (Ok x) t →
@@ -185,86 +176,3 @@ module _ (s : State) where
         (sym (third.3 ∙ ap (moved third.0.1) stream))
         (reads-value IsField (field_refusal s) s (read_field s.place) _ _ third.0.1 read
         (one.0, trees))
-
--- what is read at `here` goes on from these fields, which were read at `start`
-pub record GoesOn (start here : State) (xs : List Field) : Type 0 where
-  pub stream : here ≡ moved here.place start
-  pub more :
-      (ys : List Field) (end : Place) → AreFields here.place ys end →
-      AreFields start.place (xs ++ ys) end
-  pub refused : (words : Refusal) → FieldsRefused here words → FieldsRefused start words
-
-module _ (start here : State) (xs : List Field) (g : GoesOn start here xs) where
-  pub fields_end :
-      is_at_end here.place ≡ true → (v : Vec Field) → v.items ≡ xs →
-      FieldsParse start (Ok v) here
-  fields_end h v e = (
-    subst (λ zs. AreFields start.place zs here.place) (append-nil xs ∙ sym e)
-        (g.more [] here.place (none here.place h)),
-    g.stream,
-  )
-
-  pub without_field :
-      is_at_end here.place ≡ false → (f : Fault) (t : State) → FieldParses here (Err f) t →
-      FieldsParse start (Err f) t
-  without_field h f t k =
-      elim (was_refused IsField (field_refusal here) here here (read_field here.place) f k) [
-        | inl m ↦ inl m
-        | inr r ↦ inr (field_refusal here, g.refused _ (no_field here h r.0), r.1)
-      ]
-
-  one_on :
-      (q r : Place) (ts : List Tree) (x : Field) → read_field here.place ≡ Some (ts, q) →
-      IsField x ts → past_comma q ≡ Some r → GoesOn start (moved r here) (xs ++ x ∷ [])
-  one_on q r ts x read is past = record {
-    stream = ap (moved r) g.stream;
-    more =
-        λ ys end h.
-        subst (λ zs. AreFields start.place zs end) (sym (append_assoc xs (x ∷ []) ys))
-        (g.more (x ∷ ys) end (one_more here.place q r end ts x ys read is past h));
-    refused = λ words h. g.refused words (later here q r ts words read past h);
-  }
-
-  -- after a field
-  module _ (there : State) (x : Field) (k : FieldParses here (Ok x) there) where
-    field : HasRead IsField (field_refusal here) here there (read_field here.place) x
-    field = was_read IsField (field_refusal here) here there (read_field here.place) x k
-
-    past :
-        (r : Read) → read_comma there.place ≡ r → (b : Bool) → is_at_end there.place ≡ b →
-        past_comma field.0.1 ≡ cond b (Some field.0.1) (place_after r)
-    past r e b h =
-        ap (λ z. past_comma z.place) (sym field.3)
-        ∙ ap (λ c. cond c (Some there.place) (place_after (read_comma there.place))) h
-        ∙ ap (λ z. cond b (Some there.place) (place_after z)) e
-        ∙ ap (λ z. cond b (Some z.place) (place_after r)) field.3
-
-    pub last_on : is_at_end there.place ≡ true → GoesOn start there (xs ++ x ∷ [])
-    last_on h =
-        subst (λ z. GoesOn start z (xs ++ x ∷ [])) (sym field.3)
-        (one_on field.0.1 field.0.1 field.0.0 x field.1 field.2 (past _ refl true h))
-
-    module _ (h : is_at_end there.place ≡ false) (after : State) where
-      abbrev missing_comma : Refusal
-      missing_comma = punctuation_refusal (codes ",") there
-
-      pub comma_on :
-          (comma : Punctuation 7 1) → PunctuationTypeParses 7 1 there (Ok comma) after →
-          GoesOn start after (xs ++ x ∷ [])
-      comma_on comma j =
-          let comma_at = read_comma there.place in
-          let c = was_at_once (AreSpansOf 7) missing_comma there after comma_at comma j in
-          subst (λ z. GoesOn start z (xs ++ x ∷ [])) (sym (c.3 ∙ ap (moved c.0.1) field.3))
-          (one_on field.0.1 c.0.1 field.0.0 x field.1 field.2 (past (Some c.0) c.1 false h))
-
-      pub without_comma :
-          (f : Fault) → PunctuationTypeParses 7 1 there (Err f) after →
-          FieldsParse start (Err f) after
-      without_comma f j =
-          let comma_at = read_comma there.place in
-          let c = not_at_once (AreSpansOf 7) missing_comma there after comma_at f j in
-          inr (
-            punctuation_refusal (codes ",") (moved field.0.1 here),
-            g.refused _ (no_comma here field.0.1 field.0.0 field.1 (past None c.0 false h)),
-            subst (λ z. Refuses (punctuation_refusal (codes ",") z) f) field.3 c.1,
-          )

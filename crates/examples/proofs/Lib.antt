@@ -1,5 +1,4 @@
 pub mod Fields
-pub mod Items
 pub mod Listed
 pub mod ListTrees
 pub mod Names

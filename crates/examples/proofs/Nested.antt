@@ -16,7 +16,7 @@ use Rattle.syn_parse.specs.Parses.{IdentParses, IsIdent}
 use Rattle.syn_parse.specs.Reads.{Call}
 use Rattle.syn_parse.specs.State.{State, after_group, closed, content_of}
 use Rattle.syn_parse.specs.RefusalWords.{delimiter_words, refused_at}
-use Rattle.examples.specs.Items.{name_refusal, read_name}
+use Rattle.examples.specs.Fields.{name_refusal, read_name}
 use Rattle.examples.specs.Nested.{AreEntries, CountsEntries, CountsEntry, EntriesRefused, IsEntry}
 use Rattle.examples.specs.Nested.{capped, here, later, list, name, neither, none, one_more, within}
 use Rattle.examples.proofs.Parts.{was_read}

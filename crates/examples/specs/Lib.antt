@@ -1,5 +1,5 @@
 pub mod Entries
-pub mod Items
+pub mod Fields
 pub mod Lists
 pub mod Looks
 pub mod Loops

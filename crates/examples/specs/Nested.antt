@@ -8,7 +8,7 @@ use Rattle.tok_buffer.specs.Refusals.{Refusal}
 use Rattle.syn_parse.specs.Reads.{Call}
 use Rattle.syn_parse.specs.State.{State, after_group, closed, content_of, moved}
 use Rattle.syn_parse.specs.RefusalWords.{delimiter_words, refused_at}
-use Rattle.examples.specs.Items.{IsFault, read_name}
+use Rattle.examples.specs.Fields.{IsFault, read_name}
 
 mutual
   -- One entry, how many names it has, and the stream after it: a name; or a list of entries in

@@ -1,5 +1,5 @@
-//! Callers of `syn_parse`: an item parsed by hand, a choice, a try on a fork, a step, and a parser
-//! that calls itself.
+//! Callers of `syn_parse`: a field by the trees it is parsed from, a choice, a try on a fork, a step,
+//! and a parser that calls itself.
 ghost use Rattle.std.specs.Prelude.{◌<◌, IfOk, codes};
 ghost use Rattle.tok_buffer.specs.Cursors.{place_of};
 ghost use Rattle.tok_buffer.specs.Progress.{remaining};
@@ -8,58 +8,24 @@ ghost use Rattle.syn_parse.specs.Parses.{IsTree, TreeParses};
 ghost use Rattle.syn_parse.specs.Steps.{StepReads, step_state};
 ghost use Rattle.syn_parse.specs.RefusalWords.{refused_at};
 ghost use Rattle.syn_parse.specs.Takes.{Takes};
-ghost use Rattle.examples.specs.Items.{FieldParses, FieldsParse, ItemParses, OptionalFieldParses};
+ghost use Rattle.examples.specs.Fields.{FieldParses, OptionalFieldParses};
 ghost use Rattle.examples.specs.Nested.{CountsEntries, CountsEntry};
 ghost use Rattle.examples.specs.Streams.{ChoosesKind, take_kind};
 
 use syn_parse::laws::{forks_follow, parses_go_on};
-use syn_parse::{Fault, Parse, ParseStream, Result};
+use syn_parse::{Fault, ParseStream, Result};
 use tok_buffer::laws::{entries_go_on, reads_go_on, reads_keep_scope};
 use tok_core::{Delimiter, Ident, TokenTree};
 use tok_types::token;
 
-/// A field of an item: `name: Kind`.
+/// A field `name: Kind`.
 #[derive(Drop)]
 pub struct Field {
     pub name: Ident,
     pub kind: Ident,
 }
 
-/// An item `struct Name { field: Kind, .. }`.
-#[derive(Drop)]
-pub struct Item {
-    pub name: Ident,
-    pub fields: Vec<Field>,
-}
-
-/// Parses an item. Where an error leaves the stream isn't specified.
-impl Parse for Item {
-    ghost parses = { ItemParses };
-
-    fn parse(input: ParseStream<'_, '_>) -> Result<Self> {
-        let _: token::Struct = input.parse()?;
-        let name = input.parse()?;
-        let (_, fields) = input.within(Delimiter::Brace, fields)?;
-        Ok(Item { name, fields })
-    }
-}
-
-// Parses fields up to the end, with a comma after each but the last, where it is optional.
-fn fields(input: ParseStream<'_, '_>) -> Result<Vec<Field>>
-    ensures { FieldsParse input.old result input.new }
-{
-    reads_go_on();
-    parses_go_on();
-    let mut fields = Vec::new(input.allocator());
-    while !input.is_empty() {
-        fields.push(parse_field(input)?)?;
-        if !input.is_empty() {
-            let _: token::Comma = input.parse()?;
-        }
-    }
-    Ok(fields)
-}
-
+// Parses a field. The error is at the first of its three parts that is missing.
 fn parse_field(input: ParseStream<'_, '_>) -> Result<Field>
     ensures { FieldParses input.old result input.new }
 {

@@ -1,22 +1,14 @@
 //! The parsers of `examples::streams` and `examples::lists`.
 use crate::said::all_said;
 use examples::lists::{names, parse_items};
-use examples::streams::{Item, Kind, count_names, next_kind, next_tree, optional_field};
+use examples::streams::{Kind, count_names, next_kind, next_tree, optional_field};
 use std::alloc::Global;
 use syn_parse::{ParseStream, Parser, Result};
 use test_outcomes::Sample;
 use tok_core::TokenStream;
 
-// Returns the name of an item, and the number of its fields.
-fn whole_item(input: ParseStream<'_, '_>) -> Result<String> {
-    let item: Item = input.parse()?;
-    let count = item.fields.len();
-    Ok(format!(in input.allocator(); "{} {count}", item.name.as_str())?)
-}
-
 // The parsers of this module.
 enum Read {
-    WholeItem,
     NextKind,
     TreeAndField,
     CountedNames,
@@ -27,7 +19,6 @@ enum Read {
 impl Sample for Read {
     fn run(&self, alloc: Global, text: &str) -> Result<String> {
         match self {
-            Read::WholeItem => whole_item.parse_str(alloc, text),
             Read::NextKind => kind_of_next.parse_str(alloc, text),
             Read::TreeAndField => tree_and_field.parse_str(alloc, text),
             Read::CountedNames => counted_names.parse_str(alloc, text),
@@ -35,18 +26,6 @@ impl Sample for Read {
             Read::ListedItems => listed_items.parse_str(alloc, text),
         }
     }
-}
-
-#[test]
-fn reads_an_item(rt: HostRuntime) {
-    all_said(
-        &rt,
-        &Read::WholeItem,
-        &[
-            ("struct Point { x: Width, y: Height }", "Point 2"),
-            ("struct Point { x: Width y }", "24..25 expected `,`"),
-        ],
-    );
 }
 
 fn kind_text(kind: Kind) -> &'static str {

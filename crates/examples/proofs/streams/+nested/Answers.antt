@@ -2,7 +2,7 @@ use Rattle.std.proofs.Common.{◌≡◌, ◌∙◌, ◌<◌, ap, refl, arith, ru
 use Rattle.tok_lexical.specs.declared.delimiter.Delimiter.TheVariants.{Parenthesis}
 use Rattle.tok_buffer.specs.Place.{is_at_end}
 use Rattle.tok_buffer.specs.Progress.{remaining}
-use Rattle.examples.specs.Items.{read_name}
+use Rattle.examples.specs.Fields.{read_name}
 use Rattle.examples.specs.Nested.{CountsEntries, CountsEntry}
 use Rattle.examples.proofs.Nested.{entries_end, entry_on, entry_refused, no_list, one_list}
 use Rattle.examples.proofs.Nested.{one_name}

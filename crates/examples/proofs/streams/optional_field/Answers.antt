@@ -1,6 +1,6 @@
 use Rattle.std.proofs.Common.{◌∙◌, ap, sym, subst, refl, Err}
 use Rattle.tok_buffer.specs.Order.{same_scope}
-use Rattle.examples.specs.Items.{FieldParses, OptionalFieldParses, read_field}
+use Rattle.examples.specs.Fields.{FieldParses, OptionalFieldParses, read_field}
 use Rattle.examples.proofs.Fields.{field_keeps_scope, not_next}
 use Rattle.examples.proofs.streams.optional_field.Goals as goal
 use Rattle.examples.proofs.streams.optional_field.Goals.{in-Refused, in-Memory}

@@ -1,4 +1,4 @@
-use Rattle.examples.specs.Items.{FieldParses}
+use Rattle.examples.specs.Fields.{FieldParses}
 use Rattle.examples.proofs.Fields.{field_read, without_colon, without_kind, without_name}
 use Rattle.examples.proofs.Parts.{at_exit}
 use Rattle.syn_parse.specs.Reads.{does}
