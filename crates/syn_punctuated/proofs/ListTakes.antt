@@ -13,12 +13,14 @@ use Rattle.syn_parse.specs.State.{State}
 use Rattle.syn_parse.specs.Takes.{TakesAs, Taking}
 use Rattle.syn_parse.specs.Takings as states
 use Rattle.syn_parse.specs.Takings.{Lightens, Lowers, Takings, lighter, lower, told, told_filled}
+use Rattle.syn_parse.specs.Takings.{untold}
+use Rattle.syn_parse.specs.Takings.{unweighed}
 use Rattle.syn_parse.specs.Tokens.{take_punctuation}
 use Rattle.syn_parse.specs.TreesAhead.{IsFilled, ahead}
 use Rattle.syn_parse.specs.declared.fault.Fault.{Fault}
 use Rattle.syn_punctuated.proofs.TakenRuns.{Tells, run_takes}
 use Rattle.syn_punctuated.specs.TakeLists.{Separates, always, is_left, list_form, separated_list}
-use Rattle.syn_punctuated.specs.TakeLists.{take_list, take_terminated}
+use Rattle.syn_punctuated.specs.TakeLists.{take_list}
 use Rattle.syn_punctuated.specs.TakeLists.{terminated_list}
 use Rattle.syn_punctuated.specs.Turns.{IsRun, ValueCall, separated, terminated}
 use Rattle.syn_punctuated.specs.declared.punctuated.Punctuated.{Punctuated}
@@ -131,15 +133,11 @@ punctuated_keeps {k = k} {n = n} values {reads} {f} {s} {t} {r} go each run =
     terminated_keeps reads (PunctuationTypeParses k n) (go.punctuations k n) values (signs k n) each
     f s t r run
 
--- The same for `search`, of a value and its form: the list comes first, so that what reads its
--- values is known.
-pub list_takes : {T A F : Type 0} {k n : ℕ} (form : T → A) (value : Taking A)
-    {reads : ValueCall F T} {f : F} {s t : State}
-    {r : Result (Punctuated T (Punctuation k n)) Fault} → ParsesGoOn
+-- the same for `search`, which finds what is left to show
+pub list_keeps : {T F : Type 0} {k n : ℕ} (values : Takings T) {reads : ValueCall F T} {f : F}
+    {s t : State} {r : Result (Punctuated T (Punctuation k n)) Fault}
     → IsRun terminated reads (Separates (PunctuationTypeParses k n) (signs k n)) f s r t
-    → Lightens value
-    → ((f g : F) (s t : State) (r : Result T Fault) → reads f s r g t → IsFilled s.place
-    → TakesAs form value s r t) → IsFilled s.place
-    → TakesAs (list_form form (λ p. p)) (take_terminated value (take_punctuation k n)) s r t
-list_takes form value go run light each =
-    punctuated_keeps (told_filled form value (lighter light)) go each run
+    → ParsesGoOn
+    → ((f g : F) (s t : State) (r : Result T Fault) → reads f s r g t → states.Keeps values s r t)
+    → states.Keeps (terminated_list values (signs k n)) s r t
+list_keeps values run go each = punctuated_keeps values go each run

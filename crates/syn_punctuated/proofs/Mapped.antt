@@ -1,6 +1,10 @@
 -- A list whose values are replaced, each by one of another type.
-use Rattle.std.proofs.Common.{◌≡◌, ◌∙◌, sym, ap, refl, List, [], ◌∷◌, ◌++◌, map, Option, Some, None}
+use Rattle.std.proofs.Common.{◌≡◌, ◌∙◌, sym, ap, refl, ℕ, List, [], ◌∷◌, ◌++◌, map}
+use Rattle.std.proofs.Common.{Option, Some, None}
 use Rattle.std.specs.Global.{Box, Vec}
+use Rattle.tok_leaves.specs.declared.span.Span.{Span}
+use Rattle.tok_leaves.specs.Spans.{whole_span}
+use Rattle.tok_types.specs.declared.delimiter.Visible.{Visible}
 use Rattle.syn_punctuated.specs.TakeLists.{list_form}
 use Rattle.syn_punctuated.specs.declared.punctuated.Punctuated.{Punctuated}
 
@@ -53,24 +57,28 @@ module _ {T A P : Type 0} (f : T → A) where
       (λ inner b. made (of_parts inner (Some b)) ∙ some inner b
       ∙ ap listed (list_mapped inner.items (b.value ∷ [])))
 
--- What a value is, made of something and of a list, by what the values of the list are. The value's
--- type is made level by level.
-pub record IsOfList {B T A P F : Type 0} (f : T → A) (made : B → Punctuated T P → F)
-    (listed : B → List A × List P → F) : Type 0 where
-  pub is : (b : B) (list : Punctuated T P)
-      → made b list ≡ listed b (list_form f (λ sign. sign) list)
+-- What a value is that is made of delimiters and a list: this, of their span and of what the list's
+-- values are.
+pub record IsOfList {d : ℕ} {T A P F : Type 0} (f : T → A) (made : Visible d → Punctuated T P → F)
+    (listed : Span → List A × List P → F) : Type 0 where
+  pub is : (b : Visible d) (list : Punctuated T P)
+      → made b list ≡ listed (whole_span b.span) (list_form f (λ sign. sign) list)
 
-pub of_list : {B T A P V L F : Type 0} {f : T → A} {roll : L → V} (form : V → F)
-    (layer : B → Punctuated T P → L) {listed : B → List A × List P → F}
-    {made : B → Punctuated T P → V} {level : L → F}
-    → ((b : B) (list : Punctuated T P) → roll (layer b list) ≡ made b list)
+-- The value's type is made level by level, so one level is enough. A list without a last value and
+-- one with it compute on their own.
+pub of_list : {d : ℕ} {T A P V L F : Type 0} {f : T → A} {roll : L → V} (form : V → F)
+    (layer : Visible d → Punctuated T P → L) {listed : Span → List A × List P → F}
+    {made : Visible d → Punctuated T P → V} {level : L → F}
+    → ((b : Visible d) (list : Punctuated T P) → roll (layer b list) ≡ made b list)
     → ((l : L) → form (roll l) ≡ level l)
-    → ((b : B) (inner : Vec (T × P)) → level (layer b (of_parts inner None))
-    ≡ listed b (Mapped f inner.items []))
-    → ((b : B) (inner : Vec (T × P)) (last : Box T) → level (layer b (of_parts inner (Some last)))
-    ≡ listed b (Mapped f inner.items (last.value ∷ [])))
+    → ((b : Visible d) (inner : Vec (T × P)) → level (layer b (of_parts inner None))
+    ≡ listed (whole_span b.span) (Mapped f inner.items []))
+    → ((b : Visible d) (inner : Vec (T × P)) (last : Box T)
+    → level (layer b (of_parts inner (Some last)))
+    ≡ listed (whole_span b.span) (Mapped f inner.items (last.value ∷ [])))
     → IsOfList f (λ b list. form (made b list)) listed
 of_list {f = f} {roll} form layer {listed} {made} {level} rolls again none some = record {
-  is = λ b. values_mapped f (λ list. form (made b list)) (listed b) (λ list. level (layer b list))
+  is = λ b. values_mapped f (λ list. form (made b list)) (listed (whole_span b.span))
+      (λ list. level (layer b list))
       (λ list. ap form (sym (rolls b list)) ∙ again (layer b list)) (none b) (some b);
 }
