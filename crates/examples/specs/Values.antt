@@ -8,7 +8,7 @@ use Rattle.tok_leaves.specs.Spans.{whole_span}
 use Rattle.tok_types.specs.declared.punctuation.Punctuation.{Punctuation}
 use Rattle.syn_parse.specs.Nested.{Descends, lightens_nested, nested_again, take_nested}
 use Rattle.syn_parse.specs.Takes.{Taking, ◌>>=◌, gives, take_group, where_ahead}
-use Rattle.syn_parse.specs.Takings.{Takings, lighter, taken_filled, told_filled}
+use Rattle.syn_parse.specs.Takings.{Lightens, Takings, lighter, taken_filled, told_filled}
 use Rattle.syn_parse.specs.TokenNames.{take_comma}
 use Rattle.syn_parse.specs.Tokens.{sees_group, sees_ident, take_ident, take_literal}
 use Rattle.syn_parse.specs.TreesAhead.{Ahead}
@@ -70,8 +70,12 @@ take_value = take_nested value_step
 pub value_again : (a : Ahead) → take_value a ≡ value_step take_value a
 value_again = nested_again value_step value_descends
 
+-- a value adds nothing to what is ahead
+pub lightens_value : Lightens take_value
+lightens_value = lightens_nested value_step value_descends
+
 abbrev pub values : Takings Value
-values = told_filled value_form take_value (lighter (lightens_nested value_step value_descends))
+values = told_filled value_form take_value (lighter lightens_value)
 
 -- values with commas between them
 abbrev pub lists : Takings (Punctuated Value (Punctuation 7 1))
