@@ -1,17 +1,14 @@
 -- The forms of settings and values, level by level.
 use Rattle.std.proofs.Common.{◌≡◌, ◌∙◌, refl, sym, ap, ℕ, Bool}
 use Rattle.tok_lexical.specs.declared.delimiter.Delimiter.TheVariants.{Brace, Bracket}
-use Rattle.tok_leaves.specs.Spans.{whole_span}
 use Rattle.tok_leaves.specs.declared.ident.Ident.{Ident}
 use Rattle.tok_leaves.specs.declared.span.Span.{Span}
-use Rattle.tok_types.specs.declared.delimiter.Visible.{Visible}
-use Rattle.syn_punctuated.proofs.Mapped.{values_mapped}
+use Rattle.syn_punctuated.proofs.Mapped.{IsOfList, of_list}
 use Rattle.syn_parse.specs.Takes.{Taking, and_then, found, take_group}
 use Rattle.syn_parse.specs.TokenNames.{take_comma}
 use Rattle.syn_parse.specs.TreesAhead.{Ahead}
-use Rattle.syn_punctuated.specs.TakeLists.{list_form, take_terminated}
-use Rattle.syn_punctuated.specs.declared.punctuated.Punctuated.{Punctuated}
-use Rattle.config.specs.Forms.{Colon, Comma, Form, SettingForm, listed, mapped, number}
+use Rattle.syn_punctuated.specs.TakeLists.{take_terminated}
+use Rattle.config.specs.Forms.{Colon, Form, SettingForm, listed, mapped, number}
 use Rattle.config.specs.Forms.{setting_form}
 use Rattle.config.specs.Forms.{setting_level, truth, value_form, value_level}
 use Rattle.config.specs.Reading.{setting_step, take_list_value, take_map_value}
@@ -40,23 +37,13 @@ form_setting key colon value =
     fold-roll-Setting _ _ value_level setting_level
     (record { key = key; colon = colon; value = value })
 
-pub form_list : (bracket : Visible 2) (values : Punctuated Value Comma)
-    → value_form (made.List bracket values)
-    ≡ listed (whole_span bracket.span) (list_form value_form (λ sign. sign) values)
-form_list bracket =
-    values_mapped value_form _ (listed (whole_span bracket.span)) _
-    (λ values. ap value_form (sym (made.rolls-List bracket values))
-    ∙ level (Value-F.List bracket values))
-    (λ inner. refl) (λ inner b. refl)
+pub form_list : IsOfList value_form (λ bracket list. value_form (made.List bracket list)) listed
+form_list = of_list value_form Value-F.List made.rolls-List level
+    (λ bracket inner. refl) (λ bracket inner last. refl)
 
-pub form_map : (brace : Visible 1) (settings : Punctuated Setting Comma)
-    → value_form (made.Map brace settings)
-    ≡ mapped (whole_span brace.span) (list_form setting_form (λ sign. sign) settings)
-form_map brace =
-    values_mapped setting_form _ (mapped (whole_span brace.span)) _
-    (λ settings. ap value_form (sym (made.rolls-Map brace settings))
-    ∙ level (Value-F.Map brace settings))
-    (λ inner. refl) (λ inner b. refl)
+pub form_map : IsOfList setting_form (λ brace list. value_form (made.Map brace list)) mapped
+form_map = of_list value_form Value-F.Map made.rolls-Map level
+    (λ brace inner. refl) (λ brace inner last. refl)
 
 pub ruleset plain = (form_number, form_truth)
 

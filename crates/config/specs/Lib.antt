@@ -1,3 +1,4 @@
 pub mod Forms
+pub mod Grammar
 pub mod Nesting
 pub mod Reading

@@ -7,6 +7,8 @@ use Rattle.tok_lexical.specs.declared.delimiter.Delimiter.TheVariants.{Brace, Br
 use Rattle.tok_leaves.specs.declared.literal.Literal.{Literal}
 use Rattle.tok_leaves.specs.declared.span.Span.{Span}
 use Rattle.tok_values.specs.Values.{integer_value, string_value}
+use Rattle.tok_core.specs.Erase.{erase}
+use Rattle.tok_core.specs.Filled.{filled}
 use Rattle.tok_core.specs.Forest.{Forest}
 use Rattle.tok_core.specs.Lexical.Reading as grammar
 use Rattle.tok_core.specs.declared.lexer.error.LexError.{LexError}
@@ -25,6 +27,7 @@ use Rattle.syn_punctuated.specs.TakeLists.{list_form, take_terminated}
 use Rattle.syn_punctuated.specs.declared.punctuated.Punctuated.{Punctuated}
 use Rattle.config.specs.Forms.{Comma, Form, SettingForm, listed, mapped, number, setting_form, text}
 use Rattle.config.specs.Forms.{truth, value_form}
+use Rattle.config.specs.Grammar.{Parses}
 use Rattle.config.specs.declared.value.Setting.{Setting}
 use Rattle.config.specs.declared.value.Value.{Value}
 
@@ -79,14 +82,17 @@ take_literal_value =
 abbrev pub sees_own : List ℕ → Ahead → Bool
 sees_own word a = own_first word a.trees
 
+-- a keyword that is a truth value
+abbrev pub take_truth : (word : List ℕ) → Bool → Taking Form
+take_truth word b = do
+  span ← take_own word
+  gives (truth span b)
+
 -- a value that holds no others
 unfoldable pub take_plain : Taking Form
 take_plain =
-    where_ahead (sees_own (codes "true")) (do
-      span ← take_own (codes "true")
-      gives (truth span true)) (where_ahead (sees_own (codes "false")) (do
-        span ← take_own (codes "false")
-        gives (truth span false)) take_literal_value)
+    where_ahead (sees_own (codes "true")) (take_truth (codes "true") true)
+    (where_ahead (sees_own (codes "false")) (take_truth (codes "false") false) take_literal_value)
 
 -- a key that is not `include`, a colon and a value, by how values are taken
 unfoldable pub setting_step : Taking Form → Taking SettingForm
@@ -122,6 +128,10 @@ take_value = take_nested value_step
 abbrev pub take_setting : Taking SettingForm
 take_setting = setting_step take_value
 
+-- settings with commas between them; there may be one after the last
+abbrev pub take_settings : Taking (List SettingForm × List Comma)
+take_settings = take_terminated take_setting take_comma
+
 -- what the parsers state of a list, a map, values and settings
 abbrev pub list_value : Takings Value
 list_value = taken_filled value_form (take_list_value take_value)
@@ -133,11 +143,16 @@ abbrev pub values : Takings (Punctuated Value Comma)
 values = taken_filled (list_form value_form (λ p. p)) (take_terminated take_value take_comma)
 
 abbrev pub settings : Takings (Punctuated Setting Comma)
-settings = taken_filled (list_form setting_form (λ p. p)) (take_terminated take_setting take_comma)
+settings = taken_filled (list_form setting_form (λ p. p)) take_settings
 
--- the text of a source reads as settings; or the grammar of tokens refuses it
+-- Tokens are read as the grammar has them, and an error has the words that are missing first. An
+-- empty invisible group is not the end, so it holds where there is none.
+abbrev pub ReadsTokens : Forest → Result (Punctuated Setting Comma) Fault → Type 0
+ReadsTokens f r = KeepsWhole settings f r × (filled f ≡ true → Parses (erase f) r)
+
+-- the text of a source is tokens, which are read; or the grammar of tokens refuses it
 abbrev pub ReadsText : (source : ℕ) → List ℕ → Result (Punctuated Setting Comma) Fault → Type 0
 ReadsText source cs r =
-    ((f : Forest) × grammar.Reads plain_rules source cs f × KeepsWhole settings f r)
+    ((f : Forest) × grammar.Reads plain_rules source cs f × ReadsTokens f r)
     ⊎ (((e : LexError) × grammar.IsRefused plain_rules source cs e × IsRefused (lex_refusal e) r)
     ⊎ OnMemory r)

@@ -7,6 +7,7 @@
 //! A text that includes another one is rejected.
 #![tactic(auto)]
 
+pub mod laws;
 mod print;
 mod read;
 mod value;

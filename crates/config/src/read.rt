@@ -3,11 +3,11 @@ ghost use Rattle.std.specs.Prelude.{ℕ, Err, List, Option, Some};
 ghost use Rattle.std.specs.Str.{chars};
 ghost use Rattle.syn_parse.specs.Takes.{TakesAs};
 ghost use Rattle.syn_parse.specs.TreesAhead.{Ahead};
-ghost use Rattle.syn_parse.specs.Takings.{Keeps, KeepsWhole};
+ghost use Rattle.syn_parse.specs.Takings.{Keeps};
 ghost use Rattle.tok_values.specs.Values.{HasValue};
 ghost use Rattle.config.specs.Forms.{value_form};
 ghost use Rattle.config.specs.Nesting.{setting, value};
-ghost use Rattle.config.specs.Reading.{Means, ReadsText, SaysOnce, in_integer, list_value, map_value, meaning, settings, take_literal_value, take_meaning, take_plain, values};
+ghost use Rattle.config.specs.Reading.{Means, ReadsText, ReadsTokens, SaysOnce, in_integer, list_value, map_value, meaning, settings, take_literal_value, take_meaning, take_plain, values};
 
 use crate::value::{Config, False, Include, Setting, True, Value};
 use std::alloc::{AllocError, Global};
@@ -37,7 +37,7 @@ pub fn parse_config(alloc: Global, number: u32, text: &str) -> Result<Config>
 
 // Reads all of these tokens. An error at their end is at `end`.
 fn parse_tokens(alloc: Global, end: Span, tokens: TokenStream) -> Result<Config>
-    ensures { KeepsWhole settings tokens result }
+    ensures { ReadsTokens tokens result }
 {
     read_settings.parse_scoped(alloc, end, tokens)
 }

@@ -1,0 +1,29 @@
+-- What the reader returns is what the grammar says.
+use Rattle.std.proofs.Common.{◌≡◌, Err, Ok, inl, inr, true}
+use Rattle.std.specs.Prelude.{Result}
+use Rattle.tok_core.specs.Erase.{erase}
+use Rattle.tok_core.specs.Filled.{filled}
+use Rattle.tok_core.specs.Forest.{Forest}
+use Rattle.syn_parse.specs.Takings.{KeepsWhole}
+use Rattle.syn_parse.specs.TreesAhead.{all_taken}
+use Rattle.syn_parse.specs.declared.fault.Fault.{Fault}
+use Rattle.syn_parse.specs.declared.fault.Fault.TheVariants.{Memory, Refused}
+use Rattle.syn_punctuated.specs.TakeLists.{list_form}
+use Rattle.syn_punctuated.specs.declared.punctuated.Punctuated.{Punctuated}
+use Rattle.config.specs.Forms.{Comma, setting_form}
+use Rattle.config.specs.Grammar.{Parses}
+use Rattle.config.specs.Reading.{ReadsTokens, settings}
+use Rattle.config.specs.declared.value.Setting.{Setting}
+use Rattle.config.proofs.Sound.{sound}
+use Rattle.config.proofs.Written.{written}
+
+parses : (f : Forest) (r : Result (Punctuated Setting Comma) Fault) → KeepsWhole settings f r
+    → filled f ≡ true → Parses (erase f) r
+parses f (Ok config) h i =
+    (sound (erase f) all_taken (list_form setting_form (λ p. p) config) (h i)).1
+parses f (Err (Refused e)) h i = inr (λ form l. (h i).0.0 form (written (erase f) form l))
+parses f (Err (Memory e)) h i = inl tt
+
+pub reads_tokens : (f : Forest) (r : Result (Punctuated Setting Comma) Fault)
+    → KeepsWhole settings f r → ReadsTokens f r
+reads_tokens f r h = (h, parses f r h)

@@ -1,0 +1,7 @@
+use Rattle.std.proofs.Common.{◌∙◌, sym}
+use Rattle.syn_parse.proofs.Shapes.{found_first}
+use Rattle.config.proofs.Written.{written}
+use Rattle.config.proofs.laws.settings_once.Goals as goal
+
+pub returns : goal.returns
+returns c = λ trees left right h k. found_first (sym (written trees left h) ∙ written trees right k)
