@@ -16,11 +16,9 @@ impl fmt::Display for Report {
 
     fn fmt<W: Write>(&self, f: &mut Formatter<W>) -> fmt::Result {
         for line in &self.lines {
-            fmt::Display::fmt(line, f)?;
-            f.write_char('\n')?;
+            writeln!(f, "{line}")?;
         }
-        fmt::Display::fmt(&self.verdict, f)?;
-        f.write_char('\n')
+        writeln!(f, "{}", self.verdict)
     }
 }
 
@@ -28,9 +26,7 @@ impl fmt::Display for Line {
     ghost output = { λ l. Some (spec.line_text (line_of l)) };
 
     fn fmt<W: Write>(&self, f: &mut Formatter<W>) -> fmt::Result {
-        fmt::Display::fmt(&self.answer, f)?;
-        f.write_char(' ')?;
-        fmt::Display::fmt(&self.position, f)
+        write!(f, "{} {}", self.answer, self.position)
     }
 }
 
@@ -181,7 +177,6 @@ fn write_spaced<W: Write>(f: &mut Formatter<W>, part: &str) -> fmt::Result
     if part.is_empty() {
         Ok(())
     } else {
-        f.write_char(' ')?;
-        f.write_str(part)
+        write!(f, " {part}")
     }
 }
