@@ -1,8 +1,7 @@
 -- The streams of a replay, and the commands on them.
 pub mod Acceptance
 pub mod Changes
-pub mod Closing
-pub mod Discarding
+pub mod Ending
 pub mod Entering
 pub mod Inside
 pub mod Links
@@ -13,6 +12,5 @@ pub mod Notes
 pub mod OnForks
 pub mod Pieces
 pub mod Runs
-pub mod Spending
 pub mod Tracks
 pub mod Verdict

@@ -6,7 +6,8 @@ use Rattle.tok_core.specs.Forest.{Forest}
 use Rattle.tok_buffer.specs.Order.{same_scope}
 use Rattle.syn_replay.specs.Commands.{Action, Command, on, fork, advance, discard, close}
 use Rattle.syn_replay.specs.Reports.{Answer, Line, done, entered, forked}
-use Rattle.syn_replay.specs.Session.State.{State, contents_closed, first_state, is_open_content_of, stream_at}
+use Rattle.syn_replay.specs.Session.State.{State, contents_ended, first_state}
+use Rattle.syn_replay.specs.Session.State.{is_open_content_of, stream_at}
 use Rattle.syn_replay.specs.Session.Step.{place_of, step, tested}
 use Rattle.syn_replay.specs.Session.Walk.{last_state, lines_from}
 
@@ -56,7 +57,7 @@ is_open_at st n = tested false (λ s. s.is_open) (stream_at st n)
 
 -- the contents that the commands made from the stream and left open are closed
 abbrev pub made_closed : ℕ → (made : ℕ) → State → State
-made_closed stream made st = contents_closed (length st - made) stream made st
+made_closed stream made st = contents_ended false (length st - made) stream made st
 
 -- the commands close all contents that they make from the stream
 abbrev pub ClosesAll : State → ℕ → List Command → Type 0

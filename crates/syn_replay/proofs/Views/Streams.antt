@@ -2,7 +2,7 @@
 -- noted.
 use Rattle.std.proofs.Common.{◌≡◌, ◌∙◌, ap, ap₂, subst, refl, ℕ, zero, suc, ◌+◌, ◌-◌, ◌==◌, ◌&&◌}
 use Rattle.std.proofs.Common.{◌||◌}
-use Rattle.std.proofs.Common.{Bool, cond, List, [], ◌∷◌, ◌++◌, length, Option, Some}
+use Rattle.std.proofs.Common.{Bool, true, false, cond, List, [], ◌∷◌, ◌++◌, length, Option, Some}
 use Rattle.std.proofs.Common.{None}
 use Rattle.std.specs.Prelude.{⊤, option_map}
 use Rattle.std.specs.Option.{option_or}
@@ -14,12 +14,11 @@ use Rattle.tok_buffer.proofs.View.Alike.{Alike, alike-leftover}
 use Rattle.syn_replay.specs.Session.State.{Stream, StreamKind, outermost, content_of, a_fork, State}
 use Rattle.syn_replay.specs.Session.State.{stream_at, with_stream, moved_to, spent, with_note}
 use Rattle.syn_replay.specs.Session.State.{is_content_of}
-use Rattle.syn_replay.specs.Session.State.{is_open_content_of, contains, is_content_among}
-use Rattle.syn_replay.specs.Session.State.{inside_of}
-use Rattle.syn_replay.specs.Session.State.{is_inside, is_or_inside, spent_where, all_spent}
-use Rattle.syn_replay.specs.Session.State.{handed_note, with_note_on_parent, handed_up}
-use Rattle.syn_replay.specs.Session.State.{contents_closed, closed_inside, closed, taken_over}
-use Rattle.syn_replay.specs.Session.State.{advanced}
+use Rattle.syn_replay.specs.Session.State.{is_open_content_of, kind_at, is_within}
+use Rattle.syn_replay.specs.Session.State.{is_inside, all_spent, handed_note, with_note_on_parent}
+use Rattle.syn_replay.specs.Session.State.{handed_up, ended, contents_ended, ended_inside, closed}
+use Rattle.syn_replay.specs.Session.State.{taken_over, advanced}
+use Rattle.syn_replay.proofs.Walk.Tracks.{handed_with}
 use Rattle.syn_replay.proofs.Views.Choices.{either}
 
 -- a leftover is compared by its span alone
@@ -140,17 +139,7 @@ module _ (f g : Laid) where
       → StatesAlike (handed_up k st) (handed_up k su)
   alike-handed_up k st su h = go (stream_at st k) (stream_at su k) (alike-stream_at st su k h) where
     go : (a b : Option Stream) → BothAlike a b
-        → StatesAlike
-        (elim a [
-          | None ↦ st
-          | Some s ↦
-              with_stream (with_note_on_parent s.kind (handed_note s) st) k spent
-        ])
-        (elim b [
-          | None ↦ su
-          | Some s ↦
-              with_stream (with_note_on_parent s.kind (handed_note s) su) k spent
-        ])
+        → StatesAlike (handed_with k st a) (handed_with k su b)
     go None None i = h
     go None (Some t) i = absurd i
     go (Some s) None i = absurd i
@@ -167,30 +156,35 @@ module _ (f g : Laid) where
   same-content k (Some s) None h = absurd h
   same-content k (Some s) (Some t) h = ap₂ (λ x y. x && is_content_of k y) h.is_open h.kind
 
-  alike-contents : (room k next : ℕ) (st su : State) → StatesAlike st su
-      → StatesAlike (contents_closed room k next st) (contents_closed room k next su)
-  alike-contents zero k next st su h = h
-  alike-contents (suc room) k next st su h =
-      alike-contents room k (next + 1) _ _
-      (either StatesAlike (is_open_content_of k (stream_at st next))
-      (is_open_content_of k (stream_at su next))
-      (handed_up next (contents_closed room next (next + 1) st))
-      (handed_up next (contents_closed room next (next + 1) su)) st su
-      (same-content k (stream_at st next) (stream_at su next) (alike-stream_at st su next h))
-      (alike-handed_up next (contents_closed room next (next + 1) st)
-      (contents_closed room next (next + 1) su) (alike-contents room next (next + 1) st su h))
-      h)
+  alike-ended : (d : Bool) (k : ℕ) (st su : State) → StatesAlike st su
+      → StatesAlike (ended d k st) (ended d k su)
+  alike-ended true k st su h = alike-with_stream st su k spent spent alike-spent h
+  alike-ended false k st su h = alike-handed_up k st su h
 
-  pub alike-closed_inside : (k : ℕ) (st su : State) → StatesAlike st su
-      → StatesAlike (closed_inside k st) (closed_inside k su)
-  alike-closed_inside k st su h =
-      subst (λ n. StatesAlike (closed_inside k st) (contents_closed (n - (k + 1)) k (k + 1) su))
-      (alike-length st su h) (alike-contents (length st - (k + 1)) k (k + 1) st su h)
+  alike-contents : (d : Bool) (room k next : ℕ) (st su : State) → StatesAlike st su
+      → StatesAlike (contents_ended d room k next st) (contents_ended d room k next su)
+  alike-contents d zero k next st su h = h
+  alike-contents d (suc room) k next st su h =
+      alike-contents d room k (next + 1) _ _
+      (either StatesAlike (is_open_content_of k (stream_at st next))
+      (is_open_content_of k (stream_at su next)) _ _ st su
+      (same-content k (stream_at st next) (stream_at su next) (alike-stream_at st su next h))
+      (alike-ended d next _ _ (alike-contents d room next (next + 1) st su h)) h)
+
+  pub alike-ended_inside : (d : Bool) (k : ℕ) (st su : State) → StatesAlike st su
+      → StatesAlike (ended_inside d k st) (ended_inside d k su)
+  alike-ended_inside d k st su h =
+      subst (λ n. StatesAlike (ended_inside d k st) (contents_ended d (n - (k + 1)) k (k + 1) su))
+      (alike-length st su h) (alike-contents d (length st - (k + 1)) k (k + 1) st su h)
 
   pub alike-closed : (k : ℕ) (st su : State) → StatesAlike st su
       → StatesAlike (closed k st) (closed k su)
-  alike-closed k st su h =
-      alike-handed_up k (closed_inside k st) (closed_inside k su) (alike-closed_inside k st su h)
+  alike-closed k st su h = alike-handed_up k _ _ (alike-ended_inside false k st su h)
+
+  pub alike-all_spent : (k : ℕ) (st su : State) → StatesAlike st su
+      → StatesAlike (all_spent k st) (all_spent k su)
+  alike-all_spent k st su h =
+      alike-with_stream _ _ k spent spent alike-spent (alike-ended_inside true k st su h)
 
   -- Advancing.
   alike-taken : (a b : Option Stream) → BothAlike a b → ChangesAlike (taken_over a) (taken_over b)
@@ -209,44 +203,32 @@ module _ (f g : Laid) where
   pub alike-advanced : (k n : ℕ) (st su : State) → StatesAlike st su
       → StatesAlike (advanced k n st) (advanced k n su)
   alike-advanced k n st su h =
-      let now = alike-closed_inside n st su h in
+      let now = alike-ended_inside false n st su h in
       alike-with_stream _ _ n spent spent alike-spent
-      (alike-with_stream (closed_inside n st) (closed_inside n su) k
-      (taken_over (stream_at (closed_inside n st) n))
-      (taken_over (stream_at (closed_inside n su) n))
-      (alike-taken (stream_at (closed_inside n st) n) (stream_at (closed_inside n su) n)
-      (alike-stream_at (closed_inside n st) (closed_inside n su) n now)) now)
+      (alike-with_stream _ _ k _ _ (alike-taken _ _ (alike-stream_at _ _ n now)) now)
 
-  -- Discarding, and what is inside a stream.
-  same-inside_of : (ns : List ℕ) (k : ℕ) (st su : State) → StatesAlike st su
-      → inside_of ns k st ≡ inside_of ns k su
-  same-inside_of ns k [] [] h = refl
-  same-inside_of ns k [] (t ∷ su) h = absurd h
-  same-inside_of ns k (s ∷ st) [] h = absurd h
-  same-inside_of ns k (s ∷ st) (t ∷ su) h =
-      ap
-      (λ x. cond (is_content_among ns x) (k ∷ inside_of (k ∷ ns) (k + 1) st)
-      (inside_of ns (k + 1) st)) h.0.kind
-      ∙ ap₂ (λ x y. cond (is_content_among ns t.kind) (k ∷ x) y)
-      (same-inside_of (k ∷ ns) (k + 1) st su h.1) (same-inside_of ns (k + 1) st su h.1)
+  -- What is inside a stream.
+  abbrev kind_in : Option Stream → StreamKind
+  kind_in o = elim o [ None ↦ outermost | Some s ↦ s.kind ]
+
+  same-kind : (a b : Option Stream) → BothAlike a b → kind_in a ≡ kind_in b
+  same-kind None None h = refl
+  same-kind None (Some t) h = absurd h
+  same-kind (Some s) None h = absurd h
+  same-kind (Some s) (Some t) h = h.kind
+
+  same-within : (depth : ℕ) (st su : State) (outer : ℕ) (kind : StreamKind) → StatesAlike st su
+      → is_within depth st outer kind ≡ is_within depth su outer kind
+  same-within zero st su outer kind h = refl
+  same-within (suc depth) st su outer outermost h = refl
+  same-within (suc depth) st su outer a_fork h = refl
+  same-within (suc depth) st su outer (content_of p) h =
+      ap (λ z. p == outer || z) (same-within depth st su outer (kind_at st p) h
+      ∙ ap (is_within depth su outer) (same-kind _ _ (alike-stream_at st su p h)))
 
   pub same-inside : (st su : State) (outer inner : ℕ) → StatesAlike st su
       → is_inside st outer inner ≡ is_inside su outer inner
   same-inside st su outer inner h =
-      ap (λ x. contains x inner) (same-inside_of (outer ∷ []) 0 st su h)
-
-  alike-spent_where : (a b : ℕ → Bool) → ((n : ℕ) → a n ≡ b n) → (k : ℕ) (st su : State)
-      → StatesAlike st su → StatesAlike (spent_where a k st) (spent_where b k su)
-  alike-spent_where a b e k [] [] h = tt
-  alike-spent_where a b e k [] (t ∷ su) h = absurd h
-  alike-spent_where a b e k (s ∷ st) [] h = absurd h
-  alike-spent_where a b e k (s ∷ st) (t ∷ su) h = (
-    either StreamsAlike (a k) (b k) (spent s) (spent t) s t (e k) (alike-spent s t h.0) h.0,
-    alike-spent_where a b e (k + 1) st su h.1,
-  )
-
-  pub alike-all_spent : (k : ℕ) (st su : State) → StatesAlike st su
-      → StatesAlike (all_spent k st) (all_spent k su)
-  alike-all_spent k st su h =
-      alike-spent_where (is_or_inside st k) (is_or_inside su k)
-      (λ n. ap (λ x. n == k || x) (same-inside st su k n h)) 0 st su h
+      same-within (length st) st su outer (kind_at st inner) h
+      ∙ ap₂ (λ n k. is_within n su outer k) (alike-length st su h)
+      (same-kind _ _ (alike-stream_at st su inner h))

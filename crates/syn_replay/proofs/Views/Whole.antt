@@ -1,5 +1,5 @@
 -- Invisible groups do not matter to walks: the proof.
-use Rattle.std.proofs.Common.{◌≡◌, refl, true, List, [], ◌∷◌, Option, Some, None}
+use Rattle.std.proofs.Common.{◌≡◌, refl, true, List, [], ◌∷◌, Option, Some, None, false}
 use Rattle.std.proofs.lemmas.Bool.{and_parts}
 use Rattle.tok_core.specs.Erase.{erase}
 use Rattle.tok_core.specs.Forest.{Forest}
@@ -18,7 +18,7 @@ use Rattle.syn_replay.specs.Session.Step.{step}
 use Rattle.syn_replay.specs.Session.Walk.{lines_from, last_state, stream_verdict, verdict}
 use Rattle.syn_replay.proofs.Views.Steps.{alike-step}
 use Rattle.syn_replay.proofs.Views.Streams.{BothAlike, StatesAlike, span_of, alike-handed}
-use Rattle.syn_replay.proofs.Views.Streams.{alike-stream_at, alike-closed_inside}
+use Rattle.syn_replay.proofs.Views.Streams.{alike-stream_at, alike-ended_inside}
 
 module _ (f g : Laid) (visible : erase f.forest ≡ erase g.forest) where
   lines-agree : (cs : List Command) → all_transparent cs ≡ true → (st su : State)
@@ -57,7 +57,7 @@ module _ (f g : Laid) (visible : erase f.forest ≡ erase g.forest) where
   verdicts-agree st su h =
       stream-agrees (stream_at (closed_inside 0 st) 0) (stream_at (closed_inside 0 su) 0)
       (alike-stream_at f g (closed_inside 0 st) (closed_inside 0 su) 0
-      (alike-closed_inside f g 0 st su h))
+      (alike-ended_inside f g false 0 st su h))
 
 -- a forest under the buffer number of a walk
 abbrev laid : Forest → Laid

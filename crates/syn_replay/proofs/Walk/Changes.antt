@@ -1,9 +1,29 @@
 -- A list of streams in which one is changed: what each then is.
 use Rattle.std.proofs.Common.{◌≡◌, ◌≢◌, ◌∙◌, sym, ap, refl, ℕ, zero, suc, ◌+◌, ◌<◌, ◌≤◌, [], ◌∷◌}
-use Rattle.std.proofs.Common.{◌++◌, length}
-use Rattle.std.proofs.Common.{Some, None, arith}
+use Rattle.std.proofs.Common.{◌++◌, length, Option, Some, None, true, false, arith}
 use Rattle.std.specs.Option.{option_map}
-use Rattle.syn_replay.specs.Session.State.{State, Stream, stream_at, with_stream}
+use Rattle.tok_buffer.specs.Place.{empty_place}
+use Rattle.tok_leaves.specs.Spans.{call_site}
+use Rattle.syn_replay.specs.Session.State.{State, Stream, outermost, kind_at, stream_at}
+use Rattle.syn_replay.specs.Session.State.{with_stream}
+
+-- what stands for a stream that is not there
+abbrev pub nobody : Stream
+nobody =
+    record {
+      place = empty_place;
+      scope_span = call_site;
+      kind = outermost;
+      is_open = false;
+      note = None;
+    }
+
+abbrev pub or_nobody : Option Stream → Stream
+or_nobody None = nobody
+or_nobody (Some s) = s
+
+abbrev pub look : State → ℕ → Stream
+look st k = or_nobody (stream_at st k)
 
 pub changed_at : (st : State) (n : ℕ) (f : Stream → Stream)
     → stream_at (with_stream st n f) n ≡ option_map f (stream_at st n)
@@ -68,3 +88,43 @@ pub nothing_past : (st : State) (n : ℕ) → length st ≤ n → stream_at st n
 nothing_past [] n h = refl
 nothing_past (s ∷ st) zero h = absurd (omega arith)
 nothing_past (s ∷ st) (suc n) h = nothing_past st n (omega arith)
+
+pub kind_seen : (st : State) (k : ℕ) → kind_at st k ≡ (look st k).kind
+kind_seen st k = go (stream_at st k) where
+  go : (o : Option Stream) → elim o [ None ↦ outermost | Some s ↦ s.kind ] ≡ (or_nobody o).kind
+  go None = refl
+  go (Some s) = refl
+
+-- what is open is there
+open_there : (o : Option Stream) → (or_nobody o).is_open ≡ true → o ≡ Some (or_nobody o)
+open_there None h = cc
+open_there (Some s) h = refl
+
+pub there : (st : State) (k : ℕ) → (look st k).is_open ≡ true → stream_at st k ≡ Some (look st k)
+there st k h = open_there (stream_at st k) h
+
+pub within_there : (st : State) (k : ℕ) → k < length st → stream_at st k ≡ Some (look st k)
+within_there [] k h = absurd (omega arith)
+within_there (s ∷ st) zero h = refl
+within_there (s ∷ st) (suc k) h = within_there st k (omega arith)
+
+pub open_within : (st : State) (k : ℕ) → (look st k).is_open ≡ true → k < length st
+open_within st k h = there_within st k (look st k) (there st k h)
+
+pub look_changed : (st : State) (n : ℕ) (f : Stream → Stream) → (look st n).is_open ≡ true
+    → look (with_stream st n f) n ≡ f (look st n)
+look_changed st n f h =
+    ap or_nobody (changed_at st n f) ∙ ap (λ o. or_nobody (option_map f o)) (there st n h)
+
+pub look_other : (st : State) (n i : ℕ) (f : Stream → Stream) → i ≢ n
+    → look (with_stream st n f) i ≡ look st i
+look_other st n i f h = ap or_nobody (changed_not st n i f h)
+
+-- what a change keeps of a stream, it keeps of each
+pub kept_by : {A : Type 0} (g : Stream → A) (f : Stream → Stream) → ((s : Stream) → g (f s) ≡ g s)
+    → (st : State) (n i : ℕ) → g (look (with_stream st n f) i) ≡ g (look st i)
+kept_by g f h [] n i = refl
+kept_by g f h (s ∷ st) zero zero = h s
+kept_by g f h (s ∷ st) zero (suc i) = refl
+kept_by g f h (s ∷ st) (suc n) zero = refl
+kept_by g f h (s ∷ st) (suc n) (suc i) = kept_by g f h st n i

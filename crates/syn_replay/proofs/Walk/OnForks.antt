@@ -3,7 +3,8 @@ use Rattle.std.proofs.Common.{◌≡◌, ◌≢◌, ◌∙◌, sym, ap, subst, r
 use Rattle.std.proofs.Common.{Bool, true, false, List, [], ◌∷◌, ◌++◌, ◌⊎◌, length, map, Option}
 use Rattle.std.proofs.Common.{Some}
 use Rattle.std.proofs.Common.{None, arith, inl, inr, length-append}
-use Rattle.std.proofs.lemmas.Bool.{ne_eqb, eq-eqb, leb-true, le-leb, and_parts, not-true, cases_eq}
+use Rattle.std.proofs.lemmas.Bool.{ne_eqb, eq-eqb, leb-true, le-leb, and_parts, not-true, or_from}
+use Rattle.std.proofs.lemmas.Bool.{cases_eq}
 use Rattle.std.proofs.lemmas.Bool.{cases_lt}
 use Rattle.std.proofs.lemmas.Bool.Decides.{eqb_tells}
 use Rattle.std.specs.Prelude.{◌==◌, ◌&&◌, ◌||◌, not, cond, nat_le}
@@ -31,11 +32,10 @@ use Rattle.syn_replay.specs.Session.Entering.{entered_by, entering_words}
 use Rattle.syn_replay.specs.Session.State.{Stream, StreamKind, outermost, content_of, a_fork, State}
 use Rattle.syn_replay.specs.Session.State.{stream_at, with_stream, moved_to, with_note, spent}
 use Rattle.syn_replay.specs.Session.State.{with_note_on_parent, handed_note, handed_up}
-use Rattle.syn_replay.specs.Session.State.{contents_closed, closed_inside, closed}
+use Rattle.syn_replay.specs.Session.State.{contents_ended, closed_inside, closed}
 use Rattle.syn_replay.specs.Session.State.{is_open_content_of}
 use Rattle.syn_replay.specs.Session.State.{is_content_of, advanced, taken_over, is_inside}
-use Rattle.syn_replay.specs.Session.State.{inside_of}
-use Rattle.syn_replay.specs.Session.State.{contains, first_state, position_of}
+use Rattle.syn_replay.specs.Session.State.{first_state, is_within, position_of}
 use Rattle.syn_replay.specs.Session.Step.{Stepped, any_of, is_content, is_fork, is_missing}
 use Rattle.syn_replay.specs.Session.Step.{is_spent}
 use Rattle.syn_replay.specs.Session.Step.{kind_refusal, misuse, moves, named, other_named}
@@ -44,12 +44,13 @@ use Rattle.syn_replay.specs.Session.Step.{new_stream, into_group, on_stream, pla
 use Rattle.syn_replay.specs.Session.Step.{step_on, tested, position_in, line}
 use Rattle.syn_replay.specs.Session.Walk.{last_state, lines_from}
 use Rattle.syn_replay.specs.Turns.{Outcome, read_all, refused_at, turns, turns_left}
-use Rattle.syn_replay.proofs.Walk.Acceptance.{content_inside, content_or_not, first_tidy, run_tidy}
+use Rattle.syn_replay.proofs.Walk.Acceptance.{first_tidy, run_tidy}
 use Rattle.syn_replay.proofs.Walk.Changes.{at_front, before_end, changed_at, changed_not}
 use Rattle.syn_replay.proofs.Walk.Changes.{length_changed}
-use Rattle.syn_replay.proofs.Walk.Changes.{nothing_past, past_end, there_within}
-use Rattle.syn_replay.proofs.Walk.Inside.{among_either, inside_at}
-use Rattle.syn_replay.proofs.Walk.Notes.{HoldsOpen, IsIn, Tidy}
+use Rattle.syn_replay.proofs.Walk.Changes.{kind_seen, look, nothing_past, or_nobody, past_end}
+use Rattle.syn_replay.proofs.Walk.Changes.{there_within}
+use Rattle.syn_replay.proofs.Walk.Notes.{IsIn, Tidy}
+use Rattle.syn_replay.proofs.Walk.Tracks.{handed_with}
 
 noted_on : (a b c : Option Leftover) → option_or (option_or a b) c ≡ option_or a (option_or b c)
 noted_on None b c = refl
@@ -57,30 +58,7 @@ noted_on (Some l) b c = refl
 
 -- what a refused command leaves, and what any other makes
 abbrev chosen : State → Option ℕ → Stepped → Stepped
-chosen st None r = r
-chosen st (Some n) r = stays st (unfit n)
-
-abbrev raised : ℕ → State → Option Stream → State
-raised n st None = st
-raised n st (Some s) = with_stream (with_note_on_parent s.kind (handed_note s) st) n spent
-
-raised_is : (n : ℕ) (st : State) (o : Option Stream)
-    → ◌≡◌ {A =
-    State} (elim o [
-      | None ↦ st
-      | Some s ↦ with_stream (with_note_on_parent s.kind (handed_note s) st) n spent
-    ])
-    (raised n st o)
-raised_is n st None = refl
-raised_is n st (Some s) = refl
-
-chosen_is : (c : Command) (st : State) (v : Option ℕ)
-    → ◌≡◌ {A = Stepped}
-    (elim v
-    [ Some n ↦ stays st (unfit n) | None ↦ step_on c.action st c.stream (stream_at st c.stream) ])
-    (chosen st v (step_on c.action st c.stream (stream_at st c.stream)))
-chosen_is c st None = refl
-chosen_is c st (Some n) = refl
+chosen st o r = elim o [ Some n ↦ stays st (unfit n) | None ↦ r ]
 
 -- a read makes no stream, so its answer names none
 taken_unchanged : (answers : List Tree → Answer)
@@ -403,7 +381,8 @@ module _ (front : State) (k : ℕ) (s0 : Stream) (here : stream_at front k ≡ S
   parents x y a_fork n h b = b
 
   raises : (x y : State) (i : ℕ) (b : Beside x y) → made ≤ i → (o : Option Stream)
-      → stream_at x i ≡ o → Beside (raised i x o) (raised (i + 1) y (option_map shifted o))
+      → stream_at x i ≡ o
+      → Beside (handed_with i x o) (handed_with (i + 1) y (option_map shifted o))
   raises x y i b le None e = b
   raises x y i b le (Some s) e =
       changed_later _ _ (parents x y s.kind (handed_note s) (b.own i s le e) b) i le spent
@@ -412,8 +391,7 @@ module _ (front : State) (k : ℕ) (s0 : Stream) (here : stream_at front k ≡ S
   hands : (x y : State) (i : ℕ) → made ≤ i → Beside x y
       → Beside (handed_up i x) (handed_up (i + 1) y)
   hands x y i le b =
-      beside_eq _ _ _ _ (raised_is i x (stream_at x i))
-      (raised_is (i + 1) y (stream_at y (i + 1)) ∙ ap (raised (i + 1) y) (b.later i le))
+      beside_eq _ _ _ _ refl (ap (handed_with (i + 1) y) (b.later i le))
       (raises x y i b le (stream_at x i) refl)
 
   -- the numbers of different streams stay different
@@ -453,12 +431,12 @@ module _ (front : State) (k : ℕ) (s0 : Stream) (here : stream_at front k ≡ S
   chooses false d x y u v e g h = beside_eq _ _ _ _ refl (ap (λ z. cond z v y) (sym e)) h
 
   closes : (room j i : ℕ) (x y : State) → Own j → made ≤ i → Beside x y
-      → Beside (contents_closed room j i x) (contents_closed room (on j) (i + 1) y)
+      → Beside (contents_ended false room j i x) (contents_ended false room (on j) (i + 1) y)
   closes zero j i x y own le b = b
   closes (suc room) j i x y own le b =
       let next : made ≤ i + 1 = omega (arith, le) in
       let inside = beside_eq _ _ _ _ refl
-      (ap (λ z. contents_closed room z ((i + 1) + 1) y) (sym (on_later i le)))
+      (ap (λ z. contents_ended false room z ((i + 1) + 1) y) (sym (on_later i le)))
       (closes room i (i + 1) x y (later le) next b) in
       closes room j (i + 1) _ _ own next (chooses _ _ x y _ _ test (hands _ _ i le inside) b) where
         test : is_open_content_of j (stream_at x i)
@@ -474,9 +452,9 @@ module _ (front : State) (k : ℕ) (s0 : Stream) (here : stream_at front k ≡ S
       let room : length y - ((i + 1) + 1) ≡ length x - (i + 1) = omega (arith, b.longer) in
       beside_eq _ _ _ _ refl
       (ap (λ z. closed z y) (on_later i le)
-      ∙ ap (λ z. handed_up (i + 1) (contents_closed z (i + 1) ((i + 1) + 1) y)) room
+      ∙ ap (λ z. handed_up (i + 1) (contents_ended false z (i + 1) ((i + 1) + 1) y)) room
       ∙ ap
-      (λ z. handed_up (i + 1) (contents_closed (length x - (i + 1)) z ((i + 1) + 1) y))
+      (λ z. handed_up (i + 1) (contents_ended false (length x - (i + 1)) z ((i + 1) + 1) y))
       (sym (on_later i le)))
       (hands _ _ i le (closes (length x - (i + 1)) i (i + 1) x y (later le) next b))
 
@@ -552,15 +530,15 @@ module _ (front : State) (k : ℕ) (s0 : Stream) (here : stream_at front k ≡ S
       ∙ ap (λ z. refused_by (any_of (is_missing y) (named d)) z (kind_refusal a x j)) ended
       ∙ ap (λ z. refused_by (any_of (is_missing y) (named d)) (any_of (is_spent y) (named d)) z)
       kinds in
-      let is_c = chosen_is c x (misuse c x) in
       let is_d : step d y ≡ chosen y (misuse c x) (step_on a y (on j) (stream_at y (on j))) =
-      chosen_is d y (misuse d y)
-      ∙ ap (λ z. chosen y z (step_on a y (on j) (stream_at y (on j)))) (sym misused) in
-      let whole = same_chosen x y b (misuse c x) _ _ (same_step_on a x y j b _ _ pair same) in
+      ap (λ z. chosen y z (step_on a y (on j) (stream_at y (on j)))) (sym misused) in
+      let whole :
+      Same (step c x) (chosen y (misuse c x) (step_on a y (on j) (stream_at y (on j)))) =
+      same_chosen x y b (misuse c x) _ _ (same_step_on a x y j b _ _ pair same) in
       let after : Beside (step c x).state (step d y).state =
-      beside_eq _ _ _ _ (ap (λ z. z.state) is_c) (ap (λ z. z.state) is_d) whole.after in
+      beside_eq _ _ _ _ refl (ap (λ z. z.state) is_d) whole.after in
       let answers : answer_on_fork (step c x).answer ≡ (step d y).answer =
-      ap (λ z. answer_on_fork z.answer) is_c ∙ whole.answer ∙ sym (ap (λ z. z.answer) is_d) in
+      whole.answer ∙ sym (ap (λ z. z.answer) is_d) in
       let positions : position_in c x (step c x).state ≡ position_in d y (step d y).state =
       ap (λ z. cond z missing (place_in (stream_at (step c x).state j))) absent
       ∙ ap (λ z. cond (any_of (is_missing y) (named d)) missing z)
@@ -647,11 +625,11 @@ module _ (front : State) (k : ℕ) (s0 : Stream) (here : stream_at front k ≡ S
   -- nothing is closed where nothing is open
   none_closed : (room j next : ℕ) (x : State)
       → ((n : ℕ) → next ≤ n → is_open_content_of j (stream_at x n) ≡ false)
-      → contents_closed room j next x ≡ x
+      → contents_ended false room j next x ≡ x
   none_closed zero j next x h = refl
   none_closed (suc room) j next x h =
-      ap (λ z. contents_closed room j (next + 1)
-      (cond z (handed_up next (contents_closed room next (next + 1) x)) x))
+      ap (λ z. contents_ended false room j (next + 1)
+      (cond z (handed_up next (contents_ended false room next (next + 1) x)) x))
       (h next (omega arith))
       ∙ none_closed room j (next + 1) x (λ n le. h n (omega arith))
 
@@ -692,8 +670,7 @@ module _ (front : State) (k : ℕ) (s0 : Stream) (here : stream_at front k ≡ S
 
     forks : step (commands.on k commands.fork) front ≡ on_stream commands.fork front k s0
     forks =
-        chosen_is (commands.on k commands.fork) front (misuse (commands.on k commands.fork) front)
-        ∙ ap (λ z. chosen front (refused_by (z || false) (is_spent front k || false) None)
+        ap (λ z. chosen front (refused_by (z || false) (is_spent front k || false) None)
         (step_on commands.fork front k (stream_at front k))) (there front k s0 here)
         ∙ ap (λ z. chosen front (refused_by false (z || false) None)
         (step_on commands.fork front k (stream_at front k))) (unspent front k s0 here is_open0)
@@ -714,8 +691,7 @@ module _ (front : State) (k : ℕ) (s0 : Stream) (here : stream_at front k ≡ S
       advances : step (commands.on k to_fork) y
           ≡ cond reached (record { answer = done; state = advanced k (made) y }) (stays y (unfit 5))
       advances =
-          chosen_is (commands.on k to_fork) y (misuse (commands.on k to_fork) y)
-          ∙ ap (λ z. chosen y
+          ap (λ z. chosen y
           (refused_by (z || (is_missing y (made) || false))
           (is_spent y k || (is_spent y (made) || false)) (kind_refusal to_fork y k))
           (step_on to_fork y k (stream_at y k))) (there y k s0 b.kept)
@@ -760,8 +736,8 @@ module _ (front : State) (k : ℕ) (s0 : Stream) (here : stream_at front k ≡ S
       beside_closed =
           let room : length y - (made + 1) ≡ length x - made = omega (arith, b.longer) in
           beside_eq _ _ _ _ refl
-          (ap (λ z. contents_closed z made (made + 1) y) room
-          ∙ ap (λ z. contents_closed (length x - made) z (made + 1) y) (sym on_stream_is))
+          (ap (λ z. contents_ended false z made (made + 1) y) room
+          ∙ ap (λ z. contents_ended false (length x - made) z (made + 1) y) (sym on_stream_is))
           (closes (length x - made) k made x y (stream refl) (omega arith) b)
 
       stream_then : stream_at (advanced k made y) k ≡ stream_at closed_x k
@@ -794,30 +770,22 @@ module _ (front : State) (k : ℕ) (s0 : Stream) (here : stream_at front k ≡ S
         }
 
 -- a stream is inside none with a higher number
-outside : (n : ℕ) (st : State) (f k : ℕ) → Tidy st → HoldsOpen st k → k < f → k < n
-    → is_inside st f k ≡ false
-outside zero st f k tidy h less small = absurd (omega arith)
-outside (suc n) st f k tidy h less small =
-    go (content_or_not h.stream.kind) (λ p i. outside n st f p tidy i.parent (let b = i.below in
-    omega arith) (let b = i.below in omega arith)) where
-      no_parent : (ns found : List ℕ) (kind : StreamKind) → ((p : ℕ) → kind ≡ content_of p → ⊥)
-          → among_either ns found kind ≡ false
-      no_parent ns found outermost d = refl
-      no_parent ns found (content_of p) d = absurd (d p refl)
-      no_parent ns found a_fork d = refl
-
-      go : ((p : ℕ) × (h.stream.kind ≡ content_of p)) ⊎ ((p : ℕ) → h.stream.kind ≡ content_of p → ⊥)
-          → ((p : ℕ) → IsIn st k p → is_inside st f p ≡ false) → is_inside st f k ≡ false
-      go (inr d) again =
-          let plain : 0 + k ≡ k = omega arith in
-          ap (contains (inside_of (f ∷ []) 0 st)) (sym plain)
-          ∙ inside_at (f ∷ []) 0 st k h.stream h.there (λ r g. absurd (d r g))
-          ∙ no_parent (f ∷ []) (inside_of (f ∷ []) 0 st) h.stream.kind d
-      go (inl (p, e)) again =
-          let i = tidy k p h.stream h.there h.is_open e in
+outside : (depth : ℕ) (st : State) (f k : ℕ) → Tidy st → (look st k).is_open ≡ true → k < f
+    → is_within depth st f (look st k).kind ≡ false
+outside zero st f k tidy o less = refl
+outside (suc depth) st f k tidy o less =
+    go (look st k).kind refl
+    (λ p i. outside depth st f p tidy i.parent (let b = i.below in omega arith)) where
+      go : (kind : StreamKind) → (look st k).kind ≡ kind
+          → ((p : ℕ) → IsIn st k p → is_within depth st f (look st p).kind ≡ false)
+          → is_within (suc depth) st f kind ≡ false
+      go outermost e again = refl
+      go a_fork e again = refl
+      go (content_of p) e again =
+          let i = tidy k p o e in
           let b = i.below in
-          content_inside st f k p h.stream h.there e b
-          ∙ ap (λ z. z || is_inside st f p) (ne_eqb f p (λ q. omega arith)) ∙ again p i
+          or_from (p == f) _ (ne_eqb p f (λ q. omega arith))
+          (ap (is_within depth st f) (kind_seen st p) ∙ again p i)
 
 -- a stream that is open is there
 open_there : (o : Option Stream) → tested false (λ (s : Stream). s.is_open) o ≡ true
@@ -840,12 +808,9 @@ module _ (st : State) (k : ℕ) (cs : List Command) (s : Stream) (there_is : str
       runs st k s there_is cs st (step (commands.on k commands.fork) st).state
       (starts st k s there_is open_is) contained in
       let less = there_within st k s there_is in
-      outside (length st) tried_state (length st) k tidy (record {
-        stream =
-            s;
-        there = r.after.kept;
-        is_open = open_is;
-      }) less less
+      ap (is_within (length tried_state) tried_state (length st)) (kind_seen tried_state k)
+      ∙ outside (length tried_state) tried_state (length st) k tidy
+      (ap (λ o. (or_nobody o).is_open) r.after.kept ∙ open_is) less
 
 pub forks_follow_commands : ForksFollowCommands
 forks_follow_commands f before cs k is contained =

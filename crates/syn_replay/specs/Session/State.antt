@@ -105,22 +105,33 @@ handed_up k st =
       | Some s ↦ with_stream (with_note_on_parent s.kind (handed_note s) st) k spent
     ]
 
--- Closes the open contents whose parent is this stream, by number, among so many streams from one
--- on. Each first closes those inside it, which have higher numbers.
-abbrev pub contents_closed : (room : ℕ) → (stream next : ℕ) → State → State
-contents_closed zero stream next st = st
-contents_closed (suc room) stream next st =
-    contents_closed room stream (next + 1)
-    (cond (is_open_content_of stream (stream_at st next))
-    (handed_up next (contents_closed room next (next + 1) st)) st)
+-- A stream ends: it is discarded, or hands up what it leaves.
+abbrev pub ended : (is_discarded : Bool) → ℕ → State → State
+ended true k st = with_stream st k spent
+ended false k st = handed_up k st
 
--- all open contents inside a stream are closed
+-- Ends the open contents whose parent is this stream, by number, among so many streams from one
+-- on. Each first ends those inside it, which have higher numbers.
+abbrev pub contents_ended : Bool → (room : ℕ) → (stream next : ℕ) → State → State
+contents_ended d zero stream next st = st
+contents_ended d (suc room) stream next st =
+    contents_ended d room stream (next + 1)
+    (cond (is_open_content_of stream (stream_at st next))
+    (ended d next (contents_ended d room next (next + 1) st)) st)
+
+-- all open contents inside a stream end
+abbrev pub ended_inside : Bool → ℕ → State → State
+ended_inside d k st = contents_ended d (length st - (k + 1)) k (k + 1) st
+
 abbrev pub closed_inside : ℕ → State → State
-closed_inside k st = contents_closed (length st - (k + 1)) k (k + 1) st
+closed_inside = ended_inside false
 
 -- and then the stream itself
 abbrev pub closed : ℕ → State → State
 closed k st = handed_up k (closed_inside k st)
+
+abbrev pub all_spent : ℕ → State → State
+all_spent k st = with_stream (ended_inside true k st) k spent
 
 -- the open contents inside the fork are closed, its place and note go to the stream, and it is
 -- spent
@@ -133,35 +144,21 @@ advanced stream fork st =
     let now = closed_inside fork st in
     with_stream (with_stream now stream (taken_over (stream_at now fork))) fork spent
 
-abbrev pub contains : List ℕ → ℕ → Bool
-contains [] k = false
-contains (n ∷ ns) k = n == k || contains ns k
+abbrev pub kind_at : State → ℕ → StreamKind
+kind_at st k = elim (stream_at st k) [ None ↦ outermost | Some s ↦ s.kind ]
 
-abbrev pub is_content_among : List ℕ → StreamKind → Bool
-is_content_among ns (content_of p) = contains ns p
-is_content_among ns k = false
+-- a stream of this kind was entered inside another, at most at this depth
+abbrev pub is_within : (depth : ℕ) → State → (outer : ℕ) → StreamKind → Bool
+is_within (suc depth) st outer (content_of p) =
+    p == outer || is_within depth st outer (kind_at st p)
+is_within depth st outer kind = false
 
--- the numbers of the contents inside some streams, at any depth: a content's number is above its
--- parent's
-abbrev pub inside_of : List ℕ → ℕ → State → List ℕ
-inside_of ns k [] = []
-inside_of ns k (s ∷ st) =
-    cond (is_content_among ns s.kind) (k ∷ inside_of (k ∷ ns) (k + 1) st) (inside_of ns (k + 1) st)
-
+-- a stream was entered inside another, at any depth
 abbrev pub is_inside : State → (outer inner : ℕ) → Bool
-is_inside st outer inner = contains (inside_of (outer ∷ []) 0 st) inner
+is_inside st outer inner = is_within (length st) st outer (kind_at st inner)
 
 abbrev pub is_or_inside : State → (outer n : ℕ) → Bool
 is_or_inside st outer n = n == outer || is_inside st outer n
-
--- each stream whose number passes a test is spent, from this number on
-abbrev pub spent_where : (ℕ → Bool) → ℕ → State → State
-spent_where test k [] = []
-spent_where test k (s ∷ st) = cond (test k) (spent s) s ∷ spent_where test (k + 1) st
-
--- a stream and all contents inside it are spent
-abbrev pub all_spent : ℕ → State → State
-all_spent k st = spent_where (is_or_inside st k) 0 st
 
 abbrev pub position_of : Place → Position
 position_of empty_place = at_empty

@@ -24,7 +24,7 @@ impl<'a> Streams<'a> {
     ghost use Rattle.std.specs.Prelude.{◌≡◌, ◌<◌, ◌∷◌, [], ◌++◌, length, Some, None, MatchOption, IfOk, OnOk, OnErr, true};
     ghost use Rattle.tok_buffer.specs.Order.{same_scope};
     ghost use Rattle.syn_parse.specs.Pauses.{paused_state};
-    ghost use Rattle.syn_replay.specs.Session.State.{outermost, content_of, a_fork, stream_at, with_stream, standing, put, handed_up, closed_inside, closed, spent, advanced, all_spent, is_inside, is_or_inside};
+    ghost use Rattle.syn_replay.specs.Session.State.{outermost, content_of, a_fork, stream_at, with_stream, standing, put, handed_up, ended, ended_inside, closed_inside, closed, spent, advanced, all_spent, is_inside, is_or_inside};
     ghost use Rattle.syn_replay.specs.Session.Step.{place_of};
     ghost use Rattle.syn_replay.specs.Session.Tracks.{stream_of, state_of};
 
@@ -113,6 +113,14 @@ impl<'a> Streams<'a> {
         Ok(number)
     }
 
+    fn spend(&mut self, n: usize)
+        requires { n < length (state_of self.old) }
+        ensures after { state_of self.new ≡ with_stream (state_of self.old) n spent }
+        ensures links { links_of self.new.list.items ≡ links_of self.old.list.items }
+    {
+        self.list[n].is_open = false;
+    }
+
     // Closes a group's stream into its parent, and ends it.
     fn hand_up(&mut self, k: usize)
         requires { k < length (state_of self.old) }
@@ -125,25 +133,46 @@ impl<'a> Streams<'a> {
             input.close(stream.paused.resume());
             self.put(parent, input.pause());
         }
-        self.list[k].is_open = false;
+        self.spend(k);
     }
 
-    /// Closes the open groups inside a stream. No list is walked twice, since a stream is closed
-    /// once.
-    pub fn close_contents(&mut self, k: usize)
+    // Ends a stream. What it leaves is recorded nowhere if it is discarded.
+    fn end(&mut self, i: usize, is_discarded: bool)
+        requires { i < length (state_of self.old) }
+        ensures after { state_of self.new ≡ ended is_discarded i (state_of self.old) }
+        ensures links { links_of self.new.list.items ≡ links_of self.old.list.items }
+    {
+        if is_discarded {
+            self.spend(i);
+        } else {
+            self.hand_up(i);
+        }
+    }
+
+    // Ends the open groups inside a stream. No list is walked twice, since a stream ends once.
+    fn end_contents(&mut self, k: usize, is_discarded: bool)
         requires { k < length (state_of self.old) }
-        ensures after { state_of self.new ≡ closed_inside k (state_of self.old) }
+        ensures after { state_of self.new ≡ ended_inside is_discarded k (state_of self.old) }
         ensures links { links_of self.new.list.items ≡ links_of self.old.list.items }
     {
         let mut next = self.list[k].links.first;
         while let Some(i) = next {
             let stream = self.list[i];
             if stream.is_open {
-                self.close_contents(i);
-                self.hand_up(i);
+                self.end_contents(i, is_discarded);
+                self.end(i, is_discarded);
             }
             next = stream.links.next;
         }
+    }
+
+    /// Closes the open groups inside a stream.
+    pub fn close_contents(&mut self, k: usize)
+        requires { k < length (state_of self.old) }
+        ensures after { state_of self.new ≡ closed_inside k (state_of self.old) }
+        ensures links { links_of self.new.list.items ≡ links_of self.old.list.items }
+    {
+        self.end_contents(k, false);
     }
 
     /// Closes the open groups inside a stream, and then the stream.
@@ -170,14 +199,6 @@ impl<'a> Streams<'a> {
         false
     }
 
-    fn spend(&mut self, n: usize)
-        requires { n < length (state_of self.old) }
-        ensures after { state_of self.new ≡ with_stream (state_of self.old) n spent }
-        ensures links { links_of self.new.list.items ≡ links_of self.old.list.items }
-    {
-        self.list[n].is_open = false;
-    }
-
     /// Closes the open groups inside a fork, moves stream `n` to its place, and ends it.
     pub fn advance(&mut self, n: usize, fork: usize)
         requires stream { n < length (state_of self.old) }
@@ -201,19 +222,13 @@ impl<'a> Streams<'a> {
         n == outer || self.is_inside(outer, n)
     }
 
-    /// Ends a stream and all groups' streams inside it, each once. What they leave unread is
-    /// recorded nowhere.
+    /// Ends a stream and all open groups inside it. What they leave unread is recorded nowhere.
     pub fn discard(&mut self, n: usize)
         requires { n < length (state_of self.old) }
         ensures after { state_of self.new ≡ all_spent n (state_of self.old) }
         ensures links { links_of self.new.list.items ≡ links_of self.old.list.items }
     {
-        let mut next = self.list[n].links.first;
-        while let Some(content) = next {
-            let inside = self.list[content];
-            self.discard(content);
-            next = inside.links.next;
-        }
+        self.end_contents(n, true);
         self.spend(n);
     }
 }

@@ -1,5 +1,4 @@
-use Rattle.std.proofs.Common.{◌≡◌, ap, sym, ◌∙◌, refl, false, ◌<◌, ℕ, List, Some, get_or, length}
-use Rattle.std.proofs.Common.{length-set, arith}
+use Rattle.std.proofs.Common.{◌≡◌, ap, sym, ◌∙◌, refl, ◌<◌, ℕ, List, Some, get_or, length, arith}
 use Rattle.syn_parse.specs.Pauses.{paused_state}
 use Rattle.syn_parse.specs.State.{closed}
 use Rattle.syn_replay.specs.Session.Links.{links_of, AreLinked}
@@ -7,10 +6,9 @@ use Rattle.syn_replay.specs.Session.State.{handed_note, with_note_on_parent, wit
 use Rattle.syn_replay.specs.Session.State.{put, spent}
 use Rattle.syn_replay.specs.Session.Tracks.{kind_of, stream_of, state_of}
 use Rattle.syn_replay.specs.declared.session.stream.Stream.{Stream}
-use Rattle.syn_replay.proofs.Walk.Links.{linked_kept, links_kept, length-links, parent_below}
+use Rattle.syn_replay.proofs.Walk.Links.{length-links, parent_below}
 use Rattle.syn_replay.proofs.Walk.Changes.{changed_alike}
-use Rattle.syn_replay.proofs.Walk.Tracks.{stream_there, changed_there, handed_there, length-state}
-use Rattle.syn_replay.proofs.Walk.Tracks.{noted_apart}
+use Rattle.syn_replay.proofs.Walk.Tracks.{handed_with, stream_there, length-state, noted_apart}
 use Rattle.syn_replay.proofs.session.streams.Streams.hand_up.Goals as goal
 use Rattle.syn_replay.proofs.session.streams.Streams.hand_up.Goals.{in-Some, in_default}
 
@@ -37,27 +35,32 @@ put-requires c =
     c.index-stream.ensures (omega (arith, length-state xs, c.requires)) c.in-Some.is in
     omega (arith, h, length-state xs)
 
-pub invariant_of-self : goal.invariant_of-self
-invariant_of-self c =
-    let s = c.match-stream.self in
-    let x = c.index_mut.result.now in
-    let y : Stream = record x { is_open = false } in
-    record {
-      rooted =
-          omega (arith, length-set s.list.items c.args.k y, s.rooted);
-      linked =
-          linked_kept s.list.items c.args.k x y c.index_mut.ensures.value refl s.linked;
-    }
+pub spend-requires : goal.spend-requires
+spend-requires c =
+    let xs = c.args.self.now.list.items in
+    let ys = c.match-stream.self.list.items in
+    let len : length (links_of ys) ≡ length (links_of xs) =
+    elim c.match-stream.branch [
+      | in-Some w ↦ ap (λ v. length (links_of v.list.items)) w.self-is
+          ∙ ap length w.put.ensures.links
+      | in_default w ↦ ap (λ v. length (links_of v.list.items)) w.self-is
+    ] in
+    omega (
+      arith,
+      len,
+      length-links xs,
+      length-links ys,
+      length-state xs,
+      length-state ys,
+      c.requires,
+    )
 
 pub returns-clause-after : goal.returns-clause-after
 returns-clause-after c =
     let xs = c.args.self.now.list.items in
-    let ys = c.match-stream.self.list.items in
     let st = state_of c.args.self.now in
     let k = c.args.k in
     let x = c.index-stream.result.now in
-    let z = c.index_mut.result.now in
-    let y : Stream = record z { is_open = false } in
     let s = stream_of x in
     let within : k < length xs = omega (arith, length-state xs, c.requires) in
     let us : state_of c.match-stream.self ≡ with_note_on_parent s.kind (handed_note s) st =
@@ -81,23 +84,12 @@ returns-clause-after c =
           ap state_of w.self-is
           ∙ noted_apart x.is_fork x.links.parent (handed_note s) st w.in_default.is
     ] in
-    let len : length (links_of ys) ≡ length (links_of xs) =
-    elim c.match-stream.branch [
-      | in-Some w ↦ ap (λ v. length (links_of v.list.items)) w.self-is
-          ∙ ap length w.put.ensures.links
-      | in_default w ↦ ap (λ v. length (links_of v.list.items)) w.self-is
-    ] in
-    let inside : k < length ys = omega (arith, len, length-links xs, length-links ys) in
-    handed_there k st (state_of c.match-stream.self) _ s
-    (stream_there xs k x c.index-stream.ensures within) us
-    (changed_there ys k z y spent c.index_mut.ensures.value inside refl)
+    c.spend.ensures.after ∙ ap (λ z. with_stream z k spent) us
+    ∙ ap (handed_with k st) (sym (stream_there xs k x c.index-stream.ensures within))
 
 pub returns-clause-links : goal.returns-clause-links
 returns-clause-links c =
-    let s = c.match-stream.self in
-    let x = c.index_mut.result.now in
-    let y : Stream = record x { is_open = false } in
-    links_kept s.list.items c.args.k x y c.index_mut.ensures.value refl
+    c.spend.ensures.links
     ∙ elim c.match-stream.branch [
       | in-Some w ↦ ap (λ z. links_of z.list.items) w.self-is ∙ w.put.ensures.links
       | in_default w ↦ ap (λ z. links_of z.list.items) w.self-is
