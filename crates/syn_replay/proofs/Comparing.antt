@@ -19,9 +19,6 @@ pub record Undecided {A : Type 0} (P : List A → List A → Type 0) (i : ℕ) (
     pub rest : P (drop i xs) (drop i ys) ↔ P xs ys
 
 module _ {A : Type 0} (P : List A → List A → Type 0) (R : A → A → Type 0) (c : Compares P R) where
-  pub at_start : (xs ys : List A) → length xs ≡ length ys → Undecided P 0 xs ys
-  at_start xs ys e = record { lengths = e; rest = (λ h. h, λ h. h) }
-
   pub not_as_many : (xs ys : List A) → (length xs ≡ length ys → ⊥) → IsTrue false ↔ P xs ys
   not_as_many xs ys n = (λ h. absurd (false≢true h), λ h. absurd (n (c.lengths xs ys h)))
 

@@ -38,6 +38,15 @@ same_but_last [] l (suc j) h = refl
 same_but_last (o ∷ os) l zero h = refl
 same_but_last (o ∷ os) l (suc j) h = same_but_last os l j (λ e. h (ap suc e))
 
+-- what a write keeps of a stream's links, it keeps of all
+keeps : {A : Type 0} (g : Links → A) (ls : List Links) (i : ℕ) (v : Links)
+    → g v ≡ g (links_at ls i) → (j : ℕ) → g (links_at (set ls i v) j) ≡ g (links_at ls j)
+keeps g [] i v e j = refl
+keeps g (l ∷ ls) zero v e zero = e
+keeps g (l ∷ ls) zero v e (suc j) = refl
+keeps g (l ∷ ls) (suc i) v e zero = refl
+keeps g (l ∷ ls) (suc i) v e (suc j) = keeps g ls i v e j
+
 -- the list with its last stream, before the writes
 record Before (ls os : List Links) (k : ℕ) : Type 0 where
   len : length ls ≡ length os + 1
@@ -70,38 +79,29 @@ first_appended : (ls os : List Links) (k : ℕ) (a b : Links) → Before ls os k
     → b ≡ record a { last = Some (length os) } → IsAppended os (set (set ls k a) k b) k
 first_appended ls os k a b h below none e q =
     let c = length os in
-    let new = set (set ls k a) k b in
-    let len : length new ≡ length ls = length-set (set ls k a) k b ∙ length-set ls k a in
-    let out : k < length (set ls k a) = omega (arith, h.len, length-set ls k a) in
-    let there : links_at new k ≡ b = get_or-set_same (set ls k a) k b no_links out in
-    let other : (j : ℕ) → j ≢ k → links_at new j ≡ links_at ls j =
-    λ j ne. get_or-set_other (set ls k a) k j b no_links ne
-    ∙ get_or-set_other ls k j a no_links ne in
-    let written : links_at new k ≡ record (links_at ls k) { first = Some c; last = Some c } =
-    there ∙ q ∙ ap (with_last c) e in
-    let ne : c ≢ k = omega arith in
+    let mid = set ls k a in
+    let len : length (set mid k b) ≡ length ls = length-set mid k b ∙ length-set ls k a in
+    let out : k < length mid = omega (arith, h.len, length-set ls k a) in
+    let there : links_at mid k ≡ a =
+    get_or-set_same ls k a no_links (omega (arith, h.len, below)) in
+    let written : links_at (set mid k b) k ≡ b = get_or-set_same mid k b no_links out in
+    let other : (j : ℕ) → j ≢ k → links_at (set mid k b) j ≡ links_at ls j =
+    λ j ne. get_or-set_other mid k j b no_links ne ∙ get_or-set_other ls k j a no_links ne in
+    let parents : (j : ℕ) → (links_at (set mid k b) j).parent ≡ (links_at ls j).parent =
+    λ j. keeps (λ l. l.parent) mid k b (cc) j ∙ keeps (λ l. l.parent) ls k a (cc) j in
     record {
       below = below;
       len = len ∙ h.len;
-      parent = ap (λ l. l.parent) (other c ne) ∙ h.parent;
-      parents = λ j d.
-          elim (eqb_tells j k) [
-            | inl s ↦ ap (λ z. (links_at new z).parent) s.1 ∙ ap (λ l. l.parent) written
-                ∙ ap (λ z. (links_at ls z).parent) (sym s.1) ∙ h.parents j d
-            | inr n ↦ ap (λ l. l.parent) (other j n.1) ∙ h.parents j d
-          ];
-      first_none = λ _. ap (λ l. l.first) written;
+      parent = parents c ∙ h.parent;
+      parents = λ j d. parents j ∙ h.parents j d;
+      first_none = λ _. cc;
       first_some = λ m r. absurd (cc);
       firsts = λ j n. ap (λ l. l.first) (other j n) ∙ h.firsts j;
-      last = ap (λ l. l.last) written;
+      last = cc;
       lasts = λ j n. ap (λ l. l.last) (other j n) ∙ h.lasts j;
       next = λ m r. absurd (cc);
       nexts = λ j _.
-          elim (eqb_tells j k) [
-            | inl s ↦ ap (λ z. (links_at new z).next) s.1 ∙ ap (λ l. l.next) written
-                ∙ ap (λ z. (links_at ls z).next) (sym s.1) ∙ h.nexts j
-            | inr n ↦ ap (λ l. l.next) (other j n.1) ∙ h.nexts j
-          ];
+          keeps (λ l. l.next) mid k b (cc) j ∙ keeps (λ l. l.next) ls k a (cc) j ∙ h.nexts j;
     }
 
 -- m was the parent's last content
@@ -112,43 +112,19 @@ next_appended : (ls os : List Links) (k m : ℕ) (a b : Links) → Before ls os 
     → IsAppended os (set (set ls m a) k b) k
 next_appended ls os k m a b h above below some e q =
     let c = length os in
-    let new = set (set ls m a) k b in
-    let len : length new ≡ length ls = length-set (set ls m a) k b ∙ length-set ls m a in
-    let out : k < length (set ls m a) = omega (arith, h.len, length-set ls m a) in
-    let in_list : m < length ls = omega (arith, h.len) in
-    let apart : k ≢ m = omega arith in
+    let mid = set ls m a in
+    let len : length (set mid k b) ≡ length ls = length-set mid k b ∙ length-set ls m a in
+    let out : k < length mid = omega (arith, h.len, length-set ls m a) in
     let parted : m ≢ k = omega arith in
-    let other : (j : ℕ) → j ≢ k → j ≢ m → links_at new j ≡ links_at ls j =
-    λ j n d. get_or-set_other (set ls m a) k j b no_links n
-    ∙ get_or-set_other ls m j a no_links d in
-    let parent_is : links_at new k ≡ record (links_at ls k) { last = Some c } =
-    get_or-set_same (set ls m a) k b no_links out ∙ q
-    ∙ ap (with_last c) (get_or-set_other ls m k a no_links apart) in
-    let last_is : links_at new m ≡ record (links_at ls m) { next = Some c } =
-    get_or-set_other (set ls m a) k m b no_links parted ∙ get_or-set_same ls m a no_links in_list
-    ∙ e in
-    let ne : c ≢ k = omega arith in
-    let after : c ≢ m = omega arith in
-    let parents : (j : ℕ) → (links_at new j).parent ≡ (links_at ls j).parent =
-    λ j. elim (eqb_tells j k) [
-      | inl s ↦ ap (λ z. (links_at new z).parent) s.1 ∙ ap (λ l. l.parent) parent_is
-          ∙ ap (λ z. (links_at ls z).parent) (sym s.1)
-      | inr n ↦ elim (eqb_tells j m) [
-        | inl s ↦ ap (λ z. (links_at new z).parent) s.1 ∙ ap (λ l. l.parent) last_is
-            ∙ ap (λ z. (links_at ls z).parent) (sym s.1)
-        | inr d ↦ ap (λ l. l.parent) (other j n.1 d.1)
-      ]
-    ] in
-    let firsts : (j : ℕ) → (links_at new j).first ≡ (links_at ls j).first =
-    λ j. elim (eqb_tells j k) [
-      | inl s ↦ ap (λ z. (links_at new z).first) s.1 ∙ ap (λ l. l.first) parent_is
-          ∙ ap (λ z. (links_at ls z).first) (sym s.1)
-      | inr n ↦ elim (eqb_tells j m) [
-        | inl s ↦ ap (λ z. (links_at new z).first) s.1 ∙ ap (λ l. l.first) last_is
-            ∙ ap (λ z. (links_at ls z).first) (sym s.1)
-        | inr d ↦ ap (λ l. l.first) (other j n.1 d.1)
-      ]
-    ] in
+    let there : links_at mid m ≡ a =
+    get_or-set_same ls m a no_links (omega (arith, h.len, below)) in
+    let written : links_at (set mid k b) k ≡ b = get_or-set_same mid k b no_links out in
+    let before : links_at (set mid k b) m ≡ links_at mid m =
+    get_or-set_other mid k m b no_links parted in
+    let parents : (j : ℕ) → (links_at (set mid k b) j).parent ≡ (links_at ls j).parent =
+    λ j. keeps (λ l. l.parent) mid k b (cc) j ∙ keeps (λ l. l.parent) ls m a (cc) j in
+    let firsts : (j : ℕ) → (links_at (set mid k b) j).first ≡ (links_at ls j).first =
+    λ j. keeps (λ l. l.first) mid k b (cc) j ∙ keeps (λ l. l.first) ls m a (cc) j in
     record {
       below = omega arith;
       len = len ∙ h.len;
@@ -157,22 +133,15 @@ next_appended ls os k m a b h above below some e q =
       first_none = λ r. absurd (cc);
       first_some = λ i r. firsts k ∙ h.firsts k;
       firsts = λ j n. firsts j ∙ h.firsts j;
-      last = ap (λ l. l.last) parent_is;
+      last = cc;
       lasts = λ j n.
-          elim (eqb_tells j m) [
-            | inl s ↦ ap (λ z. (links_at new z).last) s.1 ∙ ap (λ l. l.last) last_is
-                ∙ ap (λ z. (links_at ls z).last) (sym s.1) ∙ h.lasts j
-            | inr d ↦ ap (λ l. l.last) (other j n d.1) ∙ h.lasts j
-          ];
-      next = λ i r. let s : i ≡ m = cc in
-          ap (λ z. (links_at new z).next) s ∙ ap (λ l. l.next) last_is;
+          ap (λ l. l.last) (get_or-set_other mid k j b no_links n)
+          ∙ keeps (λ l. l.last) ls m a (cc) j ∙ h.lasts j;
+      next = λ i r. let s : i ≡ m = cc in ap (λ z. (links_at (set mid k b) z).next) s ∙ cc;
       nexts = λ j r.
           let d : j ≢ m = λ s. r (some ∙ ap (λ z. Some z) (sym s)) in
-          elim (eqb_tells j k) [
-            | inl s ↦ ap (λ z. (links_at new z).next) s.1 ∙ ap (λ l. l.next) parent_is
-                ∙ ap (λ z. (links_at ls z).next) (sym s.1) ∙ h.nexts j
-            | inr n ↦ ap (λ l. l.next) (other j n.1 d) ∙ h.nexts j
-          ];
+          keeps (λ l. l.next) mid k b (cc) j
+          ∙ ap (λ l. l.next) (get_or-set_other ls m j a no_links d) ∙ h.nexts j;
     }
 
 links_set : (xs : List Stream) (n m : ℕ) (u v : Stream)

@@ -461,24 +461,21 @@ module _ (front : State) (k : ℕ) (s0 : Stream) (here : stream_at front k ≡ S
   -- a command that names one stream
   missing_alike : (a b : Option Stream) → Pair a b
       → tested true (λ (s : Stream). false) a ≡ tested true (λ (s : Stream). false) b
-  missing_alike a b (none e f) = ap (tested true (λ (s : Stream). false)) (e ∙ sym f)
-  missing_alike a b (both s kind left e f) =
-      ap (tested true (λ (z : Stream). false)) e ∙ ap (tested true (λ (z : Stream). false)) (sym f)
+  missing_alike a b (none e f) = cc
+  missing_alike a b (both s kind left e f) = cc
 
   spent_alike : (a b : Option Stream) → Pair a b
       → tested false (λ (s : Stream). not s.is_open) a
       ≡ tested false (λ (s : Stream). not s.is_open) b
-  spent_alike a b (none e f) = ap (tested false (λ (s : Stream). not s.is_open)) (e ∙ sym f)
-  spent_alike a b (both s kind left e f) =
-      ap (tested false (λ (z : Stream). not z.is_open)) e
-      ∙ ap (tested false (λ (z : Stream). not z.is_open)) (sym f)
+  spent_alike a b (none e f) = cc
+  spent_alike a b (both s kind left e f) = cc
 
   abbrev place_in : Option Stream → Position
   place_in o = elim o [ None ↦ missing | Some s ↦ position_of s.place ]
 
   places_alike : (a b : Option Stream) → Pair a b → place_in a ≡ place_in b
-  places_alike a b (none e f) = ap place_in (e ∙ sym f)
-  places_alike a b (both s kind left e f) = ap place_in e ∙ ap place_in (sym f)
+  places_alike a b (none e f) = cc
+  places_alike a b (both s kind left e f) = cc
 
   abbrev refused_by : (missing spent : Bool) → Option ℕ → Option ℕ
   refused_by m s rest = cond m (Some 1) (cond s (Some 2) rest)
@@ -519,17 +516,10 @@ module _ (front : State) (k : ℕ) (s0 : Stream) (here : stream_at front k ≡ S
       let pair = seen x y j b own in
       let names_c : named c ≡ j ∷ [] = ap (with_other j) alone in
       let names_d : named d ≡ on j ∷ [] = ap (with_other (on j)) alone in
-      let absent : any_of (is_missing x) (named c) ≡ any_of (is_missing y) (named d) =
-      ap (any_of (is_missing x)) names_c ∙ ap (λ z. z || false) (missing_alike _ _ pair)
-      ∙ sym (ap (any_of (is_missing y)) names_d) in
-      let ended : any_of (is_spent x) (named c) ≡ any_of (is_spent y) (named d) =
-      ap (any_of (is_spent x)) names_c ∙ ap (λ z. z || false) (spent_alike _ _ pair)
-      ∙ sym (ap (any_of (is_spent y)) names_d) in
-      let misused : misuse c x ≡ misuse d y =
-      ap (λ z. refused_by z (any_of (is_spent x) (named c)) (kind_refusal a x j)) absent
-      ∙ ap (λ z. refused_by (any_of (is_missing y) (named d)) z (kind_refusal a x j)) ended
-      ∙ ap (λ z. refused_by (any_of (is_missing y) (named d)) (any_of (is_spent y) (named d)) z)
-      kinds in
+      let same_missing = missing_alike _ _ pair in
+      let same_spent = spent_alike _ _ pair in
+      let absent : any_of (is_missing x) (named c) ≡ any_of (is_missing y) (named d) = cc in
+      let misused : misuse c x ≡ misuse d y = cc in
       let is_d : step d y ≡ chosen y (misuse c x) (step_on a y (on j) (stream_at y (on j))) =
       ap (λ z. chosen y z (step_on a y (on j) (stream_at y (on j)))) (sym misused) in
       let whole :
@@ -539,10 +529,8 @@ module _ (front : State) (k : ℕ) (s0 : Stream) (here : stream_at front k ≡ S
       beside_eq _ _ _ _ refl (ap (λ z. z.state) is_d) whole.after in
       let answers : answer_on_fork (step c x).answer ≡ (step d y).answer =
       whole.answer ∙ sym (ap (λ z. z.answer) is_d) in
-      let positions : position_in c x (step c x).state ≡ position_in d y (step d y).state =
-      ap (λ z. cond z missing (place_in (stream_at (step c x).state j))) absent
-      ∙ ap (λ z. cond (any_of (is_missing y) (named d)) missing z)
-      (places_alike _ _ (seen (step c x).state (step d y).state j after own)) in
+      let places = places_alike _ _ (seen (step c x).state (step d y).state j after own) in
+      let positions : position_in c x (step c x).state ≡ position_in d y (step d y).state = cc in
       record {
         same_line =
             ap (λ z. record { answer = z; position = position_in c x (step c x).state }) answers
@@ -661,20 +649,8 @@ module _ (front : State) (k : ℕ) (s0 : Stream) (here : stream_at front k ≡ S
           own = λ j s h e. absurd (let q : None ≡ Some s = sym (nothing_past front j h) ∙ e in cc);
         }
 
-    there : (y : State) (j : ℕ) (s : Stream) → stream_at y j ≡ Some s → is_missing y j ≡ false
-    there y j s e = ap (tested true (λ (z : Stream). false)) e
-
-    unspent : (y : State) (j : ℕ) (s : Stream) → stream_at y j ≡ Some s → s.is_open ≡ true
-        → is_spent y j ≡ false
-    unspent y j s e o = ap (tested false (λ (z : Stream). not z.is_open)) e ∙ ap not o
-
     forks : step (commands.on k commands.fork) front ≡ on_stream commands.fork front k s0
-    forks =
-        ap (λ z. chosen front (refused_by (z || false) (is_spent front k || false) None)
-        (step_on commands.fork front k (stream_at front k))) (there front k s0 here)
-        ∙ ap (λ z. chosen front (refused_by false (z || false) None)
-        (step_on commands.fork front k (stream_at front k))) (unspent front k s0 here is_open0)
-        ∙ ap (step_on commands.fork front k) here
+    forks = cc
 
     starts : Beside front (step (commands.on k commands.fork) front).state
     starts = beside_eq _ _ _ _ refl (ap (λ z. z.state) forks) begins
@@ -690,41 +666,15 @@ module _ (front : State) (k : ℕ) (s0 : Stream) (here : stream_at front k ≡ S
 
       advances : step (commands.on k to_fork) y
           ≡ cond reached (record { answer = done; state = advanced k (made) y }) (stays y (unfit 5))
-      advances =
-          ap (λ z. chosen y
-          (refused_by (z || (is_missing y (made) || false))
-          (is_spent y k || (is_spent y (made) || false)) (kind_refusal to_fork y k))
-          (step_on to_fork y k (stream_at y k))) (there y k s0 b.kept)
-          ∙ ap (λ z. chosen y
-          (refused_by (z || false) (is_spent y k || (is_spent y (made) || false))
-          (kind_refusal to_fork y k)) (step_on to_fork y k (stream_at y k)))
-          (there y (made) (fork_at b.p b.n) b.forks)
-          ∙ ap (λ z. chosen y
-          (refused_by false (z || (is_spent y (made) || false)) (kind_refusal to_fork y k))
-          (step_on to_fork y k (stream_at y k))) (unspent y k s0 b.kept is_open0)
-          ∙ ap (λ z. chosen y (refused_by false (z || false) (kind_refusal to_fork y k))
-          (step_on to_fork y k (stream_at y k)))
-          (unspent y (made) (fork_at b.p b.n) b.forks is_open0)
-          ∙ ap (λ z. chosen y
-          (refused_by false false
-          (cond (tested false (λ (s : Stream). is_fork s.kind) z) None (Some 3)))
-          (step_on to_fork y k (stream_at y k))) b.forks
-          ∙ ap (step_on to_fork y k) b.kept
+      advances = let p = b.kept in let q = b.forks in cc
 
       may : same_scope (place_of (stream_at y k)) (place_of (stream_at y (made))) ≡ true
           → reached ≡ true
-      may h =
-          ap (λ z. z && not (k == made || is_inside y (made) k))
-          (ap (λ z. same_scope (place_of z) (place_of (stream_at y (made)))) (sym b.kept) ∙ h)
-          ∙ ap (λ z. not (z || is_inside y (made) k)) (ne_eqb k (made) not_it)
-          ∙ ap not out
+      may h = let p = b.kept in let q = ne_eqb k (made) not_it in cc
 
       ends : same_scope (place_of (stream_at y k)) (place_of (stream_at y (made))) ≡ true
           → step (commands.on k to_fork) y ≡ record { answer = done; state = advanced k (made) y }
-      ends h =
-          advances ∙ ap (λ z.
-          cond z (record { answer = done; state = advanced k (made) y }) (stays y (unfit 5)))
-          (may h)
+      ends h = let p = advances in let q = may h in cc
 
       abbrev closed_y : State
       closed_y = closed_inside (made) y
