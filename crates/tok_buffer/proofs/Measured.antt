@@ -12,10 +12,7 @@ use Rattle.tok_buffer.specs.Progress.{remaining, remaining_around, LosesNone}
 use Rattle.tok_buffer.specs.declared.cursor.Cursor.{Cursor}
 use Rattle.tok_buffer.specs.declared.spot.Spot.{Spot}
 use Rattle.tok_buffer.proofs.Onwards.{along}
-
-abbrev IsMeasured : Place → Type 0
-IsMeasured empty_place = Unit {0}
-IsMeasured (at n s c (level o p f) ls) = c + weight f + remaining_around ls ≡ s
+use Rattle.tok_buffer.proofs.View.Counts.{IsCounted}
 
 measured_up_to : (e s : ℕ) (us : List Level) → some_ends e s us ≡ true →
     e + remaining_around (up_to e s us) ≡ s
@@ -30,20 +27,20 @@ measured_up_to e s (level o p f ∷ us) h =
     ])
 
 measured_at : (n c s : ℕ) (l : Level) (us : List Level) → some_ends (end_of c l) s us ≡ true →
-    IsMeasured (at n s c l (up_to (end_of c l) s us))
+    IsCounted (at n s c l (up_to (end_of c l) s us))
 measured_at n c s (level o p f) us h = omega (arith, measured_up_to (c + weight f) s us h)
 
 spot_measured : (spot : Option Spot) →
-    IsMeasured (elim spot [ None ↦ empty_place | Some s ↦ spot_place s ])
+    IsCounted (elim spot [ None ↦ empty_place | Some s ↦ spot_place s ])
 spot_measured None = tt
 spot_measured (Some s) = measured_at s.buffer.now.number s.position s.scope
     (levels_at s.buffer.now.forest s.position).0 (levels_at s.buffer.now.forest s.position).1
     s.within
 
-measured : (c : Cursor) → IsMeasured (place_of c)
+measured : (c : Cursor) → IsCounted (place_of c)
 measured c = spot_measured c.spot
 
-none_lost : (p q : Place) → IsMeasured p → IsMeasured q → LosesNone p q
+none_lost : (p q : Place) → IsCounted p → IsCounted q → LosesNone p q
 none_lost p empty_place u v h = none_there p
   where
     none_there : (p : Place) → (0 ≤ remaining p) × (equal p empty_place ≡ false → 0 < remaining p)

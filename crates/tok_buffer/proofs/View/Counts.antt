@@ -6,28 +6,23 @@ use Rattle.tok_core.specs.Weight.{weight}
 use Rattle.tok_buffer.specs.Descent.{descend}
 use Rattle.tok_buffer.specs.Place.{Owner, whole, in_group, Level, level, Place, empty_place, at}
 use Rattle.tok_buffer.specs.Place.{start, absorb}
+use Rattle.tok_buffer.specs.Progress.{remaining_around}
 use Rattle.tok_buffer.proofs.View.Keeps.{IsKept, kept-descend}
-
--- what the levels around have ahead: their trees, and the closing of each invisible group that has
--- been entered
-abbrev pub beyond : List Level → ℕ
-beyond [] = 0
-beyond (level o p a ∷ ls) = 1 + weight a + beyond ls
 
 -- the count and what is ahead add up to the scope's number
 abbrev pub IsCounted : Place → Type 0
 IsCounted empty_place = ⊤
-IsCounted (at n s c (level o p a) ls) = c + weight a + beyond ls ≡ s
+IsCounted (at n s c (level o p a) ls) = c + weight a + remaining_around ls ≡ s
 
 pub counted-start : (n : ℕ) (f : Forest) → IsCounted (start n f)
 counted-start n f = omega arith
 
 beyond-absorb : (o : Owner) (p : Forest) (l : Level) (ls : List Level)
-    → beyond (absorb o p l ∷ ls) ≡ beyond (l ∷ ls)
+    → remaining_around (absorb o p l ∷ ls) ≡ remaining_around (l ∷ ls)
 beyond-absorb whole p l ls = refl
 beyond-absorb (in_group d span) p (level o q a) ls = refl
 
-counted-dropped : (n s c : ℕ) (l : Level) (ls : List Level) → c + beyond (l ∷ ls) ≡ s
+counted-dropped : (n s c : ℕ) (l : Level) (ls : List Level) → c + remaining_around (l ∷ ls) ≡ s
     → IsCounted (at n s (c + 1) l ls)
 counted-dropped n s c (level o p a) ls h = omega (arith, h)
 

@@ -21,7 +21,8 @@ use Rattle.tok_buffer.specs.Place.{Owner, whole, in_group, Level, level, Place, 
 use Rattle.tok_buffer.specs.Place.{absorb, settle}
 use Rattle.tok_buffer.specs.View.{erased_ahead, View, empty_view, seen, view, closings}
 use Rattle.tok_buffer.specs.View.{closing_marks}
-use Rattle.tok_buffer.proofs.View.Counts.{beyond, IsCounted, counted-descend}
+use Rattle.tok_buffer.specs.Progress.{remaining_around}
+use Rattle.tok_buffer.proofs.View.Counts.{IsCounted, counted-descend}
 use Rattle.tok_buffer.proofs.View.Keeps.{IsKept, kept-descend, IsDescended, descended-descend}
 use Rattle.tok_buffer.proofs.View.Unmarked.{unmarked, unmarked_in, trees_ahead}
 use Rattle.tok_buffer.proofs.View.Erased.{erased_ahead_is, view-settle, view-descend}
@@ -159,7 +160,7 @@ closings-front g c k xs ys e h =
     ∙ ap (λ j. closings g c + sum (take j (xs ++ ys))) h
     ∙ ap (λ zs. closings g c + sum zs) (take-append_seam xs ys)
 
-length-beyond : (ls : List Level) → length (marks_beyond ls) ≡ beyond ls
+length-beyond : (ls : List Level) → length (marks_beyond ls) ≡ remaining_around ls
 length-beyond [] = refl
 length-beyond (level o p a ∷ ls) =
     omega (
@@ -198,16 +199,16 @@ pub scope_ordinal : (g : Forest) (n s c : ℕ) (l : Level) (ls : List Level)
     → IsCounted (at n s c l ls) → IsIn g (at n s c l ls)
     → closings g s ≡ closings g c + groups (erase (trees_ahead (at n s c l ls)))
 scope_ordinal g n s c (level o p a) ls h i =
-    let size : weight a + beyond ls ≡ length (closing_marks a ++ marks_beyond ls) =
+    let size : weight a + remaining_around ls ≡ length (closing_marks a ++ marks_beyond ls) =
     omega (
       arith,
       length-beyond ls,
       length-closing_marks a,
       length-append (closing_marks a) (marks_beyond ls),
     ) in
-    let end : c + (weight a + beyond ls) ≡ s = omega (arith, h) in
+    let end : c + (weight a + remaining_around ls) ≡ s = omega (arith, h) in
     let all =
-    closings-front g c (weight a + beyond ls) (closing_marks a ++ marks_beyond ls) i.0
+    closings-front g c (weight a + remaining_around ls) (closing_marks a ++ marks_beyond ls) i.0
     (i.1 ∙ sym (append_assoc (closing_marks a) (marks_beyond ls) i.0)) size in
     ap (closings g) (sym end) ∙ all
     ∙ ap (λ k. closings g c + k)
