@@ -1,5 +1,6 @@
 -- Parses of one read go on as their read does.
-use Rattle.std.proofs.Common.{◌≡◌, ap, refl, ℕ, List, Some, None, Ok}
+use Rattle.std.proofs.Common.{◌≡◌, ap, refl, ℕ, List, Some, None, Ok, Err}
+use Rattle.std.specs.Prelude.{Result}
 use Rattle.tok_core.specs.Forest.{Tree}
 use Rattle.tok_buffer.specs.Place.{Place}
 use Rattle.tok_buffer.specs.Progress.{ReadsOn}
@@ -12,6 +13,7 @@ use Rattle.syn_parse.specs.RefusalWords.{expected, refused_at}
 use Rattle.syn_parse.specs.Progress.{ParsesOn}
 use Rattle.syn_parse.specs.Reads.{Read, Reads, ReadsAtOnce}
 use Rattle.syn_parse.specs.State.{State}
+use Rattle.syn_parse.specs.declared.fault.Fault.{Fault}
 
 -- a value comes of a read, and the stream is at the place after it
 pub record CameOf (x : Read) (t : State) : Type 0 where
@@ -27,11 +29,13 @@ module _ {T : Type 0} (Means : T → List Tree → Type 0) (s : State) where
   came_of (Some r) words v t h =
       record { trees = r.0; after = r.1; read = refl; is_at = ap (λ u. u.place) h.1 }
 
-  came_at_once : (x : Read) (words : Refusal) (v : T) (t : State)
-      → ReadsAtOnce Means x words s (Ok v) t → CameOf x t
-  came_at_once None words v t h = absurd h
-  came_at_once (Some r) words v t h =
-      record { trees = r.0; after = r.1; read = refl; is_at = ap (λ u. u.place) h.1 }
+  -- a read that takes no memory is a read
+  pub at_once : (x : Read) (words : Refusal) (r : Result T Fault) (t : State)
+      → ReadsAtOnce Means x words s r t → Reads Means x words s r t
+  at_once None words (Ok v) t h = absurd h
+  at_once (Some q) words (Ok v) t h = h
+  at_once None words (Err f) t h = h
+  at_once (Some q) words (Err f) t h = absurd h
 
 module _ {T : Type 0} (Means : T → List Tree → Type 0) (read : Place → Read) (words : State
     → Refusal) (on : ReadsOn read) where
@@ -47,10 +51,10 @@ module _ {T : Type 0} (Means : T → List Tree → Type 0) (read : Place → Rea
   pub parses_on_at_once : ParsesOn {T = T} (λ s. ReadsAtOnce Means (read s.place) (words s) s)
   parses_on_at_once =
       record {
-        stays = λ s v t h. let c = came_at_once Means s (read s.place) (words s) v t h in
-            rw c.is_at (on.stays s.place c.trees c.after c.read);
-        lowers = λ s v t h. let c = came_at_once Means s (read s.place) (words s) v t h in
-            rw c.is_at (on.lowers s.place c.trees c.after c.read);
+        stays = λ s v t h.
+            parses_on.stays s v t (at_once Means s (read s.place) (words s) (Ok v) t h);
+        lowers = λ s v t h.
+            parses_on.lowers s v t (at_once Means s (read s.place) (words s) (Ok v) t h);
       }
 
 pub words_on : {T : Type 0} (span_of : T → Span) (text : List ℕ) → ReadsOn (read_keyword text)

@@ -13,24 +13,25 @@ use Rattle.tok_core.specs.Forest.{Tree, Forest, tree_span}
 use Rattle.tok_buffer.specs.InFront.{with_ahead, first_if, first_puncts}
 use Rattle.tok_buffer.specs.Buffer.{Laid}
 use Rattle.tok_buffer.specs.Messages.{first_text}
-use Rattle.tok_buffer.specs.Order.{same_scope}
 use Rattle.tok_buffer.specs.Place.{Place, is_at_end}
 use Rattle.tok_buffer.specs.Reached.{Reached}
 use Rattle.tok_buffer.specs.Reads.{any_text, is_ident, is_ident_of, is_literal, is_punct}
-use Rattle.tok_buffer.specs.Reads.{read_keyword}
-use Rattle.tok_buffer.specs.Reads.{read_literal, read_punctuation}
-use Rattle.tok_buffer.specs.Reads.{read_ident, read_lifetime, read_punct, read_word}
+use Rattle.tok_buffer.specs.Reads.{read_ident, read_lifetime}
 use Rattle.tok_buffer.specs.Refusals.{Refusal}
 use Rattle.tok_buffer.specs.Rest.{scope_delimiter}
 use Rattle.tok_buffer.specs.View.{erased_ahead}
 use Rattle.tok_buffer.specs.Progress.{remaining}
-use Rattle.tok_buffer.proofs.Onwards.{reads_go_on, reads_keep_scope}
-use Rattle.tok_buffer.proofs.View.InFront.{ahead_tells, ahead_tells_ends}
-use Rattle.tok_buffer.proofs.View.Laws.{calls_lead_on}
+use Rattle.tok_buffer.proofs.Onwards.{GoesOn, kept, reading_goes}
+use Rattle.tok_buffer.proofs.View.InFront.{ahead_tells_ends}
+use Rattle.tok_buffer.proofs.View.Laws.{reaching}
+use Rattle.tok_buffer.proofs.View.Moves.{LeadsTo, leads}
+use Rattle.tok_buffer.proofs.View.Readings.{Reading, of_ident, of_word, of_lifetime, of_literal}
+use Rattle.tok_buffer.proofs.View.Readings.{of_punct, of_punctuation}
+use Rattle.tok_buffer.proofs.View.Tells.{tells}
 use Rattle.tok_types.specs.Printed.{first_span}
 use Rattle.tok_types.specs.Sees.{first_lifetime, first_word}
 use Rattle.tok_types.specs.Texts.{accept_as_ident, in_backquotes, keyword_text, punctuation_word}
-use Rattle.tok_types.proofs.Seen.{lifetimes-tell, words-tell}
+use Rattle.tok_types.proofs.Seen.{of_first_word}
 use Rattle.tok_types.specs.declared.keyword.Keyword.{Keyword}
 use Rattle.tok_types.specs.declared.punctuation.Punctuation.{Punctuation}
 use Rattle.tok_types.specs.declared.underscore.Underscore.{Underscore}
@@ -57,6 +58,7 @@ use Rattle.syn_parse.specs.Tokens.{literal_in}
 use Rattle.syn_parse.specs.Tokens.{punct_in, span_in, take_any_ident, take_any_lifetime, take_ident}
 use Rattle.syn_parse.specs.Tokens.{take_keyword, take_lifetime, take_literal, take_punct}
 use Rattle.syn_parse.specs.Tokens.{take_punctuation, take_underscore}
+use Rattle.syn_parse.proofs.Progress.{at_once}
 use Rattle.syn_parse.proofs.Scopes.{one_scope}
 
 -- the end of a scope in a filled forest
@@ -100,15 +102,6 @@ look_told l (Refused e) h i =
     i
 look_told l (Memory e) h i = tt
 
-abbrev pub Leads : Read → Place → Type 0
-Leads x p = (b : Laid) → Reached b p → IfSome x (λ (q : List Tree × Place). Reached b q.1)
-
--- what is read leaves a place in the same scope, in which no more remains
-abbrev pub KeepsScope : Read → Place → Type 0
-KeepsScope x p =
-    (q : List Tree × Place) → x ≡ Some q
-    → (same_scope p q.1 ≡ true) × (remaining q.1 < remaining p)
-
 module _ {T A : Type 0} (form : T → A) (Means : T → List Tree → Type 0) (means : List Tree → A)
     (fits : (v : T) (ts : List Tree) → Means v ts → form v ≡ means ts)
     (first : Forest → Option (List Tree × Forest)) (words : Forest → List ℕ) (refusal : Refusal)
@@ -123,10 +116,10 @@ module _ {T A : Type 0} (form : T → A) (Means : T → List Tree → Type 0) (m
   taken : (q : List Tree × Place) (v : T)
       → Some (q.0, erased_ahead q.1) ≡ first (erased_ahead s.place)
       → ((b : Laid) → Reached b s.place → Reached b q.1)
-      → (same_scope s.place q.1 ≡ true) × (remaining q.1 < remaining s.place)
+      → GoesOn s.place q.1
       → Means v q.0
       → t ≡ moved q.1 s → TakesAs form take s (Ok v) t
-  taken q v e leads keeps m k = (
+  taken q v e leads goes m k = (
     ap seen (sym e) ∙ ap (λ u. found (means q.0) (ahead u)) (sym k)
         ∙ ap (λ x. found x (ahead t)) (sym (fits v q.0 m)),
     (
@@ -135,8 +128,8 @@ module _ {T A : Type 0} (form : T → A) (Means : T → List Tree → Type 0) (m
         filled_buffer = i.filled_buffer;
         reached = subst (λ u. Reached i.buffer u.place) (sym k) (leads i.buffer i.reached);
       },
-      ap (λ u. scope_of u.place) k ∙ one_scope s.place q.1 keeps.0,
-      subst (λ u. remaining u.place ≤ remaining s.place) (sym k) (omega (arith, keeps.1)),
+      ap (λ u. scope_of u.place) k ∙ one_scope s.place q.1 (kept s.place q.1 goes),
+      subst (λ u. remaining u.place ≤ remaining s.place) (sym k) (omega (arith, goes.1)),
     ),
   )
 
@@ -152,21 +145,25 @@ module _ {T A : Type 0} (form : T → A) (Means : T → List Tree → Type 0) (m
   memory (Refused e) m = absurd m
   memory (Memory e) m = (tt, λ i. tt)
 
-  pub told : (x : Read) (r : Result T Fault) → with_ahead x ≡ first (erased_ahead s.place)
-      → Leads x s.place → KeepsScope x s.place → Reads Means x refusal s r t
-      → TakesAs form take s r t
-  told None (Ok v) e leads keeps h = absurd h
-  told (Some q) (Ok v) e leads keeps h = taken q v e leads (keeps q refl) h.0 h.1
-  told None (Err f) e leads keeps h = none f e h.0
-  told (Some q) (Err f) e leads keeps h = memory f h.0
+  told-by : (x : Read) (r : Result T Fault) → with_ahead x ≡ first (erased_ahead s.place)
+      → ((b : Laid) → Reached b s.place → LeadsTo (Reached b) x)
+      → LeadsTo (GoesOn s.place) x → Reads Means x refusal s r t → TakesAs form take s r t
+  told-by None (Ok v) e leads goes h = absurd h
+  told-by (Some q) (Ok v) e leads goes h = taken q v e leads goes h.0 h.1
+  told-by None (Err f) e leads goes h = none f e h.0
+  told-by (Some q) (Err f) e leads goes h = memory f h.0
 
-  pub told-at-once : (x : Read) (r : Result T Fault) → with_ahead x ≡ first (erased_ahead s.place)
-      → Leads x s.place → KeepsScope x s.place → ReadsAtOnce Means x refusal s r t
-      → TakesAs form take s r t
-  told-at-once None (Ok v) e leads keeps h = absurd h
-  told-at-once (Some q) (Ok v) e leads keeps h = taken q v e leads (keeps q refl) h.0 h.1
-  told-at-once None (Err f) e leads keeps h = none f e h.0
-  told-at-once (Some q) (Err f) e leads keeps h = absurd h
+  module _ {read : Place → Read} (reading : Reading read first) where
+    pub told : (r : Result T Fault) → Reads Means (read s.place) refusal s r t
+        → TakesAs form take s r t
+    told r h =
+        told-by (read s.place) r (tells reading s.place)
+        (λ b i. leads (Reached b) (Reached b) (reaching b) reading s.place i)
+        (reading_goes reading s.place) h
+
+    pub told-at-once : (r : Result T Fault) → ReadsAtOnce Means (read s.place) refusal s r t
+        → TakesAs form take s r t
+    told-at-once r h = told r (at_once Means s (read s.place) refusal r t h)
 
 ident-words : (x : Read) → ident_words x ≡ ident_missing (with_ahead x)
 ident-words None = refl
@@ -183,22 +180,16 @@ pub ident_told : (s : State) (r : Result Ident Fault) (t : State) → IdentParse
     → Takes take_ident s r t
 unfolding take_ident
 ident_told s r t h =
-    let tells = ahead_tells s.place in
     let words : ident_words (read_ident s.place)
     ≡ ident_missing (first_if is_ident (erased_ahead s.place)) =
-    ident-words (read_ident s.place) ∙ ap ident_missing tells.idents in
+    ident-words (read_ident s.place) ∙ ap ident_missing (tells of_ident s.place) in
     told same IsIdent ident_in (λ v ts m. sym (ap ident_in m))
     (first_if (is_ident_of accept_as_ident))
     (λ f. or_end (ident_missing (first_if is_ident f)) f)
     (refused_at s (ident_words (read_ident s.place))) s t
     (λ i. words_told (ident_words (read_ident s.place)) s i
     ∙ ap (λ w. or_end w (erased_ahead s.place)) words)
-    (read_word accept_as_ident s.place) r (tells.words accept_as_ident)
-    (λ b q. (calls_lead_on b s.place q).words accept_as_ident)
-    (λ q e. (
-      reads_keep_scope.words accept_as_ident s.place q.0 q.1 e,
-      (reads_go_on.words accept_as_ident).lowers s.place q.0 q.1 e,
-    )) h
+    (of_word accept_as_ident) r h
 
 pub any_ident_told : (s : State) (r : Result Ident Fault) (t : State) → AnyIdentParses s r t
     → Takes take_any_ident s r t
@@ -206,12 +197,7 @@ unfolding take_any_ident
 any_ident_told s r t h =
     let words = codes "expected ident" in
     told same IsIdent ident_in (λ v ts m. sym (ap ident_in m)) (first_if is_ident) (or_end words)
-    (refused_at s words) s t (words_told words s) (read_ident s.place) r
-    (ahead_tells s.place).idents (λ b q. (calls_lead_on b s.place q).idents)
-    (λ q e. (
-      reads_keep_scope.idents s.place q.0 q.1 e,
-      reads_go_on.idents.lowers s.place q.0 q.1 e,
-    )) h
+    (refused_at s words) s t (words_told words s) of_ident r h
 
 pub literal_told : (s : State) (r : Result Literal Fault) (t : State) → LiteralParses s r t
     → Takes take_literal s r t
@@ -220,12 +206,7 @@ literal_told s r t h =
     let words = codes "expected literal token" in
     told same IsLiteral literal_in (λ v ts m. sym (ap literal_in m)) (first_if is_literal)
     (or_end words)
-    (refused_at s words) s t (words_told words s) (read_literal s.place) r
-    (ahead_tells s.place).literals (λ b q. (calls_lead_on b s.place q).literals)
-    (λ q e. (
-      reads_keep_scope.literals s.place q.0 q.1 e,
-      reads_go_on.literals.lowers s.place q.0 q.1 e,
-    )) h
+    (refused_at s words) s t (words_told words s) of_literal r h
 
 pub punct_told : (s : State) (r : Result Punct Fault) (t : State) → PunctParses s r t
     → Takes take_punct s r t
@@ -234,12 +215,7 @@ punct_told s r t h =
     let words = codes "expected punctuation token" in
     told-at-once same IsPunct punct_in (λ v ts m. sym (ap punct_in m)) (first_if is_punct)
     (or_end words)
-    (refused_at s words) s t (words_told words s) (read_punct s.place) r
-    (ahead_tells s.place).puncts (λ b q. (calls_lead_on b s.place q).puncts)
-    (λ q e. (
-      reads_keep_scope.puncts s.place q.0 q.1 e,
-      reads_go_on.puncts.lowers s.place q.0 q.1 e,
-    )) h
+    (refused_at s words) s t (words_told words s) of_punct r h
 
 pub lifetime_told : (s : State) (r : Result Lifetime Fault) (t : State) → LifetimeParses s r t
     → Takes take_lifetime s r t
@@ -248,18 +224,13 @@ lifetime_told s r t h =
     let read = read_lifetime any_text s.place in
     let words : lifetime_words read
     ≡ lifetime_missing (first_lifetime any_text (erased_ahead s.place)) =
-    lifetime-words read ∙ ap lifetime_missing (lifetimes-tell any_text s.place) in
+    lifetime-words read ∙ ap lifetime_missing (tells (of_lifetime any_text) s.place) in
     told same IsLifetime lifetime_in (λ v ts m. sym (ap lifetime_in m))
     (first_lifetime accept_as_lifetime)
     (λ f. or_end (lifetime_missing (first_lifetime any_text f)) f)
     (refused_at s (lifetime_words read)) s t
     (λ i. words_told (lifetime_words read) s i ∙ ap (λ w. or_end w (erased_ahead s.place)) words)
-    (read_lifetime accept_as_lifetime s.place) r (lifetimes-tell accept_as_lifetime s.place)
-    (λ b q. (calls_lead_on b s.place q).lifetimes accept_as_lifetime)
-    (λ q e. (
-      reads_keep_scope.lifetimes accept_as_lifetime s.place q.0 q.1 e,
-      (reads_go_on.lifetimes accept_as_lifetime).lowers s.place q.0 q.1 e,
-    )) h
+    (of_lifetime accept_as_lifetime) r h
 
 pub any_lifetime_told : (s : State) (r : Result Lifetime Fault) (t : State)
     → AnyLifetimeParses s r t
@@ -268,12 +239,7 @@ unfolding take_any_lifetime
 any_lifetime_told s r t h =
     let words = codes "expected lifetime" in
     told same IsLifetime lifetime_in (λ v ts m. sym (ap lifetime_in m)) (first_lifetime any_text)
-    (or_end words) (refused_at s words) s t (words_told words s) (read_lifetime any_text s.place) r
-    (lifetimes-tell any_text s.place) (λ b q. (calls_lead_on b s.place q).lifetimes any_text)
-    (λ q e. (
-      reads_keep_scope.lifetimes any_text s.place q.0 q.1 e,
-      (reads_go_on.lifetimes any_text).lowers s.place q.0 q.1 e,
-    )) h
+    (or_end words) (refused_at s words) s t (words_told words s) (of_lifetime any_text) r h
 
 module _ {T A : Type 0} (form : T → A) (span_of : T → Span) (means : List Tree → A) (text : List ℕ)
     (fits : (v : T) (ts : List Tree) → IsSpanOf text (span_of v) ts → form v ≡ means ts) where
@@ -283,13 +249,7 @@ module _ {T A : Type 0} (form : T → A) (span_of : T → Span) (means : List Tr
   word_told s r t h =
       let words = expected (in_backquotes text) in
       told-at-once form (λ v. IsSpanOf text (span_of v)) means fits (first_word text) (or_end words)
-      (refused_at s words) s t (words_told words s) (read_keyword text s.place) r
-      (words-tell text s.place)
-      (λ b q. (calls_lead_on b s.place q).keywords text)
-      (λ q e. (
-        reads_keep_scope.keywords text s.place q.0 q.1 e,
-        (reads_go_on.keywords text).lowers s.place q.0 q.1 e,
-      )) h
+      (refused_at s words) s t (words_told words s) (of_first_word text) r h
 
 pub keyword_told : (k : ℕ) (s : State) (r : Result (Keyword k) Fault) (t : State)
     → KeywordParses k s r t → Takes (take_keyword k) s r t
@@ -313,9 +273,4 @@ punctuation_told k n s r t h =
     told-at-once same (λ v. AreSpans v.spans) (λ ts. record { spans = map tree_span ts })
     (λ v ts m. ap (λ x. record { spans = x }) m) (first_puncts text)
     (λ f. expected (in_backquotes text)) (punctuation_refusal text s) s t (λ i. refl)
-    (read_punctuation text s.place) r ((ahead_tells s.place).punctuations text)
-    (λ b q. (calls_lead_on b s.place q).punctuations text)
-    (λ q e. (
-      reads_keep_scope.punctuations text s.place q.0 q.1 e,
-      (reads_go_on.punctuations text).lowers s.place q.0 q.1 e,
-    )) h
+    (of_punctuation text) r h

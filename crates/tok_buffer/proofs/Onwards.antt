@@ -1,142 +1,76 @@
 -- Moves stay in their scope, and less is left after each.
-use Rattle.std.proofs.Common.{◌≡◌, ◌∙◌, sym, ap, refl, arith, inl, inr, ℕ, ◌+◌, ◌≤◌, ◌<◌, Bool}
-use Rattle.std.proofs.Common.{true, false, List, [], ◌∷◌, ◌++◌, Option, Some, None, eqb}
-use Rattle.std.proofs.Common.{eqb-true, subst}
+use Rattle.std.proofs.Common.{◌≡◌, ◌∙◌, ap, refl, arith, inl, inr, ℕ, ◌+◌, ◌≤◌, ◌<◌, Bool}
+use Rattle.std.proofs.Common.{true, false, List, [], ◌∷◌, Option, Some, None, eqb, eqb-true, subst}
 use Rattle.std.proofs.lemmas.Bool.{and_parts, false≢true}
-use Rattle.std.specs.Prelude.{◌==◌, ◌&&◌, cond, unwrap_or, bytes_eq}
+use Rattle.std.specs.Prelude.{◌==◌, ◌&&◌, cond, unwrap_or, IfSome}
 use Rattle.std.specs.Cmp.{ranks}
-use Rattle.std.specs.Option.{option_or}
 use Rattle.std.specs.Ordering.{is_le, is_lt, is_some_and, nat_cmp, MatchOrdering}
 use Rattle.std.specs.declared.cmp.Ordering.{Ordering}
 use Rattle.std.specs.declared.cmp.Ordering.TheVariants.{Less, Equal, Greater}
-use Rattle.tok_core.specs.Clear.{is_joint_apostrophe}
 use Rattle.tok_lexical.specs.declared.delimiter.Delimiter.{Delimiter}
 use Rattle.tok_lexical.specs.declared.delimiter.Delimiter.TheVariants as delimiter
-use Rattle.tok_core.specs.Forest.{leaf, group, Tree, Forest, no_trees, tree, turned_onto}
+use Rattle.tok_core.specs.Forest.{leaf, group, Tree, Forest, no_trees, tree}
 use Rattle.tok_core.specs.Weight.{tree_weight, weight}
-use Rattle.tok_buffer.specs.Descent.{descend, descend_from, into_front}
+use Rattle.tok_buffer.specs.Descent.{descend}
 use Rattle.tok_buffer.specs.Entry.{Entered, enter, enter_any, entered_of, same_delimiter}
 use Rattle.tok_buffer.specs.Order.{order, same_scope}
 use Rattle.tok_buffer.specs.Place.{Owner, whole, in_group, Level, level, Place, empty_place, at}
-use Rattle.tok_buffer.specs.Place.{absorb, pass, settle}
+use Rattle.tok_buffer.specs.Place.{absorb, front, pass, settle}
 use Rattle.tok_buffer.specs.Progress.{ReadsGoLater, ReadsKeepScope, StaysIn, remaining}
 use Rattle.tok_buffer.specs.Progress.{remaining_around, ReadsOn, ReadsGoOn, SkipsGoOn, EntersOn}
-use Rattle.tok_buffer.specs.Progress.{EntriesGoOn, MovesStay, StaysAlong}
-use Rattle.tok_buffer.specs.Reads.{and_then, any_text, any_tree, place_after, is_ident}
-use Rattle.tok_buffer.specs.Reads.{is_ident_of, is_joint_of, is_literal, is_punct, is_punct_of}
-use Rattle.tok_buffer.specs.Reads.{read_keyword, read_lifetime, read_punctuation, read_tree}
-use Rattle.tok_buffer.specs.Reads.{read_word, skip}
-use Rattle.tok_buffer.specs.Reads as reads
+use Rattle.tok_buffer.specs.Progress.{EntriesGoOn, MovesStay, StaysAlong, Later, KeepsScope}
+use Rattle.tok_buffer.specs.Reads.{any_tree, read_if, skip}
+use Rattle.tok_buffer.proofs.View.Keeps.{IsKept, kept-settle, kept-descend}
+use Rattle.tok_buffer.proofs.View.Moves.{Leads, LeadsTo, IsEmpty, IsNone, leads, leads-take}
+use Rattle.tok_buffer.proofs.View.Moves.{leads-skip, leads-nowhere}
+use Rattle.tok_buffer.proofs.View.Readings.{Read, First, Reading, of_ident, of_word, of_keyword}
+use Rattle.tok_buffer.proofs.View.Readings.{of_lifetime, of_literal, of_punct, of_punctuation}
 
--- A place of this buffer and scope, at this count or a later one; so much at least has been
--- taken away from what was left.
-record Later (number scope count : ℕ) (taken left : ℕ) (p : Place) : Type 0 where
-  now : ℕ
-  inner : Level
-  outer : List Level
-  is : p ≡ at number scope now inner outer
-  no_earlier : count + taken ≤ now
-  fewer : remaining (at number scope now inner outer) + taken ≤ left
-
-later : {n s c d x y a b : ℕ} {p : Place} → Later n s d x a p → c + y ≤ d + x → y + a ≤ x + b →
-    Later n s c y b p
-later {n} {s} {c} {d} {x} {y} {a} {b} {p} l h k =
-    record {
-      now = l.now;
-      inner = l.inner;
-      outer = l.outer;
-      is = l.is;
-      no_earlier =
-          omega (arith, l.no_earlier, h);
-      fewer = omega (arith, l.fewer, k);
-    }
-
-here : (n s c : ℕ) (l : Level) (ls : List Level) → Later n s c 0 (remaining (at n s c l ls))
-    (at n s c l ls)
-here n s c l ls = record {
-  now = c;
-  inner = l;
-  outer = ls;
-  is = refl;
-  no_earlier =
-      omega arith;
-  fewer = omega arith;
-}
+-- a place of this buffer and scope, at this count or a later one, where at most so much is left
+abbrev Since : (number scope count most : ℕ) → Place → Type 0
+Since n s c m empty_place = ⊥
+Since n s c m (at i t d l ls) = (i ≡ n) × (t ≡ s) × (c ≤ d) × (remaining (at i t d l ls) ≤ m)
 
 absorbed : (o : Owner) (p : Forest) (n s c d : ℕ) (u : Level) (us : List Level) →
     remaining (at n s c (absorb o p u) us) ≤ remaining (at n s d (level o p no_trees) (u ∷ us))
 absorbed whole p n s c d (level a b f) us = omega arith
 absorbed (in_group x t) p n s c d (level a b f) us = omega arith
 
-settle_later : (n s c : ℕ) (l : Level) (ls : List Level) →
-    Later n s c 0 (remaining (at n s c l ls)) (settle n s c l ls)
-settle_later n s c l [] = here n s c l []
-settle_later n s c (level o p no_trees) (u ∷ us) =
-    later (settle_later n s (c + 1) (absorb o p u) us) (omega arith)
-    (omega (arith, absorbed o p n s (c + 1) c u us))
-settle_later n s c (level o p (tree t f)) (u ∷ us) = here n s c (level o p (tree t f)) (u ∷ us)
-
 some_weight : (t : Tree) → 1 ≤ tree_weight t
 some_weight (leaf l) = omega arith
 some_weight (group d inside span) = omega arith
 
-passed : (n s c : ℕ) (o : Owner) (p : Forest) (t : Tree) (f : Forest) (ls : List Level) →
-    Later n s c 1 (remaining (at n s c (level o p (tree t f)) ls))
-    (pass (at n s c (level o p (tree t f)) ls))
-passed n s c o p t f ls = later (settle_later n s (c + tree_weight t) (level o (tree t p) f) ls)
-    (omega (arith, some_weight t)) (omega (arith, some_weight t))
+-- each move keeps this, and passing a tree takes something away
+module _ (n s c m : ℕ) where
+  kept_since : IsKept (Since n s c m)
+  kept_since = record {
+    into = λ i t d o p inside span f ls h.
+        (h.0, h.1, omega (arith, h.2), omega (arith, h.3));
+    out = λ i t d o p l ls h.
+        (h.0, h.1, omega (arith, h.2), omega (arith, h.3, absorbed o p i t (d + 1) d l ls));
+  }
 
-or_later : (n s c m : ℕ) (a b : Option Place) (q : Place) →
-    ((r : Place) → a ≡ Some r → Later n s c 0 m r) →
-    ((r : Place) → b ≡ Some r → Later n s c 0 m r) → option_or a b ≡ Some q → Later n s c 0 m q
-or_later n s c m None b q f g e = g q e
-or_later n s c m (Some a) b q f g e = f q e
+module _ (n s c m : ℕ) where
+  past_since : (p : Place) (t : Tree) → front p ≡ Some t → Since n s c (m + 1) p
+      → Since n s (c + 1) m (pass p)
+  past_since empty_place t e h = absurd h
+  past_since (at i u d (level o p no_trees) ls) t e h = absurd (cc)
+  past_since (at i u d (level o p (tree x f)) ls) t e h =
+      let some = some_weight x in
+      kept-settle (Since n s (c + 1) m) (kept_since n s (c + 1) m) i u (d + tree_weight x)
+      (level o (tree x p) f) ls
+      (h.0, h.1, omega (arith, h.2, some), omega (arith, h.3, some))
 
-found : (n s c : ℕ) (l : Level) (ls : List Level) (q : Place) → Some (at n s c l ls) ≡ Some q →
-    Later n s c 0 (remaining (at n s c l ls)) q
-found n s c l ls q e = let same : at n s c l ls ≡ q = cc in
-    record {
-      now = c;
-      inner = l;
-      outer = ls;
-      is = sym same;
-      no_earlier = omega arith;
-      fewer =
-          omega arith;
-    }
+  weaker_since : (p : Place) → Since n s (c + 1) m p → Since n s c (m + 1) p
+  weaker_since empty_place h = absurd h
+  weaker_since (at i t d l ls) h = (h.0, h.1, omega (arith, h.2), omega (arith, h.3))
 
-front_later : (f : Forest) (n s c : ℕ) (o : Owner) (p : Forest) (ls : List Level) (q : Place) →
-    into_front f n s c o p ls ≡ Some q → Later n s c 0 (weight f + remaining_around ls + 1) q
-front_later no_trees n s c o p ls q e = cc
-front_later (tree (leaf l) f) n s c o p ls q e = found n s c _ ls q e
-front_later (tree (group delimiter.None inside span) f) n s c o p ls q e =
-    or_later n s c _ _ _ q
-    (λ r h. later (front_later inside n s (c + 1) _ no_trees (level o p f ∷ ls) r h)
-    (omega arith) (omega arith))
-    (λ r h. later
-    (front_later f n s (c + (2 + weight inside)) o
-    (tree (group delimiter.None inside span) p) ls r h) (omega arith) (omega arith)) e
-front_later (tree (group delimiter.Parenthesis inside span) f) n s c o p ls q e =
-    found n s c _ ls q e
-front_later (tree (group delimiter.Brace inside span) f) n s c o p ls q e = found n s c _ ls q e
-front_later (tree (group delimiter.Bracket inside span) f) n s c o p ls q e = found n s c _ ls q e
-
-unwrapped_later : (n s c m : ℕ) (x : Option Place) (q : Place) →
-    ((r : Place) → x ≡ Some r → Later n s c 0 m r) → Later n s c 0 m q →
-    Later n s c 0 m (unwrap_or x q)
-unwrapped_later n s c m None q f g = g
-unwrapped_later n s c m (Some r) q f g = f r refl
-
-descend_later : (n s c : ℕ) (l : Level) (ls : List Level) →
-    Later n s c 0 (remaining (at n s c l ls)) (descend_from n s c l ls)
-descend_later n s c (level o p a) [] = unwrapped_later n s c _ (into_front a n s c o p []) _
-    (front_later a n s c o p [])
-    (later (here n s (c + weight a) (level o (turned_onto a p) no_trees) []) (omega arith)
-    (omega arith))
-descend_later n s c (level o p a) (u ∷ us) =
-    unwrapped_later n s c _ (into_front a n s c o p (u ∷ us)) _ (front_later a n s c o p (u ∷ us))
-    (later (descend_later n s (c + weight a + 1) (absorb o (turned_onto a p) u) us) (omega arith)
-    (omega (arith, absorbed o (turned_onto a p) n s c c u us)))
+  leads_on : Leads (Since n s c (m + 1)) (Since n s (c + 1) m)
+  leads_on = record {
+    down = kept-descend (Since n s c (m + 1)) (kept_since n s c (m + 1));
+    past = past_since;
+    weaker = weaker_since;
+  }
 
 -- what such a place is to a reader
 eqb-same : (n : ℕ) → (n == n) ≡ true
@@ -153,17 +87,11 @@ in_scope n s c d l m ls ms h =
       ap (λ b. is_some_and is_le (cond b (Some (nat_cmp c d)) None)) (eqb-same n) ∙ at_most c d h,
     )
 
-stays : {n s c x y : ℕ} (l : Level) (ls : List Level) {q : Place} → Later n s c x y q →
-    StaysIn (at n s c l ls) q
-stays {n} {s} {c} l ls h =
-    rw h.is (in_scope n s c h.now l h.inner ls h.outer (omega (arith, h.no_earlier)))
-
-left : {n s c x y : ℕ} {q : Place} → Later n s c x y q → remaining q + x ≤ y
-left {x = x} {y = y} h = rw h.is h.fewer
-
--- a move that takes something away
-abbrev GoesOn : Place → Place → Type 0
-GoesOn from to = StaysIn from to × (remaining to < remaining from) × (order from to ≡ Some Less)
+stays_since : (n s c e m : ℕ) (l : Level) (ls : List Level) (q : Place) → c ≤ e → Since n s e m q
+    → StaysIn (at n s c l ls) q × (remaining q ≤ m)
+stays_since n s c e m l ls empty_place h k = absurd k
+stays_since n s c e m l ls (at i t d x xs) h k =
+    (rw k.0 (rw k.1 (in_scope n s c d l x ls xs (omega (arith, h, k.2)))), k.3)
 
 less : (c d : ℕ) → c < d → nat_cmp c d ≡ Less
 less c d h = grind arith
@@ -173,158 +101,80 @@ in_order_later : (n s c d : ℕ) (l m : Level) (ls ms : List Level) → c < d �
 in_order_later n s c d l m ls ms h = ap (λ b. cond b (Some (nat_cmp c d)) None) (eqb-same n)
     ∙ ap Some (less c d h)
 
-ahead_of : {n s c y : ℕ} (l : Level) (ls : List Level) {q : Place} → Later n s c 1 y q →
-    order (at n s c l ls) q ≡ Some Less
-ahead_of {n} {s} {c} l ls h =
-    rw h.is (in_order_later n s c h.now l h.inner ls h.outer (omega (arith, h.no_earlier)))
+later_since : (n s c m : ℕ) (l : Level) (ls : List Level) (q : Place) → Since n s (c + 1) m q
+    → order (at n s c l ls) q ≡ Some Less
+later_since n s c m l ls empty_place h = absurd h
+later_since n s c m l ls (at i t d x xs) h =
+    rw h.0 (in_order_later n s c d l x ls xs (omega (arith, h.2)))
 
-goes_on : {n s c : ℕ} (l : Level) (ls : List Level) {q : Place} →
-    Later n s c 1 (remaining (at n s c l ls)) q → GoesOn (at n s c l ls) q
-goes_on l ls h = (stays l ls h, omega (arith, left h), ahead_of l ls h)
+-- a move that takes something away
+abbrev pub GoesOn : Place → Place → Type 0
+GoesOn from to = StaysIn from to × (remaining to < remaining from) × (order from to ≡ Some Less)
 
--- a read from a place of a scope
-abbrev Onwards : (Place → Option (List Tree × Place)) → Type 0
-Onwards read = (n s c : ℕ) (l : Level) (ls : List Level) (ts : List Tree) (q : Place) →
-    read (at n s c l ls) ≡ Some (ts, q) → Later n s c 1 (remaining (at n s c l ls)) q
+goes_on : (n s c : ℕ) (o : Owner) (p f : Forest) (ls : List Level) (q : Place)
+    → Since n s (c + 1) (weight f + remaining_around ls) q → GoesOn (at n s c (level o p f) ls) q
+goes_on n s c o p f ls q h =
+    let m = weight f + remaining_around ls in
+    let k = stays_since n s c (c + 1) m (level o p f) ls q (omega arith) h in
+    (k.0, omega (arith, k.1), later_since n s c m (level o p f) ls q h)
 
-second : (x : List Tree × Place) (ts : List Tree) (q : Place) → Some x ≡ Some (ts, q) → x.1 ≡ q
-second x ts q e = ap (λ y. elim y [ Some r ↦ r.1 | None ↦ q ]) e
+-- so does each call that leads where its moves lead
+module _ {A : Type 0} (end : A → Place) (move : Place → Option A) where
+  weaken : (r : Option A) (P Q : Place → Type 0) → ((q : Place) → P q → Q q)
+      → IfSome r (λ x. P (end x)) → IfSome r (λ x. Q (end x))
+  weaken None P Q f h = tt
+  weaken (Some x) P Q f h = f (end x) h
 
-moved : {n s c x y : ℕ} {p q : Place} → p ≡ q → Later n s c x y p → Later n s c x y q
-moved e h = record {
-  now = h.now;
-  inner = h.inner;
-  outer = h.outer;
-  is = sym e
-      ∙ h.is;
-  no_earlier = h.no_earlier;
-  fewer = h.fewer;
-}
+  goes : ((P Q : Place → Type 0) → Leads P Q → (p : Place) → P p → IfSome (move p) (λ x. Q (end x)))
+      → (p : Place) → IfSome (move p) (λ x. GoesOn p (end x))
+  goes on empty_place =
+      weaken (move empty_place) IsNone (GoesOn empty_place) (λ q h. absurd h)
+      (on IsEmpty IsNone leads-nowhere empty_place tt)
+  goes on (at n s c (level o p f) ls) =
+      let m = weight f + remaining_around ls in
+      weaken (move (at n s c (level o p f) ls)) (Since n s (c + 1) m)
+      (GoesOn (at n s c (level o p f) ls)) (goes_on n s c o p f ls)
+      (on (Since n s c (m + 1)) (Since n s (c + 1) m) (leads_on n s c m)
+      (at n s c (level o p f) ls) (refl, refl, omega arith, omega arith))
 
-wanted_later : (t : Tree) (p : Place) (b : Bool) (n s c m : ℕ) (ts : List Tree) (q : Place) →
-    Later n s c 1 m p → cond {A = Option (List Tree × Place)} b (Some (t ∷ [], p)) None
-    ≡ Some (ts, q) → Later n s c 1 m q
-wanted_later t p true n s c m ts q h e = moved (second (t ∷ [], p) ts q e) h
-wanted_later t p false n s c m ts q h e = cc
+abbrev after_read : List Tree × Place → Place
+after_read r = r.1
 
-take_onwards : (wanted : Tree → Bool) → Onwards (reads.read_if wanted)
-take_onwards wanted n s c (level o p no_trees) ls ts q e = cc
-take_onwards wanted n s c (level o p (tree t f)) ls ts q e = wanted_later t _ (wanted t) n s c _
-    ts q (passed n s c o p t f ls) e
+-- a read that goes on from each place
+abbrev pub AllGoOn : Read → Type 0
+AllGoOn read = (p : Place) → LeadsTo (GoesOn p) (read p)
 
-from_later : {n s c m : ℕ} (read : Place → Option (List Tree × Place)) → Onwards read →
-    (p : Place) → Later n s c 0 m p → (ts : List Tree) (q : Place) → read p ≡ Some (ts, q) →
-    Later n s c 1 m q
-from_later read on p h ts q e =
-    later (on _ _ h.now h.inner h.outer ts q (sym (ap read h.is) ∙ e))
-    (omega (arith, h.no_earlier)) (omega (arith, h.fewer))
+pub reading_goes : {read : Read} {first : First} → Reading read first → AllGoOn read
+reading_goes {read} r = goes after_read read (λ P Q m. leads P Q m r)
 
-descended : (read : Place → Option (List Tree × Place)) → Onwards read →
-    Onwards (λ p. read (descend p))
-descended read on n s c l ls ts q e = from_later read on _ (descend_later n s c l ls) ts q e
-
-then_later : (n s c m : ℕ) (x : Option (List Tree × Place))
-    (g : Place → Option (List Tree × Place)) → ((ts : List Tree) (q : Place) → x ≡ Some (ts, q) →
-    Later n s c 1 m q) → Onwards g → (ts : List Tree) (q : Place) → and_then x g ≡ Some (ts, q) →
-    Later n s c 1 m q
-then_later n s c m None g f on ts q e = cc
-then_later n s c m (Some r) g f on ts q e = go (g r.1) refl e where
-  first : Later n s c 1 m r.1
-  first = f r.0 r.1 refl
-
-  go : (y : Option (List Tree × Place)) → g r.1 ≡ y → elim y as (λ z. Option (List Tree × Place))
-      [ Some z ↦ Some (r.0 ++ z.0, z.1) | None ↦ None ] ≡ Some (ts, q) → Later n s c 1 m q
-  go None h k = cc
-  go (Some z) h k = moved (second (r.0 ++ z.0, z.1) ts q k)
-      (from_later g on r.1 (later first (omega arith) (omega arith)) z.0 z.1 h)
-
-then_onwards : (a b : Place → Option (List Tree × Place)) → Onwards a → Onwards b →
-    Onwards (λ p. and_then (a p) b)
-then_onwards a b f g n s c l ls ts q e = then_later n s c _ (a (at n s c l ls)) b (f n s c l ls)
-    g ts q e
-
-word_onwards : (wanted : List ℕ → Bool) → Onwards (read_word wanted)
-word_onwards wanted = descended (reads.read_if (is_ident_of wanted))
-    (take_onwards (is_ident_of wanted))
-
-lifetime_onwards : (wanted : List ℕ → Bool) → Onwards (read_lifetime wanted)
-lifetime_onwards wanted = then_onwards (λ p. reads.read_if is_joint_apostrophe (descend p))
-    (read_word wanted)
-    (descended (reads.read_if is_joint_apostrophe) (take_onwards is_joint_apostrophe))
-    (word_onwards wanted)
-
-punctuation_onwards : (text : List ℕ) → Onwards (read_punctuation text)
-punctuation_onwards [] n s c l ls ts q e = cc
-punctuation_onwards (x ∷ []) n s c l ls ts q e = descended (reads.read_if (is_punct_of x))
-    (take_onwards (is_punct_of x)) n s c l ls ts q e
-punctuation_onwards (x ∷ (y ∷ cs)) n s c l ls ts q e =
-    then_onwards (λ p. reads.read_if (is_joint_of x) (descend p)) (read_punctuation (y ∷ cs))
-    (descended (reads.read_if (is_joint_of x)) (take_onwards (is_joint_of x)))
-    (punctuation_onwards (y ∷ cs)) n s c l ls ts q e
-
-keyword_onwards : (text : List ℕ) → Onwards (read_keyword text)
-keyword_onwards [] n s c l ls ts q e = cc
-keyword_onwards (x ∷ cs) n s c l ls ts q e = word_onwards (bytes_eq (x ∷ cs)) n s c l ls ts q e
-
-nothing : {A : Type 0} (r : List Tree × Place) → None ≡ Some r → A
-nothing r e = cc
-
--- a read that finds nothing at the empty place
-read_on : (read : Place → Option (List Tree × Place)) → read empty_place ≡ None → Onwards read →
-    (p : Place) (ts : List Tree) (q : Place) → read p ≡ Some (ts, q) → GoesOn p q
-read_on read none on empty_place ts q e = nothing (ts, q) (sym none ∙ e)
-read_on read none on (at n s c l ls) ts q e = goes_on l ls (on n s c l ls ts q e)
-
-reads_on : (read : Place → Option (List Tree × Place)) → read empty_place ≡ None → Onwards read →
-    ReadsOn read
-reads_on read none on = record {
-  stays = λ p ts q e. (read_on read none on p ts q e).0;
-  lowers =
-      λ p ts q e. (read_on read none on p ts q e).1;
-}
-
-no_punctuation : (text : List ℕ) → read_punctuation text empty_place ≡ None
-no_punctuation [] = refl
-no_punctuation (c ∷ []) = refl
-no_punctuation (c ∷ (d ∷ cs)) = refl
-
-no_keyword : (text : List ℕ) → read_keyword text empty_place ≡ None
-no_keyword [] = refl
-no_keyword (c ∷ cs) = refl
-
-after_later : (n s c m : ℕ) (x : Option (List Tree × Place)) →
-    ((ts : List Tree) (q : Place) → x ≡ Some (ts, q) → Later n s c 1 m q) → (q : Place) →
-    place_after x ≡ Some q → Later n s c 1 m q
-after_later n s c m None f q e = cc
-after_later n s c m (Some r) f q e = let same : r.1 ≡ q = cc in moved same (f r.0 r.1 refl)
-
-skip_later : (n s c m : ℕ) (x y : Option (List Tree × Place)) →
-    ((ts : List Tree) (q : Place) → x ≡ Some (ts, q) → Later n s c 1 m q) →
-    ((ts : List Tree) (q : Place) → y ≡ Some (ts, q) → Later n s c 1 m q) → (q : Place) →
-    elim x as (λ z. Option Place) [ Some r ↦ Some r.1 | None ↦ place_after y ] ≡ Some q →
-    Later n s c 1 m q
-skip_later n s c m None y f g q e = after_later n s c m y g q e
-skip_later n s c m (Some r) y f g q e = let same : r.1 ≡ q = cc in moved same (f r.0 r.1 refl)
+take_goes : (wanted : Tree → Bool) → AllGoOn (read_if wanted)
+take_goes wanted = goes after_read (read_if wanted) (λ P Q m. leads-take P Q m wanted)
 
 skips_on : (p q : Place) → skip p ≡ Some q → GoesOn p q
-skips_on empty_place q e = cc
-skips_on (at n s c l ls) q e =
-    goes_on l ls (skip_later n s c _ (read_lifetime any_text (at n s c l ls))
-    (read_tree (descend (at n s c l ls))) (lifetime_onwards any_text n s c l ls)
-    (descended read_tree (take_onwards any_tree) n s c l ls) q e)
+skips_on p q e =
+    subst (λ r. IfSome r (GoesOn p)) e (goes (λ (q : Place). q) skip (λ P Q m. leads-skip P Q m) p)
+
+module _ (read : Read) (on : AllGoOn read) where
+  read_on : (p : Place) (ts : List Tree) (q : Place) → read p ≡ Some (ts, q) → GoesOn p q
+  read_on p ts q e = subst (LeadsTo (GoesOn p)) e (on p)
+
+  reads_on : ReadsOn read
+  reads_on = record {
+    stays = λ p ts q e. (read_on p ts q e).0;
+    lowers = λ p ts q e. (read_on p ts q e).1;
+  }
 
 pub reads_go_on : ReadsGoOn
 reads_go_on = record {
-  idents = reads_on _ refl (descended (reads.read_if is_ident) (take_onwards is_ident));
-  literals = reads_on _ refl (descended (reads.read_if is_literal) (take_onwards is_literal));
-  puncts = reads_on _ refl (descended (reads.read_if is_punct) (take_onwards is_punct));
-  words = λ wanted. reads_on (read_word wanted) refl (word_onwards wanted);
-  keywords = λ text. reads_on (read_keyword text) (no_keyword text) (keyword_onwards text);
-  lifetimes = λ wanted. reads_on (read_lifetime wanted) refl (lifetime_onwards wanted);
-  punctuations = λ text. reads_on (read_punctuation text) (no_punctuation text)
-      (punctuation_onwards text);
-  trees = reads_on read_tree refl (take_onwards any_tree);
-  taken = λ wanted. reads_on (reads.read_if wanted) refl (take_onwards wanted);
+  idents = reads_on _ (reading_goes of_ident);
+  literals = reads_on _ (reading_goes of_literal);
+  puncts = reads_on _ (reading_goes of_punct);
+  words = λ wanted. reads_on _ (reading_goes (of_word wanted));
+  keywords = λ text. reads_on _ (reading_goes (of_keyword text));
+  lifetimes = λ wanted. reads_on _ (reading_goes (of_lifetime wanted));
+  punctuations = λ text. reads_on _ (reading_goes (of_punctuation text));
+  trees = reads_on _ (take_goes any_tree);
+  taken = λ wanted. reads_on _ (take_goes wanted);
 }
 
 pub skips_go_on : SkipsGoOn
@@ -414,20 +264,49 @@ strictly (at n s c x xs) (at j t d l ls) (at i u e m ms) h k =
     (ap (λ y. cond y (Some (nat_cmp c e)) None) (eqb-same n)
     ∙ ap Some (less c e (omega (arith, a.counts, f))))
 
+pub goes_along : (p q r : Place) → GoesOn p q → GoesOn q r → GoesOn p r
+goes_along p q r g h =
+    (chains p q r g.0 h.0, omega (arith, g.1, h.1), strictly p q r g.0 h.2)
+
+pub then_goes : {read : Read} {first : First} → Reading read first → (p q : Place) → GoesOn p q
+    → LeadsTo (GoesOn p) (read q)
+then_goes {read} r p q g =
+    weaken after_read read (read q) (GoesOn q) (GoesOn p) (λ x h. goes_along p q x g h)
+    (reading_goes r q)
+
+pub lies_nowhere : (q : Place) → GoesOn empty_place q → ⊥
+lies_nowhere empty_place g = false≢true (ap (λ x. is_some_and is_lt x) g.2)
+lies_nowhere (at i u e m ms) g = unordered g.2
+
+pub later_count : (n s c m t d : ℕ) (l k : Level) (ls ks : List Level)
+    → GoesOn (at n s c l ls) (at m t d k ks) → c < d
+later_count n s c m t d l k ls ks g = less_than c d (compared (n == m) (nat_cmp c d) g.2).1
+
 -- a move that adds nothing
 abbrev Stays : Place → Place → Type 0
 Stays from to = StaysIn from to × (remaining to ≤ remaining from)
 
 descents : (p : Place) → Stays p (descend p)
 descents empty_place = (inr refl, omega arith)
-descents (at n s c l ls) = let h = descend_later n s c l ls in (stays l ls h, omega (arith, left h))
+descents (at n s c l ls) =
+    let m = remaining (at n s c l ls) in
+    stays_since n s c c m l ls (descend (at n s c l ls)) (omega arith)
+    (kept-descend (Since n s c m) (kept_since n s c m) (at n s c l ls)
+    (refl, refl, omega arith, omega arith))
+
+passed : (n s c : ℕ) (o : Owner) (p : Forest) (t : Tree) (f : Forest) (ls : List Level)
+    → GoesOn (at n s c (level o p (tree t f)) ls) (pass (at n s c (level o p (tree t f)) ls))
+passed n s c o p t f ls =
+    goes_on n s c o p (tree t f) ls (pass (at n s c (level o p (tree t f)) ls))
+    (past_since n s c (weight (tree t f) + remaining_around ls)
+    (at n s c (level o p (tree t f)) ls) t refl (refl, refl, omega arith, omega arith))
 
 passes : (p : Place) → Stays p (pass p)
 passes empty_place = (inr refl, omega arith)
 passes (at n s c (level o p no_trees) ls) =
     (stays_here (at n s c (level o p no_trees) ls), omega arith)
-passes (at n s c (level o p (tree t f)) ls) = let h = passed n s c o p t f ls in
-    (stays (level o p (tree t f)) ls h, omega (arith, left h))
+passes (at n s c (level o p (tree t f)) ls) =
+    let h = passed n s c o p t f ls in (h.0, omega (arith, h.1))
 
 pub moves_stay : MovesStay
 moves_stay = record {
@@ -450,12 +329,8 @@ any_goes_in empty_place e h = cc
 any_goes_in (at n s c (level o p no_trees) ls) e h = cc
 any_goes_in (at n s c (level o p (tree (leaf l) f)) ls) e h = cc
 any_goes_in (at n s c (level o p (tree (group d inside span) f)) ls) e h =
-    let whole = at n s c (level o p (tree (group d inside span) f)) ls in
-    subst (GoesIn whole) (entered_is _ e h) (
-      goes_on (level o p (tree (group d inside span) f))
-          ls (passed n s c o p (group d inside span) f ls),
-      omega arith,
-    )
+    subst (GoesIn (at n s c (level o p (tree (group d inside span) f)) ls)) (entered_is _ e h)
+    (passed n s c o p (group d inside span) f ls, omega arith)
 
 of_any : (d : Delimiter) (x : Option Entered) (e : Entered) → entered_of d x ≡ Some e → x ≡ Some e
 of_any d None e h = cc
@@ -504,26 +379,27 @@ entries_go_on = record {
 
 pub settle_remaining : (n s c : ℕ) (l : Level) (ls : List Level) →
     remaining (settle n s c l ls) ≤ remaining (at n s c l ls)
-settle_remaining n s c l ls = omega (arith, left (settle_later n s c l ls))
+settle_remaining n s c l ls =
+    let m = remaining (at n s c l ls) in
+    (stays_since n s c c m l ls (settle n s c l ls) (omega arith)
+    (kept-settle (Since n s c m) (kept_since n s c m) n s c l ls
+    (refl, refl, omega arith, omega arith))).1
 
 -- what a read passes lies before
-read_later : (read : Place → Option (List Tree × Place)) → read empty_place ≡ None →
-    Onwards read → (p : Place) (ts : List Tree) (q : Place) → read p ≡ Some (ts, q) →
-    order p q ≡ Some Less
-read_later read none on p ts q e = (read_on read none on p ts q e).2
+read_later : (read : Read) → AllGoOn read → Later read
+read_later read on p ts q e = (read_on read on p ts q e).2
 
 pub reads_go_later : ReadsGoLater
 reads_go_later = record {
-  idents = read_later _ refl (descended (reads.read_if is_ident) (take_onwards is_ident));
-  literals = read_later _ refl (descended (reads.read_if is_literal) (take_onwards is_literal));
-  puncts = read_later _ refl (descended (reads.read_if is_punct) (take_onwards is_punct));
-  words = λ wanted. read_later (read_word wanted) refl (word_onwards wanted);
-  keywords = λ text. read_later (read_keyword text) (no_keyword text) (keyword_onwards text);
-  lifetimes = λ wanted. read_later (read_lifetime wanted) refl (lifetime_onwards wanted);
-  punctuations = λ text. read_later (read_punctuation text) (no_punctuation text)
-      (punctuation_onwards text);
-  trees = read_later read_tree refl (take_onwards any_tree);
-  taken = λ wanted. read_later (reads.read_if wanted) refl (take_onwards wanted);
+  idents = read_later _ (reading_goes of_ident);
+  literals = read_later _ (reading_goes of_literal);
+  puncts = read_later _ (reading_goes of_punct);
+  words = λ wanted. read_later _ (reading_goes (of_word wanted));
+  keywords = λ text. read_later _ (reading_goes (of_keyword text));
+  lifetimes = λ wanted. read_later _ (reading_goes (of_lifetime wanted));
+  punctuations = λ text. read_later _ (reading_goes (of_punctuation text));
+  trees = read_later _ (take_goes any_tree);
+  taken = λ wanted. read_later _ (take_goes wanted);
   skips = λ p q e. (skips_on p q e).2;
   groups = λ d p e h. (goes_in d p e h).0.2;
   any_groups = λ p e h. (any_goes_in p e h).0.2;
@@ -537,13 +413,11 @@ scoped (at n s c l ls) empty_place (inr h) k = unordered k
 scoped empty_place (at m t d x xs) (inr h) k = unordered k
 scoped (at n s c l ls) (at m t d x xs) (inr h) k = cc
 
-kept : (p q : Place) → GoesOn p q → same_scope p q ≡ true
+pub kept : (p q : Place) → GoesOn p q → same_scope p q ≡ true
 kept p q g = scoped p q g.0 g.2
 
-read_kept :
-    (read : Place → Option (List Tree × Place)) → read empty_place ≡ None → Onwards read →
-    (p : Place) (ts : List Tree) (q : Place) → read p ≡ Some (ts, q) → same_scope p q ≡ true
-read_kept read none on p ts q e = kept p q (read_on read none on p ts q e)
+read_kept : (read : Read) → AllGoOn read → KeepsScope read
+read_kept read on p ts q e = kept p q (read_on read on p ts q e)
 
 kept_along :
     (p q r : Place) → same_scope p q ≡ true → same_scope q r ≡ true → same_scope p r ≡ true
@@ -557,16 +431,15 @@ kept_along (at n s c x xs) (at j t d l ls) (at i u e m ms) h k =
 
 pub reads_keep_scope : ReadsKeepScope
 reads_keep_scope = record {
-  idents = read_kept _ refl (descended (reads.read_if is_ident) (take_onwards is_ident));
-  literals = read_kept _ refl (descended (reads.read_if is_literal) (take_onwards is_literal));
-  puncts = read_kept _ refl (descended (reads.read_if is_punct) (take_onwards is_punct));
-  words = λ wanted. read_kept (read_word wanted) refl (word_onwards wanted);
-  keywords = λ text. read_kept (read_keyword text) (no_keyword text) (keyword_onwards text);
-  lifetimes = λ wanted. read_kept (read_lifetime wanted) refl (lifetime_onwards wanted);
-  punctuations =
-      λ text. read_kept (read_punctuation text) (no_punctuation text) (punctuation_onwards text);
-  trees = read_kept read_tree refl (take_onwards any_tree);
-  taken = λ wanted. read_kept (reads.read_if wanted) refl (take_onwards wanted);
+  idents = read_kept _ (reading_goes of_ident);
+  literals = read_kept _ (reading_goes of_literal);
+  puncts = read_kept _ (reading_goes of_punct);
+  words = λ wanted. read_kept _ (reading_goes (of_word wanted));
+  keywords = λ text. read_kept _ (reading_goes (of_keyword text));
+  lifetimes = λ wanted. read_kept _ (reading_goes (of_lifetime wanted));
+  punctuations = λ text. read_kept _ (reading_goes (of_punctuation text));
+  trees = read_kept _ (take_goes any_tree);
+  taken = λ wanted. read_kept _ (take_goes wanted);
   skips = λ p q e. kept p q (skips_on p q e);
   groups = λ d p e h. kept p e.after (goes_in d p e h).0;
   any_groups = λ p e h. kept p e.after (any_goes_in p e h).0;

@@ -6,10 +6,11 @@ use Rattle.tok_core.specs.Forest.{Tree}
 use Rattle.tok_buffer.specs.Ahead.{ahead}
 use Rattle.tok_buffer.specs.Place.{Place}
 use Rattle.tok_buffer.specs.Reads.{read_punctuation}
-use Rattle.tok_buffer.proofs.View.Shortens.{LeavesFewer, fewer-punctuation}
+use Rattle.tok_buffer.proofs.View.Readings.{of_punctuation}
+use Rattle.tok_buffer.proofs.View.Shortens.{LeavesFewer, fewer}
 use Rattle.syn_replay.specs.Kinds.{Kind, read, refusal}
 use Rattle.syn_parse.specs.State.{fresh}
-use Rattle.syn_replay.proofs.Views.KindReads.{fewer-read}
+use Rattle.syn_replay.proofs.Views.KindReads.{of_kind}
 use Rattle.syn_replay.specs.Reports.{Piece}
 use Rattle.syn_replay.specs.Turns.{Outcome, read_all, refused_at, with_parts, is_later, no_progress}
 use Rattle.syn_replay.specs.Turns.{after, after_value, pieces_of, Rule, is_over, without_separator}
@@ -35,7 +36,7 @@ module _ (kind : Kind) (separator : List ℕ) (scope : Span) where
       → length (ahead q) ≤ m
       → after_value kind separator scope p x u a q ≡ after_value kind separator scope p x u b q
   more_turns n m a b same p q x u h k =
-      after_fewer q u _ _ (read_punctuation separator q) (fewer-punctuation separator q)
+      after_fewer q u _ _ (read_punctuation separator q) (fewer (of_punctuation separator) q)
       (λ s r f. ap
       (λ o. with_parts (x ∷ (s ∷ []))
       (cond (is_later p r) o (refused_at (no_progress r scope) r)))
@@ -51,7 +52,7 @@ module _ (kind : Kind) (separator : List ℕ) (scope : Span) where
         let again = enough-turns n m in
         ap (λ o. cond (is_over rule p) (read_all [] p) o)
         (after_fewer p (refused_at (refusal kind (fresh p scope)) p) _ _ (read kind p)
-        (fewer-read kind p)
+        (fewer (of_kind kind).1 p)
         (λ x q f.
         ap (λ o. cond (is_over rule q) (read_all (x ∷ []) q) o)
         (more_turns n m (turns kind separator scope rule n) (turns kind separator scope rule m)

@@ -1,5 +1,5 @@
 -- Reads, peeks and refusals agree at places with equal views.
-use Rattle.std.proofs.Common.{◌≡◌, ◌∙◌, sym, ap, refl, ℕ, Bool, true, is_some, List, Option, Some}
+use Rattle.std.proofs.Common.{◌≡◌, ◌∙◌, ap, refl, ℕ, Bool, true, is_some, List, Option, Some}
 use Rattle.std.proofs.Common.{None}
 use Rattle.std.specs.Prelude.{codes, ◌++◌}
 use Rattle.tok_lexical.specs.declared.delimiter.Delimiter.{Delimiter}
@@ -10,9 +10,8 @@ use Rattle.tok_buffer.specs.Entry.{Entered, enter}
 use Rattle.tok_buffer.specs.Place.{Place}
 use Rattle.tok_buffer.specs.Reads.{skip, any_text, read_ident, read_lifetime}
 use Rattle.tok_buffer.specs.View.{IsVisibleDelimiter}
-use Rattle.tok_buffer.proofs.View.Alike.{Alike, StandsIn, ReadsAlike, PlacesAlike, EntriesAlike}
-use Rattle.tok_buffer.proofs.View.Alike.{alike-read, alike-skip, alike-end, alike-enter}
-use Rattle.tok_buffer.proofs.View.Standing.{leads-standing}
+use Rattle.tok_buffer.proofs.View.Alike.{Alike, ReadsAlike, PlacesAlike, EntriesAlike}
+use Rattle.tok_buffer.proofs.View.Alike.{alike-reading, alike-skip, alike-end, alike-enter}
 use Rattle.tok_types.specs.Texts.{in_backquotes}
 use Rattle.syn_parse.specs.State as parse
 use Rattle.syn_parse.specs.RefusalWords.{ident_words, lifetime_words, name_in, refused_at}
@@ -21,15 +20,11 @@ use Rattle.syn_replay.specs.Kinds.{Kind, ident, ident_any, lifetime, lifetime_an
 use Rattle.syn_replay.specs.Kinds.{read, peek_kind, Look, kind, paren, brace, bracket, the_end}
 use Rattle.syn_replay.specs.Kinds.{invisible_group, group_tree, any_tree, peek, peek2, peek3}
 use Rattle.syn_replay.specs.Kinds.{peek_past, ignores_invisible, refused_words, refusal}
-use Rattle.syn_replay.proofs.Views.KindReads.{read_in_view, view-read, leads-read}
+use Rattle.syn_replay.proofs.Views.KindReads.{of_kind}
 
 module _ (f g : Laid) where
   pub alike-kind : (k : Kind) (p q : Place) → Alike f g p q → ReadsAlike f g (read k p) (read k q)
-  alike-kind k p q h =
-      alike-read f g (read k p) (read k q)
-      (leads-read (StandsIn f) (StandsIn f) (leads-standing f.number f.forest) k p h.left)
-      (leads-read (StandsIn g) (StandsIn g) (leads-standing g.number g.forest) k q h.right)
-      (view-read f.forest k p ∙ ap (read_in_view k) h.same ∙ sym (view-read g.forest k q))
+  alike-kind k p q h = alike-reading f g (of_kind k).1 p q h
 
   both_read : (r q : Option (List Tree × Place)) → ReadsAlike f g r q → is_some r ≡ is_some q
   both_read None None h = refl

@@ -1,20 +1,22 @@
 -- List parsers at places with equal views.
-use Rattle.std.proofs.Common.{◌≡◌, ◌∙◌, sym, ap, subst, refl, ℕ, zero, suc, ◌+◌, ◌≤◌, ◌==◌, ◌&&◌}
+use Rattle.std.proofs.Common.{◌≡◌, ◌∙◌, ap, subst, refl, ℕ, zero, suc, ◌+◌, ◌<◌, ◌&&◌}
 use Rattle.std.proofs.Common.{nat_lt, Bool, true, false, cond, List, [], ◌∷◌, Option, Some, None}
-use Rattle.std.proofs.Common.{arith, le_refl}
+use Rattle.std.proofs.Common.{arith}
 use Rattle.std.proofs.lemmas.Bool.Decides.{nat_tests}
 use Rattle.tok_leaves.specs.declared.span.Span.{Span}
 use Rattle.tok_core.specs.Forest.{Tree}
 use Rattle.tok_buffer.specs.Buffer.{Laid}
 use Rattle.tok_buffer.specs.Place.{Place, empty_place, at}
 use Rattle.tok_buffer.specs.Reads.{read_punctuation}
-use Rattle.tok_buffer.proofs.View.Alike.{Alike, ReadsAlike, alike-end, alike-punctuation}
-use Rattle.tok_buffer.proofs.View.Lengths.{length_in_view, view-length}
-use Rattle.tok_buffer.proofs.View.Moves.{LeadsTo, IsBeyond, IsEmpty, IsNone, leads-nowhere}
-use Rattle.tok_buffer.proofs.View.Moves.{leads-later, leads-punctuation, weaker-beyond}
+use Rattle.tok_buffer.proofs.Onwards.{GoesOn, kept, later_count, lies_nowhere, reading_goes}
+use Rattle.tok_buffer.proofs.Onwards.{then_goes}
+use Rattle.tok_buffer.proofs.View.Alike.{Alike, ReadsAlike, alike-end, alike-reading}
+use Rattle.tok_buffer.proofs.View.Lengths.{same_length}
+use Rattle.tok_buffer.proofs.View.Moves.{LeadsTo}
+use Rattle.tok_buffer.proofs.View.Readings.{of_punctuation}
 use Rattle.syn_replay.specs.Kinds.{Kind, read, refusal}
 use Rattle.syn_parse.specs.State.{fresh}
-use Rattle.syn_replay.proofs.Views.KindReads.{leads-read}
+use Rattle.syn_replay.proofs.Views.KindReads.{of_kind}
 use Rattle.syn_replay.proofs.Views.KindsAlike.{alike-kind, alike-refusal}
 use Rattle.syn_replay.specs.Reports.{Piece}
 use Rattle.syn_replay.specs.Turns.{Outcome, read_all, refused_at, with_parts, is_later, no_progress}
@@ -23,31 +25,22 @@ use Rattle.syn_replay.specs.Turns.{Rule, terminated, separated, is_over, turns, 
 use Rattle.syn_replay.proofs.Views.Choices.{either}
 
 -- each read leads to a later place of the same scope
-abbrev pub IsLaterThan : Place → Place → Type 0
-IsLaterThan empty_place q = ⊥
-IsLaterThan (at n s c l ls) q = IsBeyond n s (c + 1) q
+later-read : (k : Kind) (p : Place) → LeadsTo (GoesOn p) (read k p)
+later-read k p = reading_goes (of_kind k).1 p
 
-later-read : (k : Kind) (p : Place) → LeadsTo (IsLaterThan p) (read k p)
-later-read k empty_place = leads-read IsEmpty IsNone leads-nowhere k empty_place tt
-later-read k (at n s c l ls) =
-    leads-read (IsBeyond n s c) (IsBeyond n s (c + 1)) (leads-later n s c) k (at n s c l ls)
-    (refl, refl, le_refl c)
+later-separator : (s : List ℕ) (p v : Place) → GoesOn p v
+    → LeadsTo (GoesOn p) (read_punctuation s v)
+later-separator s p v h = then_goes (of_punctuation s) p v h
 
-later-separator : (s : List ℕ) (p v : Place) → IsLaterThan p v
-    → LeadsTo (IsLaterThan p) (read_punctuation s v)
-later-separator x empty_place v h = absurd h
-later-separator x (at n s c l ls) v h =
-    leads-punctuation (IsBeyond n s c) (IsBeyond n s (c + 1)) (leads-later n s c) x v
-    (weaker-beyond n s c v h)
+later_test : (c d : ℕ) → c < d → nat_lt c d ≡ true
+later_test c d h = grind (arith, nat_tests)
 
-later_test : (n m s t c d : ℕ) → m ≡ n → t ≡ s → c + 1 ≤ d
-    → ((n == m && s == t) && nat_lt c d) ≡ true
-later_test n m s t c d e h k = grind (arith, nat_tests)
-
-is_later_there : (p q : Place) → IsLaterThan p q → is_later p q ≡ true
-is_later_there empty_place q h = absurd h
-is_later_there (at n s c l ls) empty_place h = absurd h
-is_later_there (at n s c l ls) (at m t d k ks) h = later_test n m s t c d h.0 h.1 h.2
+is_later_there : (p q : Place) → GoesOn p q → is_later p q ≡ true
+is_later_there empty_place q h = absurd (lies_nowhere q h)
+is_later_there (at n s c l ls) empty_place h = refl
+is_later_there (at n s c l ls) (at m t d k ks) h =
+    ap (λ b. b && nat_lt c d) (kept (at n s c l ls) (at m t d k ks) h)
+    ∙ later_test c d (later_count n s c m t d l k ls ks h)
 
 module _ (f g : Laid) where
   abbrev pub OutcomesAlike : Outcome → Outcome → Type 0
@@ -63,7 +56,7 @@ module _ (f g : Laid) where
   with-parts a b (refused_at r p) (refused_at s q) e h = h
 
   module _ (kind : Kind) (separator : List ℕ) (left right : Span) where
-    next-turn : (p q v w : Place) (a b : Place → Outcome) → IsLaterThan p v → IsLaterThan q w
+    next-turn : (p q v w : Place) (a b : Place → Outcome) → GoesOn p v → GoesOn q w
         → OutcomesAlike (a v) (b w)
         → OutcomesAlike (next_turn kind separator left p v a) (next_turn kind separator right q w b)
     next-turn p q v w a b h k i =
@@ -79,11 +72,11 @@ module _ (f g : Laid) where
         (r s : Option (List Tree × Place))
         → OutcomesAlike u v
         →
-        ((x : List Piece) (i j : Place) → Alike f g i j → IsLaterThan p i → IsLaterThan q j
+        ((x : List Piece) (i j : Place) → Alike f g i j → GoesOn p i → GoesOn q j
         → OutcomesAlike (a x i) (b x j))
         → ReadsAlike f g r s
-        → LeadsTo (IsLaterThan p) r
-        → LeadsTo (IsLaterThan q) s
+        → LeadsTo (GoesOn p) r
+        → LeadsTo (GoesOn q) s
         → OutcomesAlike (after u a r) (after v b s)
     after-read p q u v a b None None e m h i j = e
     after-read p q u v a b None (Some s) e m h i j = absurd h
@@ -97,15 +90,15 @@ module _ (f g : Laid) where
         → OutcomesAlike u v
         → ((y z : Place) → Alike f g y z → OutcomesAlike (a y) (b z))
         → Alike f g i j
-        → IsLaterThan p i
-        → IsLaterThan q j
+        → GoesOn p i
+        → GoesOn q j
         → OutcomesAlike (after_value kind separator left p x u a i)
         (after_value kind separator right q x v b j)
     after-value p q x u v a b i j e again h k m =
         after-read p q u v _ _ (read_punctuation separator i) (read_punctuation separator j) e
         (λ s y z l n o. with-parts (x ∷ (s ∷ [])) (x ∷ (s ∷ [])) _ _ refl
         (next-turn p q y z a b n o (again y z l)))
-        (alike-punctuation f g separator i j h) (later-separator separator p i k)
+        (alike-reading f g (of_punctuation separator) i j h) (later-separator separator p i k)
         (later-separator separator q j m)
 
     alike-over : (rule : Rule) (p q : Place) → Alike f g p q → is_over rule p ≡ is_over rule q
@@ -140,5 +133,4 @@ module _ (f g : Laid) where
   -- as many turns are allowed at both places
   pub alike-turns_left : (p q : Place) → Alike f g p q → turns_left p ≡ turns_left q
   alike-turns_left p q h =
-      ap (λ k. k + 1)
-      (view-length f.forest p ∙ ap length_in_view h.same ∙ sym (view-length g.forest q))
+      ap (λ k. k + 1) (same_length f.forest g.forest p q h.same)

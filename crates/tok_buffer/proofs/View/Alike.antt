@@ -14,24 +14,24 @@ use Rattle.tok_buffer.specs.Buffer.{Laid}
 use Rattle.tok_buffer.specs.Entry.{Entered, enter}
 use Rattle.tok_buffer.specs.Order.{same_scope}
 use Rattle.tok_buffer.specs.Place.{Place, empty_place, start, is_at_end}
-use Rattle.tok_buffer.specs.Reads.{skip, read_punctuation}
+use Rattle.tok_buffer.specs.Reads.{skip}
 use Rattle.tok_buffer.specs.Rest.{scope_delimiter}
 use Rattle.tok_buffer.specs.View.{View, empty_view, seen, view, erased_ahead, closings}
-use Rattle.tok_buffer.specs.View.{closing_marks, delimiter_in_view, one_scope_in_view}
+use Rattle.tok_buffer.specs.View.{closing_marks, delimiter_in_view, one_scope_in_view, with_view}
 use Rattle.tok_buffer.proofs.View.Closers.{delimiter_at-erase}
 use Rattle.tok_buffer.proofs.View.Ends.{end_in_view, view-end}
 use Rattle.tok_buffer.proofs.View.Unmarked.{unmarked}
-use Rattle.tok_buffer.proofs.View.LeafReads.{punctuation_in_view, view-punctuation}
 use Rattle.tok_buffer.proofs.View.Leftovers.{span_in_view, view-leftover}
-use Rattle.tok_buffer.proofs.View.Moves.{LeadsTo, LeadsAfter, leads-punctuation, leads-skip}
+use Rattle.tok_buffer.proofs.View.Moves.{LeadsTo, LeadsAfter, leads, leads-skip}
 use Rattle.tok_buffer.proofs.View.Ordinals.{groups, groups-erase, length-closing_marks}
 use Rattle.tok_buffer.proofs.View.Ordinals.{erase-unmarked, entered_view, enter_in_view, view-enter}
 use Rattle.tok_buffer.proofs.View.Ordinals.{IsVisibleDelimiter}
-use Rattle.tok_buffer.proofs.View.Skips.{skip_in_view, view-skip}
+use Rattle.tok_buffer.proofs.View.Readings.{Read, First, Reading}
+use Rattle.tok_buffer.proofs.View.ReadViews.{in_view, skip_in_view, view-reading, view-skip}
 use Rattle.tok_buffer.proofs.View.Standing.{Stands, BothStand, stands-start, stands-enter}
 use Rattle.tok_buffer.proofs.View.Standing.{leads-standing, view-delimiter, view-scope}
 use Rattle.tok_buffer.proofs.View.Standing.{stands-empty}
-use Rattle.tok_buffer.proofs.View.Erased.{with_view, erased_ahead_is}
+use Rattle.tok_buffer.proofs.View.Erased.{erased_ahead_is}
 
 -- a place of a buffer's forest
 abbrev pub StandsIn : Laid → Place → Type 0
@@ -136,7 +136,7 @@ module _ (f g : Laid) where
         same = refl;
       }
 
-  pub alike-read : (r q : Option (List Tree × Place)) → LeadsTo (StandsIn f) r
+  alike-read : (r q : Option (List Tree × Place)) → LeadsTo (StandsIn f) r
       → LeadsTo (StandsIn g) q → with_view f.forest r ≡ with_view g.forest q → ReadsAlike f g r q
   alike-read None None h k e = tt
   alike-read None (Some q) h k e = absurd (cc)
@@ -168,14 +168,13 @@ module _ (f g : Laid) where
         after = record { left = h.1; right = k.1; same = ap (λ x. x.after) parts };
       }
 
-  pub alike-punctuation : (s : List ℕ) (p q : Place) → Alike f g p q
-      → ReadsAlike f g (read_punctuation s p) (read_punctuation s q)
-  alike-punctuation s p q h =
-      alike-read (read_punctuation s p) (read_punctuation s q)
-      (leads-punctuation (StandsIn f) (StandsIn f) (leads-standing f.number f.forest) s p h.left)
-      (leads-punctuation (StandsIn g) (StandsIn g) (leads-standing g.number g.forest) s q h.right)
-      (view-punctuation f.forest s p ∙ ap (punctuation_in_view s) h.same
-      ∙ sym (view-punctuation g.forest s q))
+  pub alike-reading : {read : Read} {first : First} → Reading read first → (p q : Place)
+      → Alike f g p q → ReadsAlike f g (read p) (read q)
+  alike-reading {read} {first} r p q h =
+      alike-read (read p) (read q)
+      (leads (StandsIn f) (StandsIn f) (leads-standing f.number f.forest) r p h.left)
+      (leads (StandsIn g) (StandsIn g) (leads-standing g.number g.forest) r q h.right)
+      (view-reading f.forest r p ∙ ap (in_view first) h.same ∙ sym (view-reading g.forest r q))
 
   pub alike-skip : (p q : Place) → Alike f g p q → PlacesAlike f g (skip p) (skip q)
   alike-skip p q h =

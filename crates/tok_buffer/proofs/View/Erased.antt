@@ -1,19 +1,16 @@
--- A read of one leaf depends on the view alone.
-use Rattle.std.proofs.Common.{◌≡◌, ◌∙◌, sym, ap, refl, ℕ, ◌+◌, Bool, true, false, cond, List, []}
-use Rattle.std.proofs.Common.{◌∷◌, ◌++◌, map, Option, Some, None}
+-- The erased trees ahead, and views, after settling and after a descent.
+use Rattle.std.proofs.Common.{◌≡◌, ◌∙◌, sym, ap, refl, ℕ, ◌+◌, Bool, true, false, List, []}
+use Rattle.std.proofs.Common.{◌∷◌, ◌++◌, map, None}
 use Rattle.tok_lexical.specs.declared.delimiter.Delimiter.TheVariants as delimiter
 use Rattle.tok_core.specs.Erase.{erase}
 use Rattle.tok_core.specs.Forest.{Tree, leaf, group, Forest, no_trees, tree, forest, concat}
 use Rattle.tok_buffer.specs.Ahead.{visible, ahead, ahead_in}
 use Rattle.tok_buffer.specs.Descent.{descend_from, descend}
-use Rattle.tok_buffer.specs.Place.{Level, level, Place, empty_place, at, settle, pass}
-use Rattle.tok_buffer.specs.Reads.{read_if, is_ident, read_ident}
-pub use Rattle.tok_buffer.specs.View.{with_view}
-use Rattle.tok_buffer.specs.View.{erased_ahead, View, empty_view, seen, view, closings}
+use Rattle.tok_buffer.specs.Place.{Level, level, Place, empty_place, at, settle}
+use Rattle.tok_buffer.specs.View.{erased_ahead, seen, view, closings}
 use Rattle.tok_buffer.proofs.View.Unmarked.{unmarked, unmarked_in, trees_ahead, trees_ahead-descend}
 use Rattle.tok_buffer.proofs.View.Unmarked.{trees_ahead-settle}
-use Rattle.tok_buffer.proofs.View.Keeps.{IsKept, kept-settle, kept-descend_from, IsDescended}
-use Rattle.tok_buffer.proofs.View.Keeps.{descended-descend}
+use Rattle.tok_buffer.proofs.View.Keeps.{IsKept, kept-settle, kept-descend_from}
 
 -- the list of trees ahead, without its marks
 abbrev pub plain : List (Bool × Tree) → Forest
@@ -51,13 +48,18 @@ ahead-descend p = plain-ahead (descend p) ∙ trees_ahead-descend p ∙ sym (pla
 pub erased_ahead_is : (p : Place) → erased_ahead p ≡ erase (trees_ahead p)
 erased_ahead_is p = ap erase (plain-ahead p)
 
+pub settle-ahead : (n s c : ℕ) (l : Level) (ls : List Level)
+    → erased_ahead (settle n s c l ls) ≡ erase (unmarked_in (l ∷ ls))
+settle-ahead n s c l ls =
+    erased_ahead_is (settle n s c l ls) ∙ ap erase (trees_ahead-settle n s c l ls)
+
 -- Neither settling nor descending changes the scope of a place.
 abbrev pub HasScope : ℕ → Place → Type 0
 HasScope s empty_place = ⊥
 HasScope s (at n t c l ls) = t ≡ s
 
 module _ (s : ℕ) where
-  kept-scope : IsKept (HasScope s)
+  pub kept-scope : IsKept (HasScope s)
   kept-scope = record { into = λ n t c o p inside span f ls h. h; out = λ n t c o p l ls h. h }
 
 pub view_is : (f : Forest) (s : ℕ) (p : Place) → HasScope s p
@@ -80,56 +82,3 @@ pub view-settle : (f : Forest) (n s c : ℕ) (l : Level) (ls : List Level)
 view-settle f n s c l ls =
     view_is f s (settle n s c l ls) (kept-settle (HasScope s) (kept-scope s) n s c l ls refl)
     ∙ ap (λ g. seen (closings f s) (erase g)) (trees_ahead-settle n s c l ls)
-
--- A test that is true of leaves alone.
-abbrev pub IsOfLeaves : (Tree → Bool) → Type 0
-IsOfLeaves wanted =
-    (d : delimiter.the_data) (inside : Forest) (span : _) → wanted (group d inside span) ≡ false
-
--- the read of a leaf, in the view
-abbrev pub leaf_in_view : (Tree → Bool) → View → Option (List Tree × View)
-leaf_in_view wanted empty_view = None
-leaf_in_view wanted (seen k no_trees) = None
-leaf_in_view wanted (seen k (tree t f)) = cond (wanted t) (Some (t ∷ [], seen k f)) None
-
-with_view-cond : (f : Forest) (b : Bool) (t : Tree) (p : Place) (v : View) → view f p ≡ v
-    → with_view f (cond b (Some (t ∷ [], p)) None) ≡ cond b (Some (t ∷ [], v)) None
-with_view-cond f true t p v e = ap (λ w. Some (t ∷ [], w)) e
-with_view-cond f false t p v e = refl
-
-cond_none : {A : Type 0} (b : Bool) (x : Option A) → b ≡ false → cond b x None ≡ None
-cond_none b x e = ap (λ c. cond c x None) e
-
-pub view-take : (f : Forest) (wanted : Tree → Bool) → IsOfLeaves wanted → (p : Place)
-    → IsDescended p → with_view f (read_if wanted p) ≡ leaf_in_view wanted (view f p)
-view-take f wanted leaves empty_place h = refl
-view-take f wanted leaves (at n s c (level o p (tree (leaf l) a)) ls) h =
-    with_view-cond
-    f
-    (wanted (leaf l))
-    (leaf l)
-    (pass (at n s c (level o p (tree (leaf l) a)) ls))
-    (seen (closings f s) (erased_ahead (at n s c (level o p a) ls)))
-    (view-settle f n s (c + 1) (level o (tree (leaf l) p) a) ls
-    ∙ ap (seen (closings f s)) (sym (erased_ahead_is (at n s c (level o p a) ls))))
-view-take f wanted leaves (at n s c (level o p (tree (group delimiter.None inside span) a)) ls) h =
-    absurd h
-view-take f wanted leaves (at n s c (level o p (tree (group d inside span) a)) ls) h =
-    ap (with_view f) (cond_none (wanted (group d inside span)) _ (leaves d inside span))
-    ∙ sym (cond_none (wanted (group d (erase inside) span)) _ (leaves d (erase inside) span))
-view-take f wanted leaves (at n s c (level o p no_trees) []) h = refl
-view-take f wanted leaves (at n s c (level o p no_trees) (l ∷ ls)) h = absurd h
-
--- a read of one leaf depends on the view alone: its trees, and the view of the place after it
-pub view-leaf : (f : Forest) (wanted : Tree → Bool) → IsOfLeaves wanted → (p : Place)
-    → with_view f (read_if wanted (descend p)) ≡ leaf_in_view wanted (view f p)
-view-leaf f wanted leaves p =
-    view-take f wanted leaves (descend p) (descended-descend p)
-    ∙ ap (leaf_in_view wanted) (view-descend f p)
-
--- an identifier, at two places with equal views
-pub same_ident : (f g : Forest) (p q : Place) → view f p ≡ view g q
-    → with_view f (read_ident p) ≡ with_view g (read_ident q)
-same_ident f g p q e =
-    view-leaf f is_ident (λ d inside span. refl) p ∙ ap (leaf_in_view is_ident) e
-    ∙ sym (view-leaf g is_ident (λ d inside span. refl) q)

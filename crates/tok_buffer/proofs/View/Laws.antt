@@ -1,7 +1,7 @@
 -- Invisible groups do not matter to a single call: the proofs.
 use Rattle.std.proofs.Common.{◌≡◌, ◌∙◌, sym, ap, subst, refl, true, false, cond, Bool, Option, Some}
-use Rattle.std.proofs.Common.{None, ℕ, List, [], ◌∷◌}
-use Rattle.std.specs.Prelude.{IfSome, bytes_eq}
+use Rattle.std.proofs.Common.{None, ℕ, [], ◌∷◌}
+use Rattle.std.specs.Prelude.{IfSome}
 use Rattle.tok_lexical.specs.declared.delimiter.Delimiter.{Delimiter}
 use Rattle.tok_lexical.specs.declared.delimiter.Delimiter.TheVariants as delimiter
 use Rattle.tok_core.specs.Forest.{leaf, group, Forest, no_trees, tree}
@@ -10,29 +10,23 @@ use Rattle.tok_buffer.specs.Descent.{descend}
 use Rattle.tok_buffer.specs.Entry.{Entered, enter, enter_any, entered_of, same_delimiter}
 use Rattle.tok_buffer.specs.Place.{level, Place, empty_place, at, pass}
 use Rattle.tok_buffer.specs.Reached.{Reached, down, past, into}
-use Rattle.tok_buffer.specs.Reads.{is_ident, is_literal, is_punct, read_keyword, read_word}
 use Rattle.tok_buffer.specs.SameView.{ViewsDecide, CallsLeadOn, ViewsTellScopes}
-use Rattle.tok_buffer.specs.SameView.{ViewsTellDelimiters, StartsAgree, ReadsAgree, ReadLeadsOn}
+use Rattle.tok_buffer.specs.SameView.{ViewsTellDelimiters, StartsAgree, ReadsAgree}
 use Rattle.tok_buffer.specs.View.{IsVisibleDelimiter, view}
 use Rattle.tok_buffer.proofs.View.Alike.{Alike, delimiter-erase, view-starts, alike-end}
 use Rattle.tok_buffer.proofs.View.Alike.{alike-leftover}
-use Rattle.tok_buffer.proofs.View.Erased.{leaf_in_view, view-leaf}
-use Rattle.tok_buffer.proofs.View.LeafReads.{lifetime_in_view, punctuation_in_view, view-lifetime}
-use Rattle.tok_buffer.proofs.View.LeafReads.{view-punctuation, view-word}
-use Rattle.tok_buffer.proofs.View.Moves.{Leads, leads-leaf, leads-word, leads-lifetime}
-use Rattle.tok_buffer.proofs.View.Moves.{leads-punctuation, leads-skip}
+use Rattle.tok_buffer.proofs.View.Moves.{Leads, leads, leads-skip}
 use Rattle.tok_buffer.proofs.View.Ordinals.{enter_in_view, view-enter}
 use Rattle.tok_buffer.proofs.View.Places.{reached_stands}
-use Rattle.tok_buffer.proofs.View.Skips.{skip_in_view, view-skip}
+use Rattle.tok_buffer.proofs.View.Readings.{Read, First, Reading, of_ident, of_word, of_keyword}
+use Rattle.tok_buffer.proofs.View.Readings.{of_lifetime, of_literal, of_punct, of_punctuation}
+use Rattle.tok_buffer.proofs.View.ReadViews.{in_view, skip_in_view, view-reading, view-skip}
 use Rattle.tok_buffer.proofs.View.Standing.{view-scope, view-delimiter}
 
-module _ (f g : Forest) (p q : Place) (e : view f p ≡ view g q) where
-  word-same : (wanted : List ℕ → Bool) → ReadsAgree f g (read_word wanted) p q
-  word-same wanted = view-word f wanted p ∙ ap (leaf_in_view _) e ∙ sym (view-word g wanted q)
-
-  keyword-same : (text : List ℕ) → ReadsAgree f g (read_keyword text) p q
-  keyword-same [] = refl
-  keyword-same (c ∷ cs) = word-same (bytes_eq (c ∷ cs))
+pub read-same : {read : Read} {first : First} → Reading read first → (f g : Forest) (p q : Place)
+    → view f p ≡ view g q → ReadsAgree f g read p q
+read-same {read} {first} r f g p q e =
+    view-reading f r p ∙ ap (in_view first) e ∙ sym (view-reading g r q)
 
 pub views_decide : ViewsDecide
 views_decide b c p q s =
@@ -45,23 +39,13 @@ views_decide b c p q s =
       same = s.same;
     } in
     record {
-      idents =
-          view-leaf f is_ident (λ d inside span. refl) p ∙ ap (leaf_in_view is_ident) s.same
-          ∙ sym (view-leaf g is_ident (λ d inside span. refl) q);
-      words = word-same f g p q s.same;
-      keywords = keyword-same f g p q s.same;
-      lifetimes =
-          λ wanted. view-lifetime f wanted p ∙ ap (lifetime_in_view wanted) s.same
-          ∙ sym (view-lifetime g wanted q);
-      literals =
-          view-leaf f is_literal (λ d inside span. refl) p ∙ ap (leaf_in_view is_literal) s.same
-          ∙ sym (view-leaf g is_literal (λ d inside span. refl) q);
-      puncts =
-          view-leaf f is_punct (λ d inside span. refl) p ∙ ap (leaf_in_view is_punct) s.same
-          ∙ sym (view-leaf g is_punct (λ d inside span. refl) q);
-      punctuations =
-          λ text. view-punctuation f text p ∙ ap (punctuation_in_view text) s.same
-          ∙ sym (view-punctuation g text q);
+      idents = read-same of_ident f g p q s.same;
+      words = λ wanted. read-same (of_word wanted) f g p q s.same;
+      keywords = λ text. read-same (of_keyword text) f g p q s.same;
+      lifetimes = λ wanted. read-same (of_lifetime wanted) f g p q s.same;
+      literals = read-same of_literal f g p q s.same;
+      puncts = read-same of_punct f g p q s.same;
+      punctuations = λ text. read-same (of_punctuation text) f g p q s.same;
       skips = view-skip f p ∙ ap skip_in_view s.same ∙ sym (view-skip g q);
       ends = alike-end b c p q h;
       enters = λ d v.
@@ -84,7 +68,7 @@ starts_agree b c e = view-starts b c e
 
 -- The places after each call are reached.
 module _ (b : Laid) where
-  reaching : Leads (Reached b) (Reached b)
+  pub reaching : Leads (Reached b) (Reached b)
   reaching = record { down = down; past = λ p t e h. past p h; weaker = λ p h. h }
 
   -- the place after a group is the place after the tree in front
@@ -118,23 +102,18 @@ module _ (b : Laid) where
     go None e k = tt
     go (Some x) e k = (into d p x v e h, subst (Reached b) (sym k) (past (descend p) (down p h)))
 
-  leads-keyword : (p : Place) → Reached b p → (text : List ℕ) → ReadLeadsOn b (read_keyword text) p
-  leads-keyword p h [] = tt
-  leads-keyword p h (c ∷ cs) =
-      leads-word (Reached b) (Reached b) reaching (bytes_eq (c ∷ cs)) p h
-
 pub calls_lead_on : CallsLeadOn
 calls_lead_on b p h =
     let m = reaching b in
     let R = Reached b in
     record {
-      idents = leads-leaf R R m is_ident p h;
-      words = λ wanted. leads-word R R m wanted p h;
-      keywords = leads-keyword b p h;
-      lifetimes = λ wanted. leads-lifetime R R m wanted p h;
-      literals = leads-leaf R R m is_literal p h;
-      puncts = leads-leaf R R m is_punct p h;
-      punctuations = λ text. leads-punctuation R R m text p h;
+      idents = leads R R m of_ident p h;
+      words = λ wanted. leads R R m (of_word wanted) p h;
+      keywords = λ text. leads R R m (of_keyword text) p h;
+      lifetimes = λ wanted. leads R R m (of_lifetime wanted) p h;
+      literals = leads R R m of_literal p h;
+      puncts = leads R R m of_punct p h;
+      punctuations = λ text. leads R R m (of_punctuation text) p h;
       skips = leads-skip R R m p h;
       enters = λ d v. entries b d p v h;
     }

@@ -6,10 +6,11 @@ use Rattle.tok_core.specs.Forest.{Tree, leaf, group, Forest, no_trees, tree, con
 use Rattle.tok_core.proofs.Erasures.{erase_concat}
 use Rattle.tok_buffer.specs.Ahead.{ahead}
 use Rattle.tok_buffer.specs.Place.{Level, level, Place, empty_place, at}
-use Rattle.tok_buffer.specs.View.{View, empty_view, seen, view}
+use Rattle.tok_buffer.specs.View.{erased_ahead, view}
 use Rattle.tok_buffer.proofs.View.Unmarked.{unmarked, unmarked_in}
 use Rattle.tok_buffer.proofs.View.Ordinals.{erase-unmarked}
 use Rattle.tok_buffer.proofs.View.Erased.{plain, plain-ahead, erased_ahead_is}
+use Rattle.tok_buffer.proofs.View.Tells.{trees_of, trees-view}
 
 abbrev pub tree_count : Forest → ℕ
 tree_count no_trees = 0
@@ -50,13 +51,15 @@ count-plain : (ts : List (Bool × Tree)) → length ts ≡ tree_count (plain ts)
 count-plain [] = refl
 count-plain (t ∷ ts) = omega (arith, count-plain ts)
 
-abbrev pub length_in_view : View → ℕ
-length_in_view empty_view = 0
-length_in_view (seen k f) = tree_count f
-
-pub view-length : (g : Forest) (p : Place) → length (ahead p) ≡ length_in_view (view g p)
-view-length g empty_place = refl
-view-length g (at n s c l ls) =
+pub length_ahead : (p : Place) → length (ahead p) ≡ tree_count (erased_ahead p)
+length_ahead empty_place = refl
+length_ahead (at n s c l ls) =
     let p = at n s c l ls in
     count-plain (ahead p) ∙ ap tree_count (plain-ahead p)
     ∙ sym (ap tree_count (erased_ahead_is p) ∙ count-levels (l ∷ ls))
+
+pub same_length : (f g : Forest) (p q : Place) → view f p ≡ view g q
+    → length (ahead p) ≡ length (ahead q)
+same_length f g p q e =
+    length_ahead p ∙ ap tree_count (trees-view f p ∙ ap trees_of e ∙ sym (trees-view g q))
+    ∙ sym (length_ahead q)

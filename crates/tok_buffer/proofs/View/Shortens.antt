@@ -2,64 +2,49 @@
 use Rattle.std.proofs.Common.{◌≡◌, sym, subst, ℕ, ◌+◌, ◌≤◌, Bool, true, false, cond, List, [], ◌∷◌}
 use Rattle.std.proofs.Common.{◌++◌, length, Option, Some, None, arith}
 use Rattle.std.specs.Prelude.{IfSome}
-use Rattle.tok_core.specs.Clear.{is_joint_apostrophe}
 use Rattle.tok_core.specs.Forest.{Tree, Forest, no_trees, tree}
 use Rattle.tok_buffer.specs.Ahead.{ahead}
+use Rattle.tok_buffer.specs.InFront.{and_first, first_if, with_ahead}
 use Rattle.tok_buffer.specs.Place.{Place}
-use Rattle.tok_buffer.specs.Reads.{is_ident_of, is_punct_of, is_joint_of, read_punctuation}
-use Rattle.tok_buffer.specs.View.{View, empty_view, seen, view}
-use Rattle.tok_buffer.proofs.View.LeafReads.{then_in_view, punctuation_in_view, lifetime_in_view}
-use Rattle.tok_buffer.proofs.View.LeafReads.{view-punctuation}
-use Rattle.tok_buffer.proofs.View.Lengths.{length_in_view, view-length}
-use Rattle.tok_buffer.proofs.View.Erased.{leaf_in_view, with_view}
+use Rattle.tok_buffer.specs.View.{erased_ahead}
+use Rattle.tok_buffer.proofs.View.Tells.{tells}
+use Rattle.tok_buffer.proofs.View.Lengths.{tree_count, length_ahead}
+use Rattle.tok_buffer.proofs.View.Readings.{Read, First, Reading, never, one, more}
 
-abbrev pub Shortens : View → Option (List Tree × View) → Type 0
-Shortens v r = IfSome r (λ x. length_in_view x.1 + 1 ≤ length_in_view v)
+abbrev Shortens : Forest → Option (List Tree × Forest) → Type 0
+Shortens f r = IfSome r (λ x. tree_count x.1 + 1 ≤ tree_count f)
 
-pub shortens-leaf : (wanted : Tree → Bool) (v : View) → Shortens v (leaf_in_view wanted v)
-shortens-leaf wanted empty_view = tt
-shortens-leaf wanted (seen k no_trees) = tt
-shortens-leaf wanted (seen k (tree t f)) = go (wanted t) where
-  go : (b : Bool) → Shortens (seen k (tree t f)) (cond b (Some (t ∷ [], seen k f)) None)
+shortens-if : (wanted : Tree → Bool) (f : Forest) → Shortens f (first_if wanted f)
+shortens-if wanted no_trees = tt
+shortens-if wanted (tree t f) = go (wanted t) where
+  go : (b : Bool) → Shortens (tree t f) (cond b (Some (t ∷ [], f)) None)
   go true = omega arith
   go false = tt
 
-shortens-then : (v : View) (r : Option (List Tree × View)) (h : View → Option (List Tree × View))
-    → Shortens v r → ((w : View) → Shortens w (h w)) → Shortens v (then_in_view r h)
-shortens-then v None h a b = tt
-shortens-then v (Some r) h a b = go (h r.1) (b r.1) where
-  go : (q : Option (List Tree × View)) → Shortens r.1 q
-      → Shortens v (elim q [ Some x ↦ Some (r.0 ++ x.0, x.1) | None ↦ None ])
+shortens-then : (f : Forest) (r : Option (List Tree × Forest)) (h : First) → Shortens f r
+    → ((g : Forest) → Shortens g (h g)) → Shortens f (and_first r h)
+shortens-then f None h a b = tt
+shortens-then f (Some r) h a b = go (h r.1) (b r.1) where
+  go : (q : Option (List Tree × Forest)) → Shortens r.1 q
+      → Shortens f (elim q [ Some x ↦ Some (r.0 ++ x.0, x.1) | None ↦ None ])
   go None c = tt
   go (Some x) c = omega (arith, a, c)
 
-pub shortens-punctuation : (s : List ℕ) (v : View) → Shortens v (punctuation_in_view s v)
-shortens-punctuation [] v = tt
-shortens-punctuation (c ∷ []) v = shortens-leaf (is_punct_of c) v
-shortens-punctuation (c ∷ (d ∷ cs)) v =
-    shortens-then v (leaf_in_view (is_joint_of c) v) (punctuation_in_view (d ∷ cs))
-    (shortens-leaf (is_joint_of c) v) (shortens-punctuation (d ∷ cs))
+shortens : {read : Read} {first : First} → Reading read first → (f : Forest) → Shortens f (first f)
+shortens never f = tt
+shortens (one wanted leaves) f = shortens-if wanted f
+shortens (more wanted leaves g h r) f =
+    shortens-then f (first_if wanted f) h (shortens-if wanted f) (shortens r)
 
-pub shortens-lifetime : (wanted : List ℕ → Bool) (v : View) → Shortens v (lifetime_in_view wanted v)
-shortens-lifetime wanted v =
-    shortens-then v (leaf_in_view is_joint_apostrophe v) (leaf_in_view (is_ident_of wanted))
-    (shortens-leaf is_joint_apostrophe v) (shortens-leaf (is_ident_of wanted))
-
--- the same of places
 abbrev pub LeavesFewer : Place → Option (List Tree × Place) → Type 0
 LeavesFewer p r = IfSome r (λ x. length (ahead x.1) + 1 ≤ length (ahead p))
 
-module _ (g : Forest) where
-  fewer : (p : Place) (r : Option (List Tree × Place)) → Shortens (view g p) (with_view g r)
-      → LeavesFewer p r
-  fewer p None h = tt
-  fewer p (Some r) h = omega (arith, h, view-length g p, view-length g r.1)
-
-  pub leaves-fewer : (p : Place) (r : Option (List Tree × Place)) (v : Option (List Tree × View))
-      → with_view g r ≡ v → Shortens (view g p) v → LeavesFewer p r
-  leaves-fewer p r v e h = fewer p r (subst (Shortens (view g p)) (sym e) h)
-
-pub fewer-punctuation : (s : List ℕ) (p : Place) → LeavesFewer p (read_punctuation s p)
-fewer-punctuation s p =
-    leaves-fewer no_trees p (read_punctuation s p) (punctuation_in_view s (view no_trees p))
-    (view-punctuation no_trees s p) (shortens-punctuation s (view no_trees p))
+pub fewer : {read : Read} {first : First} → Reading read first → (p : Place)
+    → LeavesFewer p (read p)
+fewer {read} {first} r p = go (read p) (tells r p) where
+  go : (x : Option (List Tree × Place)) → with_ahead x ≡ first (erased_ahead p) → LeavesFewer p x
+  go None e = tt
+  go (Some x) e =
+      let s : Shortens (erased_ahead p) (Some (x.0, erased_ahead x.1)) =
+      subst (Shortens (erased_ahead p)) (sym e) (shortens r (erased_ahead p)) in
+      omega (arith, s, length_ahead p, length_ahead x.1)

@@ -1,0 +1,124 @@
+-- What a read takes, and a skip passes, of the erased trees ahead.
+use Rattle.std.proofs.Common.{◌≡◌, ◌∙◌, sym, ap, refl, ℕ, ◌+◌, Bool, true, false, cond, List, []}
+use Rattle.std.proofs.Common.{◌∷◌, ◌++◌, Option, Some, None}
+use Rattle.std.specs.Prelude.{option_map}
+use Rattle.tok_lexical.specs.declared.delimiter.Delimiter.TheVariants as delimiter
+use Rattle.tok_core.specs.Clear.{is_joint_apostrophe}
+use Rattle.tok_core.specs.Erase.{erase}
+use Rattle.tok_core.specs.Forest.{Tree, leaf, group, Forest, no_trees, tree}
+use Rattle.tok_core.specs.Weight.{weight}
+use Rattle.tok_buffer.specs.Descent.{descend}
+use Rattle.tok_buffer.specs.InFront.{with_ahead, first_if, and_first}
+use Rattle.tok_buffer.specs.Place.{level, Place, empty_place, at, pass}
+use Rattle.tok_buffer.specs.Reads.{read_if, and_then, any_text, is_ident_of, place_after, read_tree}
+use Rattle.tok_buffer.specs.Reads.{read_lifetime, skip}
+use Rattle.tok_buffer.specs.View.{erased_ahead, View, empty_view, seen, view}
+use Rattle.tok_buffer.proofs.View.Erased.{erased_ahead_is, ahead-descend, settle-ahead}
+use Rattle.tok_buffer.proofs.View.Keeps.{IsDescended, descended-descend}
+use Rattle.tok_buffer.proofs.View.Readings.{Read, First, Reading, never, one, more, IsOfLeaves}
+use Rattle.tok_buffer.proofs.View.Readings.{of_lifetime}
+
+-- the trees of a view
+abbrev pub trees_of : View → Forest
+trees_of empty_view = no_trees
+trees_of (seen k f) = f
+
+pub trees-view : (g : Forest) (p : Place) → erased_ahead p ≡ trees_of (view g p)
+trees-view g empty_place = refl
+trees-view g (at n s c l ls) = refl
+
+-- the front tree, at the end of a descent
+tells-wanted : (b : Bool) (t : Tree) (p : Place) (f : Forest) → erased_ahead p ≡ f
+    → with_ahead (cond b (Some (t ∷ [], p)) None) ≡ cond b (Some (t ∷ [], f)) None
+tells-wanted true t p f e = ap (λ g. Some (t ∷ [], g)) e
+tells-wanted false t p f e = refl
+
+cond_none : {A : Type 0} (b : Bool) (x : Option A) → b ≡ false → cond b x None ≡ None
+cond_none b x e = ap (λ c. cond c x None) e
+
+tells-take : (wanted : Tree → Bool) → IsOfLeaves wanted → (p : Place) → IsDescended p
+    → with_ahead (read_if wanted p) ≡ first_if wanted (erased_ahead p)
+tells-take wanted leaves empty_place h = refl
+tells-take wanted leaves (at n s c (level o p (tree (leaf l) a)) ls) h =
+    tells-wanted (wanted (leaf l)) (leaf l) (pass (at n s c (level o p (tree (leaf l) a)) ls))
+    (erased_ahead (at n s c (level o p a) ls))
+    (settle-ahead n s (c + 1) (level o (tree (leaf l) p) a) ls
+    ∙ sym (erased_ahead_is (at n s c (level o p a) ls)))
+tells-take wanted leaves (at n s c (level o p (tree (group delimiter.None inside span) a)) ls) h =
+    absurd h
+tells-take wanted leaves (at n s c (level o p (tree (group d inside span) a)) ls) h =
+    ap with_ahead (cond_none (wanted (group d inside span)) _ (leaves d inside span))
+    ∙ sym (cond_none (wanted (group d (erase inside) span)) _ (leaves d (erase inside) span))
+tells-take wanted leaves (at n s c (level o p no_trees) []) h = refl
+tells-take wanted leaves (at n s c (level o p no_trees) (l ∷ ls)) h = absurd h
+
+tells-one : (wanted : Tree → Bool) → IsOfLeaves wanted → (p : Place)
+    → with_ahead (read_if wanted (descend p)) ≡ first_if wanted (erased_ahead p)
+tells-one wanted leaves p =
+    tells-take wanted leaves (descend p) (descended-descend p)
+    ∙ ap (λ f. first_if wanted (erase f)) (ahead-descend p)
+
+tells-more : (ts : List Tree) (r : Option (List Tree × Place)) (v : Option (List Tree × Forest))
+    → with_ahead r ≡ v
+    → with_ahead (elim r [ Some q ↦ Some (ts ++ q.0, q.1) | None ↦ None ])
+    ≡ elim v [ Some q ↦ Some (ts ++ q.0, q.1) | None ↦ None ]
+tells-more ts None v e = ap (λ w. elim w [ Some q ↦ Some (ts ++ q.0, q.1) | None ↦ None ]) e
+tells-more ts (Some r) v e = ap (λ w. elim w [ Some q ↦ Some (ts ++ q.0, q.1) | None ↦ None ]) e
+
+tells-then : (r : Option (List Tree × Place)) (g : Read) (h : First)
+    → ((p : Place) → with_ahead (g p) ≡ h (erased_ahead p))
+    → with_ahead (and_then r g) ≡ and_first (with_ahead r) h
+tells-then None g h e = refl
+tells-then (Some r) g h e = tells-more r.0 (g r.1) (h (erased_ahead r.1)) (e r.1)
+
+-- what is read depends on the erased trees ahead alone
+pub tells : {read : Read} {first : First} → Reading read first → (p : Place)
+    → with_ahead (read p) ≡ first (erased_ahead p)
+tells never p = refl
+tells (one wanted leaves) p = tells-one wanted leaves p
+tells (more wanted leaves g h r) p =
+    tells-then (read_if wanted (descend p)) g h (tells r)
+    ∙ ap (λ x. and_first x h) (tells-one wanted leaves p)
+
+-- what is ahead after a skip: after a lifetime, or else after the front tree
+abbrev pub past_front : Forest → Option Forest
+past_front no_trees = None
+past_front (tree t f) = Some f
+
+abbrev pub past_first : Forest → Option Forest
+past_first f =
+    elim (and_first (first_if is_joint_apostrophe f) (first_if (is_ident_of any_text))) [
+      | Some r ↦ Some r.1
+      | None ↦ past_front f
+    ]
+
+front-tells : (p : Place) → IsDescended p
+    → option_map erased_ahead (place_after (read_tree p)) ≡ past_front (erased_ahead p)
+front-tells empty_place h = refl
+front-tells (at n s c (level o p no_trees) []) h = refl
+front-tells (at n s c (level o p no_trees) (l ∷ ls)) h = absurd h
+front-tells (at n s c (level o p (tree (leaf l) f)) ls) h =
+    ap Some
+    (settle-ahead n s (c + 1) (level o (tree (leaf l) p) f) ls
+    ∙ sym (erased_ahead_is (at n s c (level o p f) ls)))
+front-tells (at n s c (level o p (tree (group delimiter.None inside span) f)) ls) h = absurd h
+front-tells (at n s c (level o p (tree (group d inside span) f)) ls) h =
+    ap Some
+    (settle-ahead n s (c + (2 + weight inside)) (level o (tree (group d inside span) p) f) ls
+    ∙ sym (erased_ahead_is (at n s c (level o p f) ls)))
+
+either-tells : (x : Option (List Tree × Place)) (y : Option Place)
+    (v : Option (List Tree × Forest)) (w : Option Forest) → with_ahead x ≡ v
+    → option_map erased_ahead y ≡ w
+    → option_map erased_ahead (elim x [ Some r ↦ Some r.1 | None ↦ y ])
+    ≡ elim v [ Some r ↦ Some r.1 | None ↦ w ]
+either-tells None y v w e k = k ∙ ap (λ z. elim z [ Some r ↦ Some r.1 | None ↦ w ]) e
+either-tells (Some r) y v w e k = ap (λ z. elim z [ Some q ↦ Some q.1 | None ↦ w ]) e
+
+pub skip_tells : (p : Place) → option_map erased_ahead (skip p) ≡ past_first (erased_ahead p)
+skip_tells p =
+    either-tells (read_lifetime any_text p) (place_after (read_tree (descend p)))
+    (and_first (first_if is_joint_apostrophe (erased_ahead p)) (first_if (is_ident_of any_text)))
+    (past_front (erased_ahead p)) (tells (of_lifetime any_text) p)
+    (front-tells (descend p) (descended-descend p)
+    ∙ ap (λ f. past_front (erase f)) (ahead-descend p))
