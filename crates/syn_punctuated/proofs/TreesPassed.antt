@@ -28,7 +28,8 @@ use Rattle.syn_punctuated.specs.Turns.{terminated, Chain, Ending, at_end, bare}
 use Rattle.syn_punctuated.specs.Turns.{value_refused, separator_refused, value_lost, turn_lost}
 use Rattle.syn_punctuated.specs.Turns.{stuck}
 use Rattle.syn_punctuated.specs.declared.punctuated.Punctuated.{Punctuated}
-use Rattle.syn_punctuated.proofs.Taken.{word-taken, punctuation-taken}
+use Rattle.tok_buffer.proofs.View.Readings.{of_word, of_punctuation}
+use Rattle.syn_punctuated.proofs.Taken.{reading_takes}
 
 ok_is_no_err : {A B : Type 0} (v : A) (e : B) → Ok v ≡ Err e → ⊥
 ok_is_no_err {A} {B} v e q = subst is_ok q tt
@@ -126,7 +127,7 @@ ident_read words s t i (Some r) h k =
 
 pub idents_state_trees : StatesTrees IdentParses ident_sources
 idents_state_trees s t i h = ident_read _ s t i (read_word accept_as_ident s.place)
-    (word-taken accept_as_ident s.place) h
+    (reading_takes (of_word accept_as_ident) s.place) h
 
 -- punctuations
 both : (a b : Bool) → (a && b) ≡ true → a ≡ true
@@ -238,5 +239,5 @@ module _ (k n : ℕ) where
       (PunctuationParses (λ (p : Punctuation k n). p.spans) (punctuation_word k n)
       (punctuation_word k n)) punctuation_sources
   punctuations_state_trees s t p h = punctuation_read s t p (read_punctuation (punctuation_word k n)
-      s.place) (punctuation-taken (punctuation_word k n) s.place)
+      s.place) (reading_takes (of_punctuation (punctuation_word k n)) s.place)
       (spelled (punctuation_word k n) s.place) h
