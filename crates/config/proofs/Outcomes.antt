@@ -1,9 +1,11 @@
 -- What the reader returns is what the grammar says.
-use Rattle.std.proofs.Common.{◌≡◌, Err, Ok, inl, inr, true}
+use Rattle.std.proofs.Common.{◌≡◌, Err, List, Ok, inl, inr, subst, true, ℕ}
 use Rattle.std.specs.Prelude.{Result}
+use Rattle.tok_lexical.specs.Rules.{plain_rules}
 use Rattle.tok_core.specs.Erase.{erase}
 use Rattle.tok_core.specs.Filled.{filled}
 use Rattle.tok_core.specs.Forest.{Forest}
+use Rattle.tok_core.specs.Lexical.Reading.{Reads}
 use Rattle.syn_parse.specs.Takings.{KeepsWhole}
 use Rattle.syn_parse.specs.TreesAhead.{all_taken}
 use Rattle.syn_parse.specs.declared.fault.Fault.{Fault}
@@ -12,8 +14,9 @@ use Rattle.syn_punctuated.specs.TakeLists.{list_form}
 use Rattle.syn_punctuated.specs.declared.punctuated.Punctuated.{Punctuated}
 use Rattle.config.specs.Forms.{Comma, setting_form}
 use Rattle.config.specs.Grammar.{Parses}
-use Rattle.config.specs.Reading.{ReadsTokens, settings}
+use Rattle.config.specs.Reading.{ReadsText, ReadsTokens, settings}
 use Rattle.config.specs.declared.value.Setting.{Setting}
+use Rattle.config.proofs.Plain.{text_shown}
 use Rattle.config.proofs.Sound.{sound}
 use Rattle.config.proofs.Written.{written}
 
@@ -27,3 +30,10 @@ parses f (Err (Memory e)) h i = inl tt
 pub reads_tokens : (f : Forest) (r : Result (Punctuated Setting Comma) Fault)
     → KeepsWhole settings f r → ReadsTokens f r
 reads_tokens f r h = (h, parses f r h)
+
+-- a text has no invisible groups, so its tokens are all that is read
+pub reads_text : (source : ℕ) (cs : List ℕ) (f : Forest)
+    (r : Result (Punctuated Setting Comma) Fault) → Reads plain_rules source cs f
+    → ReadsTokens f r → ReadsText source cs r
+reads_text source cs f r h k =
+    let s = text_shown h in inl (f, h, k.0 s.0, subst (λ g. Parses g r) s.1 (k.1 s.0))

@@ -17,7 +17,7 @@ use Rattle.syn_parse.specs.Nested.{take_nested}
 use Rattle.syn_parse.specs.Owned.{own_first, take_own}
 use Rattle.syn_parse.specs.Parsers.{OnMemory, lex_refusal}
 use Rattle.syn_parse.specs.Takes.{MemoryOr, Outcome, Says, Taking, ◌>>=◌, found, gives, missing}
-use Rattle.syn_parse.specs.Takes.{refuses, take_group, where_ahead}
+use Rattle.syn_parse.specs.Takes.{TakesAll, refuses, take_group, where_ahead}
 use Rattle.syn_parse.specs.Takings.{KeepsWhole, Takings, taken_filled}
 use Rattle.syn_parse.specs.TokenNames.{take_colon, take_comma}
 use Rattle.syn_parse.specs.Tokens.{sees_group, sees_literal, take_ident, take_literal}
@@ -150,9 +150,11 @@ settings = taken_filled (list_form setting_form (λ p. p)) take_settings
 abbrev pub ReadsTokens : Forest → Result (Punctuated Setting Comma) Fault → Type 0
 ReadsTokens f r = KeepsWhole settings f r × (filled f ≡ true → Parses (erase f) r)
 
--- the text of a source is tokens, which are read; or the grammar of tokens refuses it
+-- The text of a source is tokens, which are the settings that are returned; or which are none, and
+-- the error has the words that are missing first. Or the grammar of tokens refuses it.
 abbrev pub ReadsText : (source : ℕ) → List ℕ → Result (Punctuated Setting Comma) Fault → Type 0
 ReadsText source cs r =
-    ((f : Forest) × grammar.Reads plain_rules source cs f × ReadsTokens f r)
+    ((f : Forest) × grammar.Reads plain_rules source cs f
+    × TakesAll (list_form setting_form (λ p. p)) take_settings f r × Parses f r)
     ⊎ (((e : LexError) × grammar.IsRefused plain_rules source cs e × IsRefused (lex_refusal e) r)
     ⊎ OnMemory r)
