@@ -1,5 +1,5 @@
 -- A text has no invisible groups: nothing in it opens one.
-use Rattle.std.proofs.Common.{◌≡◌, ◌∙◌, sym, ap, refl, ℕ, Bool, true, false, ◌&&◌, List, []}
+use Rattle.std.proofs.Common.{◌≡◌, ◌∙◌, ap, refl, ℕ, Bool, true, false, ◌&&◌, List, []}
 use Rattle.std.proofs.Common.{◌∷◌, ◌++◌, ◌+◌, ◌-◌, map}
 use Rattle.std.proofs.lemmas.Bool.{and_parts, false≢true}
 use Rattle.std.specs.List.{list_all}
@@ -18,9 +18,9 @@ use Rattle.tok_lexical.specs.declared.rule.Rule.TheVariants as rules
 use Rattle.tok_leaves.specs.declared.span.Span.{Span}
 use Rattle.tok_core.specs.Erase.{erase}
 use Rattle.tok_core.specs.Filled.{filled}
-use Rattle.tok_core.specs.Forest.{Forest, leaf, group, no_trees, tree}
-use Rattle.tok_core.specs.Lexical.Items.{Flat, Item, closing, group_first, leaf_first, leaf_item}
-use Rattle.tok_core.specs.Lexical.Items.{no_items, opening}
+use Rattle.tok_core.specs.Forest.{Forest, leaf, group, tree}
+use Rattle.tok_core.specs.Lexical.Items.{Flat, Item, closing, group_first, leaf_first, no_items}
+use Rattle.tok_core.specs.Lexical.Items.{opening}
 use Rattle.tok_core.specs.Lexical.Meaning.{doc_items, items, literal_item, punct_item}
 use Rattle.tok_core.specs.Lexical.Reading.{Cut, Reads, piece, stop}
 
@@ -75,7 +75,8 @@ items_show number rules.PointedDecimal at text after h = by_point (takes_point a
   by_point true = refl
   by_point false = refl
 items_show number rules.SourceLineComment at text after h =
-    docs_show number at (at + bytes text) (is_inner_doc text) (line_doc_text text) (is_line_doc text)
+    docs_show number at (at + bytes text) (is_inner_doc text) (line_doc_text text)
+    (is_line_doc text)
 items_show number rules.SourceBlockComment at text after h =
     docs_show number at (at + bytes text) (is_inner_doc text) (block_doc_text text)
     (is_block_doc text)

@@ -26,8 +26,9 @@ use Rattle.syn_parse.specs.TreesAhead.{Ahead, all_taken}
 use Rattle.syn_punctuated.proofs.ListShapes.{list_is}
 use Rattle.syn_punctuated.specs.TakeLists.{take_terminated}
 use Rattle.config.specs.Forms.{Comma, Form, SettingForm, listed, mapped, truth}
-use Rattle.config.specs.Grammar.{AreSettings, AreValues, IsSetting, IsValue, and_settings, and_values}
-use Rattle.config.specs.Grammar.{colon, comma, is_false, is_list, is_map, is_number, is_setting}
+use Rattle.config.specs.Grammar.{AreSettings, AreValues, IsSetting, IsValue, and_settings}
+use Rattle.config.specs.Grammar.{and_values, colon, comma, is_false, is_list}
+use Rattle.config.specs.Grammar.{is_map, is_number, is_setting}
 use Rattle.config.specs.Grammar.{is_text, is_true, last_setting, last_value, no_setting, no_value}
 use Rattle.config.specs.Grammar.{sign, sign_at}
 use Rattle.config.specs.Reading.{in_integer, in_number, in_text, meaning, rejects, sees_own}

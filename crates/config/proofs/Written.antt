@@ -1,10 +1,9 @@
 -- What the grammar has as settings is taken as settings.
 use Rattle.std.proofs.Common.{◌≡◌, ◌∙◌, sym, ap, subst, refl, ℕ, ◌^◌, ◌==◌, Bool, true, false}
-use Rattle.std.proofs.Common.{List, [], ◌∷◌, Option, Some, None, bytes_eq, cond, eqb-true, length}
-use Rattle.std.proofs.lemmas.Bool.{false≢true, lt-ltb}
+use Rattle.std.proofs.Common.{List, [], ◌∷◌, Some, None, bytes_eq, cond, eqb-true, length}
+use Rattle.std.proofs.lemmas.Bool.{lt-ltb}
 use Rattle.std.proofs.lemmas.Slice.Eq.{bytes_eq-Decides}
 use Rattle.std.specs.Prelude.{codes, encode_utf8_all, if◌then◌else◌, is_some, option_map}
-use Rattle.std.specs.Str.{chars}
 use Rattle.tok_lexical.specs.declared.delimiter.Delimiter.TheVariants.{Brace, Bracket}
 use Rattle.tok_leaves.specs.Leaves.{ident, ident_of, literal_of}
 use Rattle.tok_leaves.specs.declared.ident.Ident.{Ident}
@@ -24,8 +23,9 @@ use Rattle.syn_parse.specs.TreesAhead.{Ahead, all_taken}
 use Rattle.syn_punctuated.proofs.ListShapes.{Turns, bare, done, none_after, takes_list, turn}
 use Rattle.syn_punctuated.specs.TakeLists.{is_left, take_terminated}
 use Rattle.config.specs.Forms.{Comma, Form, SettingForm, listed, mapped, number, text, truth}
-use Rattle.config.specs.Grammar.{AreSettings, AreValues, IsKey, IsNumber, IsSetting, IsText, IsValue}
-use Rattle.config.specs.Grammar.{and_settings, and_values, colon, comma, is_false, is_list, is_map}
+use Rattle.config.specs.Grammar.{AreSettings, AreValues, IsKey, IsNumber, IsSetting, IsText}
+use Rattle.config.specs.Grammar.{IsValue, and_settings, and_values, colon, comma, is_false}
+use Rattle.config.specs.Grammar.{is_list, is_map}
 use Rattle.config.specs.Grammar.{is_number, is_setting, is_text, is_true, last_setting, last_value}
 use Rattle.config.specs.Grammar.{no_setting, no_value, sign, sign_at}
 use Rattle.config.specs.Nesting.{lightens_setting, lightens_value, value_again}
