@@ -1,14 +1,17 @@
 -- Nested lists of names, as `(a (b) ((c)))`, and how many names they have.
-use Rattle.std.specs.Prelude.{◌≡◌, ◌+◌, ◌^◌, ◌-◌, ℕ, min, true, false, List, Some, None, Ok, Err}
+use Rattle.std.specs.Prelude.{◌≡◌, ◌⊎◌, ◌+◌, ◌^◌, ◌-◌, ℕ, min, true, false, List, Some, None}
+use Rattle.std.specs.Prelude.{Ok, Err}
 use Rattle.tok_lexical.specs.declared.delimiter.Delimiter.TheVariants.{Parenthesis}
 use Rattle.tok_core.specs.Forest.{Tree}
 use Rattle.tok_buffer.specs.Entry.{Entered, enter}
 use Rattle.tok_buffer.specs.Place.{Place, is_at_end}
 use Rattle.tok_buffer.specs.Refusals.{Refusal}
+use Rattle.syn_parse.specs.Faults.{IsMemory, Refuses}
 use Rattle.syn_parse.specs.Reads.{Call}
 use Rattle.syn_parse.specs.State.{State, after_group, closed, content_of, moved}
 use Rattle.syn_parse.specs.RefusalWords.{delimiter_words, refused_at}
-use Rattle.examples.specs.Fields.{IsFault, read_name}
+use Rattle.syn_parse.specs.declared.fault.Fault.{Fault}
+use Rattle.examples.specs.Fields.{read_name}
 
 mutual
   -- One entry, how many names it has, and the stream after it: a name; or a list of entries in
@@ -48,6 +51,10 @@ mutual
     later :
         (s t : State) (n : ℕ) (words : Refusal) → is_at_end s.place ≡ false → IsEntry s n t →
         EntriesRefused t words → EntriesRefused s words
+
+-- a refusal of which this holds, or an allocation failure
+abbrev pub IsFault : (Refusal → Type 0) → Fault → Type 0
+IsFault Refused f = IsMemory f ⊎ ((words : Refusal) × Refused words × Refuses words f)
 
 -- what a `u64` holds of a count
 abbrev pub capped : ℕ → ℕ
