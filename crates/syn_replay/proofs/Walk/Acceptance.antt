@@ -1,9 +1,9 @@
 -- A walk accepts exactly where nothing is left.
 use Rattle.std.proofs.Common.{◌≡◌, ◌≢◌, ◌∙◌, sym, ap, subst, refl, ℕ, zero, suc, ◌+◌, ◌-◌, ◌<◌, ◌≤◌}
 use Rattle.std.proofs.Common.{Bool, true, false, List, [], ◌∷◌, ◌++◌, length, length-append, Option}
-use Rattle.std.proofs.Common.{Some, None, arith, inl, inr, ◌⊎◌}
+use Rattle.std.proofs.Common.{Some, None, arith, inl, inr}
 use Rattle.std.proofs.lemmas.Bool.{and_parts, eq-eqb, or_parts, or_right, both_ways, not-true, not-false}
-use Rattle.std.proofs.lemmas.Bool.{cases_eq, cases_lt}
+use Rattle.std.proofs.lemmas.Bool.{cases_lt}
 use Rattle.std.specs.Prelude.{◌==◌, ◌&&◌, ◌||◌, not, cond}
 use Rattle.tok_core.specs.Forest.{Forest}
 use Rattle.tok_leaves.specs.declared.span.Span.{Span}
@@ -14,7 +14,7 @@ use Rattle.tok_buffer.specs.Order.{same_scope}
 use Rattle.tok_buffer.specs.Place.{Place}
 use Rattle.syn_parse.specs.RefusalWords.{leftover_refusal}
 use Rattle.syn_replay.specs.Session.Acceptance.{IsShut, is_discard, Comes, begins, goes_on, all_run}
-use Rattle.syn_replay.specs.Session.Acceptance.{Closes, by_command, at_end, Advances, Counts}
+use Rattle.syn_replay.specs.Session.Acceptance.{Closes, by_command, at_end, Counts}
 use Rattle.syn_replay.specs.Session.Acceptance.{NothingLeft, IsExact}
 use Rattle.syn_replay.specs.Session.Acceptance as acceptance
 use Rattle.syn_replay.specs.Commands as commands
@@ -22,7 +22,7 @@ use Rattle.syn_replay.specs.Reports as reports
 use Rattle.syn_replay.specs.Commands.{Action, Command, read_answer}
 use Rattle.syn_replay.specs.Reports.{Answer, done, unfit, Verdict, accepted}
 use Rattle.syn_replay.specs.Session.State.{Stream, State, StreamKind, outermost, content_of, a_fork}
-use Rattle.syn_replay.specs.Session.State.{first_state, stream_at, with_stream, moved_to, spent}
+use Rattle.syn_replay.specs.Session.State.{first_state, stream_at, with_stream, moved_to}
 use Rattle.syn_replay.specs.Session.State.{handed_note, handed_up, closed_inside, closed, advanced}
 use Rattle.syn_replay.specs.Session.State.{ended_inside, taken_over, all_spent, is_inside, is_within}
 use Rattle.syn_replay.specs.Session.Step.{Stepped, any_of, is_content, is_fork, is_missing}
@@ -31,7 +31,7 @@ use Rattle.syn_replay.specs.Session.Step.{into_group, on_stream, other_named, pl
 use Rattle.syn_replay.specs.Session.Step.{step_on, tested, with_other}
 use Rattle.syn_replay.specs.Session.Entering.{entered_by, entering_words}
 use Rattle.syn_replay.specs.Session.Walk.{last_state, stream_verdict, walk}
-use Rattle.syn_replay.proofs.Walk.Notes.{Ages, AllClean, Ended, Ends, IsClean, IsEmptied, IsFed}
+use Rattle.syn_replay.proofs.Walk.Notes.{Ages, AllClean, Ended, IsClean, IsEmptied, IsFed}
 use Rattle.syn_replay.proofs.Walk.Notes.{IsIn, Kept, Shut, Tidy, Under, first, deeper, ages_on}
 use Rattle.syn_replay.proofs.Walk.Notes.{ages_self, all_shut, cleans_on, end_cleans, end_kept}
 use Rattle.syn_replay.proofs.Walk.Notes.{ends_alone, ends_clean, ends_giving, ends_older, ends_only}

@@ -3,7 +3,7 @@ use Rattle.std.proofs.Common.{◌≡◌, ◌∙◌, sym, ap, refl, ℕ, zero, su
 use Rattle.std.proofs.Common.{false, List, get_or, length, Option, Some, None, arith}
 use Rattle.std.proofs.lemmas.Bool.{ne_eqb, eq-eqb, or_left}
 use Rattle.std.specs.Prelude.{◌==◌, ◌||◌}
-use Rattle.syn_replay.specs.Session.State.{State, StreamKind, outermost, content_of, kind_at}
+use Rattle.syn_replay.specs.Session.State.{State, outermost, content_of, kind_at}
 use Rattle.syn_replay.specs.Session.State.{is_within, is_inside}
 use Rattle.syn_replay.specs.Session.Links.{links_of, AreLinked}
 use Rattle.syn_replay.specs.Session.Tracks.{kind_of, state_of_list}

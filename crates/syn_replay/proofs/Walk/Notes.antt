@@ -2,17 +2,17 @@
 use Rattle.std.proofs.Common.{◌≡◌, ◌≢◌, ◌∙◌, sym, ap, subst, refl, ℕ, zero, suc, ◌+◌, ◌-◌, ◌<◌, ◌≤◌}
 use Rattle.std.proofs.Common.{Bool, true, false, length, Option, Some, None, arith, inl, inr, ◌⊎◌}
 use Rattle.std.proofs.lemmas.Bool.{eqb-true, eq-eqb, and_parts, and_from, both_ways, cases_Bool}
-use Rattle.std.proofs.lemmas.Bool.{cases_eq, cases_lt, false_from_ne_true}
+use Rattle.std.proofs.lemmas.Bool.{cases_eq, cases_lt}
 use Rattle.std.specs.Option.{option_or}
 use Rattle.std.specs.Prelude.{◌&&◌, cond}
 use Rattle.tok_buffer.specs.Ahead.{Leftover, leftover}
 use Rattle.syn_replay.specs.Session.State.{Stream, State, StreamKind, outermost, content_of, a_fork}
 use Rattle.syn_replay.specs.Session.State.{stream_at, with_stream, spent, with_note, handed_note}
 use Rattle.syn_replay.specs.Session.State.{is_content_of, is_open_content_of, with_note_on_parent}
-use Rattle.syn_replay.specs.Session.State.{handed_up, ended, contents_ended, ended_inside}
-use Rattle.syn_replay.proofs.Walk.Changes.{or_nobody, look, there, open_within, look_changed}
+use Rattle.syn_replay.specs.Session.State.{ended, contents_ended, ended_inside}
+use Rattle.syn_replay.proofs.Walk.Changes.{or_nobody, look, open_within, look_changed}
 use Rattle.syn_replay.proofs.Walk.Tracks.{ended_place, handed_with}
-use Rattle.syn_replay.proofs.Walk.Changes.{look_other, kept_by, length_changed, nothing_past}
+use Rattle.syn_replay.proofs.Walk.Changes.{look_other, kept_by, length_changed}
 
 -- what may become of a stream: it may be noted and spent, and once it is spent it stays as it is
 pub record Ages (s t : Stream) : Type 0 where

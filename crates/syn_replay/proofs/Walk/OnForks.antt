@@ -36,8 +36,7 @@ use Rattle.syn_replay.specs.Session.State.{contents_ended, closed_inside, closed
 use Rattle.syn_replay.specs.Session.State.{is_open_content_of}
 use Rattle.syn_replay.specs.Session.State.{is_content_of, advanced, taken_over, is_inside}
 use Rattle.syn_replay.specs.Session.State.{first_state, is_within, position_of}
-use Rattle.syn_replay.specs.Session.Step.{Stepped, any_of, is_content, is_fork, is_missing}
-use Rattle.syn_replay.specs.Session.Step.{is_spent}
+use Rattle.syn_replay.specs.Session.Step.{Stepped, any_of, is_content, is_missing}
 use Rattle.syn_replay.specs.Session.Step.{kind_refusal, misuse, moves, named, other_named}
 use Rattle.syn_replay.specs.Session.Step.{with_other}
 use Rattle.syn_replay.specs.Session.Step.{new_stream, into_group, on_stream, place_of, stays, step}
@@ -476,9 +475,6 @@ module _ (front : State) (k : ℕ) (s0 : Stream) (here : stream_at front k ≡ S
   places_alike : (a b : Option Stream) → Pair a b → place_in a ≡ place_in b
   places_alike a b (none e f) = cc
   places_alike a b (both s kind left e f) = cc
-
-  abbrev refused_by : (missing spent : Bool) → Option ℕ → Option ℕ
-  refused_by m s rest = cond m (Some 1) (cond s (Some 2) rest)
 
   record Follows (c d : Command) (x y : State) : Type 0 where
     same_line : line_on_fork (line c x) ≡ line d y

@@ -5,9 +5,8 @@ use Rattle.std.proofs.Common.{arith}
 use Rattle.std.proofs.Math.Seq.{map-set_same}
 use Rattle.std.proofs.lemmas.Bool.{cond_both}
 use Rattle.std.proofs.lemmas.List.{length-map}
-use Rattle.std.specs.Prelude.{cond}
 use Rattle.syn_replay.specs.Session.State.{State, stream_at, with_stream, spent, handed_note}
-use Rattle.syn_replay.specs.Session.State.{with_note_on_parent, is_open_content_of, handed_up}
+use Rattle.syn_replay.specs.Session.State.{with_note_on_parent, is_open_content_of}
 use Rattle.syn_replay.specs.Session.State.{ended, contents_ended, closed_inside, StreamKind}
 use Rattle.syn_replay.specs.Session.State.{outermost, content_of, a_fork}
 use Rattle.syn_replay.specs.Session.Step.{place_of}
