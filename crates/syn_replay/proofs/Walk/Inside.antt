@@ -3,7 +3,7 @@ use Rattle.std.proofs.Common.{◌≡◌, ◌∙◌, sym, ap, refl, ℕ, zero, su
 use Rattle.std.proofs.Common.{false, List, get_or, length, Option, Some, None, arith}
 use Rattle.std.proofs.lemmas.Bool.{ne_eqb, eq-eqb, or_left}
 use Rattle.std.specs.Prelude.{◌==◌, ◌||◌}
-use Rattle.syn_replay.specs.Session.State.{State, outermost, content_of, kind_at}
+use Rattle.syn_replay.specs.Session.State.{State, content_of, kind_at}
 use Rattle.syn_replay.specs.Session.State.{is_within, is_inside}
 use Rattle.syn_replay.specs.Session.Links.{links_of, AreLinked}
 use Rattle.syn_replay.specs.Session.Tracks.{kind_of, state_of_list}
@@ -26,17 +26,13 @@ pub within_itself : (depth : ℕ) (st : State) (outer p : ℕ) → 0 < depth →
 within_itself depth st outer p h e =
     within_parent depth st outer p h ∙ or_left (p == outer) _ (eq-eqb p outer e)
 
--- a fork and the outermost stream are inside none
+-- a fork is inside none, nor is the outermost stream
 any_fork : (depth : ℕ) (st : State) (outer : ℕ) (f : Bool) (o : Option ℕ)
     → is_within depth st outer (kind_of f o) ≡ is_within depth st outer (kind_of false o)
 any_fork zero st outer f o = refl
 any_fork (suc depth) st outer true None = refl
 any_fork (suc depth) st outer false None = refl
 any_fork (suc depth) st outer f (Some p) = refl
-
-alone : (depth : ℕ) (st : State) (outer : ℕ) → is_within depth st outer outermost ≡ false
-alone zero st outer = refl
-alone (suc depth) st outer = refl
 
 -- the parents that are left decide
 pub record LeftToLook (xs : List Stream) (outer : ℕ) (next : Option ℕ) (all : Bool) : Type 0 where
@@ -68,20 +64,6 @@ module _ (xs : List Stream) (outer : ℕ) (linked : AreLinked (links_of xs)) whe
       }
 
   module _ (next : Option ℕ) (all : Bool) (left : LeftToLook xs outer next all) where
-    -- it is the parent
-    pub look_found : (p : ℕ) → next ≡ Some p → p ≡ outer → true ≡ all
-    look_found p is same =
-        let b = left.enough p is in
-        sym (within_itself left.depth (state_of_list xs) outer p (omega (arith, b)) same)
-        ∙ ap (λ z. is_within left.depth (state_of_list xs) outer (kind_of false z)) (sym is)
-        ∙ left.rest
-
-    pub look_none : next ≡ None → false ≡ all
-    look_none is =
-        sym (alone left.depth (state_of_list xs) outer)
-        ∙ ap (λ z. is_within left.depth (state_of_list xs) outer (kind_of false z)) (sym is)
-        ∙ left.rest
-
     pub look_on : (p : ℕ) (x : Stream) → next ≡ Some p → (p ≡ outer → ⊥) → x ≡ get_or xs p x
         → LeftToLook xs outer x.links.parent all
     look_on p x is other e =

@@ -1,5 +1,5 @@
 use Rattle.std.proofs.Common.{arith}
-use Rattle.syn_replay.proofs.Walk.Inside.{falls, look_first, look_found, look_none, look_on}
+use Rattle.syn_replay.proofs.Walk.Inside.{falls, look_first, look_on}
 use Rattle.syn_replay.proofs.Walk.Tracks.{length-state}
 use Rattle.syn_replay.proofs.session.streams.Streams.is_inside.Goals as goal
 
