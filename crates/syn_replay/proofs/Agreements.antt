@@ -1,7 +1,7 @@
 -- Pieces, streams and lines compared one by one.
 use Rattle.std.proofs.Common.{suc, Bool, ◌≡◌, ap, ap₂, refl, ◌∙◌, sym, List, [], ◌∷◌}
 use Rattle.std.proofs.Common.{length}
-use Rattle.std.specs.Prelude.{◌↔◌, IsTrue}
+use Rattle.std.specs.Prelude.{◌↔◌, true}
 use Rattle.tok_core.specs.declared.stream.TokenTree.{TokenTree}
 use Rattle.tok_core.specs.Forest.{Tree, Forest, tree}
 use Rattle.tok_core.specs.Seen.{tree_of, trees_of}
@@ -32,5 +32,5 @@ compares_trees = record {
 
 -- of two streams, by the lists of their trees
 pub of_streams : (b : Bool) (xs ys : List TokenTree) (f g : Forest) → trees_of xs ≡ f
-    → trees_of ys ≡ g → IsTrue b ↔ (trees_of xs ≡ trees_of ys) → IsTrue b ↔ (f ≡ g)
+    → trees_of ys ≡ g → (b ≡ true) ↔ (trees_of xs ≡ trees_of ys) → (b ≡ true) ↔ (f ≡ g)
 of_streams b xs ys f g l r h = (λ t. sym l ∙ h.0 t ∙ r, λ e. h.1 (l ∙ e ∙ sym r))

@@ -4,7 +4,7 @@ use Rattle.std.proofs.Common.{get_or}
 use Rattle.std.proofs.Common.{sym, ap, ◌∙◌, subst, arith}
 use Rattle.std.proofs.lemmas.Bool.{false≢true}
 use Rattle.std.proofs.lemmas.List.{drop_more}
-use Rattle.std.specs.Prelude.{◌↔◌, IsTrue}
+use Rattle.std.specs.Prelude.{◌↔◌, true}
 
 -- P compares two lists, R two items
 pub record Compares {A : Type 0} (P : List A → List A → Type 0) (R : A → A → Type 0) : Type 0 where
@@ -19,7 +19,7 @@ pub record Undecided {A : Type 0} (P : List A → List A → Type 0) (i : ℕ) (
     pub rest : P (drop i xs) (drop i ys) ↔ P xs ys
 
 module _ {A : Type 0} (P : List A → List A → Type 0) (R : A → A → Type 0) (c : Compares P R) where
-  pub not_as_many : (xs ys : List A) → (length xs ≡ length ys → ⊥) → IsTrue false ↔ P xs ys
+  pub not_as_many : (xs ys : List A) → (length xs ≡ length ys → ⊥) → (false ≡ true) ↔ P xs ys
   not_as_many xs ys n = (λ h. absurd (false≢true h), λ h. absurd (n (c.lengths xs ys h)))
 
   first : (i : ℕ) (zs : List A) (z : A) → i < length zs → z ≡ get_or zs i z

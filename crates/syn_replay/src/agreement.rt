@@ -2,7 +2,7 @@
 pub mod both;
 mod same;
 
-ghost use Rattle.std.specs.Prelude.{◌↔◌, map, IsTrue};
+ghost use Rattle.std.specs.Prelude.{◌≡◌, ◌↔◌, map, true};
 ghost use Rattle.syn_replay.specs.Agree.{AnswersAgree, LinesAgree, ReportsAgree, VerdictsAgree};
 ghost use Rattle.syn_replay.specs.Meanings.{answer_of, line_of, report_of, verdict_of};
 
@@ -11,7 +11,7 @@ use same::{same_parts, same_pieces, same_streams};
 
 // Returns `true` for errors with equal texts, or for other answers that are equal.
 fn answers_agree(left: &Answer, right: &Answer) -> bool
-    ensures { IsTrue result ↔ AnswersAgree (answer_of left.now) (answer_of right.now) }
+    ensures { (result ≡ true) ↔ AnswersAgree (answer_of left.now) (answer_of right.now) }
 {
     match (left, right) {
         (Answer::Truth(left), Answer::Truth(right)) => *left == *right,
@@ -33,7 +33,7 @@ fn answers_agree(left: &Answer, right: &Answer) -> bool
 }
 
 fn lines_agree(left: &[Line], right: &[Line]) -> bool
-    ensures { IsTrue result ↔ LinesAgree (map line_of left.now) (map line_of right.now) }
+    ensures { (result ≡ true) ↔ LinesAgree (map line_of left.now) (map line_of right.now) }
 {
     if left.len() != right.len() {
         return false;
@@ -47,7 +47,7 @@ fn lines_agree(left: &[Line], right: &[Line]) -> bool
 }
 
 fn verdicts_agree(left: &Verdict, right: &Verdict) -> bool
-    ensures { IsTrue result ↔ VerdictsAgree (verdict_of left.now) (verdict_of right.now) }
+    ensures { (result ≡ true) ↔ VerdictsAgree (verdict_of left.now) (verdict_of right.now) }
 {
     match (left, right) {
         (Verdict::Accepted, Verdict::Accepted) => true,
@@ -62,7 +62,7 @@ fn verdicts_agree(left: &Verdict, right: &Verdict) -> bool
 /// both accept, or both reject at equal spans. Positions and the spans of errors in lines are not
 /// compared.
 pub fn agree(left: &Report, right: &Report) -> bool
-    ensures { IsTrue result ↔ ReportsAgree (report_of left.now) (report_of right.now) }
+    ensures { (result ≡ true) ↔ ReportsAgree (report_of left.now) (report_of right.now) }
 {
     lines_agree(&left.lines, &right.lines) && verdicts_agree(&left.verdict, &right.verdict)
 }

@@ -2,7 +2,7 @@
 use Rattle.std.proofs.Common.{◌≡◌, ℕ, Bool, true, false, List, Option, Some, None, IfSome, ap, ap₂}
 use Rattle.std.proofs.Common.{sym, subst}
 use Rattle.std.proofs.Common.{◌∙◌, refl, inl, inr}
-use Rattle.std.specs.Prelude.{◌↔◌, IsTrue}
+use Rattle.std.specs.Prelude.{◌↔◌}
 use Rattle.std.specs.Str.{chars}
 use Rattle.tok_core.specs.Forest.{Forest}
 use Rattle.tok_core.specs.Lexical.Reading.{IsRefused}
@@ -180,7 +180,7 @@ module _ (bytes : List ℕ) where
       ap why.Command (cc)
 
 -- of two forests and commands there is one comparison
-same_truth : (a b : Bool) {P : Type 0} → IsTrue a ↔ P → IsTrue b ↔ P → a ≡ b
+same_truth : (a b : Bool) {P : Type 0} → (a ≡ true) ↔ P → (b ≡ true) ↔ P → a ≡ b
 same_truth true true h k = refl
 same_truth true false h k = sym (k.1 (h.0 refl))
 same_truth false true h k = h.1 (k.0 refl)

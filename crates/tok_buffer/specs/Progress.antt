@@ -1,5 +1,5 @@
 -- What moves of a cursor keep, and a measure that they lower.
-use Rattle.std.specs.Prelude.{◌≡◌, ◌⊎◌, ℕ, ◌+◌, ◌<◌, ◌≤◌, true, false, IsTrue, Bool, List, [], ◌∷◌}
+use Rattle.std.specs.Prelude.{◌≡◌, ◌⊎◌, ℕ, ◌+◌, ◌<◌, ◌≤◌, true, false, Bool, List, [], ◌∷◌}
 use Rattle.std.specs.Prelude.{Option, Some}
 use Rattle.std.specs.Ordering.{partial_le}
 use Rattle.std.specs.declared.cmp.Ordering.TheVariants.{Less}
@@ -16,7 +16,7 @@ use Rattle.tok_buffer.specs.Reads.{read_keyword, read_lifetime, read_punctuation
 -- in the same buffer and scope and no earlier, or the empty place
 abbrev pub StaysIn : (from to : Place) → Type 0
 StaysIn from to =
-    ((same_scope from to ≡ true) × IsTrue (partial_le order from to)) ⊎ (to ≡ empty_place)
+    ((same_scope from to ≡ true) × (partial_le order from to ≡ true)) ⊎ (to ≡ empty_place)
 
 -- the end of each invisible group that has been entered, and what is ahead around it
 abbrev pub remaining_around : List Level → ℕ

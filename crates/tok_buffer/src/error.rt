@@ -79,7 +79,7 @@ fn ends(trees: &[TokenTree]) -> (Span, Span)
 }
 
 impl Error {
-    ghost use Rattle.std.specs.Prelude.{IsTrue, IfSome, OnOk, OnErr};
+    ghost use Rattle.std.specs.Prelude.{IfSome, OnOk, OnErr, true};
     ghost use Rattle.std.specs.Iterator.{IsFiniteIterable};
     ghost use Rattle.std.specs.Ordering.{partial_le};
     ghost use Rattle.tok_core.specs.Lexical.Errors.{error_span, error_words};
@@ -149,7 +149,7 @@ impl Error {
         end: Cursor<'_>,
         message: T,
     ) -> Result<Error, AllocError>
-        requires { IsTrue (partial_le order (place_of start) (place_of end)) }
+        requires { partial_le order (place_of start) (place_of end) ≡ true }
         ensures { let from = place_of start.entry in IfOk result
             (HasMessage (current_span from, range_end from (place_of end.entry))
             (T.output message)) }

@@ -1,5 +1,5 @@
 //! A position in a buffer, and the end of its scope.
-ghost use Rattle.std.specs.Prelude.{◌≤◌, IsTrue};
+ghost use Rattle.std.specs.Prelude.{◌≡◌, ◌≤◌, true};
 ghost use Rattle.tok_core.specs.Weight.{weight};
 ghost use Rattle.tok_buffer.specs.Moves.{in_scope, settled_at};
 
@@ -14,12 +14,12 @@ pub struct Spot<'a> {
     pub position: usize,
     pub scope: usize,
     ghost in_buffer: { scope ≤ weight buffer.now.forest },
-    ghost within: { IsTrue (in_scope buffer.now.forest position scope) },
-    ghost settled: { IsTrue (settled_at buffer.now.forest position scope) },
+    ghost within: { in_scope buffer.now.forest position scope ≡ true },
+    ghost settled: { settled_at buffer.now.forest position scope ≡ true },
 }
 
 impl<'a> Spot<'a> {
-    ghost use Rattle.std.specs.Prelude.{◌≡◌, ◌+◌, false};
+    ghost use Rattle.std.specs.Prelude.{◌+◌, false};
     ghost use Rattle.tok_buffer.specs.Cursors.{spot_place};
     ghost use Rattle.tok_buffer.specs.Descent.{descend};
     ghost use Rattle.tok_buffer.specs.Private.Layout.{entry_here};
@@ -30,7 +30,7 @@ impl<'a> Spot<'a> {
     pub fn past(buffer: &'a TokenBuffer, position: usize, length: usize, scope: usize) -> Spot<'a>
         requires in_buffer { scope ≤ weight buffer.now.forest }
         requires in_front { position + length + 1 ≤ scope }
-        requires within { IsTrue (in_scope buffer.now.forest (position + length + 1) scope) }
+        requires within { in_scope buffer.now.forest (position + length + 1) scope ≡ true }
         ensures { spot_place result
             ≡ settled (place_at buffer.now.number buffer.now.forest (position + length + 1) scope) }
     {
@@ -49,9 +49,8 @@ impl<'a> Spot<'a> {
     pub fn inside(buffer: &'a TokenBuffer, position: usize, offset: usize, scope: usize) -> Spot<'a>
         requires in_buffer { scope ≤ weight buffer.now.forest }
         requires in_front { position + offset + 1 ≤ scope }
-        requires within { IsTrue (in_scope buffer.now.forest (position + 1) (position + offset)) }
-        requires settled { IsTrue
-            (settled_at buffer.now.forest (position + 1) (position + offset)) }
+        requires within { in_scope buffer.now.forest (position + 1) (position + offset) ≡ true }
+        requires settled { settled_at buffer.now.forest (position + 1) (position + offset) ≡ true }
         ensures { spot_place result
             ≡ place_at buffer.now.number buffer.now.forest (position + 1) (position + offset) }
     {

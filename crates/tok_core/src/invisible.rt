@@ -1,5 +1,5 @@
 //! Streams and their invisible groups.
-ghost use Rattle.std.specs.Prelude.{◌≡◌, ◌≤◌, ◌+◌, ◌↔◌, false, IsTrue, IfOk, IfSome, MatchOption};
+ghost use Rattle.std.specs.Prelude.{◌≡◌, ◌≤◌, ◌+◌, ◌↔◌, false, IfOk, IfSome, MatchOption, true};
 ghost use Rattle.tok_core.specs.Clear.{clear, tree_clear, ends_joint, is_joint_apostrophe, is_invisible_group};
 ghost use Rattle.tok_core.specs.Erase.{erase};
 ghost use Rattle.tok_core.specs.Filled.{filled};
@@ -118,7 +118,7 @@ pub fn same_visible(
     left: &TokenStream,
     right: &TokenStream,
 ) -> Result<bool, AllocError>
-    ensures { IfOk result (λ same. IsTrue same ↔ (erase left.now ≡ erase right.now)) }
+    ensures { IfOk result (λ same. (same ≡ true) ↔ (erase left.now ≡ erase right.now)) }
 {
     let mut ours = VisibleTrees {
         trees: left.trees(),
@@ -147,7 +147,7 @@ fn same_tree(alloc: Global, left: &TokenTree, right: &TokenTree) -> Result<bool,
     requires left_visible { IsVisible (tree_of left.now) }
     requires right_visible { IsVisible (tree_of right.now) }
     ensures { IfOk result
-        (λ same. IsTrue same
+        (λ same. (same ≡ true)
         ↔ (erase (tree (tree_of left.now) no_trees) ≡ erase (tree (tree_of right.now) no_trees))) }
 {
     match left {
@@ -178,7 +178,7 @@ fn same_tree(alloc: Global, left: &TokenTree, right: &TokenTree) -> Result<bool,
 
 // Returns `true` if two groups have the same delimiter and span.
 fn same_edges(left: &Group, right: &Group) -> bool
-    ensures { IsTrue result
+    ensures { (result ≡ true)
         ↔ ((tree_delimiter (group_of left.now) ≡ tree_delimiter (group_of right.now))
         × (tree_span (group_of left.now) ≡ tree_span (group_of right.now))) }
 {

@@ -1,5 +1,5 @@
 //! Trees and streams compared and hashed without their spans.
-ghost use Rattle.std.specs.Prelude.{◌≡◌, ◌↔◌, IsTrue, fold};
+ghost use Rattle.std.specs.Prelude.{◌≡◌, ◌↔◌, fold, true};
 ghost use Rattle.std.specs.Cmp.{partial_equiv_from_equiv, on_equiv};
 ghost use Rattle.tok_core.specs.Code.{delimiter_code};
 ghost use Rattle.tok_core.specs.Seen.{tree_of};
@@ -26,7 +26,7 @@ impl<'a> PartialEq for TokenTreeHelper<'a> {
 
     fn eq(&self, other: &Self) -> bool
         ensures eq { result ≡ tree_alike (tree_of self.now.0.now) (tree_of other.now.0.now) }
-        ensures spanless { IsTrue result
+        ensures spanless { (result ≡ true)
             ↔ (tree_spanless (tree_of self.now.0.now) ≡ tree_spanless (tree_of other.now.0.now)) }
     {
         is_alike(self.0, other.0)
@@ -55,7 +55,7 @@ impl<'a> PartialEq for TokenStreamHelper<'a> {
 
     fn eq(&self, other: &Self) -> bool
         ensures eq { result ≡ alike self.now.0.now other.now.0.now }
-        ensures spanless { IsTrue result ↔ (spanless self.now.0.now ≡ spanless other.now.0.now) }
+        ensures spanless { (result ≡ true) ↔ (spanless self.now.0.now ≡ spanless other.now.0.now) }
     {
         are_alike(self.0, other.0)
     }

@@ -1,7 +1,7 @@
 //! Comparisons of leaves, spans included.
 //!
 //! They are inlined: a comparison of two streams calls one of them for each leaf.
-ghost use Rattle.std.specs.Prelude.{◌≡◌, ◌↔◌, IsTrue};
+ghost use Rattle.std.specs.Prelude.{◌≡◌, ◌↔◌, true};
 ghost use Rattle.tok_leaves.specs.Leaves.{ident_of, literal_of, punct_of};
 
 use crate::ident::Ident;
@@ -11,7 +11,7 @@ use crate::punct::Punct;
 /// Returns `true` if both identifiers have the same text and span.
 #[inline(always)]
 pub fn same_ident(one: &Ident, other: &Ident) -> bool
-    ensures { IsTrue result ↔ (ident_of one.now ≡ ident_of other.now) }
+    ensures { (result ≡ true) ↔ (ident_of one.now ≡ ident_of other.now) }
 {
     one.as_str() == other.as_str() && one.span() == other.span()
 }
@@ -19,7 +19,7 @@ pub fn same_ident(one: &Ident, other: &Ident) -> bool
 /// Returns `true` if both literals have the same text and span.
 #[inline(always)]
 pub fn same_literal(left: &Literal, right: &Literal) -> bool
-    ensures { IsTrue result ↔ (literal_of left.now ≡ literal_of right.now) }
+    ensures { (result ≡ true) ↔ (literal_of left.now ≡ literal_of right.now) }
 {
     left.as_str() == right.as_str() && left.span() == right.span()
 }
@@ -27,7 +27,7 @@ pub fn same_literal(left: &Literal, right: &Literal) -> bool
 /// Returns `true` if both puncts have the same character, spacing and span.
 #[inline(always)]
 pub fn same_punct(left: Punct, right: Punct) -> bool
-    ensures { IsTrue result ↔ (punct_of left ≡ punct_of right) }
+    ensures { (result ≡ true) ↔ (punct_of left ≡ punct_of right) }
 {
     left.as_char() == right.as_char()
         && left.spacing() == right.spacing()

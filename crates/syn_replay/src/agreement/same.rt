@@ -1,5 +1,5 @@
 //! Comparisons of pieces and streams, spans included.
-ghost use Rattle.std.specs.Prelude.{◌≡◌, ◌↔◌, map, IsTrue};
+ghost use Rattle.std.specs.Prelude.{◌≡◌, ◌↔◌, map, true};
 ghost use Rattle.tok_core.specs.Seen.{tree_of};
 ghost use Rattle.syn_replay.specs.Meanings.{piece_of, pieces_in};
 
@@ -8,14 +8,14 @@ use tok_core::same::{same_ident, same_literal, same_punct};
 use tok_core::{TokenStream, TokenTree};
 
 fn same_piece(left: &Piece, right: &Piece) -> bool
-    ensures { IsTrue result ↔ (piece_of left.now ≡ piece_of right.now) }
+    ensures { (result ≡ true) ↔ (piece_of left.now ≡ piece_of right.now) }
 {
     left.text.as_str() == right.text.as_str() && left.span == right.span
 }
 
 /// Returns `true` if the texts of leaves are equal in order. Spans count.
 pub fn same_pieces(left: &[Piece], right: &[Piece]) -> bool
-    ensures { IsTrue result ↔ (map piece_of left.now ≡ map piece_of right.now) }
+    ensures { (result ≡ true) ↔ (map piece_of left.now ≡ map piece_of right.now) }
 {
     if left.len() != right.len() {
         return false;
@@ -30,7 +30,7 @@ pub fn same_pieces(left: &[Piece], right: &[Piece]) -> bool
 
 /// Returns `true` if the parts of lists are equal in order.
 pub fn same_parts(left: &[Vec<Piece>], right: &[Vec<Piece>]) -> bool
-    ensures { IsTrue result ↔ (map pieces_in left.now ≡ map pieces_in right.now) }
+    ensures { (result ≡ true) ↔ (map pieces_in left.now ≡ map pieces_in right.now) }
 {
     if left.len() != right.len() {
         return false;
@@ -46,7 +46,7 @@ pub fn same_parts(left: &[Vec<Piece>], right: &[Vec<Piece>]) -> bool
 #[cycle(same)]
 /// Returns `true` if two streams are equal, spans included.
 pub fn same_streams(left: &TokenStream, right: &TokenStream) -> bool
-    ensures { IsTrue result ↔ (left.now ≡ right.now) }
+    ensures { (result ≡ true) ↔ (left.now ≡ right.now) }
 {
     let ours = left.trees();
     let theirs = right.trees();
@@ -63,7 +63,7 @@ pub fn same_streams(left: &TokenStream, right: &TokenStream) -> bool
 
 #[cycle(same)]
 fn same_tree(left: &TokenTree, right: &TokenTree) -> bool
-    ensures { IsTrue result ↔ (tree_of left.now ≡ tree_of right.now) }
+    ensures { (result ≡ true) ↔ (tree_of left.now ≡ tree_of right.now) }
 {
     match (left, right) {
         (TokenTree::Group(left), TokenTree::Group(right)) => {

@@ -1,5 +1,5 @@
 -- Two texts under one list of commands: the reports, and five facts.
-use Rattle.std.specs.Prelude.{◌≡◌, ◌↔◌, ◌&&◌, IsTrue, ℕ, Bool, true, false, List, ◌++◌, codes}
+use Rattle.std.specs.Prelude.{◌≡◌, ◌↔◌, ◌&&◌, ℕ, Bool, true, false, List, ◌++◌, codes}
 use Rattle.tok_core.specs.Clear.{clear}
 use Rattle.tok_core.specs.Erase.{erase}
 use Rattle.tok_core.specs.Filled.{filled}
@@ -20,11 +20,11 @@ pub record Facts : Type 0 where
 
 -- the facts of two forests and a list of commands
 pub record AreFacts (left right : Forest) (commands : List Command) (facts : Facts) : Type 0 where
-  pub visible : IsTrue facts.visible ↔ (erase left ≡ erase right)
+  pub visible : (facts.visible ≡ true) ↔ (erase left ≡ erase right)
   pub filled : facts.filled ≡ (filled left && filled right)
   pub clear : facts.clear ≡ (clear left && clear right)
   pub transparent : facts.transparent ≡ all_transparent commands
-  pub agree : IsTrue facts.agree ↔ ReportsAgree (walk left commands) (walk right commands)
+  pub agree : (facts.agree ≡ true) ↔ ReportsAgree (walk left commands) (walk right commands)
 
 pub record Comparison : Type 0 where
   pub left : Report

@@ -1,5 +1,5 @@
 //! Copying and printing the trees ahead of a cursor.
-ghost use Rattle.std.specs.Prelude.{◌≡◌, ◌≤◌, ◌++◌, ◌∷◌, [], IsTrue, OnOk, IfOk};
+ghost use Rattle.std.specs.Prelude.{◌≡◌, ◌≤◌, ◌++◌, ◌∷◌, [], OnOk, IfOk, true};
 ghost use Rattle.std.specs.Fmt.{WritesOnOk};
 ghost use Rattle.tok_lexical.specs.Delimiters as delimiters;
 ghost use Rattle.tok_leaves.specs.Leaves.{leaf_text};
@@ -115,7 +115,7 @@ fn copy_ahead(
     scope: usize,
 ) -> Result<(), AllocError>
     requires in_buffer { scope ≤ weight buffer.now.forest }
-    requires within { IsTrue (in_scope buffer.now.forest from scope) }
+    requires within { in_scope buffer.now.forest from scope ≡ true }
     ensures { OnOk result (stream.new
         ≡ concat stream.old (rest (place_at buffer.now.number buffer.now.forest from scope))) }
 {
@@ -147,7 +147,7 @@ fn write_from<W: Write>(
     scope: usize,
 ) -> fmt::Result
     requires in_buffer { scope ≤ weight buffer.now.forest }
-    requires within { IsTrue (in_scope buffer.now.forest from scope) }
+    requires within { in_scope buffer.now.forest from scope ≡ true }
     ensures { WritesOnOk W.write_str_gives f.old result
         (text (rest (place_at buffer.now.number buffer.now.forest from scope))) f.new }
 {

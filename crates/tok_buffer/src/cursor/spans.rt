@@ -1,5 +1,5 @@
 //! The position and the spans of a cursor, and cursors compared.
-ghost use Rattle.std.specs.Prelude.{◌≡◌, ◌≤◌, IsTrue, Some, true};
+ghost use Rattle.std.specs.Prelude.{◌≡◌, ◌≤◌, Some, true};
 ghost use Rattle.std.specs.Cmp.{on_per, partial_equiv_from_equiv, on_equiv, on_po};
 ghost use Rattle.std.specs.Ordering.{on};
 ghost use Rattle.std.specs.declared.cmp.Ordering.TheVariants.{Equal};
@@ -197,7 +197,7 @@ fn owner_at(buffer: &TokenBuffer, end: usize) -> (Delimiter, Span)
 // Finds the first visible tree from a position on: whether a group opens before it, and its span.
 fn scan(buffer: &TokenBuffer, from: usize, scope: usize) -> Option<(bool, Span)>
     requires in_buffer { scope ≤ weight buffer.now.forest }
-    requires within { IsTrue (in_scope buffer.now.forest from scope) }
+    requires within { in_scope buffer.now.forest from scope ≡ true }
     ensures { result
         ≡ first_of (ahead (place_at buffer.now.number buffer.now.forest from scope)) }
 {
