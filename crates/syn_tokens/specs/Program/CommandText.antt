@@ -14,7 +14,7 @@ use Rattle.syn_replay.specs.Commands.{Command, Read, on, read, peek, peek2, peek
 use Rattle.syn_replay.specs.Commands.{optional, empty, enter, lookahead, fork, advance, discard}
 use Rattle.syn_replay.specs.Commands.{close, stream_span, cursor_span, previous_span, next_tree}
 use Rattle.syn_replay.specs.Commands.{next_group}
-use Rattle.syn_replay.specs.Turns.{terminated, separated}
+use Rattle.syn_replay.specs.Turns.{Rule, terminated, separated}
 use Rattle.syn_replay.specs.Kinds as looks
 use Rattle.syn_replay.specs.Kinds.{Kind, ident, ident_any, lifetime, lifetime_any, literal, punct}
 use Rattle.syn_replay.specs.Kinds.{underscore, keyword, punctuation, Look, paren, brace, bracket}
@@ -53,25 +53,28 @@ token word =
       | None ↦ option_map punctuation (number_in punctuations word)
     ]
 
+-- what a table has for a name, or else another value
+abbrev pub by_name : {A : Type 0} → List (List ℕ × A) → (otherwise : A) → List ℕ → A
+by_name [] otherwise word = otherwise
+by_name (row ∷ rows) otherwise word =
+    cond (bytes_eq word row.0) row.1 (by_name rows otherwise word)
+
 abbrev pub kind : List ℕ → Option Kind
 kind word =
-    cond (bytes_eq word (codes "Ident")) (Some ident) (
-    cond (bytes_eq word (codes "IdentAny")) (Some ident_any) (
-    cond (bytes_eq word (codes "Lifetime")) (Some lifetime) (
-    cond (bytes_eq word (codes "LifetimeAny")) (Some lifetime_any) (
-    cond (bytes_eq word (codes "Literal")) (Some literal) (
-    cond (bytes_eq word (codes "Punct")) (Some punct) (
-    cond (bytes_eq word (codes "_")) (Some underscore) (token word)))))))
+    by_name
+    ((codes "Ident", Some ident) ∷ (codes "IdentAny", Some ident_any)
+    ∷ (codes "Lifetime", Some lifetime) ∷ (codes "LifetimeAny", Some lifetime_any)
+    ∷ (codes "Literal", Some literal) ∷ (codes "Punct", Some punct)
+    ∷ (codes "_", Some underscore) ∷ [])
+    (token word) word
 
 abbrev pub look : List ℕ → Option Look
 look word =
-    cond (bytes_eq word (codes "Paren")) (Some paren) (
-    cond (bytes_eq word (codes "Brace")) (Some brace) (
-    cond (bytes_eq word (codes "Bracket")) (Some bracket) (
-    cond (bytes_eq word (codes "End")) (Some the_end) (
-    cond (bytes_eq word (codes "Group")) (Some invisible_group) (
-    cond (bytes_eq word (codes "GroupTree")) (Some group_tree) (
-    cond (bytes_eq word (codes "Tree")) (Some any_tree) (option_map looks.kind (kind word))))))))
+    by_name
+    ((codes "Paren", Some paren) ∷ (codes "Brace", Some brace) ∷ (codes "Bracket", Some bracket)
+    ∷ (codes "End", Some the_end) ∷ (codes "Group", Some invisible_group)
+    ∷ (codes "GroupTree", Some group_tree) ∷ (codes "Tree", Some any_tree) ∷ [])
+    (option_map looks.kind (kind word)) word
 
 -- the looks of all words, in order
 abbrev pub all_looks : List (List ℕ) → Option (List Look)
@@ -80,19 +83,19 @@ all_looks (word ∷ rest) =
     option_and_then (λ l. option_map (λ ls. l ∷ ls) (all_looks rest)) (look word)
 
 abbrev pub delimiter : List ℕ → Option Delimiter
-delimiter word =
-    cond (bytes_eq word (codes "(")) (Some delimiters.Parenthesis) (
-    cond (bytes_eq word (codes "{")) (Some delimiters.Brace) (
-    cond (bytes_eq word (codes "[")) (Some delimiters.Bracket) (
-    cond (bytes_eq word (opening delimiters.None)) (Some delimiters.None) None)))
+delimiter =
+    by_name
+    ((codes "(", Some delimiters.Parenthesis) ∷ (codes "{", Some delimiters.Brace)
+    ∷ (codes "[", Some delimiters.Bracket) ∷ (opening delimiters.None, Some delimiters.None) ∷ [])
+    None
 
 -- a separator, by its text
 abbrev pub separator : List ℕ → Option (List ℕ)
-separator word =
-    cond (bytes_eq word (codes ",")) (Some (codes ",")) (
-    cond (bytes_eq word (codes ";")) (Some (codes ";")) (
-    cond (bytes_eq word (codes "+")) (Some (codes "+")) (
-    cond (bytes_eq word (codes "::")) (Some (codes "::")) None)))
+separator =
+    by_name
+    ((codes ",", Some (codes ",")) ∷ (codes ";", Some (codes ";")) ∷ (codes "+", Some (codes "+"))
+    ∷ (codes "::", Some (codes "::")) ∷ [])
+    None
 
 -- a kind of value and a separator
 abbrev pub list : List (List ℕ) → Option (Kind × List ℕ)
@@ -113,39 +116,40 @@ alone command rest = cond (is_empty rest) (Some command) None
 abbrev pub reads : ℕ → Read → Command
 reads n r = on n (read r)
 
+-- a command that takes one word more, read so
+abbrev pub with_word : {A : Type 0} → (List ℕ → Option A) → (A → Command) → List (List ℕ)
+    → Option Command
+with_word reading command rest = option_map command (option_and_then reading (only_word rest))
+
+-- a list by this rule
+abbrev pub with_list : Rule → ℕ → List (List ℕ) → Option Command
+with_list rule n rest = option_map (λ l. reads n (commands.list rule l.0 l.1)) (list rest)
+
 -- the command of this name on a stream, with the words that it takes
 abbrev pub command_named : List ℕ → ℕ → List (List ℕ) → Option Command
 command_named name n rest =
-    cond (bytes_eq name (codes "peek"))
-    (option_map (λ l. reads n (peek l)) (option_and_then look (only_word rest))) (
-    cond (bytes_eq name (codes "peek2"))
-    (option_map (λ l. reads n (peek2 l)) (option_and_then look (only_word rest))) (
-    cond (bytes_eq name (codes "peek3"))
-    (option_map (λ l. reads n (peek3 l)) (option_and_then look (only_word rest))) (
-    cond (bytes_eq name (codes "parse"))
-    (option_map (λ k. reads n (parse k)) (option_and_then kind (only_word rest))) (
-    cond (bytes_eq name (codes "optional"))
-    (option_map (λ k. reads n (optional k)) (option_and_then kind (only_word rest))) (
-    cond (bytes_eq name (codes "empty")) (alone (reads n empty) rest) (
-    cond (bytes_eq name (codes "enter"))
-    (option_map (λ d. on n (enter (Some d))) (option_and_then delimiter (only_word rest))) (
-    cond (bytes_eq name (codes "any")) (alone (on n (enter None)) rest) (
-    cond (bytes_eq name (codes "terminated"))
-    (option_map (λ l. reads n (commands.list terminated l.0 l.1)) (list rest)) (
-    cond (bytes_eq name (codes "separated"))
-    (option_map (λ l. reads n (commands.list separated l.0 l.1)) (list rest)) (
-    cond (bytes_eq name (codes "fork")) (alone (on n fork) rest) (
-    cond (bytes_eq name (codes "advance"))
-    (option_map (λ f. on n (advance f)) (option_and_then number (only_word rest))) (
-    cond (bytes_eq name (codes "discard")) (alone (on n discard) rest) (
-    cond (bytes_eq name (codes "close")) (alone (on n close) rest) (
-    cond (bytes_eq name (codes "span")) (alone (reads n stream_span) rest) (
-    cond (bytes_eq name (codes "cursor")) (alone (reads n cursor_span) rest) (
-    cond (bytes_eq name (codes "previous")) (alone (reads n previous_span) rest) (
-    cond (bytes_eq name (codes "tree")) (alone (reads n next_tree) rest) (
-    cond (bytes_eq name (codes "rest")) (alone (reads n commands.rest) rest) (
-    cond (bytes_eq name (codes "group")) (alone (reads n next_group) rest)
-    None)))))))))))))))))))
+    by_name
+    ((codes "peek", with_word look (λ l. reads n (peek l)) rest)
+    ∷ (codes "peek2", with_word look (λ l. reads n (peek2 l)) rest)
+    ∷ (codes "peek3", with_word look (λ l. reads n (peek3 l)) rest)
+    ∷ (codes "parse", with_word kind (λ k. reads n (parse k)) rest)
+    ∷ (codes "optional", with_word kind (λ k. reads n (optional k)) rest)
+    ∷ (codes "empty", alone (reads n empty) rest)
+    ∷ (codes "enter", with_word delimiter (λ d. on n (enter (Some d))) rest)
+    ∷ (codes "any", alone (on n (enter None)) rest)
+    ∷ (codes "terminated", with_list terminated n rest)
+    ∷ (codes "separated", with_list separated n rest)
+    ∷ (codes "fork", alone (on n fork) rest)
+    ∷ (codes "advance", with_word number (λ f. on n (advance f)) rest)
+    ∷ (codes "discard", alone (on n discard) rest)
+    ∷ (codes "close", alone (on n close) rest)
+    ∷ (codes "span", alone (reads n stream_span) rest)
+    ∷ (codes "cursor", alone (reads n cursor_span) rest)
+    ∷ (codes "previous", alone (reads n previous_span) rest)
+    ∷ (codes "tree", alone (reads n next_tree) rest)
+    ∷ (codes "rest", alone (reads n commands.rest) rest)
+    ∷ (codes "group", alone (reads n next_group) rest) ∷ [])
+    None name
 
 -- a lookahead takes any number of words
 abbrev pub command_on : List ℕ → ℕ → List (List ℕ) → Option Command
