@@ -6,7 +6,7 @@ use Rattle.std.specs.Char.{len_utf8}
 use Rattle.std.specs.List.{list_all}
 use Rattle.std.proofs.lemmas.Bool.{false≢true}
 use Rattle.tok_lexical.specs.Pieces.{Skips, Stops, is_neither}
-use Rattle.tok_lexical.proofs.Lexical.Numbers.{not_true}
+use Rattle.tok_lexical.proofs.Digits.{not_true}
 use Rattle.syn_carets.specs.Lines.{line_feeds, within, without_return}
 
 abbrev Longer : (text after whole : List ℕ) → (rest : List ℕ) → Type 0

@@ -1,5 +1,4 @@
 //! Runs commands in order over a stream.
-pub mod links;
 pub mod lists;
 pub mod peeks;
 pub mod pieces;

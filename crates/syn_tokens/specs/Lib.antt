@@ -1,7 +1,7 @@
 pub mod Program
 pub use Rattle.tok_lexical.specs.Delimiters as DelimiterTexts
 pub use Rattle.tok_lexical.specs.Editions
-pub use Rattle.tok_lexical.specs.Refusals as LexRefusals
+pub use Rattle.tok_lexical.specs.Errors as LexErrors
 pub use Rattle.tok_lexical.specs.Rules
 pub use Rattle.tok_lexical.specs.Words
 pub use Rattle.tok_leaves.specs.Laws as LeafLaws

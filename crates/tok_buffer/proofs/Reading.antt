@@ -12,7 +12,7 @@ use Rattle.tok_lexical.specs.Rules.{source_rules}
 use Rattle.tok_lexical.specs.Widths.{bytes}
 use Rattle.tok_lexical.specs.declared.edition.Edition.{Edition}
 use Rattle.tok_lexical.specs.declared.rule.Rule.{Rule}
-use Rattle.tok_lexical.proofs.Lexical.Sources.{begins_once}
+use Rattle.tok_lexical.proofs.Sources.{begins_once}
 use Rattle.tok_buffer.specs.Buffer.{Laid, forest_of, KeepsReading, SameReading}
 use Rattle.tok_core.specs.Forest.{Forest}
 

@@ -9,7 +9,7 @@ use Rattle.tok_core.specs.Seen.{tree_of, trees_of}
 use Rattle.tok_core.proofs.Facts.{concat-none, joined_assoc}
 use Rattle.tok_core.proofs.Trees.{trees_of_push, trees_of_drop}
 
--- a refusal that left all as it was
+-- a failed call that left all as it was
 pub none_appended : {T E : Type 0} (r : Result T E) (old : Forest) (t : Tree) (rest : Forest)
     (new : Forest) → OnErr r (new ≡ old) → OnErr r (AppendsFront old (tree t rest) new)
 none_appended (Ok x) old t rest new e = e

@@ -24,7 +24,7 @@ use nest::Nest;
 use std::alloc::Global;
 use tok_lexical::source::past_start;
 use tok_lexical::text::front_of;
-use tok_lexical::{Edition, Reason, Rules, first_rule, has_return};
+use tok_lexical::{Edition, LexErrorKind, Rules, first_rule, has_return};
 
 // Returns `false` only if the text has no U+000D. It is searched if the rules ask pieces for one.
 //
@@ -92,7 +92,7 @@ pub fn read<B: Build + Drop>(
     } = nest;
     match open.pop() {
         Some((_, begin)) => {
-            let error = LexError::new(Reason::UnclosedGroup, source, begin);
+            let error = LexError::new(LexErrorKind::UnclosedGroup, source, begin);
             Err(LexFault::Refused(error))
         }
         None => Ok(built),

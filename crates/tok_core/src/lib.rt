@@ -20,7 +20,12 @@ pub use stream::{TokenStream, TokenTree};
 pub use to_tokens::ToTokens;
 pub use tok_leaves::{
     DelimSpan, Delimiter, Ident, Lifetime, LifetimeFault, Literal, MakeFault, Punct, Spacing, Span,
-    Text, known, same,
+    Text, same,
 };
 pub use tok_lexical::Edition;
 pub use tt::{TokenStreamHelper, TokenTreeHelper};
+
+/// Leaves of texts that the caller has proved to be right.
+pub mod known {
+    pub use tok_leaves::known::{identifier, punct};
+}

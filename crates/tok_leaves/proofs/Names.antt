@@ -11,8 +11,8 @@ use Rattle.std.proofs.lemmas.Str.{chars-nil, encodes-chars}
 use Rattle.tok_lexical.specs.Words.{IsIdentifier, HasRaw, has_no_raw}
 use Rattle.tok_leaves.specs.declared.ident.MakeFault.{MakeFault}
 use Rattle.tok_leaves.specs.declared.ident.MakeFault.TheVariants.{Refused, Memory}
-use Rattle.tok_leaves.specs.Lifetimes.{is_identifier, plain_refusal, raw_refusal, name_fault}
-use Rattle.tok_leaves.specs.Lifetimes.{refusal_in}
+use Rattle.tok_leaves.specs.Lifetimes.{is_identifier, plain_error, raw_error, name_fault}
+use Rattle.tok_leaves.specs.Lifetimes.{error_in}
 use Rattle.tok_leaves.specs.declared.lifetime.LifetimeFault.TheVariants.{Empty, NotIdentifier}
 
 pub no_text : (bs : List ℕ) → (length bs == 0) ≡ true → bs ≡ []
@@ -20,12 +20,12 @@ no_text [] h = refl
 no_text (b ∷ bs) h = absurd (omega (arith, eqb-true (length (b ∷ bs)) 0 h))
 
 -- no name at all
-pub empty_plain : (bs : List ℕ) → (length bs == 0) ≡ true → plain_refusal (chars bs) ≡ Some Empty
-empty_plain bs h = ap (λ x. plain_refusal (chars x)) (no_text bs h) ∙ ap plain_refusal chars-nil
+pub empty_plain : (bs : List ℕ) → (length bs == 0) ≡ true → plain_error (chars bs) ≡ Some Empty
+empty_plain bs h = ap (λ x. plain_error (chars x)) (no_text bs h) ∙ ap plain_error chars-nil
 
 pub empty_raw : (bs : List ℕ) → has_no_raw (chars bs) ≡ false → (length bs == 0) ≡ true →
-    raw_refusal (chars bs) ≡ Some Empty
-empty_raw bs q h = cond-false (has_no_raw (chars bs)) _ (plain_refusal (chars bs)) q
+    raw_error (chars bs) ≡ Some Empty
+empty_raw bs q h = cond-false (has_no_raw (chars bs)) _ (plain_error (chars bs)) q
     ∙ empty_plain bs h
 
 -- a test and the fact that it tells
@@ -45,11 +45,11 @@ decided : (cs : List ℕ) (b : Bool) → is_identifier cs ≡ b → (is_identifi
 decided cs true e = inl e
 decided cs false e = inr (λ h. false≢true (sym e ∙ told cs h))
 
-plain_made : (cs : List ℕ) → is_identifier cs ≡ true → plain_refusal cs ≡ None
+plain_made : (cs : List ℕ) → is_identifier cs ≡ true → plain_error cs ≡ None
 plain_made [] h = absurd (false≢true h)
 plain_made (c ∷ cs) h = cond-true (is_identifier (c ∷ cs)) None (Some NotIdentifier) h
 
-plain_refused : (cs : List ℕ) → (cs ≡ [] → ⊥) → is_identifier cs ≡ false → plain_refusal cs
+plain_refused : (cs : List ℕ) → (cs ≡ [] → ⊥) → is_identifier cs ≡ false → plain_error cs
     ≡ Some NotIdentifier
 plain_refused [] some h = absurd (some refl)
 plain_refused (c ∷ cs) some h = cond-false (is_identifier (c ∷ cs)) None (Some NotIdentifier) h
@@ -68,7 +68,7 @@ some_chars bs u h e =
 -- the maker's fault says what is wrong with a name
 pub plain_fault : (bs : List ℕ) (fault : MakeFault) → IsUtf8 bs → (length bs == 0) ≡ false
     → (IsIdentifier (chars bs) → fault ≡ Memory) → ((IsIdentifier (chars bs) → ⊥) → fault ≡ Refused)
-    → plain_refusal (chars bs) ≡ refusal_in (name_fault fault)
+    → plain_error (chars bs) ≡ error_in (name_fault fault)
 plain_fault bs Refused u h takes refuses =
     plain_refused (chars bs) (some_chars bs u h)
     (not_told (chars bs) (is_identifier (chars bs)) refl
@@ -82,7 +82,7 @@ plain_fault bs Memory u h takes refuses =
 pub raw_fault : (bs : List ℕ) (fault : MakeFault) → IsUtf8 bs → (length bs == 0) ≡ false →
     has_no_raw (chars bs) ≡ false
     → (HasRaw (chars bs) → fault ≡ Memory) → ((HasRaw (chars bs) → ⊥) → fault ≡ Refused)
-    → raw_refusal (chars bs) ≡ refusal_in (name_fault fault)
+    → raw_error (chars bs) ≡ error_in (name_fault fault)
 raw_fault bs fault u h raw takes refuses =
-    cond-false (has_no_raw (chars bs)) _ (plain_refusal (chars bs)) raw
+    cond-false (has_no_raw (chars bs)) _ (plain_error (chars bs)) raw
     ∙ plain_fault bs fault u h (λ i. takes (i, raw)) (λ never. refuses (λ r. never r.0))

@@ -33,25 +33,25 @@ raw_word (c ∷ (d ∷ word)) = cond (c == 114 && d == 35) (Some word) None
 raw_word cs = None
 
 -- why these characters name no lifetime, plain or raw; None where they do
-abbrev pub plain_refusal : List ℕ → Option LifetimeFault
-plain_refusal [] = Some Empty
-plain_refusal (c ∷ cs) = cond (is_identifier (c ∷ cs)) None (Some NotIdentifier)
+abbrev pub plain_error : List ℕ → Option LifetimeFault
+plain_error [] = Some Empty
+plain_error (c ∷ cs) = cond (is_identifier (c ∷ cs)) None (Some NotIdentifier)
 
-abbrev pub raw_refusal : List ℕ → Option LifetimeFault
-raw_refusal word = cond (has_no_raw word) (Some NoRaw) (plain_refusal word)
+abbrev pub raw_error : List ℕ → Option LifetimeFault
+raw_error word = cond (has_no_raw word) (Some NoRaw) (plain_error word)
 
-abbrev pub name_refusal : List ℕ → Option LifetimeFault
-name_refusal cs = elim (raw_word cs) [ Some word ↦ raw_refusal word | None ↦ plain_refusal cs ]
+abbrev pub name_error : List ℕ → Option LifetimeFault
+name_error cs = elim (raw_word cs) [ Some word ↦ raw_error word | None ↦ plain_error cs ]
 
 -- why these characters make no lifetime; None where they do
-abbrev pub lifetime_refusal : List ℕ → Option LifetimeFault
-lifetime_refusal [] = Some NoApostrophe
-lifetime_refusal (c ∷ cs) = cond (c == apostrophe) (name_refusal cs) (Some NoApostrophe)
+abbrev pub lifetime_error : List ℕ → Option LifetimeFault
+lifetime_error [] = Some NoApostrophe
+lifetime_error (c ∷ cs) = cond (c == apostrophe) (name_error cs) (Some NoApostrophe)
 
 -- an allocation failure refuses no text
-abbrev pub refusal_in : LifetimeFault → Option LifetimeFault
-refusal_in Memory = None
-refusal_in fault = Some fault
+abbrev pub error_in : LifetimeFault → Option LifetimeFault
+error_in Memory = None
+error_in fault = Some fault
 
 -- a maker's fault, at a name that isn't empty and may be raw
 abbrev pub name_fault : MakeFault → LifetimeFault

@@ -1,11 +1,13 @@
-//! Leaves of texts that the caller has proved to be right, so that none is tested or rejected.
+//! Leaves of texts that are known to be right, so that none is tested or rejected: the caller has
+//! proved it, or a lexer has just read the text.
 ghost use Rattle.std.specs.Prelude.{◌≡◌, true, IfOk};
 ghost use Rattle.std.specs.Str.{chars};
-ghost use Rattle.tok_leaves.specs.Leaves.{ident, punct, ident_of, punct_of};
+ghost use Rattle.tok_leaves.specs.Leaves.{ident, ident_of, literal, literal_of, punct, punct_of};
 ghost use Rattle.tok_lexical.specs.Characters.{is_punct_or_apostrophe};
 ghost use Rattle.tok_lexical.specs.Words.{IsIdentifier};
 
 use crate::ident::Ident;
+use crate::literal::Literal;
 use crate::punct::{Punct, Spacing};
 use crate::span::Span;
 use crate::text::Text;
@@ -23,7 +25,7 @@ pub fn identifier(alloc: Global, text: &str, span: Span) -> Result<Ident, AllocE
     ensures { IfOk result (λ i. ident_of i ≡ ident text.now span) }
 {
     let text = Text::from_str(alloc, text)?;
-    Ok(Ident::unchecked(text, span))
+    Ok(unchecked_ident(text, span))
 }
 
 /// Creates a punct.
@@ -35,5 +37,26 @@ pub fn punct(ch: char, spacing: Spacing, span: Span) -> Punct
     requires { is_punct_or_apostrophe ch ≡ true }
     ensures { punct_of result ≡ punct ch spacing span }
 {
+    unchecked_punct(ch, spacing, span)
+}
+
+/// Creates an identifier with this text, for a lexer.
+pub fn unchecked_ident(text: Text, span: Span) -> Ident
+    ensures { ident_of result ≡ ident text span }
+{
+    Ident::unchecked(text, span)
+}
+
+/// Creates a punct of this character, for a lexer.
+pub fn unchecked_punct(ch: char, spacing: Spacing, span: Span) -> Punct
+    ensures { punct_of result ≡ punct ch spacing span }
+{
     Punct::unchecked(ch, spacing, span)
+}
+
+/// Creates a literal with this text, for a lexer.
+pub fn unchecked_literal(text: Text, span: Span) -> Literal
+    ensures { literal_of result ≡ literal text span }
+{
+    Literal::unchecked(text, span)
 }

@@ -13,7 +13,6 @@ mod punct;
 pub mod same;
 mod span;
 mod text;
-pub mod unchecked;
 
 pub use ident::{Ident, MakeFault};
 pub use lifetime::{Lifetime, LifetimeFault};

@@ -3,7 +3,7 @@ ghost use Rattle.std.specs.Prelude.{◌≡◌, ◌++◌, ◌∷◌, codes, None,
 ghost use Rattle.std.specs.Str.{chars, IsUtf8};
 ghost use Rattle.tok_leaves.specs.Leaves.{ident, ident_of, leaf_span, leaf_text, apostrophe};
 ghost use Rattle.tok_lexical.specs.Words.{has_no_raw};
-ghost use Rattle.tok_leaves.specs.Lifetimes.{fault_words, lifetime_refusal, lifetime_text, name_fault, name_refusal, plain_refusal, raw_refusal, refusal_in};
+ghost use Rattle.tok_leaves.specs.Lifetimes.{fault_words, lifetime_error, lifetime_text, name_fault, name_error, plain_error, raw_error, error_in};
 ghost use Rattle.tok_leaves.specs.Spans.{covering};
 
 use crate::ident::{Ident, MakeFault};
@@ -77,12 +77,12 @@ impl Lifetime {
     /// Returns the first error that applies, in the order of `LifetimeFault`, or `Memory` if the
     /// allocation fails.
     pub fn new(alloc: Global, symbol: &str, span: Span) -> Result<Lifetime, LifetimeFault>
-        ensures made { IfOk result (λ l. lifetime_refusal (chars symbol.now) ≡ None) }
+        ensures made { IfOk result (λ l. lifetime_error (chars symbol.now) ≡ None) }
         ensures text { IfOk result (λ l. lifetime_text l ≡ symbol.now) }
         ensures spans { IfOk result
             (λ l. (l.apostrophe ≡ span) × (leaf_span (ident_of l.ident) ≡ span)) }
         ensures refused { IfErr result
-            (λ fault. lifetime_refusal (chars symbol.now) ≡ refusal_in fault) }
+            (λ fault. lifetime_error (chars symbol.now) ≡ error_in fault) }
     {
         let Some(name) = past_apostrophe(symbol) else {
             return Err(LifetimeFault::NoApostrophe);
@@ -141,8 +141,8 @@ impl Display for Lifetime {
 // Removes a leading apostrophe.
 fn past_apostrophe(symbol: &str) -> Option<&str>
     ensures chars { MatchOption result
-        (lifetime_refusal (chars symbol.now) ≡ Some LifetimeFault.NoApostrophe)
-        (λ name. lifetime_refusal (chars symbol.now) ≡ name_refusal (chars name.now)) }
+        (lifetime_error (chars symbol.now) ≡ Some LifetimeFault.NoApostrophe)
+        (λ name. lifetime_error (chars symbol.now) ≡ name_error (chars name.now)) }
     ensures bytes { IfSome result (λ name. symbol.now ≡ apostrophe ∷ name.now) }
     ensures utf8 { IfSome result (λ name. IsUtf8 name.now) }
 {
@@ -153,8 +153,8 @@ fn past_apostrophe(symbol: &str) -> Option<&str>
 // Removes a leading `r#`.
 fn past_raw(name: &str) -> Option<&str>
     ensures chars { MatchOption result
-        (name_refusal (chars name.now) ≡ plain_refusal (chars name.now))
-        (λ word. name_refusal (chars name.now) ≡ raw_refusal (chars word.now)) }
+        (name_error (chars name.now) ≡ plain_error (chars name.now))
+        (λ word. name_error (chars name.now) ≡ raw_error (chars word.now)) }
     ensures bytes { IfSome result (λ word. name.now ≡ codes "r#" ++ word.now) }
     ensures utf8 { IfSome result (λ word. IsUtf8 word.now) }
 {
@@ -168,9 +168,9 @@ fn past_raw(name: &str) -> Option<&str>
 }
 
 fn identifier(alloc: Global, name: &str, span: Span) -> Result<Ident, LifetimeFault>
-    ensures made { IfOk result (λ i. name_refusal (chars name.now) ≡ None) }
+    ensures made { IfOk result (λ i. name_error (chars name.now) ≡ None) }
     ensures value { IfOk result (λ i. ident_of i ≡ ident name.now span) }
-    ensures refused { IfErr result (λ fault. name_refusal (chars name.now) ≡ refusal_in fault) }
+    ensures refused { IfErr result (λ fault. name_error (chars name.now) ≡ error_in fault) }
 {
     match past_raw(name) {
         Some(word) => raw_identifier(alloc, word, span),
@@ -179,9 +179,9 @@ fn identifier(alloc: Global, name: &str, span: Span) -> Result<Ident, LifetimeFa
 }
 
 fn plain_identifier(alloc: Global, name: &str, span: Span) -> Result<Ident, LifetimeFault>
-    ensures made { IfOk result (λ i. plain_refusal (chars name.now) ≡ None) }
+    ensures made { IfOk result (λ i. plain_error (chars name.now) ≡ None) }
     ensures value { IfOk result (λ i. ident_of i ≡ ident name.now span) }
-    ensures refused { IfErr result (λ fault. plain_refusal (chars name.now) ≡ refusal_in fault) }
+    ensures refused { IfErr result (λ fault. plain_error (chars name.now) ≡ error_in fault) }
 {
     if name.is_empty() {
         return Err(LifetimeFault::Empty);
@@ -193,9 +193,9 @@ fn plain_identifier(alloc: Global, name: &str, span: Span) -> Result<Ident, Life
 }
 
 fn raw_identifier(alloc: Global, word: &str, span: Span) -> Result<Ident, LifetimeFault>
-    ensures made { IfOk result (λ i. raw_refusal (chars word.now) ≡ None) }
+    ensures made { IfOk result (λ i. raw_error (chars word.now) ≡ None) }
     ensures value { IfOk result (λ i. ident_of i ≡ ident (codes "r#" ++ word.now) span) }
-    ensures refused { IfErr result (λ fault. raw_refusal (chars word.now) ≡ refusal_in fault) }
+    ensures refused { IfErr result (λ fault. raw_error (chars word.now) ≡ error_in fault) }
 {
     if has_no_raw(word) {
         return Err(LifetimeFault::NoRaw);

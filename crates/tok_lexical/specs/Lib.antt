@@ -4,13 +4,13 @@ pub mod Contents
 pub mod Delimiters
 pub mod Docs
 pub mod Editions
+pub mod Errors
 pub mod Fits
 pub mod Floats
 pub mod Following
 pub mod Numbers
 pub mod Pieces
 pub mod Raw
-pub mod Refusals
 pub mod Rules
 pub mod Sources
 pub mod Starts

@@ -7,8 +7,7 @@ ghost use Rattle.tok_types.specs.Printed.{word};
 ghost use Rattle.tok_types.specs.Texts.{keyword_text, in_backquotes};
 ghost use Rattle.tok_types.specs.Sees.{keyword_first};
 
-use crate::look::Token;
-use crate::names::append_word;
+use crate::look::{Token, append_word};
 use crate::texts::{keyword_display, keyword_text};
 use std::alloc::AllocError;
 use std::fmt::{self, Debug, Formatter, Write};

@@ -1,11 +1,19 @@
-//! The trait of everything that a peek can look for.
-ghost use Rattle.std.specs.Prelude.{ℕ, Bool, List, None, Option};
+//! What token types share: the trait of everything that a peek can look for, and how a word is
+//! written.
+ghost use Rattle.std.specs.Prelude.{◌≡◌, ℕ, Bool, List, None, Option, IfOk, OnOk, OnErr};
+ghost use Rattle.std.specs.Str.{chars};
 ghost use Rattle.tok_buffer.specs.Cursors.{place_of};
 ghost use Rattle.tok_buffer.specs.Place.{Place};
-ghost use Rattle.tok_core.specs.Forest.{Forest};
+ghost use Rattle.tok_core.specs.Forest.{AppendsFront, Forest, concat};
+ghost use Rattle.tok_leaves.specs.Leaves.{ident, ident_of};
+ghost use Rattle.tok_lexical.specs.Words.{IsIdentifier, IsSuffix};
+ghost use Rattle.tok_types.specs.Printed.{word};
 ghost use Rattle.tok_types.specs.Sees.{Sees};
 
+use std::alloc::{AllocError, Global};
 use tok_buffer::Cursor;
+use tok_core::known::identifier;
+use tok_core::{Ident, Span, ToTokens, TokenStream, TokenTree};
 
 /// A type that a peek can look for, and its name in errors.
 ///
@@ -27,4 +35,17 @@ pub trait Token {
     /// Returns the token's name in errors: its text in backquotes, or words.
     fn display() -> &'static str
         ensures { shown result.now };
+}
+
+/// Appends an identifier with this text, or nothing if the text is empty.
+pub fn append_word(text: &str, span: Span, tokens: &mut TokenStream) -> Result<(), AllocError>
+    requires { IsSuffix (chars text.now) }
+    ensures ok { OnOk result (tokens.new ≡ concat tokens.old (word text.now span)) }
+    ensures err { OnErr result (AppendsFront tokens.old (word text.now span) tokens.new) }
+{
+    if text.is_empty() {
+        return Ok(());
+    }
+    let ident = identifier(tokens.allocator(), text, span)?;
+    tokens.append(TokenTree::Ident(ident))
 }

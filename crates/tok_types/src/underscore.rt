@@ -6,8 +6,7 @@ ghost use Rattle.tok_types.specs.Looks.{Finds, IsText};
 ghost use Rattle.tok_types.specs.Printed.{first_span, word};
 ghost use Rattle.tok_types.specs.Sees.{underscore_first};
 
-use crate::look::Token;
-use crate::names::append_word;
+use crate::look::{Token, append_word};
 use std::alloc::AllocError;
 use std::fmt::{self, Debug, Formatter, Write};
 use tok_buffer::Cursor;

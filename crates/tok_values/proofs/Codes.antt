@@ -2,8 +2,8 @@
 use Rattle.std.proofs.Common.{◌≡◌, ◌∙◌, ℕ, List, [], ◌∷◌, None, false, refl, ap, eqb-true}
 use Rattle.std.specs.Prelude.{if◌then◌else◌, ◌==◌}
 use Rattle.tok_lexical.specs.Pieces.{Skips, after_first, begins_with, is_neither, up_to}
-use Rattle.tok_lexical.proofs.Lexical.Fronts.{first_parts}
-use Rattle.tok_lexical.proofs.Lexical.Numbers.{not_true}
+use Rattle.tok_lexical.proofs.Fronts.{first_parts}
+use Rattle.tok_lexical.proofs.Digits.{not_true}
 use Rattle.tok_values.specs.Escapes.{and_rest, code, named_char}
 
 module _ (text start digits after : List ℕ) (cut : text ≡ 123 ∷ start)

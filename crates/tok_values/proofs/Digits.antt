@@ -11,7 +11,7 @@ use Rattle.std.proofs.lemmas.Bool.{false≢true}
 use Rattle.tok_lexical.specs.Numbers.{IsNumberSuffix, has_digit, is_digit_or_underscore}
 use Rattle.tok_lexical.specs.Numbers.{starts_digit}
 use Rattle.tok_lexical.specs.Pieces.{Skips, Stops}
-use Rattle.tok_lexical.proofs.Lexical.Numbers.{all_stops, not_true}
+use Rattle.tok_lexical.proofs.Digits.{all_stops, not_true}
 use Rattle.tok_values.specs.Integers.{IsDigits, IsInteger, base_of}
 use Rattle.tok_values.specs.Numbers.{number}
 

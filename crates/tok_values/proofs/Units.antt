@@ -4,7 +4,7 @@ use Rattle.std.proofs.Common.{ap, subst, append_assoc}
 use Rattle.std.specs.Prelude.{encode_utf8, encode_utf8_all}
 use Rattle.std.proofs.lemmas.List.{append-nil}
 use Rattle.std.proofs.lemmas.Str.{encodes-append}
-use Rattle.tok_lexical.proofs.Lexical.Escapes.{tails}
+use Rattle.tok_lexical.proofs.EscapedChars.{tails}
 use Rattle.tok_values.specs.Strings.{InApostrophes, InQuotes, Means, nothing, more, one_char, unit}
 
 abbrev parts : Option (List ℕ × List ℕ) → List ℕ × List ℕ

@@ -8,7 +8,7 @@ use Rattle.syn_replay.specs.Session.Links.{links_of, IsContent, HasNone, IsFirst
 use Rattle.syn_replay.specs.Session.State.{State, stream_at, is_content_of, is_open_content_of}
 use Rattle.syn_replay.specs.Session.State.{ended, contents_ended, ended_inside}
 use Rattle.syn_replay.specs.Session.Tracks.{kind_of, state_of_list}
-use Rattle.syn_replay.specs.declared.session.links.Links.{Links}
+use Rattle.syn_replay.specs.declared.session.stream.Links.{Links}
 use Rattle.syn_replay.specs.declared.session.stream.Stream.{Stream}
 use Rattle.syn_replay.proofs.Walk.Links.{content_within, length-links, links_there}
 use Rattle.syn_replay.proofs.Walk.Tracks.{stream_there, length-state}

@@ -9,7 +9,7 @@ use Rattle.std.proofs.lemmas.List.{get_or-map, length-map, map-append}
 use Rattle.std.specs.Prelude.{cond}
 use Rattle.syn_replay.specs.Session.Links.{links_of, no_links, links_at, IsContent, HasNone}
 use Rattle.syn_replay.specs.Session.Links.{IsFirstFrom, IsLast, AreLinked}
-use Rattle.syn_replay.specs.declared.session.links.Links.{Links}
+use Rattle.syn_replay.specs.declared.session.stream.Links.{Links}
 use Rattle.syn_replay.specs.declared.session.stream.Stream.{Stream}
 
 pub links_there : (xs : List Stream) (i : ℕ) (x : Stream) → x ≡ get_or xs i x → i < length xs

@@ -5,7 +5,7 @@ use Rattle.std.proofs.Common.{length-set, length-append}
 use Rattle.std.proofs.Math.Seq.{get_or-append_seam}
 use Rattle.std.proofs.lemmas.List.{get_or-set_same, get_or-set_other, map-set, length-map}
 use Rattle.syn_replay.specs.Session.Links.{links_of, no_links, unlinked, links_at, AreLinked, IsNew}
-use Rattle.syn_replay.specs.declared.session.links.Links.{Links}
+use Rattle.syn_replay.specs.declared.session.stream.Links.{Links}
 use Rattle.syn_replay.specs.declared.session.stream.Stream.{Stream}
 use Rattle.syn_replay.proofs.Walk.Links.{links_there, linked_along, content_within, last_of}
 use Rattle.syn_replay.proofs.Walk.Links.{IsAppended, appended_linked}

@@ -2,7 +2,7 @@
 use Rattle.std.specs.Prelude.{◌≡◌, ℕ, ◌+◌, ◌<◌, ◌≤◌, List, [], ◌∷◌, ◌++◌, length, map, Option, Some}
 use Rattle.std.specs.Prelude.{None}
 use Rattle.std.proofs.Common.{get_or}
-use Rattle.syn_replay.specs.declared.session.links.Links.{Links}
+use Rattle.syn_replay.specs.declared.session.stream.Links.{Links}
 use Rattle.syn_replay.specs.declared.session.stream.Stream.{Stream}
 
 abbrev pub links_of : List Stream → List Links

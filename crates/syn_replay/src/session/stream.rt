@@ -1,4 +1,4 @@
-//! One stream of a replay.
+//! One stream of a replay, and its links to other streams.
 ghost use Rattle.std.specs.Prelude.{◌≡◌, true, false};
 ghost use Rattle.tok_buffer.specs.Cursors.{place_of};
 ghost use Rattle.syn_parse.specs.Pauses.{paused_state};
@@ -6,9 +6,34 @@ ghost use Rattle.syn_replay.specs.Session.Links.{links_of, no_links, unlinked, A
 ghost use Rattle.syn_replay.specs.Session.State.{a_fork, standing};
 ghost use Rattle.syn_replay.specs.Session.Tracks.{kind_of, state_of_list, stream_of};
 
-use crate::session::links::Links;
 use syn_parse::Paused;
 use tok_buffer::Cursor;
+
+/// The numbers of the streams that a stream is linked to.
+#[derive(Clone, Copy)]
+pub struct Links {
+    /// The stream from which this group's stream was entered.
+    pub parent: Option<usize>,
+    /// The first and the last group's stream entered from this one.
+    pub first: Option<usize>,
+    pub last: Option<usize>,
+    /// The group's stream that was entered next from the same parent.
+    pub next: Option<usize>,
+}
+
+impl Links {
+    /// Returns the links of a stream with this parent, and no others.
+    pub fn of_parent(parent: Option<usize>) -> Links
+        ensures { result ≡ unlinked parent }
+    {
+        Links {
+            parent,
+            first: None,
+            last: None,
+            next: None,
+        }
+    }
+}
 
 /// A stream, at rest between two commands.
 #[derive(Clone, Copy)]

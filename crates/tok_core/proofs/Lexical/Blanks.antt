@@ -5,7 +5,7 @@ use Rattle.std.proofs.lemmas.List.{append-nil}
 use Rattle.std.proofs.lemmas.Str.{length-le-encodes}
 use Rattle.std.specs.Borrow.{Bor}
 use Rattle.std.specs.Str.{chars, IsUtf8}
-use Rattle.tok_lexical.proofs.Lexical.Fits.{spelled_one}
+use Rattle.tok_lexical.proofs.Fits.{spelled_one}
 use Rattle.tok_lexical.specs.Characters.{is_whitespace}
 use Rattle.tok_core.specs.Lexical.Items.{Item}
 use Rattle.tok_lexical.specs.Pieces.{HasPrefix, Skips, ReadsLongest}
@@ -14,10 +14,10 @@ use Rattle.tok_core.specs.Lexical.Reading.{Cut, stop, piece}
 use Rattle.tok_lexical.specs.Starts.{rules_of, line_rule, block_rule}
 use Rattle.tok_lexical.specs.declared.rule.Rules.{Rules}
 use Rattle.tok_lexical.specs.declared.rule.Rules.TheVariants.{Plain, Marked, Source}
-use Rattle.tok_lexical.proofs.Lexical.Slashes.{decides_line, decides_block}
-use Rattle.tok_lexical.proofs.Lexical.Fits.{decided}
-use Rattle.tok_lexical.proofs.Lexical.Longest.{takes_one}
-use Rattle.tok_lexical.proofs.Lexical.Texts.{cut_length}
+use Rattle.tok_lexical.proofs.Slashes.{decides_line, decides_block}
+use Rattle.tok_lexical.proofs.Fits.{decided}
+use Rattle.tok_lexical.proofs.Longest.{takes_one}
+use Rattle.tok_lexical.proofs.Texts.{cut_length}
 use Rattle.std.proofs.lemmas.Bool.{false≢true, eqb-true}
 use Rattle.std.specs.Prelude.{Bool, true, false, not, ◌==◌, ◌||◌, ◌&&◌, Option, Some, None}
 use Rattle.std.specs.Prelude.{IfSome, encode_utf8, encode_utf8_all}
@@ -25,7 +25,7 @@ use Rattle.std.specs.List.{list_all}
 use Rattle.tok_core.specs.Private.Built.{IsBlank}
 use Rattle.tok_lexical.specs.Comments.{is_line_doc, is_block_doc, is_not_line_feed}
 use Rattle.tok_lexical.specs.Comments.{opens_line_doc, opens_block_doc, Closes, plain}
-use Rattle.tok_lexical.specs.Refusals.{refusal}
+use Rattle.tok_lexical.specs.Errors.{error_kind}
 use Rattle.tok_core.specs.Lexical.Meaning.{items}
 use Rattle.tok_lexical.specs.Widths.{width}
 use Rattle.tok_lexical.specs.Pieces.{IsLongestPrefix}
@@ -47,7 +47,7 @@ use Rattle.tok_lexical.specs.declared.rule.Rule.TheVariants.{SourceLifetime, Sou
 use Rattle.tok_lexical.specs.declared.rule.Rule.TheVariants.{PointedDecimal, SourceDecimal}
 use Rattle.tok_lexical.specs.declared.rule.Rule.TheVariants.{SourceLineComment}
 use Rattle.tok_lexical.specs.declared.rule.Rule.TheVariants.{SourceBlockComment}
-use Rattle.tok_lexical.proofs.Lexical.Longest.{list_all_push}
+use Rattle.tok_lexical.proofs.Longest.{list_all_push}
 
 -- white space and comments, doc comments aside
 abbrev is_blank : Rule → List ℕ → Bool
@@ -120,7 +120,7 @@ not_true false e = refl
 
 -- such a taken is not refused, adds nothing, and is as wide as its bytes
 record MeansNothing (rule : Rule) (number at : ℕ) (taken after : List ℕ) : Type 0 where
-  pub passes : refusal rule at taken after ≡ None
+  pub passes : error_kind rule at taken after ≡ None
   pub adds_none : items number rule at taken after ≡ []
   pub wide : width rule taken ≡ length (encode_utf8_all taken)
 

@@ -15,7 +15,7 @@ use Rattle.tok_lexical.specs.Starts.{rules_of}
 use Rattle.tok_core.specs.Lexical.Errors.{OnRefused}
 use Rattle.tok_core.specs.Private.Halted.{OnHalted, fault_of}
 use Rattle.tok_core.specs.Lexical.Items.{Item, no_items}
-use Rattle.tok_lexical.specs.Refusals.{refusal}
+use Rattle.tok_lexical.specs.Errors.{error_kind}
 use Rattle.tok_core.specs.Lexical.Meaning.{items}
 use Rattle.tok_lexical.specs.Widths.{width, is_group_mark}
 use Rattle.tok_lexical.specs.Pieces.{HasPrefix}
@@ -27,7 +27,7 @@ use Rattle.tok_core.specs.declared.lexer.error.LexError.{LexError}
 use Rattle.tok_core.specs.declared.lexer.error.LexFault.{LexFault}
 use Rattle.tok_core.specs.declared.lexer.error.Halt.{Halt}
 use Rattle.tok_core.specs.declared.lexer.error.Halt.TheVariants.{Refused, Memory}
-use Rattle.tok_lexical.specs.declared.reason.Reason.TheVariants.{UnclosedGroup}
+use Rattle.tok_lexical.specs.declared.lex_error_kind.LexErrorKind.TheVariants.{UnclosedGroup}
 use Rattle.tok_lexical.specs.declared.delimiter.Delimiter.{Delimiter}
 use Rattle.tok_lexical.specs.declared.rule.Rules.{Rules}
 use Rattle.tok_lexical.specs.declared.rule.Rules.TheVariants.{Plain, Marked, Source}
@@ -37,13 +37,13 @@ use Rattle.tok_lexical.specs.declared.rule.Rule.{Rule}
 use Rattle.tok_lexical.specs.declared.rule.Rule.TheVariants.{Whitespace}
 use Rattle.tok_core.proofs.Lexical.Blanks.{recut}
 use Rattle.tok_core.proofs.Lexical.Nests.{opens_of, paired_of, reached_later}
-use Rattle.tok_lexical.proofs.Lexical.Fits.{decided}
+use Rattle.tok_lexical.proofs.Fits.{decided}
 use Rattle.tok_core.proofs.Lexical.Steps.{refuses}
-use Rattle.tok_lexical.proofs.Lexical.Texts.{cut_length}
+use Rattle.tok_lexical.proofs.Texts.{cut_length}
 
 cut_more : {rules : List Rule} {number at end : ℕ} {text rest taken after : List ℕ} {rule : Rule}
     {some : List Item} → Cut rules number at text some end rest →
-    IsFirstFit rest rules rule taken after → refusal rule end taken after ≡ None →
+    IsFirstFit rest rules rule taken after → error_kind rule end taken after ≡ None →
     Cut rules number at text (some ++ items number rule end taken after) (end + width rule taken)
     after
 cut_more {number = number} {end = end} {taken = taken} {after = after} {rule = rule} stop d m =
@@ -117,7 +117,7 @@ module _ (begin : ℕ) (rules : List Rule) (number : ℕ) (text rest : List ℕ)
 
   pub so_far_more : (after taken : List ℕ) (end : ℕ) (new : State) (rule : Rule) → IsUtf8 rest →
       IsUtf8 after → IsFirstFit (chars rest) rules rule taken (chars after) →
-      end ≡ at + width rule taken → refusal rule at taken (chars after) ≡ None →
+      end ≡ at + width rule taken → error_kind rule at taken (chars after) ≡ None →
       Grows at nest new (items nest.source rule at taken (chars after)) →
       SoFar begin rules number text after end new
   so_far_more after taken end new rule u v d e m g =
@@ -176,18 +176,18 @@ module _ (begin : ℕ) (rules : List Rule) (number : ℕ) (text rest : List ℕ)
       nest.levels.inner o s.holds
 
   refused : (error : LexError) → error.source ≡ nest.source →
-      Refuses rules nest.groups at (chars rest) error.refusal error.at →
+      Refuses rules nest.groups at (chars rest) error.kind error.at →
       IsRefusedFrom begin rules number (chars text) error
   refused error e r =
       (e ∙ s.same_source, (s.all, at, chars rest, nest.groups, s.cut, opens_of s.holds, r))
 
   pub refused_unclosed : (fewer : List (Delimiter × ℕ)) (group : Delimiter × ℕ)
       (error : LexError) → chars rest ≡ [] → nest.groups ≡ fewer ++ group ∷ [] →
-      error ≡ record { refusal = UnclosedGroup; source = number; at = group.1 } →
+      error ≡ record { kind = UnclosedGroup; source = number; at = group.1 } →
       IsRefusedFrom begin rules number (chars text) error
   refused_unclosed fewer group error e o is =
       refused error (ap (λ w. w.source) is ∙ sym s.same_source)
-      (subst (λ w. Refuses rules nest.groups at (chars rest) w.refusal w.at) (sym is)
+      (subst (λ w. Refuses rules nest.groups at (chars rest) w.kind w.at) (sym is)
       (unclosed group.0 fewer e o))
 
   -- a fault at the next piece
@@ -199,7 +199,7 @@ module _ (begin : ℕ) (rules : List Rule) (number : ℕ) (text rest : List ℕ)
       subst (λ w. OnRefused w (IsRefusedFrom begin rules number (chars text))) (sym is) tt
   fault_here taken after rule (Refused why) fault d h is =
       subst (λ w. OnRefused w (IsRefusedFrom begin rules number (chars text))) (sym is)
-      (refused (record { refusal = why; source = number; at = at }) (sym s.same_source)
+      (refused (record { kind = why; source = number; at = at }) (sym s.same_source)
       (refuses rules nest.groups rule at why (chars rest) taken after d h))
 
 pub ends_in_other : (rules : Rules) → EndsInOther (rules_of rules)

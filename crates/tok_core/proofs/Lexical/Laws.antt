@@ -13,12 +13,12 @@ use Rattle.tok_lexical.specs.declared.rule.Rule.{Rule}
 use Rattle.tok_core.proofs.Lexical.Flat.{one_forest}
 use Rattle.tok_core.proofs.Lexical.Only.{one_cut, one_way, not_both}
 
-same_error : (one other : LexError) → one.refusal ≡ other.refusal → one.source ≡ other.source →
+same_error : (one other : LexError) → one.kind ≡ other.kind → one.source ≡ other.source →
     one.at ≡ other.at → one ≡ other
 same_error one other r s a =
-    ap (λ w. record { refusal = w; source = one.source; at = one.at }) r
-    ∙ ap (λ w. record { refusal = other.refusal; source = w; at = one.at }) s
-    ∙ ap (λ w. record { refusal = other.refusal; source = other.source; at = w }) a
+    ap (λ w. record { kind = w; source = one.source; at = one.at }) r
+    ∙ ap (λ w. record { kind = other.kind; source = w; at = one.at }) s
+    ∙ ap (λ w. record { kind = other.kind; source = other.source; at = w }) a
 
 module _ (begin : ℕ) (rules : List Rule) (number : ℕ) (text : List ℕ) where
   pub forest_once : (one other : Forest) → ReadsFrom begin rules number text one →
@@ -29,7 +29,7 @@ module _ (begin : ℕ) (rules : List Rule) (number : ℕ) (text : List ℕ) wher
   pub refused_once : (one other : LexError) → IsRefusedFrom begin rules number text one →
       IsRefusedFrom begin rules number text other → one ≡ other
   refused_once one other (e, r) (e', r') =
-      let w = one_way begin rules number text one.refusal other.refusal one.at other.at r r' in
+      let w = one_way begin rules number text one.kind other.kind one.at other.at r r' in
       same_error one other w.0 (e ∙ sym e') w.1
 
   pub never_both : (forest : Forest) (error : LexError) → ReadsFrom begin rules number text

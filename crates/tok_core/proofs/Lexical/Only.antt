@@ -4,7 +4,7 @@ use Rattle.std.proofs.Common.{sym, ap, subst, arith, reverse}
 use Rattle.std.specs.Prelude.{Option, Some, None}
 use Rattle.std.proofs.lemmas.List.{append-nil, reverse-append}
 use Rattle.tok_core.specs.Lexical.Items.{Item, IsForest, Opens, inside}
-use Rattle.tok_lexical.specs.Refusals.{refusal}
+use Rattle.tok_lexical.specs.Errors.{error_kind}
 use Rattle.tok_core.specs.Lexical.Meaning.{items, doc_items, opens_group}
 use Rattle.tok_lexical.specs.Widths.{bytes}
 use Rattle.tok_lexical.specs.Docs.{is_inner_doc, line_doc_text, block_doc_text}
@@ -15,13 +15,13 @@ use Rattle.tok_lexical.specs.Fits.{IsFirstFit}
 use Rattle.tok_core.specs.Lexical.Reading.{Cut, stop, piece, Refuses, by_rule, unclosed}
 use Rattle.tok_core.specs.Lexical.Reading.{unopened, too_deep}
 use Rattle.tok_lexical.specs.declared.delimiter.Delimiter.{Delimiter}
-use Rattle.tok_lexical.specs.declared.reason.Reason.{Reason}
+use Rattle.tok_lexical.specs.declared.lex_error_kind.LexErrorKind.{LexErrorKind}
 use Rattle.tok_lexical.specs.declared.rule.Rule.{Rule}
 use Rattle.tok_lexical.specs.declared.rule.Rule.TheVariants.{Opening, Closing, SourceLineComment}
 use Rattle.tok_lexical.specs.declared.rule.Rule.TheVariants.{SourceBlockComment}
 use Rattle.tok_core.proofs.Lexical.Runs.{Run, leaf_passed, first_opens, after_front}
 use Rattle.tok_core.proofs.Lexical.Runs.{one_left_open, first_closes}
-use Rattle.tok_lexical.proofs.Lexical.Fits.{decides_unique, decides_nothing}
+use Rattle.tok_lexical.proofs.Fits.{decides_unique, decides_nothing}
 use Rattle.tok_core.proofs.Lexical.Unique.{cuts}
 
 cut_nil : {rules : List Rule} {number at end : ℕ} {rest : List ℕ} {all : List Item} →
@@ -33,13 +33,13 @@ no_both : {A : Type 0} (x : A) (r s : Option A) → r ≡ s → r ≡ None → s
 no_both x r s e a b = cc
 
 -- what a rule means, seen at another decision of the same text
-same_refusal : {rules : List Rule} {text p r q s : List ℕ} {rule other : Rule} (at : ℕ) →
-    IsFirstFit text rules rule p r → IsFirstFit text rules other q s → refusal rule at p r
-    ≡ refusal other at q s
-same_refusal {p = p} {r = r} {q = q} {s = s} {rule = rule} {other = other} at d e =
+same_kind : {rules : List Rule} {text p r q s : List ℕ} {rule other : Rule} (at : ℕ) →
+    IsFirstFit text rules rule p r → IsFirstFit text rules other q s → error_kind rule at p r
+    ≡ error_kind other at q s
+same_kind {p = p} {r = r} {q = q} {s = s} {rule = rule} {other = other} at d e =
     let w = decides_unique d e in
-    ap (λ x. refusal x at p r) w.0 ∙ ap (λ x. refusal other at x r) w.1
-    ∙ ap (λ x. refusal other at q x) w.2
+    ap (λ x. error_kind x at p r) w.0 ∙ ap (λ x. error_kind other at x r) w.1
+    ∙ ap (λ x. error_kind other at q x) w.2
 
 same_items : {rules : List Rule} {text p r q s : List ℕ} {rule other : Rule} (number at : ℕ) →
     IsFirstFit text rules rule p r → IsFirstFit text rules other q s → items number rule at p r
@@ -82,12 +82,12 @@ closes_none : (rule : Rule) (delimiter : Delimiter) (taken : List ℕ) → Closi
 closes_none rule delimiter taken e is = false≢true (ap (λ r. opens_group r taken) e ∙ is)
 
 -- where a text is refused, no piece follows that would nest
-no_piece : {rules : List Rule} {levels : List (Delimiter × ℕ)} {at byte : ℕ} {why : Reason}
+no_piece : {rules : List Rule} {levels : List (Delimiter × ℕ)} {at byte : ℕ} {why : LexErrorKind}
     {rest p r : List ℕ} {rule : Rule} (number : ℕ) (others : List (Delimiter × ℕ))
     (more : List Item) → Refuses rules levels at rest why byte → IsFirstFit rest rules rule p r →
-    refusal rule at p r ≡ None → Run (reverse levels) (items number rule at p r ++ more)
+    error_kind rule at p r ≡ None → Run (reverse levels) (items number rule at p r ++ more)
     (reverse others) → ⊥
-no_piece {at = at} number others more (by_rule e n) d m run = no_both _ _ _ (same_refusal at d e)
+no_piece {at = at} number others more (by_rule e n) d m run = no_both _ _ _ (same_kind at d e)
     m n
 no_piece {rules} {p = p} {r = r} {rule = rule} number others more (unclosed delimiter outer e l)
     d m run = decides_nothing (subst (λ w. IsFirstFit w rules rule p r) e d)
@@ -103,7 +103,7 @@ no_piece {levels = levels} {at = at} number others more (too_deep {rule = rule} 
     absurd (omega arith)
 
 no_further : {rules : List Rule} {levels others : List (Delimiter × ℕ)} {number at end byte : ℕ}
-    {why : Reason} {rest after : List ℕ} {some more : List Item} →
+    {why : LexErrorKind} {rest after : List ℕ} {some more : List Item} →
     Refuses rules levels at rest why byte → Opens number 256 levels some →
     Cut rules number at rest more end after → Opens number 256 others (some ++ more) →
     (more ≡ []) × (rest ≡ after) × (at ≡ end)
@@ -120,45 +120,45 @@ same_last A xs ys x y e =
 some_same : {A : Type 0} (x y : A) (r s : Option A) → r ≡ s → r ≡ Some x → s ≡ Some y → x ≡ y
 some_same x y r s e a b = cc
 
-one_refusal : {rules : List Rule} {levels : List (Delimiter × ℕ)} {at b c : ℕ} {n m : Reason}
+one_error : {rules : List Rule} {levels : List (Delimiter × ℕ)} {at b c : ℕ} {n m : LexErrorKind}
     {rest : List ℕ} → Refuses rules levels at rest n b → Refuses rules levels at rest m c →
     (n ≡ m) × (b ≡ c)
-one_refusal {at = at} (by_rule d f) (by_rule e g) =
-    (some_same _ _ _ _ (same_refusal at d e) f g, refl)
-one_refusal {rules} (by_rule {rule = rule} {taken = p} {after = r} d f)
+one_error {at = at} (by_rule d f) (by_rule e g) =
+    (some_same _ _ _ _ (same_kind at d e) f g, refl)
+one_error {rules} (by_rule {rule = rule} {taken = p} {after = r} d f)
     (unclosed delimiter outer e l) =
     absurd (decides_nothing (subst (λ w. IsFirstFit w rules rule p r) e d))
-one_refusal {at = at} (by_rule d f) (unopened delimiter q s e misfit) =
-    absurd (no_both _ _ _ (sym (same_refusal at d e)) refl f)
-one_refusal {at = at} (by_rule d f) (too_deep q s e n is l) =
-    absurd (no_both _ _ _ (sym (same_refusal at d e)) n f)
-one_refusal {rules} (unclosed delimiter outer e l)
+one_error {at = at} (by_rule d f) (unopened delimiter q s e misfit) =
+    absurd (no_both _ _ _ (sym (same_kind at d e)) refl f)
+one_error {at = at} (by_rule d f) (too_deep q s e n is l) =
+    absurd (no_both _ _ _ (sym (same_kind at d e)) n f)
+one_error {rules} (unclosed delimiter outer e l)
     (by_rule {rule = rule} {taken = p} {after = r} d f) =
     absurd (decides_nothing (subst (λ w. IsFirstFit w rules rule p r) e d))
-one_refusal (unclosed {start = start} delimiter outer e l)
+one_error (unclosed {start = start} delimiter outer e l)
     (unclosed {start = begin} delimiter' outer' e' l') =
     let same = same_last (Delimiter × ℕ) outer outer' (delimiter, start) (delimiter', begin)
     (sym l ∙ l') in (refl, ap (λ w. w.1) same)
-one_refusal {rules} (unclosed delimiter outer e l) (unopened delimiter' q s d misfit) =
+one_error {rules} (unclosed delimiter outer e l) (unopened delimiter' q s d misfit) =
     absurd (decides_nothing (subst (λ w. IsFirstFit w rules (Closing delimiter') q s) e d))
-one_refusal {rules} (unclosed delimiter outer e l) (too_deep {rule = rule} q s d n is k) =
+one_error {rules} (unclosed delimiter outer e l) (too_deep {rule = rule} q s d n is k) =
     absurd (decides_nothing (subst (λ w. IsFirstFit w rules rule q s) e d))
-one_refusal {at = at} (unopened delimiter q s e misfit) (by_rule d f) =
-    absurd (no_both _ _ _ (same_refusal at e d) refl f)
-one_refusal {rules} (unopened delimiter' q s d misfit) (unclosed delimiter outer e l) =
+one_error {at = at} (unopened delimiter q s e misfit) (by_rule d f) =
+    absurd (no_both _ _ _ (same_kind at e d) refl f)
+one_error {rules} (unopened delimiter' q s d misfit) (unclosed delimiter outer e l) =
     absurd (decides_nothing (subst (λ w. IsFirstFit w rules (Closing delimiter') q s) e d))
-one_refusal (unopened delimiter' q s d misfit) (unopened delimiter q' s' d' misfit') = (refl, refl)
-one_refusal (unopened delimiter' q s d misfit) (too_deep {rule = rule} q' s' d' n is l) =
+one_error (unopened delimiter' q s d misfit) (unopened delimiter q' s' d' misfit') = (refl, refl)
+one_error (unopened delimiter' q s d misfit) (too_deep {rule = rule} q' s' d' n is l) =
     absurd (closes_none rule delimiter' q' (decides_unique d d').0 is)
-one_refusal {at = at} (too_deep q s e n is l) (by_rule d f) =
-    absurd (no_both _ _ _ (same_refusal at e d) n f)
-one_refusal {rules} (too_deep {rule = rule} q s d n is k) (unclosed delimiter outer e l) =
+one_error {at = at} (too_deep q s e n is l) (by_rule d f) =
+    absurd (no_both _ _ _ (same_kind at e d) n f)
+one_error {rules} (too_deep {rule = rule} q s d n is k) (unclosed delimiter outer e l) =
     absurd (decides_nothing (subst (λ w. IsFirstFit w rules rule q s) e d))
-one_refusal (too_deep {rule = rule} q' s' d' n is l) (unopened delimiter' q s d misfit) =
+one_error (too_deep {rule = rule} q' s' d' n is l) (unopened delimiter' q s d misfit) =
     absurd (closes_none rule delimiter' q' (sym (decides_unique d' d).0) is)
-one_refusal (too_deep q s d n is l) (too_deep q' s' d' n' is' l') = (refl, refl)
+one_error (too_deep q s d n is l) (too_deep q' s' d' n' is' l') = (refl, refl)
 
-at_end : {rules : List Rule} {at b : ℕ} {n : Reason} → Refuses rules [] at [] n b → ⊥
+at_end : {rules : List Rule} {at b : ℕ} {n : LexErrorKind} → Refuses rules [] at [] n b → ⊥
 at_end (by_rule d f) = decides_nothing d
 at_end (unclosed delimiter [] e l) = cc
 at_end (unclosed delimiter (p ∷ outer) e l) = cc
@@ -175,7 +175,7 @@ one_cut {all = all} {others = others} c d =
     ]
 
 -- two fronts where the text is refused are one
-same_place : {rules : List Rule} {number at b c end : ℕ} {n m : Reason} {rest after : List ℕ}
+same_place : {rules : List Rule} {number at b c end : ℕ} {n m : LexErrorKind} {rest after : List ℕ}
     {levels others : List (Delimiter × ℕ)} {some all more : List Item}
     → Refuses rules levels at rest n b → Refuses rules others end after m c →
     Opens number 256 levels some → Opens number 256 others all → all ≡ some ++ more →
@@ -188,16 +188,16 @@ same_place {rules} {number} {at} {b} {c} {end} {n} {m} {rest} {after} {levels} {
     let moved : Refuses rules levels at rest m c = subst (λ w. Refuses rules levels w rest m c)
     (sym none.2) (subst (λ w. Refuses rules levels end w m c) (sym none.1)
     (subst (λ w. Refuses rules w end after m c) level g)) in
-    one_refusal f moved
+    one_error f moved
 
 -- a front of the text is cut, with these groups open, and the rest is refused there
-abbrev pub IsRefusedAs : ℕ → List Rule → ℕ → List ℕ → Reason → ℕ → Type 0
+abbrev pub IsRefusedAs : ℕ → List Rule → ℕ → List ℕ → LexErrorKind → ℕ → Type 0
 IsRefusedAs begin rules number text why byte = (all : List Item) × (end : ℕ) × (rest : List ℕ)
     × (levels : List (Delimiter × ℕ))
     × Cut rules number begin text all end rest × Opens number 256 levels all
     × Refuses rules levels end rest why byte
 
-pub one_way : (begin : ℕ) (rules : List Rule) (number : ℕ) (text : List ℕ) (n m : Reason)
+pub one_way : (begin : ℕ) (rules : List Rule) (number : ℕ) (text : List ℕ) (n m : LexErrorKind)
     (b c : ℕ) → IsRefusedAs begin rules number text n b → IsRefusedAs begin rules number text m
     c → (n ≡ m) × (b ≡ c)
 one_way begin rules number text n m b c (some, end, rest, levels, k, o, f)
@@ -208,7 +208,7 @@ one_way begin rules number text n m b c (some, end, rest, levels, k, o, f)
     ]
 
 pub not_both : {rules : List Rule} {begin number end byte : ℕ} {text : List ℕ} {some : List Item}
-    {why : Reason} → IsForest number 256 some → Cut rules number begin text some end [] →
+    {why : LexErrorKind} → IsForest number 256 some → Cut rules number begin text some end [] →
     IsRefusedAs begin rules number text why byte → ⊥
 not_both {rules} {number} {byte = b} {some = some} {why = n} f c (all, to, after, others, k, p, g) =
     elim (cuts c k) [

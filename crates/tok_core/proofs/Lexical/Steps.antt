@@ -4,24 +4,24 @@ use Rattle.std.specs.Prelude.{Option, Some, None, true}
 use Rattle.std.specs.Result.{IfErr}
 use Rattle.tok_core.specs.Private.Built.{Halts, by_meaning, unfit, deep, State, IsTooDeep, IsUnfit}
 use Rattle.tok_core.specs.Private.Halted.{OnHalted}
-use Rattle.tok_lexical.specs.Refusals.{refusal}
+use Rattle.tok_lexical.specs.Errors.{error_kind}
 use Rattle.tok_core.specs.Lexical.Meaning.{opens_group}
 use Rattle.tok_lexical.specs.Fits.{IsFirstFit}
 use Rattle.tok_core.specs.Lexical.Reading.{Refuses, by_rule, unopened, too_deep}
 use Rattle.tok_lexical.specs.declared.delimiter.Delimiter.{Delimiter}
 use Rattle.tok_core.specs.declared.lexer.error.Halt.{Halt}
 use Rattle.tok_core.specs.declared.lexer.error.Halt.TheVariants.{Refused, Memory}
-use Rattle.tok_lexical.specs.declared.reason.Reason.{Reason}
+use Rattle.tok_lexical.specs.declared.lex_error_kind.LexErrorKind.{LexErrorKind}
 use Rattle.tok_lexical.specs.declared.rule.Rule.{Rule}
 use Rattle.tok_lexical.specs.declared.rule.Rule.TheVariants.{Closing}
 
 module _ (nest : State) (rule : Rule) (at : ℕ) (piece after : List ℕ) where
-  pub halts_meaning : (why : Reason) (found : Option Reason) →
-      found ≡ refusal rule at piece after → found ≡ Some why →
+  pub halts_meaning : (why : LexErrorKind) (found : Option LexErrorKind) →
+      found ≡ error_kind rule at piece after → found ≡ Some why →
       Halts nest.groups rule at piece after why
   halts_meaning why found f s = by_meaning (sym f ∙ s)
 
-  pub halts_deep : {T : Type 0} (r : Result T Halt) → refusal rule at piece after ≡ None →
+  pub halts_deep : {T : Type 0} (r : Result T Halt) → error_kind rule at piece after ≡ None →
       opens_group rule piece ≡ true → IfErr r (λ halt. OnHalted halt (IsTooDeep nest)) →
       IfErr r (λ halt. OnHalted halt (Halts nest.groups rule at piece after))
   halts_deep (Ok x) m is h = tt
@@ -39,7 +39,7 @@ module _ (nest : State) (rule : Rule) (at : ℕ) (piece after : List ℕ) where
 
 -- a piece that halts refuses the text
 pub refuses : (rules : List Rule) (levels : List (Delimiter × ℕ)) (rule : Rule) (at : ℕ)
-    (why : Reason) (rest piece after : List ℕ) → IsFirstFit rest rules rule piece after →
+    (why : LexErrorKind) (rest piece after : List ℕ) → IsFirstFit rest rules rule piece after →
     Halts levels rule at piece after why → Refuses rules levels at rest why at
 refuses rules levels rule at why rest piece after d (by_meaning m) = by_rule d m
 refuses rules levels rule at why rest piece after d (unfit delimiter r misfit) =

@@ -1,18 +1,18 @@
--- Refusals: their numbers and words, and where they are.
+-- Errors: their numbers and words, and where they are.
 use Rattle.std.specs.Prelude.{ℕ, List, codes}
-use Rattle.tok_lexical.specs.Refusals.{refusal_number, refusal_words}
+use Rattle.tok_lexical.specs.Errors.{kind_number, kind_words}
 use Rattle.tok_leaves.specs.Spans.{source}
 use Rattle.tok_leaves.specs.declared.span.Span.{Span}
 use Rattle.tok_core.specs.declared.lexer.error.LexError.{LexError}
 use Rattle.tok_core.specs.declared.lexer.error.LexFault.{LexFault}
 use Rattle.tok_core.specs.declared.lexer.error.LexFault.TheVariants.{Refused, Memory}
 
--- the number of the rule, from 1 to 12
+-- the number of the rule, from 1 to 15
 abbrev pub error_number : LexError → ℕ
-error_number error = refusal_number error.refusal
+error_number error = kind_number error.kind
 
 abbrev pub error_words : LexError → List ℕ
-error_words error = refusal_words error.refusal
+error_words error = kind_words error.kind
 
 -- the byte at which what can't be read begins
 abbrev pub error_byte : LexError → ℕ

@@ -1,4 +1,4 @@
--- What a piece means that a rule took at a byte, with a text after it: a refusal, or its items.
+-- What a piece means that a rule took at a byte, with a text after it: an error, or its items.
 use Rattle.std.specs.Prelude.{ℕ, ◌+◌, ◌-◌, List, [], ◌∷◌, ◌++◌, Bool, true, false, map, codes}
 use Rattle.std.specs.Prelude.{encode_utf8_all, if◌then◌else◌}
 use Rattle.tok_lexical.specs.Pieces.{after_first, up_to}

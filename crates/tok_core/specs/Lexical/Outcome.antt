@@ -20,7 +20,7 @@ pub record FollowsFrom (begin : ℕ) (rules : List Rule) (number : ℕ) (text : 
   -- What the grammar reads is returned, unless an allocation fails.
   pub only_read : (forest : Forest) → ReadsFrom begin rules number text forest →
       MatchResult result (λ read. read ≡ forest) (λ fault. fault ≡ Memory)
-  -- A refusal is the grammar's.
+  -- An error is the grammar's.
   pub refuses : IfErr result (λ fault. OnRefused fault (IsRefusedFrom begin rules number text))
   -- What the grammar refuses is refused so, unless an allocation fails.
   pub only_refused : (error : LexError) → IsRefusedFrom begin rules number text error →

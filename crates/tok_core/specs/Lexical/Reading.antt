@@ -3,15 +3,15 @@ use Rattle.std.specs.Prelude.{◌≡◌, ℕ, ◌+◌, ◌≤◌, List, [], ◌�
 use Rattle.tok_lexical.specs.Fits.{IsFirstFit}
 use Rattle.tok_core.specs.Forest.{Forest}
 use Rattle.tok_core.specs.Lexical.Items.{Item, Flat, depth, Opens, IsOpenBy}
-use Rattle.tok_lexical.specs.Refusals.{refusal}
+use Rattle.tok_lexical.specs.Errors.{error_kind}
 use Rattle.tok_core.specs.Lexical.Meaning.{items, opens_group}
 use Rattle.tok_lexical.specs.Widths.{width}
 use Rattle.tok_lexical.specs.declared.delimiter.Delimiter.{Delimiter}
 use Rattle.tok_lexical.specs.declared.rule.Rule.{Rule}
 use Rattle.tok_lexical.specs.declared.rule.Rule.TheVariants.{Closing}
-use Rattle.tok_lexical.specs.declared.reason.Reason.{Reason}
-use Rattle.tok_lexical.specs.declared.reason.Reason.TheVariants.{UnclosedGroup}
-use Rattle.tok_lexical.specs.declared.reason.Reason.TheVariants.{UnexpectedClosing, DeepGroup}
+use Rattle.tok_lexical.specs.declared.lex_error_kind.LexErrorKind.{LexErrorKind}
+use Rattle.tok_lexical.specs.declared.lex_error_kind.LexErrorKind.TheVariants.{UnclosedGroup}
+use Rattle.tok_lexical.specs.declared.lex_error_kind.LexErrorKind.TheVariants.{UnexpectedClosing, DeepGroup}
 use Rattle.tok_core.specs.declared.lexer.error.LexError.{LexError}
 
 -- From the byte `at` on, a front of the text is cut into pieces that mean these items; it ends at
@@ -19,7 +19,7 @@ use Rattle.tok_core.specs.declared.lexer.error.LexError.{LexError}
 pub data Cut (rules : List Rule) (number : ℕ) : ℕ → List ℕ → List Item → ℕ → List ℕ → Type 0 where
   stop : {at : ℕ} {text : List ℕ} → Cut rules number at text [] at text
   piece : {at end : ℕ} {text taken after rest : List ℕ} {rule : Rule} {more : List Item} →
-      IsFirstFit text rules rule taken after → refusal rule at taken after ≡ None →
+      IsFirstFit text rules rule taken after → error_kind rule at taken after ≡ None →
       Cut rules number (at + width rule taken) after more end rest →
       Cut rules number at text (items number rule at taken after ++ more) end rest
 
@@ -36,9 +36,9 @@ Reads rules number text f = ReadsFrom 0 rules number text f
 -- why the text is refused at `rest`, which begins at the byte `at`, with these groups open; and the
 -- byte
 pub data Refuses (rules : List Rule) (levels : List (Delimiter × ℕ)) (at : ℕ)
-    (rest : List ℕ) : Reason → ℕ → Type 0 where
-  by_rule : {rule : Rule} {taken after : List ℕ} {why : Reason} →
-      IsFirstFit rest rules rule taken after → refusal rule at taken after ≡ Some why →
+    (rest : List ℕ) : LexErrorKind → ℕ → Type 0 where
+  by_rule : {rule : Rule} {taken after : List ℕ} {why : LexErrorKind} →
+      IsFirstFit rest rules rule taken after → error_kind rule at taken after ≡ Some why →
       Refuses rules levels at rest why at
   unclosed : {start : ℕ} (delimiter : Delimiter) (outer : List (Delimiter × ℕ)) → rest ≡ [] →
       levels ≡ outer ++ (delimiter, start) ∷ [] → Refuses rules levels at rest UnclosedGroup start
@@ -46,7 +46,7 @@ pub data Refuses (rules : List Rule) (levels : List (Delimiter × ℕ)) (at : �
       IsFirstFit rest rules (Closing delimiter) taken after → (IsOpenBy levels delimiter → ⊥) →
       Refuses rules levels at rest UnexpectedClosing at
   too_deep : {rule : Rule} (taken after : List ℕ) → IsFirstFit rest rules rule taken after →
-      refusal rule at taken after ≡ None → opens_group rule taken ≡ true → length levels ≡ 256 →
+      error_kind rule at taken after ≡ None → opens_group rule taken ≡ true → length levels ≡ 256 →
       Refuses rules levels at rest DeepGroup at
 
 -- A front of the text is cut, with these groups open, and the rest is refused there with this
@@ -55,7 +55,7 @@ abbrev pub IsRefusedFrom : ℕ → List Rule → ℕ → List ℕ → LexError �
 IsRefusedFrom begin rules number text error = (error.source ≡ number)
     × ((all : List Item) × (end : ℕ) × (rest : List ℕ) × (levels : List (Delimiter × ℕ))
     × Cut rules number begin text all end rest × Opens number 256 levels all
-    × Refuses rules levels end rest error.refusal error.at)
+    × Refuses rules levels end rest error.kind error.at)
 
 abbrev pub IsRefused : List Rule → ℕ → List ℕ → LexError → Type 0
 IsRefused rules number text error = IsRefusedFrom 0 rules number text error

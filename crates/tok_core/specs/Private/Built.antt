@@ -4,7 +4,7 @@ use Rattle.std.specs.Prelude.{Some, None, true, slice_index_or}
 use Rattle.tok_core.specs.Building.{Levels}
 use Rattle.tok_core.specs.Forest.{Forest}
 use Rattle.tok_core.specs.Lexical.Items.{Item, opening, Flat, depth, IsOpenBy}
-use Rattle.tok_lexical.specs.Refusals.{refusal}
+use Rattle.tok_lexical.specs.Errors.{error_kind}
 use Rattle.tok_core.specs.Lexical.Reading.{Cut}
 use Rattle.tok_core.specs.Lexical.Meaning.{opens_group}
 use Rattle.tok_lexical.specs.Starts.{rules_of}
@@ -12,8 +12,8 @@ use Rattle.tok_lexical.specs.declared.rule.Rules.{Rules}
 use Rattle.tok_lexical.specs.declared.delimiter.Delimiter.{Delimiter}
 use Rattle.tok_lexical.specs.declared.rule.Rule.{Rule}
 use Rattle.tok_lexical.specs.declared.rule.Rule.TheVariants.{Whitespace, Closing, Other}
-use Rattle.tok_lexical.specs.declared.reason.Reason.{Reason}
-use Rattle.tok_lexical.specs.declared.reason.Reason.TheVariants.{UnexpectedClosing, DeepGroup}
+use Rattle.tok_lexical.specs.declared.lex_error_kind.LexErrorKind.{LexErrorKind}
+use Rattle.tok_lexical.specs.declared.lex_error_kind.LexErrorKind.TheVariants.{UnexpectedClosing, DeepGroup}
 use Rattle.tok_core.specs.declared.lexer.nest.Nest.{Nest}
 
 -- the last rule takes any character
@@ -68,16 +68,16 @@ pub record Grows (at : ℕ) (old new : State) (more : List Item) : Type 0 where
 
 -- why this piece is refused, with these groups open
 pub data Halts (levels : List (Delimiter × ℕ)) (rule : Rule) (at : ℕ)
-    (piece after : List ℕ) : Reason → Type 0 where
-  by_meaning : {why : Reason} → refusal rule at piece after ≡ Some why →
+    (piece after : List ℕ) : LexErrorKind → Type 0 where
+  by_meaning : {why : LexErrorKind} → error_kind rule at piece after ≡ Some why →
       Halts levels rule at piece after why
   unfit : (delimiter : Delimiter) → rule ≡ Closing delimiter → (IsOpenBy levels delimiter → ⊥) →
       Halts levels rule at piece after UnexpectedClosing
-  deep : refusal rule at piece after ≡ None → opens_group rule piece ≡ true →
+  deep : error_kind rule at piece after ≡ None → opens_group rule piece ≡ true →
       length levels ≡ 256 → Halts levels rule at piece after DeepGroup
 
-abbrev pub IsTooDeep : State → Reason → Type 0
+abbrev pub IsTooDeep : State → LexErrorKind → Type 0
 IsTooDeep s why = (why ≡ DeepGroup) × (length s.groups ≡ 256)
 
-abbrev pub IsUnfit : State → Delimiter → Reason → Type 0
+abbrev pub IsUnfit : State → Delimiter → LexErrorKind → Type 0
 IsUnfit s delimiter why = (why ≡ UnexpectedClosing) × (IsOpenBy s.groups delimiter → ⊥)

@@ -7,7 +7,7 @@ ghost use Rattle.tok_core.specs.Private.Attribute.{doc_group, bang, doc_forest};
 
 use crate::lexer::build::Build;
 use std::alloc::{AllocError, Global};
-use tok_leaves::{Literal, Spacing, Span, Text, unchecked};
+use tok_leaves::{Literal, Spacing, Span, Text, known};
 use tok_lexical::Delimiter;
 
 /// Appends `[doc = ".."]`, with `span` for each part.
@@ -25,8 +25,8 @@ fn append_group<B: Build>(
     literal.set_span(span);
     let word = Text::from_str(alloc, "doc")?;
     built.open()?;
-    built.ident(unchecked::ident(word, span))?;
-    built.punct(unchecked::punct('=', Spacing::Alone, span))?;
+    built.ident(known::unchecked_ident(word, span))?;
+    built.punct(known::unchecked_punct('=', Spacing::Alone, span))?;
     built.literal(literal)?;
     built.close(Delimiter::Bracket, span)
 }
@@ -37,7 +37,7 @@ fn append_bang<B: Build>(built: &mut B, span: Span, is_inner: bool) -> Result<()
         (B.levels built.new ≡ add_forest (bang span is_inner) (B.levels built.old)) }
 {
     if is_inner {
-        built.punct(unchecked::punct('!', Spacing::Alone, span))?;
+        built.punct(known::unchecked_punct('!', Spacing::Alone, span))?;
     }
     Ok(())
 }
@@ -54,7 +54,7 @@ pub fn append_doc<B: Build>(
         (B.levels built.new
         ≡ add_forest (doc_forest span is_inner (chars text.now)) (B.levels built.old)) }
 {
-    built.punct(unchecked::punct('#', Spacing::Alone, span))?;
+    built.punct(known::unchecked_punct('#', Spacing::Alone, span))?;
     append_bang(built, span, is_inner)?;
     append_group(built, alloc, span, text)?;
     Ok(())

@@ -7,7 +7,7 @@ use std::alloc::AllocError;
 use std::fmt;
 use std::fmt::{Formatter, Write};
 use tok_leaves::Span;
-use tok_lexical::Reason;
+use tok_lexical::LexErrorKind;
 
 /// Why a text is rejected, and at which byte. Its number is that of a rule, from L1 to L15.
 ///
@@ -20,27 +20,23 @@ use tok_lexical::Reason;
 /// ```
 #[derive(Clone, Copy, PartialEq, Eq, Debug)]
 pub struct LexError {
-    refusal: Reason,
+    kind: LexErrorKind,
     source: u32,
     at: usize,
 }
 
 impl LexError {
-    pub(crate) fn new(refusal: Reason, source: u32, at: usize) -> LexError
-        ensures { result ≡ record { refusal = refusal; source = source; at = at } }
+    pub(crate) fn new(kind: LexErrorKind, source: u32, at: usize) -> LexError
+        ensures { result ≡ record { kind = kind; source = source; at = at } }
     {
-        LexError {
-            refusal,
-            source,
-            at,
-        }
+        LexError { kind, source, at }
     }
 
     /// Returns the number of the rule: 1 for L1, up to 15 for L15.
     pub fn number(&self) -> u8
         ensures { result ≡ error_number self.now }
     {
-        self.refusal.number()
+        self.kind.number()
     }
 
     /// Returns the byte at which the rejected token, comment or group begins.
@@ -62,7 +58,7 @@ impl fmt::Display for LexError {
     ghost output = { λ error. Some (error_words error) };
 
     fn fmt<W: Write>(&self, f: &mut Formatter<W>) -> fmt::Result {
-        f.write_str(self.refusal.words())
+        f.write_str(self.kind.words())
     }
 }
 
@@ -115,7 +111,7 @@ impl std::error::Error for LexFault {}
 // Smaller than a `LexFault`: the loop over pieces would move one for each piece.
 #[derive(Clone, Copy, PartialEq, Eq, Debug)]
 pub enum Halt {
-    Refused(Reason),
+    Refused(LexErrorKind),
     Memory,
 }
 
@@ -125,7 +121,7 @@ impl Halt {
         ensures { result ≡ fault_of source at self }
     {
         match self {
-            Halt::Refused(refusal) => LexFault::Refused(LexError::new(refusal, source, at)),
+            Halt::Refused(kind) => LexFault::Refused(LexError::new(kind, source, at)),
             Halt::Memory => LexFault::Memory,
         }
     }

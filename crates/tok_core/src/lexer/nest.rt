@@ -5,7 +5,7 @@ ghost use Rattle.tok_core.specs.Private.Built.{state, Grows, Reached, IsPaired, 
 ghost use Rattle.tok_core.specs.Private.Halted.{OnHalted};
 ghost use Rattle.tok_core.specs.Lexical.Items.{opening, closing};
 ghost use Rattle.tok_lexical.specs.Contents.{has_return};
-ghost use Rattle.tok_lexical.specs.Refusals.{refusal};
+ghost use Rattle.tok_lexical.specs.Errors.{error_kind};
 ghost use Rattle.tok_core.specs.Lexical.Meaning.{items, ident_item, literal_item, punct_item, pointed_items, doc_items};
 ghost use Rattle.tok_lexical.specs.Widths.{bytes, width};
 ghost use Rattle.tok_lexical.specs.Rules.{Spells};
@@ -14,13 +14,13 @@ use crate::lexer::attribute::append_doc;
 use crate::lexer::build::Build;
 use crate::lexer::error::Halt;
 use std::alloc::{AllocError, Global};
-use tok_leaves::{Spacing, Span, Text, unchecked};
+use tok_leaves::{Spacing, Span, Text, known};
 use tok_lexical::comments::{
     block_doc_text, is_block_doc, is_inner_doc, is_line_doc, line_doc_text,
 };
 use tok_lexical::joint::{makes_joint, makes_joint_apostrophe, past_marks, takes_point};
 use tok_lexical::text::{first_of, past_first, up_to};
-use tok_lexical::{Delimiter, Reason, Rule, refusal};
+use tok_lexical::{Delimiter, LexErrorKind, Rule, error_kind};
 
 /// A builder and its open groups, the outermost first: the delimiter of each, and where it begins.
 #[derive(Drop)]
@@ -64,7 +64,7 @@ impl<B: Build + Drop> Nest<B> {
             (punct_item self.old.source at ch is_joint ∷ [])) }
     {
         let span = Span::source(self.source, at, at + 1);
-        let punct = unchecked::punct(ch, spacing(is_joint), span);
+        let punct = known::unchecked_punct(ch, spacing(is_joint), span);
         self.built.punct(punct)?;
         Ok(())
     }
@@ -80,7 +80,7 @@ impl<B: Build + Drop> Nest<B> {
     {
         let text = Text::from_str(self.alloc, text)?;
         let span = Span::source(self.source, start, end);
-        self.built.ident(unchecked::ident(text, span))?;
+        self.built.ident(known::unchecked_ident(text, span))?;
         Ok(())
     }
 
@@ -94,7 +94,7 @@ impl<B: Build + Drop> Nest<B> {
     {
         let text = Text::from_str(self.alloc, text)?;
         let span = Span::source(self.source, start, end);
-        self.built.literal(unchecked::literal(text, span))?;
+        self.built.literal(known::unchecked_literal(text, span))?;
         Ok(())
     }
 
@@ -146,7 +146,7 @@ impl<B: Build + Drop> Nest<B> {
     {
         let levels = self.open.len();
         if levels == 256 {
-            return Err(Halt::Refused(Reason::DeepGroup));
+            return Err(Halt::Refused(LexErrorKind::DeepGroup));
         }
         let span = Span::source(self.source, at, end);
         append_doc(&mut self.built, self.alloc, span, is_inner, text)?;
@@ -162,7 +162,7 @@ impl<B: Build + Drop> Nest<B> {
             (λ halt. OnHalted halt (IsTooDeep (state B.levels self.old))) }
     {
         if self.open.len() == 256 {
-            return Err(Halt::Refused(Reason::DeepGroup));
+            return Err(Halt::Refused(LexErrorKind::DeepGroup));
         }
         self.built.open()?;
         match self.open.push((delimiter, at)) {
@@ -185,10 +185,10 @@ impl<B: Build + Drop> Nest<B> {
             (λ halt. OnHalted halt (IsUnfit (state B.levels self.old) delimiter)) }
     {
         let Some((opened, start)) = self.open.pop() else {
-            return Err(Halt::Refused(Reason::UnexpectedClosing));
+            return Err(Halt::Refused(LexErrorKind::UnexpectedClosing));
         };
         if opened != delimiter {
-            return Err(Halt::Refused(Reason::UnexpectedClosing));
+            return Err(Halt::Refused(LexErrorKind::UnexpectedClosing));
         }
         let span = Span::source(self.source, start, end);
         self.built.close(delimiter, span)?;
@@ -215,7 +215,8 @@ impl<B: Build + Drop> Nest<B> {
         requires fits { at + 1 < 2 ^ 64 }
         requires reached { Reached self.old.«open».items at }
         requires paired { IsPaired (state B.levels self.old) }
-        ensures meant { OnOk result (refusal rule at (chars piece.now) (chars after.now) ≡ None) }
+        ensures meant { OnOk result
+            (error_kind rule at (chars piece.now) (chars after.now) ≡ None) }
         ensures ok { OnOk result
             (Grows at (state B.levels self.old) (state B.levels self.new)
             (items self.old.source rule at (chars piece.now) (chars after.now))) }
@@ -223,14 +224,14 @@ impl<B: Build + Drop> Nest<B> {
             (λ halt. OnHalted halt
             (Halts self.old.«open».items rule at (chars piece.now) (chars after.now))) }
     {
-        // Before the question of a refusal, which no mark of a group needs.
+        // Before the search for an error, which no mark of a group needs.
         match rule {
             Rule::Opening(delimiter) => return self.open(delimiter, at),
             Rule::Closing(delimiter) => return self.close(delimiter, at, end),
             _ => {}
         }
-        if let Some(refusal) = refusal(rule, at, piece, after, returns) {
-            return Err(Halt::Refused(refusal));
+        if let Some(kind) = error_kind(rule, at, piece, after, returns) {
+            return Err(Halt::Refused(kind));
         }
         match rule {
             Rule::SourceLineComment => {

@@ -1,4 +1,4 @@
-use Rattle.tok_lexical.proofs.Lexical.Sources.{begins_once}
+use Rattle.tok_lexical.proofs.Sources.{begins_once}
 use Rattle.tok_core.proofs.laws.begins_once.Goals as goal
 
 pub returns : goal.returns

@@ -1,5 +1,5 @@
 use Rattle.std.proofs.Common.{◌+◌, ◌∙◌, refl, ap, arith}
-use Rattle.tok_lexical.proofs.Lexical.Fits.{decided}
+use Rattle.tok_lexical.proofs.Fits.{decided}
 use Rattle.tok_core.specs.Private.Built.{state}
 use Rattle.tok_core.proofs.Lexical.Blanks.{shorter}
 use Rattle.tok_core.proofs.Lexical.Cuts.{so_far_start, so_far_more, so_far_blank, all_tried}

@@ -1,5 +1,5 @@
 use Rattle.std.proofs.Common.{◌∙◌, sym, ap}
-use Rattle.tok_leaves.specs.Lifetimes.{refusal_in}
+use Rattle.tok_leaves.specs.Lifetimes.{error_in}
 use Rattle.tok_leaves.proofs.Names.{empty_plain, plain_fault}
 use Rattle.tok_leaves.proofs.lifetime.plain_identifier.Goals as goal
 
@@ -12,4 +12,4 @@ returns-in-Err-clause-refused c =
     plain_fault c.args.name.now c.in-Err.fault c.utf8.name (sym c.is_empty.ensures
     ∙ c.if-is_empty.false) c.in-Err.ensures.takes
     (λ never. let e = c.in-Err.ensures.refuses never in cc)
-    ∙ ap refusal_in (sym c.name_fault.ensures)
+    ∙ ap error_in (sym c.name_fault.ensures)

@@ -1,5 +1,5 @@
 use Rattle.std.proofs.Common.{◌∙◌, sym, ap}
-use Rattle.tok_leaves.specs.Lifetimes.{refusal_in}
+use Rattle.tok_leaves.specs.Lifetimes.{error_in}
 use Rattle.tok_leaves.proofs.Names.{empty_raw, raw_fault}
 use Rattle.tok_leaves.proofs.lifetime.raw_identifier.Goals as goal
 
@@ -13,4 +13,4 @@ returns-in-Err-clause-refused c =
     raw_fault c.args.word.now c.in-Err.fault c.utf8.word (sym c.is_empty.ensures
     ∙ c.if-is_empty.false) (sym c.has_no_raw.ensures ∙ c.if-has_no_raw.false)
     c.in-Err.ensures.takes (λ never. let e = c.in-Err.ensures.refuses never in cc)
-    ∙ ap refusal_in (sym c.name_fault.ensures)
+    ∙ ap error_in (sym c.name_fault.ensures)

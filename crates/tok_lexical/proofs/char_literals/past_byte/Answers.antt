@@ -1,5 +1,5 @@
 use Rattle.std.proofs.Common.{◌∙◌, sym}
-use Rattle.tok_lexical.proofs.Lexical.Codes.{byte_escape, byte_plain}
+use Rattle.tok_lexical.proofs.Codes.{byte_escape, byte_plain}
 use Rattle.tok_lexical.proofs.char_literals.past_byte.Goals as goal
 
 pub returns-then-first-eq92-clause-finds : goal.returns-then-first-eq92-clause-finds

@@ -1,5 +1,5 @@
 use Rattle.tok_lexical.specs.Strings.{IsByte, IsQuoted}
-use Rattle.tok_lexical.proofs.Lexical.Longest.{tries_after}
+use Rattle.tok_lexical.proofs.Longest.{tries_after}
 use Rattle.tok_lexical.proofs.char_literals.past_byte_char.Goals as goal
 
 pub returns-clause-tries : goal.returns-clause-tries

@@ -1,5 +1,5 @@
 use Rattle.tok_lexical.specs.Words.{IsSuffix}
-use Rattle.tok_lexical.proofs.Lexical.Units.{takes_after}
+use Rattle.tok_lexical.proofs.Units.{takes_after}
 use Rattle.tok_lexical.proofs.char_literals.past_end.Goals as goal
 
 pub returns-clause-tries : goal.returns-clause-tries

@@ -1,6 +1,6 @@
 use Rattle.tok_lexical.specs.Strings.{IsEscape}
 use Rattle.std.proofs.Common.{false}
-use Rattle.tok_lexical.proofs.Lexical.Longest.{finds_after}
+use Rattle.tok_lexical.proofs.Longest.{finds_after}
 use Rattle.tok_lexical.proofs.char_literals.past_escaped.Goals as goal
 
 pub returns-clause-finds : goal.returns-clause-finds

@@ -1,6 +1,6 @@
 use Rattle.tok_lexical.specs.Strings.{IsEscapedChar}
-use Rattle.tok_lexical.proofs.Lexical.Escapes.{free_escaped}
-use Rattle.tok_lexical.proofs.Lexical.Units.{tries_quoted}
+use Rattle.tok_lexical.proofs.EscapedChars.{free_escaped}
+use Rattle.tok_lexical.proofs.Units.{tries_quoted}
 use Rattle.tok_lexical.proofs.char_literals.past_escaped_char.Goals as goal
 
 pub returns-clause-tries : goal.returns-clause-tries

@@ -1,6 +1,6 @@
 use Rattle.std.proofs.Common.{◌∙◌, sym}
 use Rattle.tok_lexical.specs.Strings.{is_char}
-use Rattle.tok_lexical.proofs.Lexical.Codes.{one_found}
+use Rattle.tok_lexical.proofs.Codes.{one_found}
 use Rattle.tok_lexical.proofs.char_literals.past_plain.Goals as goal
 
 pub returns-then-is_char-clause-finds : goal.returns-then-is_char-clause-finds

@@ -1,7 +1,7 @@
 use Rattle.tok_lexical.specs.Pieces.{IsOne}
 use Rattle.tok_lexical.specs.Strings.{is_char}
-use Rattle.tok_lexical.proofs.Lexical.Escapes.{free_one}
-use Rattle.tok_lexical.proofs.Lexical.Units.{tries_quoted}
+use Rattle.tok_lexical.proofs.EscapedChars.{free_one}
+use Rattle.tok_lexical.proofs.Units.{tries_quoted}
 use Rattle.tok_lexical.proofs.char_literals.past_plain_char.Goals as goal
 
 pub returns-clause-tries : goal.returns-clause-tries

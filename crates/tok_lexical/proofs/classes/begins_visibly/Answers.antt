@@ -1,5 +1,5 @@
 use Rattle.std.proofs.Common.{◌≡◌, ◌<◌, ◌∙◌, sym, length, get_or, rules}
-use Rattle.tok_lexical.proofs.Lexical.Texts.{visible_first, nothing_visible}
+use Rattle.tok_lexical.proofs.Texts.{visible_first, nothing_visible}
 use Rattle.tok_lexical.proofs.classes.begins_visibly.Goals as goal
 
 pub returns-in-Some : goal.returns-in-Some

@@ -1,6 +1,6 @@
 use Rattle.std.proofs.Common.{◌∙◌, sym, arith}
 use Rattle.tok_lexical.specs.Characters.{is_whitespace}
-use Rattle.tok_lexical.proofs.Lexical.Longest.{skips_more, skips_spaces}
+use Rattle.tok_lexical.proofs.Longest.{skips_more, skips_spaces}
 use Rattle.tok_lexical.proofs.classes.past_any_whitespace.Goals as goal
 
 pub loop-c-preserved : goal.loop-c-preserved

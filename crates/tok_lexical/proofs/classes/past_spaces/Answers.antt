@@ -1,6 +1,6 @@
 use Rattle.std.proofs.Common.{arith, refl}
 use Rattle.tok_lexical.specs.Characters.{is_space}
-use Rattle.tok_lexical.proofs.Lexical.Longest.{skips_more}
+use Rattle.tok_lexical.proofs.Longest.{skips_more}
 use Rattle.tok_lexical.proofs.classes.past_spaces.Goals as goal
 
 pub loop-after-preserved : goal.loop-after-preserved

@@ -1,5 +1,5 @@
 use Rattle.std.proofs.Common.{sym}
-use Rattle.tok_lexical.proofs.Lexical.Longest.{skips_nothing, skips_first_space}
+use Rattle.tok_lexical.proofs.Longest.{skips_nothing, skips_first_space}
 use Rattle.tok_lexical.proofs.classes.past_whitespace.Goals as goal
 
 pub returns-then-begins_visibly-clause-skips : goal.returns-then-begins_visibly-clause-skips

@@ -1,7 +1,7 @@
 use Rattle.std.proofs.Common.{sym, ap, ◌∙◌, ◌++◌}
 use Rattle.tok_lexical.specs.Pieces.{after_first}
 use Rattle.tok_lexical.specs.Docs.{after_mark}
-use Rattle.tok_lexical.proofs.Lexical.Docs.{without_end, mark_chars}
+use Rattle.tok_lexical.proofs.Docs.{without_end, mark_chars}
 use Rattle.tok_lexical.proofs.comments.block_doc_text.Goals as goal
 
 pub front_of-requires : goal.front_of-requires

@@ -2,7 +2,7 @@ use Rattle.std.proofs.Common.{sym, ap, ◌∙◌, ◌∷◌}
 use Rattle.std.specs.Prelude.{not}
 use Rattle.std.specs.Str.{chars}
 use Rattle.tok_lexical.specs.Docs.{is_bare}
-use Rattle.tok_lexical.proofs.Lexical.Fronts.{first_parts}
+use Rattle.tok_lexical.proofs.Fronts.{first_parts}
 use Rattle.tok_lexical.proofs.comments.breaks_line.Goals as goal
 
 pub returns-in-Some-next_char : goal.returns-in-Some-next_char

@@ -1,6 +1,6 @@
 use Rattle.std.proofs.Common.{arith, refl, ap, ◌∙◌, ◌∷◌}
-use Rattle.tok_lexical.proofs.Lexical.Comments.{step_open, step_close, step_slash, step_asterisk}
-use Rattle.tok_lexical.proofs.Lexical.Comments.{step_skip, stops_end, open_none, takes_block}
+use Rattle.tok_lexical.proofs.NestedComments.{step_open, step_close, step_slash, step_asterisk}
+use Rattle.tok_lexical.proofs.NestedComments.{step_skip, stops_end, open_none, takes_block}
 use Rattle.tok_lexical.proofs.comments.past_block.Goals as goal
 
 pub loop-depth-preserved-in-Some-past_char : goal.loop-depth-preserved-in-Some-past_char

@@ -2,7 +2,7 @@ use Rattle.std.proofs.Common.{ℕ, ◌+◌, ◌≤◌, List, length}
 use denote.Text.{Utf8}
 use denote.Shadow.{shadow}
 use Rattle.std.specs.Str.{chars}
-use Rattle.tok_lexical.proofs.Lexical.Comments.{Stands}
+use Rattle.tok_lexical.proofs.NestedComments.{Stands}
 use Rattle.tok_lexical.proofs.comments.past_block.Given as goal
 
 abbrev pub invariant-loop-depth : goal.invariant-loop-depth

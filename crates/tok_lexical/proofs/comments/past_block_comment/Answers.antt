@@ -1,4 +1,4 @@
-use Rattle.tok_lexical.proofs.Lexical.Comments.{tries_marked}
+use Rattle.tok_lexical.proofs.NestedComments.{tries_marked}
 use Rattle.tok_lexical.proofs.comments.past_block_comment.Goals as goal
 
 pub returns-clause-tries : goal.returns-clause-tries

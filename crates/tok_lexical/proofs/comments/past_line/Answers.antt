@@ -1,4 +1,4 @@
-use Rattle.tok_lexical.proofs.Lexical.Comments.{skips_line}
+use Rattle.tok_lexical.proofs.NestedComments.{skips_line}
 use Rattle.tok_lexical.proofs.comments.past_line.Goals as goal
 
 pub returns : goal.returns

@@ -1,4 +1,4 @@
-use Rattle.tok_lexical.proofs.Lexical.Longest.{takes_line}
+use Rattle.tok_lexical.proofs.Longest.{takes_line}
 use Rattle.tok_lexical.proofs.comments.past_line_comment.Goals as goal
 
 pub returns-clause-tries : goal.returns-clause-tries

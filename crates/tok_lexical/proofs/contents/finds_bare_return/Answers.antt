@@ -1,5 +1,5 @@
 use Rattle.std.proofs.Common.{◌∙◌, sym}
-use Rattle.tok_lexical.proofs.Lexical.Contents.{bare_skipped, bare_found, bare_none}
+use Rattle.tok_lexical.proofs.BareReturns.{bare_skipped, bare_found, bare_none}
 use Rattle.tok_lexical.proofs.contents.finds_bare_return.Goals as goal
 
 pub loop-after-preserved : goal.loop-after-preserved

@@ -1,6 +1,6 @@
 use Rattle.std.proofs.Common.{◌∙◌, sym}
 use Rattle.std.specs.Str.{chars}
-use Rattle.tok_lexical.proofs.Lexical.Contents.{none_bare}
+use Rattle.tok_lexical.proofs.BareReturns.{none_bare}
 use Rattle.tok_lexical.proofs.contents.has_bare_return.Goals as goal
 
 pub returns-else-returns : goal.returns-else-returns

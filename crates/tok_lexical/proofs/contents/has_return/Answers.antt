@@ -2,7 +2,7 @@ use Rattle.std.proofs.Common.{◌∙◌, ap}
 use Rattle.std.specs.Prelude.{◌==◌}
 use Rattle.std.specs.List.{list_any}
 use Rattle.std.proofs.lemmas.List.{take_all}
-use Rattle.tok_lexical.proofs.Lexical.Contents.{return_byte}
+use Rattle.tok_lexical.proofs.BareReturns.{return_byte}
 use Rattle.tok_lexical.proofs.contents.has_return.Goals as goal
 
 pub returns : goal.returns

@@ -1,6 +1,6 @@
 use Rattle.std.proofs.Common.{◌∙◌}
 use Rattle.std.specs.Str.{chars}
-use Rattle.tok_lexical.proofs.Lexical.Contents.{text_unfit}
+use Rattle.tok_lexical.proofs.BareReturns.{text_unfit}
 use Rattle.tok_lexical.proofs.contents.is_unfit.Goals as goal
 
 pub returns-in-Text : goal.returns-in-Text

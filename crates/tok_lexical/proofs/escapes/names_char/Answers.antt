@@ -1,5 +1,5 @@
-use Rattle.tok_lexical.proofs.Lexical.Codes.{counts_digit, counts_other, too_many, too_large}
-use Rattle.tok_lexical.proofs.Lexical.Codes.{hex_from, hex_not}
+use Rattle.tok_lexical.proofs.Codes.{counts_digit, counts_other, too_many, too_large}
+use Rattle.tok_lexical.proofs.Codes.{hex_from, hex_not}
 use Rattle.tok_lexical.proofs.escapes.names_char.Goals as goal
 
 pub returns-then-count-eq6 : goal.returns-then-count-eq6

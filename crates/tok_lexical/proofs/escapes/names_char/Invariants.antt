@@ -2,7 +2,7 @@ use Rattle.std.proofs.Common.{length}
 use denote.Text.{Utf8}
 use denote.Shadow.{shadow}
 use Rattle.std.specs.Str.{chars}
-use Rattle.tok_lexical.proofs.Lexical.Codes.{Counts}
+use Rattle.tok_lexical.proofs.Codes.{Counts}
 use Rattle.tok_lexical.proofs.escapes.names_char.Given as goal
 
 abbrev pub invariant-loop-c : goal.invariant-loop-c

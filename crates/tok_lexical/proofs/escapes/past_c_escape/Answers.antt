@@ -1,4 +1,4 @@
-use Rattle.tok_lexical.proofs.Lexical.Escapes.{finds_c_code, finds_c_other}
+use Rattle.tok_lexical.proofs.EscapedChars.{finds_c_code, finds_c_other}
 use Rattle.tok_lexical.proofs.escapes.past_c_escape.Goals as goal
 
 pub returns-in-Some-clause-finds : goal.returns-in-Some-clause-finds

@@ -1,5 +1,5 @@
 use Rattle.std.proofs.Common.{◌∙◌, sym}
-use Rattle.tok_lexical.proofs.Lexical.Escapes.{finds_simple, finds_hex, finds_code, finds_line}
+use Rattle.tok_lexical.proofs.EscapedChars.{finds_simple, finds_hex, finds_code, finds_line}
 use Rattle.tok_lexical.proofs.escapes.past_escape.Goals as goal
 
 pub returns-then-is_simple_escape-clause-finds : goal.returns-then-is_simple_escape-clause-finds

@@ -1,5 +1,5 @@
 use Rattle.std.proofs.Common.{◌∙◌, sym}
-use Rattle.tok_lexical.proofs.Lexical.Codes.{hex_found}
+use Rattle.tok_lexical.proofs.Codes.{hex_found}
 use Rattle.tok_lexical.proofs.escapes.past_hex.Goals as goal
 
 pub returns-then-is_digit-clause-finds : goal.returns-then-is_digit-clause-finds

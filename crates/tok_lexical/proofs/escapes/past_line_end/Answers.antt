@@ -1,4 +1,4 @@
-use Rattle.tok_lexical.proofs.Lexical.Codes.{line_found, long_line_finds}
+use Rattle.tok_lexical.proofs.Codes.{line_found, long_line_finds}
 use Rattle.tok_lexical.proofs.escapes.past_line_end.Goals as goal
 
 pub returns-in-Some-clause-finds : goal.returns-in-Some-clause-finds

@@ -1,5 +1,5 @@
 use Rattle.std.proofs.Common.{◌∙◌, sym}
-use Rattle.tok_lexical.proofs.Lexical.Floats.{tries_exponent, no_exponent}
+use Rattle.tok_lexical.proofs.FloatTails.{tries_exponent, no_exponent}
 use Rattle.tok_lexical.proofs.floats.past_exponent.Goals as goal
 
 pub returns-then-is_exponent-clause-tries : goal.returns-then-is_exponent-clause-tries

@@ -1,8 +1,8 @@
 use Rattle.std.proofs.Common.{◌∙◌, sym}
 use Rattle.tok_lexical.specs.Floats.{IsExponentSuffix}
 use Rattle.tok_lexical.specs.Numbers.{has_digit}
-use Rattle.tok_lexical.proofs.Lexical.Floats.{exponent_suffix, exponent_suffix_stops}
-use Rattle.tok_lexical.proofs.Lexical.Numbers.{takes_run, none_run, digit_grows}
+use Rattle.tok_lexical.proofs.FloatTails.{exponent_suffix, exponent_suffix_stops}
+use Rattle.tok_lexical.proofs.Digits.{takes_run, none_run, digit_grows}
 use Rattle.tok_lexical.proofs.floats.past_exponent_digits.Goals as goal
 
 pub returns-then-found-clause-tries : goal.returns-then-found-clause-tries

@@ -1,8 +1,8 @@
 use Rattle.std.proofs.Common.{◌∙◌, sym}
 use Rattle.tok_lexical.specs.Floats.{IsFloatTail}
 use Rattle.tok_lexical.specs.Numbers.{starts_digit}
-use Rattle.tok_lexical.proofs.Lexical.Floats.{tail_begins}
-use Rattle.tok_lexical.proofs.Lexical.Numbers.{tries_run, none_decimal, digits_start}
+use Rattle.tok_lexical.proofs.FloatTails.{tail_begins}
+use Rattle.tok_lexical.proofs.Digits.{tries_run, none_decimal, digits_start}
 use Rattle.tok_lexical.proofs.floats.past_float.Goals as goal
 
 pub returns-then-not-starts_digit-clause-tries : goal.returns-then-not-starts_digit-clause-tries

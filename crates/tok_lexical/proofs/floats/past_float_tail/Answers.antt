@@ -1,4 +1,4 @@
-use Rattle.tok_lexical.proofs.Lexical.Floats.{tail_point, tail_exponent}
+use Rattle.tok_lexical.proofs.FloatTails.{tail_point, tail_exponent}
 use Rattle.tok_lexical.proofs.floats.past_float_tail.Goals as goal
 
 pub returns-in-Some-clause-tries : goal.returns-in-Some-clause-tries

@@ -1,4 +1,4 @@
-use Rattle.tok_lexical.proofs.Lexical.Floats.{fraction_scaled, fraction_decimal}
+use Rattle.tok_lexical.proofs.FloatTails.{fraction_scaled, fraction_decimal}
 use Rattle.tok_lexical.proofs.floats.past_fraction.Goals as goal
 
 pub returns-in-Some-clause-tries : goal.returns-in-Some-clause-tries

@@ -1,7 +1,7 @@
 use Rattle.std.proofs.Common.{◌≡◌, ◌∷◌, [], ◌∙◌, sym}
 use Rattle.tok_lexical.specs.Numbers.{starts_digit}
-use Rattle.tok_lexical.proofs.Lexical.Floats.{point_begins, tries_point}
-use Rattle.tok_lexical.proofs.Lexical.Numbers.{tries_run, none_decimal, digits_start}
+use Rattle.tok_lexical.proofs.FloatTails.{point_begins, tries_point}
+use Rattle.tok_lexical.proofs.Digits.{tries_run, none_decimal, digits_start}
 use Rattle.tok_lexical.proofs.floats.past_pointed.Goals as goal
 
 pub returns-then-not-starts_digit-clause-tries : goal.returns-then-not-starts_digit-clause-tries

@@ -1,4 +1,4 @@
-use Rattle.tok_lexical.proofs.Lexical.Floats.{signed_plus, signed_minus, signed_none}
+use Rattle.tok_lexical.proofs.FloatTails.{signed_plus, signed_minus, signed_none}
 use Rattle.tok_lexical.proofs.floats.past_signed.Goals as goal
 
 pub returns-in-Some-clause-tries : goal.returns-in-Some-clause-tries

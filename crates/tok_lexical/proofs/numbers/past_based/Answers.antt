@@ -1,4 +1,4 @@
-use Rattle.tok_lexical.proofs.Lexical.Numbers.{based_tries}
+use Rattle.tok_lexical.proofs.Digits.{based_tries}
 use Rattle.tok_lexical.proofs.numbers.past_based.Goals as goal
 
 pub returns-clause-tries : goal.returns-clause-tries

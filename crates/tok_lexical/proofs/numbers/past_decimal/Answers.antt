@@ -1,6 +1,6 @@
 use Rattle.std.proofs.Common.{◌∙◌, sym}
 use Rattle.tok_lexical.specs.Numbers.{starts_digit, IsNumberSuffix}
-use Rattle.tok_lexical.proofs.Lexical.Numbers.{takes_run, none_decimal, suffix_stops, digits_start}
+use Rattle.tok_lexical.proofs.Digits.{takes_run, none_decimal, suffix_stops, digits_start}
 use Rattle.tok_lexical.proofs.numbers.past_decimal.Goals as goal
 
 pub returns-then-not-starts_digit-clause-tries : goal.returns-then-not-starts_digit-clause-tries

@@ -1,6 +1,6 @@
 use Rattle.std.proofs.Common.{◌≡◌, true, arith, rules}
 use Rattle.tok_lexical.specs.Numbers.{is_digit_or_underscore}
-use Rattle.tok_lexical.proofs.Lexical.Numbers.{digits_more}
+use Rattle.tok_lexical.proofs.Digits.{digits_more}
 use Rattle.tok_lexical.proofs.numbers.past_digits.Goals as goal
 use Rattle.tok_lexical.proofs.numbers.past_digits.Goals.{else-not-is_digit-via-then-not-is_digit+else-c-ne95}
 use Rattle.tok_lexical.proofs.numbers.past_digits.Goals.{else-not-is_digit-via-else-not-is_digit}

@@ -1,6 +1,6 @@
 use Rattle.std.proofs.Common.{◌∙◌, sym}
 use Rattle.tok_lexical.specs.Numbers.{has_digit, IsNumberSuffix}
-use Rattle.tok_lexical.proofs.Lexical.Numbers.{takes_run, none_run, suffix_stops, digit_grows}
+use Rattle.tok_lexical.proofs.Digits.{takes_run, none_run, suffix_stops, digit_grows}
 use Rattle.tok_lexical.proofs.numbers.past_in_base.Goals as goal
 
 pub returns-then-found-clause-tries : goal.returns-then-found-clause-tries

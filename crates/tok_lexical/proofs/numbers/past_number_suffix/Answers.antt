@@ -2,9 +2,9 @@ use Rattle.std.proofs.Common.{◌∙◌, ℕ, List, [], sym, subst}
 use Rattle.std.specs.Str.{chars}
 use Rattle.tok_lexical.specs.Pieces.{IsLongestPrefix}
 use Rattle.tok_lexical.specs.Numbers.{IsNumberSuffix}
-use Rattle.tok_lexical.proofs.Lexical.Numbers.{takes_no_suffix, no_suffix_start, no_suffix_word}
-use Rattle.tok_lexical.proofs.Lexical.Numbers.{takes_number_suffix}
-use Rattle.tok_lexical.proofs.Lexical.Words.{no_name}
+use Rattle.tok_lexical.proofs.Digits.{takes_no_suffix, no_suffix_start, no_suffix_word}
+use Rattle.tok_lexical.proofs.Digits.{takes_number_suffix}
+use Rattle.tok_lexical.proofs.Identifiers.{no_name}
 use Rattle.tok_lexical.proofs.numbers.past_number_suffix.Goals as goal
 
 pub returns-then-not-starts_name : goal.returns-then-not-starts_name

@@ -1,4 +1,4 @@
-use Rattle.tok_lexical.proofs.Lexical.Prefixes.{finds_hashes}
+use Rattle.tok_lexical.proofs.StringPrefixes.{finds_hashes}
 use Rattle.tok_lexical.proofs.prefixes.past_hashes.Goals as goal
 
 pub returns-clause-finds : goal.returns-clause-finds

@@ -1,4 +1,4 @@
-use Rattle.tok_lexical.proofs.Lexical.Prefixes.{hashes_more, hashes_over}
+use Rattle.tok_lexical.proofs.StringPrefixes.{hashes_more, hashes_over}
 use Rattle.tok_lexical.proofs.prefixes.past_number_signs.Goals as goal
 
 pub loop-after-preserved : goal.loop-after-preserved

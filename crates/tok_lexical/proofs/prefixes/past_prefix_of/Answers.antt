@@ -1,7 +1,7 @@
 use Rattle.tok_lexical.specs.Strings.{IsPrefixOf}
 use Rattle.tok_lexical.specs.declared.contents.Contents.TheVariants.{Text, Bytes, C}
-use Rattle.tok_lexical.proofs.Lexical.Longest.{tries_found}
-use Rattle.tok_lexical.proofs.Lexical.Prefixes.{free_prefix_of}
+use Rattle.tok_lexical.proofs.Longest.{tries_found}
+use Rattle.tok_lexical.proofs.StringPrefixes.{free_prefix_of}
 use Rattle.tok_lexical.proofs.prefixes.past_prefix_of.Goals as goal
 
 pub returns-in-Text-clause-tries : goal.returns-in-Text-clause-tries

@@ -1,4 +1,4 @@
-use Rattle.tok_lexical.proofs.Lexical.Prefixes.{prefixed_quote, prefixed_raw}
+use Rattle.tok_lexical.proofs.StringPrefixes.{prefixed_quote, prefixed_raw}
 use Rattle.tok_lexical.proofs.prefixes.past_prefixed.Goals as goal
 
 pub returns-in-Some-clause-finds : goal.returns-in-Some-clause-finds

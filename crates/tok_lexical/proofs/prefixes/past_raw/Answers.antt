@@ -1,5 +1,5 @@
 use Rattle.tok_lexical.specs.Strings.{IsHashes}
-use Rattle.tok_lexical.proofs.Lexical.Longest.{finds_after}
+use Rattle.tok_lexical.proofs.Longest.{finds_after}
 use Rattle.tok_lexical.proofs.prefixes.past_raw.Goals as goal
 
 pub returns-clause-finds : goal.returns-clause-finds

@@ -1,7 +1,7 @@
 use Rattle.tok_lexical.specs.Strings.{IsStringPrefix}
-use Rattle.tok_lexical.proofs.Lexical.Longest.{tries_found}
-use Rattle.tok_lexical.proofs.Lexical.Prefixes.{free_raw_start, raw_start_byte, raw_start_c}
-use Rattle.tok_lexical.proofs.Lexical.Prefixes.{raw_start_other}
+use Rattle.tok_lexical.proofs.Longest.{tries_found}
+use Rattle.tok_lexical.proofs.StringPrefixes.{free_raw_start, raw_start_byte, raw_start_c}
+use Rattle.tok_lexical.proofs.StringPrefixes.{raw_start_other}
 use Rattle.tok_lexical.proofs.prefixes.past_string_prefix.Goals as goal
 
 pub returns-then-first-eq98-clause-tries : goal.returns-then-first-eq98-clause-tries

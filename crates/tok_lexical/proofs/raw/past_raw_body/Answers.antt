@@ -1,4 +1,4 @@
-use Rattle.tok_lexical.proofs.Lexical.Raw.{stands_run, stands_quote, stands_found, stands_none}
+use Rattle.tok_lexical.proofs.RawStrings.{stands_run, stands_quote, stands_found, stands_none}
 use Rattle.tok_lexical.proofs.raw.past_raw_body.Goals as goal
 
 pub returns-in-Some-past_same-clause-finds : goal.returns-in-Some-past_same-clause-finds

@@ -2,7 +2,7 @@ use Rattle.std.proofs.Common.{ℕ, ◌∷◌, List, length}
 use denote.Text.{Utf8}
 use denote.Shadow.{shadow}
 use Rattle.std.specs.Str.{chars}
-use Rattle.tok_lexical.proofs.Lexical.Raw.{Stands}
+use Rattle.tok_lexical.proofs.RawStrings.{Stands}
 use Rattle.tok_lexical.proofs.raw.past_raw_body.Given as goal
 
 abbrev pub invariant-loop-after : goal.invariant-loop-after

@@ -1,6 +1,6 @@
 use Rattle.tok_lexical.specs.Pieces.{After}
 use Rattle.tok_lexical.specs.Raw.{IsRaw}
-use Rattle.tok_lexical.proofs.Lexical.Longest.{tries_after}
+use Rattle.tok_lexical.proofs.Longest.{tries_after}
 use Rattle.tok_lexical.proofs.raw.past_raw_bytes.Goals as goal
 
 pub returns-clause-tries : goal.returns-clause-tries

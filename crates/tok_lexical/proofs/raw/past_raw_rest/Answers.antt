@@ -2,8 +2,8 @@ use Rattle.std.proofs.Common.{◌≤◌, ◌<◌, length, sym, subst, arith}
 use Rattle.std.specs.Str.{chars}
 use Rattle.tok_lexical.specs.Pieces.{ReadsLongest}
 use Rattle.tok_lexical.specs.Raw.{IsRaw}
-use Rattle.tok_lexical.proofs.Lexical.Raw.{raw_long, raw_unquoted, raw_open, takes_raw, signs}
-use Rattle.tok_lexical.proofs.Lexical.Raw.{signs_length}
+use Rattle.tok_lexical.proofs.RawStrings.{raw_long, raw_unquoted, raw_open, takes_raw, signs}
+use Rattle.tok_lexical.proofs.RawStrings.{signs_length}
 use Rattle.tok_lexical.proofs.raw.past_raw_rest.Goals as goal
 
 pub returns-clause-tries : goal.returns-clause-tries

@@ -1,4 +1,4 @@
-use Rattle.tok_lexical.proofs.Lexical.Raw.{same_short, same_apart, same_more}
+use Rattle.tok_lexical.proofs.RawStrings.{same_short, same_apart, same_more}
 use Rattle.tok_lexical.proofs.raw.past_same.Goals as goal
 
 pub returns-in_default-next_char-clause-chars : goal.returns-in_default-next_char-clause-chars

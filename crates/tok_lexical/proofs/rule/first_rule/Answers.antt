@@ -1,10 +1,10 @@
 use Rattle.std.proofs.Common.{◌≡◌, ◌∙◌, sym, subst, false, rules, tests}
-use Rattle.tok_lexical.proofs.Lexical.First.{decides_at, none_more, none_at_all, none_fits}
-use Rattle.tok_lexical.proofs.Lexical.First.{decides_begun, decides_letter, decides_punct}
-use Rattle.tok_lexical.proofs.Lexical.First.{decides_opening, decides_closing, fits_front}
-use Rattle.tok_lexical.proofs.Lexical.First.{fits_behind, last_identifier, last_punct}
-use Rattle.tok_lexical.proofs.Lexical.First.{last_other}
-use Rattle.tok_lexical.proofs.Lexical.Slashes.{decides_alone}
+use Rattle.tok_lexical.proofs.First.{decides_at, none_more, none_at_all, none_fits}
+use Rattle.tok_lexical.proofs.First.{decides_begun, decides_letter, decides_punct}
+use Rattle.tok_lexical.proofs.First.{decides_opening, decides_closing, fits_front}
+use Rattle.tok_lexical.proofs.First.{fits_behind, last_identifier, last_punct}
+use Rattle.tok_lexical.proofs.First.{last_other}
+use Rattle.tok_lexical.proofs.Slashes.{decides_alone}
 use Rattle.tok_lexical.specs.Fits.{ReadsByRules}
 use Rattle.tok_lexical.specs.Starts.{tells, last_rules}
 use Rattle.tok_lexical.specs.declared.rule.Rule.TheVariants.{ByteOrderMark}

@@ -1,9 +1,9 @@
 use Rattle.std.proofs.Common.{◌∙◌, ◌∷◌, ap, sym}
 use Rattle.std.specs.Str.{chars}
 use Rattle.tok_lexical.specs.Numbers.{starts_digit}
-use Rattle.tok_lexical.proofs.Lexical.First.{zero_told}
-use Rattle.tok_lexical.proofs.Lexical.Seconds.{decides_digit, decides_zero, decides_prefix}
-use Rattle.tok_lexical.proofs.Lexical.Seconds.{decides_raw, digit_told}
+use Rattle.tok_lexical.proofs.First.{zero_told}
+use Rattle.tok_lexical.proofs.Seconds.{decides_digit, decides_zero, decides_prefix}
+use Rattle.tok_lexical.proofs.Seconds.{decides_raw, digit_told}
 use Rattle.tok_lexical.proofs.rule.second_told.Goals as goal
 
 pub decimal-requires : goal.decimal-requires

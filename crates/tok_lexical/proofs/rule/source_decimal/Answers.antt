@@ -1,6 +1,6 @@
 use Rattle.std.specs.Prelude.{Some, None}
-use Rattle.tok_lexical.proofs.Lexical.Decimals.{decimal_float, decimal_point, decimal_integer}
-use Rattle.tok_lexical.proofs.Lexical.Floats.{tail_point, tail_exponent}
+use Rattle.tok_lexical.proofs.Decimals.{decimal_float, decimal_point, decimal_integer}
+use Rattle.tok_lexical.proofs.FloatTails.{tail_point, tail_exponent}
 use Rattle.tok_lexical.proofs.rule.source_decimal.Goals as goal
 
 pub returns-in-Some-past_fraction-clause-fits : goal.returns-in-Some-past_fraction-clause-fits

@@ -1,4 +1,4 @@
-use Rattle.tok_lexical.proofs.Lexical.Sources.{attribute}
+use Rattle.tok_lexical.proofs.Sources.{attribute}
 use Rattle.tok_lexical.proofs.source.opens_attribute.Goals as goal
 
 pub returns : goal.returns

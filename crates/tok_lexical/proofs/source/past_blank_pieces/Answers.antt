@@ -1,7 +1,7 @@
 use Rattle.std.proofs.Common.{◌∙◌, sym, ap}
 use Rattle.tok_lexical.specs.Sources.{over, is_blank_piece}
-use Rattle.tok_lexical.proofs.Lexical.Fits.{decided}
-use Rattle.tok_lexical.proofs.Lexical.Sources.{blanks_one, last_found, last_none, shorter_piece}
+use Rattle.tok_lexical.proofs.Fits.{decided}
+use Rattle.tok_lexical.proofs.Sources.{blanks_one, last_found, last_none, shorter_piece}
 use Rattle.tok_lexical.proofs.source.past_blank_pieces.Goals as goal
 
 pub loop-rule-init : goal.loop-rule-init

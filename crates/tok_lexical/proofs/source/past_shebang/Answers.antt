@@ -1,4 +1,4 @@
-use Rattle.tok_lexical.proofs.Lexical.Sources.{not_begun, is_attribute, line_after}
+use Rattle.tok_lexical.proofs.Sources.{not_begun, is_attribute, line_after}
 use Rattle.tok_lexical.proofs.source.past_shebang.Goals as goal
 
 pub returns-in_default : goal.returns-in_default

@@ -1,7 +1,7 @@
 use Rattle.std.proofs.Common.{subst}
 use Rattle.std.specs.Str.{chars}
 use Rattle.tok_lexical.specs.Sources.{Begins}
-use Rattle.tok_lexical.proofs.Lexical.Sources.{source_cut}
+use Rattle.tok_lexical.proofs.Sources.{source_cut}
 use Rattle.tok_lexical.proofs.source.past_start.Goals as goal
 
 pub returns-clause-begins : goal.returns-clause-begins

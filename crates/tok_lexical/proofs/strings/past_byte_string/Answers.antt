@@ -1,6 +1,6 @@
 use Rattle.tok_lexical.specs.Strings.{IsString}
 use Rattle.tok_lexical.specs.declared.contents.Contents.TheVariants.{Bytes}
-use Rattle.tok_lexical.proofs.Lexical.Longest.{tries_after}
+use Rattle.tok_lexical.proofs.Longest.{tries_after}
 use Rattle.tok_lexical.proofs.strings.past_byte_string.Goals as goal
 
 pub returns-clause-tries : goal.returns-clause-tries

@@ -2,7 +2,7 @@ use Rattle.std.proofs.Common.{◌≡◌, ℕ, ◌∷◌, List, length}
 use denote.Text.{Utf8}
 use denote.Shadow.{shadow}
 use Rattle.std.specs.Str.{chars}
-use Rattle.tok_lexical.proofs.Lexical.Units.{Reaches}
+use Rattle.tok_lexical.proofs.Units.{Reaches}
 use Rattle.tok_lexical.proofs.strings.past_string_of.Given as goal
 
 abbrev pub invariant-loop-after : goal.invariant-loop-after

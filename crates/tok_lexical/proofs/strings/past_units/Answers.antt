@@ -1,4 +1,4 @@
-use Rattle.tok_lexical.proofs.Lexical.Units.{finds_plain, tries_units}
+use Rattle.tok_lexical.proofs.Units.{finds_plain, tries_units}
 use Rattle.tok_lexical.proofs.strings.past_units.Goals as goal
 
 pub returns-in-Some-clause-finds : goal.returns-in-Some-clause-finds

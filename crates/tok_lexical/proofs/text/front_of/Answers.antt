@@ -1,6 +1,6 @@
 use Rattle.std.proofs.Common.{arith}
-use Rattle.tok_lexical.proofs.Lexical.Texts.{cut_length, cut_boundary, cut_chars, cut_len}
-use Rattle.tok_lexical.proofs.Lexical.Texts.{cut_front, front_chars}
+use Rattle.tok_lexical.proofs.Texts.{cut_length, cut_boundary, cut_chars, cut_len}
+use Rattle.tok_lexical.proofs.Texts.{cut_front, front_chars}
 use Rattle.tok_lexical.proofs.text.front_of.Goals as goal
 
 pub overflow_sub-text : goal.overflow_sub-text

@@ -1,4 +1,4 @@
-use Rattle.tok_lexical.proofs.Lexical.Longest.{chars_next, shorter_next}
+use Rattle.tok_lexical.proofs.Longest.{chars_next, shorter_next}
 use Rattle.tok_lexical.proofs.text.next_char.Goals as goal
 
 pub returns-clause-chars : goal.returns-clause-chars

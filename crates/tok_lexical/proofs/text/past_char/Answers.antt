@@ -2,7 +2,7 @@ use Rattle.std.proofs.Common.{◌≡◌, ◌<◌, ◌∙◌, ◌∷◌, sym, ℕ
 use Rattle.std.specs.Prelude.{MatchOption}
 use Rattle.std.specs.Str.{chars}
 use Rattle.std.proofs.lemmas.Str.{IsCharBoundary-after_ascii}
-use Rattle.tok_lexical.proofs.Lexical.Texts.{ascii_first, ascii_misses, nothing_first}
+use Rattle.tok_lexical.proofs.Texts.{ascii_first, ascii_misses, nothing_first}
 use Rattle.tok_lexical.proofs.text.past_char.Goals as goal
 
 pub returns-in_err-first-clause-chars : goal.returns-in_err-first-clause-chars

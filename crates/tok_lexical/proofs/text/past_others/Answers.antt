@@ -1,6 +1,6 @@
 use Rattle.std.proofs.Common.{◌≡◌, ◌<◌, ℕ, length, get_or, true, false, rules, sym, ◌∙◌}
 use Rattle.std.proofs.lemmas.Bool.{false≢true}
-use Rattle.tok_lexical.proofs.Lexical.Scans.{skips_to, skips_all, either_low, is_either}
+use Rattle.tok_lexical.proofs.Scans.{skips_to, skips_all, either_low, is_either}
 use Rattle.tok_lexical.proofs.text.past_others.Goals as goal
 use Rattle.tok_lexical.proofs.text.past_others.Goals.{in-Some, in-None}
 

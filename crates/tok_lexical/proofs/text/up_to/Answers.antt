@@ -1,5 +1,5 @@
 use Rattle.std.proofs.Common.{◌∙◌, sym}
-use Rattle.tok_lexical.proofs.Lexical.Fronts.{first_parts}
+use Rattle.tok_lexical.proofs.Fronts.{first_parts}
 use Rattle.tok_lexical.proofs.text.up_to.Goals as goal
 
 pub returns : goal.returns

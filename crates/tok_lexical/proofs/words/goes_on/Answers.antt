@@ -1,4 +1,4 @@
-use Rattle.tok_lexical.proofs.Lexical.Tables.{continues_by}
+use Rattle.tok_lexical.proofs.Tables.{continues_by}
 use Rattle.tok_lexical.proofs.words.goes_on.Goals as goal
 
 pub returns-then-c-lt128 : goal.returns-then-c-lt128

@@ -1,5 +1,5 @@
 use Rattle.std.proofs.Common.{◌∙◌}
-use Rattle.tok_lexical.proofs.Lexical.Words.{no_raw_chars}
+use Rattle.tok_lexical.proofs.Identifiers.{no_raw_chars}
 use Rattle.tok_lexical.proofs.words.has_no_raw.Goals as goal
 
 pub returns : goal.returns

@@ -1,4 +1,4 @@
-use Rattle.tok_lexical.proofs.Lexical.Words.{whole_identifier}
+use Rattle.tok_lexical.proofs.Identifiers.{whole_identifier}
 use Rattle.tok_lexical.proofs.words.is_identifier.Goals as goal
 
 pub returns-in-Some : goal.returns-in-Some

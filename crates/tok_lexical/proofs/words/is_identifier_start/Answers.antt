@@ -1,5 +1,5 @@
 use Rattle.std.proofs.Common.{◌∙◌, sym, true, false}
-use Rattle.tok_lexical.proofs.Lexical.Words.{letter_start}
+use Rattle.tok_lexical.proofs.Identifiers.{letter_start}
 use Rattle.tok_lexical.proofs.words.is_identifier_start.Goals as goal
 
 pub returns-then-is_ascii_alphabetic : goal.returns-then-is_ascii_alphabetic

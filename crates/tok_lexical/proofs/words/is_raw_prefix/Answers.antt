@@ -1,5 +1,5 @@
 use Rattle.std.proofs.Common.{◌∙◌}
-use Rattle.tok_lexical.proofs.Lexical.Words.{raw_prefix_chars}
+use Rattle.tok_lexical.proofs.Identifiers.{raw_prefix_chars}
 use Rattle.tok_lexical.proofs.words.is_raw_prefix.Goals as goal
 
 pub returns : goal.returns

@@ -1,6 +1,6 @@
 use Rattle.std.proofs.Common.{◌∙◌, sym}
 use Rattle.unicode_ident.specs.Ident.{is_xid_continue}
-use Rattle.tok_lexical.proofs.Lexical.Longest.{skips_more}
+use Rattle.tok_lexical.proofs.Longest.{skips_more}
 use Rattle.tok_lexical.proofs.words.past_continues.Goals as goal
 
 pub loop-c-preserved : goal.loop-c-preserved

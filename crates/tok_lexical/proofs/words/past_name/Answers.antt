@@ -1,4 +1,4 @@
-use Rattle.tok_lexical.proofs.Lexical.Words.{name_raw, name_plain}
+use Rattle.tok_lexical.proofs.Identifiers.{name_raw, name_plain}
 use Rattle.tok_lexical.proofs.words.past_name.Goals as goal
 
 pub returns-in-Some-clause-tries : goal.returns-in-Some-clause-tries

@@ -1,7 +1,7 @@
 use Rattle.std.proofs.Common.{◌∷◌, refl}
 use Rattle.tok_lexical.specs.Pieces.{After}
 use Rattle.tok_lexical.specs.Words.{IsIdentifier}
-use Rattle.tok_lexical.proofs.Lexical.Longest.{tries_after}
+use Rattle.tok_lexical.proofs.Longest.{tries_after}
 use Rattle.tok_lexical.proofs.words.past_raw_identifier.Goals as goal
 
 pub returns-clause-tries : goal.returns-clause-tries

@@ -1,5 +1,5 @@
 use Rattle.tok_lexical.specs.Words.{IsNameOf}
-use Rattle.tok_lexical.proofs.Lexical.Longest.{tries_after}
+use Rattle.tok_lexical.proofs.Longest.{tries_after}
 use Rattle.tok_lexical.proofs.words.past_source_lifetime.Goals as goal
 
 pub returns-clause-tries : goal.returns-clause-tries

@@ -3,8 +3,8 @@ use Rattle.std.specs.Prelude.{None}
 use Rattle.std.specs.Str.{chars}
 use Rattle.tok_lexical.specs.Pieces.{IsLongestPrefix}
 use Rattle.tok_lexical.specs.Words.{IsSuffix}
-use Rattle.tok_lexical.proofs.Lexical.Units.{takes_suffix}
-use Rattle.tok_lexical.proofs.Lexical.Words.{no_name}
+use Rattle.tok_lexical.proofs.Units.{takes_suffix}
+use Rattle.tok_lexical.proofs.Identifiers.{no_name}
 use Rattle.tok_lexical.proofs.words.past_suffix.Goals as goal
 
 pub returns-then-starts_name : goal.returns-then-starts_name

@@ -1,7 +1,7 @@
 use Rattle.std.proofs.Common.{◌≡◌, true, refl, rules}
 use Rattle.std.specs.Char.{is_digit}
 use Rattle.tok_lexical.specs.Numbers.{has_digit, is_digit_or_underscore}
-use Rattle.tok_lexical.proofs.Lexical.Numbers.{digits_more}
+use Rattle.tok_lexical.proofs.Digits.{digits_more}
 use Rattle.tok_values.proofs.integers.past_digits.Goals as goal
 use Rattle.tok_values.proofs.integers.past_digits.Goals.{then-is_digit, else-is_digit}
 

@@ -2,7 +2,7 @@ use Rattle.std.proofs.Common.{◌≡◌, ◌-◌, length, subst, arith}
 use Rattle.std.specs.Str.{chars}
 use Rattle.tok_lexical.specs.Rules.{source_rules}
 use Rattle.tok_lexical.specs.Widths.{bytes}
-use Rattle.tok_lexical.proofs.Lexical.Texts.{cut_length}
+use Rattle.tok_lexical.proofs.Texts.{cut_length}
 use Rattle.tok_core.specs.Lexical.Outcome.{FollowsFrom}
 use Rattle.tok_buffer.specs.Buffer.{forest_of}
 use Rattle.tok_buffer.proofs.Reading.{buffer_follows}

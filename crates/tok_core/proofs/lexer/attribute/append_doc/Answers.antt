@@ -14,6 +14,6 @@ returns g c =
     c.in_ok-append_group.ensures
     ∙ ap (add_forest last) (c.in_ok-append_bang.ensures
     ∙ ap (add_forest between) (c.in_ok-punct.ensures.ok
-    ∙ ap (λ l. add_leaf l old) c.punct.ensures))
+    ∙ ap (λ l. add_leaf l old) c.unchecked_punct.ensures))
     ∙ ap (λ f. record { outer = old.outer; inner = f }) (joined_assoc _ between last
     ∙ joined_assoc old.inner _ (concat between last))

@@ -1,6 +1,6 @@
 use Rattle.std.proofs.Common.{◌∙◌, ◌==◌, sym, refl, true, eq-eqb}
 use Rattle.tok_lexical.specs.Characters.{is_whitespace, is_punct, opening_mark, closing_mark}
-use Rattle.tok_lexical.proofs.Lexical.Longest.{takes_one, tries_pair, tries_two}
+use Rattle.tok_lexical.proofs.Longest.{takes_one, tries_pair, tries_two}
 use Rattle.tok_lexical.proofs.rule.Rule.past.Goals as goal
 
 pub returns-in-ByteOrderMark-clause-tries : goal.returns-in-ByteOrderMark-clause-tries

@@ -1,5 +1,5 @@
 use Rattle.std.proofs.Common.{◌∙◌, sym}
-use Rattle.tok_lexical.proofs.Lexical.Texts.{width_plain, width_mark}
+use Rattle.tok_lexical.proofs.Texts.{width_plain, width_mark}
 use Rattle.tok_lexical.proofs.rule.Rule.width.Goals as goal
 
 pub returns-then-is_group_mark : goal.returns-then-is_group_mark

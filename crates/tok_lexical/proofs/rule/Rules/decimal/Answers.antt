@@ -1,4 +1,4 @@
-use Rattle.tok_lexical.proofs.Lexical.Decimals.{decimal_only, decimal_other}
+use Rattle.tok_lexical.proofs.Decimals.{decimal_only, decimal_other}
 use Rattle.tok_lexical.proofs.rule.Rules.decimal.Goals as goal
 
 pub returns-in-Source-clause-fits : goal.returns-in-Source-clause-fits

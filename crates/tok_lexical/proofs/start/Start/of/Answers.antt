@@ -1,7 +1,7 @@
 use Rattle.std.proofs.Common.{◌≡◌, ◌∙◌, refl, sym, get_or, arith, rules, tests}
 use Rattle.tok_lexical.specs.declared.start.TheConstants.{ASCII}
 use Rattle.tok_lexical.specs.declared.start.Start.TheVariants.{Rest}
-use Rattle.tok_lexical.proofs.Lexical.Starts.{start_by, meant}
+use Rattle.tok_lexical.proofs.Starts.{start_by, meant}
 use Rattle.tok_lexical.proofs.start.Start.of.Goals as goal
 
 pub returns-in-32 : goal.returns-in-32

@@ -1,7 +1,7 @@
 use Rattle.std.proofs.Common.{◌∙◌, ℕ, true, sym, ap, subst}
 use Rattle.std.specs.Prelude.{MatchOption}
 use Rattle.std.specs.Str.{chars}
-use Rattle.tok_lexical.proofs.Lexical.Escapes.{tails}
+use Rattle.tok_lexical.proofs.EscapedChars.{tails}
 use Rattle.tok_values.specs.Strings.{InApostrophes, IsByteValue}
 use Rattle.tok_values.proofs.literal.LiteralLiteralExt.byte_value.Goals as goal
 

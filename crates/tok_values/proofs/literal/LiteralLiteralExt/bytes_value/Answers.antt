@@ -1,6 +1,6 @@
 use Rattle.std.proofs.Common.{◌∙◌, true, sym, ap, subst}
 use Rattle.std.specs.Str.{chars}
-use Rattle.tok_lexical.proofs.Lexical.Escapes.{tails}
+use Rattle.tok_lexical.proofs.EscapedChars.{tails}
 use Rattle.tok_values.specs.Strings.{InQuotes}
 use Rattle.tok_values.proofs.Units.{no_quotes}
 use Rattle.tok_values.proofs.literal.LiteralLiteralExt.bytes_value.Goals as goal

@@ -1,12 +1,12 @@
 use Rattle.std.proofs.Common.{refl, sym, ◌∙◌}
-use Rattle.tok_lexical.proofs.Lexical.Docs.{block_end}
+use Rattle.tok_lexical.proofs.Docs.{block_end}
 use Rattle.tok_core.specs.Private.Built.{state}
 use Rattle.tok_core.proofs.Lexical.Steps.{halts_meaning, halts_deep, halts_unfit}
 use Rattle.tok_core.proofs.lexer.nest.Nest.take_in.Goals as goal
 
 pub returns-in-Some-clause-refused : goal.returns-in-Some-clause-refused
 returns-in-Some-clause-refused g c = halts_meaning (state g.B.Build.levels c.args.self.now)
-    c.args.rule c.args.at _ _ c.in-Some.refusal c.refusal.result c.refusal.ensures c.in-Some.is
+    c.args.rule c.args.at _ _ c.in-Some.kind c.error_kind.result c.error_kind.ensures c.in-Some.is
 
 pub returns-in-Opening-clause-refused : goal.returns-in-Opening-clause-refused
 returns-in-Opening-clause-refused g c = halts_deep (state g.B.Build.levels c.args.self.now)
@@ -19,7 +19,7 @@ returns-in-Closing-clause-refused g c = halts_unfit (state g.B.Build.levels c.ar
 
 pub returns-then-is_line_doc-clause-refused : goal.returns-then-is_line_doc-clause-refused
 returns-then-is_line_doc-clause-refused g c = halts_deep (state g.B.Build.levels c.args.self.now)
-    c.args.rule c.args.at _ _ _ (sym c.refusal.ensures ∙ c.in_default-refusal.is)
+    c.args.rule c.args.at _ _ _ (sym c.error_kind.ensures ∙ c.in_default-error_kind.is)
     (rw c.in-SourceLineComment.is (sym c.if-is_line_doc.ensures)) c.doc.ensures.refused
 
 pub block_doc_text-requires : goal.block_doc_text-requires
@@ -29,6 +29,6 @@ block_doc_text-requires g c = block_end _ (rw c.in-SourceBlockComment.is at c.re
 pub returns-then-is_block_doc-clause-refused : goal.returns-then-is_block_doc-clause-refused
 returns-then-is_block_doc-clause-refused g c =
     halts_deep (state g.B.Build.levels c.args.self.now) c.args.rule c.args.at _ _ _
-    (sym c.refusal.ensures ∙ c.in_default-refusal.is)
+    (sym c.error_kind.ensures ∙ c.in_default-error_kind.is)
     (rw c.in-SourceBlockComment.is (sym c.if-is_block_doc.ensures))
     c.doc-then-is_block_doc.ensures.refused

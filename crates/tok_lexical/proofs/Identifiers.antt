@@ -15,7 +15,7 @@ use Rattle.tok_lexical.specs.Pieces.{IsLongestPrefix, HasPrefix, ReadsLongest}
 use Rattle.tok_lexical.specs.Following.{starts_name}
 use Rattle.tok_lexical.specs.Words.{is_identifier_start, IsIdentifier, IsRawIdentifier, IsName}
 use Rattle.tok_lexical.specs.Words.{has_no_raw, is_raw_prefix}
-use Rattle.tok_lexical.proofs.Lexical.Numbers.{head_passes, tail_passes, not_true}
+use Rattle.tok_lexical.proofs.Digits.{head_passes, tail_passes, not_true}
 use Rattle.std.proofs.lemmas.Str.{encodes-chars, encodes-IsAscii, chars-IsAscii, chars-nil}
 use Rattle.std.proofs.lemmas.Str.Ascii.{IsAscii-nil}
 use Rattle.std.proofs.lemmas.Slice.Eq.{bytes_eq-Decides}

@@ -2,7 +2,7 @@
 use Rattle.std.proofs.Common.{◌≡◌, ◌∙◌, refl, sym, ℕ, ◌<◌, Bool, get_or, ap}
 use Rattle.std.specs.Prelude.{◌==◌, ◌||◌, if◌then◌else◌}
 use Rattle.std.specs.Char.{is_digit, is_ascii_alphabetic}
-use Rattle.tok_lexical.proofs.Lexical.Tables.{in_table}
+use Rattle.tok_lexical.proofs.Tables.{in_table}
 use Rattle.unicode_ident.proofs.IdentLemmas.{is_xid_start-ascii}
 use Rattle.tok_lexical.specs.Characters.{is_whitespace, is_punct}
 use Rattle.tok_lexical.specs.Starts.{start_of, is_mark, is_prefix}

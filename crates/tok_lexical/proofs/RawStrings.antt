@@ -12,10 +12,10 @@ use Rattle.std.specs.List.{list_all}
 use Rattle.tok_lexical.specs.Pieces.{HasPrefix, IsLongestPrefix, Skips, Stops, is_neither}
 use Rattle.tok_lexical.specs.Raw.{EndsAt, closed, further, IsRaw}
 use Rattle.tok_lexical.specs.Words.{IsSuffix}
-use Rattle.tok_lexical.proofs.Lexical.Comments.{neither_first}
-use Rattle.tok_lexical.proofs.Lexical.Longest.{IsFree, fronts}
-use Rattle.tok_lexical.proofs.Lexical.Escapes.{heads, tails, all_stop}
-use Rattle.tok_lexical.proofs.Lexical.Numbers.{all_stops, head_passes, tail_passes}
+use Rattle.tok_lexical.proofs.NestedComments.{neither_first}
+use Rattle.tok_lexical.proofs.Longest.{IsFree, fronts}
+use Rattle.tok_lexical.proofs.EscapedChars.{heads, tails, all_stop}
+use Rattle.tok_lexical.proofs.Digits.{all_stops, head_passes, tail_passes}
 
 ends_length : {closing text : List ℕ} → EndsAt closing text → length closing ≤ length text
 ends_length closed = omega arith

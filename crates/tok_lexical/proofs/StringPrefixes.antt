@@ -10,9 +10,9 @@ use Rattle.tok_lexical.specs.Pieces.{ReadsPrefix, Skips, Stops, After}
 use Rattle.tok_lexical.specs.Strings.{IsHashes, IsPrefixed, IsPrefixOf, IsStringPrefix}
 use Rattle.tok_lexical.specs.declared.contents.Contents.{Contents}
 use Rattle.tok_lexical.specs.declared.contents.Contents.TheVariants.{Text, Bytes, C}
-use Rattle.tok_lexical.proofs.Lexical.Longest.{list_all_push, IsFree, finds_after}
-use Rattle.tok_lexical.proofs.Lexical.Escapes.{heads, tails, moved, all_stop, free_after}
-use Rattle.tok_lexical.proofs.Lexical.Numbers.{all_stops}
+use Rattle.tok_lexical.proofs.Longest.{list_all_push, IsFree, finds_after}
+use Rattle.tok_lexical.proofs.EscapedChars.{heads, tails, moved, all_stop, free_after}
+use Rattle.tok_lexical.proofs.Digits.{all_stops}
 
 -- raw strings
 pub hashes_more : (text mid rest front : List ℕ) → text ≡ front ++ mid →

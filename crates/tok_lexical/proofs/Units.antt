@@ -9,13 +9,13 @@ use Rattle.std.specs.List.{list_all}
 use Rattle.tok_lexical.specs.Strings.{FindsUnits}
 use Rattle.tok_lexical.specs.Pieces.{IsLongestPrefix, ReadsLongest, HasPrefix, ReadsPrefix}
 use Rattle.tok_lexical.specs.Pieces.{After, Skips, is_neither}
-use Rattle.tok_lexical.proofs.Lexical.Comments.{neither_first}
+use Rattle.tok_lexical.proofs.NestedComments.{neither_first}
 use Rattle.tok_lexical.specs.Words.{IsIdentifier, IsSuffix}
 use Rattle.tok_lexical.specs.Strings.{EscapeOf, IsUnit, plain, escape, AreUnits, no_unit, unit}
 use Rattle.tok_lexical.specs.Strings.{IsString, IsQuoted}
 use Rattle.tok_lexical.specs.declared.contents.Contents.{Contents}
-use Rattle.tok_lexical.proofs.Lexical.Longest.{IsFree}
-use Rattle.tok_lexical.proofs.Lexical.Escapes.{heads, tails, free_string_escape}
+use Rattle.tok_lexical.proofs.Longest.{IsFree}
+use Rattle.tok_lexical.proofs.EscapedChars.{heads, tails, free_string_escape}
 
 -- of strings of one kind
 module _ (kind : Contents) where

@@ -2,7 +2,7 @@ use Rattle.std.proofs.Common.{◌∙◌, sym, ap, rules}
 use Rattle.tok_core.specs.Forest.{concat}
 use Rattle.tok_core.proofs.Facts.{concat-none}
 use Rattle.tok_types.proofs.Words.{suffix-identifier, word-empty, word-refused}
-use Rattle.tok_types.proofs.names.append_word.Goals as goal
+use Rattle.tok_types.proofs.look.append_word.Goals as goal
 
 pub returns-then-is_empty-clause-ok : goal.returns-then-is_empty-clause-ok
 returns-then-is_empty-clause-ok c =

@@ -8,8 +8,8 @@ use Rattle.std.proofs.lemmas.Bool.{false≢true, eqb-true}
 use Rattle.tok_lexical.specs.Contents.{has_bare_return, has_return, has_misfit, is_unfit}
 use Rattle.tok_lexical.specs.Pieces.{Skips, Stops, is_neither, begins_with}
 use Rattle.tok_lexical.specs.declared.contents.Contents.TheVariants.{Text}
-use Rattle.tok_lexical.proofs.Lexical.Comments.{neither_first}
-use Rattle.tok_lexical.proofs.Lexical.Scans.{any_byte}
+use Rattle.tok_lexical.proofs.NestedComments.{neither_first}
+use Rattle.tok_lexical.proofs.Scans.{any_byte}
 
 -- a run with no U+000D
 bare_run : (front rest : List ℕ) → list_all (is_neither 13 13) front ≡ true →

@@ -23,7 +23,7 @@ use Rattle.tok_lexical.specs.declared.rule.Rule.TheVariants.{PointedDecimal, Sou
 use Rattle.tok_lexical.specs.declared.rule.Rule.TheVariants.{SourceLineComment}
 use Rattle.tok_lexical.specs.declared.rule.Rule.TheVariants.{SourceBlockComment}
 use Rattle.tok_lexical.specs.declared.contents.Contents.TheVariants.{Text, Bytes, C}
-use Rattle.tok_lexical.proofs.Lexical.Longest.{takes_unique}
+use Rattle.tok_lexical.proofs.Longest.{takes_unique}
 
 pub decided : {text : List ℕ} {rules : List Rule} {rule : Rule} {piece rest : List ℕ} →
     IsFirstFit text rules rule piece rest → IsLongestPrefix (Spells rule) text piece rest

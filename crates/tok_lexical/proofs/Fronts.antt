@@ -4,7 +4,7 @@ use Rattle.std.specs.Prelude.{◌==◌, ◌||◌, not, if◌then◌else◌}
 use Rattle.std.specs.List.{list_all}
 use Rattle.std.proofs.lemmas.Bool.{false≢true, eqb-true}
 use Rattle.tok_lexical.specs.Pieces.{Skips, Stops, is_neither, up_to, from_first}
-use Rattle.tok_lexical.proofs.Lexical.Comments.{neither_first}
+use Rattle.tok_lexical.proofs.NestedComments.{neither_first}
 
 module _ (a : ℕ) where
   other_first : (c : ℕ) (rest : List ℕ) → (c ≡ a → ⊥) → (up_to a (c ∷ rest) ≡ c ∷ up_to a rest)

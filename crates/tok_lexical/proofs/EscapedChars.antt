@@ -11,7 +11,7 @@ use Rattle.tok_lexical.specs.Strings.{IsLineEnd, IsEscape, simple, hex, code, li
 use Rattle.tok_lexical.specs.Strings.{IsCEscape, EscapeOf, is_byte, IsEscapedChar, IsByte}
 use Rattle.tok_lexical.specs.declared.contents.Contents.{Contents}
 use Rattle.tok_lexical.specs.declared.contents.Contents.TheVariants.{Text, Bytes, C}
-use Rattle.tok_lexical.proofs.Lexical.Longest.{IsFree, finds_after}
+use Rattle.tok_lexical.proofs.Longest.{IsFree, finds_after}
 
 pub heads : (a b : ℕ) (x y : List ℕ) → a ∷ x ≡ b ∷ y → a ≡ b
 heads a b x y e = cc

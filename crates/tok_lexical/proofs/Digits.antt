@@ -14,8 +14,8 @@ use Rattle.tok_lexical.specs.declared.numbers.Base.{Base}
 use Rattle.tok_lexical.specs.Numbers.{base_mark, radix, IsBased, is_digit_or_underscore}
 use Rattle.tok_lexical.specs.Numbers.{starts_digit, starts_number_suffix, IsNumberSuffix, IsRun}
 use Rattle.tok_lexical.specs.Numbers.{IsNumber, has_digit}
-use Rattle.tok_lexical.proofs.Lexical.Longest.{no_more, list_all_push, tries_after, fronts}
-use Rattle.tok_lexical.proofs.Lexical.Escapes.{heads, tails}
+use Rattle.tok_lexical.proofs.Longest.{no_more, list_all_push, tries_after, fronts}
+use Rattle.tok_lexical.proofs.EscapedChars.{heads, tails}
 
 pub not_true : (b : Bool) → (b ≡ true → ⊥) → b ≡ false
 not_true true h = absurd (h refl)

@@ -27,10 +27,10 @@ use Rattle.tok_lexical.specs.declared.rule.Rule.TheVariants.{RawIdentifier}
 use Rattle.tok_lexical.specs.declared.rule.Rules.{Rules}
 use Rattle.tok_lexical.specs.declared.rule.Rules.TheVariants.{Plain, Marked, Source}
 use Rattle.tok_lexical.specs.declared.start.Start.TheVariants as start
-use Rattle.tok_lexical.proofs.Lexical.Escapes.{heads, tails}
-use Rattle.tok_lexical.proofs.Lexical.First.{decides_begun, fits_front, last_identifier, zero_told}
-use Rattle.tok_lexical.proofs.Lexical.Longest.{takes_identifier}
-use Rattle.tok_lexical.proofs.Lexical.Numbers.{head_passes, tail_passes}
+use Rattle.tok_lexical.proofs.EscapedChars.{heads, tails}
+use Rattle.tok_lexical.proofs.First.{decides_begun, fits_front, last_identifier, zero_told}
+use Rattle.tok_lexical.proofs.Longest.{takes_identifier}
+use Rattle.tok_lexical.proofs.Digits.{head_passes, tail_passes}
 
 head_holds : (a b : Bool) → (a && b) ≡ true → a ≡ true
 head_holds true b e = refl

@@ -43,8 +43,8 @@ use Rattle.tok_lexical.specs.declared.rule.Rules.{Rules}
 use Rattle.tok_lexical.specs.declared.rule.Rules.TheVariants as every
 use Rattle.tok_lexical.specs.Pieces.{Skips}
 use Rattle.unicode_ident.specs.Ident.{is_xid_continue}
-use Rattle.tok_lexical.proofs.Lexical.Longest.{takes_one, takes_identifier}
-use Rattle.tok_lexical.proofs.Lexical.Fits.{spelled_one}
+use Rattle.tok_lexical.proofs.Longest.{takes_one, takes_identifier}
+use Rattle.tok_lexical.proofs.Fits.{spelled_one}
 
 pub decides_at : (rules : List Rule) (text piece rest : List ℕ) (i : ℕ) (d : Rule) →
     i < length rules → NoneBefore rules text i → IsLongestPrefix (Spells (get_or rules i d)) text

@@ -12,9 +12,9 @@ use Rattle.tok_lexical.specs.Numbers.{is_digit_or_underscore, is_exponent, start
 use Rattle.tok_lexical.specs.Numbers.{IsNumberSuffix, IsDecimal}
 use Rattle.tok_lexical.specs.Floats.{IsExponentSuffix, IsExponentDigits, IsSigned, IsExponent}
 use Rattle.tok_lexical.specs.Floats.{IsScaled, IsFraction, IsFloatTail}
-use Rattle.tok_lexical.proofs.Lexical.Longest.{tries_after, either_first, either_second}
-use Rattle.tok_lexical.proofs.Lexical.Escapes.{heads, tails}
-use Rattle.tok_lexical.proofs.Lexical.Numbers.{all_stops, suffix_stops, head_passes}
+use Rattle.tok_lexical.proofs.Longest.{tries_after, either_first, either_second}
+use Rattle.tok_lexical.proofs.EscapedChars.{heads, tails}
+use Rattle.tok_lexical.proofs.Digits.{all_stops, suffix_stops, head_passes}
 
 pub exponent_suffix_stops : (suffix : List ℕ) → IsExponentSuffix suffix →
     Stops (is_digit_or_underscore 10) suffix

@@ -14,12 +14,12 @@ use Rattle.tok_lexical.specs.Sources.{Begins, shebang, no_shebang, past_mark, Be
 use Rattle.tok_lexical.specs.declared.rule.Rule.{Rule}
 use Rattle.tok_lexical.specs.declared.rule.Rule.TheVariants.{Whitespace, SourceLineComment}
 use Rattle.tok_lexical.specs.declared.rule.Rule.TheVariants.{SourceBlockComment}
-use Rattle.tok_lexical.proofs.Lexical.Escapes.{heads, tails}
+use Rattle.tok_lexical.proofs.EscapedChars.{heads, tails}
 use Rattle.std.specs.Str.{chars, IsUtf8}
 use Rattle.std.proofs.lemmas.Str.{length-le-encodes}
-use Rattle.tok_lexical.proofs.Lexical.Texts.{cut_length}
-use Rattle.tok_lexical.proofs.Lexical.Fits.{decided, decides_unique, spelled_one}
-use Rattle.tok_lexical.proofs.Lexical.Numbers.{all_stops}
+use Rattle.tok_lexical.proofs.Texts.{cut_length}
+use Rattle.tok_lexical.proofs.Fits.{decided, decides_unique, spelled_one}
+use Rattle.tok_lexical.proofs.Digits.{all_stops}
 
 abbrev pub IsLast : List ℕ → Type 0
 IsLast text = (rule : Rule) → (taken after : List ℕ) → IsFirstFit text (source_rules Edition2021)

@@ -19,9 +19,9 @@ use Rattle.tok_lexical.specs.declared.edition.Edition.TheVariants.{Edition2021, 
 use Rattle.tok_lexical.specs.declared.rule.Rules.{Rules}
 use Rattle.tok_lexical.specs.declared.rule.Rules.TheVariants.{Plain, Marked, Source}
 use Rattle.tok_lexical.specs.declared.start.Start.TheVariants as start
-use Rattle.tok_lexical.proofs.Lexical.Comments.{takes_marked}
-use Rattle.tok_lexical.proofs.Lexical.First.{decides_begun, identifier_head, slash_told}
-use Rattle.tok_lexical.proofs.Lexical.Longest.{takes_line, takes_one}
+use Rattle.tok_lexical.proofs.NestedComments.{takes_marked}
+use Rattle.tok_lexical.proofs.First.{decides_begun, identifier_head, slash_told}
+use Rattle.tok_lexical.proofs.Longest.{takes_line, takes_one}
 
 -- the rules that a slash may begin
 abbrev slash_rules : Rules → List Rule

@@ -10,9 +10,9 @@ use Rattle.std.proofs.lemmas.Bool.{lt-ltb, ltb-true}
 use Rattle.tok_lexical.specs.Pieces.{HasPrefix, ReadsPrefix, Skips, IsOne}
 use Rattle.tok_lexical.specs.Strings.{IsEscape, IsByte, is_byte, is_hex, is_hex_or_underscore}
 use Rattle.tok_lexical.specs.Strings.{hex_value, IsHex, NamesChar, IsCode, IsLineEnd}
-use Rattle.tok_lexical.proofs.Lexical.Longest.{finds_after}
-use Rattle.tok_lexical.proofs.Lexical.Escapes.{heads, tails, not_backslash}
-use Rattle.tok_lexical.proofs.Lexical.Numbers.{not_true, all_stops}
+use Rattle.tok_lexical.proofs.Longest.{finds_after}
+use Rattle.tok_lexical.proofs.EscapedChars.{heads, tails, not_backslash}
+use Rattle.tok_lexical.proofs.Digits.{not_true, all_stops}
 
 -- hexadecimal escapes
 pub hex_found : (top high low : ℕ) (text third rest : List ℕ) → text ≡ high ∷ third →

@@ -15,8 +15,8 @@ use Rattle.tok_lexical.specs.declared.rule.Rules.{Rules}
 use Rattle.tok_lexical.specs.declared.rule.Rules.TheVariants.{Plain, Marked, Source}
 use Rattle.tok_lexical.specs.declared.edition.Edition.{Edition}
 use Rattle.tok_lexical.specs.Starts.{decimal_rules}
-use Rattle.tok_lexical.proofs.Lexical.Floats.{tail_begins, point_begins, tries_point}
-use Rattle.tok_lexical.proofs.Lexical.Numbers.{tries_run, takes_run, digits_start, suffix_stops}
+use Rattle.tok_lexical.proofs.FloatTails.{tail_begins, point_begins, tries_point}
+use Rattle.tok_lexical.proofs.Digits.{tries_run, takes_run, digits_start, suffix_stops}
 
 abbrev source_decimals : List Rule
 source_decimals = Float ∷ PointedDecimal ∷ SourceDecimal ∷ []

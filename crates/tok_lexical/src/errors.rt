@@ -1,0 +1,143 @@
+//! Which pieces are rejected.
+ghost use Rattle.std.specs.Prelude.{◌≡◌, if◌then◌else◌, Some, None, true};
+ghost use Rattle.std.specs.Str.{chars};
+ghost use Rattle.tok_lexical.specs.Contents.{has_return};
+ghost use Rattle.tok_lexical.specs.Errors.{error_kind, is_reserved, is_guard, lifetime_error};
+
+use crate::comments::{breaks_line, is_block_doc, is_line_doc};
+use crate::contents::{has_bare_return, is_unfit, is_wrong};
+use crate::edition::Edition;
+use crate::lex_error_kind::LexErrorKind;
+use crate::numbers::{is_exponent, is_float, is_malformed};
+use crate::rule::Rule;
+use crate::text::{begins_with, past_first};
+use crate::words::{is_missing, is_plain, is_raw_prefix};
+
+fn refused_if(is_refused: bool, kind: LexErrorKind) -> Option<LexErrorKind>
+    ensures { result ≡ (if is_refused then Some kind else None) }
+{
+    if is_refused { Some(kind) } else { None }
+}
+
+/// Returns `true` if what follows an identifier makes it a reserved prefix.
+// Inlined: each identifier of a source asks this, and a call would take more than the answer.
+#[inline(always)]
+fn is_reserved(edition: Edition, name: &str, after: &str) -> bool
+    ensures { result ≡ is_reserved edition (chars name.now) (chars after.now) }
+{
+    if edition.reserves_prefixes() {
+        begins_with(after, '"') || begins_with(after, '\'') || begins_with(after, '#')
+    } else {
+        begins_with(after, '#') && is_raw_prefix(name)
+    }
+}
+
+/// Returns `true` if what follows a punct makes it a reserved guard.
+// Inlined: each punct of a source asks this.
+#[inline(always)]
+fn is_guard(edition: Edition, piece: &str, after: &str) -> bool
+    ensures { result ≡ is_guard edition (chars piece.now) (chars after.now) }
+{
+    edition.reserves_guards()
+        && begins_with(piece, '#')
+        && (begins_with(after, '"') || begins_with(after, '#'))
+}
+
+/// Returns the kind of error if a lifetime of a source is rejected: there is no such name, or a
+/// quote or a number sign follows.
+// Inlined: each lifetime of a source asks this.
+#[inline(always)]
+fn lifetime_error(edition: Edition, name: &str, after: &str) -> Option<LexErrorKind>
+    ensures { result ≡ lifetime_error edition (chars name.now) (chars after.now) }
+{
+    if is_missing(name) {
+        Some(LexErrorKind::MissingRawIdentifier)
+    } else if begins_with(after, '\'') {
+        Some(LexErrorKind::MalformedQuoted)
+    } else if edition.reserves_prefixes() && begins_with(after, '#') && is_plain(name) {
+        Some(LexErrorKind::ReservedPrefix)
+    } else {
+        None
+    }
+}
+
+/// Returns the kind of error if the piece that a rule took at this byte is rejected.
+///
+/// # Requires
+///
+/// If the piece has a U+000D, `returns` must be `true`. If it isn't, none is searched for.
+// Inlined: the loop over pieces exists twice, for trees and for entries, and a call in each would
+// cost every piece.
+#[inline(always)]
+pub fn error_kind(
+    rule: Rule,
+    at: usize,
+    piece: &str,
+    after: &str,
+    returns: bool,
+) -> Option<LexErrorKind>
+    requires { has_return (chars piece.now) ≡ true → returns ≡ true }
+    ensures { result ≡ error_kind rule at (chars piece.now) (chars after.now) }
+{
+    match rule {
+        Rule::ByteOrderMark => refused_if(at != 0, LexErrorKind::UnknownCharacter),
+        Rule::LineComment => refused_if(is_line_doc(piece), LexErrorKind::DocComment),
+        Rule::BlockComment => refused_if(is_block_doc(piece), LexErrorKind::DocComment),
+        Rule::SourceLineComment => {
+            refused_if(
+                is_line_doc(piece) && breaks_line(piece, after),
+                LexErrorKind::BareReturn,
+            )
+        }
+        Rule::SourceBlockComment => {
+            refused_if(
+                is_block_doc(piece) && has_bare_return(piece, returns),
+                LexErrorKind::BareReturn,
+            )
+        }
+        Rule::OpenComment => Some(LexErrorKind::UnclosedComment),
+        Rule::BadString => Some(LexErrorKind::MalformedQuoted),
+        Rule::BadByteChar => Some(LexErrorKind::MalformedQuoted),
+        Rule::BadEscapedChar => Some(LexErrorKind::MalformedQuoted),
+        Rule::StringPrefix => Some(LexErrorKind::PrefixedString),
+        Rule::BadPrefixed(_) => Some(LexErrorKind::MalformedQuoted),
+        Rule::SourceString(contents) => {
+            refused_if(
+                is_wrong(contents, piece, returns),
+                LexErrorKind::MalformedQuoted,
+            )
+        }
+        Rule::RawString(contents) => {
+            refused_if(
+                is_unfit(contents, piece, returns),
+                LexErrorKind::MalformedQuoted,
+            )
+        }
+        Rule::Lifetime => refused_if(
+            is_missing(past_first(piece)),
+            LexErrorKind::MissingRawIdentifier,
+        ),
+        Rule::SourceLifetime(edition) => lifetime_error(edition, past_first(piece), after),
+        Rule::Apostrophe => Some(LexErrorKind::LoneApostrophe),
+        Rule::Based(base) => refused_if(
+            is_malformed(base, piece, after),
+            LexErrorKind::MalformedNumber,
+        ),
+        Rule::BadBased(_) => Some(LexErrorKind::MalformedNumber),
+        Rule::Decimal => refused_if(is_float(piece, after), LexErrorKind::FloatLiteral),
+        Rule::Float => refused_if(is_exponent(after), LexErrorKind::MalformedNumber),
+        Rule::SourceDecimal => refused_if(is_exponent(after), LexErrorKind::MalformedNumber),
+        Rule::RawIdentifier => refused_if(is_missing(piece), LexErrorKind::MissingRawIdentifier),
+        Rule::SourceIdentifier(edition) => {
+            refused_if(
+                is_reserved(edition, piece, after),
+                LexErrorKind::ReservedPrefix,
+            )
+        }
+        Rule::SourcePunct(edition) => {
+            refused_if(is_guard(edition, piece, after), LexErrorKind::ReservedGuard)
+        }
+        Rule::Other => Some(LexErrorKind::UnknownCharacter),
+        _ => None,
+    }
+}
