@@ -43,7 +43,7 @@ long_line_finds text (Some rest) a e = (13 ∷ 10 ∷ [], e, inr refl)
 abbrev pub value_step : ℕ → ℕ → ℕ
 value_step n c = if is_hex c then n * 16 + digit_value c else n
 
-abbrev pub count_step : ℕ → ℕ → ℕ
+abbrev count_step : ℕ → ℕ → ℕ
 count_step n c = n + cond (is_hex c) 1 0
 
 value_grows : (n : ℕ) (text : List ℕ) → n ≤ fold value_step n text

@@ -54,13 +54,13 @@ module _ (radix : ℕ) (all rest after : List ℕ) (value c : ℕ)
       omega (arith, e, g, past)
 
 -- a text is digits exactly where nothing is left of it
-pub all_passed : (p : ℕ → Bool) (text front rest : List ℕ) → Skips p text front rest → rest ≡ []
+all_passed : (p : ℕ → Bool) (text front rest : List ℕ) → Skips p text front rest → rest ≡ []
     → list_all p text ≡ true
 all_passed p text front rest s e =
     ap (list_all p) (s.cut ∙ ap (λ w. front ++ w) e) ∙ list_all-append p front []
     ∙ ap (λ b. b && true) s.pass
 
-pub one_stopped : (p : ℕ → Bool) (text front rest more : List ℕ) (c : ℕ) → Skips p text front rest
+one_stopped : (p : ℕ → Bool) (text front rest more : List ℕ) (c : ℕ) → Skips p text front rest
     → rest ≡ c ∷ more → list_all p text ≡ false
 one_stopped p text front rest more c s e =
     let stop : p c ≡ false = subst (λ w. Stops p w) e s.stops in

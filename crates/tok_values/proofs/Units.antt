@@ -26,7 +26,7 @@ unit_more wide text rest after characters front (more t middle r first cs h m) e
     (more t middle after first (cs ++ front) h (unit_more wide middle r after cs front m e))
 
 -- two readings that both stop are one
-pub reads_once : (wide : Bool) (text a b v w : List ℕ) → Means wide text a v → Means wide text b w
+reads_once : (wide : Bool) (text a b v w : List ℕ) → Means wide text a v → Means wide text b w
     → unit wide a ≡ None → unit wide b ≡ None → (a ≡ b) × (v ≡ w)
 reads_once wide text a b v w (nothing t) (nothing u) p q = (refl, refl)
 reads_once wide text a b v w (nothing t) (more u middle r first cs h m) p q = absurd (cc)
@@ -56,7 +56,7 @@ module _ (wide : Bool) (text inner rest : List ℕ) (c : ℕ) (cut : text ≡ 39
   pub in_apostrophes : rest ≡ 39 ∷ [] → InApostrophes wide text c
   in_apostrophes e = (inner, cut, reads ∙ ap (λ x. Some (c, x)) e)
 
-  pub no_apostrophes : (rest ≡ 39 ∷ [] → ⊥) → (d : ℕ) → InApostrophes wide text d → ⊥
+  no_apostrophes : (rest ≡ 39 ∷ [] → ⊥) → (d : ℕ) → InApostrophes wide text d → ⊥
   no_apostrophes other d (inside, e, m) =
       let same = tails 39 39 inside inner (sym e ∙ cut) in
       let both : Some (d, 39 ∷ []) ≡ Some (c, rest) = sym m ∙ ap (one_char wide) same ∙ reads in

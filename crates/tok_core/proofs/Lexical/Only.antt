@@ -191,7 +191,7 @@ same_place {rules} {number} {at} {b} {c} {end} {n} {m} {rest} {after} {levels} {
     one_error f moved
 
 -- a front of the text is cut, with these groups open, and the rest is refused there
-abbrev pub IsRefusedAs : ℕ → List Rule → ℕ → List ℕ → LexErrorKind → ℕ → Type 0
+abbrev IsRefusedAs : ℕ → List Rule → ℕ → List ℕ → LexErrorKind → ℕ → Type 0
 IsRefusedAs begin rules number text why byte = (all : List Item) × (end : ℕ) × (rest : List ℕ)
     × (levels : List (Delimiter × ℕ))
     × Cut rules number begin text all end rest × Opens number 256 levels all
