@@ -1,4 +1,5 @@
 pub mod Identifiers
+pub mod Numbers
 pub mod Puncts
 pub mod Reserved
 pub mod Seen

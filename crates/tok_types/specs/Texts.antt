@@ -1,8 +1,8 @@
 -- The texts of tokens.
-use Rattle.std.specs.Prelude.{ℕ, Bool, false, ◌||◌, ◌==◌, not, cond, List, [], ◌∷◌}
-use Rattle.std.specs.Prelude.{◌++◌, length, map, get_or, bytes_eq, codes}
+use Rattle.std.specs.Prelude.{ℕ, Bool, false, ◌||◌, ◌&&◌, ◌==◌, nat_le, not, cond, List, [], ◌∷◌}
+use Rattle.std.specs.Prelude.{◌++◌, length, map, take, drop, get_or, bytes_eq, codes, Option}
 use Rattle.std.specs.Borrow.{Bor}
-use Rattle.std.specs.List.{filter}
+use Rattle.std.specs.List.{filter, list_any, position}
 
 -- the keywords of the Rust Reference (Keywords), strict, reserved and weak, and those that only a
 -- parser of tokens names
@@ -85,6 +85,16 @@ begins_with b (c ∷ s) = c == b
 
 abbrev pub beginning : ℕ → List (List ℕ) → List (List ℕ)
 beginning b = filter (begins_with b)
+
+-- each text of a table that begins with this byte has a number from `low` on, below `high`
+abbrev pub begin_within : (b low high : ℕ) → List (List ℕ) → Bool
+begin_within b low high texts =
+    nat_le high (length texts)
+    && not (list_any (begins_with b) (take low texts) || list_any (begins_with b) (drop high texts))
+
+-- the number of a text in a table: that of the first row with it
+abbrev pub number_in : List (List ℕ) → List ℕ → Option ℕ
+number_in texts word = position (λ text. bytes_eq text word) texts
 
 abbrev pub accept_as_ident : List ℕ → Bool
 accept_as_ident s = not (is_among reserved s)

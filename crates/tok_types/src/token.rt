@@ -15,7 +15,10 @@ pub use crate::delimiter::{Group, Visible};
 pub use crate::keyword::Keyword;
 pub use crate::look::Token;
 pub use crate::punctuation::Punctuation;
-pub use crate::texts::{keyword_display, keyword_text, punctuation_display, punctuation_text};
+pub use crate::texts::{
+    keyword_display, keyword_number, keyword_text, punctuation_display, punctuation_number,
+    punctuation_text,
+};
 pub use crate::underscore::Underscore;
 
 /// `abstract`
