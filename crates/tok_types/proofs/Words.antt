@@ -87,7 +87,7 @@ keywords-are-words : list_all is_word keywords ≡ true
 keywords-are-words = refl
 
 -- the text of a keyword of the table
-pub keyword-identifier : (k : ℕ) → k < 54 → IsIdentifier (chars (keyword_text k))
+pub keyword-identifier : (k : ℕ) → k < length keywords → IsIdentifier (chars (keyword_text k))
 keyword-identifier k h = word-chars (keyword_text k) (of_each is_ascii keywords k refl refl)
     (of_each_in is_word keywords k h keywords-are-words)
 
@@ -100,7 +100,7 @@ below_or_not (suc k) (suc i) =
 -- and the text of any number
 pub keyword-suffix : (k : ℕ) → IsSuffix (chars (keyword_text k))
 keyword-suffix k =
-    elim (below_or_not k 54) [
+    elim (below_or_not k (length keywords)) [
       | inl h ↦ inr (keyword-identifier k h)
       | inr h ↦ inl (ap chars (get_or_past keywords k [] h) ∙ chars-nil)
     ]

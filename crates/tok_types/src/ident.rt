@@ -1,8 +1,8 @@
 //! Conversions of tokens to identifiers.
-ghost use Rattle.std.specs.Prelude.{◌≡◌, ◌<◌, codes, IfOk};
+ghost use Rattle.std.specs.Prelude.{◌≡◌, ◌<◌, codes, length, IfOk};
 ghost use Rattle.tok_leaves.specs.Leaves.{ident, ident_of};
 ghost use Rattle.tok_types.specs.Printed.{first_span};
-ghost use Rattle.tok_types.specs.Texts.{keyword_text};
+ghost use Rattle.tok_types.specs.Texts.{keyword_text, keywords};
 
 use crate::keyword::Keyword;
 use crate::texts::keyword_text;
@@ -15,7 +15,7 @@ use tok_core::known::identifier;
 impl<const K: usize> Keyword<K> {
     // Creates the identifier of a keyword in the table.
     fn ident(self, alloc: Global) -> Result<Ident, AllocError>
-        requires { K < 54 }
+        requires { K < length keywords }
         ensures { IfOk result (λ i. ident_of i ≡ ident (keyword_text K) self.entry.span) }
     {
         identifier(alloc, keyword_text(K), self.span)

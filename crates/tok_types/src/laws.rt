@@ -2,7 +2,7 @@
 ghost use Rattle.std.specs.Prelude.{◌≡◌, ◌≤◌, length};
 ghost use Rattle.tok_leaves.specs.Laws.{ClonesKeep};
 ghost use Rattle.tok_types.specs.Laws.{AreEqual, WriteNothing, IsNeverFound};
-ghost use Rattle.tok_types.specs.Texts.{punctuation_text};
+ghost use Rattle.tok_types.specs.Texts.{keywords, punctuation_text};
 ghost use Rattle.tok_types.specs.Views.{IgnoresInvisible};
 
 use crate::delimiter::{Group, Visible};
@@ -17,7 +17,7 @@ use tok_core::{Ident, Literal, Punct};
 
 /// A keyword past the table is never found.
 pub fn keyword_past_the_table<const K: usize>()
-    ensures { 54 ≤ K → IsNeverFound ⟦<Keyword<K> as Token>⟧.peeks }
+    ensures { length keywords ≤ K → IsNeverFound ⟦<Keyword<K> as Token>⟧.peeks }
 {}
 
 /// A punctuation past the table, or whose text is not of as many characters as its type says, is
