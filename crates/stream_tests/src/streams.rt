@@ -53,7 +53,7 @@ impl Sample for Read {
             Read::Underscore => read::<token::Underscore>.parse_str(alloc, text),
             Read::RArrow => read::<token::RArrow>.parse_str(alloc, text),
             Read::Comma => read::<token::Comma>.parse_str(alloc, text),
-            Read::NoKeyword => read::<token::Keyword<54>>.parse_str(alloc, text),
+            Read::NoKeyword => read::<token::Keyword<1000>>.parse_str(alloc, text),
             Read::NoPunctuation => read::<token::Punctuation<7, 2>>.parse_str(alloc, text),
             Read::AnyIdent => any_ident.parse_str(alloc, text),
             Read::TwoSpans => two_spans.parse_str(alloc, text),
@@ -169,7 +169,7 @@ fn tokens_without_a_text(rt: HostRuntime) {
         &Read::NoKeyword,
         &[("", "call unexpected end of input, expected ``")],
     );
-    assert_eq!(rt; token::Keyword::<54>::display(), "``");
+    assert_eq!(rt; token::Keyword::<1000>::display(), "``");
     all_said(&rt, &Read::NoPunctuation, &[("", "call expected ``")]);
     all_said(&rt, &Read::TwoSpans, &[(",", "0..1 expected ``")]);
 }

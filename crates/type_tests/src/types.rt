@@ -73,32 +73,6 @@ fn at(start: usize) -> Span {
     Span::source(0, start, start)
 }
 
-#[test]
-fn texts_past_a_table(rt: HostRuntime) {
-    all_hold(
-        &rt,
-        &[
-            token::keyword_text(54).is_empty(),
-            token::keyword_display(54) == "``",
-            token::punctuation_text(46).is_empty(),
-            token::punctuation_display(46) == "``",
-        ],
-    );
-}
-
-#[test]
-fn tokens_past_a_table(rt: HostRuntime) {
-    let alloc = rt.alloc();
-    all_hold(
-        &rt,
-        &[
-            has_no_text::<token::Keyword<54>>(alloc, "a"),
-            has_no_text::<token::Punctuation<46, 0>>(alloc, "+"),
-            has_no_text::<token::Punctuation<7, 2>>(alloc, ","),
-        ],
-    );
-}
-
 // Returns `true` if a text at so many spans, at most two, is written as this.
 fn is_punct_written(alloc: Global, text: &str, count: usize, wanted: &str) -> Option<bool> {
     let mut tokens = TokenStream::new(alloc);

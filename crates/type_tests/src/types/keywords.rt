@@ -1,11 +1,11 @@
 //! Writes and finds each keyword of the table.
-use super::{all_hold, is_quoted, is_token};
+use super::{all_hold, has_no_text, is_quoted, is_token};
 use std::alloc::{AllocGlobal, Global};
 use std::process::Abort;
 use tok_types::token;
 
 // The table, by number.
-const WORDS: [&str; 54] = [
+const WORDS: &[&str] = &[
     "abstract", "as", "async", "auto", "await", "become", "box", "break", "const", "continue",
     "crate", "default", "do", "dyn", "else", "enum", "extern", "final", "fn", "for", "if", "impl",
     "in", "let", "loop", "macro", "match", "mod", "move", "mut", "override", "priv", "pub", "raw",
@@ -16,6 +16,7 @@ const WORDS: [&str; 54] = [
 fn all_texts(rt: &(impl Abort + AllocGlobal), rows: &[&str]) {
     for (number, text) in rows.iter().enumerate() {
         assert_eq!(rt; token::keyword_text(number), *text);
+        assert_eq!(rt; token::keyword_number(text), Some(number));
         let found = is_quoted(rt.alloc(), text, token::keyword_display(number));
         assert_eq!(rt; found, Some(true), "at {text}");
     }
@@ -23,7 +24,23 @@ fn all_texts(rt: &(impl Abort + AllocGlobal), rows: &[&str]) {
 
 #[test]
 fn texts_and_displays(rt: HostRuntime) {
-    all_texts(&rt, &WORDS);
+    all_texts(&rt, WORDS);
+}
+
+#[test]
+fn past_the_table(rt: HostRuntime) {
+    let alloc = rt.alloc();
+    all_hold(
+        &rt,
+        &[
+            token::keyword_text(WORDS.len()).is_empty(),
+            token::keyword_display(WORDS.len()) == "``",
+            has_no_text::<token::Keyword<1000>>(alloc, "a"),
+            token::keyword_number("").is_none(),
+            token::keyword_number("fnx").is_none(),
+            token::keyword_number("+").is_none(),
+        ],
+    );
 }
 
 #[test]

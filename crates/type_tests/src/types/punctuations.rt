@@ -1,11 +1,11 @@
 //! Writes and finds each punctuation of the table.
-use super::{all_hold, is_quoted, is_token};
+use super::{all_hold, has_no_text, is_quoted, is_token};
 use std::alloc::{AllocGlobal, Global};
 use std::process::Abort;
 use tok_types::token;
 
 // The table, by number.
-const MARKS: [&str; 46] = [
+const MARKS: &[&str] = &[
     "&", "&&", "&=", "@", "^", "^=", ":", ",", "$", ".", "..", "...", "..=", "=", "==", "=>", ">=",
     ">", "<-", "<=", "<", "-", "-=", "!=", "!", "|", "|=", "||", "::", "%", "%=", "+", "+=", "#",
     "?", "->", ";", "<<", "<<=", ">>", ">>=", "/", "/=", "*", "*=", "~",
@@ -14,6 +14,7 @@ const MARKS: [&str; 46] = [
 fn all_texts(rt: &(impl Abort + AllocGlobal), rows: &[&str]) {
     for (number, text) in rows.iter().enumerate() {
         assert_eq!(rt; token::punctuation_text(number), *text);
+        assert_eq!(rt; token::punctuation_number(text), Some(number));
         let found = is_quoted(rt.alloc(), text, token::punctuation_display(number));
         assert_eq!(rt; found, Some(true), "at {text}");
     }
@@ -21,7 +22,24 @@ fn all_texts(rt: &(impl Abort + AllocGlobal), rows: &[&str]) {
 
 #[test]
 fn texts_and_displays(rt: HostRuntime) {
-    all_texts(&rt, &MARKS);
+    all_texts(&rt, MARKS);
+}
+
+#[test]
+fn past_the_table(rt: HostRuntime) {
+    let alloc = rt.alloc();
+    all_hold(
+        &rt,
+        &[
+            token::punctuation_text(MARKS.len()).is_empty(),
+            token::punctuation_display(MARKS.len()) == "``",
+            has_no_text::<token::Punctuation<1000, 0>>(alloc, "+"),
+            has_no_text::<token::Punctuation<7, 2>>(alloc, ","),
+            token::punctuation_number("").is_none(),
+            token::punctuation_number("+-").is_none(),
+            token::punctuation_number("a").is_none(),
+        ],
+    );
 }
 
 #[test]
