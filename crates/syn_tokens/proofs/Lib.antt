@@ -3,6 +3,5 @@ pub mod Failing
 pub mod Fronts
 pub mod Lines
 pub mod Looks
-pub mod Numbers
 pub mod Once
 pub mod WordCuts

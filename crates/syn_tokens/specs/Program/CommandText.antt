@@ -1,6 +1,6 @@
 -- The text of commands, a line each.
 use Rattle.std.specs.Prelude.{ℕ, ◌+◌, ◌==◌, nat_le, ◌&&◌, not, Bool, true, false, cond, bytes_eq}
-use Rattle.std.specs.Prelude.{List, [], ◌∷◌, length, take, drop, Option, Some, None, is_none, codes}
+use Rattle.std.specs.Prelude.{List, [], ◌∷◌, length, Option, Some, None, is_none, codes}
 use Rattle.std.specs.List.{slice_split, filter, filter_map, position}
 use Rattle.std.specs.Option.{option_map, option_and_then}
 use Rattle.std.specs.Str.{all_ascii_digits}
@@ -8,7 +8,7 @@ use Rattle.std.specs.Str.Parse.{digits_value}
 use Rattle.tok_lexical.specs.declared.delimiter.Delimiter.{Delimiter}
 use Rattle.tok_lexical.specs.declared.delimiter.Delimiter.TheVariants as delimiters
 use Rattle.tok_lexical.specs.Delimiters.{opening}
-use Rattle.tok_types.specs.Texts.{beginning, keywords, punctuations}
+use Rattle.tok_types.specs.Texts.{keywords, number_in, punctuations}
 use Rattle.syn_replay.specs.Commands as commands
 use Rattle.syn_replay.specs.Commands.{Command, Read, on, read, peek, peek2, peek3, parse}
 use Rattle.syn_replay.specs.Commands.{optional, empty, enter, lookahead, fork, advance, discard}
@@ -34,16 +34,6 @@ is_number word = not (is_empty word) && (nat_le (length word) 9 && all_ascii_dig
 
 abbrev pub number : List ℕ → Option ℕ
 number word = cond (is_number word) (Some (digits_value 10 word)) None
-
--- each text of a table that begins with this byte has a number from `low` on, below `high`
-abbrev pub begin_within : (b low high : ℕ) → List (List ℕ) → Bool
-begin_within b low high texts =
-    nat_le high (length texts)
-    && (is_empty (beginning b (take low texts)) && is_empty (beginning b (drop high texts)))
-
--- the number of a text in a table
-abbrev pub number_in : List (List ℕ) → List ℕ → Option ℕ
-number_in texts word = position (λ text. bytes_eq text word) texts
 
 -- a keyword or a punctuation, by its text
 abbrev pub token : List ℕ → Option Kind

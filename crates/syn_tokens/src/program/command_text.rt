@@ -2,7 +2,6 @@
 ghost use Rattle.std.specs.Prelude.{◌≡◌, ◌∷◌, [], IfOk, IfSome, MatchOption, MatchResult, ℕ, None, Some, true, false, map};
 ghost use Rattle.std.specs.Option.{ForSome, option_map};
 ghost use Rattle.std.specs.Str.{IsUtf8};
-ghost use Rattle.tok_types.specs.Texts.{begins_with, keywords, punctuations};
 ghost use Rattle.syn_replay.specs.Commands as commands;
 ghost use Rattle.syn_tokens.specs.Program.CommandText as spec;
 ghost use Rattle.syn_tokens.specs.Program.Faults.{IsUnreadableLine, OnUnreadable};
@@ -16,7 +15,7 @@ use crate::program::input::first_line;
 use std::alloc::{AllocError, Global};
 use syn_replay::{Command, Kind, Look, Separator};
 use tok_core::Delimiter;
-use tok_types::token::{keyword_text, punctuation_text};
+use tok_types::token::{keyword_number, punctuation_number};
 
 // Why a line is no command.
 #[derive(Drop)]
@@ -35,11 +34,6 @@ impl From<AllocError> for LineFault {
         LineFault::Memory
     }
 }
-
-// How many keywords and punctuations have a number.
-const KEYWORDS: usize = 54;
-
-const PUNCTUATIONS: usize = 46;
 
 /// Reads the commands of lines. Lines without words are skipped.
 pub fn read_commands(alloc: Global, lines: Option<&str>) -> Result<Vec<Command>, Fault>
@@ -221,111 +215,9 @@ fn separator(word: &str) -> Option<Separator>
 fn token(word: &str) -> Option<Kind>
     ensures { option_map kind_of result ≡ spec.token word.now }
 {
-    match keyword(word) {
+    match keyword_number(word) {
         Some(k) => Some(Kind::Keyword(k)),
-        None => Some(Kind::Punctuation(punctuation(word)?)),
-    }
-}
-
-// Returns the first byte of a word.
-fn first_byte(word: &str) -> Option<u8>
-    ensures { MatchOption result (word.now ≡ [])
-        (λ first. begins_with first word.now ≡ true) }
-{
-    match word.as_bytes().first() {
-        Some(first) => Some(*first),
-        None => None,
-    }
-}
-
-// Returns the number of a keyword.
-fn keyword(word: &str) -> Option<usize>
-    ensures { result ≡ spec.number_in keywords word.now }
-{
-    let first = first_byte(word)?;
-    if !first.is_ascii_alphabetic() {
-        return None;
-    }
-    let (low, high) = keywords_from(first);
-    for k in low..high {
-        if keyword_text(k) == word {
-            return Some(k);
-        }
-    }
-    None
-}
-
-// Returns the numbers between which the keywords with this first byte are: the lowest, and the one
-// after the highest.
-fn keywords_from(first: u8) -> (usize, usize)
-    ensures { spec.begin_within first result.0 result.1 keywords ≡ true }
-{
-    match first {
-        b'S' => (37, 38),
-        b'a' => (0, 5),
-        b'b' => (5, 8),
-        b'c' => (8, 11),
-        b'd' => (11, 14),
-        b'e' => (14, 17),
-        b'f' => (17, 20),
-        b'i' => (20, 23),
-        b'l' => (23, 25),
-        b'm' => (25, 30),
-        b'o' => (30, 31),
-        b'p' => (31, 33),
-        b'r' => (33, 36),
-        b's' => (36, 42),
-        b't' => (42, 46),
-        b'u' => (46, 50),
-        b'v' => (50, 51),
-        b'w' => (51, 53),
-        b'y' => (53, 54),
-        _ => (0, KEYWORDS),
-    }
-}
-
-// Returns the number of a punctuation.
-fn punctuation(word: &str) -> Option<usize>
-    ensures { result ≡ spec.number_in punctuations word.now }
-{
-    let first = first_byte(word)?;
-    let (low, high) = punctuations_from(first);
-    for k in low..high {
-        if punctuation_text(k) == word {
-            return Some(k);
-        }
-    }
-    None
-}
-
-// Returns the numbers between which the punctuations with this first byte are, as `keywords_from`
-// does.
-fn punctuations_from(first: u8) -> (usize, usize)
-    ensures { spec.begin_within first result.0 result.1 punctuations ≡ true }
-{
-    match first {
-        b'!' => (23, 25),
-        b'#' => (33, 34),
-        b'$' => (8, 9),
-        b'%' => (29, 31),
-        b'&' => (0, 3),
-        b'*' => (43, 45),
-        b'+' => (31, 33),
-        b',' => (7, 8),
-        b'-' => (21, 36),
-        b'.' => (9, 13),
-        b'/' => (41, 43),
-        b':' => (6, 29),
-        b';' => (36, 37),
-        b'<' => (18, 39),
-        b'=' => (13, 16),
-        b'>' => (16, 41),
-        b'?' => (34, 35),
-        b'@' => (3, 4),
-        b'^' => (4, 6),
-        b'|' => (25, 28),
-        b'~' => (45, 46),
-        _ => (0, PUNCTUATIONS),
+        None => Some(Kind::Punctuation(punctuation_number(word)?)),
     }
 }
 
