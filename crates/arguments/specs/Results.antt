@@ -11,7 +11,7 @@ use Rattle.arguments.specs.Reading.{IsMissing}
 use Rattle.arguments.specs.Same.{SameArguments}
 use Rattle.arguments.specs.Values.{Arguments}
 
--- the arguments that these trees are, or a refusal where they are none; or an allocation failure
+-- the arguments that these trees are, or an error where they are none; or an allocation failure
 abbrev pub Parses : Forest → Result Arguments Fault → Type 0
 Parses trees (Ok arguments) = AreArguments trees arguments
 Parses trees (Err f) = IsMemory f ⊎ AreNoArguments trees
@@ -20,17 +20,17 @@ Parses trees (Err f) = IsMemory f ⊎ AreNoArguments trees
 abbrev pub IsWhy : Forest → List Message → Type 0
 IsWhy trees error = IsMissing trees (first_text error) × (length error ≡ 1)
 
--- so is a refusal
+-- so is an error
 abbrev pub SaysWhy : Forest → Result Arguments Fault → Type 0
 SaysWhy trees (Err (fault.Refused error)) = IsWhy trees error
 SaysWhy trees result = Unit {0}
 
--- the arguments that these trees are, or a refusal that says why they are none
+-- the arguments that these trees are, or an error that says why they are none
 abbrev pub ParsesTo : Forest → Result Arguments (List Message) → Type 0
 ParsesTo trees (Ok arguments) = AreArguments trees arguments
 ParsesTo trees (Err error) = AreNoArguments trees × IsWhy trees error
 
--- the same arguments, spans included, or refusals with equal words
+-- the same arguments, spans included, or errors with equal words
 abbrev pub Agree : Result Arguments (List Message) → Result Arguments (List Message) → Type 0
 Agree (Ok left) (Ok right) = SameArguments left right
 Agree (Err left) (Err right) = first_text left ≡ first_text right

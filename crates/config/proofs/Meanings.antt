@@ -10,7 +10,7 @@ use Rattle.std.specs.Prelude.{◌==◌, codes, encode_utf8_all, if◌then◌else
 use Rattle.std.specs.Str.{IsUtf8, chars}
 use Rattle.tok_leaves.specs.declared.span.Span.{Span}
 use Rattle.tok_buffer.specs.Messages.{first_text}
-use Rattle.tok_buffer.specs.Refusals.{Refusal}
+use Rattle.tok_buffer.specs.declared.error.Message.{Message}
 use Rattle.syn_parse.specs.Faults.{Refuses}
 use Rattle.tok_values.specs.Values.{HasValue}
 use Rattle.tok_values.specs.declared.integers.IntegerFault.TheVariants.{TooLarge}
@@ -25,7 +25,7 @@ use Rattle.config.specs.Reading.{Means, SaysOnce, in_integer, in_number, rejects
 use Rattle.config.specs.declared.value.Value.{Value}
 
 -- an error of one message with these words says what is missing
-pub says : {A : Type 0} (o : Outcome A) (r : Refusal) (f : Fault) → o ≡ missing r.words
+pub says : {A : Type 0} (o : Outcome A) (r : Message) (f : Fault) → o ≡ missing r.text
     → Refuses r f → SaysOnce o f
 says o r (Refused e) h k = (h ∙ ap missing (sym (ap first_text k)), ap length k)
 says o r (Memory e) h k = tt

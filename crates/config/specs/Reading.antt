@@ -15,7 +15,7 @@ use Rattle.tok_core.specs.declared.lexer.error.LexError.{LexError}
 use Rattle.syn_parse.specs.Faults.{IsRefused}
 use Rattle.syn_parse.specs.Nested.{take_nested}
 use Rattle.syn_parse.specs.Owned.{own_first, take_own}
-use Rattle.syn_parse.specs.Parsers.{OnMemory, lex_refusal}
+use Rattle.syn_parse.specs.Parsers.{OnMemory, lex_message}
 use Rattle.syn_parse.specs.Takes.{MemoryOr, Outcome, Says, Taking, ◌>>=◌, found, gives, missing}
 use Rattle.syn_parse.specs.Takes.{TakesAll, refuses, take_group, where_ahead}
 use Rattle.syn_parse.specs.Takings.{KeepsWhole, Takings, taken_filled}
@@ -31,7 +31,7 @@ use Rattle.config.specs.Grammar.{Parses}
 use Rattle.config.specs.declared.value.Setting.{Setting}
 use Rattle.config.specs.declared.value.Value.{Value}
 
--- a refusal with these words
+-- an error with these words
 abbrev pub rejects : {A : Type 0} → List ℕ → Taking A
 rejects words a = missing words
 
@@ -57,11 +57,11 @@ in_text literal None = in_integer literal.span (integer_value (chars literal.tex
 unfoldable pub meaning : Literal → Taking Form
 meaning literal = in_text literal (string_value (chars literal.text))
 
--- a refusal has one message, which says what is missing
+-- an error has one message, which says what is missing
 abbrev pub SaysOnce : {A : Type 0} → Outcome A → Fault → Type 0
 SaysOnce o f = MemoryOr f (Says o f)
 
--- a value that is meant, or the words of a refusal
+-- a value that is meant, or the words of an error
 abbrev pub Means : Taking Form → Result Value Fault → Type 0
 Means m result =
     (a : Ahead) → MatchResult result (λ v. m a ≡ found (value_form v) a) (λ f. SaysOnce (m a) f)
@@ -156,5 +156,5 @@ abbrev pub ReadsText : (source : ℕ) → List ℕ → Result (Punctuated Settin
 ReadsText source cs r =
     ((f : Forest) × grammar.Reads plain_rules source cs f
     × TakesAll (list_form setting_form (λ p. p)) take_settings f r × Parses f r)
-    ⊎ (((e : LexError) × grammar.IsRefused plain_rules source cs e × IsRefused (lex_refusal e) r)
+    ⊎ (((e : LexError) × grammar.IsRefused plain_rules source cs e × IsRefused (lex_message e) r)
     ⊎ OnMemory r)

@@ -11,7 +11,7 @@ use Rattle.tok_buffer.specs.Order.{same_scope}
 use Rattle.tok_buffer.specs.Place.{Place}
 use Rattle.tok_buffer.specs.Progress.{ReadsKeepScope}
 use Rattle.tok_buffer.specs.Reads.{and_then, is_punct_of}
-use Rattle.tok_buffer.specs.Refusals.{Refusal}
+use Rattle.tok_buffer.specs.declared.error.Message.{Message}
 use Rattle.tok_types.specs.declared.punctuation.Punctuation.{Punctuation}
 use Rattle.tok_types.specs.Texts.{accept_as_ident}
 use Rattle.syn_parse.specs.declared.fault.Fault.{Fault}
@@ -21,11 +21,11 @@ use Rattle.syn_parse.specs.Parses.{AreSpans, IdentParses, IsIdent}
 use Rattle.syn_parse.specs.Progress.{PunctuationTypeParses}
 use Rattle.syn_parse.specs.Reads.{Read}
 use Rattle.syn_parse.specs.State.{State, moved}
-use Rattle.syn_parse.specs.RefusalWords.{punctuation_refusal}
+use Rattle.syn_parse.specs.ErrorWords.{punctuation_message}
 use Rattle.syn_parse.proofs.Reading.{reads-value, reads-refused, reads-memory}
 use Rattle.examples.specs.declared.streams.Field.{Field}
 use Rattle.examples.specs.Fields.{FieldParses, IsField}
-use Rattle.examples.specs.Fields.{field_refusal, name_refusal, read_colon}
+use Rattle.examples.specs.Fields.{field_message, name_message, read_colon}
 use Rattle.examples.specs.Fields.{read_field, read_name}
 use Rattle.examples.proofs.Parts.{HasRead, Leads, not_at_once, one_taken, then_leads, then_none}
 use Rattle.examples.proofs.Parts.{then_read, was_at_once, was_read, was_refused}
@@ -44,7 +44,7 @@ field_leads :
     (s t : State) (x : Field) → FieldParses s (Ok x) t → R s.place t.place
 field_leads R trans names colons s t x h =
     let p = s.place in
-    let w = was_read IsField (field_refusal s) s t (read_field p) x h in
+    let w = was_read IsField (field_message s) s t (read_field p) x h in
     let start = then_leads R trans p (read_name p) read_colon (names p) colons in
     let field = then_leads R trans p (read_start p) read_name start names in
     subst (R p) (ap (λ z. z.place) (sym w.3)) (field w.0.0 w.0.1 w.1)
@@ -57,61 +57,61 @@ field_keeps_scope on =
     (on.punctuations (codes ":"))
 
 module _ (s : State) where
-  -- the refusal of a field, by what is read of its name, and then of its colon
-  abbrev colon_refusal : State → Read → Refusal
-  colon_refusal t x =
+  -- the error of a field, by what is read of its name, and then of its colon
+  abbrev colon_message : State → Read → Message
+  colon_message t x =
       elim x [
-        | None ↦ punctuation_refusal (codes ":") t
-        | Some colon ↦ name_refusal (moved colon.1 s)
+        | None ↦ punctuation_message (codes ":") t
+        | Some colon ↦ name_message (moved colon.1 s)
       ]
 
-  abbrev refusal_by : Read → Refusal
-  refusal_by x =
+  abbrev message_by : Read → Message
+  message_by x =
       elim x [
-        | None ↦ name_refusal s
-        | Some name ↦ colon_refusal (moved name.1 s) (read_colon name.1)
+        | None ↦ name_message s
+        | Some name ↦ colon_message (moved name.1 s) (read_colon name.1)
       ]
 
   is_refused :
-      (words : Refusal) (f : Fault) (t : State) → read_field s.place ≡ None →
-      field_refusal s ≡ words → Refuses words f → FieldParses s (Err f) t
+      (words : Message) (f : Fault) (t : State) → read_field s.place ≡ None →
+      field_message s ≡ words → Refuses words f → FieldParses s (Err f) t
   is_refused words f t missing e r =
-      reads-refused IsField (field_refusal s) s (read_field s.place) f missing
+      reads-refused IsField (field_message s) s (read_field s.place) f missing
       (subst (λ x. Refuses x f) (sym e) r)
 
   is_memory : (f : Fault) (t : State) → IsMemory f → FieldParses s (Err f) t
-  is_memory f t m = reads-memory IsField (field_refusal s) s (read_field s.place) f m
+  is_memory f t m = reads-memory IsField (field_message s) s (read_field s.place) f m
 
   pub without_name :
       (f : Fault) (t : State) → IdentParses s (Err f) t → FieldParses s (Err f) t
   without_name f t h =
-      elim (was_refused IsIdent (name_refusal s) s t (read_name s.place) f h) [
+      elim (was_refused IsIdent (name_message s) s t (read_name s.place) f h) [
         | inl m ↦ is_memory f t m
         | inr r ↦
-            is_refused (name_refusal s) f t
-            (ap (λ x. and_then (and_then x read_colon) read_name) r.0) (ap refusal_by r.0) r.1
+            is_refused (name_message s) f t
+            (ap (λ x. and_then (and_then x read_colon) read_name) r.0) (ap message_by r.0) r.1
       ]
 
   pub without_colon :
       (t u : State) (name : Ident) (f : Fault) → IdentParses s (Ok name) t →
       PunctuationTypeParses 6 1 t (Err f) u → FieldParses s (Err f) u
   without_colon t u name f h k =
-      let first = was_read IsIdent (name_refusal s) s t (read_name s.place) name h in
-      let words = punctuation_refusal (codes ":") t in
+      let first = was_read IsIdent (name_message s) s t (read_name s.place) name h in
+      let words = punctuation_message (codes ":") t in
       let left = not_at_once (AreSpansOf 6) words t u (read_colon t.place) f k in
       let gone : read_colon first.0.1 ≡ None =
       ap (λ z. read_colon z.place) (sym first.3) ∙ left.0 in
       is_refused words f u
       (ap (λ x. and_then x read_name)
       (then_none (read_name s.place) read_colon first.0 first.1 gone))
-      (ap refusal_by first.1 ∙ ap (colon_refusal (moved first.0.1 s)) gone
-      ∙ ap (punctuation_refusal (codes ":")) (sym first.3))
+      (ap message_by first.1 ∙ ap (colon_message (moved first.0.1 s)) gone
+      ∙ ap (punctuation_message (codes ":")) (sym first.3))
       left.1
 
   pub not_next :
       (e : Error) (t : State) → FieldParses s (Err (Refused e)) t → read_field s.place ≡ None
   not_next e t h =
-      elim (was_refused IsField (field_refusal s) s s (read_field s.place) (Refused e) h) [
+      elim (was_refused IsField (field_message s) s s (read_field s.place) (Refused e) h) [
         | inl m ↦ absurd m
         | inr r ↦ r.0
       ]
@@ -120,11 +120,11 @@ module _ (s : State) where
   module _
       (t u : State) (name : Ident) (colon : Punctuation 6 1)
       (h : IdentParses s (Ok name) t) (j : PunctuationTypeParses 6 1 t (Ok colon) u) where
-    first : HasRead IsIdent (name_refusal s) s t (read_name s.place) name
-    first = was_read IsIdent (name_refusal s) s t (read_name s.place) name h
+    first : HasRead IsIdent (name_message s) s t (read_name s.place) name
+    first = was_read IsIdent (name_message s) s t (read_name s.place) name h
 
-    abbrev missing_colon : Refusal
-    missing_colon = punctuation_refusal (codes ":") t
+    abbrev missing_colon : Message
+    missing_colon = punctuation_message (codes ":") t
 
     second : HasRead (AreSpansOf 6) missing_colon t u (read_colon t.place) colon
     second = was_at_once (AreSpansOf 6) missing_colon t u (read_colon t.place) colon j
@@ -147,14 +147,14 @@ module _ (s : State) where
     pub without_kind :
         (f : Fault) (w : State) → IdentParses u (Err f) w → FieldParses s (Err f) w
     without_kind f w k =
-        elim (was_refused IsIdent (name_refusal u) u w (read_name u.place) f k) [
+        elim (was_refused IsIdent (name_message u) u w (read_name u.place) f k) [
           | inl m ↦ is_memory f w m
           | inr r ↦
-              is_refused (name_refusal u) f w
+              is_refused (name_message u) f w
               (then_none (read_start s.place) read_name start start_read (kind_read None r.0))
-              (ap refusal_by first.1
-              ∙ ap (colon_refusal (moved first.0.1 s)) colon_read
-              ∙ ap name_refusal (sym stream))
+              (ap message_by first.1
+              ∙ ap (colon_message (moved first.0.1 s)) colon_read
+              ∙ ap name_message (sym stream))
               r.1
         ]
 
@@ -163,7 +163,7 @@ module _ (s : State) where
         FieldParses s (Ok (record { name = name; kind = kind })) w
     field_read w kind k =
         let n = leaf (ident_of name) in
-        let third = was_read IsIdent (name_refusal u) u w (read_name u.place) kind k in
+        let third = was_read IsIdent (name_message u) u w (read_name u.place) kind k in
         let read =
         then_read (read_start s.place) read_name start start_read third.0
         (kind_read (Some third.0) third.1) in
@@ -174,5 +174,5 @@ module _ (s : State) where
         ∙ ap (λ ts. n ∷ one.0 ∷ ts) third.2 in
         subst (FieldParses s (Ok (record { name = name; kind = kind })))
         (sym (third.3 ∙ ap (moved third.0.1) stream))
-        (reads-value IsField (field_refusal s) s (read_field s.place) _ _ third.0.1 read
+        (reads-value IsField (field_message s) s (read_field s.place) _ _ third.0.1 read
         (one.0, trees))

@@ -15,7 +15,7 @@ use Rattle.syn_parse.specs.declared.fault.Fault.{Fault}
 use Rattle.syn_parse.specs.Groups.{RunsWithin, SpanWith}
 use Rattle.syn_parse.specs.Reads.{Call}
 use Rattle.syn_parse.specs.State.{State, after_group, closed}
-use Rattle.syn_parse.specs.RefusalWords.{delimiter_words, refused_at}
+use Rattle.syn_parse.specs.ErrorWords.{delimiter_words, refused_at}
 use Rattle.examples.specs.declared.lists.Item.TheVariants as item
 use Rattle.examples.specs.declared.lists.Items.{Items}
 use Rattle.examples.specs.Lists.{IsItem, list}

@@ -9,14 +9,14 @@ use Rattle.tok_leaves.specs.declared.ident.Ident.{Ident}
 use Rattle.tok_leaves.specs.declared.span.DelimSpan.{DelimSpan}
 use Rattle.tok_buffer.specs.Entry.{Entered, enter}
 use Rattle.tok_buffer.specs.Place.{is_at_end}
-use Rattle.tok_buffer.specs.Refusals.{Refusal}
+use Rattle.tok_buffer.specs.declared.error.Message.{Message}
 use Rattle.syn_parse.specs.declared.fault.Fault.{Fault}
 use Rattle.syn_parse.specs.Groups.{RunsWithin, SpanWith}
 use Rattle.syn_parse.specs.Parses.{IdentParses, IsIdent}
 use Rattle.syn_parse.specs.Reads.{Call}
 use Rattle.syn_parse.specs.State.{State, after_group, closed, content_of}
-use Rattle.syn_parse.specs.RefusalWords.{delimiter_words, refused_at}
-use Rattle.examples.specs.Fields.{name_refusal, read_name}
+use Rattle.syn_parse.specs.ErrorWords.{delimiter_words, refused_at}
+use Rattle.examples.specs.Fields.{name_message, read_name}
 use Rattle.examples.specs.Nested.{AreEntries, CountsEntries, CountsEntry, EntriesRefused, IsEntry}
 use Rattle.examples.specs.Nested.{capped, here, later, list, name, neither, none, one_more, within}
 use Rattle.examples.proofs.Parts.{was_read}
@@ -24,7 +24,7 @@ use Rattle.examples.proofs.Parts.{was_read}
 -- what is read at `there` goes on from this many names, which were read from `start` to there
 pub record GoesOn (start there : State) (n : ℕ) : Type 0 where
   pub more : (m : ℕ) (end : State) → AreEntries there m end → AreEntries start (n + m) end
-  pub refused : (words : Refusal) → EntriesRefused there words → EntriesRefused start words
+  pub refused : (words : Message) → EntriesRefused there words → EntriesRefused start words
 
 -- the same of a count that a `u64` holds
 abbrev pub CountsOn : (start there : State) → ℕ → Type 0
@@ -62,7 +62,7 @@ module _ (start there : State) (count : ℕ) (g : CountsOn start there count) wh
 pub one_name :
     (s t : State) (i : Ident) → IdentParses s (Ok i) t → CountsEntry s (Ok 1) t
 one_name s t i h =
-    let r = was_read IsIdent (name_refusal s) s t (read_name s.place) i h in
+    let r = was_read IsIdent (name_message s) s t (read_name s.place) i h in
     (1, subst (IsEntry s 1) (sym r.3) (name s r.0.1 r.0.0 r.1), refl)
 
 abbrev Mut : Type 0
@@ -82,11 +82,11 @@ module _
       (subst (CountsEntries c.shown.now r) c.leaves (are c.shown r c.left c.met))
 
   module _ (s t : State) (no_name : read_name s.place ≡ None) where
-    abbrev refusal : Refusal
-    refusal = refused_at s (delimiter_words Parenthesis)
+    abbrev message : Message
+    message = refused_at s (delimiter_words Parenthesis)
 
     abbrev Ran : Option Entered → Result (DelimSpan × ℕ) Fault → Type 0
-    Ran x result = RunsWithin calls x refusal s result t
+    Ran x result = RunsWithin calls x message s result t
 
     pub one_list :
         (span : DelimSpan) (count : ℕ) → Ran (enter Parenthesis s.place) (Ok (span, count)) →
@@ -129,5 +129,5 @@ module _
         by :
             (x : Option Entered) → enter Parenthesis s.place ≡ x → Ran x (Err g) →
             CountsEntry s (Err g) t
-        by None i r = inr (refusal, neither s no_name i, r.0)
+        by None i r = inr (message, neither s no_name i, r.0)
         by (Some e) i r = inside e i r.0 r.1 (called _ _ _ r.2) r.3

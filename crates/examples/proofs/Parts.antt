@@ -7,7 +7,7 @@ use Rattle.std.specs.Result.{IsErrAnd}
 use Rattle.tok_core.specs.Forest.{Tree}
 use Rattle.tok_buffer.specs.Place.{Place, front, pass}
 use Rattle.tok_buffer.specs.Reads.{and_then, read_if}
-use Rattle.tok_buffer.specs.Refusals.{Refusal}
+use Rattle.tok_buffer.specs.declared.error.Message.{Message}
 use Rattle.syn_parse.specs.Faults.{IsMemory, Refuses}
 use Rattle.syn_parse.specs.Reads.{Read, Reads, ReadsAtOnce}
 use Rattle.syn_parse.specs.State.{State, moved}
@@ -19,7 +19,7 @@ pub at_exit :
     IsErrAnd r (λ g. g ≡ f) → P (Err f) → P r
 at_exit P r f e h = let p = err_from_is_err_and r e in subst P (sym (p.1 ∙ ap Err p.2)) h
 
-module _ {T : Type 0} (Means : T → List Tree → Type 0) (words : Refusal) (s t : State) where
+module _ {T : Type 0} (Means : T → List Tree → Type 0) (words : Message) (s t : State) where
   -- what a call has read that returned this value
   abbrev pub HasRead : Read → T → Type 0
   HasRead x v = (r : List Tree × Place) × (x ≡ Some r) × Means v r.0 × (t ≡ moved r.1 s)

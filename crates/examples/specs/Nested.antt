@@ -5,11 +5,11 @@ use Rattle.tok_lexical.specs.declared.delimiter.Delimiter.TheVariants.{Parenthes
 use Rattle.tok_core.specs.Forest.{Tree}
 use Rattle.tok_buffer.specs.Entry.{Entered, enter}
 use Rattle.tok_buffer.specs.Place.{Place, is_at_end}
-use Rattle.tok_buffer.specs.Refusals.{Refusal}
+use Rattle.tok_buffer.specs.declared.error.Message.{Message}
 use Rattle.syn_parse.specs.Faults.{IsMemory, Refuses}
 use Rattle.syn_parse.specs.Reads.{Call}
 use Rattle.syn_parse.specs.State.{State, after_group, closed, content_of, moved}
-use Rattle.syn_parse.specs.RefusalWords.{delimiter_words, refused_at}
+use Rattle.syn_parse.specs.ErrorWords.{delimiter_words, refused_at}
 use Rattle.syn_parse.specs.declared.fault.Fault.{Fault}
 use Rattle.examples.specs.Fields.{read_name}
 
@@ -33,28 +33,28 @@ mutual
         AreEntries t m end → AreEntries s (n + m) end
 
 mutual
-  -- the refusal where neither a name nor a list is next, or that of the entries of a list
-  pub data EntryRefused : State → Refusal → Type 0 where
+  -- the error where neither a name nor a list is next, or that of the entries of a list
+  pub data EntryRefused : State → Message → Type 0 where
     neither :
         (s : State) → read_name s.place ≡ None → enter Parenthesis s.place ≡ None →
         EntryRefused s (refused_at s (delimiter_words Parenthesis))
     within :
-        (s : State) (e : Entered) (words : Refusal) → read_name s.place ≡ None →
+        (s : State) (e : Entered) (words : Message) → read_name s.place ≡ None →
         enter Parenthesis s.place ≡ Some e → EntriesRefused (content_of e) words →
         EntryRefused s words
 
-  -- the refusal of the first entry that is refused
-  pub data EntriesRefused : State → Refusal → Type 0 where
+  -- the error of the first entry that is refused
+  pub data EntriesRefused : State → Message → Type 0 where
     here :
-        (s : State) (words : Refusal) → is_at_end s.place ≡ false → EntryRefused s words →
+        (s : State) (words : Message) → is_at_end s.place ≡ false → EntryRefused s words →
         EntriesRefused s words
     later :
-        (s t : State) (n : ℕ) (words : Refusal) → is_at_end s.place ≡ false → IsEntry s n t →
+        (s t : State) (n : ℕ) (words : Message) → is_at_end s.place ≡ false → IsEntry s n t →
         EntriesRefused t words → EntriesRefused s words
 
--- a refusal of which this holds, or an allocation failure
-abbrev pub IsFault : (Refusal → Type 0) → Fault → Type 0
-IsFault Refused f = IsMemory f ⊎ ((words : Refusal) × Refused words × Refuses words f)
+-- an error of which this holds, or an allocation failure
+abbrev pub IsFault : (Message → Type 0) → Fault → Type 0
+IsFault Refused f = IsMemory f ⊎ ((words : Message) × Refused words × Refuses words f)
 
 -- what a `u64` holds of a count
 abbrev pub capped : ℕ → ℕ

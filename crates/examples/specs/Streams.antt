@@ -6,12 +6,12 @@ use Rattle.syn_parse.specs.Reads.{Call}
 use Rattle.syn_parse.specs.State.{State}
 use Rattle.syn_parse.specs.Takes.{Taking, gives, refuses, where_ahead}
 use Rattle.syn_parse.specs.TokenNames.{sees_fn, sees_struct}
-use Rattle.syn_parse.specs.RefusalWords.{refused_at}
+use Rattle.syn_parse.specs.ErrorWords.{refused_at}
 use Rattle.syn_parse.specs.declared.fault.Fault.{Fault}
 use Rattle.examples.specs.declared.streams.Kind.{Kind}
 use Rattle.examples.specs.declared.streams.Kind.TheVariants.{Function, Structure}
 
--- the kind by whether `fn` is next and whether `struct` is; a refusal that names both, or an
+-- the kind by whether `fn` is next and whether `struct` is; an error that names both, or an
 -- allocation failure
 abbrev pub IsChosen : (is_fn is_struct : Bool) → State → Result Kind Fault → Type 0
 IsChosen true is_struct s (Ok kind) = kind ≡ Function

@@ -6,7 +6,7 @@ ghost use Rattle.tok_buffer.specs.Progress.{remaining};
 ghost use Rattle.tok_buffer.specs.Reads.{read_tree};
 ghost use Rattle.syn_parse.specs.Parses.{IsTree, TreeParses};
 ghost use Rattle.syn_parse.specs.Steps.{StepReads, step_state};
-ghost use Rattle.syn_parse.specs.RefusalWords.{refused_at};
+ghost use Rattle.syn_parse.specs.ErrorWords.{refused_at};
 ghost use Rattle.syn_parse.specs.Takes.{Takes};
 ghost use Rattle.examples.specs.Fields.{FieldParses, OptionalFieldParses};
 ghost use Rattle.examples.specs.Nested.{CountsEntries, CountsEntry};

@@ -285,7 +285,7 @@ fn tokens_up_to_marks(rt: HostRuntime) {
 }
 
 #[test]
-fn words_of_refusals(rt: HostRuntime) {
+fn words_of_errors(rt: HostRuntime) {
     all_say(
         &rt,
         &Rules::Plain,

@@ -9,7 +9,7 @@ const LIST: &str = "a, b = 1, c(d, e = \"x\"),";
 
 /// Makes each call.
 pub fn calls(alloc: Global) -> Outcome {
-    worst(&[list(alloc), refusal(alloc), both(alloc)])
+    worst(&[list(alloc), error(alloc), both(alloc)])
 }
 
 fn list(alloc: Global) -> Outcome {
@@ -20,7 +20,7 @@ fn list(alloc: Global) -> Outcome {
     }
 }
 
-fn refusal(alloc: Global) -> Outcome {
+fn error(alloc: Global) -> Outcome {
     match parse_arguments(alloc, lex(alloc, 0, "c(d =)")?) {
         Ok(_) => Err(Stop::Wrong("parse_arguments")),
         Err(Fault::Memory(_)) => Err(Stop::Refused),

@@ -22,8 +22,8 @@ pub fn calls(alloc: Global) -> Outcome {
         boxed(alloc),
         unraw(alloc),
         own_word(alloc),
-        refusals_of_trees(alloc),
-        refusals_of_tokens(alloc),
+        errors_of_trees(alloc),
+        errors_of_tokens(alloc),
         groups::calls(alloc),
         lists::calls(alloc),
         looks::calls(alloc),
@@ -107,7 +107,7 @@ fn unraw(alloc: Global) -> Outcome {
     expect(plain?.as_str() == "fn", "IdentExt::unraw")
 }
 
-fn refusals_of_trees(alloc: Global) -> Outcome {
+fn errors_of_trees(alloc: Global) -> Outcome {
     let end = "unexpected end of input, expected token tree";
     let keyword = "expected identifier, found keyword `fn`";
     let lifetime = "unexpected keyword lifetime \"'fn\"";
@@ -123,7 +123,7 @@ fn refusals_of_trees(alloc: Global) -> Outcome {
     ])
 }
 
-fn refusals_of_tokens(alloc: Global) -> Outcome {
+fn errors_of_tokens(alloc: Global) -> Outcome {
     worst(&[
         refuses::<AnyIdent>(alloc, "1", "expected ident", "Ident::parse_any"),
         refuses::<AnyLifetime>(alloc, "1", "expected lifetime", "Lifetime::parse_any"),

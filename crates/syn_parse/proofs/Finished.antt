@@ -10,12 +10,12 @@ use Rattle.tok_buffer.specs.Reached.{begin}
 use Rattle.tok_core.specs.Forest.{Forest, no_trees, tree}
 use Rattle.tok_leaves.specs.Spans.{call_site}
 use Rattle.tok_buffer.specs.Ahead.{Leftover, leftover}
-use Rattle.tok_buffer.specs.Refusals.{Refusal}
+use Rattle.tok_buffer.specs.declared.error.Message.{Message}
 use Rattle.tok_buffer.specs.View.{erased_ahead}
 use Rattle.tok_buffer.proofs.View.InFront.{all_ahead_at_start}
 use Rattle.syn_parse.specs.Faults.{IsMemory, IsRefused, Refuses}
 use Rattle.syn_parse.specs.Parsers.{Finishes, OnMemory, whole_stream}
-use Rattle.syn_parse.specs.RefusalWords.{leftover_refusal}
+use Rattle.syn_parse.specs.ErrorWords.{leftover_message}
 use Rattle.syn_parse.specs.State.{State, handed}
 use Rattle.syn_parse.specs.declared.fault.Fault.{Fault}
 use Rattle.syn_parse.specs.declared.fault.Fault.TheVariants.{Refused, Memory}
@@ -81,7 +81,7 @@ module _ {T A : Type 0} (form : T → A) (take : Taking A) (f : Forest) where
   left-says (found v a) x y e h = tt
   left-says (missing words) x y e h = absurd (cc)
 
-  left-refuses : (e : Fault) (x : A) (y : Ahead) (l : Refusal) → Refuses l e
+  left-refuses : (e : Fault) (x : A) (y : Ahead) (l : Message) → Refuses l e
       → take (whole f) ≡ found x y → (y ≡ all_taken → ⊥) → TakesAll form take f (Err e)
   left-refuses (Refused d) x y l r h other = (
     (λ z k. other (found-second (sym h ∙ k)), ap length r),
@@ -91,7 +91,7 @@ module _ {T A : Type 0} (form : T → A) (take : Taking A) (f : Forest) where
 
   finished : (v : T) (left : State) (result : Result T Fault) (o : Option Leftover)
       → handed left ≡ o → take (whole f) ≡ found (form v) (ahead left)
-      → MatchOption o (result ≡ Ok v) (λ l. IsRefused (leftover_refusal l) result)
+      → MatchOption o (result ≡ Ok v) (λ l. IsRefused (leftover_message l) result)
       → TakesAll form take f result
   finished v left result None h k m =
       subst (TakesAll form take f) (sym m)
@@ -100,7 +100,7 @@ module _ {T A : Type 0} (form : T → A) (take : Taking A) (f : Forest) where
       (leftover-trees left.place) h))
   finished v left (Ok w) (Some l) h k m = absurd m
   finished v left (Err e) (Some l) h k m =
-      left-refuses e (form v) (ahead left) (leftover_refusal l) m k (λ a.
+      left-refuses e (form v) (ahead left) (leftover_message l) m k (λ a.
       let other : Some l ≡ None = sym h ∙ handed-in left.noted (leftover left.place)
       (erased_ahead left.place) (leftover-trees left.place) a in
       absurd (cc))

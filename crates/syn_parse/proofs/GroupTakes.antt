@@ -25,7 +25,7 @@ use Rattle.tok_buffer.proofs.Onwards.{entries_go_on, reads_keep_scope}
 use Rattle.tok_buffer.proofs.View.InFront.{ahead_tells}
 use Rattle.tok_buffer.proofs.View.Laws.{calls_lead_on}
 use Rattle.syn_parse.specs.Faults.{Refuses}
-use Rattle.syn_parse.specs.RefusalWords.{delimiter_words, refused_at}
+use Rattle.syn_parse.specs.ErrorWords.{delimiter_words, refused_at}
 use Rattle.syn_parse.specs.Groups.{AreParts, Enters, RunsWithin, SpanWith}
 use Rattle.syn_parse.specs.Reads.{Call}
 use Rattle.syn_parse.specs.State.{State, after_group, closed, content_of}

@@ -1,7 +1,7 @@
 -- A peek of what is read tells what the read does.
 use Rattle.std.proofs.Common.{◌≡◌, Bool, List, Some, None, Result, Ok, Err, is_some}
 use Rattle.tok_core.specs.Forest.{Tree}
-use Rattle.tok_buffer.specs.Refusals.{Refusal}
+use Rattle.tok_buffer.specs.declared.error.Message.{Message}
 use Rattle.syn_parse.specs.Laws.{Tells}
 use Rattle.syn_parse.specs.Reads.{Read, ReadsAtOnce}
 use Rattle.syn_parse.specs.State.{State}
@@ -9,7 +9,7 @@ use Rattle.syn_parse.specs.declared.fault.Fault.{Fault}
 use Rattle.syn_parse.specs.declared.fault.Fault.TheVariants.{Refused, Memory}
 
 module _ {T : Type 0} (Means : T → List Tree
-    → Type 0) (words : Refusal) (s t : State) (found : Bool) where
+    → Type 0) (words : Message) (s t : State) (found : Bool) where
   pub reads_at_once_tell : (x : Read) (r : Result T Fault) → found ≡ is_some x
       → ReadsAtOnce Means x words s r t → Tells found r
   reads_at_once_tell (Some x) (Ok v) e h = e

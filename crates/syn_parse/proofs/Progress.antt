@@ -5,11 +5,11 @@ use Rattle.tok_core.specs.Forest.{Tree}
 use Rattle.tok_buffer.specs.Place.{Place}
 use Rattle.tok_buffer.specs.Progress.{ReadsOn}
 use Rattle.tok_buffer.specs.Reads.{read_keyword}
-use Rattle.tok_buffer.specs.Refusals.{Refusal}
+use Rattle.tok_buffer.specs.declared.error.Message.{Message}
 use Rattle.tok_leaves.specs.declared.span.Span.{Span}
 use Rattle.tok_types.specs.Texts.{in_backquotes}
 use Rattle.syn_parse.specs.Parses.{IsSpanOf, WordParses}
-use Rattle.syn_parse.specs.RefusalWords.{expected, refused_at}
+use Rattle.syn_parse.specs.ErrorWords.{expected, refused_at}
 use Rattle.syn_parse.specs.Progress.{ParsesOn}
 use Rattle.syn_parse.specs.Reads.{Read, Reads, ReadsAtOnce}
 use Rattle.syn_parse.specs.State.{State}
@@ -23,14 +23,14 @@ pub record CameOf (x : Read) (t : State) : Type 0 where
   pub is_at : t.place ≡ after
 
 module _ {T : Type 0} (Means : T → List Tree → Type 0) (s : State) where
-  came_of : (x : Read) (words : Refusal) (v : T) (t : State) → Reads Means x words s (Ok v) t
+  came_of : (x : Read) (words : Message) (v : T) (t : State) → Reads Means x words s (Ok v) t
       → CameOf x t
   came_of None words v t h = absurd h
   came_of (Some r) words v t h =
       record { trees = r.0; after = r.1; read = refl; is_at = ap (λ u. u.place) h.1 }
 
   -- a read that takes no memory is a read
-  pub at_once : (x : Read) (words : Refusal) (r : Result T Fault) (t : State)
+  pub at_once : (x : Read) (words : Message) (r : Result T Fault) (t : State)
       → ReadsAtOnce Means x words s r t → Reads Means x words s r t
   at_once None words (Ok v) t h = absurd h
   at_once (Some q) words (Ok v) t h = h
@@ -38,7 +38,7 @@ module _ {T : Type 0} (Means : T → List Tree → Type 0) (s : State) where
   at_once (Some q) words (Err f) t h = absurd h
 
 module _ {T : Type 0} (Means : T → List Tree → Type 0) (read : Place → Read) (words : State
-    → Refusal) (on : ReadsOn read) where
+    → Message) (on : ReadsOn read) where
   pub parses_on : ParsesOn {T = T} (λ s. Reads Means (read s.place) (words s) s)
   parses_on =
       record {

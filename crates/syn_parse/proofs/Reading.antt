@@ -1,4 +1,4 @@
--- How a read, a refusal and an allocation failure meet the definitions of one-step parsers.
+-- How a read, an error and an allocation failure meet the definitions of one-step parsers.
 use Rattle.std.proofs.Common.{◌≡◌, refl, List, Option, Some, None, Ok, Err}
 use Rattle.std.proofs.lemmas.Result.{err_from_is_err_and}
 use Rattle.std.specs.Prelude.{Result}
@@ -6,14 +6,14 @@ use Rattle.std.specs.Result.{IsErrAnd}
 use Rattle.std.specs.declared.alloc.AllocError.{AllocError}
 use Rattle.tok_core.specs.Forest.{Tree}
 use Rattle.tok_buffer.specs.Place.{Place}
-use Rattle.tok_buffer.specs.Refusals.{Refusal}
+use Rattle.tok_buffer.specs.declared.error.Message.{Message}
 use Rattle.syn_parse.specs.Faults.{IsMemory, Refuses}
 use Rattle.syn_parse.specs.Reads.{Reads, ReadsAtOnce}
 use Rattle.syn_parse.specs.State.{State, moved}
 use Rattle.syn_parse.specs.declared.fault.Fault.{Fault}
 use Rattle.syn_parse.specs.declared.fault.Fault.TheVariants.{Refused, Memory}
 
-module _ {T : Type 0} (Means : T → List Tree → Type 0) (words : Refusal) (s : State) where
+module _ {T : Type 0} (Means : T → List Tree → Type 0) (words : Message) (s : State) where
   pub reads-value : (x : Option (List Tree × Place)) (v : T) (ts : List Tree) (q : Place)
       → x ≡ Some (ts, q) → Means v ts → Reads Means x words s (Ok v) (moved q s)
   reads-value x v ts q e m = rw e (m, refl)
@@ -35,7 +35,7 @@ module _ {T : Type 0} (Means : T → List Tree → Type 0) (words : Refusal) (s 
       rw (p.1, p.2) (reads-memory x (Memory e) tt)
 
 module _ {T U : Type 0} (Means : T → List Tree → Type 0) (Tells : U → List Tree
-    → Type 0) (words : Refusal) (s : State) where
+    → Type 0) (words : Message) (s : State) where
   -- the same read, by a value that is made of the first
   pub at-once-made : (x : Option (List Tree × Place)) (v : T) (u : U) (t : State)
       → ((ts : List Tree) → Means v ts → Tells u ts) → ReadsAtOnce Means x words s (Ok v) t

@@ -1,4 +1,4 @@
--- Refusals at places with equal views have equal words.
+-- Errors at places with equal views have equal words.
 use Rattle.std.proofs.Common.{◌≡◌, ◌∙◌, sym, ap, refl, ℕ, Bool, true, false, cond, List, [], ◌∷◌}
 use Rattle.std.proofs.Common.{◌++◌, Option, Some, None}
 use Rattle.std.specs.Prelude.{codes}
@@ -9,14 +9,15 @@ use Rattle.tok_buffer.specs.Buffer.{Laid}
 use Rattle.tok_buffer.specs.Place.{Place, is_at_end}
 use Rattle.tok_buffer.specs.Rest.{scope_delimiter}
 use Rattle.tok_buffer.specs.Spans.{current_span}
-use Rattle.tok_buffer.specs.Refusals.{Refusal, at_stream}
+use Rattle.tok_buffer.specs.Messages.{at_stream, message_at}
+use Rattle.tok_buffer.specs.declared.error.Message.{Message}
 use Rattle.tok_buffer.proofs.View.Alike.{Alike, ReadsAlike, alike-end, alike-delimiter}
-use Rattle.syn_parse.specs.Lookahead.{closing_word, list_words, look_refusal, named_ends}
-use Rattle.syn_parse.specs.Lookahead.{refusal_of, unexpected}
+use Rattle.syn_parse.specs.Lookahead.{closing_word, list_words, look_message, named_ends}
+use Rattle.syn_parse.specs.Lookahead.{names_message, unexpected}
 
-either-words : (b : Bool) (x y : Refusal) → (cond b x y).words ≡ cond b x.words y.words
-either-words true x y = refl
-either-words false x y = refl
+either-text : (b : Bool) (x y : Message) → (cond b x y).text ≡ cond b x.text y.text
+either-text true x y = refl
+either-text false x y = refl
 
 module _ (f g : Laid) where
   -- words that depend on the trees read alone
@@ -30,35 +31,35 @@ module _ (f g : Laid) where
   alike-words words some e (Some r) (Some q) h = e r ∙ ap some h.0 ∙ sym (e q)
 
   pub alike-at_stream : (p q : Place) (s t : Span) (w : List ℕ) → Alike f g p q
-      → (at_stream p s w).words ≡ (at_stream q t w).words
+      → (at_stream p s w).text ≡ (at_stream q t w).text
   alike-at_stream p q s t w h =
       ap (λ b. cond b (codes "unexpected end of input, " ++ w) w) (alike-end f g p q h)
 
   alike-unexpected : (p q : Place) (s t : Span) → Alike f g p q
-      → (unexpected p s).words ≡ (unexpected q t).words
+      → (unexpected p s).text ≡ (unexpected q t).text
   alike-unexpected p q s t h =
-      either-words (is_at_end p) (at_end s) (a_token p)
+      either-text (is_at_end p) (at_end s) (a_token p)
       ∙ ap (λ b. cond b (codes "unexpected end of input") (codes "unexpected token"))
       (alike-end f g p q h)
-      ∙ sym (either-words (is_at_end q) (at_end t) (a_token q))
+      ∙ sym (either-text (is_at_end q) (at_end t) (a_token q))
     where
-      at_end : Span → Refusal
-      at_end x = record { span = x; words = codes "unexpected end of input" }
+      at_end : Span → Message
+      at_end x = message_at x (codes "unexpected end of input")
 
-      a_token : Place → Refusal
-      a_token x = record { span = current_span x; words = codes "unexpected token" }
+      a_token : Place → Message
+      a_token x = message_at (current_span x) (codes "unexpected token")
 
-  alike-refusal_of : (ds : List (List ℕ)) (p q : Place) (s t : Span) → Alike f g p q
-      → (refusal_of ds p s).words ≡ (refusal_of ds q t).words
-  alike-refusal_of [] p q s t h = alike-unexpected p q s t h
-  alike-refusal_of (d ∷ ds) p q s t h = alike-at_stream p q s t (list_words (d ∷ ds)) h
+  alike-names_message : (ds : List (List ℕ)) (p q : Place) (s t : Span) → Alike f g p q
+      → (names_message ds p s).text ≡ (names_message ds q t).text
+  alike-names_message [] p q s t h = alike-unexpected p q s t h
+  alike-names_message (d ∷ ds) p q s t h = alike-at_stream p q s t (list_words (d ∷ ds)) h
 
   -- of a lookahead, by what it has noted
   pub alike-look : erase f.forest ≡ erase g.forest
       → (missed : List (List ℕ)) (p q : Place) (s t : Span) → Alike f g p q
-      → (look_refusal (record { place = p; scope_span = s; missed = missed })).words
-      ≡ (look_refusal (record { place = q; scope_span = t; missed = missed })).words
+      → (look_message (record { place = p; scope_span = s; missed = missed })).text
+      ≡ (look_message (record { place = q; scope_span = t; missed = missed })).text
   alike-look e missed p q s t h =
-      ap (λ d. (refusal_of (named_ends (closing_word d) missed) p s).words)
+      ap (λ d. (names_message (named_ends (closing_word d) missed) p s).text)
       (alike-delimiter f g e p q h)
-      ∙ alike-refusal_of (named_ends (closing_word (scope_delimiter q)) missed) p q s t h
+      ∙ alike-names_message (named_ends (closing_word (scope_delimiter q)) missed) p q s t h

@@ -17,7 +17,7 @@ use Rattle.tok_buffer.specs.Place.{Place, is_at_end}
 use Rattle.tok_buffer.specs.Reached.{Reached}
 use Rattle.tok_buffer.specs.Reads.{any_text, is_ident, is_ident_of, is_literal, is_punct}
 use Rattle.tok_buffer.specs.Reads.{read_ident, read_lifetime}
-use Rattle.tok_buffer.specs.Refusals.{Refusal}
+use Rattle.tok_buffer.specs.declared.error.Message.{Message}
 use Rattle.tok_buffer.specs.Rest.{scope_delimiter}
 use Rattle.tok_buffer.specs.View.{erased_ahead}
 use Rattle.tok_buffer.specs.Progress.{remaining}
@@ -42,15 +42,15 @@ use Rattle.syn_parse.specs.Parses.{LiteralParses, PunctParses, WordParses, accep
 use Rattle.syn_parse.specs.Progress.{KeywordParses, PunctuationTypeParses, UnderscoreParses}
 use Rattle.syn_parse.specs.Faults.{IsMemory, Refuses}
 use Rattle.syn_parse.specs.Reads.{Read, Reads, ReadsAtOnce}
-use Rattle.syn_parse.specs.RefusalWords.{ident_words, expected, lifetime_words, punctuation_refusal}
-use Rattle.syn_parse.specs.RefusalWords.{refused_at}
+use Rattle.syn_parse.specs.ErrorWords.{ident_words, expected, lifetime_words, punctuation_message}
+use Rattle.syn_parse.specs.ErrorWords.{refused_at}
 use Rattle.syn_parse.specs.State.{State, moved}
 use Rattle.syn_parse.specs.declared.fault.Fault.{Fault}
 use Rattle.syn_parse.specs.declared.fault.Fault.TheVariants.{Refused, Memory}
 use Rattle.syn_parse.specs.TreesAhead.{Ahead, IsFilled, ahead, scope_of}
-use Rattle.syn_parse.specs.Lookahead.{Look, closing_word, list_words, look_refusal, look_words}
+use Rattle.syn_parse.specs.Lookahead.{Look, closing_word, list_words, look_message, look_words}
 use Rattle.syn_parse.specs.Lookahead.{named_ends}
-use Rattle.syn_parse.specs.Lookahead.{refusal_of, words_of_names}
+use Rattle.syn_parse.specs.Lookahead.{names_message, words_of_names}
 use Rattle.syn_parse.specs.Takes.{HasWords, IsMissing, Outcome, found, missing, Takes, TakesAs}
 use Rattle.syn_parse.specs.Takes.{or_end, read_as, take_by}
 use Rattle.syn_parse.specs.Tokens.{ident_in, ident_missing, lifetime_in, lifetime_missing}
@@ -67,11 +67,11 @@ end_told p i = ahead_tells_ends i.buffer i.filled_buffer p i.reached
 
 -- words at a stream, by what is ahead
 pub words_told : (words : List ℕ) (s : State) → IsFilled s.place
-    → (refused_at s words).words ≡ or_end words (erased_ahead s.place)
+    → (refused_at s words).text ≡ or_end words (erased_ahead s.place)
 words_told words s i =
     ap (λ b. cond b (codes "unexpected end of input, " ++ words) words) (end_told s.place i)
 
--- a refusal with a message
+-- an error with a message
 pub message_told : (message : Option (List ℕ)) (s : State) (f : Fault)
     → IfSome message (λ words. Refuses (refused_at s words) f)
     → IfSome message (λ words. IsFilled s.place → HasWords (or_end words (ahead s).trees) f)
@@ -79,22 +79,22 @@ message_told None s f h = tt
 message_told (Some words) s (Refused e) h = λ i. ap first_text h ∙ words_told words s i
 message_told (Some words) s (Memory e) h = λ i. tt
 
-either-words : (b : Bool) (r q : Refusal) → (cond b r q).words ≡ cond b r.words q.words
-either-words true r q = refl
-either-words false r q = refl
+either-text : (b : Bool) (r q : Message) → (cond b r q).text ≡ cond b r.text q.text
+either-text true r q = refl
+either-text false r q = refl
 
 names-told : (names : List (List ℕ)) (p : Place) (scope : Span) → IsFilled p
-    → (refusal_of names p scope).words ≡ words_of_names names (erased_ahead p)
+    → (names_message names p scope).text ≡ words_of_names names (erased_ahead p)
 names-told [] p scope i =
-    either-words (is_at_end p) _ _
+    either-text (is_at_end p) _ _
     ∙ ap (λ b. cond b (codes "unexpected end of input") (codes "unexpected token")) (end_told p i)
 names-told (d ∷ ds) p scope i =
     ap (λ b. cond b (codes "unexpected end of input, " ++ list_words (d ∷ ds))
     (list_words (d ∷ ds)))
     (end_told p i)
 
--- a lookahead's refusal
-pub look_told : (l : Look) (f : Fault) → Refuses (look_refusal l) f → IsFilled l.place
+-- a lookahead's error
+pub look_told : (l : Look) (f : Fault) → Refuses (look_message l) f → IsFilled l.place
     → HasWords (look_words l) f
 look_told l (Refused e) h i =
     ap first_text h
@@ -104,9 +104,9 @@ look_told l (Memory e) h i = tt
 
 module _ {T A : Type 0} (form : T → A) (Means : T → List Tree → Type 0) (means : List Tree → A)
     (fits : (v : T) (ts : List Tree) → Means v ts → form v ≡ means ts)
-    (first : Forest → Option (List Tree × Forest)) (words : Forest → List ℕ) (refusal : Refusal)
+    (first : Forest → Option (List Tree × Forest)) (words : Forest → List ℕ) (message : Message)
     (s t : State)
-    (worded : IsFilled s.place → refusal.words ≡ words (erased_ahead s.place)) where
+    (worded : IsFilled s.place → message.text ≡ words (erased_ahead s.place)) where
   abbrev take : Ahead → Outcome A
   take = take_by first means words
 
@@ -133,7 +133,7 @@ module _ {T A : Type 0} (form : T → A) (Means : T → List Tree → Type 0) (m
     ),
   )
 
-  none : (f : Fault) → None ≡ first (erased_ahead s.place) → Refuses refusal f
+  none : (f : Fault) → None ≡ first (erased_ahead s.place) → Refuses message f
       → TakesAs form take s (Err f) t
   none (Refused e) h r = (
     (subst (λ o. IsMissing o) (ap seen h) tt, ap length r),
@@ -147,23 +147,23 @@ module _ {T A : Type 0} (form : T → A) (Means : T → List Tree → Type 0) (m
 
   told-by : (x : Read) (r : Result T Fault) → with_ahead x ≡ first (erased_ahead s.place)
       → ((b : Laid) → Reached b s.place → LeadsTo (Reached b) x)
-      → LeadsTo (GoesOn s.place) x → Reads Means x refusal s r t → TakesAs form take s r t
+      → LeadsTo (GoesOn s.place) x → Reads Means x message s r t → TakesAs form take s r t
   told-by None (Ok v) e leads goes h = absurd h
   told-by (Some q) (Ok v) e leads goes h = taken q v e leads goes h.0 h.1
   told-by None (Err f) e leads goes h = none f e h.0
   told-by (Some q) (Err f) e leads goes h = memory f h.0
 
   module _ {read : Place → Read} (reading : Reading read first) where
-    pub told : (r : Result T Fault) → Reads Means (read s.place) refusal s r t
+    pub told : (r : Result T Fault) → Reads Means (read s.place) message s r t
         → TakesAs form take s r t
     told r h =
         told-by (read s.place) r (tells reading s.place)
         (λ b i. leads (Reached b) (Reached b) (reaching b) reading s.place i)
         (reading_goes reading s.place) h
 
-    pub told-at-once : (r : Result T Fault) → ReadsAtOnce Means (read s.place) refusal s r t
+    pub told-at-once : (r : Result T Fault) → ReadsAtOnce Means (read s.place) message s r t
         → TakesAs form take s r t
-    told-at-once r h = told r (at_once Means s (read s.place) refusal r t h)
+    told-at-once r h = told r (at_once Means s (read s.place) message r t h)
 
 ident-words : (x : Read) → ident_words x ≡ ident_missing (with_ahead x)
 ident-words None = refl
@@ -272,5 +272,5 @@ punctuation_told k n s r t h =
     let text = punctuation_word k n in
     told-at-once same (λ v. AreSpans v.spans) (λ ts. record { spans = map tree_span ts })
     (λ v ts m. ap (λ x. record { spans = x }) m) (first_puncts text)
-    (λ f. expected (in_backquotes text)) (punctuation_refusal text s) s t (λ i. refl)
+    (λ f. expected (in_backquotes text)) (punctuation_message text s) s t (λ i. refl)
     (of_punctuation text) r h

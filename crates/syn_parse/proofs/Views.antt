@@ -1,4 +1,4 @@
--- Refusals and peeks at places with equal views.
+-- Errors and peeks at places with equal views.
 use Rattle.std.proofs.Common.{◌≡◌, ◌∙◌, sym, ap, refl, ℕ, Bool, List, ◌++◌, Option, Some, None}
 use Rattle.std.specs.Prelude.{IfSome, codes, option_map}
 use Rattle.tok_core.specs.Forest.{Tree}
@@ -14,9 +14,9 @@ use Rattle.tok_buffer.proofs.View.Places.{reached_stands}
 use Rattle.tok_types.specs.Views.{IgnoresInvisible}
 use Rattle.tok_types.specs.Texts.{in_backquotes}
 use Rattle.syn_parse.specs.Views.{ViewsDecideWords, ViewsDecideLookaheads}
-use Rattle.syn_parse.specs.Lookahead.{look_refusal}
+use Rattle.syn_parse.specs.Lookahead.{look_message}
 use Rattle.syn_parse.specs.Reads.{Peeks2, Peeks3, PeeksPast}
-use Rattle.syn_parse.specs.RefusalWords.{ident_words, lifetime_words, name_in}
+use Rattle.syn_parse.specs.ErrorWords.{ident_words, lifetime_words, name_in}
 use Rattle.syn_parse.proofs.SameWords.{alike-at_stream, alike-look}
 
 standing : (b c : Laid) (p q : Place) → SameView b c p q → Alike b c p q
@@ -69,8 +69,8 @@ views_decide_lookaheads b c e l m v h =
     (standing b c l.place m.place v)
     ∙ ap
     (λ missed.
-    (look_refusal
-    (record { place = m.place; scope_span = m.scope_span; missed = missed })).words) h
+    (look_message
+    (record { place = m.place; scope_span = m.scope_span; missed = missed })).text) h
 
 -- Invisible groups do not matter to a peek after the next token where they do not matter to the
 -- peek

@@ -9,13 +9,13 @@ use Rattle.tok_types.specs.declared.delimiter.Visible.{Visible}
 use Rattle.syn_parse.specs.Groups.{AreParts, Enters}
 use Rattle.syn_parse.specs.Reads.{Call}
 use Rattle.syn_parse.specs.State.{State, advanced, closed, forked, moved}
-use Rattle.syn_parse.specs.RefusalWords.{delimiter_words, refused_at}
+use Rattle.syn_parse.specs.ErrorWords.{delimiter_words, refused_at}
 use Rattle.syn_parse.specs.TreesAhead.{scope_of}
 use Rattle.syn_parse.specs.declared.fault.Fault.{Fault}
 use Rattle.syn_parse.specs.declared.fault.Fault.TheVariants.{Refused, Memory}
 use Rattle.syn_parse.specs.declared.group.Delimited.{Delimited}
 
--- a value where the peek was true, a refusal where it was false; memory aside
+-- a value where the peek was true, an error where it was false; memory aside
 abbrev pub Tells : {T : Type 0} → Bool → Result T Fault → Type 0
 Tells found (Ok v) = found ≡ true
 Tells found (Err (Refused e)) = found ≡ false

@@ -19,7 +19,7 @@ use Rattle.syn_parse.specs.Tokens.{take_any_ident, take_any_lifetime, take_ident
 use Rattle.syn_parse.specs.Tokens.{take_lifetime, take_literal, take_punct, take_punctuation}
 use Rattle.syn_parse.specs.Owned.{take_own}
 use Rattle.syn_parse.specs.Tokens.{span_in, take_underscore}
-use Rattle.syn_parse.specs.RefusalWords.{expected}
+use Rattle.syn_parse.specs.ErrorWords.{expected}
 use Rattle.tok_types.specs.Texts.{in_backquotes}
 
 pub lightens_lower : {A : Type 0} (take : Taking A) → Lowers take → Lightens take

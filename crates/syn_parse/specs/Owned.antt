@@ -9,7 +9,7 @@ use Rattle.tok_leaves.specs.Leaves.{ident}
 use Rattle.tok_core.specs.Forest.{Forest, leaf, no_trees, tree}
 use Rattle.tok_types.specs.Sees.{first_word}
 use Rattle.tok_types.specs.Texts.{in_backquotes}
-use Rattle.syn_parse.specs.RefusalWords.{expected}
+use Rattle.syn_parse.specs.ErrorWords.{expected}
 use Rattle.syn_parse.specs.Takes.{Taking, or_end, take_by}
 use Rattle.syn_parse.specs.Tokens.{span_in}
 

@@ -8,7 +8,7 @@ use Rattle.tok_buffer.specs.Ahead.{Leftover, leftover}
 use Rattle.tok_buffer.specs.Code.{coded_leftover, coded_place, coded_spans}
 use Rattle.tok_buffer.specs.Entry.{Entered}
 use Rattle.tok_buffer.specs.Place.{Place}
-use Rattle.tok_buffer.specs.Refusals.{stream_span}
+use Rattle.tok_buffer.specs.Messages.{stream_span}
 
 -- what contracts see of a stream
 pub record State : Type 0 where

@@ -12,14 +12,14 @@ use Rattle.tok_buffer.specs.Progress.{remaining}
 use Rattle.tok_buffer.specs.View.{IsVisibleDelimiter}
 use Rattle.syn_parse.specs.Faults.{IsMemory}
 use Rattle.syn_parse.specs.Reads.{Call}
-use Rattle.syn_parse.specs.RefusalWords.{delimiter_words}
+use Rattle.syn_parse.specs.ErrorWords.{delimiter_words}
 use Rattle.syn_parse.specs.State.{State}
 use Rattle.syn_parse.specs.declared.fault.Fault.{Fault}
 use Rattle.syn_parse.specs.declared.fault.Fault.TheVariants.{Refused, Memory}
 use Rattle.syn_parse.specs.TreesAhead.{Ahead, IsFilled, after_fork, ahead, all_taken, is_spent, scope_of}
 use Rattle.syn_parse.specs.TreesAhead.{whole}
 
--- a value and what is ahead after it, or the words of a refusal
+-- a value and what is ahead after it, or the words of an error
 pub data Outcome (A : Type 0) : Type 0 where
   found : A → Ahead → Outcome A
   missing : List ℕ → Outcome A
@@ -47,7 +47,7 @@ where_ahead test there other a = cond (test a) (there a) (other a)
 abbrev pub or_end : List ℕ → Forest → List ℕ
 or_end words f = cond (not (has_trees f)) (codes "unexpected end of input, " ++ words) words
 
--- no value, but a refusal with these words, which name the end where nothing is left
+-- no value, but an error with these words, which name the end where nothing is left
 abbrev pub refuses : {A : Type 0} → List ℕ → Taking A
 refuses words a = missing (or_end words a.trees)
 
@@ -87,12 +87,12 @@ abbrev pub IsMissing : {A : Type 0} → Outcome A → Type 0
 IsMissing (found v a) = ⊥
 IsMissing (missing words) = Unit {0}
 
--- a refusal of one message, where this holds, or an allocation failure
+-- an error of one message, where this holds, or an allocation failure
 abbrev pub MemoryOr : Fault → Type 0 → Type 0
 MemoryOr (Refused e) P = P × (length e ≡ 1)
 MemoryOr (Memory e) P = Unit {0}
 
--- a refusal has these words
+-- an error has these words
 abbrev pub Says : {A : Type 0} → Outcome A → Fault → Type 0
 Says o (Refused e) = o ≡ missing (first_text e)
 Says o (Memory e) = Unit {0}
@@ -104,7 +104,7 @@ Stays s t =
     × (scope_of t.place ≡ scope_of s.place)
     × (remaining t.place ≤ remaining s.place)
 
--- a refusal has these words
+-- an error has these words
 abbrev pub HasWords : List ℕ → Fault → Type 0
 HasWords words (Refused e) = first_text e ≡ words
 HasWords words (Memory e) = Unit {0}
@@ -187,13 +187,13 @@ RunsAhead {R} calls d s r t =
 abbrev pub IsAll : {A : Type 0} → Taking A → Forest → A → Type 0
 IsAll take f x = take (whole f) ≡ found x all_taken
 
--- a refusal has the words that are found missing; of a leftover's words nothing is said
+-- an error has the words that are found missing; of a leftover's words nothing is said
 abbrev pub SaysAll : {A : Type 0} → Outcome A → Fault → Type 0
 SaysAll (found v a) f = Unit {0}
 SaysAll (missing words) (Refused e) = first_text e ≡ words
 SaysAll (missing words) (Memory e) = Unit {0}
 
--- the value that all trees are, or a refusal where they are none
+-- the value that all trees are, or an error where they are none
 abbrev pub TakesAll : {T A : Type 0} → (T → A) → Taking A → Forest → Result T Fault → Type 0
 TakesAll form take f (Ok v) = IsAll take f (form v)
 TakesAll {A} form take f (Err e) =
@@ -206,7 +206,7 @@ Agree form (Ok v) (Err f) = IsMemory f
 Agree form (Err f) (Ok w) = IsMemory f
 Agree form (Err f) (Err g) = Unit {0}
 
--- two refusals agree where words are found missing, and not a tree left over
+-- two errors agree where words are found missing, and not a tree left over
 abbrev pub WordsAgree : {T A : Type 0} → Outcome A → Result T Fault → Result T Fault → Type 0
 WordsAgree (missing words) (Err (Refused d)) (Err (Refused e)) = first_text d ≡ first_text e
 WordsAgree o left right = Unit {0}

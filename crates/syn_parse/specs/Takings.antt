@@ -9,7 +9,7 @@ use Rattle.tok_core.specs.Lexical.Reading as grammar
 use Rattle.tok_core.specs.Weight.{weight}
 use Rattle.tok_core.specs.declared.lexer.error.LexError.{LexError}
 use Rattle.syn_parse.specs.Faults.{IsRefused}
-use Rattle.syn_parse.specs.Parsers.{OnMemory, lex_refusal}
+use Rattle.syn_parse.specs.Parsers.{OnMemory, lex_message}
 use Rattle.syn_parse.specs.Reads.{Call}
 use Rattle.syn_parse.specs.Takes.{Agree, Taking, TakesAll, TakesAs, WordsAgree, found}
 use Rattle.syn_parse.specs.TreesAhead.{Ahead, IsFilled, whole}
@@ -89,5 +89,5 @@ KeepsWords (told_filled form take weighs) left right x y =
 abbrev pub KeepsText : {T : Type 0} → Takings T → List ℕ → Result T Fault → Type 0
 KeepsText takes text r =
     ((f : Forest) × grammar.Reads plain_rules 0 text f × KeepsWhole takes f r)
-    ⊎ (((e : LexError) × grammar.IsRefused plain_rules 0 text e × IsRefused (lex_refusal e) r)
+    ⊎ (((e : LexError) × grammar.IsRefused plain_rules 0 text e × IsRefused (lex_message e) r)
     ⊎ OnMemory r)

@@ -18,7 +18,7 @@ use Rattle.tok_types.specs.Sees.{punctuation_first, underscore_first}
 use Rattle.tok_types.specs.Texts.{accept_as_ident, in_backquotes, keyword_text, punctuation_word}
 use Rattle.tok_types.specs.declared.keyword.Keyword.{Keyword}
 use Rattle.tok_types.specs.declared.punctuation.Punctuation.{Punctuation}
-use Rattle.syn_parse.specs.RefusalWords.{expected, name_in}
+use Rattle.syn_parse.specs.ErrorWords.{expected, name_in}
 use Rattle.syn_parse.specs.Parses.{accept_as_lifetime}
 use Rattle.syn_parse.specs.TreesAhead.{Ahead}
 use Rattle.syn_parse.specs.Takes.{Taking, gives, or_end, take_by}

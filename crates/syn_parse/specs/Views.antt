@@ -1,23 +1,23 @@
--- Invisible groups do not matter to the words of refusals.
+-- Invisible groups do not matter to the words of errors.
 use Rattle.std.specs.Prelude.{◌≡◌, ℕ, List}
 use Rattle.tok_core.specs.Erase.{erase}
 use Rattle.tok_buffer.specs.Buffer.{Laid}
 use Rattle.tok_buffer.specs.Reads.{any_text, read_ident, read_lifetime}
 use Rattle.tok_buffer.specs.SameView.{SameView}
-use Rattle.syn_parse.specs.Lookahead.{Look, look_refusal}
+use Rattle.syn_parse.specs.Lookahead.{Look, look_message}
 use Rattle.syn_parse.specs.State.{State}
-use Rattle.syn_parse.specs.RefusalWords.{ident_words, lifetime_words, punctuation_refusal}
-use Rattle.syn_parse.specs.RefusalWords.{refused_at}
+use Rattle.syn_parse.specs.ErrorWords.{ident_words, lifetime_words, punctuation_message}
+use Rattle.syn_parse.specs.ErrorWords.{refused_at}
 
 -- two streams refuse in the same words
 pub record WordsAgree (s t : State) : Type 0 where
-  pub refused : (words : List ℕ) → (refused_at s words).words ≡ (refused_at t words).words
+  pub refused : (words : List ℕ) → (refused_at s words).text ≡ (refused_at t words).text
   pub idents : ident_words (read_ident s.place) ≡ ident_words (read_ident t.place)
   pub lifetimes :
       lifetime_words (read_lifetime any_text s.place)
       ≡ lifetime_words (read_lifetime any_text t.place)
   pub punctuations :
-      (text : List ℕ) → (punctuation_refusal text s).words ≡ (punctuation_refusal text t).words
+      (text : List ℕ) → (punctuation_message text s).text ≡ (punctuation_message text t).text
 
 -- so do two streams at places with equal views
 abbrev pub ViewsDecideWords : Type 0
@@ -29,4 +29,4 @@ abbrev pub ViewsDecideLookaheads : Type 0
 ViewsDecideLookaheads =
     (b c : Laid) → erase b.forest ≡ erase c.forest
     → (l m : Look) → SameView b c l.place m.place → l.missed ≡ m.missed
-    → (look_refusal l).words ≡ (look_refusal m).words
+    → (look_message l).text ≡ (look_message m).text

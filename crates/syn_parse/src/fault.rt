@@ -1,7 +1,8 @@
 //! Why a call on a stream returns no value, and the texts of errors.
 ghost use Rattle.std.specs.Prelude.{◌≡◌, IfSome, MatchResult};
+ghost use Rattle.tok_buffer.specs.Messages.{message_at};
 ghost use Rattle.syn_parse.specs.Faults.{Refuses, RefusesAt};
-ghost use Rattle.syn_parse.specs.RefusalWords.{delimiter_words, leftover_words};
+ghost use Rattle.syn_parse.specs.ErrorWords.{delimiter_words, leftover_words};
 ghost use Rattle.syn_parse.specs.declared.fault.Fault.TheVariants.{Memory, Refused};
 
 use std::alloc::{AllocError, AllocFailed, Global};
@@ -33,7 +34,7 @@ impl Fault {
     pub fn at<T: Display + Drop>(alloc: Global, span: Span, message: T) -> Fault
         ensures span { RefusesAt span result }
         ensures words { IfSome (T.output message)
-            (λ words. Refuses (record { span = span; words = words }) result) }
+            (λ words. Refuses (message_at span words) result) }
     {
         Fault::refused(Error::new(alloc, span, message))
     }

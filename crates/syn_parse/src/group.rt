@@ -6,7 +6,7 @@ ghost use Rattle.tok_buffer.specs.Entry.{Entered, enter, enter_any};
 ghost use Rattle.tok_types.specs.Delimiters.{delimiter_at};
 ghost use Rattle.syn_parse.specs.Groups.{AreParts, Enters, IsAfter, RunsWithin};
 ghost use Rattle.syn_parse.specs.State.{content_of};
-ghost use Rattle.syn_parse.specs.RefusalWords.{delimiter_words, refused_at};
+ghost use Rattle.syn_parse.specs.ErrorWords.{delimiter_words, refused_at};
 ghost use Rattle.syn_parse.specs.Reads.{Does};
 ghost use Rattle.syn_parse.specs.Grouped.{grouped};
 ghost use Rattle.syn_parse.specs.Takes.{EntersAhead, RunsAhead};

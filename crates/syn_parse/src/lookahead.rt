@@ -1,9 +1,9 @@
 //! Choosing by the next token.
 ghost use Rattle.std.specs.Fmt.{WritesOnOk};
 ghost use Rattle.std.specs.Prelude.{◌≡◌, ◌++◌, false, IfOk, OnOk, OnErr};
-ghost use Rattle.tok_buffer.specs.Messages.{refused};
+ghost use Rattle.tok_buffer.specs.Messages.{one_message};
 ghost use Rattle.syn_parse.specs.Faults.{Refuses};
-ghost use Rattle.syn_parse.specs.Lookahead.{Looked, looks, look_words, noted_as, look_refusal, more_words, named, named_ends, texts_of};
+ghost use Rattle.syn_parse.specs.Lookahead.{Looked, looks, look_words, noted_as, look_message, more_words, named, named_ends, texts_of};
 ghost use Rattle.syn_parse.specs.Lookahead as spec;
 ghost use Rattle.syn_parse.specs.Takes.{HasWords};
 ghost use Rattle.syn_parse.specs.TreesAhead.{IsFilled};
@@ -105,15 +105,15 @@ impl<'a> Lookahead1<'a> {
     /// With nothing to name, the text is "unexpected end of input" or "unexpected token". Returns
     /// `Fault::Memory` if an allocation fails.
     pub fn error(self) -> Fault
-        ensures refuses { Refuses (look_refusal self.entry) result }
+        ensures refuses { Refuses (look_message self.entry) result }
         ensures says { IsFilled self.entry.place → HasWords (look_words self.entry) result }
     {
         refused(self)
     }
 
     // Returns what `error` returns, or an allocation failure.
-    fn refusal(&self) -> Result<Error, AllocError>
-        ensures { IfOk result (λ e. e ≡ refused (look_refusal self.now)) }
+    fn try_error(&self) -> Result<Error, AllocError>
+        ensures { IfOk result (λ e. e ≡ one_message (look_message self.now)) }
     {
         let closing = closing_word(self.cursor.scope_delimiter());
         let names = names(self.alloc, closing, &self.missed)?;
@@ -131,9 +131,9 @@ impl<'a> Lookahead1<'a> {
 
 // Does what `Lookahead1::error` does.
 fn refused(lookahead: Lookahead1<'_>) -> Fault
-    ensures { Refuses (look_refusal lookahead.entry) result }
+    ensures { Refuses (look_message lookahead.entry) result }
 {
-    Fault::refused(lookahead.refusal())
+    Fault::refused(lookahead.try_error())
 }
 
 // Returns the name of the end of a scope: its closing delimiter, or nothing.

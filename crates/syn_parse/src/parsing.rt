@@ -7,7 +7,7 @@ ghost use Rattle.tok_buffer.specs.Cursors.{place_of};
 ghost use Rattle.tok_buffer.specs.Reads.{read_keyword, read_punctuation, sized};
 ghost use Rattle.syn_parse.specs.Faults.{Refuses};
 ghost use Rattle.syn_parse.specs.Parses.{PunctuationParses, WordParses, ascii_chars};
-ghost use Rattle.syn_parse.specs.RefusalWords.{punctuation_refusal, punctuation_span};
+ghost use Rattle.syn_parse.specs.ErrorWords.{punctuation_message, punctuation_span};
 
 use crate::fault::{Fault, Result};
 use crate::stream::{ParseBuffer, ParseStream};
@@ -76,7 +76,7 @@ impl<'a> ParseBuffer<'a> {
     // Kept out of line, since `punct` is inlined.
     #[inline(never)]
     fn punct_error(&self, text: &str) -> Fault
-        ensures { Refuses (punctuation_refusal text.now self.now) result }
+        ensures { Refuses (punctuation_message text.now self.now) result }
     {
         let span = self.punct_span(text);
         let error = Error::new(self.allocator(), span, format_args!("expected `{text}`"));

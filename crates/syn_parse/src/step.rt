@@ -6,7 +6,7 @@ ghost use Rattle.syn_parse.specs.Faults.{Refuses, RefusesAt};
 ghost use Rattle.syn_parse.specs.State.{forked, state_span};
 ghost use Rattle.syn_parse.specs.Steps.{step_state, StepsTo};
 ghost use Rattle.tok_buffer.specs.Progress.{StaysIn};
-ghost use Rattle.syn_parse.specs.RefusalWords.{refused_at};
+ghost use Rattle.syn_parse.specs.ErrorWords.{refused_at};
 ghost use Rattle.syn_parse.specs.declared.step.StepCursor.{StepCursor};
 
 use crate::fault::{Fault, Result};

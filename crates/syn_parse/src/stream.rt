@@ -8,7 +8,7 @@ ghost use Rattle.tok_buffer.specs.Order.{same_scope};
 ghost use Rattle.tok_buffer.specs.Place.{start, is_at_end};
 ghost use Rattle.syn_parse.specs.Faults.{Refuses, RefusesAt, IsRefused};
 ghost use Rattle.syn_parse.specs.State.{fresh, moved, handed, closed, forked, advanced, state_span};
-ghost use Rattle.syn_parse.specs.RefusalWords.{refused_at, leftover_refusal};
+ghost use Rattle.syn_parse.specs.ErrorWords.{refused_at, leftover_message};
 ghost use Rattle.syn_parse.specs.Takes.{HasWords, or_end};
 ghost use Rattle.syn_parse.specs.TreesAhead.{IsFilled, after_content, after_fork, ahead, is_spent};
 
@@ -166,11 +166,11 @@ impl<'a> ParseBuffer<'a> {
             (λ words. IsFilled self.now.place
             → HasWords (or_end words (ahead self.now).trees) result) }
     {
-        self.refusal(message)
+        self.fault(message)
     }
 
     // Does what `error` does.
-    fn refusal<T: Display + Drop>(&self, message: T) -> Fault
+    fn fault<T: Display + Drop>(&self, message: T) -> Fault
         ensures span { RefusesAt (state_span self.now) result }
         ensures words { IfSome (T.output message)
             (λ words. Refuses (refused_at self.now words) result) }
@@ -258,7 +258,7 @@ impl<'a> ParseBuffer<'a> {
     /// Ends a stream. Returns an error if a leftover is recorded, or if a token is left unread.
     pub fn finish(self) -> Result<()>
         ensures { MatchOption (handed self.entry) (result ≡ Ok tt)
-            (λ left. IsRefused (leftover_refusal left) result) }
+            (λ left. IsRefused (leftover_message left) result) }
     {
         let alloc = self.alloc;
         let left = self.handed();

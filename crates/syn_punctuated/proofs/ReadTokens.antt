@@ -16,7 +16,7 @@ use Rattle.tok_buffer.specs.Ahead.{Leftover}
 use Rattle.tok_core.specs.Weight.{weight}
 use Rattle.tok_buffer.specs.Place.{Owner, whole, is_at_end}
 use Rattle.tok_buffer.specs.Reads.{and_then, read_word, read_punctuation, read_ident}
-use Rattle.tok_buffer.specs.Refusals.{Refusal}
+use Rattle.tok_buffer.specs.declared.error.Message.{Message}
 use Rattle.tok_types.specs.Printed.{joint_puncts, puncts}
 use Rattle.tok_types.specs.Texts.{accept_as_ident, punctuations, punctuation_text, punctuation_word}
 use Rattle.tok_types.specs.declared.punctuation.Punctuation.{Punctuation}
@@ -25,7 +25,7 @@ use Rattle.syn_parse.specs.Reads.{Reads, ReadsAtOnce}
 use Rattle.syn_parse.specs.Faults.{IsMemory}
 use Rattle.syn_parse.specs.Parsers.{whole_stream}
 use Rattle.syn_parse.specs.State.{State, handed}
-use Rattle.syn_parse.specs.RefusalWords.{refused_at, ident_words, punctuation_refusal}
+use Rattle.syn_parse.specs.ErrorWords.{refused_at, ident_words, punctuation_message}
 use Rattle.syn_parse.specs.declared.fault.Fault.{Fault}
 use Rattle.syn_punctuated.specs.Lists.{values_of, separators_of}
 use Rattle.syn_punctuated.specs.Printed.{by_turns}
@@ -42,7 +42,7 @@ first_ident : Ident → List Tree → Ident
 first_ident i (leaf (ident text span) ∷ ts) = record { text = text; span = span }
 first_ident i ts = i
 
-abbrev no_ident : State → Refusal
+abbrev no_ident : State → Message
 no_ident from = refused_at from (ident_words (read_ident from.place))
 
 ident_reads : (i : Ident) (o : Owner) (n s c : ℕ) (p f : Forest) (from to : State)
@@ -175,7 +175,7 @@ module _ (k n : ℕ) (y : Punctuation k n) (some : IsInTable k n) (l : length y.
   punctuation_reads : (o : Owner) (m s c d : ℕ) (f q : Forest) (from to : State)
       (r : Result (Punctuation k n) Fault) → c < d
       → ReadsAtOnce Means (Some (joint_puncts text y.spans, flat o m s d q f))
-      (punctuation_refusal text from) from r to
+      (punctuation_message text from) from r to
       → ReadsAs (PunctuationParses (spans_in k n) text text) (punctuation_printed k n) y o m s c f
       from r to
   punctuation_reads o m s c d f q from to (Ok v) less h = (
@@ -195,7 +195,7 @@ module _ (k n : ℕ) (y : Punctuation k n) (some : IsInTable k n) (l : length y.
         let place : from.place ≡ flat o m s c p (concat (forest (joint_puncts text y.spans)) f) = e
         ∙ ap (λ g. flat o m s c p (concat g f)) as_puncts in
         punctuation_reads o m s c w.0 f w.1 from to r w.2
-        (subst (λ x. ReadsAtOnce Means x (punctuation_refusal text from) from r to)
+        (subst (λ x. ReadsAtOnce Means x (punctuation_message text from) from r to)
         (ap (read_punctuation text) place ∙ w.3) h);
   }
 

@@ -12,13 +12,13 @@ use Rattle.tok_buffer.specs.Descent.{descend}
 use Rattle.tok_buffer.specs.Place.{Place, front, pass, is_at_end}
 use Rattle.tok_buffer.specs.Reads.{and_then, is_joint_of, is_punct_of, read_punctuation, read_word}
 use Rattle.tok_buffer.specs.Reads as reads
-use Rattle.tok_buffer.specs.Refusals.{Refusal}
+use Rattle.tok_buffer.specs.declared.error.Message.{Message}
 use Rattle.tok_types.specs.Texts.{accept_as_ident, punctuation_word}
 use Rattle.tok_types.specs.declared.punctuation.Punctuation.{Punctuation}
 use Rattle.syn_parse.specs.Parses.{AreSpans, IdentParses, IsIdent, PunctuationParses}
 use Rattle.syn_parse.specs.Reads.{Call, Reads, ReadsAtOnce}
 use Rattle.syn_parse.specs.State.{State}
-use Rattle.syn_parse.specs.RefusalWords.{punctuation_refusal}
+use Rattle.syn_parse.specs.ErrorWords.{punctuation_message}
 use Rattle.syn_punctuated.specs.Lists.{values_of, separators_of}
 use Rattle.syn_punctuated.specs.Trees.{AreTreesOf, IsOneOf, ListsHaveTheirTrees, Passes, PassesList}
 use Rattle.syn_punctuated.specs.Trees.{StatesTrees, ident_sources, punctuation_sources}
@@ -117,7 +117,7 @@ module _ {T P : Type 0} (sources : T → List (List Tree)) (between : P → List
   )
 
 -- identifiers
-ident_read : (words : Refusal) (s t : State) (i : Ident) (x : Option (List Tree × Place))
+ident_read : (words : Message) (s t : State) (i : Ident) (x : Option (List Tree × Place))
     → IfSome x (λ r. trees_ahead s.place ≡ r.0 ++ trees_ahead r.1)
     → Reads IsIdent x words s (Ok i) t → (ts : List Tree) × IsOneOf (ident_sources i) ts
     × Passes ts s t
@@ -229,7 +229,7 @@ module _ (k n : ℕ) where
       → IfSome x (λ r. trees_ahead s.place ≡ r.0 ++ trees_ahead r.1)
       → Spells (punctuation_word k n) x
       → ReadsAtOnce (λ (v : Punctuation k n). AreSpans v.spans) x
-      (punctuation_refusal (punctuation_word k n) s) s (Ok p) t → (ts : List Tree)
+      (punctuation_message (punctuation_word k n) s) s (Ok p) t → (ts : List Tree)
       × IsOneOf (punctuation_sources p) ts × Passes ts s t
   punctuation_read s t p None h w r = absurd r
   punctuation_read s t p (Some x) h w r =

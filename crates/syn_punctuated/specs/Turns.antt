@@ -2,7 +2,8 @@
 use Rattle.std.specs.Prelude.{◌≡◌, Bool, true, false, List, [], ◌∷◌, ◌++◌, map, Result, Ok, Err}
 use Rattle.std.specs.Prelude.{codes}
 use Rattle.tok_buffer.specs.Place.{Place, is_at_end}
-use Rattle.tok_buffer.specs.Refusals.{Refusal, plain}
+use Rattle.tok_buffer.specs.Messages.{plain}
+use Rattle.tok_buffer.specs.declared.error.Message.{Message}
 use Rattle.syn_parse.specs.Faults.{IsMemory, Refuses}
 use Rattle.syn_parse.specs.Reads.{Call}
 use Rattle.syn_parse.specs.State.{State}
@@ -65,8 +66,8 @@ Holds turns more (Ok list) =
     × (separators_of list ≡ map turn_separator turns)
 Holds turns more (Err fault) = ⊥
 
--- the refusal of a turn without progress
-abbrev pub no_progress : State → Refusal
+-- the error of a turn without progress
+abbrev pub no_progress : State → Message
 no_progress s = plain s.place s.scope_span (codes "parser made no progress")
 
 -- `reads` is what calls of the value parser do, `separates` what parses of a separator do
@@ -103,11 +104,11 @@ module _ {T P F : Type 0} (rule : Rule) (reads : ValueCall F T) (separates : Cal
     bare :
         (v : T) (g : F) → Begins f s (Ok v) g t → rule.stops t.place
         → Holds turns (v ∷ []) result → Ending f s turns result t
-    -- with the refusal of a value
+    -- with the error of a value
     value_refused :
         (e : Fault) (g : F) → Begins f s (Err e) g t → result ≡ Err e
         → Ending f s turns result t
-    -- with the refusal of a separator
+    -- with the error of a separator
     separator_refused :
         (v : T) (g : F) (m : State) (e : Fault) → Begins f s (Ok v) g m → rule.goes_on m.place
         → separates m (Err e) t → result ≡ Err e → Ending f s turns result t

@@ -1,6 +1,6 @@
 pub mod Agreements
 pub mod Comparing
 pub mod Punctuations
-pub mod Refusals
+pub mod Messages
 pub mod Views
 pub mod Walk

@@ -1,11 +1,12 @@
 -- Reports that agree.
+use Rattle.tok_buffer.specs.Messages.{message_span}
 use Rattle.std.specs.Prelude.{◌≡◌, List, ⊤}
 use Rattle.std.specs.List.{AllZip}
 use Rattle.syn_replay.specs.Reports.{Answer, refused, Line, Verdict, accepted, left_over, Report}
 
--- refusals agree where their words are equal, other answers where they are equal
+-- errors agree where their words are equal, other answers where they are equal
 abbrev pub AnswersAgree : Answer → Answer → Type 0
-AnswersAgree (refused r) (refused q) = r.words ≡ q.words
+AnswersAgree (refused r) (refused q) = r.text ≡ q.text
 AnswersAgree a b = a ≡ b
 
 -- as many lines, and line by line answers that agree, whatever the positions
@@ -15,7 +16,7 @@ LinesAgree left right = AllZip (λ l k. AnswersAgree l.answer k.answer) left rig
 -- verdicts that both accept, or both refuse at equal spans
 abbrev pub VerdictsAgree : Verdict → Verdict → Type 0
 VerdictsAgree accepted accepted = ⊤
-VerdictsAgree (left_over r) (left_over q) = r.span ≡ q.span
+VerdictsAgree (left_over r) (left_over q) = message_span r ≡ message_span q
 VerdictsAgree v w = ⊥
 
 pub record ReportsAgree (left right : Report) : Type 0 where

@@ -6,15 +6,16 @@ use Rattle.tok_leaves.specs.declared.span.Span.{Span}
 use Rattle.tok_core.specs.Forest.{Tree, forest}
 use Rattle.tok_buffer.specs.Place.{Place, empty_place, is_at_end}
 use Rattle.tok_buffer.specs.Reads as reads
-use Rattle.tok_buffer.specs.Refusals.{Refusal, at_stream}
-use Rattle.tok_buffer.specs.Refusals as refusals
+use Rattle.tok_buffer.specs.Messages.{at_stream}
+use Rattle.tok_buffer.specs.declared.error.Message.{Message}
+use Rattle.tok_buffer.specs.Messages as messages
 use Rattle.tok_buffer.specs.Rest as rests
 use Rattle.tok_buffer.specs.Spans as spans
-use Rattle.syn_parse.specs.Lookahead.{look_refusal}
+use Rattle.syn_parse.specs.Lookahead.{look_message}
 use Rattle.syn_parse.specs.Parses.{read_group}
 use Rattle.syn_parse.specs.State.{fresh}
 use Rattle.syn_replay.specs.Kinds as kinds
-use Rattle.syn_replay.specs.Kinds.{Kind, Look, ignores_invisible, peek_kind, refusal}
+use Rattle.syn_replay.specs.Kinds.{Kind, Look, ignores_invisible, peek_kind, kind_message}
 use Rattle.syn_replay.specs.Meanings.{kind_of, look_of, separator_of}
 use Rattle.syn_replay.specs.Reports.{Answer, truth, pieces, absent, listed, found, shown, trees}
 use Rattle.syn_replay.specs.Reports.{refused}
@@ -56,15 +57,15 @@ pub record Command : Type 0 where
 abbrev pub on : ℕ → Action → Command
 on n a = record { stream = n; action = a }
 
--- the trees read, and the place after them; or a refusal, which leaves the place
-abbrev pub taken : (List Tree → Answer) → Refusal → Place → Option (List Tree × Place)
+-- the trees read, and the place after them; or an error, which leaves the place
+abbrev pub taken : (List Tree → Answer) → Message → Place → Option (List Tree × Place)
     → Answer × Place
 taken answers words p None = (refused words, p)
 taken answers words p (Some r) = (answers r.0, r.1)
 
 abbrev pub parsed : Kind → Place → Span → Answer × Place
 parsed kind p scope =
-    taken (λ ts. pieces (pieces_of ts)) (refusal kind (fresh p scope)) p (kinds.read kind p)
+    taken (λ ts. pieces (pieces_of ts)) (kind_message kind (fresh p scope)) p (kinds.read kind p)
 
 -- whole trees
 abbrev pub trees_taken : List ℕ → Place → Span → Option (List Tree × Place) → Answer × Place
@@ -77,7 +78,7 @@ listed_to (refused_at r p) = (refused r, p)
 -- the first look that is true, or the displays of all
 abbrev pub looked : ℕ → List Look → List (List ℕ) → Place → Span → Answer
 looked n [] noted p scope =
-    refused (look_refusal (record { place = p; scope_span = scope; missed = noted }))
+    refused (look_message (record { place = p; scope_span = scope; missed = noted }))
 looked n (l ∷ ls) noted p scope =
     cond (kinds.peek l p) (found n) (looked (n + 1) ls (noted ++ kinds.display l ∷ []) p scope)
 
@@ -92,7 +93,7 @@ read_answer empty p scope = (truth (is_at_end p), p)
 read_answer (list rule kind separator) p scope =
     listed_to (turns kind separator scope rule (turns_left p) p)
 read_answer (lookahead ls) p scope = (looked 0 ls [] p scope, p)
-read_answer stream_span p scope = (shown (refusals.stream_span p scope), p)
+read_answer stream_span p scope = (shown (messages.stream_span p scope), p)
 read_answer cursor_span p scope = (shown (spans.current_span p), p)
 read_answer previous_span p scope = (shown (spans.previous_span p), p)
 read_answer next_tree p scope =

@@ -6,13 +6,13 @@ use Rattle.tok_core.specs.Forest.{Tree}
 use Rattle.tok_buffer.specs.Entry.{enter}
 use Rattle.tok_buffer.specs.Place.{Place, is_at_end}
 use Rattle.tok_buffer.specs.Reads as reads
-use Rattle.tok_buffer.specs.Refusals.{Refusal}
+use Rattle.tok_buffer.specs.declared.error.Message.{Message}
 use Rattle.tok_buffer.specs.Reads.{read_keyword}
 use Rattle.tok_types.specs.Texts.{accept_as_ident, keyword_text, punctuation_text, in_backquotes}
 use Rattle.syn_parse.specs.Parses.{accept_as_lifetime}
 use Rattle.syn_parse.specs.State as parse
-use Rattle.syn_parse.specs.RefusalWords.{expected, ident_words, lifetime_words, punctuation_refusal}
-use Rattle.syn_parse.specs.RefusalWords.{refused_at}
+use Rattle.syn_parse.specs.ErrorWords.{expected, ident_words, lifetime_words, punctuation_message}
+use Rattle.syn_parse.specs.ErrorWords.{refused_at}
 
 pub data Kind : Type 0 where
   ident : Kind
@@ -115,7 +115,7 @@ refused_words underscore p = expected (codes "`_`")
 refused_words (keyword k) p = expected (in_backquotes (keyword_text k))
 refused_words (punctuation k) p = expected (in_backquotes (punctuation_text k))
 
--- the refusal of a kind that is not read at the place of a stream
-abbrev pub refusal : Kind → parse.State → Refusal
-refusal (punctuation k) s = punctuation_refusal (punctuation_text k) s
-refusal k s = refused_at s (refused_words k s.place)
+-- the error of a kind that is not read at the place of a stream
+abbrev pub kind_message : Kind → parse.State → Message
+kind_message (punctuation k) s = punctuation_message (punctuation_text k) s
+kind_message k s = refused_at s (refused_words k s.place)

@@ -18,6 +18,6 @@ pub use Rattle.tok_buffer.specs.Reads
 pub use Rattle.tok_types.specs.Texts
 pub use Rattle.syn_parse.specs.Groups
 pub use Rattle.syn_parse.specs.Pauses
-pub use Rattle.syn_parse.specs.RefusalWords
+pub use Rattle.syn_parse.specs.ErrorWords
 pub use Rattle.syn_punctuated.specs.Lists
 pub use Rattle.syn_punctuated.specs.Paired

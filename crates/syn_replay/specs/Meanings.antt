@@ -2,9 +2,8 @@
 use Rattle.std.specs.Prelude.{◌≡◌, ℕ, List, map, codes}
 use Rattle.std.specs.Global.{Vec}
 use Rattle.tok_leaves.specs.Spans.{whole_span}
-use Rattle.tok_buffer.specs.Messages.{first_message_span, first_text}
+use Rattle.tok_buffer.specs.Messages.{first_message}
 use Rattle.tok_buffer.specs.Messages as messages
-use Rattle.tok_buffer.specs.Refusals.{Refusal}
 use Rattle.tok_buffer.specs.declared.error.Message.{Message}
 use Rattle.syn_replay.specs.Kinds as kinds
 use Rattle.syn_replay.specs.Reports as spec
@@ -24,13 +23,9 @@ use Rattle.syn_replay.specs.declared.report.Verdict as verdicts
 use Rattle.syn_replay.specs.declared.report.Verdict.TheVariants as verdict
 use Rattle.syn_replay.specs.declared.report.Report as reports
 
--- what an error shows
-abbrev pub refusal_of : List Message → Refusal
-refusal_of e = record { span = first_message_span e; words = first_text e }
-
 -- an error is one message, that which it shows
 abbrev pub IsOneMessage : List Message → Type 0
-IsOneMessage e = e ≡ messages.refused (refusal_of e)
+IsOneMessage e = e ≡ messages.one_message (first_message e)
 
 abbrev pub kind_of : Kind → kinds.Kind
 kind_of kind.Ident = kinds.ident
@@ -77,10 +72,10 @@ answer_of (answer.Found n) = spec.found n
 answer_of answer.Done = spec.done
 answer_of (answer.At s) = spec.shown s
 answer_of (answer.Trees f) = spec.trees f
-answer_of (answer.Refused e) = spec.refused (refusal_of e)
+answer_of (answer.Refused e) = spec.refused (first_message e)
 answer_of (answer.Unfit n) = spec.unfit n
 
--- a refusal's error is one message
+-- the error of an answer is one message
 abbrev pub IsPlain : answers.Answer → Type 0
 IsPlain (answer.Refused e) = IsOneMessage e
 IsPlain a = Unit {0}
@@ -99,7 +94,7 @@ line_of l = record { answer = answer_of l.answer; position = position_of l.posit
 
 abbrev pub verdict_of : verdicts.Verdict → spec.Verdict
 verdict_of verdict.Accepted = spec.accepted
-verdict_of (verdict.Refused e) = spec.left_over (refusal_of e)
+verdict_of (verdict.Refused e) = spec.left_over (first_message e)
 
 abbrev pub report_of : reports.Report → spec.Report
 report_of r = record { lines = map line_of r.lines.items; verdict = verdict_of r.verdict }

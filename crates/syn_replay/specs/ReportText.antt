@@ -1,4 +1,5 @@
 -- The printed text of a report.
+use Rattle.tok_buffer.specs.Messages.{message_span}
 use Rattle.std.specs.Prelude.{ℕ, true, false, cond, List, [], ◌∷◌, ◌++◌, Some, None, codes}
 use Rattle.std.specs.Fmt.{decimal}
 use Rattle.std.specs.List.{flat_map}
@@ -8,7 +9,7 @@ use Rattle.tok_core.specs.Forest.{Forest}
 use Rattle.tok_leaves.specs.Spans.{range}
 use Rattle.tok_lexical.specs.Delimiters.{opening}
 use Rattle.tok_core.specs.Text.{text}
-use Rattle.tok_buffer.specs.Refusals.{Refusal}
+use Rattle.tok_buffer.specs.declared.error.Message.{Message}
 use Rattle.syn_replay.specs.Reports.{Piece, Answer, truth, pieces, absent, entered, forked, listed}
 use Rattle.syn_replay.specs.Reports.{found, done, shown, trees, refused, unfit, Position}
 use Rattle.syn_replay.specs.Reports.{stands_at, at_empty, missing, Line, Verdict, accepted}
@@ -28,9 +29,9 @@ abbrev pub span_text : Span → List ℕ
 span_text span =
     elim (range span) [ None ↦ codes "call" | Some r ↦ decimal r.1 ++ (codes ".." ++ decimal r.2) ]
 
--- a refusal's span and words, which are never empty
-abbrev pub refusal_text : Refusal → List ℕ
-refusal_text r = codes "refused " ++ (span_text r.span ++ (codes " " ++ r.words))
+-- a message's span and text, which is never empty
+abbrev pub message_text : Message → List ℕ
+message_text m = codes "refused " ++ (span_text (message_span m) ++ (codes " " ++ m.text))
 
 -- a piece after others
 abbrev pub piece_text : Piece → List ℕ
@@ -61,7 +62,7 @@ answer_text (found n) = codes "found " ++ decimal n
 answer_text (trees f) = codes "trees" ++ trees_text f
 answer_text done = codes "done"
 answer_text (shown span) = codes "span " ++ span_text span
-answer_text (refused r) = refusal_text r
+answer_text (refused r) = message_text r
 answer_text (unfit n) = codes "refused C" ++ decimal n
 
 abbrev pub position_text : Position → List ℕ
@@ -75,7 +76,7 @@ line_text l = answer_text l.answer ++ (codes " " ++ position_text l.position)
 
 abbrev pub verdict_text : Verdict → List ℕ
 verdict_text accepted = codes "accepted"
-verdict_text (left_over r) = refusal_text r
+verdict_text (left_over r) = message_text r
 
 abbrev pub report_text : Report → List ℕ
 report_text r = flat_map (λ l. ended (line_text l)) r.lines ++ ended (verdict_text r.verdict)

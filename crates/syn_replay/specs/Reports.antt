@@ -3,7 +3,7 @@ use Rattle.std.specs.Prelude.{ℕ, Bool, List}
 use Rattle.tok_lexical.specs.declared.delimiter.Delimiter.{Delimiter}
 use Rattle.tok_leaves.specs.declared.span.Span.{Span}
 use Rattle.tok_core.specs.Forest.{Forest}
-use Rattle.tok_buffer.specs.Refusals.{Refusal}
+use Rattle.tok_buffer.specs.declared.error.Message.{Message}
 
 -- one leaf read: its text and span
 pub record Piece : Type 0 where
@@ -21,7 +21,7 @@ pub data Answer : Type 0 where
   done : Answer
   shown : Span → Answer
   trees : Forest → Answer
-  refused : Refusal → Answer
+  refused : Message → Answer
   unfit : ℕ → Answer
 
 pub data Position : Type 0 where
@@ -35,7 +35,7 @@ pub record Line : Type 0 where
 
 pub data Verdict : Type 0 where
   accepted : Verdict
-  left_over : Refusal → Verdict
+  left_over : Message → Verdict
 
 pub record Report : Type 0 where
   pub lines : List Line

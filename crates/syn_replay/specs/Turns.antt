@@ -8,10 +8,11 @@ use Rattle.tok_buffer.specs.Ahead.{ahead}
 use Rattle.tok_buffer.specs.Order.{same_scope}
 use Rattle.tok_buffer.specs.Place.{Place, empty_place, at, is_at_end}
 use Rattle.tok_buffer.specs.Reads as reads
-use Rattle.tok_buffer.specs.Refusals.{Refusal, plain}
+use Rattle.tok_buffer.specs.Messages.{plain}
+use Rattle.tok_buffer.specs.declared.error.Message.{Message}
 use Rattle.syn_parse.specs.State.{fresh}
-use Rattle.syn_parse.specs.RefusalWords.{punctuation_refusal}
-use Rattle.syn_replay.specs.Kinds.{Kind, read, refusal}
+use Rattle.syn_parse.specs.ErrorWords.{punctuation_message}
+use Rattle.syn_replay.specs.Kinds.{Kind, read, kind_message}
 use Rattle.syn_replay.specs.Reports.{Piece}
 
 -- the leaves among the trees read
@@ -20,10 +21,10 @@ pieces_of [] = []
 pieces_of (leaf l ∷ ts) = record { text = leaf_text l; span = leaf_span l } ∷ pieces_of ts
 pieces_of (t ∷ ts) = pieces_of ts
 
--- a list read with the place after it, or the refusal and the place at which it came
+-- a list read with the place after it, or the error and the place at which it came
 pub data Outcome : Type 0 where
   read_all : List (List Piece) → Place → Outcome
-  refused_at : Refusal → Place → Outcome
+  refused_at : Message → Place → Outcome
 
 abbrev pub with_parts : List (List Piece) → Outcome → Outcome
 with_parts parts (read_all more p) = read_all (parts ++ more) p
@@ -40,7 +41,7 @@ is_later (at n s c l ls) (at m t d k ks) = same_scope (at n s c l ls) (at m t d 
 is_later (at n s c l ls) empty_place = true
 is_later empty_place q = false
 
-abbrev pub no_progress : Place → Span → Refusal
+abbrev pub no_progress : Place → Span → Message
 no_progress p scope = plain p scope (codes "parser made no progress")
 
 -- when a list ends: at the end of the scope, where the last separator may be missing, or with a
@@ -55,8 +56,8 @@ is_over terminated p = is_at_end p
 is_over separated p = false
 
 module _ (kind : Kind) (separator : List ℕ) (scope : Span) where
-  abbrev pub separator_refusal : Place → Refusal
-  separator_refusal p = punctuation_refusal separator (fresh p scope)
+  abbrev pub separator_message : Place → Message
+  separator_message p = punctuation_message separator (fresh p scope)
 
   -- what follows a separator: another turn, unless nothing was passed
   abbrev pub next_turn : Place → Place → (Place → Outcome) → Outcome
@@ -71,7 +72,7 @@ module _ (kind : Kind) (separator : List ℕ) (scope : Span) where
 
   -- the outcome at a value that no separator follows
   abbrev pub without_separator : Rule → List Piece → Place → Outcome
-  without_separator terminated v p = refused_at (separator_refusal p) p
+  without_separator terminated v p = refused_at (separator_message p) p
   without_separator separated v p = read_all (v ∷ []) p
 
   -- the turns of a list, as many at most as are allowed
@@ -79,7 +80,7 @@ module _ (kind : Kind) (separator : List ℕ) (scope : Span) where
   turns rule zero p = refused_at (no_progress p scope) p
   turns rule (suc n) p =
       cond (is_over rule p) (read_all [] p)
-      (after (refused_at (refusal kind (fresh p scope)) p)
+      (after (refused_at (kind_message kind (fresh p scope)) p)
       (λ v q. cond (is_over rule q) (read_all (v ∷ []) q)
       (after_value p v (without_separator rule v q) (turns rule n) q))
       (read kind p))

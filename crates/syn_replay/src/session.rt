@@ -126,9 +126,9 @@ fn is_content<'a>(streams: &Streams<'a>, n: usize) -> bool
 }
 
 // Returns the reason if a stream isn't of the kind that the command needs.
-fn kind_refusal<'a>(streams: &Streams<'a>, command: &Command) -> Option<u8>
+fn kind_misuse<'a>(streams: &Streams<'a>, command: &Command) -> Option<u8>
     ensures { result
-        ≡ spec.kind_refusal (command_of command.now).action (state_of streams.now)
+        ≡ spec.kind_misuse (command_of command.now).action (state_of streams.now)
         (command_of command.now).stream }
 {
     match command {
@@ -160,7 +160,7 @@ fn misuse<'a>(streams: &Streams<'a>, command: &Command) -> Option<u8>
     } else if any_spent(streams, n, other) {
         Some(2)
     } else {
-        kind_refusal(streams, command)
+        kind_misuse(streams, command)
     }
 }
 

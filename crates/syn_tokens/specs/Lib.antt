@@ -39,7 +39,6 @@ pub use Rattle.tok_buffer.specs.Place
 pub use Rattle.tok_buffer.specs.Progress
 pub use Rattle.tok_buffer.specs.Reached
 pub use Rattle.tok_buffer.specs.Reads
-pub use Rattle.tok_buffer.specs.Refusals
 pub use Rattle.tok_buffer.specs.Rest
 pub use Rattle.tok_buffer.specs.SameView
 pub use Rattle.tok_buffer.specs.Spans as CursorSpans
@@ -67,7 +66,7 @@ pub use Rattle.syn_parse.specs.Parses
 pub use Rattle.syn_parse.specs.Pauses
 pub use Rattle.syn_parse.specs.Progress as ParseProgress
 pub use Rattle.syn_parse.specs.Reads as ParseReads
-pub use Rattle.syn_parse.specs.RefusalWords
+pub use Rattle.syn_parse.specs.ErrorWords
 pub use Rattle.syn_parse.specs.Skips
 pub use Rattle.syn_parse.specs.Sources
 pub use Rattle.syn_parse.specs.State

@@ -18,7 +18,6 @@ pub mod Rest
 pub mod SameView
 pub mod Spans
 pub mod View
-pub mod Refusals
 pub mod Private
 pub use Rattle.tok_core.specs.Clear
 pub use Rattle.tok_leaves.specs.Leaves

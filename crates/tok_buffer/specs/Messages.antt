@@ -1,5 +1,5 @@
 -- An error as the list of its messages.
-use Rattle.std.specs.Prelude.{◌≡◌, ℕ, List, [], ◌∷◌, ◌++◌, map, Option, MatchOption, Result}
+use Rattle.std.specs.Prelude.{◌≡◌, ℕ, List, [], ◌∷◌, ◌++◌, map, Option, MatchOption, Result, cond, codes}
 use Rattle.std.specs.Prelude.{IfOk, IfSome, MatchResult, Some}
 use Rattle.std.specs.Iterator.{Drains, YieldsThen}
 use Rattle.std.specs.declared.alloc.AllocError.{AllocError}
@@ -11,7 +11,8 @@ use Rattle.tok_core.specs.Code.{SpanCode, span_code, span_of, span_back, coded_s
 use Rattle.tok_leaves.specs.declared.span.Span.{Span}
 use Rattle.tok_leaves.specs.Spans.{call_site, covering}
 use Rattle.tok_buffer.specs.declared.error.Message.{Message}
-use Rattle.tok_buffer.specs.Refusals.{Refusal}
+use Rattle.tok_buffer.specs.Place.{Place, is_at_end}
+use Rattle.tok_buffer.specs.Spans.{start_span}
 
 -- a message: the spans of the first and the last token that it speaks of, and its text
 abbrev pub message : (start end : Span) → List ℕ → Message
@@ -25,9 +26,27 @@ unboxed = map (λ (m : Box Message). m.value)
 abbrev pub error_of : (start end : Span) → List ℕ → List Message
 error_of start end text = message start end text ∷ []
 
--- an error in the words of a refusal
-abbrev pub refused : Refusal → List Message
-refused r = error_of r.span r.span r.words
+-- a message whose two spans are one
+abbrev pub message_at : Span → List ℕ → Message
+message_at span text = message span span text
+
+-- an error of this message alone
+abbrev pub one_message : Message → List Message
+one_message m = m ∷ []
+
+-- the span of a stream: its scope's at the end, else that of the next token or of its opening
+abbrev pub stream_span : Place → Span → Span
+stream_span p scope = cond (is_at_end p) scope (start_span p)
+
+-- the message at a stream: at the end its text gets a front that says so
+abbrev pub at_stream : Place → Span → List ℕ → Message
+at_stream p scope words =
+    message_at (stream_span p scope)
+    (cond (is_at_end p) (codes "unexpected end of input, " ++ words) words)
+
+-- the message at a stream with this text alone
+abbrev pub plain : Place → Span → List ℕ → Message
+plain p scope words = message_at (stream_span p scope) words
 
 -- the two spans of each message
 abbrev pub spans_of : List Message → List (Span × Span)
@@ -38,14 +57,21 @@ abbrev pub HasMessage : Span × Span → Option (List ℕ) → List Message → 
 HasMessage spans written e =
     (spans_of e ≡ spans ∷ []) × IfSome written (λ text. e ≡ error_of spans.0 spans.1 text)
 
+-- from the start of a message's first span to the end of its last
+abbrev pub message_span : Message → Span
+message_span m = covering m.start m.end
+
+-- the first message of an error, which always has one
+abbrev pub first_message : List Message → Message
+first_message [] = message_at call_site []
+first_message (m ∷ ms) = m
+
 -- what an error shows: its first message
 abbrev pub first_message_span : List Message → Span
-first_message_span [] = call_site
-first_message_span (m ∷ ms) = covering m.start m.end
+first_message_span e = message_span (first_message e)
 
 abbrev pub first_text : List Message → List ℕ
-first_text [] = []
-first_text (m ∷ ms) = m.text
+first_text e = (first_message e).text
 
 -- the errors of one message each
 abbrev pub each_message : List Message → List (List Message)

@@ -84,10 +84,10 @@ impl Error {
     ghost use Rattle.std.specs.Ordering.{partial_le};
     ghost use Rattle.tok_core.specs.Lexical.Errors.{error_span, error_words};
     ghost use Rattle.tok_buffer.specs.Cursors.{place_of};
-    ghost use Rattle.tok_buffer.specs.Messages.{ExtendsWithErrors, HasMessage, error_of, refused, spans_of, first_message_span, first_text};
+    ghost use Rattle.tok_buffer.specs.Messages.{ExtendsWithErrors, HasMessage, error_of, one_message, spans_of, first_message_span, first_text};
     ghost use Rattle.tok_buffer.specs.Order.{order};
     ghost use Rattle.tok_buffer.specs.Spans.{current_span, range_end};
-    ghost use Rattle.tok_buffer.specs.Refusals.{stream_span, at_stream};
+    ghost use Rattle.tok_buffer.specs.Messages.{stream_span, at_stream};
 
     /// Creates an error of one message at `span`.
     ///
@@ -177,7 +177,7 @@ impl Error {
             ≡ (span, span) ∷ []) }
         ensures text { IfOk result
             (λ e. IfSome (T.output message)
-            (λ words. e ≡ refused (at_stream (place_of cursor.entry) scope words))) }
+            (λ words. e ≡ one_message (at_stream (place_of cursor.entry) scope words))) }
     {
         if cursor.eof() {
             Error::new(

@@ -10,7 +10,7 @@ delimiter_at zero = Parenthesis
 delimiter_at (suc zero) = Brace
 delimiter_at (suc (suc n)) = Bracket
 
--- how a refusal calls a group of these delimiters
+-- how an error calls a group of these delimiters
 abbrev pub delimiter_display : Delimiter → List ℕ
 delimiter_display Parenthesis = codes "parentheses"
 delimiter_display Brace = codes "curly braces"

@@ -1,4 +1,4 @@
--- Reads, peeks and refusals agree at places with equal views.
+-- Reads, peeks and errors agree at places with equal views.
 use Rattle.std.proofs.Common.{◌≡◌, ◌∙◌, ap, refl, ℕ, Bool, true, is_some, List, Option, Some}
 use Rattle.std.proofs.Common.{None}
 use Rattle.std.specs.Prelude.{codes, ◌++◌}
@@ -14,12 +14,12 @@ use Rattle.tok_buffer.proofs.View.Alike.{Alike, ReadsAlike, PlacesAlike, Entries
 use Rattle.tok_buffer.proofs.View.Alike.{alike-reading, alike-skip, alike-end, alike-enter}
 use Rattle.tok_types.specs.Texts.{in_backquotes}
 use Rattle.syn_parse.specs.State as parse
-use Rattle.syn_parse.specs.RefusalWords.{ident_words, lifetime_words, name_in, refused_at}
+use Rattle.syn_parse.specs.ErrorWords.{ident_words, lifetime_words, name_in, refused_at}
 use Rattle.syn_parse.proofs.SameWords.{alike-words, alike-at_stream}
 use Rattle.syn_replay.specs.Kinds.{Kind, ident, ident_any, lifetime, lifetime_any, punctuation}
 use Rattle.syn_replay.specs.Kinds.{read, peek_kind, Look, kind, paren, brace, bracket, the_end}
 use Rattle.syn_replay.specs.Kinds.{invisible_group, group_tree, any_tree, peek, peek2, peek3}
-use Rattle.syn_replay.specs.Kinds.{peek_past, ignores_invisible, refused_words, refusal}
+use Rattle.syn_replay.specs.Kinds.{peek_past, ignores_invisible, refused_words, kind_message}
 use Rattle.syn_replay.proofs.Views.KindReads.{of_kind}
 
 module _ (f g : Laid) where
@@ -75,7 +75,7 @@ module _ (f g : Laid) where
   alike-peek3 l e p q h =
       alike-past (peek2 l) (alike-peek2 l e) (skip p) (skip q) (alike-skip f g p q h)
 
-  -- The words of refusals.
+  -- The words of errors.
   abbrev name_words : List Tree → List ℕ
   name_words ts = codes "expected identifier, found keyword " ++ in_backquotes (name_in ts)
 
@@ -93,14 +93,14 @@ module _ (f g : Laid) where
   alike-refused_words k p q h = refl
 
   refused-both : (s t : parse.State) (w v : List ℕ) → w ≡ v → Alike f g s.place t.place
-      → (refused_at s w).words ≡ (refused_at t v).words
+      → (refused_at s w).text ≡ (refused_at t v).text
   refused-both s t w v e h =
       alike-at_stream f g s.place t.place s.scope_span t.scope_span w h
-      ∙ ap (λ x. (refused_at t x).words) e
+      ∙ ap (λ x. (refused_at t x).text) e
 
-  pub alike-refusal : (k : Kind) (s t : parse.State) → Alike f g s.place t.place
-      → (refusal k s).words ≡ (refusal k t).words
-  alike-refusal (punctuation k) s t h = refl
-  alike-refusal k s t h =
+  pub alike-kind_message : (k : Kind) (s t : parse.State) → Alike f g s.place t.place
+      → (kind_message k s).text ≡ (kind_message k t).text
+  alike-kind_message (punctuation k) s t h = refl
+  alike-kind_message k s t h =
       refused-both s t (refused_words k s.place) (refused_words k t.place)
       (alike-refused_words k s.place t.place h) h

@@ -14,10 +14,10 @@ use Rattle.tok_buffer.proofs.View.Alike.{Alike, ReadsAlike, alike-end, alike-rea
 use Rattle.tok_buffer.proofs.View.Lengths.{same_length}
 use Rattle.tok_buffer.proofs.View.Moves.{LeadsTo}
 use Rattle.tok_buffer.proofs.View.Readings.{of_punctuation}
-use Rattle.syn_replay.specs.Kinds.{Kind, read, refusal}
+use Rattle.syn_replay.specs.Kinds.{Kind, read, kind_message}
 use Rattle.syn_parse.specs.State.{fresh}
 use Rattle.syn_replay.proofs.Views.KindReads.{of_kind}
-use Rattle.syn_replay.proofs.Views.KindsAlike.{alike-kind, alike-refusal}
+use Rattle.syn_replay.proofs.Views.KindsAlike.{alike-kind, alike-kind_message}
 use Rattle.syn_replay.specs.Reports.{Piece}
 use Rattle.syn_replay.specs.Turns.{Outcome, read_all, refused_at, with_parts, is_later, no_progress}
 use Rattle.syn_replay.specs.Turns.{after, after_value, next_turn, pieces_of, without_separator}
@@ -45,7 +45,7 @@ is_later_there (at n s c l ls) (at m t d k ks) h =
 module _ (f g : Laid) where
   abbrev pub OutcomesAlike : Outcome → Outcome → Type 0
   OutcomesAlike (read_all a p) (read_all b q) = (a ≡ b) × Alike f g p q
-  OutcomesAlike (refused_at r p) (refused_at s q) = (r.words ≡ s.words) × Alike f g p q
+  OutcomesAlike (refused_at r p) (refused_at s q) = (r.text ≡ s.text) × Alike f g p q
   OutcomesAlike x y = ⊥
 
   with-parts : (a b : List (List Piece)) (x y : Outcome) → a ≡ b → OutcomesAlike x y
@@ -117,9 +117,9 @@ module _ (f g : Laid) where
     alike-turns rule (suc n) p q h =
         either OutcomesAlike (is_over rule p) (is_over rule q) (read_all [] p) (read_all [] q) _ _
         (alike-over rule p q h) (refl, h)
-        (after-read p q (refused_at (refusal kind (fresh p left)) p)
-        (refused_at (refusal kind (fresh q right)) q) _ _ (read kind p) (read kind q)
-        (alike-refusal f g kind (fresh p left) (fresh q right) h, h)
+        (after-read p q (refused_at (kind_message kind (fresh p left)) p)
+        (refused_at (kind_message kind (fresh q right)) q) _ _ (read kind p) (read kind q)
+        (alike-kind_message f g kind (fresh p left) (fresh q right) h, h)
         (λ x i j k l m.
         either OutcomesAlike (is_over rule i) (is_over rule j) (read_all (x ∷ []) i)
         (read_all (x ∷ []) j) _ _

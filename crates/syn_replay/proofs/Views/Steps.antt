@@ -18,12 +18,12 @@ use Rattle.tok_buffer.proofs.View.Alike.{Alike, ReadsAlike, EntriesAlike, alike-
 use Rattle.tok_buffer.proofs.View.Alike.{alike-empty, alike-enter}
 use Rattle.tok_buffer.specs.View.{IsVisibleDelimiter}
 use Rattle.syn_replay.specs.Kinds.{Kind, Look, read, peek, peek_kind, display}
-use Rattle.syn_replay.specs.Kinds.{ignores_invisible, refusal}
-use Rattle.syn_parse.specs.RefusalWords.{delimiter_words}
+use Rattle.syn_replay.specs.Kinds.{ignores_invisible, kind_message}
+use Rattle.syn_parse.specs.ErrorWords.{delimiter_words}
 use Rattle.syn_parse.specs.State.{fresh}
 use Rattle.syn_parse.proofs.SameWords.{alike-at_stream, alike-look}
 use Rattle.syn_replay.proofs.Views.KindsAlike.{alike-kind, alike-peek, alike-peek2, alike-peek3}
-use Rattle.syn_replay.proofs.Views.KindsAlike.{alike-peek_kind, alike-refusal}
+use Rattle.syn_replay.proofs.Views.KindsAlike.{alike-peek_kind, alike-kind_message}
 use Rattle.syn_replay.specs.Agree.{AnswersAgree}
 use Rattle.syn_replay.specs.Transparent.{is_transparent, is_transparent_action}
 use Rattle.syn_replay.specs.Commands as commands
@@ -37,7 +37,7 @@ use Rattle.syn_replay.specs.Session.State.{Stream, StreamKind, content_of, a_for
 use Rattle.syn_replay.specs.Session.State.{with_stream, moved_to, is_inside}
 use Rattle.syn_replay.specs.Session.Step.{Stepped, stays, new_stream, into_group, place_of, tested}
 use Rattle.syn_replay.specs.Session.Step.{on_stream, named, is_missing, is_spent, step_on, step}
-use Rattle.syn_replay.specs.Session.Step.{any_of, is_fork, is_content, of_kind, kind_refusal}
+use Rattle.syn_replay.specs.Session.Step.{any_of, is_fork, is_content, of_kind, kind_misuse}
 use Rattle.syn_replay.specs.Session.Step.{misuse}
 use Rattle.syn_replay.specs.Turns.{Outcome, read_all, refused_at, pieces_of, turns, turns_left}
 use Rattle.syn_replay.proofs.Views.ListTurns.{OutcomesAlike, alike-turns, alike-turns_left}
@@ -59,10 +59,10 @@ module _ (f g : Laid) (visible : erase f.forest ≡ erase g.forest) where
 
   module _ (p q : Place) (left right : Span) (i : Alike f g p q) where
     alike-taken : (kind : Kind) (r u : Option (List Tree × Place)) → ReadsAlike f g r u
-        → AnsweredAlike (taken (λ ts. pieces (pieces_of ts)) (refusal kind (fresh p left)) p r)
-        (taken (λ ts. pieces (pieces_of ts)) (refusal kind (fresh q right)) q u)
+        → AnsweredAlike (taken (λ ts. pieces (pieces_of ts)) (kind_message kind (fresh p left)) p r)
+        (taken (λ ts. pieces (pieces_of ts)) (kind_message kind (fresh q right)) q u)
     alike-taken kind None None j =
-        (alike-refusal f g kind (fresh p left) (fresh q right) i, i)
+        (alike-kind_message f g kind (fresh p left) (fresh q right) i, i)
     alike-taken kind None (Some u) j = absurd j
     alike-taken kind (Some r) None j = absurd j
     alike-taken kind (Some r) (Some u) j = (ap (λ x. pieces (pieces_of x)) j.0, j.1)
@@ -201,7 +201,7 @@ module _ (f g : Laid) (visible : erase f.forest ≡ erase g.forest) where
     alike-on_stream close e =
         record { answer = refl; state = alike-closed f g k st su h }
 
-  -- The refusals of streams.
+  -- The misuses of streams.
   same-tested : (without : Bool) (test : Stream → Bool)
       → ((s t : Stream) → StreamsAlike f g s t → test s ≡ test t) → (a b : Option Stream)
       → BothAlike f g a b → tested without test a ≡ tested without test b
@@ -224,11 +224,11 @@ module _ (f g : Laid) (visible : erase f.forest ≡ erase g.forest) where
     of_same_kind : (test : StreamKind → Bool) (k : ℕ) → of_kind test st k ≡ of_kind test su k
     of_same_kind test k = same-test false (λ s. test s.kind) (λ s t i. ap test i.kind) k
 
-    same-kind_refusal : (a : Action) (k : ℕ) → kind_refusal a st k ≡ kind_refusal a su k
-    same-kind_refusal (advance m) k = ap (λ b. cond b None (Some 3)) (of_same_kind is_fork m)
-    same-kind_refusal discard k = ap (λ b. cond b None (Some 3)) (of_same_kind is_fork k)
-    same-kind_refusal close k = ap (λ b. cond b None (Some 4)) (of_same_kind is_content k)
-    same-kind_refusal a k = refl
+    same-kind_misuse : (a : Action) (k : ℕ) → kind_misuse a st k ≡ kind_misuse a su k
+    same-kind_misuse (advance m) k = ap (λ b. cond b None (Some 3)) (of_same_kind is_fork m)
+    same-kind_misuse discard k = ap (λ b. cond b None (Some 3)) (of_same_kind is_fork k)
+    same-kind_misuse close k = ap (λ b. cond b None (Some 4)) (of_same_kind is_content k)
+    same-kind_misuse a k = refl
 
     same-misuse : (c : Command) → misuse c st ≡ misuse c su
     same-misuse c =
@@ -240,10 +240,10 @@ module _ (f g : Laid) (visible : erase f.forest ≡ erase g.forest) where
         (same-test false (λ s. not s.is_open) (λ s t i. ap not i.is_open)) (named c) in
         ap
         (λ b. cond b (Some 1)
-        (cond (any_of (is_spent st) (named c)) (Some 2) (kind_refusal c.action st c.stream)))
+        (cond (any_of (is_spent st) (named c)) (Some 2) (kind_misuse c.action st c.stream)))
         missing
         ∙ ap₂ (λ b r. cond (any_of (is_missing su) (named c)) (Some 1) (cond b (Some 2) r)) over
-        (same-kind_refusal c.action c.stream)
+        (same-kind_misuse c.action c.stream)
 
     alike-step_on : (c : Action) → is_transparent_action c ≡ true → (k : ℕ) (a b : Option Stream)
         → BothAlike f g a b → StepsAlike (step_on c st k a) (step_on c su k b)

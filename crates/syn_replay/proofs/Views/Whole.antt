@@ -1,12 +1,13 @@
 -- Invisible groups do not matter to walks: the proof.
-use Rattle.std.proofs.Common.{◌≡◌, refl, true, List, [], ◌∷◌, Option, Some, None, false}
+use Rattle.tok_leaves.specs.Spans.{covering}
+use Rattle.std.proofs.Common.{◌≡◌, ap, refl, true, List, [], ◌∷◌, Option, Some, None, false}
 use Rattle.std.proofs.lemmas.Bool.{and_parts}
 use Rattle.tok_core.specs.Erase.{erase}
 use Rattle.tok_core.specs.Forest.{Forest}
 use Rattle.tok_buffer.specs.Buffer.{Laid}
 use Rattle.tok_buffer.specs.Ahead.{Leftover}
 use Rattle.tok_buffer.proofs.View.Alike.{alike-start}
-use Rattle.syn_parse.specs.RefusalWords.{leftover_refusal}
+use Rattle.syn_parse.specs.ErrorWords.{leftover_message}
 use Rattle.syn_replay.specs.Agree.{LinesAgree, VerdictsAgree}
 use Rattle.syn_replay.specs.Commands.{Command}
 use Rattle.syn_replay.specs.Reports.{accepted, left_over}
@@ -38,12 +39,13 @@ module _ (f g : Laid) (visible : erase f.forest ≡ erase g.forest) where
       (alike-step f g visible st su h c parts.0).state
 
   left-agree : (a b : Option Leftover) → span_of a ≡ span_of b
-      → VerdictsAgree (elim a [ None ↦ accepted | Some l ↦ left_over (leftover_refusal l) ])
-      (elim b [ None ↦ accepted | Some l ↦ left_over (leftover_refusal l) ])
+      → VerdictsAgree (elim a [ None ↦ accepted | Some l ↦ left_over (leftover_message l) ])
+      (elim b [ None ↦ accepted | Some l ↦ left_over (leftover_message l) ])
   left-agree None None e = tt
   left-agree None (Some l) e = absurd (cc)
   left-agree (Some l) None e = absurd (cc)
-  left-agree (Some l) (Some k) e = cc
+  left-agree (Some l) (Some k) e =
+      let same : l.span ≡ k.span = cc in ap (λ s. covering s s) same
 
   stream-agrees : (a b : Option Stream) → BothAlike f g a b
       → VerdictsAgree (stream_verdict a) (stream_verdict b)

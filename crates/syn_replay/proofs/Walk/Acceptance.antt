@@ -12,7 +12,7 @@ use Rattle.tok_buffer.specs.Ahead.{Leftover, leftover}
 use Rattle.tok_buffer.specs.Entry.{Entered}
 use Rattle.tok_buffer.specs.Order.{same_scope}
 use Rattle.tok_buffer.specs.Place.{Place}
-use Rattle.syn_parse.specs.RefusalWords.{leftover_refusal}
+use Rattle.syn_parse.specs.ErrorWords.{leftover_message}
 use Rattle.syn_replay.specs.Session.Acceptance.{IsShut, is_discard, Comes, begins, goes_on, all_run}
 use Rattle.syn_replay.specs.Session.Acceptance.{Closes, by_command, at_end, Counts}
 use Rattle.syn_replay.specs.Session.Acceptance.{NothingLeft, IsExact}
@@ -26,7 +26,7 @@ use Rattle.syn_replay.specs.Session.State.{first_state, stream_at, with_stream, 
 use Rattle.syn_replay.specs.Session.State.{handed_note, handed_up, closed_inside, closed, advanced}
 use Rattle.syn_replay.specs.Session.State.{ended_inside, taken_over, all_spent, is_inside, is_within}
 use Rattle.syn_replay.specs.Session.Step.{Stepped, any_of, is_content, is_fork, is_missing}
-use Rattle.syn_replay.specs.Session.Step.{is_spent, kind_refusal, misuse, named, new_stream}
+use Rattle.syn_replay.specs.Session.Step.{is_spent, kind_misuse, misuse, named, new_stream}
 use Rattle.syn_replay.specs.Session.Step.{into_group, on_stream, other_named, place_of, stays, step}
 use Rattle.syn_replay.specs.Session.Step.{step_on, tested, with_other}
 use Rattle.syn_replay.specs.Session.Entering.{entered_by, entering_words}
@@ -430,15 +430,15 @@ cond_none false n rest h = (refl, h)
 record Fits (c : Command) (st : State) : Type 0 where
   there : any_of (is_missing st) (named c) ≡ false
   is_open : any_of (is_spent st) (named c) ≡ false
-  kind : kind_refusal c.action st c.stream ≡ None
+  kind : kind_misuse c.action st c.stream ≡ None
 
 fits : (c : Command) (st : State) → misuse c st ≡ None → Fits c st
 fits c st h =
     let (a, rest) =
     cond_none (any_of (is_missing st) (named c)) 1
-    (cond (any_of (is_spent st) (named c)) (Some 2) (kind_refusal c.action st c.stream)) h in
+    (cond (any_of (is_spent st) (named c)) (Some 2) (kind_misuse c.action st c.stream)) h in
     let (b, d) =
-    cond_none (any_of (is_spent st) (named c)) 2 (kind_refusal c.action st c.stream) rest in
+    cond_none (any_of (is_spent st) (named c)) 2 (kind_misuse c.action st c.stream) rest in
     record { there = a; is_open = b; kind = d }
 
 opened : (o : Option Stream) → tested true (λ s. false) o ≡ false
@@ -491,7 +491,7 @@ content_is (content_of p) h = (p, refl)
 content_is a_fork h = cc
 
 on_steps : (X : ℕ → Type 0) (a : Action) (st : State) (k : ℕ) → (look st k).is_open ≡ true
-    → is_advance a ≡ false → kind_refusal a st k ≡ None → Tidy st
+    → is_advance a ≡ false → kind_misuse a st k ≡ None → Tidy st
     → StepsTo X (commands.on k a) st (on_stream a st k (look st k))
 on_steps X (commands.read r) st k h e q tidy =
     calmly X _ st _ tidy refl
@@ -576,7 +576,7 @@ run_older st (c ∷ cs) tidy =
 accepts_then : (o : Option Leftover)
     → ◌≡◌ {A = Verdict} (elim o [
       | None ↦ accepted
-      | Some l ↦ reports.left_over (leftover_refusal l)
+      | Some l ↦ reports.left_over (leftover_message l)
     ])
     accepted → o ≡ None
 accepts_then None h = refl
@@ -585,7 +585,7 @@ accepts_then (Some l) h = cc
 then_accepts : (o : Option Leftover) → o ≡ None
     → ◌≡◌ {A = Verdict} (elim o [
       | None ↦ accepted
-      | Some l ↦ reports.left_over (leftover_refusal l)
+      | Some l ↦ reports.left_over (leftover_message l)
     ])
     accepted
 then_accepts None h = refl

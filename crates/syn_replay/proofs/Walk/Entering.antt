@@ -1,4 +1,4 @@
--- Entering a group, and refusals, as the steps of a replay.
+-- Entering a group, and errors, as the steps of a replay.
 use Rattle.std.proofs.Common.{◌≡◌, ◌∙◌, ap, sym, refl, ℕ, List, [], ◌∷◌, ◌++◌, Option, Some, None}
 use Rattle.std.proofs.Common.{Ok, Err}
 use Rattle.std.specs.Prelude.{true, length, IfOk, Result}
@@ -8,12 +8,11 @@ use Rattle.tok_leaves.specs.declared.span.DelimSpan.{DelimSpan}
 use Rattle.tok_leaves.specs.Spans.{whole_span}
 use Rattle.tok_buffer.specs.Entry.{Entered}
 use Rattle.tok_buffer.specs.Messages as messages
-use Rattle.tok_buffer.specs.Refusals.{Refusal}
 use Rattle.tok_buffer.specs.declared.error.Message.{Message}
 use Rattle.syn_parse.specs.Groups.{AreParts, Enters}
 use Rattle.syn_parse.specs.State.{after_group}
 use Rattle.syn_parse.specs.State as parse
-use Rattle.syn_parse.specs.RefusalWords.{refused_at}
+use Rattle.syn_parse.specs.ErrorWords.{refused_at}
 use Rattle.syn_parse.specs.declared.fault.Fault.{Fault}
 use Rattle.syn_parse.specs.declared.fault.Fault.TheVariants.{Refused, Memory}
 use Rattle.syn_replay.specs.Reports as reports
@@ -21,18 +20,19 @@ use Rattle.syn_replay.specs.Session.State.{State, at_rest, with_stream, content_
 use Rattle.syn_replay.specs.Session.State.{stream_at}
 use Rattle.syn_replay.specs.Session.State as states
 use Rattle.syn_replay.specs.Session.Step.{into_group}
-use Rattle.syn_replay.specs.Meanings.{IsAnswer, refusal_of}
+use Rattle.tok_buffer.specs.Messages.{first_message}
+use Rattle.syn_replay.specs.Meanings.{IsAnswer}
 use Rattle.syn_replay.specs.Session.Stepping.{Answers, IsStepped}
 use Rattle.syn_replay.specs.declared.report.Answer.{Answer}
-use Rattle.syn_replay.proofs.Refusals.{refusal_of-refused}
+use Rattle.syn_replay.proofs.Messages.{first_message-one}
 use Rattle.syn_replay.proofs.Walk.Changes.{changed_alike}
 
--- an answer of the refusal that is wanted
-answered-refusal : (r : Refusal) (e : List Message) (a : Answer) → e ≡ messages.refused r
+-- an answer of the error that is wanted
+answered-error : (r : Message) (e : List Message) (a : Answer) → e ≡ messages.one_message r
     → Answers (Refused e) (Ok a) → IsAnswer a (reports.refused r)
-answered-refusal r e a h q =
-    let same : refusal_of e ≡ r = ap refusal_of h ∙ refusal_of-refused r in
-    (q.0 ∙ ap reports.refused same, q.1 (h ∙ ap messages.refused (sym same)))
+answered-error r e a h q =
+    let same : first_message e ≡ r = ap first_message h ∙ first_message-one r in
+    (q.0 ∙ ap reports.refused same, q.1 (h ∙ ap messages.one_message (sym same)))
 
 abbrev pub AreEntered : (Delimiter × DelimSpan × parse.State) → Entered → Type 0
 AreEntered p e = (p.0 ≡ e.delimiter) × AreParts p.1 p.2 e
@@ -57,14 +57,14 @@ module _ (st : State) (n : ℕ) (s : states.Stream) (here : stream_at st n ≡ S
           refl),
     )
 
-    pub entered-refusal : (x : Option Entered) (f : Fault) (t : parse.State)
+    pub entered-error : (x : Option Entered) (f : Fault) (t : parse.State)
         (result : Result Answer AllocError)
         → Enters AreEntered x (refused_at (at_rest s) words) (at_rest s) (Err f) t
         → Answers f result
         → IfOk result (λ a. IsStepped a st (into_group st n s words x))
-    entered-refusal None (Refused e) t (Ok a) h q =
-        (answered-refusal (refused_at (at_rest s) words) e a h.0 q, refl)
-    entered-refusal None (Refused e) t (Err m) h q = tt
-    entered-refusal None (Memory e) t (Ok a) h q = absurd q
-    entered-refusal None (Memory e) t (Err m) h q = tt
-    entered-refusal (Some e) f t result h q = absurd h
+    entered-error None (Refused e) t (Ok a) h q =
+        (answered-error (refused_at (at_rest s) words) e a h.0 q, refl)
+    entered-error None (Refused e) t (Err m) h q = tt
+    entered-error None (Memory e) t (Ok a) h q = absurd q
+    entered-error None (Memory e) t (Err m) h q = tt
+    entered-error (Some e) f t result h q = absurd h

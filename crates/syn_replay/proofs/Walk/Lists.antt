@@ -13,7 +13,7 @@ use Rattle.tok_core.specs.Forest.{Tree}
 use Rattle.tok_buffer.specs.Messages as messages
 use Rattle.tok_buffer.specs.Place.{Place, empty_place, at}
 use Rattle.tok_buffer.specs.Reads.{read_punctuation}
-use Rattle.tok_buffer.specs.Refusals.{Refusal}
+use Rattle.tok_buffer.specs.declared.error.Message.{Message}
 use Rattle.tok_types.specs.Looks.{Finds}
 use Rattle.tok_types.specs.Texts.{punctuation_word}
 use Rattle.tok_types.specs.declared.punctuation.Punctuation.{Punctuation}
@@ -21,7 +21,7 @@ use Rattle.syn_parse.specs.Faults.{IsMemory, Refuses}
 use Rattle.syn_parse.specs.Parses.{AreSpans, PunctuationParses}
 use Rattle.syn_parse.specs.Reads.{Call, ReadsAtOnce}
 use Rattle.syn_parse.specs.State.{State, fresh, moved}
-use Rattle.syn_parse.specs.RefusalWords.{punctuation_refusal}
+use Rattle.syn_parse.specs.ErrorWords.{punctuation_message}
 use Rattle.syn_parse.specs.declared.fault.Fault.{Fault}
 use Rattle.syn_parse.specs.declared.fault.Fault.TheVariants.{Refused, Memory}
 use Rattle.syn_punctuated.specs.Lists.{values_of, separators_of}
@@ -35,20 +35,21 @@ use Rattle.syn_punctuated.specs.declared.punctuated.Punctuated.{Punctuated}
 use Rattle.syn_replay.specs.Commands as commands
 use Rattle.syn_replay.specs.Commands.{listed_to}
 use Rattle.syn_replay.specs.Reports as reports
-use Rattle.syn_replay.specs.Kinds.{Kind, read, refusal}
+use Rattle.syn_replay.specs.Kinds.{Kind, read, kind_message}
 use Rattle.syn_replay.specs.Session.Reading.{IsRead, ReadsPieces, AfterPieces, GivesAnswer}
 use Rattle.syn_replay.specs.Session.Reading.{LeavesAt}
 use Rattle.syn_replay.specs.Session.Reading.{pair_parts, punct_pieces}
-use Rattle.syn_replay.specs.Meanings.{pieces_in, refusal_of}
+use Rattle.tok_buffer.specs.Messages.{first_message}
+use Rattle.syn_replay.specs.Meanings.{pieces_in}
 use Rattle.syn_replay.specs.Turns.{Outcome, read_all, refused_at, with_parts, is_later, no_progress}
-use Rattle.syn_replay.specs.Turns.{pieces_of, separator_refusal, Rule, terminated, separated}
+use Rattle.syn_replay.specs.Turns.{pieces_of, separator_message, Rule, terminated, separated}
 use Rattle.syn_replay.specs.Turns.{is_over}
 use Rattle.syn_replay.specs.Turns.{turns, turns_left}
 use Rattle.syn_replay.specs.declared.report.Answer.{Answer}
 use Rattle.syn_replay.specs.declared.report.Answer.TheVariants as answer
 use Rattle.syn_replay.specs.declared.report.Piece.{Piece}
 use Rattle.syn_replay.proofs.Walk.Pieces.{punctuation-pieces}
-use Rattle.syn_replay.proofs.Refusals.{refusal_of-refused, refusal_there, separator_there}
+use Rattle.syn_replay.proofs.Messages.{first_message-one, message_there, separator_there}
 use Rattle.syn_replay.proofs.Views.EnoughTurns.{more_turns_change_nothing}
 
 -- progress is to begin later
@@ -87,7 +88,7 @@ in_scope s t e = ap (λ (u : State). u.scope_span) e
 -- Calls of the value parser read tokens of this kind, as long as the parser is one that does.
 module _ {F : Type 0} (k n : ℕ) (kind : Kind) (reads : ValueCall F (Vec Piece)) (Fits : F → Type 0)
     (tells : (f g : F) (s t : State) (r : Result (Vec Piece) Fault) → Fits f → reads f s r g t
-    → ReadsPieces (read kind s.place) (refusal kind s) s r t × Fits g) where
+    → ReadsPieces (read kind s.place) (kind_message kind s) s r t × Fits g) where
   abbrev word : List ℕ
   word = punctuation_word k n
 
@@ -106,7 +107,7 @@ module _ {F : Type 0} (k n : ℕ) (kind : Kind) (reads : ValueCall F (Vec Piece)
 
   separator_in : (m t : State) (p : Punctuation k n) (x : Option (List Tree × Place))
       → read_punctuation word m.place ≡ x
-      → ReadsAtOnce (λ (v : Punctuation k n). AreSpans v.spans) x (punctuation_refusal word m) m
+      → ReadsAtOnce (λ (v : Punctuation k n). AreSpans v.spans) x (punctuation_message word m) m
       (Ok p) t → IsSeparator m t p
   separator_in m t p None e h = absurd h
   separator_in m t p (Some r) e h =
@@ -124,12 +125,12 @@ module _ {F : Type 0} (k n : ℕ) (kind : Kind) (reads : ValueCall F (Vec Piece)
   -- a separator that is refused
   record NoSeparator (m t : State) (e : Fault) : Type 0 where
     none : read_punctuation word m.place ≡ None
-    refuses : Refuses (punctuation_refusal word m) e
+    refuses : Refuses (punctuation_message word m) e
     then : t ≡ m
 
   no_separator_in : (m t : State) (f : Fault) (x : Option (List Tree × Place))
       → read_punctuation word m.place ≡ x
-      → ReadsAtOnce (λ (v : Punctuation k n). AreSpans v.spans) x (punctuation_refusal word m) m
+      → ReadsAtOnce (λ (v : Punctuation k n). AreSpans v.spans) x (punctuation_message word m) m
       (Err f) t → NoSeparator m t f
   no_separator_in m t f None e h = record { none = e; refuses = h.0; then = h.1 }
   no_separator_in m t f (Some r) e h = absurd h
@@ -203,12 +204,12 @@ module _ {F : Type 0} (k n : ℕ) (kind : Kind) (reads : ValueCall F (Vec Piece)
       (more : List (Vec Piece)) × (values_of list ≡ map turn_value turns ++ more)
       × (separators_of list ≡ map turn_separator turns)
       × (o ≡ read_all (map pieces_in more) t.place) × (t ≡ moved t.place s)
-  Concludes s o turns (Err (Refused e)) t = (w : Refusal) × (o ≡ refused_at w t.place)
-      × (e ≡ messages.refused w) × (t ≡ moved t.place s)
+  Concludes s o turns (Err (Refused e)) t = (w : Message) × (o ≡ refused_at w t.place)
+      × (e ≡ messages.one_message w) × (t ≡ moved t.place s)
   Concludes s o turns (Err (Memory e)) t = Unit {0}
 
   concludes_refused : (s : State) (o : Outcome) (turns : List T) (f : Fault)
-      (r : Result (Punctuated (Vec Piece) (Punctuation k n)) Fault) (t : State) (w : Refusal)
+      (r : Result (Punctuated (Vec Piece) (Punctuation k n)) Fault) (t : State) (w : Message)
       → r ≡ Err f → Refuses w f → o ≡ refused_at w t.place → t ≡ moved t.place s
       → Concludes s o turns r t
   concludes_refused s o turns (Refused e) r t w q h i j = rw q (w, i, h, j)
@@ -222,16 +223,16 @@ module _ {F : Type 0} (k n : ℕ) (kind : Kind) (reads : ValueCall F (Vec Piece)
 
   -- a value that is refused
   concludes_no_value : (s : State) (o : Outcome) (turns : List T) (f : Fault)
-      (r : Result (Punctuated (Vec Piece) (Punctuation k n)) Fault) (t : State) (w : Refusal)
-      → ReadsPieces (read kind s.place) (refusal kind s) s (Err f) t → r ≡ Err f
-      → refusal kind s ≡ w
+      (r : Result (Punctuated (Vec Piece) (Punctuation k n)) Fault) (t : State) (w : Message)
+      → ReadsPieces (read kind s.place) (kind_message kind s) s (Err f) t → r ≡ Err f
+      → kind_message kind s ≡ w
       → (read kind s.place ≡ None → o ≡ refused_at w s.place) → Concludes s o turns r t
   concludes_no_value s o turns (Refused e) r t w h q same i =
       rw q (
         w,
         i h.0 ∙ ap (λ (u : State). refused_at w u.place) (sym h.2),
         h.1
-            ∙ ap messages.refused same,
+            ∙ ap messages.one_message same,
         here s t h.2,
       )
   concludes_no_value s o turns (Memory e) r t w h q same i = rw q tt
@@ -241,8 +242,8 @@ module _ {F : Type 0} (k n : ℕ) (kind : Kind) (reads : ValueCall F (Vec Piece)
       → State → Type 0
   Told s o (Ok list) t = (o ≡ read_all (flat_map (pair_parts word)
       (paired (values_of list) (separators_of list))) t.place) × (t ≡ moved t.place s)
-  Told s o (Err (Refused e)) t = (w : Refusal) × (o ≡ refused_at w t.place)
-      × (e ≡ messages.refused w) × (t ≡ moved t.place s)
+  Told s o (Err (Refused e)) t = (w : Message) × (o ≡ refused_at w t.place)
+      × (e ≡ messages.one_message w) × (t ≡ moved t.place s)
   Told s o (Err (Memory e)) t = Unit {0}
 
   told : (s m t : State) (whole rest : Outcome) (turns : List T)
@@ -299,7 +300,7 @@ module _ {F : Type 0} (k n : ℕ) (kind : Kind) (reads : ValueCall F (Vec Piece)
     -- the separator of a value is refused
     without : (rule : Rule) (m : ℕ) (p q : Place) (ts : List Tree) → is_over rule p ≡ false
         → read kind p ≡ Some (ts, q) → (run_rule rule).goes_on q → read_punctuation word q ≡ None
-        → rounds rule (suc m) p ≡ refused_at (separator_refusal kind word scope q) q
+        → rounds rule (suc m) p ≡ refused_at (separator_message kind word scope q) q
     without terminated m p q ts a b c d = rw (a, b, c, d) refl
     without separated m p q ts a b c d = absurd (false≢true (ap is_some (sym d) ∙ sym c))
 
@@ -319,7 +320,7 @@ module _ {F : Type 0} (k n : ℕ) (kind : Kind) (reads : ValueCall F (Vec Piece)
     stopped m p q r ts us a b c d e = rw (a, b, c, d, e) refl
 
     none : (m : ℕ) (p : Place) → is_over rule p ≡ false → read kind p ≡ None
-        → rounds scope rule (suc m) p ≡ refused_at (refusal kind (fresh p scope)) p
+        → rounds scope rule (suc m) p ≡ refused_at (kind_message kind (fresh p scope)) p
     none m p a b = rw (a, b) refl
 
     at_the_end : (m : ℕ) (p : Place) → is_over rule p ≡ true
@@ -393,20 +394,20 @@ module _ {F : Type 0} (k n : ℕ) (kind : Kind) (reads : ValueCall F (Vec Piece)
         )
     ended m turns f s t (Err x) fit e (bare v g b i h) = absurd h
     ended m turns f s t r fit e (value_refused x g b q) =
-        concludes_no_value s _ turns x r t (refusal kind (fresh s.place scope))
+        concludes_no_value s _ turns x r t (kind_message kind (fresh s.place scope))
         (tells f g s t (Err x) fit b.1).0 q
-        (refusal_there kind s ∙ ap (λ z. refusal kind (fresh s.place z)) e)
+        (message_there kind s ∙ ap (λ z. kind_message kind (fresh s.place z)) e)
         (λ h. none m s.place (begins rule s.place b.0) h)
     ended m turns f s t r fit e (separator_refused v g u x b i h q) =
         let w = value f g s u v fit b.1 in
         let p = no_separator u t x h in
         let back : t.place ≡ u.place = ap (λ (z : State). z.place) p.then in
-        concludes_refused s _ turns x r t (punctuation_refusal word u) q p.refuses
+        concludes_refused s _ turns x r t (punctuation_message word u) q p.refuses
         (without scope rule m s.place u.place w.trees (begins rule s.place b.0) w.is i p.none
-        ∙ ap (λ z. refused_at (punctuation_refusal word (fresh u.place z)) u.place)
+        ∙ ap (λ z. refused_at (punctuation_message word (fresh u.place z)) u.place)
         (sym (in_scope s u w.then ∙ e))
         ∙ ap (λ z. refused_at z u.place) (sym (separator_there word u))
-        ∙ ap (refused_at (punctuation_refusal word u)) (sym back))
+        ∙ ap (refused_at (punctuation_message word u)) (sym back))
         (along s u t w.then (here u t p.then))
     ended m turns f s t r fit e (value_lost v g x b i h q) = concludes_lost s _ turns x r t q h
     ended m turns f s t r fit e (turn_lost turn x i q h j) = concludes_lost s _ turns x r t j h
@@ -450,17 +451,17 @@ module _ {F : Type 0} (k n : ℕ) (kind : Kind) (reads : ValueCall F (Vec Piece)
     h.1 ∙ ap (λ z. moved (listed_to z).1 s) (sym h.0),
   )
 
-  told-refusal : (s t : State) (o : Outcome) (f : Fault) → Told s o (Err f) t
+  told-error : (s t : State) (o : Outcome) (f : Fault) → Told s o (Err f) t
       → GivesAnswer (listed_to o).0 (Err f) × LeavesAt (Err f) t (moved (listed_to o).1 s)
-  told-refusal s t o (Refused e) h =
-      let same : refusal_of e ≡ h.0 = ap refusal_of h.2 ∙ refusal_of-refused h.0 in (
+  told-error s t o (Refused e) h =
+      let same : first_message e ≡ h.0 = ap first_message h.2 ∙ first_message-one h.0 in (
         (
           ap reports.refused same ∙ ap (λ z. (listed_to z).0) (sym h.1),
-          h.2 ∙ ap messages.refused (sym same),
+          h.2 ∙ ap messages.one_message (sym same),
         ),
         h.3 ∙ ap (λ z. moved (listed_to z).1 s) (sym h.1),
       )
-  told-refusal s t o (Memory e) h = (tt, tt)
+  told-error s t o (Memory e) h = (tt, tt)
 
   module _ (rule : Rule) (text : List ℕ) (is : text ≡ word) where
     pub list-read : (f : F) (s t : State) (list : Punctuated (Vec Piece) (Punctuation k n))
@@ -479,4 +480,4 @@ module _ {F : Type 0} (k n : ℕ) (kind : Kind) (reads : ValueCall F (Vec Piece)
         → IsRead (commands.list rule kind text) s r t
     list-refused f s t e r fit run q =
         rw q (subst (λ z. IsRead (commands.list rule kind z) s (Err e) t) (sym is)
-        (told-refusal s t _ e (list-told rule f s t (Err e) fit run)))
+        (told-error s t _ e (list-told rule f s t (Err e) fit run)))

@@ -7,7 +7,7 @@ use Rattle.syn_replay.specs.Commands.{Command}
 use Rattle.syn_replay.specs.Commands as spec
 use Rattle.syn_replay.specs.Session.State.{State, stream_at}
 use Rattle.syn_replay.specs.Session.State as states
-use Rattle.syn_replay.specs.Session.Step.{any_of, is_missing, is_spent, kind_refusal, misuse, named}
+use Rattle.syn_replay.specs.Session.Step.{any_of, is_missing, is_spent, kind_misuse, misuse, named}
 use Rattle.syn_replay.specs.Session.Step.{other_named, tested, with_other}
 use Rattle.syn_replay.proofs.Walk.Changes.{there_within}
 
@@ -23,7 +23,7 @@ none_missing : (c : Command) (st : State) → misuse c st ≡ None
 none_missing c st h = go (any_of (is_missing st) (named c)) h where
   go : (b : Bool) → cond {A =
       Option ℕ} b (Some 1) (cond (any_of (is_spent st) (named c)) (Some 2)
-      (kind_refusal c.action st c.stream)) ≡ None → b ≡ false
+      (kind_misuse c.action st c.stream)) ≡ None → b ≡ false
   go true q = cc
   go false q = refl
 

@@ -17,7 +17,8 @@ use Rattle.tok_buffer.specs.Entry.{Entered}
 use Rattle.tok_buffer.specs.Order.{same_scope}
 use Rattle.tok_buffer.specs.Place.{Place}
 use Rattle.tok_buffer.specs.Reads as reads
-use Rattle.tok_buffer.specs.Refusals.{Refusal, at_stream}
+use Rattle.tok_buffer.specs.Messages.{at_stream}
+use Rattle.tok_buffer.specs.declared.error.Message.{Message}
 use Rattle.syn_parse.specs.Parses.{read_group}
 use Rattle.syn_replay.specs.Commands as commands
 use Rattle.syn_replay.specs.Commands.{Action, Command, Read, listed_to, looked, parsed, read_answer}
@@ -37,7 +38,7 @@ use Rattle.syn_replay.specs.Session.State.{is_open_content_of}
 use Rattle.syn_replay.specs.Session.State.{is_content_of, advanced, taken_over, is_inside}
 use Rattle.syn_replay.specs.Session.State.{first_state, is_within, position_of}
 use Rattle.syn_replay.specs.Session.Step.{Stepped, any_of, is_content, is_missing}
-use Rattle.syn_replay.specs.Session.Step.{kind_refusal, misuse, moves, named, other_named}
+use Rattle.syn_replay.specs.Session.Step.{kind_misuse, misuse, moves, named, other_named}
 use Rattle.syn_replay.specs.Session.Step.{with_other}
 use Rattle.syn_replay.specs.Session.Step.{new_stream, into_group, on_stream, place_of, stays, step}
 use Rattle.syn_replay.specs.Session.Step.{step_on, tested, position_in, line}
@@ -62,7 +63,7 @@ chosen st o r = elim o [ Some n ↦ stays st (unfit n) | None ↦ r ]
 -- a read makes no stream, so its answer names none
 taken_unchanged : (answers : List Tree → Answer)
     → ((ts : List Tree) → answer_on_fork (answers ts) ≡ answers ts)
-    → (words : Refusal) (p : Place) (r : Option (List Tree × Place))
+    → (words : Message) (p : Place) (r : Option (List Tree × Place))
     → answer_on_fork (commands.taken answers words p r).0 ≡ (commands.taken answers words p r).0
 taken_unchanged answers same words p None = refl
 taken_unchanged answers same words p (Some r) = same r.0
@@ -504,7 +505,7 @@ module _ (front : State) (k : ℕ) (s0 : Stream) (here : stream_at front k ≡ S
 
   -- an action that names no other stream, from what it asks of the stream's kind
   follow : (x y : State) → Beside x y → (j : ℕ) → Own j → (a : Action) → other_named a ≡ None
-      → kind_refusal a x j ≡ kind_refusal a y (on j) → DoesSame a x y j
+      → kind_misuse a x j ≡ kind_misuse a y (on j) → DoesSame a x y j
       → Follows (commands.on j a) (commands.on (on j) a) x y
   follow x y b j own a alone kinds same =
       let c = commands.on j a in

@@ -16,11 +16,11 @@ use Rattle.tok_buffer.specs.Descent.{descend}
 use Rattle.tok_buffer.specs.Place.{Place, front, pass}
 use Rattle.tok_buffer.specs.Reads.{and_then, is_joint_of, is_punct_of, read_punctuation, sized}
 use Rattle.tok_buffer.specs.Reads as reads
-use Rattle.tok_buffer.specs.Refusals.{Refusal}
+use Rattle.tok_buffer.specs.declared.error.Message.{Message}
 use Rattle.syn_parse.specs.Parses.{AreSpans, PunctuationParses, ascii_chars}
 use Rattle.syn_parse.specs.Reads.{Reads, ReadsAtOnce}
 use Rattle.syn_parse.specs.State.{State}
-use Rattle.syn_parse.specs.RefusalWords.{punctuation_refusal}
+use Rattle.syn_parse.specs.ErrorWords.{punctuation_message}
 use Rattle.syn_parse.specs.declared.fault.Fault.{Fault}
 use Rattle.syn_parse.specs.declared.fault.Fault.TheVariants.{Refused, Memory}
 use Rattle.syn_replay.specs.Reports as reports
@@ -29,7 +29,7 @@ use Rattle.syn_replay.specs.Session.Reading.{ArePieces, AfterPieces, ReadsPieces
 use Rattle.syn_replay.specs.Meanings.{piece_of}
 use Rattle.syn_replay.specs.declared.report.Piece.{Piece}
 
-module _ {T : Type 0} (Means : T → List Tree → Type 0) (words : Refusal) (s : State) where
+module _ {T : Type 0} (Means : T → List Tree → Type 0) (words : Message) (s : State) where
   -- a value that is read, as its pieces
   read-pieces : (x : Option (List Tree × Place)) (v : T) (ps : Vec Piece) (t : State)
       → ((ts : List Tree) → Means v ts → ArePieces ts ps) → Reads Means x words s (Ok v) t
@@ -46,14 +46,14 @@ module _ {T : Type 0} (Means : T → List Tree → Type 0) (words : Refusal) (s 
 
 -- the same of a value that stands for its trees
 pub value-pieces : {T : Type 0} (trees_of : T
-    → List Tree) (words : Refusal) (s : State) (x : Option (List Tree × Place)) (v : T)
+    → List Tree) (words : Message) (s : State) (x : Option (List Tree × Place)) (v : T)
     (ps : Vec Piece) (t : State) → Reads (λ v ts. ts ≡ trees_of v) x words s (Ok v) t
     → ArePieces (trees_of v) ps → AfterPieces x s ps t
 value-pieces trees_of words s x v ps t h made =
     read-pieces (λ v ts. ts ≡ trees_of v) words s x v ps t (λ ts m. made ∙ ap pieces_of (sym m)) h
 
 pub value-pieces-at-once : {T : Type 0} (trees_of : T
-    → List Tree) (words : Refusal) (s : State) (x : Option (List Tree × Place)) (v : T)
+    → List Tree) (words : Message) (s : State) (x : Option (List Tree × Place)) (v : T)
     (ps : Vec Piece) (t : State) → ReadsAtOnce (λ v ts. ts ≡ trees_of v) x words s (Ok v) t
     → ArePieces (trees_of v) ps → AfterPieces x s ps t
 value-pieces-at-once trees_of words s x v ps t h made =
@@ -213,7 +213,7 @@ module _ (n : ℕ) (text : List ℕ) (same : sized n text ≡ text) (ascii : cha
   sized-pieces s spans ps t h made =
       let P : List ℕ → Type 0 = λ z. PunctuationParses (λ v. v) z (sized n text) s (Ok spans) t in
       let Q : List ℕ → Type 0 = λ z. PunctuationParses (λ v. v) text z s (Ok spans) t in
-      at-once-pieces (λ v. AreSpans v) (punctuation_refusal text s) s
+      at-once-pieces (λ v. AreSpans v) (punctuation_message text s) s
       (read_punctuation text s.place) spans ps t (λ ts m e.
       made ∙ ap (punct_pieces text) m
       ∙ sym (punctuation-pieces text s.place (ts, t.place) e))
@@ -222,14 +222,14 @@ module _ (n : ℕ) (text : List ℕ) (same : sized n text ≡ text) (ascii : cha
   -- one that is refused
   pub sized-refused : (s : State) (f : Fault) (t : State)
       → PunctuationParses (λ v. v) (ascii_chars (sized n text)) (sized n text) s (Err f) t
-      → ReadsPieces (read_punctuation text s.place) (punctuation_refusal text s) s (Err f) t
+      → ReadsPieces (read_punctuation text s.place) (punctuation_message text s) s (Err f) t
   sized-refused s f t h =
       let P : List ℕ → Type 0 = λ z. PunctuationParses (λ v. v) z (sized n text) s (Err f) t in
       let Q : List ℕ → Type 0 = λ z. PunctuationParses (λ v. v) text z s (Err f) t in
       refused (read_punctuation text s.place) f (subst Q same (subst P own_chars h)) where
         refused : (x : Option (List Tree × Place)) (f : Fault)
-            → ReadsAtOnce (λ v. AreSpans v) x (punctuation_refusal text s) s (Err f) t
-            → ReadsPieces x (punctuation_refusal text s) s (Err f) t
+            → ReadsAtOnce (λ v. AreSpans v) x (punctuation_message text s) s (Err f) t
+            → ReadsPieces x (punctuation_message text s) s (Err f) t
         refused None (Refused e) h = (refl, h.0, h.1)
         refused x (Memory e) h = tt
         refused (Some r) (Refused e) h = absurd h

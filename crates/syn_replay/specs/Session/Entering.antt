@@ -3,7 +3,7 @@ use Rattle.std.specs.Prelude.{ℕ, List, Option, Some, None, codes}
 use Rattle.tok_lexical.specs.declared.delimiter.Delimiter.{Delimiter}
 use Rattle.tok_buffer.specs.Entry.{Entered, enter, enter_any}
 use Rattle.tok_buffer.specs.Place.{Place}
-use Rattle.syn_parse.specs.RefusalWords.{delimiter_words}
+use Rattle.syn_parse.specs.ErrorWords.{delimiter_words}
 
 -- the group of the delimiter that is wanted, or any
 abbrev pub entered_by : Option Delimiter → Place → Option Entered

@@ -6,7 +6,6 @@ use Rattle.tok_leaves.specs.declared.span.Span.{Span}
 use Rattle.tok_core.specs.Forest.{Tree}
 use Rattle.tok_buffer.specs.Messages as messages
 use Rattle.tok_buffer.specs.Place.{Place}
-use Rattle.tok_buffer.specs.Refusals.{Refusal}
 use Rattle.tok_buffer.specs.declared.error.Message.{Message}
 use Rattle.syn_parse.specs.State as parse
 use Rattle.syn_parse.specs.State.{moved}
@@ -18,7 +17,8 @@ use Rattle.tok_types.specs.declared.punctuation.Punctuation.{Punctuation}
 use Rattle.syn_replay.specs.Commands.{Action, Read, read, read_answer}
 use Rattle.syn_replay.specs.Reports as reports
 use Rattle.syn_replay.specs.Turns.{Rule, pieces_of, terminated, separated}
-use Rattle.syn_replay.specs.Meanings.{IsAnswer, IsOneMessage, piece_of, pieces_in, refusal_of}
+use Rattle.tok_buffer.specs.Messages.{first_message}
+use Rattle.syn_replay.specs.Meanings.{IsAnswer, IsOneMessage, piece_of, pieces_in}
 use Rattle.syn_replay.specs.declared.report.Answer.{Answer}
 use Rattle.syn_replay.specs.declared.report.Piece.{Piece}
 use Rattle.syn_replay.specs.declared.session.lists.Form.{Form}
@@ -49,21 +49,21 @@ AfterPieces x s ps t =
 
 -- Where trees are read, their pieces are answered and the stream is after them; where none
 -- are, the call refuses and the stream stays. An allocation failure may come instead of both.
-abbrev pub ReadsPieces : Option (List Tree × Place) → Refusal → parse.State →
+abbrev pub ReadsPieces : Option (List Tree × Place) → Message → parse.State →
     Result (Vec Piece) Fault → parse.State → Type 0
 ReadsPieces x words s (Ok ps) t = AfterPieces x s ps t
 ReadsPieces x words s (Err (Refused e)) t =
-    (x ≡ None) × (e ≡ messages.refused words) × (t ≡ s)
+    (x ≡ None) × (e ≡ messages.one_message words) × (t ≡ s)
 ReadsPieces x words s (Err (Memory e)) t = Unit {0}
 
--- a refusal, in one message
-abbrev pub IsRefusal : List Message → reports.Answer → Type 0
-IsRefusal e x = (reports.refused (refusal_of e) ≡ x) × IsOneMessage e
+-- an error, in one message
+abbrev pub IsErrorAnswer : List Message → reports.Answer → Type 0
+IsErrorAnswer e x = (reports.refused (first_message e) ≡ x) × IsOneMessage e
 
--- an answer, or its refusal
+-- an answer, or its error
 abbrev pub GivesAnswer : reports.Answer → Result Answer Fault → Type 0
 GivesAnswer x (Ok a) = IsAnswer a x
-GivesAnswer x (Err (Refused e)) = IsRefusal e x
+GivesAnswer x (Err (Refused e)) = IsErrorAnswer e x
 GivesAnswer x (Err (Memory e)) = Unit {0}
 
 -- where the stream is then; nothing is said of an allocation failure

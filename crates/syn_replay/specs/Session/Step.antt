@@ -6,7 +6,7 @@ use Rattle.tok_leaves.specs.Spans.{closing_span}
 use Rattle.tok_buffer.specs.Entry.{Entered}
 use Rattle.tok_buffer.specs.Order.{same_scope}
 use Rattle.tok_buffer.specs.Place.{Place, empty_place}
-use Rattle.tok_buffer.specs.Refusals.{at_stream}
+use Rattle.tok_buffer.specs.Messages.{at_stream}
 use Rattle.syn_replay.specs.Commands.{Action, Command, read, enter, fork, advance, discard, close}
 use Rattle.syn_replay.specs.Commands.{read_answer}
 use Rattle.syn_replay.specs.Reports.{Answer, entered, forked, done, refused, unfit, Position, missing}
@@ -100,18 +100,18 @@ is_content k = false
 abbrev pub of_kind : (StreamKind → Bool) → State → ℕ → Bool
 of_kind test st k = tested false (λ s. test s.kind) (stream_at st k)
 
--- what a command asks of the kinds of its streams: none, or the number of the refusal
-abbrev pub kind_refusal : Action → State → ℕ → Option ℕ
-kind_refusal (advance f) st k = cond (of_kind is_fork st f) None (Some 3)
-kind_refusal discard st k = cond (of_kind is_fork st k) None (Some 3)
-kind_refusal close st k = cond (of_kind is_content st k) None (Some 4)
-kind_refusal a st k = None
+-- what a command asks of the kinds of its streams: none, or the number of the misuse
+abbrev pub kind_misuse : Action → State → ℕ → Option ℕ
+kind_misuse (advance f) st k = cond (of_kind is_fork st f) None (Some 3)
+kind_misuse discard st k = cond (of_kind is_fork st k) None (Some 3)
+kind_misuse close st k = cond (of_kind is_content st k) None (Some 4)
+kind_misuse a st k = None
 
--- the first refusal of the streams that a command names
+-- the first misuse of the streams that a command names
 abbrev pub misuse : Command → State → Option ℕ
 misuse c st =
     cond (any_of (is_missing st) (named c)) (Some 1)
-    (cond (any_of (is_spent st) (named c)) (Some 2) (kind_refusal c.action st c.stream))
+    (cond (any_of (is_spent st) (named c)) (Some 2) (kind_misuse c.action st c.stream))
 
 abbrev pub step_on : Action → State → ℕ → Option Stream → Stepped
 step_on a st k None = stays st (unfit 1)

@@ -10,7 +10,8 @@ use Rattle.syn_replay.specs.Reports.{Position, missing}
 use Rattle.syn_replay.specs.Session.State.{State, position_of, stream_at}
 use Rattle.syn_replay.specs.Session.Step.{Stepped, step, line}
 use Rattle.syn_replay.specs.Session.Walk.{lines_from, last_state}
-use Rattle.syn_replay.specs.Meanings.{IsAnswer, IsPlain, answer_of, line_of, refusal_of}
+use Rattle.tok_buffer.specs.Messages.{first_message}
+use Rattle.syn_replay.specs.Meanings.{IsAnswer, IsPlain, answer_of, line_of}
 use Rattle.syn_replay.specs.Meanings.{IsOneMessage}
 use Rattle.syn_replay.specs.declared.command.Command.{Command}
 use Rattle.syn_replay.specs.declared.report.Answer.{Answer}
@@ -26,7 +27,7 @@ IsLine l new old c =
     (line_of l ≡ line (command_of c) old) × IsPlain l.answer
     × (new ≡ (step (command_of c) old).state)
 
--- the errors of all refusals are of one message
+-- all errors are of one message
 abbrev pub ArePlain : List Line → Type 0
 ArePlain ls = All (λ l. IsPlain l.answer) ls
 
@@ -35,10 +36,10 @@ HasRun ls new old cs =
     (map line_of ls ≡ lines_from old (map command_of cs)) × ArePlain ls
     × (new ≡ last_state old (map command_of cs))
 
--- a stream's fault as an answer: a refusal's error, or an allocation failure
+-- a stream's fault as an answer: its error, or an allocation failure
 abbrev pub Answers : Fault → Result Answer AllocError → Type 0
 Answers (Refused e) (Ok a) =
-    (answer_of a ≡ reports.refused (refusal_of e)) × (IsOneMessage e → IsPlain a)
+    (answer_of a ≡ reports.refused (first_message e)) × (IsOneMessage e → IsPlain a)
 Answers (Refused e) (Err m) = ⊥
 Answers (Memory e) (Ok a) = ⊥
 Answers (Memory e) (Err m) = Unit {0}

@@ -1,7 +1,7 @@
 -- A list of commands, one after the other, and the verdict.
 use Rattle.std.specs.Prelude.{List, [], ◌∷◌, Option, Some, None}
 use Rattle.tok_core.specs.Forest.{Forest}
-use Rattle.syn_parse.specs.RefusalWords.{leftover_refusal}
+use Rattle.syn_parse.specs.ErrorWords.{leftover_message}
 use Rattle.syn_replay.specs.Commands.{Command}
 use Rattle.syn_replay.specs.Reports.{Line, Verdict, accepted, left_over, Report}
 use Rattle.syn_replay.specs.Session.State.{Stream, State, first_state, stream_at, closed_inside}
@@ -20,7 +20,7 @@ last_state st (c ∷ cs) = last_state (step c st).state cs
 abbrev pub stream_verdict : Option Stream → Verdict
 stream_verdict None = accepted
 stream_verdict (Some s) =
-    elim (handed_note s) [ None ↦ accepted | Some l ↦ left_over (leftover_refusal l) ]
+    elim (handed_note s) [ None ↦ accepted | Some l ↦ left_over (leftover_message l) ]
 
 abbrev pub verdict : State → Verdict
 verdict st = stream_verdict (stream_at (closed_inside 0 st) 0)

@@ -3,7 +3,8 @@ ghost use Rattle.std.specs.Prelude.{◌≡◌, ◌++◌, Some, codes, map};
 ghost use Rattle.std.specs.Fmt.{WritesOnOk};
 ghost use Rattle.std.specs.List.{flat_map};
 ghost use Rattle.syn_replay.specs.ReportText as spec;
-ghost use Rattle.syn_replay.specs.Meanings.{piece_of, pieces_in, refusal_of, answer_of, position_of, line_of, verdict_of, report_of};
+ghost use Rattle.tok_buffer.specs.Messages.{first_message};
+ghost use Rattle.syn_replay.specs.Meanings.{piece_of, pieces_in, answer_of, position_of, line_of, verdict_of, report_of};
 
 use crate::report::{Answer, Line, Piece, Position, Report, Verdict};
 use std::fmt;
@@ -52,7 +53,7 @@ impl fmt::Display for Answer {
                 f.write_str("span ")?;
                 write_span(f, *span)
             }
-            Answer::Refused(error) => write_refusal(f, error),
+            Answer::Refused(error) => write_message(f, error),
             Answer::Unfit(number) => write!(f, "refused C{number}"),
         }
     }
@@ -83,7 +84,7 @@ impl fmt::Display for Verdict {
     fn fmt<W: Write>(&self, f: &mut Formatter<W>) -> fmt::Result {
         match self {
             Verdict::Accepted => f.write_str("accepted"),
-            Verdict::Refused(error) => write_refusal(f, error),
+            Verdict::Refused(error) => write_message(f, error),
         }
     }
 }
@@ -152,9 +153,9 @@ fn write_trees<W: Write>(f: &mut Formatter<W>, stream: &TokenStream) -> fmt::Res
 }
 
 // Writes `refused`, the span and the text.
-fn write_refusal<W: Write>(f: &mut Formatter<W>, error: &Error) -> fmt::Result
+fn write_message<W: Write>(f: &mut Formatter<W>, error: &Error) -> fmt::Result
     ensures { WritesOnOk W.write_str_gives f.old result
-        (spec.refusal_text (refusal_of error.now)) f.new }
+        (spec.message_text (first_message error.now)) f.new }
 {
     f.write_str("refused ")?;
     write_span(f, error.span())?;

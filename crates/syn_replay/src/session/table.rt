@@ -1,7 +1,7 @@
 //! Commands on the table of streams.
 ghost use Rattle.std.specs.Prelude.{◌≡◌, ◌<◌, length, Some, IfOk};
 ghost use Rattle.syn_parse.specs.Groups.{AreParts, Enters};
-ghost use Rattle.syn_parse.specs.RefusalWords.{refused_at};
+ghost use Rattle.syn_parse.specs.ErrorWords.{refused_at};
 ghost use Rattle.syn_replay.specs.Commands as commands;
 ghost use Rattle.syn_replay.specs.Session.State.{stream_at};
 ghost use Rattle.syn_replay.specs.Session.Step.{on_stream};

@@ -3,7 +3,7 @@ ghost use Rattle.std.specs.Prelude.{◌≡◌, ◌≤◌, length};
 ghost use Rattle.std.specs.Str.{chars};
 ghost use Rattle.tok_buffer.specs.Reads.{read_keyword, read_punctuation};
 ghost use Rattle.tok_types.specs.Texts.{in_backquotes};
-ghost use Rattle.syn_parse.specs.RefusalWords.{expected, refused_at, punctuation_refusal};
+ghost use Rattle.syn_parse.specs.ErrorWords.{expected, refused_at, punctuation_message};
 ghost use Rattle.syn_replay.specs.Kinds as spec;
 ghost use Rattle.syn_replay.specs.Session.Reading.{ReadsPieces};
 ghost use Rattle.syn_replay.specs.Meanings.{kind_of};
@@ -19,7 +19,7 @@ use tok_types::token::{keyword_text, punctuation_text};
 /// Parses a token of this kind.
 pub fn parse(input: ParseStream<'_, '_>, kind: Kind) -> Result<Vec<Piece>>
     ensures { ReadsPieces (spec.read (kind_of kind) input.old.place)
-        (spec.refusal (kind_of kind) input.old) input.old result input.new }
+        (spec.kind_message (kind_of kind) input.old) input.old result input.new }
 {
     let alloc = input.allocator();
     match kind {
@@ -68,7 +68,7 @@ fn punctuation(input: ParseStream<'_, '_>, text: &str) -> Result<Vec<Piece>>
     requires short { length text.now ≤ 3 }
     requires ascii { chars text.now ≡ text.now }
     ensures { ReadsPieces (read_punctuation text.now input.old.place)
-        (punctuation_refusal text.now input.old) input.old result input.new }
+        (punctuation_message text.now input.old) input.old result input.new }
 {
     let alloc = input.allocator();
     match text.len() {

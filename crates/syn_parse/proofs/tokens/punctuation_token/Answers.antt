@@ -4,7 +4,7 @@ use Rattle.tok_buffer.specs.Reads.{read_punctuation, sized}
 use Rattle.tok_types.specs.Texts.{punctuation_word}
 use Rattle.tok_types.specs.declared.punctuation.Punctuation.{Punctuation}
 use Rattle.syn_parse.specs.Parses.{AreSpans, PunctuationParses, ascii_chars}
-use Rattle.syn_parse.specs.RefusalWords.{punctuation_refusal}
+use Rattle.syn_parse.specs.ErrorWords.{punctuation_message}
 use Rattle.tok_types.proofs.Words.{punctuation-chars}
 use Rattle.syn_parse.proofs.Puncts.{ascii_chars-same}
 use Rattle.syn_parse.proofs.Reading.{at-once-made, at-once-stops}
@@ -23,7 +23,7 @@ returns g c =
     c.args.input.now (Ok c.in_ok-spans.spans) c.punct.new.input)
     (ascii_chars-same word (punctuation-chars g.row.K g.row.N)) by_text in
     at-once-made AreSpans (λ (p : Punctuation g.row.K g.row.N). AreSpans p.spans)
-    (punctuation_refusal word c.args.input.now) c.args.input.now
+    (punctuation_message word c.args.input.now) c.args.input.now
     (read_punctuation word c.args.input.now.place) c.in_ok-spans.spans c.new.result
     c.punct.new.input (λ ts h. c.new.ensures ∙ h) read
 
@@ -40,6 +40,6 @@ returns-in_err-spans g c =
     c.args.input.now (Err c.in_err-spans.field-0.0) c.punct.new.input)
     (ascii_chars-same word (punctuation-chars g.row.K g.row.N)) by_text in
     at-once-stops AreSpans (λ (p : Punctuation g.row.K g.row.N). AreSpans p.spans)
-    (punctuation_refusal word c.args.input.now) c.args.input.now
+    (punctuation_message word c.args.input.now) c.args.input.now
     (read_punctuation word c.args.input.now.place) c.in_err-spans.field-0.0
     c.from_residual.result c.punct.new.input c.from_residual.ensures.1 read

@@ -5,7 +5,7 @@ use Rattle.tok_buffer.specs.Reads.{read_ident}
 use Rattle.tok_types.specs.Texts.{accept_as_ident, in_backquotes}
 use Rattle.syn_parse.specs.Faults.{Refuses}
 use Rattle.syn_parse.specs.Parses.{IsIdent}
-use Rattle.syn_parse.specs.RefusalWords.{refused_at}
+use Rattle.syn_parse.specs.ErrorWords.{refused_at}
 use Rattle.syn_parse.proofs.Names.{ident-none, ident-keyword, ident-value}
 use Rattle.syn_parse.proofs.Reading.{reads-stops}
 use Rattle.syn_parse.proofs.trees.ident.Goals as goal

@@ -4,7 +4,7 @@ use Rattle.tok_buffer.specs.Cursors.{place_of}
 use Rattle.tok_buffer.specs.Reads.{any_text, read_lifetime}
 use Rattle.syn_parse.specs.Faults.{Refuses}
 use Rattle.syn_parse.specs.Parses.{accept_as_lifetime}
-use Rattle.syn_parse.specs.RefusalWords.{refused_at}
+use Rattle.syn_parse.specs.ErrorWords.{refused_at}
 use Rattle.syn_parse.proofs.Names.{lifetime-none, lifetime-keyword, lifetime-value}
 use Rattle.syn_parse.proofs.trees.lifetime.Goals as goal
 

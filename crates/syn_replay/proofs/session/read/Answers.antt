@@ -36,15 +36,15 @@ module _ (st : State) (k : ℕ) (s : states.Stream) (here : stream_at st k ≡ S
   answer_read commands.discard is x t new h e = cc
   answer_read commands.close is x t new h e = cc
 
-  refusal_read : (a : Action) → is_read a ≡ true → (f : Fault) (t : parse.State) (new : State)
+  error_read : (a : Action) → is_read a ≡ true → (f : Fault) (t : parse.State) (new : State)
       (result : Result Answer AllocError) → IsDone a (at_rest s) (Err f) t
       → new ≡ with_stream st k (put t) → Answers f result
       → IfOk result (λ x. IsStepped x new (on_stream a st k s))
-  refusal_read (commands.read r) is (Refused m) t new (Ok x) h e q =
+  error_read (commands.read r) is (Refused m) t new (Ok x) h e q =
       ((q.0 ∙ h.0.0, q.1 h.0.1), put_there new t _ e h.1)
-  refusal_read a is f t new (Err w) h e q = tt
-  refusal_read a is (Memory m) t new (Ok x) h e q = absurd q
-  refusal_read a is f t new (Ok x) h e q = cc
+  error_read a is f t new (Err w) h e q = tt
+  error_read a is (Memory m) t new (Ok x) h e q = absurd q
+  error_read a is f t new (Ok x) h e q = cc
 
 pub put-requires : goal.put-requires
 put-requires c =
@@ -68,7 +68,7 @@ returns-in-Err c =
     let a = (command_of c.args.command.now).action in
     let read = subst (λ s. IsDone a s (Err c.in-Err.fault) t) c.resume-input.ensures
     c.in-Err.ensures in
-    refusal_read st c.args.n (stream_of c.args.stream) c.requires.here a c.requires.read
+    error_read st c.args.n (stream_of c.args.stream) c.requires.here a c.requires.read
     c.in-Err.fault t (state_of c.put.new.self) c.refused.result read
     (c.put.ensures.after ∙ ap (λ z. with_stream st c.args.n (put z)) c.pause.ensures)
     c.refused.ensures

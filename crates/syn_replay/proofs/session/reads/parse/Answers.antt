@@ -10,30 +10,31 @@ use Rattle.syn_parse.specs.declared.fault.Fault.{Fault}
 use Rattle.syn_parse.specs.declared.fault.Fault.TheVariants.{Refused, Memory}
 use Rattle.syn_replay.specs.Commands.{taken}
 use Rattle.syn_replay.specs.Reports as reports
-use Rattle.syn_replay.specs.Kinds.{Kind, read, refusal}
-use Rattle.syn_replay.specs.Meanings.{kind_of, refusal_of}
-use Rattle.syn_replay.specs.Session.Reading.{GivesAnswer, IsRefusal, LeavesAt, ReadsPieces}
+use Rattle.syn_replay.specs.Kinds.{Kind, read, kind_message}
+use Rattle.tok_buffer.specs.Messages.{first_message}
+use Rattle.syn_replay.specs.Meanings.{kind_of}
+use Rattle.syn_replay.specs.Session.Reading.{GivesAnswer, IsErrorAnswer, LeavesAt, ReadsPieces}
 use Rattle.syn_replay.specs.Turns.{pieces_of}
-use Rattle.syn_replay.proofs.Refusals.{refusal_of-refused, refusal_there}
+use Rattle.syn_replay.proofs.Messages.{first_message-one, message_there}
 use Rattle.syn_replay.proofs.session.reads.parse.Goals as goal
 
 module _ (kind : Kind) (s : parse.State) where
   abbrev parsed_by : Option (List Tree × Place) → reports.Answer × Place
   parsed_by x =
-      taken (λ ts. reports.pieces (pieces_of ts)) (refusal kind (fresh s.place s.scope_span))
+      taken (λ ts. reports.pieces (pieces_of ts)) (kind_message kind (fresh s.place s.scope_span))
       s.place x
 
-  refusal_parsed : (t : parse.State) (f : Fault)
-      → ReadsPieces (read kind s.place) (refusal kind s) s (Err f) t
+  error_parsed : (t : parse.State) (f : Fault)
+      → ReadsPieces (read kind s.place) (kind_message kind s) s (Err f) t
       → GivesAnswer (parsed_by (read kind s.place)).0 (Err f)
       × LeavesAt (Err f) t (moved (parsed_by (read kind s.place)).1 s)
-  refusal_parsed t (Memory e) h = (tt, tt)
-  refusal_parsed t (Refused e) (none, is, left) =
-      let made = is ∙ ap messages.refused (refusal_there kind s) in
+  error_parsed t (Memory e) h = (tt, tt)
+  error_parsed t (Refused e) (none, is, left) =
+      let made = is ∙ ap messages.one_message (message_there kind s) in
       let same =
-      ap refusal_of made ∙ refusal_of-refused (refusal kind (fresh s.place s.scope_span)) in
-      subst (λ x. IsRefusal e (parsed_by x).0 × (t ≡ moved (parsed_by x).1 s)) (sym none)
-      ((ap reports.refused same, made ∙ ap messages.refused (sym same)), left)
+      ap first_message made ∙ first_message-one (kind_message kind (fresh s.place s.scope_span)) in
+      subst (λ x. IsErrorAnswer e (parsed_by x).0 × (t ≡ moved (parsed_by x).1 s)) (sym none)
+      ((ap reports.refused same, made ∙ ap messages.one_message (sym same)), left)
 
 pub returns-in_err-parse : goal.returns-in_err-parse
 returns-in_err-parse c =
@@ -43,4 +44,4 @@ returns-in_err-parse c =
     let x = parsed_by kind s (read kind s.place) in
     let e = err_from_is_err_and c.from_residual.result c.from_residual.ensures.1 in
     subst (λ r. GivesAnswer x.0 r × LeavesAt r t (moved x.1 s)) (sym (e.1 ∙ ap Err e.2))
-    (refusal_parsed kind s t c.in_err-parse.field-0.0 c.in_err-parse.ensures)
+    (error_parsed kind s t c.in_err-parse.field-0.0 c.in_err-parse.ensures)

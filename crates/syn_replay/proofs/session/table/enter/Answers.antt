@@ -2,12 +2,12 @@ use Rattle.std.proofs.Common.{◌∙◌, ap, subst, ◌++◌, [], ◌∷◌, tru
 use Rattle.tok_leaves.specs.Spans.{whole_span}
 use Rattle.syn_parse.specs.Groups.{Enters}
 use Rattle.syn_parse.specs.Pauses.{paused_state}
-use Rattle.syn_parse.specs.RefusalWords.{refused_at}
+use Rattle.syn_parse.specs.ErrorWords.{refused_at}
 use Rattle.syn_replay.specs.Reports as reports
 use Rattle.syn_replay.specs.Session.State.{with_stream, content_of, put, standing}
 use Rattle.syn_replay.specs.Session.Entering.{entered_by, entering_words}
 use Rattle.syn_replay.specs.Session.Tracks.{stream_of, state_of}
-use Rattle.syn_replay.proofs.Walk.Entering.{AreEntered, entered-value, entered-refusal}
+use Rattle.syn_replay.proofs.Walk.Entering.{AreEntered, entered-value, entered-error}
 use Rattle.syn_replay.proofs.Walk.Changes.{there_within}
 use Rattle.syn_replay.proofs.session.table.enter.Goals as goal
 
@@ -45,6 +45,6 @@ returns-in-Err c =
     let read =
     subst (λ s. Enters AreEntered (entered_by w s.place) (refused_at s (entering_words w)) s
     (Err c.in-Err.fault) c.enter_group.new.input) c.resume-input.ensures c.in-Err.ensures in
-    entered-refusal (state_of c.args.streams.now) c.args.n s c.requires (entering_words w)
+    entered-error (state_of c.args.streams.now) c.args.n s c.requires (entering_words w)
     (entered_by w s.place) c.in-Err.fault c.enter_group.new.input c.refused.result read
     c.refused.ensures

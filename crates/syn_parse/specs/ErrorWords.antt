@@ -1,4 +1,4 @@
--- The words of refusals.
+-- The texts of errors, and their messages.
 use Rattle.std.specs.Prelude.{ℕ, List, [], ◌∷◌, ◌++◌, Option, Some, None, codes}
 use Rattle.tok_lexical.specs.declared.delimiter.Delimiter.{Delimiter}
 use Rattle.tok_lexical.specs.declared.delimiter.Delimiter.TheVariants.{Parenthesis, Brace, Bracket}
@@ -9,13 +9,14 @@ use Rattle.tok_core.specs.Forest.{Tree, leaf, tree_span}
 use Rattle.tok_buffer.specs.Ahead.{Leftover}
 use Rattle.tok_buffer.specs.Place.{Place}
 use Rattle.tok_buffer.specs.Reads.{read_punct}
-use Rattle.tok_buffer.specs.Refusals.{Refusal, at_stream, stream_span}
+use Rattle.tok_buffer.specs.Messages.{at_stream, message_at, stream_span}
+use Rattle.tok_buffer.specs.declared.error.Message.{Message}
 use Rattle.tok_types.specs.Delimiters.{delimiter_display}
 use Rattle.tok_types.specs.Texts.{in_backquotes}
 use Rattle.syn_parse.specs.State.{State}
 
--- a refusal at a stream, which names the end where the stream is at its end
-abbrev pub refused_at : State → List ℕ → Refusal
+-- an error at a stream, which names the end where the stream is at its end
+abbrev pub refused_at : State → List ℕ → Message
 refused_at s words = at_stream s.place s.scope_span words
 
 -- the words before what is expected
@@ -46,15 +47,15 @@ punct_span (Some r) span = span_in r.0 where
   span_in [] = span
   span_in (t ∷ ts) = tree_span t
 
--- the span of a punctuation's refusal: the next punct's, if there is one and the text isn't empty
+-- the span of a punctuation's error: the next punct's, if there is one and the text isn't empty
 abbrev pub punctuation_span : List ℕ → State → Span
 punctuation_span [] s = stream_span s.place s.scope_span
 punctuation_span (c ∷ cs) s = punct_span (read_punct s.place) (stream_span s.place s.scope_span)
 
--- a punctuation's refusal: at an end, too, with these words alone
-abbrev pub punctuation_refusal : List ℕ → State → Refusal
-punctuation_refusal text s =
-    record { span = punctuation_span text s; words = expected (in_backquotes text) }
+-- a punctuation's error: at an end, too, with these words alone
+abbrev pub punctuation_message : List ℕ → State → Message
+punctuation_message text s =
+    message_at (punctuation_span text s) (expected (in_backquotes text))
 
 -- of a group that isn't there
 abbrev pub delimiter_words : Delimiter → List ℕ
@@ -67,6 +68,6 @@ leftover_words Brace = codes "unexpected token, expected `}`"
 leftover_words Bracket = codes "unexpected token, expected `]`"
 leftover_words delimiter.None = codes "unexpected token"
 
--- a leftover's refusal
-abbrev pub leftover_refusal : Leftover → Refusal
-leftover_refusal l = record { span = l.span; words = leftover_words l.delimiter }
+-- a leftover's error
+abbrev pub leftover_message : Leftover → Message
+leftover_message l = message_at l.span (leftover_words l.delimiter)
