@@ -79,7 +79,7 @@ fn ends(trees: &[TokenTree]) -> (Span, Span)
 }
 
 impl Error {
-    ghost use Rattle.std.specs.Prelude.{IfSome, OnOk, OnErr, true};
+    ghost use Rattle.std.specs.Prelude.{IfSome, OnOk, OnErr, string_bytes, true};
     ghost use Rattle.std.specs.Iterator.{IsFiniteIterable};
     ghost use Rattle.std.specs.Ordering.{partial_le};
     ghost use Rattle.tok_core.specs.Lexical.Errors.{error_span, error_words};
@@ -111,12 +111,29 @@ impl Error {
     ) -> Result<Error, AllocError>
         ensures { IfOk result (HasMessage (start, end) (T.output message)) }
     {
-        let text = Text::from_string(alloc, format!(in alloc; "{message}")?)?;
+        let text = format!(in alloc; "{message}")?;
+        Error::of_string(alloc, start, end, text)
+    }
+
+    // Creates an error of one message, from the start of one span to the end of another.
+    fn of_string(alloc: Global, start: Span, end: Span, text: String) -> Result<Error, AllocError>
+        ensures { IfOk result (λ e. e ≡ error_of start end (string_bytes text)) }
+    {
+        let text = Text::from_string(alloc, text)?;
         let first = Box::new(alloc, Message { start, end, text })?;
         Ok(Error {
             first,
             more: Vec::new(alloc),
         })
+    }
+
+    /// Creates an error of one message at `span`. The text is moved, not copied.
+    ///
+    /// Returns an `AllocError` if an allocation fails.
+    pub fn from_string(alloc: Global, span: Span, text: String) -> Result<Error, AllocError>
+        ensures { IfOk result (λ e. e ≡ error_of span span (string_bytes text)) }
+    {
+        Error::of_string(alloc, span, span, text)
     }
 
     /// Creates an error of one message, from the first of the tokens to the last. With no tokens,
