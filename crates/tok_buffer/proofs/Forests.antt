@@ -2,7 +2,7 @@
 use Rattle.std.proofs.Common.{◌≡◌, refl}
 use Rattle.tok_core.specs.Forest.{Forest, no_trees, tree, concat, turned_onto}
 
-pub turned_joined : (f g h : Forest) → turned_onto f (concat g h) ≡ concat (turned_onto f g) h
+turned_joined : (f g h : Forest) → turned_onto f (concat g h) ≡ concat (turned_onto f g) h
 turned_joined no_trees g h = refl
 turned_joined (tree t f) g h = turned_joined f (tree t g) h
 

@@ -34,7 +34,7 @@ group_front (level o p (tree (group d c t) f)) g k e =
 
 module _ (F : Forest) (n s : ℕ) (d : Delimiter) (t : Span) (c f : Forest)
     (h : in_scope F n s ≡ true) (fronts : Fronts (levels_at F n).0 d t c f) where
-  pub group_fits : n + (weight c + 1) + 1 ≤ s
+  group_fits : n + (weight c + 1) + 1 ≤ s
   group_fits =
       omega (
         arith,
@@ -63,7 +63,7 @@ module _ (F : Forest) (n s : ℕ) (d : Delimiter) (t : Span) (c f : Forest)
       (level_passed (levels_at F n).0) f (levels_at F n).1
       (ap (λ l. (l, (levels_at F n).1)) fronts)
 
-  pub inside_within : in_scope F (n + 1) (n + (weight c + 1)) ≡ true
+  inside_within : in_scope F (n + 1) (n + (weight c + 1)) ≡ true
   inside_within =
       subst
       (In (n + 1) (n + (weight c + 1)))
@@ -78,7 +78,7 @@ module _ (F : Forest) (n s : ℕ) (d : Delimiter) (t : Span) (c f : Forest)
       cond-true (eqb (n + 1 + weight c) (n + (weight c + 1))) [] _
       (eq-eqb (n + 1 + weight c) (n + (weight c + 1)) (omega arith))
 
-  pub inside_settled : settled_at F (n + 1) (n + (weight c + 1)) ≡ true
+  inside_settled : settled_at F (n + 1) (n + (weight c + 1)) ≡ true
   inside_settled =
       ap (λ x. is_settled x.0 (up_to (end_of (n + 1) x.0) (n + (weight c + 1)) x.1)) inside
       ∙ ap (is_settled (level (in_group d t) no_trees c)) no_outer
@@ -95,7 +95,7 @@ module _ (F : Forest) (n s : ℕ) (d : Delimiter) (t : Span) (c f : Forest)
   same_end : n + (weight c + 1) + 1 + weight f ≡ end_of n (levels_at F n).0
   same_end = omega (arith, ap (λ l. weight (level_ahead l)) fronts)
 
-  pub after_within : in_scope F (n + (weight c + 1) + 1) s ≡ true
+  after_within : in_scope F (n + (weight c + 1) + 1) s ≡ true
   after_within =
       subst
       (In (n + (weight c + 1) + 1) s)

@@ -35,7 +35,7 @@ left_end : (n : ℕ) (o : Owner) (p : Forest) (u : Level) →
     n + 1 + weight (level_ahead (absorb o p u)) ≡ n + 0 + 1 + weight (level_ahead u)
 left_end n o p u = omega (arith, ap weight (ahead-absorb o p u))
 
-pub in_step : (n s : ℕ) (l : Level) (us : List Level) → In n s (l, us) → n ≢ s →
+in_step : (n s : ℕ) (l : Level) (us : List Level) → In n s (l, us) → n ≢ s →
     In (n + 1) s (move l us)
 in_step n s (level o p (tree (leaf i) f)) us h ne =
     let q : n + 1 + weight f ≡ n + (1 + weight f) = omega arith in rw q h
@@ -109,12 +109,12 @@ pub root_settled : (o : Owner) (p f : Forest) → is_settled (level o p f) [] �
 root_settled o p no_trees = refl
 root_settled o p (tree t f) = refl
 
-pub front_settled : (l : Level) (us : List Level) → at_end (level_ahead l) ≡ false →
+front_settled : (l : Level) (us : List Level) → at_end (level_ahead l) ≡ false →
     is_settled l us ≡ true
 front_settled (level o p no_trees) us h = absurd (false≢true (sym h))
 front_settled (level o p (tree t f)) us h = refl
 
-pub settled_same : (k s n : ℕ) (l : Level) (us : List Level) → is_settled l us ≡ true →
+settled_same : (k s n : ℕ) (l : Level) (us : List Level) → is_settled l us ≡ true →
     settle k s n l us ≡ at k s n l us
 settled_same k s n (level o p no_trees) [] h = refl
 settled_same k s n (level o p no_trees) (u ∷ us) h = absurd (false≢true h)
@@ -122,7 +122,7 @@ settled_same k s n (level o p (tree t f)) [] h = refl
 settled_same k s n (level o p (tree t f)) (u ∷ us) h = refl
 
 -- at the scope's end no outer level is seen
-pub scope_settled : (s : ℕ) (l : Level) (us : List Level) → In s s (l, us) →
+scope_settled : (s : ℕ) (l : Level) (us : List Level) → In s s (l, us) →
     is_settled l (up_to (end_of s l) s us) ≡ true
 scope_settled s (level o p (tree t f)) us h = refl
 scope_settled s (level o p no_trees) [] h = refl
@@ -184,7 +184,7 @@ not_at_scope F n s h q f =
     let x = levels_at F n in
     λ e. false≢true (sym f ∙ sym (end_seen n s x.0 x.1 h q) ∙ eq-eqb n s e)
 
-abbrev pub count_of : Place → ℕ
+abbrev count_of : Place → ℕ
 count_of empty_place = 0
 count_of (at k s n l us) = n
 

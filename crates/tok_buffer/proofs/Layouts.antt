@@ -16,13 +16,13 @@ use Rattle.tok_buffer.specs.Private.Layout.{stack_entry, stack_entries, forest_i
 use Rattle.tok_buffer.proofs.Forests.{turned_is}
 
 -- the leaf that an entry is
-abbrev pub as_leaf : Entry → Option Leaf
+abbrev as_leaf : Entry → Option Leaf
 as_leaf (Ident i) = Some (ident_of i)
 as_leaf (Punct p) = Some (punct_of p)
 as_leaf (Literal l) = Some (literal_of l)
 as_leaf e = None
 
-pub as_leaf-entry : (l : Leaf) → as_leaf (leaf_entry l) ≡ Some l
+as_leaf-entry : (l : Leaf) → as_leaf (leaf_entry l) ≡ Some l
 as_leaf-entry (ident text span) = refl
 as_leaf-entry (punct c spacing span) = refl
 as_leaf-entry (literal text span) = refl
@@ -82,7 +82,7 @@ stack_entries-layout (tree (group d c p) f) g s =
     ∙ ap e (stack_entries-layout c no_trees (concat f g ∷ s))
     ∙ ap (λ x. tree (group d x p) (concat f g) ∷ s) (concat-none c)
 
-pub forest_in-entries_of : (f : Forest) → forest_in (entries_of f) ≡ f
+forest_in-entries_of : (f : Forest) → forest_in (entries_of f) ≡ f
 forest_in-entries_of f =
     ap top (stack_entries-append (layout f) (End 0 ∷ []) [] ∙ stack_entries-layout f no_trees [])
     ∙ concat-none f

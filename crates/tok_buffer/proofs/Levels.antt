@@ -40,19 +40,19 @@ stack-laid (g ∷ s) f =
     ∙ ap (λ w. w ∷ (s ++ f ∷ [])) (concat-none g)
 
 -- entries that are laid so have these levels
-pub levels_are : (xs : List Entry) (s : List Forest) (f : Forest) → xs ≡ laid s ++ layout f →
+levels_are : (xs : List Entry) (s : List Forest) (f : Forest) → xs ≡ laid s ++ layout f →
     levels_in xs ≡ record { outer = s; inner = f }
 levels_are xs s f e = ap levels_in e ∙ ap levels_of (stack-laid s f) ∙ levels_of-put s f
 
 -- what holds of a builder
-abbrev pub IsBuilt : List Entry → List ℕ → Levels → Type 0
+abbrev IsBuilt : List Entry → List ℕ → Levels → Type 0
 IsBuilt xs ps s = (xs ≡ laid s.outer ++ layout s.inner) × (ps ≡ places 0 s.outer)
 
 pub built : (xs : List Entry) (ps : List ℕ) (s : Levels) → IsBuilt xs ps s →
     IsBuilt xs ps (levels_in xs)
 built xs ps s h = subst (IsBuilt xs ps) (sym (levels_are xs s.outer s.inner h.0)) h
 
-pub built_leaf : (xs ys : List Entry) (ps : List ℕ) (s : Levels) (l : Leaf) → IsBuilt xs ps s →
+built_leaf : (xs ys : List Entry) (ps : List ℕ) (s : Levels) (l : Leaf) → IsBuilt xs ps s →
     ys ≡ xs ++ leaf_entry l ∷ [] → IsBuilt ys ps (add_leaf l s)
 built_leaf xs ys ps s l (e, p) h = (
   h ∙ ap (λ w. w ++ leaf_entry l ∷ []) e
@@ -99,7 +99,7 @@ first_place s f =
     let l : 0 + length (laid s ++ layout f) ≡ length (laid s ++ layout f) = omega arith in
     place 0 s f ∙ ap (λ w. places 0 s ++ w ∷ []) l
 
-pub built_open : (xs ys : List Entry) (ps qs : List ℕ) (s : Levels) → IsBuilt xs ps s →
+built_open : (xs ys : List Entry) (ps qs : List ℕ) (s : Levels) → IsBuilt xs ps s →
     ys ≡ xs ++ End 0 ∷ [] → qs ≡ ps ++ length xs ∷ [] → IsBuilt ys qs (opened s)
 built_open xs ys ps qs s (e, p) h q = (
   h ∙ ap (λ w. w ++ End 0 ∷ []) e ∙ sym (laid-put s.outer s.inner)

@@ -141,7 +141,7 @@ abbrev after_read : List Tree × Place → Place
 after_read r = r.1
 
 -- a read that goes on from each place
-abbrev pub AllGoOn : Read → Type 0
+abbrev AllGoOn : Read → Type 0
 AllGoOn read = (p : Place) → LeadsTo (GoesOn p) (read p)
 
 pub reading_goes : {read : Read} {first : First} → Reading read first → AllGoOn read
@@ -264,7 +264,7 @@ strictly (at n s c x xs) (at j t d l ls) (at i u e m ms) h k =
     (ap (λ y. cond y (Some (nat_cmp c e)) None) (eqb-same n)
     ∙ ap Some (less c e (omega (arith, a.counts, f))))
 
-pub goes_along : (p q r : Place) → GoesOn p q → GoesOn q r → GoesOn p r
+goes_along : (p q r : Place) → GoesOn p q → GoesOn q r → GoesOn p r
 goes_along p q r g h =
     (chains p q r g.0 h.0, omega (arith, g.1, h.1), strictly p q r g.0 h.2)
 

@@ -43,7 +43,7 @@ scope_outer s (level o p no_trees) (u ∷ us) h = cond-true (eqb (s + 0) s) [] _
 root_delimiter : (l : Level) → levels_delimiter l [] ≡ owner_delimiter (level_owner l)
 root_delimiter (level o p a) = refl
 
-pub scope_is_end : (k : ℕ) (F : Forest) (n s : ℕ) → in_scope F n s ≡ true → (m : ℕ) → n + m ≡ s →
+scope_is_end : (k : ℕ) (F : Forest) (n s : ℕ) → in_scope F n s ≡ true → (m : ℕ) → n + m ≡ s →
     (in_scope F s s ≡ true)
     × (scope_delimiter (place_at k F n s) ≡ owner_delimiter (level_owner (levels_at F s).0))
 scope_is_end k F n s h zero e =

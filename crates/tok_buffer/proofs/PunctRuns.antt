@@ -76,7 +76,7 @@ pub at_spot : (cursor : Cursor) (spot : Spot) → cursor.spot ≡ Some spot → 
     ≡ spot_place spot
 at_spot cursor spot e = ap placed e
 
-pub nothing_at_empty : (cs : List ℕ) → read_punctuation cs empty_place ≡ None
+nothing_at_empty : (cs : List ℕ) → read_punctuation cs empty_place ≡ None
 nothing_at_empty [] = refl
 nothing_at_empty (c ∷ []) = refl
 nothing_at_empty (c ∷ (d ∷ cs)) = refl

@@ -86,7 +86,7 @@ scan_close (suc d) (level o p no_trees) u us k e =
     ap (λ z. shown_at z (absorb o p u) us) q ∙ shown_at_absorb d o p u us
 
 -- a visible tree is found
-pub visible_group : (m : Bool) (x : Delimiter) (t : Span) (c f : Forest) →
+visible_group : (m : Bool) (x : Delimiter) (t : Span) (c f : Forest) →
     same_delimiter x delimiter.None ≡ false → visible m (tree (group x c t) f) ≡ (m, group x c t)
     ∷ visible m f
 visible_group m delimiter.None t c f q = absurd (false≢true (sym q))

@@ -39,7 +39,7 @@ before (level o p f) us = (outside o (turned_onto p f) us).0 ++ layout (turned_o
 abbrev pub after : Level → List Level → List Entry
 after (level o p f) us = layout f ++ (outside o (turned_onto p f) us).1
 
-pub move-nested : (l : Level) (us : List Level) → nested l us → nested (move l us).0 (move l us).1
+move-nested : (l : Level) (us : List Level) → nested l us → nested (move l us).0 (move l us).1
 move-nested (level whole p no_trees) [] h = h
 move-nested (level (in_group d s) p no_trees) [] h = h
 move-nested (level whole p no_trees) (u ∷ us) h = absurd h
@@ -92,7 +92,7 @@ close_moves : (r : List Entry × List Entry) (q : Forest) (d : Delimiter) (s : S
 close_moves r q d s x g =
     (ap (λ z. r.0 ++ z) (layout-turned q (tree (group d x s) no_trees)) ∙ simp append_assoc, refl)
 
-pub move_past : (o : Owner) (p f : Forest) (us : List Level) → nested (level o p f) us →
+move_past : (o : Owner) (p f : Forest) (us : List Level) → nested (level o p f) us →
     0 < weight f + length us → Moves (level o p f) us
 move_past o p (tree (leaf i) f) us h k =
     leaf_moves (outside o (turned_onto p (tree (leaf i) f)) us) p i f

@@ -59,7 +59,7 @@ module _ (other : Tree) (span : Span) where
       before_end cs ss i h (omega (arith, h, low, eqb-false (i + 1) (length ss) e))
 
 -- the punct at an index
-abbrev pub punct_of_several : (cs : List ℕ) (ss : List Span) (i : ℕ) → Tree
+abbrev punct_of_several : (cs : List ℕ) (ss : List Span) (i : ℕ) → Tree
 punct_of_several cs ss i =
     leaf (punct (get_or cs i 0) (spacing (i + 1 == length ss)) (get_or ss i call_site))
 

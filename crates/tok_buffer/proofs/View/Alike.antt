@@ -37,7 +37,7 @@ use Rattle.tok_buffer.proofs.View.Erased.{erased_ahead_is}
 abbrev pub StandsIn : Laid → Place → Type 0
 StandsIn b p = Stands b.number b.forest p
 
-abbrev pub view_in : Laid → Place → View
+abbrev view_in : Laid → Place → View
 view_in b p = view b.forest p
 
 pub record Alike (f g : Laid) (p q : Place) : Type 0 where

@@ -77,7 +77,7 @@ closers-tree (group delimiter.None inside span) a =
 closers-tree (group d inside span) a = sym (append_assoc (closers inside) (d ∷ []) (closers a))
 
 -- The groups that close ahead of a place.
-abbrev pub closers_beyond : List Level → List Delimiter
+abbrev closers_beyond : List Level → List Delimiter
 closers_beyond [] = []
 closers_beyond (level o p a ∷ ls) = closers a ++ closers_beyond ls
 

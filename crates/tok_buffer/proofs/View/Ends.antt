@@ -28,7 +28,7 @@ is_settled n s c (level o p no_trees) (m ∷ ls) = is_settled n s (c + 1) (absor
 is_settled n s c (level o p (tree t f)) (m ∷ ls) = tt
 
 -- the trees ahead in each level are filled
-abbrev pub LevelsFilled : List Level → Type 0
+abbrev LevelsFilled : List Level → Type 0
 LevelsFilled [] = ⊤
 LevelsFilled (level o p a ∷ ls) = (filled a ≡ true) × LevelsFilled ls
 

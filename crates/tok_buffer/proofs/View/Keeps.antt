@@ -31,7 +31,7 @@ module _ (P : Place → Type 0) (k : IsKept P) where
   kept-either (Some p) q x y a b = a
   kept-either None q x y a b = b a
 
-  pub kept-into_front : (f : Forest) (n s c : ℕ) (o : Owner) (p : Forest) (ls : List Level)
+  kept-into_front : (f : Forest) (n s c : ℕ) (o : Owner) (p : Forest) (ls : List Level)
       → P (at n s c (level o p f) ls)
       → KeptAt (into_front f n s c o p ls)
       (at n s (c + weight f) (level o (turned_onto f p) no_trees) ls)

@@ -16,7 +16,7 @@ use Rattle.tok_buffer.proofs.View.Unmarked.{unmarked, unmarked_in, trees_ahead}
 use Rattle.tok_buffer.proofs.View.Ordinals.{erase-unmarked}
 use Rattle.tok_buffer.proofs.View.Erased.{plain, plain-ahead, erased_ahead_is}
 
-abbrev pub first_visible_span : Forest → Option Span
+abbrev first_visible_span : Forest → Option Span
 first_visible_span no_trees = None
 first_visible_span (tree t f) = Some (tree_span t)
 

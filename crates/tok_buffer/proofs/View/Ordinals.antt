@@ -37,7 +37,7 @@ sum-append xs ys = sum_by-append (λ x. x) xs ys
 pub sum-one : (xs : List ℕ) → sum (1 ∷ xs) ≡ 1 + sum xs
 sum-one xs = sum-append (1 ∷ []) xs
 
-pub groups-concat : (f g : Forest) → groups (concat f g) ≡ groups f + groups g
+groups-concat : (f g : Forest) → groups (concat f g) ≡ groups f + groups g
 groups-concat no_trees g = omega arith
 groups-concat (tree (leaf l) f) g = omega (arith, groups-concat f g)
 groups-concat (tree (group delimiter.None inside span) f) g =
@@ -195,7 +195,7 @@ sum-beyond (level o p a ∷ ls) =
     ∙ sym (groups-level a ls)
 
 -- the scope's ordinal, by the closings before the place and those ahead
-pub scope_ordinal : (g : Forest) (n s c : ℕ) (l : Level) (ls : List Level)
+scope_ordinal : (g : Forest) (n s c : ℕ) (l : Level) (ls : List Level)
     → IsCounted (at n s c l ls) → IsIn g (at n s c l ls)
     → closings g s ≡ closings g c + groups (erase (trees_ahead (at n s c l ls)))
 scope_ordinal g n s c (level o p a) ls h i =
@@ -230,7 +230,7 @@ content-front g c x inside f rest e =
     (append_assoc (closing_marks inside) (x ∷ closing_marks f) rest)) size
 
 -- the ordinal of a group in front
-pub content_ordinal : (g : Forest) (n s c : ℕ) (o : Owner) (p : Forest) (d : Delimiter)
+content_ordinal : (g : Forest) (n s c : ℕ) (o : Owner) (p : Forest) (d : Delimiter)
     (inside : Forest) (span : Span) (f : Forest) (ls : List Level)
     → IsIn g (at n s c (level o p (tree (group d inside span) f)) ls)
     → closings g (c + 1 + weight inside) ≡ closings g c + groups inside
@@ -302,7 +302,7 @@ module _ (g : Forest) (n s c : ℕ) (o : Owner) (p : Forest) (d : Delimiter) (in
       view-settle g n s (c + (2 + weight inside)) (level o (tree (group d inside span) p) f) ls
       ∙ ap (seen (closings g s)) (sym (erased_ahead_is (at n s c (level o p f) ls)))
 
-  pub group_view : (b : Bool) → IsCounted (at n s c (level o p (tree (group d inside span) f)) ls)
+  group_view : (b : Bool) → IsCounted (at n s c (level o p (tree (group d inside span) f)) ls)
       → IsIn g (at n s c (level o p (tree (group d inside span) f)) ls)
       → option_map (entered_view g) (cond b (Some (record {
         delimiter = d;

@@ -37,7 +37,7 @@ of_ident = one is_ident (λ d inside span. refl)
 pub of_word : (wanted : List ℕ → Bool) → Reading (read_word wanted) (first_if (is_ident_of wanted))
 of_word wanted = one (is_ident_of wanted) (λ d inside span. refl)
 
-abbrev pub first_keyword : List ℕ → First
+abbrev first_keyword : List ℕ → First
 first_keyword [] f = None
 first_keyword (c ∷ cs) f = first_if (is_ident_of (bytes_eq (c ∷ cs))) f
 

@@ -31,7 +31,7 @@ use Rattle.tok_buffer.proofs.View.Ordinals.{drop_next, marks_beyond, groups, clo
 use Rattle.tok_buffer.proofs.View.Scopes.{IsScopeEnd, same_ordinal}
 
 -- the buffer, a scope that ends where one can, and its delimiter by its ordinal
-abbrev pub IsScoped : ℕ → Forest → Place → Type 0
+abbrev IsScoped : ℕ → Forest → Place → Type 0
 IsScoped number f empty_place = ⊤
 IsScoped number f (at n s c l ls) =
     (n ≡ number) × IsScopeEnd f s × (levels_delimiter l ls ≡ delimiter_at f (closings f s))

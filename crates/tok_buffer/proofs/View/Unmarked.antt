@@ -10,7 +10,7 @@ use Rattle.tok_buffer.specs.Place.{absorb, settle, settled}
 use Rattle.tok_buffer.proofs.View.Keeps.{IsKept, kept-settle, kept-descend}
 
 -- settling twice is settling once
-pub settled-settle : (n s c : ℕ) (l : Level) (ls : List Level)
+settled-settle : (n s c : ℕ) (l : Level) (ls : List Level)
     → settled (settle n s c l ls) ≡ settle n s c l ls
 settled-settle n s c l [] = refl
 settled-settle n s c (level o p no_trees) (m ∷ ls) = settled-settle n s (c + 1) (absorb o p m) ls
