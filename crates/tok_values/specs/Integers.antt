@@ -1,6 +1,6 @@
 -- What integer literals mean (Rust Reference: Tokens, Integer literals).
 use Rattle.std.specs.Prelude.{◌≡◌, ◌≤◌, ◌^◌, ℕ, ◌==◌, ◌&&◌, List, [], ◌∷◌, true, if◌then◌else◌}
-use Rattle.std.specs.Prelude.{Result, Ok, Err}
+use Rattle.std.specs.Prelude.{Result, Ok, Err, codes}
 use Rattle.std.specs.Str.{chars}
 use Rattle.tok_lexical.specs.Numbers.{IsNumberSuffix, has_digit, is_digit_or_underscore, starts_digit}
 use Rattle.tok_lexical.specs.Pieces.{Skips}
@@ -38,3 +38,8 @@ ReadsInteger text (Err NotInteger) =
     (value : ℕ) → (suffix : List ℕ) → IsInteger text value suffix → ⊥
 ReadsInteger text (Err TooLarge) =
     (value : ℕ) × (suffix : List ℕ) × IsInteger text value suffix × (2 ^ 64 ≤ value)
+
+-- why there is no value, in words
+abbrev pub integer_fault_words : IntegerFault → List ℕ
+integer_fault_words NotInteger = codes "expected an integer"
+integer_fault_words TooLarge = codes "expected an integer below 2^64"

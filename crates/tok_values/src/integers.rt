@@ -1,9 +1,9 @@
 //! The values of integers.
-ghost use Rattle.std.specs.Prelude.{◌≡◌, ◌<◌, ◌≤◌, ◌+◌, ◌*◌, ◌^◌, SomeIff, ℕ, List, MatchBool, MatchOption};
+ghost use Rattle.std.specs.Prelude.{◌≡◌, ◌<◌, ◌≤◌, ◌+◌, ◌*◌, ◌^◌, Some, SomeIff, ℕ, List, MatchBool, MatchOption};
 ghost use Rattle.std.specs.Str.{chars};
 ghost use Rattle.tok_lexical.specs.Numbers.{IsNumberSuffix, has_digit, is_digit_or_underscore, starts_digit};
 ghost use Rattle.tok_lexical.specs.Pieces.{Skips};
-ghost use Rattle.tok_values.specs.Integers.{ReadsInteger, base_of};
+ghost use Rattle.tok_values.specs.Integers.{ReadsInteger, base_of, integer_fault_words};
 ghost use Rattle.tok_values.specs.Numbers.{is_digits, number};
 
 use std::fmt;
@@ -29,6 +29,8 @@ pub enum IntegerFault {
 
 /// Writes the reason in words.
 impl Display for IntegerFault {
+    ghost output = { λ fault. Some (integer_fault_words fault) };
+
     fn fmt<W: Write>(&self, f: &mut Formatter<W>) -> fmt::Result {
         match self {
             IntegerFault::NotInteger => f.write_str("expected an integer"),
