@@ -10,6 +10,7 @@ use tok_core::{Ident, LexFault, Span, lex};
 pub fn calls(alloc: Global) -> Outcome {
     worst(&[
         new(alloc),
+        from_string(alloc),
         new_spanned(alloc),
         from_lex(alloc),
         combine(alloc),
@@ -77,6 +78,16 @@ fn count(error: Error, positions: &[usize]) -> Option<usize> {
 
 fn new(alloc: Global) -> Outcome {
     expect(count(one(alloc, 1)?, &[1]) == Some(1), "Error::new")
+}
+
+// A text of more than 14 bytes takes an allocation more.
+fn from_string(alloc: Global) -> Outcome {
+    let text = String::from_str(alloc, "expected one of")?;
+    let error = Error::from_string(alloc, point(1), text)?;
+    expect(
+        error.span() == point(1) && shows(&error, "expected one of"),
+        "Error::from_string",
+    )
 }
 
 fn new_spanned(alloc: Global) -> Outcome {
