@@ -1,6 +1,6 @@
 //! Choosing by the next token.
-ghost use Rattle.std.specs.Fmt.{WritesOnOk};
-ghost use Rattle.std.specs.Prelude.{◌≡◌, ◌++◌, false, IfOk, OnOk, OnErr};
+ghost use Rattle.std.specs.Prelude.{◌≡◌, [], ◌∷◌, ◌++◌, false, IfOk, IfSome, MatchOption, OnOk, OnErr, string_bytes};
+ghost use Rattle.std.specs.Str.{IsUtf8};
 ghost use Rattle.tok_buffer.specs.Messages.{one_message};
 ghost use Rattle.syn_parse.specs.Faults.{Refuses};
 ghost use Rattle.syn_parse.specs.Lookahead.{Looked, looks, look_words, noted_as, look_message, more_words, named, named_ends, texts_of};
@@ -12,7 +12,6 @@ ghost use Rattle.tok_types.specs.Sees.{Sees};
 use crate::fault::Fault;
 use crate::stream::ParseBuffer;
 use std::alloc::{AllocError, Global};
-use std::fmt::{self, Display, Formatter, Write};
 use std::marker::Model;
 use tok_buffer::{Cursor, Error};
 use tok_core::{Delimiter, Span};
@@ -116,11 +115,24 @@ impl<'a> Lookahead1<'a> {
         ensures { IfOk result (λ e. e ≡ one_message (look_message self.now)) }
     {
         let closing = closing_word(self.cursor.scope_delimiter());
-        let names = names(self.alloc, closing, &self.missed)?;
-        if !names.is_empty() {
-            let expected = Expected { names: &names };
-            return Error::new_at(self.alloc, self.scope_span, self.cursor, expected);
+        let missed: &[&'static str] = &self.missed;
+        let Some(_) = next_name(closing, missed) else {
+            return self.unexpected();
+        };
+        if self.cursor.eof() {
+            let text = list(self.alloc, "unexpected end of input, ", closing, missed)?;
+            Error::from_string(self.alloc, self.scope_span, text)
+        } else {
+            let text = list(self.alloc, "", closing, missed)?;
+            Error::from_string(self.alloc, self.cursor.start_span(), text)
         }
+    }
+
+    // Returns the error that names nothing.
+    fn unexpected(&self) -> Result<Error, AllocError>
+        ensures { IfOk result
+            (λ e. e ≡ one_message (spec.unexpected self.now.place self.now.scope_span)) }
+    {
         if self.cursor.eof() {
             Error::new(self.alloc, self.scope_span, "unexpected end of input")
         } else {
@@ -148,87 +160,110 @@ fn closing_word(delimiter: Delimiter) -> &'static str
     }
 }
 
-// Returns the names of the tokens that were not found, with this name for the end.
-fn names(
+// Returns the name of this display, if it has one. The end has this name, or none if it is empty.
+fn name_of(closing: &'static str, display: &'static str) -> Option<&'static str>
+    ensures name { MatchOption result
+        (named closing.now display.now ≡ [])
+        (λ name. named closing.now display.now ≡ name.now ∷ []) }
+    ensures utf8 { IfSome result (λ name. IsUtf8 name.now) }
+{
+    if display != "`)`" {
+        Some(display)
+    } else if closing.is_empty() {
+        None
+    } else {
+        Some(closing)
+    }
+}
+
+// Returns the first name of these displays, and the displays after it.
+fn next_name<'m>(
+    closing: &'static str,
+    missed: &'m [&'static str],
+) -> Option<(&'static str, &'m [&'static str])>
+    ensures names { let names = named_ends closing.now (texts_of missed.now) in MatchOption result
+        (names ≡ [])
+        (λ r. names ≡ r.0.now ∷ named_ends closing.now (texts_of r.1.now)) }
+    ensures utf8 { IfSome result (λ r. IsUtf8 r.0.now) }
+{
+    for (index, display) in missed.iter().enumerate() {
+        if let Some(name) = name_of(closing, *display) {
+            return Some((name, &missed[index + 1..]));
+        }
+    }
+    None
+}
+
+// Returns this front and the list of the names of these displays. The text has room for both before
+// they are written.
+fn list(
     alloc: Global,
+    front: &'static str,
     closing: &'static str,
     missed: &[&'static str],
-) -> Result<Vec<&'static str>, AllocError>
+) -> Result<String, AllocError>
     ensures { IfOk result
-        (λ names. texts_of names.items ≡ named_ends closing.now (texts_of missed.now)) }
+        (λ text. string_bytes text
+        ≡ front.now ++ spec.list_words (named_ends closing.now (texts_of missed.now))) }
 {
-    let mut names = Vec::with_capacity(alloc, missed.len())?;
+    let room = front.len().saturating_add(list_len(missed));
+    let mut text = String::with_capacity(alloc, room)?;
+    text.push_str(front)?;
+    push_list(&mut text, closing, missed)?;
+    Ok(text)
+}
+
+// Counts the bytes of a list of three or more names: each has two characters before it. A shorter
+// list takes no more.
+fn list_len(missed: &[&'static str]) -> usize {
+    let mut len = "expected one of".len();
     for display in missed {
-        add_name(&mut names, closing, *display)?;
+        len = len.saturating_add(", ".len()).saturating_add(display.len());
     }
-    Ok(names)
+    len
 }
 
-// Adds the name of this display, if it has one.
-fn add_name(
-    names: &mut Vec<&'static str>,
+// Appends the list of the names of these displays.
+fn push_list(
+    text: &mut String,
     closing: &'static str,
-    display: &'static str,
+    missed: &[&'static str],
 ) -> Result<(), AllocError>
-    ensures { OnOk result
-        (texts_of names.new.items ≡ texts_of names.old.items ++ named closing.now display.now) }
+    ensures { OnOk result (string_bytes text.new
+        ≡ string_bytes text.old ++ spec.list_words (named_ends closing.now (texts_of missed.now))) }
 {
-    if display == "`)`" {
-        if !closing.is_empty() {
-            names.push(closing)?;
-        }
-    } else {
-        names.push(display)?;
-    }
-    Ok(())
-}
-
-// Names of tokens that were not found. An error writes its text straight from them.
-#[derive(Clone, Copy)]
-struct Expected<'a> {
-    names: &'a [&'static str],
-}
-
-impl Display for Expected<'_> {
-    ghost use Rattle.std.specs.Prelude.{Some};
-
-    ghost output = { λ e. Some (spec.list_words (texts_of e.names.now)) };
-
-    fn fmt<W: Write>(&self, f: &mut Formatter<W>) -> fmt::Result {
-        write_names(f, self.names)
-    }
-}
-
-// Writes the text of an error that lists these names.
-fn write_names<W: Write>(f: &mut Formatter<W>, names: &[&'static str]) -> fmt::Result
-    ensures { WritesOnOk W.write_str_gives f.old result
-        (spec.list_words (texts_of names.now)) f.new }
-{
-    let Some((first, others)) = names.split_first() else {
+    let Some((first, others)) = next_name(closing, missed) else {
         return Ok(());
     };
-    let Some((second, more)) = others.split_first() else {
-        f.write_str("expected ")?;
-        return f.write_str(*first);
+    let Some((second, more)) = next_name(closing, others) else {
+        text.push_str("expected ")?;
+        return text.push_str(first);
     };
-    if more.is_empty() {
-        f.write_str("expected ")?;
-        f.write_str(*first)?;
-        f.write_str(" or ")?;
-        return f.write_str(*second);
-    }
-    f.write_str("expected one of: ")?;
-    f.write_str(*first)?;
-    write_more(f, others)
+    let Some(_) = next_name(closing, more) else {
+        text.push_str("expected ")?;
+        text.push_str(first)?;
+        text.push_str(" or ")?;
+        return text.push_str(second);
+    };
+    text.push_str("expected one of: ")?;
+    text.push_str(first)?;
+    push_more(text, closing, others)
 }
 
-// Writes further names of a list of three or more.
-fn write_more<W: Write>(f: &mut Formatter<W>, names: &[&'static str]) -> fmt::Result
-    ensures { WritesOnOk W.write_str_gives f.old result (more_words (texts_of names.now)) f.new }
+// Appends the names of these displays to a list of three or more.
+fn push_more(
+    text: &mut String,
+    closing: &'static str,
+    missed: &[&'static str],
+) -> Result<(), AllocError>
+    ensures { OnOk result (string_bytes text.new
+        ≡ string_bytes text.old ++ more_words (named_ends closing.now (texts_of missed.now))) }
 {
-    for name in names {
-        f.write_str(", ")?;
-        f.write_str(*name)?;
+    for display in missed {
+        if let Some(name) = name_of(closing, *display) {
+            text.push_str(", ")?;
+            text.push_str(name)?;
+        }
     }
     Ok(())
 }
