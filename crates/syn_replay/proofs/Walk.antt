@@ -7,6 +7,7 @@ pub mod Inside
 pub mod Links
 pub mod Lists
 pub mod Misuse
+pub mod Nesting
 pub mod NewLinks
 pub mod Notes
 pub mod OnForks

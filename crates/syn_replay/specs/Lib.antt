@@ -5,6 +5,7 @@ pub mod Kinds
 pub mod Reports
 pub mod ReportText
 pub mod Meanings
+pub mod Nesting
 pub mod Session
 pub mod Transparent
 pub mod Turns

@@ -1,6 +1,7 @@
 //! Laws of replays. Each is the contract of a function that does nothing.
 ghost use Rattle.syn_replay.specs.Forks.{ForksFollowCommands};
 ghost use Rattle.tok_leaves.specs.Laws.{EqualAsValues};
+ghost use Rattle.syn_replay.specs.Nesting.{InnerStreamsEndToo};
 ghost use Rattle.syn_replay.specs.Transparent.{InvisibleGroupsDoNotMatter};
 ghost use Rattle.syn_replay.specs.Turns.{MoreTurnsChangeNothing};
 
@@ -27,6 +28,14 @@ pub fn more_turns_change_nothing()
 /// leave open are closed.
 pub fn forks_follow_commands()
     ensures { ForksFollowCommands }
+{}
+
+/// A stream that is closed, discarded or advanced to ends with the streams inside it, and with no
+/// other. A discard changes nothing else.
+///
+/// A stream is inside another if its parent is that stream, or is inside it.
+pub fn inner_streams_end_too()
+    ensures { InnerStreamsEndToo }
 {}
 
 /// Positions are equal if and only if they are the same.

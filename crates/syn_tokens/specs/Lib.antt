@@ -102,6 +102,7 @@ pub use Rattle.syn_replay.specs.Commands
 pub use Rattle.syn_replay.specs.Forks
 pub use Rattle.syn_replay.specs.Kinds
 pub use Rattle.syn_replay.specs.Meanings
+pub use Rattle.syn_replay.specs.Nesting
 pub use Rattle.syn_replay.specs.ReportText
 pub use Rattle.syn_replay.specs.Reports
 pub use Rattle.syn_replay.specs.Session

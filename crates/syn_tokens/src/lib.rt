@@ -39,8 +39,8 @@ pub mod laws {
         read_again, retain_keeps_trailing, separators_follow_values, tokens_state_trees,
     };
     pub use syn_replay::laws::{
-        forks_follow_commands, invisible_groups_do_not_matter, more_turns_change_nothing,
-        positions_are_compared_whole,
+        forks_follow_commands, inner_streams_end_too, invisible_groups_do_not_matter,
+        more_turns_change_nothing, positions_are_compared_whole,
     };
     pub use tok_buffer::laws::{
         ahead_tells, calls_lead_on, clones_keep_errors, descents_enter, entries_go_on,

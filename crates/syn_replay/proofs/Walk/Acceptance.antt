@@ -117,6 +117,7 @@ shut_place st after k p q h = ap (λ o. (or_nobody o).place) h.here ∙ h.at_pla
 record StepsTo (X : ℕ → Type 0) (c : Command) (st : State) (r : Stepped) : Type 0 where
   older : Older st r.state
   tidy : Tidy r.state
+  newer : (k p : ℕ) → length st ≤ k → (look r.state k).kind ≡ content_of p → p < k
   shut_clean : is_discard c.action ≡ false → (k p : ℕ) → Shut st r.state k p
       → IsClean r.state p → IsEmptied st r.state k
   taken : (s f : ℕ) → c ≡ commands.on s (commands.advance f) → r.answer ≡ done
@@ -144,7 +145,7 @@ record Quiet (st after : State) : Type 0 where
   -- a new content has an open parent
   newer : (k p : ℕ) → length st ≤ k → (look after k).kind ≡ content_of p → IsIn after k p
 
-none_past : (st : State) (k p : ℕ) → length st ≤ k → (look st k).kind ≡ content_of p → ⊥
+pub none_past : (st : State) (k p : ℕ) → length st ≤ k → (look st k).kind ≡ content_of p → ⊥
 none_past st k p l f =
     let none = ap (λ o. (or_nobody o).kind) (nothing_past st k l) in absurd (cc)
 
@@ -204,6 +205,7 @@ calm X c st r tidy other quiet = record {
             (tidy k p (sym (quiet.opens k h) ∙ o) (sym (quiet.kinds k h) ∙ f))
         | inr h ↦ quiet.newer k p h f
       ];
+  newer = λ k p l f. (quiet.newer k p l f).below;
   shut_clean = λ d k p h clean.
       absurd (both_ways (look r.state k).is_open h.is_shut
       (quiet.opens k (open_within st k h.was_open) ∙ h.was_open));
@@ -301,6 +303,7 @@ close_steps X n st k p a tidy o f =
     record {
       older = older_kept false st (closed k st) all;
       tidy = all.tidy;
+      newer = λ j q l g. absurd (none_past (closed k st) j q (omega (arith, l, all.same_length)) g);
       shut_clean = λ d. all.shut_clean refl;
       taken = λ s g e b clean. no_advance (commands.on n commands.close) s g refl e;
       cleans =
@@ -326,6 +329,8 @@ discard_steps X n st k a tidy o =
                 (ends_older mid after k k None u j);
           };
       tidy = ends_tidy mid after k k None u c.kept.tidy (all_shut true X k st mid c);
+      newer = λ j q l g.
+          absurd (none_past after j q (omega (arith, l, u.same_length, c.kept.same_length)) g);
       shut_clean = λ d. absurd (cc);
       taken = λ s f e b clean. no_advance (commands.on n commands.discard) s f refl e;
       cleans =
@@ -343,7 +348,7 @@ under_within st outer k depth (deeper j p f l u) h =
     ∙ or_right (p == outer) _ (ap (is_within (depth - 1) st outer) (kind_seen st p)
     ∙ under_within st outer p (depth - 1) u (omega arith))
 
-under_inside : (st : State) (outer k : ℕ) → Under st outer k → k < length st
+pub under_inside : (st : State) (outer k : ℕ) → Under st outer k → k < length st
     → is_inside st outer k ≡ true
 under_inside st outer k u h =
     ap (is_within (length st) st outer) (kind_seen st k)
@@ -354,7 +359,7 @@ taken_kind : (o : Option Stream) (s : Stream) → (taken_over o s).kind ≡ s.ki
 taken_kind None s = refl
 taken_kind (Some f) s = refl
 
-taken_open : (o : Option Stream) (s : Stream) → (taken_over o s).is_open ≡ s.is_open
+pub taken_open : (o : Option Stream) (s : Stream) → (taken_over o s).is_open ≡ s.is_open
 taken_open None s = refl
 taken_open (Some f) s = refl
 
@@ -387,6 +392,8 @@ advance_steps X st k f tidy h o g apart outside =
             ages = λ j _. ages_on (look st j) (look mid j) (look after j) (c.kept.ages j) (older j);
           };
       tidy = ends_tidy mid after f k given u c.kept.tidy (all_shut false X f st mid c);
+      newer = λ j q l g.
+          absurd (none_past after j q (omega (arith, l, u.same_length, c.kept.same_length)) g);
       shut_clean =
           λ d. shut_clean_on false st mid after c.kept older refl (λ j p w clean.
           let same : j ≡ f = ends_only mid after f k given u j w.was_open w.is_shut in
@@ -550,7 +557,7 @@ steps X c st tidy = go (misuse c st) refl where
   go None e = fitting X c.action st c.stream tidy (fits c st e)
 
 -- no set of streams is asked for
-abbrev nothing : ℕ → Type 0
+abbrev pub nothing : ℕ → Type 0
 nothing k = ⊥
 
 pub first_tidy : (f : Forest) → Tidy (first_state f)
@@ -564,6 +571,24 @@ first_clean X f (suc k) x = refl
 pub run_tidy : (st : State) (cs : List Command) → Tidy st → Tidy (last_state st cs)
 run_tidy st [] tidy = tidy
 run_tidy st (c ∷ cs) tidy = run_tidy (step c st).state cs (steps nothing c st tidy).tidy
+
+-- a content's parent has a lower number
+abbrev pub Nested : State → Type 0
+Nested st = (k p : ℕ) → (look st k).kind ≡ content_of p → p < k
+
+pub first_nested : (f : Forest) → Nested (first_state f)
+first_nested f zero p g = cc
+first_nested f (suc k) p g = cc
+
+pub run_nested : (st : State) (cs : List Command) → Tidy st → Nested st → Nested (last_state st cs)
+run_nested st [] tidy low = low
+run_nested st (c ∷ cs) tidy low =
+    let s = steps nothing c st tidy in
+    run_nested (step c st).state cs s.tidy (λ k p f.
+    elim (cases_lt k (length st)) [
+      | inl h ↦ low k p (sym (s.older.ages k h).kind ∙ f)
+      | inr h ↦ s.newer k p h f
+    ])
 
 run_older : (st : State) (cs : List Command) → Tidy st → Older st (last_state st cs)
 run_older st [] tidy = record { longer = omega arith; ages = λ k _. ages_self (look st k) }
