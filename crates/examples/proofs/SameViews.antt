@@ -30,7 +30,7 @@ mapped f None = refl
 mapped f (Some x) = refl
 
 -- and a name is there in both or in neither
-pub same_names : ViewsDecide → (b c : Laid) (p q : Place) → SameView b c p q
+same_names : ViewsDecide → (b c : Laid) (p q : Place) → SameView b c p q
     → is_some (read_ident p) ≡ is_some (read_ident q)
 same_names decide b c p q s =
     sym (mapped _ (read_ident p)) ∙ ap is_some (decide b c p q s).idents ∙ mapped _ (read_ident q)

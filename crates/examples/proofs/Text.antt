@@ -7,7 +7,7 @@ use Rattle.syn_punctuated.specs.declared.pair.Pair.TheVariants.{Punctuated, End}
 use Rattle.syn_punctuated.specs.Paired.{paired}
 use Rattle.examples.specs.Text.{text_of}
 
-abbrev pub pair_text : Pair ℕ ℕ → List ℕ
+abbrev pair_text : Pair ℕ ℕ → List ℕ
 pair_text (Punctuated x y) = decimal x ++ encode_utf8 y
 pair_text (End x) = decimal x
 

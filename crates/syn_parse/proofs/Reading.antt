@@ -43,7 +43,7 @@ module _ {T U : Type 0} (Means : T → List Tree → Type 0) (Tells : U → List
   at-once-made None v u t made h = absurd h
   at-once-made (Some r) v u t made h = (made r.0 h.0, h.1)
 
-  pub at-once-refused : (x : Option (List Tree × Place)) (f : Fault) (t : State)
+  at-once-refused : (x : Option (List Tree × Place)) (f : Fault) (t : State)
       → ReadsAtOnce Means x words s (Err f) t → ReadsAtOnce Tells x words s (Err f) t
   at-once-refused None f t h = h
   at-once-refused (Some r) f t h = absurd h

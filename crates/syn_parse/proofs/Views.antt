@@ -94,7 +94,7 @@ module _ (peeks : Place → Bool → Type 0) (see : IgnoresInvisible peeks) wher
         same = cc;
       }) x y i j
 
-  pub past-ignore : IgnoresInvisible (λ p found. PeeksPast peeks (skip p) found)
+  past-ignore : IgnoresInvisible (λ p found. PeeksPast peeks (skip p) found)
   past-ignore b c p q s x y i j =
       past b c p q s (skip p) (skip q) (calls_lead_on b p s.left).skips
       (calls_lead_on c q s.right).skips (views_decide b c p q s).skips x y i j

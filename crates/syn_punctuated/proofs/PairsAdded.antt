@@ -59,13 +59,13 @@ module _ {X Y : Type 0} where
   pairs_more (Punctuated x y ∷ ps) p h shut = pairs_more ps p h shut
   pairs_more (End x ∷ ps) p h shut = absurd (shut h)
 
-  pub bare_more : (ps : List (Pair X Y)) (x : X) → IsPairs ps → (EndsBare ps → ⊥)
+  bare_more : (ps : List (Pair X Y)) (x : X) → IsPairs ps → (EndsBare ps → ⊥)
       → EndsBare (ps ++ End x ∷ [])
   bare_more [] x h shut = refl
   bare_more (Punctuated w y ∷ ps) x h shut = bare_more ps x h shut
   bare_more (End w ∷ ps) x h shut = absurd (shut h)
 
-  pub trailing_more : (ps : List (Pair X Y)) (x : X) (y : Y) → EndsBare (ps ++ Punctuated x y ∷ [])
+  trailing_more : (ps : List (Pair X Y)) (x : X) (y : Y) → EndsBare (ps ++ Punctuated x y ∷ [])
       → ⊥
   trailing_more [] x y h = h
   trailing_more (Punctuated w z ∷ ps) x y h = trailing_more ps x y h

@@ -17,7 +17,7 @@ use Rattle.syn_punctuated.specs.Retained.{AtEach, RunsOver, kept_pairs, kept_val
 use Rattle.syn_punctuated.specs.Retained.{kept_separators, RetainsPairs, Retains}
 
 module _ {S X : Type 0} (R : S → X → Bool → S → X → Type 0) where
-  pub runs_more : (s : S) (xs : List X) (zs : List (Bool × X)) (t : S) (x : X) (b : Bool) (u : S)
+  runs_more : (s : S) (xs : List X) (zs : List (Bool × X)) (t : S) (x : X) (b : Bool) (u : S)
       (y : X) → RunsOver R s xs zs t → R t x b u y
       → RunsOver R s (xs ++ x ∷ []) (zs ++ (b, y) ∷ []) u
   runs_more s [] [] t x b u y same step = (u, subst (λ (r : S). R r x b u y) (sym same) step, refl)
@@ -33,7 +33,7 @@ module _ {S X : Type 0} (R : S → X → Bool → S → X → Type 0) where
   runs_long s (w ∷ xs) [] t h = absurd h
   runs_long s (w ∷ xs) (z ∷ zs) t h = omega (arith, runs_long h.0 xs zs t h.2)
 
-pub kept_more : {X Y : Type 0} (zs : List (Bool × X)) (ps : List (X × Y)) (b : Bool) (y : X) (p : X
+kept_more : {X Y : Type 0} (zs : List (Bool × X)) (ps : List (X × Y)) (b : Bool) (y : X) (p : X
     × Y) → length zs ≡ length ps
     → kept_pairs (zs ++ (b, y) ∷ []) (ps ++ p ∷ []) ≡ kept_pairs zs ps ++ cond b ((y, p.1) ∷ []) []
 kept_more [] [] true y p e = refl
@@ -45,7 +45,7 @@ kept_more ((true, w) ∷ zs) (q ∷ ps) b y p e =
 kept_more ((false, w) ∷ zs) (q ∷ ps) b y p e = kept_more zs ps b y p (omega arith)
 
 -- a value that is kept moves to the end of those kept before
-pub kept_moves : {A : Type 0} (xs : List A) (k i : ℕ) (y w : A) → k ≤ i → i < length xs
+kept_moves : {A : Type 0} (xs : List A) (k i : ℕ) (y w : A) → k ≤ i → i < length xs
     → (k ≡ i → w ≡ y) → take (k + 1) (set (set (set xs i y) k y) i w) ≡ take k xs ++ y ∷ []
 kept_moves xs k i y w le lt same =
     let long = length-set xs i y in
@@ -59,7 +59,7 @@ kept_moves xs k i y w le lt same =
           ∙ ap (λ zs. zs ++ y ∷ []) (take-set-le k xs i y le)
     ]
 
-pub same_item : {A : Type 0} (xs ys : List A) (i : ℕ) (d : A) → drop i xs ≡ drop i ys
+same_item : {A : Type 0} (xs ys : List A) (i : ℕ) (d : A) → drop i xs ≡ drop i ys
     → get_or xs i d ≡ get_or ys i d
 same_item xs ys i d e =
     let p = rw add-zero at (get_or-drop i xs 0 d) in
@@ -111,7 +111,7 @@ module _ {S X Y : Type 0} (R : S → X → Bool → S → X → Type 0) (s : S) 
         kept_more h.run (take i old) b y p (long ∙ length-map (take i old) (λ p. p.0)),
       )
 
-  pub going_drops : (i k : ℕ) (now : List (X × Y)) (t : S) (p : X × Y) (u : S) (y : X)
+  going_drops : (i k : ℕ) (now : List (X × Y)) (t : S) (p : X × Y) (u : S) (y : X)
       → i < length now → Going i k now t → p ≡ get_or now i p → R t p.0 false u y
       → Going (i + 1) k (set now i (y, p.1)) u
   going_drops i k now t p u y lt h is step =
@@ -125,7 +125,7 @@ module _ {S X Y : Type 0} (R : S → X → Bool → S → X → Type 0) (s : S) 
         front = take-set-le k now i (y, p.1) h.le ∙ h.front ∙ sym (more.1 ∙ append-nil _);
       }
 
-  pub going_keeps : (i k : ℕ) (now : List (X × Y)) (t : S) (p : X × Y) (u : S) (y : X) (w : X × Y)
+  going_keeps : (i k : ℕ) (now : List (X × Y)) (t : S) (p : X × Y) (u : S) (y : X) (w : X × Y)
       → i < length now → Going i k now t → p ≡ get_or now i p → R t p.0 true u y
       → (k ≡ i → w ≡ (y, p.1))
       → Going (i + 1) (k + 1) (set (set (set now i (y, p.1)) k (y, p.1)) i w) u
@@ -179,7 +179,7 @@ module _ {S X : Type 0} (R : S → X → Bool → S → X → Type 0) (holds : S
       → AtEach R holds s (xs ++ x ∷ []) → RunsOver R s xs run t → holds t x
   each_last xs x run t each runs = each xs x [] run t refl runs
 
-pub kept_first : {X Y : Type 0} (run : List (Bool × X)) (pairs : List (X × Y))
+kept_first : {X Y : Type 0} (run : List (Bool × X)) (pairs : List (X × Y))
     → length run ≡ length pairs → map (λ p. p.0) (kept_pairs run pairs) ≡ kept_values run
 kept_first [] [] e = refl
 kept_first [] (p ∷ ps) e = absurd (omega arith)
@@ -187,14 +187,14 @@ kept_first (z ∷ zs) [] e = absurd (omega arith)
 kept_first ((true, w) ∷ zs) (p ∷ ps) e = ap (λ rs. w ∷ rs) (kept_first zs ps (omega arith))
 kept_first ((false, w) ∷ zs) (p ∷ ps) e = kept_first zs ps (omega arith)
 
-pub kept_second : {X Y : Type 0} (run : List (Bool × X)) (pairs : List (X × Y))
+kept_second : {X Y : Type 0} (run : List (Bool × X)) (pairs : List (X × Y))
     → map (λ p. p.1) (kept_pairs run pairs) ≡ kept_separators run (map (λ p. p.1) pairs)
 kept_second [] ps = refl
 kept_second (z ∷ zs) [] = refl
 kept_second ((true, w) ∷ zs) (p ∷ ps) = ap (λ rs. p.1 ∷ rs) (kept_second zs ps)
 kept_second ((false, w) ∷ zs) (p ∷ ps) = kept_second zs ps
 
-pub values_more : {X : Type 0} (run : List (Bool × X)) (b : Bool) (y : X)
+values_more : {X : Type 0} (run : List (Bool × X)) (b : Bool) (y : X)
     → kept_values (run ++ (b, y) ∷ []) ≡ kept_values run ++ cond b (y ∷ []) []
 values_more [] true y = refl
 values_more [] false y = refl
@@ -210,7 +210,7 @@ separators_more ((true, w) ∷ zs) b y (q ∷ ys) e =
     ap (λ rs. q ∷ rs) (separators_more zs b y ys (omega arith))
 separators_more ((false, w) ∷ zs) b y (q ∷ ys) e = separators_more zs b y ys (omega arith)
 
-pub bare_differs : {X Y : Type 0} (list : Punctuated X Y) → list.last ≡ None
+bare_differs : {X Y : Type 0} (list : Punctuated X Y) → list.last ≡ None
     → length (values_of list) ≡ length (separators_of list) + 1 → ⊥
 bare_differs list is e =
     let f : length (map (λ p. p.0) list.inner.items ++ [])
@@ -241,7 +241,7 @@ module _ {S X Y : Type 0} (R : S → X → Bool → S → X
         bare = λ e. absurd (bare_differs old was e);
       }
 
-pub bare_is_not_trailing : {X Y : Type 0} (list : Punctuated X Y) (v : Box X) → list.last ≡ Some v
+bare_is_not_trailing : {X Y : Type 0} (list : Punctuated X Y) (v : Box X) → list.last ≡ Some v
     → length (values_of list) ≡ length (separators_of list) → ⊥
 bare_is_not_trailing list v is e =
     let f : length (map (λ p. p.0) list.inner.items ++ v.value ∷ [])
@@ -255,7 +255,7 @@ bare_is_not_trailing list v is e =
       length-map list.inner.items (λ p. p.1),
     )
 
-pub popped_second : {X Y : Type 0} (pairs now : List (X × Y)) (r : Option (X × Y))
+popped_second : {X Y : Type 0} (pairs now : List (X × Y)) (r : Option (X × Y))
     → pairs ≡ now ++ option_to_list r → (r ≡ None → length now ≡ 0)
     → map (λ p. p.1) now ≡ take (length pairs - 1) (map (λ p. p.1) pairs)
 popped_second pairs [] None e none = rw e refl

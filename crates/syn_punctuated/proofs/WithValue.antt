@@ -16,11 +16,11 @@ use Rattle.syn_punctuated.specs.Lists.{values_of}
 use Rattle.syn_punctuated.specs.Lends.{with_value_of, with_pair_value, with_last_value, with_value}
 use Rattle.syn_punctuated.specs.Lends.{WritesValue}
 
-pub boxed_at_most_one : {X : Type 0} (last : Option (Box X)) → length (boxed_values last) ≤ 1
+boxed_at_most_one : {X : Type 0} (last : Option (Box X)) → length (boxed_values last) ≤ 1
 boxed_at_most_one None = omega arith
 boxed_at_most_one (Some v) = omega arith
 
-pub read_first : {X Y : Type 0} (pairs : List (X × Y)) (rest : List X) (i : ℕ) (p : X × Y)
+read_first : {X Y : Type 0} (pairs : List (X × Y)) (rest : List X) (i : ℕ) (p : X × Y)
     → slice_get pairs i ≡ Some p → slice_get (map (λ pair. pair.0) pairs ++ rest) i ≡ Some p.0
 read_first [] rest i p e = cc
 read_first (q ∷ qs) rest zero p e = cc
@@ -112,7 +112,7 @@ module _ {X Y : Type 0} where
       )
 
   -- a list with its bare last value written over
-  pub last_value_written : (list : Punctuated X Y) (i : ℕ) (w x : X) → i ≡ vec_len list.inner
+  last_value_written : (list : Punctuated X Y) (i : ℕ) (w x : X) → i ≡ vec_len list.inner
       → slice_get (values_of list) i ≡ Some x
       → WritesValue i w list (record list { last = with_last_value list.last w })
   last_value_written list i w x e is = (

@@ -22,7 +22,7 @@ mutual
       )
 
   -- there are as many entries as the forest weighs
-  pub length-entries : (n : ℕ) (f : Forest) → length (entries n f) ≡ weight f
+  length-entries : (n : ℕ) (f : Forest) → length (entries n f) ≡ weight f
   length-entries n no_trees = refl
   length-entries n (tree t f) =
       omega (

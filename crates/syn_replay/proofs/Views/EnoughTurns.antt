@@ -17,7 +17,7 @@ use Rattle.syn_replay.specs.Turns.{after, after_value, pieces_of, Rule, is_over,
 use Rattle.syn_replay.specs.Turns.{turns, turns_left, MoreTurnsChangeNothing}
 
 -- as many turns as there are visible trees ahead, and one more
-abbrev pub IsEnough : ℕ → Place → Type 0
+abbrev IsEnough : ℕ → Place → Type 0
 IsEnough n p = length (ahead p) + 1 ≤ n
 
 after_fewer : (p : Place) (u : Outcome) (a b : List Piece → Place → Outcome)
@@ -44,7 +44,7 @@ module _ (kind : Kind) (separator : List ℕ) (scope : Span) where
 
   -- for each rule
   module _ (rule : Rule) where
-    pub enough-turns : (n m : ℕ) (p : Place) → IsEnough n p → IsEnough m p
+    enough-turns : (n m : ℕ) (p : Place) → IsEnough n p → IsEnough m p
         → turns kind separator scope rule n p ≡ turns kind separator scope rule m p
     enough-turns zero m p h k = absurd (omega (arith, h))
     enough-turns (suc n) zero p h k = absurd (omega (arith, k))

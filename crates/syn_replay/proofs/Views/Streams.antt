@@ -65,7 +65,7 @@ module _ (f g : Laid) where
   alike-append (x ∷ st) (y ∷ su) s t h k = (h.0, alike-append st su s t h.1 k)
 
   -- a change of one stream
-  abbrev pub ChangesAlike : (Stream → Stream) → (Stream → Stream) → Type 0
+  abbrev ChangesAlike : (Stream → Stream) → (Stream → Stream) → Type 0
   ChangesAlike a b = (s t : Stream) → StreamsAlike s t → StreamsAlike (a s) (b t)
 
   pub alike-with_stream : (st su : State) (k : ℕ) (a b : Stream → Stream) → ChangesAlike a b
@@ -135,7 +135,7 @@ module _ (f g : Laid) where
       subst (λ x. StatesAlike (with_note_on_parent k n st) (with_note_on_parent x m su)) e
       (noted-kind k n m st su i h)
 
-  pub alike-handed_up : (k : ℕ) (st su : State) → StatesAlike st su
+  alike-handed_up : (k : ℕ) (st su : State) → StatesAlike st su
       → StatesAlike (handed_up k st) (handed_up k su)
   alike-handed_up k st su h = go (stream_at st k) (stream_at su k) (alike-stream_at st su k h) where
     go : (a b : Option Stream) → BothAlike a b

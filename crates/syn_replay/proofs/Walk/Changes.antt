@@ -8,7 +8,7 @@ use Rattle.syn_replay.specs.Session.State.{State, Stream, outermost, kind_at, st
 use Rattle.syn_replay.specs.Session.State.{with_stream}
 
 -- what stands for a stream that is not there
-abbrev pub nobody : Stream
+abbrev nobody : Stream
 nobody =
     record {
       place = empty_place;

@@ -265,7 +265,7 @@ module _ {F : Type 0} (k n : ℕ) (kind : Kind) (reads : ValueCall F (Vec Piece)
   told s m t whole rest turns (Err (Memory f)) e h c = tt
 
   -- the rule of the run that reads a list of this rule
-  abbrev pub run_rule : Rule → runs.Rule
+  abbrev run_rule : Rule → runs.Rule
   run_rule terminated = runs.terminated
   run_rule separated = runs.separated peeks
 
@@ -426,7 +426,7 @@ module _ {F : Type 0} (k n : ℕ) (kind : Kind) (reads : ValueCall F (Vec Piece)
         ∙ ap (λ z. refused_at (no_progress z scope) z) (sym place)
         ∙ ap (λ z. refused_at (no_progress t.place z) t.place) (sym (in_scope s t to ∙ e))) to
 
-  pub list-told : (rule : Rule) (f : F) (s t : State)
+  list-told : (rule : Rule) (f : F) (s t : State)
       (r : Result (Punctuated (Vec Piece) (Punctuation k n)) Fault) → Fits f
       → IsRun (run_rule rule) reads separates f s r t
       → Told s (turns kind word s.scope_span rule (turns_left s.place) s.place) r t

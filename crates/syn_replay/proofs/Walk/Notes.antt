@@ -50,7 +50,7 @@ pub data Under (st : State) (outer : ℕ) : ℕ → Type 0 where
       → Under st outer k
 
 -- a stream has no open content
-abbrev pub HasNoOpen : State → ℕ → Type 0
+abbrev HasNoOpen : State → ℕ → Type 0
 HasNoOpen st k = (j : ℕ) → (look st j).is_open ≡ true → (look st j).kind ≡ content_of k → ⊥
 
 -- Streams that stay clean: those of a set that holds each content that is closed into one of the
@@ -201,7 +201,7 @@ pub record Kept (d : Bool) (st after : State) : Type 0 where
   pub shut_clean : d ≡ false → (k p : ℕ) → Shut st after k p → IsClean after p
       → IsEmptied st after k
 
-abbrev pub Cleans : Bool → (ℕ → Type 0) → State → State → Type 0
+abbrev Cleans : Bool → (ℕ → Type 0) → State → State → Type 0
 Cleans d X st after = (d ≡ false → IsFed X st after) → AllClean X st → AllClean X after
 
 -- Contents of a stream are ended, from this number on: they are inside it, and none of its contents

@@ -696,7 +696,7 @@ module _ (front : State) (k : ℕ) (s0 : Stream) (here : stream_at front k ≡ S
           ∙ ap (λ z. option_map (taken_over z) (stream_at closed_y k)) c.forks
           ∙ ap (option_map (taken_over (Some (fork_at c.p c.n)))) c.kept ∙ sym c.mine
 
-    pub is_followed : (cs : List Command) → is_self_contained k (made) cs ≡ true
+    is_followed : (cs : List Command) → is_self_contained k (made) cs ≡ true
         → is_inside (last_state (step (commands.on k commands.fork) front).state
         (map (command_on_fork k (made)) cs)) (made) k ≡ false → IsFollowed front k cs
     is_followed cs h out =
