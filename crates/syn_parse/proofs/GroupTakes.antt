@@ -19,6 +19,7 @@ use Rattle.tok_buffer.specs.InFront.{EnteredAhead, entered_ahead, first_group, f
 use Rattle.tok_buffer.specs.Place.{Place}
 use Rattle.tok_buffer.specs.Messages.{first_text}
 use Rattle.tok_buffer.specs.Reached.{Reached}
+use Rattle.tok_buffer.specs.declared.error.Message.{Message}
 use Rattle.tok_buffer.specs.View.{IsVisibleDelimiter, erased_ahead}
 use Rattle.tok_buffer.specs.Progress.{remaining}
 use Rattle.tok_buffer.proofs.Onwards.{entries_go_on, reads_keep_scope}
@@ -189,6 +190,15 @@ module _ {T A : Type 0} (form : T → A) (inner : Taking A) (calls : Call T)
       → RunsWithin calls (enter d s.place) (refused_at s (delimiter_words d)) s r t
       → TakesAs both (take_group d inner) s r t
   group_told r w = within (enter d s.place) r refl w
+
+-- a function that runs within a group does there what each of its calls does
+pub runs_by : {R : Type 0} (calls parses : Call R) (x : Option Entered) (words : Message)
+    (s t : State) (r : Result (DelimSpan × R) Fault)
+    → ((a : State) (y : Result R Fault) (b : State) → calls a y b → parses a y b)
+    → RunsWithin calls x words s r t → RunsWithin parses x words s r t
+runs_by calls parses None words s t r each w = w
+runs_by calls parses (Some e) words s t r each w =
+    (w.0, w.1, each (content_of e) w.0 w.1 w.2, w.3, w.4)
 
 -- a value within a group takes what its type states
 pub group_keeps : {T : Type 0} (takes : Takings T) (calls : Call T) (d : Delimiter)

@@ -193,12 +193,16 @@ impl<'a> ParseBuffer<'a> {
     /// ```
     pub fn parse_within<T: Parse>(&mut self, delimiter: Delimiter) -> Result<(DelimSpan, T)>
         requires { IsVisibleDelimiter delimiter }
-        ensures { Keeps (grouped delimiter T.takes) self.old result self.new }
+        ensures runs { Does (λ s. RunsWithin T.parses (enter delimiter s.place)
+            (refused_at s (delimiter_words delimiter)) s) self.old result self.new }
+        ensures takes { Keeps (grouped delimiter T.takes) self.old result self.new }
+        ensures after { IfOk result (λ _. IsAfter (enter delimiter self.old.place) self.new.place) }
     {
         self.run_within(
             delimiter,
             |content|
-                ensures { Keeps T.takes content.old result content.new }
+                ensures reads { T.parses content.old result content.new }
+                ensures takes { Keeps T.takes content.old result content.new }
             { T::parse(content) },
         )
     }

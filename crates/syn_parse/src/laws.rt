@@ -7,6 +7,7 @@ ghost use Rattle.tok_leaves.specs.Laws.{ClonesKeep};
 ghost use Rattle.tok_types.specs.Laws.{AreEqual, WriteNothing};
 ghost use Rattle.tok_types.specs.Views.{IgnoresInvisible};
 
+use crate::own::{Own, Word};
 use crate::parse::Parse;
 use crate::step::StepCursor;
 use crate::stream::Paused;
@@ -80,6 +81,17 @@ pub fn peeks_past_ignore_invisible<T: Token>()
 pub fn nothings_are_equal()
     ensures equal { AreEqual ⟦<Nothing as PartialEq>⟧.eq }
     ensures hash { WriteNothing ⟦<Nothing as Hash>⟧.hash_input }
+{}
+
+/// All keywords of one's own with one word are equal, and write nothing to a hasher.
+pub fn own_keywords_are_equal<W: Word>()
+    ensures equal { AreEqual ⟦<Own<W> as PartialEq>⟧.eq }
+    ensures hash { WriteNothing ⟦<Own<W> as Hash>⟧.hash_input }
+{}
+
+/// A clone of a keyword of one's own has its span.
+pub fn clones_keep_own_keywords<W: Word>()
+    ensures { ClonesKeep ⟦<Own<W> as Clone>⟧.is_clone }
 {}
 
 /// A clone of a paused stream, or of the argument of a step, is what was cloned: its place, its

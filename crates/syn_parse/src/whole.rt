@@ -75,6 +75,8 @@ pub fn parse_both<T: Parse + Drop>(
     left: TokenStream,
     right: TokenStream,
 ) -> (Result<T>, Result<T>)
+    ensures reads_left { ParsesWhole T.parses (whole_stream left call_site) result.0 }
+    ensures reads_right { ParsesWhole T.parses (whole_stream right call_site) result.1 }
     ensures left { KeepsWhole T.takes left result.0 }
     ensures right { KeepsWhole T.takes right result.1 }
     ensures agree { KeepsBoth T.takes left right result.0 result.1 }

@@ -29,9 +29,9 @@ pub use tok_types::{accept_as_ident, token};
 pub mod laws {
     pub use arguments::laws::arguments_once;
     pub use syn_parse::laws::{
-        clones_keep_streams, forks_follow, nothings_are_equal, parses_go_on,
-        peeks_past_ignore_invisible, peeks_tell_groups, peeks_tell_parses, peeks_tell_tokens,
-        scopes_tell, views_decide_words,
+        clones_keep_own_keywords, clones_keep_streams, forks_follow, nothings_are_equal,
+        own_keywords_are_equal, parses_go_on, peeks_past_ignore_invisible, peeks_tell_groups,
+        peeks_tell_parses, peeks_tell_tokens, scopes_tell, views_decide_words,
     };
     pub use syn_punctuated::laws::{
         equality_is_pointwise, indexing_writes_one_value, lists_are_read_back, lists_hash_all,

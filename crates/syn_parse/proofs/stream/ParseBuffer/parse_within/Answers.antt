@@ -1,11 +1,19 @@
 use Rattle.std.specs.Fn.{FnOnceReturnsAtMut}
+use Rattle.syn_parse.specs.Reads.{as_does}
 use Rattle.syn_parse.specs.Takings.{Keeps}
-use Rattle.syn_parse.proofs.GroupTakes.{at-states, group_keeps}
+use Rattle.syn_parse.proofs.GroupTakes.{at-states, group_keeps, runs_by}
 use Rattle.syn_parse.proofs.stream.ParseBuffer.parse_within.Goals as goal
 
-pub returns : goal.returns
-returns g c =
+pub returns-clause-runs : goal.returns-clause-runs
+returns-clause-runs g c =
+    as_does _ c.args.self.now c.run_within.result c.run_within.new.self
+    (runs_by (FnOnceReturnsAtMut _ _) g.T.Parse.parses _ _ _ _ _
+    (λ x y z h. at-states g.T.Parse.parses _ _ x z y h.shows h.leaves h.met.reads)
+    c.run_within.ensures.runs)
+
+pub returns-clause-takes : goal.returns-clause-takes
+returns-clause-takes g c =
     group_keeps g.T.Parse.takes (FnOnceReturnsAtMut _ _) c.args.delimiter c.requires c.args.self.now
     c.run_within.new.self c.run_within.result
-    (λ x y z h. at-states (Keeps g.T.Parse.takes) _ _ x z y h.shows h.leaves h.met)
+    (λ x y z h. at-states (Keeps g.T.Parse.takes) _ _ x z y h.shows h.leaves h.met.takes)
     c.run_within.ensures.runs
