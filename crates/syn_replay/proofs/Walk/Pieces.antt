@@ -68,30 +68,16 @@ record IsPunctOf (c : ℕ) (t : Tree) : Type 0 where
 
 of_single : (c : ℕ) (t : Tree) → is_punct_of c t ≡ true → IsPunctOf c t
 of_single c (leaf (punct k spacing span)) h =
-    record {
-      spacing =
-          spacing;
-      span =
-          span;
-      whole =
-          ap (λ z. leaf (punct z spacing span))
-          (eqb-true k c (and_parts (k == c) (not (k == apostrophe)) h).0);
-    }
+    let same = eqb-true k c (and_parts (k == c) (not (k == apostrophe)) h).0 in
+    record { spacing = spacing; span = span; whole = cc }
 of_single c (leaf (ident text span)) h = cc
 of_single c (leaf (literal text span)) h = cc
 of_single c (group d inside span) h = cc
 
 of_joint : (c : ℕ) (t : Tree) → is_joint_of c t ≡ true → IsPunctOf c t
 of_joint c (leaf (punct k Joint span)) h =
-    record {
-      spacing =
-          Joint;
-      span =
-          span;
-      whole =
-          ap (λ z. leaf (punct z Joint span))
-          (eqb-true k c (and_parts (k == c) (not (k == apostrophe)) h).0);
-    }
+    let same = eqb-true k c (and_parts (k == c) (not (k == apostrophe)) h).0 in
+    record { spacing = Joint; span = span; whole = cc }
 of_joint c (leaf (punct k Alone span)) h = cc
 of_joint c (leaf (ident text span)) h = cc
 of_joint c (leaf (literal text span)) h = cc
@@ -113,8 +99,7 @@ taken_in wanted (Some t) p r e = go (wanted t) refl e where
   go : (b : Bool) → wanted t ≡ b
       → cond {A = Option (List Tree × Place)} b (Some (t ∷ [], p)) None ≡ Some r
       → IsTaken wanted r.0
-  go true w h = let same : (t ∷ [], p) ≡ r = cc in
-      record { one = t; is_wanted = w; whole = ap (λ z. z.0) (sym same) }
+  go true w h = record { one = t; is_wanted = w; whole = cc }
   go false w h = cc
 
 taken : (wanted : Tree → Bool) (d : Place) (r : List Tree × Place) → reads.read_if wanted d ≡ Some r
@@ -141,11 +126,9 @@ pub one_more_piece : (items : List Piece) (piece : Piece) (whole : List reports.
     → map piece_of items ++ punct_pieces text spans ≡ whole
     → map piece_of (items ++ piece ∷ []) ++ punct_pieces after others ≡ whole
 one_more_piece items piece whole text after spans others c span made t s e =
-    ap (λ z. z ++ punct_pieces after others) (map-append piece_of items (piece ∷ []))
-    ∙ append_assoc (map piece_of items) (piece_of piece ∷ []) (punct_pieces after others)
-    ∙ ap (λ z. map piece_of items ++ z ∷ punct_pieces after others) made
-    ∙ ap (λ z. map piece_of items ++ punct_pieces z (span ∷ others)) (sym t)
-    ∙ ap (λ z. map piece_of items ++ punct_pieces text z) (sym s) ∙ e
+    let apart = map-append piece_of items (piece ∷ []) in
+    let one = append_assoc (map piece_of items) (piece_of piece ∷ []) (punct_pieces after others) in
+    cc
 
 -- one read and then another
 record IsBoth (x : Option (List Tree × Place)) (g : Place
@@ -163,24 +146,14 @@ both_read (Some a) g r e = go (g a.1) refl e where
   go : (y : Option (List Tree × Place)) → g a.1 ≡ y
       → elim y [ Some q ↦ Some (a.0 ++ q.0, q.1) | None ↦ None ] ≡ Some r → IsBoth (Some a) g r.0
   go None w h = cc
-  go (Some q) w h = let same : (a.0 ++ q.0, q.1) ≡ r = cc in
-      record {
-        first =
-            a;
-        second = q;
-        is_first = refl;
-        is_second = w;
-        whole = ap (λ z. z.0) (sym same);
-      }
+  go (Some q) w h = record { first = a; second = q; is_first = refl; is_second = w; whole = cc }
 
 single_pieces : (c : ℕ) (cs : List ℕ) (t : Tree) (ts more : List Tree) → IsPunctOf c t
     → ts ≡ t ∷ more → pieces_of more ≡ punct_pieces cs (map tree_span more)
     → pieces_of ts ≡ punct_pieces (c ∷ cs) (map tree_span ts)
 single_pieces c cs t ts more one e h =
-    let u = leaf (punct c one.spacing one.span) in
-    let same : ts ≡ u ∷ more = e ∙ ap (λ z. z ∷ more) one.whole in
-    ap pieces_of same ∙ ap (λ z. record { text = encode_utf8 c; span = one.span } ∷ z) h
-    ∙ ap (λ z. punct_pieces (c ∷ cs) (map tree_span z)) (sym same)
+    let same : ts ≡ leaf (punct c one.spacing one.span) ∷ more = let w = one.whole in cc in
+    rw same (ap (λ z. record { text = encode_utf8 c; span = one.span } ∷ z) h)
 
 -- the pieces of a punctuation are its characters
 pub punctuation-pieces : (text : List ℕ) (p : Place) (r : List Tree × Place)
@@ -201,9 +174,8 @@ punctuation-pieces (c ∷ (d ∷ cs)) p r e =
 module _ (n : ℕ) (text : List ℕ) (same : sized n text ≡ text) (ascii : chars text ≡ text) where
   own_chars : ascii_chars (sized n text) ≡ text
   own_chars =
-      ap ascii_chars same
-      ∙ ap (λ z. cond (length z == length text) z []) ascii
-      ∙ cond-true (length text == length text) text [] (eq-eqb (length text) (length text) refl)
+      rw (same, ascii)
+      (cond-true (length text == length text) text [] (eq-eqb (length text) (length text) refl))
 
   -- a punctuation that is read
   pub sized-pieces : (s : State) (spans : List Span) (ps : Vec Piece) (t : State)
