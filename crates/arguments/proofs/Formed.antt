@@ -13,10 +13,10 @@ use Rattle.arguments.specs.declared.argument.Value.{Value}
 use Rattle.arguments.specs.declared.argument.Value.TheFolds.{fold-roll-Argument, fold-roll-Value}
 use Rattle.arguments.specs.declared.argument.Value.TheVariants as made
 
-form_flag : (name : Ident) → value_form made.Flag name ≡ flag name
+pub form_flag : (name : Ident) → value_form made.Flag name ≡ flag name
 form_flag name = rw (← made.rolls-Flag, fold-roll-Value)
 
-form_assigned : (name : Ident) (equals : Equals) (text : Literal)
+pub form_assigned : (name : Ident) (equals : Equals) (text : Literal)
     → value_form (made.Literal equals text) name ≡ assigned name equals text
 form_assigned name equals text = rw (← made.rolls-Literal, fold-roll-Value)
 

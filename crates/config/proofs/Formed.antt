@@ -27,10 +27,10 @@ level layer = fold-roll-Value _ _ value_level setting_level layer
 pub form_number : (span : Span) (n : ℕ) → value_form (made.Number span n) ≡ number span n
 form_number span n = ap value_form (sym (made.rolls-Number span n)) ∙ level (Value-F.Number span n)
 
-form_truth : (span : Span) (b : Bool) → value_form (made.Truth span b) ≡ truth span b
+pub form_truth : (span : Span) (b : Bool) → value_form (made.Truth span b) ≡ truth span b
 form_truth span b = ap value_form (sym (made.rolls-Truth span b)) ∙ level (Value-F.Truth span b)
 
-form_setting : (key : Ident) (colon : Colon) (value : Value)
+pub form_setting : (key : Ident) (colon : Colon) (value : Value)
     → setting_form (record { key = key; colon = colon; value = value })
     ≡ (key, colon, value_form value)
 form_setting key colon value =
@@ -41,7 +41,7 @@ pub form_list : IsOfList value_form (λ bracket list. value_form (made.List brac
 form_list = of_list value_form Value-F.List made.rolls-List level
     (λ bracket inner. refl) (λ bracket inner last. refl)
 
-form_map : IsOfList setting_form (λ brace list. value_form (made.Map brace list)) mapped
+pub form_map : IsOfList setting_form (λ brace list. value_form (made.Map brace list)) mapped
 form_map = of_list value_form Value-F.Map made.rolls-Map level
     (λ brace inner. refl) (λ brace inner last. refl)
 
@@ -55,7 +55,7 @@ pub list_is : (value : Taking Form) (a : Ahead)
 unfolding take_list_value
 list_is value a = refl
 
-map_is : (value : Taking Form) (a : Ahead)
+pub map_is : (value : Taking Form) (a : Ahead)
     → take_map_value value a
     ≡ and_then (take_group Brace (take_terminated (setting_step value) take_comma) a)
     (λ settings. found (mapped settings.0.join settings.1))
