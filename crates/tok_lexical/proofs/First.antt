@@ -4,37 +4,23 @@ use Rattle.std.proofs.Common.{◌≤◌, inl, inr, List, [], ◌∷◌, length, 
 use Rattle.std.proofs.lemmas.List.{get_or_default}
 use Rattle.std.proofs.lemmas.Bool.{cases_eq, false≢true, eqb-true}
 use Rattle.std.specs.Prelude.{◌==◌, if◌then◌else◌, Bool, true, false}
-use Rattle.std.specs.Char.{is_digit}
 use Rattle.tok_lexical.specs.Pieces.{HasPrefix, IsLongestPrefix, IsOne}
 use Rattle.tok_lexical.specs.Fits.{NoneBefore}
-use Rattle.tok_lexical.specs.Starts.{may_begin, start_of, only, is_mark, is_prefix, rules_of}
+use Rattle.tok_lexical.specs.Starts.{may_begin, start_of, only, rules_of}
 use Rattle.tok_lexical.specs.Starts.{identifier_rule, punct_rule, last_rules}
 use Rattle.tok_lexical.specs.Fits.{IsFirstFit, here, later}
 use Rattle.tok_lexical.specs.Rules.{Spells, plain_rules, marked_rules, source_rules}
 use Rattle.tok_lexical.specs.declared.rule.Rule.{Rule}
-use Rattle.tok_lexical.specs.declared.rule.Rule.TheVariants.{ByteOrderMark, Whitespace}
-use Rattle.tok_lexical.specs.declared.rule.Rule.TheVariants.{LineComment, BlockComment}
-use Rattle.tok_lexical.specs.declared.rule.Rule.TheVariants.{OpenComment, Opening, Closing}
-use Rattle.tok_lexical.specs.declared.rule.Rule.TheVariants.{QuotedString, BadString, ByteChar}
-use Rattle.tok_lexical.specs.declared.rule.Rule.TheVariants.{BadByteChar, StringPrefix}
-use Rattle.tok_lexical.specs.declared.rule.Rule.TheVariants.{EscapedChar, BadEscapedChar}
-use Rattle.tok_lexical.specs.declared.rule.Rule.TheVariants.{PlainChar, Lifetime, Apostrophe}
-use Rattle.tok_lexical.specs.declared.rule.Rule.TheVariants.{MarkedApostrophe, Based, BadBased}
-use Rattle.tok_lexical.specs.declared.rule.Rule.TheVariants.{Decimal, RawIdentifier, Identifier}
+use Rattle.tok_lexical.specs.declared.rule.Rule.TheVariants.{Opening, Closing}
+use Rattle.tok_lexical.specs.declared.rule.Rule.TheVariants.{Identifier}
 use Rattle.tok_lexical.specs.declared.rule.Rule.TheVariants.{Punct, MarkedPunct, Other}
-use Rattle.tok_lexical.specs.declared.rule.Rule.TheVariants.{SourceString, RawString}
-use Rattle.tok_lexical.specs.declared.rule.Rule.TheVariants.{BadPrefixed, SourceIdentifier}
-use Rattle.tok_lexical.specs.declared.rule.Rule.TheVariants.{SourceLifetime, SourcePunct, Float}
-use Rattle.tok_lexical.specs.declared.rule.Rule.TheVariants.{PointedDecimal, SourceDecimal}
-use Rattle.tok_lexical.specs.declared.rule.Rule.TheVariants.{SourceLineComment}
-use Rattle.tok_lexical.specs.declared.rule.Rule.TheVariants.{SourceBlockComment}
-use Rattle.tok_lexical.specs.declared.contents.Contents.TheVariants as contents
+use Rattle.tok_lexical.specs.declared.rule.Rule.TheVariants.{SourceIdentifier}
+use Rattle.tok_lexical.specs.declared.rule.Rule.TheVariants.{SourcePunct}
 use Rattle.tok_lexical.specs.declared.edition.Edition.{Edition}
 use Rattle.tok_lexical.specs.declared.edition.Edition.TheVariants.{Edition2015, Edition2018}
 use Rattle.tok_lexical.specs.declared.edition.Edition.TheVariants.{Edition2021, Edition2024}
-use Rattle.tok_lexical.specs.Characters.{is_whitespace, is_punct, opening_mark, closing_mark}
+use Rattle.tok_lexical.specs.Characters.{is_punct, opening_mark, closing_mark}
 use Rattle.tok_lexical.specs.Words.{is_identifier_start, IsIdentifier}
-use Rattle.tok_lexical.specs.Numbers.{IsRun, starts_digit}
 use Rattle.tok_lexical.specs.declared.start.Start.{Start}
 use Rattle.tok_lexical.specs.declared.start.Start.TheVariants as start
 use Rattle.tok_lexical.specs.declared.delimiter.Delimiter.{Delimiter}
@@ -43,8 +29,9 @@ use Rattle.tok_lexical.specs.declared.rule.Rules.{Rules}
 use Rattle.tok_lexical.specs.declared.rule.Rules.TheVariants as every
 use Rattle.tok_lexical.specs.Pieces.{Skips}
 use Rattle.unicode_ident.specs.Ident.{is_xid_continue}
-use Rattle.tok_lexical.proofs.Longest.{takes_one, takes_identifier}
-use Rattle.tok_lexical.proofs.Fits.{spelled_one}
+use Rattle.tok_lexical.proofs.Identifiers.{takes_identifier}
+use Rattle.tok_lexical.proofs.Longest.{takes_one}
+use Rattle.tok_lexical.proofs.Heads.{begins, spelled_one}
 
 pub decides_at : (rules : List Rule) (text piece rest : List ℕ) (i : ℕ) (d : Rule) →
     i < length rules → NoneBefore rules text i → IsLongestPrefix (Spells (get_or rules i d)) text
@@ -73,256 +60,6 @@ pub none_at_all : (rules : List Rule) (text : List ℕ) (i : ℕ) → length rul
     NoneBefore rules text i → NoneBefore rules text (length rules)
 none_at_all rules text i l before =
     record { none = λ j q k m fits. before.none j q (omega arith) m fits }
-
--- the start of a character that passes none of the tests before this one
-abbrev from_punct : ℕ → Start
-from_punct c = if is_punct c then start.Punct else start.Rest
-
-abbrev from_letter : ℕ → Start
-from_letter c = if is_identifier_start c then start.Letter else from_punct c
-
-abbrev from_closing_brace : ℕ → Start
-from_closing_brace c = if c == 125 then start.Closing delimiter.Brace else from_letter c
-
-abbrev from_brace : ℕ → Start
-from_brace c = if c == 123 then start.Opening delimiter.Brace else from_closing_brace c
-
-abbrev from_closing_bracket : ℕ → Start
-from_closing_bracket c = if c == 93 then start.Closing delimiter.Bracket else from_brace c
-
-abbrev from_bracket : ℕ → Start
-from_bracket c = if c == 91 then start.Opening delimiter.Bracket else from_closing_bracket c
-
-abbrev from_closing_parenthesis : ℕ → Start
-from_closing_parenthesis c = if c == 41 then start.Closing delimiter.Parenthesis else from_bracket c
-
-abbrev from_parenthesis : ℕ → Start
-from_parenthesis c = if c == 40 then start.Opening delimiter.Parenthesis else
-    from_closing_parenthesis c
-
-abbrev from_apostrophe : ℕ → Start
-from_apostrophe c = if c == 39 then start.Apostrophe else from_parenthesis c
-
-abbrev from_quote : ℕ → Start
-from_quote c = if c == 34 then start.Quote else from_apostrophe c
-
-abbrev from_slash : ℕ → Start
-from_slash c = if c == 47 then start.Slash else from_quote c
-
-abbrev from_prefix : ℕ → Start
-from_prefix c = if is_prefix c then start.Prefix else from_slash c
-
-abbrev from_digit : ℕ → Start
-from_digit c = if is_digit c 10 then start.Digit else from_prefix c
-
-abbrev from_zero : ℕ → Start
-from_zero c = if c == 48 then start.Zero else from_digit c
-
-abbrev from_whitespace : ℕ → Start
-from_whitespace c = if is_whitespace c then start.Whitespace else from_zero c
-
-head_is : (k c : ℕ) (text piece after tail : List ℕ) → c ∷ text ≡ piece ++ after →
-    piece ≡ k ∷ tail → c ≡ k
-head_is k c text piece after tail cut e =
-    let same : c ∷ text ≡ k ∷ (tail ++ after) = cut ∙ ap (λ w. w ++ after) e in
-    cc
-
-at_head : (p : Start → Bool) (k c : ℕ) (text piece after tail : List ℕ) → c ∷ text ≡ piece
-    ++ after → piece ≡ k ∷ tail → p (start_of k) ≡ true → p (start_of c) ≡ true
-at_head p k c text piece after tail cut e good = subst (λ x. p (start_of x) ≡ true)
-    (sym (head_is k c text piece after tail cut e)) good
-
-either : (p : Start → Bool) (b : Bool) (x y : Start) → p x ≡ true → p y ≡ true →
-    p (if b then x else y) ≡ true
-either p true x y first second = first
-either p false x y first second = second
-
-taken : (p : Start → Bool) (b : Bool) (x y : Start) → b ≡ true → p x ≡ true →
-    p (if b then x else y) ≡ true
-taken p true x y e first = first
-taken p false x y e first = absurd (false≢true e)
-
-pub identifier_head : (c : ℕ) (text : List ℕ) → HasPrefix IsIdentifier (c ∷ text) →
-    is_identifier_start c ≡ true
-identifier_head c text ([], after, cut, s) = absurd s
-identifier_head c text (d ∷ piece, after, cut, s) =
-    ap is_identifier_start (head_is d c text (d ∷ piece) after piece cut refl) ∙ s.0
-
-decimal_head : (Tail : List ℕ → Type 0) (c : ℕ) (text : List ℕ) →
-    HasPrefix (IsRun 10 starts_digit Tail) (c ∷ text) → is_digit c 10 ≡ true
-decimal_head Tail c text (piece, after, cut, ([], suffix, e, all, good, s)) =
-    absurd (false≢true good)
-decimal_head Tail c text (piece, after, cut, (d ∷ digits, suffix, e, all, good, s)) =
-    ap (λ x. is_digit x 10) (head_is d c text piece after (digits ++ suffix) cut e) ∙ good
-
--- a digit is neither a mark nor white space
-digit_no_mark : (c : ℕ) → is_digit c 10 ≡ true → is_mark c ≡ false
-digit_no_mark c h = search (rules, tests)
-
-digit_no_space : (c : ℕ) → is_digit c 10 ≡ true → is_whitespace c ≡ false
-digit_no_space c h = search (rules, tests)
-
-digit_begins : (p : Start → Bool) (c : ℕ) → p start.Zero ≡ true → p start.Digit ≡ true →
-    is_digit c 10 ≡ true → p (start_of c) ≡ true
-digit_begins p c zeros others h =
-    subst (λ b. p (if b then start.Rest else from_whitespace c) ≡ true) (sym (digit_no_mark c h))
-    (subst (λ b. p (if b then start.Whitespace else from_zero c) ≡ true) (sym (digit_no_space c h))
-    (either p (c == 48) start.Zero (from_digit c) zeros
-    (taken p (is_digit c 10) start.Digit (from_prefix c) h others)))
-
-pub begins : (rule : Rule) (c : ℕ) (text : List ℕ) → HasPrefix (Spells rule) (c ∷ text) →
-    may_begin rule (start_of c) ≡ true
-begins ByteOrderMark c text (piece, after, cut, (d, pass, e)) = at_head (may_begin ByteOrderMark)
-    0xFEFF c text piece after [] cut (e ∙ ap (λ w. w ∷ []) (eqb-true d 0xFEFF pass)) refl
-begins LineComment c text (piece, after, cut, (body, e, a)) = at_head (may_begin LineComment) 47
-    c text piece after _ cut e refl
-begins BlockComment c text (piece, after, cut, (body, e, a)) = at_head (may_begin BlockComment)
-    47 c text piece after _ cut e refl
-begins SourceLineComment c text (piece, after, cut, (body, e, a)) =
-    at_head (may_begin SourceLineComment) 47 c text piece after _ cut e refl
-begins SourceBlockComment c text (piece, after, cut, (body, e, a)) =
-    at_head (may_begin SourceBlockComment) 47 c text piece after _ cut e refl
-begins OpenComment c text (piece, after, cut, e) = at_head (may_begin OpenComment) 47 c text
-    piece after _ cut e refl
-begins QuotedString c text (piece, after, cut, (body, suffix, e, u, k)) =
-    at_head (may_begin QuotedString) 34 c text piece after _ cut e refl
-begins BadString c text (piece, after, cut, (d, pass, e)) = at_head (may_begin BadString) 34 c
-    text piece after [] cut (e ∙ ap (λ w. w ∷ []) (eqb-true d 34 pass)) refl
-begins ByteChar c text (piece, after, cut, (more, e, s)) = at_head (may_begin ByteChar) 98 c text
-    piece after _ cut e refl
-begins BadByteChar c text (piece, after, cut, e) = at_head (may_begin BadByteChar) 98 c text
-    piece after _ cut e refl
-begins EscapedChar c text (piece, after, cut, (inner, suffix, e, h, k)) =
-    at_head (may_begin EscapedChar) 39 c text piece after _ cut e refl
-begins BadEscapedChar c text (piece, after, cut, e) = at_head (may_begin BadEscapedChar) 39 c
-    text piece after _ cut e refl
-begins PlainChar c text (piece, after, cut, (inner, suffix, e, h, k)) =
-    at_head (may_begin PlainChar) 39 c text piece after _ cut e refl
-begins Lifetime c text (piece, after, cut, (more, e, s)) = at_head (may_begin Lifetime) 39 c text
-    piece after _ cut e refl
-begins (SourceLifetime edition) c text (piece, after, cut, (more, e, s)) =
-    at_head (may_begin (SourceLifetime edition)) 39 c text piece after _ cut e refl
-begins Apostrophe c text (piece, after, cut, (d, pass, e)) = at_head (may_begin Apostrophe) 39 c
-    text piece after [] cut (e ∙ ap (λ w. w ∷ []) (eqb-true d 39 pass)) refl
-begins MarkedApostrophe c text (piece, after, cut, (d, pass, e)) =
-    at_head (may_begin MarkedApostrophe) 39 c text piece after [] cut
-    (e ∙ ap (λ w. w ∷ []) (eqb-true d 39 pass)) refl
-begins RawIdentifier c text (piece, after, cut, (more, e, s)) = at_head (may_begin RawIdentifier)
-    114 c text piece after _ cut e refl
-begins (Opening delimiter.Parenthesis) c text (piece, after, cut, (d, pass, e)) =
-    at_head (may_begin (Opening delimiter.Parenthesis)) (opening_mark delimiter.Parenthesis) c
-    text piece after [] cut
-    (e ∙ ap (λ w. w ∷ []) (eqb-true d (opening_mark delimiter.Parenthesis) pass)) refl
-begins (Opening delimiter.Brace) c text (piece, after, cut, (d, pass, e)) =
-    at_head (may_begin (Opening delimiter.Brace)) (opening_mark delimiter.Brace) c text piece
-    after [] cut (e ∙ ap (λ w. w ∷ []) (eqb-true d (opening_mark delimiter.Brace) pass)) refl
-begins (Opening delimiter.Bracket) c text (piece, after, cut, (d, pass, e)) =
-    at_head (may_begin (Opening delimiter.Bracket)) (opening_mark delimiter.Bracket) c text piece
-    after [] cut (e ∙ ap (λ w. w ∷ []) (eqb-true d (opening_mark delimiter.Bracket) pass)) refl
-begins (Opening delimiter.None) c text (piece, after, cut, (d, pass, e)) =
-    at_head (may_begin (Opening delimiter.None)) (opening_mark delimiter.None) c text piece after
-    [] cut (e ∙ ap (λ w. w ∷ []) (eqb-true d (opening_mark delimiter.None) pass)) refl
-begins (Closing delimiter.Parenthesis) c text (piece, after, cut, (d, pass, e)) =
-    at_head (may_begin (Closing delimiter.Parenthesis)) (closing_mark delimiter.Parenthesis) c
-    text piece after [] cut
-    (e ∙ ap (λ w. w ∷ []) (eqb-true d (closing_mark delimiter.Parenthesis) pass)) refl
-begins (Closing delimiter.Brace) c text (piece, after, cut, (d, pass, e)) =
-    at_head (may_begin (Closing delimiter.Brace)) (closing_mark delimiter.Brace) c text piece
-    after [] cut (e ∙ ap (λ w. w ∷ []) (eqb-true d (closing_mark delimiter.Brace) pass)) refl
-begins (Closing delimiter.Bracket) c text (piece, after, cut, (d, pass, e)) =
-    at_head (may_begin (Closing delimiter.Bracket)) (closing_mark delimiter.Bracket) c text piece
-    after [] cut (e ∙ ap (λ w. w ∷ []) (eqb-true d (closing_mark delimiter.Bracket) pass)) refl
-begins (Closing delimiter.None) c text (piece, after, cut, (d, pass, e)) =
-    at_head (may_begin (Closing delimiter.None)) (closing_mark delimiter.None) c text piece after
-    [] cut (e ∙ ap (λ w. w ∷ []) (eqb-true d (closing_mark delimiter.None) pass)) refl
-begins (Based base) c text (piece, after, cut, (more, e, s)) = at_head (may_begin (Based base))
-    48 c text piece after _ cut e refl
-begins (BadBased base) c text (piece, after, cut, e) = at_head (may_begin (BadBased base)) 48 c
-    text piece after _ cut e refl
-begins StringPrefix c text (piece, after, cut, inl (more, e, s)) =
-    at_head (may_begin StringPrefix) 114 c text piece after _ cut e refl
-begins StringPrefix c text (piece, after, cut, inr (inl (more, e, s))) =
-    at_head (may_begin StringPrefix) 98 c text piece after _ cut e refl
-begins StringPrefix c text (piece, after, cut, inr (inr (more, e, s))) =
-    at_head (may_begin StringPrefix) 99 c text piece after _ cut e refl
-begins (SourceString contents.Text) c text (piece, after, cut, (body, suffix, e, u, k)) =
-    at_head (may_begin (SourceString contents.Text)) 34 c text piece after _ cut e refl
-begins (SourceString contents.Bytes) c text (piece, after, cut, (more, e, s)) =
-    at_head (may_begin (SourceString contents.Bytes)) 98 c text piece after _ cut e refl
-begins (SourceString contents.C) c text (piece, after, cut, (more, e, s)) =
-    at_head (may_begin (SourceString contents.C)) 99 c text piece after _ cut e refl
-begins (RawString contents.Text) c text (piece, after, cut, (more, e, s)) =
-    at_head (may_begin (RawString contents.Text)) 114 c text piece after _ cut e refl
-begins (RawString contents.Bytes) c text (piece, after, cut, (more, e, s)) =
-    at_head (may_begin (RawString contents.Bytes)) 98 c text piece after _ cut e refl
-begins (RawString contents.C) c text (piece, after, cut, (more, e, s)) =
-    at_head (may_begin (RawString contents.C)) 99 c text piece after _ cut e refl
-begins (BadPrefixed contents.Text) c text (piece, after, cut, (more, e, s)) =
-    at_head (may_begin (BadPrefixed contents.Text)) 114 c text piece after _ cut e refl
-begins (BadPrefixed contents.Bytes) c text (piece, after, cut, (more, e, s)) =
-    at_head (may_begin (BadPrefixed contents.Bytes)) 98 c text piece after _ cut e refl
-begins (BadPrefixed contents.C) c text (piece, after, cut, (more, e, s)) =
-    at_head (may_begin (BadPrefixed contents.C)) 99 c text piece after _ cut e refl
-begins Whitespace c text (piece, after, cut, (d, pass, e)) = either (may_begin Whitespace)
-    (is_mark c) start.Rest (from_whitespace c) refl
-    (taken (may_begin Whitespace) (is_whitespace c) start.Whitespace (from_zero c)
-    (ap is_whitespace (head_is d c text piece after [] cut e) ∙ pass) refl)
-begins Decimal c text fits = either (may_begin Decimal) (is_mark c) start.Rest
-    (from_whitespace c) refl (either (may_begin Decimal) (is_whitespace c) start.Whitespace
-    (from_zero c) refl (either (may_begin Decimal) (c == 48) start.Zero (from_digit c) refl
-    (taken (may_begin Decimal) (is_digit c 10) start.Digit (from_prefix c)
-    (decimal_head _ c text fits) refl)))
-begins Float c text fits = digit_begins (may_begin Float) c refl refl (decimal_head _ c text fits)
-begins PointedDecimal c text fits = digit_begins (may_begin PointedDecimal) c refl refl
-    (decimal_head _ c text fits)
-begins SourceDecimal c text fits = digit_begins (may_begin SourceDecimal) c refl refl
-    (decimal_head _ c text fits)
-begins Identifier c text fits = either (may_begin Identifier) (is_mark c) start.Rest
-    (from_whitespace c) refl (either (may_begin Identifier) (is_whitespace c) start.Whitespace
-    (from_zero c) refl (either (may_begin Identifier) (c == 48) start.Zero (from_digit c) refl
-    (either (may_begin Identifier) (is_digit c 10) start.Digit (from_prefix c) refl
-    (either (may_begin Identifier) (is_prefix c) start.Prefix (from_slash c) refl
-    (either (may_begin Identifier) (c == 47) start.Slash (from_quote c) refl
-    (either (may_begin Identifier) (c == 34) start.Quote (from_apostrophe c) refl
-    (either (may_begin Identifier) (c == 39) start.Apostrophe (from_parenthesis c) refl
-    (either (may_begin Identifier) (c == 40) (start.Opening delimiter.Parenthesis)
-    (from_closing_parenthesis c) refl
-    (either (may_begin Identifier) (c == 41) (start.Closing delimiter.Parenthesis)
-    (from_bracket c) refl
-    (either (may_begin Identifier) (c == 91) (start.Opening delimiter.Bracket)
-    (from_closing_bracket c) refl
-    (either (may_begin Identifier) (c == 93) (start.Closing delimiter.Bracket) (from_brace c)
-    refl (either (may_begin Identifier) (c == 123) (start.Opening delimiter.Brace)
-    (from_closing_brace c) refl
-    (either (may_begin Identifier) (c == 125) (start.Closing delimiter.Brace) (from_letter c)
-    refl (taken (may_begin Identifier) (is_identifier_start c) start.Letter (from_punct c)
-    (identifier_head c text fits) refl))))))))))))))
-begins (SourceIdentifier edition) c text fits = either (may_begin (SourceIdentifier edition))
-    (is_mark c) start.Rest (from_whitespace c) refl
-    (either (may_begin (SourceIdentifier edition)) (is_whitespace c) start.Whitespace
-    (from_zero c) refl (either (may_begin (SourceIdentifier edition)) (c == 48) start.Zero
-    (from_digit c) refl (either (may_begin (SourceIdentifier edition)) (is_digit c 10)
-    start.Digit (from_prefix c) refl (either (may_begin (SourceIdentifier edition)) (is_prefix c)
-    start.Prefix (from_slash c) refl (either (may_begin (SourceIdentifier edition)) (c == 47)
-    start.Slash (from_quote c) refl (either (may_begin (SourceIdentifier edition)) (c == 34)
-    start.Quote (from_apostrophe c) refl (either (may_begin (SourceIdentifier edition)) (c == 39)
-    start.Apostrophe (from_parenthesis c) refl
-    (either (may_begin (SourceIdentifier edition)) (c == 40)
-    (start.Opening delimiter.Parenthesis) (from_closing_parenthesis c) refl
-    (either (may_begin (SourceIdentifier edition)) (c == 41)
-    (start.Closing delimiter.Parenthesis) (from_bracket c) refl
-    (either (may_begin (SourceIdentifier edition)) (c == 91) (start.Opening delimiter.Bracket)
-    (from_closing_bracket c) refl (either (may_begin (SourceIdentifier edition)) (c == 93)
-    (start.Closing delimiter.Bracket) (from_brace c) refl
-    (either (may_begin (SourceIdentifier edition)) (c == 123) (start.Opening delimiter.Brace)
-    (from_closing_brace c) refl (either (may_begin (SourceIdentifier edition)) (c == 125)
-    (start.Closing delimiter.Brace) (from_letter c) refl
-    (taken (may_begin (SourceIdentifier edition)) (is_identifier_start c) start.Letter
-    (from_punct c) (identifier_head c text fits) refl))))))))))))))
-begins Punct c text fits = refl
-begins MarkedPunct c text fits = refl
-begins (SourcePunct edition) c text fits = refl
-begins Other c text fits = refl
 
 pick_decides : (text piece rest : List ℕ) (rule r : Rule) (some rules : List Rule) (b : Bool) →
     (b ≡ false → HasPrefix (Spells r) text → ⊥) →
@@ -440,68 +177,24 @@ letter_told c e = search (rules, tests)
 punct_told : (c : ℕ) → start_of c ≡ start.Punct → is_punct c ≡ true
 punct_told c e = search (rules, tests)
 
-passed : (p : Start → Bool) (b : Bool) (x y : Start) → b ≡ false → p y ≡ true →
-    p (if b then x else y) ≡ true
-passed p true x y e second = absurd (false≢true (sym e))
-passed p false x y e second = second
+-- the character of a start that only one has
+abbrev agrees : ℕ → Start → Bool
+agrees c start.Slash = c == 47
+agrees c start.Zero = c == 48
+agrees c (start.Opening delimiter.None) = false
+agrees c (start.Opening d) = c == opening_mark d
+agrees c (start.Closing delimiter.None) = false
+agrees c (start.Closing d) = c == closing_mark d
+agrees c other = true
 
-abbrev no_slash : Start → Bool
-no_slash start.Slash = false
-no_slash other = true
-
-other_told : (c : ℕ) → (c == 47) ≡ false → no_slash (start_of c) ≡ true
-other_told c e = either no_slash (is_mark c) (start.Rest) (from_whitespace c) refl
-    (either no_slash (is_whitespace c) (start.Whitespace) (from_zero c) refl
-    (either no_slash (c == 48) (start.Zero) (from_digit c) refl
-    (either no_slash (is_digit c 10) (start.Digit) (from_prefix c) refl
-    (either no_slash (is_prefix c) (start.Prefix) (from_slash c) refl
-    (passed no_slash (c == 47) (start.Slash) (from_quote c) e
-    (either no_slash (c == 34) (start.Quote) (from_apostrophe c) refl
-    (either no_slash (c == 39) (start.Apostrophe) (from_parenthesis c) refl
-    (either no_slash (c == 40) (start.Opening delimiter.Parenthesis) (from_closing_parenthesis c)
-    refl (either no_slash (c == 41) (start.Closing delimiter.Parenthesis) (from_bracket c) refl
-    (either no_slash (c == 91) (start.Opening delimiter.Bracket) (from_closing_bracket c) refl
-    (either no_slash (c == 93) (start.Closing delimiter.Bracket) (from_brace c) refl
-    (either no_slash (c == 123) (start.Opening delimiter.Brace) (from_closing_brace c) refl
-    (either no_slash (c == 125) (start.Closing delimiter.Brace) (from_letter c) refl
-    (either no_slash (is_identifier_start c) (start.Letter) (from_punct c) refl
-    (either no_slash (is_punct c) start.Punct start.Rest refl refl)))))))))))))))
+all_agree : (c : ℕ) → agrees c (start_of c) ≡ true
+all_agree c = search (rules, tests)
 
 pub slash_told : (c : ℕ) → start_of c ≡ start.Slash → c ≡ 47
-slash_told c is = go (c == 47) refl
-  where
-    go : (b : Bool) → (c == 47) ≡ b → c ≡ 47
-    go true e = eqb-true c 47 e
-    go false e = absurd (false≢true (sym (ap no_slash is) ∙ other_told c e))
-
-abbrev no_zero : Start → Bool
-no_zero start.Zero = false
-no_zero other = true
-
-not_zero_told : (c : ℕ) → (c == 48) ≡ false → no_zero (start_of c) ≡ true
-not_zero_told c e = either no_zero (is_mark c) (start.Rest) (from_whitespace c) refl
-    (either no_zero (is_whitespace c) (start.Whitespace) (from_zero c) refl
-    (passed no_zero (c == 48) (start.Zero) (from_digit c) e
-    (either no_zero (is_digit c 10) (start.Digit) (from_prefix c) refl
-    (either no_zero (is_prefix c) (start.Prefix) (from_slash c) refl
-    (either no_zero (c == 47) (start.Slash) (from_quote c) refl
-    (either no_zero (c == 34) (start.Quote) (from_apostrophe c) refl
-    (either no_zero (c == 39) (start.Apostrophe) (from_parenthesis c) refl
-    (either no_zero (c == 40) (start.Opening delimiter.Parenthesis) (from_closing_parenthesis c)
-    refl (either no_zero (c == 41) (start.Closing delimiter.Parenthesis) (from_bracket c) refl
-    (either no_zero (c == 91) (start.Opening delimiter.Bracket) (from_closing_bracket c) refl
-    (either no_zero (c == 93) (start.Closing delimiter.Bracket) (from_brace c) refl
-    (either no_zero (c == 123) (start.Opening delimiter.Brace) (from_closing_brace c) refl
-    (either no_zero (c == 125) (start.Closing delimiter.Brace) (from_letter c) refl
-    (either no_zero (is_identifier_start c) (start.Letter) (from_punct c) refl
-    (either no_zero (is_punct c) start.Punct start.Rest refl refl)))))))))))))))
+slash_told c is = eqb-true c 47 (sym (ap (agrees c) is) ∙ all_agree c)
 
 pub zero_told : (c : ℕ) → start_of c ≡ start.Zero → c ≡ 48
-zero_told c is = go (c == 48) refl
-  where
-    go : (b : Bool) → (c == 48) ≡ b → c ≡ 48
-    go true e = eqb-true c 48 e
-    go false e = absurd (false≢true (sym (ap no_zero is) ∙ not_zero_told c e))
+zero_told c is = eqb-true c 48 (sym (ap (agrees c) is) ∙ all_agree c)
 
 -- the character tells the piece
 decides_first : (c : ℕ) (text more piece rest : List ℕ) (rule : Rule) (rules others : List Rule)
@@ -612,38 +305,6 @@ decides_punct c text more (every.Source edition) rule e is r =
           (source_rules edition) (Other ∷ []) start.Punct e is (punct_listed edition)
           (takes_one is_punct text more c e (punct_told c is)),
     )
-
--- the character of a start that is a delimiter
-abbrev agrees : ℕ → Start → Bool
-agrees c (start.Opening delimiter.None) = false
-agrees c (start.Opening d) = c == opening_mark d
-agrees c (start.Closing delimiter.None) = false
-agrees c (start.Closing d) = c == closing_mark d
-agrees c other = true
-
-tested : (p : Start → Bool) (b : Bool) (x y : Start) → (b ≡ true → p x ≡ true) → p y ≡ true →
-    p (if b then x else y) ≡ true
-tested p true x y first second = first refl
-tested p false x y first second = second
-
-all_agree : (c : ℕ) → agrees c (start_of c) ≡ true
-all_agree c = either (agrees c) (is_mark c) (start.Rest) (from_whitespace c) refl
-    (either (agrees c) (is_whitespace c) (start.Whitespace) (from_zero c) refl
-    (either (agrees c) (c == 48) (start.Zero) (from_digit c) refl
-    (either (agrees c) (is_digit c 10) (start.Digit) (from_prefix c) refl
-    (either (agrees c) (is_prefix c) (start.Prefix) (from_slash c) refl
-    (either (agrees c) (c == 47) (start.Slash) (from_quote c) refl
-    (either (agrees c) (c == 34) (start.Quote) (from_apostrophe c) refl
-    (either (agrees c) (c == 39) (start.Apostrophe) (from_parenthesis c) refl
-    (tested (agrees c) (c == 40) (start.Opening delimiter.Parenthesis)
-    (from_closing_parenthesis c) (λ e. e)
-    (tested (agrees c) (c == 41) (start.Closing delimiter.Parenthesis) (from_bracket c) (λ e. e)
-    (tested (agrees c) (c == 91) (start.Opening delimiter.Bracket) (from_closing_bracket c)
-    (λ e. e) (tested (agrees c) (c == 93) (start.Closing delimiter.Bracket) (from_brace c)
-    (λ e. e) (tested (agrees c) (c == 123) (start.Opening delimiter.Brace) (from_closing_brace c)
-    (λ e. e) (tested (agrees c) (c == 125) (start.Closing delimiter.Brace) (from_letter c)
-    (λ e. e) (either (agrees c) (is_identifier_start c) (start.Letter) (from_punct c) refl
-    (either (agrees c) (is_punct c) start.Punct start.Rest refl refl)))))))))))))))
 
 pub decides_opening : (c : ℕ) (text more : List ℕ) (kind : Rules) (d : Delimiter) →
     text ≡ c ∷ more → start_of c ≡ start.Opening d → (piece : List ℕ)

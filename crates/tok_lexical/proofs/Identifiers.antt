@@ -11,14 +11,27 @@ use Rattle.std.proofs.lemmas.List.{append-nil}
 use Rattle.std.proofs.lemmas.Bool.{false≢true, ne_eqb, ltb-true}
 use Rattle.unicode_ident.specs.Ident.{is_xid_continue}
 use Rattle.unicode_ident.proofs.IdentLemmas.{is_xid_continue-ascii, is_xid_start-ascii}
-use Rattle.tok_lexical.specs.Pieces.{IsLongestPrefix, HasPrefix, ReadsLongest}
+use Rattle.tok_lexical.specs.Pieces.{IsLongestPrefix, HasPrefix, ReadsLongest, Skips}
 use Rattle.tok_lexical.specs.Following.{starts_name}
 use Rattle.tok_lexical.specs.Words.{is_identifier_start, IsIdentifier, IsRawIdentifier, IsName}
 use Rattle.tok_lexical.specs.Words.{has_no_raw, is_raw_prefix}
+use Rattle.tok_lexical.proofs.Longest.{no_more}
 use Rattle.tok_lexical.proofs.Digits.{head_passes, tail_passes, not_true}
 use Rattle.std.proofs.lemmas.Str.{encodes-chars, encodes-IsAscii, chars-IsAscii, chars-nil}
 use Rattle.std.proofs.lemmas.Str.Ascii.{IsAscii-nil}
 use Rattle.std.proofs.lemmas.Slice.Eq.{bytes_eq-Decides}
+
+pub takes_identifier : (text mid rest : List ℕ) (c : ℕ) → text ≡ c ∷ mid → is_identifier_start c
+    ≡ true → (front : List ℕ) × Skips is_xid_continue mid front rest → (piece : List ℕ)
+    × IsLongestPrefix IsIdentifier text piece rest
+takes_identifier text mid rest c e h (front, s) = (
+  c ∷ front,
+  record {
+    cut = e ∙ ap (λ w. c ∷ w) s.cut;
+    spelled = (h, s.pass);
+    longest = λ more after q w. no_more is_xid_continue rest more after front s.stops q w.1;
+  },
+)
 
 -- identifiers, plain or raw
 word_head : (name : List ℕ) → IsRawIdentifier name → (more : List ℕ) × (name ≡ 114 ∷ 35 ∷ more)

@@ -8,6 +8,7 @@ pub mod First
 pub mod Fits
 pub mod FloatTails
 pub mod Fronts
+pub mod Heads
 pub mod Identifiers
 pub mod Longest
 pub mod NestedComments

@@ -15,9 +15,6 @@ use Rattle.tok_lexical.specs.Pieces.{Stops, Skips, IsOne, After}
 use Rattle.std.specs.Prelude.{Option, Some, None, MatchOption, unwrap_or}
 use Rattle.std.specs.Borrow.{Bor}
 use Rattle.tok_lexical.specs.Characters.{is_space, is_whitespace, begins_visibly}
-use Rattle.tok_lexical.specs.Comments.{is_not_line_feed, IsLineComment}
-use Rattle.tok_lexical.specs.Words.{IsIdentifier, is_identifier_start}
-use Rattle.unicode_ident.specs.Ident.{is_xid_continue}
 
 pub chars_next : (text start mid rest : List ℕ) (c : ℕ) → IsUtf8 text → start ≡ text →
     start ≡ encode_utf8 c ++ mid → rest ≡ mid → chars text ≡ c ∷ chars rest
@@ -138,31 +135,19 @@ no_more p (c ∷ rest) (m ∷ more) after front s e a =
       | false ↦ λ k q. false≢true q
     ] refl all)
 
-pub takes_identifier : (text mid rest : List ℕ) (c : ℕ) → text ≡ c ∷ mid → is_identifier_start c
-    ≡ true → (front : List ℕ) × Skips is_xid_continue mid front rest → (piece : List ℕ)
-    × IsLongestPrefix IsIdentifier text piece rest
-takes_identifier text mid rest c e h (front, s) = (
-  c ∷ front,
-  record {
-    cut = e ∙ ap (λ w. c ∷ w) s.cut;
-    spelled = (h, s.pass);
-    longest = λ more after q w. no_more is_xid_continue rest more after front s.stops q w.1;
-  },
-)
-
 -- two characters, and then all that pass
-pub takes_line : (text mid rest : List ℕ) → text ≡ 47 ∷ 47 ∷ mid → (front : List ℕ)
-    × Skips is_not_line_feed mid front rest → (piece : List ℕ)
-    × IsLongestPrefix IsLineComment text piece rest
-takes_line text mid rest e (front, s) = (
-  47 ∷ 47 ∷ front,
+pub takes_after_pair : (a b : ℕ) (p : ℕ → Bool) (text mid rest : List ℕ) → text ≡ a ∷ b ∷ mid →
+    (front : List ℕ) × Skips p mid front rest → (piece : List ℕ)
+    × IsLongestPrefix (λ whole. (body : List ℕ) × (whole ≡ a ∷ b ∷ body)
+    × (list_all p body ≡ true)) text piece rest
+takes_after_pair a b p text mid rest e (front, s) = (
+  a ∷ b ∷ front,
   record {
-    cut = e ∙ ap (λ w. 47 ∷ 47 ∷ w) s.cut;
+    cut = e ∙ ap (λ w. a ∷ b ∷ w) s.cut;
     spelled = (front, refl, s.pass);
-    longest = λ more after q (body, g, a).
+    longest = λ more after q (body, g, all).
         let same : body ≡ front ++ more = cc in
-        no_more is_not_line_feed rest more after front s.stops q
-        (ap (list_all is_not_line_feed) (sym same) ∙ a);
+        no_more p rest more after front s.stops q (ap (list_all p) (sym same) ∙ all);
   },
 )
 

@@ -29,7 +29,7 @@ use Rattle.tok_lexical.specs.declared.rule.Rules.TheVariants.{Plain, Marked, Sou
 use Rattle.tok_lexical.specs.declared.start.Start.TheVariants as start
 use Rattle.tok_lexical.proofs.EscapedChars.{heads, tails}
 use Rattle.tok_lexical.proofs.First.{decides_begun, fits_front, last_identifier, zero_told}
-use Rattle.tok_lexical.proofs.Longest.{takes_identifier}
+use Rattle.tok_lexical.proofs.Identifiers.{takes_identifier}
 use Rattle.tok_lexical.proofs.Digits.{head_passes, tail_passes}
 
 head_holds : (a b : Bool) → (a && b) ≡ true → a ≡ true

@@ -20,8 +20,9 @@ use Rattle.tok_lexical.specs.declared.rule.Rules.{Rules}
 use Rattle.tok_lexical.specs.declared.rule.Rules.TheVariants.{Plain, Marked, Source}
 use Rattle.tok_lexical.specs.declared.start.Start.TheVariants as start
 use Rattle.tok_lexical.proofs.NestedComments.{takes_marked}
-use Rattle.tok_lexical.proofs.First.{decides_begun, identifier_head, slash_told}
-use Rattle.tok_lexical.proofs.Longest.{takes_line, takes_one}
+use Rattle.tok_lexical.proofs.First.{decides_begun, slash_told}
+use Rattle.tok_lexical.proofs.Identifiers.{no_name}
+use Rattle.tok_lexical.proofs.Longest.{takes_after_pair, takes_one}
 
 -- the rules that a slash may begin
 abbrev slash_rules : Rules → List Rule
@@ -61,9 +62,8 @@ open_second text (piece, after, cut, e) =
     (after, cc)
 
 no_identifier : (text : List ℕ) → HasPrefix IsIdentifier (47 ∷ text) → ⊥
-no_identifier text fits =
-    false≢true (sym (ap (λ b. b || (47 == 95)) (is_xid_start-ascii 47 (omega arith)))
-    ∙ identifier_head 47 text fits)
+no_identifier text = no_name (47 ∷ text)
+    (ap (λ b. b || (47 == 95)) (is_xid_start-ascii 47 (omega arith)))
 
 heads : (a b : ℕ) (x y : List ℕ) → a ∷ x ≡ b ∷ y → a ≡ b
 heads a b x y e = cc
@@ -95,7 +95,7 @@ pub decides_line : (rules : Rules) (text mid rest : List ℕ) → text ≡ 47 �
     × Skips is_not_line_feed mid front rest → (piece : List ℕ)
     × IsFirstFit (47 ∷ text) (rules_of rules) (line_rule rules) piece rest
 decides_line rules text mid rest e s =
-    let t = takes_line (47 ∷ text) mid rest (ap (λ w. 47 ∷ w) e) s in (
+    let t = takes_after_pair 47 47 is_not_line_feed (47 ∷ text) mid rest (ap (λ w. 47 ∷ w) e) s in (
       t.0,
       begun rules text t.0 rest (line_rule rules)
           (here (line_taken rules (47 ∷ text) t.0 rest t.1)),

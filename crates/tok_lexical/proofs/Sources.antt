@@ -18,7 +18,8 @@ use Rattle.tok_lexical.proofs.EscapedChars.{heads, tails}
 use Rattle.std.specs.Str.{chars, IsUtf8}
 use Rattle.std.proofs.lemmas.Str.{length-le-encodes}
 use Rattle.tok_lexical.proofs.Texts.{cut_length}
-use Rattle.tok_lexical.proofs.Fits.{decided, decides_unique, spelled_one}
+use Rattle.tok_lexical.proofs.Fits.{decided, decides_unique}
+use Rattle.tok_lexical.proofs.Heads.{spelled_one}
 use Rattle.tok_lexical.proofs.Digits.{all_stops}
 
 abbrev pub IsLast : List ℕ → Type 0

@@ -5,7 +5,7 @@ use Rattle.std.proofs.lemmas.List.{append-nil}
 use Rattle.std.proofs.lemmas.Str.{length-le-encodes}
 use Rattle.std.specs.Borrow.{Bor}
 use Rattle.std.specs.Str.{chars, IsUtf8}
-use Rattle.tok_lexical.proofs.Fits.{spelled_one}
+use Rattle.tok_lexical.proofs.Heads.{spelled_one}
 use Rattle.tok_lexical.specs.Characters.{is_whitespace}
 use Rattle.tok_core.specs.Lexical.Items.{Item}
 use Rattle.tok_lexical.specs.Pieces.{HasPrefix, Skips, ReadsLongest}

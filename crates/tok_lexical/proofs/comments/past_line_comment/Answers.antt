@@ -1,5 +1,7 @@
-use Rattle.tok_lexical.proofs.Longest.{takes_line}
+use Rattle.tok_lexical.specs.Comments.{is_not_line_feed}
+use Rattle.tok_lexical.proofs.Longest.{takes_after_pair}
 use Rattle.tok_lexical.proofs.comments.past_line_comment.Goals as goal
 
 pub returns-clause-tries : goal.returns-clause-tries
-returns-clause-tries c = takes_line _ _ _ c.in_ok-past_pair.ensures.chars c.past_line.ensures
+returns-clause-tries c = takes_after_pair 47 47 is_not_line_feed _ _ _
+    c.in_ok-past_pair.ensures.chars c.past_line.ensures

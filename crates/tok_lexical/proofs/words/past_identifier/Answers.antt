@@ -1,5 +1,5 @@
 use Rattle.std.proofs.Common.{◌∙◌, sym}
-use Rattle.tok_lexical.proofs.Longest.{takes_identifier}
+use Rattle.tok_lexical.proofs.Identifiers.{takes_identifier}
 use Rattle.tok_lexical.proofs.words.past_identifier.Goals as goal
 
 pub returns-then-is_identifier_start-clause-tries :

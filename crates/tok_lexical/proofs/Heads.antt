@@ -1,0 +1,113 @@
+-- How the spelling of a rule begins.
+use Rattle.std.proofs.Common.{rules, tests, ◌≡◌, ◌∙◌, ◌++◌, refl, ℕ, ◌<◌, inl, inr, List, []}
+use Rattle.std.proofs.Common.{◌∷◌, length, ap, arith}
+use Rattle.std.proofs.lemmas.Bool.{false≢true, eqb-true}
+use Rattle.std.specs.Prelude.{◌==◌, Bool, true}
+use Rattle.tok_lexical.specs.Pieces.{HasPrefix, IsOne}
+use Rattle.tok_lexical.specs.Starts.{may_begin, start_of}
+use Rattle.tok_lexical.specs.Rules.{Spells}
+use Rattle.tok_lexical.specs.declared.rule.Rule.{Rule}
+use Rattle.tok_lexical.specs.declared.rule.Rule.TheVariants.{ByteOrderMark, Whitespace}
+use Rattle.tok_lexical.specs.declared.rule.Rule.TheVariants.{LineComment, BlockComment}
+use Rattle.tok_lexical.specs.declared.rule.Rule.TheVariants.{OpenComment, Opening, Closing}
+use Rattle.tok_lexical.specs.declared.rule.Rule.TheVariants.{QuotedString, BadString, ByteChar}
+use Rattle.tok_lexical.specs.declared.rule.Rule.TheVariants.{BadByteChar, StringPrefix}
+use Rattle.tok_lexical.specs.declared.rule.Rule.TheVariants.{EscapedChar, BadEscapedChar}
+use Rattle.tok_lexical.specs.declared.rule.Rule.TheVariants.{PlainChar, Lifetime, Apostrophe}
+use Rattle.tok_lexical.specs.declared.rule.Rule.TheVariants.{MarkedApostrophe, Based, BadBased}
+use Rattle.tok_lexical.specs.declared.rule.Rule.TheVariants.{Decimal, RawIdentifier, Identifier}
+use Rattle.tok_lexical.specs.declared.rule.Rule.TheVariants.{Punct, MarkedPunct, Other}
+use Rattle.tok_lexical.specs.declared.rule.Rule.TheVariants.{SourceString, RawString}
+use Rattle.tok_lexical.specs.declared.rule.Rule.TheVariants.{BadPrefixed, SourceIdentifier}
+use Rattle.tok_lexical.specs.declared.rule.Rule.TheVariants.{SourceLifetime, SourcePunct, Float}
+use Rattle.tok_lexical.specs.declared.rule.Rule.TheVariants.{PointedDecimal, SourceDecimal}
+use Rattle.tok_lexical.specs.declared.rule.Rule.TheVariants.{SourceLineComment}
+use Rattle.tok_lexical.specs.declared.rule.Rule.TheVariants.{SourceBlockComment}
+use Rattle.tok_lexical.specs.declared.contents.Contents.TheVariants.{Text, Bytes, C}
+use Rattle.tok_lexical.specs.Numbers.{IsRun, starts_digit}
+use Rattle.tok_lexical.specs.declared.start.Start.{Start}
+use Rattle.tok_lexical.specs.declared.start.Start.TheVariants as start
+use Rattle.tok_lexical.specs.declared.delimiter.Delimiter.TheVariants as delimiter
+
+-- the piece has a first character, whose start passes
+abbrev pub HasHead : (Start → Bool) → List ℕ → Type 0
+HasHead p piece = (c : ℕ) × (tail : List ℕ) × (piece ≡ c ∷ tail) × (p (start_of c) ≡ true)
+
+the_one : {k : ℕ} {piece : List ℕ} → IsOne (λ c. c == k) piece → piece ≡ k ∷ []
+the_one {k} (c, pass, e) = e ∙ ap (λ w. w ∷ []) (eqb-true c k pass)
+
+digits_head : (p : Start → Bool) (Tail : List ℕ → Type 0) (piece : List ℕ) → p start.Zero ≡ true →
+    p start.Digit ≡ true → IsRun 10 starts_digit Tail piece → HasHead p piece
+digits_head p Tail piece zero other ([], tail, e, all, good, s) = absurd (false≢true good)
+digits_head p Tail piece zero other (c ∷ digits, tail, e, all, good, s) =
+    (c, _, e, search (rules, tests))
+
+pub spelled_head : (rule : Rule) (piece : List ℕ) → Spells rule piece →
+    HasHead (may_begin rule) piece
+spelled_head ByteOrderMark piece s = (0xFEFF, [], the_one s, refl)
+spelled_head Whitespace piece (c, pass, e) = (c, [], e, search (rules, tests))
+spelled_head LineComment piece (body, e, a) = (47, _, e, refl)
+spelled_head BlockComment piece (body, e, a) = (47, _, e, refl)
+spelled_head SourceLineComment piece (body, e, a) = (47, _, e, refl)
+spelled_head SourceBlockComment piece (body, e, a) = (47, _, e, refl)
+spelled_head OpenComment piece e = (47, _, e, refl)
+spelled_head (Opening delimiter.Parenthesis) piece s = (40, [], the_one s, refl)
+spelled_head (Opening delimiter.Brace) piece s = (123, [], the_one s, refl)
+spelled_head (Opening delimiter.Bracket) piece s = (91, [], the_one s, refl)
+spelled_head (Opening delimiter.None) piece s = (171, [], the_one s, refl)
+spelled_head (Closing delimiter.Parenthesis) piece s = (41, [], the_one s, refl)
+spelled_head (Closing delimiter.Brace) piece s = (125, [], the_one s, refl)
+spelled_head (Closing delimiter.Bracket) piece s = (93, [], the_one s, refl)
+spelled_head (Closing delimiter.None) piece s = (187, [], the_one s, refl)
+spelled_head QuotedString piece (body, suffix, e, u, k) = (34, _, e, refl)
+spelled_head BadString piece s = (34, [], the_one s, refl)
+spelled_head ByteChar piece (more, e, s) = (98, _, e, refl)
+spelled_head BadByteChar piece e = (98, _, e, refl)
+spelled_head StringPrefix piece (inl (more, e, s)) = (114, _, e, refl)
+spelled_head StringPrefix piece (inr (inl (more, e, s))) = (98, _, e, refl)
+spelled_head StringPrefix piece (inr (inr (more, e, s))) = (99, _, e, refl)
+spelled_head (SourceString Text) piece (body, suffix, e, u, k) = (34, _, e, refl)
+spelled_head (SourceString Bytes) piece (more, e, s) = (98, _, e, refl)
+spelled_head (SourceString C) piece (more, e, s) = (99, _, e, refl)
+spelled_head (RawString Text) piece (more, e, s) = (114, _, e, refl)
+spelled_head (RawString Bytes) piece (more, e, s) = (98, _, e, refl)
+spelled_head (RawString C) piece (more, e, s) = (99, _, e, refl)
+spelled_head (BadPrefixed Text) piece (more, e, s) = (114, _, e, refl)
+spelled_head (BadPrefixed Bytes) piece (more, e, s) = (98, _, e, refl)
+spelled_head (BadPrefixed C) piece (more, e, s) = (99, _, e, refl)
+spelled_head EscapedChar piece (inner, suffix, e, h, k) = (39, _, e, refl)
+spelled_head BadEscapedChar piece e = (39, _, e, refl)
+spelled_head PlainChar piece (inner, suffix, e, h, k) = (39, _, e, refl)
+spelled_head Lifetime piece (more, e, s) = (39, _, e, refl)
+spelled_head (SourceLifetime edition) piece (more, e, s) = (39, _, e, refl)
+spelled_head Apostrophe piece s = (39, [], the_one s, refl)
+spelled_head MarkedApostrophe piece s = (39, [], the_one s, refl)
+spelled_head (Based base) piece (more, e, s) = (48, _, e, refl)
+spelled_head (BadBased base) piece e = (48, _, e, refl)
+spelled_head Decimal piece s = digits_head (may_begin Decimal) _ piece refl refl s
+spelled_head Float piece s = digits_head (may_begin Float) _ piece refl refl s
+spelled_head PointedDecimal piece s = digits_head (may_begin PointedDecimal) _ piece refl refl s
+spelled_head SourceDecimal piece s = digits_head (may_begin SourceDecimal) _ piece refl refl s
+spelled_head RawIdentifier piece (more, e, s) = (114, _, e, refl)
+spelled_head Identifier [] s = absurd s
+spelled_head Identifier (c ∷ tail) (pass, all) = (c, tail, refl, search (rules, tests))
+spelled_head (SourceIdentifier edition) [] s = absurd s
+spelled_head (SourceIdentifier edition) (c ∷ tail) (pass, all) =
+    (c, tail, refl, search (rules, tests))
+spelled_head Punct piece (c, pass, e) = (c, [], e, refl)
+spelled_head MarkedPunct piece (c, pass, e) = (c, [], e, refl)
+spelled_head (SourcePunct edition) piece (c, pass, e) = (c, [], e, refl)
+spelled_head Other piece (c, pass, e) = (c, [], e, refl)
+
+-- a piece has a character
+pub spelled_one : (rule : Rule) (piece : List ℕ) → Spells rule piece → 0 < length piece
+spelled_one rule piece s = rw (spelled_head rule piece s).2 (omega arith)
+
+-- a text of which a piece is the front begins as the piece does
+pub begins : (rule : Rule) (c : ℕ) (text : List ℕ) → HasPrefix (Spells rule) (c ∷ text) →
+    may_begin rule (start_of c) ≡ true
+begins rule c text (piece, after, cut, s) =
+    let head = spelled_head rule piece s in
+    let whole : c ∷ text ≡ head.0 ∷ (head.1 ++ after) = cut ∙ ap (λ w. w ++ after) head.2 in
+    let same : c ≡ head.0 = cc in
+    ap (λ x. may_begin rule (start_of x)) same ∙ head.3
