@@ -33,30 +33,7 @@ use Rattle.tok_lexical.specs.Rules.{Spells}
 use Rattle.tok_lexical.specs.declared.rule.Rule.{Rule}
 use Rattle.tok_lexical.specs.declared.rule.Rule.TheVariants.{ByteOrderMark, Whitespace}
 use Rattle.tok_lexical.specs.declared.rule.Rule.TheVariants.{LineComment, BlockComment}
-use Rattle.tok_lexical.specs.declared.rule.Rule.TheVariants.{OpenComment, Opening, Closing}
-use Rattle.tok_lexical.specs.declared.rule.Rule.TheVariants.{QuotedString, BadString, ByteChar}
-use Rattle.tok_lexical.specs.declared.rule.Rule.TheVariants.{BadByteChar, StringPrefix}
-use Rattle.tok_lexical.specs.declared.rule.Rule.TheVariants.{EscapedChar, BadEscapedChar}
-use Rattle.tok_lexical.specs.declared.rule.Rule.TheVariants.{PlainChar, Lifetime, Apostrophe}
-use Rattle.tok_lexical.specs.declared.rule.Rule.TheVariants.{MarkedApostrophe, Based, BadBased}
-use Rattle.tok_lexical.specs.declared.rule.Rule.TheVariants.{Decimal, RawIdentifier, Identifier}
-use Rattle.tok_lexical.specs.declared.rule.Rule.TheVariants.{Punct, MarkedPunct, Other}
-use Rattle.tok_lexical.specs.declared.rule.Rule.TheVariants.{SourceString, RawString}
-use Rattle.tok_lexical.specs.declared.rule.Rule.TheVariants.{BadPrefixed, SourceIdentifier}
-use Rattle.tok_lexical.specs.declared.rule.Rule.TheVariants.{SourceLifetime, SourcePunct, Float}
-use Rattle.tok_lexical.specs.declared.rule.Rule.TheVariants.{PointedDecimal, SourceDecimal}
-use Rattle.tok_lexical.specs.declared.rule.Rule.TheVariants.{SourceLineComment}
-use Rattle.tok_lexical.specs.declared.rule.Rule.TheVariants.{SourceBlockComment}
 use Rattle.tok_lexical.proofs.Longest.{list_all_push}
-
--- white space and comments, doc comments aside
-abbrev is_blank : Rule → List ℕ → Bool
-is_blank Whitespace text = true
-is_blank LineComment text = not (is_line_doc text)
-is_blank BlockComment text = not (is_block_doc text)
-is_blank SourceLineComment text = not (is_line_doc text)
-is_blank SourceBlockComment text = not (is_block_doc text)
-is_blank rule text = false
 
 and_true : (b : Bool) → b && true ≡ b
 and_true true = refl
@@ -114,75 +91,49 @@ block_piece text taken after t = go t.spelled
     go (body, e, k) = ap is_block_doc (t.cut ∙ ap (λ w. w ++ after) e) ∙ block_doc body after k
         ∙ ap is_block_doc (sym e)
 
-not_true : (b : Bool) → not b ≡ true → b ≡ false
-not_true true e = absurd (false≢true e)
-not_true false e = refl
-
 -- such a taken is not refused, adds nothing, and is as wide as its bytes
 record MeansNothing (rule : Rule) (number at : ℕ) (taken after : List ℕ) : Type 0 where
   pub passes : error_kind rule at taken after ≡ None
   pub adds_none : items number rule at taken after ≡ []
   pub wide : width rule taken ≡ length (encode_utf8_all taken)
 
-blank : (rule : Rule) (number at : ℕ) (text taken after : List ℕ) →
-    IsLongestPrefix (Spells rule) text taken after → is_blank rule text ≡ true →
-    MeansNothing rule number at taken after
-blank Whitespace number at text taken after t b =
-    record { passes = refl; adds_none = refl; wide = refl }
-blank LineComment number at text taken after t b =
+line_nothing : (every : Rules) (number at : ℕ) (text taken after : List ℕ) → is_line_doc text
+    ≡ false → IsLongestPrefix (Spells (line_rule every)) text taken after →
+    MeansNothing (line_rule every) number at taken after
+line_nothing Plain number at text taken after calm t =
     record {
-      passes = rw (sym (line_piece text taken after t) ∙ not_true (is_line_doc text) b)
-          refl;
+      passes = rw (sym (line_piece text taken after t) ∙ calm) refl;
       adds_none = refl;
       wide = refl;
     }
-blank BlockComment number at text taken after t b =
+line_nothing Marked number at text taken after calm t =
     record {
-      passes = rw (sym (block_piece text taken after t) ∙ not_true (is_block_doc text) b)
-          refl;
+      passes = rw (sym (line_piece text taken after t) ∙ calm) refl;
       adds_none = refl;
       wide = refl;
     }
-blank SourceLineComment number at text taken after t b =
-    let calm : is_line_doc taken ≡ false = sym (line_piece text taken after t)
-    ∙ not_true (is_line_doc text) b in
-    record { passes = rw calm refl; adds_none = rw calm refl; wide = refl }
-blank SourceBlockComment number at text taken after t b =
-    let calm : is_block_doc taken ≡ false = sym (block_piece text taken after t)
-    ∙ not_true (is_block_doc text) b in
-    record { passes = rw calm refl; adds_none = rw calm refl; wide = refl }
-blank ByteOrderMark number at text taken after t b = absurd (false≢true b)
-blank OpenComment number at text taken after t b = absurd (false≢true b)
-blank (Opening delimiter) number at text taken after t b = absurd (false≢true b)
-blank (Closing delimiter) number at text taken after t b = absurd (false≢true b)
-blank QuotedString number at text taken after t b = absurd (false≢true b)
-blank BadString number at text taken after t b = absurd (false≢true b)
-blank ByteChar number at text taken after t b = absurd (false≢true b)
-blank BadByteChar number at text taken after t b = absurd (false≢true b)
-blank StringPrefix number at text taken after t b = absurd (false≢true b)
-blank EscapedChar number at text taken after t b = absurd (false≢true b)
-blank BadEscapedChar number at text taken after t b = absurd (false≢true b)
-blank PlainChar number at text taken after t b = absurd (false≢true b)
-blank Lifetime number at text taken after t b = absurd (false≢true b)
-blank Apostrophe number at text taken after t b = absurd (false≢true b)
-blank MarkedApostrophe number at text taken after t b = absurd (false≢true b)
-blank (Based base) number at text taken after t b = absurd (false≢true b)
-blank (BadBased base) number at text taken after t b = absurd (false≢true b)
-blank Decimal number at text taken after t b = absurd (false≢true b)
-blank RawIdentifier number at text taken after t b = absurd (false≢true b)
-blank Identifier number at text taken after t b = absurd (false≢true b)
-blank Punct number at text taken after t b = absurd (false≢true b)
-blank MarkedPunct number at text taken after t b = absurd (false≢true b)
-blank (SourcePunct edition) number at text taken after t b = absurd (false≢true b)
-blank Other number at text taken after t b = absurd (false≢true b)
-blank (SourceString contents) number at text taken after t b = absurd (false≢true b)
-blank (RawString contents) number at text taken after t b = absurd (false≢true b)
-blank (BadPrefixed contents) number at text taken after t b = absurd (false≢true b)
-blank (SourceIdentifier edition) number at text taken after t b = absurd (false≢true b)
-blank (SourceLifetime edition) number at text taken after t b = absurd (false≢true b)
-blank Float number at text taken after t b = absurd (false≢true b)
-blank PointedDecimal number at text taken after t b = absurd (false≢true b)
-blank SourceDecimal number at text taken after t b = absurd (false≢true b)
+line_nothing (Source edition) number at text taken after calm t =
+    let none : is_line_doc taken ≡ false = sym (line_piece text taken after t) ∙ calm in
+    record { passes = rw none refl; adds_none = rw none refl; wide = refl }
+
+block_nothing : (every : Rules) (number at : ℕ) (text taken after : List ℕ) → is_block_doc text
+    ≡ false → IsLongestPrefix (Spells (block_rule every)) text taken after →
+    MeansNothing (block_rule every) number at taken after
+block_nothing Plain number at text taken after calm t =
+    record {
+      passes = rw (sym (block_piece text taken after t) ∙ calm) refl;
+      adds_none = refl;
+      wide = refl;
+    }
+block_nothing Marked number at text taken after calm t =
+    record {
+      passes = rw (sym (block_piece text taken after t) ∙ calm) refl;
+      adds_none = refl;
+      wide = refl;
+    }
+block_nothing (Source edition) number at text taken after calm t =
+    let none : is_block_doc taken ≡ false = sym (block_piece text taken after t) ∙ calm in
+    record { passes = rw none refl; adds_none = rw none refl; wide = refl }
 
 pub recut : {rules : List Rule} {number at end to : ℕ} {text rest after : List ℕ}
     {some others : List Item} → some ≡ others → end ≡ to → rest ≡ after →
@@ -204,13 +155,15 @@ shorter rules rule text rest taken u v d =
 
 -- a front that one rule takes, by the rules of every text
 blank_front : (text rest : List ℕ) (rule : Rules → Rule) → IsUtf8 text → IsUtf8 rest →
-    ((every : Rules) → is_blank (rule every) (chars text) ≡ true) →
+    ((every : Rules) (number at : ℕ) (taken after : List ℕ) →
+    IsLongestPrefix (Spells (rule every)) (chars text) taken after →
+    MeansNothing (rule every) number at taken after) →
     ((every : Rules) → (taken : List ℕ) × IsFirstFit (chars text) (rules_of every) (rule every)
     taken (chars rest)) → IsBlank (chars text) (chars rest) (length text - length rest)
-blank_front text rest rule u v is d every number at =
+blank_front text rest rule u v nothings d every number at =
     let p = d every in
     let t = decided p.1 in
-    let nothing = blank (rule every) number at (chars text) p.0 (chars rest) t (is every) in
+    let nothing = nothings every number at p.0 (chars rest) t in
     let l = cut_length text rest p.0 u v t.cut in
     let wide = nothing.wide in
     recut (append-nil (items number (rule every) at p.0 (chars rest)) ∙ nothing.adds_none)
@@ -297,26 +250,15 @@ line_front every text after body rest e f skips =
     let d = decides_line every (chars after) (chars body) (chars rest) f skips in
     (d.0, subst (λ w. IsFirstFit w (rules_of every) (line_rule every) d.0 (chars rest)) (sym e) d.1)
 
-calm_line : (text : List ℕ) → not (is_line_doc text) ≡ true → (every : Rules) →
-    is_blank (line_rule every) text ≡ true
-calm_line text h Plain = h
-calm_line text h Marked = h
-calm_line text h (Source edition) = h
-
-calm_block : (text : List ℕ) → not (is_block_doc text) ≡ true → (every : Rules) →
-    is_blank (block_rule every) text ≡ true
-calm_block text h Plain = h
-calm_block text h Marked = h
-calm_block text h (Source edition) = h
-
 pub blank_line : (text after body rest : List ℕ) → IsUtf8 text → IsUtf8 rest →
     chars text ≡ 47 ∷ chars after → chars after ≡ 47 ∷ chars body → opens_line_doc (chars body)
     ≡ false → (front : List ℕ) × Skips is_not_line_feed (chars body) front (chars rest) →
     IsBlank (chars text) (chars rest) (length text - length rest)
 blank_line text after body rest u v e f calm skips =
     blank_front text rest line_rule u v
-    (calm_line (chars text) (ap (λ w. not (is_line_doc w)) (e ∙ ap (λ w. 47 ∷ w) f)
-    ∙ ap not calm)) (λ every. line_front every text after body rest e f skips)
+    (λ every number at taken rest. line_nothing every number at (chars text) taken rest
+    (ap is_line_doc (e ∙ ap (λ w. 47 ∷ w) f) ∙ calm))
+    (λ every. line_front every text after body rest e f skips)
 
 block_front : (every : Rules) (text after body rest : List ℕ) → chars text ≡ 47 ∷ chars after →
     chars after ≡ 42 ∷ chars body → (front : List ℕ) × IsLongestPrefix (Closes 1) (chars body)
@@ -339,8 +281,9 @@ module _ (text after body : List ℕ) (u : IsUtf8 text) (e : chars text ≡ 47 �
   blank_block None t v calm = tt
   blank_block (Some rest) t v calm =
       blank_front text rest.now block_rule u v
-      (calm_block (chars text) (ap (λ w. not (is_block_doc w)) (e ∙ ap (λ w. 47 ∷ w) f)
-      ∙ ap not calm)) (λ every. block_front every text after body rest.now e f t)
+      (λ every number at taken rest. block_nothing every number at (chars text) taken rest
+      (ap is_block_doc (e ∙ ap (λ w. 47 ∷ w) f) ∙ calm))
+      (λ every. block_front every text after body rest.now e f t)
 
   pub shorter_block : (answer : Option (Bor (List ℕ))) → ReadsLongest (Closes 1) (chars body)
       answer → IfSome answer (λ rest. IsUtf8 rest.now) →
