@@ -1,8 +1,8 @@
 -- The texts of tokens.
-use Rattle.std.specs.Prelude.{ℕ, Bool, false, ◌||◌, ◌&&◌, ◌==◌, nat_le, not, cond, List, [], ◌∷◌}
-use Rattle.std.specs.Prelude.{◌++◌, length, map, take, drop, get_or, bytes_eq, codes, Option}
+use Rattle.std.specs.Prelude.{ℕ, Bool, false, ◌+◌, ◌||◌, ◌==◌, not, cond, List, [], ◌∷◌}
+use Rattle.std.specs.Prelude.{◌++◌, length, map, get_or, bytes_eq, codes, Option}
 use Rattle.std.specs.Borrow.{Bor}
-use Rattle.std.specs.List.{filter, list_any, position}
+use Rattle.std.specs.List.{filter, position}
 
 -- the keywords of the Rust Reference (Keywords), strict, reserved and weak, and those that only a
 -- parser of tokens names
@@ -86,11 +86,12 @@ begins_with b (c ∷ s) = c == b
 abbrev pub beginning : ℕ → List (List ℕ) → List (List ℕ)
 beginning b = filter (begins_with b)
 
--- each text of a table that begins with this byte has a number from `low` on, below `high`
-abbrev pub begin_within : (b low high : ℕ) → List (List ℕ) → Bool
-begin_within b low high texts =
-    nat_le high (length texts)
-    && not (list_any (begins_with b) (take low texts) || list_any (begins_with b) (drop high texts))
+-- the numbers of the texts that begin with this byte, where the first text has number `k`
+abbrev pub numbers_beginning : (b k : ℕ) → List (List ℕ) → List ℕ
+numbers_beginning b k [] = []
+numbers_beginning b k (text ∷ texts) =
+    cond (begins_with b text) (k ∷ numbers_beginning b (k + 1) texts)
+    (numbers_beginning b (k + 1) texts)
 
 -- the number of a text in a table: that of the first row with it
 abbrev pub number_in : List (List ℕ) → List ℕ → Option ℕ
