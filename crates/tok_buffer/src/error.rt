@@ -116,6 +116,7 @@ impl Error {
     }
 
     // Creates an error of one message, from the start of one span to the end of another.
+    #[inline(always)]
     fn of_string(alloc: Global, start: Span, end: Span, text: String) -> Result<Error, AllocError>
         ensures { IfOk result (λ e. e ≡ error_of start end (string_bytes text)) }
     {
