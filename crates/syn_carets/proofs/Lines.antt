@@ -4,9 +4,8 @@ use Rattle.std.proofs.Common.{sym, ap, append_assoc, eqb-true, inl, inr}
 use Rattle.std.specs.Prelude.{◌⊎◌, ◌==◌, ◌&&◌, ◌||◌, not, if◌then◌else◌}
 use Rattle.std.specs.Char.{len_utf8}
 use Rattle.std.specs.List.{list_all}
-use Rattle.std.proofs.lemmas.Bool.{false≢true}
+use Rattle.std.proofs.lemmas.Bool.{false≢true, and_parts, false_from_ne_true}
 use Rattle.tok_lexical.specs.Pieces.{Skips, Stops, is_neither}
-use Rattle.tok_lexical.proofs.Digits.{not_true}
 use Rattle.syn_carets.specs.Lines.{line_feeds, within, without_return}
 
 abbrev Longer : (text after whole : List ℕ) → (rest : List ℕ) → Type 0
@@ -21,7 +20,7 @@ within_more text rest after front whole left less c e w h some l = (
   e ∙ ap (λ x. front ++ x) h ∙ sym (append_assoc front (c ∷ []) after),
   w ∙ ap (λ x. front ++ within left x) h
       ∙ ap (λ b. front ++ (if b then [] else c ∷ within (left - len_utf8 c) after))
-      (not_true (left == 0) (λ z. some (eqb-true left 0 z)))
+      (false_from_ne_true (left == 0) (λ z. some (eqb-true left 0 z)))
       ∙ ap (λ n. front ++ c ∷ within n after) (sym l)
       ∙ sym (append_assoc front (c ∷ []) (within less after)),
 )
@@ -30,7 +29,7 @@ kept : (c : ℕ) (after : List ℕ) → (c ∷ after ≡ 13 ∷ [] → ⊥)
     → without_return (c ∷ after) ≡ c ∷ without_return after
 kept c [] other =
     ap (λ b. if b then [] else c ∷ [])
-    (not_true (c == 13) (λ e. other (ap (λ x. x ∷ []) (eqb-true c 13 e))))
+    (false_from_ne_true (c == 13) (λ e. other (ap (λ x. x ∷ []) (eqb-true c 13 e))))
 kept c (d ∷ after) other = refl
 
 pub return_kept : (text rest after front whole : List ℕ) (c : ℕ) → text ≡ front ++ rest
@@ -44,10 +43,6 @@ return_kept text rest after front whole c e w h other = (
       ∙ sym (append_assoc front (c ∷ []) (without_return after)),
 )
 
-both : (a b : Bool) → (a && b) ≡ true → (a ≡ true) × (b ≡ true)
-both true b h = (refl, h)
-both false b h = absurd (false≢true h)
-
 no_feed : (b : Bool) → not (b || b) ≡ true → b ≡ false
 no_feed true h = absurd (false≢true h)
 no_feed false h = refl
@@ -56,7 +51,7 @@ skipped : (front rest : List ℕ) → list_all (is_neither 10 10) front ≡ true
     → line_feeds (front ++ rest) ≡ line_feeds rest
 skipped [] rest h = refl
 skipped (c ∷ front) rest h =
-    let w = both (is_neither 10 10 c) (list_all (is_neither 10 10) front) h in
+    let w = and_parts (is_neither 10 10 c) (list_all (is_neither 10 10) front) h in
     ap (λ b. if b then 1 + line_feeds (front ++ rest) else line_feeds (front ++ rest))
     (no_feed (c == 10) w.0) ∙ skipped front rest w.1
 

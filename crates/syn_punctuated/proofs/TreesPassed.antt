@@ -3,6 +3,7 @@ use Rattle.std.proofs.Common.{◌≡◌, ◌∙◌, inl, inr, sym, ap, refl, sub
 use Rattle.std.proofs.Common.{List, [], ◌∷◌, ◌++◌, map, append_assoc, Option, Some, None, Ok, Err}
 use Rattle.std.proofs.Common.{eqb-true}
 use Rattle.std.specs.Prelude.{Result, IfSome, cond, not, ◌==◌}
+use Rattle.std.proofs.lemmas.Bool.{and_parts}
 use Rattle.tok_leaves.specs.declared.ident.Ident.{Ident}
 use Rattle.tok_leaves.specs.declared.punct.Spacing.{Spacing}
 use Rattle.tok_core.specs.Forest.{tree_span, Tree, leaf, group}
@@ -130,10 +131,6 @@ idents_state_trees s t i h = ident_read _ s t i (read_word accept_as_ident s.pla
     (reading_takes (of_word accept_as_ident) s.place) h
 
 -- punctuations
-both : (a b : Bool) → (a && b) ≡ true → a ≡ true
-both true b h = refl
-both false b h = h
-
 -- the one tree that is taken
 abbrev IsTaken : (Tree → Type 0) → Option (List Tree × Place) → Type 0
 IsTaken Wanted r = IfSome r (λ x. (t : Tree) × Wanted t × (x.0 ≡ t ∷ []))
@@ -166,7 +163,7 @@ of_single : (c : ℕ) (t : Tree) → is_punct_of c t ≡ true → IsPunctOf c t
 of_single c (leaf (punct k spacing span)) h = (
   spacing,
   ap (λ z. leaf (punct z spacing span))
-      (eqb-true k c (both (k == c) (not (k == apostrophe)) h)),
+      (eqb-true k c (and_parts (k == c) (not (k == apostrophe)) h).0),
 )
 of_single c (leaf (ident text span)) h = cc
 of_single c (leaf (literal text span)) h = cc
@@ -174,7 +171,8 @@ of_single c (group d inside span) h = cc
 
 of_joint : (c : ℕ) (t : Tree) → is_joint_of c t ≡ true → IsJointOf c t
 of_joint c (leaf (punct k Joint span)) h =
-    ap (λ z. leaf (punct z Joint span)) (eqb-true k c (both (k == c) (not (k == apostrophe)) h))
+    ap (λ z. leaf (punct z Joint span))
+    (eqb-true k c (and_parts (k == c) (not (k == apostrophe)) h).0)
 of_joint c (leaf (punct k Alone span)) h = cc
 of_joint c (leaf (ident text span)) h = cc
 of_joint c (leaf (literal text span)) h = cc

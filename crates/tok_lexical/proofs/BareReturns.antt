@@ -5,6 +5,7 @@ use Rattle.std.specs.Prelude.{◌==◌, ◌||◌, ◌&&◌, not}
 use Rattle.std.specs.List.{list_all, list_any}
 use Rattle.std.specs.Str.{chars, IsUtf8}
 use Rattle.std.proofs.lemmas.Bool.{false≢true, eqb-true}
+use Rattle.std.proofs.Math.Bool.{or-false}
 use Rattle.tok_lexical.specs.Contents.{has_bare_return, has_return, has_misfit, is_unfit}
 use Rattle.tok_lexical.specs.Pieces.{Skips, Stops, is_neither, begins_with}
 use Rattle.tok_lexical.specs.declared.contents.Contents.TheVariants.{Text}
@@ -46,13 +47,9 @@ text_fits : (piece : List ℕ) → has_misfit Text piece ≡ false
 text_fits [] = refl
 text_fits (c ∷ piece) = text_fits piece
 
-or_false : (b : Bool) → b || false ≡ b
-or_false true = refl
-or_false false = refl
-
 pub text_unfit : (piece : List ℕ) → has_bare_return piece ≡ is_unfit Text piece
 text_unfit piece = sym (ap (λ w. has_bare_return piece || w) (text_fits piece)
-    ∙ or_false (has_bare_return piece))
+    ∙ or-false (has_bare_return piece))
 
 -- a U+000D is a byte of its own
 pub return_byte : (text : List ℕ) → IsUtf8 text → list_any (λ b. b == 13) text

@@ -6,13 +6,13 @@ use Rattle.std.specs.Char.{is_digit, digit_value, IsScalar}
 use Rattle.std.specs.Str.{chars}
 use Rattle.std.specs.Borrow.{Bor}
 use Rattle.std.proofs.Math.Utf8.{scalar_cases}
-use Rattle.std.proofs.lemmas.Bool.{lt-ltb, ltb-true}
+use Rattle.std.proofs.lemmas.Bool.{lt-ltb, ltb-true, false_from_ne_true}
 use Rattle.tok_lexical.specs.Pieces.{HasPrefix, ReadsPrefix, Skips, IsOne}
 use Rattle.tok_lexical.specs.Strings.{IsEscape, IsByte, is_byte, is_hex, is_hex_or_underscore}
 use Rattle.tok_lexical.specs.Strings.{hex_value, IsHex, NamesChar, IsCode, IsLineEnd}
 use Rattle.tok_lexical.proofs.Longest.{finds_after}
 use Rattle.tok_lexical.proofs.EscapedChars.{heads, tails, not_backslash}
-use Rattle.tok_lexical.proofs.Digits.{not_true, all_stops}
+use Rattle.tok_lexical.proofs.Digits.{all_stops}
 
 -- hexadecimal escapes
 pub hex_found : (top high low : ℕ) (text third rest : List ℕ) → text ≡ high ∷ third →
@@ -193,4 +193,4 @@ pub hex_from : (c d : ℕ) → (digit_value c < 16) × (d ≡ digit_value c) →
 hex_from c d (l, e) = lt-ltb (digit_value c) 16 l
 
 pub hex_not : (c : ℕ) → (digit_value c < 16 → ⊥) → is_hex c ≡ false
-hex_not c h = not_true (is_hex c) (λ e. h (ltb-true (digit_value c) 16 e))
+hex_not c h = false_from_ne_true (is_hex c) (λ e. h (ltb-true (digit_value c) 16 e))

@@ -7,7 +7,7 @@ use Rattle.std.specs.List.{list_all, list_any}
 use Rattle.std.specs.Char.{is_digit}
 use Rattle.std.specs.Borrow.{Bor}
 use Rattle.std.proofs.lemmas.List.{append-nil}
-use Rattle.std.proofs.lemmas.Bool.{false≢true, and_parts}
+use Rattle.std.proofs.lemmas.Bool.{false≢true, and_parts, false_from_ne_true, or_left}
 use Rattle.tok_lexical.specs.Pieces.{IsLongestPrefix, HasPrefix, ReadsLongest, Skips, Stops, After}
 use Rattle.tok_lexical.specs.Words.{IsIdentifier}
 use Rattle.tok_lexical.specs.declared.numbers.Base.{Base}
@@ -16,10 +16,6 @@ use Rattle.tok_lexical.specs.Numbers.{starts_digit, starts_number_suffix, IsNumb
 use Rattle.tok_lexical.specs.Numbers.{IsNumber, has_digit}
 use Rattle.tok_lexical.proofs.Longest.{no_more, list_all_push, tries_after, fronts}
 use Rattle.tok_lexical.proofs.EscapedChars.{heads, tails}
-
-pub not_true : (b : Bool) → (b ≡ true → ⊥) → b ≡ false
-not_true true h = absurd (h refl)
-not_true false h = refl
 
 list_any_push : (p : ℕ → Bool) (xs : List ℕ) (c : ℕ) → list_any p (xs ++ c ∷ [])
     ≡ (list_any p xs || p c)
@@ -150,10 +146,6 @@ pub none_decimal : (Tail : List ℕ → Type 0) (text : List ℕ) → starts_dig
 none_decimal Tail text bad (piece, after, cut, ([], sf, f, a, g, k)) = false≢true g
 none_decimal Tail text bad (piece, after, cut, (d ∷ ds, sf, f, a, g, k)) =
     false≢true (sym bad ∙ ap starts_digit (cut ∙ ap (λ w. w ++ after) f) ∙ g)
-
-or_left : (x y : Bool) → x ≡ true → (x || y) ≡ true
-or_left true y e = refl
-or_left false y e = absurd (false≢true e)
 
 pub digits_start : (text rest digits : List ℕ) → Skips (is_digit_or_underscore 10) text digits
     rest → starts_digit text ≡ true → starts_digit digits ≡ true

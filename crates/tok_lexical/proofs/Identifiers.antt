@@ -8,7 +8,7 @@ use Rattle.std.specs.Char.{is_ascii_alphabetic}
 use Rattle.std.specs.Str.{chars, IsUtf8, bytes_eq}
 use Rattle.std.specs.Borrow.{Bor}
 use Rattle.std.proofs.lemmas.List.{append-nil}
-use Rattle.std.proofs.lemmas.Bool.{false≢true, ne_eqb, ltb-true}
+use Rattle.std.proofs.lemmas.Bool.{false≢true, ne_eqb, ltb-true, false_from_ne_true}
 use Rattle.unicode_ident.specs.Ident.{is_xid_continue}
 use Rattle.unicode_ident.proofs.IdentLemmas.{is_xid_continue-ascii, is_xid_start-ascii}
 use Rattle.tok_lexical.specs.Pieces.{IsLongestPrefix, HasPrefix, ReadsLongest, Skips}
@@ -16,7 +16,7 @@ use Rattle.tok_lexical.specs.Following.{starts_name}
 use Rattle.tok_lexical.specs.Words.{is_identifier_start, IsIdentifier, IsRawIdentifier, IsName}
 use Rattle.tok_lexical.specs.Words.{has_no_raw, is_raw_prefix}
 use Rattle.tok_lexical.proofs.Longest.{no_more}
-use Rattle.tok_lexical.proofs.Digits.{head_passes, tail_passes, not_true}
+use Rattle.tok_lexical.proofs.Digits.{head_passes, tail_passes}
 use Rattle.std.proofs.lemmas.Str.{encodes-chars, encodes-IsAscii, chars-IsAscii, chars-nil}
 use Rattle.std.proofs.lemmas.Str.Ascii.{IsAscii-nil}
 use Rattle.std.proofs.lemmas.Slice.Eq.{bytes_eq-Decides}
@@ -104,7 +104,7 @@ same_text bytes t u h = go (bytes_eq bytes t) refl
         let same : bytes ≡ t = (bytes_eq-Decides bytes t).0 e in
         e ∙ sym ((bytes_eq-Decides (chars bytes) t).1
         (ap chars same ∙ chars-IsAscii t (λ i. ascii_at t i h)))
-    go false e = e ∙ sym (not_true (bytes_eq (chars bytes) t) (λ f.
+    go false e = e ∙ sym (false_from_ne_true (bytes_eq (chars bytes) t) (λ f.
         let same : chars bytes ≡ t = (bytes_eq-Decides (chars bytes) t).0 f in
         let back : bytes ≡ t = sym (encodes-chars bytes u) ∙ ap encode_utf8_all same
         ∙ encodes-IsAscii t (λ i. ascii_at t i h) in

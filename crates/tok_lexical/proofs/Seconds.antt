@@ -1,7 +1,7 @@
 -- What the second character tells.
 use Rattle.std.proofs.Common.{rules, tests, ◌≡◌, ◌∙◌, ◌++◌, refl, sym, ℕ, inl, inr, List, []}
 use Rattle.std.proofs.Common.{◌∷◌, ap, arith, subst, append_assoc}
-use Rattle.std.proofs.lemmas.Bool.{false≢true, eqb-true}
+use Rattle.std.proofs.lemmas.Bool.{false≢true, eqb-true, and_parts}
 use Rattle.std.specs.Prelude.{◌==◌, ◌||◌, ◌&&◌, Bool, true, false}
 use Rattle.std.specs.List.{list_all}
 use Rattle.std.specs.Char.{is_digit}
@@ -32,14 +32,6 @@ use Rattle.tok_lexical.proofs.First.{decides_begun, fits_front, last_identifier,
 use Rattle.tok_lexical.proofs.Identifiers.{takes_identifier}
 use Rattle.tok_lexical.proofs.Digits.{head_passes, tail_passes}
 
-head_holds : (a b : Bool) → (a && b) ≡ true → a ≡ true
-head_holds true b e = refl
-head_holds false b e = e
-
-tail_holds : (a b : Bool) → (a && b) ≡ true → b ≡ true
-tail_holds true b e = e
-tail_holds false b e = absurd (false≢true e)
-
 -- rules that pass a test, of which none fits
 skips : (p : Rule → Bool) (text : List ℕ) →
     ((r : Rule) → p r ≡ true → HasPrefix (Spells r) text → ⊥) →
@@ -47,8 +39,8 @@ skips : (p : Rule → Bool) (text : List ℕ) →
     IsFirstFit text others rule piece rest → IsFirstFit text (those ++ others) rule piece rest
 skips p text misses [] others rule piece rest a d = d
 skips p text misses (r ∷ those) others rule piece rest a d =
-    later (misses r (head_holds (p r) _ a)) (skips p text misses those others rule piece rest
-    (tail_holds (p r) _ a) d)
+    later (misses r (and_parts (p r) _ a).0) (skips p text misses those others rule piece rest
+    (and_parts (p r) _ a).1 d)
 
 -- what comes after a first character
 second : (k : ℕ) (rest piece after more : List ℕ) → k ∷ rest ≡ piece ++ after →

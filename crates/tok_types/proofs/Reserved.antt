@@ -3,7 +3,7 @@ use Rattle.std.proofs.Common.{◌≡◌, ◌∙◌, ◌<◌, sym, ap, refl, ℕ,
 use Rattle.std.proofs.Common.{cond, List, [], ◌∷◌, Bor, length, get_or, arith}
 use Rattle.std.specs.Prelude.{bytes_eq, ◌==◌}
 use Rattle.std.specs.List.{list_all, list_any}
-use Rattle.std.proofs.lemmas.Bool.{false≢true, eqb-true}
+use Rattle.std.proofs.lemmas.Bool.{false≢true, eqb-true, and_parts}
 use Rattle.tok_types.specs.Texts.{accept_as_ident, beginning, is_among, reserved, texts_of}
 
 -- only a text that begins alike is this one
@@ -61,16 +61,12 @@ abbrev begins_known : List ℕ → Bool
 begins_known [] = true
 begins_known (c ∷ t) = list_any (λ f. c == f) firsts
 
-both : (a b : Bool) → (a && b) ≡ true → (a ≡ true) × (b ≡ true)
-both true b h = (refl, h)
-both false b h = absurd (false≢true h)
-
 none_begins : (b : ℕ) (ts : List (List ℕ)) → IsNone b firsts → list_all begins_known ts ≡ true →
     beginning b ts ≡ []
 none_begins b [] none h = refl
 none_begins b ([] ∷ ts) none h = none_begins b ts none h
 none_begins b ((c ∷ t) ∷ ts) none h =
-    let parts = both (list_any (λ f. c == f) firsts) (list_all begins_known ts) h in
+    let parts = and_parts (list_any (λ f. c == f) firsts) (list_all begins_known ts) h in
     go (c == b) refl (apart b c firsts none parts.0) (none_begins b ts none parts.1)
   where
     go : (w : Bool) → (c == b) ≡ w → (c ≡ b → ⊥) → beginning b ts ≡ [] →

@@ -6,7 +6,7 @@ use Rattle.std.specs.Prelude.{codes, nat_lt, slice_index, ◌==◌, Result, OnEr
 use Rattle.std.specs.List.{list_all}
 use Rattle.std.specs.Char.{is_ascii_alphabetic, is_ascii_alphanumeric}
 use Rattle.std.specs.Str.{chars, IsUtf8}
-use Rattle.std.proofs.lemmas.Bool.{eqb-false, false≢true, ltb-true}
+use Rattle.std.proofs.lemmas.Bool.{eqb-false, false≢true, ltb-true, and_parts, and_from}
 use Rattle.std.proofs.lemmas.List.{get_or_past}
 use Rattle.std.proofs.lemmas.Str.{chars-IsAscii, chars-nil, encodes-chars}
 use Rattle.unicode_ident.specs.Ident.{is_xid_continue}
@@ -20,31 +20,27 @@ use Rattle.tok_types.specs.Printed.{word}
 use Rattle.tok_types.specs.Texts.{keywords, keyword_text, punctuations, punctuation_text}
 use Rattle.tok_types.specs.Texts.{punctuation_word}
 
-both : (a b : Bool) → (a && b) ≡ true → (a ≡ true) × (b ≡ true)
-both true b h = (refl, h)
-both false b h = absurd (false≢true h)
-
 -- what holds of each text of a table and of the empty text holds of the text of any number
 of_each : (holds : List ℕ → Bool) (ts : List (List ℕ)) (k : ℕ) → holds [] ≡ true →
     list_all holds ts ≡ true → holds (get_or ts k []) ≡ true
 of_each holds [] k e h = e
-of_each holds (t ∷ ts) zero e h = (both (holds t) (list_all holds ts) h).0
-of_each holds (t ∷ ts) (suc k) e h = of_each holds ts k e (both (holds t) (list_all holds ts) h).1
+of_each holds (t ∷ ts) zero e h = (and_parts (holds t) (list_all holds ts) h).0
+of_each holds (t ∷ ts) (suc k) e h = of_each holds ts k e (and_parts (holds t) (list_all holds ts) h).1
 
 of_each_in : (holds : List ℕ → Bool) (ts : List (List ℕ)) (k : ℕ) → k < length ts →
     list_all holds ts ≡ true → holds (get_or ts k []) ≡ true
 of_each_in holds [] k low h = absurd (omega arith)
-of_each_in holds (t ∷ ts) zero low h = (both (holds t) (list_all holds ts) h).0
+of_each_in holds (t ∷ ts) zero low h = (and_parts (holds t) (list_all holds ts) h).0
 of_each_in holds (t ∷ ts) (suc k) low h = of_each_in holds ts k (omega arith)
-    (both (holds t) (list_all holds ts) h).1
+    (and_parts (holds t) (list_all holds ts) h).1
 
 abbrev is_ascii : List ℕ → Bool
 is_ascii t = list_all (λ c. nat_lt c 128) t
 
 ascii_at : (t : List ℕ) → is_ascii t ≡ true → (i : ℕ) → slice_index t i < 128
 ascii_at [] h i = omega arith
-ascii_at (c ∷ t) h zero = ltb-true c 128 (both (nat_lt c 128) (is_ascii t) h).0
-ascii_at (c ∷ t) h (suc i) = ascii_at t (both (nat_lt c 128) (is_ascii t) h).1 i
+ascii_at (c ∷ t) h zero = ltb-true c 128 (and_parts (nat_lt c 128) (is_ascii t) h).0
+ascii_at (c ∷ t) h (suc i) = ascii_at t (and_parts (nat_lt c 128) (is_ascii t) h).1 i
 
 ascii_chars : (t : List ℕ) → is_ascii t ≡ true → chars t ≡ t
 ascii_chars t h = chars-IsAscii t (ascii_at t h)
@@ -57,25 +53,21 @@ abbrev is_word : List ℕ → Bool
 is_word [] = false
 is_word (c ∷ cs) = (is_ascii_alphabetic c || (c == 95)) && list_all is_ascii_continue cs
 
-and : (a b : Bool) → a ≡ true → b ≡ true → (a && b) ≡ true
-and true b ha hb = hb
-and false b ha hb = absurd (false≢true ha)
-
 continues : (cs : List ℕ) → is_ascii cs ≡ true → list_all is_ascii_continue cs ≡ true →
     list_all is_xid_continue cs ≡ true
 continues [] a h = refl
 continues (c ∷ cs) a h =
-    let ascii = both (nat_lt c 128) (is_ascii cs) a in
-    let parts = both (is_ascii_continue c) (list_all is_ascii_continue cs) h in
-    and (is_xid_continue c) (list_all is_xid_continue cs)
+    let ascii = and_parts (nat_lt c 128) (is_ascii cs) a in
+    let parts = and_parts (is_ascii_continue c) (list_all is_ascii_continue cs) h in
+    and_from (is_xid_continue c) (list_all is_xid_continue cs)
     (is_xid_continue-ascii c (ltb-true c 128 ascii.0) ∙ parts.0)
     (continues cs ascii.1 parts.1)
 
 told : (t : List ℕ) → is_ascii t ≡ true → is_word t ≡ true → IsIdentifier t
 told [] a h = absurd (false≢true h)
 told (c ∷ cs) a h =
-    let ascii = both (nat_lt c 128) (is_ascii cs) a in
-    let parts = both (is_ascii_alphabetic c || (c == 95)) (list_all is_ascii_continue cs) h in (
+    let ascii = and_parts (nat_lt c 128) (is_ascii cs) a in
+    let parts = and_parts (is_ascii_alphabetic c || (c == 95)) (list_all is_ascii_continue cs) h in (
       ap (λ b. b || (c == 95)) (is_xid_start-ascii c (ltb-true c 128 ascii.0)) ∙ parts.0,
       continues cs ascii.1 parts.1,
     )

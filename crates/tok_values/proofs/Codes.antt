@@ -1,9 +1,9 @@
 -- Escapes by number.
 use Rattle.std.proofs.Common.{◌≡◌, ◌∙◌, ℕ, List, [], ◌∷◌, None, false, refl, ap, eqb-true}
 use Rattle.std.specs.Prelude.{if◌then◌else◌, ◌==◌}
+use Rattle.std.proofs.lemmas.Bool.{false_from_ne_true}
 use Rattle.tok_lexical.specs.Pieces.{Skips, after_first, begins_with, is_neither, up_to}
 use Rattle.tok_lexical.proofs.Fronts.{first_parts}
-use Rattle.tok_lexical.proofs.Digits.{not_true}
 use Rattle.tok_values.specs.Escapes.{and_rest, code, named_char}
 
 module _ (text start digits after : List ℕ) (cut : text ≡ 123 ∷ start)
@@ -25,7 +25,7 @@ module _ (text start digits after : List ℕ) (cut : text ≡ 123 ∷ start)
     where
       unbegun : (xs : List ℕ) → ((rest : List ℕ) → xs ≡ 125 ∷ rest → ⊥) → begins_with 125 xs ≡ false
       unbegun [] h = refl
-      unbegun (c ∷ xs) h = not_true (c == 125) (λ e. h xs (ap (λ x. x ∷ xs) (eqb-true c 125 e)))
+      unbegun (c ∷ xs) h = false_from_ne_true (c == 125) (λ e. h xs (ap (λ x. x ∷ xs) (eqb-true c 125 e)))
 
   pub code_closed : (rest : List ℕ) → after ≡ 125 ∷ rest
       → code text ≡ and_rest (named_char digits) rest

@@ -5,13 +5,13 @@ use Rattle.std.specs.Prelude.{fold, if◌then◌else◌, ◌&&◌}
 use Rattle.std.specs.Char.{is_digit, digit_value}
 use Rattle.std.specs.List.{list_all}
 use Rattle.std.proofs.Math.Nat.{mul-le-mul_left}
-use Rattle.std.proofs.lemmas.Bool.{lt-ltb, ltb-true}
+use Rattle.std.proofs.lemmas.Bool.{lt-ltb, ltb-true, false_from_ne_true}
 use Rattle.std.proofs.lemmas.List.Folds.{list_all-append}
 use Rattle.std.proofs.lemmas.Bool.{false≢true}
 use Rattle.tok_lexical.specs.Numbers.{IsNumberSuffix, has_digit, is_digit_or_underscore}
 use Rattle.tok_lexical.specs.Numbers.{starts_digit}
 use Rattle.tok_lexical.specs.Pieces.{Skips, Stops}
-use Rattle.tok_lexical.proofs.Digits.{all_stops, not_true}
+use Rattle.tok_lexical.proofs.Digits.{all_stops}
 use Rattle.tok_values.specs.Integers.{IsDigits, IsInteger, base_of}
 use Rattle.tok_values.specs.Numbers.{number}
 
@@ -43,7 +43,7 @@ module _ (radix : ℕ) (all rest after : List ℕ) (value c : ℕ)
   number_same high =
       ap (λ n. fold (step radix) n after)
       (sym (ap (λ b. if b then value * radix + digit_value c else value)
-      (not_true (is_digit c radix) (λ e. high (ltb-true (digit_value c) radix e)))))
+      (false_from_ne_true (is_digit c radix) (λ e. high (ltb-true (digit_value c) radix e)))))
       ∙ ap (fold (step radix) value) (sym cut) ∙ stands
 
   pub number_past : (d top : ℕ) → 1 ≤ radix → (digit_value c < radix) × (d ≡ digit_value c)

@@ -8,6 +8,7 @@ use lib.Utf8.{scalars}
 use Rattle.std.proofs.lemmas.List.{append-nil}
 use Rattle.std.proofs.lemmas.Str.{chars-encodes, encodes-IsAscii, encodes-append, encodes-chars}
 use Rattle.std.proofs.lemmas.Str.{scalars-chars}
+use Rattle.std.proofs.lemmas.Bool.{and_parts, and_from}
 use Rattle.tok_leaves.specs.Quoting.{escaped, in_quotes}
 use Rattle.tok_values.specs.Strings.{IsStringValue, Means, line_feed, more, nothing, unit}
 use Rattle.tok_values.specs.Strings as strings
@@ -64,26 +65,18 @@ one_scalars c h =
     (pick_scalars (c == 13) _ _ refl
     (pick_scalars (c == 9) _ _ refl (pick_scalars (c == 0) _ _ refl h)))))
 
-both : (a b : Bool) → (a && b) ≡ true → (a ≡ true) × (b ≡ true)
-both true b h = (refl, h)
-both false b h = absurd (cc)
-
-and : (a b : Bool) → a ≡ true → b ≡ true → (a && b) ≡ true
-and true b ha hb = hb
-and false b ha hb = absurd (cc)
-
 scalars-append : (xs ys : List ℕ) → scalars xs ≡ true → scalars ys ≡ true
     → scalars (xs ++ ys) ≡ true
 scalars-append [] ys h k = k
 scalars-append (x ∷ xs) ys h k =
-    let w = both _ (scalars xs) h in
-    and _ (scalars (xs ++ ys)) w.0 (scalars-append xs ys w.1 k)
+    let w = and_parts _ (scalars xs) h in
+    and_from _ (scalars (xs ++ ys)) w.0 (scalars-append xs ys w.1 k)
 
 all_scalars : (cs : List ℕ) → scalars cs ≡ true → scalars (flat_map written cs) ≡ true
 all_scalars [] h = refl
 all_scalars (c ∷ cs) h =
-    let w = both _ (scalars cs) h in
-    scalars-append (written c) (flat_map written cs) (one_scalars c (and _ true w.0 refl))
+    let w = and_parts _ (scalars cs) h in
+    scalars-append (written c) (flat_map written cs) (one_scalars c (and_from _ true w.0 refl))
     (all_scalars cs w.1)
 
 choose : (b : Bool) (x y rest : List ℕ) (c : ℕ)

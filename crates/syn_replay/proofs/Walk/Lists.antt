@@ -8,6 +8,7 @@ use Rattle.std.specs.Global.{Vec}
 use Rattle.std.specs.List.{flat_map}
 use Rattle.std.specs.Ordering.{is_lt, is_some_and, nat_cmp}
 use Rattle.std.specs.declared.cmp.Ordering.{Ordering}
+use Rattle.std.proofs.Math.Bool.{or-false}
 use Rattle.tok_leaves.specs.declared.span.Span.{Span}
 use Rattle.tok_core.specs.Forest.{Tree}
 use Rattle.tok_buffer.specs.Messages as messages
@@ -56,10 +57,6 @@ use Rattle.syn_replay.proofs.Views.EnoughTurns.{more_turns_change_nothing}
 less_is : (c d : ℕ) → is_lt (nat_cmp c d) ≡ nat_lt c d
 less_is c d = grind arith
 
-or_false : (b : Bool) → (b || false) ≡ b
-or_false true = refl
-or_false false = refl
-
 in_one : (b a : Bool) (o : Ordering) (later : Bool) → is_lt o ≡ later
     → ((b && a) && is_some_and is_lt (cond b (Some o) None)) ≡ ((b && a) && later)
 in_one true a o later e = ap (λ z. a && z) e
@@ -69,7 +66,7 @@ progress_is : (p q : Place) → progresses p q ≡ is_later p q
 progress_is empty_place empty_place = refl
 progress_is empty_place (at m t d k ks) = refl
 progress_is (at n s c l ls) empty_place = refl
-progress_is (at n s c l ls) (at m t d k ks) = or_false _
+progress_is (at n s c l ls) (at m t d k ks) = or-false _
     ∙ in_one (n == m) (s == t) (nat_cmp c d) (nat_lt c d) (less_is c d)
 
 -- the same stream at another place

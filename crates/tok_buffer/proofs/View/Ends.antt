@@ -2,6 +2,7 @@
 use Rattle.std.proofs.Common.{◌≡◌, ◌∙◌, sym, ap, refl, ℕ, ◌+◌, Bool, true, false, ◌&&◌, ◌||◌, not}
 use Rattle.std.proofs.Common.{List, [], ◌∷◌}
 use Rattle.std.specs.Prelude.{⊤}
+use Rattle.std.proofs.lemmas.Bool.{and_parts}
 use Rattle.tok_lexical.specs.declared.delimiter.Delimiter.TheVariants as delimiter
 use Rattle.tok_core.specs.Erase.{erase}
 use Rattle.tok_core.specs.Filled.{filled, has_trees}
@@ -35,10 +36,6 @@ LevelsFilled (level o p a ∷ ls) = (filled a ≡ true) × LevelsFilled ls
 abbrev pub IsFilledPlace : Place → Type 0
 IsFilledPlace empty_place = ⊤
 IsFilledPlace (at n s c l ls) = LevelsFilled (l ∷ ls)
-
-pub and_parts : (a b : Bool) → (a && b) ≡ true → (a ≡ true) × (b ≡ true)
-and_parts true b h = (refl, h)
-and_parts false b h = absurd (cc)
 
 filled-absorb : (o : Owner) (p : Forest) (l : Level) (ls : List Level) → LevelsFilled (l ∷ ls)
     → LevelsFilled (absorb o p l ∷ ls)

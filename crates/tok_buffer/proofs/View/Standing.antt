@@ -4,6 +4,7 @@ use Rattle.std.proofs.Common.{◌++◌, length, drop, Option, Some, None, arith,
 use Rattle.std.proofs.Common.{append-nil, drop-drop, drop_at}
 use Rattle.std.proofs.lemmas.Bool.Decides.{nat_tests}
 use Rattle.std.specs.Prelude.{⊤, IfSome, Bool, true, false, cond}
+use Rattle.std.proofs.lemmas.Bool.{and_parts}
 use Rattle.tok_lexical.specs.declared.delimiter.Delimiter.{Delimiter}
 use Rattle.tok_lexical.specs.declared.delimiter.Delimiter.TheVariants as delimiter
 use Rattle.tok_leaves.specs.declared.span.Span.{Span}
@@ -23,7 +24,6 @@ use Rattle.tok_buffer.proofs.View.Closers.{HasClosers, closers-into, closers-out
 use Rattle.tok_buffer.proofs.View.Closers.{closers-content, closers-whole, no_closing}
 use Rattle.tok_buffer.proofs.View.Counts.{IsCounted, counted, counted-start}
 use Rattle.tok_buffer.proofs.View.Ends.{IsSettled, is_settled, IsFilledPlace, kept-filled}
-use Rattle.tok_buffer.proofs.View.Ends.{and_parts}
 use Rattle.tok_buffer.proofs.View.Keeps.{IsKept, kept-descend, IsDescended, descended-descend}
 use Rattle.tok_buffer.proofs.View.Moves.{IsMoved, moved-pass, Leads}
 use Rattle.tok_buffer.proofs.View.Ordinals.{IsIn, kept-in, length-closing_marks, IsVisibleDelimiter}

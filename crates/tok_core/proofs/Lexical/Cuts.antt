@@ -5,6 +5,7 @@ use Rattle.std.specs.Prelude.{Bool, encode_utf8_all, ◌-◌, ◌==◌, ◌||◌
 use Rattle.std.specs.Str.{chars, IsUtf8}
 use Rattle.std.proofs.lemmas.List.{append-nil}
 use Rattle.std.proofs.lemmas.List.Folds.{list_any-append}
+use Rattle.std.proofs.Math.Bool.{or-true}
 use Rattle.tok_lexical.specs.Contents.{has_return}
 use Rattle.tok_core.specs.Forest.{Forest}
 use Rattle.tok_lexical.specs.Fits.{NoneBefore}
@@ -65,14 +66,10 @@ has_piece_return : (text taken after : List ℕ) → text ≡ taken ++ after →
 has_piece_return text taken after e h = ap has_return e ∙ list_any-append (λ c. c == 13) taken
     after ∙ ap (λ b. b || has_return after) h
 
-or_true : (b : Bool) → b || true ≡ true
-or_true true = refl
-or_true false = refl
-
 has_later_return : (text taken after : List ℕ) → text ≡ taken ++ after → has_return after
     ≡ true → has_return text ≡ true
 has_later_return text taken after e h = ap has_return e ∙ list_any-append (λ c. c == 13) taken
-    after ∙ ap (λ b. has_return taken || b) h ∙ or_true (has_return taken)
+    after ∙ ap (λ b. has_return taken || b) h ∙ or-true (has_return taken)
 
 cut_return : {rules : List Rule} {number at end : ℕ} {text rest : List ℕ} {some : List Item} →
     Cut rules number at text some end rest → has_return rest ≡ true → has_return text ≡ true
