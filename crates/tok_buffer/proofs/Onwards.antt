@@ -1,6 +1,6 @@
 -- Moves stay in their scope, and less is left after each.
 use Rattle.std.proofs.Common.{◌≡◌, ◌∙◌, ap, refl, arith, inl, inr, ℕ, ◌+◌, ◌≤◌, ◌<◌, Bool}
-use Rattle.std.proofs.Common.{true, false, List, [], ◌∷◌, Option, Some, None, eqb, eqb-true, subst}
+use Rattle.std.proofs.Common.{true, false, List, ◌∷◌, Option, Some, None, eqb, eqb-true, subst}
 use Rattle.std.proofs.lemmas.Bool.{and_parts, false≢true}
 use Rattle.std.specs.Prelude.{◌==◌, ◌&&◌, cond, unwrap_or, IfSome}
 use Rattle.std.specs.Cmp.{ranks}

@@ -7,7 +7,7 @@ use Rattle.std.specs.List.{list_all, list_any}
 use Rattle.std.specs.Char.{is_digit}
 use Rattle.std.specs.Borrow.{Bor}
 use Rattle.std.proofs.lemmas.List.{append-nil}
-use Rattle.std.proofs.lemmas.Bool.{false≢true, and_parts, false_from_ne_true, or_left}
+use Rattle.std.proofs.lemmas.Bool.{false≢true, and_parts, or_left}
 use Rattle.tok_lexical.specs.Pieces.{IsLongestPrefix, HasPrefix, ReadsLongest, Skips, Stops, After}
 use Rattle.tok_lexical.specs.Words.{IsIdentifier}
 use Rattle.tok_lexical.specs.declared.numbers.Base.{Base}

@@ -1,5 +1,5 @@
 -- Peeks see what is first of the visible trees ahead.
-use Rattle.std.proofs.Common.{◌≡◌, ◌∙◌, ap, ℕ, zero, suc, List, [], ◌∷◌, ◌++◌, Option}
+use Rattle.std.proofs.Common.{◌≡◌, ◌∙◌, ap, ℕ, zero, suc, List, [], ◌∷◌, Option}
 use Rattle.std.proofs.Common.{Some, None}
 use Rattle.std.proofs.Common.{Bool}
 use Rattle.std.specs.Prelude.{bytes_eq, codes, is_some, option_map}

@@ -1,5 +1,5 @@
 -- Counts against weights.
-use Rattle.std.proofs.Common.{◌≡◌, refl, ℕ, ◌+◌, List, [], ◌∷◌, arith}
+use Rattle.std.proofs.Common.{◌≡◌, refl, ℕ, ◌+◌, List, ◌∷◌, arith}
 use Rattle.std.specs.Prelude.{⊤}
 use Rattle.tok_core.specs.Forest.{Forest}
 use Rattle.tok_core.specs.Weight.{weight}

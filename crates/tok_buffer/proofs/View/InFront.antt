@@ -1,6 +1,6 @@
 -- What single calls return, by the erased trees ahead.
 use Rattle.std.proofs.Common.{◌≡◌, ◌∙◌, sym, ap, refl, ℕ, ◌+◌, Bool, true, false, cond, not, List}
-use Rattle.std.proofs.Common.{[], ◌∷◌, ◌++◌, Some, None}
+use Rattle.std.proofs.Common.{[], ◌∷◌, Some, None}
 use Rattle.std.specs.Prelude.{option_map}
 use Rattle.tok_lexical.specs.declared.delimiter.Delimiter.{Delimiter}
 use Rattle.tok_lexical.specs.declared.delimiter.Delimiter.TheVariants as delimiter

@@ -1,6 +1,6 @@
 -- Invisible groups do not matter to a single call: the proofs.
 use Rattle.std.proofs.Common.{◌≡◌, ◌∙◌, sym, ap, subst, refl, true, false, cond, Bool, Option, Some}
-use Rattle.std.proofs.Common.{None, ℕ, [], ◌∷◌}
+use Rattle.std.proofs.Common.{None}
 use Rattle.std.specs.Prelude.{IfSome}
 use Rattle.tok_lexical.specs.declared.delimiter.Delimiter.{Delimiter}
 use Rattle.tok_lexical.specs.declared.delimiter.Delimiter.TheVariants as delimiter

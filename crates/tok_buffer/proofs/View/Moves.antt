@@ -1,6 +1,6 @@
 -- What every move keeps: a descent, passing a tree, and so each read.
-use Rattle.std.proofs.Common.{◌≡◌, refl, ℕ, ◌+◌, ◌≤◌, Bool, true, false, cond, List, [], ◌∷◌, ◌++◌}
-use Rattle.std.proofs.Common.{Option, Some, None, arith}
+use Rattle.std.proofs.Common.{◌≡◌, refl, ℕ, ◌+◌, Bool, true, false, cond, List, [], ◌∷◌, ◌++◌}
+use Rattle.std.proofs.Common.{Option, Some, None}
 use Rattle.std.specs.Prelude.{⊤, IfSome}
 use Rattle.tok_core.specs.Forest.{Tree, Forest, no_trees, tree}
 use Rattle.tok_core.specs.Weight.{tree_weight}
