@@ -18,7 +18,7 @@ use Rattle.arguments.specs.Results.{Agree, Parses, ParsesTo, SaysWhy, with_fault
 use Rattle.arguments.specs.Same.{SameArguments}
 use Rattle.arguments.specs.Values.{Arguments}
 use Rattle.arguments.proofs.Sound.{sound}
-use Rattle.arguments.proofs.Written.{written}
+use Rattle.arguments.proofs.Written.{arguments_taken}
 
 abbrev pub Taken : Forest → Result Arguments Fault → Type 0
 Taken = TakesAll list_form take_arguments
@@ -26,7 +26,7 @@ Taken = TakesAll list_form take_arguments
 pub parses : (f : Forest) (r : Result Arguments Fault) → Taken f r → Parses (erase f) r
 parses f (Ok arguments) h = (sound (erase f) (list_form arguments) all_taken h).1
 parses f (Err (Refused e)) h = inr
-    (λ arguments l. h.0.0 (list_form arguments) (written (erase f) (list_form arguments) l))
+    (λ arguments l. h.0.0 (list_form arguments) (arguments_taken (erase f) (list_form arguments) l))
 parses f (Err (Memory e)) h = inl tt
 
 pub says : (f : Forest) (r : Result Arguments Fault) → filled f ≡ true → Taken f r
@@ -44,7 +44,7 @@ pub parses_to : (f : Forest) (r : Result Arguments (List Message)) → filled f 
     → Taken f (with_fault r) → ParsesTo (erase f) r
 parses_to f (Ok arguments) i h = parses f (Ok arguments) h
 parses_to f (Err e) i h = (
-  λ arguments l. h.0.0 (list_form arguments) (written (erase f) (list_form arguments) l),
+  λ arguments l. h.0.0 (list_form arguments) (arguments_taken (erase f) (list_form arguments) l),
   says f (Err (Refused e)) i h,
 )
 
@@ -52,7 +52,7 @@ parses_to f (Err e) i h = (
 pub one_list : (f : Forest) (left right : Arguments) → AreArguments f left → AreArguments f right
     → SameArguments left right
 one_list f left right h k =
-    found_first (sym (written f (list_form left) h) ∙ written f (list_form right) k)
+    found_first (sym (arguments_taken f (list_form left) h) ∙ arguments_taken f (list_form right) k)
 
 same_words : (o : Outcome ListForm) (left right : List ℕ) → o ≡ missing left → o ≡ missing right
     → left ≡ right

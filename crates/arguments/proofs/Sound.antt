@@ -18,8 +18,8 @@ use Rattle.syn_parse.specs.Lighter.{lowers_punctuation}
 use Rattle.syn_parse.specs.Tokens.{sees_group, take_ident, take_literal}
 use Rattle.syn_parse.specs.TokenNames.{sees_eq, take_comma, take_eq}
 use Rattle.syn_parse.specs.TreesAhead.{Ahead, all_taken, is_spent}
-use Rattle.syn_punctuated.proofs.ListShapes.{Turns, bare, done, ended, list_taken, nothing_left}
-use Rattle.syn_punctuated.proofs.ListShapes.{turn}
+use Rattle.syn_punctuated.proofs.ListShapes.{Turns, bare, done, list_taken, no_trees_left}
+use Rattle.syn_punctuated.proofs.ListShapes.{nothing_left, turn}
 use Rattle.syn_punctuated.specs.TakeLists.{is_left}
 use Rattle.arguments.specs.Forms.{Form, ListForm, assigned, flag, forms, with_list}
 use Rattle.arguments.specs.Grammar.{AreListed, IsArgument, and_more, equals_sign, is_assigned}
@@ -151,13 +151,14 @@ module _ (n : ℕ) (within : Inner n) where
       → AreTurns a vs ps d
       → AreListed a.trees vs ps × (d.trees ≡ no_trees) × (d.clean ≡ a.clean)
   as_turns _ _ _ _ small (done a e) =
-      (subst (λ f. AreListed f [] []) (sym (ended a e)) nothing, ended a e, refl)
+      (subst (λ f. AreListed f [] []) (sym (no_trees_left a e)) nothing, no_trees_left a e, refl)
   as_turns _ _ _ _ small (bare a b v e h g) =
       let t = as_argument a b v small h in (
         subst (λ f. AreListed f (v ∷ []) [])
-            (sym (t.ahead ∙ ap (concat (forest t.trees)) (ended b g) ∙ none_after (forest t.trees)))
+            (sym (t.ahead ∙ ap (concat (forest t.trees)) (no_trees_left b g)
+            ∙ none_after (forest t.trees)))
             (last t.trees v t.is),
-        ended b g,
+        no_trees_left b g,
         t.clean,
       )
   as_turns _ _ _ _ small (turn a b c d v p vs ps e h g s rest) =

@@ -37,9 +37,9 @@ unfolding punctuation_first group_first
 flag_alone name _ (at_end c) = refl
 flag_alone name _ (at_comma spacing span f c) = refl
 
-named : (name : Ident) (b : Ahead) → IsName name
+name_begins : (name : Ident) (b : Ahead) → IsName name
     → take_argument (before (leaf (ident_of name) ∷ []) b) ≡ take_value take_arguments name b
-named name b accepted =
+name_begins name b accepted =
     argument_again (before (leaf (ident_of name) ∷ []) b)
     ∙ ap (λ o. and_then o (take_value take_arguments)) (ident_shape.takes b name _ (refl, accepted))
 
@@ -81,12 +81,13 @@ by_turns f vs ps t =
 mutual
   argument_takes : (ts : List Tree) (f : Form) → IsArgument ts f → (b : Ahead) → Ends b
       → take_argument (before ts b) ≡ found f b
-  argument_takes _ _ (is_flag name accepted) b e = named name b accepted ∙ flag_alone name b e
+  argument_takes _ _ (is_flag name accepted) b e = name_begins name b accepted ∙ flag_alone name b e
   argument_takes _ _ (is_assigned name spacing span text accepted) b e =
-      named name (before (sign equals_sign spacing span ∷ leaf (literal_of text) ∷ []) b) accepted
+      name_begins name (before (sign equals_sign spacing span ∷ leaf (literal_of text) ∷ []) b)
+      accepted
       ∙ value_assigned name spacing span text b
   argument_takes _ _ (is_list name inside span inner commas accepted l) b e =
-      named name (before (group Parenthesis inside span ∷ []) b) accepted
+      name_begins name (before (group Parenthesis inside span ∷ []) b) accepted
       ∙ value_list name inside span (inner, commas) b
       (by_turns inside inner commas (list_takes inside inner commas l))
 
@@ -108,6 +109,6 @@ mutual
       (list_takes rest others commas l)
 
 -- the arguments that the grammar has are taken, to the end
-pub written : (f : Forest) (x : ListForm) → AreListed f x.0 x.1
+pub arguments_taken : (f : Forest) (x : ListForm) → AreListed f x.0 x.1
     → take_arguments (record { trees = f; clean = true }) ≡ found x all_taken
-written f x l = by_turns f x.0 x.1 (list_takes f x.0 x.1 l)
+arguments_taken f x l = by_turns f x.0 x.1 (list_takes f x.0 x.1 l)

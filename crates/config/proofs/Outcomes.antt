@@ -18,13 +18,13 @@ use Rattle.config.specs.Reading.{ReadsText, ReadsTokens, settings}
 use Rattle.config.specs.declared.value.Setting.{Setting}
 use Rattle.config.proofs.Plain.{text_shown}
 use Rattle.config.proofs.Sound.{sound}
-use Rattle.config.proofs.Written.{written}
+use Rattle.config.proofs.Written.{settings_taken}
 
 parses : (f : Forest) (r : Result (Punctuated Setting Comma) Fault) → KeepsWhole settings f r
     → filled f ≡ true → Parses (erase f) r
 parses f (Ok config) h i =
     (sound (erase f) all_taken (list_form setting_form (λ p. p) config) (h i)).1
-parses f (Err (Refused e)) h i = inr (λ form l. (h i).0.0 form (written (erase f) form l))
+parses f (Err (Refused e)) h i = inr (λ form l. (h i).0.0 form (settings_taken (erase f) form l))
 parses f (Err (Memory e)) h i = inl tt
 
 pub reads_tokens : (f : Forest) (r : Result (Punctuated Setting Comma) Fault)

@@ -195,9 +195,9 @@ mutual
       (settings_turns rest vs ps l)
 
 -- the settings that the grammar has are taken, to the end
-pub written : (f : Forest) (x : List SettingForm × List Comma) → AreSettings f x.0 x.1
+pub settings_taken : (f : Forest) (x : List SettingForm × List Comma) → AreSettings f x.0 x.1
     → take_terminated take_setting take_comma (record { trees = f; clean = true })
     ≡ found x all_taken
-written f x l =
+settings_taken f x l =
     takes_list is_left is_left take_setting take_comma lightens_setting (lowers_punctuation 7 1) _ _
     x.0 x.1 (settings_turns f x.0 x.1 l)

@@ -39,8 +39,8 @@ module _
   abbrev calls : Call Items
   calls = FnOnceReturnsAtMut call f
 
-  called : (a : State) (r : Result Items Fault) (b : State) → calls a r b → IsRead r b
-  called a r b c = subst (IsRead r) c.leaves (are c.shown r c.left c.met)
+  call_reads : (a : State) (r : Result Items Fault) (b : State) → calls a r b → IsRead r b
+  call_reads a r b c = subst (IsRead r) c.leaves (are c.shown r c.left c.met)
 
   pub one_list :
       (s t : State) (span : DelimSpan) (items : Items) (paren : Visible 0) → paren.span ≡ span →
@@ -63,4 +63,4 @@ module _
           RunsWithin calls x (refused_at s (delimiter_words Parenthesis)) s (Ok (span, items)) t →
           IsItem s (item.List paren items) t
       by None i r = absurd r.0
-      by (Some e) i r = inside e i r.0 r.1 (called _ _ _ r.2) r.3 r.4
+      by (Some e) i r = inside e i r.0 r.1 (call_reads _ _ _ r.2) r.3 r.4

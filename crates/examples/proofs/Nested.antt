@@ -76,8 +76,8 @@ module _
   abbrev calls : Call ℕ
   calls = FnOnceReturnsAtMut call f
 
-  called : (a : State) (r : Result ℕ Fault) (b : State) → calls a r b → CountsEntries a r b
-  called a r b c =
+  call_counts : (a : State) (r : Result ℕ Fault) (b : State) → calls a r b → CountsEntries a r b
+  call_counts a r b c =
       subst (λ z. CountsEntries z r b) c.shows
       (subst (CountsEntries c.shown.now r) c.leaves (are c.shown r c.left c.met))
 
@@ -109,7 +109,7 @@ module _
             (x : Option Entered) → enter Parenthesis s.place ≡ x → Ran x (Ok (span, count)) →
             CountsEntry s (Ok count) t
         by None i r = absurd r.0
-        by (Some e) i r = inside e i r.0 r.1 (called _ _ _ r.2) r.3 r.4
+        by (Some e) i r = inside e i r.0 r.1 (call_counts _ _ _ r.2) r.3 r.4
 
     pub no_list :
         (g : Fault) → Ran (enter Parenthesis s.place) (Err g) → CountsEntry s (Err g) t
@@ -130,4 +130,4 @@ module _
             (x : Option Entered) → enter Parenthesis s.place ≡ x → Ran x (Err g) →
             CountsEntry s (Err g) t
         by None i r = inr (message, neither s no_name i, r.0)
-        by (Some e) i r = inside e i r.0 r.1 (called _ _ _ r.2) r.3
+        by (Some e) i r = inside e i r.0 r.1 (call_counts _ _ _ r.2) r.3

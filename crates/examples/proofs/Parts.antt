@@ -78,8 +78,8 @@ module _ (wanted : Tree → Bool) (p q : Place) (ts : List Tree) where
   abbrev IsOne : Type 0
   IsOne = (t : Tree) × (ts ≡ t ∷ [])
 
-  abbrev taken : Option Tree → Read
-  taken x = elim x [ Some t ↦ cond (wanted t) (Some (t ∷ [], pass p)) None | None ↦ None ]
+  abbrev take_wanted : Option Tree → Read
+  take_wanted x = elim x [ Some t ↦ cond (wanted t) (Some (t ∷ [], pass p)) None | None ↦ None ]
 
   if_wanted :
       (t : Tree) (b : Bool) → cond {A = Read} b (Some (t ∷ [], pass p)) None ≡ Some (ts, q) →
@@ -87,7 +87,7 @@ module _ (wanted : Tree → Bool) (p q : Place) (ts : List Tree) where
   if_wanted t true k = (t, sym (ap (λ y. elim y [ Some z ↦ z.0 | None ↦ ts ]) k))
   if_wanted t false k = cc
 
-  is_one : (x : Option Tree) → taken x ≡ Some (ts, q) → IsOne
+  is_one : (x : Option Tree) → take_wanted x ≡ Some (ts, q) → IsOne
   is_one None h = cc
   is_one (Some t) h = if_wanted t (wanted t) h
 

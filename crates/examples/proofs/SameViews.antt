@@ -25,22 +25,24 @@ after_skip decide lead b c p q r t s h k =
       same = cc;
     }
 
-mapped : {A B : Type 0} (f : A → B) (o : Option A) → is_some (option_map f o) ≡ is_some o
-mapped f None = refl
-mapped f (Some x) = refl
+map_is_some : {A B : Type 0} (f : A → B) (o : Option A) → is_some (option_map f o) ≡ is_some o
+map_is_some f None = refl
+map_is_some f (Some x) = refl
 
 -- and a name is there in both or in neither
 same_names : ViewsDecide → (b c : Laid) (p q : Place) → SameView b c p q
     → is_some (read_ident p) ≡ is_some (read_ident q)
 same_names decide b c p q s =
-    sym (mapped _ (read_ident p)) ∙ ap is_some (decide b c p q s).idents ∙ mapped _ (read_ident q)
+    sym (map_is_some _ (read_ident p)) ∙ ap is_some (decide b c p q s).idents
+    ∙ map_is_some _ (read_ident q)
 
 -- so a name comes second in both or in neither
 pub same_seconds : ViewsDecide → CallsLeadOn → (b c : Laid) (p q : Place) → SameView b c p q
     → is_name_second p ≡ is_name_second q
 same_seconds decide lead b c p q s =
     go (skip p) (skip q) refl refl
-    (sym (mapped _ (skip p)) ∙ ap is_some (decide b c p q s).skips ∙ mapped _ (skip q)) where
+    (sym (map_is_some _ (skip p)) ∙ ap is_some (decide b c p q s).skips
+    ∙ map_is_some _ (skip q)) where
       go : (x y : Option Place) → skip p ≡ x → skip q ≡ y → is_some x ≡ is_some y
           → is_name x ≡ is_name y
       go None None h k e = refl

@@ -25,12 +25,12 @@ within_more text rest after front whole left less c e w h some l = (
       ∙ sym (append_assoc front (c ∷ []) (within less after)),
 )
 
-kept : (c : ℕ) (after : List ℕ) → (c ∷ after ≡ 13 ∷ [] → ⊥)
+head_stays : (c : ℕ) (after : List ℕ) → (c ∷ after ≡ 13 ∷ [] → ⊥)
     → without_return (c ∷ after) ≡ c ∷ without_return after
-kept c [] other =
+head_stays c [] other =
     ap (λ b. if b then [] else c ∷ [])
     (false_from_ne_true (c == 13) (λ e. other (ap (λ x. x ∷ []) (eqb-true c 13 e))))
-kept c (d ∷ after) other = refl
+head_stays c (d ∷ after) other = refl
 
 pub return_kept : (text rest after front whole : List ℕ) (c : ℕ) → text ≡ front ++ rest
     → whole ≡ front ++ without_return rest → rest ≡ c ∷ after → (rest ≡ 13 ∷ [] → ⊥)
@@ -39,7 +39,7 @@ return_kept text rest after front whole c e w h other = (
   front ++ c ∷ [],
   e ∙ ap (λ x. front ++ x) h ∙ sym (append_assoc front (c ∷ []) after),
   w ∙ ap (λ x. front ++ without_return x) h
-      ∙ ap (λ x. front ++ x) (kept c after (λ k. other (h ∙ k)))
+      ∙ ap (λ x. front ++ x) (head_stays c after (λ k. other (h ∙ k)))
       ∙ sym (append_assoc front (c ∷ []) (without_return after)),
 )
 
@@ -47,26 +47,28 @@ no_feed : (b : Bool) → not (b || b) ≡ true → b ≡ false
 no_feed true h = absurd (false≢true h)
 no_feed false h = refl
 
-skipped : (front rest : List ℕ) → list_all (is_neither 10 10) front ≡ true
+front_feeds_none : (front rest : List ℕ) → list_all (is_neither 10 10) front ≡ true
     → line_feeds (front ++ rest) ≡ line_feeds rest
-skipped [] rest h = refl
-skipped (c ∷ front) rest h =
+front_feeds_none [] rest h = refl
+front_feeds_none (c ∷ front) rest h =
     let w = and_parts (is_neither 10 10 c) (list_all (is_neither 10 10) front) h in
     ap (λ b. if b then 1 + line_feeds (front ++ rest) else line_feeds (front ++ rest))
-    (no_feed (c == 10) w.0) ∙ skipped front rest w.1
+    (no_feed (c == 10) w.0) ∙ front_feeds_none front rest w.1
 
 module _ (text rest front middle : List ℕ) (s : Skips (is_neither 10 10) rest front middle) where
   pub feeds_more : (after : List ℕ) → middle ≡ 10 ∷ after → line_feeds rest ≡ 1 + line_feeds after
   feeds_more after e =
-      ap line_feeds (s.cut ∙ ap (λ x. front ++ x) e) ∙ skipped front (10 ∷ after) s.pass
+      ap line_feeds (s.cut ∙ ap (λ x. front ++ x) e) ∙ front_feeds_none front (10 ∷ after) s.pass
 
   pub feeds_end : ((more : List ℕ) → middle ≡ 10 ∷ more → ⊥) → line_feeds rest ≡ 0
-  feeds_end misses = ap line_feeds s.cut ∙ skipped front middle s.pass ∙ ended middle s.stops misses
+  feeds_end misses =
+      ap line_feeds s.cut ∙ front_feeds_none front middle s.pass
+      ∙ end_feeds_none middle s.stops misses
     where
-      ended : (m : List ℕ) → Stops (is_neither 10 10) m → ((more : List ℕ) → m ≡ 10 ∷ more → ⊥)
-          → line_feeds m ≡ 0
-      ended [] stops h = refl
-      ended (c ∷ m) stops h = go (c == 10) refl stops
+      end_feeds_none : (m : List ℕ) → Stops (is_neither 10 10) m
+          → ((more : List ℕ) → m ≡ 10 ∷ more → ⊥) → line_feeds m ≡ 0
+      end_feeds_none [] stops h = refl
+      end_feeds_none (c ∷ m) stops h = go (c == 10) refl stops
         where
           go : (b : Bool) → (c == 10) ≡ b → not (b || b) ≡ false
               → (if b then 1 + line_feeds m else line_feeds m) ≡ 0

@@ -89,28 +89,28 @@ module _ {T A : Type 0} (form : T → A) (take : Taking A) (f : Forest) where
   )
   left-refuses (Memory d) x y l r h other = (tt, λ i. left-says (take (whole f)) x y (Memory d) h)
 
-  finished : (v : T) (left : State) (result : Result T Fault) (o : Option Leftover)
+  value_takes_all : (v : T) (left : State) (result : Result T Fault) (o : Option Leftover)
       → handed left ≡ o → take (whole f) ≡ found (form v) (ahead left)
       → MatchOption o (result ≡ Ok v) (λ l. IsRefused (leftover_message l) result)
       → TakesAll form take f result
-  finished v left result None h k m =
+  value_takes_all v left result None h k m =
       subst (TakesAll form take f) (sym m)
       (k ∙ ap (found (form v))
       (spent-in left.noted (leftover left.place) (erased_ahead left.place)
       (leftover-trees left.place) h))
-  finished v left (Ok w) (Some l) h k m = absurd m
-  finished v left (Err e) (Some l) h k m =
+  value_takes_all v left (Ok w) (Some l) h k m = absurd m
+  value_takes_all v left (Err e) (Some l) h k m =
       left-refuses e (form v) (ahead left) (leftover_message l) m k (λ a.
       let other : Some l ≡ None = sym h ∙ handed-in left.noted (leftover left.place)
       (erased_ahead left.place) (leftover-trees left.place) a in
       absurd (cc))
 
-  pub ended : (returned : Result T Fault) (left : State) (result : Result T Fault)
+  pub finish_takes_all : (returned : Result T Fault) (left : State) (result : Result T Fault)
       → TakesAs form take (whole_stream f call_site) returned left → Finishes returned left result
       → TakesAll form take f result
-  ended (Ok v) left result h k =
-      finished v left result (handed left) refl (ap take (sym start-ahead) ∙ h.0) k
-  ended (Err e) left result h k =
+  finish_takes_all (Ok v) left result h k =
+      value_takes_all v left result (handed left) refl (ap take (sym start-ahead) ∙ h.0) k
+  finish_takes_all (Err e) left result h k =
       subst (TakesAll form take f) (sym k)
       (none-refuses e (subst (λ a. MemoryOr e (IsMissing (take a))) start-ahead h.0)
       (λ i. subst (λ a. Says (take a) e) start-ahead (h.1 (start-filled i))))

@@ -166,20 +166,21 @@ module _ {T A : Type 0} (form : T → A) (inner : Taking A) (calls : Call T)
             (inside-says (entered_ahead e) _ f (i.1 (both-filled d visible s.place e h j).0)),
       )
 
-  refused : (f : Fault) → enter d s.place ≡ None → Refuses (refused_at s (delimiter_words d)) f
+  no_group_refuses : (f : Fault) → enter d s.place ≡ None
+      → Refuses (refused_at s (delimiter_words d)) f
       → TakesAs both (take_group d inner) s (Err f) t
-  refused (Refused e) h r = (
+  no_group_refuses (Refused e) h r = (
     (subst IsMissing (sym (is-first None h)) tt, ap length r),
     λ i. is-first None h ∙ ap missing (sym (words_told (delimiter_words d) s i)
         ∙ sym (ap first_text r)),
   )
-  refused (Memory e) h r = (tt, λ i. tt)
+  no_group_refuses (Memory e) h r = (tt, λ i. tt)
 
   within : (x : Option Entered) (r : Result (DelimSpan × T) Fault) → enter d s.place ≡ x
       → RunsWithin calls x (refused_at s (delimiter_words d)) s r t
       → TakesAs both (take_group d inner) s r t
   within None (Ok v) h w = absurd w.0
-  within None (Err f) h w = refused f h w.0
+  within None (Err f) h w = no_group_refuses f h w.0
   within (Some e) r h w =
       ran e w.0 w.1 r h (each (content_of e) w.0 w.1 (
         content-lighter d visible s.place e h,
@@ -332,9 +333,9 @@ module _ {T : Type 0} (span_of : T → DelimSpan) (content : T → State) (d : D
       → first_group d (erased_ahead s.place) ≡ Some (entered_ahead e)
   first e h = sym ((ahead_tells s.place).enters d visible) ∙ ap (option_map entered_ahead) h
 
-  entered : (e : Entered) (v : T) → enter d s.place ≡ Some e → whole_span (span_of v) ≡ e.span
+  value_enters : (e : Entered) (v : T) → enter d s.place ≡ Some e → whole_span (span_of v) ≡ e.span
       → content v ≡ content_of e → t ≡ after_group e s → EntersAhead span_of content d s (Ok v) t
-  entered e v h i j k = (
+  value_enters e v h i j k = (
     first e h
         ∙ ap (λ x. Some (record {
           delimiter = x;
@@ -385,7 +386,7 @@ module _ {T : Type 0} (span_of : T → DelimSpan) (content : T → State) (d : D
       → EntersAhead span_of content d s r t
   enters None (Ok v) h w = absurd w.0
   enters None (Err f) h w = not-entered f h w.0
-  enters (Some e) (Ok v) h w = entered e v h w.0.0 w.0.1 w.1
+  enters (Some e) (Ok v) h w = value_enters e v h w.0.0 w.0.1 w.1
   enters (Some e) (Err f) h w = absurd w
 
   pub enters_ahead : (r : Result T Fault)

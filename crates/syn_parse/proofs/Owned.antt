@@ -39,10 +39,10 @@ own_told span_of text s r t h =
     word_told span_of span_of span_in text (λ v ts m. sym (ap span_in m)) s r t h
 
 -- a text is an identifier or not
-decided : (t : List ℕ) → (IsIdentifier t × (is_word t ≡ true))
+is_word_decides : (t : List ℕ) → (IsIdentifier t × (is_word t ≡ true))
     ⊎ ((IsIdentifier t → ⊥) × (is_word t ≡ false))
-decided [] = inr (λ h. h, refl)
-decided (c ∷ cs) = go (is_identifier_start c) (list_all is_xid_continue cs) refl refl
+is_word_decides [] = inr (λ h. h, refl)
+is_word_decides (c ∷ cs) = go (is_identifier_start c) (list_all is_xid_continue cs) refl refl
   where
     go : (a b : Bool) → is_identifier_start c ≡ a → list_all is_xid_continue cs ≡ b
         → (IsIdentifier (c ∷ cs) × (is_word (c ∷ cs) ≡ true))
@@ -56,13 +56,13 @@ module _ (text : List ℕ) (span : Span) (made : Result Ident MakeFault)
     (refuses : (IsIdentifier (chars text) → ⊥) → made ≡ Err fault.Refused) where
   pub word_if_made : (made ≡ Err fault.Refused → ⊥)
       → own_word text span ≡ tree (leaf (ident text span)) no_trees
-  word_if_made other = elim (decided (chars text)) [
+  word_if_made other = elim (is_word_decides (chars text)) [
     | inl h ↦ ap (λ b. cond b (tree (leaf (ident text span)) no_trees) no_trees) h.1
     | inr h ↦ absurd (other (refuses h.0))
   ]
 
   pub nothing_if_refused : made ≡ Err fault.Refused → own_word text span ≡ no_trees
-  nothing_if_refused e = elim (decided (chars text)) [
+  nothing_if_refused e = elim (is_word_decides (chars text)) [
     | inl h ↦ absurd (apart made (takes h.0) e)
     | inr h ↦ ap (λ b. cond b (tree (leaf (ident text span)) no_trees) no_trees) h.1
   ]

@@ -207,10 +207,10 @@ Spells (c ∷ (d ∷ cs)) ts =
     × Spells (d ∷ cs) ws
 
 -- the trees of two lists, one after the other
-joined : (us ws : List Tree) (g : Forest)
+forests_join : (us ws : List Tree) (g : Forest)
     → concat (forest us) (concat (forest ws) g) ≡ concat (forest (us ++ ws)) g
-joined [] ws g = refl
-joined (u ∷ us) ws g = ap (tree u) (joined us ws g)
+forests_join [] ws g = refl
+forests_join (u ∷ us) ws g = ap (tree u) (forests_join us ws g)
 
 -- what is read after these trees
 abbrev behind : List Tree → Read → Read
@@ -232,8 +232,8 @@ module _ (read more : Forest → Option (List Tree × Forest)) (Are Others : Lis
       let same = trees_are y in
       let end = rest_is y in (
         (us, ws, sym same, a, b.0),
-        e ∙ ap (concat (forest us)) b.1 ∙ joined us ws l ∙ ap (λ xs. concat (forest xs) l) same
-            ∙ ap (concat (forest ts)) end,
+        e ∙ ap (concat (forest us)) b.1 ∙ forests_join us ws l
+            ∙ ap (λ xs. concat (forest xs) l) same ∙ ap (concat (forest ts)) end,
       )
 
   first : (f g : Forest) (ts : List Tree) (o : Option (List Tree × Forest)) → read f ≡ o
@@ -248,7 +248,7 @@ module _ (read more : Forest → Option (List Tree × Forest)) (Are Others : Lis
     taken = λ f g ts e. first f g ts (read f) refl e;
     takes = λ g ts i.
         subst (λ xs. and_first (read (concat (forest xs) g)) more ≡ Some (xs, g)) (sym i.2)
-        (ap (λ f. and_first (read f) more) (sym (joined i.0 i.1 g))
+        (ap (λ f. and_first (read f) more) (sym (forests_join i.0 i.1 g))
         ∙ ap (λ o. and_first o more) (h.takes (concat (forest i.1) g) i.0 i.3)
         ∙ ap (behind i.0) (k.takes g i.1 i.4));
   }
@@ -431,11 +431,11 @@ module _ {A : Type 0} (d : Delimiter) (inner : Taking A) where
         clean = sym (ap (λ (x : Ahead). x.clean) after);
       }
 
-  entered : (f : Forest) (e : EnteredAhead) → first_group d f ≡ Some e
+  group_is_first : (f : Forest) (e : EnteredAhead) → first_group d f ≡ Some e
       → f ≡ tree (group d e.content e.span) e.after
-  entered no_trees e h = absurd (cc)
-  entered (tree (leaf l) f) e h = absurd (cc)
-  entered (tree (group c content span) f) e h = go (same_delimiter d c) refl h where
+  group_is_first no_trees e h = absurd (cc)
+  group_is_first (tree (leaf l) f) e h = absurd (cc)
+  group_is_first (tree (group c content span) f) e h = go (same_delimiter d c) refl h where
     go : (t : Bool) → same_delimiter d c ≡ t
         → cond t (Some (record { delimiter = c; span = span; content = content; after = f })) None ≡
         Some e
@@ -454,7 +454,7 @@ module _ {A : Type 0} (d : Delimiter) (inner : Taking A) where
         ≡ found v b
         → GroupTaken d inner v a b
     go None h k = absurd (cc)
-    go (Some x) h k = inside_taken a x b v _ refl k (entered a.trees x h)
+    go (Some x) h k = inside_taken a x b v _ refl k (group_is_first a.trees x h)
 
   pub takes_group : (content : Forest) (span : Span) (x : A) (b : Ahead)
       → inner (record { trees = content; clean = true }) ≡ found x all_taken

@@ -21,9 +21,9 @@ use Rattle.tok_buffer.specs.declared.error.Message.{Message}
 use Rattle.tok_buffer.specs.Rest.{scope_delimiter}
 use Rattle.tok_buffer.specs.View.{erased_ahead}
 use Rattle.tok_buffer.specs.Progress.{remaining}
-use Rattle.tok_buffer.proofs.Onwards.{GoesOn, kept, reading_goes}
+use Rattle.tok_buffer.proofs.Onwards.{GoesOn, keeps_scope, reading_goes}
 use Rattle.tok_buffer.proofs.View.InFront.{ahead_tells_ends}
-use Rattle.tok_buffer.proofs.View.Laws.{reaching}
+use Rattle.tok_buffer.proofs.View.Laws.{reached_leads_on}
 use Rattle.tok_buffer.proofs.View.Moves.{LeadsTo, leads}
 use Rattle.tok_buffer.proofs.View.Readings.{Reading, of_ident, of_word, of_lifetime, of_literal}
 use Rattle.tok_buffer.proofs.View.Readings.{of_punct, of_punctuation}
@@ -110,17 +110,17 @@ module _ {T A : Type 0} (form : T → A) (Means : T → List Tree → Type 0) (m
   abbrev take : Ahead → Outcome A
   take = take_by first means words
 
-  abbrev seen : Option (List Tree × Forest) → Outcome A
-  seen = read_as means words (ahead s)
+  abbrev outcome_of : Option (List Tree × Forest) → Outcome A
+  outcome_of = read_as means words (ahead s)
 
-  taken : (q : List Tree × Place) (v : T)
+  read_takes : (q : List Tree × Place) (v : T)
       → Some (q.0, erased_ahead q.1) ≡ first (erased_ahead s.place)
       → ((b : Laid) → Reached b s.place → Reached b q.1)
       → GoesOn s.place q.1
       → Means v q.0
       → t ≡ moved q.1 s → TakesAs form take s (Ok v) t
-  taken q v e leads goes m k = (
-    ap seen (sym e) ∙ ap (λ u. found (means q.0) (ahead u)) (sym k)
+  read_takes q v e leads goes m k = (
+    ap outcome_of (sym e) ∙ ap (λ u. found (means q.0) (ahead u)) (sym k)
         ∙ ap (λ x. found x (ahead t)) (sym (fits v q.0 m)),
     (
       λ i. record {
@@ -128,7 +128,7 @@ module _ {T A : Type 0} (form : T → A) (Means : T → List Tree → Type 0) (m
         filled_buffer = i.filled_buffer;
         reached = subst (λ u. Reached i.buffer u.place) (sym k) (leads i.buffer i.reached);
       },
-      ap (λ u. scope_of u.place) k ∙ one_scope s.place q.1 (kept s.place q.1 goes),
+      ap (λ u. scope_of u.place) k ∙ one_scope s.place q.1 (keeps_scope s.place q.1 goes),
       subst (λ u. remaining u.place ≤ remaining s.place) (sym k) (omega (arith, goes.1)),
     ),
   )
@@ -136,8 +136,8 @@ module _ {T A : Type 0} (form : T → A) (Means : T → List Tree → Type 0) (m
   none : (f : Fault) → None ≡ first (erased_ahead s.place) → Refuses message f
       → TakesAs form take s (Err f) t
   none (Refused e) h r = (
-    (subst (λ o. IsMissing o) (ap seen h) tt, ap length r),
-    λ i. ap seen (sym h) ∙ ap missing (sym (worded i)) ∙ ap missing (sym (ap first_text r)),
+    (subst (λ o. IsMissing o) (ap outcome_of h) tt, ap length r),
+    λ i. ap outcome_of (sym h) ∙ ap missing (sym (worded i)) ∙ ap missing (sym (ap first_text r)),
   )
   none (Memory e) h r = (tt, λ i. tt)
 
@@ -149,21 +149,21 @@ module _ {T A : Type 0} (form : T → A) (Means : T → List Tree → Type 0) (m
       → ((b : Laid) → Reached b s.place → LeadsTo (Reached b) x)
       → LeadsTo (GoesOn s.place) x → Reads Means x message s r t → TakesAs form take s r t
   told-by None (Ok v) e leads goes h = absurd h
-  told-by (Some q) (Ok v) e leads goes h = taken q v e leads goes h.0 h.1
+  told-by (Some q) (Ok v) e leads goes h = read_takes q v e leads goes h.0 h.1
   told-by None (Err f) e leads goes h = none f e h.0
   told-by (Some q) (Err f) e leads goes h = memory f h.0
 
   module _ {read : Place → Read} (reading : Reading read first) where
-    pub told : (r : Result T Fault) → Reads Means (read s.place) message s r t
+    pub read_told : (r : Result T Fault) → Reads Means (read s.place) message s r t
         → TakesAs form take s r t
-    told r h =
+    read_told r h =
         told-by (read s.place) r (tells reading s.place)
-        (λ b i. leads (Reached b) (Reached b) (reaching b) reading s.place i)
+        (λ b i. leads (Reached b) (Reached b) (reached_leads_on b) reading s.place i)
         (reading_goes reading s.place) h
 
     pub told-at-once : (r : Result T Fault) → ReadsAtOnce Means (read s.place) message s r t
         → TakesAs form take s r t
-    told-at-once r h = told r (at_once Means s (read s.place) message r t h)
+    told-at-once r h = read_told r (at_once Means s (read s.place) message r t h)
 
 ident-words : (x : Read) → ident_words x ≡ ident_missing (with_ahead x)
 ident-words None = refl
@@ -183,7 +183,7 @@ ident_told s r t h =
     let words : ident_words (read_ident s.place)
     ≡ ident_missing (first_if is_ident (erased_ahead s.place)) =
     ident-words (read_ident s.place) ∙ ap ident_missing (tells of_ident s.place) in
-    told same IsIdent ident_in (λ v ts m. sym (ap ident_in m))
+    read_told same IsIdent ident_in (λ v ts m. sym (ap ident_in m))
     (first_if (is_ident_of accept_as_ident))
     (λ f. or_end (ident_missing (first_if is_ident f)) f)
     (refused_at s (ident_words (read_ident s.place))) s t
@@ -196,15 +196,15 @@ pub any_ident_told : (s : State) (r : Result Ident Fault) (t : State) → AnyIde
 unfolding take_any_ident
 any_ident_told s r t h =
     let words = codes "expected ident" in
-    told same IsIdent ident_in (λ v ts m. sym (ap ident_in m)) (first_if is_ident) (or_end words)
-    (refused_at s words) s t (words_told words s) of_ident r h
+    read_told same IsIdent ident_in (λ v ts m. sym (ap ident_in m)) (first_if is_ident)
+    (or_end words) (refused_at s words) s t (words_told words s) of_ident r h
 
 pub literal_told : (s : State) (r : Result Literal Fault) (t : State) → LiteralParses s r t
     → Takes take_literal s r t
 unfolding take_literal
 literal_told s r t h =
     let words = codes "expected literal token" in
-    told same IsLiteral literal_in (λ v ts m. sym (ap literal_in m)) (first_if is_literal)
+    read_told same IsLiteral literal_in (λ v ts m. sym (ap literal_in m)) (first_if is_literal)
     (or_end words)
     (refused_at s words) s t (words_told words s) of_literal r h
 
@@ -225,7 +225,7 @@ lifetime_told s r t h =
     let words : lifetime_words read
     ≡ lifetime_missing (first_lifetime any_text (erased_ahead s.place)) =
     lifetime-words read ∙ ap lifetime_missing (tells (of_lifetime any_text) s.place) in
-    told same IsLifetime lifetime_in (λ v ts m. sym (ap lifetime_in m))
+    read_told same IsLifetime lifetime_in (λ v ts m. sym (ap lifetime_in m))
     (first_lifetime accept_as_lifetime)
     (λ f. or_end (lifetime_missing (first_lifetime any_text f)) f)
     (refused_at s (lifetime_words read)) s t
@@ -238,8 +238,9 @@ pub any_lifetime_told : (s : State) (r : Result Lifetime Fault) (t : State)
 unfolding take_any_lifetime
 any_lifetime_told s r t h =
     let words = codes "expected lifetime" in
-    told same IsLifetime lifetime_in (λ v ts m. sym (ap lifetime_in m)) (first_lifetime any_text)
-    (or_end words) (refused_at s words) s t (words_told words s) (of_lifetime any_text) r h
+    read_told same IsLifetime lifetime_in (λ v ts m. sym (ap lifetime_in m))
+    (first_lifetime any_text) (or_end words) (refused_at s words) s t (words_told words s)
+    (of_lifetime any_text) r h
 
 module _ {T A : Type 0} (form : T → A) (span_of : T → Span) (means : List Tree → A) (text : List ℕ)
     (fits : (v : T) (ts : List Tree) → IsSpanOf text (span_of v) ts → form v ≡ means ts) where

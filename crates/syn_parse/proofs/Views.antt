@@ -19,8 +19,8 @@ use Rattle.syn_parse.specs.Reads.{Peeks2, Peeks3, PeeksPast}
 use Rattle.syn_parse.specs.ErrorWords.{ident_words, lifetime_words, name_in}
 use Rattle.syn_parse.proofs.SameWords.{alike-at_stream, alike-look}
 
-standing : (b c : Laid) (p q : Place) → SameView b c p q → Alike b c p q
-standing b c p q s =
+views_alike : (b c : Laid) (p q : Place) → SameView b c p q → Alike b c p q
+views_alike b c p q s =
     record {
       left = reached_stands b s.left_filled p s.left;
       right = reached_stands c s.right_filled q s.right;
@@ -48,7 +48,7 @@ views_decide_words b c s t v =
     record {
       refused =
           λ words. alike-at_stream b c s.place t.place s.scope_span t.scope_span words
-          (standing b c s.place t.place v);
+          (views_alike b c s.place t.place v);
       idents =
           same-words b c ident_words
           (λ ts. codes "expected identifier, found keyword " ++ in_backquotes (name_in ts))
@@ -66,7 +66,7 @@ views_decide_words b c s t v =
 pub views_decide_lookaheads : ViewsDecideLookaheads
 views_decide_lookaheads b c e l m v h =
     alike-look b c e l.missed l.place m.place l.scope_span m.scope_span
-    (standing b c l.place m.place v)
+    (views_alike b c l.place m.place v)
     ∙ ap
     (λ missed.
     (look_message

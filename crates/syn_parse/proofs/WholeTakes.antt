@@ -3,7 +3,8 @@ use Rattle.std.proofs.Common.{◌≡◌, inl, inr}
 use Rattle.std.specs.Prelude.{Result}
 use Rattle.tok_core.specs.Forest.{Forest}
 use Rattle.tok_leaves.specs.Spans.{call_site}
-use Rattle.syn_parse.proofs.Finished.{ended, memory-fails, results_agree, start-filled, words_agree}
+use Rattle.syn_parse.proofs.Finished.{finish_takes_all, memory-fails, results_agree}
+use Rattle.syn_parse.proofs.Finished.{start-filled, words_agree}
 use Rattle.syn_parse.specs.Parsers.{Finishes, OnMemory, ParsesWhole, whole_stream}
 use Rattle.syn_parse.specs.Reads.{Call}
 use Rattle.syn_parse.specs.State.{State}
@@ -18,9 +19,9 @@ module _ {T : Type 0} where
       → Finishes returned left result → KeepsWhole takes f result
   whole_keeps untold f returned left result h k = tt
   whole_keeps (told form take w) f returned left result h k =
-      ended form take f returned left result h k
+      finish_takes_all form take f returned left result h k
   whole_keeps (told_filled form take w) f returned left result h k =
-      λ i. ended form take f returned left result (h (start-filled form take f i)) k
+      λ i. finish_takes_all form take f returned left result (h (start-filled form take f i)) k
 
   pub memory_keeps : (takes : Takings T) (f : Forest) (result : Result T Fault) → OnMemory result
       → KeepsWhole takes f result

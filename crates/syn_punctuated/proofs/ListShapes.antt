@@ -112,8 +112,8 @@ module _ {A P : Type 0} (begins goes_on : Ahead → Bool) (value : Taking A) (si
     takes_list a d vs ps t = to_turns (suc (weight a.trees)) a d vs ps (omega arith) t
 
 -- at the end nothing is left
-pub ended : (a : Ahead) → is_left a ≡ false → a.trees ≡ no_trees
-ended a = go a.trees where
+pub no_trees_left : (a : Ahead) → is_left a ≡ false → a.trees ≡ no_trees
+no_trees_left a = go a.trees where
   go : (f : Forest) → is_left (record { trees = f; clean = true }) ≡ false → f ≡ no_trees
   go no_trees e = refl
   go (tree t f) e = absurd (false≢true (sym e))
@@ -139,12 +139,13 @@ module _ {A P : Type 0} (Is : A → List Tree → Type 0) (IsSign : P → List T
   turns_are : (a d : Ahead) (vs : List A) (ps : List P) → Turns is_left is_left value sign a vs ps d
       → Are a.trees vs ps × (d.trees ≡ no_trees) × (d.clean ≡ a.clean)
   turns_are _ _ _ _ (done a e) =
-      (subst (λ f. Are f [] []) (sym (ended a e)) none, ended a e, refl)
+      (subst (λ f. Are f [] []) (sym (no_trees_left a e)) none, no_trees_left a e, refl)
   turns_are _ _ _ _ (bare a b v e i g) =
       let t = h a b v i in (
         subst (λ f. Are f (v ∷ []) []) (sym (ap (λ (x : Ahead). x.trees) t.2
-            ∙ ap (concat (forest t.0)) (ended b g) ∙ none_after (forest t.0))) (last t.0 v t.1),
-        ended b g,
+            ∙ ap (concat (forest t.0)) (no_trees_left b g) ∙ none_after (forest t.0)))
+            (last t.0 v t.1),
+        no_trees_left b g,
         sym (ap (λ (x : Ahead). x.clean) t.2),
       )
   turns_are _ _ _ _ (turn a b c d v p vs ps e i g s rest) =

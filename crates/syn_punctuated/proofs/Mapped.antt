@@ -22,8 +22,8 @@ by_last {T} {P} Q without with list = go list.inner list.last where
   go inner (Some b) = with inner b
 
 module _ {T A P : Type 0} (f : T → A) where
-  abbrev pub replaced : T × P → A × P
-  replaced pair = (f pair.0, pair.1)
+  abbrev pub map_value : T × P → A × P
+  map_value pair = (f pair.0, pair.1)
 
   -- the values and the separators of a list, and those of the list with other values
   abbrev Both : List (T × P) → List T → List A × List P
@@ -34,8 +34,8 @@ module _ {T A P : Type 0} (f : T → A) where
 
   abbrev pub Mapped : List (T × P) → List T → List A × List P
   Mapped pairs more = (
-    map {A = A × P} (λ pair. pair.0) (map replaced pairs) ++ map f more,
-    map {A = A × P} (λ pair. pair.1) (map replaced pairs),
+    map {A = A × P} (λ pair. pair.0) (map map_value pairs) ++ map f more,
+    map {A = A × P} (λ pair. pair.1) (map map_value pairs),
   )
 
   list_mapped : (pairs : List (T × P)) (more : List T) → Mapped pairs more ≡ Both pairs more

@@ -97,14 +97,14 @@ module _ {X Y : Type 0} where
         are_pairs = pairs_more ps p h.are_pairs shut;
       }
 
-counted : {X Y : Type 0} (mid new : List' X Y) (p : Pair X Y)
+lengths_grow : {X Y : Type 0} (mid new : List' X Y) (p : Pair X Y)
     → length (values_of mid) ≡ length (separators_of mid)
     → values_of new ≡ values_of mid ++ value_of_pair p ∷ []
     → separators_of new ≡ separators_of mid ++ option_to_list (separator_of_pair p)
     → (length (values_of new) ≡ length (separators_of mid) + 1)
     × (length (separators_of new)
     ≡ length (separators_of mid) + length (option_to_list (separator_of_pair p)))
-counted mid new p same values separators = (
+lengths_grow mid new p same values separators = (
   ap length values ∙ length-append (values_of mid) _ ∙ ap (λ n. n + 1) same,
   ap length separators ∙ length-append (separators_of mid) _,
 )
@@ -115,7 +115,7 @@ module _ {X Y : Type 0} (mid new : List' X Y) (ps : List (Pair X Y)) (are : IsPa
       → separators_of new ≡ separators_of mid ++ option_to_list (separator_of_pair p)
       → length (values_of new) ≡ length (separators_of new) + 1 → EndsBare (ps ++ p ∷ [])
   bare_after (Punctuated x y) values separators e =
-      let c = counted mid new (Punctuated x y) same values separators in
+      let c = lengths_grow mid new (Punctuated x y) same values separators in
       absurd (omega (arith, c.0, c.1, e))
   bare_after (End x) values separators e = bare_more ps x are shut
 
@@ -124,4 +124,5 @@ module _ {X Y : Type 0} (mid new : List' X Y) (ps : List (Pair X Y)) (are : IsPa
       → length (values_of new) ≡ length (separators_of new) → EndsBare (ps ++ p ∷ []) → ⊥
   trailing_after (Punctuated x y) values separators e = trailing_more ps x y
   trailing_after (End x) values separators e =
-      let c = counted mid new (End x) same values separators in absurd (omega (arith, c.0, c.1, e))
+      let c = lengths_grow mid new (End x) same values separators in
+      absurd (omega (arith, c.0, c.1, e))

@@ -95,9 +95,9 @@ puncts_all (c ∷ cs) h = let p = and_parts (is_plain c) _ h in rw (
 ) refl
 
 -- written as one punct each
-written : (text : List ℕ) (spans : List Span) → length text ≡ length spans
+puncts_are_joint : (text : List ℕ) (spans : List Span) → length text ≡ length spans
     → list_all is_plain text ≡ true → puncts text spans ≡ forest (joint_puncts text spans)
-written text spans l h = let e : (length text == length spans) ≡ true =
+puncts_are_joint text spans l h = let e : (length text == length spans) ≡ true =
     eq-eqb (length text) (length spans) l in rw (e, puncts_all text h) refl
 
 spans_of_puncts : (text : List ℕ) (spans : List Span) → length text ≡ length spans
@@ -170,7 +170,7 @@ module _ (k n : ℕ) (y : Punctuation k n) (some : IsInTable k n) (l : length y.
   long = long_word k n some ∙ sym l
 
   as_puncts : punctuation_printed k n y ≡ forest (joint_puncts text y.spans)
-  as_puncts = written text y.spans long (plain_word k n)
+  as_puncts = puncts_are_joint text y.spans long (plain_word k n)
 
   punctuation_reads : (o : Owner) (m s c d : ℕ) (f q : Forest) (from to : State)
       (r : Result (Punctuation k n) Fault) → c < d

@@ -95,12 +95,12 @@ module _ {S X Y : Type 0} (R : S → X → Bool → S → X → Type 0) (s : S) 
       h.runs
 
   -- one more pair was shown to R
-  shown : (i k : ℕ) (now : List (X × Y)) (t : S) (p : X × Y) (b : Bool) (u : S) (y : X)
+  one_more_shown : (i k : ℕ) (now : List (X × Y)) (t : S) (p : X × Y) (b : Bool) (u : S) (y : X)
       → i < length now → (h : Going i k now t) → p ≡ get_or now i p → R t p.0 b u y
       → RunsOver R s (map (λ p. p.0) (take (i + 1) old)) (h.run ++ (b, y) ∷ []) u
       × (kept_pairs (h.run ++ (b, y) ∷ []) (take (i + 1) old)
       ≡ kept_pairs h.run (take i old) ++ cond b ((y, p.1) ∷ []) [])
-  shown i k now t p b u y lt h is step =
+  one_more_shown i k now t p b u y lt h is step =
       let item : get_or old i p ≡ p = sym (same_item now old i p h.rest) ∙ sym is in
       let front : take (i + 1) old ≡ take i old ++ p ∷ [] =
       take_more old i p (omega (arith, h.long)) ∙ ap (λ q. take i old ++ q ∷ []) item in
@@ -115,7 +115,7 @@ module _ {S X Y : Type 0} (R : S → X → Bool → S → X → Type 0) (s : S) 
       → i < length now → Going i k now t → p ≡ get_or now i p → R t p.0 false u y
       → Going (i + 1) k (set now i (y, p.1)) u
   going_drops i k now t p u y lt h is step =
-      let more = shown i k now t p false u y lt h is step in
+      let more = one_more_shown i k now t p false u y lt h is step in
       record {
         le = omega (arith, h.le);
         long = length-set now i (y, p.1) ∙ h.long;
@@ -130,7 +130,7 @@ module _ {S X Y : Type 0} (R : S → X → Bool → S → X → Type 0) (s : S) 
       → (k ≡ i → w ≡ (y, p.1))
       → Going (i + 1) (k + 1) (set (set (set now i (y, p.1)) k (y, p.1)) i w) u
   going_keeps i k now t p u y w lt h is step same =
-      let more = shown i k now t p true u y lt h is step in
+      let more = one_more_shown i k now t p true u y lt h is step in
       record {
         le = omega (arith, h.le);
         long = length-set _ i w ∙ length-set _ k (y, p.1) ∙ length-set now i (y, p.1) ∙ h.long;

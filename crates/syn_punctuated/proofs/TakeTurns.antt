@@ -79,10 +79,10 @@ module _ {A P : Type 0} (begins goes_on : Ahead → Bool) (value : Taking A) (si
       ∙ ap (λ ps. found (x.0 ++ [], ps) a) (append-nil x.1)
 
   -- a turn begins
-  begun : (a b : Ahead) (v : A) → begins a ≡ true → value a ≡ found v b
+  turn_begins : (a b : Ahead) (v : A) → begins a ≡ true → value a ≡ found v b
       → take a ≡ after_value (weight a.trees) v b
   unfolding take_list
-  begun a b v e h =
+  turn_begins a b v e h =
       ap (λ t. cond t (and_then (value a) (after_value (weight a.trees))) (found ([], []) a)) e
       ∙ ap (λ o. and_then o (after_value (weight a.trees))) h
 
@@ -90,7 +90,7 @@ module _ {A P : Type 0} (begins goes_on : Ahead → Bool) (value : Taking A) (si
       → value a ≡ found v b → goes_on b ≡ false → take s ≡ found (x.0 ++ v ∷ [], x.1) b
   last-turn s x a b v h e k m =
       h
-      ∙ ap (before x) (begun a b v e k
+      ∙ ap (before x) (turn_begins a b v e k
       ∙ ap
       (λ t. cond t (and_then (sign b) (λ p c. after_sign (weight a.trees) v p c))
       (found (v ∷ [], []) b))
@@ -103,7 +103,7 @@ module _ {A P : Type 0} (begins goes_on : Ahead → Bool) (value : Taking A) (si
   went a b c v p e h k m =
       let less = lower.less b c p m in
       let no_more = lighter.less a b v h in
-      begun a b v e h
+      turn_begins a b v e h
       ∙ ap
       (λ t. cond t (and_then (sign b) (λ q d. after_sign (weight a.trees) v q d))
       (found (v ∷ [], []) b))
@@ -141,7 +141,7 @@ module _ {A P : Type 0} (begins goes_on : Ahead → Bool) (value : Taking A) (si
       → take s ≡ missing words
   no-sign s x a b v words h e k m n =
       h
-      ∙ ap (before x) (begun a b v e k
+      ∙ ap (before x) (turn_begins a b v e k
       ∙ ap
       (λ t. cond t (and_then (sign b) (λ q d. after_sign (weight a.trees) v q d))
       (found (v ∷ [], []) b))

@@ -13,19 +13,19 @@ use Rattle.tok_buffer.proofs.View.Unmarked.{trees_ahead as forest_ahead}
 use Rattle.syn_punctuated.specs.Trees.{trees_ahead}
 
 -- the trees of a forest, and those ahead
-abbrev listed : Forest → List Tree
-listed no_trees = []
-listed (tree t f) = t ∷ listed f
+abbrev list_trees : Forest → List Tree
+list_trees no_trees = []
+list_trees (tree t f) = t ∷ list_trees f
 
-listed_forest : (ts : List Tree) → listed (forest ts) ≡ ts
+listed_forest : (ts : List Tree) → list_trees (forest ts) ≡ ts
 listed_forest [] = refl
 listed_forest (t ∷ ts) = ap (λ us. t ∷ us) (listed_forest ts)
 
 abbrev shown_at : Place → List Tree
-shown_at p = listed (forest_ahead p)
+shown_at p = list_trees (forest_ahead p)
 
 ahead_is : (p : Place) → trees_ahead p ≡ shown_at p
-ahead_is p = sym (listed_forest (trees_ahead p)) ∙ ap listed (plain-ahead p)
+ahead_is p = sym (listed_forest (trees_ahead p)) ∙ ap list_trees (plain-ahead p)
 
 -- what is read is the first ahead, and what is ahead after it follows
 abbrev Takes : List Tree → Option (List Tree × Place) → Type 0
@@ -42,7 +42,7 @@ take_is wanted none empty_place = tt
 take_is wanted none (at n s c (level o passed no_trees) ls) = tt
 take_is wanted none (at n s c (level o passed (tree (leaf l) f)) ls) =
     if_wanted (wanted (leaf l)) _ (leaf l) _
-    (ap (λ g. leaf l ∷ listed g)
+    (ap (λ g. leaf l ∷ list_trees g)
     (sym (trees_ahead-settle n s (c + 1) (level o (tree (leaf l) passed) f) ls)))
 take_is wanted none (at n s c (level o passed (tree (group d inside span) f)) ls) =
     rw (none d inside span) tt
@@ -50,7 +50,7 @@ take_is wanted none (at n s c (level o passed (tree (group d inside span) f)) ls
 one_is : (wanted : Tree → Bool) → IsOfLeaves wanted → (p : Place)
     → Takes (shown_at p) (read_if wanted (descend p))
 one_is wanted none p =
-    subst (λ f. Takes (listed f) (read_if wanted (descend p))) (trees_ahead-descend p)
+    subst (λ f. Takes (list_trees f) (read_if wanted (descend p))) (trees_ahead-descend p)
     (take_is wanted none (descend p))
 
 then_is : (ts : List Tree) (x : Option (List Tree × Place)) (g : Read)

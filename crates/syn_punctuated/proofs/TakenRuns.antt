@@ -99,14 +99,14 @@ module _ {T P F A S : Type 0} (rule : Rule) (reads : ValueCall F T) (separates :
         good = tells.stays_good turn.between turn.after p.1 good;
       }
 
-  chained : (start : State) (turns more : List (Turn T P F)) (f g : F) (s t : State)
+  chain_takes : (start : State) (turns more : List (Turn T P F)) (f g : F) (s t : State)
       → Chain rule reads separates f s more g t → Taken start turns s
       → Taken start (turns ++ more) t
-  chained start turns [] f g s t c so =
+  chain_takes start turns [] f g s t c so =
       subst (λ x. Taken start x t) (sym (append-nil turns)) (subst (Taken start turns) c.1 so)
-  chained start turns (turn ∷ more) f g s t c so =
+  chain_takes start turns (turn ∷ more) f g s t c so =
       subst (λ x. Taken start x t) (append_assoc turns (turn ∷ []) more)
-      (chained start (turns ++ turn ∷ []) more turn.parser g turn.after t c.2
+      (chain_takes start (turns ++ turn ∷ []) more turn.parser g turn.after t c.2
       (step start turns f s turn so c.0))
 
   as-list : (turns : List (Turn T P F)) (more : List T) (list : Punctuated T P)
@@ -118,17 +118,17 @@ module _ {T P F A S : Type 0} (rule : Rule) (reads : ValueCall F T) (separates :
       (map-append form (map turn_value turns) more)
       ∙ ap (λ ps. ((turns_form turns).0 ++ map form more, map shape ps)) h.1
 
-  lost : (start t : State) (r : Result (Punctuated T P) Fault) (e : Fault) → IsMemory e → r ≡ Err e
-      → TakesAs (list_form form shape) take start r t
-  lost start t r (Refused d) m h = absurd m
-  lost start t r (Memory d) m h =
+  memory_fails : (start t : State) (r : Result (Punctuated T P) Fault) (e : Fault) → IsMemory e
+      → r ≡ Err e → TakesAs (list_form form shape) take start r t
+  memory_fails start t r (Refused d) m h = absurd m
+  memory_fails start t r (Memory d) m h =
       subst (λ x. TakesAs (list_form form shape) take start x t) (sym h) (tt, λ i. tt)
 
-  ended : (start : State) (turns : List (Turn T P F)) (f : F) (s t : State)
+  ending_takes : (start : State) (turns : List (Turn T P F)) (f : F) (s t : State)
       (r : Result (Punctuated T P) Fault) → Taken start turns s
       → Ending rule reads separates f s turns r t
       → TakesAs (list_form form shape) take start r t
-  ended start turns f s t (Ok list) so (at_end q e h) = (
+  ending_takes start turns f s t (Ok list) so (at_end q e h) = (
     all-turns begins goes_on value sign lighter lower (ahead start) (turns_form turns) (ahead s)
         so.so_far
         (tells.ends_there s so.good q)
@@ -136,8 +136,8 @@ module _ {T P F A S : Type 0} (rule : Rule) (reads : ValueCall F T) (separates :
         ∙ ap (λ (u : State). found (list_form form shape list) (ahead u)) (sym e),
     subst (Stays start) (sym e) so.stays,
   )
-  ended start turns f s t (Err x) so (at_end q e h) = absurd h
-  ended start turns f s t (Ok list) so (bare v g b q h) =
+  ending_takes start turns f s t (Err x) so (at_end q e h) = absurd h
+  ending_takes start turns f s t (Ok list) so (bare v g b q h) =
       let w = each f g s t (Ok v) so.good b.1 in (
         last-turn begins goes_on value sign lighter lower (ahead start) (turns_form turns) (ahead s)
             (ahead t)
@@ -146,8 +146,8 @@ module _ {T P F A S : Type 0} (rule : Rule) (reads : ValueCall F T) (separates :
             ∙ ap (λ x. found x (ahead t)) (sym (as-list turns (v ∷ []) list h)),
         stays-along start s t so.stays w.1,
       )
-  ended start turns f s t (Err x) so (bare v g b q h) = absurd h
-  ended start turns f s t r so (value_refused e g b q) =
+  ending_takes start turns f s t (Err x) so (bare v g b q h) = absurd h
+  ending_takes start turns f s t r so (value_refused e g b q) =
       subst (λ x. TakesAs (list_form form shape) take start x t) (sym q)
       (fails_on (value (ahead s)) (take (ahead start))
       (λ words k. no-value begins goes_on value sign lighter lower (ahead start) (turns_form turns)
@@ -155,7 +155,7 @@ module _ {T P F A S : Type 0} (rule : Rule) (reads : ValueCall F T) (separates :
       words so.so_far (tells.begins_there s so.good b.0) k) e (IsFilled s.place)
       (IsFilled start.place)
       so.stays.0 (each f g s t (Err e) so.good b.1))
-  ended start turns f s t r so (separator_refused v g m e b q p h) =
+  ending_takes start turns f s t r so (separator_refused v g m e b q p h) =
       let w = each f g s m (Ok v) so.good b.1 in
       let good = tells.stays_good s m w.1 so.good in
       subst (λ x. TakesAs (list_form form shape) take start x t) (sym h)
@@ -165,9 +165,9 @@ module _ {T P F A S : Type 0} (rule : Rule) (reads : ValueCall F T) (separates :
       (ahead m) (form v) words so.so_far (tells.begins_there s so.good b.0) w.0
       (tells.goes_on_there m good q) k) e (IsFilled m.place) (IsFilled start.place)
       (λ i. w.1.0 (so.stays.0 i)) (signs m t (Err e) good p))
-  ended start turns f s t r so (value_lost v g e b q p h) = lost start t r e p h
-  ended start turns f s t r so (turn_lost turn e i q p h) = lost start t r e p h
-  ended start turns f s t r so (stuck turn e i q n w h) =
+  ending_takes start turns f s t r so (value_lost v g e b q p h) = memory_fails start t r e p h
+  ending_takes start turns f s t r so (turn_lost turn e i q p h) = memory_fails start t r e p h
+  ending_takes start turns f s t r so (stuck turn e i q n w h) =
       let v = each f turn.parser s turn.between (Ok turn.value) so.good i.opens.1 in
       let good = tells.stays_good s turn.between v.1 so.good in
       let p = signs turn.between turn.after (Ok turn.separator) good i.closes in
@@ -181,8 +181,8 @@ module _ {T P F A S : Type 0} (rule : Rule) (reads : ValueCall F T) (separates :
   pub run_takes : (f : F) (s t : State) (r : Result (Punctuated T P) Fault) → Good s
       → IsRun rule reads separates f s r t → TakesAs (list_form form shape) take s r t
   run_takes f s t r good i =
-      ended s i.turns i.parser i.last t r
-      (chained s [] i.turns f i.parser s i.last i.chain
+      ending_takes s i.turns i.parser i.last t r
+      (chain_takes s [] i.turns f i.parser s i.last i.chain
       (record {
         so_far = no-turns begins goes_on value sign lighter lower (ahead s);
         stays = (λ filled. filled, refl, omega arith);

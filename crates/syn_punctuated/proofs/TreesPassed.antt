@@ -71,50 +71,50 @@ module _ {T P : Type 0} (sources : T → List (List Tree)) (between : P → List
               (trees_ahead turn.after.place) (trees_ahead t.place) v.0 p.0 rest.0 v.2 p.2 rest.2,
         )
 
-    listed : (turns : List TheTurn) (more : List T) (list : Punctuated T P) (s t : State)
+    list_passes : (turns : List TheTurn) (more : List T) (list : Punctuated T P) (s t : State)
         → values_of list ≡ map turn_value turns ++ more
         → separators_of list ≡ map turn_separator turns
         → (ts : List Tree) × AreTreesOf sources between (map turn_value turns ++ more)
         (map turn_separator turns) ts × Passes ts s t → PassesList sources between list s t
-    listed turns more list s t v w h = (h.0, rw (v, w) h.1, h.2)
+    list_passes turns more list s t v w h = (h.0, rw (v, w) h.1, h.2)
 
-    passed : (turns : List TheTurn) (f g : Unit {0}) (s m t : State) (list : Punctuated T P)
+    run_passes : (turns : List TheTurn) (f g : Unit {0}) (s m t : State) (list : Punctuated T P)
         → Chain rule value_reads separators f s turns g m
         → Ending rule value_reads separators g m turns (Ok list) t
         → PassesList sources between list s t
-    passed turns f g s m t list c (at_end i q h) =
-        listed turns [] list s t h.0 h.1 (follow turns f g s m t [] [] c (refl, refl)
+    run_passes turns f g s m t list c (at_end i q h) =
+        list_passes turns [] list s t h.0 h.1 (follow turns f g s m t [] [] c (refl, refl)
         (ap (λ (z : State). trees_ahead z.place) (sym q)))
-    passed turns f g s m t list c (bare v k b i h) = let w =
-        told m t v b.1 in listed turns (v ∷ []) list s t h.0 h.1
+    run_passes turns f g s m t list c (bare v k b i h) = let w =
+        told m t v b.1 in list_passes turns (v ∷ []) list s t h.0 h.1
         (follow turns f g s m t (v ∷ []) w.0 c (refl, w.1) w.2)
-    passed turns f g s m t list c (value_refused e k b q) = absurd (ok_is_no_err list e q)
-    passed turns f g s m t list c (separator_refused v k u e b i h q) =
+    run_passes turns f g s m t list c (value_refused e k b q) = absurd (ok_is_no_err list e q)
+    run_passes turns f g s m t list c (separator_refused v k u e b i h q) =
         absurd (ok_is_no_err list e q)
-    passed turns f g s m t list c (value_lost v k e b i h q) = absurd (ok_is_no_err list e q)
-    passed turns f g s m t list c (turn_lost turn e i q h j) = absurd (ok_is_no_err list e j)
-    passed turns f g s m t list c (stuck turn e i q u h j) = absurd (ok_is_no_err list e j)
+    run_passes turns f g s m t list c (value_lost v k e b i h q) = absurd (ok_is_no_err list e q)
+    run_passes turns f g s m t list c (turn_lost turn e i q h j) = absurd (ok_is_no_err list e j)
+    run_passes turns f g s m t list c (stuck turn e i q u h j) = absurd (ok_is_no_err list e j)
 
-  left : (turns : List TheTurn) (g : Unit {0}) (m t : State) (list : Punctuated T P)
+  ends_at_end : (turns : List TheTurn) (g : Unit {0}) (m t : State) (list : Punctuated T P)
       → Ending terminated value_reads separators g m turns (Ok list) t → is_at_end t.place ≡ true
-  left turns g m t list (at_end i q h) = ap (λ (z : State). is_at_end z.place) q ∙ i
-  left turns g m t list (bare v k b i h) = i
-  left turns g m t list (value_refused e k b q) = absurd (ok_is_no_err list e q)
-  left turns g m t list (separator_refused v k u e b i h q) = absurd (ok_is_no_err list e q)
-  left turns g m t list (value_lost v k e b i h q) = absurd (ok_is_no_err list e q)
-  left turns g m t list (turn_lost turn e i q h j) = absurd (ok_is_no_err list e j)
-  left turns g m t list (stuck turn e i q u h j) = absurd (ok_is_no_err list e j)
+  ends_at_end turns g m t list (at_end i q h) = ap (λ (z : State). is_at_end z.place) q ∙ i
+  ends_at_end turns g m t list (bare v k b i h) = i
+  ends_at_end turns g m t list (value_refused e k b q) = absurd (ok_is_no_err list e q)
+  ends_at_end turns g m t list (separator_refused v k u e b i h q) = absurd (ok_is_no_err list e q)
+  ends_at_end turns g m t list (value_lost v k e b i h q) = absurd (ok_is_no_err list e q)
+  ends_at_end turns g m t list (turn_lost turn e i q h j) = absurd (ok_is_no_err list e j)
+  ends_at_end turns g m t list (stuck turn e i q u h j) = absurd (ok_is_no_err list e j)
 
   pub lists_have_their_trees : (peeks : Place → Bool → Type 0)
       → ListsHaveTheirTrees sources between values separators peeks
   lists_have_their_trees peeks told parts s t list = (
     λ run. (
-      passed terminated told parts run.turns tt run.parser s run.last t list run.chain
+      run_passes terminated told parts run.turns tt run.parser s run.last t list run.chain
           run.ending,
-      left run.turns run.parser run.last t list run.ending,
+      ends_at_end run.turns run.parser run.last t list run.ending,
     ),
-    λ run. passed (separated peeks) told parts run.turns tt run.parser s run.last t list run.chain
-        run.ending,
+    λ run. run_passes (separated peeks) told parts run.turns tt run.parser s run.last t list
+        run.chain run.ending,
   )
 
 -- identifiers
@@ -135,9 +135,10 @@ idents_state_trees s t i h = ident_read _ s t i (read_word accept_as_ident s.pla
 abbrev IsTaken : (Tree → Type 0) → Option (List Tree × Place) → Type 0
 IsTaken Wanted r = IfSome r (λ x. (t : Tree) × Wanted t × (x.0 ≡ t ∷ []))
 
-taken : (wanted : Tree → Bool) (Wanted : Tree → Type 0) → ((t : Tree) → wanted t ≡ true → Wanted t)
+wanted_is_taken : (wanted : Tree → Bool) (Wanted : Tree → Type 0)
+    → ((t : Tree) → wanted t ≡ true → Wanted t)
     → (p : Place) → IsTaken Wanted (reads.read_if wanted p)
-taken wanted Wanted is p = by (front p)
+wanted_is_taken wanted Wanted is p = by (front p)
   where
     if_wanted : (t : Tree) (b : Bool) → wanted t ≡ b
         → IsTaken Wanted (cond b (Some (t ∷ [], pass p)) None)
@@ -205,13 +206,14 @@ then_spelled c d cs (Some x) g h k = go (g x.1) (k x.1) where
   go None e = tt
   go (Some q) e = more_spelled c d cs h.0 x.0 q.0 (x.0 ++ q.0) h.1 h.2 e refl
 
-spelled : (text : List ℕ) (p : Place) → Spells text (read_punctuation text p)
-spelled [] p = tt
-spelled (c ∷ []) p = one_spelled c (reads.read_if (is_punct_of c) (descend p))
-    (taken (is_punct_of c) (IsPunctOf c) (of_single c) (descend p))
-spelled (c ∷ (d ∷ cs)) p = then_spelled c d cs (reads.read_if (is_joint_of c) (descend p))
-    (read_punctuation (d ∷ cs)) (taken (is_joint_of c) (IsJointOf c) (of_joint c) (descend p))
-    (spelled (d ∷ cs))
+text_spelled : (text : List ℕ) (p : Place) → Spells text (read_punctuation text p)
+text_spelled [] p = tt
+text_spelled (c ∷ []) p = one_spelled c (reads.read_if (is_punct_of c) (descend p))
+    (wanted_is_taken (is_punct_of c) (IsPunctOf c) (of_single c) (descend p))
+text_spelled (c ∷ (d ∷ cs)) p = then_spelled c d cs (reads.read_if (is_joint_of c) (descend p))
+    (read_punctuation (d ∷ cs))
+    (wanted_is_taken (is_joint_of c) (IsJointOf c) (of_joint c) (descend p))
+    (text_spelled (d ∷ cs))
 
 module _ (k n : ℕ) where
   is_source : (p : Punctuation k n) (ts : List Tree) → AreSpans p.spans ts
@@ -238,4 +240,4 @@ module _ (k n : ℕ) where
       (punctuation_word k n)) punctuation_sources
   punctuations_state_trees s t p h = punctuation_read s t p (read_punctuation (punctuation_word k n)
       s.place) (reading_takes (of_punctuation (punctuation_word k n)) s.place)
-      (spelled (punctuation_word k n) s.place) h
+      (text_spelled (punctuation_word k n) s.place) h

@@ -40,12 +40,12 @@ set_first xs ys zs x y =
 
 -- bs are the entries xs with some entry in the place of the opening e, ys are those with the
 -- group's inside, and zs those with its closing z
-pub filled : (xs bs ys zs : List Entry) (first e z : Entry) (d : Delimiter) (f : Forest)
+pub fill_lays : (xs bs ys zs : List Entry) (first e z : Entry) (d : Delimiter) (f : Forest)
     (s o c : Span) (t : Tree) (at begin to n k : ℕ) → begin ≡ at → bs ≡ xs ++ first ∷ []
     → n ≡ length xs → ys ≡ bs ++ entries at f → k ≡ length ys → to ≡ at + length (texts f)
     → c ≡ closing_span s → z ≡ edge 4 d c to (k - n) → zs ≡ ys ++ z ∷ [] → o ≡ opening_span s
     → e ≡ edge 3 d o begin (k - n) → t ≡ group d f s → set zs n e ≡ xs ++ tree_entries at t
-filled xs bs ys zs first e z d f s o c t at begin to n k eb hb hn hy hk ht ec ez hz eo ee et =
+fill_lays xs bs ys zs first e z d f s o c t at begin to n k eb hb hn hy hk ht ec ez hz eo ee et =
     let off : k - n ≡ weight f + 1 =
     omega (
       arith,

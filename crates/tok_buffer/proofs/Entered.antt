@@ -26,25 +26,25 @@ settle_rests n s c (level o p (tree t f)) (u ∷ us) = refl
 abbrev Enters : Place → Place → Type 0
 Enters p q = Descends p q × (is_before_invisible q ≡ false)
 
-stopped : (p q : Place) → q ≡ p → is_before_invisible p ≡ false → Enters p q
-stopped p q e h = subst (Enters p) (sym e) (stop p h, h)
+enters_at_once : (p q : Place) → q ≡ p → is_before_invisible p ≡ false → Enters p q
+enters_at_once p q e h = subst (Enters p) (sym e) (stop p h, h)
 
 enters_down : (fuel : ℕ) (p : Place) → remaining p ≤ fuel → at_rest p ≡ true → Enters p (descend p)
 enters_down fuel empty_place h r = (stop empty_place refl, refl)
 enters_down fuel (at n s c (level o p no_trees) ls) h r =
-    stopped _ _ (descend_done n s c (level o p no_trees) ls r refl) refl
+    enters_at_once _ _ (descend_done n s c (level o p no_trees) ls r refl) refl
 enters_down fuel (at n s c (level o p (tree (leaf l) f)) ls) h r =
-    stopped _ _ (descend_done n s c (level o p (tree (leaf l) f)) ls r refl) refl
+    enters_at_once _ _ (descend_done n s c (level o p (tree (leaf l) f)) ls r refl) refl
 enters_down fuel (at n s c (level o p (tree (group delimiter.Parenthesis inside span) f)) ls) h
-    r = stopped _ _
+    r = enters_at_once _ _
     (descend_done n s c (level o p (tree (group delimiter.Parenthesis inside span) f)) ls r refl)
     refl
 enters_down fuel (at n s c (level o p (tree (group delimiter.Brace inside span) f)) ls) h r =
-    stopped _ _ (descend_done n s c (level o p (tree (group delimiter.Brace inside span) f)) ls r
-    refl) refl
+    enters_at_once _ _
+    (descend_done n s c (level o p (tree (group delimiter.Brace inside span) f)) ls r refl) refl
 enters_down fuel (at n s c (level o p (tree (group delimiter.Bracket inside span) f)) ls) h r =
-    stopped _ _ (descend_done n s c (level o p (tree (group delimiter.Bracket inside span) f)) ls
-    r refl) refl
+    enters_at_once _ _
+    (descend_done n s c (level o p (tree (group delimiter.Bracket inside span) f)) ls r refl) refl
 enters_down zero (at n s c (level o p (tree (group delimiter.None inside span) f)) ls) h r =
     absurd (omega (arith, h))
 enters_down (suc k) (at n s c (level o p (tree (group delimiter.None inside span) f)) ls) h r =

@@ -142,10 +142,10 @@ module _ (F : Forest) (n s : ℕ) (g : Sort) (k : ℕ) (h : in_scope F n s ≡ t
       subst (λ z. in_scope F (n + z + 1) s ≡ true) (sym w.2.1)
       (after_within F n s g.delimiter g.span w.0 w.1 h w.2.0)
 
-  pub entered : (m : ℕ) (a b : Place) → a ≡ place_at m F (n + 1) (n + k) →
+  pub held_enters : (m : ℕ) (a b : Place) → a ≡ place_at m F (n + 1) (n + k) →
       b ≡ settled (place_at m F (n + k + 1) s) → enter_any (place_at m F n s)
       ≡ Some (record { delimiter = g.delimiter; span = g.span; content = a; after = b })
-  entered m a b ea eb =
+  held_enters m a b ea eb =
       let w = group_front (levels_at F n).0 g k e in
       let us = up_to (end_of n (levels_at F n).0) s (levels_at F n).1 in
       let held : Place → Place → Option Entered =

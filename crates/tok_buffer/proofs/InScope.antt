@@ -200,9 +200,9 @@ settle-count k s n (level o p no_trees) (u ∷ us) =
 settle-count k s n (level o p (tree t f)) (u ∷ us) = (omega arith, refl)
 
 -- what a step of a cursor leaves, in numbers
-pub stepped : (k s n : ℕ) (l : Level) (us : List Level) (q : Place) →
+pub later_in_scope : (k s n : ℕ) (l : Level) (us : List Level) (q : Place) →
     q ≡ settled (advance (at k s n l us)) → (n + 1 ≤ count_of q) × (scope_of q ≡ s)
-stepped k s n l us q e =
+later_in_scope k s n l us q e =
     let r = settle-count k s (n + 1) (move l us).0 (move l us).1 in
     (omega (arith, ap count_of e, r.0), ap scope_of e ∙ r.1)
 

@@ -94,11 +94,11 @@ set_first xs ys zs x y =
     ap (λ w. set w (length xs) y) (append_assoc (xs ++ x ∷ []) ys zs
     ∙ append_assoc xs (x ∷ []) (ys ++ zs)) ∙ set_at xs x (ys ++ zs) y (length xs) refl
 
-pub filled : (xs : List Entry) (d : Delimiter) (p : Span) (c : Forest) (ys zs : List Entry)
+pub fill_lays : (xs : List Entry) (d : Delimiter) (p : Span) (c : Forest) (ys zs : List Entry)
     (n k : ℕ) → n ≡ length xs → ys ≡ (xs ++ End 0 ∷ []) ++ layout c → k ≡ length ys →
     zs ≡ ys ++ End (k - n) ∷ [] → set zs n (Group (record { delimiter = d; span = p }) (k - n))
     ≡ xs ++ layout (tree (group d c p) no_trees)
-filled xs d p c ys zs n k hn hy hk hz =
+fill_lays xs d p c ys zs n k hn hy hk hz =
     let off : k - n ≡ weight c + 1 = omega (
       arith,
       length-append (xs ++ End 0 ∷ []) (layout c),

@@ -14,7 +14,7 @@ use Rattle.tok_buffer.specs.Private.Layout.{leaf_entry, layout, entries_of, laid
 use Rattle.tok_buffer.specs.Private.Layout.{but_last, last_of, levels_of, levels_in}
 use Rattle.tok_buffer.specs.Private.Layout.{stack_entries}
 use Rattle.tok_buffer.proofs.Layouts.{length-layout, layout-concat, stack_entries-append}
-use Rattle.tok_buffer.proofs.Layouts.{stack_entries-layout, filled}
+use Rattle.tok_buffer.proofs.Layouts.{stack_entries-layout, fill_lays}
 
 but_last-put : (f : Forest) (s : List Forest) (g : Forest) → but_last f (s ++ g ∷ []) ≡ f ∷ s
 but_last-put f [] g = refl
@@ -48,9 +48,9 @@ levels_are xs s f e = ap levels_in e ∙ ap levels_of (stack-laid s f) ∙ level
 abbrev IsBuilt : List Entry → List ℕ → Levels → Type 0
 IsBuilt xs ps s = (xs ≡ laid s.outer ++ layout s.inner) × (ps ≡ places 0 s.outer)
 
-pub built : (xs : List Entry) (ps : List ℕ) (s : Levels) → IsBuilt xs ps s →
+pub entries_built : (xs : List Entry) (ps : List ℕ) (s : Levels) → IsBuilt xs ps s →
     IsBuilt xs ps (levels_in xs)
-built xs ps s h = subst (IsBuilt xs ps) (sym (levels_are xs s.outer s.inner h.0)) h
+entries_built xs ps s h = subst (IsBuilt xs ps) (sym (levels_are xs s.outer s.inner h.0)) h
 
 built_leaf : (xs ys : List Entry) (ps : List ℕ) (s : Levels) (l : Leaf) → IsBuilt xs ps s →
     ys ≡ xs ++ leaf_entry l ∷ [] → IsBuilt ys ps (add_leaf l s)
@@ -65,7 +65,8 @@ built_leaf xs ys ps s l (e, p) h = (
 module _ (xs ys : List Entry) (ps : List ℕ) (l : Leaf) (h : IsBuilt xs ps (levels_in xs))
     (y : ys ≡ xs ++ leaf_entry l ∷ []) where
   pub leaf_built : IsBuilt ys ps (levels_in ys)
-  leaf_built = built ys ps (add_leaf l (levels_in xs)) (built_leaf xs ys ps (levels_in xs) l h y)
+  leaf_built = entries_built ys ps (add_leaf l (levels_in xs))
+      (built_leaf xs ys ps (levels_in xs) l h y)
 
   pub leaf_shown : (old : Levels) → levels_in xs ≡ old → levels_in ys ≡ add_leaf l old
   leaf_shown old e = levels_are ys (levels_in xs).outer (add_leaf l (levels_in xs)).inner
@@ -115,16 +116,17 @@ built_open xs ys ps qs s (e, p) h q = (
 module _ (xs ys : List Entry) (ps qs : List ℕ) (h : IsBuilt xs ps (levels_in xs))
     (y : ys ≡ xs ++ End 0 ∷ []) (q : qs ≡ ps ++ length xs ∷ []) where
   pub open_built : IsBuilt ys qs (levels_in ys)
-  open_built = built ys qs (opened (levels_in xs)) (built_open xs ys ps qs (levels_in xs) h y q)
+  open_built = entries_built ys qs (opened (levels_in xs))
+      (built_open xs ys ps qs (levels_in xs) h y q)
 
   pub open_shown : (old : Levels) → levels_in xs ≡ old → levels_in ys ≡ opened old
   open_shown old e = levels_are ys (opened (levels_in xs)).outer no_trees
       (built_open xs ys ps qs (levels_in xs) h y q).0 ∙ ap opened e
 
 -- the last of a list, and what is before it
-parted : (f : Forest) (s : List Forest) → f ∷ s ≡ but_last f s ++ last_of f s ∷ []
-parted f [] = refl
-parted f (g ∷ s) = ap (λ w. f ∷ w) (parted g s)
+ends_in_last : (f : Forest) (s : List Forest) → f ∷ s ≡ but_last f s ++ last_of f s ∷ []
+ends_in_last f [] = refl
+ends_in_last f (g ∷ s) = ap (λ w. f ∷ w) (ends_in_last g s)
 
 one_end : {A : Type 0} (xs ys : List A) (x y : A) → xs ++ x ∷ [] ≡ ys ++ y ∷ [] → (xs ≡ ys)
     × (x ≡ y)
@@ -152,24 +154,24 @@ pub record Left (xs : List Entry) (ps : List ℕ) (n : ℕ) (s : Levels) : Type 
   pub places : ps ≡ places 0 outer
   pub entries : xs ≡ ((laid outer ++ layout before) ++ End 0 ∷ []) ++ layout s.inner
 
-pub left : (xs : List Entry) (os ps : List ℕ) (n : ℕ) (s : Levels) → IsBuilt xs os s →
+pub leaves_level : (xs : List Entry) (os ps : List ℕ) (n : ℕ) (s : Levels) → IsBuilt xs os s →
     0 < length s.outer → os ≡ ps ++ n ∷ [] → Left xs ps n s
-left xs os ps n s (e, p) some o = go s.outer refl some
+leaves_level xs os ps n s (e, p) some o = go s.outer refl some
   where
     go : (t : List Forest) → s.outer ≡ t → 0 < length t → Left xs ps n s
     go [] is some = absurd (omega (arith, some))
     go (f ∷ t) is some =
         let ends = one_end ps (places 0 (but_last f t)) n
         (length (laid (but_last f t) ++ layout (last_of f t)))
-        (sym o ∙ p ∙ ap (places 0) (is ∙ parted f t)
+        (sym o ∙ p ∙ ap (places 0) (is ∙ ends_in_last f t)
         ∙ first_place (but_last f t) (last_of f t)) in
         record {
           outer = but_last f t;
           before = last_of f t;
-          is = is ∙ parted f t;
+          is = is ∙ ends_in_last f t;
           place = ends.1;
           places = ends.0;
-          entries = e ∙ ap (λ w. w ++ layout s.inner) (ap laid (is ∙ parted f t)
+          entries = e ∙ ap (λ w. w ++ layout s.inner) (ap laid (is ∙ ends_in_last f t)
               ∙ laid-put (but_last f t) (last_of f t));
         }
 
@@ -195,7 +197,7 @@ module _ (xs ys : List Entry) (ps : List ℕ) (n k : ℕ) (s : Levels) (d : Deli
   pub built_close : IsBuilt (set ys n (Group (record { delimiter = d; span = p }) (k - n))) ps
       (record { outer = h.outer; inner = concat h.before (tree (group d s.inner p) no_trees) })
   built_close = (
-    filled (laid h.outer ++ layout h.before) d p s.inner xs ys n k h.place h.entries q y
+    fill_lays (laid h.outer ++ layout h.before) d p s.inner xs ys n k h.place h.entries q y
         ∙ append_assoc (laid h.outer) (layout h.before) (layout (tree (group d s.inner p) no_trees))
         ∙ ap (λ w. laid h.outer ++ w)
         (sym (layout-concat h.before (tree (group d s.inner p) no_trees))),
@@ -212,6 +214,7 @@ module _ (xs ys : List Entry) (ps : List ℕ) (n k : ℕ) (s : Levels) (d : Deli
       (h.before, h.is ∙ ap (λ w. w.outer ++ h.before ∷ []) (sym e), ap (λ w. w.inner) e)
 
 -- entries of one level alone, and an end after them
-pub ended : (xs ys : List Entry) (s : Levels) → xs ≡ laid s.outer ++ layout s.inner →
+pub end_completes : (xs ys : List Entry) (s : Levels) → xs ≡ laid s.outer ++ layout s.inner →
     s.outer ≡ [] → ys ≡ xs ++ End 0 ∷ [] → ys ≡ entries_of s.inner
-ended xs ys s e o y = y ∙ ap (λ w. w ++ End 0 ∷ []) (e ∙ ap (λ w. laid w ++ layout s.inner) o)
+end_completes xs ys s e o y =
+    y ∙ ap (λ w. w ++ End 0 ∷ []) (e ∙ ap (λ w. laid w ++ layout s.inner) o)

@@ -37,8 +37,8 @@ spot_measured (Some s) = measured_at s.buffer.now.number s.position s.scope
     (levels_at s.buffer.now.forest s.position).0 (levels_at s.buffer.now.forest s.position).1
     s.within
 
-measured : (c : Cursor) → IsCounted (place_of c)
-measured c = spot_measured c.spot
+cursor_measured : (c : Cursor) → IsCounted (place_of c)
+cursor_measured c = spot_measured c.spot
 
 none_lost : (p q : Place) → IsCounted p → IsCounted q → LosesNone p q
 none_lost p empty_place u v h = none_there p
@@ -60,4 +60,5 @@ none_lost (at n s c (level o p f) ls) (at m t d (level a b g) ks) u v h =
     both n m c d x y = ap (λ z. z && c == d) (eq-eqb n m x) ∙ eq-eqb c d y
 
 pub cursors_lose_none : CursorsLoseNone
-cursors_lose_none from to = none_lost (place_of from) (place_of to) (measured from) (measured to)
+cursors_lose_none from to =
+    none_lost (place_of from) (place_of to) (cursor_measured from) (cursor_measured to)

@@ -31,10 +31,10 @@ abbrev Since : (number scope count most : ℕ) → Place → Type 0
 Since n s c m empty_place = ⊥
 Since n s c m (at i t d l ls) = (i ≡ n) × (t ≡ s) × (c ≤ d) × (remaining (at i t d l ls) ≤ m)
 
-absorbed : (o : Owner) (p : Forest) (n s c d : ℕ) (u : Level) (us : List Level) →
+absorb_adds_nothing : (o : Owner) (p : Forest) (n s c d : ℕ) (u : Level) (us : List Level) →
     remaining (at n s c (absorb o p u) us) ≤ remaining (at n s d (level o p no_trees) (u ∷ us))
-absorbed whole p n s c d (level a b f) us = omega arith
-absorbed (in_group x t) p n s c d (level a b f) us = omega arith
+absorb_adds_nothing whole p n s c d (level a b f) us = omega arith
+absorb_adds_nothing (in_group x t) p n s c d (level a b f) us = omega arith
 
 some_weight : (t : Tree) → 1 ≤ tree_weight t
 some_weight (leaf l) = omega arith
@@ -47,7 +47,12 @@ module _ (n s c m : ℕ) where
     into = λ i t d o p inside span f ls h.
         (h.0, h.1, omega (arith, h.2), omega (arith, h.3));
     out = λ i t d o p l ls h.
-        (h.0, h.1, omega (arith, h.2), omega (arith, h.3, absorbed o p i t (d + 1) d l ls));
+        (
+          h.0,
+          h.1,
+          omega (arith, h.2),
+          omega (arith, h.3, absorb_adds_nothing o p i t (d + 1) d l ls),
+        );
   }
 
 module _ (n s c m : ℕ) where
@@ -234,13 +239,13 @@ chains (at n s c x xs) (at j t d l ls) (at i u e m ms) h k =
     (subst P (a.numbers ∙ b.numbers)
     (in_scope n s c e x m xs ms (omega (arith, a.counts, b.counts))))
 
-unordered : {A : Type 0} → None ≡ Some Less → A
-unordered h = cc
+none_not_less : {A : Type 0} → None ≡ Some Less → A
+none_not_less h = cc
 
-compared : (same : Bool) (o : Ordering) → cond same (Some o) None ≡ Some Less → (same ≡ true)
+same_and_less : (same : Bool) (o : Ordering) → cond same (Some o) None ≡ Some Less → (same ≡ true)
     × (o ≡ Less)
-compared true o h = (refl, ap (λ x. unwrap_or x o) h)
-compared false o h = unordered h
+same_and_less true o h = (refl, ap (λ x. unwrap_or x o) h)
+same_and_less false o h = none_not_less h
 
 less_than : (c d : ℕ) → nat_cmp c d ≡ Less → c < d
 less_than c d h = by (nat_cmp c d) (ranks c d) h
@@ -252,12 +257,12 @@ less_than c d h = by (nat_cmp c d) (ranks c d) h
 
 strictly : (p q r : Place) → StaysIn p q → order q r ≡ Some Less → order p r ≡ Some Less
 strictly p empty_place empty_place h k = absurd (false≢true (ap (λ x. is_some_and is_lt x) k))
-strictly p (at j t d l ls) empty_place h k = unordered k
-strictly p empty_place (at i u e m ms) h k = unordered k
+strictly p (at j t d l ls) empty_place h k = none_not_less k
+strictly p empty_place (at i u e m ms) h k = none_not_less k
 strictly empty_place (at j t d l ls) (at i u e m ms) h k = never_out j t d l ls h
 strictly (at n s c x xs) (at j t d l ls) (at i u e m ms) h k =
     let a = along n s c j t d x l xs ls h in
-    let b = compared (j == i) (nat_cmp d e) k in
+    let b = same_and_less (j == i) (nat_cmp d e) k in
     let f : d < e = less_than d e b.1 in
     let P : ℕ → Type 0 = λ z. order (at n s c x xs) (at z u e m ms) ≡ Some Less in
     subst P (a.numbers ∙ eqb-true j i b.0)
@@ -276,11 +281,11 @@ then_goes {read} r p q g =
 
 pub lies_nowhere : (q : Place) → GoesOn empty_place q → ⊥
 lies_nowhere empty_place g = false≢true (ap (λ x. is_some_and is_lt x) g.2)
-lies_nowhere (at i u e m ms) g = unordered g.2
+lies_nowhere (at i u e m ms) g = none_not_less g.2
 
 pub later_count : (n s c m t d : ℕ) (l k : Level) (ls ks : List Level)
     → GoesOn (at n s c l ls) (at m t d k ks) → c < d
-later_count n s c m t d l k ls ks g = less_than c d (compared (n == m) (nat_cmp c d) g.2).1
+later_count n s c m t d l k ls ks g = less_than c d (same_and_less (n == m) (nat_cmp c d) g.2).1
 
 -- a move that adds nothing
 abbrev Stays : Place → Place → Type 0
@@ -294,9 +299,9 @@ descents (at n s c l ls) =
     (kept-descend (Since n s c m) (kept_since n s c m) (at n s c l ls)
     (refl, refl, omega arith, omega arith))
 
-passed : (n s c : ℕ) (o : Owner) (p : Forest) (t : Tree) (f : Forest) (ls : List Level)
+pass_goes_on : (n s c : ℕ) (o : Owner) (p : Forest) (t : Tree) (f : Forest) (ls : List Level)
     → GoesOn (at n s c (level o p (tree t f)) ls) (pass (at n s c (level o p (tree t f)) ls))
-passed n s c o p t f ls =
+pass_goes_on n s c o p t f ls =
     goes_on n s c o p (tree t f) ls (pass (at n s c (level o p (tree t f)) ls))
     (past_since n s c (weight (tree t f) + remaining_around ls)
     (at n s c (level o p (tree t f)) ls) t refl (refl, refl, omega arith, omega arith))
@@ -306,7 +311,7 @@ passes empty_place = (inr refl, omega arith)
 passes (at n s c (level o p no_trees) ls) =
     (stays_here (at n s c (level o p no_trees) ls), omega arith)
 passes (at n s c (level o p (tree t f)) ls) =
-    let h = passed n s c o p t f ls in (h.0, omega (arith, h.1))
+    let h = pass_goes_on n s c o p t f ls in (h.0, omega (arith, h.1))
 
 pub moves_stay : MovesStay
 moves_stay = record {
@@ -330,7 +335,7 @@ any_goes_in (at n s c (level o p no_trees) ls) e h = cc
 any_goes_in (at n s c (level o p (tree (leaf l) f)) ls) e h = cc
 any_goes_in (at n s c (level o p (tree (group d inside span) f)) ls) e h =
     subst (GoesIn (at n s c (level o p (tree (group d inside span) f)) ls)) (entered_is _ e h)
-    (passed n s c o p (group d inside span) f ls, omega arith)
+    (pass_goes_on n s c o p (group d inside span) f ls, omega arith)
 
 of_any : (d : Delimiter) (x : Option Entered) (e : Entered) → entered_of d x ≡ Some e → x ≡ Some e
 of_any d None e h = cc
@@ -406,18 +411,18 @@ reads_go_later = record {
 }
 
 -- what stays in the scope and is later is not the empty place
-scoped : (p q : Place) → StaysIn p q → order p q ≡ Some Less → same_scope p q ≡ true
-scoped p q (inl h) k = h.0
-scoped empty_place empty_place (inr h) k = refl
-scoped (at n s c l ls) empty_place (inr h) k = unordered k
-scoped empty_place (at m t d x xs) (inr h) k = unordered k
-scoped (at n s c l ls) (at m t d x xs) (inr h) k = cc
+stays_in_scope : (p q : Place) → StaysIn p q → order p q ≡ Some Less → same_scope p q ≡ true
+stays_in_scope p q (inl h) k = h.0
+stays_in_scope empty_place empty_place (inr h) k = refl
+stays_in_scope (at n s c l ls) empty_place (inr h) k = none_not_less k
+stays_in_scope empty_place (at m t d x xs) (inr h) k = none_not_less k
+stays_in_scope (at n s c l ls) (at m t d x xs) (inr h) k = cc
 
-pub kept : (p q : Place) → GoesOn p q → same_scope p q ≡ true
-kept p q g = scoped p q g.0 g.2
+pub keeps_scope : (p q : Place) → GoesOn p q → same_scope p q ≡ true
+keeps_scope p q g = stays_in_scope p q g.0 g.2
 
 read_kept : (read : Read) → AllGoOn read → KeepsScope read
-read_kept read on p ts q e = kept p q (read_on read on p ts q e)
+read_kept read on p ts q e = keeps_scope p q (read_on read on p ts q e)
 
 kept_along :
     (p q r : Place) → same_scope p q ≡ true → same_scope q r ≡ true → same_scope p r ≡ true
@@ -440,8 +445,8 @@ reads_keep_scope = record {
   punctuations = λ text. read_kept _ (reading_goes (of_punctuation text));
   trees = read_kept _ (take_goes any_tree);
   taken = λ wanted. read_kept _ (take_goes wanted);
-  skips = λ p q e. kept p q (skips_on p q e);
-  groups = λ d p e h. kept p e.after (goes_in d p e h).0;
-  any_groups = λ p e h. kept p e.after (any_goes_in p e h).0;
+  skips = λ p q e. keeps_scope p q (skips_on p q e);
+  groups = λ d p e h. keeps_scope p e.after (goes_in d p e h).0;
+  any_groups = λ p e h. keeps_scope p e.after (any_goes_in p e h).0;
   along = kept_along;
 }

@@ -52,10 +52,10 @@ pub record Taken (old new : Stack) (t : Tree) : Type 0 where
   pub same : pending old ≡ concat (erase (tree t no_trees)) (pending new)
   pub weight : pending_weight old ≡ tree_weight t + pending_weight new
 
-pub taken : (old new rest : Stack) (top left : Bor (List TokenTree)) (t : TokenTree) →
+pub takes_top : (old new rest : Stack) (top left : Bor (List TokenTree)) (t : TokenTree) →
     old ≡ rest ++ top ∷ [] → top.now ≡ t ∷ left.now → new ≡ rest ++ left ∷ [] →
     Taken old new (tree_of t)
-taken old new rest top left t e h n = record {
+takes_top old new rest top left t e h n = record {
   same = ap pending e ∙ pending_append rest top
       ∙ ap (λ ts. concat (erase (trees_of ts)) (pending rest)) h
       ∙ ap (λ f. concat f (pending rest)) (erase_tree (tree_of t) (trees_of left.now))
@@ -73,11 +73,11 @@ taken old new rest top left t e h n = record {
 }
 
 -- an invisible group taken from the top, whose content comes in its place
-pub entered : (old mid new : Stack) (t : Tree) (inside : Forest) (span : Span)
+pub content_stands_in : (old mid new : Stack) (t : Tree) (inside : Forest) (span : Span)
     (content : Bor (List TokenTree)) → Taken old mid t → t ≡ group None inside span →
     trees_of content.now ≡ inside → new ≡ mid ++ content ∷ []
     → (pending new ≡ pending old) × (pending_weight new + 2 ≡ pending_weight old)
-entered old mid new t inside span content h is e n = (
+content_stands_in old mid new t inside span content h is e n = (
   ap pending n ∙ pending_append mid content ∙ ap (λ f. concat (erase f) (pending mid)) e
       ∙ ap (λ f. concat f (pending mid)) (sym (concat-none (erase inside)))
       ∙ sym (h.same ∙ ap (λ u. concat (erase (tree u no_trees)) (pending mid)) is),

@@ -40,7 +40,7 @@ module _ (d e : Delimiter) (f g : Forest) (s r : Span) (seen_d : IsVisible (grou
       ∙ ap (λ x. tree (group e x s) no_trees) h ∙ ap (λ x. tree (group e (erase g) x) no_trees) b
       ∙ sym (erased_group e g r seen_e)
 
-pub answered : {P Q : Bool → Type 0} (r : Result Bool AllocError) → ((b : Bool) → P b → Q b) →
+pub if_ok_follows : {P Q : Bool → Type 0} (r : Result Bool AllocError) → ((b : Bool) → P b → Q b) →
     IfOk r P → IfOk r Q
-answered (Ok b) h p = h b p
-answered (Err x) h p = p
+if_ok_follows (Ok b) h p = h b p
+if_ok_follows (Err x) h p = p

@@ -36,14 +36,14 @@ tells (c ∷ cs) h = and_parts _ _ h where
   and_parts true b h = (refl, h)
   and_parts false b h = absurd (false≢true h)
 
-told : (cs : List ℕ) → IsIdentifier cs → is_identifier cs ≡ true
-told [] h = absurd h
-told (c ∷ cs) h = ap (λ b. b && list_all is_xid_continue cs) h.0 ∙ h.1
+tells_identifier : (cs : List ℕ) → IsIdentifier cs → is_identifier cs ≡ true
+tells_identifier [] h = absurd h
+tells_identifier (c ∷ cs) h = ap (λ b. b && list_all is_xid_continue cs) h.0 ∙ h.1
 
-decided : (cs : List ℕ) (b : Bool) → is_identifier cs ≡ b → (is_identifier cs ≡ true)
+identifier_or_not : (cs : List ℕ) (b : Bool) → is_identifier cs ≡ b → (is_identifier cs ≡ true)
     ⊎ (IsIdentifier cs → ⊥)
-decided cs true e = inl e
-decided cs false e = inr (λ h. false≢true (sym e ∙ told cs h))
+identifier_or_not cs true e = inl e
+identifier_or_not cs false e = inr (λ h. false≢true (sym e ∙ tells_identifier cs h))
 
 plain_made : (cs : List ℕ) → is_identifier cs ≡ true → plain_error cs ≡ None
 plain_made [] h = absurd (false≢true h)
@@ -74,7 +74,7 @@ plain_fault bs Refused u h takes refuses =
     (not_told (chars bs) (is_identifier (chars bs)) refl
     (λ i. let wrong : Refused ≡ Memory = takes i in cc))
 plain_fault bs Memory u h takes refuses =
-    elim (decided (chars bs) (is_identifier (chars bs)) refl) [
+    elim (identifier_or_not (chars bs) (is_identifier (chars bs)) refl) [
       | inl e ↦ plain_made (chars bs) e
       | inr never ↦ let wrong : Memory ≡ Refused = refuses never in cc
     ]

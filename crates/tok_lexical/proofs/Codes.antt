@@ -105,17 +105,17 @@ too_large all rest value count s l n =
     (value_grows value rest) in
     elim (scalar_cases (hex_value all) n.scalar) [ inl e ↦ omega arith | inr e ↦ omega arith ]
 
-pub counted : (all rest : List ℕ) (value count : ℕ) → Counts all rest value count → rest ≡ [] →
-    (hex_value all ≡ value) × (count_by is_hex all ≤ 6)
-counted all rest value count s e =
+pub counts_all_digits : (all rest : List ℕ) (value count : ℕ) → Counts all rest value count →
+    rest ≡ [] → (hex_value all ≡ value) × (count_by is_hex all ≤ 6)
+counts_all_digits all rest value count s e =
     let v : hex_value all ≡ value = sym s.value_is ∙ ap (fold value_step value) e in
     let k : count_by is_hex all ≡ count = sym s.count_is ∙ ap (fold count_step count) e in
     let f = s.few in
     (v, omega arith)
 
-pub named : (all rest : List ℕ) (value count : ℕ) → Counts all rest value count → rest ≡ [] →
+pub names_scalar : (all rest : List ℕ) (value count : ℕ) → Counts all rest value count → rest ≡ [] →
     IsScalar value → NamesChar all
-named all rest value count s e h = let w = counted all rest value count s e in
+names_scalar all rest value count s e h = let w = counts_all_digits all rest value count s e in
     record { few = w.1; scalar = subst IsScalar (sym w.0) h }
 
 pub code_found : (text start second after rest digits : List ℕ) (first : ℕ) →

@@ -19,17 +19,18 @@ heads a b x y e = cc
 pub tails : (a b : ℕ) (x y : List ℕ) → a ∷ x ≡ b ∷ y → x ≡ y
 tails a b x y e = cc
 
-pub moved : (a b p q x y : List ℕ) → a ≡ p → b ≡ q → a ++ x ≡ b ++ y → p ++ x ≡ q ++ y
-moved a b p q x y e f g = ap (λ w. w ++ x) (sym e) ∙ g ∙ ap (λ w. w ++ y) f
+pub fronts_swap : (a b p q x y : List ℕ) → a ≡ p → b ≡ q → a ++ x ≡ b ++ y → p ++ x ≡ q ++ y
+fronts_swap a b p q x y e f g = ap (λ w. w ++ x) (sym e) ∙ g ∙ ap (λ w. w ++ y) f
 
 pub free_one : (p : ℕ → Bool) → IsFree (IsOne p)
 free_one p a b (c, h, e) (d, k, f) x y g =
-    let whole : c ∷ x ≡ d ∷ y = moved a b (c ∷ []) (d ∷ []) x y e f g in
+    let whole : c ∷ x ≡ d ∷ y = fronts_swap a b (c ∷ []) (d ∷ []) x y e f g in
     (e ∙ ap (λ w. w ∷ []) (heads c d x y whole) ∙ sym f, tails c d x y whole)
 
 pub free_after : (k : ℕ) (S : List ℕ → Type 0) → IsFree S → IsFree (After k S)
 free_after k S free a b (more, e, s) (other, f, t) x y g =
-    let whole : k ∷ (more ++ x) ≡ k ∷ (other ++ y) = moved a b (k ∷ more) (k ∷ other) x y e f g in
+    let whole : k ∷ (more ++ x) ≡ k ∷ (other ++ y) =
+    fronts_swap a b (k ∷ more) (k ∷ other) x y e f g in
     let w = free more other s t x y (tails k k (more ++ x) (other ++ y) whole) in
     (e ∙ ap (λ v. k ∷ v) w.0 ∙ sym f, w.1)
 
@@ -50,7 +51,7 @@ all_stop p k (c ∷ xs) (d ∷ ys) x y n a b e =
 
 free_hex : (top : ℕ) → IsFree (IsHex top)
 free_hex top a b (h, l, e, s, t) (h', l', f, s', t') x y g =
-    let whole : h ∷ l ∷ x ≡ h' ∷ l' ∷ y = moved a b (h ∷ l ∷ []) (h' ∷ l' ∷ []) x y e f g in
+    let whole : h ∷ l ∷ x ≡ h' ∷ l' ∷ y = fronts_swap a b (h ∷ l ∷ []) (h' ∷ l' ∷ []) x y e f g in
     let inner : l ∷ x ≡ l' ∷ y = tails h h' (l ∷ x) (l' ∷ y) whole in (
       e ∙ ap (λ w. w ∷ l ∷ []) (heads h h' (l ∷ x) (l' ∷ y) whole)
           ∙ ap (λ w. h' ∷ w ∷ []) (heads l l' x y inner) ∙ sym f,
@@ -60,7 +61,7 @@ free_hex top a b (h, l, e, s, t) (h', l', f, s', t') x y g =
 free_code : IsFree IsCode
 free_code a b (c, ds, e, h, all, n) (c', ds', f, h', all', n') x y g =
     let whole : 123 ∷ c ∷ ((ds ++ 125 ∷ []) ++ x) ≡ 123 ∷ c' ∷ ((ds' ++ 125 ∷ []) ++ y) =
-    moved a b (123 ∷ c ∷ (ds ++ 125 ∷ [])) (123 ∷ c' ∷ (ds' ++ 125 ∷ [])) x y e f g in
+    fronts_swap a b (123 ∷ c ∷ (ds ++ 125 ∷ [])) (123 ∷ c' ∷ (ds' ++ 125 ∷ [])) x y e f g in
     let second : c ∷ ((ds ++ 125 ∷ []) ++ x) ≡ c' ∷ ((ds' ++ 125 ∷ []) ++ y) =
     tails 123 123 _ _ whole in
     let inner : (ds ++ 125 ∷ []) ++ x ≡ (ds' ++ 125 ∷ []) ++ y = tails c c' _ _ second in
@@ -73,15 +74,17 @@ free_code a b (c, ds, e, h, all, n) (c', ds', f, h', all', n') x y g =
 
 free_line_end : IsFree IsLineEnd
 free_line_end a b (inl e) (inl f) x y g =
-    (e ∙ sym f, tails 10 10 x y (moved a b (10 ∷ []) (10 ∷ []) x y e f g))
+    (e ∙ sym f, tails 10 10 x y (fronts_swap a b (10 ∷ []) (10 ∷ []) x y e f g))
 free_line_end a b (inl e) (inr f) x y g =
-    absurd (omega (arith, heads 10 13 x (10 ∷ y) (moved a b (10 ∷ []) (13 ∷ 10 ∷ []) x y e f g)))
+    absurd (omega
+    (arith, heads 10 13 x (10 ∷ y) (fronts_swap a b (10 ∷ []) (13 ∷ 10 ∷ []) x y e f g)))
 free_line_end a b (inr e) (inl f) x y g =
-    absurd (omega (arith, heads 13 10 (10 ∷ x) y (moved a b (13 ∷ 10 ∷ []) (10 ∷ []) x y e f g)))
+    absurd (omega
+    (arith, heads 13 10 (10 ∷ x) y (fronts_swap a b (13 ∷ 10 ∷ []) (10 ∷ []) x y e f g)))
 free_line_end a b (inr e) (inr f) x y g = (
   e ∙ sym f,
   tails 10 10 x y
-      (tails 13 13 (10 ∷ x) (10 ∷ y) (moved a b (13 ∷ 10 ∷ []) (13 ∷ 10 ∷ []) x y e f g)),
+      (tails 13 13 (10 ∷ x) (10 ∷ y) (fronts_swap a b (13 ∷ 10 ∷ []) (13 ∷ 10 ∷ []) x y e f g)),
 )
 
 no_simple : (c k : ℕ) → c ≡ k → is_simple_escape k ≡ false → is_simple_escape c ≡ true → ⊥
@@ -179,9 +182,10 @@ not_backslash c e h = false≢true (ap is_byte (sym e) ∙ h)
 pub free_byte : IsFree IsByte
 free_byte a b (inl s) (inl t) x y g = free_one is_byte a b s t x y g
 free_byte a b (inl (c, h, e)) (inr (more, f, t)) x y g =
-    absurd (not_backslash c (heads c 92 _ _ (moved a b (c ∷ []) (92 ∷ more) x y e f g)) h)
+    absurd (not_backslash c (heads c 92 _ _ (fronts_swap a b (c ∷ []) (92 ∷ more) x y e f g)) h)
 free_byte a b (inr (more, f, t)) (inl (c, h, e)) x y g =
-    absurd (not_backslash c (sym (heads 92 c _ _ (moved a b (92 ∷ more) (c ∷ []) x y f e g))) h)
+    absurd (not_backslash c
+    (sym (heads 92 c _ _ (fronts_swap a b (92 ∷ more) (c ∷ []) x y f e g))) h)
 free_byte a b (inr s) (inr t) x y g = free_after 92 (IsEscape false true)
     (free_escape false true) a b s t x y g
 

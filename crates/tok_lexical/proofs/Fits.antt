@@ -7,10 +7,10 @@ use Rattle.tok_lexical.specs.declared.rule.Rule.{Rule}
 use Rattle.tok_lexical.proofs.Heads.{spelled_one}
 use Rattle.tok_lexical.proofs.Longest.{takes_unique}
 
-pub decided : {text : List ℕ} {rules : List Rule} {rule : Rule} {piece rest : List ℕ} →
+pub fits_longest : {text : List ℕ} {rules : List Rule} {rule : Rule} {piece rest : List ℕ} →
     IsFirstFit text rules rule piece rest → IsLongestPrefix (Spells rule) text piece rest
-decided (here t) = t
-decided (later misses d) = decided d
+fits_longest (here t) = t
+fits_longest (later misses d) = fits_longest d
 
 pub decides_unique : {text : List ℕ} {rules : List Rule} {rule other : Rule} {p r q s : List ℕ} →
     IsFirstFit text rules rule p r → IsFirstFit text rules other q s → (rule ≡ other) × (p ≡ q)
@@ -24,7 +24,7 @@ decides_unique (later misses d) (later misses' e) = decides_unique d e
 pub decides_nothing : {rules : List Rule} {rule : Rule} {p r : List ℕ} →
     IsFirstFit [] rules rule p r → ⊥
 decides_nothing {rule = rule} {p = p} {r = r} d =
-    let t = decided d in
+    let t = fits_longest d in
     let one = spelled_one rule p t.spelled in
     elim p as (λ w. [] ≡ w ++ r → 0 < length w → ⊥) [
       | [] ↦ λ e l. absurd (omega arith)

@@ -26,7 +26,7 @@ pub exponent_suffix : (text suffix last : List ℕ) → Stops (is_digit_or_under
     IsLongestPrefix IsSuffix text suffix last → IsLongestPrefix IsExponentSuffix text suffix last
 exponent_suffix text suffix last s t = record {
   cut = t.cut;
-  spelled = shown suffix t.cut t.spelled;
+  spelled = suits_exponent suffix t.cut t.spelled;
   longest = λ more after e k. t.longest more after e (plain (suffix ++ more) k);
 }
   where
@@ -34,15 +34,16 @@ exponent_suffix text suffix last s t = record {
     plain [] k = inl refl
     plain (c ∷ xs) k = inr k.1
 
-    stopped : (whole : List ℕ) (c : ℕ) (xs : List ℕ) → Stops (is_digit_or_underscore 10) whole →
+    head_stops : (whole : List ℕ) (c : ℕ) (xs : List ℕ) → Stops (is_digit_or_underscore 10) whole →
         whole ≡ c ∷ xs → is_digit_or_underscore 10 c ≡ false
-    stopped [] c xs h e = cc
-    stopped (d ∷ whole) c xs h e = sym (ap (is_digit_or_underscore 10) (heads d c whole xs e)) ∙ h
+    head_stops [] c xs h e = cc
+    head_stops (d ∷ whole) c xs h e =
+        sym (ap (is_digit_or_underscore 10) (heads d c whole xs e)) ∙ h
 
-    shown : (xs : List ℕ) → text ≡ xs ++ last → IsSuffix xs → IsExponentSuffix xs
-    shown [] e k = tt
-    shown (c ∷ xs) e (inl n) = cc
-    shown (c ∷ xs) e (inr w) = (stopped text c (xs ++ last) s e, w)
+    suits_exponent : (xs : List ℕ) → text ≡ xs ++ last → IsSuffix xs → IsExponentSuffix xs
+    suits_exponent [] e k = tt
+    suits_exponent (c ∷ xs) e (inl n) = cc
+    suits_exponent (c ∷ xs) e (inr w) = (head_stops text c (xs ++ last) s e, w)
 
 -- digits begin with no sign
 digits_head : (k : ℕ) (text : List ℕ) → is_digit_or_underscore 10 k ≡ false →
@@ -155,9 +156,9 @@ scaled_decimal piece more (ds, tail, e, a, g, k) (other, suffix, f, b, g', s) =
     ∙ ap (λ v. v ++ more) (sym e) ∙ f) in
     clash tail suffix k w.1 s
   where
-    marked : (c : ℕ) (rest : List ℕ) → is_exponent (c ∷ rest) ≡ true → starts_number_suffix 10 c
-        ≡ false
-    marked c rest h = go (c == 101) refl h
+    starts_no_suffix : (c : ℕ) (rest : List ℕ) → is_exponent (c ∷ rest) ≡ true →
+        starts_number_suffix 10 c ≡ false
+    starts_no_suffix c rest h = go (c == 101) refl h
       where
         go : (p : Bool) → (c == 101) ≡ p → p || (c == 69) ≡ true → starts_number_suffix 10 c ≡ false
         go true e k = ap (starts_number_suffix 10) (eqb-true c 101 e)
@@ -168,7 +169,7 @@ scaled_decimal piece more (ds, tail, e, a, g, k) (other, suffix, f, b, g', s) =
     clash [] suffix k e s = k
     clash (c ∷ tail) [] k e s = cc
     clash (c ∷ tail) (d ∷ suffix) k e s =
-        false≢true (sym (marked c tail k.0)
+        false≢true (sym (starts_no_suffix c tail k.0)
         ∙ ap (starts_number_suffix 10) (heads c d (tail ++ more) suffix e) ∙ s.0)
 
 pub fraction_scaled : (text piece rest : List ℕ) → IsLongestPrefix IsScaled text piece rest →

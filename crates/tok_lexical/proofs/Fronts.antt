@@ -26,17 +26,17 @@ module _ (a : ℕ) where
       go true k = (refl, refl)
       go false k = absurd (false≢true (sym k))
 
-  parted : (front rest : List ℕ) → list_all (is_neither a a) front ≡ true →
+  parts_at_stop : (front rest : List ℕ) → list_all (is_neither a a) front ≡ true →
       Stops (is_neither a a) rest → (up_to a (front ++ rest) ≡ front)
       × (from_first a (front ++ rest) ≡ rest)
-  parted [] rest h s = at_stop rest s
-  parted (c ∷ front) rest h s =
+  parts_at_stop [] rest h s = at_stop rest s
+  parts_at_stop (c ∷ front) rest h s =
       let n = neither_first a a c front h in
       let w = other_first c (front ++ rest) n.0 in
-      let v = parted front rest n.2 s in
+      let v = parts_at_stop front rest n.2 s in
       (w.0 ∙ ap (λ x. c ∷ x) v.0, w.1 ∙ v.1)
 
   pub first_parts : (text front rest : List ℕ) → Skips (is_neither a a) text front rest →
       (up_to a text ≡ front) × (from_first a text ≡ rest)
-  first_parts text front rest s = let w = parted front rest s.pass s.stops in
+  first_parts text front rest s = let w = parts_at_stop front rest s.pass s.stops in
       (ap (up_to a) s.cut ∙ w.0, ap (from_first a) s.cut ∙ w.1)

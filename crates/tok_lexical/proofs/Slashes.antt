@@ -29,19 +29,19 @@ abbrev slash_rules : Rules → List Rule
 slash_rules rules = line_rule rules ∷ block_rule rules ∷ OpenComment ∷ identifier_rule rules
     ∷ punct_rule rules ∷ Other ∷ []
 
-listed : (rules : Rules) → slash_rules rules ≡ only start.Slash (rules_of rules)
-listed Plain = refl
-listed Marked = refl
-listed (Source Edition2015) = refl
-listed (Source Edition2018) = refl
-listed (Source Edition2021) = refl
-listed (Source Edition2024) = refl
+slash_rules_are : (rules : Rules) → slash_rules rules ≡ only start.Slash (rules_of rules)
+slash_rules_are Plain = refl
+slash_rules_are Marked = refl
+slash_rules_are (Source Edition2015) = refl
+slash_rules_are (Source Edition2018) = refl
+slash_rules_are (Source Edition2021) = refl
+slash_rules_are (Source Edition2024) = refl
 
-begun : (rules : Rules) (text piece rest : List ℕ) (rule : Rule) →
+fits_among_all : (rules : Rules) (text piece rest : List ℕ) (rule : Rule) →
     IsFirstFit (47 ∷ text) (slash_rules rules) rule piece rest →
     IsFirstFit (47 ∷ text) (rules_of rules) rule piece rest
-begun rules text piece rest rule d = decides_begun 47 (47 ∷ text) text piece rest rule
-    (rules_of rules) (slash_rules rules) start.Slash refl refl (listed rules) d
+fits_among_all rules text piece rest rule d = decides_begun 47 (47 ∷ text) text piece rest rule
+    (rules_of rules) (slash_rules rules) start.Slash refl refl (slash_rules_are rules) d
 
 line_second : (text : List ℕ) → HasPrefix IsLineComment (47 ∷ text) → (more : List ℕ)
     × (text ≡ 47 ∷ more)
@@ -97,7 +97,7 @@ pub decides_line : (rules : Rules) (text mid rest : List ℕ) → text ≡ 47 �
 decides_line rules text mid rest e s =
     let t = takes_after_pair 47 47 is_not_line_feed (47 ∷ text) mid rest (ap (λ w. 47 ∷ w) e) s in (
       t.0,
-      begun rules text t.0 rest (line_rule rules)
+      fits_among_all rules text t.0 rest (line_rule rules)
           (here (line_taken rules (47 ∷ text) t.0 rest t.1)),
     )
 
@@ -106,7 +106,7 @@ pub decides_block : (rules : Rules) (text mid rest : List ℕ) → text ≡ 42 �
     × IsFirstFit (47 ∷ text) (rules_of rules) (block_rule rules) piece rest
 decides_block rules text mid rest e (front, t) = (
   47 ∷ 42 ∷ front,
-  begun rules text (47 ∷ 42 ∷ front) rest (block_rule rules)
+  fits_among_all rules text (47 ∷ 42 ∷ front) rest (block_rule rules)
       (later (line_missed rules (47 ∷ text) (no_line text mid e))
       (here (block_taken rules (47 ∷ text) (47 ∷ 42 ∷ front) rest
       (takes_marked (47 ∷ text) mid rest front (ap (λ w. 47 ∷ w) e) t)))),
@@ -116,19 +116,19 @@ decides_lone : (rules : Rules) (text : List ℕ) (rule : Rule) → rule ≡ punc
     ((more : List ℕ) → text ≡ 47 ∷ more → ⊥) → ((more : List ℕ) → text ≡ 42 ∷ more → ⊥) →
     (piece : List ℕ) × IsFirstFit (47 ∷ text) (rules_of rules) rule piece text
 decides_lone rules text rule r no_slash no_star =
-    rw r (47 ∷ [], begun rules text (47 ∷ []) text (punct_rule rules) (skipped rules))
+    rw r (47 ∷ [], fits_among_all rules text (47 ∷ []) text (punct_rule rules) (punct_fits rules))
   where
-    skipped : (every : Rules) → IsFirstFit (47 ∷ text) (slash_rules every) (punct_rule every)
+    punct_fits : (every : Rules) → IsFirstFit (47 ∷ text) (slash_rules every) (punct_rule every)
         (47 ∷ []) text
-    skipped Plain = later (λ fits. let s = line_second text fits in no_slash s.0 s.1)
+    punct_fits Plain = later (λ fits. let s = line_second text fits in no_slash s.0 s.1)
         (later (λ fits. let s = block_second text fits in no_star s.0 s.1)
         (later (λ fits. let s = open_second text fits in no_star s.0 s.1)
         (later (no_identifier text) (here (takes_one is_punct (47 ∷ text) text 47 refl refl)))))
-    skipped Marked = later (λ fits. let s = line_second text fits in no_slash s.0 s.1)
+    punct_fits Marked = later (λ fits. let s = line_second text fits in no_slash s.0 s.1)
         (later (λ fits. let s = block_second text fits in no_star s.0 s.1)
         (later (λ fits. let s = open_second text fits in no_star s.0 s.1)
         (later (no_identifier text) (here (takes_one is_punct (47 ∷ text) text 47 refl refl)))))
-    skipped (Source edition) = later (λ fits. let s = line_second text fits in no_slash s.0 s.1)
+    punct_fits (Source edition) = later (λ fits. let s = line_second text fits in no_slash s.0 s.1)
         (later (λ fits. let s = block_second text fits in no_star s.0 s.1)
         (later (λ fits. let s = open_second text fits in no_star s.0 s.1)
         (later (no_identifier text) (here (takes_one is_punct (47 ∷ text) text 47 refl refl)))))

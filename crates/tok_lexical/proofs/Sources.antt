@@ -18,7 +18,7 @@ use Rattle.tok_lexical.proofs.EscapedChars.{heads, tails}
 use Rattle.std.specs.Str.{chars, IsUtf8}
 use Rattle.std.proofs.lemmas.Str.{length-le-encodes}
 use Rattle.tok_lexical.proofs.Texts.{cut_length}
-use Rattle.tok_lexical.proofs.Fits.{decided, decides_unique}
+use Rattle.tok_lexical.proofs.Fits.{fits_longest, decides_unique}
 use Rattle.tok_lexical.proofs.Heads.{spelled_one}
 use Rattle.tok_lexical.proofs.Digits.{all_stops}
 
@@ -61,7 +61,7 @@ pub shorter_piece : (text rest : List ℕ) (rule : Rule) (taken : List ℕ) → 
     IsUtf8 rest → IsFirstFit (chars text) (source_rules Edition2021) rule taken (chars rest) →
     length rest < length text
 shorter_piece text rest rule taken u v d =
-    let t = decided d in
+    let t = fits_longest d in
     let one = spelled_one rule taken t.spelled in
     let many = length-le-encodes taken in
     let l = cut_length text rest taken u v t.cut in
@@ -84,30 +84,31 @@ bracket_last after rule taken rest d h = go rule d h
     go : (rule : Rule) → IsFirstFit (91 ∷ after) (source_rules Edition2021) rule taken rest →
         is_blank_piece rule taken ≡ true → ⊥
     go Whitespace d h =
-        let t = decided d in
+        let t = fits_longest d in
         let s = t.spelled in
         let head : 91 ≡ s.0 = heads 91 s.0 after rest (t.cut ∙ ap (λ w. w ++ rest) s.2) in
         false≢true (ap is_whitespace head ∙ s.1)
     go SourceLineComment d h =
-        let t = decided d in
+        let t = fits_longest d in
         let s = t.spelled in
         absurd (let w = heads 91 47 after (47 ∷ (s.0 ++ rest)) (t.cut ∙ ap (λ w. w ++ rest) s.1)
         in omega arith)
     go SourceBlockComment d h =
-        let t = decided d in
+        let t = fits_longest d in
         let s = t.spelled in
         absurd (let w = heads 91 47 after (42 ∷ (s.0 ++ rest)) (t.cut ∙ ap (λ w. w ++ rest) s.1)
         in omega arith)
     go rule d h = absurd (false≢true h)
 
-begun : (text rest : List ℕ) → begins_with 91 rest ≡ true → Blanks text rest → OpensAttribute text
-begun text [] h b = absurd (false≢true h)
-begun text (c ∷ rest) h b = (rest, subst (λ w. Blanks text (w ∷ rest)) (eqb-true c 91 h) b)
+bracket_opens : (text rest : List ℕ) → begins_with 91 rest ≡ true → Blanks text rest →
+    OpensAttribute text
+bracket_opens text [] h b = absurd (false≢true h)
+bracket_opens text (c ∷ rest) h b = (rest, subst (λ w. Blanks text (w ∷ rest)) (eqb-true c 91 h) b)
 
 pub attribute : (text rest : List ℕ) (found : Bool) → found ≡ begins_with 91 rest →
     Blanks text rest → IsLast rest → MatchBool found (OpensAttribute text) (OpensAttribute text →
     ⊥)
-attribute text rest true e b n = begun text rest (sym e) b
+attribute text rest true e b n = bracket_opens text rest (sym e) b
 attribute text rest false e b n = λ (after, c).
     let same = blanks_same b n c (bracket_last after) in
     false≢true (e ∙ ap (begins_with 91) same)
@@ -126,14 +127,14 @@ is_attribute text rest e o = no_shebang (λ (other, f, n).
     tails 33 33 rest other (tails 35 35 (33 ∷ rest) (33 ∷ other) (sym e ∙ f)) in
     n (subst OpensAttribute same o))
 
-pub marked : (text : List ℕ) (c : ℕ) (rest : List ℕ) → text ≡ c ∷ rest → c ≡ 0xFEFF →
+pub skips_mark : (text : List ℕ) (c : ℕ) (rest : List ℕ) → text ≡ c ∷ rest → c ≡ 0xFEFF →
     rest ≡ past_mark text
-marked text c rest e k = sym (ap past_mark (e ∙ ap (λ w. w ∷ rest) k))
+skips_mark text c rest e k = sym (ap past_mark (e ∙ ap (λ w. w ∷ rest) k))
 
-pub unmarked : (text : List ℕ) → ((rest : List ℕ) → text ≡ 0xFEFF ∷ rest → ⊥) →
+pub unmarked_stays : (text : List ℕ) → ((rest : List ℕ) → text ≡ 0xFEFF ∷ rest → ⊥) →
     text ≡ past_mark text
-unmarked [] n = refl
-unmarked (c ∷ text) n = go (c == 0xFEFF) refl
+unmarked_stays [] n = refl
+unmarked_stays (c ∷ text) n = go (c == 0xFEFF) refl
   where
     go : (b : Bool) → (c == 0xFEFF) ≡ b → c ∷ text ≡ (if b then text else c ∷ text)
     go true e = absurd (n text (ap (λ w. w ∷ text) (eqb-true c 0xFEFF e)))

@@ -11,7 +11,7 @@ use Rattle.tok_lexical.specs.Strings.{IsHashes, IsPrefixed, IsPrefixOf, IsString
 use Rattle.tok_lexical.specs.declared.contents.Contents.{Contents}
 use Rattle.tok_lexical.specs.declared.contents.Contents.TheVariants.{Text, Bytes, C}
 use Rattle.tok_lexical.proofs.Longest.{list_all_push, IsFree, finds_after}
-use Rattle.tok_lexical.proofs.EscapedChars.{heads, tails, moved, all_stop, free_after}
+use Rattle.tok_lexical.proofs.EscapedChars.{heads, tails, fronts_swap, all_stop, free_after}
 use Rattle.tok_lexical.proofs.Digits.{all_stops}
 
 -- raw strings
@@ -53,7 +53,7 @@ finds_hashes text rest front (Some last) s e = (
 free_hashes : IsFree IsHashes
 free_hashes a b (hs, e, p) (ks, f, q) x y g =
     let whole : (hs ++ 34 ∷ []) ++ x ≡ (ks ++ 34 ∷ []) ++ y =
-    moved a b (hs ++ 34 ∷ []) (ks ++ 34 ∷ []) x y e f g in
+    fronts_swap a b (hs ++ 34 ∷ []) (ks ++ 34 ∷ []) x y e f g in
     let w = all_stop (λ c. c == 35) 34 hs ks x y refl p q (sym (append_assoc hs (34 ∷ []) x)
     ∙ whole ∙ append_assoc ks (34 ∷ []) y) in
     (e ∙ ap (λ v. v ++ 34 ∷ []) w.0 ∙ sym f, w.1)
@@ -71,13 +71,13 @@ prefixed_raw text (Some rest) a (piece, cut, s) = (piece, cut, inr s)
 
 free_prefixed : IsFree IsPrefixed
 free_prefixed a b (inl e) (inl f) x y g =
-    (e ∙ sym f, tails 34 34 x y (moved a b (34 ∷ []) (34 ∷ []) x y e f g))
+    (e ∙ sym f, tails 34 34 x y (fronts_swap a b (34 ∷ []) (34 ∷ []) x y e f g))
 free_prefixed a b (inl e) (inr (more, f, s)) x y g =
     absurd (omega
-    (arith, heads 34 114 x (more ++ y) (moved a b (34 ∷ []) (114 ∷ more) x y e f g)))
+    (arith, heads 34 114 x (more ++ y) (fronts_swap a b (34 ∷ []) (114 ∷ more) x y e f g)))
 free_prefixed a b (inr (more, e, s)) (inl f) x y g =
     absurd (omega
-    (arith, heads 114 34 (more ++ x) y (moved a b (114 ∷ more) (34 ∷ []) x y e f g)))
+    (arith, heads 114 34 (more ++ x) y (fronts_swap a b (114 ∷ more) (34 ∷ []) x y e f g)))
 free_prefixed a b (inr s) (inr t) x y g = free_after 114 IsHashes free_hashes a b s t x y g
 
 pub free_prefix_of : (contents : Contents) → IsFree (IsPrefixOf contents)
@@ -89,7 +89,7 @@ free_prefix_of C = free_after 99 IsPrefixed free_prefixed
 apart : (j k : ℕ) (S R : List ℕ → Type 0) (a b x y : List ℕ) → (j ≡ k → ⊥) → After j S a →
     After k R b → a ++ x ≡ b ++ y → ⊥
 apart j k S R a b x y d (more, e, s) (other, f, r) g =
-    d (heads j k (more ++ x) (other ++ y) (moved a b (j ∷ more) (k ∷ other) x y e f g))
+    d (heads j k (more ++ x) (other ++ y) (fronts_swap a b (j ∷ more) (k ∷ other) x y e f g))
 
 pub free_raw_start : IsFree IsStringPrefix
 free_raw_start a b (inl s) (inl t) x y g = free_after 114 IsHashes free_hashes a b s t x y g

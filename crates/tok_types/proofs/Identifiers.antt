@@ -33,12 +33,12 @@ word_none w (at k s n (level o p (tree (leaf (punct c j t)) f)) us) e = refl
 word_none w (at k s n (level o p (tree (leaf (literal x t)) f)) us) e = refl
 word_none w (at k s n (level o p (tree (leaf (ident x t)) f)) us) e = cc
 
-told : {A : Type 0} (b : Bool) (x : A) → is_some (cond b (Some x) None) ≡ b
-told true x = refl
-told false x = refl
+cond_is_some : {A : Type 0} (b : Bool) (x : A) → is_some (cond b (Some x) None) ≡ b
+cond_is_some true x = refl
+cond_is_some false x = refl
 
 -- a word is read exactly if its text is wanted
 pub word_wanted : (w : List ℕ → Bool) (p : Place) (text : List ℕ) (span : Span) (r : Place) →
     read_ident p ≡ Some (leaf (ident text span) ∷ [], r) → is_some (read_word w p) ≡ w text
 word_wanted w p text span r e = ap (λ x. is_some x) (word_of w (descend p) text span r e)
-    ∙ told (w text) (leaf (ident text span) ∷ [], r)
+    ∙ cond_is_some (w text) (leaf (ident text span) ∷ [], r)

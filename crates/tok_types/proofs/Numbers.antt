@@ -70,10 +70,10 @@ passed_more texts numbers word n h e j small =
       | inr d ↦ h j (omega (arith, d.1))
     ]
 
-sought : (texts : List (List ℕ)) (numbers word : List ℕ) (b : ℕ) → begins_with b word ≡ true →
-    numbers ≡ numbers_beginning b 0 texts →
+finds_among_numbers : (texts : List (List ℕ)) (numbers word : List ℕ) (b : ℕ) →
+    begins_with b word ≡ true → numbers ≡ numbers_beginning b 0 texts →
     number_in texts word ≡ find (λ n. bytes_eq (get_or texts n []) word) numbers
-sought texts numbers word b first e =
+finds_among_numbers texts numbers word b first e =
     position_from-zero (λ text. bytes_eq text word) texts
     ∙ sym (among (λ n. get_or texts n []) word b 0 texts first
     (λ i. ap (λ n. get_or texts n []) (omega arith)))
@@ -88,7 +88,7 @@ found_at texts numbers word b n first e h small is =
     let test : ℕ → Bool = λ k. bytes_eq (get_or texts k []) word in
     let at : position_or_len test numbers ≡ n =
     position_or_len_is test numbers n 0 (omega arith) h (λ _. is) in
-    sym (sought texts numbers word b first e ∙ find_at test numbers
+    sym (finds_among_numbers texts numbers word b first e ∙ find_at test numbers
     ∙ ap (slice_get numbers) at ∙ slice_get-get_or numbers n 0 small)
 
 pub not_found : (texts : List (List ℕ)) (numbers word : List ℕ) (b n : ℕ) →
@@ -99,5 +99,5 @@ not_found texts numbers word b n first e h over =
     let at : position_or_len test numbers ≡ length numbers =
     position_or_len_is test numbers (length numbers) 0 (omega arith)
     (λ k small. h k (omega (arith, small, over))) (λ past. absurd (omega arith)) in
-    sym (sought texts numbers word b first e ∙ find_at test numbers
+    sym (finds_among_numbers texts numbers word b first e ∙ find_at test numbers
     ∙ ap (slice_get numbers) at ∙ slice_get_past numbers (length numbers) (omega arith))

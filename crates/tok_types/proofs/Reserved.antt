@@ -25,11 +25,11 @@ among_rows : (rows : List (Bor (List ℕ))) (text : List ℕ) →
 among_rows [] text = refl
 among_rows (row ∷ rows) text = ap (λ w. bytes_eq row.now text || w) (among_rows rows text)
 
-pub compared : (rows : List (Bor (List ℕ))) (text : List ℕ) (first : ℕ) → 0 < length text →
-    first ≡ get_or text 0 0 → texts_of rows ≡ beginning first reserved →
+pub rows_tell_reserved : (rows : List (Bor (List ℕ))) (text : List ℕ) (first : ℕ) →
+    0 < length text → first ≡ get_or text 0 0 → texts_of rows ≡ beginning first reserved →
     list_any (λ (row : Bor (List ℕ)). bytes_eq row.now text) rows ≡ is_among reserved text
-compared rows [] first l f e = absurd (omega arith)
-compared rows (c ∷ s) first l f e =
+rows_tell_reserved rows [] first l f e = absurd (omega arith)
+rows_tell_reserved rows (c ∷ s) first l f e =
     among_rows rows (c ∷ s)
     ∙ ap (λ ts. is_among ts (c ∷ s)) (e ∙ ap (λ w. beginning w reserved) f)
     ∙ among_beginning reserved c s

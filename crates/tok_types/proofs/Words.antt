@@ -63,9 +63,9 @@ continues (c ∷ cs) a h =
     (is_xid_continue-ascii c (ltb-true c 128 ascii.0) ∙ parts.0)
     (continues cs ascii.1 parts.1)
 
-told : (t : List ℕ) → is_ascii t ≡ true → is_word t ≡ true → IsIdentifier t
-told [] a h = absurd (false≢true h)
-told (c ∷ cs) a h =
+word_is_identifier : (t : List ℕ) → is_ascii t ≡ true → is_word t ≡ true → IsIdentifier t
+word_is_identifier [] a h = absurd (false≢true h)
+word_is_identifier (c ∷ cs) a h =
     let ascii = and_parts (nat_lt c 128) (is_ascii cs) a in
     let parts = and_parts (is_ascii_alphabetic c || (c == 95)) (list_all is_ascii_continue cs) h in (
       ap (λ b. b || (c == 95)) (is_xid_start-ascii c (ltb-true c 128 ascii.0)) ∙ parts.0,
@@ -73,7 +73,7 @@ told (c ∷ cs) a h =
     )
 
 word-chars : (t : List ℕ) → is_ascii t ≡ true → is_word t ≡ true → IsIdentifier (chars t)
-word-chars t a h = subst IsIdentifier (sym (ascii_chars t a)) (told t a h)
+word-chars t a h = subst IsIdentifier (sym (ascii_chars t a)) (word_is_identifier t a h)
 
 keywords-are-words : list_all is_word keywords ≡ true
 keywords-are-words = refl
@@ -122,11 +122,11 @@ word-refused r (c ∷ cs) span old new h e = none_appended r old (leaf (ident (c
 pub underscore-identifier : IsIdentifier (chars (codes "_"))
 underscore-identifier = word-chars (codes "_") refl refl
 
-chosen : (b : Bool) (t : List ℕ) → is_ascii t ≡ true → is_ascii (cond b t []) ≡ true
-chosen true t h = h
-chosen false t h = refl
+cond_is_ascii : (b : Bool) (t : List ℕ) → is_ascii t ≡ true → is_ascii (cond b t []) ≡ true
+cond_is_ascii true t h = h
+cond_is_ascii false t h = refl
 
 pub punctuation-chars : (k n : ℕ) → chars (punctuation_word k n) ≡ punctuation_word k n
 punctuation-chars k n = ascii_chars (punctuation_word k n)
-    (chosen (length (punctuation_text k) == n) (punctuation_text k)
+    (cond_is_ascii (length (punctuation_text k) == n) (punctuation_text k)
     (of_each is_ascii punctuations k refl refl))

@@ -36,8 +36,8 @@ pick : (b : Bool) (x y u v : List ℕ) → encode_utf8_all x ≡ u → encode_ut
 pick true x y u v e f = e
 pick false x y u v e f = f
 
-encoded : (c : ℕ) → encode_utf8_all (written c) ≡ escaped c
-encoded c =
+encodes_escape : (c : ℕ) → encode_utf8_all (written c) ≡ escaped c
+encodes_escape c =
     pick (c == 34) _ _ _ _ (two 92 34 (omega arith) (omega arith))
     (pick (c == 92) _ _ _ _ (two 92 92 (omega arith) (omega arith))
     (pick (c == 10) _ _ _ _ (two 92 110 (omega arith) (omega arith))
@@ -49,7 +49,7 @@ all_encoded : (cs : List ℕ) → encode_utf8_all (flat_map written cs) ≡ flat
 all_encoded [] = refl
 all_encoded (c ∷ cs) =
     encodes-append (written c) (flat_map written cs)
-    ∙ ap (λ w. w ++ encode_utf8_all (flat_map written cs)) (encoded c)
+    ∙ ap (λ w. w ++ encode_utf8_all (flat_map written cs)) (encodes_escape c)
     ∙ ap (λ w. escaped c ++ w) (all_encoded cs)
 
 pick_scalars : (b : Bool) (x y : List ℕ) → scalars x ≡ true → scalars y ≡ true
@@ -127,9 +127,9 @@ quote_bytes = encodes-IsAscii (34 ∷ []) ascii
     ascii zero = omega arith
     ascii (suc i) = omega arith
 
-spelled : (cs : List ℕ) → scalars cs ≡ true
+chars_in_quotes : (cs : List ℕ) → scalars cs ≡ true
     → chars (in_quotes cs) ≡ 34 ∷ (flat_map written cs ++ 34 ∷ [])
-spelled cs h =
+chars_in_quotes cs h =
     let inner = flat_map written cs ++ 34 ∷ [] in
     let bytes : encode_utf8_all ((34 ∷ []) ++ inner) ≡ in_quotes cs =
     encodes-append (34 ∷ []) inner ∙ ap (λ w. w ++ encode_utf8_all inner) quote_bytes
@@ -147,7 +147,7 @@ strings_keep_text text u = (
   chars text,
   (
     flat_map written (chars text) ++ 34 ∷ [],
-    spelled (chars text) (scalars-chars text u),
+    chars_in_quotes (chars text) (scalars-chars text u),
     units (chars text),
   ),
   sym (encodes-chars text u),

@@ -55,10 +55,10 @@ blanks [] = omega arith
 blanks (c ∷ text) =
     no_more (is_blank c) _ _ (let h = blanks text in omega (arith, h)) (omega arith)
 
-closed : (text : List ℕ) → length (from_first 125 text) ≤ length text
-closed [] = omega arith
-closed (c ∷ text) =
-    no_more (c == 125) _ _ (omega arith) (let h = closed text in omega (arith, h))
+rest_no_longer : (text : List ℕ) → length (from_first 125 text) ≤ length text
+rest_no_longer [] = omega arith
+rest_no_longer (c ∷ text) =
+    no_more (c == 125) _ _ (omega arith) (let h = rest_no_longer text in omega (arith, h))
 
 first : (text : List ℕ) → length (after_first text) ≤ length text
 first [] = omega arith
@@ -77,7 +77,7 @@ hex_leaves n top (c ∷ (d ∷ rest)) h =
 code_leaves : (n : ℕ) (text : List ℕ) → length text ≤ n → Leaves n (code text)
 code_leaves n [] h = nothing_found n
 code_leaves n (c ∷ text) h =
-    let k = closed text in
+    let k = rest_no_longer text in
     let l = first (from_first 125 text) in
     let fits : length (after_first (from_first 125 text)) ≤ n = omega (arith, h, k, l) in
     either n _ _ _ (rest_leaves n (named_char (up_to 125 text)) _ fits) (nothing_found n)
@@ -174,36 +174,36 @@ found_more n found text characters e = at (is_quote text) refl e where
       (subst (Means false (34 ∷ []) (34 ∷ [])) (some_is e) (nothing (34 ∷ [])))
   at false q e = at_unit (unit false text) refl e
 
-found : (n : ℕ) → Found n
-found zero text characters e = absurd (cc)
-found (suc n) text characters e = found_more n (found n) text characters e
+finds_within : (n : ℕ) → Found n
+finds_within zero text characters e = absurd (cc)
+finds_within (suc n) text characters e = found_more n (finds_within n) text characters e
 
-quoted : (text characters : List ℕ) → InQuotes false text characters
+finds_in_quotes : (text characters : List ℕ) → InQuotes false text characters
     → characters_in_quotes text ≡ Some characters
-quoted text characters (inner, e, m) =
+finds_in_quotes text characters (inner, e, m) =
     ap characters_in_quotes e ∙ finds (length inner) inner (34 ∷ []) characters m refl (omega arith)
 
-unquoted : (text characters : List ℕ) → characters_in_quotes text ≡ Some characters
+stands_in_quotes : (text characters : List ℕ) → characters_in_quotes text ≡ Some characters
     → InQuotes false text characters
-unquoted [] characters e = absurd (cc)
-unquoted (c ∷ inner) characters e = at (c == 34) refl e where
+stands_in_quotes [] characters e = absurd (cc)
+stands_in_quotes (c ∷ inner) characters e = at (c == 34) refl e where
   at : (b : Bool) → (c == 34) ≡ b
       → (if b then up_to_quote (length inner) inner else None) ≡ Some characters
       → InQuotes false (c ∷ inner) characters
   at true q e =
-      (inner, ap (λ x. x ∷ inner) (eqb-true c 34 q), found (length inner) inner characters e)
+      (inner, ap (λ x. x ∷ inner) (eqb-true c 34 q), finds_within (length inner) inner characters e)
   at false q e = absurd (cc)
 
 pub strings_have_one_value : StringsHaveOneValue
 unfolding string_value
 strings_have_one_value text value = (
-  λ h. ap (option_map encode_utf8_all) (quoted text h.0 h.1) ∙ ap Some (sym h.2),
+  λ h. ap (option_map encode_utf8_all) (finds_in_quotes text h.0 h.1) ∙ ap Some (sym h.2),
   λ e. at (characters_in_quotes text) refl e,
 ) where
   at : (o : Option (List ℕ)) → characters_in_quotes text ≡ o
       → option_map encode_utf8_all o ≡ Some value → IsStringValue text value
   at None k e = absurd (cc)
-  at (Some cs) k e = (cs, unquoted text cs k, sym (some_is e))
+  at (Some cs) k e = (cs, stands_in_quotes text cs k, sym (some_is e))
 
 abbrev Parts : Type 0
 Parts = List ℕ × List ℕ

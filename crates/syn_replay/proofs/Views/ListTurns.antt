@@ -8,7 +8,7 @@ use Rattle.tok_core.specs.Forest.{Tree}
 use Rattle.tok_buffer.specs.Buffer.{Laid}
 use Rattle.tok_buffer.specs.Place.{Place, empty_place, at}
 use Rattle.tok_buffer.specs.Reads.{read_punctuation}
-use Rattle.tok_buffer.proofs.Onwards.{GoesOn, kept, later_count, lies_nowhere, reading_goes}
+use Rattle.tok_buffer.proofs.Onwards.{GoesOn, keeps_scope, later_count, lies_nowhere, reading_goes}
 use Rattle.tok_buffer.proofs.Onwards.{then_goes}
 use Rattle.tok_buffer.proofs.View.Alike.{Alike, ReadsAlike, alike-end, alike-reading}
 use Rattle.tok_buffer.proofs.View.Lengths.{same_length}
@@ -39,7 +39,7 @@ is_later_there : (p q : Place) → GoesOn p q → is_later p q ≡ true
 is_later_there empty_place q h = absurd (lies_nowhere q h)
 is_later_there (at n s c l ls) empty_place h = refl
 is_later_there (at n s c l ls) (at m t d k ks) h =
-    ap (λ b. b && nat_lt c d) (kept (at n s c l ls) (at m t d k ks) h)
+    ap (λ b. b && nat_lt c d) (keeps_scope (at n s c l ls) (at m t d k ks) h)
     ∙ later_test c d (later_count n s c m t d l k ls ks h)
 
 module _ (f g : Laid) where

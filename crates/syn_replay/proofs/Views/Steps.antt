@@ -111,9 +111,10 @@ module _ (f g : Laid) (visible : erase f.forest ≡ erase g.forest) where
   -- A command on an open stream.
   module _ (st su : State) (h : StatesAlike f g st su) (k : ℕ) (s t : Stream)
       (i : StreamsAlike f g s t) where
-    moved : (p q : Place) → Alike f g p q
+    moves_alike : (p q : Place) → Alike f g p q
         → StatesAlike f g (with_stream st k (moved_to p)) (with_stream su k (moved_to q))
-    moved p q j = alike-with_stream f g st su k (moved_to p) (moved_to q) (alike-moved f g p q j) h
+    moves_alike p q j =
+        alike-with_stream f g st su k (moved_to p) (moved_to q) (alike-moved f g p q j) h
 
     alike-into : (words : List ℕ) (a b : Option Entered) → EntriesAlike f g a b
         → StepsAlike (into_group st k s words a) (into_group su k t words b)
@@ -136,7 +137,7 @@ module _ (f g : Laid) (visible : erase f.forest ≡ erase g.forest) where
               (with_stream su k (moved_to b.after))
               (new_stream a.content (closing_span a.span) (content_of k))
               (new_stream b.content (closing_span b.span) (content_of k))
-              (moved a.after b.after j.after)
+              (moves_alike a.after b.after j.after)
               (record {
                 place = j.content;
                 scope_span = ap closing_span j.span;
@@ -164,7 +165,7 @@ module _ (f g : Laid) (visible : erase f.forest ≡ erase g.forest) where
         → StepsAlike (on_stream a st k s) (on_stream a su k t)
     alike-on_stream (commands.read r) e =
         let x = alike-answer s.place t.place s.scope_span t.scope_span i.place r e in
-        record { answer = x.0; state = moved _ _ x.1 }
+        record { answer = x.0; state = moves_alike _ _ x.1 }
     alike-on_stream (enter None) e = absurd (cc)
     alike-on_stream (enter (Some delimiter.None)) e = absurd (cc)
     alike-on_stream (enter (Some Parenthesis)) e = alike-enters Parenthesis tt

@@ -448,15 +448,15 @@ fits c st h =
     cond_none (any_of (is_spent st) (named c)) 2 (kind_misuse c.action st c.stream) rest in
     record { there = a; is_open = b; kind = d }
 
-opened : (o : Option Stream) → tested true (λ s. false) o ≡ false
+stream_is_open : (o : Option Stream) → tested true (λ s. false) o ≡ false
     → tested false (λ s. not s.is_open) o ≡ false → (or_nobody o).is_open ≡ true
-opened None a b = cc
-opened (Some s) a b = not-false s.is_open b
+stream_is_open None a b = cc
+stream_is_open (Some s) a b = not-false s.is_open b
 
 one_open : (st : State) (n : ℕ) → (is_missing st n || false) ≡ false
     → (is_spent st n || false) ≡ false → (look st n).is_open ≡ true
 one_open st n a b =
-    opened (stream_at st n) (or_parts (is_missing st n) false a).0
+    stream_is_open (stream_at st n) (or_parts (is_missing st n) false a).0
     (or_parts (is_spent st n) false b).0
 
 -- a command that is no advance, discard or close
@@ -532,7 +532,7 @@ two_named : (X : ℕ → Type 0) (st : State) (n f : ℕ) → Tidy st
 two_named X st n f tidy h =
     let at = or_parts (is_missing st n) (is_missing st f || false) h.there in
     let is_open = or_parts (is_spent st n) (is_spent st f || false) h.is_open in
-    let x = opened (stream_at st n) at.0 is_open.0 in
+    let x = stream_is_open (stream_at st n) at.0 is_open.0 in
     let y = one_open st f at.1 is_open.1 in
     let kind = fork_is (look st f).kind (kind_there (stream_at st f) is_fork 3 h.kind) in
     let scope = same_scope (look st n).place (place_of (stream_at st f)) in
@@ -541,10 +541,10 @@ two_named X st n f tidy h =
     (step_on (commands.advance f) st n o)) (sym (there st n x))
     (advance_or_not X st n f (scope && not (n == f || is_inside st f n)) tidy x y kind scope refl)
 
-fitting : (X : ℕ → Type 0) (a : Action) (st : State) (n : ℕ) → Tidy st → Fits (commands.on n a) st
-    → StepsTo X (commands.on n a) st (step_on a st n (stream_at st n))
-fitting X (commands.advance f) st n tidy h = two_named X st n f tidy h
-fitting X a st n tidy h = one_named X a st n tidy h refl refl
+fitting_steps : (X : ℕ → Type 0) (a : Action) (st : State) (n : ℕ) → Tidy st
+    → Fits (commands.on n a) st → StepsTo X (commands.on n a) st (step_on a st n (stream_at st n))
+fitting_steps X (commands.advance f) st n tidy h = two_named X st n f tidy h
+fitting_steps X a st n tidy h = one_named X a st n tidy h refl refl
 
 steps : (X : ℕ → Type 0) (c : Command) (st : State) → Tidy st → StepsTo X c st (step c st)
 steps X c st tidy = go (misuse c st) refl where
@@ -554,7 +554,7 @@ steps X c st tidy = go (misuse c st) refl where
         | None ↦ step_on c.action st c.stream (stream_at st c.stream)
       ])
   go (Some n) e = refused_steps X c st n tidy
-  go None e = fitting X c.action st c.stream tidy (fits c st e)
+  go None e = fitting_steps X c.action st c.stream tidy (fits c st e)
 
 -- no set of streams is asked for
 abbrev pub nothing : ℕ → Type 0

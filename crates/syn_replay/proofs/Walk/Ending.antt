@@ -59,18 +59,18 @@ module _ (d : Bool) (k : ℕ) where
   contents_step count i st h = let q : count - i ≡ suc (count - (i + 1)) = omega arith in rw q refl
 
   -- streams that are no contents of k are passed over
-  skipped : (by count n m : ℕ) (xs : List Stream) → m ≡ n + by → m ≤ count
+  skips_others : (by count n m : ℕ) (xs : List Stream) → m ≡ n + by → m ≤ count
       → HasNone (links_of xs) k n m
       → contents_ended d (count - n) k n (state_of_list xs)
       ≡ contents_ended d (count - m) k m (state_of_list xs)
-  skipped zero count n m xs e h none =
+  skips_others zero count n m xs e h none =
       let s : n ≡ m = omega arith in
       ap (λ z. contents_ended d (count - z) k z (state_of_list xs)) s
-  skipped (suc by) count n m xs e h none =
+  skips_others (suc by) count n m xs e h none =
       contents_step count n (state_of_list xs) (omega arith)
       ∙ ap (contents_ended d (count - (n + 1)) k (n + 1))
       (cond-false _ _ _ (passed_over xs k n (none n (omega arith) (omega arith))))
-      ∙ skipped by count (n + 1) m xs (omega arith) h (λ j f g c. none j (omega arith) g c)
+      ∙ skips_others by count (n + 1) m xs (omega arith) h (λ j f g c. none j (omega arith) g c)
 
   -- The contents of k from a number on are left to end, the first of which is given; then all have
   -- ended.
@@ -105,8 +105,8 @@ module _ (d : Bool) (k : ℕ) where
       let none = subst P (length-links xs) (h.first.none is) in
       let q : 0 ≡ count - count = omega arith in
       ap (λ z. contents_ended d z k count (state_of_list xs)) q
-      ∙ sym (skipped (count - h.from) count h.from count xs (omega (arith, h.within)) (omega arith)
-      none) ∙ h.rest
+      ∙ sym (skips_others (count - h.from) count h.from count xs (omega (arith, h.within))
+      (omega arith) none) ∙ h.rest
 
   module _ (i : ℕ) (xs : List Stream) (o : Option ℕ) (all : State) (is : o ≡ Some i)
       (h : LeftToEnd xs o all) where
@@ -148,7 +148,7 @@ module _ (d : Bool) (k : ℕ) where
               ∙ ap (λ z. cond (is_open_content_of k (stream_at st i))
               (ended d i (contents_ended d (z - (i + 1)) i (i + 1) st)) st) (length-state xs))
               ∙ sym (contents_step count i st t.1)
-              ∙ sym (skipped (i - h.from) count h.from i xs
+              ∙ sym (skips_others (i - h.from) count h.from i xs
               (let f = h.first.from i is in omega arith) (omega (arith, t.1))
               (h.first.nearest i is))
               ∙ h.rest;

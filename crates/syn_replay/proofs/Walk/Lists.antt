@@ -243,11 +243,11 @@ module _ {F : Type 0} (k n : ℕ) (kind : Kind) (reads : ValueCall F (Vec Piece)
       × (e ≡ messages.one_message w) × (t ≡ moved t.place s)
   Told s o (Err (Memory e)) t = Unit {0}
 
-  told : (s m t : State) (whole rest : Outcome) (turns : List T)
+  run_told : (s m t : State) (whole rest : Outcome) (turns : List T)
       (r : Result (Punctuated (Vec Piece) (Punctuation k n)) Fault)
       → whole ≡ with_parts (parts_of turns) rest → m ≡ moved m.place s → Concludes m rest turns r t
       → Told s whole r t
-  told s m t whole rest turns (Ok list) e h c = (
+  run_told s m t whole rest turns (Ok list) e h c = (
     e ∙ ap (with_parts (parts_of turns)) c.3
         ∙ ap (λ z. read_all z t.place) (sym (paired_parts turns c.0))
         ∙ ap (λ z. read_all (flat_map (pair_parts word) (paired z (map turn_separator turns)))
@@ -257,9 +257,9 @@ module _ {F : Type 0} (k n : ℕ) (kind : Kind) (reads : ValueCall F (Vec Piece)
         (sym c.2),
     along s m t h c.4,
   )
-  told s m t whole rest turns (Err (Refused f)) e h c =
+  run_told s m t whole rest turns (Err (Refused f)) e h c =
       (c.0, e ∙ ap (with_parts (parts_of turns)) c.1, c.2, along s m t h c.3)
-  told s m t whole rest turns (Err (Memory f)) e h c = tt
+  run_told s m t whole rest turns (Err (Memory f)) e h c = tt
 
   -- the rule of the run that reads a list of this rule
   abbrev run_rule : Rule → runs.Rule
@@ -310,11 +310,11 @@ module _ {F : Type 0} (k n : ℕ) (kind : Kind) (reads : ValueCall F (Vec Piece)
         ≡ with_parts (pieces_of ts ∷ (pieces_of us ∷ [])) (rounds scope rule m r)
     full m p q r ts us a b c d e = rw (a, b, c, d, e) refl
 
-    stopped : (m : ℕ) (p q r : Place) (ts us : List Tree) → is_over rule p ≡ false
+    stuck_refuses : (m : ℕ) (p q r : Place) (ts us : List Tree) → is_over rule p ≡ false
         → read kind p ≡ Some (ts, q) → is_over rule q ≡ false
         → read_punctuation word q ≡ Some (us, r) → is_later p r ≡ false
         → rounds scope rule (suc m) p ≡ refused_at (no_progress r scope) r
-    stopped m p q r ts us a b c d e = rw (a, b, c, d, e) refl
+    stuck_refuses m p q r ts us a b c d e = rw (a, b, c, d, e) refl
 
     none : (m : ℕ) (p : Place) → is_over rule p ≡ false → read kind p ≡ None
         → rounds scope rule (suc m) p ≡ refused_at (kind_message kind (fresh p scope)) p
@@ -342,22 +342,22 @@ module _ {F : Type 0} (k n : ℕ) (kind : Kind) (reads : ValueCall F (Vec Piece)
           along s turn.between turn.after v.then p.then,
         )
 
-    chained : (m : ℕ) (turns : List T) (f g : F) (s t : State) → Fits f
+    chain_rounds : (m : ℕ) (turns : List T) (f g : F) (s t : State) → Fits f
         → Chain (run_rule rule) reads separates f s turns g t
         → (rounds scope rule (fuel turns m) s.place
         ≡ with_parts (parts_of turns) (rounds scope rule m t.place))
         × (t ≡ moved t.place s) × Fits g
-    chained m [] f g s t fit c = (
+    chain_rounds m [] f g s t fit c = (
       ap (λ (u : State). rounds scope rule m u.place) c.1
           ∙ no_parts (rounds scope rule m t.place),
       here s t (sym c.1),
       subst Fits c.0 fit,
     )
-    chained m (turn ∷ turns) f g s t fit c =
+    chain_rounds m (turn ∷ turns) f g s t fit c =
         let next = (tells f turn.parser s turn.between (Ok turn.value) fit c.0.opens.1).1 in
         let one = one_turn (fuel turns m) f s turn fit c.0
         (sym (progress_is s.place turn.after.place) ∙ c.1) in
-        let more = chained m turns turn.parser g turn.after t next c.2 in (
+        let more = chain_rounds m turns turn.parser g turn.after t next c.2 in (
           one.0 ∙ ap (with_parts (pieces_in turn.value ∷ (punct_pieces word
               turn.separator.spans ∷ []))) more.0
               ∙ two_more (pieces_in turn.value) (punct_pieces word turn.separator.spans)
@@ -366,12 +366,12 @@ module _ {F : Type 0} (k n : ℕ) (kind : Kind) (reads : ValueCall F (Vec Piece)
           more.2,
         )
 
-    ended : (m : ℕ) (turns : List T) (f : F) (s t : State)
+    ending_concludes : (m : ℕ) (turns : List T) (f : F) (s t : State)
         (r : Result (Punctuated (Vec Piece) (Punctuation k n)) Fault) → Fits f
         → s.scope_span ≡ scope
         → Ending (run_rule rule) reads separates f s turns r t
         → Concludes s (rounds scope rule (suc m) s.place) turns r t
-    ended m turns f s t (Ok list) fit e (at_end i q h) = (
+    ending_concludes m turns f s t (Ok list) fit e (at_end i q h) = (
       [],
       h.0,
       h.1,
@@ -379,8 +379,8 @@ module _ {F : Type 0} (k n : ℕ) (kind : Kind) (reads : ValueCall F (Vec Piece)
           ∙ ap (λ (u : State). read_all [] u.place) (sym q),
       here s t q,
     )
-    ended m turns f s t (Err x) fit e (at_end i q h) = absurd h
-    ended m turns f s t (Ok list) fit e (bare v g b i h) =
+    ending_concludes m turns f s t (Err x) fit e (at_end i q h) = absurd h
+    ending_concludes m turns f s t (Ok list) fit e (bare v g b i h) =
         let w = value f g s t v fit b.1 in (
           v ∷ [],
           h.0,
@@ -389,13 +389,13 @@ module _ {F : Type 0} (k n : ℕ) (kind : Kind) (reads : ValueCall F (Vec Piece)
               ∙ ap (λ z. read_all (z ∷ []) t.place) w.pieces,
           w.then,
         )
-    ended m turns f s t (Err x) fit e (bare v g b i h) = absurd h
-    ended m turns f s t r fit e (value_refused x g b q) =
+    ending_concludes m turns f s t (Err x) fit e (bare v g b i h) = absurd h
+    ending_concludes m turns f s t r fit e (value_refused x g b q) =
         concludes_no_value s _ turns x r t (kind_message kind (fresh s.place scope))
         (tells f g s t (Err x) fit b.1).0 q
         (message_there kind s ∙ ap (λ z. kind_message kind (fresh s.place z)) e)
         (λ h. none m s.place (begins rule s.place b.0) h)
-    ended m turns f s t r fit e (separator_refused v g u x b i h q) =
+    ending_concludes m turns f s t r fit e (separator_refused v g u x b i h q) =
         let w = value f g s u v fit b.1 in
         let p = no_separator u t x h in
         let back : t.place ≡ u.place = ap (λ (z : State). z.place) p.then in
@@ -406,9 +406,11 @@ module _ {F : Type 0} (k n : ℕ) (kind : Kind) (reads : ValueCall F (Vec Piece)
         ∙ ap (λ z. refused_at z u.place) (sym (separator_there word u))
         ∙ ap (refused_at (punctuation_message word u)) (sym back))
         (along s u t w.then (here u t p.then))
-    ended m turns f s t r fit e (value_lost v g x b i h q) = concludes_lost s _ turns x r t q h
-    ended m turns f s t r fit e (turn_lost turn x i q h j) = concludes_lost s _ turns x r t j h
-    ended m turns f s t r fit e (stuck turn x i q u h j) =
+    ending_concludes m turns f s t r fit e (value_lost v g x b i h q) =
+        concludes_lost s _ turns x r t q h
+    ending_concludes m turns f s t r fit e (turn_lost turn x i q h j) =
+        concludes_lost s _ turns x r t j h
+    ending_concludes m turns f s t r fit e (stuck turn x i q u h j) =
         let v = value f turn.parser s turn.between turn.value fit i.opens.1 in
         let p = separator turn.between turn.after turn.separator i.closes in
         let same : turn.after ≡ moved turn.after.place s =
@@ -416,7 +418,7 @@ module _ {F : Type 0} (k n : ℕ) (kind : Kind) (reads : ValueCall F (Vec Piece)
         let to : t ≡ moved t.place s = rw q same in
         let place : t.place ≡ turn.after.place = ap (λ (z : State). z.place) q in
         concludes_refused s _ turns x r t (runs.no_progress t) j h
-        (stopped m s.place turn.between.place turn.after.place v.trees p.trees
+        (stuck_refuses m s.place turn.between.place turn.after.place v.trees p.trees
         (begins rule s.place i.opens.0) v.is (goes_on rule turn.between.place i.goes_on) p.is
         (sym (progress_is s.place turn.after.place)
         ∙ ap (progresses s.place) (sym place) ∙ u.0)
@@ -429,12 +431,13 @@ module _ {F : Type 0} (k n : ℕ) (kind : Kind) (reads : ValueCall F (Vec Piece)
       → Told s (turns kind word s.scope_span rule (turns_left s.place) s.place) r t
   list-told rule f s t r fit run =
       let m = turns_left s.place in
-      let c = chained rule s.scope_span (suc m) run.turns f run.parser s run.last fit run.chain in
+      let c =
+      chain_rounds rule s.scope_span (suc m) run.turns f run.parser s run.last fit run.chain in
       let large : m ≤ fuel run.turns (suc m) = omega (arith, enough run.turns (suc m)) in
-      told s run.last t _ _ run.turns r (sym (more_turns_change_nothing kind word s.scope_span rule
-      (fuel run.turns (suc m)) s.place large) ∙ c.0) c.1
-      (ended rule s.scope_span m run.turns run.parser run.last t r c.2 (in_scope s run.last c.1)
-      run.ending)
+      run_told s run.last t _ _ run.turns r (sym (more_turns_change_nothing kind word s.scope_span
+      rule (fuel run.turns (suc m)) s.place large) ∙ c.0) c.1
+      (ending_concludes rule s.scope_span m run.turns run.parser run.last t r c.2
+      (in_scope s run.last c.1) run.ending)
 
   -- what a run says of the command that reads a list
   told-answer : (s t : State) (o : Outcome) (list : Punctuated (Vec Piece) (Punctuation k n))

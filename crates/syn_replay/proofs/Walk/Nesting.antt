@@ -118,17 +118,17 @@ module _ (d : Bool) (st : State) (tidy : Tidy st) (nested : Nested st) (k : ℕ)
   ends : Ended d nothing st after k (k + 1)
   ends = inside_ended d nothing k st tidy
 
-  shut : (n : ℕ) → Under st k n → (look after n).is_open ≡ false
-  shut n (first j f l) =
+  under_is_shut : (n : ℕ) → Under st k n → (look after n).is_open ≡ false
+  under_is_shut n (first j f l) =
       elim (cases_Bool (look after n).is_open) [
         | inl o ↦ absurd (ends.none_open n (omega (arith, l)) o ((ends.kept.ages n).kind ∙ f))
         | inr s ↦ s
       ]
-  shut n (deeper j p f l u) =
+  under_is_shut n (deeper j p f l u) =
       elim (cases_Bool (look after n).is_open) [
         | inl o ↦
             let i = ends.kept.tidy n p o ((ends.kept.ages n).kind ∙ f) in
-            absurd (both_ways (look after p).is_open (shut p u) i.parent)
+            absurd (both_ways (look after p).is_open (under_is_shut p u) i.parent)
         | inr s ↦ s
       ]
 
@@ -146,7 +146,7 @@ module _ (d : Bool) (st : State) (tidy : Tidy st) (nested : Nested st) (k : ℕ)
   open_after n =
       elim (cases_Bool (is_inside st k n)) [
         | inl i ↦
-            shut n (under_if st nested k n i)
+            under_is_shut n (under_if st nested k n i)
             ∙ sym (and_right (look st n).is_open _ (not_from_true (is_inside st k n) i))
         | inr out ↦ open_outside n out ∙ and_not (look st n).is_open (is_inside st k n) out
       ]
@@ -268,8 +268,8 @@ fork_ended st tidy nested k f n =
     ∙ and_neither (look st n).is_open (is_inside st f n) (n == f)
 
 -- the streams after a command that is done
-abbrev chosen : Command → State → Option ℕ → Stepped
-chosen c st o =
+abbrev unfit_or_step : Command → State → Option ℕ → Stepped
+unfit_or_step c st o =
     elim o [
       | Some n ↦ stays st (unfit n)
       | None ↦ step_on c.action st c.stream (stream_at st c.stream)
@@ -285,7 +285,7 @@ after_done c st after acts = go (misuse c st) where
   there None h = cc
   there (Some s) h = acts s h
 
-  go : (o : Option ℕ) → (chosen c st o).answer ≡ done → (chosen c st o).state ≡ after
+  go : (o : Option ℕ) → (unfit_or_step c st o).answer ≡ done → (unfit_or_step c st o).state ≡ after
   go (Some n) h = cc
   go None h = there (stream_at st c.stream) h
 

@@ -398,9 +398,9 @@ content_is outermost p h = cc
 content_is (content_of r) p h = ap content_of (eqb-true r p h)
 content_is a_fork p h = cc
 
-found : (st : State) (k p : ℕ) → is_open_content_of p (stream_at st k) ≡ true
+content_found : (st : State) (k p : ℕ) → is_open_content_of p (stream_at st k) ≡ true
     → ((look st k).is_open ≡ true) × ((look st k).kind ≡ content_of p)
-found st k p h =
+content_found st k p h =
     let (o, c) =
     and_parts (look st k).is_open (is_content_of p (look st k).kind)
     (sym (test_is p (stream_at st k)) ∙ h) in
@@ -449,7 +449,7 @@ module _ (d : Bool) (X : ℕ → Type 0) where
     kept = kept_on d st mid after a.kept rest;
     cleans =
         cleans_on d st mid after a.kept rest.ages X a.cleans
-        (cleans_on d mid up after kept b.kept.ages X
+        (cleans_on d mid up after up_is_kept b.kept.ages X
         (end_cleans d X mid next stream a.kept.tidy o kind) b.cleans);
     under = under;
     none_open = none_open;
@@ -460,11 +460,11 @@ module _ (d : Bool) (X : ℕ → Type 0) where
     kind : (look mid next).kind ≡ content_of stream
     kind = (a.kept.ages next).kind ∙ f
 
-    kept : Kept d mid up
-    kept = end_kept d mid next stream a.kept.tidy (all_shut d X next st mid a) o kind
+    up_is_kept : Kept d mid up
+    up_is_kept = end_kept d mid next stream a.kept.tidy (all_shut d X next st mid a) o kind
 
     rest : Kept d mid after
-    rest = kept_on d mid up after kept b.kept
+    rest = kept_on d mid up after up_is_kept b.kept
 
     u : Ends mid up next (taker d next stream) (given_by d (look mid next))
     u = ends_content d mid next stream a.kept.tidy o kind
@@ -479,7 +479,7 @@ module _ (d : Bool) (X : ℕ → Type 0) where
                 let same : k ≡ next = ends_only mid up next (taker d next stream) _ u k h c in
                 subst (Under st stream) (sym same) (first next f above)
             | inl g ↦
-                under_before st up stream k (λ j. (kept.ages j).kind ∙ (a.kept.ages j).kind)
+                under_before st up stream k (λ j. (up_is_kept.ages j).kind ∙ (a.kept.ages j).kind)
                 (b.under k g shut)
           ]
         ]
@@ -506,7 +506,7 @@ module _ (d : Bool) (X : ℕ → Type 0) where
       (again stream (next + 1) st tidy (omega (arith, above)) (omega (arith, bound)))
   end_next room stream next st tidy above bound again true e =
       let mid = contents_ended d room next (next + 1) st in
-      let (is_open, kind) = found st next stream e in
+      let (is_open, kind) = content_found st next stream e in
       let low : next < next + 1 = omega arith in
       let a = again next (next + 1) st tidy low (omega (arith, bound)) in
       let o = itself_open d X st mid next a is_open in

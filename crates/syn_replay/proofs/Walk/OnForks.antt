@@ -57,8 +57,8 @@ noted_on None b c = refl
 noted_on (Some l) b c = refl
 
 -- what a refused command leaves, and what any other makes
-abbrev chosen : State → Option ℕ → Stepped → Stepped
-chosen st o r = elim o [ Some n ↦ stays st (unfit n) | None ↦ r ]
+abbrev unfit_or : State → Option ℕ → Stepped → Stepped
+unfit_or st o r = elim o [ Some n ↦ stays st (unfit n) | None ↦ r ]
 
 -- a read makes no stream, so its answer names none
 taken_unchanged : (answers : List Tree → Answer)
@@ -116,12 +116,12 @@ module _ (front : State) (k : ℕ) (s0 : Stream) (here : stream_at front k ≡ S
   kind_on (content_of p) = content_of (on p)
   kind_on a_fork = a_fork
 
-  abbrev shifted : Stream → Stream
-  shifted s = record s { kind = kind_on s.kind }
+  abbrev shift_kind : Stream → Stream
+  shift_kind s = record s { kind = kind_on s.kind }
 
   -- the stream after the commands, and the fork
-  abbrev taken : Place → Option Leftover → Stream → Stream
-  taken p n s = record s { place = p; note = option_or s.note n }
+  abbrev after_commands : Place → Option Leftover → Stream → Stream
+  after_commands p n s = record s { place = p; note = option_or s.note n }
 
   abbrev fork_at : Place → Option Leftover → Stream
   fork_at p n =
@@ -145,18 +145,18 @@ module _ (front : State) (k : ℕ) (s0 : Stream) (here : stream_at front k ≡ S
     n : Option Leftover
     longer : length x + 1 ≡ length y
     room : made ≤ length x
-    mine : stream_at x k ≡ Some (taken p n s0)
+    mine : stream_at x k ≡ Some (after_commands p n s0)
     forks : stream_at y made ≡ Some (fork_at p n)
     kept : stream_at y k ≡ Some s0
-    later : (j : ℕ) → made ≤ j → stream_at y (j + 1) ≡ option_map shifted (stream_at x j)
+    later : (j : ℕ) → made ≤ j → stream_at y (j + 1) ≡ option_map shift_kind (stream_at x j)
     own : (j : ℕ) (s : Stream) → made ≤ j → stream_at x j ≡ Some s → OwnKind s.kind
 
   data Own (j : ℕ) : Type 0 where
     stream : j ≡ k → Own j
     later : made ≤ j → Own j
 
-  owned : (j : ℕ) → is_own k made j ≡ true → Own j
-  owned j h =
+  own_by_test : (j : ℕ) → is_own k made j ≡ true → Own j
+  own_by_test j h =
       elim (eqb_tells j k) [
         | inl same ↦ stream same.1
         | inr apart ↦ later (leb-true made j (sym (ap (λ b. b || nat_le made j) apart.0) ∙ h))
@@ -179,15 +179,16 @@ module _ (front : State) (k : ℕ) (s0 : Stream) (here : stream_at front k ≡ S
     both : (s : Stream) (kind : StreamKind) (note : Option Leftover) → a ≡ Some s
         → b ≡ Some (record s { kind = kind; note = note }) → Pair a b
 
-  pair_up : (a b : Option Stream) → b ≡ option_map shifted a → Pair a b
+  pair_up : (a b : Option Stream) → b ≡ option_map shift_kind a → Pair a b
   pair_up None b e = none refl e
   pair_up (Some s) b e = both s (kind_on s.kind) s.note refl e
 
-  seen : (x y : State) (j : ℕ) → Beside x y → Own j → Pair (stream_at x j) (stream_at y (on j))
-  seen x y j b (stream e) =
-      both (taken b.p b.n s0) a_fork b.n (ap (stream_at x) e ∙ b.mine)
+  streams_pair : (x y : State) (j : ℕ) → Beside x y → Own j
+      → Pair (stream_at x j) (stream_at y (on j))
+  streams_pair x y j b (stream e) =
+      both (after_commands b.p b.n s0) a_fork b.n (ap (stream_at x) e ∙ b.mine)
       (ap (λ z. stream_at y (on z)) e ∙ ap (stream_at y) on_stream_is ∙ b.forks)
-  seen x y j b (later h) =
+  streams_pair x y j b (later h) =
       pair_up (stream_at x j) (stream_at y (on j))
       (ap (stream_at y) (on_later j h) ∙ b.later j h)
 
@@ -198,7 +199,7 @@ module _ (front : State) (k : ℕ) (s0 : Stream) (here : stream_at front k ≡ S
   -- the stream and the fork are changed
   changed_own : (x y : State) (b : Beside x y) (f : Stream → Stream) (q : Place)
       (m : Option Leftover)
-      → f (taken b.p b.n s0) ≡ taken q m s0 → f (fork_at b.p b.n) ≡ fork_at q m
+      → f (after_commands b.p b.n s0) ≡ after_commands q m s0 → f (fork_at b.p b.n) ≡ fork_at q m
       → Beside (with_stream x k f) (with_stream y made f)
   changed_own x y b f q m e g =
       let low = k_below in
@@ -214,13 +215,13 @@ module _ (front : State) (k : ℕ) (s0 : Stream) (here : stream_at front k ≡ S
         kept = changed_not y made k f (λ w. omega (arith, low, w)) ∙ b.kept;
         later = λ j h.
             changed_not y made (j + 1) f (λ w. omega (arith, h, w)) ∙ b.later j h
-            ∙ ap (option_map shifted) (sym (changed_not x k j f (apart j h)));
+            ∙ ap (option_map shift_kind) (sym (changed_not x k j f (apart j h)));
         own = λ j s h w. b.own j s h (sym (changed_not x k j f (apart j h)) ∙ w);
       }
 
   -- a stream that was made is changed, but for its kind
   changed_later : (x y : State) → Beside x y → (i : ℕ) → made ≤ i → (f : Stream → Stream)
-      → ((s : Stream) → shifted (f s) ≡ f (shifted s)) → ((s : Stream) → (f s).kind ≡ s.kind)
+      → ((s : Stream) → shift_kind (f s) ≡ f (shift_kind s)) → ((s : Stream) → (f s).kind ≡ s.kind)
       → Beside (with_stream x i f) (with_stream y (i + 1) f)
   changed_later x y b i le f shifts same =
       let low = k_below in
@@ -237,21 +238,21 @@ module _ (front : State) (k : ℕ) (s0 : Stream) (here : stream_at front k ≡ S
         own = λ j s h e. own j s h e (cases_eq j i);
       } where
         twice : (o : Option Stream)
-            → option_map f (option_map shifted o) ≡ option_map shifted (option_map f o)
+            → option_map f (option_map shift_kind o) ≡ option_map shift_kind (option_map f o)
         twice None = refl
         twice (Some s) = ap (λ z. Some z) (sym (shifts s))
 
         at : (j : ℕ) → made ≤ j → (j ≡ i) ⊎ (j ≡ i → ⊥)
             → stream_at (with_stream y (i + 1) f) (j + 1)
-            ≡ option_map shifted (stream_at (with_stream x i f) j)
+            ≡ option_map shift_kind (stream_at (with_stream x i f) j)
         at j h (inl e) =
             ap (λ z. stream_at (with_stream y (i + 1) f) (z + 1)) e ∙ changed_at y (i + 1) f
             ∙ ap (option_map f) (b.later i le) ∙ twice (stream_at x i)
-            ∙ ap (option_map shifted) (sym (changed_at x i f))
-            ∙ ap (λ z. option_map shifted (stream_at (with_stream x i f) z)) (sym e)
+            ∙ ap (option_map shift_kind) (sym (changed_at x i f))
+            ∙ ap (λ z. option_map shift_kind (stream_at (with_stream x i f) z)) (sym e)
         at j h (inr d) =
             changed_not y (i + 1) (j + 1) f (λ w. d (omega (arith, w))) ∙ b.later j h
-            ∙ ap (option_map shifted) (sym (changed_not x i j f d))
+            ∙ ap (option_map shift_kind) (sym (changed_not x i j f d))
 
         own_at : (o : Option Stream) (s : Stream) → stream_at x i ≡ o → option_map f o ≡ Some s
             → OwnKind s.kind
@@ -269,8 +270,8 @@ module _ (front : State) (k : ℕ) (s0 : Stream) (here : stream_at front k ≡ S
 
   changed_beside : (x y : State) (b : Beside x y) (j : ℕ) → Own j → (f : Stream → Stream)
       (q : Place) (m : Option Leftover)
-      → f (taken b.p b.n s0) ≡ taken q m s0 → f (fork_at b.p b.n) ≡ fork_at q m
-      → ((s : Stream) → shifted (f s) ≡ f (shifted s)) → ((s : Stream) → (f s).kind ≡ s.kind)
+      → f (after_commands b.p b.n s0) ≡ after_commands q m s0 → f (fork_at b.p b.n) ≡ fork_at q m
+      → ((s : Stream) → shift_kind (f s) ≡ f (shift_kind s)) → ((s : Stream) → (f s).kind ≡ s.kind)
       → Beside (with_stream x j f) (with_stream y (on j) f)
   changed_beside x y b j (stream w) f q m e g shifts same =
       beside_eq _ _ _ _ (ap (λ z. with_stream x z f) w)
@@ -294,36 +295,36 @@ module _ (front : State) (k : ℕ) (s0 : Stream) (here : stream_at front k ≡ S
 
   -- one more stream is made
   made_beside : (x y : State) (t : Stream) → Beside x y → OwnKind t.kind
-      → Beside (x ++ t ∷ []) (y ++ shifted t ∷ [])
+      → Beside (x ++ t ∷ []) (y ++ shift_kind t ∷ [])
   made_beside x y t b h =
       let more = length-append x (t ∷ []) in
-      let other = length-append y (shifted t ∷ []) in
+      let other = length-append y (shift_kind t ∷ []) in
       record {
         p = b.p;
         n = b.n;
         longer = omega (arith, more, other, b.longer);
         room = omega (arith, more, b.room);
         mine = at_front x (t ∷ []) k _ b.mine;
-        forks = at_front y (shifted t ∷ []) made _ b.forks;
-        kept = at_front y (shifted t ∷ []) k _ b.kept;
+        forks = at_front y (shift_kind t ∷ []) made _ b.forks;
+        kept = at_front y (shift_kind t ∷ []) k _ b.kept;
         later = λ j le. at j le (cases_lt j (length x));
         own = λ j s le e. own j s le e (cases_lt j (length x));
       } where
         one : (i : ℕ)
-            → stream_at (shifted t ∷ []) i ≡ option_map shifted (stream_at (t ∷ []) i)
+            → stream_at (shift_kind t ∷ []) i ≡ option_map shift_kind (stream_at (t ∷ []) i)
         one zero = refl
         one (suc i) = refl
 
         at : (j : ℕ) → made ≤ j → (j < length x) ⊎ (length x ≤ j)
-            → stream_at (y ++ shifted t ∷ []) (j + 1)
-            ≡ option_map shifted (stream_at (x ++ t ∷ []) j)
+            → stream_at (y ++ shift_kind t ∷ []) (j + 1)
+            ≡ option_map shift_kind (stream_at (x ++ t ∷ []) j)
         at j le (inl low) =
-            before_end y (shifted t ∷ []) (j + 1) (omega (arith, low, b.longer)) ∙ b.later j le
-            ∙ ap (option_map shifted) (sym (before_end x (t ∷ []) j low))
+            before_end y (shift_kind t ∷ []) (j + 1) (omega (arith, low, b.longer)) ∙ b.later j le
+            ∙ ap (option_map shift_kind) (sym (before_end x (t ∷ []) j low))
         at j le (inr past) =
             let i = j - length x in
-            past_end y (shifted t ∷ []) (j + 1) i (omega (arith, past, b.longer)) ∙ one i
-            ∙ ap (option_map shifted) (sym (past_end x (t ∷ []) j i (omega (arith, past))))
+            past_end y (shift_kind t ∷ []) (j + 1) i (omega (arith, past, b.longer)) ∙ one i
+            ∙ ap (option_map shift_kind) (sym (past_end x (t ∷ []) j i (omega (arith, past))))
 
         only : (i : ℕ) (s : Stream) → stream_at (t ∷ []) i ≡ Some s → OwnKind s.kind
         only zero s e = subst (λ (z : Stream). OwnKind z.kind) (let q : t ≡ s = cc in q) h
@@ -377,12 +378,12 @@ module _ (front : State) (k : ℕ) (s0 : Stream) (here : stream_at front k ≡ S
   parents : (x y : State) (kind : StreamKind) (n : Option Leftover) → OwnKind kind → Beside x y
       → Beside (with_note_on_parent kind n x) (with_note_on_parent (kind_on kind) n y)
   parents x y outermost n h b = b
-  parents x y (content_of p) n h b = noted_beside x y p n b (owned p h)
+  parents x y (content_of p) n h b = noted_beside x y p n b (own_by_test p h)
   parents x y a_fork n h b = b
 
   raises : (x y : State) (i : ℕ) (b : Beside x y) → made ≤ i → (o : Option Stream)
       → stream_at x i ≡ o
-      → Beside (handed_with i x o) (handed_with (i + 1) y (option_map shifted o))
+      → Beside (handed_with i x o) (handed_with (i + 1) y (option_map shift_kind o))
   raises x y i b le None e = b
   raises x y i b le (Some s) e =
       changed_later _ _ (parents x y s.kind (handed_note s) (b.own i s le e) b) i le spent
@@ -417,11 +418,11 @@ module _ (front : State) (k : ℕ) (s0 : Stream) (here : stream_at front k ≡ S
   content_test : (j : ℕ) → Own j → (kind : StreamKind) → OwnKind kind
       → is_content_of (on j) (kind_on kind) ≡ is_content_of j kind
   content_test j own outermost h = refl
-  content_test j own (content_of q) h = same_parent q j (owned q h) own
+  content_test j own (content_of q) h = same_parent q j (own_by_test q h) own
   content_test j own a_fork h = refl
 
   open_test : (j : ℕ) → Own j → (o : Option Stream) → ((s : Stream) → o ≡ Some s → OwnKind s.kind)
-      → is_open_content_of (on j) (option_map shifted o) ≡ is_open_content_of j o
+      → is_open_content_of (on j) (option_map shift_kind o) ≡ is_open_content_of j o
   open_test j own None h = refl
   open_test j own (Some s) h = ap (λ z. s.is_open && z) (content_test j own s.kind (h s refl))
 
@@ -482,7 +483,7 @@ module _ (front : State) (k : ℕ) (s0 : Stream) (here : stream_at front k ≡ S
     after : Beside (step c x).state (step d y).state
 
   same_chosen : (x y : State) → Beside x y → (v : Option ℕ) (r q : Stepped) → Same r q
-      → Same (chosen x v r) (chosen y v q)
+      → Same (unfit_or x v r) (unfit_or y v q)
   same_chosen x y b None r q h = h
   same_chosen x y b (Some n) r q h = record { answer = refl; after = b }
 
@@ -510,23 +511,23 @@ module _ (front : State) (k : ℕ) (s0 : Stream) (here : stream_at front k ≡ S
   follow x y b j own a alone kinds same =
       let c = commands.on j a in
       let d = commands.on (on j) a in
-      let pair = seen x y j b own in
+      let pair = streams_pair x y j b own in
       let names_c : named c ≡ j ∷ [] = ap (with_other j) alone in
       let names_d : named d ≡ on j ∷ [] = ap (with_other (on j)) alone in
       let same_missing = missing_alike _ _ pair in
       let same_spent = spent_alike _ _ pair in
       let absent : any_of (is_missing x) (named c) ≡ any_of (is_missing y) (named d) = cc in
       let misused : misuse c x ≡ misuse d y = cc in
-      let is_d : step d y ≡ chosen y (misuse c x) (step_on a y (on j) (stream_at y (on j))) =
-      ap (λ z. chosen y z (step_on a y (on j) (stream_at y (on j)))) (sym misused) in
+      let is_d : step d y ≡ unfit_or y (misuse c x) (step_on a y (on j) (stream_at y (on j))) =
+      ap (λ z. unfit_or y z (step_on a y (on j) (stream_at y (on j)))) (sym misused) in
       let whole :
-      Same (step c x) (chosen y (misuse c x) (step_on a y (on j) (stream_at y (on j)))) =
+      Same (step c x) (unfit_or y (misuse c x) (step_on a y (on j) (stream_at y (on j)))) =
       same_chosen x y b (misuse c x) _ _ (same_step_on a x y j b _ _ pair same) in
       let after : Beside (step c x).state (step d y).state =
       beside_eq _ _ _ _ refl (ap (λ z. z.state) is_d) whole.after in
       let answers : answer_on_fork (step c x).answer ≡ (step d y).answer =
       whole.answer ∙ sym (ap (λ z. z.answer) is_d) in
-      let places = places_alike _ _ (seen (step c x).state (step d y).state j after own) in
+      let places = places_alike _ _ (streams_pair (step c x).state (step d y).state j after own) in
       let positions : position_in c x (step c x).state ≡ position_in d y (step d y).state = cc in
       record {
         same_line =
@@ -542,7 +543,7 @@ module _ (front : State) (k : ℕ) (s0 : Stream) (here : stream_at front k ≡ S
 
   kinds_on : (o : Option Stream)
       → tested false (λ (s : Stream). is_content s.kind) o
-      ≡ tested false (λ (s : Stream). is_content s.kind) (option_map shifted o)
+      ≡ tested false (λ (s : Stream). is_content s.kind) (option_map shift_kind o)
   kinds_on None = refl
   kinds_on (Some s) = content_on s.kind
 
@@ -561,22 +562,22 @@ module _ (front : State) (k : ℕ) (s0 : Stream) (here : stream_at front k ≡ S
       → is_own_action k (made) n a ≡ true → is_own k (made) n ≡ true
       → Follows (commands.on n a) (command_on_fork k (made) (commands.on n a)) x y
   follows_action (commands.read r) n x y b h own =
-      let o = owned n own in
+      let o = own_by_test n own in
       follow x y b n o (commands.read r) refl refl
       (λ s kind note. same_moves x y b n o own (read_answer r s.place s.scope_span)
       (read_unchanged r s.place s.scope_span))
   follows_action (commands.enter wanted) n x y b h own =
-      let o = owned n own in
+      let o = own_by_test n own in
       follow x y b n o (commands.enter wanted) refl refl
       (λ s kind note. same_group x y b n o own s kind note (entering_words wanted)
       (entered_by wanted s.place))
   follows_action commands.fork n x y b h own =
-      let o = owned n own in
+      let o = own_by_test n own in
       follow x y b n o commands.fork refl refl (λ s kind note. same_fork x y b n o own s kind note)
   follows_action (commands.advance f) n x y b h own = absurd (cc)
   follows_action commands.discard n x y b h own = absurd (cc)
   follows_action commands.close n x y b h own =
-      follow_close x y b n (not-true (n == k) h) (owned n own)
+      follow_close x y b n (not-true (n == k) h) (own_by_test n own)
 
   follows_each : (c : Command) (x y : State) → Beside x y
       → is_own_command k (made) c ≡ true
@@ -642,7 +643,7 @@ module _ (front : State) (k : ℕ) (s0 : Stream) (here : stream_at front k ≡ S
           kept = at_front front (new ∷ []) k s0 here;
           later = λ j h.
               nothing_past (front ++ new ∷ []) (j + 1) (omega (arith, h, more))
-              ∙ sym (ap (option_map shifted) (nothing_past front j h));
+              ∙ sym (ap (option_map shift_kind) (nothing_past front j h));
           own = λ j s h e. absurd (let q : None ≡ Some s = sym (nothing_past front j h) ∙ e in cc);
         }
 
@@ -656,17 +657,18 @@ module _ (front : State) (k : ℕ) (s0 : Stream) (here : stream_at front k ≡ S
     not_it e = let h = k_below in absurd (omega arith)
 
     module _ (x y : State) (b : Beside x y) (out : is_inside y (made) k ≡ false) where
-      abbrev reached : Bool
-      reached =
+      abbrev may_advance : Bool
+      may_advance =
           same_scope s0.place (place_of (stream_at y (made)))
           && not (k == made || is_inside y (made) k)
 
       advances : step (commands.on k to_fork) y
-          ≡ cond reached (record { answer = done; state = advanced k (made) y }) (stays y (unfit 5))
+          ≡ cond may_advance (record { answer = done; state = advanced k (made) y })
+          (stays y (unfit 5))
       advances = let p = b.kept in let q = b.forks in cc
 
       may : same_scope (place_of (stream_at y k)) (place_of (stream_at y (made))) ≡ true
-          → reached ≡ true
+          → may_advance ≡ true
       may h = let p = b.kept in let q = ne_eqb k (made) not_it in cc
 
       ends : same_scope (place_of (stream_at y k)) (place_of (stream_at y (made))) ≡ true

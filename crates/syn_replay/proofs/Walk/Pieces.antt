@@ -102,9 +102,9 @@ taken_in wanted (Some t) p r e = go (wanted t) refl e where
   go true w h = record { one = t; is_wanted = w; whole = cc }
   go false w h = cc
 
-taken : (wanted : Tree → Bool) (d : Place) (r : List Tree × Place) → reads.read_if wanted d ≡ Some r
-    → IsTaken wanted r.0
-taken wanted d r e = taken_in wanted (front d) (pass d) r e
+wanted_is_taken : (wanted : Tree → Bool) (d : Place) (r : List Tree × Place)
+    → reads.read_if wanted d ≡ Some r → IsTaken wanted r.0
+wanted_is_taken wanted d r e = taken_in wanted (front d) (pass d) r e
 
 -- no character is left, or no span: all have become pieces
 pub all_pieces : (made whole : List reports.Piece) (text : List ℕ) (spans : List Span)
@@ -160,12 +160,12 @@ pub punctuation-pieces : (text : List ℕ) (p : Place) (r : List Tree × Place)
     → read_punctuation text p ≡ Some r → pieces_of r.0 ≡ punct_pieces text (map tree_span r.0)
 punctuation-pieces [] p r e = cc
 punctuation-pieces (c ∷ []) p r e =
-    let one = taken (is_punct_of c) (descend p) r e in
+    let one = wanted_is_taken (is_punct_of c) (descend p) r e in
     single_pieces c [] one.one r.0 [] (of_single c one.one one.is_wanted) one.whole refl
 punctuation-pieces (c ∷ (d ∷ cs)) p r e =
     let parts =
     both_read (reads.read_if (is_joint_of c) (descend p)) (read_punctuation (d ∷ cs)) r e in
-    let one = taken (is_joint_of c) (descend p) parts.first parts.is_first in
+    let one = wanted_is_taken (is_joint_of c) (descend p) parts.first parts.is_first in
     single_pieces c (d ∷ cs) one.one r.0 parts.second.0 (of_joint c one.one one.is_wanted)
     (parts.whole ∙ ap (λ z. z ++ parts.second.0) one.whole)
     (punctuation-pieces (d ∷ cs) parts.first.1 parts.second parts.is_second)
@@ -198,13 +198,13 @@ module _ (n : ℕ) (text : List ℕ) (same : sized n text ≡ text) (ascii : cha
   sized-refused s f t h =
       let P : List ℕ → Type 0 = λ z. PunctuationParses (λ v. v) z (sized n text) s (Err f) t in
       let Q : List ℕ → Type 0 = λ z. PunctuationParses (λ v. v) text z s (Err f) t in
-      refused (read_punctuation text s.place) f (subst Q same (subst P own_chars h)) where
-        refused : (x : Option (List Tree × Place)) (f : Fault)
+      refusal_reads (read_punctuation text s.place) f (subst Q same (subst P own_chars h)) where
+        refusal_reads : (x : Option (List Tree × Place)) (f : Fault)
             → ReadsAtOnce (λ v. AreSpans v) x (punctuation_message text s) s (Err f) t
             → ReadsPieces x (punctuation_message text s) s (Err f) t
-        refused None (Refused e) h = (refl, h.0, h.1)
-        refused x (Memory e) h = tt
-        refused (Some r) (Refused e) h = absurd h
+        refusal_reads None (Refused e) h = (refl, h.0, h.1)
+        refusal_reads x (Memory e) h = tt
+        refusal_reads (Some r) (Refused e) h = absurd h
 
 -- a text of the length that is asked for, and one of at most one byte
 pub sized_same : (n : ℕ) (text : List ℕ) → length text ≡ n → sized n text ≡ text

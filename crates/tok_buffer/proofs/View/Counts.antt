@@ -26,8 +26,8 @@ counted-dropped : (n s c : ℕ) (l : Level) (ls : List Level) → c + remaining_
     → IsCounted (at n s (c + 1) l ls)
 counted-dropped n s c (level o p a) ls h = omega (arith, h)
 
-pub counted : IsKept IsCounted
-counted = record {
+pub kept-counted : IsKept IsCounted
+kept-counted = record {
   into = λ n s c o p inside span f ls h. omega (arith, h);
   out =
       λ n s c o p l ls h. counted-dropped n s c (absorb o p l) ls
@@ -35,4 +35,4 @@ counted = record {
 }
 
 pub counted-descend : (p : Place) → IsCounted p → IsCounted (descend p)
-counted-descend = kept-descend IsCounted counted
+counted-descend = kept-descend IsCounted kept-counted

@@ -68,8 +68,8 @@ starts_agree b c e = view-starts b c e
 
 -- The places after each call are reached.
 module _ (b : Laid) where
-  pub reaching : Leads (Reached b) (Reached b)
-  reaching = record { down = down; past = λ p t e h. past p h; weaker = λ p h. h }
+  pub reached_leads_on : Leads (Reached b) (Reached b)
+  reached_leads_on = record { down = down; past = λ p t e h. past p h; weaker = λ p h. h }
 
   -- the place after a group is the place after the tree in front
   entry_after : (p : Place) → IfSome (enter_any p) (λ e. e.after ≡ pass p)
@@ -104,7 +104,7 @@ module _ (b : Laid) where
 
 pub calls_lead_on : CallsLeadOn
 calls_lead_on b p h =
-    let m = reaching b in
+    let m = reached_leads_on b in
     let R = Reached b in
     record {
       idents = leads R R m of_ident p h;

@@ -22,7 +22,7 @@ use Rattle.tok_buffer.specs.View.{closing_marks, closings, closers, delimiter_at
 use Rattle.tok_buffer.specs.View.{one_scope_in_view, view}
 use Rattle.tok_buffer.proofs.View.Closers.{HasClosers, closers-into, closers-out, closers-past}
 use Rattle.tok_buffer.proofs.View.Closers.{closers-content, closers-whole, no_closing}
-use Rattle.tok_buffer.proofs.View.Counts.{IsCounted, counted, counted-start}
+use Rattle.tok_buffer.proofs.View.Counts.{IsCounted, kept-counted, counted-start}
 use Rattle.tok_buffer.proofs.View.Ends.{IsSettled, is_settled, IsFilledPlace, kept-filled}
 use Rattle.tok_buffer.proofs.View.Keeps.{IsKept, kept-descend, IsDescended, descended-descend}
 use Rattle.tok_buffer.proofs.View.Moves.{IsMoved, moved-pass, Leads}
@@ -82,14 +82,14 @@ module _ (number : ℕ) (f : Forest) where
   kept-holds = record {
     into = λ n s c o p inside span a ls h. record {
       filled = kept-filled.into n s c o p inside span a ls h.filled;
-      counted = counted.into n s c o p inside span a ls h.counted;
+      counted = kept-counted.into n s c o p inside span a ls h.counted;
       inside = (kept-in f).into n s c o p inside span a ls h.inside;
       closers = closers-into f n s c o p inside span a ls h.inside h.closers;
       scoped = (h.scoped.0, h.scoped.1, one_owner o p p a _ ls ∙ h.scoped.2);
     };
     out = λ n s c o p l ls h. record {
       filled = kept-filled.out n s c o p l ls h.filled;
-      counted = counted.out n s c o p l ls h.counted;
+      counted = kept-counted.out n s c o p l ls h.counted;
       inside = (kept-in f).out n s c o p l ls h.inside;
       closers = closers-out f n s c o p l ls h.inside h.closers;
       scoped = (h.scoped.0, h.scoped.1, absorbed_owner o p l ls ∙ h.scoped.2);

@@ -15,7 +15,7 @@ use Rattle.tok_lexical.specs.Starts.{rules_of, line_rule, block_rule}
 use Rattle.tok_lexical.specs.declared.rule.Rules.{Rules}
 use Rattle.tok_lexical.specs.declared.rule.Rules.TheVariants.{Plain, Marked, Source}
 use Rattle.tok_lexical.proofs.Slashes.{decides_line, decides_block}
-use Rattle.tok_lexical.proofs.Fits.{decided}
+use Rattle.tok_lexical.proofs.Fits.{fits_longest}
 use Rattle.tok_lexical.proofs.Longest.{takes_one}
 use Rattle.tok_lexical.proofs.Texts.{cut_length}
 use Rattle.std.proofs.lemmas.Bool.{false≢true, eqb-true}
@@ -147,7 +147,7 @@ pub shorter : (rules : List Rule) (rule : Rule) (text rest taken : List ℕ) →
     IsUtf8 rest → IsFirstFit (chars text) rules rule taken (chars rest) →
     length rest < length text
 shorter rules rule text rest taken u v d =
-    let t = decided d in
+    let t = fits_longest d in
     let one = spelled_one rule taken t.spelled in
     let many = length-le-encodes taken in
     let l = cut_length text rest taken u v t.cut in
@@ -162,7 +162,7 @@ blank_front : (text rest : List ℕ) (rule : Rules → Rule) → IsUtf8 text →
     taken (chars rest)) → IsBlank (chars text) (chars rest) (length text - length rest)
 blank_front text rest rule u v nothings d every number at =
     let p = d every in
-    let t = decided p.1 in
+    let t = fits_longest p.1 in
     let nothing = nothings every number at p.0 (chars rest) t in
     let l = cut_length text rest p.0 u v t.cut in
     let wide = nothing.wide in

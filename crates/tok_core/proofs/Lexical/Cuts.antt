@@ -38,7 +38,7 @@ use Rattle.tok_lexical.specs.declared.rule.Rule.{Rule}
 use Rattle.tok_lexical.specs.declared.rule.Rule.TheVariants.{Whitespace}
 use Rattle.tok_core.proofs.Lexical.Blanks.{recut}
 use Rattle.tok_core.proofs.Lexical.Nests.{opens_of, paired_of, reached_later}
-use Rattle.tok_lexical.proofs.Fits.{decided}
+use Rattle.tok_lexical.proofs.Fits.{fits_longest}
 use Rattle.tok_core.proofs.Lexical.Steps.{refuses}
 use Rattle.tok_lexical.proofs.Texts.{cut_length}
 
@@ -75,7 +75,7 @@ cut_return : {rules : List Rule} {number at end : ℕ} {text rest : List ℕ} {s
     Cut rules number at text some end rest → has_return rest ≡ true → has_return text ≡ true
 cut_return stop h = h
 cut_return {text = text} (piece {taken = taken} {after = after} e n c) h =
-    has_later_return text taken after (decided e).cut (cut_return c h)
+    has_later_return text taken after (fits_longest e).cut (cut_return c h)
 
 -- where the loop stands
 pub record SoFar (begin : ℕ) (rules : List Rule) (number : ℕ) (text rest : List ℕ) (at : ℕ)
@@ -107,7 +107,7 @@ module _ (begin : ℕ) (rules : List Rule) (number : ℕ) (text rest : List ℕ)
       IsFirstFit (chars rest) rules rule taken (chars after) → (at + width rule taken) + length
       after ≤ begin + length text
   place_fits rule after taken u v d =
-      let l = cut_length rest after taken u v (decided d).cut in
+      let l = cut_length rest after taken u v (fits_longest d).cut in
       let short = s.short in
       let w = width_le rule taken in
       omega arith
@@ -155,10 +155,10 @@ module _ (begin : ℕ) (rules : List Rule) (number : ℕ) (text rest : List ℕ)
   pub returns_from : (rule : Rule) (taken after : List ℕ) → IsFirstFit (chars rest) rules rule
       taken after → has_return taken ≡ true → has_return (chars text) ≡ true
   returns_from rule taken after d h =
-      cut_return s.cut (has_piece_return (chars rest) taken after (decided d).cut h)
+      cut_return s.cut (has_piece_return (chars rest) taken after (fits_longest d).cut h)
 
-  pub paired : IsPaired nest
-  paired = paired_of s.holds
+  pub nest_is_paired : IsPaired nest
+  nest_is_paired = paired_of s.holds
 
   reads_held : (all : List Item) → Cut rules number begin (chars text) all at [] →
       (groups : List (Delimiter × ℕ)) (levels : List Forest) (f : Forest) → groups ≡ [] →
@@ -172,10 +172,10 @@ module _ (begin : ℕ) (rules : List Rule) (number : ℕ) (text rest : List ℕ)
   reads_all e o = reads_held s.all (recut refl refl e s.cut) nest.groups nest.levels.outer
       nest.levels.inner o s.holds
 
-  refused : (error : LexError) → error.source ≡ nest.source →
+  refuses_here : (error : LexError) → error.source ≡ nest.source →
       Refuses rules nest.groups at (chars rest) error.kind error.at →
       IsRefusedFrom begin rules number (chars text) error
-  refused error e r =
+  refuses_here error e r =
       (e ∙ s.same_source, (s.all, at, chars rest, nest.groups, s.cut, opens_of s.holds, r))
 
   pub refused_unclosed : (fewer : List (Delimiter × ℕ)) (group : Delimiter × ℕ)
@@ -183,7 +183,7 @@ module _ (begin : ℕ) (rules : List Rule) (number : ℕ) (text rest : List ℕ)
       error ≡ record { kind = UnclosedGroup; source = number; at = group.1 } →
       IsRefusedFrom begin rules number (chars text) error
   refused_unclosed fewer group error e o is =
-      refused error (ap (λ w. w.source) is ∙ sym s.same_source)
+      refuses_here error (ap (λ w. w.source) is ∙ sym s.same_source)
       (subst (λ w. Refuses rules nest.groups at (chars rest) w.kind w.at) (sym is)
       (unclosed group.0 fewer e o))
 
@@ -196,7 +196,7 @@ module _ (begin : ℕ) (rules : List Rule) (number : ℕ) (text rest : List ℕ)
       subst (λ w. OnRefused w (IsRefusedFrom begin rules number (chars text))) (sym is) tt
   fault_here taken after rule (Refused why) fault d h is =
       subst (λ w. OnRefused w (IsRefusedFrom begin rules number (chars text))) (sym is)
-      (refused (record { kind = why; source = number; at = at }) (sym s.same_source)
+      (refuses_here (record { kind = why; source = number; at = at }) (sym s.same_source)
       (refuses rules nest.groups rule at why (chars rest) taken after d h))
 
 pub ends_in_other : (rules : Rules) → EndsInOther (rules_of rules)

@@ -50,36 +50,36 @@ leaf_same : (l k : Leaf) → leaf_item l ≡ leaf_item k → l ≡ k
 leaf_same l k e = cc
 
 -- one list of items, one forest
-known : {number : ℕ} {one other : Forest} {aa bb : List Item} (xs ys : List Item) → Ends xs →
-    Ends ys → Flat number one aa → Flat number other bb → aa ++ xs ≡ bb ++ ys → (one ≡ other)
-    × (xs ≡ ys)
-known xs ys h k no_items no_items e = (refl, e)
-known xs ys h k no_items (leaf_first {l = l} {items = items} m) e =
+items_tell_forest : {number : ℕ} {one other : Forest} {aa bb : List Item} (xs ys : List Item) →
+    Ends xs → Ends ys → Flat number one aa → Flat number other bb → aa ++ xs ≡ bb ++ ys →
+    (one ≡ other) × (xs ≡ ys)
+items_tell_forest xs ys h k no_items no_items e = (refl, e)
+items_tell_forest xs ys h k no_items (leaf_first {l = l} {items = items} m) e =
     absurd (no_leaf_end l xs (items ++ ys) h (sym e))
-known xs ys h k no_items (group_first delimiter start end m n) e =
+items_tell_forest xs ys h k no_items (group_first delimiter start end m n) e =
     absurd (no_open_end delimiter start xs _ h (sym e))
-known xs ys h k (leaf_first {l = l} {items = items} m) no_items e =
+items_tell_forest xs ys h k (leaf_first {l = l} {items = items} m) no_items e =
     absurd (no_leaf_end l ys (items ++ xs) k e)
-known xs ys h k (leaf_first {l = l} {f = f} {items = items} m)
+items_tell_forest xs ys h k (leaf_first {l = l} {f = f} {items = items} m)
     (leaf_first {l = l'} {items = items'} m') e =
     let w = first_same (leaf_item l) (leaf_item l') (items ++ xs) (items' ++ ys) e in
-    let r = known xs ys h k m m' w.1 in
+    let r = items_tell_forest xs ys h k m m' w.1 in
     (ap (λ v. tree (leaf v) f) (leaf_same l l' w.0) ∙ ap (tree (leaf l')) r.0, r.1)
-known xs ys h k (leaf_first {l = l} m) (group_first delimiter start end n p) e =
+items_tell_forest xs ys h k (leaf_first {l = l} m) (group_first delimiter start end n p) e =
     absurd (no_leaf_open l delimiter start (first_same _ _ _ _ e).0)
-known xs ys h k (group_first delimiter start end m n) no_items e =
+items_tell_forest xs ys h k (group_first delimiter start end m n) no_items e =
     absurd (no_open_end delimiter start ys _ k e)
-known xs ys h k (group_first delimiter start end m n) (leaf_first {l = l} p) e =
+items_tell_forest xs ys h k (group_first delimiter start end m n) (leaf_first {l = l} p) e =
     absurd (no_leaf_open l delimiter start (sym (first_same _ _ _ _ e).0))
-known {number} xs ys h k (group_first {inside = inside} {f = f} {inner = inner} {items = items} d
-    s t m n) (group_first {inside = inside'} {f = f'} {inner = inner'} {items = items'} d' s' t'
-    m' n') e =
+items_tell_forest {number} xs ys h k
+    (group_first {inside = inside} {f = f} {inner = inner} {items = items} d s t m n)
+    (group_first {inside = inside'} {f = f'} {inner = inner'} {items = items'} d' s' t' m' n') e =
     let w = first_same (opening d s) (opening d' s') _ _ e in
-    let i = known (closing d t ∷ items ++ xs) (closing d' t' ∷ items' ++ ys) tt tt m m'
+    let i = items_tell_forest (closing d t ∷ items ++ xs) (closing d' t' ∷ items' ++ ys) tt tt m m'
     (sym (append_assoc inner (closing d t ∷ items) xs) ∙ w.1
     ∙ append_assoc inner' (closing d' t' ∷ items') ys) in
     let c = first_same (closing d t) (closing d' t') _ _ i.1 in
-    let r = known xs ys h k n n' c.1 in
+    let r = items_tell_forest xs ys h k n n' c.1 in
     let ds : d ≡ d' = let a = w.0 in cc in
     let ss : s ≡ s' = let a = w.0 in cc in
     let ts : t ≡ t' = let a = c.0 in cc in (
@@ -93,4 +93,4 @@ known {number} xs ys h k (group_first {inside = inside} {f = f} {inner = inner} 
 
 pub one_forest : {number : ℕ} {one other : Forest} {items : List Item} → Flat number one items →
     Flat number other items → one ≡ other
-one_forest m n = (known [] [] tt tt m n refl).0
+one_forest m n = (items_tell_forest [] [] tt tt m n refl).0

@@ -42,9 +42,9 @@ pub paired_of : {number n : ℕ} {groups : List (Delimiter × ℕ)} {levels : Li
 paired_of (last d k) = refl
 paired_of (outer d k h) = ap suc (paired_of h)
 
-moved : (before all more : List Item) (x : Item) → before ++ x ∷ (all ++ more)
+more_at_end : (before all more : List Item) (x : Item) → before ++ x ∷ (all ++ more)
     ≡ (before ++ x ∷ all) ++ more
-moved before all more x = sym (append_assoc before (x ∷ all) more)
+more_at_end before all more x = sym (append_assoc before (x ∷ all) more)
 
 -- more trees at the innermost level
 holds_more : {number n : ℕ} {groups : List (Delimiter × ℕ)} {levels : List Forest}
@@ -57,7 +57,7 @@ holds_more {number} {n} {groups} {levels} {f} g more l m
     (outer {start = start} {delimiter = delimiter} {groups = inner} {levels = rest}
     {before = before} {all = all} d k h) =
     subst (Holds number n groups levels (concat f g))
-    (moved before all more (opening delimiter start))
+    (more_at_end before all more (opening delimiter start))
     (outer d k (holds_more g more (omega arith) m h))
 
 holds_leaf : {number n : ℕ} {groups : List (Delimiter × ℕ)} {levels : List Forest}
@@ -70,7 +70,7 @@ holds_leaf {number} {n} {groups} {levels} {f} l
     (outer {start = start} {delimiter = delimiter} {groups = inner} {levels = rest}
     {before = before} {all = all} d k h) =
     subst (Holds number n groups levels (concat f (tree (leaf l) no_trees)))
-    (moved before all (leaf_item l ∷ []) (opening delimiter start))
+    (more_at_end before all (leaf_item l ∷ []) (opening delimiter start))
     (outer d k (holds_leaf l h))
 
 holds_open : {number n : ℕ} {groups : List (Delimiter × ℕ)} {levels : List Forest}
@@ -83,7 +83,7 @@ holds_open {number} {n = suc n} {f = f} {all = all} delimiter at l (last d k) =
 holds_open {number} {n} {groups} {levels} {f} delimiter at l
     (outer {start = s} {delimiter = e} {before = before} {all = all} d k m) =
     subst (Holds number n (groups ++ (delimiter, at) ∷ []) (levels ++ f ∷ []) no_trees)
-    (moved before all (opening delimiter at ∷ []) (opening e s))
+    (more_at_end before all (opening delimiter at ∷ []) (opening e s))
     (outer d k (holds_open delimiter at (omega arith) m))
 
 holds_closed : {number n : ℕ} {f : Forest} {all : List Item} (groups : List (Delimiter × ℕ))
@@ -96,26 +96,27 @@ holds_closed {number} {n} {f} [] [] delimiter start earlier end
     (outer {before = before} {all = all} d k (last e m)) =
     last (depth_joined n earlier _ d (omega arith))
     (subst (Flat number _)
-    (moved before all (closing delimiter end ∷ []) (opening delimiter start))
+    (more_at_end before all (closing delimiter end ∷ []) (opening delimiter start))
     (flat_joined k (group_first delimiter start end m no_items)))
 holds_closed {number} {n} {f} (p ∷ groups) (w ∷ levels) delimiter start earlier end
     (outer {before = before} {all = all} d k h) =
     subst (Holds number n (p ∷ groups) (w ∷ levels)
     (concat earlier (tree (group delimiter f (source number start end)) no_trees)))
-    (moved before all (closing delimiter end ∷ []) (opening p.0 p.1))
+    (more_at_end before all (closing delimiter end ∷ []) (opening p.0 p.1))
     (outer d k (holds_closed groups levels delimiter start earlier end h))
 holds_closed [] (w ∷ levels) delimiter start earlier end (outer d k h) =
-    absurd (unpaired levels earlier (paired_of h))
+    absurd (levels_not_empty levels earlier (paired_of h))
   where
-    unpaired : (levels : List Forest) (f : Forest) → 0 ≡ length (levels ++ f ∷ []) → ⊥
-    unpaired [] f e = omega (arith, e)
-    unpaired (w ∷ levels) f e = omega (arith, e)
+    levels_not_empty : (levels : List Forest) (f : Forest) → 0 ≡ length (levels ++ f ∷ []) → ⊥
+    levels_not_empty [] f e = omega (arith, e)
+    levels_not_empty (w ∷ levels) f e = omega (arith, e)
 holds_closed (p ∷ groups) [] delimiter start earlier end (outer d k h) =
-    absurd (unpaired groups (paired_of h))
+    absurd (groups_not_empty groups (paired_of h))
   where
-    unpaired : (groups : List (Delimiter × ℕ)) → length (groups ++ (delimiter, start) ∷ []) ≡ 0 → ⊥
-    unpaired [] e = omega (arith, e)
-    unpaired (w ∷ groups) e = omega (arith, e)
+    groups_not_empty : (groups : List (Delimiter × ℕ)) →
+        length (groups ++ (delimiter, start) ∷ []) ≡ 0 → ⊥
+    groups_not_empty [] e = omega (arith, e)
+    groups_not_empty (w ∷ groups) e = omega (arith, e)
 
 reached_push : (groups : List (Delimiter × ℕ)) (delimiter : Delimiter) (start at : ℕ) →
     start ≤ at → Reached groups at → Reached (groups ++ (delimiter, start) ∷ []) at

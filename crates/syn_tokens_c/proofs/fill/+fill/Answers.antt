@@ -5,7 +5,7 @@ use Rattle.tok_leaves.specs.Spans.{bounds_delimiter}
 use Rattle.tok_core.specs.Weight.{weight, tree_weight}
 use Rattle.tok_core.proofs.Trees.{weight_here}
 use Rattle.syn_tokens_c.specs.Entries.{texts}
-use Rattle.syn_tokens_c.proofs.Fillings.{filled}
+use Rattle.syn_tokens_c.proofs.Fillings.{fill_lays}
 use Rattle.syn_tokens_c.proofs.fill.+fill.Goals as goal
 
 pub fill-fill_tree-requires : goal.fill-fill_tree-requires
@@ -19,7 +19,7 @@ pub fill_tree-returns-in_ok-push-in-Group-2-clause-entries :
     goal.fill_tree-returns-in_ok-push-in-Group-2-clause-entries
 fill_tree-returns-in_ok-push-in-Group-2-clause-entries t c =
     let xs = c.args.entries.now.items in
-    filled xs c.push-in-Group.new.self.items c.fill.new.entries.items
+    fill_lays xs c.push-in-Group.new.self.items c.fill.new.entries.items
     c.push-in-Group-2.new.self.items c.edge.result c.edge-in-Group.result c.edge-closing.result
     c.delimiter-delimiter.result c.stream.result.now (tree_span (group_of c.in-Group.group))
     c.span_open-in-Group.result c.span_close.result (tree_of c.args.next.now)

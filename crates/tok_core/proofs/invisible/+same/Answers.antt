@@ -4,7 +4,7 @@ use Rattle.tok_core.specs.Forest.{Tree, Forest, tree, no_trees}
 use Rattle.tok_core.specs.Private.Pending.{IsVisible}
 use Rattle.tok_leaves.specs.Spans.{bounds_delimiter, bounds_span}
 use Rattle.tok_core.specs.Seen.{tree_of, group_of}
-use Rattle.tok_core.proofs.SameVisible.{group_same, group_content, answered}
+use Rattle.tok_core.proofs.SameVisible.{group_same, group_content, if_ok_follows}
 use Rattle.tok_core.proofs.invisible.+same.Goals as goal
 
 abbrev erased : Tree → Forest
@@ -20,7 +20,7 @@ same_tree-returns-then-same_edges t c =
     let seen_left : IsVisible (group_of l) = subst V left c.requires.left_visible in
     let seen_right : IsVisible (group_of r) = subst V right c.requires.right_visible in
     let edges = (c.same_edges.ensures).0 c.if-same_edges.true in
-    answered c.same_visible.result (λ b h. (
+    if_ok_follows c.same_visible.result (λ b h. (
       λ y. ap erased left
           ∙ group_same (bounds_delimiter l.bounds) (bounds_delimiter r.bounds) l.stream r.stream
           (bounds_span l.bounds) (bounds_span r.bounds) seen_left seen_right edges.0 edges.1

@@ -1,9 +1,9 @@
 use Rattle.std.proofs.Common.{◌+◌, ◌∙◌, refl, ap, arith}
-use Rattle.tok_lexical.proofs.Fits.{decided}
+use Rattle.tok_lexical.proofs.Fits.{fits_longest}
 use Rattle.tok_core.specs.Private.Built.{state}
 use Rattle.tok_core.proofs.Lexical.Blanks.{shorter}
 use Rattle.tok_core.proofs.Lexical.Cuts.{so_far_start, so_far_more, so_far_blank, all_tried}
-use Rattle.tok_core.proofs.Lexical.Cuts.{reads_all, refused_unclosed, paired, returns_from}
+use Rattle.tok_core.proofs.Lexical.Cuts.{reads_all, refused_unclosed, nest_is_paired, returns_from}
 use Rattle.tok_core.proofs.Lexical.Cuts.{none_left, fault_here, decided_piece, ends_in_other}
 use Rattle.tok_core.proofs.lexer.read.Goals as goal
 
@@ -16,12 +16,13 @@ loop-rule-init g c = (
 )
 
 pub front_of-piece-requires : goal.front_of-piece-requires
-front_of-piece-requires g c = (c.in-Some.ensures.tries.0, (decided c.in-Some.ensures.tries.1).cut)
+front_of-piece-requires g c =
+    (c.in-Some.ensures.tries.0, (fits_longest c.in-Some.ensures.tries.1).cut)
 
 pub take_in-requires-clause-spelled : goal.take_in-requires-clause-spelled
 take_in-requires-clause-spelled g c =
-    (decided (decided_piece _ c.in-Some.rule _ _ _ _
-    (c.front_of-piece.ensures.is _ (decided c.in-Some.ensures.tries.1).cut)
+    (fits_longest (decided_piece _ c.in-Some.rule _ _ _ _
+    (c.front_of-piece.ensures.is _ (fits_longest c.in-Some.ensures.tries.1).cut)
     c.in-Some.ensures.tries.1)).spelled
 
 pub returns-in-Err-clause-refuses : goal.returns-in-Err-clause-refuses
@@ -29,7 +30,7 @@ returns-in-Err-clause-refuses g c = fault_here _ _ _ _ c.loop-rule.rest.now _
     (state g.B.Build.levels c.loop-rule.nest) c.loop-rule.invariant.1 _ _ c.in-Some.rule
     c.in-Err.halt _
     (decided_piece _ c.in-Some.rule _ _ _ _
-    (c.front_of-piece.ensures.is _ (decided c.in-Some.ensures.tries.1).cut)
+    (c.front_of-piece.ensures.is _ (fits_longest c.in-Some.ensures.tries.1).cut)
     c.in-Some.ensures.tries.1) c.in-Err.ensures.refused c.fault.ensures
 
 pub loop-rule-smaller : goal.loop-rule-smaller
@@ -46,7 +47,7 @@ loop-rule-preserved g c =
     _ _ (state g.B.Build.levels c.take_in.new.self) c.in-Some.rule
     c.loop-rule.invariant.0 c.in-Some.ensures.utf8
     (decided_piece _ c.in-Some.rule _ _ _ _
-    (c.front_of-piece.ensures.is _ (decided c.in-Some.ensures.tries.1).cut)
+    (c.front_of-piece.ensures.is _ (fits_longest c.in-Some.ensures.tries.1).cut)
     c.in-Some.ensures.tries.1) (ap (λ w. c.loop-rule.at + w) c.width.ensures)
     c.in-Ok.ensures.meant c.in-Ok.ensures.ok in (
       c.past_blanks-rest.utf8,
@@ -78,7 +79,7 @@ returns-clause-closed g c =
     (none_left _ _ c.in-None.ensures.cases.0 c.loop-rule.nest.«open».ok.0)).0
 
 pub take_in-requires-clause-paired : goal.take_in-requires-clause-paired
-take_in-requires-clause-paired g c = paired _ _ _ _ c.loop-rule.rest.now _
+take_in-requires-clause-paired g c = nest_is_paired _ _ _ _ c.loop-rule.rest.now _
     (state g.B.Build.levels c.loop-rule.nest) c.loop-rule.invariant.1
 
 pub take_in-requires-clause-fits : goal.take_in-requires-clause-fits
@@ -94,5 +95,5 @@ take_in-requires-clause-returns g c = λ h. c.may_have_return-returns.ensures
     (returns_from _ _ _ _ c.loop-rule.rest.now _ (state g.B.Build.levels c.loop-rule.nest)
     c.loop-rule.invariant.1 c.in-Some.rule _ _
     (decided_piece _ c.in-Some.rule _ _ _ _
-    (c.front_of-piece.ensures.is _ (decided c.in-Some.ensures.tries.1).cut)
+    (c.front_of-piece.ensures.is _ (fits_longest c.in-Some.ensures.tries.1).cut)
     c.in-Some.ensures.tries.1) h)

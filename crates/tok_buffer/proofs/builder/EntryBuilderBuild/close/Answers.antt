@@ -1,6 +1,7 @@
 use Rattle.std.proofs.Common.{◌≡◌, ◌∙◌, ◌<◌, length, sym, ap, subst, arith}
 use Rattle.tok_buffer.specs.Private.Layout.{levels_in}
-use Rattle.tok_buffer.proofs.Levels.{left, left_before, built, built_close, closes, places_length}
+use Rattle.tok_buffer.proofs.Levels.{leaves_level, left_before, entries_built, built_close, closes}
+use Rattle.tok_buffer.proofs.Levels.{places_length}
 use Rattle.tok_buffer.proofs.builder.EntryBuilderBuild.close.Goals as goal
 
 pub unreachable-requires : goal.unreachable-requires
@@ -20,7 +21,7 @@ unreachable-requires c =
 pub overflow_sub-offset : goal.overflow_sub-offset
 overflow_sub-offset c =
     let xs = c.self.inside.entries.items in
-    let h = left xs c.self.inside.«open».items c.pop.new.self.items c.in-Some.start
+    let h = leaves_level xs c.self.inside.«open».items c.pop.new.self.items c.in-Some.start
     (levels_in xs) c.self.invariant (subst (λ w. 0 < length w.outer) (sym c.self.view_is)
     c.requires) c.in-Some.ensures.items in
     omega (
@@ -33,7 +34,7 @@ overflow_sub-offset c =
 pub index_mut-requires : goal.index_mut-requires
 index_mut-requires c =
     let xs = c.self.inside.entries.items in
-    let h = left xs c.self.inside.«open».items c.pop.new.self.items c.in-Some.start
+    let h = leaves_level xs c.self.inside.«open».items c.pop.new.self.items c.in-Some.start
     (levels_in xs) c.self.invariant (subst (λ w. 0 < length w.outer) (sym c.self.view_is)
     c.requires) c.in-Some.ensures.items in
     omega (
@@ -46,17 +47,17 @@ index_mut-requires c =
 pub invariant_of-self : goal.invariant_of-self
 invariant_of-self c =
     let xs = c.self.inside.entries.items in
-    let h = left xs c.self.inside.«open».items c.pop.new.self.items c.in-Some.start
+    let h = leaves_level xs c.self.inside.«open».items c.pop.new.self.items c.in-Some.start
     (levels_in xs) c.self.invariant (subst (λ w. 0 < length w.outer) (sym c.self.view_is)
     c.requires) c.in-Some.ensures.items in
     let k : c.len.result ≡ length xs = c.len.ensures ∙ c.self.inside.entries.ok.0 in
-    built _ _ _ (built_close xs c.push.new.self.items c.pop.new.self.items c.in-Some.start
+    entries_built _ _ _ (built_close xs c.push.new.self.items c.pop.new.self.items c.in-Some.start
     c.len.result (levels_in xs) c.args.delimiter c.args.span h k c.in-Ok.ensures.items)
 
 pub returns-in-Ok-clause-ok : goal.returns-in-Ok-clause-ok
 returns-in-Ok-clause-ok c =
     let xs = c.self.inside.entries.items in
-    let h = left xs c.self.inside.«open».items c.pop.new.self.items c.in-Some.start
+    let h = leaves_level xs c.self.inside.«open».items c.pop.new.self.items c.in-Some.start
     (levels_in xs) c.self.invariant (subst (λ w. 0 < length w.outer) (sym c.self.view_is)
     c.requires) c.in-Some.ensures.items in
     let k : c.len.result ≡ length xs = c.len.ensures ∙ c.self.inside.entries.ok.0 in

@@ -3,7 +3,7 @@ use Rattle.tok_buffer.specs.Cursors.{spot_place}
 use Rattle.tok_buffer.specs.Moves.{levels_at}
 use Rattle.tok_buffer.specs.Private.Layout.{entry_here}
 use Rattle.tok_buffer.specs.declared.entry.Entry.TheVariants.{Group}
-use Rattle.tok_buffer.proofs.Groups.{held_fits, held_within, held_settled, held_after, entered}
+use Rattle.tok_buffer.proofs.Groups.{held_fits, held_within, held_settled, held_after, held_enters}
 use Rattle.tok_buffer.proofs.cursor.Cursor.any_group.Goals as goal
 
 pub inside-content-requires : goal.inside-content-requires
@@ -39,6 +39,6 @@ returns-in-Group c =
     let e : entry_here (levels_at F s.position).0 ≡ Group g c.in-Group.offset =
     sym c.entry.ensures ∙ c.in-Group.is in
     rw (c.in_ok-spot.was, c.new.ensures, c.at.ensures, c.at-in-Group.ensures)
-    (entered F s.position s.scope g c.in-Group.offset s.within e s.buffer.now.number
+    (held_enters F s.position s.scope g c.in-Group.offset s.within e s.buffer.now.number
     (spot_place c.inside-content.result) (spot_place c.past-after.result)
     c.inside-content.ensures c.past-after.ensures)

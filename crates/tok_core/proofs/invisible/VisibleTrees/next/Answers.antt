@@ -2,14 +2,14 @@ use Rattle.std.proofs.Common.{◌∙◌, sym, ap, refl, [], ◌∷◌, ◌++◌,
 use Rattle.std.proofs.lemmas.List.{length-append}
 use Rattle.tok_core.specs.Private.Pending.{all_of, pending, pending_weight}
 use Rattle.tok_core.specs.Seen.{tree_of}
-use Rattle.tok_core.proofs.Pendings.{popped_none, taken, entered}
+use Rattle.tok_core.proofs.Pendings.{popped_none, takes_top, content_stands_in}
 use Rattle.tok_core.proofs.invisible.VisibleTrees.next.Goals as goal
 
 pub returns-in_default-invisible_content-clause-erased :
     goal.returns-in_default-invisible_content-clause-erased
 returns-in_default-invisible_content-clause-erased c =
     let v = c.loop-first.self in
-    let t = taken (all_of v) (v.outer.items ++ c.in-Some.rest ∷ []) v.outer.items v.trees
+    let t = takes_top (all_of v) (v.outer.items ++ c.in-Some.rest ∷ []) v.outer.items v.trees
     c.in-Some.rest c.in-Some.first.now refl c.in-Some.ensures.cases.0 refl in
     sym c.loop-first.invariant.0 ∙ t.same
 
@@ -17,7 +17,7 @@ pub returns-in_default-invisible_content-clause-smaller :
     goal.returns-in_default-invisible_content-clause-smaller
 returns-in_default-invisible_content-clause-smaller c =
     let v = c.loop-first.self in
-    let t = taken (all_of v) (v.outer.items ++ c.in-Some.rest ∷ []) v.outer.items v.trees
+    let t = takes_top (all_of v) (v.outer.items ++ c.in-Some.rest ∷ []) v.outer.items v.trees
     c.in-Some.rest c.in-Some.first.now refl c.in-Some.ensures.cases.0 refl in
     omega (arith, t.weight, c.loop-first.invariant.1)
 
@@ -25,10 +25,10 @@ pub loop-first-preserved-in-Some : goal.loop-first-preserved-in-Some
 loop-first-preserved-in-Some c =
     let v = c.loop-first.self in
     let content = c.trees-self.result in
-    let t = taken (all_of v) (v.outer.items ++ c.in-Some.rest ∷ []) v.outer.items v.trees
+    let t = takes_top (all_of v) (v.outer.items ++ c.in-Some.rest ∷ []) v.outer.items v.trees
     c.in-Some.rest c.in-Some.first.now refl c.in-Some.ensures.cases.0 refl in
     let is = c.in-Some-invisible_content.ensures in
-    let e = entered (all_of v) (v.outer.items ++ c.in-Some.rest ∷ [])
+    let e = content_stands_in (all_of v) (v.outer.items ++ c.in-Some.rest ∷ [])
     (c.push.new.self.items ++ content ∷ []) (tree_of c.in-Some.first.now)
     c.in-Some-invisible_content.content.now is.0 content t is.1 c.trees-self.ensures
     (ap (λ xs. xs ++ content ∷ []) c.in_ok-push.ensures.items) in
@@ -38,10 +38,10 @@ pub loop-first-smaller-in-Some : goal.loop-first-smaller-in-Some
 loop-first-smaller-in-Some c =
     let v = c.loop-first.self in
     let content = c.trees-self.result in
-    let t = taken (all_of v) (v.outer.items ++ c.in-Some.rest ∷ []) v.outer.items v.trees
+    let t = takes_top (all_of v) (v.outer.items ++ c.in-Some.rest ∷ []) v.outer.items v.trees
     c.in-Some.rest c.in-Some.first.now refl c.in-Some.ensures.cases.0 refl in
     let is = c.in-Some-invisible_content.ensures in
-    let e = entered (all_of v) (v.outer.items ++ c.in-Some.rest ∷ [])
+    let e = content_stands_in (all_of v) (v.outer.items ++ c.in-Some.rest ∷ [])
     (c.push.new.self.items ++ content ∷ []) (tree_of c.in-Some.first.now)
     c.in-Some-invisible_content.content.now is.0 content t is.1 c.trees-self.ensures
     (ap (λ xs. xs ++ content ∷ []) c.in_ok-push.ensures.items) in
