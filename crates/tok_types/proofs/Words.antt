@@ -25,7 +25,8 @@ of_each : (holds : List ℕ → Bool) (ts : List (List ℕ)) (k : ℕ) → holds
     list_all holds ts ≡ true → holds (get_or ts k []) ≡ true
 of_each holds [] k e h = e
 of_each holds (t ∷ ts) zero e h = (and_parts (holds t) (list_all holds ts) h).0
-of_each holds (t ∷ ts) (suc k) e h = of_each holds ts k e (and_parts (holds t) (list_all holds ts) h).1
+of_each holds (t ∷ ts) (suc k) e h = of_each holds ts k e
+    (and_parts (holds t) (list_all holds ts) h).1
 
 of_each_in : (holds : List ℕ → Bool) (ts : List (List ℕ)) (k : ℕ) → k < length ts →
     list_all holds ts ≡ true → holds (get_or ts k []) ≡ true
@@ -67,7 +68,8 @@ word_is_identifier : (t : List ℕ) → is_ascii t ≡ true → is_word t ≡ tr
 word_is_identifier [] a h = absurd (false≢true h)
 word_is_identifier (c ∷ cs) a h =
     let ascii = and_parts (nat_lt c 128) (is_ascii cs) a in
-    let parts = and_parts (is_ascii_alphabetic c || (c == 95)) (list_all is_ascii_continue cs) h in (
+    let parts =
+    and_parts (is_ascii_alphabetic c || (c == 95)) (list_all is_ascii_continue cs) h in (
       ap (λ b. b || (c == 95)) (is_xid_start-ascii c (ltb-true c 128 ascii.0)) ∙ parts.0,
       continues cs ascii.1 parts.1,
     )

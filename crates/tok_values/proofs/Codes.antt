@@ -25,7 +25,8 @@ module _ (text start digits after : List ℕ) (cut : text ≡ 123 ∷ start)
     where
       unbegun : (xs : List ℕ) → ((rest : List ℕ) → xs ≡ 125 ∷ rest → ⊥) → begins_with 125 xs ≡ false
       unbegun [] h = refl
-      unbegun (c ∷ xs) h = false_from_ne_true (c == 125) (λ e. h xs (ap (λ x. x ∷ xs) (eqb-true c 125 e)))
+      unbegun (c ∷ xs) h = false_from_ne_true (c == 125)
+          (λ e. h xs (ap (λ x. x ∷ xs) (eqb-true c 125 e)))
 
   pub code_closed : (rest : List ℕ) → after ≡ 125 ∷ rest
       → code text ≡ and_rest (named_char digits) rest
