@@ -1,8 +1,9 @@
-//! The parsers of `examples::entry`, `setting`, `records`, `route` and `value`.
+//! The parsers of `examples::entry`, `setting`, `records`, `route`, `service` and `value`.
 use crate::said::all_said;
 use examples::entry::{Call, Entry, Mark, Pair, parse_entry, parse_entry_both, parse_entry_text};
 use examples::records::Record;
 use examples::route::Route;
+use examples::service::Service;
 use examples::setting::{Field, Flag, read_label, read_setting, try_field};
 use examples::value::Value;
 use std::alloc::{AllocGlobal, Global};
@@ -35,6 +36,7 @@ enum Read {
     WholeTried,
     WholeRecord,
     WholeRoute,
+    WholeService,
     WholeValue,
     WholeSetting,
     WholeFlag,
@@ -51,6 +53,7 @@ impl Sample for Read {
             Read::WholeTried => whole_tried.parse_str(alloc, text),
             Read::WholeRecord => whole_record.parse_str(alloc, text),
             Read::WholeRoute => whole_route.parse_str(alloc, text),
+            Read::WholeService => whole_service.parse_str(alloc, text),
             Read::WholeValue => whole_value.parse_str(alloc, text),
             Read::WholeSetting => whole_setting.parse_str(alloc, text),
             Read::WholeFlag => whole_flag.parse_str(alloc, text),
@@ -169,6 +172,42 @@ fn reads_records_and_routes(rt: HostRuntime) {
             ("get \"/a\" -> a ();", "get \"/a\" 1 0"),
             ("get \"/a\" a ();", "9..10 expected `->`"),
             ("get \"/a\" -> a (1);", "15..16 expected identifier"),
+        ],
+    );
+}
+
+// Returns the names of a service.
+fn whole_service(input: ParseStream<'_, '_>) -> Result<String> {
+    let service: Service = input.parse()?;
+    let name = service.name.as_str();
+    let owner = service.owner.name.as_str();
+    let alias = service.alias.as_str();
+    let options = service.options.as_str();
+    let target = service.target.as_str();
+    Ok(format!(in input.allocator(); "{name} {owner} {alias} {options} {target}")?)
+}
+
+#[test]
+fn reads_services(rt: HostRuntime) {
+    all_said(
+        &rt,
+        &Read::WholeService,
+        &[
+            ("service a (b: C) as d { e } -> f;", "a b d e f"),
+            ("services a", "0..8 expected `service`"),
+            (
+                "service a [b: C] as d { e } -> f;",
+                "10..11 expected parentheses",
+            ),
+            ("service a (b C)", "13..14 expected `:`"),
+            (
+                "service a (b: C D) as d { e } -> f;",
+                "16..17 unexpected token, expected `)`",
+            ),
+            ("service a (b: C) d", "17..18 expected `as`"),
+            ("service a (b: C) as d (e)", "22..23 expected curly braces"),
+            ("service a (b: C) as d { e } = f;", "28..29 expected `->`"),
+            ("service a (b: C) as d { e } -> f", "call expected `;`"),
         ],
     );
 }
