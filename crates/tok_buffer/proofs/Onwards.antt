@@ -46,13 +46,12 @@ module _ (n s c m : ℕ) where
   kept_since = record {
     into = λ i t d o p inside span f ls h.
         (h.0, h.1, omega (arith, h.2), omega (arith, h.3));
-    out = λ i t d o p l ls h.
-        (
-          h.0,
-          h.1,
-          omega (arith, h.2),
-          omega (arith, h.3, absorb_adds_nothing o p i t (d + 1) d l ls),
-        );
+    out = λ i t d o p l ls h. (
+      h.0,
+      h.1,
+      omega (arith, h.2),
+      omega (arith, h.3, absorb_adds_nothing o p i t (d + 1) d l ls),
+    );
   }
 
 module _ (n s c m : ℕ) where
