@@ -2,18 +2,23 @@
 use Rattle.std.proofs.Common.{◌≡◌, ◌≢◌, ℕ, ◌<◌, ◌≤◌, ◌^◌, Bool, true, false, eqb, cond, List, []}
 use Rattle.std.proofs.Common.{◌∷◌, length, get_or, Some, None, Result, Ok, Err, Bor, refl, ap, sym}
 use Rattle.std.proofs.Common.{◌∙◌, arith, rules, lit<}
-use Rattle.std.proofs.lemmas.Bool.{cond-true}
+use Rattle.std.proofs.lemmas.Bool.{cond-true, false_from_ne_true}
 use Rattle.std.proofs.lemmas.Bool.Decides.{nat_tests}
+use Rattle.std.proofs.lemmas.Slice.Eq.{bytes_eq-Decides}
 use Rattle.std.proofs.lemmas.Str.Parse.{IsNumeralModel, numerals_by_value, tells_all_ascii_digits}
 use Rattle.std.proofs.lemmas.Str.Parse.{parse_plain, digits_value_short}
 use Rattle.std.proofs.lemmas.Str.Pattern.{IsSplitOnceResult}
 use Rattle.std.specs.List.{filter}
-use Rattle.std.specs.Prelude.{not}
+use Rattle.std.specs.Prelude.{not, bytes_eq}
 use Rattle.std.specs.Result.{result_ok}
 use Rattle.std.specs.Str.{all_ascii_digits}
 use Rattle.std.specs.Str.Parse.{ParsesUnsigned, digits_value}
 use Rattle.syn_tokens.specs.Program.CommandText.{is_empty, words, is_number, number}
 use Rattle.syn_tokens.proofs.Lines.{split_some, split_none}
+
+-- words that differ
+pub differs : (xs ys : List ℕ) → (xs ≡ ys → ⊥) → bytes_eq xs ys ≡ false
+differs xs ys h = false_from_ne_true (bytes_eq xs ys) (λ e. h ((bytes_eq-Decides xs ys).0 e))
 
 pub is_empty_len : (xs : List ℕ) → eqb (length xs) 0 ≡ is_empty xs
 is_empty_len [] = refl

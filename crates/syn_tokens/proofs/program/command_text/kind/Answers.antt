@@ -1,6 +1,6 @@
 use Rattle.std.proofs.Common.{sym, ◌∙◌}
 use Rattle.std.proofs.lemmas.Bool.{cond-false}
-use Rattle.tok_types.proofs.Numbers.{differs}
+use Rattle.syn_tokens.proofs.WordCuts.{differs}
 use Rattle.syn_tokens.proofs.program.command_text.kind.Goals as goal
 
 pub returns-in_default : goal.returns-in_default

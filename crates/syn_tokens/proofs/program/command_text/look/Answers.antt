@@ -4,7 +4,7 @@ use Rattle.std.specs.Option.{option_map}
 use Rattle.syn_tokens.specs.Program.CommandText as spec
 use Rattle.syn_replay.specs.Kinds as looks
 use Rattle.syn_replay.specs.Meanings.{look_of}
-use Rattle.tok_types.proofs.Numbers.{differs}
+use Rattle.syn_tokens.proofs.WordCuts.{differs}
 use Rattle.syn_tokens.proofs.program.command_text.look.Goals as goal
 
 pub returns-in_err-kind-in_default : goal.returns-in_err-kind-in_default
