@@ -4,7 +4,7 @@ use Rattle.std.proofs.Common.{List, []}
 use Rattle.tok_core.specs.Weight.{weight}
 use Rattle.syn_parse.specs.TreesAhead.{Ahead, is_spent}
 use Rattle.syn_parse.specs.Takings.{Lowers}
-use Rattle.syn_parse.specs.Takes.{Outcome, Taking, found, missing, and_then, ◌>>=◌}
+use Rattle.syn_parse.specs.Takes.{Outcome, Taking, found, missing, and_then}
 
 -- at most so many turns
 abbrev pub fold_turns : {A B : Type 0} → ℕ → (B → A → B) → B → Taking A → Taking B

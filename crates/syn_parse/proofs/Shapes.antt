@@ -31,8 +31,7 @@ use Rattle.tok_types.specs.Sees.{first_lifetime, first_word}
 use Rattle.syn_parse.specs.Parses.{AreSpans, IsIdent, IsLifetime, IsLiteral, IsPunct, IsSpanOf}
 use Rattle.syn_parse.specs.Parses.{accept_as_lifetime}
 use Rattle.syn_parse.specs.Owned.{take_own}
-use Rattle.syn_parse.specs.ErrorWords.{expected}
-use Rattle.syn_parse.specs.Tokens.{ident_in, ident_missing, lifetime_in, lifetime_missing}
+use Rattle.syn_parse.specs.Tokens.{ident_in, lifetime_in}
 use Rattle.syn_parse.specs.Tokens.{literal_in, punct_in, span_in}
 use Rattle.syn_parse.specs.Tokens.{take_any_ident, take_any_lifetime, take_ident, take_keyword}
 use Rattle.syn_parse.specs.Tokens.{take_lifetime, take_literal, take_nothing}

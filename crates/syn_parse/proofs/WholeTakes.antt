@@ -1,5 +1,5 @@
 -- A whole stream takes what its type states.
-use Rattle.std.proofs.Common.{◌≡◌, inl, inr}
+use Rattle.std.proofs.Common.{inl, inr}
 use Rattle.std.specs.Prelude.{Result}
 use Rattle.tok_core.specs.Forest.{Forest}
 use Rattle.tok_leaves.specs.Spans.{call_site}

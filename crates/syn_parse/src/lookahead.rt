@@ -1,5 +1,5 @@
 //! Choosing by the next token.
-ghost use Rattle.std.specs.Prelude.{◌≡◌, [], ◌∷◌, ◌++◌, false, IfOk, IfSome, MatchOption, OnOk, OnErr, string_bytes};
+ghost use Rattle.std.specs.Prelude.{◌≡◌, ◌<◌, [], ◌∷◌, ◌++◌, false, length, IfOk, IfSome, IsOk, MatchOption, OnOk, OnErr, string_bytes};
 ghost use Rattle.std.specs.Str.{IsUtf8};
 ghost use Rattle.tok_buffer.specs.Messages.{one_message};
 ghost use Rattle.syn_parse.specs.Faults.{Refuses};
@@ -11,6 +11,7 @@ ghost use Rattle.tok_types.specs.Sees.{Sees};
 
 use crate::fault::Fault;
 use crate::stream::ParseBuffer;
+use smallvec::SmallVec;
 use std::alloc::{AllocError, Global};
 use std::marker::Model;
 use tok_buffer::{Cursor, Error};
@@ -37,7 +38,7 @@ pub struct Lookahead1<'a> {
     alloc: Global,
     cursor: Cursor<'a>,
     scope_span: Span,
-    missed: Vec<&'static str>,
+    missed: SmallVec<&'static str, 4>,
 }
 
 impl<'a> Model for Lookahead1<'a> {
@@ -53,6 +54,10 @@ impl<'a> Model for Lookahead1<'a> {
       scope_span = l.scope_span;
       missed = texts_of l.missed.items;
     } };
+
+    ghost use Rattle.std.specs.Prelude.{◌≤◌};
+
+    ghost invariant = { λ l. 4 ≤ l.missed.capacity };
 }
 
 impl<'a> ParseBuffer<'a> {
@@ -64,7 +69,7 @@ impl<'a> ParseBuffer<'a> {
             alloc: self.allocator(),
             cursor: self.cursor(),
             scope_span: self.scope_span(),
-            missed: Vec::new(self.allocator()),
+            missed: SmallVec::new(self.allocator()),
         }
     }
 }
@@ -72,11 +77,13 @@ impl<'a> ParseBuffer<'a> {
 impl<'a> Lookahead1<'a> {
     /// Returns `true` if this token is next. If not, records its name.
     ///
-    /// Returns an error if the allocation for the name fails. Nothing is then recorded.
+    /// Returns an error if the allocation for the name fails. Nothing is then recorded. The first
+    /// four names take no memory.
     pub fn peek<T: Token>(&mut self) -> Result<bool, AllocError>
         ensures ok { IfOk result
             (λ found. T.peeks self.old.place found × Looked T.shown found self.old self.new) }
         ensures err { OnErr result (T.peeks self.old.place false × (self.new ≡ self.old)) }
+        ensures room { length self.old.missed < 4 → IsOk result }
         ensures sees { IfOk result (λ found. Sees T.sees self.old.place found) }
     {
         let found = T::peek(self.cursor);
@@ -85,11 +92,13 @@ impl<'a> Lookahead1<'a> {
 
     /// Returns `found`, and records `display` if it is `false`. `peek` calls it after its own look.
     ///
-    /// Returns an error if the allocation fails. Nothing is then recorded.
+    /// Returns an error if the allocation fails. Nothing is then recorded. The first four names take
+    /// no memory.
     pub fn peek_as(&mut self, found: bool, display: &'static str) -> Result<bool, AllocError>
         ensures ok { IfOk result
             (λ is_found. (is_found ≡ found) × (self.new ≡ noted_as found display.now self.old)) }
         ensures err { OnErr result ((found ≡ false) × (self.new ≡ self.old)) }
+        ensures room { length self.old.missed < 4 → IsOk result }
     {
         if !found {
             self.missed.push(display)?;
@@ -115,7 +124,7 @@ impl<'a> Lookahead1<'a> {
         ensures { IfOk result (λ e. e ≡ one_message (look_message self.now)) }
     {
         let closing = closing_word(self.cursor.scope_delimiter());
-        let missed: &[&'static str] = &self.missed;
+        let missed = self.missed.as_slice();
         let Some(_) = next_name(closing, missed) else {
             return self.unexpected();
         };

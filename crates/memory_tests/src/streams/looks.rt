@@ -23,15 +23,18 @@ fn said(fault: Fault, words: &str) -> Outcome {
     }
 }
 
+// The first four names take no memory.
 fn looks(mut lookahead: Lookahead1<'_>) -> Outcome {
-    lookahead.peek::<token::Fn>()?;
-    if lookahead.peek_as(false, "`x`").is_err() {
-        said(lookahead.error(), "expected `fn`")?;
-        return Err(Stop::Refused);
+    for display in ["`fn`", "`x`", "`y`", "`z`"] {
+        let peeked = lookahead.peek_as(false, display);
+        expect(peeked == Ok(false), "Lookahead1::peek_as")?;
     }
     if lookahead.peek::<token::Comma>().is_err() {
-        said(lookahead.error(), "expected `fn` or `x`")?;
+        said(lookahead.error(), "expected one of: `fn`, `x`, `y`, `z`")?;
         return Err(Stop::Refused);
     }
-    said(lookahead.error(), "expected one of: `fn`, `x`, `,`")
+    said(
+        lookahead.error(),
+        "expected one of: `fn`, `x`, `y`, `z`, `,`",
+    )
 }

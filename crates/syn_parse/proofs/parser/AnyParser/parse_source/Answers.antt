@@ -1,4 +1,4 @@
-use Rattle.std.proofs.Common.{◌≡◌, Ok, inl, rules}
+use Rattle.std.proofs.Common.{Ok, inl, rules}
 use Rattle.syn_parse.proofs.parser.AnyParser.parse_source.Goals as goal
 
 pub returns-in-Ok : goal.returns-in-Ok
