@@ -49,22 +49,26 @@ by_name [] otherwise word = otherwise
 by_name (row ∷ rows) otherwise word =
     cond (bytes_eq word row.0) row.1 (by_name rows otherwise word)
 
-abbrev pub kind : List ℕ → Option Kind
-kind word =
-    by_name
-    ((codes "Ident", Some ident) ∷ (codes "IdentAny", Some ident_any)
+-- the kinds that have a name
+abbrev pub kind_names : List (List ℕ × Option Kind)
+kind_names =
+    (codes "Ident", Some ident) ∷ (codes "IdentAny", Some ident_any)
     ∷ (codes "Lifetime", Some lifetime) ∷ (codes "LifetimeAny", Some lifetime_any)
     ∷ (codes "Literal", Some literal) ∷ (codes "Punct", Some punct)
-    ∷ (codes "_", Some underscore) ∷ [])
-    (token word) word
+    ∷ (codes "_", Some underscore) ∷ []
+
+abbrev pub kind : List ℕ → Option Kind
+kind word = by_name kind_names (token word) word
+
+-- the looks that are no kinds
+abbrev pub look_names : List (List ℕ × Option Look)
+look_names =
+    (codes "Paren", Some paren) ∷ (codes "Brace", Some brace) ∷ (codes "Bracket", Some bracket)
+    ∷ (codes "End", Some the_end) ∷ (codes "Group", Some invisible_group)
+    ∷ (codes "GroupTree", Some group_tree) ∷ (codes "Tree", Some any_tree) ∷ []
 
 abbrev pub look : List ℕ → Option Look
-look word =
-    by_name
-    ((codes "Paren", Some paren) ∷ (codes "Brace", Some brace) ∷ (codes "Bracket", Some bracket)
-    ∷ (codes "End", Some the_end) ∷ (codes "Group", Some invisible_group)
-    ∷ (codes "GroupTree", Some group_tree) ∷ (codes "Tree", Some any_tree) ∷ [])
-    (option_map looks.kind (kind word)) word
+look word = by_name look_names (option_map looks.kind (kind word)) word
 
 -- the looks of all words, in order
 abbrev pub all_looks : List (List ℕ) → Option (List Look)

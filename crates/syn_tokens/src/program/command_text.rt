@@ -159,9 +159,13 @@ fn command_named(name: &str, n: usize, rest: &str) -> Option<Command>
     }
 }
 
+// A token is sought first: no keyword or punctuation has the name of a look or of a kind.
 fn look(word: &str) -> Option<Look>
     ensures { option_map look_of result ≡ spec.look word.now }
 {
+    if let Some(kind) = token(word) {
+        return Some(Look::Kind(kind));
+    }
     match word {
         "Paren" => Some(Look::Paren),
         "Brace" => Some(Look::Brace),
@@ -170,12 +174,22 @@ fn look(word: &str) -> Option<Look>
         "Group" => Some(Look::Group),
         "GroupTree" => Some(Look::GroupTree),
         "Tree" => Some(Look::Tree),
-        _ => Some(Look::Kind(kind(word)?)),
+        _ => Some(Look::Kind(kind_named(word)?)),
     }
 }
 
 fn kind(word: &str) -> Option<Kind>
     ensures { option_map kind_of result ≡ spec.kind word.now }
+{
+    match token(word) {
+        Some(kind) => Some(kind),
+        None => kind_named(word),
+    }
+}
+
+// Returns the kind of this name that is no keyword or punctuation.
+fn kind_named(word: &str) -> Option<Kind>
+    ensures { option_map kind_of result ≡ spec.by_name spec.kind_names None word.now }
 {
     match word {
         "Ident" => Some(Kind::Ident),
@@ -185,7 +199,7 @@ fn kind(word: &str) -> Option<Kind>
         "Literal" => Some(Kind::Literal),
         "Punct" => Some(Kind::Punct),
         "_" => Some(Kind::Underscore),
-        _ => token(word),
+        _ => None,
     }
 }
 
@@ -273,15 +287,14 @@ fn first_word(line: &str) -> Option<(&str, &str)>
     ensures utf8 { IfSome result (λ p. IsUtf8 p.0.now × IsUtf8 p.1.now) }
 {
     let mut rest = line;
-    while let Some((word, after)) = rest.split_once(' ') {
+    while !rest.is_empty() {
+        let Some((word, after)) = rest.split_once(' ') else {
+            return Some((rest, ""));
+        };
         if !word.is_empty() {
             return Some((word, after));
         }
         rest = after;
     }
-    if rest.is_empty() {
-        None
-    } else {
-        Some((rest, ""))
-    }
+    None
 }

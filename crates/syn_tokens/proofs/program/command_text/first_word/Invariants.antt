@@ -4,8 +4,8 @@ use denote.Shadow.{shadow}
 use Rattle.syn_tokens.specs.Program.CommandText.{words}
 use Rattle.syn_tokens.proofs.program.command_text.first_word.Given as goal
 
-abbrev pub invariant-loop-word : goal.invariant-loop-word
-invariant-loop-word l = shadow (Utf8 l.rest) × (words l.rest ≡ words l.line)
+abbrev pub invariant-loop-rest : goal.invariant-loop-rest
+invariant-loop-rest l = shadow (Utf8 l.rest) × (words l.rest ≡ words l.line)
 
-abbrev pub decreases-loop-word : goal.decreases-loop-word
-decreases-loop-word l = length l.rest
+abbrev pub decreases-loop-rest : goal.decreases-loop-rest
+decreases-loop-rest l = length l.rest
