@@ -1,12 +1,13 @@
 //! The text of a report.
 ghost use Rattle.std.specs.Prelude.{◌≡◌, ◌++◌, Some, codes, map};
-ghost use Rattle.std.specs.Fmt.{WritesOnOk};
+ghost use Rattle.std.specs.Fmt.{WritesOnOk, decimal};
 ghost use Rattle.std.specs.List.{flat_map};
 ghost use Rattle.syn_replay.specs.ReportText as spec;
 ghost use Rattle.tok_buffer.specs.Messages.{first_message};
 ghost use Rattle.syn_replay.specs.Meanings.{piece_of, pieces_in, answer_of, position_of, line_of, verdict_of, report_of};
 
 use crate::report::{Answer, Line, Piece, Position, Report, Verdict};
+use itoa::Buffer;
 use std::fmt;
 use std::fmt::{Formatter, Write};
 use tok_buffer::Error;
@@ -71,7 +72,10 @@ impl fmt::Display for Position {
 
     fn fmt<W: Write>(&self, f: &mut Formatter<W>) -> fmt::Result {
         match self {
-            Position::At(n) => write!(f, "@{n}"),
+            Position::At(n) => {
+                f.write_char('@')?;
+                write_number(f, *n)
+            }
             Position::Empty => f.write_str("@empty"),
             Position::Missing => f.write_str("@-"),
         }
@@ -167,8 +171,19 @@ fn write_span<W: Write>(f: &mut Formatter<W>, span: Span) -> fmt::Result
 {
     match span.as_range() {
         None => f.write_str("call"),
-        Some((_, start, end)) => write!(f, "{start}..{end}"),
+        Some((_, start, end)) => {
+            write_number(f, start)?;
+            f.write_str("..")?;
+            write_number(f, end)
+        }
     }
+}
+
+// Writes a number. Most lines have three or more, so `itoa` writes them in place of `Display`.
+fn write_number<W: Write>(f: &mut Formatter<W>, number: usize) -> fmt::Result
+    ensures { WritesOnOk W.write_str_gives f.old result (decimal number) f.new }
+{
+    f.write_str(Buffer::new().format(number))
 }
 
 // Writes a part after a space, or nothing if it is empty.
