@@ -1,15 +1,17 @@
 -- Lines and words, one cut off after the other.
 use Rattle.std.proofs.Common.{◌≡◌, ℕ, ◌+◌, ◌-◌, ◌<◌, true, false, eqb, List, [], ◌∷◌, ◌++◌, length}
-use Rattle.std.proofs.Common.{take, Option, Some, None, IfSome, Bor, refl, ap, sym, ◌∙◌}
+use Rattle.std.proofs.Common.{take, drop, Option, Some, None, IfSome, Bor, refl, ap, sym, ◌∙◌}
 use Rattle.std.proofs.Common.{append_assoc, arith, length-append}
 use Rattle.std.proofs.Math.Seq.{take-append_seam}
 use Rattle.std.proofs.lemmas.List.{append-nil}
 use Rattle.std.proofs.lemmas.List.Concat.{flat_map-append}
 use Rattle.std.proofs.lemmas.List.Elements.{All-append, All-cons}
-use Rattle.std.proofs.lemmas.List.Sums.{fails_before_first}
+use Rattle.std.proofs.lemmas.Bool.{false_from_ne_true}
+use Rattle.std.proofs.lemmas.List.Sums.{fails_before_first, position_or_len_is}
 use Rattle.std.proofs.lemmas.List.Splits.{slice_split_first, slice_split_none, slice_split_at}
 use Rattle.std.proofs.lemmas.List.Splits.{length-slice_split}
-use Rattle.std.proofs.lemmas.Str.Pattern.{IsSplitOnceResult, split_once_first, split_parts}
+use Rattle.std.proofs.lemmas.Str.Pattern.{IsSplitOnceResult, split_once_first}
+use Rattle.memchr.specs.Find.{IsFirstByte, is_byte}
 use Rattle.std.specs.List.{All, slice_split, after_first, position_or_len}
 use Rattle.std.specs.Str.{IsUtf8}
 use Rattle.syn_tokens.specs.Program.Input.{lines, is_cut, text_of, texts_in, parts_of, lines_left}
@@ -32,11 +34,28 @@ split_none c bs h small =
     slice_split_none (λ b. eqb b c) bs
     (λ k d inside. fails_before_first (λ b. eqb b c) bs k d (omega arith))
 
-pub split_joined : (c : ℕ) (bs : List ℕ) (x : Bor (List ℕ) × Bor (List ℕ))
-    → IsSplitOnceResult c bs (Some x) → c < 128 → bs ≡ (x.0.now ++ c ∷ []) ++ x.1.now
-split_joined c bs x h small =
-    let (concat, apart) = split_parts c bs (Some x) h small in
-    concat ∙ sym (append_assoc x.0.now (c ∷ []) x.1.now)
+-- a byte that `memchr` finds cuts off the first part
+pub cut_at : (c : ℕ) (bs front back : List ℕ) (k : ℕ) → IsFirstByte (is_byte c) bs (Some k)
+    → front ≡ take k bs → back ≡ drop (k + 1) bs
+    → slice_split (λ b. eqb b c) bs ≡ front ∷ slice_split (λ b. eqb b c) back
+cut_at c bs front back k (none, found) f b =
+    let at : position_or_len (λ b. eqb b c) bs ≡ k =
+    position_or_len_is (λ b. eqb b c) bs k 0 (omega (arith, none.high))
+    (λ j before. false_from_ne_true _ (none.before j (omega arith) before)) (λ _. found) in
+    slice_split_first (λ b. eqb b c) bs 0 (omega (arith, at, none.high))
+    ∙ ap (λ z. z ∷ slice_split (λ b. eqb b c) (after_first (λ b. eqb b c) bs))
+    (ap (λ n. take n bs) at ∙ sym f)
+    ∙ ap (λ z. front ∷ slice_split (λ b. eqb b c) z) (ap (λ n. drop (n + 1) bs) at ∙ sym b)
+
+pub cut_nowhere : (c : ℕ) (bs : List ℕ) → IsFirstByte (is_byte c) bs None
+    → slice_split (λ b. eqb b c) bs ≡ bs ∷ []
+cut_nowhere c bs none =
+    let past : position_or_len (λ b. eqb b c) bs ≡ length bs =
+    position_or_len_is (λ b. eqb b c) bs (length bs) 0 (omega arith)
+    (λ j before. false_from_ne_true _ (none j (omega arith) before))
+    (λ inside. absurd (omega arith)) in
+    slice_split_none (λ b. eqb b c) bs
+    (λ k d inside. fails_before_first (λ b. eqb b c) bs k d (omega arith))
 
 -- the lines before what is left hold no cut
 pub record IsPast (input : List ℕ) (left : Option (Bor (List ℕ))) : Type 0 where

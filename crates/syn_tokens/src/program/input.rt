@@ -7,6 +7,7 @@ ghost use Rattle.syn_tokens.specs.Program.Input as spec;
 ghost use Rattle.syn_replay.specs.ReportText.{ended};
 
 use crate::program::channel::Source;
+use memchr::memchr;
 use std::alloc::Global;
 use std::io::ErrorKind;
 
@@ -95,8 +96,8 @@ pub fn first_line(rest: &str) -> (&str, Option<&str>)
     ensures concat { IfSome result.1 (λ after. rest.now ≡ ended result.0.now ++ after.now) }
     ensures utf8 { IsUtf8 result.0.now × IfSome result.1 (λ after. IsUtf8 after.now) }
 {
-    match rest.split_once('\n') {
-        Some((line, after)) => (line, Some(after)),
+    match memchr(b'\n', rest.as_bytes()) {
+        Some(end) => (&rest[..end], Some(&rest[end + 1..])),
         None => (rest, None),
     }
 }
