@@ -3,7 +3,6 @@ use Rattle.std.proofs.Common.{◌≡◌, ◌∙◌, sym, ap, refl, ℕ, Bool, tr
 use Rattle.std.proofs.Common.{◌++◌, Option, Some, None}
 use Rattle.std.specs.Prelude.{codes}
 use Rattle.tok_leaves.specs.declared.span.Span.{Span}
-use Rattle.tok_core.specs.Erase.{erase}
 use Rattle.tok_core.specs.Forest.{Tree}
 use Rattle.tok_buffer.specs.Buffer.{Laid}
 use Rattle.tok_buffer.specs.Place.{Place, is_at_end}
@@ -55,11 +54,10 @@ module _ (f g : Laid) where
   alike-names_message (d ∷ ds) p q s t h = alike-at_stream p q s t (list_words (d ∷ ds)) h
 
   -- of a lookahead, by what it has noted
-  pub alike-look : erase f.forest ≡ erase g.forest
-      → (missed : List (List ℕ)) (p q : Place) (s t : Span) → Alike f g p q
+  pub alike-look : (missed : List (List ℕ)) (p q : Place) (s t : Span) → Alike f g p q
       → (look_message (record { place = p; scope_span = s; missed = missed })).text
       ≡ (look_message (record { place = q; scope_span = t; missed = missed })).text
-  alike-look e missed p q s t h =
+  alike-look missed p q s t h =
       ap (λ d. (names_message (named_ends (closing_word d) missed) p s).text)
-      (alike-delimiter f g e p q h)
+      (alike-delimiter f g p q h)
       ∙ alike-names_message (named_ends (closing_word (scope_delimiter q)) missed) p q s t h

@@ -8,9 +8,7 @@ use Rattle.tok_buffer.specs.Reached.{Reached}
 use Rattle.tok_buffer.specs.Reads.{any_text, read_ident, read_lifetime, skip}
 use Rattle.tok_buffer.specs.SameView.{SameView}
 use Rattle.tok_buffer.specs.View.{view, with_view}
-use Rattle.tok_buffer.proofs.View.Alike.{Alike}
 use Rattle.tok_buffer.proofs.View.Laws.{calls_lead_on, views_decide}
-use Rattle.tok_buffer.proofs.View.Places.{reached_stands}
 use Rattle.tok_types.specs.Views.{IgnoresInvisible}
 use Rattle.tok_types.specs.Texts.{in_backquotes}
 use Rattle.syn_parse.specs.Views.{ViewsDecideWords, ViewsDecideLookaheads}
@@ -18,14 +16,6 @@ use Rattle.syn_parse.specs.Lookahead.{look_message}
 use Rattle.syn_parse.specs.Reads.{Peeks2, Peeks3, PeeksPast}
 use Rattle.syn_parse.specs.ErrorWords.{ident_words, lifetime_words, name_in}
 use Rattle.syn_parse.proofs.SameWords.{alike-at_stream, alike-look}
-
-views_alike : (b c : Laid) (p q : Place) → SameView b c p q → Alike b c p q
-views_alike b c p q s =
-    record {
-      left = reached_stands b s.left_filled p s.left;
-      right = reached_stands c s.right_filled q s.right;
-      same = s.same;
-    }
 
 some_same : {A : Type 0} (a b : A) → Some a ≡ Some b → a ≡ b
 some_same a b e = cc
@@ -47,8 +37,7 @@ views_decide_words b c s t v =
     let calls = views_decide b c s.place t.place v in
     record {
       refused =
-          λ words. alike-at_stream b c s.place t.place s.scope_span t.scope_span words
-          (views_alike b c s.place t.place v);
+          λ words. alike-at_stream b c s.place t.place s.scope_span t.scope_span words v;
       idents =
           same-words b c ident_words
           (λ ts. codes "expected identifier, found keyword " ++ in_backquotes (name_in ts))
@@ -64,9 +53,8 @@ views_decide_words b c s t v =
     }
 
 pub views_decide_lookaheads : ViewsDecideLookaheads
-views_decide_lookaheads b c e l m v h =
-    alike-look b c e l.missed l.place m.place l.scope_span m.scope_span
-    (views_alike b c l.place m.place v)
+views_decide_lookaheads b c l m v h =
+    alike-look b c l.missed l.place m.place l.scope_span m.scope_span v
     ∙ ap
     (λ missed.
     (look_message

@@ -1,6 +1,5 @@
 -- Invisible groups do not matter to the words of errors.
 use Rattle.std.specs.Prelude.{◌≡◌, ℕ, List}
-use Rattle.tok_core.specs.Erase.{erase}
 use Rattle.tok_buffer.specs.Buffer.{Laid}
 use Rattle.tok_buffer.specs.Reads.{any_text, read_ident, read_lifetime}
 use Rattle.tok_buffer.specs.SameView.{SameView}
@@ -24,9 +23,8 @@ abbrev pub ViewsDecideWords : Type 0
 ViewsDecideWords =
     (b c : Laid) (s t : State) → SameView b c s.place t.place → WordsAgree s t
 
--- and two lookaheads there that have noted the same displays, in forests with equal erasures
+-- and two lookaheads there that have noted the same displays
 abbrev pub ViewsDecideLookaheads : Type 0
 ViewsDecideLookaheads =
-    (b c : Laid) → erase b.forest ≡ erase c.forest
-    → (l m : Look) → SameView b c l.place m.place → l.missed ≡ m.missed
+    (b c : Laid) (l m : Look) → SameView b c l.place m.place → l.missed ≡ m.missed
     → (look_message l).text ≡ (look_message m).text

@@ -2,7 +2,7 @@
 use Rattle.std.proofs.Common.{◌≡◌, inl, inr, ℕ, ◌+◌, ◌≤◌, ◌<◌, ◌≢◌, true, false, List, [], ◌∷◌}
 use Rattle.std.proofs.Common.{sym, ◌∙◌, ap, eq-eqb, arith, eqb-true, Option, Some, None}
 use Rattle.std.proofs.lemmas.Bool.{or_cases, cond_both, false≢true}
-use Rattle.std.specs.Prelude.{◌==◌, ◌&&◌}
+use Rattle.std.specs.Prelude.{◌==◌, ◌&&◌, ⊤}
 use Rattle.tok_core.specs.Weight.{weight}
 use Rattle.tok_buffer.specs.Cursors.{spot_place, place_of, CursorsLoseNone}
 use Rattle.tok_buffer.specs.Moves.{levels_at, up_to, some_ends, end_of}
@@ -12,7 +12,11 @@ use Rattle.tok_buffer.specs.Progress.{remaining, remaining_around, LosesNone}
 use Rattle.tok_buffer.specs.declared.cursor.Cursor.{Cursor}
 use Rattle.tok_buffer.specs.declared.spot.Spot.{Spot}
 use Rattle.tok_buffer.proofs.Onwards.{along}
-use Rattle.tok_buffer.proofs.View.Counts.{IsCounted}
+
+-- the count and what is ahead add up to the scope's end
+abbrev IsCounted : Place → Type 0
+IsCounted empty_place = ⊤
+IsCounted (at n s c (level o p a) ls) = c + weight a + remaining_around ls ≡ s
 
 measured_up_to : (e s : ℕ) (us : List Level) → some_ends e s us ≡ true →
     e + remaining_around (up_to e s us) ≡ s

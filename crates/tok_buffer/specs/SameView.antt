@@ -84,11 +84,9 @@ ViewsTellScopes = (b : Laid) → filled b.forest ≡ true
     → (p q : Place) → Reached b p → Reached b q
     → same_scope p q ≡ one_scope_in_view (view b.forest p) (view b.forest q)
 
--- a scope's delimiter is given by its ordinal and the erased forest
+-- a view tells its scope's delimiter
 abbrev pub ViewsTellDelimiters : Type 0
-ViewsTellDelimiters = (b : Laid) → filled b.forest ≡ true
-    → (p : Place) → Reached b p
-    → scope_delimiter p ≡ delimiter_in_view (erase b.forest) (view b.forest p)
+ViewsTellDelimiters = (f : Forest) (p : Place) → scope_delimiter p ≡ delimiter_in_view (view f p)
 
 -- the starts of two forests with equal erasures have equal views
 abbrev pub StartsAgree : Type 0

@@ -166,9 +166,9 @@ pub fn descents_enter()
 
 /// Invisible groups do not matter to a call: its result depends only on the view of its place.
 ///
-/// A view is which group the scope is, counted without invisible groups, and the visible trees
-/// ahead. So at places of two filled forests with equal views, each read, skip, end, entry of a
-/// visible group and leftover's span is the same, and the places after it have equal views again.
+/// A view is how much is visible after the scope, the scope's delimiter, and the visible trees ahead.
+/// So at places of two filled forests with equal views, each read, skip, end, entry of a visible
+/// group and leftover's span is the same, and the places after it have equal views again.
 /// Views also decide whether two places are in one scope, and the scope's delimiter. The starts of
 /// two forests that differ only in invisible groups have equal views.
 pub fn views_decide()

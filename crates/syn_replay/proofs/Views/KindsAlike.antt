@@ -24,7 +24,7 @@ use Rattle.syn_replay.proofs.Views.KindReads.{of_kind}
 
 module _ (f g : Laid) where
   pub alike-kind : (k : Kind) (p q : Place) → Alike f g p q → ReadsAlike f g (read k p) (read k q)
-  alike-kind k p q h = alike-reading f g (of_kind k).1 p q h
+  alike-kind k p q h = alike-reading f g p q h (of_kind k).1
 
   both_read : (r q : Option (List Tree × Place)) → ReadsAlike f g r q → is_some r ≡ is_some q
   both_read None None h = refl
@@ -45,7 +45,7 @@ module _ (f g : Laid) where
 
   alike-peek_group : (d : Delimiter) → IsVisibleDelimiter d → (p q : Place) → Alike f g p q
       → is_some (enter d p) ≡ is_some (enter d q)
-  alike-peek_group d v p q h = both_entered (enter d p) (enter d q) (alike-enter f g d v p q h)
+  alike-peek_group d v p q h = both_entered (enter d p) (enter d q) (alike-enter f g p q h d v)
 
   pub alike-peek : (l : Look) → ignores_invisible l ≡ true → (p q : Place) → Alike f g p q
       → peek l p ≡ peek l q

@@ -11,7 +11,7 @@ use Rattle.tok_buffer.specs.Reads.{read_punctuation}
 use Rattle.tok_buffer.proofs.Onwards.{GoesOn, keeps_scope, later_count, lies_nowhere, reading_goes}
 use Rattle.tok_buffer.proofs.Onwards.{then_goes}
 use Rattle.tok_buffer.proofs.View.Alike.{Alike, ReadsAlike, alike-end, alike-reading}
-use Rattle.tok_buffer.proofs.View.Lengths.{same_length}
+use Rattle.tok_buffer.proofs.View.Spans.{same_length}
 use Rattle.tok_buffer.proofs.View.Moves.{LeadsTo}
 use Rattle.tok_buffer.proofs.View.Readings.{of_punctuation}
 use Rattle.syn_replay.specs.Kinds.{Kind, read, kind_message}
@@ -98,7 +98,7 @@ module _ (f g : Laid) where
         after-read p q u v _ _ (read_punctuation separator i) (read_punctuation separator j) e
         (λ s y z l n o. with-parts (x ∷ (s ∷ [])) (x ∷ (s ∷ [])) _ _ refl
         (next-turn p q y z a b n o (again y z l)))
-        (alike-reading f g (of_punctuation separator) i j h) (later-separator separator p i k)
+        (alike-reading f g i j h (of_punctuation separator)) (later-separator separator p i k)
         (later-separator separator q j m)
 
     alike-over : (rule : Rule) (p q : Place) → Alike f g p q → is_over rule p ≡ is_over rule q

@@ -6,7 +6,6 @@ use Rattle.tok_lexical.specs.declared.delimiter.Delimiter.{Delimiter}
 use Rattle.tok_lexical.specs.declared.delimiter.Delimiter.TheVariants.{Parenthesis, Brace, Bracket}
 use Rattle.tok_lexical.specs.declared.delimiter.Delimiter.TheVariants as delimiter
 use Rattle.tok_leaves.specs.declared.span.Span.{Span}
-use Rattle.tok_core.specs.Erase.{erase}
 use Rattle.tok_core.specs.Forest.{Tree}
 use Rattle.tok_leaves.specs.Spans.{closing_span}
 use Rattle.tok_buffer.specs.Buffer.{Laid}
@@ -48,7 +47,7 @@ use Rattle.syn_replay.proofs.Views.Streams.{alike-closed, alike-advanced, alike-
 use Rattle.syn_replay.proofs.Views.Streams.{same-inside}
 use Rattle.syn_replay.proofs.Views.Choices.{either}
 
-module _ (f g : Laid) (visible : erase f.forest ≡ erase g.forest) where
+module _ (f g : Laid) where
   pub record StepsAlike (a b : Stepped) : Type 0 where
     pub answer : AnswersAgree a.answer b.answer
     pub state : StatesAlike f g a.state b.state
@@ -79,7 +78,7 @@ module _ (f g : Laid) (visible : erase f.forest ≡ erase g.forest) where
 
     alike-looked : (n : ℕ) (ls : List Look) (noted : List (List ℕ)) → all_ignore_invisible ls ≡ true
         → AnswersAgree (looked n ls noted p left) (looked n ls noted q right)
-    alike-looked n [] noted e = alike-look f g visible noted p q left right i
+    alike-looked n [] noted e = alike-look f g noted p q left right i
     alike-looked n (l ∷ ls) noted e =
         let parts = and_parts (ignores_invisible l) (all_ignore_invisible ls) e in
         either AnswersAgree (peek l p) (peek l q) (found n) (found n)
@@ -151,15 +150,16 @@ module _ (f g : Laid) (visible : erase f.forest ≡ erase g.forest) where
         → StepsAlike (on_stream (enter (Some d)) st k s) (on_stream (enter (Some d)) su k t)
     alike-enters d v =
         alike-into (delimiter_words d) (entry.enter d s.place) (entry.enter d t.place)
-        (alike-enter f g d v s.place t.place i.place)
+        (alike-enter f g s.place t.place i.place d v)
 
     same-fork : (a b : Option Stream) → BothAlike f g a b
         → same_scope s.place (place_of a) ≡ same_scope t.place (place_of b)
     same-fork None None j =
-        alike-scope f g s.place t.place empty_place empty_place i.place (alike-empty f g)
+        alike-scope f g s.place t.place i.place empty_place empty_place
+        (alike-empty f g s.place t.place i.place)
     same-fork None (Some b) j = absurd j
     same-fork (Some a) None j = absurd j
-    same-fork (Some a) (Some b) j = alike-scope f g s.place t.place a.place b.place i.place j.place
+    same-fork (Some a) (Some b) j = alike-scope f g s.place t.place i.place a.place b.place j.place
 
     alike-on_stream : (a : Action) → is_transparent_action a ≡ true
         → StepsAlike (on_stream a st k s) (on_stream a su k t)

@@ -2,7 +2,6 @@
 use Rattle.tok_leaves.specs.Spans.{covering}
 use Rattle.std.proofs.Common.{◌≡◌, ap, refl, true, List, [], ◌∷◌, Option, Some, None, false}
 use Rattle.std.proofs.lemmas.Bool.{and_parts}
-use Rattle.tok_core.specs.Erase.{erase}
 use Rattle.tok_core.specs.Forest.{Forest}
 use Rattle.tok_buffer.specs.Buffer.{Laid}
 use Rattle.tok_buffer.specs.Ahead.{Leftover}
@@ -21,13 +20,13 @@ use Rattle.syn_replay.proofs.Views.Steps.{alike-step}
 use Rattle.syn_replay.proofs.Views.Streams.{BothAlike, StatesAlike, span_of, alike-handed}
 use Rattle.syn_replay.proofs.Views.Streams.{alike-stream_at, alike-ended_inside}
 
-module _ (f g : Laid) (visible : erase f.forest ≡ erase g.forest) where
+module _ (f g : Laid) where
   lines-agree : (cs : List Command) → all_transparent cs ≡ true → (st su : State)
       → StatesAlike f g st su → LinesAgree (lines_from st cs) (lines_from su cs)
   lines-agree [] e st su h = tt
   lines-agree (c ∷ cs) e st su h =
       let parts = and_parts (is_transparent c) (all_transparent cs) e in
-      let next = alike-step f g visible st su h c parts.0 in
+      let next = alike-step f g st su h c parts.0 in
       (next.answer, lines-agree cs parts.1 (step c st).state (step c su).state next.state)
 
   alike-last : (cs : List Command) → all_transparent cs ≡ true → (st su : State)
@@ -36,7 +35,7 @@ module _ (f g : Laid) (visible : erase f.forest ≡ erase g.forest) where
   alike-last (c ∷ cs) e st su h =
       let parts = and_parts (is_transparent c) (all_transparent cs) e in
       alike-last cs parts.1 (step c st).state (step c su).state
-      (alike-step f g visible st su h c parts.0).state
+      (alike-step f g st su h c parts.0).state
 
   left-agree : (a b : Option Leftover) → span_of a ≡ span_of b
       → VerdictsAgree (elim a [ None ↦ accepted | Some l ↦ left_over (leftover_message l) ])
@@ -85,9 +84,9 @@ invisible_groups_do_not_matter f g cs d e =
     let c = laid g in
     let first = alike-first f g d in
     record {
-      lines = lines-agree b c d.visible cs e (first_state f) (first_state g) first;
+      lines = lines-agree b c cs e (first_state f) (first_state g) first;
       verdicts =
-          verdicts-agree b c d.visible (last_state (first_state f) cs)
+          verdicts-agree b c (last_state (first_state f) cs)
           (last_state (first_state g) cs)
-          (alike-last b c d.visible cs e (first_state f) (first_state g) first);
+          (alike-last b c cs e (first_state f) (first_state g) first);
     }

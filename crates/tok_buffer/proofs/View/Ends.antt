@@ -1,5 +1,5 @@
 -- The end of a scope in a filled forest.
-use Rattle.std.proofs.Common.{◌≡◌, ◌∙◌, sym, ap, refl, ℕ, ◌+◌, Bool, true, ◌&&◌, ◌||◌, not}
+use Rattle.std.proofs.Common.{◌≡◌, ◌∙◌, sym, ap, refl, ℕ, ◌+◌, true, ◌&&◌, ◌||◌, not}
 use Rattle.std.proofs.Common.{List, [], ◌∷◌}
 use Rattle.std.specs.Prelude.{⊤}
 use Rattle.std.proofs.lemmas.Bool.{and_parts}
@@ -7,15 +7,11 @@ use Rattle.tok_lexical.specs.declared.delimiter.Delimiter.TheVariants as delimit
 use Rattle.tok_core.specs.Erase.{erase}
 use Rattle.tok_core.specs.Filled.{filled, has_trees}
 use Rattle.tok_core.specs.Forest.{leaf, group, Forest, no_trees, tree, concat}
-use Rattle.tok_core.proofs.Erasures.{erase_concat}
 use Rattle.tok_core.proofs.Facts.{has_trees_concat}
 use Rattle.tok_buffer.specs.Place.{Owner, whole, in_group, Level, level, Place, empty_place, at}
 use Rattle.tok_buffer.specs.Place.{absorb, settle, is_at_end}
-use Rattle.tok_buffer.specs.View.{View, empty_view, seen, view}
+use Rattle.tok_buffer.specs.View.{erased_ahead, erased_in}
 use Rattle.tok_buffer.proofs.View.Keeps.{IsKept}
-use Rattle.tok_buffer.proofs.View.Unmarked.{unmarked, unmarked_in}
-use Rattle.tok_buffer.proofs.View.Ordinals.{erase-unmarked}
-use Rattle.tok_buffer.proofs.View.Erased.{erased_ahead_is}
 
 -- only the last level, which is the scope, can have nothing ahead
 abbrev pub IsSettled : Place → Type 0
@@ -51,31 +47,20 @@ kept-filled = record {
   out = λ n s c o p l ls h. filled-absorb o p l ls h.1;
 }
 
-abbrev pub end_in_view : View → Bool
-end_in_view empty_view = true
-end_in_view (seen k f) = not (has_trees f)
-
 has-front : (a b : Forest) → has_trees a ≡ true → has_trees (concat a b) ≡ true
 has-front a b h = has_trees_concat a b ∙ ap (λ x. x || has_trees b) h
 
--- in a filled forest a place is at an end exactly where its view has no tree
-pub view-end : (g : Forest) (p : Place) → IsSettled p → IsFilledPlace p
-    → is_at_end p ≡ end_in_view (view g p)
-view-end g empty_place h k = refl
-view-end g (at n s c (level o p no_trees) []) h k = refl
-view-end g (at n s c (level o p no_trees) (l ∷ ls)) h k = absurd h
-view-end g (at n s c (level o p (tree (leaf l) f)) ls) h k = refl
-view-end g (at n s c (level o p (tree (group delimiter.None inside span) f)) ls) h k =
+-- in a filled forest a place is at an end exactly where no visible tree is ahead
+pub end_tells : (p : Place) → IsSettled p → IsFilledPlace p
+    → is_at_end p ≡ not (has_trees (erased_ahead p))
+end_tells empty_place h k = refl
+end_tells (at n s c (level o p no_trees) []) h k = refl
+end_tells (at n s c (level o p no_trees) (l ∷ ls)) h k = absurd h
+end_tells (at n s c (level o p (tree (leaf l) f)) ls) h k = refl
+end_tells (at n s c (level o p (tree (group delimiter.None inside span) f)) ls) h k =
     let outer = and_parts (has_trees (erase inside) && filled inside) (filled f) k.0 in
     let inner = and_parts (has_trees (erase inside)) (filled inside) outer.0 in
-    sym (ap (λ e. not (has_trees e)) (
-    erased_ahead_is (at n s c (level o p (tree (group delimiter.None inside span) f)) ls)
-    ∙ erase_concat (concat (unmarked inside) (unmarked f)) (unmarked_in ls)
-    ∙ ap (λ e. concat e (erase (unmarked_in ls))) (erase_concat (unmarked inside) (unmarked f))
-    )
-    ∙ ap not
-    (has-front (concat (erase (unmarked inside)) (erase (unmarked f)))
-    (erase (unmarked_in ls))
-    (has-front (erase (unmarked inside)) (erase (unmarked f))
-    (ap has_trees (erase-unmarked inside) ∙ inner.0))))
-view-end g (at n s c (level o p (tree (group d inside span) f)) ls) h k = refl
+    sym (ap not
+    (has-front (concat (erase inside) (erase f)) (erased_in ls)
+    (has-front (erase inside) (erase f) inner.0)))
+end_tells (at n s c (level o p (tree (group d inside span) f)) ls) h k = refl

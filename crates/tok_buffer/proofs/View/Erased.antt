@@ -1,84 +1,90 @@
--- The erased trees ahead, and views, after settling and after a descent.
-use Rattle.std.proofs.Common.{◌≡◌, ◌∙◌, sym, ap, refl, ℕ, Bool, true, false, List, []}
-use Rattle.std.proofs.Common.{◌∷◌, ◌++◌, map}
-use Rattle.tok_lexical.specs.declared.delimiter.Delimiter.TheVariants as delimiter
+-- The scope, and the erased trees ahead, after each move.
+use Rattle.std.proofs.Common.{◌≡◌, ◌∙◌, sym, ap, refl, ℕ, List, [], ◌∷◌}
 use Rattle.tok_core.specs.Erase.{erase}
-use Rattle.tok_core.specs.Forest.{Tree, leaf, group, Forest, no_trees, tree, forest, concat}
-use Rattle.tok_buffer.specs.Ahead.{visible, ahead, ahead_in}
-use Rattle.tok_buffer.specs.Descent.{descend_from, descend}
-use Rattle.tok_buffer.specs.Place.{Level, level, Place, empty_place, at, settle}
-use Rattle.tok_buffer.specs.View.{erased_ahead, seen, view, closings}
-use Rattle.tok_buffer.proofs.View.Unmarked.{unmarked, unmarked_in, trees_ahead, trees_ahead-descend}
-use Rattle.tok_buffer.proofs.View.Unmarked.{trees_ahead-settle}
-use Rattle.tok_buffer.proofs.View.Keeps.{IsKept, kept-settle, kept-descend_from}
+use Rattle.tok_core.specs.Forest.{Forest, no_trees, tree}
+use Rattle.tok_core.proofs.Facts.{joined_assoc}
+use Rattle.tok_buffer.specs.Descent.{descend}
+use Rattle.tok_buffer.specs.Place.{Owner, whole, in_group, Level, level, Place, empty_place, at}
+use Rattle.tok_buffer.specs.Place.{absorb, settle}
+use Rattle.tok_buffer.specs.Rest.{levels_delimiter}
+use Rattle.tok_buffer.specs.View.{erased_ahead, erased_in, View, empty_view, seen, view}
+use Rattle.tok_buffer.specs.View.{visible_after}
+use Rattle.tok_buffer.proofs.View.Keeps.{IsKept, kept-settle, kept-descend}
+use Rattle.tok_buffer.proofs.View.Moves.{IsMoved, moved-pass, Leads}
 
--- the list of trees ahead, without its marks
-abbrev pub plain : List (Bool × Tree) → Forest
-plain ts = forest (map (λ t. t.1) ts)
+erased-absorb : (o : Owner) (p : Forest) (l : Level) (ls : List Level)
+    → erased_in (absorb o p l ∷ ls) ≡ erased_in (l ∷ ls)
+erased-absorb whole p l ls = refl
+erased-absorb (in_group d span) p (level o q a) ls = refl
 
-plain-append : (ts us : List (Bool × Tree)) → plain (ts ++ us) ≡ concat (plain ts) (plain us)
-plain-append [] us = refl
-plain-append (t ∷ ts) us = ap (tree t.1) (plain-append ts us)
+-- neither settling nor a descent changes the erased trees ahead
+module _ (ahead : Forest) where
+  abbrev HasErased : Place → Type 0
+  HasErased p = erased_ahead p ≡ ahead
 
-plain-visible : (b : Bool) (f : Forest) → plain (visible b f) ≡ unmarked f
-plain-visible b no_trees = refl
-plain-visible b (tree (leaf l) f) = ap (tree (leaf l)) (plain-visible b f)
-plain-visible b (tree (group delimiter.None inside span) f) =
-    plain-append (visible true inside) (visible b f)
-    ∙ ap (λ g. concat g (plain (visible b f))) (plain-visible true inside)
-    ∙ ap (concat (unmarked inside)) (plain-visible b f)
-plain-visible b (tree (group d inside span) f) = ap (tree (group d inside span)) (plain-visible b f)
+  kept-erased : IsKept HasErased
+  kept-erased = record {
+    into = λ n s c o p inside span f ls h. sym
+        (joined_assoc (erase inside) (erase f) (erased_in ls)) ∙ h;
+    out = λ n s c o p l ls h. erased-absorb o p l ls ∙ h;
+  }
 
-plain-ahead_in : (ls : List Level) → plain (ahead_in ls) ≡ unmarked_in ls
-plain-ahead_in [] = refl
-plain-ahead_in (level o p a ∷ ls) =
-    plain-append (visible false a) (ahead_in ls)
-    ∙ ap (λ g. concat g (plain (ahead_in ls))) (plain-visible false a)
-    ∙ ap (concat (unmarked a)) (plain-ahead_in ls)
+pub erased-settle : (n s c : ℕ) (l : Level) (ls : List Level)
+    → erased_ahead (settle n s c l ls) ≡ erased_in (l ∷ ls)
+erased-settle n s c l ls =
+    kept-settle (HasErased (erased_in (l ∷ ls))) (kept-erased (erased_in (l ∷ ls))) n s c l ls refl
 
-pub plain-ahead : (p : Place) → plain (ahead p) ≡ trees_ahead p
-plain-ahead empty_place = refl
-plain-ahead (at n s c l ls) = plain-ahead_in (l ∷ ls)
+pub erased-descend : (p : Place) → erased_ahead (descend p) ≡ erased_ahead p
+erased-descend p =
+    kept-descend (HasErased (erased_ahead p)) (kept-erased (erased_ahead p)) p refl
 
--- a descent keeps the list of trees ahead, but for the marks
-pub ahead-descend : (p : Place)
-    → forest (map (λ t. t.1) (ahead (descend p))) ≡ forest (map (λ t. t.1) (ahead p))
-ahead-descend p = plain-ahead (descend p) ∙ trees_ahead-descend p ∙ sym (plain-ahead p)
+one_owner : (o : Owner) (p q a b : Forest) (ls : List Level)
+    → levels_delimiter (level o p a) ls ≡ levels_delimiter (level o q b) ls
+one_owner o p q a b [] = refl
+one_owner o p q a b (l ∷ ls) = refl
 
-pub erased_ahead_is : (p : Place) → erased_ahead p ≡ erase (trees_ahead p)
-erased_ahead_is p = ap erase (plain-ahead p)
+absorbed_owner : (o : Owner) (p : Forest) (l : Level) (ls : List Level)
+    → levels_delimiter (absorb o p l) ls ≡ levels_delimiter l ls
+absorbed_owner whole p l ls = refl
+absorbed_owner (in_group d span) p (level o q a) ls = one_owner o _ q a a ls
 
-pub settle-ahead : (n s c : ℕ) (l : Level) (ls : List Level)
-    → erased_ahead (settle n s c l ls) ≡ erase (unmarked_in (l ∷ ls))
-settle-ahead n s c l ls =
-    erased_ahead_is (settle n s c l ls) ∙ ap erase (trees_ahead-settle n s c l ls)
+-- a view's scope, with these trees ahead, or none
+abbrev pub in_scope : View → Forest → View
+in_scope empty_view f = empty_view
+in_scope (seen k d g) f = seen k d f
 
--- Neither settling nor descending changes the scope of a place.
-abbrev pub HasScope : ℕ → Place → Type 0
-HasScope s empty_place = ⊥
-HasScope s (at n t c l ls) = t ≡ s
+abbrev pub scope_of : View → View
+scope_of v = in_scope v no_trees
 
-module _ (s : ℕ) where
-  pub kept-scope : IsKept (HasScope s)
-  kept-scope = record { into = λ n t c o p inside span f ls h. h; out = λ n t c o p l ls h. h }
+-- no move changes the scope
+module _ (g : Forest) (v : View) where
+  abbrev pub HasScope : Place → Type 0
+  HasScope p = scope_of (view g p) ≡ v
 
-pub view_is : (f : Forest) (s : ℕ) (p : Place) → HasScope s p
-    → view f p ≡ seen (closings f s) (erase (trees_ahead p))
-view_is f s empty_place h = absurd h
-view_is f s (at n t c l ls) h =
-    ap (λ k. seen (closings f k) (erased_ahead (at n t c l ls))) h
-    ∙ ap (seen (closings f s)) (erased_ahead_is (at n t c l ls))
+  moved-scope : IsMoved HasScope
+  moved-scope = record {
+    kept = record {
+      into = λ n s c o p inside span f ls h.
+          ap (λ d. seen (visible_after g s) d no_trees) (one_owner o p p f _ ls) ∙ h;
+      out = λ n s c o p l ls h.
+          ap (λ d. seen (visible_after g s) d no_trees) (absorbed_owner o p l ls) ∙ h;
+    };
+    past = λ n s c o p t f ls h.
+        ap (λ d. seen (visible_after g s) d no_trees) (one_owner o (tree t p) p f _ ls) ∙ h;
+  }
 
-pub view-descend : (f : Forest) (p : Place) → view f (descend p) ≡ view f p
-view-descend f empty_place = refl
-view-descend f (at n s c l ls) =
-    view_is f s (descend_from n s c l ls)
-    (kept-descend_from (HasScope s) (kept-scope s) n s c l ls refl)
-    ∙ ap (λ g. seen (closings f s) (erase g)) (trees_ahead-descend (at n s c l ls))
-    ∙ sym (view_is f s (at n s c l ls) refl)
+  pub scope-descend : (p : Place) → HasScope p → HasScope (descend p)
+  scope-descend = kept-descend HasScope moved-scope.kept
 
-pub view-settle : (f : Forest) (n s c : ℕ) (l : Level) (ls : List Level)
-    → view f (settle n s c l ls) ≡ seen (closings f s) (erase (unmarked_in (l ∷ ls)))
-view-settle f n s c l ls =
-    view_is f s (settle n s c l ls) (kept-settle (HasScope s) (kept-scope s) n s c l ls refl)
-    ∙ ap (λ g. seen (closings f s) (erase g)) (trees_ahead-settle n s c l ls)
+  pub leads-scope : Leads HasScope HasScope
+  leads-scope =
+      record {
+        down = scope-descend;
+        past = λ p t e h. moved-pass HasScope moved-scope p h;
+        weaker = λ p h. h;
+      }
+
+  -- so a view is told by its scope and the erased trees ahead
+  pub view-scope : (p : Place) → HasScope p → view g p ≡ in_scope v (erased_ahead p)
+  view-scope empty_place h = ap (λ w. in_scope w no_trees) h
+  view-scope (at n s c l ls) h = ap (λ w. in_scope w (erased_in (l ∷ ls))) h

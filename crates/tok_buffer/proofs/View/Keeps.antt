@@ -11,6 +11,7 @@ use Rattle.tok_core.proofs.Facts.{turned_back}
 use Rattle.tok_buffer.specs.Descent.{into_front, descend_from, descend}
 use Rattle.tok_buffer.specs.Place.{Owner, in_group, Level, level, Place, empty_place, at, absorb}
 use Rattle.tok_buffer.specs.Place.{settle}
+use Rattle.tok_buffer.specs.View.{IsVisibleDelimiter}
 
 -- P holds inside an invisible group where it holds before it, and after the group where it holds at
 -- its end
@@ -106,8 +107,7 @@ module _ (P : Place → Type 0) (k : IsKept P) where
 -- After a descent a visible tree is in front, or the place is at its scope's end.
 abbrev pub IsVisible : Tree → Type 0
 IsVisible (leaf l) = ⊤
-IsVisible (group delimiter.None inside span) = ⊥
-IsVisible (group d inside span) = ⊤
+IsVisible (group d inside span) = IsVisibleDelimiter d
 
 abbrev pub IsDescended : Place → Type 0
 IsDescended empty_place = ⊤

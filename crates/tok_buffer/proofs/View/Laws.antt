@@ -1,27 +1,33 @@
 -- Invisible groups do not matter to a single call: the proofs.
-use Rattle.std.proofs.Common.{◌≡◌, ◌∙◌, sym, ap, subst, refl, true, false, cond, Bool, Option, Some}
-use Rattle.std.proofs.Common.{None}
+use Rattle.std.proofs.Common.{◌≡◌, ◌∙◌, sym, ap, ap₂, subst, refl, true, false, cond, not, Bool}
+use Rattle.std.proofs.Common.{Option, Some, None, ℕ}
 use Rattle.std.specs.Prelude.{IfSome}
 use Rattle.tok_lexical.specs.declared.delimiter.Delimiter.{Delimiter}
 use Rattle.tok_lexical.specs.declared.delimiter.Delimiter.TheVariants as delimiter
+use Rattle.tok_core.specs.Erase.{erase}
+use Rattle.tok_core.specs.Filled.{has_trees}
 use Rattle.tok_core.specs.Forest.{leaf, group, Forest, no_trees, tree}
+use Rattle.tok_core.proofs.Facts.{concat-none}
 use Rattle.tok_buffer.specs.Buffer.{Laid}
 use Rattle.tok_buffer.specs.Descent.{descend}
 use Rattle.tok_buffer.specs.Entry.{Entered, enter, enter_any, entered_of, same_delimiter}
-use Rattle.tok_buffer.specs.Place.{level, Place, empty_place, at, pass}
+use Rattle.tok_buffer.specs.InFront.{first_tree_span}
+use Rattle.tok_buffer.specs.Place.{level, Place, empty_place, at, pass, start}
 use Rattle.tok_buffer.specs.Reached.{Reached, down, past, into}
 use Rattle.tok_buffer.specs.SameView.{ViewsDecide, CallsLeadOn, ViewsTellScopes}
 use Rattle.tok_buffer.specs.SameView.{ViewsTellDelimiters, StartsAgree, ReadsAgree}
-use Rattle.tok_buffer.specs.View.{IsVisibleDelimiter, view}
-use Rattle.tok_buffer.proofs.View.Alike.{Alike, delimiter-erase, view-starts, alike-end}
-use Rattle.tok_buffer.proofs.View.Alike.{alike-leftover}
+use Rattle.tok_buffer.specs.View.{IsVisibleDelimiter, seen, view}
+use Rattle.tok_buffer.proofs.View.Entries.{enter_in_view, view-enter}
+use Rattle.tok_buffer.proofs.View.InFront.{ahead_tells_ends}
+use Rattle.tok_buffer.proofs.View.Marks.{after-start}
 use Rattle.tok_buffer.proofs.View.Moves.{Leads, leads, leads-skip}
-use Rattle.tok_buffer.proofs.View.Ordinals.{enter_in_view, view-enter}
 use Rattle.tok_buffer.proofs.View.Places.{reached_stands}
 use Rattle.tok_buffer.proofs.View.Readings.{Read, First, Reading, of_ident, of_word, of_keyword}
 use Rattle.tok_buffer.proofs.View.Readings.{of_lifetime, of_literal, of_punct, of_punctuation}
 use Rattle.tok_buffer.proofs.View.ReadViews.{in_view, skip_in_view, view-reading, view-skip}
-use Rattle.tok_buffer.proofs.View.Standing.{view-scope, view-delimiter}
+use Rattle.tok_buffer.proofs.View.Spans.{leftover_tells}
+use Rattle.tok_buffer.proofs.View.Standing.{scope-view}
+use Rattle.tok_buffer.proofs.View.Tells.{same_trees}
 
 pub read-same : {read : Read} {first : First} → Reading read first → (f g : Forest) (p q : Place)
     → view f p ≡ view g q → ReadsAgree f g read p q
@@ -32,12 +38,7 @@ pub views_decide : ViewsDecide
 views_decide b c p q s =
     let f = b.forest in
     let g = c.forest in
-    let h : Alike b c p q =
-    record {
-      left = reached_stands b s.left_filled p s.left;
-      right = reached_stands c s.right_filled q s.right;
-      same = s.same;
-    } in
+    let trees = same_trees f g p q s.same in
     record {
       idents = read-same of_ident f g p q s.same;
       words = λ wanted. read-same (of_word wanted) f g p q s.same;
@@ -47,24 +48,30 @@ views_decide b c p q s =
       puncts = read-same of_punct f g p q s.same;
       punctuations = λ text. read-same (of_punctuation text) f g p q s.same;
       skips = view-skip f p ∙ ap skip_in_view s.same ∙ sym (view-skip g q);
-      ends = alike-end b c p q h;
+      ends =
+          ahead_tells_ends b s.left_filled p s.left ∙ ap (λ x. not (has_trees x)) trees
+          ∙ sym (ahead_tells_ends c s.right_filled q s.right);
       enters = λ d v.
-          view-enter f d p v h.left.holds.counted h.left.holds.inside ∙ ap (enter_in_view d) s.same
-          ∙ sym (view-enter g d q v h.right.holds.counted h.right.holds.inside);
-      leftovers = alike-leftover b c p q h;
+          view-enter f d p v (reached_stands b s.left_filled p s.left).holds.inside
+          ∙ ap (enter_in_view d) s.same
+          ∙ sym (view-enter g d q v (reached_stands c s.right_filled q s.right).holds.inside);
+      leftovers = leftover_tells p ∙ ap first_tree_span trees ∙ sym (leftover_tells q);
     }
 
 pub views_tell_scopes : ViewsTellScopes
 views_tell_scopes b i p q r s =
-    view-scope b.number b.forest p q (reached_stands b i p r) (reached_stands b i q s)
+    scope-view b.number b.forest p q (reached_stands b i p r) (reached_stands b i q s)
 
 pub views_tell_delimiters : ViewsTellDelimiters
-views_tell_delimiters b i p r =
-    view-delimiter b.number b.forest p (reached_stands b i p r)
-    ∙ sym (delimiter-erase b.forest (view b.forest p))
+views_tell_delimiters f empty_place = refl
+views_tell_delimiters f (at n s c l ls) = refl
+
+view-start : (n : ℕ) (f : Forest) → view f (start n f) ≡ seen 0 delimiter.None (erase f)
+view-start n f = ap₂ (λ k e. seen k delimiter.None e) (after-start f) (concat-none (erase f))
 
 pub starts_agree : StartsAgree
-starts_agree b c e = view-starts b c e
+starts_agree b c e =
+    view-start b.number b.forest ∙ ap (seen 0 delimiter.None) e ∙ sym (view-start c.number c.forest)
 
 -- The places after each call are reached.
 module _ (b : Laid) where

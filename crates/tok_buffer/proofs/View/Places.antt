@@ -5,11 +5,11 @@ use Rattle.tok_core.specs.Filled.{filled}
 use Rattle.tok_buffer.specs.Buffer.{Laid}
 use Rattle.tok_buffer.specs.Place.{Place}
 use Rattle.tok_buffer.specs.Reached.{Reached, begin, down, past, into, nowhere}
-use Rattle.tok_buffer.proofs.View.Alike.{StandsIn}
-use Rattle.tok_buffer.proofs.View.Standing.{BothStand, stands-start, stands-descend, stands-pass}
+use Rattle.tok_buffer.proofs.View.Standing.{BothStand, Stands, stands-start, stands-descend, stands-pass}
 use Rattle.tok_buffer.proofs.View.Standing.{stands-enter, stands-empty}
 
-pub reached_stands : (b : Laid) → filled b.forest ≡ true → (p : Place) → Reached b p → StandsIn b p
+pub reached_stands : (b : Laid) → filled b.forest ≡ true → (p : Place) → Reached b p
+    → Stands b.number b.forest p
 reached_stands b h _ begin = stands-start b.number b.forest h
 reached_stands b h _ (down p r) = stands-descend b.number b.forest p (reached_stands b h p r)
 reached_stands b h _ (past p r) = stands-pass b.number b.forest p (reached_stands b h p r)

@@ -8,7 +8,7 @@ use Rattle.tok_buffer.specs.InFront.{and_first, first_if, with_ahead}
 use Rattle.tok_buffer.specs.Place.{Place}
 use Rattle.tok_buffer.specs.View.{erased_ahead}
 use Rattle.tok_buffer.proofs.View.Tells.{tells}
-use Rattle.tok_buffer.proofs.View.Lengths.{tree_count, length_ahead}
+use Rattle.tok_buffer.proofs.View.Spans.{tree_count, length_ahead}
 use Rattle.tok_buffer.proofs.View.Readings.{Read, First, Reading, never, one, more}
 
 abbrev Shortens : Forest → Option (List Tree × Forest) → Type 0

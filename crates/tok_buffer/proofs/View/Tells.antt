@@ -13,7 +13,7 @@ use Rattle.tok_buffer.specs.Place.{level, Place, empty_place, at, pass}
 use Rattle.tok_buffer.specs.Reads.{read_if, and_then, any_text, is_ident_of, place_after, read_tree}
 use Rattle.tok_buffer.specs.Reads.{read_lifetime, skip}
 use Rattle.tok_buffer.specs.View.{erased_ahead, View, empty_view, seen, view}
-use Rattle.tok_buffer.proofs.View.Erased.{erased_ahead_is, ahead-descend, settle-ahead}
+use Rattle.tok_buffer.proofs.View.Erased.{erased-descend, erased-settle}
 use Rattle.tok_buffer.proofs.View.Keeps.{IsDescended, descended-descend}
 use Rattle.tok_buffer.proofs.View.Readings.{Read, First, Reading, never, one, more, IsOfLeaves}
 use Rattle.tok_buffer.proofs.View.Readings.{of_lifetime}
@@ -21,11 +21,14 @@ use Rattle.tok_buffer.proofs.View.Readings.{of_lifetime}
 -- the trees of a view
 abbrev pub trees_of : View → Forest
 trees_of empty_view = no_trees
-trees_of (seen k f) = f
+trees_of (seen k d f) = f
 
 pub trees-view : (g : Forest) (p : Place) → erased_ahead p ≡ trees_of (view g p)
 trees-view g empty_place = refl
 trees-view g (at n s c l ls) = refl
+
+pub same_trees : (f g : Forest) (p q : Place) → view f p ≡ view g q → erased_ahead p ≡ erased_ahead q
+same_trees f g p q e = trees-view f p ∙ ap trees_of e ∙ sym (trees-view g q)
 
 -- the front tree, at the end of a descent
 tells-wanted : (b : Bool) (t : Tree) (p : Place) (f : Forest) → erased_ahead p ≡ f
@@ -42,8 +45,7 @@ tells-take wanted leaves empty_place h = refl
 tells-take wanted leaves (at n s c (level o p (tree (leaf l) a)) ls) h =
     tells-wanted (wanted (leaf l)) (leaf l) (pass (at n s c (level o p (tree (leaf l) a)) ls))
     (erased_ahead (at n s c (level o p a) ls))
-    (settle-ahead n s (c + 1) (level o (tree (leaf l) p) a) ls
-    ∙ sym (erased_ahead_is (at n s c (level o p a) ls)))
+    (erased-settle n s (c + 1) (level o (tree (leaf l) p) a) ls)
 tells-take wanted leaves (at n s c (level o p (tree (group delimiter.None inside span) a)) ls) h =
     absurd h
 tells-take wanted leaves (at n s c (level o p (tree (group d inside span) a)) ls) h =
@@ -56,7 +58,7 @@ tells-one : (wanted : Tree → Bool) → IsOfLeaves wanted → (p : Place)
     → with_ahead (read_if wanted (descend p)) ≡ first_if wanted (erased_ahead p)
 tells-one wanted leaves p =
     tells-take wanted leaves (descend p) (descended-descend p)
-    ∙ ap (λ f. first_if wanted (erase f)) (ahead-descend p)
+    ∙ ap (first_if wanted) (erased-descend p)
 
 tells-more : (ts : List Tree) (r : Option (List Tree × Place)) (v : Option (List Tree × Forest))
     → with_ahead r ≡ v
@@ -98,14 +100,10 @@ front-tells empty_place h = refl
 front-tells (at n s c (level o p no_trees) []) h = refl
 front-tells (at n s c (level o p no_trees) (l ∷ ls)) h = absurd h
 front-tells (at n s c (level o p (tree (leaf l) f)) ls) h =
-    ap Some
-    (settle-ahead n s (c + 1) (level o (tree (leaf l) p) f) ls
-    ∙ sym (erased_ahead_is (at n s c (level o p f) ls)))
+    ap Some (erased-settle n s (c + 1) (level o (tree (leaf l) p) f) ls)
 front-tells (at n s c (level o p (tree (group delimiter.None inside span) f)) ls) h = absurd h
 front-tells (at n s c (level o p (tree (group d inside span) f)) ls) h =
-    ap Some
-    (settle-ahead n s (c + (2 + weight inside)) (level o (tree (group d inside span) p) f) ls
-    ∙ sym (erased_ahead_is (at n s c (level o p f) ls)))
+    ap Some (erased-settle n s (c + (2 + weight inside)) (level o (tree (group d inside span) p) f) ls)
 
 either-tells : (x : Option (List Tree × Place)) (y : Option Place)
     (v : Option (List Tree × Forest)) (w : Option Forest) → with_ahead x ≡ v
@@ -121,4 +119,4 @@ skip_tells p =
     (and_first (first_if is_joint_apostrophe (erased_ahead p)) (first_if (is_ident_of any_text)))
     (past_front (erased_ahead p)) (tells (of_lifetime any_text) p)
     (front-tells (descend p) (descended-descend p)
-    ∙ ap (λ f. past_front (erase f)) (ahead-descend p))
+    ∙ ap past_front (erased-descend p))

@@ -1,20 +1,14 @@
 -- The visible trees ahead as a forest.
-use Rattle.std.proofs.Common.{◌≡◌, ◌∙◌, sym, refl, ℕ, ◌+◌, List, []}
-use Rattle.std.proofs.Common.{◌∷◌}
+use Rattle.std.proofs.Common.{◌≡◌, ◌∙◌, sym, ap, refl, ℕ, Bool, true, false, List, []}
+use Rattle.std.proofs.Common.{◌∷◌, ◌++◌, map}
 use Rattle.tok_lexical.specs.declared.delimiter.Delimiter.TheVariants as delimiter
-use Rattle.tok_core.specs.Forest.{leaf, group, Forest, no_trees, tree, concat}
+use Rattle.tok_core.specs.Forest.{Tree, leaf, group, Forest, no_trees, tree, forest, concat}
 use Rattle.tok_core.proofs.Facts.{joined_assoc}
+use Rattle.tok_buffer.specs.Ahead.{visible, ahead, ahead_in}
 use Rattle.tok_buffer.specs.Descent.{descend}
 use Rattle.tok_buffer.specs.Place.{Owner, whole, in_group, Level, level, Place, empty_place, at}
-use Rattle.tok_buffer.specs.Place.{absorb, settle, settled}
+use Rattle.tok_buffer.specs.Place.{absorb, settle}
 use Rattle.tok_buffer.proofs.View.Keeps.{IsKept, kept-settle, kept-descend}
-
--- settling twice is settling once
-settled-settle : (n s c : ℕ) (l : Level) (ls : List Level)
-    → settled (settle n s c l ls) ≡ settle n s c l ls
-settled-settle n s c l [] = refl
-settled-settle n s c (level o p no_trees) (m ∷ ls) = settled-settle n s (c + 1) (absorb o p m) ls
-settled-settle n s c (level o p (tree t f)) (m ∷ ls) = refl
 
 -- The visible trees ahead, without marks.
 abbrev pub unmarked : Forest → Forest
@@ -57,3 +51,31 @@ trees_ahead-settle n s c l ls =
 
 pub trees_ahead-descend : (p : Place) → trees_ahead (descend p) ≡ trees_ahead p
 trees_ahead-descend p = kept-descend (HasAhead (trees_ahead p)) (kept-ahead (trees_ahead p)) p refl
+
+-- the list of trees ahead, without its marks
+abbrev pub plain : List (Bool × Tree) → Forest
+plain ts = forest (map (λ t. t.1) ts)
+
+plain-append : (ts us : List (Bool × Tree)) → plain (ts ++ us) ≡ concat (plain ts) (plain us)
+plain-append [] us = refl
+plain-append (t ∷ ts) us = ap (tree t.1) (plain-append ts us)
+
+plain-visible : (b : Bool) (f : Forest) → plain (visible b f) ≡ unmarked f
+plain-visible b no_trees = refl
+plain-visible b (tree (leaf l) f) = ap (tree (leaf l)) (plain-visible b f)
+plain-visible b (tree (group delimiter.None inside span) f) =
+    plain-append (visible true inside) (visible b f)
+    ∙ ap (λ g. concat g (plain (visible b f))) (plain-visible true inside)
+    ∙ ap (concat (unmarked inside)) (plain-visible b f)
+plain-visible b (tree (group d inside span) f) = ap (tree (group d inside span)) (plain-visible b f)
+
+plain-ahead_in : (ls : List Level) → plain (ahead_in ls) ≡ unmarked_in ls
+plain-ahead_in [] = refl
+plain-ahead_in (level o p a ∷ ls) =
+    plain-append (visible false a) (ahead_in ls)
+    ∙ ap (λ g. concat g (plain (ahead_in ls))) (plain-visible false a)
+    ∙ ap (concat (unmarked a)) (plain-ahead_in ls)
+
+pub plain-ahead : (p : Place) → plain (ahead p) ≡ trees_ahead p
+plain-ahead empty_place = refl
+plain-ahead (at n s c l ls) = plain-ahead_in (l ∷ ls)

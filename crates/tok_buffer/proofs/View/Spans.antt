@@ -1,0 +1,77 @@
+-- The spans of the visible trees ahead, and so how many they are, and the leftover's span.
+use Rattle.std.proofs.Common.{◌≡◌, ◌∙◌, sym, ap, ap₂, refl, ℕ, Bool, true, false, List, [], ◌∷◌}
+use Rattle.std.proofs.Common.{◌++◌, length, map, Option, Some, None}
+use Rattle.std.proofs.lemmas.List.{length-map, map-append}
+use Rattle.std.specs.Prelude.{option_map}
+use Rattle.tok_leaves.specs.declared.span.Span.{Span}
+use Rattle.tok_lexical.specs.declared.delimiter.Delimiter.{Delimiter}
+use Rattle.tok_lexical.specs.declared.delimiter.Delimiter.TheVariants as delimiter
+use Rattle.tok_core.specs.Erase.{erase}
+use Rattle.tok_core.specs.Forest.{Tree, leaf, group, Forest, no_trees, tree, concat, tree_span}
+use Rattle.tok_buffer.specs.Ahead.{first_left, visible, ahead, ahead_in}
+use Rattle.tok_buffer.specs.InFront.{first_tree_span}
+use Rattle.tok_buffer.specs.Place.{Level, level, Place, empty_place, at}
+use Rattle.tok_buffer.specs.Rest.{scope_delimiter}
+use Rattle.tok_buffer.specs.SameView.{leftover_span}
+use Rattle.tok_buffer.specs.View.{erased_ahead, erased_in, view}
+use Rattle.tok_buffer.proofs.View.Tells.{same_trees}
+
+abbrev spans_of : Forest → List Span
+spans_of no_trees = []
+spans_of (tree t f) = tree_span t ∷ spans_of f
+
+abbrev span_list : List (Bool × Tree) → List Span
+span_list ts = map (λ t. tree_span t.1) ts
+
+spans-concat : (f g : Forest) → spans_of (concat f g) ≡ spans_of f ++ spans_of g
+spans-concat no_trees g = refl
+spans-concat (tree t f) g = ap (λ xs. tree_span t ∷ xs) (spans-concat f g)
+
+spans-visible : (b : Bool) (f : Forest) → span_list (visible b f) ≡ spans_of (erase f)
+spans-visible b no_trees = refl
+spans-visible b (tree (leaf l) f) = ap (λ xs. tree_span (leaf l) ∷ xs) (spans-visible b f)
+spans-visible b (tree (group delimiter.None inside span) f) =
+    map-append (λ t. tree_span t.1) (visible true inside) (visible b f)
+    ∙ ap₂ (λ x y. x ++ y) (spans-visible true inside) (spans-visible b f)
+    ∙ sym (spans-concat (erase inside) (erase f))
+spans-visible b (tree (group d inside span) f) = ap (λ xs. span ∷ xs) (spans-visible b f)
+
+spans-levels : (ls : List Level) → span_list (ahead_in ls) ≡ spans_of (erased_in ls)
+spans-levels [] = refl
+spans-levels (level o p a ∷ ls) =
+    map-append (λ t. tree_span t.1) (visible false a) (ahead_in ls)
+    ∙ ap₂ (λ x y. x ++ y) (spans-visible false a) (spans-levels ls)
+    ∙ sym (spans-concat (erase a) (erased_in ls))
+
+spans-ahead : (p : Place) → span_list (ahead p) ≡ spans_of (erased_ahead p)
+spans-ahead empty_place = refl
+spans-ahead (at n s c l ls) = spans-levels (l ∷ ls)
+
+abbrev pub tree_count : Forest → ℕ
+tree_count f = length (spans_of f)
+
+pub length_ahead : (p : Place) → length (ahead p) ≡ tree_count (erased_ahead p)
+length_ahead p = sym (length-map (ahead p) (λ t. tree_span t.1)) ∙ ap length (spans-ahead p)
+
+pub same_length : (f g : Forest) (p q : Place) → view f p ≡ view g q
+    → length (ahead p) ≡ length (ahead q)
+same_length f g p q e =
+    length_ahead p ∙ ap tree_count (same_trees f g p q e) ∙ sym (length_ahead q)
+
+abbrev first_span : List Span → Option Span
+first_span [] = None
+first_span (x ∷ xs) = Some x
+
+left-span : (d : Delimiter) (ts : List (Bool × Tree))
+    → option_map (λ l. l.span) (first_left d ts) ≡ first_span (span_list ts)
+left-span d [] = refl
+left-span d (t ∷ ts) = refl
+
+first-span : (f : Forest) → first_span (spans_of f) ≡ first_tree_span f
+first-span no_trees = refl
+first-span (tree t f) = refl
+
+pub leftover_tells : (p : Place) → leftover_span p ≡ first_tree_span (erased_ahead p)
+leftover_tells p =
+    left-span (scope_delimiter p) (ahead p) ∙ ap first_span (spans-ahead p)
+    ∙ first-span (erased_ahead p)
