@@ -78,7 +78,7 @@ pub record LeadsOn (b : Laid) (p : Place) : Type 0 where
 abbrev pub CallsLeadOn : Type 0
 CallsLeadOn = (b : Laid) (p : Place) → Reached b p → LeadsOn b p
 
--- two places are in one scope exactly where their ordinals are equal, or both are the empty place
+-- two places are in one scope if and only if their views are
 abbrev pub ViewsTellScopes : Type 0
 ViewsTellScopes = (b : Laid) → filled b.forest ≡ true
     → (p q : Place) → Reached b p → Reached b q

@@ -1,13 +1,12 @@
 -- Entering a visible group depends on the view alone.
-use Rattle.std.proofs.Common.{◌≡◌, ◌∙◌, sym, ap, ap₂, refl, ◌+◌, Bool, true, false, cond, []}
+use Rattle.std.proofs.Common.{◌≡◌, ◌∙◌, sym, ap, ap₂, refl, ◌+◌, []}
 use Rattle.std.proofs.Common.{Option, Some, None}
 use Rattle.std.specs.Prelude.{IfSome, option_map}
 use Rattle.tok_lexical.specs.declared.delimiter.Delimiter.{Delimiter}
-use Rattle.tok_lexical.specs.declared.delimiter.Delimiter.TheVariants as delimiter
 use Rattle.tok_core.specs.Forest.{leaf, group, Forest, no_trees, tree}
 use Rattle.tok_core.specs.Weight.{weight}
 use Rattle.tok_buffer.specs.Descent.{descend}
-use Rattle.tok_buffer.specs.Entry.{Entered, enter, enter_any, entered_of, same_delimiter}
+use Rattle.tok_buffer.specs.Entry.{Entered, enter, enter_any}
 use Rattle.tok_buffer.specs.InFront.{EnteredAhead, entered_ahead, first_group}
 use Rattle.tok_buffer.specs.Place.{in_group, level, Place, empty_place, at, pass}
 use Rattle.tok_buffer.specs.View.{EnteredView, entered_view, erased_ahead, IsVisibleDelimiter}
@@ -15,7 +14,7 @@ use Rattle.tok_buffer.specs.View.{View, empty_view, seen, view, visible_after}
 use Rattle.tok_buffer.proofs.View.Erased.{HasScope, in_scope, scope_of, scope-descend}
 use Rattle.tok_buffer.proofs.View.Erased.{erased-settle, leads-scope, view-scope}
 use Rattle.tok_buffer.proofs.View.InFront.{tells-enter}
-use Rattle.tok_buffer.proofs.View.Keeps.{IsDescended, descended-descend, kept-descend}
+use Rattle.tok_buffer.proofs.View.Keeps.{IsDescended, descended-descend, kept-descend, of-front}
 use Rattle.tok_buffer.proofs.View.Marks.{after-content, IsIn, moved-in}
 use Rattle.tok_buffer.proofs.View.Tells.{trees_of, trees-view}
 
@@ -47,11 +46,14 @@ module _ (g : Forest) (v : View) where
   front-entered (at n s c (level o p (tree (leaf l) f)) ls) u i h = tt
   front-entered (at n s c (level o p (tree (group d inside span) f)) ls) u i h =
       let q = at n s c (level o p (tree (group d inside span) f)) ls in
-      let content = at n (c + 1 + weight inside) (c + 1) (level (in_group d span) no_trees inside) [] in (
+      let content =
+      at n (c + 1 + weight inside) (c + 1) (level (in_group d span) no_trees inside) [] in (
         ap (λ k. seen k d (erased_ahead content))
             (after-content g n s c o p d u inside span f ls i
             ∙ ap (λ a. 1 + weight a + visible_after g s)
-            (sym (erased-settle n s (c + (2 + weight inside)) (level o (tree (group d inside span) p) f) ls)))
+            (sym
+            (erased-settle n s (c + (2 + weight inside)) (level o (tree (group d inside span) p) f)
+            ls)))
             ∙ ap (λ w. content_in_view w (entered_ahead (record {
               delimiter = d;
               span = span;
@@ -61,19 +63,10 @@ module _ (g : Forest) (v : View) where
         (leads-scope g v).past q (group d inside span) refl h,
       )
 
-  of-entered : (d : Delimiter) (r : Option Entered) → IfSome r IsEntered
-      → IfSome (entered_of d r) IsEntered
-  of-entered d None h = tt
-  of-entered d (Some e) h = go (same_delimiter d e.delimiter) where
-    go : (b : Bool) → IfSome (cond b (Some e) None) IsEntered
-    go true = h
-    go false = tt
-
   descended-entered : (d : Delimiter) (p : Place) → IsVisibleDelimiter d → IsIn g p
       → HasScope g v p → IfSome (enter d p) IsEntered
-  descended-entered delimiter.None p u i h = absurd u
   descended-entered d p u i h =
-      of-entered d (enter_any (descend p))
+      of-front IsEntered d p u
       (front-entered (descend p) (descended-descend p)
       (kept-descend (IsIn g) (moved-in g).kept p i) (scope-descend g v p h))
 

@@ -1,14 +1,16 @@
 -- A descent keeps what entering an invisible group keeps, and leaving one.
-use Rattle.std.proofs.Common.{◌≡◌, sym, subst, ℕ, ◌+◌, List, [], ◌∷◌, Option, Some}
+use Rattle.std.proofs.Common.{◌≡◌, sym, subst, ℕ, Bool, true, false, cond, ◌+◌, List, [], ◌∷◌, Option, Some}
 use Rattle.std.proofs.Common.{None, arith, add-zero}
 use Rattle.std.specs.Prelude.{MatchOption, IfSome, unwrap_or, ⊤}
 use Rattle.std.specs.Option.{option_or}
 use Rattle.tok_leaves.specs.declared.span.Span.{Span}
+use Rattle.tok_lexical.specs.declared.delimiter.Delimiter.{Delimiter}
 use Rattle.tok_lexical.specs.declared.delimiter.Delimiter.TheVariants as delimiter
 use Rattle.tok_core.specs.Forest.{Tree, leaf, group, Forest, no_trees, tree, turned_onto}
 use Rattle.tok_core.specs.Weight.{weight}
 use Rattle.tok_core.proofs.Facts.{turned_back}
 use Rattle.tok_buffer.specs.Descent.{into_front, descend_from, descend}
+use Rattle.tok_buffer.specs.Entry.{Entered, enter, enter_any, entered_of, same_delimiter}
 use Rattle.tok_buffer.specs.Place.{Owner, in_group, Level, level, Place, empty_place, at, absorb}
 use Rattle.tok_buffer.specs.Place.{settle}
 use Rattle.tok_buffer.specs.View.{IsVisibleDelimiter}
@@ -155,3 +157,17 @@ descended-descend_from n s c (level o p a) (l ∷ ls) =
 pub descended-descend : (p : Place) → IsDescended (descend p)
 descended-descend empty_place = tt
 descended-descend (at n s c l ls) = descended-descend_from n s c l ls
+
+-- what holds of the group in front after a descent holds of the visible group that is entered
+of-any : (P : Entered → Type 0) (d : Delimiter) (r : Option Entered) → IfSome r P
+    → IfSome (entered_of d r) P
+of-any P d None h = tt
+of-any P d (Some e) h = go (same_delimiter d e.delimiter) where
+  go : (b : Bool) → IfSome (cond b (Some e) None) P
+  go true = h
+  go false = tt
+
+pub of-front : (P : Entered → Type 0) (d : Delimiter) (p : Place) → IsVisibleDelimiter d
+    → IfSome (enter_any (descend p)) P → IfSome (enter d p) P
+of-front P delimiter.None p v h = absurd v
+of-front P d p v h = of-any P d (enter_any (descend p)) h

@@ -1,5 +1,5 @@
 -- Invisible groups do not matter to a single call: the proofs.
-use Rattle.std.proofs.Common.{◌≡◌, ◌∙◌, sym, ap, ap₂, subst, refl, true, false, cond, not, Bool}
+use Rattle.std.proofs.Common.{◌≡◌, ◌∙◌, sym, ap, ap₂, subst, refl, not}
 use Rattle.std.proofs.Common.{Option, Some, None, ℕ}
 use Rattle.std.specs.Prelude.{IfSome}
 use Rattle.tok_lexical.specs.declared.delimiter.Delimiter.{Delimiter}
@@ -10,7 +10,7 @@ use Rattle.tok_core.specs.Forest.{leaf, group, Forest, no_trees, tree}
 use Rattle.tok_core.proofs.Facts.{concat-none}
 use Rattle.tok_buffer.specs.Buffer.{Laid}
 use Rattle.tok_buffer.specs.Descent.{descend}
-use Rattle.tok_buffer.specs.Entry.{Entered, enter, enter_any, entered_of, same_delimiter}
+use Rattle.tok_buffer.specs.Entry.{Entered, enter, enter_any}
 use Rattle.tok_buffer.specs.InFront.{first_tree_span}
 use Rattle.tok_buffer.specs.Place.{level, Place, empty_place, at, pass, start}
 use Rattle.tok_buffer.specs.Reached.{Reached, down, past, into}
@@ -19,6 +19,7 @@ use Rattle.tok_buffer.specs.SameView.{ViewsTellDelimiters, StartsAgree, ReadsAgr
 use Rattle.tok_buffer.specs.View.{IsVisibleDelimiter, seen, view}
 use Rattle.tok_buffer.proofs.View.Entries.{enter_in_view, view-enter}
 use Rattle.tok_buffer.proofs.View.InFront.{ahead_tells_ends}
+use Rattle.tok_buffer.proofs.View.Keeps.{of-front}
 use Rattle.tok_buffer.proofs.View.Marks.{after-start}
 use Rattle.tok_buffer.proofs.View.Moves.{Leads, leads, leads-skip}
 use Rattle.tok_buffer.proofs.View.Places.{reached_stands}
@@ -88,26 +89,16 @@ module _ (b : Laid) where
   abbrev BothReached : Entered → Type 0
   BothReached e = Reached b e.content × Reached b e.after
 
-  some_after : (d : Delimiter) (p : Place) (r : Option Entered) → IfSome r (λ e. e.after ≡ pass p)
-      → IfSome (entered_of d r) (λ e. e.after ≡ pass p)
-  some_after d p None h = tt
-  some_after d p (Some e) h = go (same_delimiter d e.delimiter) where
-    go : (x : Bool) → IfSome (cond x (Some e) None) (λ y. y.after ≡ pass p)
-    go true = h
-    go false = tt
-
-  enter_after : (d : Delimiter) (p : Place) → IsVisibleDelimiter d
-      → IfSome (enter d p) (λ e. e.after ≡ pass (descend p))
-  enter_after delimiter.None p v = absurd v
-  enter_after d p v = some_after d (descend p) (enter_any (descend p)) (entry_after (descend p))
-
   entries : (d : Delimiter) (p : Place) → IsVisibleDelimiter d → Reached b p
       → IfSome (enter d p) BothReached
-  entries d p v h = go (enter d p) refl (enter_after d p v) where
-    go : (r : Option Entered) → enter d p ≡ r → IfSome r (λ e. e.after ≡ pass (descend p))
-        → IfSome r BothReached
-    go None e k = tt
-    go (Some x) e k = (into d p x v e h, subst (Reached b) (sym k) (past (descend p) (down p h)))
+  entries d p v h =
+      go (enter d p) refl
+      (of-front (λ e. e.after ≡ pass (descend p)) d p v (entry_after (descend p)))
+    where
+      go : (r : Option Entered) → enter d p ≡ r → IfSome r (λ e. e.after ≡ pass (descend p))
+          → IfSome r BothReached
+      go None e k = tt
+      go (Some x) e k = (into d p x v e h, subst (Reached b) (sym k) (past (descend p) (down p h)))
 
 pub calls_lead_on : CallsLeadOn
 calls_lead_on b p h =

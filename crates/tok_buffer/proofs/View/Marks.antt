@@ -73,8 +73,8 @@ marks-tree (group delimiter.None inside span) a =
 marks-tree (group d inside span) a =
     ap (λ xs. 1 ∷ xs) (sym (append_assoc (visible_marks inside) (1 ∷ []) (visible_marks a)))
 
-pub marks-group : (d : Delimiter) → IsVisibleDelimiter d → (inside : Forest) (span : Span) (a : Forest)
-    → visible_marks (tree (group d inside span) a)
+pub marks-group : (d : Delimiter) → IsVisibleDelimiter d → (inside : Forest) (span : Span)
+    (a : Forest) → visible_marks (tree (group d inside span) a)
     ≡ 1 ∷ (visible_marks inside ++ (1 ∷ visible_marks a))
 marks-group delimiter.None v inside span a = absurd v
 marks-group d v inside span a = refl

@@ -1,8 +1,8 @@
 -- What holds of each place that is reached.
 use Rattle.std.proofs.Common.{◌≡◌, ◌∙◌, sym, ap, refl, ℕ, ◌+◌, ◌==◌, ◌&&◌, inl, inr, [], ◌∷◌}
-use Rattle.std.proofs.Common.{Option, Some, None, arith}
+use Rattle.std.proofs.Common.{arith}
 use Rattle.std.proofs.lemmas.Bool.Decides.{nat_tests}
-use Rattle.std.specs.Prelude.{⊤, IfSome, Bool, true, false, cond}
+use Rattle.std.specs.Prelude.{⊤, IfSome, true}
 use Rattle.std.proofs.lemmas.Bool.{and_parts}
 use Rattle.tok_lexical.specs.declared.delimiter.Delimiter.{Delimiter}
 use Rattle.tok_lexical.specs.declared.delimiter.Delimiter.TheVariants as delimiter
@@ -12,13 +12,13 @@ use Rattle.tok_core.specs.Forest.{Tree, leaf, group, Forest, no_trees, tree}
 use Rattle.tok_core.specs.Weight.{weight, tree_weight}
 use Rattle.tok_core.proofs.Facts.{filled_tree}
 use Rattle.tok_buffer.specs.Descent.{descend}
-use Rattle.tok_buffer.specs.Entry.{Entered, enter, enter_any, entered_of, same_delimiter}
+use Rattle.tok_buffer.specs.Entry.{Entered, enter, enter_any}
 use Rattle.tok_buffer.specs.Order.{same_scope}
 use Rattle.tok_buffer.specs.Place.{whole, in_group, level, Place, empty_place, at}
 use Rattle.tok_buffer.specs.Place.{start, pass}
 use Rattle.tok_buffer.specs.View.{IsVisibleDelimiter, one_scope_in_view, view, visible_after}
 use Rattle.tok_buffer.proofs.View.Ends.{IsSettled, is_settled, IsFilledPlace, kept-filled}
-use Rattle.tok_buffer.proofs.View.Keeps.{kept-descend, IsDescended, descended-descend}
+use Rattle.tok_buffer.proofs.View.Keeps.{of-front, kept-descend, IsDescended, descended-descend}
 use Rattle.tok_buffer.proofs.View.Marks.{IsIn, moved-in, in-start, in-content, closes, length-marks}
 use Rattle.tok_buffer.proofs.View.Moves.{IsMoved, moved-pass}
 use Rattle.tok_buffer.proofs.View.Scopes.{IsScopeEnd, same_end}
@@ -136,19 +136,10 @@ module _ (number : ℕ) (f : Forest) where
         stands-pass (at n s c (level o p (tree (group d inside span) a)) ls) h,
       )
 
-  of-stands : (e : Delimiter) (r : Option Entered) → IfSome r BothStand
-      → IfSome (entered_of e r) BothStand
-  of-stands e None h = tt
-  of-stands e (Some r) h = go (same_delimiter e r.delimiter) where
-    go : (b : Bool) → IfSome (cond b (Some r) None) BothStand
-    go true = h
-    go false = tt
-
-  pub stands-enter : (e : Delimiter) (p : Place) → IsVisibleDelimiter e → Stands number f p
-      → IfSome (enter e p) BothStand
-  stands-enter delimiter.None p v h = absurd v
-  stands-enter e p v h =
-      of-stands e (enter_any (descend p))
+  pub stands-enter : (d : Delimiter) (p : Place) → IsVisibleDelimiter d → Stands number f p
+      → IfSome (enter d p) BothStand
+  stands-enter d p v h =
+      of-front BothStand d p v
       (any-stands (descend p) (descended-descend p) (stands-descend p h))
 
   -- Two places are in one scope exactly where their views are.

@@ -27,7 +27,8 @@ pub trees-view : (g : Forest) (p : Place) → erased_ahead p ≡ trees_of (view 
 trees-view g empty_place = refl
 trees-view g (at n s c l ls) = refl
 
-pub same_trees : (f g : Forest) (p q : Place) → view f p ≡ view g q → erased_ahead p ≡ erased_ahead q
+pub same_trees : (f g : Forest) (p q : Place) → view f p ≡ view g q
+    → erased_ahead p ≡ erased_ahead q
 same_trees f g p q e = trees-view f p ∙ ap trees_of e ∙ sym (trees-view g q)
 
 -- the front tree, at the end of a descent
@@ -103,7 +104,8 @@ front-tells (at n s c (level o p (tree (leaf l) f)) ls) h =
     ap Some (erased-settle n s (c + 1) (level o (tree (leaf l) p) f) ls)
 front-tells (at n s c (level o p (tree (group delimiter.None inside span) f)) ls) h = absurd h
 front-tells (at n s c (level o p (tree (group d inside span) f)) ls) h =
-    ap Some (erased-settle n s (c + (2 + weight inside)) (level o (tree (group d inside span) p) f) ls)
+    ap Some
+    (erased-settle n s (c + (2 + weight inside)) (level o (tree (group d inside span) p) f) ls)
 
 either-tells : (x : Option (List Tree × Place)) (y : Option Place)
     (v : Option (List Tree × Forest)) (w : Option Forest) → with_ahead x ≡ v
