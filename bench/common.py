@@ -32,17 +32,12 @@ def must(command, what, **options):
     return done.stdout
 
 
-def built(crate, *words):
-    """Returns the program of a crate, which is proved and built unless it is there. To build it, it is run once with these words."""
-    folder = f"{TOP}/crates/{crate}"
-    program = f"{folder}/out/{crate}"
-    if not os.access(program, os.X_OK):
-        given = f"{folder}/stdin"
-        with open(given if os.path.exists(given) else os.devnull, "rb") as stdin:
-            must(["rt", "run", *(["--", *words] if words else [])], f"{crate} could not be proved and built", cwd=folder, stdin=stdin)
-        if not os.access(program, os.X_OK):
-            fail(f"{crate} was built, but {program} is not there")
-    return program
+def built(crate):
+    """Returns the program of a crate, which is proved and built unless that is done."""
+    proving = [f"{TOP}/tools/program", "--prove", f"bench/{os.path.basename(sys.argv[0])}", crate]
+    if run(proving).returncode:
+        fail(f"{crate} could not be proved and built")
+    return f"{TOP}/crates/{crate}/out/{crate}"
 
 
 def peer(name, room):
