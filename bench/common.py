@@ -1,5 +1,5 @@
-"""What the scripts of bench/ share: they build a program, and count its instructions and its peak memory. Each ends with one sentence
-on standard error, and status 1, if it cannot go on."""
+"""What the scripts of bench/ share: they build a program, and count its instructions and its peak
+memory. Each ends with one sentence on standard error, and status 1, if it cannot go on."""
 import os
 import re
 import shutil
@@ -41,25 +41,37 @@ def built(crate):
 
 
 def peer(name, room):
-    """Returns the program of bench/NAME, which cargo builds in the folder `room` over Debian's packages alone."""
+    """Returns the program of bench/NAME, which cargo builds in the folder `room` over Debian's
+    packages alone."""
     folder = f"{room}/peer"
     shutil.copytree(f"{TOP}/bench/{name}", folder)
     os.mkdir(f"{folder}/.cargo")
     with open(f"{folder}/.cargo/config.toml", "w", encoding="utf-8") as file:
-        file.write(f'[source.crates-io]\nreplace-with = "debian"\n[source.debian]\ndirectory = "{REGISTRY}"\n')
-    must(["cargo", "build", "--release", "--offline", "--quiet"], f"bench/{name} could not be built", cwd=folder)
+        file.write(
+            '[source.crates-io]\nreplace-with = "debian"\n'
+            f'[source.debian]\ndirectory = "{REGISTRY}"\n'
+        )
+    must(
+        ["cargo", "build", "--release", "--offline", "--quiet"],
+        f"bench/{name} could not be built",
+        cwd=folder,
+    )
     return f"{folder}/target/release/{name}"
 
 
 def install(packages):
     """Installs Debian's packages, which needs root."""
     must(["apt-get", "update"], "the list of packages could not be read")
-    must(["apt-get", "install", "-y", "--no-install-recommends", *packages], "the packages could not be installed")
+    must(
+        ["apt-get", "install", "-y", "--no-install-recommends", *packages],
+        "the packages could not be installed",
+    )
 
 
 def instructions(command, given=b"", path=None, statuses=(0, 1)):
-    """Returns how many instructions a program takes, by valgrind's callgrind. Its input is `given`, or the file at `path`. It has to end
-    with one of the statuses; 1 is that of a text or a verdict that rejects."""
+    """Returns how many instructions a program takes, by valgrind's callgrind. Its input is `given`,
+    or the file at `path`. It has to end with one of the statuses; 1 is that of a text or a verdict
+    that rejects."""
     with tempfile.NamedTemporaryFile() as out:
         counted = ["valgrind", "--tool=callgrind", f"--callgrind-out-file={out.name}", *command]
         options = {"stdout": subprocess.DEVNULL, "stderr": subprocess.PIPE}
@@ -87,4 +99,9 @@ def peak_kib(command, given=b"", path=None):
         "subprocess.run(sys.argv[2:], stdin=open(sys.argv[1]), stdout=subprocess.DEVNULL)\n"
         "print(resource.getrusage(resource.RUSAGE_CHILDREN).ru_maxrss)"
     )
-    return int(must([sys.executable, "-c", child, path, *command], f"the memory of {command[0]} could not be measured"))
+    return int(
+        must(
+            [sys.executable, "-c", child, path, *command],
+            f"the memory of {command[0]} could not be measured",
+        )
+    )
