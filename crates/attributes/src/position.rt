@@ -1,5 +1,5 @@
 //! Lines and columns.
-ghost use Rattle.std.specs.Prelude.{◌≡◌, ◌≤◌, ◌⊎◌, [], length};
+ghost use Rattle.std.specs.Prelude.{◌≡◌, ◌≤◌, ◌⊎◌, []};
 ghost use Rattle.std.specs.Str.{chars};
 ghost use Rattle.attributes.specs.Positions.{GoesOn, step};
 

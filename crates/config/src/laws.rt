@@ -2,7 +2,7 @@
 ghost use Rattle.std.specs.Prelude.{◌≡◌, ◌↔◌, true};
 ghost use Rattle.tok_core.specs.Forest.{Forest};
 ghost use Rattle.syn_parse.specs.Takes.{found};
-ghost use Rattle.syn_parse.specs.TreesAhead.{Ahead, all_taken};
+ghost use Rattle.syn_parse.specs.TreesAhead.{all_taken};
 ghost use Rattle.config.specs.Grammar.{AreForms, ListForm};
 ghost use Rattle.config.specs.Reading.{take_settings};
 

@@ -2,7 +2,7 @@
 use arguments::parse_arguments;
 use std::alloc::{AllocError, AllocGlobal, Global};
 use std::process::Abort;
-use syn_parse::{self as parse, IdentExt, Parse, ParseStream, Parser};
+use syn_parse::{self as parse, IdentExt, ParseStream, Parser};
 use syn_punctuated::{ParseTerminated, Punctuated};
 use tok_core::{Ident, lex};
 use tok_types::token;

@@ -1,7 +1,6 @@
 //! Callers of `syn_parse`: a field by the trees it is parsed from, a choice, a try on a fork, a step,
 //! and a parser that calls itself.
 ghost use Rattle.std.specs.Prelude.{◌<◌, IfOk, codes};
-ghost use Rattle.tok_buffer.specs.Cursors.{place_of};
 ghost use Rattle.tok_buffer.specs.Progress.{remaining};
 ghost use Rattle.tok_buffer.specs.Reads.{read_tree};
 ghost use Rattle.syn_parse.specs.Parses.{IsTree, TreeParses};

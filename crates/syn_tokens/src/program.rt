@@ -6,7 +6,7 @@ pub mod fault;
 pub mod input;
 pub mod output;
 
-ghost use Rattle.std.specs.Prelude.{◌≡◌, IfOk, IfSome, MatchResult, Some, string_bytes};
+ghost use Rattle.std.specs.Prelude.{IfOk, IfSome, MatchResult, Some, string_bytes};
 ghost use Rattle.syn_tokens.specs.Program.Failures.{all_read, reading, writing};
 ghost use Rattle.syn_tokens.specs.Program.Faults.{OnUnreadable};
 ghost use Rattle.syn_tokens.specs.Program.Outcomes.{outcome_of};

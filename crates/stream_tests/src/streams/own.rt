@@ -3,9 +3,9 @@ ghost use Rattle.std.specs.Prelude.{codes};
 
 use crate::said::all_said;
 use std::alloc::Global;
-use syn_parse::{Fault, Own, Parse, ParseStream, Parser, Result, Word};
+use syn_parse::{Fault, Own, ParseStream, Parser, Result, Word};
 use test_outcomes::{READ, Sample, read};
-use tok_core::{Ident, Span, ToTokens, lex};
+use tok_core::{Ident, Span, ToTokens};
 use tok_types::token::{self, Token};
 
 struct ServerWord;

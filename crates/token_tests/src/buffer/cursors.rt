@@ -3,7 +3,7 @@ use super::{At, Range, laid, place};
 use std::alloc::{AllocGlobal, Global};
 use std::process::Abort;
 use tok_buffer::{Cursor, laws};
-use tok_core::{Delimiter, Span, TokenTree, lex_marked};
+use tok_core::{Delimiter, Span, lex_marked};
 
 // The position after a read that finds nothing.
 const NO: Option<usize> = None;

@@ -3,7 +3,7 @@ use super::{At, laid, place};
 use std::alloc::{AllocGlobal, Global};
 use std::cmp::Ordering;
 use std::process::Abort;
-use tok_buffer::{Cursor, TokenBuffer, laws};
+use tok_buffer::{Cursor, laws};
 
 // Whether two cursors are equal, their order, and whether they have one scope and one buffer.
 type Comparison = (bool, Option<Ordering>, bool, bool);

@@ -1,6 +1,6 @@
 //! Writes and finds each keyword of the table.
 use super::{all_hold, has_no_text, is_quoted, is_token};
-use std::alloc::{AllocGlobal, Global};
+use std::alloc::AllocGlobal;
 use std::process::Abort;
 use tok_types::token;
 

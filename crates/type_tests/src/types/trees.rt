@@ -1,7 +1,5 @@
 //! Finds trees, lifetimes, delimiters and the end, and displays them.
 use super::{all_hold, is_found, is_token};
-use std::alloc::Global;
-use std::process::Abort;
 use tok_buffer::Lifetime;
 use tok_core::{Group, Ident, Literal, Punct, TokenTree};
 use tok_types::token::{self, Token};
