@@ -1,4 +1,4 @@
-//! Reads a text as far as the first line of standard input says, as crates/bench_reading does.
+//! Reads a text as far as the first line of standard input says, as crates/bench does.
 use proc_macro2::{Ident, TokenStream};
 use std::io::Read;
 use syn::buffer::TokenBuffer;

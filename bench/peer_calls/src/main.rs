@@ -1,4 +1,4 @@
-//! Parses a text by one call, again and again, as crates/bench_calls does.
+//! Parses a text by one call, again and again, as crates/bench does.
 use proc_macro2::{Ident, Literal, Punct, TokenStream, TokenTree};
 use std::io::Read;
 use syn::buffer::TokenBuffer;

@@ -1,4 +1,4 @@
-//! Reads Rust source files by proc-macro2, and prints what crates/source_vectors prints of them: `tokens EDITION FILE..` or `count EDITION FILE..`.
+//! Reads Rust source files by proc-macro2, and prints what crates/vectors_sources prints of them: `tokens EDITION FILE..` or `count EDITION FILE..`.
 //! It has one grammar for all editions.
 use proc_macro2::{Delimiter, LineColumn, Spacing, Span, TokenStream, TokenTree};
 use std::fmt::Write;

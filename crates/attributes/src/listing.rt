@@ -6,8 +6,8 @@ use crate::find::{Found, Style, find};
 use crate::position::{Place, Position};
 use std::alloc::{AllocError, Global};
 use std::str::from_utf8;
-use syn_carets::Source;
 use tok_buffer::TokenBuffer;
+use tok_carets::Source;
 use tok_core::{Edition, LexError, LexFault, Span};
 
 // The number that spans have for the file.

@@ -43,8 +43,8 @@ pub use Rattle.tok_buffer.specs.Rest
 pub use Rattle.tok_buffer.specs.SameView
 pub use Rattle.tok_buffer.specs.Spans as CursorSpans
 pub use Rattle.tok_buffer.specs.View
-pub use Rattle.syn_carets.specs.Lines
-pub use Rattle.syn_carets.specs.Shown
+pub use Rattle.tok_carets.specs.Lines
+pub use Rattle.tok_carets.specs.Shown
 pub use Rattle.tok_types.specs.Delimiters
 pub use Rattle.tok_types.specs.Laws as TokenLaws
 pub use Rattle.tok_types.specs.Looks

@@ -76,7 +76,7 @@ pub mod ext {
 
 /// Errors with the line that they are about.
 pub mod carets {
-    pub use syn_carets::{LineColumn, Source, line_column};
+    pub use tok_carets::{LineColumn, Source, line_column};
 }
 
 /// Parsers that enter groups.

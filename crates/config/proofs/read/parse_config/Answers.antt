@@ -1,9 +1,0 @@
-use Rattle.std.proofs.Common.{rules}
-use Rattle.std.specs.Str.{chars}
-use Rattle.config.proofs.Outcomes.{reads_text}
-use Rattle.config.proofs.read.parse_config.Goals as goal
-
-pub returns-in-Ok : goal.returns-in-Ok
-returns-in-Ok c =
-    reads_text c.args.number (chars c.args.text.now) c.in-Ok.tokens _ (search rules)
-    c.parse_tokens.ensures

@@ -1,0 +1,31 @@
+//! A caller of the laws of views: what it returns does not depend on invisible groups.
+ghost use Rattle.std.specs.Prelude.{◌≡◌};
+ghost use Rattle.example_callers.specs.Views.{IsSame, is_name_second};
+ghost use Rattle.tok_buffer.specs.Cursors.{place_of};
+
+use tok_buffer::Cursor;
+use tok_buffer::laws::{calls_lead_on, views_decide};
+
+// Returns `true` if a name comes after the next token.
+fn is_name_second(cursor: Cursor<'_>) -> bool
+    ensures { result ≡ is_name_second (place_of cursor.entry) }
+{
+    match cursor.skip() {
+        Some(rest) => rest.ident().is_some(),
+        None => false,
+    }
+}
+
+/// Returns whether a name comes after the next token, at one cursor and at another.
+///
+/// At places of filled buffers that differ only in invisible groups both are the same, even after a
+/// lifetime whose name is in a group of its own.
+pub fn names_second(left: Cursor<'_>, right: Cursor<'_>) -> (bool, bool)
+    ensures left { result.0 ≡ is_name_second (place_of left.entry) }
+    ensures right { result.1 ≡ is_name_second (place_of right.entry) }
+    ensures same { IsSame (place_of left.entry) (place_of right.entry) result.0 result.1 }
+{
+    views_decide();
+    calls_lead_on();
+    (is_name_second(left), is_name_second(right))
+}

@@ -1,0 +1,39 @@
+-- What the reader returns is what the grammar says.
+use Rattle.std.proofs.Common.{◌≡◌, Err, List, Ok, inl, inr, subst, true, ℕ}
+use Rattle.std.specs.Prelude.{Result}
+use Rattle.tok_lexical.specs.Rules.{plain_rules}
+use Rattle.tok_core.specs.Erase.{erase}
+use Rattle.tok_core.specs.Filled.{filled}
+use Rattle.tok_core.specs.Forest.{Forest}
+use Rattle.tok_core.specs.Lexical.Reading.{Reads}
+use Rattle.syn_parse.specs.Takings.{KeepsWhole}
+use Rattle.syn_parse.specs.TreesAhead.{all_taken}
+use Rattle.syn_parse.specs.declared.fault.Fault.{Fault}
+use Rattle.syn_parse.specs.declared.fault.Fault.TheVariants.{Memory, Refused}
+use Rattle.syn_punctuated.specs.TakeLists.{list_form}
+use Rattle.syn_punctuated.specs.declared.punctuated.Punctuated.{Punctuated}
+use Rattle.example_config.specs.Forms.{Comma, setting_form}
+use Rattle.example_config.specs.Grammar.{Parses}
+use Rattle.example_config.specs.Reading.{ReadsText, ReadsTokens, settings}
+use Rattle.example_config.specs.declared.value.Setting.{Setting}
+use Rattle.example_config.proofs.Plain.{text_shown}
+use Rattle.example_config.proofs.Sound.{sound}
+use Rattle.example_config.proofs.Written.{settings_taken}
+
+parses : (f : Forest) (r : Result (Punctuated Setting Comma) Fault) → KeepsWhole settings f r
+    → filled f ≡ true → Parses (erase f) r
+parses f (Ok config) h i =
+    (sound (erase f) all_taken (list_form setting_form (λ p. p) config) (h i)).1
+parses f (Err (Refused e)) h i = inr (λ form l. (h i).0.0 form (settings_taken (erase f) form l))
+parses f (Err (Memory e)) h i = inl tt
+
+pub reads_tokens : (f : Forest) (r : Result (Punctuated Setting Comma) Fault)
+    → KeepsWhole settings f r → ReadsTokens f r
+reads_tokens f r h = (h, parses f r h)
+
+-- a text has no invisible groups, so its tokens are all that is read
+pub reads_text : (source : ℕ) (cs : List ℕ) (f : Forest)
+    (r : Result (Punctuated Setting Comma) Fault) → Reads plain_rules source cs f
+    → ReadsTokens f r → ReadsText source cs r
+reads_text source cs f r h k =
+    let s = text_shown h in inl (f, h, k.0 s.0, subst (λ g. Parses g r) s.1 (k.1 s.0))

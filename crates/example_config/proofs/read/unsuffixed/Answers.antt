@@ -1,0 +1,17 @@
+use Rattle.std.proofs.Common.{◌∙◌, arith, sym, ap}
+use Rattle.syn_parse.specs.Takes.{found}
+use Rattle.example_config.proofs.Formed.{form_number}
+use Rattle.example_config.proofs.Meanings.{says, with_suffix, without_suffix}
+use Rattle.example_config.proofs.read.unsuffixed.Goals as goal
+
+pub returns-then-is_empty : goal.returns-then-is_empty
+returns-then-is_empty c = λ a.
+    without_suffix c.args.span c.args.number c.args.suffix.now a
+    (omega (arith, c.ranges.number.fits)) c.if-is_empty.ensures
+    ∙ ap (λ f. found f a) (sym (form_number c.args.span c.args.number))
+
+pub returns-else-is_empty : goal.returns-else-is_empty
+returns-else-is_empty c = λ a.
+    says _ _ c.at.result
+    (with_suffix c.args.span c.args.number c.args.suffix.now a (omega (arith, c.ranges.number.fits))
+    c.utf8.suffix c.if-is_empty.ensures) c.at.ensures.words

@@ -1,0 +1,73 @@
+-- What settings are, but for how the program stores a list of them.
+use Rattle.std.specs.Prelude.{ℕ, Bool, List, [], ◌∷◌, string_bytes}
+use Rattle.tok_leaves.specs.declared.ident.Ident.{Ident}
+use Rattle.tok_leaves.specs.declared.span.Span.{Span}
+use Rattle.tok_leaves.specs.Spans.{whole_span}
+use Rattle.tok_types.specs.declared.punctuation.Punctuation.{Punctuation}
+use Rattle.syn_punctuated.specs.Lists.{values_of, separators_of}
+use Rattle.example_config.specs.declared.value.Setting.{Setting}
+use Rattle.example_config.specs.declared.value.Value.{Value}
+use Rattle.example_config.specs.declared.value.Value.TheFolds.{fold-Setting, fold-Value}
+use Rattle.example_config.specs.declared.value.Value.TheOpen.{Setting-F, Value-F}
+
+-- the tokens `:` and `,`, by their numbers in the table of punctuations
+abbrev pub Colon : Type 0
+Colon = Punctuation 6 1
+
+abbrev pub Comma : Type 0
+Comma = Punctuation 7 1
+
+mutual
+  -- a text, a number or a truth value; or, between delimiters, values or settings and their commas
+  pub data Form : Type 0 where
+    text : Span → List ℕ → Form
+    number : Span → ℕ → Form
+    truth : Span → Bool → Form
+    list : Span → Forms → List Comma → Form
+    map : Span → SettingForms → List Comma → Form
+
+  pub data Forms : Type 0 where
+    no_values : Forms
+    one_value : Form → Forms → Forms
+
+  pub data SettingForms : Type 0 where
+    no_settings : SettingForms
+    one_setting : Ident → Colon → Form → SettingForms → SettingForms
+
+-- a key, a colon and a value
+abbrev pub SettingForm : Type 0
+SettingForm = Ident × Colon × Form
+
+abbrev pub forms : List Form → Forms
+forms [] = no_values
+forms (f ∷ fs) = one_value f (forms fs)
+
+abbrev pub setting_forms : List SettingForm → SettingForms
+setting_forms [] = no_settings
+setting_forms (s ∷ ss) = one_setting s.0 s.1 s.2 (setting_forms ss)
+
+-- values in brackets of this span, and settings in braces
+abbrev pub listed : Span → List Form × List Comma → Form
+listed span values = list span (forms values.0) values.1
+
+abbrev pub mapped : Span → List SettingForm × List Comma → Form
+mapped span settings = map span (setting_forms settings.0) settings.1
+
+-- a value, with the forms of those that it holds in their place
+abbrev pub value_level : Value-F Form SettingForm → Form
+value_level (Value-F.Text span s) = text span (string_bytes s)
+value_level (Value-F.Number span n) = number span n
+value_level (Value-F.Truth span b) = truth span b
+value_level (Value-F.List bracket values) =
+    listed (whole_span bracket.span) (values_of values, separators_of values)
+value_level (Value-F.Map brace settings) =
+    mapped (whole_span brace.span) (values_of settings, separators_of settings)
+
+abbrev pub setting_level : Setting-F Form SettingForm → SettingForm
+setting_level s = (s.key, s.colon, s.value)
+
+abbrev pub value_form : Value → Form
+value_form = fold-Value Form SettingForm value_level setting_level
+
+abbrev pub setting_form : Setting → SettingForm
+setting_form = fold-Setting Form SettingForm value_level setting_level

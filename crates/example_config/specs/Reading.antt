@@ -1,0 +1,160 @@
+-- How settings are read.
+use Rattle.std.specs.Prelude.{◌≡◌, ◌⊎◌, ◌^◌, ℕ, Bool, true, false, List, [], ◌∷◌, codes, nat_lt}
+use Rattle.std.specs.Prelude.{Option, None, Some, MatchResult, Result, if◌then◌else◌}
+use Rattle.std.specs.Str.{chars}
+use Rattle.tok_lexical.specs.Rules.{plain_rules}
+use Rattle.tok_lexical.specs.declared.delimiter.Delimiter.TheVariants.{Brace, Bracket}
+use Rattle.tok_leaves.specs.declared.literal.Literal.{Literal}
+use Rattle.tok_leaves.specs.declared.span.Span.{Span}
+use Rattle.tok_values.specs.Values.{integer_value, string_value}
+use Rattle.tok_core.specs.Erase.{erase}
+use Rattle.tok_core.specs.Filled.{filled}
+use Rattle.tok_core.specs.Forest.{Forest}
+use Rattle.tok_core.specs.Lexical.Reading as grammar
+use Rattle.tok_core.specs.declared.lexer.error.LexError.{LexError}
+use Rattle.syn_parse.specs.Faults.{IsRefused}
+use Rattle.syn_parse.specs.Nested.{take_nested}
+use Rattle.syn_parse.specs.Owned.{own_first, take_own}
+use Rattle.syn_parse.specs.Parsers.{OnMemory, lex_message}
+use Rattle.syn_parse.specs.Takes.{MemoryOr, Outcome, Says, Taking, ◌>>=◌, found, gives, missing}
+use Rattle.syn_parse.specs.Takes.{TakesAll, refuses, take_group, where_ahead}
+use Rattle.syn_parse.specs.Takings.{KeepsWhole, Takings, taken_filled}
+use Rattle.syn_parse.specs.TokenNames.{take_colon, take_comma}
+use Rattle.syn_parse.specs.Tokens.{sees_group, sees_literal, take_ident, take_literal}
+use Rattle.syn_parse.specs.TreesAhead.{Ahead}
+use Rattle.syn_parse.specs.declared.fault.Fault.{Fault}
+use Rattle.syn_punctuated.specs.TakeLists.{list_form, take_terminated}
+use Rattle.syn_punctuated.specs.declared.punctuated.Punctuated.{Punctuated}
+use Rattle.example_config.specs.Forms.{Comma, Form, SettingForm, listed, mapped, number, setting_form, text}
+use Rattle.example_config.specs.Forms.{truth, value_form}
+use Rattle.example_config.specs.Grammar.{Parses}
+use Rattle.example_config.specs.declared.value.Setting.{Setting}
+use Rattle.example_config.specs.declared.value.Value.{Value}
+
+-- an error with these words
+abbrev pub rejects : {A : Type 0} → List ℕ → Taking A
+rejects words a = missing words
+
+-- an integer without a suffix
+abbrev pub in_number : Span → (n : ℕ) → (suffix : List ℕ) → Taking Form
+in_number span n [] = gives (number span n)
+in_number span n (c ∷ cs) = rejects (codes "expected no suffix")
+
+-- the value of an integer literal, below 2^64
+abbrev pub in_integer : Span → Option (ℕ × List ℕ) → Taking Form
+in_integer span None = rejects (codes "expected a string without a suffix, or an integer")
+in_integer span (Some i) =
+    if nat_lt i.0 (2 ^ 64)
+    then in_number span i.0 i.1
+    else rejects (codes "expected an integer below 2^64")
+
+-- the value of a string literal, or else of an integer literal
+abbrev pub in_text : Literal → Option (List ℕ) → Taking Form
+in_text literal (Some t) = gives (text literal.span t)
+in_text literal None = in_integer literal.span (integer_value (chars literal.text))
+
+-- what a literal means
+unfoldable pub meaning : Literal → Taking Form
+meaning literal = in_text literal (string_value (chars literal.text))
+
+-- an error has one message, which says what is missing
+abbrev pub SaysOnce : {A : Type 0} → Outcome A → Fault → Type 0
+SaysOnce o f = MemoryOr f (Says o f)
+
+-- a value that is meant, or the words of an error
+abbrev pub Means : Taking Form → Result Value Fault → Type 0
+Means m result =
+    (a : Ahead) → MatchResult result (λ v. m a ≡ found (value_form v) a) (λ f. SaysOnce (m a) f)
+
+-- a literal, and what it means
+abbrev pub take_meaning : Taking Form
+take_meaning = do
+  literal ← take_literal
+  meaning literal
+
+-- the same, if a literal is next
+unfoldable pub take_literal_value : Taking Form
+take_literal_value =
+    where_ahead sees_literal take_meaning
+    (refuses (codes "expected a string, an integer, `true`, `false`, `[` or `{`"))
+
+-- a peek of one's own keyword
+abbrev pub sees_own : List ℕ → Ahead → Bool
+sees_own word a = own_first word a.trees
+
+-- a keyword that is a truth value
+abbrev pub take_truth : (word : List ℕ) → Bool → Taking Form
+take_truth word b = do
+  span ← take_own word
+  gives (truth span b)
+
+-- a value that holds no others
+unfoldable pub take_plain : Taking Form
+take_plain =
+    where_ahead (sees_own (codes "true")) (take_truth (codes "true") true)
+    (where_ahead (sees_own (codes "false")) (take_truth (codes "false") false) take_literal_value)
+
+-- a key that is not `include`, a colon and a value, by how values are taken
+unfoldable pub setting_step : Taking Form → Taking SettingForm
+setting_step value =
+    where_ahead (sees_own (codes "include")) (refuses (codes "this language has no `include`")) (do
+      key ← take_ident
+      colon ← take_colon
+      form ← value
+      gives (key, colon, form))
+
+-- values in brackets, and settings in braces
+unfoldable pub take_list_value : Taking Form → Taking Form
+take_list_value value = do
+  values ← take_group Bracket (take_terminated value take_comma)
+  gives (listed values.0.join values.1)
+
+unfoldable pub take_map_value : Taking Form → Taking Form
+take_map_value value = do
+  settings ← take_group Brace (take_terminated (setting_step value) take_comma)
+  gives (mapped settings.0.join settings.1)
+
+-- one value, by how those within it are taken
+abbrev pub value_step : Taking Form → Taking Form
+value_step value =
+    where_ahead (sees_group Bracket) (take_list_value value)
+    (where_ahead (sees_group Brace) (take_map_value value) take_plain)
+
+-- a value, with values within it
+abbrev pub take_value : Taking Form
+take_value = take_nested value_step
+
+-- a setting, with values within it
+abbrev pub take_setting : Taking SettingForm
+take_setting = setting_step take_value
+
+-- settings with commas between them; there may be one after the last
+abbrev pub take_settings : Taking (List SettingForm × List Comma)
+take_settings = take_terminated take_setting take_comma
+
+-- what the parsers state of a list, a map, values and settings
+abbrev pub list_value : Takings Value
+list_value = taken_filled value_form (take_list_value take_value)
+
+abbrev pub map_value : Takings Value
+map_value = taken_filled value_form (take_map_value take_value)
+
+abbrev pub values : Takings (Punctuated Value Comma)
+values = taken_filled (list_form value_form (λ p. p)) (take_terminated take_value take_comma)
+
+abbrev pub settings : Takings (Punctuated Setting Comma)
+settings = taken_filled (list_form setting_form (λ p. p)) take_settings
+
+-- Tokens are read as the grammar has them, and an error has the words that are missing first. An
+-- empty invisible group is not the end, so it holds where there is none.
+abbrev pub ReadsTokens : Forest → Result (Punctuated Setting Comma) Fault → Type 0
+ReadsTokens f r = KeepsWhole settings f r × (filled f ≡ true → Parses (erase f) r)
+
+-- The text of a source is tokens, which are the settings that are returned; or which are none, and
+-- the error has the words that are missing first. Or the grammar of tokens refuses it.
+abbrev pub ReadsText : (source : ℕ) → List ℕ → Result (Punctuated Setting Comma) Fault → Type 0
+ReadsText source cs r =
+    ((f : Forest) × grammar.Reads plain_rules source cs f
+    × TakesAll (list_form setting_form (λ p. p)) take_settings f r × Parses f r)
+    ⊎ (((e : LexError) × grammar.IsRefused plain_rules source cs e × IsRefused (lex_message e) r)
+    ⊎ OnMemory r)

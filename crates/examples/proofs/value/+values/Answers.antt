@@ -1,7 +1,0 @@
-use Rattle.std.proofs.Common.{rules}
-use Rattle.syn_punctuated.proofs.ListTakes.{list_keeps}
-use Rattle.examples.specs.Values.{values}
-use Rattle.examples.proofs.value.+values.Goals as goal
-
-pub read_values-returns : goal.read_values-returns
-read_values-returns t c = search (rules, list_keeps values c.parse_terminated_with.ensures.turns)

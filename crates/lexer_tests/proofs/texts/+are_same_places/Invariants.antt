@@ -1,4 +1,0 @@
-use Rattle.lexer_tests.proofs.texts.+are_same_places.Given as goal
-
-abbrev pub decreases-are_same_places : goal.decreases-are_same_places
-decreases-are_same_places l = l.levels

@@ -1,4 +1,0 @@
-use Rattle.lexer_tests.proofs.texts.+push_trees.Given as goal
-
-abbrev pub decreases-push_trees : goal.decreases-push_trees
-decreases-push_trees l = l.levels

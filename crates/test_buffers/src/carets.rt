@@ -1,0 +1,175 @@
+//! Errors with their lines and carets.
+use std::alloc::{AllocGlobal, Global};
+use std::process::Abort;
+use tok_buffer::Error;
+use tok_carets::{LineColumn, Source, line_column};
+use tok_core::{LexFault, Span, lex};
+
+// A text, the range of a span in source 1, and what is shown.
+type Row = (&'static str, usize, usize, &'static str);
+
+fn is_shown(alloc: Global, text: &str, start: usize, end: usize, wanted: &str) -> Option<bool> {
+    let source = Source {
+        name: "a",
+        number: 1,
+        text,
+    };
+    let shown = source
+        .show(alloc, Span::source(1, start, start.max(end)), "no")
+        .ok()?;
+    Some(shown.as_str() == wanted)
+}
+
+fn all_shown(rt: &(impl Abort + AllocGlobal), rows: &[Row]) {
+    for (text, start, end, wanted) in rows {
+        assert_eq!(rt;
+            is_shown(rt.alloc(), text, *start, *end, wanted),
+            Some(true),
+            "at {text}"
+        );
+    }
+}
+
+#[test]
+fn lines(rt: HostRuntime) {
+    all_shown(
+        &rt,
+        &[
+            (
+                "a b",
+                2,
+                3,
+                "error: no\n --> a:1:3\n  |\n1 | a b\n  |   ^\n",
+            ),
+            (
+                "a bcd",
+                2,
+                5,
+                "error: no\n --> a:1:3\n  |\n1 | a bcd\n  |   ^^^\n",
+            ),
+            (
+                "x\ny z\n",
+                4,
+                5,
+                "error: no\n --> a:2:3\n  |\n2 | y z\n  |   ^\n",
+            ),
+            (
+                "x\r\ny z\r\nw",
+                3,
+                4,
+                "error: no\n --> a:2:1\n  |\n2 | y z\n  | ^\n",
+            ),
+            ("x\r\ny", 0, 4, "error: no\n --> a:1:1\n  |\n1 | x\n  | ^\n"),
+            (
+                "a\tb",
+                2,
+                3,
+                "error: no\n --> a:1:3\n  |\n1 | a    b\n  |      ^\n",
+            ),
+            (
+                "a\tb",
+                1,
+                2,
+                "error: no\n --> a:1:2\n  |\n1 | a    b\n  |  ^^^^\n",
+            ),
+            (
+                "é b",
+                3,
+                4,
+                "error: no\n --> a:1:3\n  |\n1 | é b\n  |   ^\n",
+            ),
+            (
+                "中 b",
+                4,
+                5,
+                "error: no\n --> a:1:3\n  |\n1 | 中 b\n  |    ^\n",
+            ),
+            (
+                "a 中",
+                2,
+                5,
+                "error: no\n --> a:1:3\n  |\n1 | a 中\n  |   ^^\n",
+            ),
+            (
+                "e\u{301} b",
+                4,
+                5,
+                "error: no\n --> a:1:4\n  |\n1 | e\u{301} b\n  |   ^\n",
+            ),
+            ("ab", 2, 2, "error: no\n --> a:1:3\n  |\n1 | ab\n  |   ^\n"),
+            ("ab\n", 3, 3, "error: no\n --> a:2:1\n  |\n2 | \n  | ^\n"),
+            (
+                "a\nb\nc",
+                2,
+                5,
+                "error: no\n --> a:2:1\n  |\n2 | b\n  | ^\n",
+            ),
+            (
+                "\n\n\n\n\n\n\n\n\n x",
+                10,
+                11,
+                "error: no\n  --> a:10:2\n   |\n10 |  x\n   |  ^\n",
+            ),
+            ("é", 1, 2, "error: no\n"),
+            ("a", 2, 3, "error: no\n"),
+        ],
+    );
+}
+
+// An error of another source, at the call site, of two messages, and of the lexer.
+fn others(alloc: Global) -> Option<(String, String, String, String)> {
+    let text = "a \"";
+    let source = Source {
+        name: "a",
+        number: 1,
+        text,
+    };
+    let other = source.show(alloc, Span::source(2, 0, 1), "no").ok()?;
+    let unplaced = source.show(alloc, Span::call_site(), "no").ok()?;
+    let mut error = Error::new(alloc, Span::source(1, 0, 1), "one").ok()?;
+    error
+        .combine(Error::new(alloc, Span::source(1, 2, 3), "two").ok()?)
+        .ok()?;
+    let both = source.show_error(alloc, &error).ok()?;
+    match lex(alloc, 1, text) {
+        Err(LexFault::Refused(error)) => {
+            Some((other, unplaced, both, source.show_lex(alloc, error).ok()?))
+        }
+        _ => None,
+    }
+}
+
+#[test]
+fn other_errors(rt: HostRuntime) {
+    let shown = others(rt.alloc());
+    assert!(rt;
+        shown
+            .as_ref()
+            .is_some_and(|it| it.0.as_str() == "error: no\n")
+    );
+    assert!(rt;
+        shown
+            .as_ref()
+            .is_some_and(|it| it.1.as_str() == "error: no\n")
+    );
+    assert!(rt;
+        shown.as_ref().is_some_and(|it| {
+            it.2.as_str()
+                == "error: one\n --> a:1:1\n  |\n1 | a \"\n  | ^\nerror: two\n --> a:1:3\n  |\n1 | a \"\n  |   ^\n"
+        })
+    );
+    assert!(rt;
+        shown.is_some_and(|it| it.3.as_str().starts_with("error: ")
+            && it
+                .3
+                .as_str()
+                .ends_with(" --> a:1:3\n  |\n1 | a \"\n  |   ^\n"))
+    );
+}
+
+#[test]
+fn places(rt: HostRuntime) {
+    assert_eq!(rt; line_column(""), LineColumn { line: 1, column: 1 });
+    assert_eq!(rt; line_column("a\né"), LineColumn { line: 2, column: 2 });
+    assert_eq!(rt; line_column("a\n\n"), LineColumn { line: 3, column: 1 });
+}

@@ -1,0 +1,44 @@
+//! Examples of `tok_values` and `tok_carets`.
+use std::alloc::{AllocError, AllocGlobal, Global};
+use std::process::Abort;
+use tok_carets::{LineColumn, Source, line_column};
+use tok_core::{LexFault, Literal, Span, TokenTree, lex};
+use tok_values::{IntegerFault, LiteralExt};
+
+fn port_of(literal: &Literal) -> Result<u64, IntegerFault> {
+    let port = literal.integer_value()?.value;
+    Ok(port)
+}
+
+fn port(alloc: Global) -> Result<u64, LexFault> {
+    let stream = lex(alloc, 0, "8_080")?;
+    match stream.trees() {
+        [TokenTree::Literal(literal)] => Ok(port_of(literal).unwrap_or(0)),
+        _ => Ok(0),
+    }
+}
+
+#[test]
+fn values(rt: HostRuntime) {
+    assert_eq!(rt; port(rt.alloc()).ok(), Some(8080));
+}
+
+fn carets(rt: &(impl Abort + AllocGlobal), alloc: Global) -> Result<(), AllocError> {
+    let source = Source {
+        name: "config",
+        number: 0,
+        text: "a b",
+    };
+    let shown = source.show(alloc, Span::source(0, 2, 3), "expected `,`")?;
+    assert_eq!(rt;
+        shown.as_str(),
+        "error: expected `,`\n --> config:1:3\n  |\n1 | a b\n  |   ^\n"
+    );
+    Ok(())
+}
+
+#[test]
+fn errors(rt: HostRuntime) {
+    assert!(rt; carets(&rt, rt.alloc()).is_ok());
+    assert_eq!(rt; line_column("a\né"), LineColumn { line: 2, column: 2 });
+}

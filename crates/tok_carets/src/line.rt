@@ -1,0 +1,173 @@
+//! Lines of a text, and what is shown of one.
+ghost use Rattle.std.specs.Prelude.{◌≡◌, ◌<◌, ◌≤◌, ◌+◌, ◌++◌, ◌∷◌, [], ℕ, List, MatchBool, OnOk, length, string_bytes};
+ghost use Rattle.std.specs.List.{flat_map, repeat};
+ghost use Rattle.std.specs.Str.{chars};
+ghost use Rattle.tok_carets.specs.Lines.{IsFirstLine, IsLastLine, columns, line_number, marks, shown, within, without_return};
+
+use std::alloc::AllocError;
+use tok_lexical::text::{front_of, next_char, past_char, past_others};
+use unicode_width::UnicodeWidthChar;
+
+/// A place in a text: its line, and its column in characters. Both count from 1.
+#[derive(Clone, Copy, PartialEq, Eq, Debug)]
+pub struct LineColumn {
+    pub line: usize,
+    pub column: usize,
+}
+
+/// Returns the line and the column of the place after a text.
+///
+/// # Examples
+///
+/// ```rust
+/// assert_eq!(rt; line_column("a\né"), LineColumn { line: 2, column: 2 });
+/// ```
+pub fn line_column(before: &str) -> LineColumn
+    ensures line { result.line ≡ line_number (chars before.now) }
+    ensures column { (line : List ℕ) × IsLastLine (chars before.now) line
+        × (result.column ≡ 1 + length line) }
+{
+    let (line, head) = last_line(before);
+    LineColumn {
+        line,
+        column: chars_in(head) + 1,
+    }
+}
+
+/// Returns the number of a text's last line, and this line.
+pub fn last_line(text: &str) -> (usize, &str)
+    ensures number { result.0 ≡ line_number (chars text.now) }
+    ensures line { IsLastLine (chars text.now) (chars result.1.now) }
+{
+    let mut number = 1;
+    let mut rest = text;
+    while let Some(after) = past_char(past_others(rest, b'\n', b'\n'), '\n') {
+        number += 1;
+        rest = after;
+    }
+    (number, rest)
+}
+
+/// Returns a text's first line.
+pub fn first_line(text: &str) -> &str
+    ensures { IsFirstLine (chars text.now) (chars result.now) }
+{
+    front_of(text, past_others(text, b'\n', b'\n'))
+}
+
+/// Returns how many characters a text has.
+pub fn chars_in(text: &str) -> usize
+    ensures value { result ≡ length (chars text.now) }
+    ensures small { result ≤ length text.now }
+{
+    let mut count = 0;
+    let mut rest = text;
+    while let Some((_, after)) = next_char(rest) {
+        count += 1;
+        rest = after;
+    }
+    count
+}
+
+// Returns `true` if the text is a carriage return.
+fn is_return(text: &str) -> bool
+    ensures { MatchBool result (chars text.now ≡ 13 ∷ []) (chars text.now ≡ 13 ∷ [] → ⊥) }
+{
+    let Some(rest) = past_char(text, '\r') else {
+        return false;
+    };
+    match next_char(rest) {
+        Some(_) => false,
+        None => true,
+    }
+}
+
+/// Returns the line without the carriage return of its end.
+pub fn without_return(line: &str) -> &str
+    ensures { chars result.now ≡ without_return (chars line.now) }
+{
+    let mut rest = line;
+    while let Some((_, after)) = next_char(rest) {
+        if is_return(rest) {
+            return front_of(line, rest);
+        }
+        rest = after;
+    }
+    line
+}
+
+/// Returns the characters that begin in the first bytes of a text.
+pub fn within(text: &str, bytes: usize) -> &str
+    ensures { chars result.now ≡ within bytes (chars text.now) }
+{
+    let mut left = bytes;
+    let mut rest = text;
+    while let Some((c, after)) = next_char(rest) {
+        if left == 0 {
+            break;
+        }
+        left = left.saturating_sub(c.len_utf8());
+        rest = after;
+    }
+    front_of(text, rest)
+}
+
+fn columns(c: char) -> usize
+    ensures value { result ≡ columns c }
+    ensures few { result ≤ 4 }
+{
+    if c == '\t' { 4 } else { c.width().unwrap_or(0) }
+}
+
+/// Appends a line as it is shown: with four spaces for a tab.
+pub fn push_shown(to: &mut String, line: &str) -> Result<(), AllocError>
+    ensures { OnOk result
+        (string_bytes to.new ≡ string_bytes to.old ++ flat_map shown (chars line.now)) }
+{
+    let mut rest = line;
+    while let Some((c, after)) = next_char(rest) {
+        if c == '\t' {
+            to.push_str("    ")?;
+        } else {
+            to.push(c)?;
+        }
+        rest = after;
+    }
+    Ok(())
+}
+
+/// Appends a mark, so many times.
+///
+/// # Requires
+///
+/// The mark must be ASCII.
+pub fn push_times(to: &mut String, mark: char, times: usize) -> Result<(), AllocError>
+    requires ascii { mark < 128 }
+    ensures { OnOk result
+        (string_bytes to.new ≡ string_bytes to.old ++ repeat times (mark ∷ [])) }
+{
+    let mut left = times;
+    while left > 0 {
+        to.push(mark)?;
+        left -= 1;
+    }
+    Ok(())
+}
+
+/// Appends a mark for each column that a text takes.
+///
+/// # Requires
+///
+/// The mark must be ASCII.
+pub fn push_marks(to: &mut String, text: &str, mark: char) -> Result<(), AllocError>
+    requires ascii { mark < 128 }
+    ensures { OnOk result
+        (string_bytes to.new ≡ string_bytes to.old ++ marks mark (chars text.now)) }
+{
+    let mut rest = text;
+    while let Some((c, after)) = next_char(rest) {
+        push_times(to, mark, columns(c))?;
+        rest = after;
+    }
+    Ok(())
+}
