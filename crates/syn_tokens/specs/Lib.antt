@@ -1,4 +1,3 @@
-pub mod Program
 pub use Rattle.tok_lexical.specs.Delimiters as DelimiterTexts
 pub use Rattle.tok_lexical.specs.Editions
 pub use Rattle.tok_lexical.specs.Errors as LexErrors
@@ -93,10 +92,6 @@ pub use Rattle.syn_punctuated.specs.Retained
 pub use Rattle.syn_punctuated.specs.TakeLists
 pub use Rattle.syn_punctuated.specs.Trees as ListTrees
 pub use Rattle.syn_punctuated.specs.Turns as ListTurns
-pub use Rattle.arguments.specs.Grammar as ArgumentGrammar
-pub use Rattle.arguments.specs.Results as ArgumentResults
-pub use Rattle.arguments.specs.Same as ArgumentsSame
-pub use Rattle.arguments.specs.Values as ArgumentValues
 pub use Rattle.syn_replay.specs.Agree
 pub use Rattle.syn_replay.specs.Commands
 pub use Rattle.syn_replay.specs.Forks

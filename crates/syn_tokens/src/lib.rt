@@ -1,13 +1,8 @@
 //! The front of the library: the public items of all crates below, under the paths of `syn`, so
 //! that a user depends on one crate. The definitions of the crates below are in `specs/`, under
-//! their names. It also has the program, `respond` and `serve`.
+//! their names.
 #![tactic(auto)]
 
-mod program;
-
-pub use arguments;
-pub use program::channel::{Sink, Source};
-pub use program::{respond, serve};
 pub use syn_parse::{
     Fault, Own, Result, Word, parse_both, parse_source, parse_str, parse2, parsing,
 };
@@ -27,7 +22,6 @@ pub use tok_types::{accept_as_ident, token};
 /// Laws. Each is the contract of a function that does nothing, or nearly nothing: a proof that calls
 /// it may use the law.
 pub mod laws {
-    pub use arguments::laws::arguments_once;
     pub use syn_parse::laws::{
         clones_keep_own_keywords, clones_keep_streams, forks_follow, nothings_are_equal,
         own_keywords_are_equal, parses_go_on, peeks_past_ignore_invisible, peeks_tell_groups,

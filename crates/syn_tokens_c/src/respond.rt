@@ -1,8 +1,8 @@
 //! Commands, and what they print.
 ghost use Rattle.syn_tokens_c.specs.Outcomes.{Responds};
 
+use replay_program::respond;
 use std::alloc::{AllocError, Global};
-use syn_tokens::respond;
 
 /// Answers an input as the program does, and returns its status: a text, or two, and commands.
 /// `size` says how many bytes the program prints. They are written over the front of `printed` if

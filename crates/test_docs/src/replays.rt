@@ -1,8 +1,8 @@
 //! Examples of `syn_replay`, and of the program in `syn_tokens`.
+use replay_program::respond;
 use std::alloc::{AllocError, AllocGlobal, Global};
 use std::process::Abort;
 use syn_replay::{Command, Kind, agree, is_self_contained, is_transparent, replay, replay_both};
-use syn_tokens::respond;
 use tok_core::{LexFault, lex, lex_marked};
 
 fn one(rt: &(impl Abort + AllocGlobal), alloc: Global) -> Result<(), LexFault> {

@@ -1,8 +1,8 @@
 //! The program over a slow reader, and over readers and writers that fail.
+use replay_program::serve;
 use std::alloc::{AllocGlobal, Global};
 use std::io::{self, Error, ErrorKind, Read, Write};
 use std::process::Abort;
-use syn_tokens::serve;
 
 const INPUT: &[u8] = b"a\n---\nparse 0 Ident\n";
 

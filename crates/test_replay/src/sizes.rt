@@ -1,12 +1,13 @@
 //! Texts of many sizes: while memory lasts, no call says that it has run out. Texts of up to 14 bytes
 //! are stored in place.
+use replay_program::respond;
 use std::alloc::{AllocGlobal, Global};
 use std::process::Abort;
 use syn_tokens::buffer::TokenBuffer;
 use syn_tokens::punctuated::Punctuated;
 use syn_tokens::{
     Command, Edition, Error, Ident, Lifetime, Literal, Span, ToTokens, TokenStream, lex,
-    lex_marked, lex_source, parse_str, replay, replay_both, respond, token,
+    lex_marked, lex_source, parse_str, replay, replay_both, token,
 };
 
 // Returns a text of so many letters, after this one.

@@ -1,8 +1,8 @@
 //! Reads a marked text and commands from standard input, and prints the report of replaying them.
 #![tactic(auto)]
 
+use replay_program::serve;
 use std::process::ExitCode;
-use syn_tokens::serve;
 
 fn main(rt: HostRuntime) -> ExitCode {
     let mut input = rt.stdin();

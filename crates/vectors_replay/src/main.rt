@@ -6,9 +6,9 @@ mod case;
 
 use anyhow::{Context, Result, ensure};
 use case::{Case, first_case};
+use replay_program::serve;
 use std::alloc::Global;
 use std::fs;
-use syn_tokens::serve;
 
 const CASES: &str = "replay.cases";
 

@@ -1,0 +1,49 @@
+use Rattle.std.proofs.Common.{◌≡◌, ◌++◌, ◌∙◌, true, not, List, ℕ, ap, sym, subst, suc, take, rules}
+use Rattle.std.proofs.KnownBytes.{Consumes-kept, Consumes-trans}
+use Rattle.std.specs.Bool.{if◌then◌else◌}
+use Rattle.std.specs.Result.{is_ok}
+use Rattle.std.specs.Io.KnownBytes.{Consumes}
+use Rattle.replay_program.specs.Failures.{GoesOn}
+use Rattle.replay_program.proofs.Failing.{one_more}
+use Rattle.replay_program.proofs.input.read_input.Goals as goal
+use Rattle.replay_program.proofs.input.read_input.Goals.{in-Ok+else-is_err, in-Err}
+
+pub loop-i-preserved : goal.loop-i-preserved
+loop-i-preserved g c =
+    let old = g.S.Source.remaining c.args.input.now in
+    let mid = g.S.Source.remaining c.loop-i.input in
+    let new = g.S.Source.remaining c.read_some.new.self in
+    let before : Consumes old mid c.loop-i.bytes.items = c.loop-i.invariant.0 in
+    let consumed : Consumes old new c.match-read_some.bytes.items =
+    elim c.match-read_some.branch [
+      | in-Ok+else-is_err w ↦
+          let is_done : is_ok w.extend_from_slice.result ≡ true =
+          w.is_err.ensures.negation ∙ ap not w.if-is_err.false in
+          let grown : c.loop-i.bytes.items ++ take w.in-Ok.n c.read_some.new.chunk
+          ≡ c.match-read_some.bytes.items =
+          sym (ap (λ v. v.items) w.bytes-is ∙ w.extend_from_slice.ensures.items
+          ∙ ap (λ b. if b then (c.loop-i.bytes.items ++ take w.in-Ok.n c.read_some.new.chunk)
+          else c.loop-i.bytes.items) is_done) in
+          subst (λ (xs : List ℕ). Consumes old new xs) grown
+          (Consumes-trans old mid new c.loop-i.bytes.items
+          (take w.in-Ok.n c.read_some.new.chunk) before w.in-Ok.ensures.bytes.0)
+      | in-Err w ↦ subst (λ (xs : List ℕ). Consumes old new xs) (ap (λ v. v.items) (sym w.bytes-is))
+          (Consumes-kept old mid new c.loop-i.bytes.items before w.in-Err.ensures.bytes)
+    ] in
+    let goes : GoesOn c.read_some.result =
+    elim c.match-read_some.branch [
+      | in-Ok+else-is_err w ↦ search rules
+      | in-Err w ↦ search rules
+    ] in (
+      consumed,
+      one_more g.S.Source.reads c.args.input.now c.loop-i._i c.loop-i.input
+          c.read_some.result c.read_some.new.self c.loop-i.invariant.1 c.read_some.ensures.call
+          goes,
+    )
+
+pub returns-then-is_err-clause-part : goal.returns-then-is_err-clause-part
+returns-then-is_err-clause-part g c =
+    λ _.
+    let (n, _, calls) = c.loop-i.invariant.1 in
+    let goes : GoesOn c.read_some.result = search rules in
+    (suc n, (c.loop-i.input, c.read_some.result, calls, c.read_some.ensures.call, goes))

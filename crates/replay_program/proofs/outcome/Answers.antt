@@ -1,0 +1,157 @@
+use Rattle.std.proofs.Common.{◌≡◌, List, ℕ, Option, Result, Ok, Err, Some, None, ap, sym, subst}
+use Rattle.std.proofs.Common.{◌∙◌}
+use Rattle.std.specs.Prelude.{map}
+use Rattle.syn_replay.specs.Commands.{command_of}
+use Rattle.std.specs.Result.{IsErrAnd, MatchResult}
+use Rattle.std.specs.Str.{chars}
+use Rattle.tok_core.specs.Forest.{Forest}
+use Rattle.tok_core.specs.Lexical.Errors.{OnRefused}
+use Rattle.tok_core.specs.Lexical.Reading.{IsRefused}
+use Rattle.tok_lexical.specs.Rules.{marked_rules}
+use Rattle.tok_core.specs.declared.lexer.error.LexFault.{LexFault}
+use Rattle.tok_core.specs.declared.lexer.error.LexFault.TheVariants.{Refused, Memory}
+use Rattle.replay_program.specs.Faults.{OnUnreadable, fault_of}
+use Rattle.replay_program.specs.Input.{lines_left, parts_of, text_in}
+use Rattle.replay_program.specs.CommandText.{unreadable_line}
+use Rattle.replay_program.specs.Comparison.{Compares}
+use Rattle.replay_program.specs.Outcomes.{outcome_of, comparison_of}
+use Rattle.replay_program.specs.Program.{HasOutcome, HasForests, HasParts, IsForest}
+use Rattle.replay_program.specs.Program.{IsUnreadable, IsUnreadableOther}
+use Rattle.replay_program.specs.declared.compared.Outcome.{Outcome}
+use Rattle.replay_program.specs.declared.fault.Fault.{Fault}
+use Rattle.replay_program.specs.declared.fault.Fault.TheVariants as faults
+use Rattle.replay_program.specs.declared.fault.Unreadable.TheVariants as why
+use Rattle.replay_program.proofs.outcome.Goals as goal
+
+module _ (bytes text : List ℕ) (other : Option (List ℕ)) (lines : List (List ℕ))
+    (h : HasParts bytes text other lines) where
+  text_refused : (fault : LexFault) → OnRefused fault (IsRefused marked_rules 0 (chars text))
+      → OnUnreadable (fault_of fault) (IsUnreadable bytes)
+  text_refused (Refused error) k = (text, other, lines, h, k)
+  text_refused Memory k = tt
+
+-- the second text
+other_refused : (bytes text : List ℕ) (other : Option (List ℕ)) (lines : List (List ℕ))
+    → HasParts bytes text other lines
+    → (forest : Forest) → IsForest text forest
+    → (fault : Fault) → OnUnreadable fault (IsUnreadableOther other)
+    → OnUnreadable fault (IsUnreadable bytes)
+other_refused bytes text None lines h forest r (faults.Unreadable w) k = absurd k
+other_refused bytes text (Some other) lines h forest r (faults.Unreadable why.Utf8) k = absurd k
+other_refused bytes text (Some other) lines h forest r (faults.Unreadable why.Parts) k = absurd k
+other_refused bytes text (Some other) lines h forest r (faults.Unreadable (why.Text e)) k = absurd k
+other_refused bytes text (Some other) lines h forest r (faults.Unreadable (why.Right e)) k =
+    (text, other, lines, forest, h, r, k)
+other_refused bytes text (Some other) lines h forest r (faults.Unreadable (why.Command n)) k =
+    absurd k
+other_refused bytes text other lines h forest r faults.Memory k = tt
+
+refuse : (bytes : List ℕ) (fault : Fault) (r : Result Outcome Fault) → IsErrAnd r (λ f. f ≡ fault)
+    → OnUnreadable fault (IsUnreadable bytes)
+    → MatchResult r (λ o. HasOutcome bytes (outcome_of o))
+    (λ f. OnUnreadable f (IsUnreadable bytes))
+refuse bytes fault (Ok o) e h = absurd e
+refuse bytes fault (Err f) e h = subst (λ f. OnUnreadable f (IsUnreadable bytes)) (sym e) h
+
+commands_refused : (bytes : List ℕ) (forest : Forest) (more : Option Forest) (lines : List (List ℕ))
+    → HasForests bytes forest more lines → (fault : Fault)
+    → OnUnreadable fault (λ w. (n : ℕ) × (w ≡ why.Command n) × (unreadable_line lines ≡ Some n))
+    → OnUnreadable fault (IsUnreadable bytes)
+commands_refused bytes forest more lines h (faults.Unreadable w) (n, e, k) =
+    subst (IsUnreadable bytes) (sym e) (forest, more, lines, h, k)
+commands_refused bytes forest more lines h faults.Memory k = tt
+
+pub returns-in_err-buffer : goal.returns-in_err-buffer
+returns-in_err-buffer c =
+    let bytes = c.args.input.now in
+    let text = c.in-Some.text.now in
+    let lines = lines_left c.in-Some.lines in
+    let (same, utf8) = c.in-Ok.ensures.cases in
+    let parts : HasParts bytes text (text_in c.in-Some.other) lines =
+    (utf8, ap parts_of (sym same) ∙ c.in-Some.ensures.parts) in
+    let fault = c.in_err-buffer.field-0.0 in
+    refuse bytes (fault_of fault) c.from_residual.result c.from_residual.ensures.1
+    (text_refused bytes text (text_in c.in-Some.other) lines parts fault
+    c.in_err-buffer.ensures.follows.refuses)
+
+pub returns-in_err-stream : goal.returns-in_err-stream
+returns-in_err-stream c =
+    let bytes = c.args.input.now in
+    let text = c.in-Some.text.now in
+    let lines = lines_left c.in-Some.lines in
+    let (same, utf8) = c.in-Ok.ensures.cases in
+    let other = c.in-Some-other.other.now in
+    let parts : HasParts bytes text (Some other) lines = (
+      utf8,
+      ap parts_of (sym same) ∙ c.in-Some.ensures.parts
+          ∙ ap (λ o. Some (text, text_in o, lines)) c.in-Some-other.is,
+    ) in
+    let fault = c.in_err-stream.field-0.0 in
+    refuse bytes (fault_of fault) c.from_residual-in_err-stream.result
+    c.from_residual-in_err-stream.ensures.1
+    (text_refused bytes text (Some other) lines parts fault c.in_err-stream.ensures.refuses)
+
+pub returns-in_err-right : goal.returns-in_err-right
+returns-in_err-right c =
+    let bytes = c.args.input.now in
+    let text = c.in-Some.text.now in
+    let lines = lines_left c.in-Some.lines in
+    let (same, utf8) = c.in-Ok.ensures.cases in
+    let other = c.in-Some-other.other.now in
+    let parts : HasParts bytes text (Some other) lines = (
+      utf8,
+      ap parts_of (sym same) ∙ c.in-Some.ensures.parts
+          ∙ ap (λ o. Some (text, text_in o, lines)) c.in-Some-other.is,
+    ) in
+    let fault = c.in_err-right.field-0.0 in
+    refuse bytes fault c.from_residual-in_err-right.result c.from_residual-in_err-right.ensures.1
+    (other_refused bytes text (Some other) lines parts c.in_ok-stream.stream
+    c.in_ok-stream.ensures.reads fault
+    c.in_err-right.ensures)
+
+pub returns-in_err-commands-2 : goal.returns-in_err-commands-2
+returns-in_err-commands-2 c =
+    let bytes = c.args.input.now in
+    let text = c.in-Some.text.now in
+    let lines = lines_left c.in-Some.lines in
+    let (same, utf8) = c.in-Ok.ensures.cases in
+    let other = c.in-Some-other.other.now in
+    let parts : HasParts bytes text (Some other) lines = (
+      utf8,
+      ap parts_of (sym same) ∙ c.in-Some.ensures.parts
+          ∙ ap (λ o. Some (text, text_in o, lines)) c.in-Some-other.is,
+    ) in
+    let fault = c.in_err-commands-2.field-0.0 in
+    refuse bytes fault c.from_residual-in_err-commands-2.result
+    c.from_residual-in_err-commands-2.ensures.1
+    (commands_refused bytes c.in_ok-stream.stream (Some c.in_ok-right.right) lines (
+      text,
+      Some other,
+      parts,
+      c.in_ok-stream.ensures.reads,
+      c.in_ok-right.ensures,
+    ) fault c.in_err-commands-2.ensures)
+
+pub returns : goal.returns
+returns c =
+    let bytes = c.args.input.now in
+    let text = c.in-Some.text.now in
+    let lines = lines_left c.in-Some.lines in
+    let (same, utf8) = c.in-Ok.ensures.cases in
+    let other = c.in-Some-other.other.now in
+    let parts : HasParts bytes text (Some other) lines = (
+      utf8,
+      ap parts_of (sym same) ∙ c.in-Some.ensures.parts
+          ∙ ap (λ o. Some (text, text_in o, lines)) c.in-Some-other.is,
+    ) in
+    let left = c.in_ok-stream.stream in
+    let right = c.in_ok-right.right in (
+      left,
+      Some right,
+      lines,
+      (text, Some other, parts, c.in_ok-stream.ensures.reads, c.in_ok-right.ensures),
+      c.in_ok-commands-2.ensures.0,
+      subst (λ cs. Compares left right cs (comparison_of c.in_ok-compare.field-0))
+          (ap (map command_of) c.deref-2.ensures.value
+          ∙ c.in_ok-commands-2.ensures.1) c.in_ok-compare.ensures,
+    )

@@ -1,0 +1,106 @@
+-- What the program prints for an input, and its status.
+use Rattle.std.specs.Prelude.{◌≡◌, ◌⊎◌, ⊤, ℕ, List, Option, Some, None, codes}
+use Rattle.std.specs.Io.KnownBytes.{Keeps}
+use Rattle.std.specs.Str.{IsUtf8, chars}
+use Rattle.tok_core.specs.Forest.{Forest}
+use Rattle.tok_core.specs.Lexical.Reading.{Reads, IsRefused}
+use Rattle.tok_lexical.specs.Rules.{marked_rules}
+use Rattle.replay_program.specs.CommandText.{unreadable_line, commands_in}
+use Rattle.syn_replay.specs.Commands.{Command}
+use Rattle.replay_program.specs.Comparison.{Compares, Outcome, reported, compared, outcome_text}
+use Rattle.replay_program.specs.Comparison.{outcome_status}
+use Rattle.replay_program.specs.Faults.{unreadable_text}
+use Rattle.replay_program.specs.Input.{parts_of}
+use Rattle.replay_program.specs.Failures.{Reading, Writing}
+use Rattle.replay_program.specs.Output.{GoesOut}
+use Rattle.syn_replay.specs.ReportText.{ended}
+use Rattle.syn_replay.specs.Session.Walk.{walk}
+use Rattle.replay_program.specs.declared.fault.Unreadable.{Unreadable}
+use Rattle.replay_program.specs.declared.fault.Unreadable.TheVariants.{Utf8, Parts, Text, Right}
+use Rattle.replay_program.specs.declared.fault.Unreadable.TheVariants as unreadable
+
+-- the input is UTF-8 and holds these texts, the second of which may be missing, and these lines of
+-- commands
+abbrev pub HasParts : List ℕ → List ℕ → Option (List ℕ) → List (List ℕ) → Type 0
+HasParts bytes text other lines = IsUtf8 bytes × (parts_of bytes ≡ Some (text, other, lines))
+
+-- a marked text, which is source 0, reads as this forest
+abbrev pub IsForest : List ℕ → Forest → Type 0
+IsForest text forest = Reads marked_rules 0 (chars text) forest
+
+abbrev pub IsOther : Option (List ℕ) → Option Forest → Type 0
+IsOther None None = ⊤
+IsOther (Some text) (Some forest) = IsForest text forest
+IsOther text forest = ⊥
+
+-- and its texts read as these forests
+abbrev pub HasForests : List ℕ → Forest → Option Forest → List (List ℕ) → Type 0
+HasForests bytes forest more lines =
+    (text : List ℕ) × (other : Option (List ℕ)) × HasParts bytes text other lines
+    × IsForest text forest × IsOther other more
+
+-- the second text is refused
+abbrev pub IsUnreadableOther : Option (List ℕ) → Unreadable → Type 0
+IsUnreadableOther (Some text) (Right error) = IsRefused marked_rules 0 (chars text) error
+IsUnreadableOther text why = ⊥
+
+-- the first thing that can't be read: the bytes, the parts, the text, the second text, a command
+abbrev pub IsUnreadable : List ℕ → Unreadable → Type 0
+IsUnreadable bytes Utf8 = ¬ (IsUtf8 bytes)
+IsUnreadable bytes Parts = IsUtf8 bytes × (parts_of bytes ≡ None)
+IsUnreadable bytes (Text error) =
+    (text : List ℕ) × (other : Option (List ℕ)) × (lines : List (List ℕ))
+    × HasParts bytes text other lines × IsRefused marked_rules 0 (chars text) error
+IsUnreadable bytes (Right error) =
+    (text : List ℕ) × (other : List ℕ) × (lines : List (List ℕ)) × (forest : Forest)
+    × HasParts bytes text (Some other) lines × IsForest text forest
+    × IsRefused marked_rules 0 (chars other) error
+IsUnreadable bytes (unreadable.Command n) =
+    (forest : Forest) × (more : Option Forest) × (lines : List (List ℕ))
+    × HasForests bytes forest more lines × (unreadable_line lines ≡ Some n)
+
+-- what comes of one forest, or of two, under these commands
+abbrev pub IsOutcome : Forest → Option Forest → List Command → Outcome → Type 0
+IsOutcome forest None commands (reported r) = r ≡ walk forest commands
+IsOutcome left (Some right) commands (compared c) = Compares left right commands c
+IsOutcome left right commands o = ⊥
+
+-- all is read, and this comes of it
+abbrev pub HasOutcome : List ℕ → Outcome → Type 0
+HasOutcome bytes o =
+    (forest : Forest) × (more : Option Forest) × (lines : List (List ℕ))
+    × HasForests bytes forest more lines × (unreadable_line lines ≡ None)
+    × IsOutcome forest more (commands_in lines) o
+
+-- what comes of the input, with 0 or 1, or one line with 2
+abbrev pub Prints : List ℕ → List ℕ → ℕ → Type 0
+Prints bytes printed status =
+    ((o : Outcome) × HasOutcome bytes o × (printed ≡ outcome_text o) × (status ≡ outcome_status o))
+    ⊎
+    ((why : Unreadable) × IsUnreadable bytes why × (printed ≡ ended (unreadable_text why))
+    × (status ≡ 2))
+
+-- nothing else comes of the input
+abbrev pub PrintsOnly : List ℕ → List ℕ → ℕ → Type 0
+PrintsOnly bytes printed status =
+    (other : List ℕ) (code : ℕ) → Prints bytes other code → (printed ≡ other) × (status ≡ code)
+
+-- of how the source was read, and how the sink was written to
+module _ (read : Reading) (written : Writing) where
+  -- memory was refused, and one line says so with 3; or a read failed, and nothing went out
+  abbrev pub Fails : ℕ → Option (List ℕ) → Option (List ℕ) → Type 0
+  Fails status old new =
+      ((read.whole ⊎ read.part) × GoesOut written (ended (codes "memory")) 3 status old new)
+      ⊎ ((status ≡ 2) × read.failed × Keeps old new)
+
+  -- all was read, and what the program prints for these bytes went out; or it failed
+  abbrev pub Serves : List ℕ → ℕ → Option (List ℕ) → Option (List ℕ) → Type 0
+  Serves bytes status old new =
+      ((printed : List ℕ) × (code : ℕ) × Prints bytes printed code × read.whole
+      × GoesOut written printed code status old new) ⊎ Fails status old new
+
+  -- all was read, and whatever the program prints for these bytes went out; or it failed
+  abbrev pub ServesOnly : List ℕ → ℕ → Option (List ℕ) → Option (List ℕ) → Type 0
+  ServesOnly bytes status old new =
+      (printed : List ℕ) (code : ℕ) → Prints bytes printed code
+      → (read.whole × GoesOut written printed code status old new) ⊎ Fails status old new

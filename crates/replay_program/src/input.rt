@@ -1,0 +1,103 @@
+//! The program's input.
+ghost use Rattle.std.specs.Prelude.{◌≡◌, ◌∷◌, [], ◌++◌, List, ℕ, IfErr, IfOk, IfSome, Some, None, MatchOption};
+ghost use Rattle.std.specs.List.{slice_split};
+ghost use Rattle.std.specs.Str.{IsUtf8};
+ghost use Rattle.replay_program.specs.Failures.{reading};
+ghost use Rattle.replay_program.specs.Input as spec;
+ghost use Rattle.syn_replay.specs.ReportText.{ended};
+
+use crate::channel::Source;
+use memchr::memchr;
+use std::alloc::Global;
+use std::io::ErrorKind;
+
+/// Why an input could not be read.
+#[derive(Drop)]
+pub enum ReadFault {
+    /// A read failed, or the input didn't end.
+    Failed,
+    /// An allocation failed.
+    Memory,
+}
+
+/// Reads a source to its end, in at most 4,294,967,295 reads. An interrupted read is repeated.
+pub fn read_input<S: Source>(alloc: Global, input: &mut S) -> Result<Vec<u8>, ReadFault>
+    ensures bytes { IfSome (S.remaining input.old) (λ bytes. IfOk result (λ v. v.items ≡ bytes)) }
+    ensures whole { IfOk result (λ _. (reading S.reads input.old input.new).whole) }
+    ensures part { IfErr result
+        (λ fault. fault ≡ ReadFault.Memory → (reading S.reads input.old input.new).part) }
+    ensures failed { IfErr result
+        (λ fault. fault ≡ ReadFault.Failed → (reading S.reads input.old input.new).failed) }
+{
+    let mut bytes = Vec::new(alloc);
+    let mut chunk = [0u8; 4096];
+    for _i in 0..u32::MAX {
+        match input.read_some(&mut chunk) {
+            Ok(0) => return Ok(bytes),
+            Ok(n) => {
+                if bytes.extend_from_slice(&chunk[..n]).is_err() {
+                    return Err(ReadFault::Memory);
+                }
+            }
+            Err(error) if error.kind() == ErrorKind::Interrupted => {}
+            Err(_) => return Err(ReadFault::Failed),
+        }
+    }
+    Err(ReadFault::Failed)
+}
+
+/// Splits an input into its text, the second text if there is one, and the lines after the last
+/// line `---`.
+///
+/// Returns `None` unless one or two lines `---` end a text.
+pub fn parts(input: &str) -> Option<(&str, Option<&str>, Option<&str>)>
+    ensures parts { MatchOption result
+        (spec.parts_of input.now ≡ None)
+        (λ p. spec.parts_of input.now ≡ Some (p.0.now, spec.text_in p.1, spec.lines_left p.2)) }
+    ensures utf8 { IfSome result
+        (λ p. IsUtf8 p.0.now × IfSome p.1 (λ other. IsUtf8 other.now)
+        × IfSome p.2 (λ rest. IsUtf8 rest.now)) }
+{
+    let (text, rest) = cut(Some(input))?;
+    let Some((other, lines)) = cut(rest) else {
+        return Some((text, None, rest));
+    };
+    match cut(lines) {
+        Some(_) => None,
+        None => Some((text, Some(other), lines)),
+    }
+}
+
+// Splits an input at the first line `---`.
+fn cut(input: Option<&str>) -> Option<(&str, Option<&str>)>
+    requires { IfSome input (λ input. IsUtf8 input.now) }
+    ensures parts { MatchOption result
+        (slice_split spec.is_cut (spec.lines_left input.entry) ≡ spec.lines_left input.entry ∷ [])
+        (λ p. (before : List (List ℕ)) × (p.0.now ≡ spec.text_of before)
+        × (slice_split spec.is_cut (spec.lines_left input.entry)
+        ≡ before ∷ slice_split spec.is_cut (spec.lines_left p.1))) }
+    ensures utf8 { IfSome result (λ p. IsUtf8 p.0.now × IfSome p.1 (λ rest. IsUtf8 rest.now)) }
+{
+    let text = input?;
+    let mut left = input;
+    while let Some(rest) = left {
+        let (line, after) = first_line(rest);
+        if line == "---" {
+            return Some((&text[..text.len() - rest.len()], after));
+        }
+        left = after;
+    }
+    None
+}
+
+/// Returns the first line, and the rest after its line feed.
+pub fn first_line(rest: &str) -> (&str, Option<&str>)
+    ensures lines { spec.lines rest.now ≡ result.0.now ∷ spec.lines_left result.1 }
+    ensures concat { IfSome result.1 (λ after. rest.now ≡ ended result.0.now ++ after.now) }
+    ensures utf8 { IsUtf8 result.0.now × IfSome result.1 (λ after. IsUtf8 after.now) }
+{
+    match memchr(b'\n', rest.as_bytes()) {
+        Some(end) => (&rest[..end], Some(&rest[end + 1..])),
+        None => (rest, None),
+    }
+}

@@ -1,0 +1,135 @@
+//! The program: one or two texts and commands in, the report of `replay` and a status out.
+#![tactic(auto)]
+
+mod channel;
+mod command_text;
+mod compared;
+mod fault;
+mod input;
+mod output;
+
+ghost use Rattle.std.specs.Prelude.{IfOk, IfSome, MatchResult, Some, string_bytes};
+ghost use Rattle.replay_program.specs.Failures.{all_read, reading, writing};
+ghost use Rattle.replay_program.specs.Faults.{OnUnreadable};
+ghost use Rattle.replay_program.specs.Outcomes.{outcome_of};
+ghost use Rattle.replay_program.specs.Program.{HasOutcome, IsForest, IsUnreadable, IsUnreadableOther, Prints, PrintsOnly, Serves, ServesOnly};
+
+pub use crate::channel::{Sink, Source};
+use crate::command_text::read_commands;
+use crate::compared::{Outcome, compare};
+use crate::fault::{Fault, Unreadable};
+use crate::input::{ReadFault, parts, read_input};
+use crate::output::send;
+use std::alloc::{AllocError, Global};
+use std::str::from_utf8;
+use syn_replay::replay_in;
+use tok_buffer::TokenBuffer;
+use tok_core::{TokenStream, lex_marked};
+
+/// Reads one input, writes the program's output for it, and returns the exit status.
+///
+/// The input is one marked text or two, each followed by a line `---`, and then one command per
+/// line. For one text, the output is its report. For two, it is both reports and what holds of
+/// them. All of it is in memory before anything is written. The status is
+///
+/// - 0 if each report accepts,
+/// - 1 if one rejects,
+/// - 2 if the input can't be read, which one line explains, or if a read or a write fails,
+/// - 3 if an allocation fails, and the output is `memory`.
+///
+/// An input that has not ended after 4,294,967,295 reads counts as a failed read.
+///
+/// The contract follows the calls of the reader and the writer, in the relations that `Source` and
+/// `Sink` name. Each read or write before the last moved some bytes or was interrupted. The last
+/// read found the end, and the sink was then flushed; or a call failed, and the status is 2. It is
+/// proved for all relations.
+pub fn serve<R: Source, W: Sink>(alloc: Global, input: &mut R, output: &mut W) -> u8
+    ensures serves { let read = reading R.reads input.old input.new in
+        let written = writing W.writes W.flushes output.old output.new in
+        IfSome (R.remaining input.old)
+        (λ bytes. Serves read written bytes result (W.contents output.old)
+        (W.contents output.new)) }
+    ensures only { let read = reading R.reads input.old input.new in
+        let written = writing W.writes W.flushes output.old output.new in
+        IfSome (R.remaining input.old)
+        (λ bytes. ServesOnly read written bytes result (W.contents output.old)
+        (W.contents output.new)) }
+{
+    match read_input(alloc, input) {
+        Ok(bytes) => answer(alloc, &bytes, output),
+        Err(ReadFault::Memory) => send(output, "memory\n", 3),
+        Err(ReadFault::Failed) => 2,
+    }
+}
+
+// Writes the output for an input that was read.
+fn answer<W: Sink>(alloc: Global, input: &[u8], output: &mut W) -> u8
+    ensures serves { let written = writing W.writes W.flushes output.old output.new in
+        Serves all_read written input.now result (W.contents output.old)
+        (W.contents output.new) }
+    ensures only { let written = writing W.writes W.flushes output.old output.new in
+        ServesOnly all_read written input.now result (W.contents output.old)
+        (W.contents output.new) }
+{
+    match respond(alloc, input) {
+        Ok((text, status)) => send(output, text.as_str(), status),
+        Err(AllocError) => send(output, "memory\n", 3),
+    }
+}
+
+/// Returns the program's output for an input, and the exit status. `serve` writes it.
+///
+/// Returns an error if an allocation fails.
+///
+/// # Examples
+///
+/// ```rust
+/// let (output, status) = respond(alloc, b"a\n---\nparse 0 Ident\n")?;
+/// assert_eq!(rt; output.as_str(), "read a 0..1 @1\naccepted\n");
+/// assert_eq!(rt; status, 0);
+/// ```
+pub fn respond(alloc: Global, input: &[u8]) -> Result<(String, u8), AllocError>
+    ensures prints { IfOk result (λ p. Prints input.now (string_bytes p.0) p.1) }
+    ensures only { IfOk result (λ p. PrintsOnly input.now (string_bytes p.0) p.1) }
+{
+    match outcome(alloc, input) {
+        Ok(outcome) => Ok((outcome.to_string(alloc)?, outcome.status())),
+        Err(Fault::Unreadable(why)) => Ok((format!(in alloc; "{why}\n")?, 2)),
+        Err(Fault::Memory) => Err(AllocError),
+    }
+}
+
+// Returns the outcome of an input, or the first thing in it that can't be read.
+fn outcome(alloc: Global, input: &[u8]) -> Result<Outcome, Fault>
+    ensures { MatchResult result
+        (λ o. HasOutcome input.now (outcome_of o))
+        (λ fault. OnUnreadable fault (IsUnreadable input.now)) }
+{
+    let Ok(input) = from_utf8(input) else {
+        return Err(Fault::Unreadable(Unreadable::Utf8));
+    };
+    let Some((text, other, lines)) = parts(input) else {
+        return Err(Fault::Unreadable(Unreadable::Parts));
+    };
+    let Some(other) = other else {
+        let buffer = TokenBuffer::from_marked(alloc, 0, 0, text)?;
+        let commands = read_commands(alloc, lines)?;
+        return Ok(Outcome::Reported(replay_in(alloc, &buffer, &commands)?));
+    };
+    let stream = lex_marked(alloc, 0, text)?;
+    let right = lex_other(alloc, other)?;
+    let commands = read_commands(alloc, lines)?;
+    Ok(Outcome::Compared(compare(alloc, stream, right, &commands)?))
+}
+
+// Lexes the second text.
+fn lex_other(alloc: Global, text: &str) -> Result<TokenStream, Fault>
+    ensures { MatchResult result
+        (λ right. IsForest text.now right)
+        (λ fault. OnUnreadable fault (IsUnreadableOther (Some text.now))) }
+{
+    match lex_marked(alloc, 0, text) {
+        Ok(right) => Ok(right),
+        Err(fault) => Err(Fault::of_right(fault)),
+    }
+}
