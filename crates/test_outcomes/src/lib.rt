@@ -1,5 +1,8 @@
 //! Compares what parsers return with a test's rows: a value's text, or an error's range and words.
+//! `memory` says how calls that allocate end.
 #![tactic(auto)]
+
+pub mod memory;
 
 use std::alloc::Global;
 use syn_parse::{Fault, Parse, ParseStream, Result};

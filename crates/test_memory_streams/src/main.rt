@@ -1,7 +1,7 @@
-//! Makes the calls that allocate, and checks what each returns and what is left afterwards.
+//! Makes the calls of `syn_parse`, `syn_punctuated` and `arguments` that allocate.
 //!
-//! The status is 0 if each allocation succeeds, 3 if one fails and all that is left is right, and 1
-//! if something is wrong; then the name of the call is printed. Before the calls it makes one
+//! The status is 0 if each allocation succeeds, 3 if one fails and so does a call, and 1 if
+//! something is wrong; then the name of the call is printed. Before the calls it makes one
 //! allocation for each byte of its input: so `tests/refuse_each` makes each allocation of the calls
 //! fail in turn.
 //!
@@ -13,21 +13,17 @@
 #![tactic(auto)]
 
 mod argument_lists;
-mod cursors;
 mod kept;
 mod lists;
-mod outcome;
-mod replays;
 mod streams;
-mod tokens;
-mod trees;
-mod values;
 
 use kept::Kept;
-use outcome::{Outcome, Stop};
-use std::alloc::{AllocError, Global};
+use std::alloc::Global;
 use std::io::Read;
 use std::process::ExitCode;
+use test_outcomes::memory::{Outcome, Stop, expect, made, spend, status, worst};
+use tok_buffer::TokenBuffer;
+use tok_core::TokenStream;
 
 fn main(rt: HostRuntime) -> ExitCode {
     let mut bytes = [0u8; 1024];
@@ -36,7 +32,7 @@ fn main(rt: HostRuntime) -> ExitCode {
     };
     let alloc = rt.alloc();
     let outcome = if bytes.starts_with(b"buffer") {
-        cursors::empty_buffer(alloc)
+        empty_buffer(alloc)
     } else if bytes.starts_with(b"laid out") {
         streams::free::laid_out(alloc)
     } else if bytes.starts_with(b"free") {
@@ -47,26 +43,28 @@ fn main(rt: HostRuntime) -> ExitCode {
         lists::emptied(alloc)
     } else if bytes.starts_with(b"kept ") {
         match kept_by(alloc, &bytes[5..], count) {
-            Ok(kept) if kept.is_refused => return ExitCode::from(status(kept.count)),
+            Ok(kept) if kept.is_refused => return ExitCode::from(status_of(kept.count)),
             Ok(_) => Ok(()),
             Err(stop) => Err(stop),
         }
     } else {
         run(alloc, count)
     };
-    match outcome {
-        Ok(()) => ExitCode::SUCCESS,
-        Err(Stop::Refused) => ExitCode::from(3),
-        Err(Stop::Wrong(call)) => {
-            let _ = println!(rt; "{call}");
-            ExitCode::FAILURE
-        }
-    }
+    let (status, call) = status(outcome);
+    let _ = print!(rt; "{call}");
+    status
+}
+
+// Lays out an empty stream. If the first allocation fails nothing is made, and there is no second
+// one.
+fn empty_buffer(alloc: Global) -> Outcome {
+    let buffer = made(TokenBuffer::new2(alloc, 0, TokenStream::new(alloc)))?;
+    expect(buffer.begin().eof(), "TokenBuffer::new2")
 }
 
 // Returns what the call with this name keeps, after this many other allocations.
 fn kept_by(alloc: Global, call: &[u8], before: usize) -> Result<Kept, Stop> {
-    spend(alloc, before)?;
+    made(spend(alloc, before))?;
     if call.starts_with(b"tokens") {
         kept::tokens(alloc)
     } else if call.starts_with(b"values") {
@@ -78,26 +76,15 @@ fn kept_by(alloc: Global, call: &[u8], before: usize) -> Result<Kept, Stop> {
     }
 }
 
-fn status(count: usize) -> u8 {
+fn status_of(count: usize) -> u8 {
     u8::try_from(count.saturating_add(10)).unwrap_or(u8::MAX)
 }
 
 fn run(alloc: Global, before: usize) -> Outcome {
-    spend(alloc, before)?;
-    trees::calls(alloc)?;
-    values::calls(alloc)?;
-    cursors::calls(alloc)?;
-    tokens::calls(alloc)?;
-    lists::calls(alloc)?;
-    streams::calls(alloc)?;
-    argument_lists::calls(alloc)?;
-    replays::calls(alloc)
-}
-
-// Makes this many allocations.
-fn spend(alloc: Global, count: usize) -> Result<(), AllocError> {
-    for _ in 0..count {
-        let _spent = Vec::<u8>::with_capacity(alloc, 1)?;
-    }
-    Ok(())
+    made(spend(alloc, before))?;
+    worst(&[
+        lists::calls(alloc),
+        streams::calls(alloc),
+        argument_lists::calls(alloc),
+    ])
 }

@@ -1,9 +1,9 @@
 //! Calls that don't allocate. `tests/refuse_memory` counts the allocations: those that lay the
 //! tokens out, and no others.
 use super::laid;
-use crate::outcome::{Outcome, Stop, expect, worst};
 use std::alloc::Global;
 use syn_parse::{Nothing, Parens, ParseBuffer, ParseStream, parse_parens, tokens_to_parse_buffer};
+use test_outcomes::memory::{Outcome, Stop, expect, worst};
 use tok_buffer::Cursor;
 use tok_core::{Delimiter, Ident, Punct, Span};
 use tok_types::token;

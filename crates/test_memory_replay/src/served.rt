@@ -1,8 +1,8 @@
 //! The program: its first run, a run of every command, and two texts.
-use crate::outcome::{Outcome, Stop, worst};
 use replay_program::serve;
 use std::alloc::Global;
 use std::io::{self, Write};
+use test_outcomes::memory::{Outcome, Stop, worst};
 
 const FIRST: &str = "\
 (a «b»)\n\

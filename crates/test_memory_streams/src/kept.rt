@@ -1,7 +1,7 @@
 //! What stays of several things that are added in turn, if an allocation fails for one of them.
-use crate::outcome::Stop;
 use std::alloc::Global;
 use syn_punctuated::{Pair, Punctuated};
+use test_outcomes::memory::{Stop, made};
 use tok_buffer::Error;
 use tok_core::{Ident, Span, ToTokens, TokenStream, TokenTree};
 
@@ -14,15 +14,15 @@ pub struct Kept {
 
 // Returns an error of one message.
 fn error(alloc: Global) -> Result<Error, Stop> {
-    Ok(Error::new(alloc, Span::call_site(), "x")?)
+    made(Error::new(alloc, Span::call_site(), "x"))
 }
 
 /// Writes a stream of four identifiers, each so long that a copy of it allocates.
 pub fn tokens(alloc: Global) -> Result<Kept, Stop> {
     let mut names = TokenStream::new(alloc);
     for _ in 0..4 {
-        let name = Ident::new(alloc, "a_long_identifier", Span::call_site())?;
-        names.append(TokenTree::Ident(name))?;
+        let name = made(Ident::new(alloc, "a_long_identifier", Span::call_site()))?;
+        made(names.append(TokenTree::Ident(name)))?;
     }
     let mut tokens = TokenStream::new(alloc);
     let is_refused = names.to_tokens(&mut tokens).is_err();
@@ -58,7 +58,7 @@ pub fn errors(alloc: Global) -> Result<Kept, Stop> {
     let mut all = error(alloc)?;
     let mut more = Vec::new(alloc);
     for _ in 0..9 {
-        more.push(error(alloc)?)?;
+        made(more.push(error(alloc)?))?;
     }
     let is_refused = all.extend(more).is_err();
     let mut count: usize = 0;

@@ -1,0 +1,46 @@
+//! The calls of `syn_replay`.
+use std::alloc::{AllocError, Global};
+use syn_replay::{Command, Kind, Look, replay, replay_both, replay_in};
+use test_outcomes::memory::{Outcome, ended, made, worst};
+use tok_buffer::TokenBuffer;
+use tok_core::{Delimiter, lex_marked};
+
+const TEXT: &str = "(a «b») 'c";
+
+/// Makes each call.
+pub fn calls(alloc: Global) -> Outcome {
+    let commands = made(commands(alloc))?;
+    worst(&[
+        of_buffer(alloc, &commands),
+        of_stream(alloc, &commands),
+        of_both(alloc, &commands),
+    ])
+}
+
+fn commands(alloc: Global) -> Result<Vec<Command>, AllocError> {
+    let looks = vec![in alloc; Look::Kind(Kind::Ident)]?;
+    let commands = vec![in alloc;
+        Command::Enter(0, Delimiter::Parenthesis),
+        Command::Parse(1, Kind::Ident),
+        Command::Close(1),
+        Command::Parse(0, Kind::Lifetime),
+        Command::Lookahead(0, looks),
+    ]?;
+    Ok(commands)
+}
+
+fn of_buffer(alloc: Global, commands: &[Command]) -> Outcome {
+    let buffer = made(TokenBuffer::from_marked(alloc, 0, 0, TEXT))?;
+    ended(replay_in(alloc, &buffer, commands))
+}
+
+fn of_stream(alloc: Global, commands: &[Command]) -> Outcome {
+    let tokens = made(lex_marked(alloc, 0, TEXT))?;
+    ended(replay(alloc, tokens, commands))
+}
+
+fn of_both(alloc: Global, commands: &[Command]) -> Outcome {
+    let left = made(lex_marked(alloc, 0, "(a b) '«c»"))?;
+    let right = made(lex_marked(alloc, 0, TEXT))?;
+    ended(replay_both(alloc, left, right, commands))
+}
