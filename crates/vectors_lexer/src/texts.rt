@@ -1,24 +1,31 @@
 //! Reads texts by each list of rules, into trees and straight into a buffer, and prints their
 //! tokens as a line.
-use std::alloc::{AllocError, AllocGlobal, Global};
-use std::process::Abort;
+use std::alloc::{AllocError, Global};
 use tok_buffer::{Cursor, TokenBuffer};
 use tok_core::{
     Edition, LexError, LexFault, Spacing, Span, TokenStream, TokenStreamHelper, TokenTree, lex,
     lex_marked, lex_source,
 };
 
-// A list of rules: that of `lex`, of `lex_marked`, or of `lex_source` by the default edition or
-// another one.
+/// A list of rules: that of `lex`, of `lex_marked`, or of `lex_source` by an edition.
+#[derive(Clone, Copy)]
 pub enum Rules {
     Plain,
     Marked,
-    Source,
-    Edition(Edition),
+    Source(Edition),
+}
+
+/// What is printed of a text.
+#[derive(Clone, Copy)]
+pub enum Goal {
+    Tokens,
+    Outcome,
+    Words,
+    Alike,
 }
 
 // The number of the source, for all texts.
-pub const SOURCE: u32 = 7;
+const SOURCE: u32 = 7;
 
 // The deepest nesting of groups that is compared.
 const LEVELS: usize = 300;
@@ -30,8 +37,7 @@ fn trees(alloc: Global, rules: &Rules, text: &str) -> Result<TokenStream, LexFau
     match rules {
         Rules::Plain => lex(alloc, SOURCE, text),
         Rules::Marked => lex_marked(alloc, SOURCE, text),
-        Rules::Source => lex_source(alloc, Edition::default(), SOURCE, text),
-        Rules::Edition(edition) => lex_source(alloc, *edition, SOURCE, text),
+        Rules::Source(edition) => lex_source(alloc, *edition, SOURCE, text),
     }
 }
 
@@ -49,8 +55,7 @@ fn read(alloc: Global, rules: &Rules, text: &str) -> Result<TokenBuffer, LexFaul
     match rules {
         Rules::Plain => TokenBuffer::from_text(alloc, 0, SOURCE, text),
         Rules::Marked => TokenBuffer::from_marked(alloc, 0, SOURCE, text),
-        Rules::Source => { TokenBuffer::from_source(alloc, 0, Edition::default(), SOURCE, text) }
-        Rules::Edition(edition) => TokenBuffer::from_source(alloc, 0, *edition, SOURCE, text),
+        Rules::Source(edition) => TokenBuffer::from_source(alloc, 0, *edition, SOURCE, text),
     }
 }
 
@@ -107,18 +112,6 @@ fn line(alloc: Global, stream: &TokenStream) -> Option<String> {
     let mut out = String::new(alloc);
     push_trees(alloc, &mut out, stream, LEVELS)?;
     Some(out)
-}
-
-fn is_line(alloc: Global, rules: &Rules, text: &str, wanted: &str) -> Option<bool> {
-    let stream = trees(alloc, rules, text).ok()?;
-    Some(line(alloc, &stream)?.as_str() == wanted)
-}
-
-pub fn refused(alloc: Global, rules: &Rules, text: &str) -> Option<LexError> {
-    match trees(alloc, rules, text) {
-        Err(LexFault::Refused(error)) => Some(error),
-        _ => None,
-    }
 }
 
 fn read_refused(alloc: Global, rules: &Rules, text: &str) -> Option<LexError> {
@@ -189,86 +182,63 @@ fn is_read_alike(alloc: Global, rules: &Rules, text: &str) -> Option<bool> {
     is_read(alloc, rules, text, buffer.begin())
 }
 
-// Reads a text both ways. Returns the number and the byte of the error, or `Some(None)` if the text
-// is read. Returns `None` if the two ways differ.
-fn outcome(alloc: Global, rules: &Rules, text: &str) -> Option<Option<(u8, usize)>> {
-    let Some(error) = refused(alloc, rules, text) else {
-        return is_read_alike(alloc, rules, text)?.then_some(None);
-    };
-    let at = error.at();
-    let alike = read_refused(alloc, rules, text) == Some(error);
-    (alike && error.span() == Span::source(SOURCE, at, at)).then_some(Some((error.number(), at)))
-}
-
-// Writes each piece so many times.
-pub fn repeated(alloc: Global, pieces: &[(&str, usize)]) -> Option<String> {
-    let mut text = String::new(alloc);
-    for (piece, count) in pieces {
-        for _ in 0..*count {
-            text.push_str(piece).ok()?;
-        }
-    }
-    Some(text)
-}
-
-fn outcome_of_all(
-    alloc: Global,
-    rules: &Rules,
-    pieces: &[(&str, usize)],
-) -> Option<Option<(u8, usize)>> {
-    let text = repeated(alloc, pieces)?;
-    outcome(alloc, rules, text.as_str())
-}
-
-// Returns `true` if the printed trees of a text are read as these trees again. A marked text may read otherwise: in `+«/»/` the
-// mark parts two slashes. A space in front keeps `#!` from being read as the start of a script.
-fn is_read_again(alloc: Global, rules: &Rules, text: &str) -> Option<bool> {
+// Returns `true` if the printed trees of a text are read as these trees again. A marked text may
+// read otherwise: in `+«/»/` the mark parts two slashes. A space before them keeps `#!` from being
+// read as the start of a script.
+fn is_read_again(alloc: Global, rules: &Rules, stream: &TokenStream) -> Option<bool> {
     if let Rules::Marked = rules {
         return Some(true);
     }
-    let stream = trees(alloc, rules, text).ok()?;
     let printed = format!(in alloc; " {stream}").ok()?;
     let again = trees(alloc, rules, printed.as_str()).ok()?;
-    Some(TokenStreamHelper(&stream) == TokenStreamHelper(&again))
+    Some(TokenStreamHelper(stream) == TokenStreamHelper(&again))
 }
 
-// Checks the tokens of these texts, read both ways, and that they are read again as they are printed.
-pub fn all_read(rt: &(impl Abort + AllocGlobal), rules: &Rules, rows: &[(&str, &str)]) {
-    for (text, wanted) in rows {
-        let alloc = rt.alloc();
-        assert_eq!(rt;
-            is_line(alloc, rules, text, wanted),
-            Some(true),
-            "at {text}"
-        );
-        assert_eq!(rt; outcome(alloc, rules, text), Some(None), "at {text}");
-        assert_eq!(rt; is_read_again(alloc, rules, text), Some(true), "at {text}");
-    }
-}
-
-// Checks the number and the byte of the errors of these texts, read both ways.
-pub fn all_refused(rt: &(impl Abort + AllocGlobal), rules: &Rules, rows: &[(&str, u8, usize)]) {
-    for (text, number, at) in rows {
-        let found = outcome(rt.alloc(), rules, text);
-        assert_eq!(rt; found, Some(Some((*number, *at))), "at {text}");
-    }
-}
-
-// Checks that both ways read these texts alike, or reject them alike.
-pub fn all_alike(rt: &(impl Abort + AllocGlobal), rules: &Rules, rows: &[&str]) {
-    for text in rows {
-        assert!(rt; outcome(rt.alloc(), rules, text).is_some(), "at {text}");
-    }
-}
-
-// Checks the number and the byte of the errors, if any, of texts of repeated pieces, read both
-// ways.
-pub fn all_repeated(
-    rt: &(impl Abort + AllocGlobal),
+// Returns what is printed of a text that is read as these trees.
+fn answer_read(
+    alloc: Global,
+    goal: Goal,
     rules: &Rules,
-    rows: &[(&[(&str, usize)], Option<(u8, usize)>)],
-) {
-    for (pieces, wanted) in rows {
-        assert_eq!(rt; outcome_of_all(rt.alloc(), rules, pieces), Some(*wanted));
+    text: &str,
+    stream: &TokenStream,
+) -> Option<String> {
+    if !is_read_alike(alloc, rules, text)? || !is_read_again(alloc, rules, stream)? {
+        return format!(in alloc; "differs").ok();
+    }
+    match goal {
+        Goal::Tokens => line(alloc, stream),
+        Goal::Outcome => format!(in alloc; "read").ok(),
+        Goal::Words => format!(in alloc; "no error").ok(),
+        Goal::Alike => format!(in alloc; "alike").ok(),
+    }
+}
+
+// Returns what is printed of a text that is rejected with this error.
+fn answer_rejected(
+    alloc: Global,
+    goal: Goal,
+    rules: &Rules,
+    text: &str,
+    error: LexError,
+) -> Option<String> {
+    let (number, at) = (error.number(), error.at());
+    if read_refused(alloc, rules, text) != Some(error)
+        || error.span() != Span::source(SOURCE, at, at)
+    {
+        return format!(in alloc; "differs").ok();
+    }
+    match goal {
+        Goal::Tokens | Goal::Outcome => format!(in alloc; "L{number} at {at}").ok(),
+        Goal::Words => format!(in alloc; "L{number} {error}").ok(),
+        Goal::Alike => format!(in alloc; "alike").ok(),
+    }
+}
+
+/// Returns what is printed of a text, or `None` if an allocation fails.
+pub fn answer(alloc: Global, goal: Goal, rules: &Rules, text: &str) -> Option<String> {
+    match trees(alloc, rules, text) {
+        Ok(stream) => answer_read(alloc, goal, rules, text, &stream),
+        Err(LexFault::Refused(error)) => answer_rejected(alloc, goal, rules, text, error),
+        Err(LexFault::Memory) => None,
     }
 }
