@@ -1,7 +1,8 @@
 //! Compares what parsers return with a test's rows: a value's text, or an error's range and words.
-//! `memory` says how calls that allocate end.
+//! `memory` says how calls that allocate end, and `escapes` how texts stand in lines.
 #![tactic(auto)]
 
+pub mod escapes;
 pub mod memory;
 
 use std::alloc::Global;
@@ -58,6 +59,22 @@ pub fn is_said(alloc: Global, outcome: Result<String>, wanted: &str) -> bool {
     match outcome {
         Ok(text) => text.as_str() == wanted,
         Err(fault) => is_fault(alloc, fault, wanted),
+    }
+}
+
+/// Returns the text of a value, or `read` if it is empty; or the range and the words of the error.
+/// Returns `None` if an allocation fails.
+pub fn said(alloc: Global, outcome: Result<String>) -> Option<String> {
+    match outcome {
+        Ok(text) => {
+            if text.is_empty() {
+                format!(in alloc; "read").ok()
+            } else {
+                Some(text)
+            }
+        }
+        Err(Fault::Refused(error)) => words(alloc, &error),
+        Err(Fault::Memory(_)) => None,
     }
 }
 

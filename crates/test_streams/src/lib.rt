@@ -4,6 +4,4 @@
 #[cfg(test)]
 mod argument_lists;
 #[cfg(test)]
-mod said;
-#[cfg(test)]
 mod streams;

@@ -4,20 +4,19 @@
 //! A line of the input is `GOAL RULES TEXT`. The goal is `tokens`, which prints the tokens with
 //! their spans; `outcome`, which prints only that the text is read; `words`, which prints the words
 //! of an error; or `alike`, which prints neither. The rules are `plain`, `marked`, or the edition
-//! of a source. `escapes` says what stands for characters that a line can't show. A line that
+//! of a source. `escapes` of `test_outcomes` says what stands for characters that a line can't show. A line that
 //! begins with `#` is printed as it stands.
 //!
 //! Each text is read into trees, straight into a buffer, and once more as its trees are printed. If
 //! these differ, the line is `differs`.
 #![tactic(auto)]
 
-mod escapes;
 mod texts;
 
 use anyhow::{Context, Result};
-use escapes::unescaped;
 use std::alloc::Global;
 use std::io;
+use test_outcomes::escapes::unescaped;
 use texts::{Goal, Rules, answer};
 use tok_core::Edition;
 

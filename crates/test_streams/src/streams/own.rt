@@ -1,12 +1,9 @@
-//! Keywords of one's own, and errors at a span.
+//! Keywords of one's own as tokens, and what faults show.
 ghost use Rattle.std.specs.Prelude.{codes};
 
-use crate::said::all_said;
 use std::alloc::Global;
-use syn_parse::{Fault, Own, ParseStream, Parser, Result, Word};
-use test_outcomes::{READ, Sample, read};
-use tok_core::{Ident, Span, ToTokens};
-use tok_types::token::{self, Token};
+use syn_parse::{Fault, Own, Word};
+use tok_core::{Span, ToTokens};
 
 struct ServerWord;
 
@@ -37,84 +34,6 @@ impl Word for ArrowWord {
     fn display() -> &'static str {
         "`=>`"
     }
-}
-
-enum Read {
-    Server,
-    Optional,
-    Lookahead,
-    Arrow,
-    AtName,
-}
-
-impl Sample for Read {
-    fn run(&self, alloc: Global, text: &str) -> Result<String> {
-        match self {
-            Read::Server => read::<Server>.parse_str(alloc, text),
-            Read::Optional => optional.parse_str(alloc, text),
-            Read::Lookahead => looked.parse_str(alloc, text),
-            Read::Arrow => read::<Own<ArrowWord>>.parse_str(alloc, text),
-            Read::AtName => at_name.parse_str(alloc, text),
-        }
-    }
-}
-
-fn optional(input: ParseStream<'_, '_>) -> Result<String> {
-    let server: Option<Server> = input.parse()?;
-    let name: Ident = input.parse()?;
-    Ok(format!(in input.allocator(); "{} {}", server.is_some(), name.as_str())?)
-}
-
-fn looked(input: ParseStream<'_, '_>) -> Result<String> {
-    let mut lookahead = input.lookahead1();
-    if lookahead.peek::<Server>()? {
-        let server: Server = input.parse()?;
-        return Ok(format!(in input.allocator(); "{server}")?);
-    }
-    lookahead.peek::<token::Comma>()?;
-    Err(lookahead.error())
-}
-
-// Rejects a name at its span.
-fn at_name(input: ParseStream<'_, '_>) -> Result<String> {
-    let name: Ident = input.parse()?;
-    let alloc = input.allocator();
-    Err(Fault::at(
-        alloc,
-        name.span(),
-        format_args!("`{}` is taken", name.as_str()),
-    ))
-}
-
-#[test]
-fn words(rt: HostRuntime) {
-    all_said(
-        &rt,
-        &Read::Server,
-        &[
-            ("server", READ),
-            ("servers", "0..7 expected `server`"),
-            ("serve", "0..5 expected `server`"),
-            ("r#server", "0..8 expected `server`"),
-            ("", "call unexpected end of input, expected `server`"),
-        ],
-    );
-    all_said(
-        &rt,
-        &Read::Optional,
-        &[("server a", "true a"), ("servers", "false servers")],
-    );
-    all_said(
-        &rt,
-        &Read::Lookahead,
-        &[("server", "server"), ("a", "0..1 expected `server` or `,`")],
-    );
-    all_said(&rt, &Read::Arrow, &[("=>", "0..1 expected `=>`")]);
-}
-
-#[test]
-fn errors_at_a_span(rt: HostRuntime) {
-    all_said(&rt, &Read::AtName, &[("ab", "0..2 `ab` is taken")]);
 }
 
 // The text that is written, and whether two values are equal.

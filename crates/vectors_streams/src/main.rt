@@ -1,0 +1,55 @@
+//! Parses texts by the parsers that its lines name, and prints the values or the errors.
+//!
+//! A line of the input is `PARSER TEXT`, where the text may be empty; `escapes` of `test_outcomes`
+//! says what stands for characters that a line can't show. It prints the value as text, `read` if
+//! that is empty, or the range and the words of the error. A line that begins with `#` is printed
+//! as it stands.
+#![tactic(auto)]
+
+mod groups;
+mod hostile;
+mod lists;
+mod own;
+mod values;
+
+use anyhow::{Context, Result};
+use std::alloc::Global;
+use std::io;
+use test_outcomes::escapes::unescaped;
+use test_outcomes::said;
+
+fn main(rt: HostRuntime) -> Result<()> {
+    let alloc = rt.alloc();
+    let input = io::read_to_string(alloc, rt.stdin())?;
+    for line in input.lines() {
+        if line.starts_with('#') {
+            println!(rt; "{line}")?;
+        } else {
+            let answer = answer_to(alloc, line).context("a line is no case")?;
+            println!(rt; "{answer}")?;
+        }
+    }
+    Ok(())
+}
+
+// Returns what is printed for a line, or `None` if it is no case or an allocation fails.
+fn answer_to(alloc: Global, line: &str) -> Option<String> {
+    let (parser, text) = line.split_once(' ').unwrap_or((line, ""));
+    let text = unescaped(alloc, text)?;
+    said(alloc, parsed(alloc, parser, text.as_str())?)
+}
+
+// Parses a text by the parser of this name.
+fn parsed(alloc: Global, parser: &str, text: &str) -> Option<syn_parse::Result<String>> {
+    if let Some(returned) = values::parsed(alloc, parser, text) {
+        Some(returned)
+    } else if let Some(returned) = groups::parsed(alloc, parser, text) {
+        Some(returned)
+    } else if let Some(returned) = lists::parsed(alloc, parser, text) {
+        Some(returned)
+    } else if let Some(returned) = own::parsed(alloc, parser, text) {
+        Some(returned)
+    } else {
+        hostile::parsed(alloc, parser, text)
+    }
+}
