@@ -3,7 +3,7 @@ use std::alloc::Global;
 use syn_punctuated::{Pair, Punctuated};
 use test_outcomes::memory::{Stop, made};
 use tok_buffer::Error;
-use tok_core::{Ident, Span, ToTokens, TokenStream, TokenTree};
+use tok_core::{Span, ToTokens, TokenStream, lex};
 
 /// How many are there after the call, and whether an allocation failed.
 #[derive(Clone, Copy)]
@@ -17,15 +17,11 @@ fn error(alloc: Global) -> Result<Error, Stop> {
     made(Error::new(alloc, Span::call_site(), "x"))
 }
 
-/// Writes a stream of four identifiers, each so long that a copy of it allocates.
+/// Writes a stream of four groups, since a copy of each allocates.
 pub fn tokens(alloc: Global) -> Result<Kept, Stop> {
-    let mut names = TokenStream::new(alloc);
-    for _ in 0..4 {
-        let name = made(Ident::new(alloc, "a_long_identifier", Span::call_site()))?;
-        made(names.append(TokenTree::Ident(name)))?;
-    }
+    let groups = made(lex(alloc, 0, "(a) (b) (c) (d)"))?;
     let mut tokens = TokenStream::new(alloc);
-    let is_refused = names.to_tokens(&mut tokens).is_err();
+    let is_refused = groups.to_tokens(&mut tokens).is_err();
     Ok(Kept {
         count: tokens.trees().len(),
         is_refused,
