@@ -4,25 +4,55 @@
 #include <stdlib.h>
 #include <string.h>
 
+/* The library's structs may be larger than those of this header: that is what the samples are to
+ * show. So each is written into far more room than any version of it takes. */
+enum { SAMPLE_ROOM = 1024 };
+
 bool syn_tokens_matches(void) {
-    struct syn_tokens_entry entries[2];
-    struct syn_tokens_reading reading;
-    memset(entries, 0, sizeof entries);
-    memset(&reading, 0, sizeof reading);
-    syn_tokens_sample(entries, 2, &reading);
+    union {
+        struct syn_tokens_entry entries[2];
+        unsigned char room[SAMPLE_ROOM];
+    } first;
+    union {
+        struct syn_tokens_reading reading;
+        unsigned char room[SAMPLE_ROOM];
+    } second;
+    memset(&first, 0, sizeof first);
+    memset(&second, 0, sizeof second);
+    syn_tokens_sample(first.entries, 2, &second.reading);
     for (size_t i = 0; i < 2; i++) {
-        const struct syn_tokens_entry *it = &entries[i];
+        const struct syn_tokens_entry *it = &first.entries[i];
         if (it->kind != 1 || it->spacing != 2 || it->delimiter != 3 || it->start != 4 ||
             it->end != 5 || it->text_start != 6 || it->text_end != 7 || it->distance != 8)
             return false;
     }
-    return reading.status == 9 && reading.rule == 10 && reading.at == 11 && reading.entries == 12 &&
-           reading.bytes == 13;
+    const struct syn_tokens_reading *reading = &second.reading;
+    return reading->status == 9 && reading->rule == 10 && reading->at == 11 &&
+           reading->entries == 12 && reading->bytes == 13;
 }
 
+/* Nothing was read: the sizes say so, whatever an earlier turn has written into them. */
 static int ended(struct syn_tokens *tokens, uint32_t status) {
+    memset(&tokens->reading, 0, sizeof tokens->reading);
     tokens->reading.status = status;
+    if (tokens->texts != NULL)
+        tokens->texts[0] = 0;
     return (int)status;
+}
+
+/* Takes memory for so many entries and bytes, and a zero byte. Returns whether it is there. */
+static bool take(struct syn_tokens *tokens, size_t entries_room, size_t texts_room) {
+    if (entries_room > SIZE_MAX / sizeof *tokens->entries || texts_room == SIZE_MAX)
+        return false;
+    void *entries = realloc(tokens->entries, entries_room * sizeof *tokens->entries);
+    if (entries == NULL)
+        return false;
+    tokens->entries = entries;
+    char *texts = realloc(tokens->texts, texts_room + 1);
+    if (texts == NULL)
+        return false;
+    tokens->texts = texts;
+    return true;
 }
 
 int syn_tokens_read(struct syn_tokens *tokens, uint32_t rules, const char *text, size_t length) {
@@ -32,21 +62,19 @@ int syn_tokens_read(struct syn_tokens *tokens, uint32_t rules, const char *text,
     if ((text == NULL && length > 0) || !syn_tokens_matches())
         return ended(tokens, SYN_TOKENS_BAD_CALL);
     const uint8_t *bytes = (const uint8_t *)(length > 0 ? text : "");
-    /* Enough for most texts. The second turn has as much as the first one asked for. */
-    size_t entries_room = length / 2 + 16, texts_room = length + 128;
+    /* Enough for most sources. If that much memory is not there, the first turn says how much is
+     * needed: a rejected text needs almost none. The second turn has as much as the first one asked
+     * for. */
+    size_t entries_room = length / 3 + 16, texts_room = length + 128;
+    if (!take(tokens, entries_room, texts_room)) {
+        entries_room = 1;
+        texts_room = 128;
+        if (!take(tokens, entries_room, texts_room))
+            return ended(tokens, SYN_TOKENS_NO_MEMORY);
+    }
     for (;;) {
-        struct syn_tokens_entry *entries = NULL;
-        if (entries_room <= SIZE_MAX / sizeof *entries)
-            entries = realloc(tokens->entries, entries_room * sizeof *entries);
-        if (entries == NULL)
-            return ended(tokens, SYN_TOKENS_NO_MEMORY);
-        tokens->entries = entries;
-        char *texts = NULL;
-        if (texts_room < SIZE_MAX)
-            texts = realloc(tokens->texts, texts_room + 1);
-        if (texts == NULL)
-            return ended(tokens, SYN_TOKENS_NO_MEMORY);
-        tokens->texts = texts;
+        struct syn_tokens_entry *entries = tokens->entries;
+        char *texts = tokens->texts;
         struct syn_tokens_reading *reading = &tokens->reading;
         uint8_t *written = (uint8_t *)texts;
         if (rules == SYN_TOKENS_PLAIN)
@@ -63,6 +91,8 @@ int syn_tokens_read(struct syn_tokens *tokens, uint32_t rules, const char *text,
         }
         entries_room = reading->entries + 1;
         texts_room = reading->bytes;
+        if (!take(tokens, entries_room, texts_room))
+            return ended(tokens, SYN_TOKENS_NO_MEMORY);
     }
 }
 
@@ -84,8 +114,12 @@ int syn_tokens_run(struct syn_tokens_report *report, const char *input, size_t l
     size_t room = 4096;
     for (;;) {
         char *text = room == SIZE_MAX ? NULL : realloc(report->text, room + 1);
-        if (text == NULL)
+        if (text == NULL) {
+            report->size = 0;
+            if (report->text != NULL)
+                report->text[0] = 0;
             return report->status = SYN_TOKENS_NO_MEMORY;
+        }
         report->text = text;
         report->status = syn_tokens_respond(bytes, length, (uint8_t *)text, room, &report->size);
         if (report->size <= room) {

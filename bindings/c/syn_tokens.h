@@ -13,6 +13,10 @@
 #include <stddef.h>
 #include <stdint.h>
 
+#ifdef __cplusplus
+extern "C" {
+#endif
+
 enum syn_tokens_kind {
     SYN_TOKENS_IDENT = 0,
     SYN_TOKENS_PUNCT = 1,
@@ -68,14 +72,16 @@ struct syn_tokens_reading {
 
 /* ---- Checked calls ---- */
 
-/* What was read: as many entries and bytes as `reading` says. A zero byte follows the texts. */
+/* What was read: as many entries and bytes as `reading` says, and none of both unless its status is
+ * SYN_TOKENS_OK or SYN_TOKENS_REJECTED. A zero byte follows the texts, if `texts` is not null. */
 struct syn_tokens {
     struct syn_tokens_reading reading;
     struct syn_tokens_entry *entries;
     char *texts;
 };
 
-/* What the program prints, followed by a zero byte, and its status. */
+/* What the program prints, followed by a zero byte, and its status. After a failed allocation the
+ * status is SYN_TOKENS_NO_MEMORY, the size is 0, and `text` is empty or null. */
 struct syn_tokens_report {
     int status;
     size_t size;
@@ -111,5 +117,9 @@ uint8_t syn_tokens_respond(const uint8_t *input, size_t length, uint8_t *printed
                            size_t *size);
 void syn_tokens_sample(struct syn_tokens_entry *entries, size_t count,
                        struct syn_tokens_reading *reading);
+
+#ifdef __cplusplus
+}
+#endif
 
 #endif

@@ -68,7 +68,7 @@ impl Buffer {
     ///
     /// # Errors
     ///
-    /// Returns why the grammar rejects the text, or that an allocation failed inside the library.
+    /// Returns why the grammar rejects the text, or that an allocation failed.
     ///
     /// ```
     /// use syn_tokens::{Buffer, Error};
@@ -107,11 +107,14 @@ impl Buffer {
     }
 
     fn read(rules: Rules, text: &str) -> Result<Self, Error> {
-        let (reading, entries, texts) = ffi::lex(rules, text);
-        match reading.status {
-            ffi::READ => Ok(Buffer { entries, texts }),
-            _ => Err(Error::new(reading, texts)),
+        let (reading, mut entries, texts) = ffi::lex(rules, text)?;
+        if reading.status != ffi::READ {
+            return Err(Error::new(reading, texts));
         }
+        if matches!(rules, Rules::Source { .. }) && !text.is_ascii() {
+            start_closings_at_characters(&mut entries, text);
+        }
+        Ok(Buffer { entries, texts })
     }
 
     /// Returns a cursor at the first token.
@@ -295,6 +298,16 @@ impl<'b> Iterator for Groups<'b> {
 }
 
 impl FusedIterator for Groups<'_> {}
+
+// The closing bracket of a doc comment's attribute is at the last byte of the comment, which may be
+// inside a character.
+fn start_closings_at_characters(entries: &mut [Entry], text: &str) {
+    for closing in entries.iter_mut().filter(|it| it.kind == ffi::CLOSING) {
+        while !text.is_char_boundary(closing.start) {
+            closing.start -= 1;
+        }
+    }
+}
 
 fn span(entry: &Entry) -> Span {
     Span { start: entry.start, end: entry.end }

@@ -1,4 +1,5 @@
 //! Why a text is not read.
+use std::collections::TryReserveError;
 use std::fmt;
 
 use crate::ffi::{Reading, REJECTED};
@@ -16,7 +17,7 @@ pub enum Error {
         /// The rule in words.
         words: String,
     },
-    /// An allocation failed inside the library.
+    /// An allocation failed.
     Memory,
 }
 
@@ -26,6 +27,12 @@ impl Error {
             REJECTED => Error::Rejected { rule: reading.rule, at: reading.at, words },
             _ => Error::Memory,
         }
+    }
+}
+
+impl From<TryReserveError> for Error {
+    fn from(_: TryReserveError) -> Self {
+        Error::Memory
     }
 }
 

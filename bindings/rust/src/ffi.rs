@@ -1,7 +1,8 @@
 //! The calls of the static library. All `unsafe` of this package stands here.
 #![allow(unsafe_code)]
 
-use std::sync::Once;
+use std::collections::TryReserveError;
+use std::sync::atomic::{AtomicBool, Ordering};
 
 /// A leaf, an opening or a closing.
 #[repr(C)]
@@ -20,6 +21,7 @@ pub struct Entry {
 pub const IDENT: u32 = 0;
 pub const PUNCT: u32 = 1;
 pub const LITERAL: u32 = 2;
+pub const CLOSING: u32 = 4;
 
 /// What came of a text.
 #[repr(C)]
@@ -83,30 +85,35 @@ extern "C" {
     fn syn_tokens_sample(entries: *mut Entry, count: usize, reading: *mut Reading);
 }
 
-/// Stops if the structs of this module are not laid out as those of the library.
+/// Panics if the structs of this module are not laid out as those of the library.
 fn check_layout() {
-    static CHECKED: Once = Once::new();
-    CHECKED.call_once(|| {
-        let mut entries = [Entry::default(); 2];
-        let mut reading = Reading::default();
-        // The pointers are to live memory of these lengths, which is initialized and not shared.
-        unsafe { syn_tokens_sample(entries.as_mut_ptr(), entries.len(), &mut reading) };
-        let entry = Entry {
-            kind: 1,
-            spacing: 2,
-            delimiter: 3,
-            start: 4,
-            end: 5,
-            text_start: 6,
-            text_end: 7,
-            distance: 8,
-        };
-        let wanted = Reading { status: 9, rule: 10, at: 11, entries: 12, bytes: 13 };
-        assert!(
-            entries == [entry; 2] && reading == wanted,
-            "libsyn_tokens_c.a is of another version"
-        );
-    });
+    static IS_CHECKED: AtomicBool = AtomicBool::new(false);
+    if IS_CHECKED.load(Ordering::Relaxed) {
+        return;
+    }
+    // Far more room than any version of the library takes: its structs may be larger than these,
+    // which is what the samples are to show.
+    let mut entries = [0u64; 128];
+    let mut reading = [0u64; 128];
+    // SAFETY: The pointers are to live, initialized and aligned memory that is not shared, and that
+    // is larger than what the library writes. Any bytes are an `Entry` and a `Reading`.
+    let (entries, reading) = unsafe {
+        syn_tokens_sample(entries.as_mut_ptr().cast(), 2, reading.as_mut_ptr().cast());
+        (entries.as_ptr().cast::<[Entry; 2]>().read(), reading.as_ptr().cast::<Reading>().read())
+    };
+    let entry = Entry {
+        kind: 1,
+        spacing: 2,
+        delimiter: 3,
+        start: 4,
+        end: 5,
+        text_start: 6,
+        text_end: 7,
+        distance: 8,
+    };
+    let wanted = Reading { status: 9, rule: 10, at: 11, entries: 12, bytes: 13 };
+    assert!(entries == [entry; 2] && reading == wanted, "libsyn_tokens_c.a is of another version");
+    IS_CHECKED.store(true, Ordering::Relaxed);
 }
 
 /// Returns what the library has written as a text.
@@ -116,19 +123,27 @@ fn text_of(bytes: Vec<u8>) -> String {
 
 /// Reads a text, and returns what came of it, its entries and the texts of its leaves or the words
 /// of its error.
-pub fn lex(rules: Rules, text: &str) -> (Reading, Vec<Entry>, String) {
+pub fn lex(rules: Rules, text: &str) -> Result<(Reading, Vec<Entry>, String), TryReserveError> {
     check_layout();
-    // Enough for most texts. The second turn has as much as the first one asked for.
-    let mut entries: Vec<Entry> = Vec::with_capacity(text.len() / 2 + 16);
-    let mut bytes: Vec<u8> = Vec::with_capacity(text.len() + 128);
+    let mut entries: Vec<Entry> = Vec::new();
+    let mut bytes: Vec<u8> = Vec::new();
+    // Enough for most sources. If that much memory is not there, the first turn says how much is
+    // needed: a rejected text needs almost none. The second turn has as much as the first one asked
+    // for.
+    if entries.try_reserve_exact(text.len() / 3 + 16).is_err() {
+        entries.try_reserve_exact(1)?;
+    }
+    if bytes.try_reserve_exact(text.len() + 128).is_err() {
+        bytes.try_reserve_exact(128)?;
+    }
     loop {
         let mut reading = Reading::default();
         let (from, length) = (text.as_ptr(), text.len());
         let (to, room) = (entries.as_mut_ptr(), entries.capacity());
         let (texts, texts_room) = (bytes.as_mut_ptr(), bytes.capacity());
         let told = &mut reading;
-        // The pointers are to live memory of these lengths, which is not shared. The library reads
-        // the text alone, and only writes to the rest.
+        // SAFETY: The pointers are to live memory of these lengths, which is not shared. The library
+        // reads the text alone, and only writes to the rest.
         unsafe {
             match rules {
                 Rules::Plain => syn_tokens_lex(from, length, to, room, texts, texts_room, told),
@@ -141,33 +156,35 @@ pub fn lex(rules: Rules, text: &str) -> (Reading, Vec<Entry>, String) {
             }
         }
         if reading.status != NO_ROOM {
-            // The library has written so many, since there was room.
+            debug_assert!(reading.entries <= room && reading.bytes <= texts_room);
+            // SAFETY: The library has written so many, since there was room.
             unsafe {
                 entries.set_len(reading.entries);
                 bytes.set_len(reading.bytes);
             }
-            return (reading, entries, text_of(bytes));
+            return Ok((reading, entries, text_of(bytes)));
         }
-        entries.reserve(reading.entries);
-        bytes.reserve(reading.bytes);
+        entries.try_reserve_exact(reading.entries)?;
+        bytes.try_reserve_exact(reading.bytes)?;
     }
 }
 
 /// Answers an input as the program does, and returns its status and what it prints.
-pub fn respond(input: &[u8]) -> (u8, String) {
-    let mut printed: Vec<u8> = Vec::with_capacity(4096);
+pub fn respond(input: &[u8]) -> Result<(u8, String), TryReserveError> {
+    let mut printed: Vec<u8> = Vec::new();
+    printed.try_reserve_exact(4096)?;
     loop {
         let mut size = 0;
         let (to, room) = (printed.as_mut_ptr(), printed.capacity());
-        // The pointers are to live memory of these lengths, which is not shared. The library reads
-        // the input alone, and only writes to the rest.
+        // SAFETY: The pointers are to live memory of these lengths, which is not shared. The library
+        // reads the input alone, and only writes to the rest.
         let status =
             unsafe { syn_tokens_respond(input.as_ptr(), input.len(), to, room, &mut size) };
         if size <= room {
-            // The library has written so many bytes, since there was room.
+            // SAFETY: The library has written so many bytes, since there was room.
             unsafe { printed.set_len(size) };
-            return (status, text_of(printed));
+            return Ok((status, text_of(printed)));
         }
-        printed.reserve(size);
+        printed.try_reserve_exact(size)?;
     }
 }

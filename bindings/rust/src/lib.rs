@@ -36,4 +36,6 @@ pub use buffer::{
     Buffer, Cursor, Delimiter, Edition, Group, Groups, Leaf, Punct, Spacing, Span, Token,
 };
 pub use error::Error;
+#[cfg(feature = "proc-macro2")]
+pub use proc_macro2::UnknownToken;
 pub use respond::{respond, Response};

@@ -16,7 +16,7 @@ pub struct Response {
 ///
 /// # Errors
 ///
-/// Returns [`Error::Memory`] if an allocation fails inside the library.
+/// Returns [`Error::Memory`] if an allocation fails.
 ///
 /// ```
 /// let response = syn_tokens::respond(b"a b\n---\nparse 0 Ident\n")?;
@@ -25,7 +25,7 @@ pub struct Response {
 /// # Ok::<(), syn_tokens::Error>(())
 /// ```
 pub fn respond(input: &[u8]) -> Result<Response, Error> {
-    match ffi::respond(input) {
+    match ffi::respond(input)? {
         (3, _) => Err(Error::Memory),
         (status, text) => Ok(Response { status, text }),
     }

@@ -93,8 +93,33 @@ fn a_second_call_has_room_for_all() -> Result<(), Error> {
 #[test]
 fn streams_print_as_proc_macro2_reads_them() -> Result<(), Error> {
     let text = "fn r#f<'a>(x: &'a [u8; 2]) -> char { 'c' += b'x' }";
-    let stream = proc_macro2::TokenStream::from(Buffer::lex(text)?);
+    let stream = proc_macro2::TokenStream::try_from(Buffer::lex(text)?).map(|it| it.to_string());
     let read = text.parse::<proc_macro2::TokenStream>().map(|it| it.to_string());
-    assert_eq!(read.ok(), Some(stream.to_string()));
+    assert_eq!(read.ok(), stream.ok());
+    Ok(())
+}
+
+#[cfg(feature = "proc-macro2")]
+#[test]
+fn a_token_that_proc_macro2_does_not_know_is_an_error() -> Result<(), Error> {
+    for (text, unknown, start) in
+        [("f(c\"\\xff\", 1)", "c\"\\xff\"", 2), ("a \u{31350}", "\u{31350}", 2)]
+    {
+        let buffer = Buffer::lex_source(Edition::Edition2021, text)?;
+        // A newer version of proc_macro2 may know it.
+        if let Err(error) = proc_macro2::TokenStream::try_from(buffer) {
+            assert_eq!((error.text.as_str(), error.span.start), (unknown, start));
+        }
+    }
+    Ok(())
+}
+
+#[test]
+fn the_closing_of_a_doc_comment_is_a_character() -> Result<(), Error> {
+    let text = "/// é";
+    let buffer = Buffer::lex_source(Edition::Edition2021, text)?;
+    let closings: Vec<&str> =
+        buffer.tokens().groups().map(|it| &text[Range::from(it.close)]).collect();
+    assert_eq!(closings, ["é"]);
     Ok(())
 }

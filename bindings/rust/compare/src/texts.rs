@@ -199,8 +199,11 @@ fn class_of_rejected(rule: u32, text: &str, at: usize) -> &'static str {
 
 /// Whether proc-macro2's stream of a buffer has these tokens, at whatever spans.
 fn is_converted(buffer: &Buffer, tokens: &[Flat]) -> bool {
+    let Ok(stream) = TokenStream::try_from(buffer) else {
+        return false;
+    };
     let mut converted = Vec::new();
-    flatten_theirs(TokenStream::from(buffer), 0, &mut converted);
+    flatten_theirs(stream, 0, &mut converted);
     let same = |(a, b): (&Flat, &Flat)| a.kind == b.kind && a.text == b.text && a.joint == b.joint;
     converted.len() == tokens.len() && converted.iter().zip(tokens).all(same)
 }
