@@ -1,27 +1,38 @@
 //! Buffers of tokens, and cursors in them.
-use std::fmt;
-use std::iter::FusedIterator;
-use std::ops::Range;
-use std::str::FromStr;
+use alloc::string::String;
+use alloc::vec::Vec;
+use core::fmt;
+use core::hash::{Hash, Hasher};
+use core::iter::FusedIterator;
+use core::ops::Range;
+use core::str::FromStr;
 
 use crate::error::Error;
 use crate::ffi::{self, Entry, Rules};
 
-/// An edition of Rust.
+/// An edition of Rust. The default is the newest one.
 #[derive(Clone, Copy, Debug, Default, PartialEq, Eq, PartialOrd, Ord, Hash)]
+#[non_exhaustive]
 pub enum Edition {
+    /// Rust 2015.
     Edition2015,
+    /// Rust 2018.
     Edition2018,
-    #[default]
+    /// Rust 2021.
     Edition2021,
+    /// Rust 2024.
+    #[default]
     Edition2024,
 }
 
 /// What is around a group.
 #[derive(Clone, Copy, Debug, PartialEq, Eq, Hash)]
 pub enum Delimiter {
+    /// `( .. )`
     Parenthesis,
+    /// `{ .. }`
     Brace,
+    /// `[ .. ]`
     Bracket,
     /// An invisible group, as macros leave around the tokens that they insert.
     None,
@@ -30,15 +41,37 @@ pub enum Delimiter {
 /// Whether a punct is directly followed by another one that may belong to it.
 #[derive(Clone, Copy, Debug, PartialEq, Eq, Hash)]
 pub enum Spacing {
+    /// No punct follows directly, or one that cannot belong to it.
     Alone,
+    /// A punct follows directly.
     Joint,
 }
 
-/// Bytes of the text that was read.
+/// A range of bytes of the text that was read.
 #[derive(Clone, Copy, Debug, PartialEq, Eq, Hash)]
 pub struct Span {
+    /// The first byte.
     pub start: usize,
+    /// The byte after the last one.
     pub end: usize,
+}
+
+impl Span {
+    /// Returns the text at the span, where `text` is the text that was read.
+    ///
+    /// Returns `None` if `text` is another text, without these bytes. Spans of
+    /// [`Buffer::lex_marked`] count no marks, so they are no ranges of its text.
+    #[must_use]
+    pub fn source_text(self, text: &str) -> Option<&str> {
+        text.get(self.start..self.end)
+    }
+
+    /// Returns the span from the start of the one that begins first to the end of the one that
+    /// ends last.
+    #[must_use]
+    pub fn join(self, other: Span) -> Span {
+        Span { start: self.start.min(other.start), end: self.end.max(other.end) }
+    }
 }
 
 impl From<Span> for Range<usize> {
@@ -57,18 +90,23 @@ impl From<Span> for Range<usize> {
 /// assert_eq!(tokens.len(), 2);
 /// # Ok::<(), syn_tokens::Error>(())
 /// ```
-#[derive(Clone, PartialEq, Eq)]
+#[derive(Clone, Default, PartialEq, Eq, Hash)]
 pub struct Buffer {
     entries: Vec<Entry>,
     texts: String,
 }
 
 impl Buffer {
-    /// Reads a text.
+    /// Reads a text of the profile: no floats, no raw, byte and C strings, no doc comments. What is
+    /// left is read alike in each edition. A whole source is read by [`Buffer::lex_source`].
     ///
     /// # Errors
     ///
     /// Returns why the grammar rejects the text, or that an allocation failed.
+    ///
+    /// # Panics
+    ///
+    /// Panics if the library that is linked is of another version.
     ///
     /// ```
     /// use syn_tokens::{Buffer, Error};
@@ -86,6 +124,10 @@ impl Buffer {
     /// # Errors
     ///
     /// As [`Buffer::lex`].
+    ///
+    /// # Panics
+    ///
+    /// As [`Buffer::lex`].
     pub fn lex_marked(text: &str) -> Result<Self, Error> {
         Buffer::read(Rules::Marked, text)
     }
@@ -94,6 +136,10 @@ impl Buffer {
     /// shebang line mean nothing.
     ///
     /// # Errors
+    ///
+    /// As [`Buffer::lex`].
+    ///
+    /// # Panics
     ///
     /// As [`Buffer::lex`].
     pub fn lex_source(edition: Edition, text: &str) -> Result<Self, Error> {
@@ -118,16 +164,25 @@ impl Buffer {
     }
 
     /// Returns a cursor at the first token.
+    #[must_use]
     pub fn tokens(&self) -> Cursor<'_> {
         Cursor { entries: &self.entries, texts: &self.texts }
     }
 
+    /// Returns an iterator over the tokens: the same cursor.
+    #[must_use]
+    pub fn iter(&self) -> Cursor<'_> {
+        self.tokens()
+    }
+
     /// Returns how many leaves, openings and closings there are.
+    #[must_use]
     pub fn len(&self) -> usize {
         self.entries.len()
     }
 
     /// Returns `true` if there is no token.
+    #[must_use]
     pub fn is_empty(&self) -> bool {
         self.entries.is_empty()
     }
@@ -142,8 +197,9 @@ impl fmt::Debug for Buffer {
 impl FromStr for Buffer {
     type Err = Error;
 
+    /// Reads a whole source of the newest edition, as [`Buffer::lex_source`].
     fn from_str(text: &str) -> Result<Self, Error> {
-        Buffer::lex(text)
+        Buffer::lex_source(Edition::default(), text)
     }
 }
 
@@ -161,43 +217,63 @@ impl<'b> IntoIterator for &'b Buffer {
 pub struct Leaf<'b> {
     /// The text of the token. An identifier may begin with `r#`.
     pub text: &'b str,
+    /// Where the token is in the text that was read.
     pub span: Span,
 }
 
 /// A character of a punctuation, or the apostrophe of a lifetime.
 #[derive(Clone, Copy, Debug, PartialEq, Eq, Hash)]
 pub struct Punct {
+    /// The character.
     pub ch: char,
+    /// Whether another punct follows directly.
     pub spacing: Spacing,
+    /// Where the character is in the text that was read.
     pub span: Span,
 }
 
 /// A group.
-#[derive(Clone, Debug)]
+#[derive(Clone, Debug, PartialEq, Eq, Hash)]
 pub struct Group<'b> {
+    /// What is around the tokens.
     pub delimiter: Delimiter,
     /// A cursor at the first token inside.
     pub tokens: Cursor<'b>,
+    /// The span of the opening delimiter.
     pub open: Span,
+    /// The span of the closing delimiter.
     pub close: Span,
 }
 
+impl Group<'_> {
+    /// Returns the span from the opening delimiter to the closing one.
+    #[must_use]
+    pub fn span(&self) -> Span {
+        self.open.join(self.close)
+    }
+}
+
 /// A leaf or a group.
-#[derive(Clone, Debug)]
+#[derive(Clone, Debug, PartialEq, Eq, Hash)]
 pub enum Token<'b> {
+    /// An identifier, a keyword or `_`.
     Ident(Leaf<'b>),
+    /// A character of a punctuation.
     Punct(Punct),
+    /// A literal.
     Literal(Leaf<'b>),
+    /// A group of tokens.
     Group(Group<'b>),
 }
 
 impl Token<'_> {
     /// Returns the span of a leaf, or of a whole group.
+    #[must_use]
     pub fn span(&self) -> Span {
         match self {
             Token::Ident(leaf) | Token::Literal(leaf) => leaf.span,
             Token::Punct(punct) => punct.span,
-            Token::Group(group) => Span { start: group.open.start, end: group.close.end },
+            Token::Group(group) => group.span(),
         }
     }
 }
@@ -212,11 +288,13 @@ pub struct Cursor<'b> {
 
 impl<'b> Cursor<'b> {
     /// Returns `true` if no token is left.
+    #[must_use]
     pub fn eof(&self) -> bool {
         self.entries.is_empty()
     }
 
     /// Returns the next token, and stays before it.
+    #[must_use]
     pub fn peek(&self) -> Option<Token<'b>> {
         self.clone().next()
     }
@@ -231,6 +309,7 @@ impl<'b> Cursor<'b> {
     /// assert_eq!(found, [Delimiter::Parenthesis, Delimiter::Bracket]);
     /// # Ok::<(), syn_tokens::Error>(())
     /// ```
+    #[must_use]
     pub fn groups(self) -> Groups<'b> {
         Groups { tokens: self }
     }
@@ -243,6 +322,23 @@ impl<'b> Cursor<'b> {
 impl fmt::Debug for Cursor<'_> {
     fn fmt(&self, f: &mut fmt::Formatter<'_>) -> fmt::Result {
         f.debug_list().entries(self.clone()).finish()
+    }
+}
+
+/// Two cursors are equal if equal tokens are left, spans included, in whichever buffers.
+impl PartialEq for Cursor<'_> {
+    fn eq(&self, other: &Self) -> bool {
+        self.clone().eq(other.clone())
+    }
+}
+
+impl Eq for Cursor<'_> {}
+
+impl Hash for Cursor<'_> {
+    fn hash<H: Hasher>(&self, state: &mut H) {
+        for token in self.clone() {
+            token.hash(state);
+        }
     }
 }
 

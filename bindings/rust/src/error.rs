@@ -1,6 +1,7 @@
 //! Why a text is not read.
-use std::collections::TryReserveError;
-use std::fmt;
+use alloc::collections::TryReserveError;
+use alloc::string::String;
+use core::fmt;
 
 use crate::ffi::{Reading, REJECTED};
 
@@ -9,6 +10,7 @@ use crate::ffi::{Reading, REJECTED};
 #[non_exhaustive]
 pub enum Error {
     /// The grammar rejects the text.
+    #[non_exhaustive]
     Rejected {
         /// The number of the rule: 1 for L1.
         rule: u32,
@@ -45,4 +47,5 @@ impl fmt::Display for Error {
     }
 }
 
+#[cfg(feature = "std")]
 impl std::error::Error for Error {}

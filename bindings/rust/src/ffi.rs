@@ -1,12 +1,14 @@
 //! The calls of the static library. All `unsafe` of this package stands here.
 #![allow(unsafe_code)]
 
-use std::collections::TryReserveError;
-use std::sync::atomic::{AtomicBool, Ordering};
+use alloc::collections::TryReserveError;
+use alloc::string::String;
+use alloc::vec::Vec;
+use core::sync::atomic::{AtomicBool, Ordering};
 
 /// A leaf, an opening or a closing.
 #[repr(C)]
-#[derive(Clone, Copy, Debug, Default, PartialEq, Eq)]
+#[derive(Clone, Copy, Debug, Default, PartialEq, Eq, Hash)]
 pub struct Entry {
     pub kind: u32,
     pub spacing: u16,
@@ -148,7 +150,7 @@ pub fn lex(rules: Rules, text: &str) -> Result<(Reading, Vec<Entry>, String), Tr
             match rules {
                 Rules::Plain => syn_tokens_lex(from, length, to, room, texts, texts_room, told),
                 Rules::Marked => {
-                    syn_tokens_lex_marked(from, length, to, room, texts, texts_room, told)
+                    syn_tokens_lex_marked(from, length, to, room, texts, texts_room, told);
                 }
                 Rules::Source { year } => {
                     syn_tokens_lex_source(year, from, length, to, room, texts, texts_room, told);

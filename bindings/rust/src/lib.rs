@@ -10,7 +10,7 @@
 //! ```
 //! use syn_tokens::{Buffer, Token};
 //!
-//! let buffer = Buffer::lex("let x = (a + 1)..b['q'];")?;
+//! let buffer = Buffer::lex("let x = (a + 1)..b[2];")?;
 //! let mut words = Vec::new();
 //! for token in &buffer {
 //!     match token {
@@ -22,12 +22,19 @@
 //! assert_eq!(words, ["let", "x", "filled", "b", "filled"]);
 //! # Ok::<(), syn_tokens::Error>(())
 //! ```
-#![deny(unsafe_code)]
-#![warn(missing_debug_implementations)]
+#![no_std]
+#![deny(unsafe_code, unsafe_op_in_unsafe_fn)]
+#![warn(missing_debug_implementations, missing_docs)]
+
+extern crate alloc;
+#[cfg(feature = "std")]
+extern crate std;
 
 mod buffer;
 mod error;
 mod ffi;
+mod memory;
+mod print;
 #[cfg(feature = "proc-macro2")]
 mod proc_macro2;
 mod respond;
@@ -37,5 +44,5 @@ pub use buffer::{
 };
 pub use error::Error;
 #[cfg(feature = "proc-macro2")]
-pub use proc_macro2::UnknownToken;
+pub use self::proc_macro2::UnknownToken;
 pub use respond::{respond, Response};

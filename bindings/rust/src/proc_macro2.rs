@@ -1,6 +1,7 @@
 //! Buffers as token streams of `proc_macro2`.
 use ::proc_macro2::{self as other, TokenStream, TokenTree};
-use std::fmt;
+use alloc::string::{String, ToString};
+use core::fmt;
 
 use crate::buffer::{Buffer, Cursor, Delimiter, Group, Leaf, Punct, Spacing, Span, Token};
 
@@ -20,6 +21,7 @@ impl fmt::Display for UnknownToken {
     }
 }
 
+#[cfg(feature = "std")]
 impl std::error::Error for UnknownToken {}
 
 impl TryFrom<Buffer> for TokenStream {
@@ -73,11 +75,10 @@ fn word(leaf: Leaf<'_>) -> Result<other::Ident, UnknownToken> {
 }
 
 fn is_one_ident(text: &str) -> bool {
-    let Ok(stream) = text.parse::<TokenStream>() else {
-        return false;
-    };
-    let mut trees = stream.into_iter();
-    matches!((trees.next(), trees.next()), (Some(TokenTree::Ident(_)), None))
+    text.parse::<TokenStream>().map_or(false, |stream| {
+        let mut trees = stream.into_iter();
+        matches!((trees.next(), trees.next()), (Some(TokenTree::Ident(_)), None))
+    })
 }
 
 fn literal(leaf: Leaf<'_>) -> Result<other::Literal, UnknownToken> {

@@ -1,4 +1,6 @@
 //! Commands over the tokens of a text.
+use alloc::string::String;
+
 use crate::error::Error;
 use crate::ffi;
 

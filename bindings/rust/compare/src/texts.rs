@@ -199,11 +199,11 @@ fn class_of_rejected(rule: u32, text: &str, at: usize) -> &'static str {
 
 /// Whether proc-macro2's stream of a buffer has these tokens, at whatever spans.
 fn is_converted(buffer: &Buffer, tokens: &[Flat]) -> bool {
-    let Ok(stream) = TokenStream::try_from(buffer) else {
-        return false;
-    };
     let mut converted = Vec::new();
-    flatten_theirs(stream, 0, &mut converted);
+    match TokenStream::try_from(buffer) {
+        Ok(stream) => flatten_theirs(stream, 0, &mut converted),
+        Err(_) => return false,
+    }
     let same = |(a, b): (&Flat, &Flat)| a.kind == b.kind && a.text == b.text && a.joint == b.joint;
     converted.len() == tokens.len() && converted.iter().zip(tokens).all(same)
 }
@@ -225,7 +225,7 @@ fn compare(rules: &str, text: &str, turned: bool, tally: &mut Tally) {
         }
         (Err(_), None) => ("both reject", String::new()),
         (Ok(buffer), None) => (class_of_read(rules, text), format!("{buffer:?}")),
-        (Err(Error::Rejected { rule, at, words }), Some(theirs)) => {
+        (Err(Error::Rejected { rule, at, words, .. }), Some(theirs)) => {
             (class_of_rejected(rule, text, at), format!("L{rule} {words} at {at}\n    {theirs:?}"))
         }
         (Err(error), Some(_)) => ("UNLISTED: memory", error.to_string()),
