@@ -1,8 +1,43 @@
-/* The checked calls, over the proved ones. */
+/* The checked calls, over the proved ones, and the calls by which the library takes memory. */
 #include "syn_tokens.h"
 
 #include <stdlib.h>
 #include <string.h>
+
+/* The library calls these three by their names. They are hidden, so that a shared library in which
+ * this file is linked does not export them. */
+#if defined(__GNUC__)
+#define HIDDEN __attribute__((visibility("hidden")))
+#else
+#define HIDDEN
+#endif
+
+/* Whether there is memory, and where it is. The pointer is never null. */
+struct tried {
+    bool ok;
+    void *block;
+};
+
+HIDDEN struct tried rattle_alloc(size_t size, size_t align);
+HIDDEN struct tried rattle_realloc(void *block, size_t kept, size_t size, size_t align);
+HIDDEN void rattle_dealloc(void *block);
+
+static struct tried tried(void *block) {
+    static char nothing[16];
+    return (struct tried){block != NULL, block != NULL ? block : nothing};
+}
+
+/* No more is asked of the alignment than that it divides 16. */
+struct tried rattle_alloc(size_t size, size_t align) {
+    return tried(malloc(size > 0 ? size : align));
+}
+
+struct tried rattle_realloc(void *block, size_t kept, size_t size, size_t align) {
+    (void)kept;
+    return tried(realloc(block, size > 0 ? size : align));
+}
+
+void rattle_dealloc(void *block) { free(block); }
 
 /* The library's structs may be larger than those of this header: that is what the samples are to
  * show. So each is written into far more room than any version of it takes. */

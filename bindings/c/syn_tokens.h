@@ -4,8 +4,9 @@
  * memory. Each has one call that frees it. They stand in syn_tokens.c, over the proved calls of
  * libsyn_tokens_c.a, which write into memory that the caller lends.
  *
- * Link syn_tokens.c, libsyn_tokens_c.a and the toolchain's liblibc_c.a. `malloc` and `realloc` must
- * align a block to each power of two up to 16 that divides its size. */
+ * Link libsyn_tokens.a of a release, or syn_tokens.c and libsyn_tokens_c.a. The library takes
+ * memory by `malloc` and `realloc`, which must align a block to each power of two up to 16 that
+ * divides its size. */
 #ifndef SYN_TOKENS_H
 #define SYN_TOKENS_H
 
@@ -16,6 +17,10 @@
 #ifdef __cplusplus
 extern "C" {
 #endif
+
+/* The version of this header: 1000 * major + minor. `syn_tokens_matches` says whether the library's
+ * structs are those of this header. */
+#define SYN_TOKENS_VERSION 1
 
 enum syn_tokens_kind {
     SYN_TOKENS_IDENT = 0,
