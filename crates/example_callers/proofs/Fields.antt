@@ -53,8 +53,8 @@ pub field_keeps_scope :
     ReadsKeepScope → (s t : State) (x : Field) → FieldParses s (Ok x) t →
     same_scope s.place t.place ≡ true
 field_keeps_scope on =
-    field_leads (λ p q. same_scope p q ≡ true) on.along (on.words accept_as_ident)
-    (on.punctuations (codes ":"))
+    field_leads (λ p q. same_scope p q ≡ true) on.along (on.calls.leaves.words accept_as_ident)
+    (on.calls.leaves.punctuations (codes ":"))
 
 module _ (s : State) where
   -- the error of a field, by what is read of its name, and then of its colon

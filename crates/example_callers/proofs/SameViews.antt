@@ -33,7 +33,7 @@ map_is_some f (Some x) = refl
 same_names : ViewsDecide → (b c : Laid) (p q : Place) → SameView b c p q
     → is_some (read_ident p) ≡ is_some (read_ident q)
 same_names decide b c p q s =
-    sym (map_is_some _ (read_ident p)) ∙ ap is_some (decide b c p q s).idents
+    sym (map_is_some _ (read_ident p)) ∙ ap is_some (decide b c p q s).leaves.idents
     ∙ map_is_some _ (read_ident q)
 
 -- so a name comes second in both or in neither

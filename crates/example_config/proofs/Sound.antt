@@ -12,7 +12,6 @@ use Rattle.tok_leaves.specs.declared.punct.Spacing.{Spacing}
 use Rattle.tok_leaves.specs.declared.span.Span.{Span}
 use Rattle.tok_values.specs.Values.{integer_value, string_value}
 use Rattle.tok_core.specs.Forest.{Tree, leaf, Forest, forest, concat, tree}
-use Rattle.tok_types.specs.Sees.{first_word}
 use Rattle.syn_parse.proofs.Shapes.{IsSign, before, found_first, found_second, ident_shape}
 use Rattle.syn_parse.proofs.Shapes.{literal_shape, own_shape, sign_shape, then_found}
 use Rattle.syn_parse.proofs.TakenTrees.{IsGroup, IsTaken, given_taken, nested_taken, refuses_taken}
@@ -35,6 +34,7 @@ use Rattle.example_config.specs.Reading.{in_integer, in_number, in_text, meaning
 use Rattle.example_config.specs.Reading.{setting_step, take_list_value, take_literal_value, take_map_value}
 use Rattle.example_config.specs.Reading.{take_meaning, take_plain, take_setting, take_truth, take_value}
 use Rattle.example_config.specs.Reading.{value_step}
+use Rattle.tok_buffer.specs.EachRead.{first_keyword}
 
 -- a literal that means a value is the value's text or number
 module _ (literal : Literal) (a b : Ahead) (v : Form) where
@@ -135,7 +135,7 @@ module _ (m : Taking Form) (h : IsTaken IsValue m) where
       → sees_own (codes "include") (before (leaf (ident_of key) ∷ []) c) ≡ true
   unfolding own_first
   include_seen key c e =
-      ap (λ word. is_some (first_word (codes "include")
+      ap (λ word. is_some (first_keyword (codes "include")
       (tree (leaf (ident word key.span)) c.trees))) e
 
   setting_sound : IsTaken IsSetting (setting_step m)

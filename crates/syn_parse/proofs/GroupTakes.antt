@@ -14,8 +14,8 @@ use Rattle.tok_core.specs.Filled.{has_trees}
 use Rattle.tok_core.specs.Forest.{Forest, leaf, group, no_trees, tree}
 use Rattle.tok_core.specs.Weight.{weight}
 use Rattle.tok_buffer.specs.Ahead.{Leftover, left_of, leftover}
-use Rattle.tok_buffer.specs.Entry.{Entered, enter, same_delimiter}
-use Rattle.tok_buffer.specs.InFront.{EnteredAhead, entered_ahead, first_group, first_tree_span}
+use Rattle.tok_buffer.specs.Entry.{Entered, enter, same_delimiter, EnteredWith}
+use Rattle.tok_buffer.specs.InFront.{entered_ahead, first_group, first_tree_span}
 use Rattle.tok_buffer.specs.Place.{Place}
 use Rattle.tok_buffer.specs.Messages.{first_text}
 use Rattle.tok_buffer.specs.Reached.{Reached}
@@ -96,7 +96,7 @@ both-filled d v p e h i =
 -- after a group is the scope that it is in
 after-scope : (d : Delimiter) (p : Place) (e : Entered) → enter d p ≡ Some e
     → scope_of e.after ≡ scope_of p
-after-scope d p e h = one_scope p e.after (reads_keep_scope.groups d p e h)
+after-scope d p e h = one_scope p e.after (reads_keep_scope.calls.groups d p e h)
 
 after-remains : (d : Delimiter) (p : Place) (e : Entered) → enter d p ≡ Some e
     → remaining e.after ≤ remaining p
@@ -128,12 +128,12 @@ module _ {T A : Type 0} (form : T → A) (inner : Taking A) (calls : Call T)
       ap (inside_first d inner (ahead s))
       (sym ((ahead_tells s.place).enters d visible) ∙ ap (option_map entered_ahead) h)
 
-  inside-missing : (e : EnteredAhead) (o : Outcome A) → IsMissing o
+  inside-missing : (e : EnteredWith Forest) (o : Outcome A) → IsMissing o
       → IsMissing (after_inside (ahead s) e o)
   inside-missing e (found v b) h = h
   inside-missing e (missing words) h = h
 
-  inside-says : (e : EnteredAhead) (o : Outcome A) (f : Fault) → Says o f
+  inside-says : (e : EnteredWith Forest) (o : Outcome A) (f : Fault) → Says o f
       → Says (after_inside (ahead s) e o) f
   inside-says e o (Refused d) h = ap (after_inside (ahead s) e) h
   inside-says e o (Memory d) h = tt
@@ -224,12 +224,12 @@ module _ {T A : Type 0} (Is : T → A → Type 0) (inner : Taking A) (calls : Ca
       ap (inside_first d inner (ahead s))
       (sym ((ahead_tells s.place).enters d visible) ∙ ap (option_map entered_ahead) h)
 
-  inside-missing-by : (e : EnteredAhead) (o : Outcome A) → IsMissing o
+  inside-missing-by : (e : EnteredWith Forest) (o : Outcome A) → IsMissing o
       → IsMissing (after_inside (ahead s) e o)
   inside-missing-by e (found v b) h = h
   inside-missing-by e (missing words) h = h
 
-  inside-says-by : (e : EnteredAhead) (o : Outcome A) (f : Fault) → Says o f
+  inside-says-by : (e : EnteredWith Forest) (o : Outcome A) (f : Fault) → Says o f
       → Says (after_inside (ahead s) e o) f
   inside-says-by e o (Refused d) h = ap (after_inside (ahead s) e) h
   inside-says-by e o (Memory d) h = tt
@@ -312,7 +312,7 @@ same-is delimiter.Bracket delimiter.Bracket h = refl
 same-is delimiter.None delimiter.None h = refl
 same-is d c h = absurd (false≢true h)
 
-first-delimiter : (d : Delimiter) (f : Forest) (e : EnteredAhead) → first_group d f ≡ Some e
+first-delimiter : (d : Delimiter) (f : Forest) (e : EnteredWith Forest) → first_group d f ≡ Some e
     → e.delimiter ≡ d
 first-delimiter d no_trees e h = absurd (cc)
 first-delimiter d (tree (leaf l) f) e h = absurd (cc)
@@ -323,7 +323,7 @@ first-delimiter d (tree (group c inside span) f) e h = go (same_delimiter d c) r
       → e.delimiter ≡ d
   go true k m =
       let x : record { delimiter = c; span = span; content = inside; after = f } ≡ e = cc in
-      subst (λ (y : EnteredAhead). y.delimiter ≡ d) x (same-is d c k)
+      subst (λ (y : EnteredWith Forest). y.delimiter ≡ d) x (same-is d c k)
   go false k m = absurd (cc)
 
 -- a group is entered

@@ -16,8 +16,9 @@ use Rattle.tok_buffer.specs.Place.{Place}
 use Rattle.tok_buffer.specs.Reads.{read_keyword}
 use Rattle.tok_buffer.specs.View.{erased_ahead}
 use Rattle.tok_types.specs.Looks.{Finds}
+use Rattle.tok_buffer.proofs.View.Readings.{of_keyword}
 use Rattle.tok_buffer.proofs.View.Tells.{tells}
-use Rattle.tok_types.proofs.Seen.{found_as, of_first_word}
+use Rattle.tok_types.proofs.Seen.{found_as}
 use Rattle.syn_parse.specs.Owned.{is_word, own_first, own_word, take_own}
 use Rattle.syn_parse.specs.Parses.{WordParses}
 use Rattle.syn_parse.specs.State.{State}
@@ -29,7 +30,7 @@ use Rattle.syn_parse.proofs.Told.{word_told}
 pub own_seen : (text : List ℕ) (p : Place) (b : Bool) → Finds (read_keyword text) p b
     → b ≡ own_first text (erased_ahead p)
 unfolding own_first
-own_seen text p b h = h ∙ found_as _ _ _ (tells (of_first_word text) p)
+own_seen text p b h = h ∙ found_as _ _ _ (tells (of_keyword text) p)
 
 pub own_told : {T : Type 0} (span_of : T
     → Span) (text : List ℕ) (s : State) (r : Result T Fault) (t : State)

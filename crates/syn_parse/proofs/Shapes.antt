@@ -21,13 +21,14 @@ use Rattle.tok_leaves.specs.Leaves.{punct_of}
 use Rattle.tok_core.specs.Clear.{is_joint_apostrophe}
 use Rattle.tok_core.specs.Forest.{Tree, leaf, group, Forest, no_trees, tree, forest, concat}
 use Rattle.tok_core.specs.Forest.{tree_span}
-use Rattle.tok_buffer.specs.Entry.{same_delimiter}
-use Rattle.tok_buffer.specs.InFront.{EnteredAhead, and_first, first_group, first_if, first_puncts}
+use Rattle.tok_buffer.specs.EachRead.{and_first, first_if, first_keyword, first_lifetime}
+use Rattle.tok_buffer.specs.EachRead.{first_puncts}
+use Rattle.tok_buffer.specs.Entry.{same_delimiter, EnteredWith}
+use Rattle.tok_buffer.specs.InFront.{first_group}
 use Rattle.tok_buffer.specs.Reads.{any_text, is_ident as any_ident, is_ident_of, is_joint_of}
 use Rattle.tok_buffer.specs.Reads.{is_literal, is_punct, is_punct_of}
 use Rattle.tok_types.specs.Texts.{accept_as_ident, keyword_text, punctuation_word}
 use Rattle.tok_types.specs.declared.punctuation.Punctuation.{Punctuation}
-use Rattle.tok_types.specs.Sees.{first_lifetime, first_word}
 use Rattle.syn_parse.specs.Parses.{AreSpans, IsIdent, IsLifetime, IsLiteral, IsPunct, IsSpanOf}
 use Rattle.syn_parse.specs.Parses.{accept_as_lifetime}
 use Rattle.syn_parse.specs.Owned.{take_own}
@@ -302,9 +303,9 @@ is_word text span ts i = (
 )
 
 a_word : (text : List ℕ) (c : ℕ) (cs : List ℕ) → text ≡ c ∷ cs
-    → ReadShape (first_word text) (One (is_ident_of (bytes_eq text)))
+    → ReadShape (first_keyword text) (One (is_ident_of (bytes_eq text)))
 a_word text c cs e =
-    subst (λ t. ReadShape (first_word t) (One (is_ident_of (bytes_eq t)))) (sym e) (first_tree _)
+    subst (λ t. ReadShape (first_keyword t) (One (is_ident_of (bytes_eq t)))) (sym e) (first_tree _)
 
 -- a keyword of the table
 pub keyword_shape : (k c : ℕ) (cs : List ℕ) → keyword_text k ≡ c ∷ cs
@@ -413,7 +414,8 @@ itself delimiter.Bracket = refl
 itself delimiter.None = refl
 
 module _ {A : Type 0} (d : Delimiter) (inner : Taking A) where
-  inside_taken : (a : Ahead) (e : EnteredAhead) (b : Ahead) (v : DelimSpan × A) (o : Outcome A)
+  inside_taken : (a : Ahead) (e : EnteredWith Forest) (b : Ahead) (v : DelimSpan × A)
+      (o : Outcome A)
       → inner (record { trees = e.content; clean = true }) ≡ o → after_inside a e o ≡ found v b
       → a.trees ≡ tree (group d e.content e.span) e.after → GroupTaken d inner v a b
   inside_taken a e b v (missing words) h k m = absurd (cc)
@@ -430,7 +432,7 @@ module _ {A : Type 0} (d : Delimiter) (inner : Taking A) where
         clean = sym (ap (λ (x : Ahead). x.clean) after);
       }
 
-  group_is_first : (f : Forest) (e : EnteredAhead) → first_group d f ≡ Some e
+  group_is_first : (f : Forest) (e : EnteredWith Forest) → first_group d f ≡ Some e
       → f ≡ tree (group d e.content e.span) e.after
   group_is_first no_trees e h = absurd (cc)
   group_is_first (tree (leaf l) f) e h = absurd (cc)
@@ -443,13 +445,13 @@ module _ {A : Type 0} (d : Delimiter) (inner : Taking A) where
     go true k m =
         let x : record { delimiter = c; span = span; content = content; after = f } ≡ e = cc in
         ap (λ z. tree (group z content span) f) (same_is d c k)
-        ∙ ap (λ (y : EnteredAhead). tree (group d y.content y.span) y.after) x
+        ∙ ap (λ (y : EnteredWith Forest). tree (group d y.content y.span) y.after) x
 
   pub group_taken : (a b : Ahead) (v : DelimSpan × A) → take_group d inner a ≡ found v b
       → GroupTaken d inner v a b
   unfolding take_group
   group_taken a b v e = go (first_group d a.trees) refl e where
-    go : (x : Option EnteredAhead) → first_group d a.trees ≡ x → inside_first d inner a x
+    go : (x : Option (EnteredWith Forest)) → first_group d a.trees ≡ x → inside_first d inner a x
         ≡ found v b
         → GroupTaken d inner v a b
     go None h k = absurd (cc)
@@ -461,7 +463,7 @@ module _ {A : Type 0} (d : Delimiter) (inner : Taking A) where
       ≡ found (record { join = span }, x) b
   unfolding take_group
   takes_group content span x b h =
-      let e : EnteredAhead = record {
+      let e : EnteredWith Forest = record {
         delimiter = d;
         span = span;
         content = content;

@@ -2,11 +2,12 @@
 use Rattle.std.proofs.Common.{◌≡◌, ◌∙◌, sym, ap, refl, Bool, false, Option, Some, None}
 use Rattle.std.specs.Prelude.{option_map}
 use Rattle.tok_core.specs.Forest.{Forest, no_trees, tree}
+use Rattle.tok_buffer.specs.EachRead.{first_lifetime}
 use Rattle.tok_buffer.specs.Place.{Place}
 use Rattle.tok_buffer.specs.Reads.{any_text, skip}
 use Rattle.tok_buffer.specs.View.{erased_ahead}
 use Rattle.tok_buffer.proofs.View.Tells.{past_first, past_front, skip_tells as skip_passes}
-use Rattle.tok_types.specs.Sees.{Sees, first_lifetime}
+use Rattle.tok_types.specs.Sees.{Sees}
 use Rattle.syn_parse.specs.Skips.{past_token, past_tree, second_sees}
 
 past-front-is : (f : Forest) → past_front f ≡ past_tree f

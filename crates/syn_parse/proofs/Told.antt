@@ -10,7 +10,8 @@ use Rattle.tok_leaves.specs.declared.punct.Punct.{Punct}
 use Rattle.tok_leaves.specs.declared.span.Span.{Span}
 use Rattle.tok_core.specs.Filled.{has_trees}
 use Rattle.tok_core.specs.Forest.{Tree, Forest, tree_span}
-use Rattle.tok_buffer.specs.InFront.{with_ahead, first_if, first_puncts}
+use Rattle.tok_buffer.specs.EachRead.{first_if, first_keyword, first_lifetime, first_puncts}
+use Rattle.tok_buffer.specs.InFront.{with_ahead}
 use Rattle.tok_buffer.specs.Buffer.{Laid}
 use Rattle.tok_buffer.specs.Messages.{first_text}
 use Rattle.tok_buffer.specs.Place.{Place, is_at_end}
@@ -26,12 +27,11 @@ use Rattle.tok_buffer.proofs.View.InFront.{ahead_tells_ends}
 use Rattle.tok_buffer.proofs.View.Laws.{reached_leads_on}
 use Rattle.tok_buffer.proofs.View.Moves.{LeadsTo, leads}
 use Rattle.tok_buffer.proofs.View.Readings.{Reading, of_ident, of_word, of_lifetime, of_literal}
+use Rattle.tok_buffer.proofs.View.Readings.{of_keyword}
 use Rattle.tok_buffer.proofs.View.Readings.{of_punct, of_punctuation}
 use Rattle.tok_buffer.proofs.View.Tells.{tells}
 use Rattle.tok_types.specs.Printed.{first_span}
-use Rattle.tok_types.specs.Sees.{first_lifetime, first_word}
 use Rattle.tok_types.specs.Texts.{accept_as_ident, in_backquotes, keyword_text, punctuation_word}
-use Rattle.tok_types.proofs.Seen.{of_first_word}
 use Rattle.tok_types.specs.declared.keyword.Keyword.{Keyword}
 use Rattle.tok_types.specs.declared.punctuation.Punctuation.{Punctuation}
 use Rattle.tok_types.specs.declared.underscore.Underscore.{Underscore}
@@ -245,12 +245,12 @@ any_lifetime_told s r t h =
 module _ {T A : Type 0} (form : T → A) (span_of : T → Span) (means : List Tree → A) (text : List ℕ)
     (fits : (v : T) (ts : List Tree) → IsSpanOf text (span_of v) ts → form v ≡ means ts) where
   pub word_told : (s : State) (r : Result T Fault) (t : State) → WordParses span_of text s r t
-      → TakesAs form (take_by (first_word text) means (or_end (expected (in_backquotes text)))) s r
-      t
+      → TakesAs form (take_by (first_keyword text) means (or_end (expected (in_backquotes text))))
+      s r t
   word_told s r t h =
       let words = expected (in_backquotes text) in
-      told-at-once form (λ v. IsSpanOf text (span_of v)) means fits (first_word text) (or_end words)
-      (refused_at s words) s t (words_told words s) (of_first_word text) r h
+      told-at-once form (λ v. IsSpanOf text (span_of v)) means fits (first_keyword text)
+      (or_end words) (refused_at s words) s t (words_told words s) (of_keyword text) r h
 
 pub keyword_told : (k : ℕ) (s : State) (r : Result (Keyword k) Fault) (t : State)
     → KeywordParses k s r t → Takes (take_keyword k) s r t

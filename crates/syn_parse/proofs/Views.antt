@@ -42,13 +42,13 @@ views_decide_words b c s t v =
           same-words b c ident_words
           (λ ts. codes "expected identifier, found keyword " ++ in_backquotes (name_in ts))
           (λ r. refl)
-          (read_ident s.place) (read_ident t.place) calls.idents;
+          (read_ident s.place) (read_ident t.place) calls.leaves.idents;
       lifetimes =
           same-words b c lifetime_words
           (λ ts. codes "unexpected keyword lifetime \"'" ++ (name_in ts ++ codes "\""))
           (λ r. refl)
           (read_lifetime any_text s.place) (read_lifetime any_text t.place)
-          (calls.lifetimes any_text);
+          (calls.leaves.lifetimes any_text);
       punctuations = λ text. refl;
     }
 

@@ -7,14 +7,15 @@ use Rattle.tok_leaves.specs.declared.span.DelimSpan.{DelimSpan}
 use Rattle.tok_core.specs.Forest.{Tree, leaf, group, Forest, no_trees, tree}
 use Rattle.tok_core.specs.Weight.{weight, tree_weight}
 use Rattle.tok_core.specs.Clear.{is_joint_apostrophe}
-use Rattle.tok_buffer.specs.Entry.{same_delimiter}
-use Rattle.tok_buffer.specs.InFront.{EnteredAhead, first_if, first_group, first_puncts, and_first}
+use Rattle.tok_buffer.specs.EachRead.{and_first, first_if, first_keyword, first_lifetime}
+use Rattle.tok_buffer.specs.EachRead.{first_puncts}
+use Rattle.tok_buffer.specs.Entry.{same_delimiter, EnteredWith}
+use Rattle.tok_buffer.specs.InFront.{first_group}
 use Rattle.tok_buffer.specs.Reads.{is_ident_of, is_joint_of, is_punct_of}
 use Rattle.syn_parse.specs.TreesAhead.{Ahead}
 use Rattle.syn_parse.specs.Takings.{Lightens, Lowers}
 use Rattle.syn_parse.specs.Takes.{Outcome, Taking, found, missing, and_then, ◌>>=◌, gives, where_ahead}
 use Rattle.syn_parse.specs.Takes.{or_end, read_as, refuses, take_by, take_group, after_inside, inside_first}
-use Rattle.tok_types.specs.Sees.{first_lifetime, first_word}
 use Rattle.syn_parse.specs.Tokens.{take_any_ident, take_any_lifetime, take_ident, take_keyword}
 use Rattle.syn_parse.specs.Tokens.{take_lifetime, take_literal, take_punct, take_punctuation}
 use Rattle.syn_parse.specs.Owned.{take_own}
@@ -84,7 +85,7 @@ if-shorter wanted (tree t f) r e = go (wanted t) e where
   go true e = subst (λ g. weight g < weight (tree t f)) (some-rest e) (omega (arith, tree-counts t))
   go false e = absurd (cc)
 
-word-shorter : (text : List ℕ) → Shorter (first_word text)
+word-shorter : (text : List ℕ) → Shorter (first_keyword text)
 word-shorter [] f r e = absurd (cc)
 word-shorter (c ∷ cs) f r e = if-shorter (is_ident_of (bytes_eq (c ∷ cs))) f r e
 
@@ -144,7 +145,7 @@ lowers_punct = by-lowers _ _ _ (if-shorter _)
 pub lowers_underscore : Lowers take_underscore
 unfolding take_underscore
 lowers_underscore =
-    by-lowers (first_word (codes "_")) span_in (or_end (expected (in_backquotes (codes "_"))))
+    by-lowers (first_keyword (codes "_")) span_in (or_end (expected (in_backquotes (codes "_"))))
     (word-shorter (codes "_"))
 
 pub lowers_literal : Lowers take_literal
@@ -164,12 +165,12 @@ unfolding take_punctuation
 lowers_punctuation k n = by-lowers _ _ _ (puncts-shorter _)
 
 -- a group weighs more than what is inside and what is after it
-pub group_weighs : (d : Delimiter) (f : Forest) (e : EnteredAhead) → first_group d f ≡ Some e
+pub group_weighs : (d : Delimiter) (f : Forest) (e : EnteredWith Forest) → first_group d f ≡ Some e
     → weight e.content + weight e.after < weight f
 group_weighs d no_trees e h = absurd (cc)
 group_weighs d (tree (leaf l) f) e h = absurd (cc)
 group_weighs d (tree (group c inside span) f) e h = go (same_delimiter d c) h where
-  parts : EnteredAhead
+  parts : EnteredWith Forest
   parts = record { delimiter = c; span = span; content = inside; after = f }
 
   go : (b : Bool)
@@ -179,7 +180,7 @@ group_weighs d (tree (group c inside span) f) e h = go (same_delimiter d c) h wh
   go true k =
       let m : record { delimiter = c; span = span; content = inside; after = f } ≡ e = cc in
       subst
-      (λ (x : EnteredAhead). weight x.content + weight x.after
+      (λ (x : EnteredWith Forest). weight x.content + weight x.after
       < weight (tree (group c inside span) f)) m (omega arith)
   go false k = absurd (cc)
 
@@ -187,14 +188,15 @@ pub lowers_group : {A : Type 0} (d : Delimiter) (inner : Taking A) → Lowers (t
 unfolding take_group
 lowers_group {A} d inner =
     record { less = λ a b v e. go a b v (first_group d a.trees) refl e } where
-      inside : (a b : Ahead) (v : DelimSpan × A) (x : EnteredAhead) (o : Outcome A)
+      inside : (a b : Ahead) (v : DelimSpan × A) (x : EnteredWith Forest) (o : Outcome A)
           → after_inside a x o ≡ found v b → x.after ≡ b.trees
       inside a b v x (missing words) e = absurd (cc)
       inside a b v x (found w c) e = ap (λ (y : Ahead). y.trees) (second e) where
         second : {B : Type 0} {p q : B} {y z : Ahead} → found p y ≡ found q z → y ≡ z
         second k = cc
 
-      go : (a b : Ahead) (v : DelimSpan × A) (x : Option EnteredAhead) → first_group d a.trees ≡ x
+      go : (a b : Ahead) (v : DelimSpan × A) (x : Option (EnteredWith Forest))
+          → first_group d a.trees ≡ x
           → inside_first d inner a x ≡ found v b → weight b.trees < weight a.trees
       go a b v None k e = absurd (cc)
       go a b v (Some x) k e =

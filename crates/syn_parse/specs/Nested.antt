@@ -3,7 +3,9 @@ use Rattle.std.proofs.Common.{◌≡◌, ◌∙◌, ap, refl, arith, ℕ, zero, 
 use Rattle.std.proofs.Common.{Option, Some, None, true, []}
 use Rattle.tok_lexical.specs.declared.delimiter.Delimiter.{Delimiter}
 use Rattle.tok_core.specs.Weight.{weight}
-use Rattle.tok_buffer.specs.InFront.{EnteredAhead, first_group}
+use Rattle.tok_core.specs.Forest.{Forest}
+use Rattle.tok_buffer.specs.Entry.{EnteredWith}
+use Rattle.tok_buffer.specs.InFront.{first_group}
 use Rattle.syn_parse.specs.Lighter.{group_weighs, lightens_bind, lightens_group, lightens_lower}
 use Rattle.syn_parse.specs.Lighter.{lightens_where, lowering}
 use Rattle.syn_parse.specs.Takes.{Outcome, Taking, found, missing, and_then, ◌>>=◌, where_ahead}
@@ -80,7 +82,7 @@ descends_group {A} d inner h = record {
   same = λ m n l j a e. go m n l j a e (first_group d a.trees) refl;
 } where
   go : (m n : Taking A) → Lightens m → Lightens n → (a : Ahead) → SameBelow (weight a.trees + 0) m n
-      → (x : Option EnteredAhead) → first_group d a.trees ≡ x
+      → (x : Option (EnteredWith Forest)) → first_group d a.trees ≡ x
       → inside_first d (inner m) a x ≡ inside_first d (inner n) a x
   go m n l j a e None k = refl
   go m n l j a e (Some x) k =

@@ -7,11 +7,11 @@ use Rattle.tok_lexical.specs.Words.{is_identifier_start}
 use Rattle.tok_leaves.specs.declared.span.Span.{Span}
 use Rattle.tok_leaves.specs.Leaves.{ident}
 use Rattle.tok_core.specs.Forest.{Forest, leaf, no_trees, tree}
-use Rattle.tok_types.specs.Sees.{first_word}
 use Rattle.tok_types.specs.Texts.{in_backquotes}
 use Rattle.syn_parse.specs.ErrorWords.{expected}
 use Rattle.syn_parse.specs.Takes.{Taking, or_end, take_by}
 use Rattle.syn_parse.specs.Tokens.{span_in}
+use Rattle.tok_buffer.specs.EachRead.{first_keyword}
 
 -- the characters are those of an identifier
 abbrev pub is_word : List ℕ → Bool
@@ -24,8 +24,8 @@ own_word text span = cond (is_word (chars text)) (tree (leaf (ident text span)) 
 
 -- a peek of the keyword with this text
 unfoldable pub own_first : List ℕ → Forest → Bool
-own_first text f = is_some (first_word text f)
+own_first text f = is_some (first_keyword text f)
 
 -- the keyword with this text is taken, and its span is the value
 unfoldable pub take_own : List ℕ → Taking Span
-take_own text = take_by (first_word text) span_in (or_end (expected (in_backquotes text)))
+take_own text = take_by (first_keyword text) span_in (or_end (expected (in_backquotes text)))

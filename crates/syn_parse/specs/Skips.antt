@@ -1,8 +1,8 @@
 -- Peeks past the next token, by the visible trees ahead.
 use Rattle.std.specs.Prelude.{Bool, false, Option, None, Some, option_map}
 use Rattle.tok_core.specs.Forest.{Forest, no_trees, tree}
+use Rattle.tok_buffer.specs.EachRead.{first_lifetime}
 use Rattle.tok_buffer.specs.Reads.{any_text}
-use Rattle.tok_types.specs.Sees.{first_lifetime}
 use Rattle.syn_parse.specs.TreesAhead.{Ahead}
 
 -- the trees after the first one

@@ -6,7 +6,8 @@ use Rattle.tok_leaves.specs.declared.span.DelimSpan.{DelimSpan}
 use Rattle.tok_core.specs.Filled.{filled, has_trees}
 use Rattle.tok_core.specs.Forest.{Tree, Forest}
 use Rattle.tok_core.specs.Weight.{weight}
-use Rattle.tok_buffer.specs.InFront.{EnteredAhead, first_group}
+use Rattle.tok_buffer.specs.Entry.{EnteredWith}
+use Rattle.tok_buffer.specs.InFront.{first_group}
 use Rattle.tok_buffer.specs.Messages.{first_text}
 use Rattle.tok_buffer.specs.Progress.{remaining}
 use Rattle.tok_buffer.specs.View.{IsVisibleDelimiter}
@@ -67,13 +68,14 @@ abbrev pub take_by : {T : Type 0} → (Forest → Option (List Tree × Forest)) 
 take_by read means words a = read_as means words a (read a.trees)
 
 -- a group: what is taken inside, and then what is after; a tree left unread inside is noted
-abbrev pub after_inside : {T : Type 0} → Ahead → EnteredAhead → Outcome T → Outcome (DelimSpan × T)
+abbrev pub after_inside : {T : Type 0} → Ahead → EnteredWith Forest → Outcome T
+    → Outcome (DelimSpan × T)
 after_inside a e (missing words) = missing words
 after_inside a e (found v b) =
     found (record { join = e.span }, v)
     (record { trees = e.after; clean = a.clean && b.clean && is_spent b })
 
-abbrev pub inside_first : {T : Type 0} → Delimiter → Taking T → Ahead → Option EnteredAhead
+abbrev pub inside_first : {T : Type 0} → Delimiter → Taking T → Ahead → Option (EnteredWith Forest)
     → Outcome (DelimSpan × T)
 inside_first d inner a None = missing (or_end (delimiter_words d) a.trees)
 inside_first d inner a (Some e) =

@@ -9,10 +9,10 @@ use Rattle.tok_leaves.specs.Leaves.{ident, literal, punct}
 use Rattle.tok_leaves.specs.Spans.{call_site}
 use Rattle.tok_leaves.specs.declared.span.Span.{Span}
 use Rattle.tok_core.specs.Forest.{Tree, leaf, Forest, tree_span}
-use Rattle.tok_buffer.specs.InFront.{first_if, first_puncts}
+use Rattle.tok_buffer.specs.EachRead.{first_if, first_keyword, first_lifetime, first_puncts}
 use Rattle.tok_buffer.specs.Reads.{any_text, is_ident, is_ident_of, is_literal, is_punct}
 use Rattle.tok_lexical.specs.declared.delimiter.Delimiter.{Delimiter}
-use Rattle.tok_types.specs.Sees.{any_ident_first, first_lifetime, first_word, group_first, ident_first}
+use Rattle.tok_types.specs.Sees.{any_ident_first, group_first, ident_first}
 use Rattle.tok_types.specs.Sees.{keyword_first, lifetime_first, literal_first, punct_first}
 use Rattle.tok_types.specs.Sees.{punctuation_first, underscore_first}
 use Rattle.tok_types.specs.Texts.{accept_as_ident, in_backquotes, keyword_text, punctuation_word}
@@ -87,7 +87,7 @@ take_punct = take_by (first_if is_punct) punct_in (or_end (codes "expected punct
 -- `_`, of which the span is the value
 unfoldable pub take_underscore : Taking Span
 take_underscore =
-    take_by (first_word (codes "_")) span_in (or_end (expected (in_backquotes (codes "_"))))
+    take_by (first_keyword (codes "_")) span_in (or_end (expected (in_backquotes (codes "_"))))
 
 -- no token
 abbrev pub take_nothing : Taking (Unit {0})
@@ -96,7 +96,7 @@ take_nothing = gives tt
 -- a keyword, and a punctuation, by its number
 unfoldable pub take_keyword : (k : ℕ) → Taking (Keyword k)
 take_keyword k =
-    take_by (first_word (keyword_text k)) (λ ts. record { span = span_in ts })
+    take_by (first_keyword (keyword_text k)) (λ ts. record { span = span_in ts })
     (or_end (expected (in_backquotes (keyword_text k))))
 
 unfoldable pub take_punctuation : (k n : ℕ) → Taking (Punctuation k n)

@@ -4,10 +4,11 @@ use Rattle.std.proofs.Common.{◌∷◌, ◌++◌, append_assoc, Option, Some, N
 use Rattle.std.specs.Prelude.{cond, IfSome}
 use Rattle.tok_core.specs.Forest.{Tree, leaf, group, Forest, no_trees, tree, forest}
 use Rattle.tok_buffer.specs.Descent.{descend}
+use Rattle.tok_buffer.specs.EachRead.{First, Read}
 use Rattle.tok_buffer.specs.Place.{level, Place, empty_place, at}
 use Rattle.tok_buffer.specs.Reads.{and_then, read_if}
 use Rattle.tok_buffer.proofs.View.Unmarked.{plain-ahead}
-use Rattle.tok_buffer.proofs.View.Readings.{Read, First, Reading, never, one, more, IsOfLeaves}
+use Rattle.tok_buffer.proofs.View.Readings.{Reading, never, one, more, IsOfLeaves}
 use Rattle.tok_buffer.proofs.View.Unmarked.{trees_ahead-descend, trees_ahead-settle}
 use Rattle.tok_buffer.proofs.View.Unmarked.{trees_ahead as forest_ahead}
 use Rattle.syn_punctuated.specs.Trees.{trees_ahead}

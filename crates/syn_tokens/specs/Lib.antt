@@ -30,6 +30,7 @@ pub use Rattle.tok_buffer.specs.Buffer
 pub use Rattle.tok_buffer.specs.CompileErrors
 pub use Rattle.tok_buffer.specs.Cursors
 pub use Rattle.tok_buffer.specs.Descent
+pub use Rattle.tok_buffer.specs.EachRead
 pub use Rattle.tok_buffer.specs.Entry
 pub use Rattle.tok_buffer.specs.InFront
 pub use Rattle.tok_buffer.specs.Messages

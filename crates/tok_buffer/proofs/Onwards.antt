@@ -12,19 +12,19 @@ use Rattle.tok_lexical.specs.declared.delimiter.Delimiter.TheVariants as delimit
 use Rattle.tok_core.specs.Forest.{leaf, group, Tree, Forest, no_trees, tree}
 use Rattle.tok_core.specs.Weight.{tree_weight, weight}
 use Rattle.tok_buffer.specs.Descent.{descend}
+use Rattle.tok_buffer.specs.EachRead.{Read, First}
 use Rattle.tok_buffer.specs.Entry.{Entered, enter, enter_any, entered_of, same_delimiter}
 use Rattle.tok_buffer.specs.Order.{order, same_scope}
 use Rattle.tok_buffer.specs.Place.{Owner, whole, in_group, Level, level, Place, empty_place, at}
 use Rattle.tok_buffer.specs.Place.{absorb, front, pass, settle}
 use Rattle.tok_buffer.specs.Progress.{ReadsGoLater, ReadsKeepScope, StaysIn, remaining}
 use Rattle.tok_buffer.specs.Progress.{remaining_around, ReadsOn, ReadsGoOn, SkipsGoOn, EntersOn}
-use Rattle.tok_buffer.specs.Progress.{EntriesGoOn, MovesStay, StaysAlong, Later, KeepsScope}
+use Rattle.tok_buffer.specs.Progress.{EntriesGoOn, MovesStay, StaysAlong, CallsLead, ReadLeads}
 use Rattle.tok_buffer.specs.Reads.{any_tree, read_if, skip}
 use Rattle.tok_buffer.proofs.View.Keeps.{IsKept, kept-settle, kept-descend}
 use Rattle.tok_buffer.proofs.View.Moves.{Leads, LeadsTo, IsEmpty, IsNone, leads, leads-take}
 use Rattle.tok_buffer.proofs.View.Moves.{leads-skip, leads-nowhere}
-use Rattle.tok_buffer.proofs.View.Readings.{Read, First, Reading, of_ident, of_word, of_keyword}
-use Rattle.tok_buffer.proofs.View.Readings.{of_lifetime, of_literal, of_punct, of_punctuation}
+use Rattle.tok_buffer.proofs.View.Readings.{Reading, each_read}
 
 -- a place of this buffer and scope, at this count or a later one, where at most so much is left
 abbrev Since : (number scope count most : ℕ) → Place → Type 0
@@ -170,13 +170,7 @@ module _ (read : Read) (on : AllGoOn read) where
 
 pub reads_go_on : ReadsGoOn
 reads_go_on = record {
-  idents = reads_on _ (reading_goes of_ident);
-  literals = reads_on _ (reading_goes of_literal);
-  puncts = reads_on _ (reading_goes of_punct);
-  words = λ wanted. reads_on _ (reading_goes (of_word wanted));
-  keywords = λ text. reads_on _ (reading_goes (of_keyword text));
-  lifetimes = λ wanted. reads_on _ (reading_goes (of_lifetime wanted));
-  punctuations = λ text. reads_on _ (reading_goes (of_punctuation text));
+  leaves = each_read _ (λ read first r. reads_on read (reading_goes r));
   trees = reads_on _ (take_goes any_tree);
   taken = λ wanted. reads_on _ (take_goes wanted);
 }
@@ -389,25 +383,22 @@ settle_remaining n s c l ls =
     (kept-settle (Since n s c m) (kept_since n s c m) n s c l ls
     (refl, refl, omega arith, omega arith))).1
 
--- what a read passes lies before
-read_later : (read : Read) → AllGoOn read → Later read
-read_later read on p ts q e = (read_on read on p ts q e).2
+-- what holds of each move that goes on holds of each call
+calls_lead : (P : Place → Place → Type 0) → ((p q : Place) → GoesOn p q → P p q) → CallsLead P
+calls_lead P holds = record {
+  leaves = each_read _ (λ read first r. read_leads read (reading_goes r));
+  trees = read_leads _ (take_goes any_tree);
+  taken = λ wanted. read_leads _ (take_goes wanted);
+  skips = λ p q e. holds p q (skips_on p q e);
+  groups = λ d p e h. holds p e.after (goes_in d p e h).0;
+  any_groups = λ p e h. holds p e.after (any_goes_in p e h).0;
+}
+  where
+    read_leads : (read : Read) → AllGoOn read → ReadLeads P read
+    read_leads read on p ts q e = holds p q (read_on read on p ts q e)
 
 pub reads_go_later : ReadsGoLater
-reads_go_later = record {
-  idents = read_later _ (reading_goes of_ident);
-  literals = read_later _ (reading_goes of_literal);
-  puncts = read_later _ (reading_goes of_punct);
-  words = λ wanted. read_later _ (reading_goes (of_word wanted));
-  keywords = λ text. read_later _ (reading_goes (of_keyword text));
-  lifetimes = λ wanted. read_later _ (reading_goes (of_lifetime wanted));
-  punctuations = λ text. read_later _ (reading_goes (of_punctuation text));
-  trees = read_later _ (take_goes any_tree);
-  taken = λ wanted. read_later _ (take_goes wanted);
-  skips = λ p q e. (skips_on p q e).2;
-  groups = λ d p e h. (goes_in d p e h).0.2;
-  any_groups = λ p e h. (any_goes_in p e h).0.2;
-}
+reads_go_later = calls_lead _ (λ p q g. g.2)
 
 -- what stays in the scope and is later is not the empty place
 stays_in_scope : (p q : Place) → StaysIn p q → order p q ≡ Some Less → same_scope p q ≡ true
@@ -420,9 +411,6 @@ stays_in_scope (at n s c l ls) (at m t d x xs) (inr h) k = cc
 pub keeps_scope : (p q : Place) → GoesOn p q → same_scope p q ≡ true
 keeps_scope p q g = stays_in_scope p q g.0 g.2
 
-read_kept : (read : Read) → AllGoOn read → KeepsScope read
-read_kept read on p ts q e = keeps_scope p q (read_on read on p ts q e)
-
 kept_along :
     (p q r : Place) → same_scope p q ≡ true → same_scope q r ≡ true → same_scope p r ≡ true
 kept_along empty_place empty_place r h k = k
@@ -434,18 +422,4 @@ kept_along (at n s c x xs) (at j t d l ls) (at i u e m ms) h k =
     rw (eqb-true n j a.0) (rw (eqb-true s t a.1) k)
 
 pub reads_keep_scope : ReadsKeepScope
-reads_keep_scope = record {
-  idents = read_kept _ (reading_goes of_ident);
-  literals = read_kept _ (reading_goes of_literal);
-  puncts = read_kept _ (reading_goes of_punct);
-  words = λ wanted. read_kept _ (reading_goes (of_word wanted));
-  keywords = λ text. read_kept _ (reading_goes (of_keyword text));
-  lifetimes = λ wanted. read_kept _ (reading_goes (of_lifetime wanted));
-  punctuations = λ text. read_kept _ (reading_goes (of_punctuation text));
-  trees = read_kept _ (take_goes any_tree);
-  taken = λ wanted. read_kept _ (take_goes wanted);
-  skips = λ p q e. keeps_scope p q (skips_on p q e);
-  groups = λ d p e h. keeps_scope p e.after (goes_in d p e h).0;
-  any_groups = λ p e h. keeps_scope p e.after (any_goes_in p e h).0;
-  along = kept_along;
-}
+reads_keep_scope = record { calls = calls_lead _ keeps_scope; along = kept_along }

@@ -16,11 +16,26 @@ same_delimiter Bracket Bracket = true
 same_delimiter delimiter.None delimiter.None = true
 same_delimiter d e = false
 
-pub record Entered : Type 0 where
+-- a group that is entered, with what is known of its content and of what is after it
+pub record EnteredWith (A : Type 0) : Type 0 where
   pub delimiter : Delimiter
   pub span : Span
-  pub content : Place
-  pub after : Place
+  pub content : A
+  pub after : A
+
+-- with the places of both
+abbrev pub Entered : Type 0
+Entered = EnteredWith Place
+
+-- with what is known of both places
+abbrev pub entered_with : {A : Type 0} → (Place → A) → Entered → EnteredWith A
+entered_with known e =
+    record {
+      delimiter = e.delimiter;
+      span = e.span;
+      content = known e.content;
+      after = known e.after;
+    }
 
 -- the group in front, of whatever delimiter
 abbrev pub enter_any : Place → Option Entered

@@ -4,6 +4,7 @@ pub mod Code
 pub mod CompileErrors
 pub mod Cursors
 pub mod Descent
+pub mod EachRead
 pub mod Entry
 pub mod Gives
 pub mod InFront

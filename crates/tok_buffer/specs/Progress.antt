@@ -7,11 +7,11 @@ use Rattle.tok_lexical.specs.declared.delimiter.Delimiter.{Delimiter}
 use Rattle.tok_core.specs.Forest.{Tree}
 use Rattle.tok_core.specs.Weight.{weight}
 use Rattle.tok_buffer.specs.Descent.{descend}
+use Rattle.tok_buffer.specs.EachRead.{EachRead, Read}
 use Rattle.tok_buffer.specs.Entry.{Entered, enter, enter_any}
 use Rattle.tok_buffer.specs.Order.{equal, order, same_scope}
 use Rattle.tok_buffer.specs.Place.{Level, level, Place, empty_place, at, pass}
-use Rattle.tok_buffer.specs.Reads.{read_if, read_ident, read_literal, read_punct, read_word}
-use Rattle.tok_buffer.specs.Reads.{read_keyword, read_lifetime, read_punctuation, read_tree, skip}
+use Rattle.tok_buffer.specs.Reads.{read_if, read_tree, skip}
 
 -- in the same buffer and scope and no earlier, or the empty place
 abbrev pub StaysIn : (from to : Place) → Type 0
@@ -30,19 +30,14 @@ remaining empty_place = 0
 remaining (at number scope count (level o p f) ls) = weight f + remaining_around ls + 1
 
 -- wherever it reads, it stays in the scope and takes something away from what remains
-pub record ReadsOn (read : Place → Option (List Tree × Place)) : Type 0 where
+pub record ReadsOn (read : Read) : Type 0 where
   pub stays : (p : Place) (ts : List Tree) (q : Place) → read p ≡ Some (ts, q) → StaysIn p q
   pub lowers : (p : Place) (ts : List Tree) (q : Place) → read p ≡ Some (ts, q) →
       remaining q < remaining p
 
+-- each read of leaves does, and each of any tree, or of a wanted one
 pub record ReadsGoOn : Type 0 where
-  pub idents : ReadsOn read_ident
-  pub literals : ReadsOn read_literal
-  pub puncts : ReadsOn read_punct
-  pub words : (wanted : List ℕ → Bool) → ReadsOn (read_word wanted)
-  pub keywords : (text : List ℕ) → ReadsOn (read_keyword text)
-  pub lifetimes : (wanted : List ℕ → Bool) → ReadsOn (read_lifetime wanted)
-  pub punctuations : (text : List ℕ) → ReadsOn (read_punctuation text)
+  pub leaves : EachRead (λ read first. ReadsOn read)
   pub trees : ReadsOn read_tree
   pub taken : (wanted : Tree → Bool) → ReadsOn (read_if wanted)
 
@@ -61,46 +56,27 @@ pub record EntriesGoOn : Type 0 where
   pub groups : (d : Delimiter) → EntersOn (enter d)
   pub any_groups : EntersOn enter_any
 
--- the places after them are later
-abbrev pub Later : (Place → Option (List Tree × Place)) → Type 0
-Later read =
-    (p : Place) (ts : List Tree) (q : Place) → read p ≡ Some (ts, q) → order p q ≡ Some Less
+-- a property of each place and the place to which a read leads
+abbrev pub ReadLeads : (Place → Place → Type 0) → Read → Type 0
+ReadLeads P read = (p : Place) (ts : List Tree) (q : Place) → read p ≡ Some (ts, q) → P p q
 
-pub record ReadsGoLater : Type 0 where
-  pub idents : Later read_ident
-  pub literals : Later read_literal
-  pub puncts : Later read_punct
-  pub words : (wanted : List ℕ → Bool) → Later (read_word wanted)
-  pub keywords : (text : List ℕ) → Later (read_keyword text)
-  pub lifetimes : (wanted : List ℕ → Bool) → Later (read_lifetime wanted)
-  pub punctuations : (text : List ℕ) → Later (read_punctuation text)
-  pub trees : Later read_tree
-  pub taken : (wanted : Tree → Bool) → Later (read_if wanted)
-  pub skips : (p q : Place) → skip p ≡ Some q → order p q ≡ Some Less
-  pub groups : (d : Delimiter) (p : Place) (e : Entered) → enter d p ≡ Some e →
-      order p e.after ≡ Some Less
-  pub any_groups : (p : Place) (e : Entered) → enter_any p ≡ Some e → order p e.after ≡ Some Less
+-- a property of each place and the place after a read, a skip or a group that is entered
+pub record CallsLead (P : Place → Place → Type 0) : Type 0 where
+  pub leaves : EachRead (λ read first. ReadLeads P read)
+  pub trees : ReadLeads P read_tree
+  pub taken : (wanted : Tree → Bool) → ReadLeads P (read_if wanted)
+  pub skips : (p q : Place) → skip p ≡ Some q → P p q
+  pub groups : (d : Delimiter) (p : Place) (e : Entered) → enter d p ≡ Some e → P p e.after
+  pub any_groups : (p : Place) (e : Entered) → enter_any p ≡ Some e → P p e.after
 
--- the places after them are in the scope itself, and so none of them is the empty place
-abbrev pub KeepsScope : (Place → Option (List Tree × Place)) → Type 0
-KeepsScope read =
-    (p : Place) (ts : List Tree) (q : Place) → read p ≡ Some (ts, q) → same_scope p q ≡ true
+-- the place after each call is later
+abbrev pub ReadsGoLater : Type 0
+ReadsGoLater = CallsLead (λ p q. order p q ≡ Some Less)
 
--- and neither are those after several of them, one after the other
+-- the place after each call is in the same scope, so it is not the empty place; and so is the place
+-- after several calls in turn
 pub record ReadsKeepScope : Type 0 where
-  pub idents : KeepsScope read_ident
-  pub literals : KeepsScope read_literal
-  pub puncts : KeepsScope read_punct
-  pub words : (wanted : List ℕ → Bool) → KeepsScope (read_word wanted)
-  pub keywords : (text : List ℕ) → KeepsScope (read_keyword text)
-  pub lifetimes : (wanted : List ℕ → Bool) → KeepsScope (read_lifetime wanted)
-  pub punctuations : (text : List ℕ) → KeepsScope (read_punctuation text)
-  pub trees : KeepsScope read_tree
-  pub taken : (wanted : Tree → Bool) → KeepsScope (read_if wanted)
-  pub skips : (p q : Place) → skip p ≡ Some q → same_scope p q ≡ true
-  pub groups :
-      (d : Delimiter) (p : Place) (e : Entered) → enter d p ≡ Some e → same_scope p e.after ≡ true
-  pub any_groups : (p : Place) (e : Entered) → enter_any p ≡ Some e → same_scope p e.after ≡ true
+  pub calls : CallsLead (λ p q. same_scope p q ≡ true)
   pub along :
       (p q r : Place) → same_scope p q ≡ true → same_scope q r ≡ true → same_scope p r ≡ true
 

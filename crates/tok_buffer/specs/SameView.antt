@@ -1,5 +1,5 @@
 -- Invisible groups do not matter to a single call.
-use Rattle.std.specs.Prelude.{◌≡◌, ℕ, Bool, true, List, IfSome, Option, option_map}
+use Rattle.std.specs.Prelude.{◌≡◌, true, List, IfSome, Option, option_map}
 use Rattle.tok_lexical.specs.declared.delimiter.Delimiter.{Delimiter}
 use Rattle.tok_leaves.specs.declared.span.Span.{Span}
 use Rattle.tok_core.specs.Erase.{erase}
@@ -7,14 +7,14 @@ use Rattle.tok_core.specs.Filled.{filled}
 use Rattle.tok_core.specs.Forest.{Tree, Forest}
 use Rattle.tok_buffer.specs.Ahead.{leftover}
 use Rattle.tok_buffer.specs.Buffer.{Laid}
+use Rattle.tok_buffer.specs.EachRead.{EachRead, Read}
 use Rattle.tok_buffer.specs.Entry.{enter}
 use Rattle.tok_buffer.specs.Order.{same_scope}
 use Rattle.tok_buffer.specs.Place.{Place, start, is_at_end}
 use Rattle.tok_buffer.specs.Reached.{Reached}
-use Rattle.tok_buffer.specs.Reads.{read_ident, read_keyword, read_lifetime, read_literal}
-use Rattle.tok_buffer.specs.Reads.{read_punct, read_punctuation, read_word, skip}
+use Rattle.tok_buffer.specs.Reads.{skip}
 use Rattle.tok_buffer.specs.Rest.{scope_delimiter}
-use Rattle.tok_buffer.specs.View.{IsVisibleDelimiter, view, with_view, entered_view}
+use Rattle.tok_buffer.specs.View.{IsVisibleDelimiter, entered_view, view, with_view}
 use Rattle.tok_buffer.specs.View.{one_scope_in_view, delimiter_in_view}
 
 -- a place in each of two filled forests, with equal views
@@ -26,8 +26,7 @@ pub record SameView (b c : Laid) (p q : Place) : Type 0 where
   pub same : view b.forest p ≡ view c.forest q
 
 -- a read, a skip and an entry return the same at two places, and the places after have equal views
-abbrev pub ReadsAgree :
-    Forest → Forest → (Place → Option (List Tree × Place)) → Place → Place → Type 0
+abbrev pub ReadsAgree : Forest → Forest → Read → Place → Place → Type 0
 ReadsAgree f g read p q = with_view f (read p) ≡ with_view g (read q)
 
 abbrev pub SkipsAgree : Forest → Forest → Place → Place → Type 0
@@ -42,13 +41,7 @@ leftover_span p = option_map (λ l. l.span) (leftover p)
 
 -- each call returns the same at both places, and the places after it have equal views again
 pub record CallsAgree (f g : Forest) (p q : Place) : Type 0 where
-  pub idents : ReadsAgree f g read_ident p q
-  pub words : (wanted : List ℕ → Bool) → ReadsAgree f g (read_word wanted) p q
-  pub keywords : (text : List ℕ) → ReadsAgree f g (read_keyword text) p q
-  pub lifetimes : (wanted : List ℕ → Bool) → ReadsAgree f g (read_lifetime wanted) p q
-  pub literals : ReadsAgree f g read_literal p q
-  pub puncts : ReadsAgree f g read_punct p q
-  pub punctuations : (text : List ℕ) → ReadsAgree f g (read_punctuation text) p q
+  pub leaves : EachRead (λ read first. ReadsAgree f g read p q)
   pub skips : SkipsAgree f g p q
   pub ends : is_at_end p ≡ is_at_end q
   pub enters : (d : Delimiter) → IsVisibleDelimiter d → EntriesAgree f g d p q
@@ -59,18 +52,12 @@ abbrev pub ViewsDecide : Type 0
 ViewsDecide = (b c : Laid) (p q : Place) → SameView b c p q → CallsAgree b.forest c.forest p q
 
 -- a read leads to a place that has a view, too
-abbrev pub ReadLeadsOn : Laid → (Place → Option (List Tree × Place)) → Place → Type 0
+abbrev pub ReadLeadsOn : Laid → Read → Place → Type 0
 ReadLeadsOn b read p = IfSome (read p) (λ (r : List Tree × Place). Reached b r.1)
 
 -- so does each call
 pub record LeadsOn (b : Laid) (p : Place) : Type 0 where
-  pub idents : ReadLeadsOn b read_ident p
-  pub words : (wanted : List ℕ → Bool) → ReadLeadsOn b (read_word wanted) p
-  pub keywords : (text : List ℕ) → ReadLeadsOn b (read_keyword text) p
-  pub lifetimes : (wanted : List ℕ → Bool) → ReadLeadsOn b (read_lifetime wanted) p
-  pub literals : ReadLeadsOn b read_literal p
-  pub puncts : ReadLeadsOn b read_punct p
-  pub punctuations : (text : List ℕ) → ReadLeadsOn b (read_punctuation text) p
+  pub leaves : EachRead (λ read first. ReadLeadsOn b read p)
   pub skips : IfSome (skip p) (Reached b)
   pub enters : (d : Delimiter) → IsVisibleDelimiter d
       → IfSome (enter d p) (λ e. Reached b e.content × Reached b e.after)

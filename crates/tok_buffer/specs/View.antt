@@ -3,10 +3,9 @@ use Rattle.std.specs.Prelude.{⊤, Option, option_map, ℕ, ◌==◌, Bool, true
 use Rattle.std.specs.Prelude.{◌++◌, sum, drop}
 use Rattle.tok_lexical.specs.declared.delimiter.Delimiter.{Delimiter}
 use Rattle.tok_lexical.specs.declared.delimiter.Delimiter.TheVariants as delimiter
-use Rattle.tok_leaves.specs.declared.span.Span.{Span}
 use Rattle.tok_core.specs.Erase.{erase}
 use Rattle.tok_core.specs.Forest.{Tree, leaf, group, Forest, no_trees, tree, concat}
-use Rattle.tok_buffer.specs.Entry.{Entered}
+use Rattle.tok_buffer.specs.Entry.{Entered, entered_with, EnteredWith}
 use Rattle.tok_buffer.specs.Place.{Level, level, Place, empty_place, at}
 use Rattle.tok_buffer.specs.Rest.{levels_delimiter}
 
@@ -57,20 +56,8 @@ abbrev pub with_view : Forest → Option (List Tree × Place) → Option (List T
 with_view f r = option_map (λ q. (q.0, view f q.1)) r
 
 -- a group that is entered, with the views of its content and of the place after it
-pub record EnteredView : Type 0 where
-  pub delimiter : Delimiter
-  pub span : Span
-  pub content : View
-  pub after : View
-
-abbrev pub entered_view : Forest → Entered → EnteredView
-entered_view g e =
-    record {
-      delimiter = e.delimiter;
-      span = e.span;
-      content = view g e.content;
-      after = view g e.after;
-    }
+abbrev pub entered_view : Forest → Entered → EnteredWith View
+entered_view f = entered_with (view f)
 
 abbrev pub IsVisibleDelimiter : Delimiter → Type 0
 IsVisibleDelimiter delimiter.None = ⊥

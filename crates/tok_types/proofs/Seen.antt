@@ -4,6 +4,7 @@ use Rattle.std.proofs.Common.{Some, None}
 use Rattle.std.proofs.Common.{Bool}
 use Rattle.std.specs.Prelude.{bytes_eq, codes, is_some, option_map}
 use Rattle.tok_lexical.specs.declared.delimiter.Delimiter.{Delimiter}
+use Rattle.tok_buffer.specs.EachRead.{first_keyword}
 use Rattle.tok_buffer.specs.Entry.{enter}
 use Rattle.tok_buffer.specs.InFront.{entered_ahead}
 use Rattle.tok_buffer.specs.Place.{Place}
@@ -15,7 +16,7 @@ use Rattle.tok_buffer.proofs.View.Readings.{Reading, never, of_word, of_lifetime
 use Rattle.tok_buffer.proofs.View.Tells.{tells}
 use Rattle.tok_types.specs.Delimiters.{delimiter_at}
 use Rattle.tok_types.specs.Looks.{Finds}
-use Rattle.tok_types.specs.Sees.{any_ident_first, first_word, group_first}
+use Rattle.tok_types.specs.Sees.{any_ident_first, group_first}
 use Rattle.tok_types.specs.Sees.{ident_first, keyword_first}
 use Rattle.tok_types.specs.Sees.{lifetime_first, literal_first}
 use Rattle.tok_types.specs.Sees.{punct_first, punctuation_first, underscore_first}
@@ -31,50 +32,46 @@ pub found_as : {A B : Type 0} (h : A → B) (r : Option A) (q : Option B) → op
 found_as h None q e = ap is_some e
 found_as h (Some x) q e = ap is_some e
 
-pub of_first_word : (text : List ℕ) → Reading (read_keyword text) (first_word text)
-of_first_word [] = never
-of_first_word (c ∷ cs) = of_word (bytes_eq (c ∷ cs))
-
 pub ident_seen : (p : Place) (b : Bool) → Finds (read_word accept_as_ident) p b
     → b ≡ ident_first (erased_ahead p)
 unfolding ident_first
-ident_seen p b h = h ∙ found_as _ _ _ ((ahead_tells p).words accept_as_ident)
+ident_seen p b h = h ∙ found_as _ _ _ ((ahead_tells p).leaves.words accept_as_ident)
 
 pub any_ident_seen : (p : Place) (b : Bool) → Finds read_ident p b →
     b ≡ any_ident_first (erased_ahead p)
 unfolding any_ident_first
-any_ident_seen p b h = h ∙ found_as _ _ _ (ahead_tells p).idents
+any_ident_seen p b h = h ∙ found_as _ _ _ (ahead_tells p).leaves.idents
 
 pub lifetime_seen : (p : Place) (b : Bool) → Finds (read_lifetime any_text) p b
     → b ≡ lifetime_first (erased_ahead p)
 unfolding lifetime_first
-lifetime_seen p b h = h ∙ found_as _ _ _ (tells (of_lifetime any_text) p)
+lifetime_seen p b h = h ∙ found_as _ _ _ ((ahead_tells p).leaves.lifetimes any_text)
 
 pub literal_seen : (p : Place) (b : Bool) → Finds read_literal p b →
     b ≡ literal_first (erased_ahead p)
 unfolding literal_first
-literal_seen p b h = h ∙ found_as _ _ _ (ahead_tells p).literals
+literal_seen p b h = h ∙ found_as _ _ _ (ahead_tells p).leaves.literals
 
 pub punct_seen : (p : Place) (b : Bool) → Finds read_punct p b → b ≡ punct_first (erased_ahead p)
 unfolding punct_first
-punct_seen p b h = h ∙ found_as _ _ _ (ahead_tells p).puncts
+punct_seen p b h = h ∙ found_as _ _ _ (ahead_tells p).leaves.puncts
 
 pub underscore_seen : (p : Place) (b : Bool) → Finds (read_keyword (codes "_")) p b
     → b ≡ underscore_first (erased_ahead p)
 unfolding underscore_first
-underscore_seen p b h = h ∙ found_as _ _ _ (tells (of_first_word (codes "_")) p)
+underscore_seen p b h = h ∙ found_as _ _ _ ((ahead_tells p).leaves.keywords (codes "_"))
 
 pub keyword_seen : (k : ℕ) (p : Place) (b : Bool) → Finds (read_keyword (keyword_text k)) p b
     → b ≡ keyword_first k (erased_ahead p)
 unfolding keyword_first
-keyword_seen k p b h = h ∙ found_as _ _ _ (tells (of_first_word (keyword_text k)) p)
+keyword_seen k p b h = h ∙ found_as _ _ _ ((ahead_tells p).leaves.keywords (keyword_text k))
 
 pub punctuation_seen : (k n : ℕ) (p : Place) (b : Bool)
     → Finds (read_punctuation (punctuation_word k n)) p b →
     b ≡ punctuation_first k n (erased_ahead p)
 unfolding punctuation_first
 punctuation_seen k n p b h = h
-    ∙ found_as _ _ _ ((ahead_tells p).punctuations (punctuation_word k n))
+    ∙ found_as _ _ _ ((ahead_tells p).leaves.punctuations (punctuation_word k n))
 
 pub group_seen : (d : Delimiter) → IsVisibleDelimiter d → (p : Place) (b : Bool)
     → Finds (enter d) p b → b ≡ group_first d (erased_ahead p)

@@ -2,11 +2,12 @@
 use Rattle.std.proofs.Common.{◌≡◌, ◌∙◌, sym, ap, refl, Option, Some, None}
 use Rattle.std.specs.Prelude.{option_map, is_some}
 use Rattle.tok_lexical.specs.declared.delimiter.Delimiter.{Delimiter}
+use Rattle.tok_buffer.specs.EachRead.{First, Read}
 use Rattle.tok_buffer.specs.Entry.{enter}
 use Rattle.tok_buffer.specs.Place.{is_at_end}
-use Rattle.tok_buffer.specs.View.{IsVisibleDelimiter, entered_view}
+use Rattle.tok_buffer.specs.View.{entered_view, IsVisibleDelimiter, view}
 use Rattle.tok_buffer.proofs.View.Laws.{read-same, views_decide}
-use Rattle.tok_buffer.proofs.View.Readings.{Read, First, Reading}
+use Rattle.tok_buffer.proofs.View.Readings.{Reading}
 use Rattle.tok_types.specs.Views.{IgnoresInvisible}
 use Rattle.tok_types.specs.Looks.{Finds}
 

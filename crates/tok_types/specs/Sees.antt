@@ -1,9 +1,9 @@
 -- What a peek sees of the visible trees ahead.
-use Rattle.std.specs.Prelude.{◌≡◌, ℕ, Bool, List, [], ◌∷◌, Option, None, Some, is_some, bytes_eq, codes}
+use Rattle.std.specs.Prelude.{◌≡◌, ℕ, Bool, Option, None, Some, is_some, codes}
 use Rattle.tok_lexical.specs.declared.delimiter.Delimiter.{Delimiter}
-use Rattle.tok_core.specs.Clear.{is_joint_apostrophe}
-use Rattle.tok_core.specs.Forest.{Tree, Forest}
-use Rattle.tok_buffer.specs.InFront.{and_first, first_group, first_if, first_puncts}
+use Rattle.tok_core.specs.Forest.{Forest}
+use Rattle.tok_buffer.specs.EachRead.{first_if, first_keyword, first_lifetime, first_puncts}
+use Rattle.tok_buffer.specs.InFront.{first_group}
 use Rattle.tok_buffer.specs.Place.{Place}
 use Rattle.tok_buffer.specs.Reads.{any_text, is_ident, is_ident_of, is_literal, is_punct}
 use Rattle.tok_buffer.specs.View.{erased_ahead}
@@ -14,16 +14,7 @@ abbrev pub Sees : Option (Forest → Bool) → Place → Bool → Type 0
 Sees None p found = Unit {0}
 Sees (Some test) p found = found ≡ test (erased_ahead p)
 
--- an identifier of this text; the empty text is never found
-abbrev pub first_word : List ℕ → Forest → Option (List Tree × Forest)
-first_word [] f = None
-first_word (c ∷ cs) f = first_if (is_ident_of (bytes_eq (c ∷ cs))) f
-
--- a lifetime of which a test of its name is true
-abbrev pub first_lifetime : (List ℕ → Bool) → Forest → Option (List Tree × Forest)
-first_lifetime wanted f =
-    and_first (first_if is_joint_apostrophe f) (first_if (is_ident_of wanted))
-
+-- a visible tree, or a token of several, is first
 unfoldable pub ident_first : Forest → Bool
 ident_first f = is_some (first_if (is_ident_of accept_as_ident) f)
 
@@ -40,11 +31,11 @@ unfoldable pub punct_first : Forest → Bool
 punct_first f = is_some (first_if is_punct f)
 
 unfoldable pub underscore_first : Forest → Bool
-underscore_first f = is_some (first_word (codes "_") f)
+underscore_first f = is_some (first_keyword (codes "_") f)
 
 -- a keyword, and a punctuation, by its number
 unfoldable pub keyword_first : ℕ → Forest → Bool
-keyword_first k f = is_some (first_word (keyword_text k) f)
+keyword_first k f = is_some (first_keyword (keyword_text k) f)
 
 unfoldable pub punctuation_first : (k n : ℕ) → Forest → Bool
 punctuation_first k n f = is_some (first_puncts (punctuation_word k n) f)

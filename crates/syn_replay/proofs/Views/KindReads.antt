@@ -1,7 +1,8 @@
 -- Each kind is read by taking leaves.
 use Rattle.std.specs.Prelude.{codes}
+use Rattle.tok_buffer.specs.EachRead.{First}
 use Rattle.tok_buffer.specs.Reads.{any_text}
-use Rattle.tok_buffer.proofs.View.Readings.{First, Reading, of_ident, of_word, of_keyword}
+use Rattle.tok_buffer.proofs.View.Readings.{Reading, of_ident, of_word, of_keyword}
 use Rattle.tok_buffer.proofs.View.Readings.{of_lifetime, of_literal, of_punct, of_punctuation}
 use Rattle.tok_types.specs.Texts.{accept_as_ident, keyword_text, punctuation_text}
 use Rattle.syn_parse.specs.Parses.{accept_as_lifetime}

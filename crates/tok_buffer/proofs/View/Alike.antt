@@ -6,6 +6,7 @@ use Rattle.tok_core.specs.Erase.{erase}
 use Rattle.tok_core.specs.Filled.{filled}
 use Rattle.tok_core.specs.Forest.{Tree}
 use Rattle.tok_buffer.specs.Buffer.{Laid}
+use Rattle.tok_buffer.specs.EachRead.{Read, First}
 use Rattle.tok_buffer.specs.Entry.{Entered, enter}
 use Rattle.tok_buffer.specs.Order.{same_scope}
 use Rattle.tok_buffer.specs.Place.{Place, empty_place, start, is_at_end}
@@ -13,12 +14,12 @@ use Rattle.tok_buffer.specs.Reached.{Reached, begin, nowhere}
 use Rattle.tok_buffer.specs.Reads.{skip}
 use Rattle.tok_buffer.specs.Rest.{scope_delimiter}
 use Rattle.tok_buffer.specs.SameView.{leftover_span, SameView}
-use Rattle.tok_buffer.specs.View.{delimiter_in_view, entered_view, IsVisibleDelimiter}
+use Rattle.tok_buffer.specs.View.{entered_view, delimiter_in_view, IsVisibleDelimiter}
 use Rattle.tok_buffer.specs.View.{one_scope_in_view, view, with_view}
 use Rattle.tok_buffer.proofs.View.Laws.{calls_lead_on, reached_leads_on, read-same, starts_agree}
 use Rattle.tok_buffer.proofs.View.Laws.{views_decide, views_tell_delimiters, views_tell_scopes}
 use Rattle.tok_buffer.proofs.View.Moves.{LeadsTo, leads}
-use Rattle.tok_buffer.proofs.View.Readings.{Read, First, Reading}
+use Rattle.tok_buffer.proofs.View.Readings.{Reading}
 
 abbrev pub Alike : Laid → Laid → Place → Place → Type 0
 Alike = SameView

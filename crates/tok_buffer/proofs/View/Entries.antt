@@ -6,10 +6,10 @@ use Rattle.tok_lexical.specs.declared.delimiter.Delimiter.{Delimiter}
 use Rattle.tok_core.specs.Forest.{leaf, group, Forest, no_trees, tree}
 use Rattle.tok_core.specs.Weight.{weight}
 use Rattle.tok_buffer.specs.Descent.{descend}
-use Rattle.tok_buffer.specs.Entry.{Entered, enter, enter_any}
-use Rattle.tok_buffer.specs.InFront.{EnteredAhead, entered_ahead, first_group}
+use Rattle.tok_buffer.specs.Entry.{Entered, EnteredWith, enter, enter_any}
+use Rattle.tok_buffer.specs.InFront.{entered_ahead, first_group}
 use Rattle.tok_buffer.specs.Place.{in_group, level, Place, empty_place, at, pass}
-use Rattle.tok_buffer.specs.View.{EnteredView, entered_view, erased_ahead, IsVisibleDelimiter}
+use Rattle.tok_buffer.specs.View.{entered_view, erased_ahead, IsVisibleDelimiter}
 use Rattle.tok_buffer.specs.View.{View, empty_view, seen, view, visible_after}
 use Rattle.tok_buffer.proofs.View.Erased.{HasScope, in_scope, scope_of, scope-descend}
 use Rattle.tok_buffer.proofs.View.Erased.{erased-settle, leads-scope, view-scope}
@@ -19,11 +19,11 @@ use Rattle.tok_buffer.proofs.View.Marks.{after-content, IsIn, moved-in}
 use Rattle.tok_buffer.proofs.View.Tells.{trees_of, trees-view}
 
 -- a group's content, and the group, in a scope
-abbrev content_in_view : View → EnteredAhead → View
+abbrev content_in_view : View → EnteredWith Forest → View
 content_in_view empty_view e = empty_view
 content_in_view (seen k d f) e = seen (1 + weight e.after + k) e.delimiter e.content
 
-abbrev entry_in_view : View → EnteredAhead → EnteredView
+abbrev entry_in_view : View → EnteredWith Forest → EnteredWith View
 entry_in_view v e =
     record {
       delimiter = e.delimiter;
@@ -32,7 +32,7 @@ entry_in_view v e =
       after = in_scope v e.after;
     }
 
-abbrev pub enter_in_view : Delimiter → View → Option EnteredView
+abbrev pub enter_in_view : Delimiter → View → Option (EnteredWith View)
 enter_in_view d v = option_map (entry_in_view (scope_of v)) (first_group d (trees_of v))
 
 module _ (g : Forest) (v : View) where

@@ -19,7 +19,7 @@ use Rattle.tok_buffer.proofs.View.Ends.{end_tells}
 use Rattle.tok_buffer.proofs.View.Erased.{erased-descend, erased-settle}
 use Rattle.tok_buffer.proofs.View.Keeps.{IsDescended, descended-descend}
 use Rattle.tok_buffer.proofs.View.Places.{reached_stands}
-use Rattle.tok_buffer.proofs.View.Readings.{of_ident, of_word, of_literal, of_punct, of_punctuation}
+use Rattle.tok_buffer.proofs.View.Readings.{each_read}
 use Rattle.tok_buffer.proofs.View.Spans.{leftover_tells}
 use Rattle.tok_buffer.proofs.View.Tells.{tells}
 
@@ -76,11 +76,7 @@ tells-enter d p v = descended-ahead d p
 
 pub ahead_tells : AheadTellsAll
 ahead_tells p = record {
-  idents = tells of_ident p;
-  words = λ wanted. tells (of_word wanted) p;
-  literals = tells of_literal p;
-  puncts = tells of_punct p;
-  punctuations = λ text. tells (of_punctuation text) p;
+  leaves = each_read _ (λ read first r. tells r p);
   enters = λ d v. tells-enter d p v;
   leftovers = leftover_tells p;
 }

@@ -1,6 +1,6 @@
 -- A descent keeps what entering an invisible group keeps, and leaving one.
-use Rattle.std.proofs.Common.{◌≡◌, sym, subst, ℕ, Bool, true, false, cond, ◌+◌, List, [], ◌∷◌, Option, Some}
-use Rattle.std.proofs.Common.{None, arith, add-zero}
+use Rattle.std.proofs.Common.{◌≡◌, sym, subst, ℕ, Bool, true, false, cond, ◌+◌, List, [], ◌∷◌}
+use Rattle.std.proofs.Common.{Option, Some, None, arith, add-zero}
 use Rattle.std.specs.Prelude.{MatchOption, IfSome, unwrap_or, ⊤}
 use Rattle.std.specs.Option.{option_or}
 use Rattle.tok_leaves.specs.declared.span.Span.{Span}

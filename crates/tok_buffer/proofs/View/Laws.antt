@@ -10,6 +10,7 @@ use Rattle.tok_core.specs.Forest.{leaf, group, Forest, no_trees, tree}
 use Rattle.tok_core.proofs.Facts.{concat-none}
 use Rattle.tok_buffer.specs.Buffer.{Laid}
 use Rattle.tok_buffer.specs.Descent.{descend}
+use Rattle.tok_buffer.specs.EachRead.{Read, First}
 use Rattle.tok_buffer.specs.Entry.{Entered, enter, enter_any}
 use Rattle.tok_buffer.specs.InFront.{first_tree_span}
 use Rattle.tok_buffer.specs.Place.{level, Place, empty_place, at, pass, start}
@@ -23,8 +24,7 @@ use Rattle.tok_buffer.proofs.View.Keeps.{of-front}
 use Rattle.tok_buffer.proofs.View.Marks.{after-start}
 use Rattle.tok_buffer.proofs.View.Moves.{Leads, leads, leads-skip}
 use Rattle.tok_buffer.proofs.View.Places.{reached_stands}
-use Rattle.tok_buffer.proofs.View.Readings.{Read, First, Reading, of_ident, of_word, of_keyword}
-use Rattle.tok_buffer.proofs.View.Readings.{of_lifetime, of_literal, of_punct, of_punctuation}
+use Rattle.tok_buffer.proofs.View.Readings.{Reading, each_read}
 use Rattle.tok_buffer.proofs.View.ReadViews.{in_view, skip_in_view, view-reading, view-skip}
 use Rattle.tok_buffer.proofs.View.Spans.{leftover_tells}
 use Rattle.tok_buffer.proofs.View.Standing.{scope-view}
@@ -41,13 +41,7 @@ views_decide b c p q s =
     let g = c.forest in
     let trees = same_trees f g p q s.same in
     record {
-      idents = read-same of_ident f g p q s.same;
-      words = λ wanted. read-same (of_word wanted) f g p q s.same;
-      keywords = λ text. read-same (of_keyword text) f g p q s.same;
-      lifetimes = λ wanted. read-same (of_lifetime wanted) f g p q s.same;
-      literals = read-same of_literal f g p q s.same;
-      puncts = read-same of_punct f g p q s.same;
-      punctuations = λ text. read-same (of_punctuation text) f g p q s.same;
+      leaves = each_read _ (λ read first r. read-same r f g p q s.same);
       skips = view-skip f p ∙ ap skip_in_view s.same ∙ sym (view-skip g q);
       ends =
           ahead_tells_ends b s.left_filled p s.left ∙ ap (λ x. not (has_trees x)) trees
@@ -105,13 +99,7 @@ calls_lead_on b p h =
     let m = reached_leads_on b in
     let R = Reached b in
     record {
-      idents = leads R R m of_ident p h;
-      words = λ wanted. leads R R m (of_word wanted) p h;
-      keywords = λ text. leads R R m (of_keyword text) p h;
-      lifetimes = λ wanted. leads R R m (of_lifetime wanted) p h;
-      literals = leads R R m of_literal p h;
-      puncts = leads R R m of_punct p h;
-      punctuations = λ text. leads R R m (of_punctuation text) p h;
+      leaves = each_read _ (λ read first r. leads R R m r p h);
       skips = leads-skip R R m p h;
       enters = λ d v. entries b d p v h;
     }

@@ -5,11 +5,12 @@ use Rattle.std.specs.Prelude.{⊤, IfSome}
 use Rattle.tok_core.specs.Forest.{Tree, Forest, no_trees, tree}
 use Rattle.tok_core.specs.Weight.{tree_weight}
 use Rattle.tok_buffer.specs.Descent.{descend}
+use Rattle.tok_buffer.specs.EachRead.{Read, First}
 use Rattle.tok_buffer.specs.Place.{Owner, Level, level, Place, empty_place, at, front, pass}
 use Rattle.tok_buffer.specs.Reads.{read_if, and_then, place_after, read_tree, read_lifetime}
 use Rattle.tok_buffer.specs.Reads.{any_text, any_tree, skip}
 use Rattle.tok_buffer.proofs.View.Keeps.{IsKept, kept-settle}
-use Rattle.tok_buffer.proofs.View.Readings.{Read, First, Reading, one, more, never, of_lifetime}
+use Rattle.tok_buffer.proofs.View.Readings.{Reading, one, more, never, of_lifetime}
 
 -- P holds after the front tree, too
 pub record IsMoved (P : Place → Type 0) : Type 0 where

@@ -2,13 +2,14 @@
 use Rattle.std.proofs.Common.{◌≡◌, ◌∙◌, ap, refl, List, Option, Some, None}
 use Rattle.std.specs.Prelude.{option_map}
 use Rattle.tok_core.specs.Forest.{Tree, Forest}
+use Rattle.tok_buffer.specs.EachRead.{Read, First}
 use Rattle.tok_buffer.specs.InFront.{with_ahead}
 use Rattle.tok_buffer.specs.Place.{Place}
 use Rattle.tok_buffer.specs.Reads.{skip}
 use Rattle.tok_buffer.specs.View.{erased_ahead, View, view, with_view}
 use Rattle.tok_buffer.proofs.View.Erased.{HasScope, in_scope, leads-scope, scope_of, view-scope}
 use Rattle.tok_buffer.proofs.View.Moves.{LeadsTo, LeadsAfter, leads, leads-skip}
-use Rattle.tok_buffer.proofs.View.Readings.{Read, First, Reading}
+use Rattle.tok_buffer.proofs.View.Readings.{Reading}
 use Rattle.tok_buffer.proofs.View.Tells.{past_first, skip_tells, tells, trees_of, trees-view}
 
 -- a read, and a skip, in a view

@@ -4,12 +4,13 @@ use Rattle.std.proofs.Common.{◌++◌, length, Option, Some, None, arith}
 use Rattle.std.specs.Prelude.{IfSome}
 use Rattle.tok_core.specs.Forest.{Tree, Forest, no_trees, tree}
 use Rattle.tok_buffer.specs.Ahead.{ahead}
-use Rattle.tok_buffer.specs.InFront.{and_first, first_if, with_ahead}
+use Rattle.tok_buffer.specs.EachRead.{Read, First, and_first, first_if}
+use Rattle.tok_buffer.specs.InFront.{with_ahead}
 use Rattle.tok_buffer.specs.Place.{Place}
 use Rattle.tok_buffer.specs.View.{erased_ahead}
 use Rattle.tok_buffer.proofs.View.Tells.{tells}
 use Rattle.tok_buffer.proofs.View.Spans.{tree_count, length_ahead}
-use Rattle.tok_buffer.proofs.View.Readings.{Read, First, Reading, never, one, more}
+use Rattle.tok_buffer.proofs.View.Readings.{Reading, never, one, more}
 
 abbrev Shortens : Forest → Option (List Tree × Forest) → Type 0
 Shortens f r = IfSome r (λ x. tree_count x.1 + 1 ≤ tree_count f)

@@ -8,14 +8,15 @@ use Rattle.tok_core.specs.Erase.{erase}
 use Rattle.tok_core.specs.Forest.{Tree, leaf, group, Forest, no_trees, tree}
 use Rattle.tok_core.specs.Weight.{weight}
 use Rattle.tok_buffer.specs.Descent.{descend}
-use Rattle.tok_buffer.specs.InFront.{with_ahead, first_if, and_first}
+use Rattle.tok_buffer.specs.EachRead.{Read, First, first_if, and_first}
+use Rattle.tok_buffer.specs.InFront.{with_ahead}
 use Rattle.tok_buffer.specs.Place.{level, Place, empty_place, at, pass}
 use Rattle.tok_buffer.specs.Reads.{read_if, and_then, any_text, is_ident_of, place_after, read_tree}
 use Rattle.tok_buffer.specs.Reads.{read_lifetime, skip}
 use Rattle.tok_buffer.specs.View.{erased_ahead, View, empty_view, seen, view}
 use Rattle.tok_buffer.proofs.View.Erased.{erased-descend, erased-settle}
 use Rattle.tok_buffer.proofs.View.Keeps.{IsDescended, descended-descend}
-use Rattle.tok_buffer.proofs.View.Readings.{Read, First, Reading, never, one, more, IsOfLeaves}
+use Rattle.tok_buffer.proofs.View.Readings.{Reading, never, one, more, IsOfLeaves}
 use Rattle.tok_buffer.proofs.View.Readings.{of_lifetime}
 
 -- the trees of a view

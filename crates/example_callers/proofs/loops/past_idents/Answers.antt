@@ -6,5 +6,6 @@ loop-next-preserved c =
     let read = c.in-Some.ensures {u = tt} in
     let (passed, stays) = c.loop-next.invariant in (
       one_more _ _ _ _ passed read,
-      c.stays_along.ensures.along _ _ _ stays (c.reads_go_on.ensures.idents.stays _ _ _ read),
+      c.stays_along.ensures.along _ _ _ stays
+          (c.reads_go_on.ensures.leaves.idents.stays _ _ _ read),
     )
