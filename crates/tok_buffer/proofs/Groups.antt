@@ -82,7 +82,7 @@ module _ (F : Forest) (n s : ℕ) (d : Delimiter) (t : Span) (c f : Forest)
   inside_settled =
       ap (λ x. is_settled x.0 (up_to (end_of (n + 1) x.0) (n + (weight c + 1)) x.1)) inside
       ∙ ap (is_settled (level (in_group d t) no_trees c)) no_outer
-      ∙ root_settled (in_group d t) no_trees c
+      ∙ root_settled (level (in_group d t) no_trees c)
 
   pub inside_place : (k : ℕ) → place_at k F (n + 1) (n + (weight c + 1))
       ≡ at k (n + 1 + weight c) (n + 1) (level (in_group d t) no_trees c) []

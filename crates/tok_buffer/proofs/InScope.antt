@@ -105,9 +105,9 @@ pub end_is : (k s n : ℕ) (l : Level) (us : List Level) → is_at_end (at k s n
 end_is k s n (level o p no_trees) us = refl
 end_is k s n (level o p (tree t f)) us = refl
 
-pub root_settled : (o : Owner) (p f : Forest) → is_settled (level o p f) [] ≡ true
-root_settled o p no_trees = refl
-root_settled o p (tree t f) = refl
+pub root_settled : (l : Level) → is_settled l [] ≡ true
+root_settled (level o p no_trees) = refl
+root_settled (level o p (tree t f)) = refl
 
 front_settled : (l : Level) (us : List Level) → at_end (level_ahead l) ≡ false →
     is_settled l us ≡ true
@@ -121,15 +121,15 @@ settled_same k s n (level o p no_trees) (u ∷ us) h = absurd (false≢true h)
 settled_same k s n (level o p (tree t f)) [] h = refl
 settled_same k s n (level o p (tree t f)) (u ∷ us) h = refl
 
--- at the scope's end no outer level is seen
-scope_settled : (s : ℕ) (l : Level) (us : List Level) → In s s (l, us) →
-    is_settled l (up_to (end_of s l) s us) ≡ true
-scope_settled s (level o p (tree t f)) us h = refl
-scope_settled s (level o p no_trees) [] h = refl
-scope_settled s (level o p no_trees) (u ∷ us) h =
-    ap (is_settled (level o p no_trees))
-    (cond-true (eqb (s + 0) s) [] (u ∷ up_to (s + 0 + 1 + weight (level_ahead u)) s us)
-    (eq-eqb _ _ (omega arith)))
+-- at the scope's end nothing is ahead, and no outer level is seen
+pub scope_end : (n s : ℕ) (l : Level) (us : List Level) → In n s (l, us) → n ≡ s →
+    (level_ahead l ≡ no_trees) × (up_to (end_of n l) s us ≡ [])
+scope_end n s (level o p (tree (leaf i) f)) us h e = absurd (omega (arith, ends_later _ s us h, e))
+scope_end n s (level o p (tree (group d c t) f)) us h e =
+    absurd (omega (arith, ends_later _ s us h, e))
+scope_end n s (level o p no_trees) [] h e = (refl, refl)
+scope_end n s (level o p no_trees) (u ∷ us) h e =
+    (refl, cond-true (eqb (n + 0) s) [] _ (eq-eqb (n + 0) s (omega (arith, e))))
 
 settle_end : (k n s : ℕ) (l : Level) (us : List Level) → In n s (l, us) → n ≢ s →
     at_end (level_ahead l) ≡ true → settled (advance (seen k s n (l, us)))
@@ -175,8 +175,7 @@ settled_front F n s h = front_settled (levels_at F n).0
 pub settled_scope : (F : Forest) (n s : ℕ) → in_scope F n s ≡ true → n ≡ s → settled_at F n s ≡ true
 settled_scope F n s h e =
     let x = levels_at F n in
-    let P : ℕ → Type 0 = λ m. In n m x → is_settled x.0 (up_to (end_of n x.0) m x.1) ≡ true in
-    subst P e (scope_settled n x.0 x.1) h
+    ap (is_settled x.0) (scope_end n s x.0 x.1 h e).1 ∙ root_settled x.0
 
 pub not_at_scope : (F : Forest) (n s : ℕ) → in_scope F n s ≡ true → settled_at F n s ≡ true →
     at_end (level_ahead (levels_at F n).0) ≡ false → n ≢ s

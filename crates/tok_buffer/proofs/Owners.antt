@@ -1,8 +1,7 @@
 -- The owner of a scope, from its end.
-use Rattle.std.proofs.Common.{◌≡◌, ℕ, zero, suc, ◌+◌, ◌-◌, ◌≤◌, ◌≢◌, true, eqb, List, [], ◌∷◌}
+use Rattle.std.proofs.Common.{◌≡◌, ℕ, zero, suc, ◌+◌, ◌-◌, ◌≤◌, ◌≢◌, true, List, [], ◌∷◌}
 use Rattle.std.proofs.Common.{◌++◌, length, get_or, refl, ap, sym, ◌∙◌, subst, arith}
-use Rattle.std.proofs.Common.{append_assoc, length-append, eq-eqb}
-use Rattle.std.proofs.lemmas.Bool.{cond-true}
+use Rattle.std.proofs.Common.{append_assoc, length-append}
 use Rattle.std.proofs.lemmas.List.{get_or_at}
 use Rattle.tok_core.specs.Forest.{leaf, group, Forest, no_trees, tree, turned_onto}
 use Rattle.tok_core.specs.Weight.{weight}
@@ -16,7 +15,7 @@ use Rattle.tok_buffer.specs.declared.entry.Entry.{Entry}
 use Rattle.tok_buffer.specs.declared.entry.Entry.TheVariants.{End}
 use Rattle.tok_buffer.proofs.Layouts.{length-layout, not_leaf}
 use Rattle.tok_buffer.proofs.Stacks.{At, at_all, entry_at, after, outside}
-use Rattle.tok_buffer.proofs.InScope.{place_step, In, ends_later, before_scope}
+use Rattle.tok_buffer.proofs.InScope.{place_step, scope_end, before_scope}
 
 absorb-delimiter : (o : Owner) (p : Forest) (u : Level) (us : List Level) →
     levels_delimiter (absorb o p u) us ≡ levels_delimiter u us
@@ -33,13 +32,6 @@ delimiter_moves (level o p (tree (group d c t) f)) (u ∷ us) = refl
 delimiter_moves (level o p no_trees) [] = refl
 delimiter_moves (level o p no_trees) (u ∷ us) = absorb-delimiter o p u us
 
-scope_outer : (s : ℕ) (l : Level) (us : List Level) → In s s (l, us) → up_to (end_of s l) s us ≡ []
-scope_outer s (level o p (tree (leaf i) f)) us h = absurd (omega (arith, ends_later _ s us h))
-scope_outer s (level o p (tree (group x c t) f)) us h = absurd (omega (arith, ends_later _ s us h))
-scope_outer s (level o p no_trees) [] h = refl
-scope_outer s (level o p no_trees) (u ∷ us) h = cond-true (eqb (s + 0) s) [] _
-    (eq-eqb (s + 0) s (omega arith))
-
 root_delimiter : (l : Level) → levels_delimiter l [] ≡ owner_delimiter (level_owner l)
 root_delimiter (level o p a) = refl
 
@@ -52,7 +44,7 @@ scope_is_end k F n s h zero e =
     let hs : in_scope F s s ≡ true = subst (λ z. in_scope F z s ≡ true) q h in (
       hs,
       ap (λ z. scope_delimiter (place_at k F z s)) q
-          ∙ ap (levels_delimiter x.0) (scope_outer s x.0 x.1 hs) ∙ root_delimiter x.0,
+          ∙ ap (levels_delimiter x.0) (scope_end s s x.0 x.1 hs refl).1 ∙ root_delimiter x.0,
     )
 scope_is_end k F n s h (suc m) e =
     let ne : n ≢ s = λ x. absurd (omega arith) in
@@ -62,17 +54,11 @@ scope_is_end k F n s h (suc m) e =
     let r = scope_is_end k F (n + 1) s t.0 m (omega arith) in
     (r.0, sym (delimiter_moves x.0 us) ∙ sym (ap scope_delimiter t.1) ∙ r.1)
 
-end_at_scope : (s : ℕ) (l : Level) (us : List Level) → In s s (l, us) → at_end (level_ahead l)
-    ≡ true
-end_at_scope s (level o p (tree (leaf i) f)) us h = absurd (omega (arith, ends_later _ s us h))
-end_at_scope s (level o p (tree (group x c t) f)) us h = absurd (omega (arith, ends_later _ s us h))
-end_at_scope s (level o p no_trees) us h = refl
-
 pub scope_ends : (F : Forest) (n s : ℕ) → in_scope F n s ≡ true →
     at_end (level_ahead (levels_at F s).0) ≡ true
 scope_ends F n s h =
     let r = scope_is_end 0 F n s h (s - n) (omega (arith, before_scope F n s h)) in
-    end_at_scope s (levels_at F s).0 (levels_at F s).1 r.0
+    ap at_end (scope_end s s (levels_at F s).0 (levels_at F s).1 r.0 refl).0
 
 pub scope_owner : (k : ℕ) (F : Forest) (n s : ℕ) → in_scope F n s ≡ true →
     scope_delimiter (place_at k F n s) ≡ owner_delimiter (level_owner (levels_at F s).0)

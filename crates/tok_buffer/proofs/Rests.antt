@@ -1,7 +1,6 @@
 -- The trees ahead, entry by entry.
-use Rattle.std.proofs.Common.{◌≡◌, ℕ, ◌+◌, ◌≢◌, true, eqb, List, [], ◌∷◌, refl, ap, sym, ◌∙◌}
-use Rattle.std.proofs.Common.{subst, arith, eq-eqb}
-use Rattle.std.proofs.lemmas.Bool.{cond-true}
+use Rattle.std.proofs.Common.{◌≡◌, ℕ, ◌+◌, ◌≢◌, true, List, ◌∷◌, refl, ap, ap₂, sym, ◌∙◌}
+use Rattle.std.proofs.Common.{subst}
 use Rattle.tok_leaves.specs.Leaves.{Leaf}
 use Rattle.tok_core.specs.Forest.{Tree, leaf, group, Forest, no_trees, tree, concat}
 use Rattle.tok_core.proofs.Facts.{concat-none, joined_assoc}
@@ -12,7 +11,7 @@ use Rattle.tok_buffer.specs.Private.Layout.{leaf_entry, entry_here}
 use Rattle.tok_buffer.specs.declared.entry.Opening.{Opening as Sort}
 use Rattle.tok_buffer.specs.declared.entry.Entry.TheVariants.{Group, End}
 use Rattle.tok_buffer.proofs.Layouts.{same_leaf, not_leaf}
-use Rattle.tok_buffer.proofs.InScope.{ahead-absorb, place_step, In, outer_seen, ends_later}
+use Rattle.tok_buffer.proofs.InScope.{ahead-absorb, place_step, In, outer_seen, scope_end}
 use Rattle.tok_buffer.proofs.Groups.{group_front, inside_place, after_place}
 
 -- what is ahead at a count
@@ -72,20 +71,11 @@ rest_close F n s k h ne e =
     ∙ sym (rest_is 0 s (n + 1) (move x.0 us).0 (move x.0 us).1)
     ∙ ap rest (sym (place_step 0 n s F h ne).1)
 
-end_rest : (s : ℕ) (l : Level) (us : List Level) → In s s (l, us) →
-    concat (level_ahead l) (rest_in (up_to (end_of s l) s us)) ≡ no_trees
-end_rest s (level o p (tree (leaf i) f)) us h = absurd (omega (arith, ends_later _ s us h))
-end_rest s (level o p (tree (group x c t) f)) us h = absurd (omega (arith, ends_later _ s us h))
-end_rest s (level o p no_trees) [] h = refl
-end_rest s (level o p no_trees) (u ∷ us) h =
-    ap rest_in (cond-true (eqb (s + 0) s) [] _ (eq-eqb (s + 0) s (omega arith)))
-
 pub rest_done : (F : Forest) (n s : ℕ) → in_scope F n s ≡ true → n ≡ s → rest_at F n s ≡ no_trees
 rest_done F n s h e =
     let x = levels_at F n in
-    let P : ℕ → Type 0 = λ m. In n m x →
-    concat (level_ahead x.0) (rest_in (up_to (end_of n x.0) m x.1)) ≡ no_trees in
-    rest_is 0 s n x.0 (up_to (end_of n x.0) s x.1) ∙ subst P e (end_rest n x.0 x.1) h
+    let q = scope_end n s x.0 x.1 h e in
+    rest_is 0 s n x.0 (up_to (end_of n x.0) s x.1) ∙ ap₂ (λ f ls. concat f (rest_in ls)) q.0 q.1
 
 -- a group: its content, then what follows it
 pub rest_group : (F : Forest) (n s : ℕ) (g : Sort) (k : ℕ) → in_scope F n s ≡ true →

@@ -1,8 +1,8 @@
 -- One scan forward finds the first visible tree.
-use Rattle.std.proofs.Common.{◌≡◌, ℕ, zero, suc, ◌+◌, ◌-◌, ◌≢◌, Bool, true, false, eqb, List, []}
-use Rattle.std.proofs.Common.{◌∷◌, ◌++◌, Some, refl, ap, sym, ◌∙◌, subst, arith, append_assoc}
-use Rattle.std.proofs.Common.{add-one, ltb, eq-eqb, lt-ltb}
-use Rattle.std.proofs.lemmas.Bool.{false≢true, cond-true}
+use Rattle.std.proofs.Common.{◌≡◌, ℕ, zero, suc, ◌+◌, ◌-◌, ◌≢◌, Bool, true, false, List, []}
+use Rattle.std.proofs.Common.{◌∷◌, ◌++◌, Some, refl, ap, sym, ◌∙◌, arith, append_assoc}
+use Rattle.std.proofs.Common.{add-one, ltb, lt-ltb}
+use Rattle.std.proofs.lemmas.Bool.{false≢true}
 use Rattle.tok_leaves.specs.declared.span.Span.{Span}
 use Rattle.tok_lexical.specs.declared.delimiter.Delimiter.{Delimiter}
 use Rattle.tok_lexical.specs.declared.delimiter.Delimiter.TheVariants as delimiter
@@ -18,7 +18,7 @@ use Rattle.tok_buffer.specs.declared.entry.Opening.{Opening as Sort}
 use Rattle.tok_buffer.specs.declared.entry.Entry.TheVariants.{Group, End}
 use Rattle.tok_buffer.proofs.Layouts.{same_leaf, not_leaf}
 use Rattle.tok_buffer.proofs.Stacks.{levels_next}
-use Rattle.tok_buffer.proofs.InScope.{ahead-absorb, In, seen_step, outer_seen, ends_later}
+use Rattle.tok_buffer.proofs.InScope.{ahead-absorb, In, seen_step, outer_seen, scope_end}
 
 -- what is ahead where the innermost d levels are marked
 abbrev pub shown_at : ℕ → Level → List Level → List (Bool × Tree)
@@ -127,19 +127,10 @@ scan_group d (level o p (tree (group x c t) f)) us g k e q =
     group_first d o p x t c f us (ap (λ y. same_delimiter y.delimiter delimiter.None) h ∙ q)
     ∙ ap (λ y. Some (marked d, y.span)) h
 
-none_shown : (d : ℕ) (o : Owner) (p : Forest) → shown_at d (level o p no_trees) [] ≡ []
-none_shown zero o p = refl
-none_shown (suc d) o p = refl
-
 -- at the scope's end nothing is shown
-ends_empty : (d s : ℕ) (l : Level) (us : List Level) → In s s (l, us) →
-    shown_at d l (up_to (end_of s l) s us) ≡ []
-ends_empty d s (level o p (tree (leaf i) f)) us h = absurd (omega (arith, ends_later _ s us h))
-ends_empty d s (level o p (tree (group x c t) f)) us h = absurd (omega (arith, ends_later _ s us h))
-ends_empty d s (level o p no_trees) [] h = none_shown d o p
-ends_empty d s (level o p no_trees) (u ∷ us) h =
-    ap (shown_at d (level o p no_trees))
-    (cond-true (eqb (s + 0) s) [] _ (eq-eqb (s + 0) s (omega arith))) ∙ none_shown d o p
+none_shown : (d : ℕ) (l : Level) → level_ahead l ≡ no_trees → shown_at d l [] ≡ []
+none_shown zero l h = ap (λ f. visible false f ++ []) h
+none_shown (suc d) l h = ap (visible true) h
 
 -- what is shown at a count
 abbrev pub shown_from : ℕ → Forest → ℕ → ℕ → List (Bool × Tree)
@@ -150,8 +141,8 @@ pub shown_done : (d : ℕ) (F : Forest) (n s : ℕ) → in_scope F n s ≡ true 
     shown_from d F n s ≡ []
 shown_done d F n s h e =
     let x = levels_at F n in
-    let P : ℕ → Type 0 = λ m. In n m x → shown_at d x.0 (up_to (end_of n x.0) m x.1) ≡ [] in
-    subst P e (ends_empty d n x.0 x.1) h
+    let q = scope_end n s x.0 x.1 h e in
+    ap (shown_at d x.0) q.1 ∙ none_shown d x.0 q.0
 
 abbrev outer_of : Place → List Level
 outer_of empty_place = []

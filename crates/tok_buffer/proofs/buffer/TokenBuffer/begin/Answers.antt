@@ -10,7 +10,7 @@ unfolding levels_at
 invariant_of-at c = record {
   in_buffer = omega (arith, c.last.ensures);
   within = eq-eqb _ _ (omega (arith, c.last.ensures));
-  settled = root_settled whole no_trees c.args.self.now.forest;
+  settled = root_settled (level whole no_trees c.args.self.now.forest);
 }
 
 pub returns : goal.returns
