@@ -1,4 +1,4 @@
-use Rattle.std.proofs.Common.{◌≡◌, ◌∙◌, ◌+◌, sym, ap, arith}
+use Rattle.std.proofs.Common.{◌≡◌, ◌∙◌, ◌+◌, refl, sym, ap, arith}
 use Rattle.tok_core.specs.Forest.{concat, leaf, group}
 use Rattle.tok_core.specs.Seen.{tree_of}
 use Rattle.tok_core.specs.declared.stream.TokenTree.TheVariants as made
@@ -12,31 +12,13 @@ use Rattle.tok_buffer.proofs.Rests.{rest_at, rest_any, rest_leaf, rest_close, re
 use Rattle.tok_buffer.proofs.Rests.{rest_group, tree_copied}
 use Rattle.tok_buffer.proofs.cursor.rest.+copy_ahead.Goals as goal
 
-pub entry-requires : goal.entry-requires
-entry-requires t c =
-    omega (
-      arith,
-      before_scope c.args.buffer.now.forest c.loop-position.position c.args.scope
-          c.loop-position.invariant.within,
-      c.requires.in_buffer,
-    )
-
-pub overflow_add-position : goal.overflow_add-position
-overflow_add-position t c =
-    omega (
-      arith,
-      before_scope c.args.buffer.now.forest c.loop-position.position c.args.scope
-          c.loop-position.invariant.within,
-      c.ranges.scope.fits,
-    )
-
-pub loop-position-smaller-in-Leaf : goal.loop-position-smaller-in-Leaf
-loop-position-smaller-in-Leaf t c =
-    omega (
-      arith,
-      before_scope c.args.buffer.now.forest c.loop-position.position c.args.scope
-          c.loop-position.invariant.within,
-    )
+pub loop-position-init : goal.loop-position-init
+loop-position-init t c = record {
+  within = c.requires.within;
+  before = before_scope _ _ _ c.requires.within;
+  later = omega arith;
+  same = refl;
+}
 
 pub loop-position-preserved-in-Leaf : goal.loop-position-preserved-in-Leaf
 loop-position-preserved-in-Leaf t c =
@@ -46,6 +28,7 @@ loop-position-preserved-in-Leaf t c =
     let i = c.loop-position.invariant in
     record {
       within = (place_step 0 n s F i.within c.loop-position-test.true).0;
+      before = omega (arith, i.before, c.loop-position-test.true);
       later = omega (arith, i.later);
       same = tree_copied c.append.new.self c.loop-position.stream (rest_at F (n + 1) s)
           (rest_at F n s) (leaf (leaf_in c.in-Leaf.leaf))
@@ -55,30 +38,19 @@ loop-position-preserved-in-Leaf t c =
           (sym c.entry.ensures ∙ c.held.ensures ∙ ap entry_of c.in-Leaf.is)) ∙ i.same;
     }
 
-pub overflow_add-position-in-Group : goal.overflow_add-position-in-Group
-overflow_add-position-in-Group t c =
-    omega (
-      arith,
-      before_scope c.args.buffer.now.forest c.loop-position.position c.args.scope
-          c.loop-position.invariant.within,
-      c.ranges.scope.fits,
-    )
-
 pub overflow_add-position-in-Group-2 : goal.overflow_add-position-in-Group-2
 overflow_add-position-in-Group-2 t c =
     omega (
       arith,
-      held_fits c.args.buffer.now.forest c.loop-position.position c.args.scope
-          c.in-Group.group.now c.in-Group.offset c.loop-position.invariant.within
+      held_fits _ _ _ _ _ c.loop-position.invariant.within
           (sym c.entry.ensures ∙ c.held.ensures ∙ ap entry_of c.in-Group.is),
       c.ranges.scope.fits,
     )
 
 pub copy_ahead-requires : goal.copy_ahead-requires
 copy_ahead-requires t c =
-    let f = held_fits c.args.buffer.now.forest c.loop-position.position c.args.scope
-    c.in-Group.group.now c.in-Group.offset c.loop-position.invariant.within
-    (sym c.entry.ensures ∙ c.held.ensures ∙ ap entry_of c.in-Group.is) in (
+    let f = held_fits _ _ _ _ _ c.loop-position.invariant.within
+          (sym c.entry.ensures ∙ c.held.ensures ∙ ap entry_of c.in-Group.is) in (
       omega (arith, f, c.decreases, c.loop-position.invariant.later),
       (
         omega (arith, f, c.requires.in_buffer),
@@ -92,8 +64,7 @@ pub overflow_add-position-in-Group-3 : goal.overflow_add-position-in-Group-3
 overflow_add-position-in-Group-3 t c =
     omega (
       arith,
-      held_fits c.args.buffer.now.forest c.loop-position.position c.args.scope
-          c.in-Group.group.now c.in-Group.offset c.loop-position.invariant.within
+      held_fits _ _ _ _ _ c.loop-position.invariant.within
           (sym c.entry.ensures ∙ c.held.ensures ∙ ap entry_of c.in-Group.is),
       c.ranges.scope.fits,
     )
@@ -102,8 +73,7 @@ pub overflow_add-position-in-Group-4 : goal.overflow_add-position-in-Group-4
 overflow_add-position-in-Group-4 t c =
     omega (
       arith,
-      held_fits c.args.buffer.now.forest c.loop-position.position c.args.scope
-          c.in-Group.group.now c.in-Group.offset c.loop-position.invariant.within
+      held_fits _ _ _ _ _ c.loop-position.invariant.within
           (sym c.entry.ensures ∙ c.held.ensures ∙ ap entry_of c.in-Group.is),
       c.ranges.scope.fits,
     )
@@ -112,8 +82,7 @@ pub loop-position-smaller-in-Group : goal.loop-position-smaller-in-Group
 loop-position-smaller-in-Group t c =
     omega (
       arith,
-      held_fits c.args.buffer.now.forest c.loop-position.position c.args.scope
-          c.in-Group.group.now c.in-Group.offset c.loop-position.invariant.within
+      held_fits _ _ _ _ _ c.loop-position.invariant.within
           (sym c.entry.ensures ∙ c.held.ensures ∙ ap entry_of c.in-Group.is),
     )
 
@@ -130,6 +99,7 @@ loop-position-preserved-in-Group t c =
     let inner = rest_at F (n + 1) (n + k) in
     record {
       within = held_after F n s g k i.within e;
+      before = before_scope F (n + k + 1) s (held_after F n s g k i.within e);
       later = omega (arith, i.later);
       same = tree_copied c.append-in-Group.new.self c.loop-position.stream
           (rest_at F (n + k + 1) s) (rest_at F n s) (group g.delimiter inner g.span)
@@ -140,23 +110,6 @@ loop-position-preserved-in-Group t c =
           (n + 1) (n + k))) (rest_group F n s g k i.within e) ∙ i.same;
     }
 
-pub overflow_add-position-in-End : goal.overflow_add-position-in-End
-overflow_add-position-in-End t c =
-    omega (
-      arith,
-      before_scope c.args.buffer.now.forest c.loop-position.position c.args.scope
-          c.loop-position.invariant.within,
-      c.ranges.scope.fits,
-    )
-
-pub loop-position-smaller : goal.loop-position-smaller
-loop-position-smaller t c =
-    omega (
-      arith,
-      before_scope c.args.buffer.now.forest c.loop-position.position c.args.scope
-          c.loop-position.invariant.within,
-    )
-
 pub loop-position-preserved : goal.loop-position-preserved
 loop-position-preserved t c =
     let F = c.args.buffer.now.forest in
@@ -165,6 +118,7 @@ loop-position-preserved t c =
     let i = c.loop-position.invariant in
     record {
       within = (place_step 0 n s F i.within c.loop-position-test.true).0;
+      before = omega (arith, i.before, c.loop-position-test.true);
       later = omega (arith, i.later);
       same = ap (concat c.loop-position.stream)
           (sym (rest_close F n s c.in-End.field-0 i.within c.loop-position-test.true

@@ -10,6 +10,7 @@ decreases-copy_ahead l = l.scope - l.from
 abbrev pub invariant-loop-position : goal.invariant-loop-position
 invariant-loop-position l = record {
   within : in_scope l.buffer.forest l.position l.scope ≡ true;
+  before : l.position ≤ l.scope;
   later : l.from ≤ l.position;
   same : concat l.stream (rest_at l.buffer.forest l.position l.scope) ≡ concat l.fn.stream
       (rest_at l.buffer.forest l.from l.scope);

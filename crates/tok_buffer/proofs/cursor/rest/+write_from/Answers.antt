@@ -33,36 +33,11 @@ group_written done space front inside close rest =
 pub loop-position-init : goal.loop-position-init
 loop-position-init g t c = record {
   within = c.requires.within;
+  before = before_scope _ _ _ c.requires.within;
   later = omega arith;
   written =
       search rules;
 }
-
-pub entry-requires : goal.entry-requires
-entry-requires g t c =
-    omega (
-      arith,
-      before_scope c.args.buffer.now.forest c.loop-position.position c.args.scope
-          c.loop-position.invariant.within,
-      c.requires.in_buffer,
-    )
-
-pub overflow_add-position : goal.overflow_add-position
-overflow_add-position g t c =
-    omega (
-      arith,
-      before_scope c.args.buffer.now.forest c.loop-position.position c.args.scope
-          c.loop-position.invariant.within,
-      c.ranges.scope.fits,
-    )
-
-pub loop-position-smaller-in-Leaf : goal.loop-position-smaller-in-Leaf
-loop-position-smaller-in-Leaf g t c =
-    omega (
-      arith,
-      before_scope c.args.buffer.now.forest c.loop-position.position c.args.scope
-          c.loop-position.invariant.within,
-    )
 
 pub loop-position-preserved-in-Leaf : goal.loop-position-preserved-in-Leaf
 loop-position-preserved-in-Leaf g t c =
@@ -76,6 +51,7 @@ loop-position-preserved-in-Leaf g t c =
     (sym c.entry.ensures ∙ c.held.ensures ∙ ap entry_of c.in-Leaf.is) in
     record {
       within = (place_step 0 n s F i.within c.loop-position-test.true).0;
+      before = omega (arith, i.before, c.loop-position-test.true);
       later = omega (arith, i.later);
       written =
           λ plain.
@@ -92,21 +68,11 @@ loop-position-preserved-in-Leaf g t c =
           );
     }
 
-pub overflow_add-position-in-Group : goal.overflow_add-position-in-Group
-overflow_add-position-in-Group g t c =
-    omega (
-      arith,
-      before_scope c.args.buffer.now.forest c.loop-position.position c.args.scope
-          c.loop-position.invariant.within,
-      c.ranges.scope.fits,
-    )
-
 pub overflow_add-position-in-Group-2 : goal.overflow_add-position-in-Group-2
 overflow_add-position-in-Group-2 g t c =
     omega (
       arith,
-      held_fits c.args.buffer.now.forest c.loop-position.position c.args.scope
-          c.in-Group.group.now c.in-Group.offset c.loop-position.invariant.within
+      held_fits _ _ _ _ _ c.loop-position.invariant.within
           (sym c.entry.ensures ∙ c.held.ensures ∙ ap entry_of c.in-Group.is),
       c.ranges.scope.fits,
     )
@@ -131,8 +97,7 @@ pub overflow_add-position-in-Group-3 : goal.overflow_add-position-in-Group-3
 overflow_add-position-in-Group-3 g t c =
     omega (
       arith,
-      held_fits c.args.buffer.now.forest c.loop-position.position c.args.scope
-          c.in-Group.group.now c.in-Group.offset c.loop-position.invariant.within
+      held_fits _ _ _ _ _ c.loop-position.invariant.within
           (sym c.entry.ensures ∙ c.held.ensures ∙ ap entry_of c.in-Group.is),
       c.ranges.scope.fits,
     )
@@ -141,8 +106,7 @@ pub overflow_add-position-in-Group-4 : goal.overflow_add-position-in-Group-4
 overflow_add-position-in-Group-4 g t c =
     omega (
       arith,
-      held_fits c.args.buffer.now.forest c.loop-position.position c.args.scope
-          c.in-Group.group.now c.in-Group.offset c.loop-position.invariant.within
+      held_fits _ _ _ _ _ c.loop-position.invariant.within
           (sym c.entry.ensures ∙ c.held.ensures ∙ ap entry_of c.in-Group.is),
       c.ranges.scope.fits,
     )
@@ -151,8 +115,7 @@ pub loop-position-smaller-in-Group : goal.loop-position-smaller-in-Group
 loop-position-smaller-in-Group g t c =
     omega (
       arith,
-      held_fits c.args.buffer.now.forest c.loop-position.position c.args.scope
-          c.in-Group.group.now c.in-Group.offset c.loop-position.invariant.within
+      held_fits _ _ _ _ _ c.loop-position.invariant.within
           (sym c.entry.ensures ∙ c.held.ensures ∙ ap entry_of c.in-Group.is),
     )
 
@@ -170,6 +133,7 @@ loop-position-preserved-in-Group g t c =
     let inside = text (rest_at F (n + 1) (n + k)) in
     record {
       within = held_after F n s o k i.within e;
+      before = before_scope F (n + k + 1) s (held_after F n s o k i.within e);
       later = omega (arith, i.later);
       written =
           λ plain.
@@ -194,23 +158,6 @@ loop-position-preserved-in-Group g t c =
           );
     }
 
-pub overflow_add-position-in-End : goal.overflow_add-position-in-End
-overflow_add-position-in-End g t c =
-    omega (
-      arith,
-      before_scope c.args.buffer.now.forest c.loop-position.position c.args.scope
-          c.loop-position.invariant.within,
-      c.ranges.scope.fits,
-    )
-
-pub loop-position-smaller : goal.loop-position-smaller
-loop-position-smaller g t c =
-    omega (
-      arith,
-      before_scope c.args.buffer.now.forest c.loop-position.position c.args.scope
-          c.loop-position.invariant.within,
-    )
-
 pub loop-position-preserved : goal.loop-position-preserved
 loop-position-preserved g t c =
     let F = c.args.buffer.now.forest in
@@ -221,6 +168,7 @@ loop-position-preserved g t c =
     (sym c.entry.ensures ∙ c.held.ensures ∙ ap entry_of c.in-End.is) in
     record {
       within = (place_step 0 n s F i.within c.loop-position-test.true).0;
+      before = omega (arith, i.before, c.loop-position-test.true);
       later = omega (arith, i.later);
       written =
           λ plain.

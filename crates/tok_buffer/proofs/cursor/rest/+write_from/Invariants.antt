@@ -11,6 +11,7 @@ decreases-write_from g l = l.scope - l.from
 abbrev pub invariant-loop-position : goal.invariant-loop-position
 invariant-loop-position g l = record {
   within : in_scope l.buffer.forest l.position l.scope ≡ true;
+  before : l.position ≤ l.scope;
   later : l.from ≤ l.position;
   written : IsPlainFormatter l.initial.f → (done : List ℕ) × HasWritten g.W.Write.write_str_gives
       l.initial.f done l.f

@@ -1,4 +1,4 @@
-use Rattle.std.proofs.Common.{◌∙◌, ◌+◌, Some, sym, ap, arith}
+use Rattle.std.proofs.Common.{◌∙◌, ◌+◌, Some, refl, sym, ap, arith}
 use Rattle.tok_buffer.specs.Moves.{levels_at, up_to, end_of}
 use Rattle.tok_buffer.specs.Ahead.{first_of}
 use Rattle.tok_buffer.specs.Private.Layout.{entry_of, leaf_in}
@@ -8,41 +8,13 @@ use Rattle.tok_buffer.proofs.Scans.{scan_leaf, scan_group, marked, marked_is}
 use Rattle.tok_buffer.proofs.cursor.spans.scan.Goals as goal
 use Rattle.tok_buffer.proofs.cursor.spans.scan.Goals.{in-Group+else-not-same, in-End}
 
-pub entry-requires : goal.entry-requires
-entry-requires c =
-    omega (
-      arith,
-      before_scope c.args.buffer.now.forest c.loop-position.position c.args.scope
-          c.loop-position.invariant.within,
-      c.requires.in_buffer,
-    )
-
-pub overflow_add-depth : goal.overflow_add-depth
-overflow_add-depth c =
-    omega (
-      arith,
-      before_scope c.args.buffer.now.forest c.loop-position.position c.args.scope
-          c.loop-position.invariant.within,
-      c.loop-position.invariant.small,
-      c.ranges.scope.fits,
-    )
-
-pub overflow_add-position : goal.overflow_add-position
-overflow_add-position c =
-    omega (
-      arith,
-      before_scope c.args.buffer.now.forest c.loop-position.position c.args.scope
-          c.loop-position.invariant.within,
-      c.ranges.scope.fits,
-    )
-
-pub loop-position-smaller : goal.loop-position-smaller
-loop-position-smaller c =
-    omega (
-      arith,
-      before_scope c.args.buffer.now.forest c.loop-position.position c.args.scope
-          c.loop-position.invariant.within,
-    )
+pub loop-position-init : goal.loop-position-init
+loop-position-init c = record {
+  within = c.requires.within;
+  before = before_scope _ _ _ c.requires.within;
+  small = omega arith;
+  same = refl;
+}
 
 pub loop-position-preserved : goal.loop-position-preserved
 loop-position-preserved c =
@@ -53,6 +25,7 @@ loop-position-preserved c =
     elim c.match-held.branch [
       | in-Group+else-not-same w ↦ record {
         within = (place_step 0 n s F i.within c.loop-position-test.true).0;
+        before = omega (arith, i.before, c.loop-position-test.true);
         small = omega (arith, w.depth-is, i.small);
         same = ap (λ z. shown_from z F (n + 1) s) w.depth-is
             ∙ shown_open c.loop-position.depth F n s w.in-Group.group.now w.in-Group.field-1
@@ -62,6 +35,7 @@ loop-position-preserved c =
       }
       | in-End w ↦ record {
         within = (place_step 0 n s F i.within c.loop-position-test.true).0;
+        before = omega (arith, i.before, c.loop-position-test.true);
         small = omega (arith, w.depth-is, w.saturating_sub-depth.ensures, i.small);
         same = ap (λ z. shown_from z F (n + 1) s) (w.depth-is ∙ w.saturating_sub-depth.ensures)
             ∙ shown_close c.loop-position.depth F n s w.in-End.field-0 i.within

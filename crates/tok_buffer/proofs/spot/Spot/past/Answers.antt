@@ -1,43 +1,23 @@
 use Rattle.std.proofs.Common.{◌≡◌, true, arith, ◌∙◌, sym}
 use Rattle.tok_buffer.specs.Moves.{settled_at}
-use Rattle.tok_buffer.proofs.InScope.{before_scope, settle_step, settled_front, settled_scope}
+use Rattle.tok_buffer.proofs.InScope.{settle_step, settled_front, settled_scope}
 use Rattle.tok_buffer.proofs.InScope.{place_settled}
 use Rattle.tok_buffer.proofs.spot.Spot.past.Goals as goal
 use Rattle.tok_buffer.proofs.spot.Spot.past.Goals.{then-loop-position-test+else-ends_at}
 use Rattle.tok_buffer.proofs.spot.Spot.past.Goals.{else-loop-position-test}
 
-pub ends_at-requires : goal.ends_at-requires
-ends_at-requires c =
-    let n = c.loop-position.position in
-    omega (
-      arith,
-      before_scope c.args.buffer.now.forest n c.args.scope
-          c.loop-position.invariant.0,
-      c.requires.in_buffer,
-    )
-
-pub overflow_add-position-in-loop-position : goal.overflow_add-position-in-loop-position
-overflow_add-position-in-loop-position c =
-    let n = c.loop-position.position in
-    omega (
-      arith,
-      before_scope c.args.buffer.now.forest n c.args.scope
-          c.loop-position.invariant.0,
-      c.ranges.scope.fits,
-    )
-
-pub loop-position-smaller : goal.loop-position-smaller
-loop-position-smaller c =
-    let n = c.loop-position.position in
-    omega (arith, before_scope c.args.buffer.now.forest n c.args.scope c.loop-position.invariant.0)
-
 pub loop-position-preserved : goal.loop-position-preserved
 loop-position-preserved c =
     let b = c.args.buffer.now in
     let n = c.loop-position.position in
-    let m = settle_step b.number n c.args.scope b.forest c.loop-position.invariant.0
-    c.loop-position-test.true (sym c.ends_at.ensures ∙ c.if-ends_at.true) in
-    (m.0, m.1 ∙ c.loop-position.invariant.1)
+    let i = c.loop-position.invariant in
+    let m = settle_step b.number n c.args.scope b.forest i.within c.loop-position-test.true
+    (sym c.ends_at.ensures ∙ c.if-ends_at.true) in
+    record {
+      within = m.0;
+      before = omega (arith, i.before, c.loop-position-test.true);
+      same = m.1 ∙ i.same;
+    }
 
 settled_there : (c : goal.Left-loop-position) → settled_at c.args.buffer.now.forest
     c.loop-position.position c.args.scope ≡ true
@@ -47,14 +27,14 @@ settled_there c =
     elim c.loop-position-test.branch [
       | then-loop-position-test+else-ends_at w ↦ settled_front F n c.args.scope
           (sym w.ends_at.ensures ∙ w.if-ends_at.false)
-      | else-loop-position-test w ↦ settled_scope F n c.args.scope c.loop-position.invariant.0
+      | else-loop-position-test w ↦ settled_scope F n c.args.scope c.loop-position.invariant.within
           w.loop-position-test.false
     ]
 
 pub invariant_of-result : goal.invariant_of-result
 invariant_of-result c = record {
   in_buffer = c.requires.in_buffer;
-  within = c.loop-position.invariant.0;
+  within = c.loop-position.invariant.within;
   settled = settled_there c;
 }
 
@@ -63,4 +43,4 @@ returns c =
     let b = c.args.buffer.now in
     sym (place_settled b.number c.loop-position.position c.args.scope b.forest
     (settled_there c.before))
-    ∙ c.loop-position.invariant.1
+    ∙ c.loop-position.invariant.same
