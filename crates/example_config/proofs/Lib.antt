@@ -1,6 +1,5 @@
 pub mod Formed
 pub mod Meanings
 pub mod Outcomes
-pub mod Plain
 pub mod Sound
 pub mod Written

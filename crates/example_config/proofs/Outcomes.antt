@@ -1,11 +1,12 @@
 -- What the reader returns is what the grammar says.
-use Rattle.std.proofs.Common.{◌≡◌, Err, List, Ok, inl, inr, subst, true, ℕ}
+use Rattle.std.proofs.Common.{◌≡◌, Err, List, Ok, inl, inr, refl, subst, true, ℕ}
 use Rattle.std.specs.Prelude.{Result}
-use Rattle.tok_lexical.specs.Rules.{plain_rules}
+use Rattle.tok_lexical.specs.declared.rule.Mode.TheVariants.{Plain}
 use Rattle.tok_core.specs.Erase.{erase}
 use Rattle.tok_core.specs.Filled.{filled}
 use Rattle.tok_core.specs.Forest.{Forest}
 use Rattle.tok_core.specs.Lexical.Reading.{Reads}
+use Rattle.tok_core.proofs.Lexical.Visible.{all_visible}
 use Rattle.syn_parse.specs.Takings.{KeepsWhole}
 use Rattle.syn_parse.specs.TreesAhead.{all_taken}
 use Rattle.syn_parse.specs.declared.fault.Fault.{Fault}
@@ -16,7 +17,6 @@ use Rattle.example_config.specs.Forms.{Comma, setting_form}
 use Rattle.example_config.specs.Grammar.{Parses}
 use Rattle.example_config.specs.Reading.{ReadsText, ReadsTokens, settings}
 use Rattle.example_config.specs.declared.value.Setting.{Setting}
-use Rattle.example_config.proofs.Plain.{text_shown}
 use Rattle.example_config.proofs.Sound.{sound}
 use Rattle.example_config.proofs.Written.{settings_taken}
 
@@ -33,7 +33,8 @@ reads_tokens f r h = (h, parses f r h)
 
 -- a text has no invisible groups, so its tokens are all that is read
 pub reads_text : (source : ℕ) (cs : List ℕ) (f : Forest)
-    (r : Result (Punctuated Setting Comma) Fault) → Reads plain_rules source cs f
+    (r : Result (Punctuated Setting Comma) Fault) → Reads Plain source cs f
     → ReadsTokens f r → ReadsText source cs r
 reads_text source cs f r h k =
-    let s = text_shown h in inl (f, h, k.0 s.0, subst (λ g. Parses g r) s.1 (k.1 s.0))
+    let s = all_visible 0 Plain source cs f refl h in
+    inl (f, h, k.0 s.0, subst (λ g. Parses g r) s.1 (k.1 s.0))

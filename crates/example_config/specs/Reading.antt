@@ -2,7 +2,7 @@
 use Rattle.std.specs.Prelude.{◌≡◌, ◌⊎◌, ◌^◌, ℕ, Bool, true, false, List, [], ◌∷◌, codes, nat_lt}
 use Rattle.std.specs.Prelude.{Option, None, Some, MatchResult, Result, if◌then◌else◌}
 use Rattle.std.specs.Str.{chars}
-use Rattle.tok_lexical.specs.Rules.{plain_rules}
+use Rattle.tok_lexical.specs.declared.rule.Mode.TheVariants.{Plain}
 use Rattle.tok_lexical.specs.declared.delimiter.Delimiter.TheVariants.{Brace, Bracket}
 use Rattle.tok_leaves.specs.declared.literal.Literal.{Literal}
 use Rattle.tok_leaves.specs.declared.span.Span.{Span}
@@ -154,7 +154,7 @@ ReadsTokens f r = KeepsWhole settings f r × (filled f ≡ true → Parses (eras
 -- the error has the words that are missing first. Or the grammar of tokens refuses it.
 abbrev pub ReadsText : (source : ℕ) → List ℕ → Result (Punctuated Setting Comma) Fault → Type 0
 ReadsText source cs r =
-    ((f : Forest) × grammar.Reads plain_rules source cs f
+    ((f : Forest) × grammar.Reads Plain source cs f
     × TakesAll (list_form setting_form (λ p. p)) take_settings f r × Parses f r)
-    ⊎ (((e : LexError) × grammar.IsRefused plain_rules source cs e × IsRefused (lex_message e) r)
+    ⊎ (((e : LexError) × grammar.IsRefused Plain source cs e × IsRefused (lex_message e) r)
     ⊎ OnMemory r)

@@ -6,7 +6,7 @@ use Rattle.std.specs.Prelude.{◌↔◌}
 use Rattle.std.specs.Str.{chars}
 use Rattle.tok_core.specs.Forest.{Forest}
 use Rattle.tok_core.specs.Lexical.Reading.{IsRefused}
-use Rattle.tok_lexical.specs.Rules.{marked_rules}
+use Rattle.tok_lexical.specs.declared.rule.Mode.TheVariants.{Marked}
 use Rattle.tok_core.specs.declared.lexer.error.LexError.{LexError}
 use Rattle.tok_core.proofs.Lexical.Laws.{forest_once, refused_once, never_both}
 use Rattle.replay_program.specs.CommandText.{unreadable_line, commands_in}
@@ -33,21 +33,21 @@ forest_is : (text other : List ℕ) (forest : Forest) → text ≡ other → IsF
 forest_is text other forest e h = subst (λ z. IsForest z forest) e h
 
 refused_is : (text other : List ℕ) (error : LexError) → text ≡ other
-    → IsRefused marked_rules 0 (chars text) error → IsRefused marked_rules 0 (chars other) error
-refused_is text other error e h = subst (λ z. IsRefused marked_rules 0 (chars z) error) e h
+    → IsRefused Marked 0 (chars text) error → IsRefused Marked 0 (chars other) error
+refused_is text other error e h = subst (λ z. IsRefused Marked 0 (chars z) error) e h
 
 -- a text reads as one forest, is refused with one error, and never both
 one_forest : (text : List ℕ) (forest other : Forest) → IsForest text forest → IsForest text other
     → forest ≡ other
-one_forest text forest other h k = forest_once 0 marked_rules 0 (chars text) forest other h k
+one_forest text forest other h k = forest_once 0 Marked 0 (chars text) forest other h k
 
-one_error : (text : List ℕ) (error other : LexError) → IsRefused marked_rules 0 (chars text) error
-    → IsRefused marked_rules 0 (chars text) other → error ≡ other
-one_error text error other h k = refused_once 0 marked_rules 0 (chars text) error other h k
+one_error : (text : List ℕ) (error other : LexError) → IsRefused Marked 0 (chars text) error
+    → IsRefused Marked 0 (chars text) other → error ≡ other
+one_error text error other h k = refused_once 0 Marked 0 (chars text) error other h k
 
 not_read : (text : List ℕ) (forest : Forest) (error : LexError) → IsForest text forest
-    → IsRefused marked_rules 0 (chars text) error → ⊥
-not_read text forest error h k = never_both 0 marked_rules 0 (chars text) forest error h k
+    → IsRefused Marked 0 (chars text) error → ⊥
+not_read text forest error h k = never_both 0 Marked 0 (chars text) forest error h k
 
 abbrev Parts : Type 0
 Parts = List ℕ × Option (List ℕ) × List (List ℕ)
@@ -115,7 +115,7 @@ module _ (bytes : List ℕ) where
   -- what can't be read is no forest
   no_text : (text : List ℕ) (other : Option (List ℕ)) (lines lines' : List (List ℕ))
       (error : LexError) (forest : Forest) (more : Option Forest)
-      → HasParts bytes text other lines → IsRefused marked_rules 0 (chars text) error
+      → HasParts bytes text other lines → IsRefused Marked 0 (chars text) error
       → HasForests bytes forest more lines' → ⊥
   no_text text other lines lines' error forest more h e (text', other', k, reads, also) =
       let same = parts_once text text' other other' lines lines' h k in
@@ -123,7 +123,7 @@ module _ (bytes : List ℕ) where
 
   not_other : (text : List ℕ) (other : Option (List ℕ)) (more : Option Forest) (error : LexError)
       → Some text ≡ other
-      → IsRefused marked_rules 0 (chars text) error → IsOther other more → ⊥
+      → IsRefused Marked 0 (chars text) error → IsOther other more → ⊥
   not_other text None more error e h k = absurd (cc)
   not_other text (Some other) None error e h k = k
   not_other text (Some other) (Some forest) error e h k =
@@ -132,7 +132,7 @@ module _ (bytes : List ℕ) where
 
   no_right : (text other : List ℕ) (lines lines' : List (List ℕ)) (error : LexError)
       (forest : Forest) (more : Option Forest)
-      → HasParts bytes text (Some other) lines → IsRefused marked_rules 0 (chars other) error
+      → HasParts bytes text (Some other) lines → IsRefused Marked 0 (chars other) error
       → HasForests bytes forest more lines' → ⊥
   no_right text other lines lines' error forest more h e (text', other', k, reads, also) =
       let same = parts_once text text' (Some other) other' lines lines' h k in

@@ -4,7 +4,7 @@ use Rattle.std.specs.Io.KnownBytes.{Keeps}
 use Rattle.std.specs.Str.{IsUtf8, chars}
 use Rattle.tok_core.specs.Forest.{Forest}
 use Rattle.tok_core.specs.Lexical.Reading.{Reads, IsRefused}
-use Rattle.tok_lexical.specs.Rules.{marked_rules}
+use Rattle.tok_lexical.specs.declared.rule.Mode.TheVariants.{Marked}
 use Rattle.replay_program.specs.CommandText.{unreadable_line, commands_in}
 use Rattle.syn_replay.specs.Commands.{Command}
 use Rattle.replay_program.specs.Comparison.{Compares, Outcome, reported, compared, outcome_text}
@@ -26,7 +26,7 @@ HasParts bytes text other lines = IsUtf8 bytes × (parts_of bytes ≡ Some (text
 
 -- a marked text, which is source 0, reads as this forest
 abbrev pub IsForest : List ℕ → Forest → Type 0
-IsForest text forest = Reads marked_rules 0 (chars text) forest
+IsForest text forest = Reads Marked 0 (chars text) forest
 
 abbrev pub IsOther : Option (List ℕ) → Option Forest → Type 0
 IsOther None None = ⊤
@@ -41,7 +41,7 @@ HasForests bytes forest more lines =
 
 -- the second text is refused
 abbrev pub IsUnreadableOther : Option (List ℕ) → Unreadable → Type 0
-IsUnreadableOther (Some text) (Right error) = IsRefused marked_rules 0 (chars text) error
+IsUnreadableOther (Some text) (Right error) = IsRefused Marked 0 (chars text) error
 IsUnreadableOther text why = ⊥
 
 -- the first thing that can't be read: the bytes, the parts, the text, the second text, a command
@@ -50,11 +50,11 @@ IsUnreadable bytes Utf8 = ¬ (IsUtf8 bytes)
 IsUnreadable bytes Parts = IsUtf8 bytes × (parts_of bytes ≡ None)
 IsUnreadable bytes (Text error) =
     (text : List ℕ) × (other : Option (List ℕ)) × (lines : List (List ℕ))
-    × HasParts bytes text other lines × IsRefused marked_rules 0 (chars text) error
+    × HasParts bytes text other lines × IsRefused Marked 0 (chars text) error
 IsUnreadable bytes (Right error) =
     (text : List ℕ) × (other : List ℕ) × (lines : List (List ℕ)) × (forest : Forest)
     × HasParts bytes text (Some other) lines × IsForest text forest
-    × IsRefused marked_rules 0 (chars other) error
+    × IsRefused Marked 0 (chars other) error
 IsUnreadable bytes (unreadable.Command n) =
     (forest : Forest) × (more : Option Forest) × (lines : List (List ℕ))
     × HasForests bytes forest more lines × (unreadable_line lines ≡ Some n)

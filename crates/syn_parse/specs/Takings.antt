@@ -1,7 +1,7 @@
 -- What a type states of its parser, by the visible trees ahead.
 use Rattle.std.specs.Prelude.{◌≡◌, ◌<◌, ◌≤◌, ◌⊎◌, ℕ, List, Result, true}
 use Rattle.std.specs.Global.{Box}
-use Rattle.tok_lexical.specs.Rules.{plain_rules}
+use Rattle.tok_lexical.specs.declared.rule.Mode.TheVariants.{Plain}
 use Rattle.tok_core.specs.Erase.{erase}
 use Rattle.tok_core.specs.Filled.{filled}
 use Rattle.tok_core.specs.Forest.{Forest}
@@ -88,6 +88,6 @@ KeepsWords (told_filled form take weighs) left right x y =
 -- a text reads as a forest, which keeps what is stated; or the grammar refuses it
 abbrev pub KeepsText : {T : Type 0} → Takings T → List ℕ → Result T Fault → Type 0
 KeepsText takes text r =
-    ((f : Forest) × grammar.Reads plain_rules 0 text f × KeepsWhole takes f r)
-    ⊎ (((e : LexError) × grammar.IsRefused plain_rules 0 text e × IsRefused (lex_message e) r)
+    ((f : Forest) × grammar.Reads Plain 0 text f × KeepsWhole takes f r)
+    ⊎ (((e : LexError) × grammar.IsRefused Plain 0 text e × IsRefused (lex_message e) r)
     ⊎ OnMemory r)

@@ -44,8 +44,8 @@ pub mod laws {
     };
     pub use tok_core::laws::{
         begins_once, clones_keep_all, clones_keep_trees, errors_are_compared_whole, forest_once,
-        idents_by_text, never_both, refused_once, spans_are_compared_whole, streams_without_spans,
-        trees_without_spans, writes_follow_writes,
+        idents_by_text, never_both, read_visibly, refused_once, spans_are_compared_whole,
+        streams_without_spans, trees_without_spans, writes_follow_writes,
     };
     pub use tok_types::laws::{
         clones_keep_tokens, delimiters_are_equal, delimiters_ignore_invisible, groups_are_equal,

@@ -2,7 +2,7 @@
 ghost use Rattle.std.specs.Prelude.{◌≡◌, IfOk};
 ghost use Rattle.tok_core.specs.Lexical.Outcome.{FollowsGrammar};
 ghost use Rattle.tok_core.specs.declared.lexer.error.LexFault.TheVariants.{Refused};
-ghost use Rattle.tok_lexical.specs.Rules.{plain_rules, marked_rules};
+ghost use Rattle.tok_lexical.specs.declared.rule.Mode.TheVariants.{Plain, Marked};
 ghost use Rattle.syn_tokens_c.specs.Outcomes.{Lexes, LexesSource, Returns, Tells, answer_of, answered, bare, edition_of};
 
 use crate::entry::Entry;
@@ -167,7 +167,7 @@ pub extern "C" fn syn_tokens_lex(
     bytes: &mut [u8],
     reading: &mut Reading,
 )
-    ensures { Lexes (FollowsGrammar plain_rules 0) text.now reading.new
+    ensures { Lexes (FollowsGrammar Plain 0) text.now reading.new
         entries.old entries.new bytes.old bytes.new }
 {
     *reading = match from_utf8(text) {
@@ -186,7 +186,7 @@ pub extern "C" fn syn_tokens_lex_marked(
     bytes: &mut [u8],
     reading: &mut Reading,
 )
-    ensures { Lexes (FollowsGrammar marked_rules 0) text.now reading.new
+    ensures { Lexes (FollowsGrammar Marked 0) text.now reading.new
         entries.old entries.new bytes.old bytes.new }
 {
     *reading = match from_utf8(text) {

@@ -8,59 +8,59 @@ use Rattle.tok_core.specs.Lexical.Reading.{ReadsFrom, IsRefusedFrom}
 use Rattle.tok_core.specs.declared.lexer.error.LexFault.{LexFault}
 use Rattle.tok_core.specs.declared.lexer.error.LexFault.TheVariants.{Refused, Memory}
 use Rattle.tok_core.proofs.Lexical.Laws.{follows, forest_once, refused_once, never_both}
-use Rattle.tok_lexical.specs.Rules.{source_rules}
+use Rattle.tok_lexical.specs.declared.rule.Mode.TheVariants.{Source}
 use Rattle.tok_lexical.specs.Widths.{bytes}
 use Rattle.tok_lexical.specs.declared.edition.Edition.{Edition}
-use Rattle.tok_lexical.specs.declared.rule.Rule.{Rule}
+use Rattle.tok_lexical.specs.declared.rule.Mode.{Mode}
 use Rattle.tok_lexical.proofs.Sources.{begins_once}
 use Rattle.tok_buffer.specs.Buffer.{Laid, forest_of, KeepsReading, SameReading}
 use Rattle.tok_core.specs.Forest.{Forest}
 
-module _ (begin : ℕ) (rules : List Rule) (number : ℕ) (text : List ℕ) where
+module _ (begin : ℕ) (mode : Mode) (number : ℕ) (text : List ℕ) where
   on_forest : (r : Result Laid LexFault) →
-      IfOk r (λ b. ReadsFrom begin rules number text b.forest) →
-      IfOk (forest_of r) (ReadsFrom begin rules number text)
+      IfOk r (λ b. ReadsFrom begin mode number text b.forest) →
+      IfOk (forest_of r) (ReadsFrom begin mode number text)
   on_forest (Ok b) h = h
   on_forest (Err e) h = tt
 
   on_fault : (r : Result Laid LexFault) →
-      IfErr r (λ fault. OnRefused fault (IsRefusedFrom begin rules number text)) →
-      IfErr (forest_of r) (λ fault. OnRefused fault (IsRefusedFrom begin rules number text))
+      IfErr r (λ fault. OnRefused fault (IsRefusedFrom begin mode number text)) →
+      IfErr (forest_of r) (λ fault. OnRefused fault (IsRefusedFrom begin mode number text))
   on_fault (Ok b) h = tt
   on_fault (Err e) h = h
 
   pub buffer_follows : (r : Result Laid LexFault) →
-      IfOk r (λ b. ReadsFrom begin rules number text b.forest) →
-      IfErr r (λ fault. OnRefused fault (IsRefusedFrom begin rules number text)) →
-      FollowsFrom begin rules number text (forest_of r)
-  buffer_follows r reads refuses = follows begin rules number text (forest_of r)
+      IfOk r (λ b. ReadsFrom begin mode number text b.forest) →
+      IfErr r (λ fault. OnRefused fault (IsRefusedFrom begin mode number text)) →
+      FollowsFrom begin mode number text (forest_of r)
+  buffer_follows r reads refuses = follows begin mode number text (forest_of r)
       (on_forest r reads) (on_fault r refuses)
 
   -- two readings of one text are the same
   pub same_reading : (one other : Result Laid LexFault) (n : ℕ) → IfOk one (λ b. b.number ≡ n) →
-      IfOk other (λ b. b.number ≡ n) → FollowsFrom begin rules number text (forest_of one) →
-      FollowsFrom begin rules number text (forest_of other) → SameReading one other
+      IfOk other (λ b. b.number ≡ n) → FollowsFrom begin mode number text (forest_of one) →
+      FollowsFrom begin mode number text (forest_of other) → SameReading one other
   same_reading (Ok a) (Ok b) n p q f g =
       λ i. record {
         number = (p ∙ sym q) i;
-        forest = forest_once begin rules number text a.forest
+        forest = forest_once begin mode number text a.forest
             b.forest f.reads g.reads i;
       }
-  same_reading (Ok a) (Err (Refused e)) n p q f g = never_both begin rules number text a.forest e
+  same_reading (Ok a) (Err (Refused e)) n p q f g = never_both begin mode number text a.forest e
       f.reads g.refuses
   same_reading (Ok a) (Err Memory) n p q f g = tt
-  same_reading (Err (Refused e)) (Ok b) n p q f g = never_both begin rules number text b.forest e
+  same_reading (Err (Refused e)) (Ok b) n p q f g = never_both begin mode number text b.forest e
       g.reads f.refuses
-  same_reading (Err (Refused e)) (Err (Refused o)) n p q f g = refused_once begin rules number
+  same_reading (Err (Refused e)) (Err (Refused o)) n p q f g = refused_once begin mode number
       text e o f.refuses g.refuses
   same_reading (Err (Refused e)) (Err Memory) n p q f g = tt
   same_reading (Err Memory) other n p q f g = tt
 
   -- a stream that is laid out follows what was read
   pub kept_follows : (read out : Result Forest LexFault) → KeepsReading read out →
-      FollowsFrom begin rules number text read → FollowsFrom begin rules number text out
-  kept_follows read (Ok f) k h = subst (FollowsFrom begin rules number text) k h
-  kept_follows read (Err (Refused e)) k h = subst (FollowsFrom begin rules number text) k h
+      FollowsFrom begin mode number text read → FollowsFrom begin mode number text out
+  kept_follows read (Ok f) k h = subst (FollowsFrom begin mode number text) k h
+  kept_follows read (Err (Refused e)) k h = subst (FollowsFrom begin mode number text) k h
   kept_follows read (Err Memory) k h = record {
     reads = tt;
     only_read = λ f r. refl;
@@ -77,7 +77,7 @@ kept_source edition number text read out k (front, rest, cut, begins, f) = (
   rest,
   cut,
   begins,
-  kept_follows (bytes front) (source_rules edition) number rest read
+  kept_follows (bytes front) (Source edition) number rest read
       out k f,
 )
 
@@ -91,8 +91,8 @@ same_source edition number text one other n p q (front, rest, cut, begins, f)
     let at_rest : rest' ≡ rest = begins_once begins' begins in
     let at_front : front' ≡ front = append_cancel_right front' front rest
     (ap (λ w. front' ++ w) (sym at_rest) ∙ sym cut' ∙ cut) in
-    same_reading (bytes front) (source_rules edition) number rest one other n p q f
-    (subst (λ w. FollowsFrom (bytes w) (source_rules edition) number rest (forest_of other))
+    same_reading (bytes front) (Source edition) number rest one other n p q f
+    (subst (λ w. FollowsFrom (bytes w) (Source edition) number rest (forest_of other))
     at_front
-    (subst (λ w. FollowsFrom (bytes front') (source_rules edition) number w (forest_of other))
+    (subst (λ w. FollowsFrom (bytes front') (Source edition) number w (forest_of other))
     at_rest g))

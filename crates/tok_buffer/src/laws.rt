@@ -1,7 +1,7 @@
 //! Laws of buffers and cursors. Each is the contract of a small function; most of these do nothing.
 ghost use Rattle.std.specs.Prelude.{◌≡◌, ◌↔◌, true, Some, IfOk};
 ghost use Rattle.std.specs.Str.{chars};
-ghost use Rattle.tok_lexical.specs.Rules.{plain_rules, marked_rules};
+ghost use Rattle.tok_lexical.specs.declared.rule.Mode.TheVariants.{Plain, Marked};
 ghost use Rattle.tok_core.specs.Lexical.Outcome.{FollowsGrammar, FollowsSource};
 ghost use Rattle.tok_buffer.specs.Buffer.{forest_of, KeepsReading, SameReading};
 ghost use Rattle.std.specs.declared.cmp.Ordering.TheVariants.{Equal};
@@ -47,8 +47,8 @@ pub fn text_as_stream(
 ) -> (Result<TokenBuffer, LexFault>, Result<TokenBuffer, LexFault>)
     ensures same { SameReading result.0 result.1 }
     ensures number { IfOk result.0 (λ b. b.number ≡ number) }
-    ensures follows { FollowsGrammar plain_rules source (chars text.now) (forest_of result.0) }
-    ensures lexed { FollowsGrammar plain_rules source (chars text.now) (forest_of result.1) }
+    ensures follows { FollowsGrammar Plain source (chars text.now) (forest_of result.0) }
+    ensures lexed { FollowsGrammar Plain source (chars text.now) (forest_of result.1) }
 {
     let read = TokenBuffer::from_text(alloc, number, source, text);
     let laid = laid_out(alloc, number, lex(alloc, source, text));
@@ -65,8 +65,8 @@ pub fn marked_as_stream(
 ) -> (Result<TokenBuffer, LexFault>, Result<TokenBuffer, LexFault>)
     ensures same { SameReading result.0 result.1 }
     ensures number { IfOk result.0 (λ b. b.number ≡ number) }
-    ensures follows { FollowsGrammar marked_rules source (chars text.now) (forest_of result.0) }
-    ensures lexed { FollowsGrammar marked_rules source (chars text.now) (forest_of result.1) }
+    ensures follows { FollowsGrammar Marked source (chars text.now) (forest_of result.0) }
+    ensures lexed { FollowsGrammar Marked source (chars text.now) (forest_of result.1) }
 {
     let read = TokenBuffer::from_marked(alloc, number, source, text);
     let laid = laid_out(alloc, number, lex_marked(alloc, source, text));

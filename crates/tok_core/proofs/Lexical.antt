@@ -8,3 +8,4 @@ pub mod Cuts
 pub mod Runs
 pub mod Only
 pub mod Laws
+pub mod Visible

@@ -2,7 +2,7 @@
 //! of a function that does nothing.
 ghost use Rattle.tok_leaves.specs.Laws.{ClonesKeep, EqualAsValues, EqualBy, HashedBy};
 ghost use Rattle.tok_core.specs.Laws.{AreWrittenInTurn, stream_shown, tree_shown};
-ghost use Rattle.tok_core.specs.Lexical.Laws.{IsReadOnce, IsRefusedOnce, IsNeverBoth, IsBegunOnce};
+ghost use Rattle.tok_core.specs.Lexical.Laws.{IsReadOnce, IsReadVisibly, IsRefusedOnce, IsNeverBoth, IsBegunOnce};
 ghost use Rattle.tok_core.specs.Spanless.{forest_input, tree_input};
 
 use crate::group::Group;
@@ -30,6 +30,11 @@ pub fn never_both()
 /// A whole source begins at one place: after its byte order mark and its shebang line.
 pub fn begins_once()
     ensures { IsBegunOnce }
+{}
+
+/// The trees of a text are all visible, unless it is read with marks.
+pub fn read_visibly()
+    ensures { IsReadVisibly }
 {}
 
 /// Streams are compared and hashed without spans: two that are equal apart from spans feed a hasher

@@ -2,12 +2,11 @@
 ghost use Rattle.std.specs.Prelude.{◌≡◌, [], true, IfOk, IfErr, ◌+◌, ◌<◌, ◌^◌, length};
 ghost use Rattle.std.specs.Str.{chars};
 ghost use Rattle.tok_lexical.specs.Contents.{has_return};
-ghost use Rattle.tok_lexical.specs.Starts.{rules_of};
 ghost use Rattle.tok_core.specs.Building.{nothing};
 ghost use Rattle.tok_core.specs.Lexical.Errors.{OnRefused};
 ghost use Rattle.tok_core.specs.Lexical.Outcome.{FollowsGrammar, FollowsSource};
 ghost use Rattle.tok_core.specs.Lexical.Reading.{ReadsFrom, IsRefusedFrom};
-ghost use Rattle.tok_lexical.specs.Rules.{plain_rules, marked_rules};
+ghost use Rattle.tok_lexical.specs.declared.rule.Mode.TheVariants.{Plain, Marked};
 
 mod attribute;
 mod blanks;
@@ -24,22 +23,22 @@ use nest::Nest;
 use std::alloc::Global;
 use tok_lexical::source::past_start;
 use tok_lexical::text::front_of;
-use tok_lexical::{Edition, LexErrorKind, Rules, first_rule, has_return};
+use tok_lexical::{Edition, LexErrorKind, Mode, first_rule, has_return};
 
-// Returns `false` only if the text has no U+000D. It is searched if the rules ask pieces for one.
+// Returns `false` only if the text has no U+000D. It is searched if the mode asks pieces for one.
 //
 // A string of a source may have none that no line feed follows, and few sources have any: one search
 // of the whole text spares a search of each string.
-fn may_have_return(rules: Rules, text: &str) -> bool
+fn may_have_return(mode: Mode, text: &str) -> bool
     ensures { has_return (chars text.now) ≡ true → result ≡ true }
 {
-    match rules {
-        Rules::Source(_) => has_return(text),
+    match mode {
+        Mode::Source(_) => has_return(text),
         _ => true,
     }
 }
 
-/// Reads a text with `rules` into `builder`. Callers that want trees call `lex`.
+/// Reads a text in `mode` into `builder`. Callers that want trees call `lex`.
 ///
 /// The text begins at byte `start` of source `source`. Returns `Refused` if the grammar rejects the
 /// text, and `Memory` if an allocation fails; the builder is then dropped.
@@ -57,28 +56,28 @@ pub fn read<B: Build + Drop>(
     builder: B,
     alloc: Global,
     source: u32,
-    rules: Rules,
+    mode: Mode,
     start: usize,
     text: &str,
 ) -> Result<B, LexFault>
     requires fits { start + length text.now < 2 ^ 64 }
     requires empty { B.levels builder ≡ nothing }
     ensures reads { IfOk result
-        (λ built. ReadsFrom start (rules_of rules) source (chars text.now)
+        (λ built. ReadsFrom start mode source (chars text.now)
         (B.levels built).inner) }
     ensures closed { IfOk result (λ built. (B.levels built).outer ≡ []) }
     ensures refuses { IfErr result
         (λ fault. OnRefused fault
-        (IsRefusedFrom start (rules_of rules) source (chars text.now))) }
+        (IsRefusedFrom start mode source (chars text.now))) }
 {
-    let returns = may_have_return(rules, text);
+    let returns = may_have_return(mode, text);
     let mut nest = Nest::new(alloc, source, builder);
     let mut rest = text;
     let mut at = start;
-    while let Some((rule, after)) = first_rule(rules, rest) {
+    while let Some((rule, after)) = first_rule(mode, rest) {
         let piece = front_of(rest, after);
         let end = at + rule.width(piece);
-        match nest.take_in(rule, at, end, piece, after, returns) {
+        match nest.take_in(rule, mode, at, end, piece, after, returns) {
             Ok(()) => {}
             Err(halt) => return Err(halt.fault(source, at)),
         }
@@ -103,18 +102,18 @@ pub fn read<B: Build + Drop>(
 fn read_trees(
     alloc: Global,
     source: u32,
-    rules: Rules,
+    mode: Mode,
     start: usize,
     text: &str,
 ) -> Result<TokenStream, LexFault>
     requires fits { start + length text.now < 2 ^ 64 }
     ensures reads { IfOk result
-        (λ stream. ReadsFrom start (rules_of rules) source (chars text.now) stream) }
+        (λ stream. ReadsFrom start mode source (chars text.now) stream) }
     ensures refuses { IfErr result
         (λ fault. OnRefused fault
-        (IsRefusedFrom start (rules_of rules) source (chars text.now))) }
+        (IsRefusedFrom start mode source (chars text.now))) }
 {
-    match read(TreeBuilder::new(alloc), alloc, source, rules, start, text) {
+    match read(TreeBuilder::new(alloc), alloc, source, mode, start, text) {
         Ok(built) => Ok(built.trees),
         Err(fault) => Err(fault),
     }
@@ -132,9 +131,9 @@ fn read_trees(
 /// assert_eq!(rt; stream.trees().len(), 4);
 /// ```
 pub fn lex(alloc: Global, source: u32, text: &str) -> Result<TokenStream, LexFault>
-    ensures { FollowsGrammar plain_rules source (chars text.now) result }
+    ensures { FollowsGrammar Plain source (chars text.now) result }
 {
-    read_trees(alloc, source, Rules::Plain, 0, text)
+    read_trees(alloc, source, Mode::Plain, 0, text)
 }
 
 /// Lexes `text`, in which the marks `«` and `»` open and close invisible groups, as macros leave
@@ -151,9 +150,9 @@ pub fn lex(alloc: Global, source: u32, text: &str) -> Result<TokenStream, LexFau
 /// assert_eq!(rt; same_visible(alloc, &stream, &visible)?, true);
 /// ```
 pub fn lex_marked(alloc: Global, source: u32, text: &str) -> Result<TokenStream, LexFault>
-    ensures { FollowsGrammar marked_rules source (chars text.now) result }
+    ensures { FollowsGrammar Marked source (chars text.now) result }
 {
-    read_trees(alloc, source, Rules::Marked, 0, text)
+    read_trees(alloc, source, Mode::Marked, 0, text)
 }
 
 /// Lexes a whole Rust source of an edition.
@@ -177,5 +176,5 @@ pub fn lex_source(
 {
     let rest = past_start(text);
     let start = text.len() - rest.len();
-    read_trees(alloc, source, Rules::Source(edition), start, rest)
+    read_trees(alloc, source, Mode::Source(edition), start, rest)
 }

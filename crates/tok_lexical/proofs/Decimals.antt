@@ -1,5 +1,5 @@
 -- Which rule takes a decimal, by what follows its digits.
-use Rattle.std.proofs.Common.{◌≡◌, refl, ℕ, List, [], ◌∷◌, true}
+use Rattle.std.proofs.Common.{◌≡◌, ℕ, List, [], ◌∷◌, true}
 use Rattle.std.specs.Prelude.{Some, None}
 use Rattle.std.specs.Borrow.{Bor}
 use Rattle.std.specs.Str.{chars}
@@ -7,24 +7,15 @@ use Rattle.tok_lexical.specs.Fits.{IsFirstFit, here, later}
 use Rattle.tok_lexical.specs.Floats.{IsFloatTail}
 use Rattle.tok_lexical.specs.Numbers.{is_digit_or_underscore, starts_digit, IsNumberSuffix}
 use Rattle.tok_lexical.specs.Pieces.{HasPrefix, IsLongestPrefix, ReadsLongest, Skips}
-use Rattle.tok_lexical.specs.Rules.{Spells}
-use Rattle.tok_lexical.specs.declared.rule.Rule.{Rule}
+use Rattle.tok_lexical.specs.Rules.{decimal_rules, Spells}
 use Rattle.tok_lexical.specs.declared.rule.Rule.TheVariants.{Decimal, Float, PointedDecimal}
-use Rattle.tok_lexical.specs.declared.rule.Rule.TheVariants.{SourceDecimal}
-use Rattle.tok_lexical.specs.declared.rule.Rules.{Rules}
-use Rattle.tok_lexical.specs.declared.rule.Rules.TheVariants.{Plain, Marked, Source}
-use Rattle.tok_lexical.specs.declared.edition.Edition.{Edition}
-use Rattle.tok_lexical.specs.Starts.{decimal_rules}
 use Rattle.tok_lexical.proofs.FloatTails.{tail_begins, point_begins, tries_point}
 use Rattle.tok_lexical.proofs.Digits.{tries_run, takes_run, digits_start, suffix_stops}
-
-abbrev source_decimals : List Rule
-source_decimals = Float ∷ PointedDecimal ∷ SourceDecimal ∷ []
 
 module _ (text rest digits : List ℕ) (s : Skips (is_digit_or_underscore 10) text digits rest)
     (g : starts_digit text ≡ true) where
   pub decimal_float : (end : Bor (List ℕ)) → ReadsLongest IsFloatTail rest (Some end) →
-      (piece : List ℕ) × IsFirstFit text source_decimals Float piece (chars end.now)
+      (piece : List ℕ) × IsFirstFit text decimal_rules Float piece (chars end.now)
   decimal_float end t =
       let w = tries_run 10 starts_digit IsFloatTail tail_begins text rest digits (Some end) s
       (digits_start text rest digits s g) t in
@@ -35,7 +26,7 @@ module _ (text rest digits : List ℕ) (s : Skips (is_digit_or_underscore 10) te
       (digits_start text rest digits s g) misses
 
   pub decimal_point : (after : Bor (List ℕ)) → ReadsLongest IsFloatTail rest None →
-      rest ≡ 46 ∷ chars after.now → (piece : List ℕ) × IsFirstFit text source_decimals
+      rest ≡ 46 ∷ chars after.now → (piece : List ℕ) × IsFirstFit text decimal_rules
       PointedDecimal piece (chars after.now)
   decimal_point after misses e =
       let w = tries_run 10 starts_digit (λ tail. tail ≡ 46 ∷ []) point_begins text rest digits
@@ -44,13 +35,13 @@ module _ (text rest digits : List ℕ) (s : Skips (is_digit_or_underscore 10) te
       (w.0, later (no_float misses) (here w.1))
 
   takes_plain : (suffix last : List ℕ) → IsLongestPrefix (IsNumberSuffix 10) rest suffix last →
-      (piece : List ℕ) × IsLongestPrefix (Spells SourceDecimal) text piece last
+      (piece : List ℕ) × IsLongestPrefix (Spells Decimal) text piece last
   takes_plain suffix last t = takes_run 10 starts_digit (IsNumberSuffix 10) (suffix_stops 10)
       text rest last digits suffix s (digits_start text rest digits s g) t
 
   pub decimal_integer : (suffix last : List ℕ) → ReadsLongest IsFloatTail rest None →
       ((more : List ℕ) → rest ≡ 46 ∷ more → ⊥) → IsLongestPrefix (IsNumberSuffix 10) rest suffix
-      last → (piece : List ℕ) × IsFirstFit text source_decimals SourceDecimal piece last
+      last → (piece : List ℕ) × IsFirstFit text decimal_rules Decimal piece last
   decimal_integer suffix last misses n t =
       let w = takes_plain suffix last t in
       let no_point = tries_run 10 starts_digit (λ tail. tail ≡ 46 ∷ []) point_begins text rest
@@ -60,11 +51,3 @@ module _ (text rest digits : List ℕ) (s : Skips (is_digit_or_underscore 10) te
   pub decimal_only : (suffix last : List ℕ) → IsLongestPrefix (IsNumberSuffix 10) rest suffix
       last → (piece : List ℕ) × IsFirstFit text (Decimal ∷ []) Decimal piece last
   decimal_only suffix last t = let w = takes_plain suffix last t in (w.0, here w.1)
-
-pub decimal_other : (kind : Rules) → ((edition : Edition) → kind ≡ Source edition → ⊥) →
-    (text : List ℕ) (rule : Rule) (rest : List ℕ) → (piece : List ℕ)
-    × IsFirstFit text (Decimal ∷ []) rule piece rest → (piece : List ℕ)
-    × IsFirstFit text (decimal_rules kind) rule piece rest
-decimal_other Plain n text rule rest d = d
-decimal_other Marked n text rule rest d = d
-decimal_other (Source edition) n text rule rest d = absurd (n edition refl)

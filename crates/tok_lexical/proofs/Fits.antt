@@ -1,8 +1,10 @@
 -- One rule takes the front of a text.
 use Rattle.std.proofs.Common.{◌≡◌, ℕ, ◌<◌, List, [], ◌∷◌, ◌++◌, length, refl, arith}
+use Rattle.std.specs.Prelude.{Bool, true, false, cond}
 use Rattle.tok_lexical.specs.Pieces.{IsLongestPrefix}
 use Rattle.tok_lexical.specs.Fits.{IsFirstFit, here, later}
-use Rattle.tok_lexical.specs.Rules.{Spells}
+use Rattle.tok_lexical.specs.Rules.{all_rules, among, is_in, rules_of, Spells}
+use Rattle.tok_lexical.specs.declared.rule.Mode.{Mode}
 use Rattle.tok_lexical.specs.declared.rule.Rule.{Rule}
 use Rattle.tok_lexical.proofs.Heads.{spelled_one}
 use Rattle.tok_lexical.proofs.Longest.{takes_unique}
@@ -31,3 +33,21 @@ decides_nothing {rule = rule} {p = p} {r = r} d =
       | x
           ∷ w ↦ λ e l. cc
     ] t.cut one
+
+-- the rule that takes the front is one of the mode's
+first_in : {text piece rest : List ℕ} (mode : Mode) (q rule : Rule) (some : List Rule) (b : Bool) →
+    is_in mode q ≡ b → IsFirstFit text (cond b (q ∷ some) some) rule piece rest →
+    (IsFirstFit text some rule piece rest → is_in mode rule ≡ true) → is_in mode rule ≡ true
+first_in mode q rule some true e (here t) more = e
+first_in mode q rule some true e (later misses d) more = more d
+first_in mode q rule some false e d more = more d
+
+fits_among : {text piece rest : List ℕ} (mode : Mode) (rule : Rule) (those : List Rule) →
+    IsFirstFit text (among mode those) rule piece rest → is_in mode rule ≡ true
+fits_among mode rule [] d = elim d [ ]
+fits_among mode rule (q ∷ those) d = first_in mode q rule (among mode those) (is_in mode q) refl d
+    (fits_among mode rule those)
+
+pub fits_in : {text piece rest : List ℕ} (mode : Mode) (rule : Rule) →
+    IsFirstFit text (rules_of mode) rule piece rest → is_in mode rule ≡ true
+fits_in mode rule d = fits_among mode rule all_rules d

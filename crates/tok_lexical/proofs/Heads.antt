@@ -2,9 +2,9 @@
 use Rattle.std.proofs.Common.{rules, tests, ◌≡◌, ◌∙◌, ◌++◌, refl, ℕ, ◌<◌, inl, inr, List, []}
 use Rattle.std.proofs.Common.{◌∷◌, length, ap, arith}
 use Rattle.std.proofs.lemmas.Bool.{false≢true, eqb-true}
-use Rattle.std.specs.Prelude.{◌==◌, Bool, true}
+use Rattle.std.specs.Prelude.{◌==◌, Bool, true, false}
 use Rattle.tok_lexical.specs.Pieces.{HasPrefix, IsOne}
-use Rattle.tok_lexical.specs.Starts.{may_begin, start_of}
+use Rattle.tok_lexical.specs.Starts.{start_of}
 use Rattle.tok_lexical.specs.Rules.{Spells}
 use Rattle.tok_lexical.specs.declared.rule.Rule.{Rule}
 use Rattle.tok_lexical.specs.declared.rule.Rule.TheVariants.{ByteOrderMark, Whitespace}
@@ -12,22 +12,67 @@ use Rattle.tok_lexical.specs.declared.rule.Rule.TheVariants.{LineComment, BlockC
 use Rattle.tok_lexical.specs.declared.rule.Rule.TheVariants.{OpenComment, Opening, Closing}
 use Rattle.tok_lexical.specs.declared.rule.Rule.TheVariants.{QuotedString, BadString, ByteChar}
 use Rattle.tok_lexical.specs.declared.rule.Rule.TheVariants.{BadByteChar, StringPrefix}
+use Rattle.tok_lexical.specs.declared.rule.Rule.TheVariants.{RawString, BadPrefixed}
 use Rattle.tok_lexical.specs.declared.rule.Rule.TheVariants.{EscapedChar, BadEscapedChar}
-use Rattle.tok_lexical.specs.declared.rule.Rule.TheVariants.{PlainChar, Lifetime, Apostrophe}
-use Rattle.tok_lexical.specs.declared.rule.Rule.TheVariants.{MarkedApostrophe, Based, BadBased}
-use Rattle.tok_lexical.specs.declared.rule.Rule.TheVariants.{Decimal, RawIdentifier, Identifier}
-use Rattle.tok_lexical.specs.declared.rule.Rule.TheVariants.{Punct, MarkedPunct, Other}
-use Rattle.tok_lexical.specs.declared.rule.Rule.TheVariants.{SourceString, RawString}
-use Rattle.tok_lexical.specs.declared.rule.Rule.TheVariants.{BadPrefixed, SourceIdentifier}
-use Rattle.tok_lexical.specs.declared.rule.Rule.TheVariants.{SourceLifetime, SourcePunct, Float}
-use Rattle.tok_lexical.specs.declared.rule.Rule.TheVariants.{PointedDecimal, SourceDecimal}
-use Rattle.tok_lexical.specs.declared.rule.Rule.TheVariants.{SourceLineComment}
-use Rattle.tok_lexical.specs.declared.rule.Rule.TheVariants.{SourceBlockComment}
+use Rattle.tok_lexical.specs.declared.rule.Rule.TheVariants.{PlainChar, Lifetime, PlainLifetime}
+use Rattle.tok_lexical.specs.declared.rule.Rule.TheVariants.{Apostrophe, Based, BadBased, Float}
+use Rattle.tok_lexical.specs.declared.rule.Rule.TheVariants.{PointedDecimal, Decimal}
+use Rattle.tok_lexical.specs.declared.rule.Rule.TheVariants.{RawIdentifier, Identifier}
+use Rattle.tok_lexical.specs.declared.rule.Rule.TheVariants.{Punct, Other}
 use Rattle.tok_lexical.specs.declared.contents.Contents.TheVariants.{Text, Bytes, C}
 use Rattle.tok_lexical.specs.Numbers.{IsRun, starts_digit}
 use Rattle.tok_lexical.specs.declared.start.Start.{Start}
 use Rattle.tok_lexical.specs.declared.start.Start.TheVariants as start
 use Rattle.tok_lexical.specs.declared.delimiter.Delimiter.TheVariants as delimiter
+
+-- whether a piece of the rule may begin so, as far as it goes with pieces that no earlier rule
+-- takes
+abbrev pub may_begin : Rule → Start → Bool
+may_begin ByteOrderMark start.Rest = true
+may_begin Whitespace start.Rest = true
+may_begin Whitespace start.Whitespace = true
+may_begin LineComment start.Slash = true
+may_begin BlockComment start.Slash = true
+may_begin OpenComment start.Slash = true
+may_begin (Opening delimiter.None) start.Rest = true
+may_begin (Opening delimiter.None) (start.Opening delimiter.None) = true
+may_begin (Opening delimiter.Parenthesis) (start.Opening delimiter.Parenthesis) = true
+may_begin (Opening delimiter.Brace) (start.Opening delimiter.Brace) = true
+may_begin (Opening delimiter.Bracket) (start.Opening delimiter.Bracket) = true
+may_begin (Closing delimiter.None) start.Rest = true
+may_begin (Closing delimiter.None) (start.Closing delimiter.None) = true
+may_begin (Closing delimiter.Parenthesis) (start.Closing delimiter.Parenthesis) = true
+may_begin (Closing delimiter.Brace) (start.Closing delimiter.Brace) = true
+may_begin (Closing delimiter.Bracket) (start.Closing delimiter.Bracket) = true
+may_begin (QuotedString Text) start.Quote = true
+may_begin (QuotedString Bytes) start.Prefix = true
+may_begin (QuotedString C) start.Prefix = true
+may_begin BadString start.Quote = true
+may_begin ByteChar start.Prefix = true
+may_begin BadByteChar start.Prefix = true
+may_begin StringPrefix start.Prefix = true
+may_begin (RawString contents) start.Prefix = true
+may_begin (BadPrefixed contents) start.Prefix = true
+may_begin EscapedChar start.Apostrophe = true
+may_begin BadEscapedChar start.Apostrophe = true
+may_begin PlainChar start.Apostrophe = true
+may_begin Lifetime start.Apostrophe = true
+may_begin PlainLifetime start.Apostrophe = true
+may_begin Apostrophe start.Apostrophe = true
+may_begin (Based base) start.Zero = true
+may_begin (BadBased base) start.Zero = true
+may_begin Float start.Zero = true
+may_begin Float start.Digit = true
+may_begin PointedDecimal start.Zero = true
+may_begin PointedDecimal start.Digit = true
+may_begin Decimal start.Zero = true
+may_begin Decimal start.Digit = true
+may_begin RawIdentifier start.Prefix = true
+may_begin Identifier start.Punct = false
+may_begin Identifier k = true
+may_begin Punct k = true
+may_begin Other k = true
+may_begin rule k = false
 
 -- the piece has a first character, whose start passes
 abbrev pub HasHead : (Start → Bool) → List ℕ → Type 0
@@ -48,8 +93,6 @@ spelled_head ByteOrderMark piece s = (0xFEFF, [], the_one s, refl)
 spelled_head Whitespace piece (c, pass, e) = (c, [], e, search (rules, tests))
 spelled_head LineComment piece (body, e, a) = (47, _, e, refl)
 spelled_head BlockComment piece (body, e, a) = (47, _, e, refl)
-spelled_head SourceLineComment piece (body, e, a) = (47, _, e, refl)
-spelled_head SourceBlockComment piece (body, e, a) = (47, _, e, refl)
 spelled_head OpenComment piece e = (47, _, e, refl)
 spelled_head (Opening delimiter.Parenthesis) piece s = (40, [], the_one s, refl)
 spelled_head (Opening delimiter.Brace) piece s = (123, [], the_one s, refl)
@@ -59,16 +102,15 @@ spelled_head (Closing delimiter.Parenthesis) piece s = (41, [], the_one s, refl)
 spelled_head (Closing delimiter.Brace) piece s = (125, [], the_one s, refl)
 spelled_head (Closing delimiter.Bracket) piece s = (93, [], the_one s, refl)
 spelled_head (Closing delimiter.None) piece s = (187, [], the_one s, refl)
-spelled_head QuotedString piece (body, suffix, e, u, k) = (34, _, e, refl)
 spelled_head BadString piece s = (34, [], the_one s, refl)
 spelled_head ByteChar piece (more, e, s) = (98, _, e, refl)
 spelled_head BadByteChar piece e = (98, _, e, refl)
 spelled_head StringPrefix piece (inl (more, e, s)) = (114, _, e, refl)
 spelled_head StringPrefix piece (inr (inl (more, e, s))) = (98, _, e, refl)
 spelled_head StringPrefix piece (inr (inr (more, e, s))) = (99, _, e, refl)
-spelled_head (SourceString Text) piece (body, suffix, e, u, k) = (34, _, e, refl)
-spelled_head (SourceString Bytes) piece (more, e, s) = (98, _, e, refl)
-spelled_head (SourceString C) piece (more, e, s) = (99, _, e, refl)
+spelled_head (QuotedString Text) piece (body, suffix, e, u, k) = (34, _, e, refl)
+spelled_head (QuotedString Bytes) piece (more, e, s) = (98, _, e, refl)
+spelled_head (QuotedString C) piece (more, e, s) = (99, _, e, refl)
 spelled_head (RawString Text) piece (more, e, s) = (114, _, e, refl)
 spelled_head (RawString Bytes) piece (more, e, s) = (98, _, e, refl)
 spelled_head (RawString C) piece (more, e, s) = (99, _, e, refl)
@@ -79,24 +121,17 @@ spelled_head EscapedChar piece (inner, suffix, e, h, k) = (39, _, e, refl)
 spelled_head BadEscapedChar piece e = (39, _, e, refl)
 spelled_head PlainChar piece (inner, suffix, e, h, k) = (39, _, e, refl)
 spelled_head Lifetime piece (more, e, s) = (39, _, e, refl)
-spelled_head (SourceLifetime edition) piece (more, e, s) = (39, _, e, refl)
+spelled_head PlainLifetime piece (more, e, s) = (39, _, e, refl)
 spelled_head Apostrophe piece s = (39, [], the_one s, refl)
-spelled_head MarkedApostrophe piece s = (39, [], the_one s, refl)
 spelled_head (Based base) piece (more, e, s) = (48, _, e, refl)
 spelled_head (BadBased base) piece e = (48, _, e, refl)
 spelled_head Decimal piece s = digits_head (may_begin Decimal) _ piece refl refl s
 spelled_head Float piece s = digits_head (may_begin Float) _ piece refl refl s
 spelled_head PointedDecimal piece s = digits_head (may_begin PointedDecimal) _ piece refl refl s
-spelled_head SourceDecimal piece s = digits_head (may_begin SourceDecimal) _ piece refl refl s
 spelled_head RawIdentifier piece (more, e, s) = (114, _, e, refl)
 spelled_head Identifier [] s = absurd s
 spelled_head Identifier (c ∷ tail) (pass, all) = (c, tail, refl, search (rules, tests))
-spelled_head (SourceIdentifier edition) [] s = absurd s
-spelled_head (SourceIdentifier edition) (c ∷ tail) (pass, all) =
-    (c, tail, refl, search (rules, tests))
 spelled_head Punct piece (c, pass, e) = (c, [], e, refl)
-spelled_head MarkedPunct piece (c, pass, e) = (c, [], e, refl)
-spelled_head (SourcePunct edition) piece (c, pass, e) = (c, [], e, refl)
 spelled_head Other piece (c, pass, e) = (c, [], e, refl)
 
 -- a piece has a character

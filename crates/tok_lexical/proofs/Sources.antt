@@ -7,13 +7,14 @@ use Rattle.tok_lexical.specs.Characters.{is_whitespace}
 use Rattle.tok_lexical.specs.Comments.{is_not_line_feed}
 use Rattle.tok_lexical.specs.Pieces.{Skips, begins_with}
 use Rattle.tok_lexical.specs.Fits.{IsFirstFit, here, later, NoneBefore}
-use Rattle.tok_lexical.specs.Rules.{source_rules}
+use Rattle.tok_lexical.specs.Rules.{rules_of}
 use Rattle.tok_lexical.specs.declared.edition.Edition.TheVariants.{Edition2021}
 use Rattle.tok_lexical.specs.Sources.{is_blank_piece, Blanks, over, blank, OpensAttribute}
 use Rattle.tok_lexical.specs.Sources.{Begins, shebang, no_shebang, past_mark, BeginsAt}
+use Rattle.tok_lexical.specs.declared.rule.Mode.TheVariants.{Source}
 use Rattle.tok_lexical.specs.declared.rule.Rule.{Rule}
-use Rattle.tok_lexical.specs.declared.rule.Rule.TheVariants.{Whitespace, SourceLineComment}
-use Rattle.tok_lexical.specs.declared.rule.Rule.TheVariants.{SourceBlockComment}
+use Rattle.tok_lexical.specs.declared.rule.Rule.TheVariants.{Whitespace, LineComment}
+use Rattle.tok_lexical.specs.declared.rule.Rule.TheVariants.{BlockComment}
 use Rattle.tok_lexical.proofs.EscapedChars.{heads, tails}
 use Rattle.std.specs.Str.{chars, IsUtf8}
 use Rattle.std.proofs.lemmas.Str.{length-le-encodes}
@@ -23,7 +24,8 @@ use Rattle.tok_lexical.proofs.Heads.{spelled_one}
 use Rattle.tok_lexical.proofs.Digits.{all_stops}
 
 abbrev pub IsLast : List ℕ → Type 0
-IsLast text = (rule : Rule) → (taken after : List ℕ) → IsFirstFit text (source_rules Edition2021)
+IsLast text = (rule : Rule) → (taken after : List ℕ) →
+    IsFirstFit text (rules_of (Source Edition2021))
     rule taken after → is_blank_piece rule taken ≡ true → ⊥
 
 -- pieces after others
@@ -33,20 +35,21 @@ blanks_more (blank d h a) b = blank d h (blanks_more a b)
 
 -- one more such piece
 pub blanks_one : {text mid rest : List ℕ} {rule : Rule} {taken : List ℕ} → Blanks text mid →
-    IsFirstFit mid (source_rules Edition2021) rule taken rest → is_blank_piece rule taken
+    IsFirstFit mid (rules_of (Source Edition2021)) rule taken rest → is_blank_piece rule taken
     ≡ true → Blanks text rest
 blanks_one b d h = blanks_more b (blank d h over)
 
 pub last_found : {text taken rest : List ℕ} {rule : Rule} →
-    IsFirstFit text (source_rules Edition2021) rule taken rest → is_blank_piece rule taken
+    IsFirstFit text (rules_of (Source Edition2021)) rule taken rest → is_blank_piece rule taken
     ≡ false → IsLast text
 last_found {taken = taken} d h other front after e k =
     let w = decides_unique d e in
     false≢true (sym h ∙ ap (λ r. is_blank_piece r taken) w.0 ∙ ap (is_blank_piece other) w.1 ∙ k)
 
-pub last_none : (text : List ℕ) → NoneBefore (source_rules Edition2021) text
-    (length (source_rules Edition2021)) → IsLast text
-last_none text n other front after d h = none_decides (source_rules Edition2021) text other front
+pub last_none : (text : List ℕ) → NoneBefore (rules_of (Source Edition2021)) text
+    (length (rules_of (Source Edition2021))) → IsLast text
+last_none text n other front after d h = none_decides
+    (rules_of (Source Edition2021)) text other front
     after n d
   where
     none_decides : (rules : List Rule) (text : List ℕ) (rule : Rule) (piece rest : List ℕ) →
@@ -58,7 +61,7 @@ last_none text n other front after d h = none_decides (source_rules Edition2021)
         piece rest (record { none = λ j q k l. n.none (suc j) q (omega arith) (omega arith) }) d
 
 pub shorter_piece : (text rest : List ℕ) (rule : Rule) (taken : List ℕ) → IsUtf8 text →
-    IsUtf8 rest → IsFirstFit (chars text) (source_rules Edition2021) rule taken (chars rest) →
+    IsUtf8 rest → IsFirstFit (chars text) (rules_of (Source Edition2021)) rule taken (chars rest) →
     length rest < length text
 shorter_piece text rest rule taken u v d =
     let t = fits_longest d in
@@ -81,19 +84,19 @@ blanks_same {one = one} {other = other} (blank d h a) n (blank d' h' b) m =
 bracket_last : (after : List ℕ) → IsLast (91 ∷ after)
 bracket_last after rule taken rest d h = go rule d h
   where
-    go : (rule : Rule) → IsFirstFit (91 ∷ after) (source_rules Edition2021) rule taken rest →
+    go : (rule : Rule) → IsFirstFit (91 ∷ after) (rules_of (Source Edition2021)) rule taken rest →
         is_blank_piece rule taken ≡ true → ⊥
     go Whitespace d h =
         let t = fits_longest d in
         let s = t.spelled in
         let head : 91 ≡ s.0 = heads 91 s.0 after rest (t.cut ∙ ap (λ w. w ++ rest) s.2) in
         false≢true (ap is_whitespace head ∙ s.1)
-    go SourceLineComment d h =
+    go LineComment d h =
         let t = fits_longest d in
         let s = t.spelled in
         absurd (let w = heads 91 47 after (47 ∷ (s.0 ++ rest)) (t.cut ∙ ap (λ w. w ++ rest) s.1)
         in omega arith)
-    go SourceBlockComment d h =
+    go BlockComment d h =
         let t = fits_longest d in
         let s = t.spelled in
         absurd (let w = heads 91 47 after (42 ∷ (s.0 ++ rest)) (t.cut ∙ ap (λ w. w ++ rest) s.1)

@@ -1,5 +1,6 @@
 -- What doc comments say (Rust Reference: Comments, Doc comments), and which are refused.
 use Rattle.std.specs.Prelude.{ℕ, List, [], ◌∷◌, ◌-◌, Bool, true, false, not, length, take}
+use Rattle.tok_lexical.specs.Ascii.{carriage_return, exclamation_mark, line_feed}
 use Rattle.tok_lexical.specs.Pieces.{after_first, begins_with, up_to, from_first}
 
 -- what follows the three characters that make a comment a doc comment
@@ -7,20 +8,20 @@ abbrev pub after_mark : List ℕ → List ℕ
 after_mark piece = after_first (after_first (after_first piece))
 
 abbrev pub is_inner_doc : List ℕ → Bool
-is_inner_doc piece = begins_with 33 (after_first (after_first piece))
+is_inner_doc piece = begins_with exclamation_mark (after_first (after_first piece))
 
 -- What a line comment says. One that isn't refused has a U+000D at its end alone.
 abbrev pub line_doc_text : List ℕ → List ℕ
-line_doc_text piece = up_to 13 (after_mark piece)
+line_doc_text piece = up_to carriage_return (after_mark piece)
 
 -- a U+000D, if there is one, isn't the last character before a line feed
 abbrev pub is_bare : List ℕ → List ℕ → Bool
 is_bare [] after = false
-is_bare (c ∷ []) after = not (begins_with 10 after)
+is_bare (c ∷ []) after = not (begins_with line_feed after)
 is_bare (c ∷ d ∷ rest) after = true
 
 abbrev pub breaks_line : List ℕ → List ℕ → Bool
-breaks_line piece after = is_bare (from_first 13 piece) after
+breaks_line piece after = is_bare (from_first carriage_return piece) after
 
 -- what a block comment says: it ends before the last two characters
 abbrev pub block_doc_text : List ℕ → List ℕ

@@ -1,5 +1,6 @@
 -- Which pieces are rejected, and why: the kinds of errors, their numbers and words.
 use Rattle.std.specs.Prelude.{ℕ, List, codes, ◌==◌, ◌||◌, ◌&&◌, Bool, not, if◌then◌else◌, Option, Some, None}
+use Rattle.tok_lexical.specs.Ascii.{apostrophe, number_sign, quote}
 use Rattle.tok_lexical.specs.Comments.{is_line_doc, is_block_doc}
 use Rattle.tok_lexical.specs.Numbers.{is_exponent, is_malformed, is_float}
 use Rattle.tok_lexical.specs.Contents.{has_bare_return, is_unfit, is_wrong}
@@ -17,16 +18,17 @@ use Rattle.tok_lexical.specs.declared.lex_error_kind.LexErrorKind.TheVariants.{M
 use Rattle.tok_lexical.specs.declared.lex_error_kind.LexErrorKind.TheVariants.{MissingRawIdentifier}
 use Rattle.tok_lexical.specs.declared.lex_error_kind.LexErrorKind.TheVariants.{LoneApostrophe, DeepGroup, ReservedPrefix}
 use Rattle.tok_lexical.specs.declared.lex_error_kind.LexErrorKind.TheVariants.{BareReturn, ReservedGuard}
+use Rattle.tok_lexical.specs.declared.rule.Mode.{Mode}
+use Rattle.tok_lexical.specs.declared.rule.Mode.TheVariants.{Marked, Source}
 use Rattle.tok_lexical.specs.declared.rule.Rule.{Rule}
 use Rattle.tok_lexical.specs.declared.rule.Rule.TheVariants.{ByteOrderMark, LineComment}
 use Rattle.tok_lexical.specs.declared.rule.Rule.TheVariants.{BlockComment, OpenComment, BadString}
 use Rattle.tok_lexical.specs.declared.rule.Rule.TheVariants.{BadByteChar, BadEscapedChar}
-use Rattle.tok_lexical.specs.declared.rule.Rule.TheVariants.{StringPrefix, Lifetime, Apostrophe}
-use Rattle.tok_lexical.specs.declared.rule.Rule.TheVariants.{Based, BadBased, Decimal}
-use Rattle.tok_lexical.specs.declared.rule.Rule.TheVariants.{RawIdentifier, Other}
-use Rattle.tok_lexical.specs.declared.rule.Rule.TheVariants.{SourceString, RawString, BadPrefixed}
-use Rattle.tok_lexical.specs.declared.rule.Rule.TheVariants.{SourceIdentifier, SourceLifetime, SourcePunct, Float}
-use Rattle.tok_lexical.specs.declared.rule.Rule.TheVariants.{SourceDecimal, SourceLineComment, SourceBlockComment}
+use Rattle.tok_lexical.specs.declared.rule.Rule.TheVariants.{StringPrefix, QuotedString, RawString}
+use Rattle.tok_lexical.specs.declared.rule.Rule.TheVariants.{BadPrefixed, Lifetime, PlainLifetime}
+use Rattle.tok_lexical.specs.declared.rule.Rule.TheVariants.{Apostrophe, Based, BadBased, Float}
+use Rattle.tok_lexical.specs.declared.rule.Rule.TheVariants.{Decimal, RawIdentifier, Identifier}
+use Rattle.tok_lexical.specs.declared.rule.Rule.TheVariants.{Punct, Other}
 
 abbrev pub kind_number : LexErrorKind → ℕ
 kind_number UnknownCharacter = 1
@@ -70,57 +72,57 @@ refused_if b kind = if b then Some kind else None
 abbrev pub is_reserved : Edition → List ℕ → List ℕ → Bool
 is_reserved edition name after =
     if reserves_prefixes edition
-    then begins_with 34 after || (begins_with 39 after || begins_with 35 after)
-    else begins_with 35 after && is_raw_prefix name
+    then begins_with quote after || (begins_with apostrophe after || begins_with number_sign after)
+    else begins_with number_sign after && is_raw_prefix name
 
 -- a number sign directly before a quote or another one (Rust Reference: Tokens, Reserved guards)
 abbrev pub is_guard : Edition → List ℕ → List ℕ → Bool
 is_guard edition piece after =
     reserves_guards edition
-    && (begins_with 35 piece && (begins_with 34 after || begins_with 35 after))
+    && (begins_with number_sign piece && (begins_with quote after || begins_with number_sign after))
 
--- of a lifetime of a source: `'ab'` is no character, and an identifier with `#` is reserved
-abbrev pub lifetime_error : Edition → List ℕ → List ℕ → Option LexErrorKind
-lifetime_error edition name after =
+-- Of a lifetime of a source, `'ab'` is no character, and an identifier before `#` is reserved.
+abbrev pub lifetime_error : Mode → List ℕ → List ℕ → Option LexErrorKind
+lifetime_error (Source edition) name after =
     if is_missing name then Some MissingRawIdentifier
-    else if begins_with 39 after then Some MalformedQuoted
-    else refused_if (reserves_prefixes edition && (is_plain name && begins_with 35 after))
+    else if begins_with apostrophe after then Some MalformedQuoted
+    else refused_if (reserves_prefixes edition && (is_plain name && begins_with number_sign after))
     ReservedPrefix
+lifetime_error mode name after = refused_if (is_missing name) MissingRawIdentifier
 
 -- why the piece is rejected, if it is; the byte matters to the byte order mark alone
-abbrev pub error_kind : Rule → ℕ → List ℕ → List ℕ → Option LexErrorKind
-error_kind ByteOrderMark at piece after = refused_if (not (at == 0)) UnknownCharacter
-error_kind LineComment at piece after = refused_if (is_line_doc piece) DocComment
-error_kind BlockComment at piece after = refused_if (is_block_doc piece) DocComment
-error_kind SourceLineComment at piece after =
+abbrev pub error_kind : Rule → Mode → ℕ → List ℕ → List ℕ → Option LexErrorKind
+error_kind ByteOrderMark mode at piece after = refused_if (not (at == 0)) UnknownCharacter
+error_kind LineComment (Source edition) at piece after =
     refused_if (is_line_doc piece && breaks_line piece after) BareReturn
-error_kind SourceBlockComment at piece after =
+error_kind LineComment mode at piece after = refused_if (is_line_doc piece) DocComment
+error_kind BlockComment (Source edition) at piece after =
     refused_if (is_block_doc piece && has_bare_return piece) BareReturn
-error_kind OpenComment at piece after = Some UnclosedComment
-error_kind BadString at piece after = Some MalformedQuoted
-error_kind BadByteChar at piece after = Some MalformedQuoted
-error_kind BadEscapedChar at piece after = Some MalformedQuoted
-error_kind StringPrefix at piece after = Some PrefixedString
-error_kind (SourceString contents) at piece after =
+error_kind BlockComment mode at piece after = refused_if (is_block_doc piece) DocComment
+error_kind OpenComment mode at piece after = Some UnclosedComment
+error_kind (QuotedString contents) (Source edition) at piece after =
     refused_if (is_wrong contents piece) MalformedQuoted
-error_kind (RawString contents) at piece after =
+error_kind BadString mode at piece after = Some MalformedQuoted
+error_kind BadByteChar mode at piece after = Some MalformedQuoted
+error_kind StringPrefix mode at piece after = Some PrefixedString
+error_kind (RawString contents) mode at piece after =
     refused_if (is_unfit contents piece) MalformedQuoted
-error_kind (BadPrefixed contents) at piece after = Some MalformedQuoted
-error_kind Lifetime at piece after =
-    refused_if (is_missing (after_first piece)) MissingRawIdentifier
-error_kind (SourceLifetime edition) at piece after =
-    lifetime_error edition (after_first piece) after
-error_kind Apostrophe at piece after = Some LoneApostrophe
-error_kind (Based base) at piece after =
+error_kind (BadPrefixed contents) mode at piece after = Some MalformedQuoted
+error_kind BadEscapedChar mode at piece after = Some MalformedQuoted
+error_kind Lifetime mode at piece after = lifetime_error mode (after_first piece) after
+error_kind PlainLifetime mode at piece after = lifetime_error mode (after_first piece) after
+error_kind Apostrophe Marked at piece after = None
+error_kind Apostrophe mode at piece after = Some LoneApostrophe
+error_kind (Based base) mode at piece after =
     refused_if (is_malformed base piece after) MalformedNumber
-error_kind (BadBased base) at piece after = Some MalformedNumber
-error_kind Decimal at piece after = refused_if (is_float piece after) FloatLiteral
-error_kind Float at piece after = refused_if (is_exponent after) MalformedNumber
-error_kind SourceDecimal at piece after = refused_if (is_exponent after) MalformedNumber
-error_kind RawIdentifier at piece after = refused_if (is_missing piece) MissingRawIdentifier
-error_kind (SourceIdentifier edition) at piece after =
+error_kind (BadBased base) mode at piece after = Some MalformedNumber
+error_kind Float mode at piece after = refused_if (is_exponent after) MalformedNumber
+error_kind Decimal (Source edition) at piece after = refused_if (is_exponent after) MalformedNumber
+error_kind Decimal mode at piece after = refused_if (is_float piece after) FloatLiteral
+error_kind RawIdentifier mode at piece after = refused_if (is_missing piece) MissingRawIdentifier
+error_kind Identifier (Source edition) at piece after =
     refused_if (is_reserved edition piece after) ReservedPrefix
-error_kind (SourcePunct edition) at piece after =
+error_kind Punct (Source edition) at piece after =
     refused_if (is_guard edition piece after) ReservedGuard
-error_kind Other at piece after = Some UnknownCharacter
-error_kind rule at piece after = None
+error_kind Other mode at piece after = Some UnknownCharacter
+error_kind rule mode at piece after = None

@@ -1,5 +1,6 @@
 -- The spellings of floats (Rust Reference: Tokens, Floating-point literals).
 use Rattle.std.specs.Prelude.{◌≡◌, ℕ, List, [], ◌∷◌, ◌⊎◌, true, false}
+use Rattle.tok_lexical.specs.Ascii.{dot, minus, plus}
 use Rattle.tok_lexical.specs.Pieces.{After}
 use Rattle.tok_lexical.specs.Words.{IsIdentifier}
 use Rattle.tok_lexical.specs.Numbers.{is_digit_or_underscore, is_exponent, starts_digit, has_digit}
@@ -15,8 +16,8 @@ abbrev pub IsExponentDigits : List ℕ → Type 0
 IsExponentDigits = IsRun 10 (has_digit 10) IsExponentSuffix
 
 abbrev pub IsSigned : List ℕ → Type 0
-IsSigned piece = After 43 IsExponentDigits piece
-    ⊎ (After 45 IsExponentDigits piece ⊎ IsExponentDigits piece)
+IsSigned piece = After plus IsExponentDigits piece
+    ⊎ (After minus IsExponentDigits piece ⊎ IsExponentDigits piece)
 
 -- `e` or `E`, a sign or none, digits and a suffix
 abbrev pub IsExponent : List ℕ → Type 0
@@ -32,7 +33,7 @@ abbrev pub IsFraction : List ℕ → Type 0
 IsFraction piece = IsScaled piece ⊎ IsDecimal piece
 
 abbrev pub IsFloatTail : List ℕ → Type 0
-IsFloatTail piece = After 46 IsFraction piece ⊎ IsExponent piece
+IsFloatTail piece = After dot IsFraction piece ⊎ IsExponent piece
 
 -- digits, and a dot and digits, an exponent or both; and a suffix, which after a fraction with no
 -- exponent begins with neither `e` nor `E`
@@ -41,4 +42,4 @@ IsFloat = IsRun 10 starts_digit IsFloatTail
 
 -- digits and a dot
 abbrev pub IsPointed : List ℕ → Type 0
-IsPointed = IsRun 10 starts_digit (λ tail. tail ≡ 46 ∷ [])
+IsPointed = IsRun 10 starts_digit (λ tail. tail ≡ dot ∷ [])

@@ -1,6 +1,7 @@
 -- What follows a piece: whether a punct is joint (Rust Reference: Procedural macros, on the spacing
 -- of punctuation).
 use Rattle.std.specs.Prelude.{ℕ, List, [], ◌∷◌, Bool, true, false, not, ◌||◌, ◌&&◌, ◌==◌, if◌then◌else◌}
+use Rattle.tok_lexical.specs.Ascii.{close_mark, dot, open_mark, slash, star}
 use Rattle.tok_lexical.specs.Characters.{is_punct_or_apostrophe}
 use Rattle.tok_lexical.specs.Words.{is_identifier_start}
 
@@ -8,7 +9,7 @@ use Rattle.tok_lexical.specs.Words.{is_identifier_start}
 abbrev pub begins_comment : List ℕ → Bool
 begins_comment [] = false
 begins_comment (c ∷ []) = false
-begins_comment (c ∷ d ∷ rest) = (c == 47) && ((d == 47) || (d == 42))
+begins_comment (c ∷ d ∷ rest) = (c == slash) && ((d == slash) || (d == star))
 
 -- a punctuation character follows, the apostrophe among them
 abbrev pub starts_punct : List ℕ → Bool
@@ -26,7 +27,8 @@ starts_name (c ∷ rest) = is_identifier_start c
 -- the text after the marks of invisible groups at its front
 abbrev pub past_marks : List ℕ → List ℕ
 past_marks [] = []
-past_marks (c ∷ rest) = if (c == 171) || (c == 187) then past_marks rest else (c ∷ rest)
+past_marks (c ∷ rest) =
+    if (c == open_mark) || (c == close_mark) then past_marks rest else (c ∷ rest)
 
 -- what makes an apostrophe of marked text joint: an identifier or a punctuation character follows,
 -- through marks
@@ -36,4 +38,4 @@ makes_joint_apostrophe text = starts_name (past_marks text) || starts_punct (pas
 -- what follows a dot directly after digits leaves it to a float
 abbrev pub takes_point : List ℕ → Bool
 takes_point [] = true
-takes_point (c ∷ rest) = not ((c == 46) || is_identifier_start c)
+takes_point (c ∷ rest) = not ((c == dot) || is_identifier_start c)

@@ -2,15 +2,17 @@
 use Rattle.std.specs.Prelude.{◌≡◌, ℕ, List, [], ◌∷◌, ◌++◌, Bool, true, false, ◌==◌, ◌||◌, ◌&&◌, not}
 use Rattle.std.specs.List.{list_all, list_any}
 use Rattle.std.specs.Char.{is_digit}
+use Rattle.tok_lexical.specs.Ascii.{digit_zero, dot, lower_b, lower_e, lower_o, lower_x, underscore}
+use Rattle.tok_lexical.specs.Ascii.{upper_e}
 use Rattle.tok_lexical.specs.Pieces.{After, IsAll}
 use Rattle.tok_lexical.specs.Words.{IsIdentifier, is_identifier_start}
 use Rattle.tok_lexical.specs.declared.numbers.Base.{Base}
 use Rattle.tok_lexical.specs.declared.numbers.Base.TheVariants.{Hexadecimal, Octal, Binary}
 
 abbrev pub base_mark : Base → ℕ
-base_mark Hexadecimal = 120
-base_mark Octal = 111
-base_mark Binary = 98
+base_mark Hexadecimal = lower_x
+base_mark Octal = lower_o
+base_mark Binary = lower_b
 
 abbrev pub radix : Base → ℕ
 radix Hexadecimal = 16
@@ -19,11 +21,11 @@ radix Binary = 2
 
 -- a digit below the radix, or an underscore
 abbrev pub is_digit_or_underscore : ℕ → ℕ → Bool
-is_digit_or_underscore n c = is_digit c n || (c == 95)
+is_digit_or_underscore n c = is_digit c n || (c == underscore)
 
 abbrev pub is_exponent : List ℕ → Bool
 is_exponent [] = false
-is_exponent (c ∷ rest) = (c == 101) || (c == 69)
+is_exponent (c ∷ rest) = (c == lower_e) || (c == upper_e)
 
 abbrev pub starts_digit : List ℕ → Bool
 starts_digit [] = false
@@ -32,12 +34,12 @@ starts_digit (c ∷ rest) = is_digit c 10
 -- a dot follows, and after it neither a dot, an underscore nor an XID_Start character
 abbrev pub is_fraction : List ℕ → Bool
 is_fraction [] = false
-is_fraction (c ∷ []) = c == 46
-is_fraction (c ∷ d ∷ rest) = (c == 46) && not ((d == 46) || is_identifier_start d)
+is_fraction (c ∷ []) = c == dot
+is_fraction (c ∷ d ∷ rest) = (c == dot) && not ((d == dot) || is_identifier_start d)
 
 -- what may be a suffix: it goes on neither with digits nor with an exponent
 abbrev pub starts_number_suffix : ℕ → ℕ → Bool
-starts_number_suffix n c = not (is_digit_or_underscore n c || ((c == 101) || (c == 69)))
+starts_number_suffix n c = not (is_digit_or_underscore n c || ((c == lower_e) || (c == upper_e)))
 
 abbrev pub IsNumberSuffix : ℕ → List ℕ → Type 0
 IsNumberSuffix n [] = Unit {0}
@@ -57,7 +59,8 @@ abbrev pub has_digit : ℕ → List ℕ → Bool
 has_digit n digits = list_any (λ c. is_digit c n) digits
 
 abbrev pub IsBased : Base → List ℕ → Type 0
-IsBased base = After 48 (After (base_mark base) (IsNumber (radix base) (has_digit (radix base))))
+IsBased base =
+    After digit_zero (After (base_mark base) (IsNumber (radix base) (has_digit (radix base))))
 
 abbrev pub IsDecimal : List ℕ → Type 0
 IsDecimal = IsNumber 10 starts_digit

@@ -1,6 +1,7 @@
 -- The spellings of raw strings (Rust Reference: Tokens, Raw string literals, Raw byte string
 -- literals, Raw C string literals).
 use Rattle.std.specs.Prelude.{◌≡◌, ◌≤◌, ℕ, List, ◌∷◌, ◌++◌, ◌==◌, length}
+use Rattle.tok_lexical.specs.Ascii.{lower_b, lower_c, lower_r, number_sign, quote}
 use Rattle.tok_lexical.specs.Pieces.{After, IsAll}
 use Rattle.tok_lexical.specs.Words.{IsSuffix}
 use Rattle.tok_lexical.specs.declared.contents.Contents.{Contents}
@@ -17,10 +18,10 @@ pub data EndsAt (closing : List ℕ) : List ℕ → Type 0 where
 abbrev pub IsRaw : List ℕ → Type 0
 IsRaw piece =
     (hashes : List ℕ) × (body : List ℕ) × (suffix : List ℕ)
-    × (piece ≡ hashes ++ 34 ∷ (body ++ suffix)) × IsAll (λ c. c == 35) hashes
-    × (length hashes ≤ 255) × EndsAt (34 ∷ hashes) body × IsSuffix suffix
+    × (piece ≡ hashes ++ quote ∷ (body ++ suffix)) × IsAll (λ c. c == number_sign) hashes
+    × (length hashes ≤ 255) × EndsAt (quote ∷ hashes) body × IsSuffix suffix
 
 abbrev pub IsRawString : Contents → List ℕ → Type 0
-IsRawString Text = After 114 IsRaw
-IsRawString Bytes = After 98 (After 114 IsRaw)
-IsRawString C = After 99 (After 114 IsRaw)
+IsRawString Text = After lower_r IsRaw
+IsRawString Bytes = After lower_b (After lower_r IsRaw)
+IsRawString C = After lower_c (After lower_r IsRaw)

@@ -6,6 +6,9 @@ use Rattle.std.specs.Char.{is_digit, digit_value, IsScalar}
 use Rattle.std.specs.Prelude.{Option, MatchOption}
 use Rattle.std.specs.Borrow.{Bor}
 use Rattle.std.specs.Str.{chars}
+use Rattle.tok_lexical.specs.Ascii.{apostrophe, backslash, carriage_return, close_brace, digit_zero}
+use Rattle.tok_lexical.specs.Ascii.{line_feed, lower_b, lower_c, lower_n, lower_r, lower_t, lower_u}
+use Rattle.tok_lexical.specs.Ascii.{lower_x, number_sign, open_brace, quote, tab, underscore}
 use Rattle.tok_lexical.specs.Pieces.{HasPrefix, IsOne, After, IsAll}
 use Rattle.tok_lexical.specs.Words.{IsSuffix}
 use Rattle.tok_lexical.specs.declared.contents.Contents.{Contents}
@@ -14,13 +17,14 @@ use Rattle.tok_lexical.specs.declared.contents.Contents.TheVariants.{Text, Bytes
 -- one of n r t \ 0 ' "
 abbrev pub is_simple_escape : ℕ → Bool
 is_simple_escape c =
-    (c == 110) || (c == 114) || (c == 116) || (c == 92) || (c == 48) || (c == 39) || (c == 34)
+    (c == lower_n) || (c == lower_r) || (c == lower_t) || (c == backslash) || (c == digit_zero)
+    || (c == apostrophe) || (c == quote)
 
 abbrev pub is_hex : ℕ → Bool
 is_hex c = is_digit c 16
 
 abbrev pub is_hex_or_underscore : ℕ → Bool
-is_hex_or_underscore c = is_hex c || (c == 95)
+is_hex_or_underscore c = is_hex c || (c == underscore)
 
 -- the number that the digits write, underscores aside
 abbrev pub hex_value : List ℕ → ℕ
@@ -40,23 +44,24 @@ pub record NamesChar (digits : List ℕ) : Type 0 where
 -- what follows `\u`
 abbrev pub IsCode : List ℕ → Type 0
 IsCode piece =
-    (first : ℕ) × (digits : List ℕ) × (piece ≡ 123 ∷ first ∷ (digits ++ 125 ∷ []))
+    (first : ℕ) × (digits : List ℕ) × (piece ≡ open_brace ∷ first ∷ (digits ++ close_brace ∷ []))
     × (is_hex first ≡ true) × IsAll is_hex_or_underscore digits × NamesChar (first ∷ digits)
 
 abbrev pub IsLineEnd : List ℕ → Type 0
-IsLineEnd piece = (piece ≡ 10 ∷ []) ⊎ (piece ≡ 13 ∷ 10 ∷ [])
+IsLineEnd piece = (piece ≡ line_feed ∷ []) ⊎ (piece ≡ carriage_return ∷ line_feed ∷ [])
 
 -- What follows the backslash of an escape. A line end may stand in strings alone; after `b'` no
 -- `\u` may, but `\x` goes up to FF.
 pub data IsEscape (line_ends wide : Bool) : List ℕ → Type 0 where
   simple : (c : ℕ) → is_simple_escape c ≡ true → IsEscape line_ends wide (c ∷ [])
-  hex : {text : List ℕ} → IsHex (if wide then 16 else 8) text → IsEscape line_ends wide (120 ∷ text)
-  code : {text : List ℕ} → wide ≡ false → IsCode text → IsEscape line_ends wide (117 ∷ text)
+  hex : {text : List ℕ} → IsHex (if wide then 16 else 8) text →
+      IsEscape line_ends wide (lower_x ∷ text)
+  code : {text : List ℕ} → wide ≡ false → IsCode text → IsEscape line_ends wide (lower_u ∷ text)
   line_end : {text : List ℕ} → line_ends ≡ true → IsLineEnd text → IsEscape line_ends wide text
 
 -- in a C string `\x` goes up to FF, and `\u` may stand too
 abbrev pub IsCEscape : List ℕ → Type 0
-IsCEscape text = IsEscape true true text ⊎ After 117 IsCode text
+IsCEscape text = IsEscape true true text ⊎ After lower_u IsCode text
 
 -- the escapes of each kind of string
 abbrev pub EscapeOf : Contents → List ℕ → Type 0
@@ -66,8 +71,8 @@ EscapeOf C = IsCEscape
 
 -- one character of a string, or one escape
 pub data IsUnit (contents : Contents) : List ℕ → Type 0 where
-  plain : (c : ℕ) → c ≢ 34 → c ≢ 92 → IsUnit contents (c ∷ [])
-  escape : {text : List ℕ} → EscapeOf contents text → IsUnit contents (92 ∷ text)
+  plain : (c : ℕ) → c ≢ quote → c ≢ backslash → IsUnit contents (c ∷ [])
+  escape : {text : List ℕ} → EscapeOf contents text → IsUnit contents (backslash ∷ text)
 
 -- one unit after the other
 pub data AreUnits (contents : Contents) : List ℕ → Type 0 where
@@ -78,42 +83,45 @@ pub data AreUnits (contents : Contents) : List ℕ → Type 0 where
 -- a quote, units, a quote and a suffix
 abbrev pub IsString : Contents → List ℕ → Type 0
 IsString contents piece =
-    (body : List ℕ) × (suffix : List ℕ) × (piece ≡ 34 ∷ (body ++ 34 ∷ suffix))
+    (body : List ℕ) × (suffix : List ℕ) × (piece ≡ quote ∷ (body ++ quote ∷ suffix))
     × AreUnits contents body × IsSuffix suffix
 
 -- none of ' \ tab, line feed, U+000D
 abbrev pub is_char : ℕ → Bool
-is_char c = not ((c == 39) || (c == 92) || (c == 9) || (c == 10) || (c == 13))
+is_char c =
+    not ((c == apostrophe) || (c == backslash) || (c == tab) || (c == line_feed)
+    || (c == carriage_return))
 
 abbrev pub is_byte : ℕ → Bool
 is_byte c = is_char c && nat_lt c 128
 
 abbrev pub IsEscapedChar : List ℕ → Type 0
-IsEscapedChar = After 92 (IsEscape false false)
+IsEscapedChar = After backslash (IsEscape false false)
 
 abbrev pub IsByte : List ℕ → Type 0
-IsByte inner = IsOne is_byte inner ⊎ After 92 (IsEscape false true) inner
+IsByte inner = IsOne is_byte inner ⊎ After backslash (IsEscape false true) inner
 
 -- an apostrophe, what is within, an apostrophe and a suffix
 abbrev pub IsQuoted : (List ℕ → Type 0) → List ℕ → Type 0
 IsQuoted Inner piece =
-    (inner : List ℕ) × (suffix : List ℕ) × (piece ≡ 39 ∷ (inner ++ 39 ∷ suffix)) × Inner inner
-    × IsSuffix suffix
+    (inner : List ℕ) × (suffix : List ℕ)
+    × (piece ≡ apostrophe ∷ (inner ++ apostrophe ∷ suffix)) × Inner inner × IsSuffix suffix
 
 -- any number of # and a quote
 abbrev pub IsHashes : List ℕ → Type 0
-IsHashes piece = (hashes : List ℕ) × (piece ≡ hashes ++ 34 ∷ []) × IsAll (λ c. c == 35) hashes
+IsHashes piece =
+    (hashes : List ℕ) × (piece ≡ hashes ++ quote ∷ []) × IsAll (λ c. c == number_sign) hashes
 
 -- the start of a byte or C string, or of a raw one, after `b` or `c`
 abbrev pub IsPrefixed : List ℕ → Type 0
-IsPrefixed piece = (piece ≡ 34 ∷ []) ⊎ After 114 IsHashes piece
+IsPrefixed piece = (piece ≡ quote ∷ []) ⊎ After lower_r IsHashes piece
 
 -- the start of a raw string, or of one with this prefix: `r`, `br` or `cr`, any number of # and a
 -- quote; or `b` or `c` and a quote
 abbrev pub IsPrefixOf : Contents → List ℕ → Type 0
-IsPrefixOf Text = After 114 IsHashes
-IsPrefixOf Bytes = After 98 IsPrefixed
-IsPrefixOf C = After 99 IsPrefixed
+IsPrefixOf Text = After lower_r IsHashes
+IsPrefixOf Bytes = After lower_b IsPrefixed
+IsPrefixOf C = After lower_c IsPrefixed
 
 -- any of these
 abbrev pub IsStringPrefix : List ℕ → Type 0

@@ -4,12 +4,11 @@ use Rattle.std.specs.Prelude.{codes}
 use Rattle.std.specs.List.{list_all}
 use Rattle.std.specs.Str.{bytes_eq}
 use Rattle.unicode_ident.specs.Ident.{is_xid_start, is_xid_continue}
+use Rattle.tok_lexical.specs.Ascii.{lower_r, number_sign, underscore}
 use Rattle.tok_lexical.specs.Pieces.{After}
-use Rattle.tok_lexical.specs.declared.edition.Edition.{Edition}
-use Rattle.tok_lexical.specs.declared.edition.Edition.TheVariants.{Edition2015, Edition2018}
 
 abbrev pub is_identifier_start : ℕ → Bool
-is_identifier_start c = is_xid_start c || (c == 95)
+is_identifier_start c = is_xid_start c || (c == underscore)
 
 -- a plain identifier
 abbrev pub IsIdentifier : List ℕ → Type 0
@@ -22,16 +21,10 @@ IsSuffix suffix = (suffix ≡ []) ⊎ IsIdentifier suffix
 
 -- `r#` and a plain identifier
 abbrev pub IsRawIdentifier : List ℕ → Type 0
-IsRawIdentifier = After 114 (After 35 IsIdentifier)
+IsRawIdentifier = After lower_r (After number_sign IsIdentifier)
 
 abbrev pub IsName : List ℕ → Type 0
 IsName name = IsIdentifier name ⊎ IsRawIdentifier name
-
--- the name of a lifetime of an edition: raw ones exist from 2021 on
-abbrev pub IsNameOf : Edition → List ℕ → Type 0
-IsNameOf Edition2015 = IsIdentifier
-IsNameOf Edition2018 = IsIdentifier
-IsNameOf edition = IsName
 
 -- the words that begin raw strings: r br
 abbrev pub is_raw_prefix : List ℕ → Bool
@@ -49,13 +42,13 @@ has_no_raw word =
 abbrev pub is_missing : List ℕ → Bool
 is_missing [] = false
 is_missing (c ∷ []) = false
-is_missing (c ∷ d ∷ word) = (c == 114) && ((d == 35) && has_no_raw word)
+is_missing (c ∷ d ∷ word) = (c == lower_r) && ((d == number_sign) && has_no_raw word)
 
 -- not `r#` in front
 abbrev pub is_plain : List ℕ → Bool
 is_plain [] = true
 is_plain (c ∷ []) = true
-is_plain (c ∷ d ∷ word) = not ((c == 114) && (d == 35))
+is_plain (c ∷ d ∷ word) = not ((c == lower_r) && (d == number_sign))
 
 -- a plain identifier that exists as a raw one
 abbrev pub HasRaw : List ℕ → Type 0

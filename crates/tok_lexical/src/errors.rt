@@ -9,7 +9,7 @@ use crate::contents::{has_bare_return, is_unfit, is_wrong};
 use crate::edition::Edition;
 use crate::lex_error_kind::LexErrorKind;
 use crate::numbers::{is_exponent, is_float, is_malformed};
-use crate::rule::Rule;
+use crate::rule::{Mode, Rule};
 use crate::text::{begins_with, past_first};
 use crate::words::{is_missing, is_plain, is_raw_prefix};
 
@@ -43,21 +43,23 @@ fn is_guard(edition: Edition, piece: &str, after: &str) -> bool
         && (begins_with(after, '"') || begins_with(after, '#'))
 }
 
-/// Returns the kind of error if a lifetime of a source is rejected: there is no such name, or a
+/// Returns the kind of error if a lifetime is rejected: there is no such name, or in a source a
 /// quote or a number sign follows.
 // Inlined: each lifetime of a source asks this.
 #[inline(always)]
-fn lifetime_error(edition: Edition, name: &str, after: &str) -> Option<LexErrorKind>
-    ensures { result ≡ lifetime_error edition (chars name.now) (chars after.now) }
+fn lifetime_error(mode: Mode, name: &str, after: &str) -> Option<LexErrorKind>
+    ensures { result ≡ lifetime_error mode (chars name.now) (chars after.now) }
 {
     if is_missing(name) {
-        Some(LexErrorKind::MissingRawIdentifier)
-    } else if begins_with(after, '\'') {
-        Some(LexErrorKind::MalformedQuoted)
-    } else if edition.reserves_prefixes() && begins_with(after, '#') && is_plain(name) {
-        Some(LexErrorKind::ReservedPrefix)
-    } else {
-        None
+        return Some(LexErrorKind::MissingRawIdentifier);
+    }
+    match mode {
+        Mode::Source(_) if begins_with(after, '\'') => Some(LexErrorKind::MalformedQuoted),
+        Mode::Source(edition) => refused_if(
+            edition.reserves_prefixes() && begins_with(after, '#') && is_plain(name),
+            LexErrorKind::ReservedPrefix,
+        ),
+        Mode::Plain | Mode::Marked => None,
     }
 }
 
@@ -71,72 +73,80 @@ fn lifetime_error(edition: Edition, name: &str, after: &str) -> Option<LexErrorK
 #[inline(always)]
 pub fn error_kind(
     rule: Rule,
+    mode: Mode,
     at: usize,
     piece: &str,
     after: &str,
     returns: bool,
 ) -> Option<LexErrorKind>
     requires { has_return (chars piece.now) ≡ true → returns ≡ true }
-    ensures { result ≡ error_kind rule at (chars piece.now) (chars after.now) }
+    ensures { result ≡ error_kind rule mode at (chars piece.now) (chars after.now) }
 {
     match rule {
         Rule::ByteOrderMark => refused_if(at != 0, LexErrorKind::UnknownCharacter),
-        Rule::LineComment => refused_if(is_line_doc(piece), LexErrorKind::DocComment),
-        Rule::BlockComment => refused_if(is_block_doc(piece), LexErrorKind::DocComment),
-        Rule::SourceLineComment => {
-            refused_if(
+        Rule::LineComment => match mode {
+            Mode::Source(_) => refused_if(
                 is_line_doc(piece) && breaks_line(piece, after),
                 LexErrorKind::BareReturn,
-            )
-        }
-        Rule::SourceBlockComment => {
-            refused_if(
+            ),
+            Mode::Plain | Mode::Marked => refused_if(is_line_doc(piece), LexErrorKind::DocComment),
+        },
+        Rule::BlockComment => match mode {
+            Mode::Source(_) => refused_if(
                 is_block_doc(piece) && has_bare_return(piece, returns),
                 LexErrorKind::BareReturn,
-            )
-        }
+            ),
+            Mode::Plain | Mode::Marked => refused_if(is_block_doc(piece), LexErrorKind::DocComment),
+        },
         Rule::OpenComment => Some(LexErrorKind::UnclosedComment),
-        Rule::BadString => Some(LexErrorKind::MalformedQuoted),
-        Rule::BadByteChar => Some(LexErrorKind::MalformedQuoted),
-        Rule::BadEscapedChar => Some(LexErrorKind::MalformedQuoted),
-        Rule::StringPrefix => Some(LexErrorKind::PrefixedString),
-        Rule::BadPrefixed(_) => Some(LexErrorKind::MalformedQuoted),
-        Rule::SourceString(contents) => {
-            refused_if(
+        Rule::QuotedString(contents) => match mode {
+            Mode::Source(_) => refused_if(
                 is_wrong(contents, piece, returns),
                 LexErrorKind::MalformedQuoted,
-            )
-        }
-        Rule::RawString(contents) => {
-            refused_if(
-                is_unfit(contents, piece, returns),
-                LexErrorKind::MalformedQuoted,
-            )
-        }
-        Rule::Lifetime => refused_if(
-            is_missing(past_first(piece)),
-            LexErrorKind::MissingRawIdentifier,
+            ),
+            Mode::Plain | Mode::Marked => None,
+        },
+        Rule::BadString => Some(LexErrorKind::MalformedQuoted),
+        Rule::BadByteChar => Some(LexErrorKind::MalformedQuoted),
+        Rule::StringPrefix => Some(LexErrorKind::PrefixedString),
+        Rule::RawString(contents) => refused_if(
+            is_unfit(contents, piece, returns),
+            LexErrorKind::MalformedQuoted,
         ),
-        Rule::SourceLifetime(edition) => lifetime_error(edition, past_first(piece), after),
-        Rule::Apostrophe => Some(LexErrorKind::LoneApostrophe),
+        Rule::BadPrefixed(_) => Some(LexErrorKind::MalformedQuoted),
+        Rule::BadEscapedChar => Some(LexErrorKind::MalformedQuoted),
+        Rule::Lifetime => lifetime_error(mode, past_first(piece), after),
+        Rule::PlainLifetime => lifetime_error(mode, past_first(piece), after),
+        Rule::Apostrophe => match mode {
+            Mode::Marked => None,
+            Mode::Plain | Mode::Source(_) => Some(LexErrorKind::LoneApostrophe),
+        },
         Rule::Based(base) => refused_if(
             is_malformed(base, piece, after),
             LexErrorKind::MalformedNumber,
         ),
         Rule::BadBased(_) => Some(LexErrorKind::MalformedNumber),
-        Rule::Decimal => refused_if(is_float(piece, after), LexErrorKind::FloatLiteral),
         Rule::Float => refused_if(is_exponent(after), LexErrorKind::MalformedNumber),
-        Rule::SourceDecimal => refused_if(is_exponent(after), LexErrorKind::MalformedNumber),
+        Rule::Decimal => match mode {
+            Mode::Source(_) => refused_if(is_exponent(after), LexErrorKind::MalformedNumber),
+            Mode::Plain | Mode::Marked => {
+                refused_if(is_float(piece, after), LexErrorKind::FloatLiteral)
+            }
+        },
         Rule::RawIdentifier => refused_if(is_missing(piece), LexErrorKind::MissingRawIdentifier),
-        Rule::SourceIdentifier(edition) => {
-            refused_if(
+        Rule::Identifier => match mode {
+            Mode::Source(edition) => refused_if(
                 is_reserved(edition, piece, after),
                 LexErrorKind::ReservedPrefix,
-            )
-        }
-        Rule::SourcePunct(edition) => {
-            refused_if(is_guard(edition, piece, after), LexErrorKind::ReservedGuard)
-        }
+            ),
+            Mode::Plain | Mode::Marked => None,
+        },
+        Rule::Punct => match mode {
+            Mode::Source(edition) => {
+                refused_if(is_guard(edition, piece, after), LexErrorKind::ReservedGuard)
+            }
+            Mode::Plain | Mode::Marked => None,
+        },
         Rule::Other => Some(LexErrorKind::UnknownCharacter),
         _ => None,
     }

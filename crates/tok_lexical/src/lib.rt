@@ -31,4 +31,4 @@ pub use edition::Edition;
 pub use errors::error_kind;
 pub use lex_error_kind::LexErrorKind;
 pub use numbers::Base;
-pub use rule::{Rule, Rules, first_rule};
+pub use rule::{Mode, Rule, first_rule};

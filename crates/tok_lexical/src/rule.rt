@@ -5,10 +5,9 @@ ghost use Rattle.tok_lexical.specs.Fits.{IsFirstFit, ReadsByRules};
 ghost use Rattle.tok_lexical.specs.Widths.{is_group_mark, width};
 ghost use Rattle.tok_lexical.specs.Pieces.{ReadsLongest, Skips};
 ghost use Rattle.tok_lexical.specs.Numbers.{is_digit_or_underscore, starts_digit};
-ghost use Rattle.tok_lexical.specs.Rules.{Spells};
-ghost use Rattle.tok_lexical.specs.declared.edition.Edition.TheVariants.{Edition2021};
-ghost use Rattle.tok_lexical.specs.declared.rule.Rules.TheVariants.{Source};
-ghost use Rattle.tok_lexical.specs.Starts.{tells, only, rules_of, last_rules, identifier_rule, punct_rule, decimal_rules, start_of, names_base, opens_string, opens_literal};
+ghost use Rattle.tok_lexical.specs.Rules.{among, beginning, decimal_rules, last_rules, rules_of, Spells};
+ghost use Rattle.tok_lexical.specs.declared.start.Start.TheVariants.{Prefix};
+ghost use Rattle.tok_lexical.specs.Starts.{tells, start_of, names_base, opens_string, opens_literal};
 
 use crate::char_literals::{past_byte_char, past_escaped_char, past_plain_char};
 use crate::classes::{closing_mark, is_invisible, is_punct, is_whitespace, opening_mark};
@@ -25,85 +24,74 @@ use crate::start::Start;
 use crate::strings::{past_byte_string, past_c_string, past_string};
 use crate::text::{begins_with, next_char, past_char, past_first, past_pair};
 use crate::words::{
-    past_continues, past_identifier, past_lifetime, past_raw_identifier, past_source_lifetime,
+    past_continues, past_identifier, past_lifetime, past_plain_lifetime, past_raw_identifier,
 };
 
-/// A rule of the grammar. Some rules stand for an error: they take what begins a piece that a rule
-/// before them would have taken.
+/// A rule of the grammar: a spelling. Some rules stand for an error: they take what begins a piece
+/// that a rule before them would have taken.
 #[derive(Clone, Copy, Debug)]
 pub enum Rule {
     ByteOrderMark,
     Whitespace,
     LineComment,
     BlockComment,
-    SourceLineComment,
-    SourceBlockComment,
     OpenComment,
     Opening(Delimiter),
     Closing(Delimiter),
-    QuotedString,
+    QuotedString(Contents),
     BadString,
     ByteChar,
     BadByteChar,
     StringPrefix,
-    SourceString(Contents),
     RawString(Contents),
     BadPrefixed(Contents),
     EscapedChar,
     BadEscapedChar,
     PlainChar,
     Lifetime,
-    SourceLifetime(Edition),
+    PlainLifetime,
     Apostrophe,
-    MarkedApostrophe,
     Based(Base),
     BadBased(Base),
-    Decimal,
     Float,
     PointedDecimal,
-    SourceDecimal,
+    Decimal,
     RawIdentifier,
     Identifier,
-    SourceIdentifier(Edition),
     Punct,
-    MarkedPunct,
-    SourcePunct(Edition),
     Other,
 }
 
-/// A list of rules: of a text, without or with marks of invisible groups, or of a whole source of
-/// an edition.
+/// How a text is read: as a text of tokens, without or with marks of invisible groups, or as a
+/// whole source of an edition.
+///
+/// The mode says which rules there are, what a piece means, and why one is rejected.
 #[derive(Clone, Copy, Debug)]
-pub enum Rules {
+pub enum Mode {
     Plain,
     Marked,
     Source(Edition),
 }
 
-impl Rules {
+impl Mode {
     // Returns the rules that may begin so, in their order, without the last three.
     #[inline(always)]
     fn at(self, start: Start) -> &'static [Rule]
-        ensures { tells start ≡ false → result.now ++ last_rules self ≡ only start (rules_of self) }
+        ensures { tells start ≡ false → result.now ++ last_rules ≡ among self (beginning start) }
     {
         match start {
             Start::Rest => match self {
-                Rules::Plain => &[Rule::ByteOrderMark, Rule::Whitespace, Rule::Decimal],
-                Rules::Marked => &[
+                Mode::Marked => &[
                     Rule::ByteOrderMark,
                     Rule::Whitespace,
                     Rule::Opening(Delimiter::None),
                     Rule::Closing(Delimiter::None),
-                    Rule::Decimal,
                 ],
-                Rules::Source(_) => &[Rule::ByteOrderMark, Rule::Whitespace],
+                Mode::Plain | Mode::Source(_) => &[Rule::ByteOrderMark, Rule::Whitespace],
             },
-            Start::Whitespace => match self {
-                Rules::Plain | Rules::Marked => &[Rule::Whitespace, Rule::Decimal],
-                Rules::Source(_) => &[Rule::Whitespace],
-            },
+            Start::Whitespace => &[Rule::Whitespace],
             Start::Zero => match self {
-                Rules::Plain | Rules::Marked => &[
+                Mode::Plain | Mode::Marked => &[
                     Rule::Based(Base::Hexadecimal),
                     Rule::Based(Base::Octal),
                     Rule::Based(Base::Binary),
@@ -112,7 +100,7 @@ impl Rules {
                     Rule::BadBased(Base::Binary),
                     Rule::Decimal,
                 ],
-                Rules::Source(_) => &[
+                Mode::Source(_) => &[
                     Rule::Based(Base::Hexadecimal),
                     Rule::Based(Base::Octal),
                     Rule::Based(Base::Binary),
@@ -121,101 +109,31 @@ impl Rules {
                     Rule::BadBased(Base::Binary),
                     Rule::Float,
                     Rule::PointedDecimal,
-                    Rule::SourceDecimal,
+                    Rule::Decimal,
                 ],
             },
             Start::Digit => match self {
-                Rules::Plain | Rules::Marked => &[Rule::Decimal],
-                Rules::Source(_) => &[Rule::Float, Rule::PointedDecimal, Rule::SourceDecimal],
+                Mode::Plain | Mode::Marked => &[Rule::Decimal],
+                Mode::Source(_) => &[Rule::Float, Rule::PointedDecimal, Rule::Decimal],
             },
-            Start::Prefix => match self {
-                Rules::Plain | Rules::Marked => &[
-                    Rule::ByteChar,
-                    Rule::BadByteChar,
-                    Rule::StringPrefix,
-                    Rule::RawIdentifier,
-                ],
-                Rules::Source(Edition::Edition2015 | Edition::Edition2018) => &[
-                    Rule::ByteChar,
-                    Rule::BadByteChar,
-                    Rule::SourceString(Contents::Bytes),
-                    Rule::RawString(Contents::Text),
-                    Rule::RawString(Contents::Bytes),
-                    Rule::BadPrefixed(Contents::Text),
-                    Rule::BadPrefixed(Contents::Bytes),
-                    Rule::RawIdentifier,
-                ],
-                Rules::Source(Edition::Edition2021 | Edition::Edition2024) => &[
-                    Rule::ByteChar,
-                    Rule::BadByteChar,
-                    Rule::SourceString(Contents::Bytes),
-                    Rule::RawString(Contents::Text),
-                    Rule::RawString(Contents::Bytes),
-                    Rule::BadPrefixed(Contents::Text),
-                    Rule::BadPrefixed(Contents::Bytes),
-                    Rule::SourceString(Contents::C),
-                    Rule::RawString(Contents::C),
-                    Rule::BadPrefixed(Contents::C),
-                    Rule::RawIdentifier,
-                ],
-            },
-            Start::Slash => match self {
-                Rules::Plain | Rules::Marked => &[
-                    Rule::LineComment,
-                    Rule::BlockComment,
-                    Rule::OpenComment,
-                ],
-                Rules::Source(_) => &[
-                    Rule::SourceLineComment,
-                    Rule::SourceBlockComment,
-                    Rule::OpenComment,
-                ],
-            },
-            Start::Quote => match self {
-                Rules::Plain | Rules::Marked => &[Rule::QuotedString, Rule::BadString],
-                Rules::Source(_) => &[Rule::SourceString(Contents::Text), Rule::BadString],
-            },
+            Start::Prefix => self.prefixed(),
+            Start::Slash => &[Rule::LineComment, Rule::BlockComment, Rule::OpenComment],
+            Start::Quote => &[Rule::QuotedString(Contents::Text), Rule::BadString],
             Start::Apostrophe => match self {
-                Rules::Plain => &[
+                Mode::Source(Edition::Edition2015 | Edition::Edition2018) => &[
+                    Rule::EscapedChar,
+                    Rule::BadEscapedChar,
+                    Rule::PlainChar,
+                    Rule::PlainLifetime,
+                    Rule::Apostrophe,
+                ],
+                Mode::Plain
+                | Mode::Marked
+                | Mode::Source(Edition::Edition2021 | Edition::Edition2024) => &[
                     Rule::EscapedChar,
                     Rule::BadEscapedChar,
                     Rule::PlainChar,
                     Rule::Lifetime,
-                    Rule::Apostrophe,
-                ],
-                Rules::Marked => &[
-                    Rule::EscapedChar,
-                    Rule::BadEscapedChar,
-                    Rule::PlainChar,
-                    Rule::Lifetime,
-                    Rule::MarkedApostrophe,
-                ],
-                Rules::Source(Edition::Edition2015) => &[
-                    Rule::EscapedChar,
-                    Rule::BadEscapedChar,
-                    Rule::PlainChar,
-                    Rule::SourceLifetime(Edition::Edition2015),
-                    Rule::Apostrophe,
-                ],
-                Rules::Source(Edition::Edition2018) => &[
-                    Rule::EscapedChar,
-                    Rule::BadEscapedChar,
-                    Rule::PlainChar,
-                    Rule::SourceLifetime(Edition::Edition2018),
-                    Rule::Apostrophe,
-                ],
-                Rules::Source(Edition::Edition2021) => &[
-                    Rule::EscapedChar,
-                    Rule::BadEscapedChar,
-                    Rule::PlainChar,
-                    Rule::SourceLifetime(Edition::Edition2021),
-                    Rule::Apostrophe,
-                ],
-                Rules::Source(Edition::Edition2024) => &[
-                    Rule::EscapedChar,
-                    Rule::BadEscapedChar,
-                    Rule::PlainChar,
-                    Rule::SourceLifetime(Edition::Edition2024),
                     Rule::Apostrophe,
                 ],
             },
@@ -224,22 +142,41 @@ impl Rules {
         }
     }
 
-    fn identifier(self) -> Rule
-        ensures { result ≡ identifier_rule self }
+    // Returns those that `b`, `c` or `r` may begin.
+    #[inline(always)]
+    fn prefixed(self) -> &'static [Rule]
+        ensures { result.now ++ last_rules ≡ among self (beginning Prefix) }
     {
         match self {
-            Rules::Source(edition) => Rule::SourceIdentifier(edition),
-            _ => Rule::Identifier,
-        }
-    }
-
-    fn punct(self) -> Rule
-        ensures { result ≡ punct_rule self }
-    {
-        match self {
-            Rules::Marked => Rule::MarkedPunct,
-            Rules::Source(edition) => Rule::SourcePunct(edition),
-            _ => Rule::Punct,
+            Mode::Plain | Mode::Marked => &[
+                Rule::ByteChar,
+                Rule::BadByteChar,
+                Rule::StringPrefix,
+                Rule::RawIdentifier,
+            ],
+            Mode::Source(Edition::Edition2015 | Edition::Edition2018) => &[
+                Rule::ByteChar,
+                Rule::BadByteChar,
+                Rule::QuotedString(Contents::Bytes),
+                Rule::RawString(Contents::Text),
+                Rule::RawString(Contents::Bytes),
+                Rule::BadPrefixed(Contents::Text),
+                Rule::BadPrefixed(Contents::Bytes),
+                Rule::RawIdentifier,
+            ],
+            Mode::Source(Edition::Edition2021 | Edition::Edition2024) => &[
+                Rule::ByteChar,
+                Rule::BadByteChar,
+                Rule::QuotedString(Contents::Bytes),
+                Rule::RawString(Contents::Text),
+                Rule::RawString(Contents::Bytes),
+                Rule::BadPrefixed(Contents::Text),
+                Rule::BadPrefixed(Contents::Bytes),
+                Rule::QuotedString(Contents::C),
+                Rule::RawString(Contents::C),
+                Rule::BadPrefixed(Contents::C),
+                Rule::RawIdentifier,
+            ],
         }
     }
 
@@ -247,14 +184,14 @@ impl Rules {
     fn decimal(self, text: &str) -> (Rule, &str)
         requires { starts_digit (chars text.now) ≡ true }
         ensures fits { (piece : List ℕ)
-            × IsFirstFit (chars text.now) (decimal_rules self) result.0 piece
+            × IsFirstFit (chars text.now) (among self decimal_rules) result.0 piece
             (chars result.1.now) }
         ensures utf8 { IsUtf8 result.1.now }
     {
         let (_, rest) = past_digits(text, 10);
         match self {
-            Rules::Source(_) => source_decimal(text, rest),
-            _ => (Rule::Decimal, past_number_suffix(rest, 10)),
+            Mode::Source(_) => source_decimal(text, rest),
+            Mode::Plain | Mode::Marked => (Rule::Decimal, past_number_suffix(rest, 10)),
         }
     }
 }
@@ -272,40 +209,32 @@ impl Rule {
             Rule::Whitespace if is_whitespace(first) => Some(rest),
             Rule::LineComment => past_line_comment(text),
             Rule::BlockComment => past_block_comment(text),
-            Rule::SourceLineComment => past_line_comment(text),
-            Rule::SourceBlockComment => past_block_comment(text),
             Rule::OpenComment => past_pair(text, '/', '*'),
             Rule::Opening(delimiter) if first == opening_mark(delimiter) => Some(rest),
             Rule::Closing(delimiter) if first == closing_mark(delimiter) => Some(rest),
-            Rule::QuotedString => past_string(text),
+            Rule::QuotedString(Contents::Text) => past_string(text),
+            Rule::QuotedString(Contents::Bytes) => past_byte_string(text),
+            Rule::QuotedString(Contents::C) => past_c_string(text),
             Rule::BadString if first == '"' => Some(rest),
             Rule::ByteChar => past_byte_char(text),
             Rule::BadByteChar => past_pair(text, 'b', '\''),
             Rule::StringPrefix => past_string_prefix(text),
-            Rule::SourceString(Contents::Text) => past_string(text),
-            Rule::SourceString(Contents::Bytes) => past_byte_string(text),
-            Rule::SourceString(Contents::C) => past_c_string(text),
             Rule::RawString(contents) => past_raw_string(text, contents),
             Rule::BadPrefixed(contents) => past_prefix_of(text, contents),
             Rule::EscapedChar => past_escaped_char(text),
             Rule::BadEscapedChar => past_pair(text, '\'', '\\'),
             Rule::PlainChar => past_plain_char(text),
             Rule::Lifetime => past_lifetime(text),
-            Rule::SourceLifetime(edition) => past_source_lifetime(text, edition),
+            Rule::PlainLifetime => past_plain_lifetime(text),
             Rule::Apostrophe if first == '\'' => Some(rest),
-            Rule::MarkedApostrophe if first == '\'' => Some(rest),
             Rule::Based(base) => past_based(text, base),
             Rule::BadBased(base) => past_pair(text, '0', base.mark()),
-            Rule::Decimal => past_decimal(text),
             Rule::Float => past_float(text),
             Rule::PointedDecimal => past_pointed(text),
-            Rule::SourceDecimal => past_decimal(text),
+            Rule::Decimal => past_decimal(text),
             Rule::RawIdentifier => past_raw_identifier(text),
             Rule::Identifier => past_identifier(text),
-            Rule::SourceIdentifier(_) => past_identifier(text),
             Rule::Punct if is_punct(first) => Some(rest),
-            Rule::MarkedPunct if is_punct(first) => Some(rest),
-            Rule::SourcePunct(_) if is_punct(first) => Some(rest),
             Rule::Other => Some(rest),
             _ => None,
         }
@@ -336,8 +265,7 @@ fn source_decimal<'a>(text: &str, rest: &'a str) -> (Rule, &'a str)
     requires digits { (front : List ℕ)
         × Skips (is_digit_or_underscore 10) (chars text.now) front (chars rest.now) }
     ensures fits { (piece : List ℕ)
-        × IsFirstFit (chars text.now) (decimal_rules (Source Edition2021)) result.0 piece
-        (chars result.1.now) }
+        × IsFirstFit (chars text.now) decimal_rules result.0 piece (chars result.1.now) }
     ensures utf8 { IsUtf8 result.1.now }
 {
     if let Some(after) = past_char(rest, '.') {
@@ -348,7 +276,7 @@ fn source_decimal<'a>(text: &str, rest: &'a str) -> (Rule, &'a str)
     } else {
         match past_exponent(rest) {
             Some(end) => (Rule::Float, end),
-            None => (Rule::SourceDecimal, past_number_suffix(rest, 10)),
+            None => (Rule::Decimal, past_number_suffix(rest, 10)),
         }
     }
 }
@@ -380,7 +308,7 @@ fn opens_literal(rest: &str) -> bool
 // Inlined: most numbers, and most words that begin so, are told here.
 #[inline(always)]
 fn second_told<'a>(
-    rules: Rules,
+    mode: Mode,
     start: Start,
     text: &'a str,
     rest: &'a str,
@@ -388,15 +316,13 @@ fn second_told<'a>(
     requires { (c : ℕ) × (chars text.now ≡ c ∷ chars rest.now) × (start ≡ start_of c) }
     ensures fits { IfSome result
         (λ found. (piece : List ℕ)
-        × IsFirstFit (chars text.now) (rules_of rules) found.0 piece (chars found.1.now)) }
+        × IsFirstFit (chars text.now) (rules_of mode) found.0 piece (chars found.1.now)) }
     ensures utf8 { IfSome result (λ found. IsUtf8 found.1.now) }
 {
     match start {
-        Start::Digit => Some(rules.decimal(text)),
-        Start::Zero if !names_base(rest) => Some(rules.decimal(text)),
-        Start::Prefix if !opens_literal(rest) => {
-            Some((rules.identifier(), past_continues(rest)))
-        }
+        Start::Digit => Some(mode.decimal(text)),
+        Start::Zero if !names_base(rest) => Some(mode.decimal(text)),
+        Start::Prefix if !opens_literal(rest) => Some((Rule::Identifier, past_continues(rest))),
         Start::Prefix if begins_with(rest, '#') => {
             let end = past_raw_identifier(text)?;
             Some((Rule::RawIdentifier, end))
@@ -408,27 +334,27 @@ fn second_told<'a>(
 /// Returns the first rule that fits at the front of the text, and the text after its piece, or
 /// `None` if no rule fits.
 #[inline(always)]
-pub fn first_rule(rules: Rules, text: &str) -> Option<(Rule, &str)>
-    ensures tries { ReadsByRules (rules_of rules) (chars text.now) result }
+pub fn first_rule(mode: Mode, text: &str) -> Option<(Rule, &str)>
+    ensures tries { ReadsByRules (rules_of mode) (chars text.now) result }
     ensures utf8 { IfSome result (λ found. IsUtf8 found.1.now) }
 {
     let (first, rest) = next_char(text)?;
     // Most pieces are told by their first character alone.
     let start = Start::of(first);
     match start {
-        Start::Letter => return Some((rules.identifier(), past_continues(rest))),
-        Start::Punct => return Some((rules.punct(), rest)),
+        Start::Letter => return Some((Rule::Identifier, past_continues(rest))),
+        Start::Punct => return Some((Rule::Punct, rest)),
         Start::Opening(delimiter) => return Some((Rule::Opening(delimiter), rest)),
         Start::Closing(delimiter) => return Some((Rule::Closing(delimiter), rest)),
-        Start::Slash if !begins_comment(text) => return Some((rules.punct(), rest)),
+        Start::Slash if !begins_comment(text) => return Some((Rule::Punct, rest)),
         _ => {}
     }
     if start.has_second() {
-        if let Some(found) = second_told(rules, start, text, rest) {
+        if let Some(found) = second_told(mode, start, text, rest) {
             return Some(found);
         }
     }
-    let those = rules.at(start);
+    let those = mode.at(start);
     for rule in those {
         if let Some(rest) = rule.past(text) {
             return Some((*rule, rest));
@@ -436,9 +362,9 @@ pub fn first_rule(rules: Rules, text: &str) -> Option<(Rule, &str)>
     }
     // The last three rules, of which one fits.
     if let Some(rest) = past_identifier(text) {
-        Some((rules.identifier(), rest))
+        Some((Rule::Identifier, rest))
     } else if is_punct(first) {
-        Some((rules.punct(), rest))
+        Some((Rule::Punct, rest))
     } else {
         Some((Rule::Other, rest))
     }

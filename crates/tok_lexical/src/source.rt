@@ -3,13 +3,14 @@ ghost use Rattle.std.specs.Prelude.{◌≡◌, ℕ, ◌++◌, List, MatchBool, t
 ghost use Rattle.std.specs.Str.{chars};
 ghost use Rattle.tok_lexical.specs.Sources.{is_blank_piece, Blanks, OpensAttribute, past_mark, Begins, BeginsAt};
 ghost use Rattle.tok_lexical.specs.Fits.{IsFirstFit};
-ghost use Rattle.tok_lexical.specs.Rules.{source_rules};
+ghost use Rattle.tok_lexical.specs.Rules.{rules_of};
 ghost use Rattle.tok_lexical.specs.declared.rule.Rule.{Rule};
 ghost use Rattle.tok_lexical.specs.declared.edition.Edition.TheVariants.{Edition2021};
+ghost use Rattle.tok_lexical.specs.declared.rule.Mode.TheVariants.{Source};
 
 use crate::comments::{is_block_doc, is_line_doc, past_line};
 use crate::edition::Edition;
-use crate::rule::{Rule, Rules, first_rule};
+use crate::rule::{Mode, Rule, first_rule};
 use crate::text::{begins_with, front_of, next_char, past_pair};
 
 fn is_blank_piece(rule: Rule, piece: &str) -> bool
@@ -17,8 +18,8 @@ fn is_blank_piece(rule: Rule, piece: &str) -> bool
 {
     match rule {
         Rule::Whitespace => true,
-        Rule::SourceLineComment => !is_line_doc(piece),
-        Rule::SourceBlockComment => !is_block_doc(piece),
+        Rule::LineComment => !is_line_doc(piece),
+        Rule::BlockComment => !is_block_doc(piece),
         _ => false,
     }
 }
@@ -28,11 +29,11 @@ fn is_blank_piece(rule: Rule, piece: &str) -> bool
 fn past_blank_pieces(text: &str) -> &str
     ensures blanks { Blanks (chars text.now) (chars result.now) }
     ensures last { (rule : Rule) → (taken after : List ℕ)
-        → IsFirstFit (chars result.now) (source_rules Edition2021) rule taken after
+        → IsFirstFit (chars result.now) (rules_of (Source Edition2021)) rule taken after
         → is_blank_piece rule taken ≡ true → ⊥ }
 {
     let mut rest = text;
-    while let Some((rule, after)) = first_rule(Rules::Source(Edition::Edition2021), rest) {
+    while let Some((rule, after)) = first_rule(Mode::Source(Edition::Edition2021), rest) {
         if !is_blank_piece(rule, front_of(rest, after)) {
             return rest;
         }

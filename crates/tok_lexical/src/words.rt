@@ -4,9 +4,8 @@ ghost use Rattle.std.specs.Str.{chars, IsUtf8};
 ghost use Rattle.unicode_ident.specs.Ident.{is_xid_continue};
 ghost use Rattle.tok_lexical.specs.Following.{starts_name};
 ghost use Rattle.tok_lexical.specs.Pieces.{After, IsLongestPrefix, ReadsLongest, Skips};
-ghost use Rattle.tok_lexical.specs.Words.{IsIdentifier, IsRawIdentifier, IsName, IsNameOf, IsSuffix, is_identifier_start, has_no_raw, is_missing, is_plain, is_raw_prefix};
+ghost use Rattle.tok_lexical.specs.Words.{IsIdentifier, IsRawIdentifier, IsName, IsSuffix, is_identifier_start, has_no_raw, is_missing, is_plain, is_raw_prefix};
 
-use crate::edition::Edition;
 use crate::text::{next_char, past_char, past_pair};
 use unicode_ident::{is_xid_continue, is_xid_start};
 
@@ -126,26 +125,14 @@ pub fn past_lifetime(text: &str) -> Option<&str>
     past_name(name)
 }
 
-/// Returns the text after the name of a lifetime of a source. No name of 2015 or 2018 is raw.
-fn past_source_name(text: &str, edition: Edition) -> Option<&str>
-    ensures tries { ReadsLongest (IsNameOf edition) (chars text.now) result }
-    ensures utf8 { IfSome result (λ rest. IsUtf8 rest.now) }
-{
-    match edition {
-        Edition::Edition2015 | Edition::Edition2018 => past_identifier(text),
-        Edition::Edition2021 | Edition::Edition2024 => past_name(text),
-    }
-}
-
-/// Returns the text after a lifetime of a source.
-// Inlined, as the rule of the profile is.
+/// Returns the text after a lifetime whose name isn't raw.
 #[inline(always)]
-pub fn past_source_lifetime(text: &str, edition: Edition) -> Option<&str>
-    ensures tries { ReadsLongest (After 39 (IsNameOf edition)) (chars text.now) result }
+pub fn past_plain_lifetime(text: &str) -> Option<&str>
+    ensures tries { ReadsLongest (After 39 IsIdentifier) (chars text.now) result }
     ensures utf8 { IfSome result (λ rest. IsUtf8 rest.now) }
 {
-    let name = past_char(text, '\'')?;
-    past_source_name(name, edition)
+    let word = past_char(text, '\'')?;
+    past_identifier(word)
 }
 
 // Compares the bytes of a word, for `has_no_raw`.

@@ -11,9 +11,8 @@ use Rattle.tok_core.specs.Lexical.Items.{Item}
 use Rattle.tok_lexical.specs.Pieces.{HasPrefix, Skips, ReadsLongest}
 use Rattle.tok_lexical.specs.Fits.{IsFirstFit, here, later}
 use Rattle.tok_core.specs.Lexical.Reading.{Cut, stop, piece}
-use Rattle.tok_lexical.specs.Starts.{rules_of, line_rule, block_rule}
-use Rattle.tok_lexical.specs.declared.rule.Rules.{Rules}
-use Rattle.tok_lexical.specs.declared.rule.Rules.TheVariants.{Plain, Marked, Source}
+use Rattle.tok_lexical.specs.declared.rule.Mode.{Mode}
+use Rattle.tok_lexical.specs.declared.rule.Mode.TheVariants.{Plain, Marked, Source}
 use Rattle.tok_lexical.proofs.Slashes.{decides_line, decides_block}
 use Rattle.tok_lexical.proofs.Fits.{fits_longest}
 use Rattle.tok_lexical.proofs.Longest.{takes_one}
@@ -29,7 +28,7 @@ use Rattle.tok_lexical.specs.Errors.{error_kind}
 use Rattle.tok_core.specs.Lexical.Meaning.{items}
 use Rattle.tok_lexical.specs.Widths.{width}
 use Rattle.tok_lexical.specs.Pieces.{IsLongestPrefix}
-use Rattle.tok_lexical.specs.Rules.{Spells}
+use Rattle.tok_lexical.specs.Rules.{Spells, all_rules, among, rules_of}
 use Rattle.tok_lexical.specs.declared.rule.Rule.{Rule}
 use Rattle.tok_lexical.specs.declared.rule.Rule.TheVariants.{ByteOrderMark, Whitespace}
 use Rattle.tok_lexical.specs.declared.rule.Rule.TheVariants.{LineComment, BlockComment}
@@ -92,96 +91,85 @@ block_piece text taken after t = go t.spelled
         ∙ ap is_block_doc (sym e)
 
 -- such a taken is not refused, adds nothing, and is as wide as its bytes
-record MeansNothing (rule : Rule) (number at : ℕ) (taken after : List ℕ) : Type 0 where
-  pub passes : error_kind rule at taken after ≡ None
-  pub adds_none : items number rule at taken after ≡ []
-  pub wide : width rule taken ≡ length (encode_utf8_all taken)
+record MeansNothing (rule : Rule) (mode : Mode) (number at : ℕ) (taken after : List ℕ) : Type 0
+  where
+    pub passes : error_kind rule mode at taken after ≡ None
+    pub adds_none : items number rule mode at taken after ≡ []
+    pub wide : width rule taken ≡ length (encode_utf8_all taken)
 
-line_nothing : (every : Rules) (number at : ℕ) (text taken after : List ℕ) → is_line_doc text
-    ≡ false → IsLongestPrefix (Spells (line_rule every)) text taken after →
-    MeansNothing (line_rule every) number at taken after
-line_nothing Plain number at text taken after calm t =
-    record {
-      passes = rw (sym (line_piece text taken after t) ∙ calm) refl;
-      adds_none = refl;
-      wide = refl;
-    }
-line_nothing Marked number at text taken after calm t =
-    record {
-      passes = rw (sym (line_piece text taken after t) ∙ calm) refl;
-      adds_none = refl;
-      wide = refl;
-    }
-line_nothing (Source edition) number at text taken after calm t =
+line_nothing : (mode : Mode) (number at : ℕ) (text taken after : List ℕ) → is_line_doc text
+    ≡ false → IsLongestPrefix (Spells LineComment) text taken after →
+    MeansNothing LineComment mode number at taken after
+line_nothing mode number at text taken after calm t =
     let none : is_line_doc taken ≡ false = sym (line_piece text taken after t) ∙ calm in
-    record { passes = rw none refl; adds_none = rw none refl; wide = refl }
+    record { passes = passes mode none; adds_none = rw none refl; wide = refl }
+  where
+    passes : (mode : Mode) → is_line_doc taken ≡ false → error_kind LineComment mode at taken after
+        ≡ None
+    passes Plain none = rw none refl
+    passes Marked none = rw none refl
+    passes (Source edition) none = rw none refl
 
-block_nothing : (every : Rules) (number at : ℕ) (text taken after : List ℕ) → is_block_doc text
-    ≡ false → IsLongestPrefix (Spells (block_rule every)) text taken after →
-    MeansNothing (block_rule every) number at taken after
-block_nothing Plain number at text taken after calm t =
-    record {
-      passes = rw (sym (block_piece text taken after t) ∙ calm) refl;
-      adds_none = refl;
-      wide = refl;
-    }
-block_nothing Marked number at text taken after calm t =
-    record {
-      passes = rw (sym (block_piece text taken after t) ∙ calm) refl;
-      adds_none = refl;
-      wide = refl;
-    }
-block_nothing (Source edition) number at text taken after calm t =
+block_nothing : (mode : Mode) (number at : ℕ) (text taken after : List ℕ) → is_block_doc text
+    ≡ false → IsLongestPrefix (Spells BlockComment) text taken after →
+    MeansNothing BlockComment mode number at taken after
+block_nothing mode number at text taken after calm t =
     let none : is_block_doc taken ≡ false = sym (block_piece text taken after t) ∙ calm in
-    record { passes = rw none refl; adds_none = rw none refl; wide = refl }
+    record { passes = passes mode none; adds_none = rw none refl; wide = refl }
+  where
+    passes : (mode : Mode) → is_block_doc taken ≡ false → error_kind BlockComment mode at taken
+        after ≡ None
+    passes Plain none = rw none refl
+    passes Marked none = rw none refl
+    passes (Source edition) none = rw none refl
 
-pub recut : {rules : List Rule} {number at end to : ℕ} {text rest after : List ℕ}
+pub recut : {mode : Mode} {number at end to : ℕ} {text rest after : List ℕ}
     {some others : List Item} → some ≡ others → end ≡ to → rest ≡ after →
-    Cut rules number at text some end rest → Cut rules number at text others to after
-recut {rules} {number} {at} {end} {to} {text} {rest} {after} {some} {others} i e r c =
-    subst (λ w. Cut rules number at text others to w) r
-    (subst (λ w. Cut rules number at text others w rest) e
-    (subst (λ w. Cut rules number at text w end rest) i c))
+    Cut mode number at text some end rest → Cut mode number at text others to after
+recut {mode} {number} {at} {end} {to} {text} {rest} {after} {some} {others} i e r c =
+    subst (λ w. Cut mode number at text others to w) r
+    (subst (λ w. Cut mode number at text others w rest) e
+    (subst (λ w. Cut mode number at text w end rest) i c))
 
-pub shorter : (rules : List Rule) (rule : Rule) (text rest taken : List ℕ) → IsUtf8 text →
-    IsUtf8 rest → IsFirstFit (chars text) rules rule taken (chars rest) →
+pub shorter : (of : List Rule) (rule : Rule) (text rest taken : List ℕ) → IsUtf8 text →
+    IsUtf8 rest → IsFirstFit (chars text) of rule taken (chars rest) →
     length rest < length text
-shorter rules rule text rest taken u v d =
+shorter of rule text rest taken u v d =
     let t = fits_longest d in
     let one = spelled_one rule taken t.spelled in
     let many = length-le-encodes taken in
     let l = cut_length text rest taken u v t.cut in
     omega arith
 
--- a front that one rule takes, by the rules of every text
-blank_front : (text rest : List ℕ) (rule : Rules → Rule) → IsUtf8 text → IsUtf8 rest →
-    ((every : Rules) (number at : ℕ) (taken after : List ℕ) →
-    IsLongestPrefix (Spells (rule every)) (chars text) taken after →
-    MeansNothing (rule every) number at taken after) →
-    ((every : Rules) → (taken : List ℕ) × IsFirstFit (chars text) (rules_of every) (rule every)
-    taken (chars rest)) → IsBlank (chars text) (chars rest) (length text - length rest)
-blank_front text rest rule u v nothings d every number at =
-    let p = d every in
+-- a front that one rule takes, in every mode
+blank_front : (text rest : List ℕ) (rule : Rule) → IsUtf8 text → IsUtf8 rest →
+    ((mode : Mode) (number at : ℕ) (taken after : List ℕ) →
+    IsLongestPrefix (Spells rule) (chars text) taken after →
+    MeansNothing rule mode number at taken after) →
+    ((mode : Mode) → (taken : List ℕ) × IsFirstFit (chars text) (rules_of mode) rule taken
+    (chars rest)) → IsBlank (chars text) (chars rest) (length text - length rest)
+blank_front text rest rule u v nothings d mode number at =
+    let p = d mode in
     let t = fits_longest p.1 in
-    let nothing = nothings every number at p.0 (chars rest) t in
+    let nothing = nothings mode number at p.0 (chars rest) t in
     let l = cut_length text rest p.0 u v t.cut in
     let wide = nothing.wide in
-    recut (append-nil (items number (rule every) at p.0 (chars rest)) ∙ nothing.adds_none)
+    recut (append-nil (items number rule mode at p.0 (chars rest)) ∙ nothing.adds_none)
     (omega arith) refl (piece p.1 nothing.passes stop)
 
 pub blank_none : (text rest : List ℕ) → rest ≡ text → IsBlank (chars text) (chars rest)
     (length text - length rest)
-blank_none text rest e every number at =
+blank_none text rest e mode number at =
     let l : length rest ≡ length text = ap length e in
     recut refl (omega arith) (ap chars (sym e)) stop
 
-cut_on : {rules : List Rule} {number at end to : ℕ} {text rest after : List ℕ}
-    {some : List Item} → Cut rules number at text some end rest → some ≡ [] →
-    Cut rules number end rest [] to after → Cut rules number at text [] to after
+cut_on : {mode : Mode} {number at end to : ℕ} {text rest after : List ℕ}
+    {some : List Item} → Cut mode number at text some end rest → some ≡ [] →
+    Cut mode number end rest [] to after → Cut mode number at text [] to after
 cut_on stop none d = d
-cut_on {rules} {number} {at} {end} {to} {text} {rest} {after}
+cut_on {mode} {number} {at} {end} {to} {text} {rest} {after}
     (piece {taken = taken} {after = next} {rule = rule} {more = more} e n c) none d =
-    let apart = append_nothing (items number rule at taken next) more none in
+    let apart = append_nothing (items number rule mode at taken next) more none in
     recut (ap (λ w. w ++ []) apart.0) refl refl (piece e n (cut_on c apart.1 d))
   where
     append_nothing : (xs ys : List Item) → xs ++ ys ≡ [] → (xs ≡ []) × (ys ≡ [])
@@ -192,25 +180,26 @@ pub blank_more : (text mid rest : List ℕ) → length rest ≤ length mid → l
     IsBlank (chars text) (chars mid) (length text - length mid) →
     IsBlank (chars mid) (chars rest) (length mid - length rest) →
     IsBlank (chars text) (chars rest) (length text - length rest)
-blank_more text mid rest l m first second every number at =
+blank_more text mid rest l m first second mode number at =
     recut refl (omega arith) refl
-    (cut_on (first every number at) refl
-    (second every number (at + (length text - length mid))))
+    (cut_on (first mode number at) refl
+    (second mode number (at + (length text - length mid))))
 
-decides_space : (rules : Rules) (c : ℕ) (more : List ℕ) → is_whitespace c ≡ true →
-    IsFirstFit (c ∷ more) (rules_of rules) Whitespace (c ∷ []) more
-decides_space rules c more h = go rules
+first_rules : (more : List Rule) × (all_rules ≡ ByteOrderMark ∷ Whitespace ∷ more)
+unfolding all_rules
+first_rules = (_, refl)
+
+decides_space : (mode : Mode) (c : ℕ) (more : List ℕ) → is_whitespace c ≡ true →
+    IsFirstFit (c ∷ more) (rules_of mode) Whitespace (c ∷ []) more
+decides_space mode c more h =
+    subst (λ w. IsFirstFit (c ∷ more) (among mode w) Whitespace (c ∷ []) more) (sym first_rules.1)
+    (later no_mark (here (takes_one is_whitespace (c ∷ more) more c refl h)))
   where
     no_mark : HasPrefix (Spells ByteOrderMark) (c ∷ more) → ⊥
     no_mark (front, after, cut, (d, pass, e)) =
         let head : c ∷ more ≡ d ∷ after = cut ∙ ap (λ w. w ++ after) e in
         let same : c ≡ d = cc in
         false≢true (sym (ap is_whitespace (same ∙ eqb-true d 0xFEFF pass)) ∙ h)
-
-    go : (every : Rules) → IsFirstFit (c ∷ more) (rules_of every) Whitespace (c ∷ []) more
-    go Plain = later no_mark (here (takes_one is_whitespace (c ∷ more) more c refl h))
-    go Marked = later no_mark (here (takes_one is_whitespace (c ∷ more) more c refl h))
-    go (Source edition) = later no_mark (here (takes_one is_whitespace (c ∷ more) more c refl h))
 
 all_first : (p : ℕ → Bool) (c : ℕ) (cs : List ℕ) → list_all p (c ∷ cs) ≡ true → (p c ≡ true)
     × (list_all p cs ≡ true)
@@ -220,54 +209,54 @@ all_first p c cs h = go (p c) refl h
     go true e k = (e, k)
     go false e k = absurd (false≢true k)
 
-cut_spaces : (rules : Rules) (number at : ℕ) (front after : List ℕ) →
-    list_all is_whitespace front ≡ true → Cut (rules_of rules) number at (front ++ after) []
+cut_spaces : (mode : Mode) (number at : ℕ) (front after : List ℕ) →
+    list_all is_whitespace front ≡ true → Cut mode number at (front ++ after) []
     (at + length (encode_utf8_all front)) after
-cut_spaces rules number at [] after h = recut refl (omega arith) refl stop
-cut_spaces rules number at (x ∷ front) after h =
+cut_spaces mode number at [] after h = recut refl (omega arith) refl stop
+cut_spaces mode number at (x ∷ front) after h =
     let space = all_first is_whitespace x front h in
     let wide : length (encode_utf8_all (x ∷ [])) ≡ length (encode_utf8 x) =
     ap length (append-nil (encode_utf8 x)) in
     let both = length-append (encode_utf8 x) (encode_utf8_all front) in
-    recut refl (omega arith) refl (piece (decides_space rules x (front ++ after) space.0) refl
-    (cut_spaces rules number (at + length (encode_utf8_all (x ∷ []))) front after space.1))
+    recut refl (omega arith) refl (piece (decides_space mode x (front ++ after) space.0) refl
+    (cut_spaces mode number (at + length (encode_utf8_all (x ∷ []))) front after space.1))
 
 pub blank_spaces : (text rest : List ℕ) → IsUtf8 text → IsUtf8 rest → (front : List ℕ)
     × Skips is_whitespace (chars text) front (chars rest) → IsBlank (chars text) (chars rest)
     (length text - length rest)
-blank_spaces text rest u v (front, skips) every number at =
+blank_spaces text rest u v (front, skips) mode number at =
     let l = cut_length text rest front u v skips.cut in
-    subst (λ w. Cut (rules_of every) number at w [] (at + (length text - length rest))
+    subst (λ w. Cut mode number at w [] (at + (length text - length rest))
     (chars rest)) (sym skips.cut)
     (recut refl (omega arith) refl
-    (cut_spaces every number at front (chars rest) skips.pass))
+    (cut_spaces mode number at front (chars rest) skips.pass))
 
-pub line_front : (every : Rules) (text after body rest : List ℕ) →
+pub line_front : (mode : Mode) (text after body rest : List ℕ) →
     chars text ≡ 47 ∷ chars after → chars after ≡ 47 ∷ chars body → (front : List ℕ)
     × Skips is_not_line_feed (chars body) front (chars rest) → (taken : List ℕ)
-    × IsFirstFit (chars text) (rules_of every) (line_rule every) taken (chars rest)
-line_front every text after body rest e f skips =
-    let d = decides_line every (chars after) (chars body) (chars rest) f skips in
-    (d.0, subst (λ w. IsFirstFit w (rules_of every) (line_rule every) d.0 (chars rest)) (sym e) d.1)
+    × IsFirstFit (chars text) (rules_of mode) LineComment taken (chars rest)
+line_front mode text after body rest e f skips =
+    let d = decides_line mode (chars after) (chars body) (chars rest) f skips in
+    (d.0, subst (λ w. IsFirstFit w (rules_of mode) LineComment d.0 (chars rest)) (sym e) d.1)
 
 pub blank_line : (text after body rest : List ℕ) → IsUtf8 text → IsUtf8 rest →
     chars text ≡ 47 ∷ chars after → chars after ≡ 47 ∷ chars body → opens_line_doc (chars body)
     ≡ false → (front : List ℕ) × Skips is_not_line_feed (chars body) front (chars rest) →
     IsBlank (chars text) (chars rest) (length text - length rest)
 blank_line text after body rest u v e f calm skips =
-    blank_front text rest line_rule u v
-    (λ every number at taken rest. line_nothing every number at (chars text) taken rest
+    blank_front text rest LineComment u v
+    (λ mode number at taken rest. line_nothing mode number at (chars text) taken rest
     (ap is_line_doc (e ∙ ap (λ w. 47 ∷ w) f) ∙ calm))
-    (λ every. line_front every text after body rest e f skips)
+    (λ mode. line_front mode text after body rest e f skips)
 
-block_front : (every : Rules) (text after body rest : List ℕ) → chars text ≡ 47 ∷ chars after →
+block_front : (mode : Mode) (text after body rest : List ℕ) → chars text ≡ 47 ∷ chars after →
     chars after ≡ 42 ∷ chars body → (front : List ℕ) × IsLongestPrefix (Closes 1) (chars body)
-    front (chars rest) → (taken : List ℕ) × IsFirstFit (chars text) (rules_of every)
-    (block_rule every) taken (chars rest)
-block_front every text after body rest e f closed =
-    let d = decides_block every (chars after) (chars body) (chars rest) f closed in (
+    front (chars rest) → (taken : List ℕ) × IsFirstFit (chars text) (rules_of mode)
+    BlockComment taken (chars rest)
+block_front mode text after body rest e f closed =
+    let d = decides_block mode (chars after) (chars body) (chars rest) f closed in (
       d.0,
-      subst (λ w. IsFirstFit w (rules_of every) (block_rule every) d.0 (chars rest)) (sym e)
+      subst (λ w. IsFirstFit w (rules_of mode) BlockComment d.0 (chars rest)) (sym e)
           d.1,
     )
 
@@ -280,10 +269,10 @@ module _ (text after body : List ℕ) (u : IsUtf8 text) (e : chars text ≡ 47 �
       (λ rest. IsBlank (chars text) (chars rest.now) (length text - length rest.now))
   blank_block None t v calm = tt
   blank_block (Some rest) t v calm =
-      blank_front text rest.now block_rule u v
-      (λ every number at taken rest. block_nothing every number at (chars text) taken rest
+      blank_front text rest.now BlockComment u v
+      (λ mode number at taken rest. block_nothing mode number at (chars text) taken rest
       (ap is_block_doc (e ∙ ap (λ w. 47 ∷ w) f) ∙ calm))
-      (λ every. block_front every text after body rest.now e f t)
+      (λ mode. block_front mode text after body rest.now e f t)
 
   pub shorter_block : (answer : Option (Bor (List ℕ))) → ReadsLongest (Closes 1) (chars body)
       answer → IfSome answer (λ rest. IsUtf8 rest.now) →

@@ -12,7 +12,6 @@ use Rattle.tok_lexical.specs.Fits.{NoneBefore}
 use Rattle.tok_core.specs.Building.{nothing}
 use Rattle.tok_core.specs.Private.Built.{EndsInOther, IsBlank, State, IsPaired, Holds, HoldsAll}
 use Rattle.tok_core.specs.Private.Built.{last, outer, Reached, Grows, Halts}
-use Rattle.tok_lexical.specs.Starts.{rules_of}
 use Rattle.tok_core.specs.Lexical.Errors.{OnRefused}
 use Rattle.tok_core.specs.Private.Halted.{OnHalted, fault_of}
 use Rattle.tok_core.specs.Lexical.Items.{Item, no_items}
@@ -23,15 +22,15 @@ use Rattle.tok_lexical.specs.Pieces.{HasPrefix}
 use Rattle.tok_lexical.specs.Fits.{IsFirstFit}
 use Rattle.tok_core.specs.Lexical.Reading.{Cut, stop, piece, ReadsFrom, Refuses, unclosed}
 use Rattle.tok_core.specs.Lexical.Reading.{IsRefusedFrom}
-use Rattle.tok_lexical.specs.Rules.{Spells}
+use Rattle.tok_lexical.specs.Rules.{Spells, all_rules, rules_of}
 use Rattle.tok_core.specs.declared.lexer.error.LexError.{LexError}
 use Rattle.tok_core.specs.declared.lexer.error.LexFault.{LexFault}
 use Rattle.tok_core.specs.declared.lexer.error.Halt.{Halt}
 use Rattle.tok_core.specs.declared.lexer.error.Halt.TheVariants.{Refused, Memory}
 use Rattle.tok_lexical.specs.declared.lex_error_kind.LexErrorKind.TheVariants.{UnclosedGroup}
 use Rattle.tok_lexical.specs.declared.delimiter.Delimiter.{Delimiter}
-use Rattle.tok_lexical.specs.declared.rule.Rules.{Rules}
-use Rattle.tok_lexical.specs.declared.rule.Rules.TheVariants.{Plain, Marked, Source}
+use Rattle.tok_lexical.specs.declared.rule.Mode.{Mode}
+use Rattle.tok_lexical.specs.declared.rule.Mode.TheVariants.{Plain, Marked, Source}
 use Rattle.tok_lexical.specs.declared.edition.Edition.TheVariants.{Edition2015, Edition2018}
 use Rattle.tok_lexical.specs.declared.edition.Edition.TheVariants.{Edition2021, Edition2024}
 use Rattle.tok_lexical.specs.declared.rule.Rule.{Rule}
@@ -42,19 +41,21 @@ use Rattle.tok_lexical.proofs.Fits.{fits_longest}
 use Rattle.tok_core.proofs.Lexical.Steps.{refuses}
 use Rattle.tok_lexical.proofs.Texts.{cut_length}
 
-cut_more : {rules : List Rule} {number at end : ℕ} {text rest taken after : List ℕ} {rule : Rule}
-    {some : List Item} → Cut rules number at text some end rest →
-    IsFirstFit rest rules rule taken after → error_kind rule end taken after ≡ None →
-    Cut rules number at text (some ++ items number rule end taken after) (end + width rule taken)
+cut_more : {mode : Mode} {number at end : ℕ} {text rest taken after : List ℕ} {rule : Rule}
+    {some : List Item} → Cut mode number at text some end rest →
+    IsFirstFit rest (rules_of mode) rule taken after → error_kind rule mode end taken after ≡ None →
+    Cut mode number at text (some ++ items number rule mode end taken after)
+    (end + width rule taken)
     after
-cut_more {number = number} {end = end} {taken = taken} {after = after} {rule = rule} stop d m =
-    recut (append-nil (items number rule end taken after)) refl refl (piece d m stop)
+cut_more {mode = mode} {number = number} {end = end} {taken = taken} {after = after} {rule = rule}
+    stop d m =
+    recut (append-nil (items number rule mode end taken after)) refl refl (piece d m stop)
 cut_more (piece {more = others} e n c) d m = recut (sym (append_assoc _ others _)) refl refl
     (piece e n (cut_more c d m))
 
-cut_then : {rules : List Rule} {number at end to : ℕ} {text rest after : List ℕ}
-    {some others : List Item} → Cut rules number at text some end rest →
-    Cut rules number end rest others to after → Cut rules number at text (some ++ others) to
+cut_then : {mode : Mode} {number at end to : ℕ} {text rest after : List ℕ}
+    {some others : List Item} → Cut mode number at text some end rest →
+    Cut mode number end rest others to after → Cut mode number at text (some ++ others) to
     after
 cut_then stop d = d
 cut_then (piece {more = more} e n c) d = recut (sym (append_assoc _ more _)) refl refl
@@ -71,20 +72,20 @@ has_later_return : (text taken after : List ℕ) → text ≡ taken ++ after →
 has_later_return text taken after e h = ap has_return e ∙ list_any-append (λ c. c == 13) taken
     after ∙ ap (λ b. has_return taken || b) h ∙ or-true (has_return taken)
 
-cut_return : {rules : List Rule} {number at end : ℕ} {text rest : List ℕ} {some : List Item} →
-    Cut rules number at text some end rest → has_return rest ≡ true → has_return text ≡ true
+cut_return : {mode : Mode} {number at end : ℕ} {text rest : List ℕ} {some : List Item} →
+    Cut mode number at text some end rest → has_return rest ≡ true → has_return text ≡ true
 cut_return stop h = h
 cut_return {text = text} (piece {taken = taken} {after = after} e n c) h =
     has_later_return text taken after (fits_longest e).cut (cut_return c h)
 
 -- where the loop stands
-pub record SoFar (begin : ℕ) (rules : List Rule) (number : ℕ) (text rest : List ℕ) (at : ℕ)
+pub record SoFar (begin : ℕ) (mode : Mode) (number : ℕ) (text rest : List ℕ) (at : ℕ)
     (nest : State) : Type 0 where
   pub short : at + length rest ≤ begin + length text
   pub same_source : nest.source ≡ number
   pub reached : Reached nest.groups at
   pub all : List Item
-  pub cut : Cut rules number begin (chars text) all at (chars rest)
+  pub cut : Cut mode number begin (chars text) all at (chars rest)
   pub holds : HoldsAll number nest all
 
 width_le : (rule : Rule) (taken : List ℕ) → width rule taken ≤ length (encode_utf8_all taken)
@@ -95,16 +96,18 @@ width_le rule taken = go (is_group_mark rule) refl
     go false e = rw e (omega arith)
 
 -- the same piece, by another name
-pub decided_piece : (rules : List Rule) (rule : Rule) (text rest taken other : List ℕ) →
-    other ≡ taken → IsFirstFit text rules rule taken rest → IsFirstFit text rules rule other rest
-decided_piece rules rule text rest taken other e d =
-    subst (λ w. IsFirstFit text rules rule w rest) (sym e) d
+pub decided_piece : (mode : Mode) (rule : Rule) (text rest taken other : List ℕ) →
+    other ≡ taken → IsFirstFit text (rules_of mode) rule taken rest →
+    IsFirstFit text (rules_of mode) rule other rest
+decided_piece mode rule text rest taken other e d =
+    subst (λ w. IsFirstFit text (rules_of mode) rule w rest) (sym e) d
 
-module _ (begin : ℕ) (rules : List Rule) (number : ℕ) (text rest : List ℕ) (at : ℕ)
-    (nest : State) (s : SoFar begin rules number text rest at nest) where
+module _ (begin : ℕ) (mode : Mode) (number : ℕ) (text rest : List ℕ) (at : ℕ)
+    (nest : State) (s : SoFar begin mode number text rest at nest) where
   -- the piece ends within the text
   place_fits : (rule : Rule) (after taken : List ℕ) → IsUtf8 rest → IsUtf8 after →
-      IsFirstFit (chars rest) rules rule taken (chars after) → (at + width rule taken) + length
+      IsFirstFit (chars rest) (rules_of mode) rule taken (chars after) →
+      (at + width rule taken) + length
       after ≤ begin + length text
   place_fits rule after taken u v d =
       let l = cut_length rest after taken u v (fits_longest d).cut in
@@ -113,31 +116,31 @@ module _ (begin : ℕ) (rules : List Rule) (number : ℕ) (text rest : List ℕ)
       omega arith
 
   pub so_far_more : (after taken : List ℕ) (end : ℕ) (new : State) (rule : Rule) → IsUtf8 rest →
-      IsUtf8 after → IsFirstFit (chars rest) rules rule taken (chars after) →
-      end ≡ at + width rule taken → error_kind rule at taken (chars after) ≡ None →
-      Grows at nest new (items nest.source rule at taken (chars after)) →
-      SoFar begin rules number text after end new
+      IsUtf8 after → IsFirstFit (chars rest) (rules_of mode) rule taken (chars after) →
+      end ≡ at + width rule taken → error_kind rule mode at taken (chars after) ≡ None →
+      Grows at nest new (items nest.source rule mode at taken (chars after)) →
+      SoFar begin mode number text after end new
   so_far_more after taken end new rule u v d e m g =
       let p = place_fits rule after taken u v d in
-      let h : HoldsAll number new (s.all ++ items number rule at taken (chars after)) =
-      subst (λ w. HoldsAll w new (s.all ++ items w rule at taken (chars after)))
+      let h : HoldsAll number new (s.all ++ items number rule mode at taken (chars after)) =
+      subst (λ w. HoldsAll w new (s.all ++ items w rule mode at taken (chars after)))
       s.same_source
       (g.holds s.all (subst (λ w. HoldsAll w nest s.all) (sym s.same_source) s.holds)) in
       record {
         short = omega arith;
         same_source = g.same_source ∙ s.same_source;
         reached = reached_later new.groups at end (omega arith) (g.reached s.reached);
-        all = s.all ++ items number rule at taken (chars after);
+        all = s.all ++ items number rule mode at taken (chars after);
         cut = recut refl (sym e) refl (cut_more s.cut d m);
         holds = h;
       }
 
   -- white space and comments add no trees
-  pub so_far_blank : (every : Rules) → rules ≡ rules_of every → (after : List ℕ) (end : ℕ) →
+  pub so_far_blank : (after : List ℕ) (end : ℕ) →
       end ≡ at + (length rest - length after) → length after ≤ length rest →
       IsBlank (chars rest) (chars after) (length rest - length after) →
-      SoFar begin rules number text after end nest
-  so_far_blank every is after end e l blank =
+      SoFar begin mode number text after end nest
+  so_far_blank after end e l blank =
       let short = s.short in
       record {
         short = omega arith;
@@ -145,14 +148,13 @@ module _ (begin : ℕ) (rules : List Rule) (number : ℕ) (text rest : List ℕ)
         reached = reached_later nest.groups at end (omega arith) s.reached;
         all = s.all;
         cut = recut (append-nil s.all) (sym e) refl
-            (cut_then s.cut
-            (subst (λ w. Cut w number at (chars rest) [] (at + (length rest - length after))
-            (chars after)) (sym is) (blank every number at)));
+            (cut_then s.cut (blank mode number at));
         holds = s.holds;
       }
 
   -- a U+000D of the next piece is one of the whole text
-  pub returns_from : (rule : Rule) (taken after : List ℕ) → IsFirstFit (chars rest) rules rule
+  pub returns_from : (rule : Rule) (taken after : List ℕ) →
+      IsFirstFit (chars rest) (rules_of mode) rule
       taken after → has_return taken ≡ true → has_return (chars text) ≡ true
   returns_from rule taken after d h =
       cut_return s.cut (has_piece_return (chars rest) taken after (fits_longest d).cut h)
@@ -160,46 +162,47 @@ module _ (begin : ℕ) (rules : List Rule) (number : ℕ) (text rest : List ℕ)
   pub nest_is_paired : IsPaired nest
   nest_is_paired = paired_of s.holds
 
-  reads_held : (all : List Item) → Cut rules number begin (chars text) all at [] →
+  reads_held : (all : List Item) → Cut mode number begin (chars text) all at [] →
       (groups : List (Delimiter × ℕ)) (levels : List Forest) (f : Forest) → groups ≡ [] →
       Holds number 256 groups levels f all → (levels ≡ [])
-      × ReadsFrom begin rules number (chars text) f
+      × ReadsFrom begin mode number (chars text) f
   reads_held all c groups levels f o (last d k) = (refl, (d, (all, k, (at, c))))
   reads_held all c groups levels f o (outer d k h) = absurd (cc)
 
   pub reads_all : chars rest ≡ [] → nest.groups ≡ [] → (nest.levels.outer ≡ [])
-      × ReadsFrom begin rules number (chars text) nest.levels.inner
+      × ReadsFrom begin mode number (chars text) nest.levels.inner
   reads_all e o = reads_held s.all (recut refl refl e s.cut) nest.groups nest.levels.outer
       nest.levels.inner o s.holds
 
   refuses_here : (error : LexError) → error.source ≡ nest.source →
-      Refuses rules nest.groups at (chars rest) error.kind error.at →
-      IsRefusedFrom begin rules number (chars text) error
+      Refuses mode nest.groups at (chars rest) error.kind error.at →
+      IsRefusedFrom begin mode number (chars text) error
   refuses_here error e r =
       (e ∙ s.same_source, (s.all, at, chars rest, nest.groups, s.cut, opens_of s.holds, r))
 
   pub refused_unclosed : (fewer : List (Delimiter × ℕ)) (group : Delimiter × ℕ)
       (error : LexError) → chars rest ≡ [] → nest.groups ≡ fewer ++ group ∷ [] →
       error ≡ record { kind = UnclosedGroup; source = number; at = group.1 } →
-      IsRefusedFrom begin rules number (chars text) error
+      IsRefusedFrom begin mode number (chars text) error
   refused_unclosed fewer group error e o is =
       refuses_here error (ap (λ w. w.source) is ∙ sym s.same_source)
-      (subst (λ w. Refuses rules nest.groups at (chars rest) w.kind w.at) (sym is)
+      (subst (λ w. Refuses mode nest.groups at (chars rest) w.kind w.at) (sym is)
       (unclosed group.0 fewer e o))
 
   -- a fault at the next piece
   pub fault_here : (taken after : List ℕ) (rule : Rule) (halt : Halt) (fault : LexFault) →
-      IsFirstFit (chars rest) rules rule taken after →
-      OnHalted halt (Halts nest.groups rule at taken after) → fault ≡ fault_of number at halt →
-      OnRefused fault (IsRefusedFrom begin rules number (chars text))
+      IsFirstFit (chars rest) (rules_of mode) rule taken after →
+      OnHalted halt (Halts nest.groups rule mode at taken after) → fault ≡ fault_of number at halt →
+      OnRefused fault (IsRefusedFrom begin mode number (chars text))
   fault_here taken after rule Memory fault d h is =
-      subst (λ w. OnRefused w (IsRefusedFrom begin rules number (chars text))) (sym is) tt
+      subst (λ w. OnRefused w (IsRefusedFrom begin mode number (chars text))) (sym is) tt
   fault_here taken after rule (Refused why) fault d h is =
-      subst (λ w. OnRefused w (IsRefusedFrom begin rules number (chars text))) (sym is)
+      subst (λ w. OnRefused w (IsRefusedFrom begin mode number (chars text))) (sym is)
       (refuses_here (record { kind = why; source = number; at = at }) (sym s.same_source)
-      (refuses rules nest.groups rule at why (chars rest) taken after d h))
+      (refuses mode nest.groups rule at why (chars rest) taken after d h))
 
-pub ends_in_other : (rules : Rules) → EndsInOther (rules_of rules)
+pub ends_in_other : (mode : Mode) → EndsInOther (rules_of mode)
+unfolding all_rules
 ends_in_other Plain = refl
 ends_in_other Marked = refl
 ends_in_other (Source Edition2015) = refl
@@ -217,10 +220,10 @@ all_tried (r ∷ rules) (c ∷ text) ends before =
     (subst (λ w. HasPrefix (Spells w) (c ∷ text)) (sym ends)
     (c ∷ [], text, refl, (c, refl, refl))))
 
-pub so_far_start : (begin : ℕ) (rules : List Rule) (number : ℕ) (text : List ℕ) (nest : State) →
+pub so_far_start : (begin : ℕ) (mode : Mode) (number : ℕ) (text : List ℕ) (nest : State) →
     nest.source ≡ number → nest.groups ≡ [] → nest.levels ≡ nothing →
-    SoFar begin rules number text text begin nest
-so_far_start begin rules number text nest n o t = record {
+    SoFar begin mode number text text begin nest
+so_far_start begin mode number text nest n o t = record {
   short = omega arith;
   same_source = n;
   reached = subst (λ w. Reached w begin) (sym o) tt;

@@ -10,7 +10,7 @@ use Rattle.tok_leaves.specs.declared.punct.Spacing.{Spacing}
 use Rattle.tok_leaves.specs.declared.punct.Spacing.TheVariants.{Alone, Joint}
 use Rattle.tok_leaves.specs.declared.span.Span.{Span}
 use Rattle.tok_core.specs.Lexical.Meaning.{items, punct_item, ident_item, literal_item}
-use Rattle.tok_core.specs.Lexical.Meaning.{pointed_items, doc_items}
+use Rattle.tok_core.specs.Lexical.Meaning.{pointed_items, doc_items, a_comment}
 use Rattle.tok_core.specs.Private.Attribute.{doc_forest}
 use Rattle.tok_lexical.specs.Comments.{is_line_doc, is_block_doc}
 use Rattle.tok_lexical.specs.Docs.{is_inner_doc, line_doc_text, block_doc_text}
@@ -18,8 +18,9 @@ use Rattle.tok_lexical.specs.Following.{makes_joint, takes_point}
 use Rattle.tok_lexical.specs.Pieces.{up_to}
 use Rattle.tok_lexical.specs.Widths.{bytes}
 use Rattle.tok_lexical.specs.declared.delimiter.Delimiter.TheVariants.{Bracket}
+use Rattle.tok_lexical.specs.declared.rule.Mode.{Mode}
 use Rattle.tok_lexical.specs.declared.rule.Rule.{Rule}
-use Rattle.tok_lexical.specs.declared.rule.Rule.TheVariants.{SourceLineComment, SourceBlockComment}
+use Rattle.tok_lexical.specs.declared.rule.Rule.TheVariants.{LineComment, BlockComment}
 use Rattle.tok_leaves.specs.Leaves.{Leaf, ident, punct, literal}
 use Rattle.tok_core.specs.Forest.{leaf, group, Forest, no_trees, tree, concat}
 use Rattle.tok_core.specs.Lexical.Items.{Item, leaf_item, opening, closing, Flat, no_items}
@@ -271,28 +272,28 @@ grows_doc at old new end inner text span few p s o t = record {
 
 -- the same of a piece that is one
 grows_line_doc : (at end : ℕ) (old new : State) (piece after : List ℕ) (rule : Rule)
-    (inner : Bool) (text : List ℕ) → rule ≡ SourceLineComment → end ≡ at + bytes piece →
+    (mode : Mode) (inner : Bool) (text : List ℕ) → rule ≡ LineComment → end ≡ at + bytes piece →
     is_line_doc piece ≡ true → inner ≡ is_inner_doc piece → text ≡ line_doc_text piece →
     Grows at old new (doc_items old.source at end inner text) →
-    Grows at old new (items old.source rule at piece after)
-grows_line_doc at end old new piece after rule inner text r e d i t g =
-    subst (λ w. Grows at old new (items old.source w at piece after)) (sym r)
-    (subst (λ b. Grows at old new (if b then doc_items old.source at (at + bytes piece)
-    (is_inner_doc piece) (line_doc_text piece) else [])) (sym d)
+    Grows at old new (items old.source rule mode at piece after)
+grows_line_doc at end old new piece after rule mode inner text r e d i t g =
+    subst (λ w. Grows at old new (items old.source w mode at piece after)) (sym r)
+    (subst (λ b. Grows at old new (a_comment old.source b (line_doc_text piece) at piece after))
+    (sym d)
     (subst (λ w. Grows at old new
     (doc_items old.source at w (is_inner_doc piece) (line_doc_text piece))) e
     (subst (λ w. Grows at old new (doc_items old.source at end w (line_doc_text piece))) i
     (subst (λ w. Grows at old new (doc_items old.source at end inner w)) t g))))
 
 grows_block_doc : (at end : ℕ) (old new : State) (piece after : List ℕ) (rule : Rule)
-    (inner : Bool) (text : List ℕ) → rule ≡ SourceBlockComment → end ≡ at + bytes piece →
+    (mode : Mode) (inner : Bool) (text : List ℕ) → rule ≡ BlockComment → end ≡ at + bytes piece →
     is_block_doc piece ≡ true → inner ≡ is_inner_doc piece → text ≡ block_doc_text piece →
     Grows at old new (doc_items old.source at end inner text) →
-    Grows at old new (items old.source rule at piece after)
-grows_block_doc at end old new piece after rule inner text r e d i t g =
-    subst (λ w. Grows at old new (items old.source w at piece after)) (sym r)
-    (subst (λ b. Grows at old new (if b then doc_items old.source at (at + bytes piece)
-    (is_inner_doc piece) (block_doc_text piece) else [])) (sym d)
+    Grows at old new (items old.source rule mode at piece after)
+grows_block_doc at end old new piece after rule mode inner text r e d i t g =
+    subst (λ w. Grows at old new (items old.source w mode at piece after)) (sym r)
+    (subst (λ b. Grows at old new (a_comment old.source b (block_doc_text piece) at piece after))
+    (sym d)
     (subst (λ w. Grows at old new
     (doc_items old.source at w (is_inner_doc piece) (block_doc_text piece))) e
     (subst (λ w. Grows at old new (doc_items old.source at end w (block_doc_text piece))) i

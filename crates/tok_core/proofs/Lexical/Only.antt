@@ -16,16 +16,18 @@ use Rattle.tok_core.specs.Lexical.Reading.{Cut, stop, piece, Refuses, by_rule, u
 use Rattle.tok_core.specs.Lexical.Reading.{unopened, too_deep}
 use Rattle.tok_lexical.specs.declared.delimiter.Delimiter.{Delimiter}
 use Rattle.tok_lexical.specs.declared.lex_error_kind.LexErrorKind.{LexErrorKind}
+use Rattle.tok_lexical.specs.Rules.{rules_of}
+use Rattle.tok_lexical.specs.declared.rule.Mode.{Mode}
 use Rattle.tok_lexical.specs.declared.rule.Rule.{Rule}
-use Rattle.tok_lexical.specs.declared.rule.Rule.TheVariants.{Opening, Closing, SourceLineComment}
-use Rattle.tok_lexical.specs.declared.rule.Rule.TheVariants.{SourceBlockComment}
+use Rattle.tok_lexical.specs.declared.rule.Rule.TheVariants.{Opening, Closing, LineComment}
+use Rattle.tok_lexical.specs.declared.rule.Rule.TheVariants.{BlockComment}
 use Rattle.tok_core.proofs.Lexical.Runs.{Run, leaf_passed, first_opens, after_front}
 use Rattle.tok_core.proofs.Lexical.Runs.{one_left_open, first_closes}
 use Rattle.tok_lexical.proofs.Fits.{decides_unique, decides_nothing}
 use Rattle.tok_core.proofs.Lexical.Unique.{cuts}
 
-cut_nil : {rules : List Rule} {number at end : ℕ} {rest : List ℕ} {all : List Item} →
-    Cut rules number at [] all end rest → (all ≡ []) × (rest ≡ [])
+cut_nil : {mode : Mode} {number at end : ℕ} {rest : List ℕ} {all : List Item} →
+    Cut mode number at [] all end rest → (all ≡ []) × (rest ≡ [])
 cut_nil stop = (refl, refl)
 cut_nil (piece d m c) = absurd (decides_nothing d)
 
@@ -33,21 +35,23 @@ no_both : {A : Type 0} (x : A) (r s : Option A) → r ≡ s → r ≡ None → s
 no_both x r s e a b = cc
 
 -- what a rule means, seen at another decision of the same text
-same_kind : {rules : List Rule} {text p r q s : List ℕ} {rule other : Rule} (at : ℕ) →
-    IsFirstFit text rules rule p r → IsFirstFit text rules other q s → error_kind rule at p r
-    ≡ error_kind other at q s
-same_kind {p = p} {r = r} {q = q} {s = s} {rule = rule} {other = other} at d e =
+same_kind : (mode : Mode) {text p r q s : List ℕ} {rule other : Rule} (at : ℕ) →
+    IsFirstFit text (rules_of mode) rule p r → IsFirstFit text (rules_of mode) other q s →
+    error_kind rule mode at p r
+    ≡ error_kind other mode at q s
+same_kind mode {p = p} {r = r} {q = q} {s = s} {rule = rule} {other = other} at d e =
     let w = decides_unique d e in
-    ap (λ x. error_kind x at p r) w.0 ∙ ap (λ x. error_kind other at x r) w.1
-    ∙ ap (λ x. error_kind other at q x) w.2
+    ap (λ x. error_kind x mode at p r) w.0 ∙ ap (λ x. error_kind other mode at x r) w.1
+    ∙ ap (λ x. error_kind other mode at q x) w.2
 
-same_items : {rules : List Rule} {text p r q s : List ℕ} {rule other : Rule} (number at : ℕ) →
-    IsFirstFit text rules rule p r → IsFirstFit text rules other q s → items number rule at p r
-    ≡ items number other at q s
-same_items {p = p} {r = r} {q = q} {s = s} {rule = rule} {other = other} number at d e =
+same_items : (mode : Mode) {text p r q s : List ℕ} {rule other : Rule} (number at : ℕ) →
+    IsFirstFit text (rules_of mode) rule p r → IsFirstFit text (rules_of mode) other q s →
+    items number rule mode at p r
+    ≡ items number other mode at q s
+same_items mode {p = p} {r = r} {q = q} {s = s} {rule = rule} {other = other} number at d e =
     let w = decides_unique d e in
-    ap (λ x. items number x at p r) w.0 ∙ ap (λ x. items number other at x r) w.1
-    ∙ ap (λ x. items number other at q x) w.2
+    ap (λ x. items number x mode at p r) w.0 ∙ ap (λ x. items number other mode at x r) w.1
+    ∙ ap (λ x. items number other mode at q x) w.2
 
 -- a piece that opens a group comes only where one more may be open
 doc_opens : (number start end : ℕ) (inner : Bool) (text : List ℕ)
@@ -59,53 +63,58 @@ doc_opens number start end true text levels last more run = first_opens levels l
 doc_opens number start end false text levels last more run = first_opens levels last Bracket
     start _ (leaf_passed run)
 
-group_opens : (rule : Rule) (number at : ℕ) (taken after : List ℕ)
+group_opens : (rule : Rule) (mode : Mode) (number at : ℕ) (taken after : List ℕ)
     (levels last : List (Delimiter × ℕ)) (more : List Item) → opens_group rule taken ≡ true →
-    Run (reverse levels) (items number rule at taken after ++ more) last → length levels < 256
-group_opens (Opening delimiter) number at taken after levels last more is run =
+    Run (reverse levels) (items number rule mode at taken after ++ more) last → length levels < 256
+group_opens (Opening delimiter) mode number at taken after levels last more is run =
     first_opens levels last delimiter at more run
-group_opens SourceLineComment number at taken after levels last more is run =
+group_opens LineComment mode number at taken after levels last more is run =
     doc_opens number at (at + bytes taken) (is_inner_doc taken) (line_doc_text taken) levels last
     more (subst (λ b. Run (reverse levels)
     ((if b then doc_items number at (at + bytes taken) (is_inner_doc taken) (line_doc_text taken)
     else []) ++ more) last) is run)
-group_opens SourceBlockComment number at taken after levels last more is run =
+group_opens BlockComment mode number at taken after levels last more is run =
     doc_opens number at (at + bytes taken) (is_inner_doc taken) (block_doc_text taken) levels
     last more (subst
     (λ b. Run (reverse levels)
     ((if b then doc_items number at (at + bytes taken) (is_inner_doc taken)
     (block_doc_text taken) else []) ++ more) last) is run)
-group_opens rule number at taken after levels last more is run = absurd (false≢true is)
+group_opens rule mode number at taken after levels last more is run = absurd (false≢true is)
 
 closes_none : (rule : Rule) (delimiter : Delimiter) (taken : List ℕ) → Closing delimiter ≡ rule →
     opens_group rule taken ≡ true → ⊥
 closes_none rule delimiter taken e is = false≢true (ap (λ r. opens_group r taken) e ∙ is)
 
 -- where a text is refused, no piece follows that would nest
-no_piece : {rules : List Rule} {levels : List (Delimiter × ℕ)} {at byte : ℕ} {why : LexErrorKind}
+no_piece : {mode : Mode} {levels : List (Delimiter × ℕ)} {at byte : ℕ} {why : LexErrorKind}
     {rest p r : List ℕ} {rule : Rule} (number : ℕ) (others : List (Delimiter × ℕ))
-    (more : List Item) → Refuses rules levels at rest why byte → IsFirstFit rest rules rule p r →
-    error_kind rule at p r ≡ None → Run (reverse levels) (items number rule at p r ++ more)
+    (more : List Item) → Refuses mode levels at rest why byte →
+    IsFirstFit rest (rules_of mode) rule p r →
+    error_kind rule mode at p r ≡ None →
+    Run (reverse levels) (items number rule mode at p r ++ more)
     (reverse others) → ⊥
-no_piece {at = at} number others more (by_rule e n) d m run = no_both _ _ _ (same_kind at d e)
+no_piece {mode = mode} {at = at} number others more (by_rule e n) d m run = no_both _ _ _
+    (same_kind mode at d e)
     m n
-no_piece {rules} {p = p} {r = r} {rule = rule} number others more (unclosed delimiter outer e l)
-    d m run = decides_nothing (subst (λ w. IsFirstFit w rules rule p r) e d)
-no_piece {levels = levels} {at = at} number others more (unopened delimiter q s e misfit) d m run =
+no_piece {mode} {p = p} {r = r} {rule = rule} number others more (unclosed delimiter outer e l)
+    d m run = decides_nothing (subst (λ w. IsFirstFit w (rules_of mode) rule p r) e d)
+no_piece {mode = mode} {levels = levels} {at = at} number others more
+    (unopened delimiter q s e misfit) d m run =
     misfit (first_closes levels (reverse others) delimiter _ more
     (subst (λ w. Run (reverse levels) (w ++ more) (reverse others))
-    (same_items number at d e) run))
-no_piece {levels = levels} {at = at} number others more (too_deep {rule = rule} q s e n is l) d m
+    (same_items mode number at d e) run))
+no_piece {mode = mode} {levels = levels} {at = at} number others more
+    (too_deep {rule = rule} q s e n is l) d m
     run =
-    let few = group_opens rule number at q s levels (reverse others) more is
+    let few = group_opens rule mode number at q s levels (reverse others) more is
     (subst (λ w. Run (reverse levels) (w ++ more) (reverse others))
-    (same_items number at d e) run) in
+    (same_items mode number at d e) run) in
     absurd (omega arith)
 
-no_further : {rules : List Rule} {levels others : List (Delimiter × ℕ)} {number at end byte : ℕ}
+no_further : {mode : Mode} {levels others : List (Delimiter × ℕ)} {number at end byte : ℕ}
     {why : LexErrorKind} {rest after : List ℕ} {some more : List Item} →
-    Refuses rules levels at rest why byte → Opens number 256 levels some →
-    Cut rules number at rest more end after → Opens number 256 others (some ++ more) →
+    Refuses mode levels at rest why byte → Opens number 256 levels some →
+    Cut mode number at rest more end after → Opens number 256 others (some ++ more) →
     (more ≡ []) × (rest ≡ after) × (at ≡ end)
 no_further f o stop p = (refl, refl, refl)
 no_further {others = others} {number = number} f o (piece {more = more} d m c) p =
@@ -120,54 +129,56 @@ same_last A xs ys x y e =
 some_same : {A : Type 0} (x y : A) (r s : Option A) → r ≡ s → r ≡ Some x → s ≡ Some y → x ≡ y
 some_same x y r s e a b = cc
 
-one_error : {rules : List Rule} {levels : List (Delimiter × ℕ)} {at b c : ℕ} {n m : LexErrorKind}
-    {rest : List ℕ} → Refuses rules levels at rest n b → Refuses rules levels at rest m c →
+one_error : {mode : Mode} {levels : List (Delimiter × ℕ)} {at b c : ℕ} {n m : LexErrorKind}
+    {rest : List ℕ} → Refuses mode levels at rest n b → Refuses mode levels at rest m c →
     (n ≡ m) × (b ≡ c)
-one_error {at = at} (by_rule d f) (by_rule e g) =
-    (some_same _ _ _ _ (same_kind at d e) f g, refl)
-one_error {rules} (by_rule {rule = rule} {taken = p} {after = r} d f)
+one_error {mode = mode} {at = at} (by_rule d f) (by_rule e g) =
+    (some_same _ _ _ _ (same_kind mode at d e) f g, refl)
+one_error {mode} (by_rule {rule = rule} {taken = p} {after = r} d f)
     (unclosed delimiter outer e l) =
-    absurd (decides_nothing (subst (λ w. IsFirstFit w rules rule p r) e d))
-one_error {at = at} (by_rule d f) (unopened delimiter q s e misfit) =
-    absurd (no_both _ _ _ (sym (same_kind at d e)) refl f)
-one_error {at = at} (by_rule d f) (too_deep q s e n is l) =
-    absurd (no_both _ _ _ (sym (same_kind at d e)) n f)
-one_error {rules} (unclosed delimiter outer e l)
+    absurd (decides_nothing (subst (λ w. IsFirstFit w (rules_of mode) rule p r) e d))
+one_error {mode = mode} {at = at} (by_rule d f) (unopened delimiter q s e misfit) =
+    absurd (no_both _ _ _ (sym (same_kind mode at d e)) refl f)
+one_error {mode = mode} {at = at} (by_rule d f) (too_deep q s e n is l) =
+    absurd (no_both _ _ _ (sym (same_kind mode at d e)) n f)
+one_error {mode} (unclosed delimiter outer e l)
     (by_rule {rule = rule} {taken = p} {after = r} d f) =
-    absurd (decides_nothing (subst (λ w. IsFirstFit w rules rule p r) e d))
+    absurd (decides_nothing (subst (λ w. IsFirstFit w (rules_of mode) rule p r) e d))
 one_error (unclosed {start = start} delimiter outer e l)
     (unclosed {start = begin} delimiter' outer' e' l') =
     let same = same_last (Delimiter × ℕ) outer outer' (delimiter, start) (delimiter', begin)
     (sym l ∙ l') in (refl, ap (λ w. w.1) same)
-one_error {rules} (unclosed delimiter outer e l) (unopened delimiter' q s d misfit) =
-    absurd (decides_nothing (subst (λ w. IsFirstFit w rules (Closing delimiter') q s) e d))
-one_error {rules} (unclosed delimiter outer e l) (too_deep {rule = rule} q s d n is k) =
-    absurd (decides_nothing (subst (λ w. IsFirstFit w rules rule q s) e d))
-one_error {at = at} (unopened delimiter q s e misfit) (by_rule d f) =
-    absurd (no_both _ _ _ (same_kind at e d) refl f)
-one_error {rules} (unopened delimiter' q s d misfit) (unclosed delimiter outer e l) =
-    absurd (decides_nothing (subst (λ w. IsFirstFit w rules (Closing delimiter') q s) e d))
+one_error {mode} (unclosed delimiter outer e l) (unopened delimiter' q s d misfit) =
+    absurd (decides_nothing
+    (subst (λ w. IsFirstFit w (rules_of mode) (Closing delimiter') q s) e d))
+one_error {mode} (unclosed delimiter outer e l) (too_deep {rule = rule} q s d n is k) =
+    absurd (decides_nothing (subst (λ w. IsFirstFit w (rules_of mode) rule q s) e d))
+one_error {mode = mode} {at = at} (unopened delimiter q s e misfit) (by_rule d f) =
+    absurd (no_both _ _ _ (same_kind mode at e d) refl f)
+one_error {mode} (unopened delimiter' q s d misfit) (unclosed delimiter outer e l) =
+    absurd (decides_nothing
+    (subst (λ w. IsFirstFit w (rules_of mode) (Closing delimiter') q s) e d))
 one_error (unopened delimiter' q s d misfit) (unopened delimiter q' s' d' misfit') = (refl, refl)
 one_error (unopened delimiter' q s d misfit) (too_deep {rule = rule} q' s' d' n is l) =
     absurd (closes_none rule delimiter' q' (decides_unique d d').0 is)
-one_error {at = at} (too_deep q s e n is l) (by_rule d f) =
-    absurd (no_both _ _ _ (same_kind at e d) n f)
-one_error {rules} (too_deep {rule = rule} q s d n is k) (unclosed delimiter outer e l) =
-    absurd (decides_nothing (subst (λ w. IsFirstFit w rules rule q s) e d))
+one_error {mode = mode} {at = at} (too_deep q s e n is l) (by_rule d f) =
+    absurd (no_both _ _ _ (same_kind mode at e d) n f)
+one_error {mode} (too_deep {rule = rule} q s d n is k) (unclosed delimiter outer e l) =
+    absurd (decides_nothing (subst (λ w. IsFirstFit w (rules_of mode) rule q s) e d))
 one_error (too_deep {rule = rule} q' s' d' n is l) (unopened delimiter' q s d misfit) =
     absurd (closes_none rule delimiter' q' (sym (decides_unique d' d).0) is)
 one_error (too_deep q s d n is l) (too_deep q' s' d' n' is' l') = (refl, refl)
 
-at_end : {rules : List Rule} {at b : ℕ} {n : LexErrorKind} → Refuses rules [] at [] n b → ⊥
+at_end : {mode : Mode} {at b : ℕ} {n : LexErrorKind} → Refuses mode [] at [] n b → ⊥
 at_end (by_rule d f) = decides_nothing d
 at_end (unclosed delimiter [] e l) = cc
 at_end (unclosed delimiter (p ∷ outer) e l) = cc
 at_end (unopened delimiter q s d misfit) = decides_nothing d
 at_end (too_deep q s d n is l) = decides_nothing d
 
-pub one_cut : {rules : List Rule} {number at end to : ℕ} {text : List ℕ}
-    {all others : List Item} → Cut rules number at text all end [] →
-    Cut rules number at text others to [] → all ≡ others
+pub one_cut : {mode : Mode} {number at end to : ℕ} {text : List ℕ}
+    {all others : List Item} → Cut mode number at text all end [] →
+    Cut mode number at text others to [] → all ≡ others
 one_cut {all = all} {others = others} c d =
     elim (cuts c d) [
       | inl (more, same, n) ↦ sym (same ∙ ap (λ w. all ++ w) (cut_nil n).0 ∙ append-nil all)
@@ -175,56 +186,56 @@ one_cut {all = all} {others = others} c d =
     ]
 
 -- two fronts where the text is refused are one
-same_place : {rules : List Rule} {number at b c end : ℕ} {n m : LexErrorKind} {rest after : List ℕ}
+same_place : {mode : Mode} {number at b c end : ℕ} {n m : LexErrorKind} {rest after : List ℕ}
     {levels others : List (Delimiter × ℕ)} {some all more : List Item}
-    → Refuses rules levels at rest n b → Refuses rules others end after m c →
+    → Refuses mode levels at rest n b → Refuses mode others end after m c →
     Opens number 256 levels some → Opens number 256 others all → all ≡ some ++ more →
-    Cut rules number at rest more end after → (n ≡ m) × (b ≡ c)
-same_place {rules} {number} {at} {b} {c} {end} {n} {m} {rest} {after} {levels} {others} {some}
+    Cut mode number at rest more end after → (n ≡ m) × (b ≡ c)
+same_place {mode} {number} {at} {b} {c} {end} {n} {m} {rest} {after} {levels} {others} {some}
     {all} {more} f g o p same k =
     let none = no_further f o k (subst (λ w. Opens number 256 others w) same p) in
     let here : all ≡ some = same ∙ ap (λ w. some ++ w) none.0 ∙ append-nil some in
     let level : others ≡ levels = one_left_open (subst (λ w. Opens number 256 others w) here p) o in
-    let moved : Refuses rules levels at rest m c = subst (λ w. Refuses rules levels w rest m c)
-    (sym none.2) (subst (λ w. Refuses rules levels end w m c) (sym none.1)
-    (subst (λ w. Refuses rules w end after m c) level g)) in
+    let moved : Refuses mode levels at rest m c = subst (λ w. Refuses mode levels w rest m c)
+    (sym none.2) (subst (λ w. Refuses mode levels end w m c) (sym none.1)
+    (subst (λ w. Refuses mode w end after m c) level g)) in
     one_error f moved
 
 -- a front of the text is cut, with these groups open, and the rest is refused there
-abbrev IsRefusedAs : ℕ → List Rule → ℕ → List ℕ → LexErrorKind → ℕ → Type 0
-IsRefusedAs begin rules number text why byte = (all : List Item) × (end : ℕ) × (rest : List ℕ)
+abbrev IsRefusedAs : ℕ → Mode → ℕ → List ℕ → LexErrorKind → ℕ → Type 0
+IsRefusedAs begin mode number text why byte = (all : List Item) × (end : ℕ) × (rest : List ℕ)
     × (levels : List (Delimiter × ℕ))
-    × Cut rules number begin text all end rest × Opens number 256 levels all
-    × Refuses rules levels end rest why byte
+    × Cut mode number begin text all end rest × Opens number 256 levels all
+    × Refuses mode levels end rest why byte
 
-pub one_way : (begin : ℕ) (rules : List Rule) (number : ℕ) (text : List ℕ) (n m : LexErrorKind)
-    (b c : ℕ) → IsRefusedAs begin rules number text n b → IsRefusedAs begin rules number text m
+pub one_way : (begin : ℕ) (mode : Mode) (number : ℕ) (text : List ℕ) (n m : LexErrorKind)
+    (b c : ℕ) → IsRefusedAs begin mode number text n b → IsRefusedAs begin mode number text m
     c → (n ≡ m) × (b ≡ c)
-one_way begin rules number text n m b c (some, end, rest, levels, k, o, f)
+one_way begin mode number text n m b c (some, end, rest, levels, k, o, f)
     (all, to, after, others, k', p, g) =
     elim (cuts k k') [
       | inl (more, same, j) ↦ same_place f g o p same j
       | inr (more, same, j) ↦ let w = same_place g f p o same j in (sym w.0, sym w.1)
     ]
 
-pub not_both : {rules : List Rule} {begin number end byte : ℕ} {text : List ℕ} {some : List Item}
-    {why : LexErrorKind} → IsForest number 256 some → Cut rules number begin text some end [] →
-    IsRefusedAs begin rules number text why byte → ⊥
-not_both {rules} {number} {byte = b} {some = some} {why = n} f c (all, to, after, others, k, p, g) =
+pub not_both : {mode : Mode} {begin number end byte : ℕ} {text : List ℕ} {some : List Item}
+    {why : LexErrorKind} → IsForest number 256 some → Cut mode number begin text some end [] →
+    IsRefusedAs begin mode number text why byte → ⊥
+not_both {mode} {number} {byte = b} {some = some} {why = n} f c (all, to, after, others, k, p, g) =
     elim (cuts c k) [
       | inl (more, same, j) ↦
           let none = cut_nil j in
           let here : all ≡ some = same ∙ ap (λ w. some ++ w) none.0 ∙ append-nil some in
           let level : others ≡ [] = one_left_open (subst (λ w. Opens number 256 others w) here p)
           (inside f) in
-          at_end (subst (λ w. Refuses rules [] to w n b) none.1
-          (subst (λ w. Refuses rules w to after n b) level g))
+          at_end (subst (λ w. Refuses mode [] to w n b) none.1
+          (subst (λ w. Refuses mode w to after n b) level g))
       | inr (more, same, j) ↦
           let none = no_further g p j (subst (λ w. Opens number 256 [] w) same (inside f)) in
           let here : some ≡ all = same ∙ ap (λ w. all ++ w) none.0 ∙ append-nil all in
           let level : others ≡ [] =
           one_left_open (subst (λ w. Opens number 256 others w) (sym here) p) (inside f)
           in
-          at_end (subst (λ w. Refuses rules [] to w n b) none.1
-          (subst (λ w. Refuses rules w to after n b) level g))
+          at_end (subst (λ w. Refuses mode [] to w n b) none.1
+          (subst (λ w. Refuses mode w to after n b) level g))
     ]

@@ -1,27 +1,40 @@
--- The laws of reading: by any rules a text reads in one way at most, or is refused in one way at
--- most, and never both; and a source begins at one place.
-use Rattle.std.specs.Prelude.{◌≡◌, ℕ, List}
+-- The laws of reading: in any mode a text reads in one way at most, or is refused in one way at
+-- most, and never both; a source begins at one place; and only marks make groups invisible.
+use Rattle.std.specs.Prelude.{◌≡◌, ℕ, List, true, false}
+use Rattle.tok_core.specs.Erase.{erase}
+use Rattle.tok_core.specs.Filled.{filled}
 use Rattle.tok_core.specs.Forest.{Forest}
-use Rattle.tok_core.specs.Lexical.Reading.{Reads, IsRefused}
+use Rattle.tok_core.specs.Lexical.Reading.{Reads, ReadsFrom, IsRefused}
 use Rattle.tok_core.specs.declared.lexer.error.LexError.{LexError}
+use Rattle.tok_lexical.specs.Rules.{is_marked}
 use Rattle.tok_lexical.specs.Sources.{BeginsAt}
-use Rattle.tok_lexical.specs.declared.rule.Rule.{Rule}
+use Rattle.tok_lexical.specs.declared.rule.Mode.{Mode}
 
 abbrev pub IsReadOnce : Type 0
 IsReadOnce =
-    (rules : List Rule) → (number : ℕ) → (text : List ℕ) → (one other : Forest) →
-    Reads rules number text one → Reads rules number text other → one ≡ other
+    (mode : Mode) → (number : ℕ) → (text : List ℕ) → (one other : Forest) →
+    Reads mode number text one → Reads mode number text other → one ≡ other
 
 abbrev pub IsRefusedOnce : Type 0
 IsRefusedOnce =
-    (rules : List Rule) → (number : ℕ) → (text : List ℕ) → (one other : LexError) →
-    IsRefused rules number text one → IsRefused rules number text other → one ≡ other
+    (mode : Mode) → (number : ℕ) → (text : List ℕ) → (one other : LexError) →
+    IsRefused mode number text one → IsRefused mode number text other → one ≡ other
 
 abbrev pub IsNeverBoth : Type 0
 IsNeverBoth =
-    (rules : List Rule) → (number : ℕ) → (text : List ℕ) → (f : Forest) → (error : LexError) →
-    Reads rules number text f → IsRefused rules number text error → ⊥
+    (mode : Mode) → (number : ℕ) → (text : List ℕ) → (f : Forest) → (error : LexError) →
+    Reads mode number text f → IsRefused mode number text error → ⊥
 
 abbrev pub IsBegunOnce : Type 0
 IsBegunOnce =
     (text : List ℕ) → (one other : List ℕ) → BeginsAt text one → BeginsAt text other → one ≡ other
+
+-- no group of the forest is invisible: erasing those changes nothing, and none is empty
+abbrev pub IsAllVisible : Forest → Type 0
+IsAllVisible f = (filled f ≡ true) × (erase f ≡ f)
+
+-- only a marked text has invisible groups
+abbrev pub IsReadVisibly : Type 0
+IsReadVisibly =
+    (begin : ℕ) → (mode : Mode) → (number : ℕ) → (text : List ℕ) → (f : Forest) →
+    is_marked mode ≡ false → ReadsFrom begin mode number text f → IsAllVisible f

@@ -10,21 +10,19 @@ use Rattle.tok_leaves.specs.Spans.{source}
 use Rattle.tok_leaves.specs.Quoting.{shown_in_quotes}
 use Rattle.tok_lexical.specs.Following.{makes_joint, makes_joint_apostrophe, past_marks}
 use Rattle.tok_lexical.specs.Following.{takes_point}
+use Rattle.tok_lexical.specs.declared.delimiter.Delimiter.{Delimiter}
 use Rattle.tok_lexical.specs.declared.delimiter.Delimiter.TheVariants.{Bracket}
 use Rattle.tok_core.specs.Lexical.Items.{Item, leaf_item, opening, closing}
 use Rattle.tok_leaves.specs.declared.punct.Spacing.TheVariants.{Alone, Joint}
+use Rattle.tok_lexical.specs.declared.rule.Mode.{Mode}
+use Rattle.tok_lexical.specs.declared.rule.Mode.TheVariants.{Marked}
 use Rattle.tok_lexical.specs.declared.rule.Rule.{Rule}
-use Rattle.tok_lexical.specs.declared.rule.Rule.TheVariants.{Opening}
-use Rattle.tok_lexical.specs.declared.rule.Rule.TheVariants.{Closing, QuotedString}
-use Rattle.tok_lexical.specs.declared.rule.Rule.TheVariants.{ByteChar}
-use Rattle.tok_lexical.specs.declared.rule.Rule.TheVariants.{EscapedChar}
-use Rattle.tok_lexical.specs.declared.rule.Rule.TheVariants.{PlainChar, Lifetime}
-use Rattle.tok_lexical.specs.declared.rule.Rule.TheVariants.{MarkedApostrophe, Based}
-use Rattle.tok_lexical.specs.declared.rule.Rule.TheVariants.{Decimal, RawIdentifier, Identifier}
-use Rattle.tok_lexical.specs.declared.rule.Rule.TheVariants.{Punct, MarkedPunct}
-use Rattle.tok_lexical.specs.declared.rule.Rule.TheVariants.{SourceString, RawString, SourceIdentifier, SourcePunct}
-use Rattle.tok_lexical.specs.declared.rule.Rule.TheVariants.{SourceLifetime, Float, PointedDecimal, SourceDecimal}
-use Rattle.tok_lexical.specs.declared.rule.Rule.TheVariants.{SourceLineComment, SourceBlockComment}
+use Rattle.tok_lexical.specs.declared.rule.Rule.TheVariants.{LineComment, BlockComment, Opening}
+use Rattle.tok_lexical.specs.declared.rule.Rule.TheVariants.{Closing, QuotedString, ByteChar}
+use Rattle.tok_lexical.specs.declared.rule.Rule.TheVariants.{RawString, EscapedChar, PlainChar}
+use Rattle.tok_lexical.specs.declared.rule.Rule.TheVariants.{Lifetime, PlainLifetime, Apostrophe}
+use Rattle.tok_lexical.specs.declared.rule.Rule.TheVariants.{Based, Float, PointedDecimal, Decimal}
+use Rattle.tok_lexical.specs.declared.rule.Rule.TheVariants.{RawIdentifier, Identifier, Punct}
 
 abbrev pub ident_item : ℕ → ℕ → ℕ → List ℕ → Item
 ident_item number start end text =
@@ -66,50 +64,77 @@ doc_items number start end inner text =
 -- the piece opens a group: a delimiter, or a doc comment
 abbrev pub opens_group : Rule → List ℕ → Bool
 opens_group (Opening d) piece = true
-opens_group SourceLineComment piece = is_line_doc piece
-opens_group SourceBlockComment piece = is_block_doc piece
+opens_group LineComment piece = is_line_doc piece
+opens_group BlockComment piece = is_block_doc piece
 opens_group rule piece = false
 
--- the items of a piece that isn't refused, in the source of this number
-abbrev pub items : ℕ → Rule → ℕ → List ℕ → List ℕ → List Item
-items number (Opening d) at piece after = opening d at ∷ []
-items number (Closing d) at piece after = closing d (at + width (Closing d) piece) ∷ []
-items number QuotedString at piece after = literal_item number at (at + bytes piece) piece ∷ []
-items number ByteChar at piece after = literal_item number at (at + bytes piece) piece ∷ []
-items number EscapedChar at piece after = literal_item number at (at + bytes piece) piece ∷ []
-items number PlainChar at piece after = literal_item number at (at + bytes piece) piece ∷ []
-items number Lifetime at piece after =
-    punct_item number at 39 true ∷ ident_item number (at + 1) (at + bytes piece)
-    (after_first piece) ∷ []
-items number MarkedApostrophe at piece after =
+-- What a piece means: its items, by the byte where it begins, its text and the text after it.
+abbrev pub Meaning : Type 0
+Meaning = ℕ → List ℕ → List ℕ → List Item
+
+abbrev pub an_opening : Delimiter → Meaning
+an_opening d at piece after = opening d at ∷ []
+
+abbrev pub a_closing : Delimiter → Meaning
+a_closing d at piece after = closing d (at + width (Closing d) piece) ∷ []
+
+abbrev pub a_literal : ℕ → Meaning
+a_literal number at piece after = literal_item number at (at + bytes piece) piece ∷ []
+
+abbrev pub an_identifier : ℕ → Meaning
+an_identifier number at piece after = ident_item number at (at + bytes piece) piece ∷ []
+
+-- an apostrophe, and an identifier directly after it
+abbrev pub a_lifetime : ℕ → Meaning
+a_lifetime number at piece after =
+    punct_item number at 39 true
+    ∷ ident_item number (at + 1) (at + bytes piece) (after_first piece) ∷ []
+
+-- an apostrophe of marked text
+abbrev pub an_apostrophe : ℕ → Meaning
+an_apostrophe number at piece after =
     punct_item number at 39 (makes_joint_apostrophe after) ∷ []
-items number (Based base) at piece after = literal_item number at (at + bytes piece) piece ∷ []
-items number Decimal at piece after = literal_item number at (at + bytes piece) piece ∷ []
-items number RawIdentifier at piece after = ident_item number at (at + bytes piece) piece ∷ []
-items number Identifier at piece after = ident_item number at (at + bytes piece) piece ∷ []
-items number Punct at piece after = map (λ c. punct_item number at c (makes_joint after)) piece
-items number MarkedPunct at piece after =
-    map (λ c. punct_item number at c (makes_joint (past_marks after))) piece
-items number (SourcePunct edition) at piece after =
-    map (λ c. punct_item number at c (makes_joint after)) piece
-items number (SourceString contents) at piece after =
-    literal_item number at (at + bytes piece) piece ∷ []
-items number (RawString contents) at piece after =
-    literal_item number at (at + bytes piece) piece ∷ []
-items number Float at piece after = literal_item number at (at + bytes piece) piece ∷ []
-items number SourceDecimal at piece after = literal_item number at (at + bytes piece) piece ∷ []
-items number PointedDecimal at piece after = pointed_items number at piece after
-items number (SourceIdentifier edition) at piece after =
-    ident_item number at (at + bytes piece) piece ∷ []
-items number (SourceLifetime edition) at piece after =
-    punct_item number at 39 true ∷ ident_item number (at + 1) (at + bytes piece)
-    (after_first piece) ∷ []
-items number SourceLineComment at piece after =
-    if is_line_doc piece
-    then doc_items number at (at + bytes piece) (is_inner_doc piece) (line_doc_text piece)
-    else []
-items number SourceBlockComment at piece after =
-    if is_block_doc piece
-    then doc_items number at (at + bytes piece) (is_inner_doc piece) (block_doc_text piece)
-    else []
-items number rule at piece after = []
+
+-- what makes a punct joint: in marked text, marks are looked through
+abbrev pub is_joint : Mode → List ℕ → Bool
+is_joint Marked after = makes_joint (past_marks after)
+is_joint mode after = makes_joint after
+
+abbrev pub a_punct : ℕ → Mode → Meaning
+a_punct number mode at piece after =
+    map (λ c. punct_item number at c (is_joint mode after)) piece
+
+-- the attribute of a doc comment; another comment means nothing
+abbrev pub a_comment : ℕ → Bool → List ℕ → Meaning
+a_comment number is_doc text at piece after =
+    if is_doc then doc_items number at (at + bytes piece) (is_inner_doc piece) text else []
+
+abbrev pub a_line_comment : ℕ → Meaning
+a_line_comment number at piece = a_comment number (is_line_doc piece) (line_doc_text piece) at piece
+
+abbrev pub a_block_comment : ℕ → Meaning
+a_block_comment number at piece =
+    a_comment number (is_block_doc piece) (block_doc_text piece) at piece
+
+-- what a piece of a rule means that isn't refused, in the source of this number
+abbrev pub items : ℕ → Rule → Mode → Meaning
+items number LineComment mode = a_line_comment number
+items number BlockComment mode = a_block_comment number
+items number (Opening d) mode = an_opening d
+items number (Closing d) mode = a_closing d
+items number (QuotedString contents) mode = a_literal number
+items number ByteChar mode = a_literal number
+items number (RawString contents) mode = a_literal number
+items number EscapedChar mode = a_literal number
+items number PlainChar mode = a_literal number
+items number Lifetime mode = a_lifetime number
+items number PlainLifetime mode = a_lifetime number
+items number Apostrophe mode = an_apostrophe number
+items number (Based base) mode = a_literal number
+items number Float mode = a_literal number
+items number PointedDecimal mode = pointed_items number
+items number Decimal mode = a_literal number
+items number RawIdentifier mode = an_identifier number
+items number Identifier mode = an_identifier number
+items number Punct mode = a_punct number mode
+items number rule mode = λ at piece after. []

@@ -7,6 +7,8 @@ use Rattle.tok_lexical.specs.Errors.{error_kind}
 use Rattle.tok_core.specs.Lexical.Meaning.{items, opens_group}
 use Rattle.tok_lexical.specs.Widths.{width}
 use Rattle.tok_lexical.specs.declared.delimiter.Delimiter.{Delimiter}
+use Rattle.tok_lexical.specs.Rules.{rules_of}
+use Rattle.tok_lexical.specs.declared.rule.Mode.{Mode}
 use Rattle.tok_lexical.specs.declared.rule.Rule.{Rule}
 use Rattle.tok_lexical.specs.declared.rule.Rule.TheVariants.{Closing}
 use Rattle.tok_lexical.specs.declared.lex_error_kind.LexErrorKind.{LexErrorKind}
@@ -16,46 +18,51 @@ use Rattle.tok_core.specs.declared.lexer.error.LexError.{LexError}
 
 -- From the byte `at` on, a front of the text is cut into pieces that mean these items; it ends at
 -- the byte `end`, before `rest`.
-pub data Cut (rules : List Rule) (number : ℕ) : ℕ → List ℕ → List Item → ℕ → List ℕ → Type 0 where
-  stop : {at : ℕ} {text : List ℕ} → Cut rules number at text [] at text
+pub data Cut (mode : Mode) (number : ℕ) : ℕ → List ℕ → List Item → ℕ → List ℕ → Type 0 where
+  stop : {at : ℕ} {text : List ℕ} → Cut mode number at text [] at text
   piece : {at end : ℕ} {text taken after rest : List ℕ} {rule : Rule} {more : List Item} →
-      IsFirstFit text rules rule taken after → error_kind rule at taken after ≡ None →
-      Cut rules number (at + width rule taken) after more end rest →
-      Cut rules number at text (items number rule at taken after ++ more) end rest
+      IsFirstFit text (rules_of mode) rule taken after →
+      error_kind rule mode at taken after ≡ None →
+      Cut mode number (at + width rule taken) after more end rest →
+      Cut mode number at text (items number rule mode at taken after ++ more) end rest
 
 -- From the byte `begin` on, the text of the source of this number reads as this forest: it has at
 -- most 256 levels, and the whole text is cut into pieces that mean its items.
-abbrev pub ReadsFrom : ℕ → List Rule → ℕ → List ℕ → Forest → Type 0
-ReadsFrom begin rules number text f =
+abbrev pub ReadsFrom : ℕ → Mode → ℕ → List ℕ → Forest → Type 0
+ReadsFrom begin mode number text f =
     (depth f ≤ 256)
-    × ((all : List Item) × Flat number f all × ((end : ℕ) × Cut rules number begin text all end []))
+    × ((all : List Item) × Flat number f all × ((end : ℕ) × Cut mode number begin text all end []))
 
-abbrev pub Reads : List Rule → ℕ → List ℕ → Forest → Type 0
-Reads rules number text f = ReadsFrom 0 rules number text f
+abbrev pub Reads : Mode → ℕ → List ℕ → Forest → Type 0
+Reads mode number text f = ReadsFrom 0 mode number text f
 
 -- why the text is refused at `rest`, which begins at the byte `at`, with these groups open; and the
 -- byte
-pub data Refuses (rules : List Rule) (levels : List (Delimiter × ℕ)) (at : ℕ)
+pub data Refuses (mode : Mode) (levels : List (Delimiter × ℕ)) (at : ℕ)
     (rest : List ℕ) : LexErrorKind → ℕ → Type 0 where
   by_rule : {rule : Rule} {taken after : List ℕ} {why : LexErrorKind} →
-      IsFirstFit rest rules rule taken after → error_kind rule at taken after ≡ Some why →
-      Refuses rules levels at rest why at
+      IsFirstFit rest (rules_of mode) rule taken after →
+      error_kind rule mode at taken after ≡ Some why →
+      Refuses mode levels at rest why at
   unclosed : {start : ℕ} (delimiter : Delimiter) (outer : List (Delimiter × ℕ)) → rest ≡ [] →
-      levels ≡ outer ++ (delimiter, start) ∷ [] → Refuses rules levels at rest UnclosedGroup start
+      levels ≡ outer ++ (delimiter, start) ∷ [] → Refuses mode levels at rest UnclosedGroup start
   unopened : (delimiter : Delimiter) (taken after : List ℕ) →
-      IsFirstFit rest rules (Closing delimiter) taken after → (IsOpenBy levels delimiter → ⊥) →
-      Refuses rules levels at rest UnexpectedClosing at
-  too_deep : {rule : Rule} (taken after : List ℕ) → IsFirstFit rest rules rule taken after →
-      error_kind rule at taken after ≡ None → opens_group rule taken ≡ true → length levels ≡ 256 →
-      Refuses rules levels at rest DeepGroup at
+      IsFirstFit rest (rules_of mode) (Closing delimiter) taken after →
+      (IsOpenBy levels delimiter → ⊥) →
+      Refuses mode levels at rest UnexpectedClosing at
+  too_deep : {rule : Rule} (taken after : List ℕ) →
+      IsFirstFit rest (rules_of mode) rule taken after →
+      error_kind rule mode at taken after ≡ None → opens_group rule taken ≡ true →
+      length levels ≡ 256 →
+      Refuses mode levels at rest DeepGroup at
 
 -- A front of the text is cut, with these groups open, and the rest is refused there with this
 -- error.
-abbrev pub IsRefusedFrom : ℕ → List Rule → ℕ → List ℕ → LexError → Type 0
-IsRefusedFrom begin rules number text error = (error.source ≡ number)
+abbrev pub IsRefusedFrom : ℕ → Mode → ℕ → List ℕ → LexError → Type 0
+IsRefusedFrom begin mode number text error = (error.source ≡ number)
     × ((all : List Item) × (end : ℕ) × (rest : List ℕ) × (levels : List (Delimiter × ℕ))
-    × Cut rules number begin text all end rest × Opens number 256 levels all
-    × Refuses rules levels end rest error.kind error.at)
+    × Cut mode number begin text all end rest × Opens number 256 levels all
+    × Refuses mode levels end rest error.kind error.at)
 
-abbrev pub IsRefused : List Rule → ℕ → List ℕ → LexError → Type 0
-IsRefused rules number text error = IsRefusedFrom 0 rules number text error
+abbrev pub IsRefused : Mode → ℕ → List ℕ → LexError → Type 0
+IsRefused mode number text error = IsRefusedFrom 0 mode number text error

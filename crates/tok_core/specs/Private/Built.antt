@@ -7,8 +7,7 @@ use Rattle.tok_core.specs.Lexical.Items.{Item, opening, Flat, depth, IsOpenBy}
 use Rattle.tok_lexical.specs.Errors.{error_kind}
 use Rattle.tok_core.specs.Lexical.Reading.{Cut}
 use Rattle.tok_core.specs.Lexical.Meaning.{opens_group}
-use Rattle.tok_lexical.specs.Starts.{rules_of}
-use Rattle.tok_lexical.specs.declared.rule.Rules.{Rules}
+use Rattle.tok_lexical.specs.declared.rule.Mode.{Mode}
 use Rattle.tok_lexical.specs.declared.delimiter.Delimiter.{Delimiter}
 use Rattle.tok_lexical.specs.declared.rule.Rule.{Rule}
 use Rattle.tok_lexical.specs.declared.rule.Rule.TheVariants.{Whitespace, Closing, Other}
@@ -20,11 +19,11 @@ use Rattle.tok_core.specs.declared.lexer.nest.Nest.{Nest}
 abbrev pub EndsInOther : List Rule → Type 0
 EndsInOther rules = slice_index_or rules (length rules - 1) Whitespace ≡ Other
 
--- so many bytes at the front of the text mean nothing, by the rules of every text, and the rest is
+-- so many bytes at the front of the text mean nothing, in every mode, and the rest is
 -- what follows them
 abbrev pub IsBlank : List ℕ → List ℕ → ℕ → Type 0
 IsBlank text rest n =
-    (rules : Rules) (number at : ℕ) → Cut (rules_of rules) number at text [] (at + n) rest
+    (mode : Mode) (number at : ℕ) → Cut mode number at text [] (at + n) rest
 
 -- the groups that are open, outermost first, and what is built so far
 pub record State : Type 0 where
@@ -67,14 +66,14 @@ pub record Grows (at : ℕ) (old new : State) (more : List Item) : Type 0 where
       HoldsAll old.source new (all ++ more)
 
 -- why this piece is refused, with these groups open
-pub data Halts (levels : List (Delimiter × ℕ)) (rule : Rule) (at : ℕ)
+pub data Halts (levels : List (Delimiter × ℕ)) (rule : Rule) (mode : Mode) (at : ℕ)
     (piece after : List ℕ) : LexErrorKind → Type 0 where
-  by_meaning : {why : LexErrorKind} → error_kind rule at piece after ≡ Some why →
-      Halts levels rule at piece after why
+  by_meaning : {why : LexErrorKind} → error_kind rule mode at piece after ≡ Some why →
+      Halts levels rule mode at piece after why
   unfit : (delimiter : Delimiter) → rule ≡ Closing delimiter → (IsOpenBy levels delimiter → ⊥) →
-      Halts levels rule at piece after UnexpectedClosing
-  deep : error_kind rule at piece after ≡ None → opens_group rule piece ≡ true →
-      length levels ≡ 256 → Halts levels rule at piece after DeepGroup
+      Halts levels rule mode at piece after UnexpectedClosing
+  deep : error_kind rule mode at piece after ≡ None → opens_group rule piece ≡ true →
+      length levels ≡ 256 → Halts levels rule mode at piece after DeepGroup
 
 abbrev pub IsTooDeep : State → LexErrorKind → Type 0
 IsTooDeep s why = (why ≡ DeepGroup) × (length s.groups ≡ 256)

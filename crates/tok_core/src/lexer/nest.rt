@@ -6,7 +6,7 @@ ghost use Rattle.tok_core.specs.Private.Halted.{OnHalted};
 ghost use Rattle.tok_core.specs.Lexical.Items.{opening, closing};
 ghost use Rattle.tok_lexical.specs.Contents.{has_return};
 ghost use Rattle.tok_lexical.specs.Errors.{error_kind};
-ghost use Rattle.tok_core.specs.Lexical.Meaning.{items, ident_item, literal_item, punct_item, pointed_items, doc_items};
+ghost use Rattle.tok_core.specs.Lexical.Meaning.{items, ident_item, is_joint, literal_item, punct_item, pointed_items, doc_items};
 ghost use Rattle.tok_lexical.specs.Widths.{bytes, width};
 ghost use Rattle.tok_lexical.specs.Rules.{Spells};
 
@@ -20,7 +20,7 @@ use tok_lexical::comments::{
 };
 use tok_lexical::joint::{makes_joint, makes_joint_apostrophe, past_marks, takes_point};
 use tok_lexical::text::{first_of, past_first, up_to};
-use tok_lexical::{Delimiter, LexErrorKind, Rule, error_kind};
+use tok_lexical::{Delimiter, LexErrorKind, Mode, Rule, error_kind};
 
 /// A builder and its open groups, the outermost first: the delimiter of each, and where it begins.
 #[derive(Drop)]
@@ -38,6 +38,17 @@ fn spacing(is_joint: bool) -> Spacing
         Spacing::Joint
     } else {
         Spacing::Alone
+    }
+}
+
+/// Returns `true` if a punct before this text is joint. In marked text, marks are looked through.
+#[inline(always)]
+fn is_joint(mode: Mode, after: &str) -> bool
+    ensures { result ≡ is_joint mode (chars after.now) }
+{
+    match mode {
+        Mode::Marked => makes_joint(past_marks(after)),
+        Mode::Plain | Mode::Source(_) => makes_joint(after),
     }
 }
 
@@ -203,6 +214,7 @@ impl<B: Build + Drop> Nest<B> {
     pub fn take_in(
         &mut self,
         rule: Rule,
+        mode: Mode,
         at: usize,
         end: usize,
         piece: &str,
@@ -216,13 +228,13 @@ impl<B: Build + Drop> Nest<B> {
         requires reached { Reached self.old.«open».items at }
         requires paired { IsPaired (state B.levels self.old) }
         ensures meant { OnOk result
-            (error_kind rule at (chars piece.now) (chars after.now) ≡ None) }
+            (error_kind rule mode at (chars piece.now) (chars after.now) ≡ None) }
         ensures ok { OnOk result
             (Grows at (state B.levels self.old) (state B.levels self.new)
-            (items self.old.source rule at (chars piece.now) (chars after.now))) }
+            (items self.old.source rule mode at (chars piece.now) (chars after.now))) }
         ensures refused { IfErr result
             (λ halt. OnHalted halt
-            (Halts self.old.«open».items rule at (chars piece.now) (chars after.now))) }
+            (Halts self.old.«open».items rule mode at (chars piece.now) (chars after.now))) }
     {
         // Before the search for an error, which no mark of a group needs.
         match rule {
@@ -230,42 +242,33 @@ impl<B: Build + Drop> Nest<B> {
             Rule::Closing(delimiter) => return self.close(delimiter, at, end),
             _ => {}
         }
-        if let Some(kind) = error_kind(rule, at, piece, after, returns) {
+        if let Some(kind) = error_kind(rule, mode, at, piece, after, returns) {
             return Err(Halt::Refused(kind));
         }
         match rule {
-            Rule::SourceLineComment => {
+            Rule::LineComment => {
                 if is_line_doc(piece) {
                     return self.doc(at, end, is_inner_doc(piece), line_doc_text(piece));
                 }
             }
-            Rule::SourceBlockComment => {
+            Rule::BlockComment => {
                 if is_block_doc(piece) {
                     return self.doc(at, end, is_inner_doc(piece), block_doc_text(piece));
                 }
             }
             Rule::PointedDecimal => self.pointed(at, end, piece, after)?,
-            Rule::Lifetime | Rule::SourceLifetime(_) => {
-                self.lifetime(at, end, past_first(piece))?;
-            }
-            Rule::MarkedApostrophe => self.punct(at, '\'', makes_joint_apostrophe(after))?,
-            Rule::Punct | Rule::SourcePunct(_) => {
-                self.punct(at, first_of(piece), makes_joint(after))?;
-            }
-            Rule::MarkedPunct => self.punct(at, first_of(piece), makes_joint(past_marks(after)))?,
-            Rule::RawIdentifier | Rule::Identifier | Rule::SourceIdentifier(_) => {
-                self.ident(at, end, piece)?;
-            }
-            Rule::QuotedString
+            Rule::Lifetime | Rule::PlainLifetime => self.lifetime(at, end, past_first(piece))?,
+            Rule::Apostrophe => self.punct(at, '\'', makes_joint_apostrophe(after))?,
+            Rule::Punct => self.punct(at, first_of(piece), is_joint(mode, after))?,
+            Rule::RawIdentifier | Rule::Identifier => self.ident(at, end, piece)?,
+            Rule::QuotedString(_)
             | Rule::ByteChar
+            | Rule::RawString(_)
             | Rule::EscapedChar
             | Rule::PlainChar
             | Rule::Based(_)
-            | Rule::Decimal
-            | Rule::SourceString(_)
-            | Rule::RawString(_)
             | Rule::Float
-            | Rule::SourceDecimal => self.literal(at, end, piece)?,
+            | Rule::Decimal => self.literal(at, end, piece)?,
             _ => {}
         }
         Ok(())

@@ -1,5 +1,5 @@
 use Rattle.std.specs.Str.{chars}
-use Rattle.tok_lexical.specs.Rules.{marked_rules}
+use Rattle.tok_lexical.specs.declared.rule.Mode.TheVariants.{Marked}
 use Rattle.tok_buffer.specs.Buffer.{forest_of}
 use Rattle.tok_buffer.proofs.Reading.{kept_follows, same_reading}
 use Rattle.tok_buffer.proofs.laws.marked_as_stream.Goals as goal
@@ -7,14 +7,14 @@ use Rattle.tok_buffer.proofs.laws.marked_as_stream.Goals as goal
 pub returns-clause-same : goal.returns-clause-same
 returns-clause-same c =
     let text = chars c.args.text.now in
-    let follows = kept_follows 0 marked_rules c.args.source text c.lex_marked.result
+    let follows = kept_follows 0 Marked c.args.source text c.lex_marked.result
     (forest_of c.laid_out-laid.result) c.laid_out-laid.ensures.kept c.lex_marked.ensures
     in
-    same_reading 0 marked_rules c.args.source text c.from_marked-read.result
+    same_reading 0 Marked c.args.source text c.from_marked-read.result
     c.laid_out-laid.result c.args.number c.from_marked-read.ensures.number
     c.laid_out-laid.ensures.number c.from_marked-read.ensures.follows follows
 
 pub returns-clause-lexed : goal.returns-clause-lexed
 returns-clause-lexed c =
-    kept_follows 0 marked_rules c.args.source (chars c.args.text.now) c.lex_marked.result
+    kept_follows 0 Marked c.args.source (chars c.args.text.now) c.lex_marked.result
     (forest_of c.laid_out-laid.result) c.laid_out-laid.ensures.kept c.lex_marked.ensures

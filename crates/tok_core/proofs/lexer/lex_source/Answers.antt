@@ -1,6 +1,6 @@
 use Rattle.std.proofs.Common.{◌≡◌, ◌-◌, length, subst, arith}
 use Rattle.std.specs.Str.{chars}
-use Rattle.tok_lexical.specs.Rules.{source_rules}
+use Rattle.tok_lexical.specs.declared.rule.Mode.TheVariants.{Source}
 use Rattle.tok_lexical.specs.Widths.{bytes}
 use Rattle.tok_lexical.proofs.Texts.{cut_length}
 use Rattle.tok_core.specs.Lexical.Outcome.{FollowsFrom}
@@ -25,7 +25,7 @@ returns c =
       chars c.past_start-rest.result.now,
       cut.1,
       c.past_start-rest.ensures.begins,
-      subst (λ w. FollowsFrom w (source_rules c.args.edition) c.args.source
+      subst (λ w. FollowsFrom w (Source c.args.edition) c.args.source
           (chars c.past_start-rest.result.now) c.read_trees.result) same
           (follows _ _ _ _ c.read_trees.result c.read_trees.ensures.reads
           c.read_trees.ensures.refuses),

@@ -52,7 +52,7 @@ loop-rule-preserved g c =
     c.in-Ok.ensures.meant c.in-Ok.ensures.ok in (
       c.past_blanks-rest.utf8,
       so_far_blank _ _ _ _ c.in-Some.after.now _
-          (state g.B.Build.levels c.take_in.new.self) here c.args.rules refl
+          (state g.B.Build.levels c.take_in.new.self) here
           c.past_blanks-rest.result.now _ refl c.past_blanks-rest.ensures.shorter
           c.past_blanks-rest.ensures.blank,
     )
@@ -61,21 +61,21 @@ pub returns-in-Some-pop-clause-refuses : goal.returns-in-Some-pop-clause-refuses
 returns-in-Some-pop-clause-refuses g c = refused_unclosed _ _ _ _ c.loop-rule.rest.now _
     (state g.B.Build.levels c.loop-rule.nest) c.loop-rule.invariant.1 c.pop.new.self.items
     (c.in-Some-pop.field-0-0, c.in-Some-pop.begin) c.new-error.result
-    (all_tried _ _ (ends_in_other c.args.rules) c.in_default.ensures.tries)
+    (all_tried _ _ (ends_in_other c.args.mode) c.in_default.ensures.tries)
     c.in-Some-pop.ensures.items c.new-error.ensures
 
 pub returns-clause-reads : goal.returns-clause-reads
 returns-clause-reads g c =
     (reads_all _ _ _ _ c.loop-rule.rest.now _ (state g.B.Build.levels c.loop-rule.nest)
     c.loop-rule.invariant.1
-    (all_tried _ _ (ends_in_other c.args.rules) c.in_default.ensures.tries)
+    (all_tried _ _ (ends_in_other c.args.mode) c.in_default.ensures.tries)
     (none_left _ _ c.in-None.ensures.cases.0 c.loop-rule.nest.«open».ok.0)).1
 
 pub returns-clause-closed : goal.returns-clause-closed
 returns-clause-closed g c =
     (reads_all _ _ _ _ c.loop-rule.rest.now _ (state g.B.Build.levels c.loop-rule.nest)
     c.loop-rule.invariant.1
-    (all_tried _ _ (ends_in_other c.args.rules) c.in_default.ensures.tries)
+    (all_tried _ _ (ends_in_other c.args.mode) c.in_default.ensures.tries)
     (none_left _ _ c.in-None.ensures.cases.0 c.loop-rule.nest.«open».ok.0)).0
 
 pub take_in-requires-clause-paired : goal.take_in-requires-clause-paired

@@ -3,11 +3,10 @@ use denote.Text.{Utf8}
 use denote.Shadow.{shadow}
 use Rattle.tok_core.specs.Private.Built.{state}
 use Rattle.tok_core.proofs.Lexical.Cuts.{SoFar}
-use Rattle.tok_lexical.specs.Starts.{rules_of}
 use Rattle.tok_core.proofs.lexer.read.Given as goal
 
 abbrev pub invariant-loop-rule : goal.invariant-loop-rule
-invariant-loop-rule g l = shadow (Utf8 l.rest) × SoFar l.start (rules_of l.rules) l.source l.text
+invariant-loop-rule g l = shadow (Utf8 l.rest) × SoFar l.start l.mode l.source l.text
     l.rest l.at (state g.B.Build.levels l.nest)
 
 abbrev pub decreases-loop-rule : goal.decreases-loop-rule

@@ -1,13 +1,13 @@
-use Rattle.std.proofs.Common.{◌≡◌, ◌∙◌, sym, subst, false, rules, tests}
+use Rattle.std.proofs.Common.{◌≡◌, ◌∙◌, refl, sym, subst, false, rules, tests}
 use Rattle.tok_lexical.proofs.First.{decides_at, none_more, none_at_all, none_fits}
-use Rattle.tok_lexical.proofs.First.{decides_begun, decides_letter, decides_punct}
-use Rattle.tok_lexical.proofs.First.{decides_opening, decides_closing, fits_front}
-use Rattle.tok_lexical.proofs.First.{fits_behind, last_identifier, last_punct}
-use Rattle.tok_lexical.proofs.First.{last_other}
+use Rattle.tok_lexical.proofs.First.{decides_listed, decides_letter, decides_one, fits_front}
+use Rattle.tok_lexical.proofs.First.{fits_behind, last_identifier, last_punct, last_other}
 use Rattle.tok_lexical.proofs.Slashes.{decides_alone}
 use Rattle.tok_lexical.specs.Fits.{ReadsByRules}
-use Rattle.tok_lexical.specs.Starts.{tells, last_rules}
+use Rattle.tok_lexical.specs.Starts.{tells}
+use Rattle.tok_lexical.specs.Rules.{last_rules}
 use Rattle.tok_lexical.specs.declared.rule.Rule.TheVariants.{ByteOrderMark}
+use Rattle.tok_lexical.specs.declared.start.Start.TheVariants as start
 use Rattle.tok_lexical.proofs.rule.first_rule.Goals as goal
 
 pub returns-in_err-first-clause-tries : goal.returns-in_err-first-clause-tries
@@ -15,26 +15,28 @@ returns-in_err-first-clause-tries c = subst (ReadsByRules _ _) (sym c.from_resid
     (none_fits _ _ _ c.in_err-first.ensures.chars)
 
 pub returns-in-Letter-clause-tries : goal.returns-in-Letter-clause-tries
-returns-in-Letter-clause-tries c = decides_letter c.in_ok-first.first _ _ _ _ _
-    c.in_ok-first.ensures.chars (sym c.of-start.ensures ∙ c.in-Letter.is) c.identifier.ensures
+returns-in-Letter-clause-tries c = decides_letter c.args.mode c.in_ok-first.first _ _
+    c.in_ok-first.ensures.chars _ (sym c.of-start.ensures ∙ c.in-Letter.is)
     c.past_continues.ensures
 
 pub returns-in-Punct-clause-tries : goal.returns-in-Punct-clause-tries
-returns-in-Punct-clause-tries c = decides_punct c.in_ok-first.first _ _ _ _
-    c.in_ok-first.ensures.chars (sym c.of-start.ensures ∙ c.in-Punct.is) c.punct.ensures
+returns-in-Punct-clause-tries c = decides_one c.args.mode c.in_ok-first.first _ _
+    c.in_ok-first.ensures.chars start.Punct refl (sym c.of-start.ensures ∙ c.in-Punct.is)
 
 pub returns-in-Opening-clause-tries : goal.returns-in-Opening-clause-tries
-returns-in-Opening-clause-tries c = decides_opening c.in_ok-first.first _ _ _ _
-    c.in_ok-first.ensures.chars (sym c.of-start.ensures ∙ c.in-Opening.is)
+returns-in-Opening-clause-tries c = decides_one c.args.mode c.in_ok-first.first _ _
+    c.in_ok-first.ensures.chars (start.Opening c.in-Opening.delimiter) refl
+    (sym c.of-start.ensures ∙ c.in-Opening.is)
 
 pub returns-in-Closing-clause-tries : goal.returns-in-Closing-clause-tries
-returns-in-Closing-clause-tries c = decides_closing c.in_ok-first.first _ _ _ _
-    c.in_ok-first.ensures.chars (sym c.of-start.ensures ∙ c.in-Closing.is)
+returns-in-Closing-clause-tries c = decides_one c.args.mode c.in_ok-first.first _ _
+    c.in_ok-first.ensures.chars (start.Closing c.in-Closing.delimiter) refl
+    (sym c.of-start.ensures ∙ c.in-Closing.is)
 
 pub returns-in-Slash-clause-tries : goal.returns-in-Slash-clause-tries
-returns-in-Slash-clause-tries c = decides_alone c.in_ok-first.first _ _ _ _
+returns-in-Slash-clause-tries c = decides_alone c.args.mode c.in_ok-first.first _ _
     c.in_ok-first.ensures.chars (sym c.of-start.ensures ∙ c.in-Slash.is)
-    (sym c.if-not-begins_comment.ensures) c.punct-in-Slash.ensures
+    (sym c.if-not-begins_comment.ensures)
 
 pub returns-in-Some-clause-tries : goal.returns-in-Some-clause-tries
 returns-in-Some-clause-tries c = c.in-Some.ensures.fits
@@ -49,9 +51,9 @@ returns-in-Some-past-clause-tries c =
     let found = decides_at _ _ _ _ _ ByteOrderMark c.loop-rule-test.true c.loop-rule.invariant
     tried.1 in (
       tried.0,
-      decides_begun c.in_ok-first.first _ _ _ _ _ _ _ _ c.in_ok-first.ensures.chars
-          c.of-start.ensures (c.at-those.ensures untold)
-          (fits_front c.at-those.result.now (last_rules c.args.rules) _ _ _ _ found),
+      decides_listed c.args.mode c.in_ok-first.first _ _ _ c.in_ok-first.ensures.chars
+          (sym c.of-start.ensures) (c.at-those.ensures untold)
+          (fits_front c.at-those.result.now last_rules _ _ _ _ found),
     )
 
 pub loop-rule-preserved : goal.loop-rule-preserved
@@ -62,36 +64,34 @@ pub returns-in-Some-past_identifier-clause-tries : goal.returns-in-Some-past_ide
 returns-in-Some-past_identifier-clause-tries c =
     let untold : tells c.of-start.result ≡ false = search (rules, tests) in
     let none = none_at_all _ _ _ c.loop-rule-test.false c.loop-rule.invariant in
-    let found = last_identifier c.in_ok-first.first _ _ c.in_ok-first.ensures.chars c.args.rules
-    _ _ c.identifier-in-Some-past_identifier.ensures
+    let found = last_identifier c.in_ok-first.first _ _ c.in_ok-first.ensures.chars _
     c.in-Some-past_identifier.ensures.tries in (
       found.0,
-      decides_begun c.in_ok-first.first _ _ _ _ _ _ _ _ c.in_ok-first.ensures.chars
-          c.of-start.ensures (c.at-those.ensures untold)
-          (fits_behind c.at-those.result.now (last_rules c.args.rules) _ _ _ _ none found.1),
+      decides_listed c.args.mode c.in_ok-first.first _ _ _ c.in_ok-first.ensures.chars
+          (sym c.of-start.ensures) (c.at-those.ensures untold)
+          (fits_behind c.at-those.result.now last_rules _ _ _ _ none found.1),
     )
 
 pub returns-then-is_punct-clause-tries : goal.returns-then-is_punct-clause-tries
 returns-then-is_punct-clause-tries c =
     let untold : tells c.of-start.result ≡ false = search (rules, tests) in
     let none = none_at_all _ _ _ c.loop-rule-test.false c.loop-rule.invariant in
-    let found = last_punct c.in_ok-first.first _ _ c.in_ok-first.ensures.chars c.args.rules _
-    c.in_default-past_identifier.ensures.tries (sym c.if-is_punct.ensures)
-    c.punct-then-is_punct.ensures in (
+    let found = last_punct c.in_ok-first.first _ _ c.in_ok-first.ensures.chars
+    c.in_default-past_identifier.ensures.tries (sym c.if-is_punct.ensures) in (
       found.0,
-      decides_begun c.in_ok-first.first _ _ _ _ _ _ _ _ c.in_ok-first.ensures.chars
-          c.of-start.ensures (c.at-those.ensures untold)
-          (fits_behind c.at-those.result.now (last_rules c.args.rules) _ _ _ _ none found.1),
+      decides_listed c.args.mode c.in_ok-first.first _ _ _ c.in_ok-first.ensures.chars
+          (sym c.of-start.ensures) (c.at-those.ensures untold)
+          (fits_behind c.at-those.result.now last_rules _ _ _ _ none found.1),
     )
 
 pub returns-else-is_punct-clause-tries : goal.returns-else-is_punct-clause-tries
 returns-else-is_punct-clause-tries c =
     let untold : tells c.of-start.result ≡ false = search (rules, tests) in
     let none = none_at_all _ _ _ c.loop-rule-test.false c.loop-rule.invariant in
-    let found = last_other c.in_ok-first.first _ _ c.in_ok-first.ensures.chars c.args.rules
+    let found = last_other c.in_ok-first.first _ _ c.in_ok-first.ensures.chars
     c.in_default-past_identifier.ensures.tries (sym c.if-is_punct.ensures) in (
       found.0,
-      decides_begun c.in_ok-first.first _ _ _ _ _ _ _ _ c.in_ok-first.ensures.chars
-          c.of-start.ensures (c.at-those.ensures untold)
-          (fits_behind c.at-those.result.now (last_rules c.args.rules) _ _ _ _ none found.1),
+      decides_listed c.args.mode c.in_ok-first.first _ _ _ c.in_ok-first.ensures.chars
+          (sym c.of-start.ensures) (c.at-those.ensures untold)
+          (fits_behind c.at-those.result.now last_rules _ _ _ _ none found.1),
     )

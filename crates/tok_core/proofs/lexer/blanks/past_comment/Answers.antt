@@ -1,7 +1,7 @@
 use Rattle.std.proofs.Common.{sym}
-use Rattle.tok_lexical.specs.Starts.{rules_of}
+use Rattle.tok_lexical.specs.Rules.{rules_of}
 use Rattle.tok_lexical.specs.declared.rule.Rule.TheVariants.{LineComment}
-use Rattle.tok_lexical.specs.declared.rule.Rules.TheVariants.{Plain}
+use Rattle.tok_lexical.specs.declared.rule.Mode.TheVariants.{Plain}
 use Rattle.tok_core.proofs.Lexical.Blanks.{blank_line, blank_block, line_front, shorter}
 use Rattle.tok_core.proofs.Lexical.Blanks.{shorter_block}
 use Rattle.tok_core.proofs.lexer.blanks.past_comment.Goals as goal

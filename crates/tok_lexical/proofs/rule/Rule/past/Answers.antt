@@ -53,36 +53,12 @@ returns-in-Apostrophe-clause-tries c =
           c.in_ok-first.ensures.chars (eq-eqb _ _ c.if-first-eq39.true),
     )
 
-pub returns-in-MarkedApostrophe-clause-tries : goal.returns-in-MarkedApostrophe-clause-tries
-returns-in-MarkedApostrophe-clause-tries c =
-    rw c.in-MarkedApostrophe.is (
-      _,
-      takes_one (λ d. d == 39) _ _ c.in_ok-first.first
-          c.in_ok-first.ensures.chars (eq-eqb _ _ c.if-first-eq39-2.true),
-    )
-
 pub returns-in-Punct-clause-tries : goal.returns-in-Punct-clause-tries
 returns-in-Punct-clause-tries c =
     rw c.in-Punct.is (
       _,
       takes_one is_punct _ _ c.in_ok-first.first c.in_ok-first.ensures.chars
           (sym c.is_punct.ensures ∙ c.if-is_punct.true),
-    )
-
-pub returns-in-MarkedPunct-clause-tries : goal.returns-in-MarkedPunct-clause-tries
-returns-in-MarkedPunct-clause-tries c =
-    rw c.in-MarkedPunct.is (
-      _,
-      takes_one is_punct _ _ c.in_ok-first.first c.in_ok-first.ensures.chars
-          (sym c.if-is_punct-2.ensures),
-    )
-
-pub returns-in-SourcePunct-clause-tries : goal.returns-in-SourcePunct-clause-tries
-returns-in-SourcePunct-clause-tries c =
-    rw c.in-SourcePunct.is (
-      _,
-      takes_one is_punct _ _ c.in_ok-first.first c.in_ok-first.ensures.chars
-          (sym c.if-is_punct-3.ensures),
     )
 
 pub returns-in-Other-clause-tries : goal.returns-in-Other-clause-tries
