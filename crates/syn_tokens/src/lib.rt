@@ -53,7 +53,10 @@ pub mod laws {
         punctuation_past_the_table, punctuations_are_equal, tokens_ignore_invisible,
         underscores_are_equal,
     };
-    pub use tok_values::laws::{strings_keep_text, values_are_functions};
+    pub use tok_values::laws::{
+        byte_strings_are_read, characters_are_read, strings_are_read, strings_keep_text,
+        values_are_functions,
+    };
 }
 
 /// Token buffers and cursors.

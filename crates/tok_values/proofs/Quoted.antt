@@ -1,7 +1,7 @@
 -- What the text of a made string literal means.
 use Rattle.std.proofs.Common.{◌≡◌, ◌∙◌, ◌<◌, ℕ, zero, suc, List, [], ◌∷◌, ◌++◌, Option, Some, None}
 use Rattle.std.proofs.Common.{Bool, true, false, refl, sym, ap, append_assoc, eqb-true, arith}
-use Rattle.std.specs.Prelude.{◌==◌, ◌&&◌, if◌then◌else◌, codes, encode_utf8, encode_utf8_all}
+use Rattle.std.specs.Prelude.{◌==◌, if◌then◌else◌, codes, encode_utf8, encode_utf8_all}
 use Rattle.std.specs.List.{flat_map}
 use Rattle.std.specs.Str.{IsAscii, IsUtf8, chars}
 use lib.Utf8.{scalars}
@@ -14,7 +14,7 @@ use Rattle.tok_values.specs.Strings.{IsStringValue, Means, line_feed, more, noth
 use Rattle.tok_values.specs.Strings as strings
 
 -- a character, or the escape that stands for it
-abbrev written : ℕ → List ℕ
+abbrev pub written : ℕ → List ℕ
 written c =
     if c == 34 then 92 ∷ 34 ∷ [] else
     if c == 92 then 92 ∷ 92 ∷ [] else
@@ -23,7 +23,7 @@ written c =
     if c == 9 then 92 ∷ 116 ∷ [] else
     if c == 0 then 92 ∷ 48 ∷ [] else c ∷ []
 
-two : (a b : ℕ) → a < 128 → b < 128 → encode_utf8_all (a ∷ b ∷ []) ≡ a ∷ b ∷ []
+pub two : (a b : ℕ) → a < 128 → b < 128 → encode_utf8_all (a ∷ b ∷ []) ≡ a ∷ b ∷ []
 two a b p q = encodes-IsAscii (a ∷ b ∷ []) ascii
   where
     ascii : IsAscii (a ∷ b ∷ [])
@@ -36,7 +36,7 @@ pick : (b : Bool) (x y u v : List ℕ) → encode_utf8_all x ≡ u → encode_ut
 pick true x y u v e f = e
 pick false x y u v e f = f
 
-encodes_escape : (c : ℕ) → encode_utf8_all (written c) ≡ escaped c
+pub encodes_escape : (c : ℕ) → encode_utf8_all (written c) ≡ escaped c
 encodes_escape c =
     pick (c == 34) _ _ _ _ (two 92 34 (omega arith) (omega arith))
     (pick (c == 92) _ _ _ _ (two 92 92 (omega arith) (omega arith))
@@ -52,12 +52,12 @@ all_encoded (c ∷ cs) =
     ∙ ap (λ w. w ++ encode_utf8_all (flat_map written cs)) (encodes_escape c)
     ∙ ap (λ w. escaped c ++ w) (all_encoded cs)
 
-pick_scalars : (b : Bool) (x y : List ℕ) → scalars x ≡ true → scalars y ≡ true
+pub pick_scalars : (b : Bool) (x y : List ℕ) → scalars x ≡ true → scalars y ≡ true
     → scalars (if b then x else y) ≡ true
 pick_scalars true x y e f = e
 pick_scalars false x y e f = f
 
-one_scalars : (c : ℕ) → scalars (c ∷ []) ≡ true → scalars (written c) ≡ true
+pub one_scalars : (c : ℕ) → scalars (c ∷ []) ≡ true → scalars (written c) ≡ true
 one_scalars c h =
     pick_scalars (c == 34) _ _ refl
     (pick_scalars (c == 92) _ _ refl
@@ -65,7 +65,7 @@ one_scalars c h =
     (pick_scalars (c == 13) _ _ refl
     (pick_scalars (c == 9) _ _ refl (pick_scalars (c == 0) _ _ refl h)))))
 
-scalars-append : (xs ys : List ℕ) → scalars xs ≡ true → scalars ys ≡ true
+pub scalars-append : (xs ys : List ℕ) → scalars xs ≡ true → scalars ys ≡ true
     → scalars (xs ++ ys) ≡ true
 scalars-append [] ys h k = k
 scalars-append (x ∷ xs) ys h k =
@@ -127,7 +127,7 @@ quote_bytes = encodes-IsAscii (34 ∷ []) ascii
     ascii zero = omega arith
     ascii (suc i) = omega arith
 
-chars_in_quotes : (cs : List ℕ) → scalars cs ≡ true
+pub chars_in_quotes : (cs : List ℕ) → scalars cs ≡ true
     → chars (in_quotes cs) ≡ 34 ∷ (flat_map written cs ++ 34 ∷ [])
 chars_in_quotes cs h =
     let inner = flat_map written cs ++ 34 ∷ [] in

@@ -1,10 +1,27 @@
 //! Laws of values. Each is the contract of a function that does nothing.
-ghost use Rattle.tok_values.specs.Laws.{StringsKeepText};
+ghost use Rattle.tok_values.specs.Laws.{ByteStringsAreRead, CharactersAreRead, StringsAreRead, StringsKeepText};
 ghost use Rattle.tok_values.specs.Values.{IntegersHaveOneValue, StringsHaveOneValue};
 
 /// The value of the string literal that `Literal::string` makes of a text is that text.
 pub fn strings_keep_text()
     ensures { StringsKeepText }
+{}
+
+/// The string literal that `Literal::string` makes of a text is read as one string literal.
+pub fn strings_are_read()
+    ensures { StringsAreRead }
+{}
+
+/// The character literal that `Literal::character` makes of a character is read as one character
+/// literal, and its value is that character.
+pub fn characters_are_read()
+    ensures { CharactersAreRead }
+{}
+
+/// The byte string literal that `Literal::byte_string` makes of bytes is read as one string literal in
+/// a source, and its value is those bytes.
+pub fn byte_strings_are_read()
+    ensures { ByteStringsAreRead }
 {}
 
 /// The values of string literals and of integer literals are functions of their texts. A parser that

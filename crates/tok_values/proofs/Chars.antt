@@ -1,0 +1,146 @@
+-- The text of a made character literal is read as one, and its value is the character.
+use Rattle.std.proofs.Common.{◌≡◌, ◌∙◌, ℕ, List, [], ◌∷◌, ◌++◌, Some, Bool, true, false, refl}
+use Rattle.std.proofs.Common.{sym, ap, subst, inl, inr, eqb-true, ◌<◌, zero, suc, arith}
+use Rattle.std.specs.Prelude.{◌==◌, if◌then◌else◌, codes, encode_utf8_all}
+use Rattle.std.specs.Prelude.{Option}
+use Rattle.std.specs.Char.{IsScalar}
+use Rattle.std.specs.Str.{IsAscii, chars}
+use lib.Utf8.{scalars}
+use Rattle.std.proofs.lemmas.Bool.{and_from}
+use Rattle.std.proofs.lemmas.Str.{chars-encodes, encodes-IsAscii, encodes-append}
+use Rattle.tok_lexical.specs.Fits.{here, later}
+use Rattle.tok_lexical.specs.Pieces.{HasPrefix}
+use Rattle.tok_lexical.specs.Rules.{Spells}
+use Rattle.tok_lexical.specs.Strings.{IsEscape, is_char, simple}
+use Rattle.tok_lexical.specs.declared.rule.Mode.{Mode}
+use Rattle.tok_lexical.specs.declared.rule.Rule.TheVariants.{BadEscapedChar, EscapedChar, PlainChar}
+use Rattle.tok_lexical.specs.declared.start.Start.TheVariants as start
+use Rattle.tok_lexical.proofs.First.{decides_begun}
+use Rattle.tok_leaves.specs.Quoting.{in_apostrophes}
+use Rattle.tok_values.specs.Laws.{IsOneChar}
+use Rattle.tok_values.specs.Strings.{IsCharValue, one_char}
+use Rattle.tok_values.proofs.Quoted.{encodes_escape, one_scalars, pick_scalars, scalars-append, two}
+use Rattle.tok_values.proofs.Quoted.{written}
+use Rattle.tok_values.proofs.Read.{other, pick, whole}
+
+-- what is between the apostrophes
+abbrev between : ℕ → List ℕ
+between c = if c == 39 then 92 ∷ 39 ∷ [] else if c == 34 then 34 ∷ [] else written c
+
+pub one_byte : (c : ℕ) → c < 128 → encode_utf8_all (c ∷ []) ≡ c ∷ []
+one_byte c h = encodes-IsAscii (c ∷ []) ascii
+  where
+    ascii : IsAscii (c ∷ [])
+    ascii zero = h
+    ascii (suc i) = omega arith
+
+apostrophe_bytes : encode_utf8_all (39 ∷ []) ≡ codes "'"
+apostrophe_bytes = one_byte 39 (omega arith)
+
+-- what is encoded between apostrophes
+around : (x u : List ℕ) → encode_utf8_all x ≡ u →
+    encode_utf8_all (39 ∷ (x ++ 39 ∷ [])) ≡ codes "'" ++ (u ++ codes "'")
+around x u e =
+    encodes-append (39 ∷ []) (x ++ 39 ∷ [])
+    ∙ ap (λ w. w ++ encode_utf8_all (x ++ 39 ∷ [])) apostrophe_bytes
+    ∙ ap (λ w. codes "'" ++ w) (encodes-append x (39 ∷ [])
+    ∙ ap (λ w. w ++ encode_utf8_all (39 ∷ [])) e ∙ ap (λ w. u ++ w) apostrophe_bytes)
+
+pick_bytes : (b : Bool) (x y u v : List ℕ) → encode_utf8_all (39 ∷ (x ++ 39 ∷ [])) ≡ u →
+    encode_utf8_all (39 ∷ (y ++ 39 ∷ [])) ≡ v →
+    encode_utf8_all (39 ∷ ((if b then x else y) ++ 39 ∷ [])) ≡ (if b then u else v)
+pick_bytes true x y u v e f = e
+pick_bytes false x y u v e f = f
+
+encoded : (c : ℕ) → encode_utf8_all (39 ∷ (between c ++ 39 ∷ [])) ≡ in_apostrophes c
+encoded c =
+    pick_bytes (c == 39) _ _ _ _ (around (92 ∷ 39 ∷ []) _ (two 92 39 (omega arith) (omega arith)))
+    (pick_bytes (c == 34) _ _ _ _ (around (34 ∷ []) _ (one_byte 34 (omega arith)))
+    (around (written c) _ (encodes_escape c)))
+
+between_scalars : (c : ℕ) → scalars (c ∷ []) ≡ true → scalars (between c) ≡ true
+between_scalars c h = pick_scalars (c == 39) _ _ refl (pick_scalars (c == 34) _ _ refl
+    (one_scalars c h))
+
+chars_between : (c : ℕ) → IsScalar c → chars (in_apostrophes c) ≡ 39 ∷ (between c ++ 39 ∷ [])
+chars_between c h =
+    let one : scalars (c ∷ []) ≡ true = and_from _ true h refl in
+    ap chars (sym (encoded c))
+    ∙ chars-encodes (39 ∷ (between c ++ 39 ∷ []))
+    (scalars-append (39 ∷ []) (between c ++ 39 ∷ []) refl
+    (scalars-append (between c) (39 ∷ []) (between_scalars c one) refl))
+
+-- its value
+abbrev HasValue : ℕ → List ℕ → Type 0
+HasValue c x = one_char false (x ++ 39 ∷ []) ≡ Some (c, 39 ∷ [])
+
+abbrev some_char : ℕ → Option (ℕ × List ℕ)
+some_char n = Some (n, 39 ∷ [])
+
+found : (c n : ℕ) → (c == n) ≡ true → some_char n ≡ some_char c
+found c n e = ap some_char (sym (eqb-true c n e))
+
+value : (c : ℕ) → HasValue c (between c)
+value c =
+    pick (HasValue c) (c == 39) _ _ (found c 39)
+    (λ single. pick (HasValue c) (c == 34) _ _ (found c 34)
+    (λ double. pick (HasValue c) (c == 34) _ _ (found c 34)
+    (λ quote. pick (HasValue c) (c == 92) _ _ (found c 92)
+    (λ slash. pick (HasValue c) (c == 10) _ _ (found c 10)
+    (λ feed. pick (HasValue c) (c == 13) _ _ (found c 13)
+    (λ return. pick (HasValue c) (c == 9) _ _ (found c 9)
+    (λ tab. pick (HasValue c) (c == 0) _ _ (found c 0)
+    (λ nul. rw (slash, single, tab, feed, return) refl))))))))
+
+-- one piece
+module _ (mode : Mode) where
+  abbrev IsPiece : List ℕ → Type 0
+  IsPiece x = IsOneChar mode (39 ∷ (x ++ 39 ∷ []))
+
+  escaped_piece : (e : ℕ) → IsEscape false false (e ∷ []) → IsPiece (92 ∷ e ∷ [])
+  escaped_piece e s = inr (
+    decides_begun mode 39 (92 ∷ e ∷ 39 ∷ []) start.Apostrophe refl refl
+        (here (whole (Spells EscapedChar) (39 ∷ 92 ∷ e ∷ 39 ∷ [])
+        (92 ∷ e ∷ [], [], refl, (e ∷ [], refl, s), inl refl))),
+    λ at. refl,
+  )
+
+  plain_piece : (c : ℕ) → is_char c ≡ true → (c ≡ 92 → ⊥) → IsPiece (c ∷ [])
+  plain_piece c h n = inl (
+    decides_begun mode 39 (c ∷ 39 ∷ []) start.Apostrophe refl refl
+        (later no_escape (later no_start
+        (here (whole (Spells PlainChar) (39 ∷ c ∷ 39 ∷ [])
+        (c ∷ [], [], refl, (c, h, refl), inl refl))))),
+    λ at. refl,
+  )
+    where
+      no_escape : HasPrefix (Spells EscapedChar) (39 ∷ c ∷ 39 ∷ []) → ⊥
+      no_escape (piece, after, cut, (inner, suffix, e, (more, f, s), k)) =
+          let all : 39 ∷ c ∷ 39 ∷ [] ≡ 39 ∷ 92 ∷ ((more ++ 39 ∷ suffix) ++ after) =
+          cut ∙ ap (λ w. w ++ after) (e ∙ ap (λ w. 39 ∷ (w ++ 39 ∷ suffix)) f) in
+          n cc
+
+      no_start : HasPrefix (Spells BadEscapedChar) (39 ∷ c ∷ 39 ∷ []) → ⊥
+      no_start (piece, after, cut, e) =
+          let all : 39 ∷ c ∷ 39 ∷ [] ≡ 39 ∷ 92 ∷ after = cut ∙ ap (λ w. w ++ after) e in
+          n cc
+
+  one_piece : (c : ℕ) → IsPiece (between c)
+  one_piece c =
+      pick IsPiece (c == 39) _ _ (λ e. escaped_piece 39 (simple 39 refl))
+      (λ single. pick IsPiece (c == 34) _ _ (λ e. plain_piece 34 refl (λ k. omega (arith, k)))
+      (λ double. pick IsPiece (c == 34) _ _ (λ e. escaped_piece 34 (simple 34 refl))
+      (λ quote. pick IsPiece (c == 92) _ _ (λ e. escaped_piece 92 (simple 92 refl))
+      (λ slash. pick IsPiece (c == 10) _ _ (λ e. escaped_piece 110 (simple 110 refl))
+      (λ feed. pick IsPiece (c == 13) _ _ (λ e. escaped_piece 114 (simple 114 refl))
+      (λ return. pick IsPiece (c == 9) _ _ (λ e. escaped_piece 116 (simple 116 refl))
+      (λ tab. pick IsPiece (c == 0) _ _ (λ e. escaped_piece 48 (simple 48 refl))
+      (λ nul. plain_piece c (rw (slash, single, tab, feed, return) refl) (other c 92 slash)))))))))
+
+pub characters_are_read : (mode : Mode) (c : ℕ) → IsScalar c →
+    IsOneChar mode (chars (in_apostrophes c)) × IsCharValue (chars (in_apostrophes c)) c
+characters_are_read mode c h =
+    let text = sym (chars_between c h) in (
+      subst (IsOneChar mode) text (one_piece mode c),
+      subst (λ w. IsCharValue w c) text (between c ++ 39 ∷ [], refl, value c),
+    )
