@@ -3,6 +3,7 @@ mod cursors;
 mod errors;
 mod lifetimes;
 mod orders;
+mod visible;
 
 use std::alloc::Global;
 use tok_buffer::{Cursor, TokenBuffer};

@@ -44,6 +44,7 @@ fn cursors(alloc: Global) -> Outcome {
 fn at_group(alloc: Global, cursor: Cursor<'_>) -> Outcome {
     worst(&[
         ended(cursor.token_tree(alloc)),
+        ended(cursor.visible_tree(alloc)),
         ended(cursor.any_group_token(alloc)),
         ended(cursor.token_stream(alloc)),
         at_leaf(alloc, cursor),

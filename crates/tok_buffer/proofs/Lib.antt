@@ -1,5 +1,6 @@
 pub mod Befores
 pub mod CompileErrorLoops
+pub mod Counted
 pub mod Descents
 pub mod Entered
 pub mod Forests
@@ -17,6 +18,7 @@ pub mod PunctRuns
 pub mod Reading
 pub mod Rests
 pub mod Scans
+pub mod ScopeEnds
 pub mod Spanned
 pub mod Stacks
 pub mod View

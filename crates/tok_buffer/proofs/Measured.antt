@@ -14,7 +14,7 @@ use Rattle.tok_buffer.specs.declared.spot.Spot.{Spot}
 use Rattle.tok_buffer.proofs.Onwards.{along}
 
 -- the count and what is ahead add up to the scope's end
-abbrev IsCounted : Place → Type 0
+abbrev pub IsCounted : Place → Type 0
 IsCounted empty_place = ⊤
 IsCounted (at n s c (level o p a) ls) = c + weight a + remaining_around ls ≡ s
 
@@ -34,7 +34,7 @@ measured_at : (n c s : ℕ) (l : Level) (us : List Level) → some_ends (end_of 
     IsCounted (at n s c l (up_to (end_of c l) s us))
 measured_at n c s (level o p f) us h = omega (arith, measured_up_to (c + weight f) s us h)
 
-spot_measured : (spot : Option Spot) →
+pub spot_measured : (spot : Option Spot) →
     IsCounted (elim spot [ None ↦ empty_place | Some s ↦ spot_place s ])
 spot_measured None = tt
 spot_measured (Some s) = measured_at s.buffer.now.number s.position s.scope

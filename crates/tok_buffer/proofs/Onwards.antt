@@ -20,7 +20,7 @@ use Rattle.tok_buffer.specs.Place.{absorb, front, pass, settle}
 use Rattle.tok_buffer.specs.Progress.{ReadsGoLater, ReadsKeepScope, StaysIn, remaining}
 use Rattle.tok_buffer.specs.Progress.{remaining_around, ReadsOn, ReadsGoOn, SkipsGoOn, EntersOn}
 use Rattle.tok_buffer.specs.Progress.{EntriesGoOn, MovesStay, StaysAlong, CallsLead, ReadLeads}
-use Rattle.tok_buffer.specs.Reads.{any_tree, read_if, skip}
+use Rattle.tok_buffer.specs.Reads.{any_tree, read_if, read_tree, skip}
 use Rattle.tok_buffer.proofs.View.Keeps.{IsKept, kept-settle, kept-descend}
 use Rattle.tok_buffer.proofs.View.Moves.{Leads, LeadsTo, IsEmpty, IsNone, leads, leads-take}
 use Rattle.tok_buffer.proofs.View.Moves.{leads-skip, leads-nowhere}
@@ -153,6 +153,11 @@ reading_goes {read} r = goes after_read read (λ P Q m. leads P Q m r)
 
 take_goes : (wanted : Tree → Bool) → AllGoOn (read_if wanted)
 take_goes wanted = goes after_read (read_if wanted) (λ P Q m. leads-take P Q m wanted)
+
+pub visible_goes : (p : Place) → LeadsTo (GoesOn p) (read_tree (descend p))
+visible_goes =
+    goes after_read (λ p. read_tree (descend p))
+    (λ P Q m p h. leads-take P Q m any_tree (descend p) (m.down p h))
 
 skips_on : (p q : Place) → skip p ≡ Some q → GoesOn p q
 skips_on p q e =

@@ -18,6 +18,7 @@ pub mod Reads
 pub mod Rest
 pub mod SameView
 pub mod Spans
+pub mod Trees
 pub mod View
 pub mod Private
 pub use Rattle.tok_core.specs.Clear

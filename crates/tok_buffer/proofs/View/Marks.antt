@@ -22,7 +22,7 @@ sum-append xs ys = sum_by-append (λ x. x) xs ys
 pub sum-one : (xs : List ℕ) → sum (1 ∷ xs) ≡ 1 + sum xs
 sum-one xs = sum-append (1 ∷ []) xs
 
-weight-concat : (f g : Forest) → weight (concat f g) ≡ weight f + weight g
+pub weight-concat : (f g : Forest) → weight (concat f g) ≡ weight f + weight g
 weight-concat no_trees g = omega arith
 weight-concat (tree t f) g = omega (arith, weight-concat f g)
 

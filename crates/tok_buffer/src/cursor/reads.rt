@@ -14,6 +14,7 @@ ghost use Rattle.tok_buffer.specs.Gives.{Gives};
 ghost use Rattle.tok_buffer.specs.Reads.{and_then, any_text, place_after, skip, read_if, read_ident, read_keyword, read_punct, read_literal, read_lifetime, read_tree, read_word};
 ghost use Rattle.tok_buffer.specs.Reads.{is_punct_of, read_next, read_punctuation, read_spans, sized};
 ghost use Rattle.tok_buffer.specs.Reads as spec;
+ghost use Rattle.tok_buffer.specs.Trees.{EndsScope};
 
 use crate::cursor::{Cursor, LifetimeRef};
 use crate::entry::{Entry, same};
@@ -131,6 +132,17 @@ impl<'a> Cursor<'a> {
                 }
             }
         }
+    }
+
+    /// Returns the cursor at the end of the scope.
+    pub fn scope_end(self) -> Cursor<'a>
+        ensures { EndsScope (place_of self.entry) (place_of result) }
+    {
+        let mut rest = self;
+        while let Some(after) = rest.after_front() {
+            rest = after;
+        }
+        rest
     }
 
     /// Returns `true` if the next token is an identifier with this text. The empty text is never

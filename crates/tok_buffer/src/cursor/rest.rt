@@ -14,6 +14,7 @@ ghost use Rattle.tok_buffer.specs.Gives.{Gives};
 ghost use Rattle.tok_buffer.specs.Moves.{in_scope, place_at};
 ghost use Rattle.tok_buffer.specs.Reads.{is_group, read_if, read_tree};
 ghost use Rattle.tok_buffer.specs.Rest.{rest};
+ghost use Rattle.tok_buffer.specs.Trees.{read_visible};
 
 use crate::buffer::TokenBuffer;
 use crate::cursor::Cursor;
@@ -58,6 +59,20 @@ impl<'a> Cursor<'a> {
                 Some((group, after)) => Ok(Some((TokenTree::Group(group), after))),
                 None => Ok(None),
             },
+        }
+    }
+
+    /// Copies the next visible tree and returns it with the cursor after it. First enters the
+    /// invisible groups that are next, as `ident` does. Invisible groups in the tree are copied.
+    ///
+    /// Returns an error if an allocation fails.
+    pub fn visible_tree(self, alloc: Global) -> Result<Option<(TokenTree, Cursor<'a>)>, AllocError>
+        ensures { IfOk result (λ found. Gives found (read_visible (place_of self.entry))
+            (λ r. (tree_of r.0 ∷ [], place_of r.1))) }
+    {
+        match self.spot {
+            None => Ok(None),
+            Some(spot) => Cursor::at(spot.ignore_none()).token_tree(alloc),
         }
     }
 

@@ -1,5 +1,5 @@
 //! The position and the spans of a cursor, and cursors compared.
-ghost use Rattle.std.specs.Prelude.{◌≡◌, ◌≤◌, Some, true};
+ghost use Rattle.std.specs.Prelude.{◌≡◌, ◌≤◌, ◌-◌, Some, true};
 ghost use Rattle.std.specs.Cmp.{on_per, partial_equiv_from_equiv, on_equiv, on_po};
 ghost use Rattle.std.specs.Ordering.{on};
 ghost use Rattle.std.specs.declared.cmp.Ordering.TheVariants.{Equal};
@@ -10,8 +10,10 @@ ghost use Rattle.tok_buffer.specs.Moves.{in_scope, place_at, levels_at, level_ah
 ghost use Rattle.tok_buffer.specs.Order.{same_buffer, same_scope, equal, order};
 ghost use Rattle.tok_buffer.specs.Place.{count_before};
 ghost use Rattle.tok_buffer.specs.Private.OrderLaws.{equal_equiv, order_partial};
+ghost use Rattle.tok_buffer.specs.Progress.{remaining};
 ghost use Rattle.tok_buffer.specs.Rest.{scope_delimiter};
 ghost use Rattle.tok_buffer.specs.Spans.{closing_of, level_span, current_span, start_span, previous_span};
+ghost use Rattle.tok_buffer.specs.View.{erased_ahead};
 
 use crate::buffer::TokenBuffer;
 use crate::cursor::Cursor;
@@ -26,6 +28,18 @@ impl<'a> Cursor<'a> {
         ensures { result ≡ count_before (place_of self.entry) }
     {
         Some(self.spot?.position)
+    }
+
+    /// Counts the leaves and the openings and closings of groups that are left in the scope. The
+    /// empty cursor has none.
+    pub fn remaining(self) -> usize
+        ensures counts { result ≡ remaining (place_of self.entry) - 1 }
+        ensures visible { weight (erased_ahead (place_of self.entry)) ≤ result }
+    {
+        match self.spot {
+            None => 0,
+            Some(spot) => spot.scope - spot.position,
+        }
     }
 
     /// Returns the span of the next tree, a group's whole span.
