@@ -10,6 +10,7 @@ mod fault;
 mod group;
 pub mod laws;
 mod lookahead;
+mod many;
 mod own;
 mod parse;
 mod parser;

@@ -7,6 +7,8 @@ mod buffers;
 #[cfg(test)]
 mod lists;
 #[cfg(test)]
+mod loops;
+#[cfg(test)]
 mod replays;
 #[cfg(test)]
 mod streams;

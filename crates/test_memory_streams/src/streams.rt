@@ -3,6 +3,7 @@ pub mod free;
 mod groups;
 mod lists;
 mod looks;
+mod loops;
 mod own;
 mod whole;
 
@@ -24,6 +25,7 @@ pub fn calls(alloc: Global) -> Outcome {
         errors_of_tokens(alloc),
         groups::calls(alloc),
         lists::calls(alloc),
+        loops::calls(alloc),
         looks::calls(alloc),
         whole::calls(alloc),
     ])

@@ -9,6 +9,7 @@
 mod groups;
 mod hostile;
 mod lists;
+mod loops;
 mod own;
 mod values;
 
@@ -46,6 +47,8 @@ fn parsed(alloc: Global, parser: &str, text: &str) -> Option<syn_parse::Result<S
     } else if let Some(returned) = groups::parsed(alloc, parser, text) {
         Some(returned)
     } else if let Some(returned) = lists::parsed(alloc, parser, text) {
+        Some(returned)
+    } else if let Some(returned) = loops::parsed(alloc, parser, text) {
         Some(returned)
     } else if let Some(returned) = own::parsed(alloc, parser, text) {
         Some(returned)

@@ -1,0 +1,208 @@
+-- Values that follow one another, turn by turn.
+use Rattle.std.proofs.Common.{◌≡◌, ◌∙◌, sym, ap, subst, refl, arith, ℕ, ◌+◌, ◌≤◌}
+use Rattle.std.proofs.Common.{Bool, true, false, cond, List, [], ◌∷◌, ◌++◌, append_assoc}
+use Rattle.std.proofs.Common.{append-nil, map, Ok, Err, Option, Some}
+use Rattle.std.proofs.lemmas.List.{map-append}
+use Rattle.std.specs.Global.{Vec}
+use Rattle.std.specs.Prelude.{Result, not, option_map}
+use Rattle.tok_core.specs.Forest.{Forest}
+use Rattle.tok_core.specs.Weight.{weight}
+use Rattle.tok_types.specs.Sees.{Sees}
+use Rattle.syn_parse.proofs.Failing.{fails_on}
+use Rattle.syn_parse.specs.Many.{many_again, many_of, take_many, vec_form, where_filled}
+use Rattle.syn_parse.specs.State.{State}
+use Rattle.syn_parse.specs.Takes.{Outcome, Stays, Taking, TakesAs, and_then, found, missing}
+use Rattle.syn_parse.specs.Takings.{Keeps, Lowers, Takings, lower, lighter, told, told_filled}
+use Rattle.syn_parse.specs.Takings.{untold, unweighed}
+use Rattle.syn_parse.specs.TreesAhead.{Ahead, IsFilled, ahead, is_spent}
+use Rattle.syn_parse.specs.declared.fault.Fault.{Fault}
+
+module _ {A : Type 0} (test : Ahead → Bool) (take : Taking A) (less : Lowers take) where
+  abbrev all : Taking (List A)
+  all = take_many test take
+
+  -- these values come first
+  abbrev first_of : List A → Outcome (List A) → Outcome (List A)
+  first_of vs o = and_then o (λ ws b. found (vs ++ ws) b)
+
+  -- what is ahead of the start is these values, and then what is ahead now
+  abbrev SoFar : Ahead → List A → Ahead → Type 0
+  SoFar a vs b = all a ≡ first_of vs (all b)
+
+  first-none : (o : Outcome (List A)) → o ≡ first_of [] o
+  first-none (missing words) = refl
+  first-none (found ws b) = refl
+
+  abbrev then_more : A → Ahead → Outcome (List A)
+  then_more v c = and_then (all c) (λ ws d. found (v ∷ ws) d)
+
+  again : (b : Ahead) → all b ≡ cond (test b) (and_then (take b) then_more) (found [] b)
+  again b = many_again test take less b
+
+  first-first : (vs : List A) (v : A) (o : Outcome (List A))
+      → first_of vs (and_then o (λ ws d. found (v ∷ ws) d)) ≡ first_of (vs ++ v ∷ []) o
+  first-first vs v (missing words) = refl
+  first-first vs v (found ws d) = ap (λ us. found us d) (sym (append_assoc vs (v ∷ []) ws))
+
+  one-more : (a b c : Ahead) (vs : List A) (v : A) → SoFar a vs b → test b ≡ true
+      → take b ≡ found v c → SoFar a (vs ++ v ∷ []) c
+  one-more a b c vs v h e k =
+      h
+      ∙ ap (first_of vs)
+      (again b ∙ ap (λ x. cond x (and_then (take b) then_more) (found [] b)) e
+      ∙ ap (λ o. and_then o then_more) k)
+      ∙ first-first vs v (all c)
+
+  no-more : (a b : Ahead) (vs : List A) → SoFar a vs b → test b ≡ false → all a ≡ found vs b
+  no-more a b vs h e =
+      h
+      ∙ ap (first_of vs)
+      (again b ∙ ap (λ x. cond x (and_then (take b) then_more) (found [] b)) e)
+      ∙ ap (λ us. found us b) (append-nil vs)
+
+  one-missing : (a b : Ahead) (vs : List A) (words : List ℕ) → SoFar a vs b → test b ≡ true
+      → take b ≡ missing words → all a ≡ missing words
+  one-missing a b vs words h e k =
+      h
+      ∙ ap (first_of vs)
+      (again b ∙ ap (λ x. cond x (and_then (take b) then_more) (found [] b)) e
+      ∙ ap (λ o. and_then o then_more) k)
+
+  module _ {T : Type 0} (form : T → A) where
+    -- values that have been taken from a stream, and how many turns are left for more of them
+    pub record Turns (s : State) (vs : List T) (t : State) (turns : ℕ) : Type 0 where
+      pub so_far : SoFar (ahead s) (map form vs) (ahead t)
+      pub stays : Stays s t
+      pub enough : weight (ahead t).trees ≤ turns
+
+    start : (s : State) (n : ℕ) → weight (ahead s).trees ≤ n → Turns s [] s n
+    start s n h =
+        record {
+          so_far = first-none (all (ahead s));
+          stays = (λ i. i, refl, omega arith);
+          enough = h;
+        }
+
+    turn : (s t u : State) (vs : List T) (n m : ℕ) (v : T) → Turns s vs t n
+        → true ≡ test (ahead t) → TakesAs form take t (Ok v) u → n ≡ m + 1
+        → Turns s (vs ++ v ∷ []) u m
+    turn s t u vs n m v so e w k =
+        record {
+          so_far =
+              subst (λ xs. SoFar (ahead s) xs (ahead u)) (sym (map-append form vs (v ∷ [])))
+              (one-more (ahead s) (ahead t) (ahead u) (map form vs) (form v) so.so_far (sym e)
+              w.0);
+          stays =
+              (λ i. w.1.0 (so.stays.0 i), w.1.1 ∙ so.stays.1, omega (arith, so.stays.2, w.1.2));
+          enough =
+              omega (arith, so.enough, less.less (ahead t) (ahead u) (form v) w.0, k);
+        }
+
+    too-many : (s t u : State) (vs : List T) (n : ℕ) (v : T) → Turns s vs t n
+        → TakesAs form take t (Ok v) u → n ≡ 0 → ⊥
+    too-many s t u vs n v so w k =
+        omega (arith, so.enough, less.less (ahead t) (ahead u) (form v) w.0, k)
+
+    ended : (s t : State) (vs : Vec T) (n : ℕ) → Turns s vs.items t n
+        → false ≡ test (ahead t) → TakesAs (vec_form form) all s (Ok vs) t
+    ended s t vs n so e =
+        (no-more (ahead s) (ahead t) (map form vs.items) so.so_far (sym e), so.stays)
+
+    failed : (s t u : State) (vs : List T) (n : ℕ) (f : Fault) → Turns s vs t n
+        → true ≡ test (ahead t) → TakesAs form take t (Err f) u
+        → TakesAs (vec_form form) all s (Err f) u
+    failed s t u vs n f so e w =
+        fails_on (take (ahead t)) (all (ahead s))
+        (λ words k. one-missing (ahead s) (ahead t) (map form vs) words so.so_far (sym e) k) f
+        (IsFilled t.place) (IsFilled s.place) so.stays.0 w
+
+-- the same for each kind of statement
+abbrev pub TurnsOf : {T : Type 0} → Option (Ahead → Bool) → Takings T → State → List T → State → ℕ
+    → Type 0
+TurnsOf (Some test) (told form take (lower less)) s vs t n = Turns test take less form s vs t n
+TurnsOf (Some test) (told_filled form take (lower less)) s vs t n =
+    IsFilled s.place → Turns test take less form s vs t n
+TurnsOf test takes s vs t n = Unit {0}
+
+-- what a test finds at a stream
+abbrev pub Tests : {T : Type 0} → Option (Ahead → Bool) → Takings T → State → Bool → Type 0
+Tests (Some test) (told form take (lower less)) s b = b ≡ test (ahead s)
+Tests (Some test) (told_filled form take (lower less)) s b = IsFilled s.place → b ≡ test (ahead s)
+Tests test takes s b = Unit {0}
+
+not-not : (b c : Bool) → not b ≡ c → b ≡ not c
+not-not true c e = ap not e
+not-not false c e = ap not e
+
+pub seen-tests : {T : Type 0} (sees : Option (Forest → Bool)) (takes : Takings T) (s : State)
+    (b : Bool) → Sees sees s.place b → Tests (option_map (λ test a. test a.trees) sees) takes s b
+seen-tests (Some sees) (told form take (lower less)) s b h = h
+seen-tests (Some sees) (told_filled form take (lower less)) s b h = λ i. h
+seen-tests sees takes s b h = tt
+
+-- a stream whose end is not here has a visible tree left
+pub left-tests : {T : Type 0} (takes : Takings T) (s : State) (b : Bool)
+    → (IsFilled s.place → not b ≡ is_spent (ahead s))
+    → Tests (Some (λ a. not (is_spent a))) (where_filled takes) s b
+left-tests untold s b h = tt
+left-tests (told form take unweighed) s b h = tt
+left-tests (told form take (lighter l)) s b h = tt
+left-tests (told form take (lower l)) s b h = λ i. not-not b _ (h i)
+left-tests (told_filled form take unweighed) s b h = tt
+left-tests (told_filled form take (lighter l)) s b h = tt
+left-tests (told_filled form take (lower l)) s b h = λ i. not-not b _ (h i)
+
+pub filled-keeps : {T : Type 0} (takes : Takings T) (s t : State) (r : Result T Fault)
+    → Keeps takes s r t → Keeps (where_filled takes) s r t
+filled-keeps untold s t r h = tt
+filled-keeps (told form take w) s t r h = λ i. h
+filled-keeps (told_filled form take w) s t r h = h
+
+pub turns-start : {T : Type 0} (test : Option (Ahead → Bool)) (takes : Takings T) (s : State)
+    (n : ℕ) → weight (ahead s).trees ≤ n → TurnsOf test takes s [] s n
+turns-start (Some test) (told form take (lower less)) s n h = start test take less form s n h
+turns-start (Some test) (told_filled form take (lower less)) s n h =
+    λ i. start test take less form s n h
+turns-start test takes s n h = tt
+
+pub turns-more : {T : Type 0} (test : Option (Ahead → Bool)) (takes : Takings T) (s t u : State)
+    (vs : List T) (n m : ℕ) (v : T) → TurnsOf test takes s vs t n → Tests test takes t true
+    → Keeps takes t (Ok v) u → n ≡ m + 1 → (ws : List T) → ws ≡ vs ++ v ∷ []
+    → TurnsOf test takes s ws u m
+turns-more (Some test) (told form take (lower less)) s t u vs n m v so e w k ws h =
+    subst (λ xs. Turns test take less form s xs u m) (sym h)
+    (turn test take less form s t u vs n m v so e w k)
+turns-more (Some test) (told_filled form take (lower less)) s t u vs n m v so e w k ws h =
+    λ i.
+    let j = (so i).stays.0 i in
+    subst (λ xs. Turns test take less form s xs u m) (sym h)
+    (turn test take less form s t u vs n m v (so i) (e j) (w j) k)
+turns-more test takes s t u vs n m v so e w k ws h = tt
+
+pub turns-ended : {T : Type 0} (test : Option (Ahead → Bool)) (takes : Takings T) (s t : State)
+    (vs : Vec T) (n : ℕ) → TurnsOf test takes s vs.items t n → Tests test takes t false
+    → Keeps (many_of test takes) s (Ok vs) t
+turns-ended (Some test) (told form take (lower less)) s t vs n so e =
+    ended test take less form s t vs n so e
+turns-ended (Some test) (told_filled form take (lower less)) s t vs n so e =
+    λ i. ended test take less form s t vs n (so i) (e ((so i).stays.0 i))
+turns-ended test takes s t vs n so e = tt
+
+pub turns-failed : {T : Type 0} (test : Option (Ahead → Bool)) (takes : Takings T) (s t u : State)
+    (vs : List T) (n : ℕ) (f : Fault) → TurnsOf test takes s vs t n → Tests test takes t true
+    → Keeps takes t (Err f) u → Keeps (many_of test takes) s (Err f) u
+turns-failed (Some test) (told form take (lower less)) s t u vs n f so e w =
+    failed test take less form s t u vs n f so e w
+turns-failed (Some test) (told_filled form take (lower less)) s t u vs n f so e w =
+    λ i. let j = (so i).stays.0 i in failed test take less form s t u vs n f (so i) (e j) (w j)
+turns-failed test takes s t u vs n f so e w = tt
+
+-- a value that takes something leaves a turn for the next one
+pub turns-stuck : {T : Type 0} (test : Option (Ahead → Bool)) (takes : Takings T) (s t u : State)
+    (vs : List T) (n : ℕ) (v : T) (f : Fault) → TurnsOf test takes s vs t n
+    → Keeps takes t (Ok v) u → n ≡ 0 → Keeps (many_of test takes) s (Err f) u
+turns-stuck (Some test) (told form take (lower less)) s t u vs n v f so w k =
+    absurd (too-many test take less form s t u vs n v so w k)
+turns-stuck (Some test) (told_filled form take (lower less)) s t u vs n v f so w k =
+    λ i. absurd (too-many test take less form s t u vs n v (so i) (w ((so i).stays.0 i)) k)
+turns-stuck test takes s t u vs n v f so w k = tt

@@ -1,0 +1,13 @@
+use Rattle.std.specs.Prelude.{Some, not}
+use Rattle.syn_parse.proofs.Repeats.{TurnsOf}
+use Rattle.syn_parse.specs.Many.{where_filled}
+use Rattle.syn_parse.specs.TreesAhead.{is_spent}
+use Rattle.syn_parse.proofs.stream.ParseBuffer.parse_until_end.Given as goal
+
+abbrev pub invariant-loop-values : goal.invariant-loop-values
+invariant-loop-values g l =
+    TurnsOf (Some (λ a. not (is_spent a))) (where_filled g.T.Parse.takes) l.fn.self
+    l.values.items l.self l.turns
+
+abbrev pub decreases-loop-values : goal.decreases-loop-values
+decreases-loop-values g l = l.turns

@@ -1,0 +1,11 @@
+use Rattle.std.specs.Prelude.{option_map}
+use Rattle.syn_parse.proofs.Repeats.{TurnsOf}
+use Rattle.syn_parse.proofs.stream.ParseBuffer.parse_while.Given as goal
+
+abbrev pub invariant-loop-values : goal.invariant-loop-values
+invariant-loop-values g l =
+    TurnsOf (option_map (λ test a. test a.trees) g.P.Token.sees) g.T.Parse.takes l.fn.self
+    l.values.items l.self l.turns
+
+abbrev pub decreases-loop-values : goal.decreases-loop-values
+decreases-loop-values g l = l.turns

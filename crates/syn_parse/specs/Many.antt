@@ -1,0 +1,75 @@
+-- Values of one kind, one after another, by the visible trees ahead.
+use Rattle.std.specs.Prelude.{Bool, List, [], ◌∷◌, map, not, Option, Some, option_map}
+use Rattle.std.specs.Global.{Vec}
+use Rattle.std.proofs.Common.{◌≡◌}
+use Rattle.tok_core.specs.Forest.{Forest}
+use Rattle.syn_parse.specs.Lighter.{lightens_gives}
+use Rattle.syn_parse.specs.Nested.{Descends, descends_after, descends_bind, descends_same}
+use Rattle.syn_parse.specs.Nested.{descends_self, descends_where, lightens_nested, nested_again}
+use Rattle.syn_parse.specs.Nested.{take_nested}
+use Rattle.syn_parse.specs.Takes.{Taking, ◌>>=◌, gives, where_ahead}
+use Rattle.syn_parse.specs.Takings.{Lightens, Lowers, Takings, lighter, lower, told, told_filled}
+use Rattle.syn_parse.specs.Takings.{untold}
+use Rattle.syn_parse.specs.TreesAhead.{Ahead, is_spent}
+
+-- where the test is true a value, and then more of them; else none
+abbrev pub many_step : {A : Type 0} → (Ahead → Bool) → Taking A → Taking (List A)
+    → Taking (List A)
+many_step test take more =
+    where_ahead test (do
+      v ← take
+      vs ← more
+      gives (v ∷ vs)) (gives [])
+
+-- values, as long as the test is true
+unfoldable pub take_many : {A : Type 0} → (Ahead → Bool) → Taking A → Taking (List A)
+take_many test take = take_nested (many_step test take)
+
+-- values, up to the end
+abbrev pub take_to_end : {A : Type 0} → Taking A → Taking (List A)
+take_to_end take = take_many (λ a. not (is_spent a)) take
+
+module _ {A : Type 0} (test : Ahead → Bool) (take : Taking A) (less : Lowers take) where
+  many_descends : Descends 0 (many_step test take)
+  many_descends =
+      descends_where 0 test _ _
+      (descends_after take (λ m v. m >>= (λ vs. gives (v ∷ vs))) less
+      (λ v. descends_bind 1 (λ m. m) (λ m vs. gives (v ∷ vs)) descends_self
+      (λ vs. descends_same 1 (gives (v ∷ vs)) (lightens_gives (v ∷ vs)))))
+      (descends_same 0 (gives []) (lightens_gives []))
+
+  -- values that each take something: the first one, and then more
+  pub many_again : (a : Ahead) → take_many test take a ≡ many_step test take (take_many test take) a
+  unfolding take_many
+  many_again a = nested_again (many_step test take) many_descends a
+
+  pub lightens_many : Lightens (take_many test take)
+  unfolding take_many
+  lightens_many = lightens_nested (many_step test take) many_descends
+
+-- the forms of values
+abbrev pub vec_form : {T A : Type 0} → (T → A) → Vec T → List A
+vec_form form vs = map form vs.items
+
+-- as many values as a test allows, if each takes something
+abbrev pub many_of : {T : Type 0} → Option (Ahead → Bool) → Takings T → Takings (Vec T)
+many_of (Some test) (told form take (lower less)) =
+    told (vec_form form) (take_many test take) (lighter (lightens_many test take less))
+many_of (Some test) (told_filled form take (lower less)) =
+    told_filled (vec_form form) (take_many test take)
+    (lighter (lightens_many test take less))
+many_of test takes = untold
+
+-- values as long as a peek is true
+abbrev pub many : {T : Type 0} → Option (Forest → Bool) → Takings T → Takings (Vec T)
+many sees takes = many_of (option_map (λ test a. test a.trees) sees) takes
+
+-- the same at places of filled forests alone
+abbrev pub where_filled : {T : Type 0} → Takings T → Takings T
+where_filled untold = untold
+where_filled (told form take weighs) = told_filled form take weighs
+where_filled (told_filled form take weighs) = told_filled form take weighs
+
+-- values up to the end; an empty invisible group is not the end
+abbrev pub many_to_end : {T : Type 0} → Takings T → Takings (Vec T)
+many_to_end takes = many_of (Some (λ a. not (is_spent a))) (where_filled takes)
