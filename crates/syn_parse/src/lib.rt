@@ -5,6 +5,7 @@
 //! `fork`. `Parser` runs one over a whole text or stream of tokens.
 #![tactic(auto)]
 
+mod choice;
 mod ext;
 mod fault;
 mod group;

@@ -5,6 +5,8 @@
 #[cfg(test)]
 mod buffers;
 #[cfg(test)]
+mod choices;
+#[cfg(test)]
 mod lists;
 #[cfg(test)]
 mod loops;

@@ -6,6 +6,7 @@
 //! as it stands.
 #![tactic(auto)]
 
+mod choices;
 mod groups;
 mod hostile;
 mod lists;
@@ -43,6 +44,8 @@ fn answer_to(alloc: Global, line: &str) -> Option<String> {
 // Parses a text by the parser of this name.
 fn parsed(alloc: Global, parser: &str, text: &str) -> Option<syn_parse::Result<String>> {
     if let Some(returned) = values::parsed(alloc, parser, text) {
+        Some(returned)
+    } else if let Some(returned) = choices::parsed(alloc, parser, text) {
         Some(returned)
     } else if let Some(returned) = groups::parsed(alloc, parser, text) {
         Some(returned)

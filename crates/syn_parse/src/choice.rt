@@ -1,0 +1,56 @@
+//! A value after a token that may be missing, and a peek into a group.
+ghost use Rattle.syn_parse.specs.After.{after};
+ghost use Rattle.syn_parse.specs.Inside.{PeeksInside, inside};
+ghost use Rattle.syn_parse.specs.Takings.{Keeps};
+ghost use Rattle.tok_buffer.specs.View.{IsVisibleDelimiter};
+ghost use Rattle.tok_types.specs.Sees.{Sees};
+
+use crate::fault::Result;
+use crate::parse::Parse;
+use crate::stream::ParseBuffer;
+use tok_core::Delimiter;
+use tok_types::token::Token;
+
+impl<'a> ParseBuffer<'a> {
+    /// Parses this token and a value after it if the token is next, and else nothing.
+    ///
+    /// # Examples
+    ///
+    /// ```rust
+    /// let guard = input.parse_after::<token::Where, Ident>()?;
+    /// ```
+    pub fn parse_after<P: Token + Parse + Drop, T: Parse>(&mut self) -> Result<Option<(P, T)>>
+        ensures { Keeps (after P.sees P.takes T.takes) self.old result self.new }
+    {
+        if self.peek::<P>() {
+            let token = self.parse()?;
+            let value = self.parse()?;
+            Ok(Some((token, value)))
+        } else {
+            Ok(None)
+        }
+    }
+
+    /// Returns `true` if a group with this delimiter is next and this token is the first in it. The
+    /// stream stays.
+    ///
+    /// # Requires
+    ///
+    /// The delimiter must be visible.
+    ///
+    /// # Examples
+    ///
+    /// ```rust
+    /// let is_restricted = input.peek_inside::<token::Crate>(Delimiter::Parenthesis);
+    /// ```
+    pub fn peek_inside<T: Token>(&self, delimiter: Delimiter) -> bool
+        requires { IsVisibleDelimiter delimiter }
+        ensures peeks { PeeksInside T.peeks delimiter self.now.place result }
+        ensures sees { Sees (inside delimiter T.sees) self.now.place result }
+    {
+        match self.cursor().group(delimiter) {
+            Some((content, _, _)) => T::peek(content),
+            None => false,
+        }
+    }
+}
