@@ -145,7 +145,7 @@ module _ {T A : Type 0} (form : T → A) (Means : T → List Tree → Type 0) (m
   memory (Refused e) m = absurd m
   memory (Memory e) m = (tt, λ i. tt)
 
-  told-by : (x : Read) (r : Result T Fault) → with_ahead x ≡ first (erased_ahead s.place)
+  pub told-by : (x : Read) (r : Result T Fault) → with_ahead x ≡ first (erased_ahead s.place)
       → ((b : Laid) → Reached b s.place → LeadsTo (Reached b) x)
       → LeadsTo (GoesOn s.place) x → Reads Means x message s r t → TakesAs form take s r t
   told-by None (Ok v) e leads goes h = absurd h

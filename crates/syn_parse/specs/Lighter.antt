@@ -78,7 +78,7 @@ tree-counts (group d inside span) = omega arith
 some-rest : {A B : Type 0} {x y : A × B} → Some x ≡ Some y → x.1 ≡ y.1
 some-rest {A} {B} {x} {y} e = let k : x ≡ y = cc in ap (λ p. p.1) k
 
-if-shorter : (wanted : Tree → Bool) → Shorter (first_if wanted)
+pub if-shorter : (wanted : Tree → Bool) → Shorter (first_if wanted)
 if-shorter wanted no_trees r e = absurd (cc)
 if-shorter wanted (tree t f) r e = go (wanted t) e where
   go : (b : Bool) → cond b (Some (t ∷ [], f)) None ≡ Some r → weight r.1 < weight (tree t f)
@@ -112,7 +112,7 @@ lifetime-shorter wanted f r e =
     and-shorter f (first_if (is_ident_of wanted)) (if-shorter _) (first_if is_joint_apostrophe f)
     (λ q k. if-shorter is_joint_apostrophe f q k) r e
 
-by-lowers : {T : Type 0} (read : Reading) (means : List Tree → T) (words : Forest → List ℕ)
+pub by-lowers : {T : Type 0} (read : Reading) (means : List Tree → T) (words : Forest → List ℕ)
     → Shorter read → Lowers (take_by read means words)
 by-lowers {T} read means words h = record { less = λ a b v e. go a b v (read a.trees) refl e } where
   go : (a b : Ahead) (v : T) (x : Option (List Tree × Forest)) → read a.trees ≡ x

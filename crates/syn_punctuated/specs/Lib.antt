@@ -15,6 +15,7 @@ pub mod Retained
 pub mod TakeLists
 pub mod Trees
 pub mod Turns
+pub mod Weighing
 pub mod Private
 pub use Rattle.tok_core.specs.Forest
 pub use Rattle.tok_buffer.specs.Cursors

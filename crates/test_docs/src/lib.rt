@@ -13,6 +13,8 @@ mod loops;
 #[cfg(test)]
 mod replays;
 #[cfg(test)]
+mod runs;
+#[cfg(test)]
 mod streams;
 #[cfg(test)]
 mod tokens;

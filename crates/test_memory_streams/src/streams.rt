@@ -5,6 +5,7 @@ mod lists;
 mod looks;
 mod loops;
 mod own;
+mod visible;
 mod whole;
 
 use own::{AnyIdent, AnyLifetime, LongWord, Plus, Word};
@@ -27,6 +28,7 @@ pub fn calls(alloc: Global) -> Outcome {
         lists::calls(alloc),
         loops::calls(alloc),
         looks::calls(alloc),
+        visible::calls(alloc),
         whole::calls(alloc),
     ])
 }

@@ -13,6 +13,7 @@ mod lists;
 mod loops;
 mod own;
 mod values;
+mod visible;
 
 use anyhow::{Context, Result};
 use std::alloc::Global;
@@ -52,6 +53,8 @@ fn parsed(alloc: Global, parser: &str, text: &str) -> Option<syn_parse::Result<S
     } else if let Some(returned) = lists::parsed(alloc, parser, text) {
         Some(returned)
     } else if let Some(returned) = loops::parsed(alloc, parser, text) {
+        Some(returned)
+    } else if let Some(returned) = visible::parsed(alloc, parser, text) {
         Some(returned)
     } else if let Some(returned) = own::parsed(alloc, parser, text) {
         Some(returned)

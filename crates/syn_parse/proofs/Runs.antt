@@ -1,0 +1,142 @@
+-- The trees of a run, one after another.
+use Rattle.std.proofs.Common.{◌≡◌, ◌∙◌, sym, ap, subst, refl, arith, ◌<◌, ◌≤◌, List, [], ◌∷◌}
+use Rattle.std.proofs.Common.{Option, Some, None, Ok}
+use Rattle.std.specs.Prelude.{option_map}
+use Rattle.tok_core.specs.Erase.{erase}
+use Rattle.tok_core.specs.Forest.{Tree, Forest, no_trees, tree, concat}
+use Rattle.tok_core.specs.Seen.{tree_of}
+use Rattle.tok_core.specs.declared.stream.TokenTree.{TokenTree}
+use Rattle.tok_core.proofs.Erasures.{erase_concat}
+use Rattle.tok_core.proofs.Facts.{concat-none, joined_assoc}
+use Rattle.tok_buffer.specs.Buffer.{Laid}
+use Rattle.tok_buffer.specs.Descent.{descend}
+use Rattle.tok_buffer.specs.InFront.{first_if}
+use Rattle.tok_buffer.specs.Place.{Place}
+use Rattle.tok_buffer.specs.Progress.{remaining}
+use Rattle.tok_buffer.specs.Reached.{Reached, down}
+use Rattle.tok_buffer.specs.Reads.{any_tree}
+use Rattle.tok_buffer.specs.Trees.{erased_read, erased_tree, read_visible}
+use Rattle.tok_buffer.specs.View.{erased_ahead}
+use Rattle.tok_buffer.proofs.Onwards.{GoesOn, keeps_scope, visible_goes}
+use Rattle.tok_buffer.proofs.ScopeEnds.{visible_erased, visible_tells}
+use Rattle.tok_buffer.proofs.View.Laws.{reached_leads_on}
+use Rattle.tok_buffer.proofs.View.Moves.{LeadsTo, leads-take}
+use Rattle.syn_parse.specs.Runs.{StepsPast, onwards, passing, take_run}
+use Rattle.syn_parse.specs.State.{State, moved}
+use Rattle.syn_parse.specs.Takes.{TakesAs, found}
+use Rattle.syn_parse.specs.TreesAhead.{ahead, scope_of}
+use Rattle.syn_parse.proofs.Scopes.{one_scope}
+
+same-pair : {A B : Type 0} {x y : A × B} → Some x ≡ Some y → (x.0 ≡ y.0) × (x.1 ≡ y.1)
+same-pair {A} {B} {x} {y} e = let k : x ≡ y = cc in (ap (λ p. p.0) k, ap (λ p. p.1) k)
+
+same-head : (t u : Tree) → t ∷ [] ≡ u ∷ [] → t ≡ u
+same-head t u e = cc
+
+-- these trees come first
+abbrev first_of : Forest → Forest × Forest → Forest × Forest
+first_of f r = (concat f r.0, r.1)
+
+module _ {S : Type 0} (step : S → Tree → Option S) where
+  -- what is ahead of the start is these trees of the run, and then what is ahead now
+  pub record Passed (p : Place) (s : S) (f : Forest) (q : Place) (r : S) : Type 0 where
+    trees : passing step s (erased_ahead p) ≡ first_of (erase f) (passing step r (erased_ahead q))
+    scope : scope_of q ≡ scope_of p
+    less : remaining q ≤ remaining p
+    reached : (b : Laid) → Reached b p → Reached b q
+
+  pub none-passed : (p : Place) (s : S) (f : Forest) (q : Place) → f ≡ no_trees → q ≡ p
+      → Passed p s f q s
+  none-passed p s f q e h =
+      subst (λ g. Passed p s g q s) (sym e)
+      (subst (λ n. Passed p s no_trees n s) (sym h)
+      (record { trees = refl; scope = refl; less = omega arith; reached = λ b i. i }))
+
+  -- the first tree of a run, and what is ahead after it
+  first-tree : (t u : Tree) (q : Place) (f : Forest)
+      → erased_read (Some (t ∷ [], q)) ≡ first_if any_tree f → erased_tree t ≡ u
+      → f ≡ tree u (erased_ahead q)
+  first-tree t u q no_trees e k = absurd (cc)
+  first-tree t u q (tree v g) e k =
+      let both = same-pair {A = List Tree} {x = (erased_tree t ∷ [], erased_ahead q)}
+      {y = (v ∷ [], g)} e in
+      let i = same-head (erased_tree t) v both.0 in
+      let j = both.1 in
+      ap (λ x. tree x g) (sym i ∙ k) ∙ ap (tree u) (sym j)
+
+  gone : (u : Tree) (g : Forest) (s r : S) → step s u ≡ Some r
+      → passing step s (tree u g) ≡ first_of (tree u no_trees) (passing step r g)
+  gone u g s r e = ap (λ o. onwards u g (option_map (λ x. passing step x g) o)) e
+
+  first-first : (f g : Forest) (r : Forest × Forest)
+      → first_of f (first_of g r) ≡ first_of (concat f g) r
+  first-first f g r = ap (λ h. (h, r.1)) (sym (joined_assoc f g r.0))
+
+  pub one-passed : (p : Place) (s : S) (f g : Forest) (q : Place) (r : S) (t : TokenTree)
+      (n : Place) (x : S) → Passed p s f q r → StepsPast step r (erased_ahead q) (Some x)
+      → read_visible q ≡ Some (tree_of t ∷ [], n) → g ≡ concat f (tree (tree_of t) no_trees)
+      → Passed p s g n x × (remaining n < remaining q)
+  one-passed p s f g q r t n x so go e a =
+      let u = erased_tree (tree_of t) in
+      let goes = subst (LeadsTo (GoesOn q)) e (visible_goes q) in
+      let now : erased_ahead q ≡ tree u (erased_ahead n) =
+      first-tree (tree_of t) u n (erased_ahead q)
+      (sym (ap erased_read e) ∙ visible_tells q) refl in
+      let next : step r u ≡ Some x =
+      sym (subst (λ h. StepsPast step r h (Some x)) now go) in
+      let all : erase g ≡ concat (erase f) (tree u no_trees) =
+      ap erase a ∙ erase_concat f (tree (tree_of t) no_trees)
+      ∙ ap (concat (erase f)) (visible_erased q (tree_of t) n e) in (
+        record {
+          trees =
+              so.trees
+              ∙ ap (λ h. first_of (erase f) (passing step r h)) now
+              ∙ ap (first_of (erase f)) (gone u (erased_ahead n) r x next)
+              ∙ first-first (erase f) (tree u no_trees) (passing step x (erased_ahead n))
+              ∙ ap (λ h. first_of h (passing step x (erased_ahead n))) (sym all);
+          scope = one_scope q n (keeps_scope q n goes) ∙ so.scope;
+          less = omega (arith, so.less, goes.1);
+          reached =
+              λ b i.
+              subst (LeadsTo (Reached b)) e
+              (leads-take (Reached b) (Reached b) (reached_leads_on b) any_tree (descend q)
+              (down q (so.reached b i)));
+        },
+        goes.1,
+      )
+
+  pub ended : (q : Place) (r : S) → StepsPast step r (erased_ahead q) None
+      → passing step r (erased_ahead q) ≡ (no_trees, erased_ahead q)
+  ended q r e = go (erased_ahead q) e where
+    go : (f : Forest) → StepsPast step r f None → passing step r f ≡ (no_trees, f)
+    go no_trees h = refl
+    go (tree t f) h = ap (λ o. onwards t f (option_map (λ x. passing step x f) o)) (sym h)
+
+  -- where no tree is read a run ends
+  pub at-end : (q : Place) (r : S) → read_visible q ≡ None
+      → passing step r (erased_ahead q) ≡ (no_trees, erased_ahead q)
+  at-end q r k = go (erased_ahead q) (sym (ap erased_read k) ∙ visible_tells q) where
+    go : (f : Forest) → None ≡ first_if any_tree f → passing step r f ≡ (no_trees, f)
+    go no_trees h = refl
+    go (tree t f) h = absurd (cc)
+
+  pub run-ends : (s t : State) (run r : S) (f : Forest) (q : Place) → Passed s.place run f q r
+      → passing step r (erased_ahead q) ≡ (no_trees, erased_ahead q) → t ≡ moved q s
+      → TakesAs erase (take_run step run) s (Ok f) t
+  unfolding take_run
+  run-ends s t run r f q so e m =
+      let all : passing step run (erased_ahead s.place) ≡ (erase f, erased_ahead q) =
+      so.trees ∙ ap (first_of (erase f)) e
+      ∙ ap (λ h. (h, erased_ahead q)) (concat-none (erase f)) in
+      subst (λ u. TakesAs erase (take_run step run) s (Ok f) u) (sym m) (
+        ap (λ x. found x.0 (record (ahead s) { trees = x.1 })) all,
+        (
+          λ i. record {
+            buffer = i.buffer;
+            filled_buffer = i.filled_buffer;
+            reached = so.reached i.buffer i.reached;
+          },
+          so.scope,
+          so.less,
+        ),
+      )

@@ -1,0 +1,50 @@
+-- Runs of trees, by the visible trees ahead.
+use Rattle.std.proofs.Common.{◌≡◌, ◌≤◌, arith}
+use Rattle.std.specs.Prelude.{Option, None, Some, option_map}
+use Rattle.tok_core.specs.Forest.{Tree, Forest, no_trees, tree}
+use Rattle.tok_core.specs.Weight.{weight}
+use Rattle.syn_parse.specs.Takes.{Taking, found}
+use Rattle.syn_parse.specs.Takings.{Lightens}
+use Rattle.syn_parse.specs.TreesAhead.{Ahead}
+
+-- a step takes a run past the first of these trees; where there is none nothing is said
+abbrev pub StepsPast : {S : Type 0} → (S → Tree → Option S) → S → Forest → Option S → Type 0
+StepsPast step s no_trees next = Unit {0}
+StepsPast step s (tree t f) next = next ≡ step s t
+
+-- a tree and those of the run after it, if the run goes on
+abbrev pub onwards : Tree → Forest → Option (Forest × Forest) → Forest × Forest
+onwards t f None = (no_trees, tree t f)
+onwards t f (Some r) = (tree t r.0, r.1)
+
+-- the trees of a run, and those after it
+abbrev pub passing : {S : Type 0} → (S → Tree → Option S) → S → Forest → Forest × Forest
+passing step s no_trees = (no_trees, no_trees)
+passing step s (tree t f) = onwards t f (option_map (λ r. passing step r f) (step s t))
+
+-- the trees of a run
+unfoldable pub take_run : {S : Type 0} → (S → Tree → Option S) → S → Taking Forest
+take_run step s a =
+    found (passing step s a.trees).0 (record a { trees = (passing step s a.trees).1 })
+
+-- a run adds nothing to what is ahead
+passing-lightens : {S : Type 0} (step : S → Tree → Option S) (s : S) (f : Forest)
+    → weight (passing step s f).1 ≤ weight f
+passing-lightens {S} step s no_trees = omega arith
+passing-lightens {S} step s (tree t f) =
+    go (λ r. passing step r f) (λ r. passing-lightens step r f) (step s t) where
+      go : (rest : S → Forest × Forest) → ((r : S) → weight (rest r).1 ≤ weight f)
+          → (o : Option S) → weight (onwards t f (option_map rest o)).1 ≤ weight (tree t f)
+      go rest h None = omega arith
+      go rest h (Some r) = omega (arith, h r)
+
+pub lightens_run : {S : Type 0} (step : S → Tree → Option S) (s : S) → Lightens (take_run step s)
+unfolding take_run
+lightens_run step s = record { less = λ a b v e. go a b v e } where
+  go : (a b : Ahead) (v : Forest)
+      → found (passing step s a.trees).0 (record a { trees = (passing step s a.trees).1 })
+      ≡ found v b
+      → weight b.trees ≤ weight a.trees
+  go a b v e =
+      let k : record a { trees = (passing step s a.trees).1 } ≡ b = cc in
+      rw (← k) (passing-lightens step s a.trees)

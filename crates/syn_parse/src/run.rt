@@ -1,0 +1,47 @@
+//! Runs of trees up to one that ends them.
+ghost use Rattle.std.specs.Prelude.{◌≡◌, Option};
+ghost use Rattle.tok_buffer.specs.Cursors.{place_of};
+ghost use Rattle.tok_buffer.specs.View.{erased_ahead};
+ghost use Rattle.tok_core.specs.Erase.{erase};
+ghost use Rattle.tok_core.specs.Forest.{Tree};
+ghost use Rattle.syn_parse.specs.Runs.{StepsPast, take_run};
+ghost use Rattle.syn_parse.specs.Takes.{TakesAs};
+
+use crate::fault::Result;
+use crate::stream::ParseBuffer;
+use tok_buffer::Cursor;
+use tok_core::TokenStream;
+
+/// What decides how far a run of visible trees goes: a state that each tree leads to the next one.
+/// `Until` in `crates/examples/src/binding.rt` is one.
+pub trait Run: Sized + Copy {
+    // The state after a tree, or nothing if the run ends before it.
+    ghost passes: { Self → Tree → Option Self };
+
+    /// Returns the state after the next visible tree, or `None` if the run ends before it. If no
+    /// visible tree is left, the run ends whatever this returns.
+    fn pass(self, cursor: Cursor<'_>) -> Option<Self>
+        ensures { StepsPast passes self (erased_ahead (place_of cursor.entry)) result };
+}
+
+impl<'a> ParseBuffer<'a> {
+    /// Parses the trees of a run. A run may have none.
+    pub fn parse_run<R: Run>(&mut self, run: R) -> Result<TokenStream>
+        ensures { TakesAs erase (take_run R.passes run) self.old result self.new }
+    {
+        let alloc = self.allocator();
+        let mut tokens = TokenStream::new(alloc);
+        let mut state = run;
+        let mut rest = self.cursor();
+        while let Some(next) = state.pass(rest) {
+            let Some((tree, after)) = rest.visible_tree(alloc)? else {
+                break;
+            };
+            tokens.append(tree)?;
+            state = next;
+            rest = after;
+        }
+        self.move_to(rest);
+        Ok(tokens)
+    }
+}
