@@ -335,6 +335,13 @@ pub struct Paused<'a> {
 impl<'a> Paused<'a> {
     ghost use Rattle.syn_parse.specs.Pauses.{paused_state};
 
+    /// Returns the cursor at the place where the stream was paused.
+    pub fn cursor(&self) -> Cursor<'a>
+        ensures { place_of result ≡ (paused_state self.now).place }
+    {
+        self.cursor
+    }
+
     /// Returns the stream, as it was when it was paused.
     pub fn resume(self) -> ParseBuffer<'a>
         ensures { result ≡ paused_state self.entry }
