@@ -1,14 +1,15 @@
 -- Commands on a fork, and the same commands on its stream.
-use Rattle.std.specs.Prelude.{◌≡◌, ℕ, ◌+◌, ◌-◌, ◌==◌, ◌&&◌, ◌||◌, not, nat_le, Bool, true, false, cond}
-use Rattle.std.specs.Prelude.{List, length, map}
-use Rattle.std.specs.List.{list_all}
+use Rattle.std.specs.Prelude.{◌≡◌, ℕ, ◌+◌, ◌==◌, ◌&&◌, ◌||◌, not, nat_le, Bool, true, false, cond}
+use Rattle.std.specs.Prelude.{List, Option, drop, length, map}
+use Rattle.std.specs.List.{list_all, slice_get}
+use Rattle.std.specs.Option.{option_map}
 use Rattle.tok_core.specs.Forest.{Forest}
 use Rattle.tok_buffer.specs.Order.{same_scope}
 use Rattle.syn_replay.specs.Commands.{Action, Command, on, fork, advance, discard, close}
 use Rattle.syn_replay.specs.Reports.{Answer, Line, done, entered, forked}
-use Rattle.syn_replay.specs.Session.State.{State, contents_ended, first_state}
-use Rattle.syn_replay.specs.Session.State.{is_open_content_of, stream_at}
-use Rattle.syn_replay.specs.Session.Step.{place_of, step, tested}
+use Rattle.syn_replay.specs.Session.State.{Stream, State, content_of, first_state, is_open_at}
+use Rattle.syn_replay.specs.Session.State.{kind_at, left_from, with_note}
+use Rattle.syn_replay.specs.Session.Step.{Stepped, place_of, step}
 use Rattle.syn_replay.specs.Session.Walk.{last_state, lines_from}
 
 -- of a stream, and the number of the next stream that is made
@@ -52,42 +53,51 @@ answer_on_fork a = a
 abbrev pub line_on_fork : Line → Line
 line_on_fork l = record l { answer = answer_on_fork l.answer }
 
-abbrev pub is_open_at : State → ℕ → Bool
-is_open_at st n = tested false (λ s. s.is_open) (stream_at st n)
-
--- the contents that the commands made from the stream and left open are closed
-abbrev pub made_closed : ℕ → (made : ℕ) → State → State
-made_closed stream made st = contents_ended false (length st - made) stream made st
-
--- the commands close all contents that they make from the stream
-abbrev pub ClosesAll : State → ℕ → List Command → Type 0
-ClosesAll st stream commands =
-    (n : ℕ) → nat_le (length st) n ≡ true
-    → is_open_content_of stream (stream_at (last_state st commands) n) ≡ false
-
--- The commands run on a fork, and the stream advances to it. The answers and the places are those
--- of a run on the stream, but for the numbers of streams. If the fork is in the stream's scope, the
--- stream ends where such a run ends, with its leftover. Contents that are left open are closed.
-pub record IsFollowed (st : State) (stream : ℕ) (commands : List Command) : Type 0 where
-  pub lines :
-      lines_from (step (on stream fork) st).state
+-- commands that run on a fork of a stream, to which it then advances, and on the stream itself
+module _ (st : State) (stream : ℕ) (commands : List Command) where
+  -- the streams after the commands on the fork
+  abbrev pub tried : State
+  tried =
+      last_state (step (on stream fork) st).state
       (map (command_on_fork stream (length st)) commands)
-      ≡ map line_on_fork (lines_from st commands)
-  pub done :
-      let tried = last_state (step (on stream fork) st).state
-      (map (command_on_fork stream (length st)) commands) in
-      same_scope (place_of (stream_at tried stream)) (place_of (stream_at tried (length st))) ≡ true
-      → (step (on stream (advance (length st))) tried).answer ≡ done
-  pub stream_after :
-      let tried = last_state (step (on stream fork) st).state
-      (map (command_on_fork stream (length st)) commands) in
-      same_scope (place_of (stream_at tried stream)) (place_of (stream_at tried (length st))) ≡ true
-      → stream_at (step (on stream (advance (length st))) tried).state stream
-      ≡ stream_at (made_closed stream (length st) (last_state st commands)) stream
-  pub if_closed :
-      ClosesAll st stream commands
-      → stream_at (made_closed stream (length st) (last_state st commands)) stream
-      ≡ stream_at (last_state st commands) stream
+
+  -- the streams after the commands on the stream
+  abbrev pub direct : State
+  direct = last_state st commands
+
+  -- the fork is still in the stream's scope
+  abbrev pub InScope : Type 0
+  InScope =
+      same_scope (place_of (slice_get tried stream)) (place_of (slice_get tried (length st)))
+      ≡ true
+
+  -- the stream advances to the fork
+  abbrev pub taken : Stepped
+  taken = step (on stream (advance (length st))) tried
+
+  -- the stream, once the contents that the commands made from it and left open are closed
+  abbrev pub closed : Option Stream
+  closed =
+      option_map (with_note (left_from stream (length st) (drop (length st) direct)))
+      (slice_get direct stream)
+
+  -- the commands close all contents that they make from the stream
+  abbrev pub ClosesAll : Type 0
+  ClosesAll =
+      (n : ℕ) → nat_le (length st) n ≡ true → kind_at direct n ≡ content_of stream
+      → is_open_at direct n ≡ false
+
+  -- The answers and the places are those of a run on the stream, but for the numbers of streams. If
+  -- the fork is in the stream's scope, the stream ends where such a run ends, with its leftover.
+  -- Contents that are left open are closed.
+  pub record IsFollowed : Type 0 where
+    pub lines :
+        lines_from (step (on stream fork) st).state
+        (map (command_on_fork stream (length st)) commands)
+        ≡ map line_on_fork (lines_from st commands)
+    pub done : InScope → taken.answer ≡ done
+    pub stream_after : InScope → slice_get taken.state stream ≡ closed
+    pub if_closed : ClosesAll → closed ≡ slice_get direct stream
 
 abbrev pub ForksFollowCommands : Type 0
 ForksFollowCommands =

@@ -73,7 +73,7 @@ answer_of answer.Done = spec.done
 answer_of (answer.At s) = spec.shown s
 answer_of (answer.Trees f) = spec.trees f
 answer_of (answer.Refused e) = spec.refused (first_message e)
-answer_of (answer.Unfit n) = spec.unfit n
+answer_of (answer.Misused m) = spec.misused m
 
 -- the error of an answer is one message
 abbrev pub IsPlain : answers.Answer → Type 0

@@ -1,24 +1,16 @@
 -- Streams inside another, and what ends with it.
-use Rattle.std.specs.Prelude.{◌≡◌, ℕ, ◌<◌, ◌&&◌, not, Bool, true, false, cond, List}
+use Rattle.std.specs.Prelude.{◌≡◌, ℕ, ◌<◌, ◌&&◌, not, true, List}
 use Rattle.std.specs.Option.{option_map}
 use Rattle.tok_core.specs.Forest.{Forest}
 use Rattle.syn_replay.specs.Commands.{Command, on, advance, discard, close}
-use Rattle.syn_replay.specs.Forks.{is_open_at}
 use Rattle.syn_replay.specs.Reports.{done}
-use Rattle.syn_replay.specs.Session.State.{Stream, StreamKind, content_of, State, first_state}
-use Rattle.syn_replay.specs.Session.State.{stream_at, kind_at, spent, closed_inside, is_inside}
-use Rattle.syn_replay.specs.Session.State.{is_or_inside}
+use Rattle.syn_replay.specs.Session.State.{content_of, State, first_state}
+use Rattle.syn_replay.specs.Session.State.{is_entered_from, spent_if, kind_at, closed_inside}
+use Rattle.syn_replay.specs.Session.State.{is_inside}
+use Rattle.std.specs.List.{slice_get}
+use Rattle.syn_replay.specs.Session.State.{is_open_at, is_or_inside}
 use Rattle.syn_replay.specs.Session.Step.{step}
 use Rattle.syn_replay.specs.Session.Walk.{last_state}
-
--- a stream of this kind was entered from a stream whose number passes the test
-abbrev pub is_entered_from : (ℕ → Bool) → StreamKind → Bool
-is_entered_from test (content_of p) = test p
-is_entered_from test kind = false
-
--- a stream is spent if the test is true, and stays as it was otherwise
-abbrev pub spent_if : Bool → Stream → Stream
-spent_if b s = cond b (spent s) s
 
 -- after a command that is done, a stream is open if it was and is neither this one nor inside it
 abbrev pub EndsWithin : State → Command → ℕ → Type 0
@@ -38,8 +30,8 @@ pub record InnerStreamsEnd (st : State) : Type 0 where
       is_open_at st n ≡ true → kind_at st n ≡ content_of p → is_open_at st p ≡ true
   -- a discard spends the fork and the streams inside it, and changes nothing else
   pub discarded : (k : ℕ) → (step (on k discard) st).answer ≡ done → (n : ℕ) →
-      stream_at (step (on k discard) st).state n
-      ≡ option_map (spent_if (is_or_inside st k n)) (stream_at st n)
+      slice_get (step (on k discard) st).state n
+      ≡ option_map (spent_if (is_or_inside st k n)) (slice_get st n)
   -- the streams inside one are closed, and no others, as inside stream 0 at the end of a walk
   pub inside_closed : (k n : ℕ) →
       is_open_at (closed_inside k st) n ≡ (is_open_at st n && not (is_inside st k n))

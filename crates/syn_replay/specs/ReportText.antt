@@ -11,9 +11,12 @@ use Rattle.tok_lexical.specs.Delimiters.{opening}
 use Rattle.tok_core.specs.Text.{text}
 use Rattle.tok_buffer.specs.declared.error.Message.{Message}
 use Rattle.syn_replay.specs.Reports.{Piece, Answer, truth, pieces, absent, entered, forked, listed}
-use Rattle.syn_replay.specs.Reports.{found, done, shown, trees, refused, unfit, Position}
+use Rattle.syn_replay.specs.Reports.{found, done, shown, trees, refused, misused, Position}
 use Rattle.syn_replay.specs.Reports.{stands_at, at_empty, missing, Line, Verdict, accepted}
 use Rattle.syn_replay.specs.Reports.{left_over, Report}
+use Rattle.syn_replay.specs.declared.report.Misuse.{Misuse}
+use Rattle.syn_replay.specs.declared.report.Misuse.TheVariants.{NoStream, Spent, NoFork, NoContent}
+use Rattle.syn_replay.specs.declared.report.Misuse.TheVariants.{OutOfScope}
 
 -- a line, with its line feed
 abbrev pub ended : List ℕ → List ℕ
@@ -48,6 +51,14 @@ part_text (p ∷ ps) =
 abbrev pub trees_text : Forest → List ℕ
 trees_text f = cond (has_trees f) (codes " " ++ text f) []
 
+-- a misuse is printed as a number
+abbrev pub misuse_number : Misuse → ℕ
+misuse_number NoStream = 1
+misuse_number Spent = 2
+misuse_number NoFork = 3
+misuse_number NoContent = 4
+misuse_number OutOfScope = 5
+
 abbrev pub answer_text : Answer → List ℕ
 answer_text (truth true) = codes "true"
 answer_text (truth false) = codes "false"
@@ -63,7 +74,7 @@ answer_text (trees f) = codes "trees" ++ trees_text f
 answer_text done = codes "done"
 answer_text (shown span) = codes "span " ++ span_text span
 answer_text (refused r) = message_text r
-answer_text (unfit n) = codes "refused C" ++ decimal n
+answer_text (misused m) = codes "refused C" ++ decimal (misuse_number m)
 
 abbrev pub position_text : Position → List ℕ
 position_text (stands_at n) = codes "@" ++ decimal n

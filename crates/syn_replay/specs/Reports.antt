@@ -4,6 +4,7 @@ use Rattle.tok_lexical.specs.declared.delimiter.Delimiter.{Delimiter}
 use Rattle.tok_leaves.specs.declared.span.Span.{Span}
 use Rattle.tok_core.specs.Forest.{Forest}
 use Rattle.tok_buffer.specs.declared.error.Message.{Message}
+use Rattle.syn_replay.specs.declared.report.Misuse.{Misuse}
 
 -- one leaf read: its text and span
 pub record Piece : Type 0 where
@@ -22,7 +23,7 @@ pub data Answer : Type 0 where
   shown : Span → Answer
   trees : Forest → Answer
   refused : Message → Answer
-  unfit : ℕ → Answer
+  misused : Misuse → Answer
 
 pub data Position : Type 0 where
   stands_at : ℕ → Position

@@ -6,5 +6,6 @@ pub mod Step
 pub mod Acceptance
 pub mod Walk
 pub mod Stepping
+pub mod Stream
 pub mod Tracks
 pub mod Links

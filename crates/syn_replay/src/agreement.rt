@@ -27,7 +27,7 @@ fn answers_agree(left: &Answer, right: &Answer) -> bool
         (Answer::At(left), Answer::At(right)) => *left == *right,
         (Answer::Trees(left), Answer::Trees(right)) => same_streams(left, right),
         (Answer::Refused(left), Answer::Refused(right)) => left.as_str() == right.as_str(),
-        (Answer::Unfit(n), Answer::Unfit(m)) => *n == *m,
+        (Answer::Misused(left), Answer::Misused(right)) => *left == *right,
         _ => false,
     }
 }

@@ -16,7 +16,7 @@ impl Command {
     fn is_own(&self, stream: usize, made: usize) -> bool
         ensures { result ≡ spec.is_own_command stream made (command_of self.now) }
     {
-        let (n, _) = self.streams();
+        let n = self.stream_number();
         match self {
             Command::Advance(..) | Command::Discard(_) => false,
             Command::Close(_) => n != stream && is_own(stream, made, n),

@@ -13,5 +13,5 @@ pub use agreement::agree;
 pub use agreement::both::replay_both;
 pub use command::{Command, Kind, Look, Separator, is_transparent};
 pub use forks::is_self_contained;
-pub use report::{Answer, Line, Piece, Position, Report, Verdict};
+pub use report::{Answer, Line, Misuse, Piece, Position, Report, Verdict};
 pub use session::{replay, replay_in};

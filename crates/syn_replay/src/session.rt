@@ -5,24 +5,23 @@ pub mod pieces;
 pub mod reads;
 pub mod stream;
 pub mod streams;
-pub mod table;
 pub mod tokens;
 
 ghost use Rattle.std.specs.Prelude.{◌≡◌, ◌<◌, ◌∷◌, length, Some, None, IfOk, map, true};
-ghost use Rattle.syn_replay.specs.Session.State.{stream_at};
+ghost use Rattle.std.specs.List.{slice_get};
 ghost use Rattle.syn_replay.specs.Session.Step as spec;
-ghost use Rattle.syn_replay.specs.Session.Step.{any_of, is_missing, is_spent, named, on_stream, place_of, step, position_in, with_other};
+ghost use Rattle.syn_replay.specs.Session.Step.{position_in, step, step_on};
 ghost use Rattle.syn_replay.specs.Session.Acceptance.{IsExact};
-ghost use Rattle.syn_replay.specs.Session.Walk.{walk, stream_verdict};
+ghost use Rattle.syn_replay.specs.Session.Walk.{verdict, walk};
 ghost use Rattle.syn_replay.specs.Session.Reading.{is_read};
 ghost use Rattle.syn_replay.specs.Commands.{command_of};
 ghost use Rattle.syn_replay.specs.Meanings.{position_of, verdict_of, report_of};
 ghost use Rattle.syn_replay.specs.Session.Stepping.{IsStepped, IsLine, HasRun, IsPlainVerdict, ArePlain, stands};
-ghost use Rattle.syn_replay.specs.Session.Tracks.{stream_of, state_of};
+ghost use Rattle.syn_replay.specs.Session.Stream.{stream_of};
+ghost use Rattle.syn_replay.specs.Session.Tracks.{state_of};
 
 use crate::command::Command;
-use crate::report::{Answer, Line, Position, Report, Verdict};
-use crate::session::stream::Stream;
+use crate::report::{Answer, Line, Misuse, Position, Report, Verdict};
 use crate::session::streams::Streams;
 use std::alloc::{AllocError, Global};
 use syn_parse::{Fault, tokens_to_parse_buffer};
@@ -30,148 +29,76 @@ use tok_buffer::TokenBuffer;
 use tok_core::{Span, TokenStream};
 
 // Runs a command that concerns stream `n` alone.
-fn read<'a>(
-    streams: &mut Streams<'a>,
-    n: usize,
-    stream: Stream<'a>,
-    command: &Command,
-) -> Result<Answer, AllocError>
-    requires here { stream_at (state_of streams.old) n ≡ Some (stream_of stream) }
+fn read<'a>(streams: &mut Streams<'a>, n: usize, command: &Command) -> Result<Answer, AllocError>
+    requires here { n < length (state_of streams.old) }
     requires read { is_read (command_of command.now).action ≡ true }
     ensures { IfOk result
         (λ a. IsStepped a (state_of streams.new)
-        (on_stream (command_of command.now).action (state_of streams.old) n
-        (stream_of stream.entry))) }
+        (step_on (command_of command.now).action (state_of streams.old) n
+        (slice_get (state_of streams.old) n))) }
 {
-    let mut input = stream.paused.resume();
+    let mut input = streams.at(n).paused.resume();
     let answer = reads::answer(&mut input, command);
     streams.put(n, input.pause());
     match answer {
         Ok(answer) => Ok(answer),
-        Err(fault) => table::refused(fault),
+        Err(fault) => streams::refused(fault),
     }
 }
 
-// Runs a command whose streams are open and of the right kinds.
+// Runs a command that fits its streams.
+#[tactic(auto, using(crate::proofs::Walk::Misuse::own_there))]
 fn act<'a>(streams: &mut Streams<'a>, command: &Command) -> Result<Answer, AllocError>
     requires { spec.misuse (command_of command.now) (state_of streams.old) ≡ None }
     ensures { IfOk result
         (λ a. IsStepped a (state_of streams.new)
         (step (command_of command.now) (state_of streams.old))) }
 {
-    let (n, _) = command.streams();
-    let stream = *streams.at(n);
+    let n = command.stream_number();
     match command {
-        Command::Enter(_, delimiter) => table::enter(streams, n, stream, Some(*delimiter)),
-        Command::EnterAny(_) => table::enter(streams, n, stream, None),
-        Command::Fork(_) => table::fork(streams, n, stream),
-        Command::Advance(_, fork) => Ok(table::advance(streams, n, stream, *fork)),
+        Command::Enter(_, delimiter) => streams.enter(n, Some(*delimiter)),
+        Command::EnterAny(_) => streams.enter(n, None),
+        Command::Fork(_) => streams.fork(n),
+        Command::Advance(_, fork) => Ok(streams.advance(n, *fork)),
         Command::Discard(_) => {
-            streams.discard(n);
+            streams.end(n);
             Ok(Answer::Done)
         }
         Command::Close(_) => {
             streams.close(n);
             Ok(Answer::Done)
         }
-        _ => read(streams, n, stream, command),
-    }
-}
-
-// Returns `true` if one of these streams doesn't exist.
-fn any_missing<'a>(streams: &Streams<'a>, n: usize, other: Option<usize>) -> bool
-    ensures { result ≡ any_of (is_missing (state_of streams.now)) (with_other n other) }
-{
-    match other {
-        None => streams.get(n).is_none(),
-        Some(other) => streams.get(n).is_none() || streams.get(other).is_none(),
-    }
-}
-
-fn is_spent<'a>(streams: &Streams<'a>, n: usize) -> bool
-    ensures { result ≡ is_spent (state_of streams.now) n }
-{
-    match streams.get(n) {
-        None => false,
-        Some(stream) => !stream.is_open,
-    }
-}
-
-// Returns `true` if one of these streams has ended.
-fn any_spent<'a>(streams: &Streams<'a>, n: usize, other: Option<usize>) -> bool
-    ensures { result ≡ any_of (is_spent (state_of streams.now)) (with_other n other) }
-{
-    match other {
-        None => is_spent(streams, n),
-        Some(other) => is_spent(streams, n) || is_spent(streams, other),
-    }
-}
-
-fn is_fork<'a>(streams: &Streams<'a>, n: usize) -> bool
-    ensures { result ≡ spec.of_kind spec.is_fork (state_of streams.now) n }
-{
-    match streams.get(n) {
-        None => false,
-        Some(stream) => stream.is_fork && stream.links.parent.is_none(),
-    }
-}
-
-fn is_content<'a>(streams: &Streams<'a>, n: usize) -> bool
-    ensures { result ≡ spec.of_kind spec.is_content (state_of streams.now) n }
-{
-    match streams.get(n) {
-        None => false,
-        Some(stream) => stream.links.parent.is_some(),
-    }
-}
-
-// Returns the reason if a stream isn't of the kind that the command needs.
-fn kind_misuse<'a>(streams: &Streams<'a>, command: &Command) -> Option<u8>
-    ensures { result
-        ≡ spec.kind_misuse (command_of command.now).action (state_of streams.now)
-        (command_of command.now).stream }
-{
-    match command {
-        Command::Advance(_, fork) | Command::Discard(fork) => {
-            if is_fork(streams, *fork) {
-                None
-            } else {
-                Some(3)
-            }
-        }
-        Command::Close(content) => {
-            if is_content(streams, *content) {
-                None
-            } else {
-                Some(4)
-            }
-        }
-        _ => None,
+        _ => read(streams, n, command),
     }
 }
 
 // Returns the first reason why the command doesn't fit its streams.
-fn misuse<'a>(streams: &Streams<'a>, command: &Command) -> Option<u8>
+fn misuse<'a>(streams: &Streams<'a>, command: &Command) -> Option<Misuse>
     ensures { result ≡ spec.misuse (command_of command.now) (state_of streams.now) }
 {
-    let (n, other) = command.streams();
-    if any_missing(streams, n, other) {
-        Some(1)
-    } else if any_spent(streams, n, other) {
-        Some(2)
-    } else {
-        kind_misuse(streams, command)
-    }
-}
-
-fn answer_to<'a>(streams: &mut Streams<'a>, command: &Command) -> Result<Answer, AllocError>
-    ensures { IfOk result
-        (λ a. IsStepped a (state_of streams.new)
-        (step (command_of command.now) (state_of streams.old))) }
-{
-    match misuse(streams, command) {
-        Some(number) => Ok(Answer::Unfit(number)),
-        None => act(streams, command),
+    let stream = streams.get(command.stream_number());
+    match command {
+        Command::Advance(_, fork) => match (stream, streams.get(*fork)) {
+            (Some(stream), Some(fork)) => {
+                if !stream.is_open || !fork.is_open {
+                    Some(Misuse::Spent)
+                } else if !fork.is_fork() {
+                    Some(Misuse::NoFork)
+                } else {
+                    None
+                }
+            }
+            _ => Some(Misuse::NoStream),
+        },
+        _ => match stream {
+            None => Some(Misuse::NoStream),
+            Some(stream) if !stream.is_open => Some(Misuse::Spent),
+            Some(stream) => match command {
+                Command::Discard(_) if !stream.is_fork() => Some(Misuse::NoFork),
+                Command::Close(_) if !stream.is_content() => Some(Misuse::NoContent),
+                _ => None,
+            },
+        },
     }
 }
 
@@ -180,10 +107,22 @@ fn position<'a>(streams: &Streams<'a>, n: usize) -> Position
 {
     match streams.get(n) {
         None => Position::Missing,
-        Some(stream) => match stream.cursor().position() {
+        Some(stream) => match stream.paused.cursor().position() {
             None => Position::Empty,
             Some(n) => Position::At(n),
         },
+    }
+}
+
+// Returns the position of a command that doesn't fit its streams.
+fn misplaced<'a>(streams: &Streams<'a>, command: &Command, misuse: Misuse) -> Position
+    requires { spec.misuse (command_of command.now) (state_of streams.now) ≡ Some misuse }
+    ensures { position_of result
+        ≡ position_in (command_of command.now) (state_of streams.now) (state_of streams.now) }
+{
+    match misuse {
+        Misuse::NoStream => Position::Missing,
+        _ => position(streams, command.stream_number()),
     }
 }
 
@@ -191,15 +130,17 @@ fn line<'a>(streams: &mut Streams<'a>, command: &Command) -> Result<Line, AllocE
     ensures { IfOk result
         (λ l. IsLine l (state_of streams.new) (state_of streams.old) command.now) }
 {
-    let (n, other) = command.streams();
-    let is_missing = any_missing(streams, n, other);
-    let answer = answer_to(streams, command)?;
-    let position = if is_missing {
-        Position::Missing
-    } else {
-        position(streams, n)
-    };
-    Ok(Line { answer, position })
+    match misuse(streams, command) {
+        Some(misuse) => Ok(Line {
+            answer: Answer::Misused(misuse),
+            position: misplaced(streams, command, misuse),
+        }),
+        None => {
+            let answer = act(streams, command)?;
+            let position = position(streams, command.stream_number());
+            Ok(Line { answer, position })
+        }
+    }
 }
 
 fn run<'a>(
@@ -219,10 +160,9 @@ fn run<'a>(
 
 fn verdict<'a>(streams: &Streams<'a>) -> Result<Verdict, AllocError>
     ensures { IfOk result
-        (λ v. (verdict_of v ≡ stream_verdict (stream_at (state_of streams.now) 0))
-        × IsPlainVerdict v) }
+        (λ v. (verdict_of v ≡ verdict (state_of streams.now)) × IsPlainVerdict v) }
 {
-    match streams.whole().paused.resume().finish() {
+    match streams.gathered(0).finish() {
         Ok(()) => Ok(Verdict::Accepted),
         Err(Fault::Refused(error)) => Ok(Verdict::Refused(error)),
         Err(Fault::Memory(error)) => Err(error),
@@ -252,7 +192,6 @@ pub fn replay_in(
     let whole = tokens_to_parse_buffer(alloc, buffer, Span::call_site());
     let mut streams = Streams::new(alloc, whole.pause())?;
     let lines = run(alloc, &mut streams, commands)?;
-    streams.close_contents(0);
     let verdict = verdict(&streams)?;
     Ok(Report { lines, verdict })
 }

@@ -8,7 +8,7 @@ pub use syn_parse::{
 };
 pub use syn_punctuated as punctuated;
 pub use syn_replay::{
-    Answer, Command, Kind, Line, Look, Piece, Position, Report, Separator, Verdict, agree,
+    Answer, Command, Kind, Line, Look, Misuse, Piece, Position, Report, Separator, Verdict, agree,
     is_self_contained, is_transparent, replay, replay_both,
 };
 pub use tok_buffer::{Error, Lifetime, LifetimeFault, error};

@@ -31,8 +31,12 @@ use Rattle.syn_replay.specs.Commands.{taken, parsed, listed_to, looked, read_ans
 use Rattle.syn_replay.specs.Commands.{all_ignore_invisible}
 use Rattle.syn_replay.specs.Commands.{is_transparent_read}
 use Rattle.syn_replay.specs.Reports.{Answer, truth, pieces, absent, entered, forked}
-use Rattle.syn_replay.specs.Reports.{listed, found, unfit}
-use Rattle.syn_replay.specs.Session.State.{Stream, StreamKind, content_of, a_fork, State, stream_at}
+use Rattle.syn_replay.specs.Reports.{listed, found, misused}
+use Rattle.syn_replay.specs.declared.report.Misuse.{Misuse}
+use Rattle.syn_replay.specs.declared.report.Misuse.TheVariants.{NoStream, Spent, NoFork, NoContent}
+use Rattle.syn_replay.specs.declared.report.Misuse.TheVariants.{OutOfScope}
+use Rattle.syn_replay.specs.Session.State.{Stream, StreamKind, content_of, a_fork, State}
+use Rattle.std.specs.List.{slice_get}
 use Rattle.syn_replay.specs.Session.State.{with_stream, moved_to, is_inside}
 use Rattle.syn_replay.specs.Session.Step.{Stepped, stays, new_stream, into_group, place_of, tested}
 use Rattle.syn_replay.specs.Session.Step.{on_stream, named, is_missing, is_spent, step_on, step}
@@ -40,10 +44,10 @@ use Rattle.syn_replay.specs.Session.Step.{any_of, is_fork, is_content, of_kind, 
 use Rattle.syn_replay.specs.Session.Step.{misuse}
 use Rattle.syn_replay.specs.Turns.{Outcome, read_all, refused_at, pieces_of, turns, turns_left}
 use Rattle.syn_replay.proofs.Views.ListTurns.{OutcomesAlike, alike-turns, alike-turns_left}
-use Rattle.syn_replay.proofs.Views.Streams.{StreamsAlike, BothAlike, StatesAlike, alike-stream_at}
+use Rattle.syn_replay.proofs.Views.Streams.{StreamsAlike, BothAlike, StatesAlike, alike-slice_get}
 use Rattle.syn_replay.proofs.Views.Streams.{alike-length, alike-append, alike-with_stream}
 use Rattle.syn_replay.proofs.Views.Streams.{alike-moved}
-use Rattle.syn_replay.proofs.Views.Streams.{alike-closed, alike-advanced, alike-all_spent}
+use Rattle.syn_replay.proofs.Views.Streams.{alike-closed, alike-advanced, alike-ended}
 use Rattle.syn_replay.proofs.Views.Streams.{same-inside}
 use Rattle.syn_replay.proofs.Views.Choices.{either}
 
@@ -186,19 +190,19 @@ module _ (f g : Laid) where
     }
     alike-on_stream (advance m) e =
         either StepsAlike
-        (same_scope s.place (place_of (stream_at st m)) && not (k == m || is_inside st m k))
-        (same_scope t.place (place_of (stream_at su m)) && not (k == m || is_inside su m k))
+        (same_scope s.place (place_of (slice_get st m)) && not (k == m || is_inside st m k))
+        (same_scope t.place (place_of (slice_get su m)) && not (k == m || is_inside su m k))
         _
         _
-        (stays st (unfit 5))
-        (stays su (unfit 5))
+        (stays st (misused OutOfScope))
+        (stays su (misused OutOfScope))
         (ap₂ (λ x y. x && not (k == m || y))
-        (same-fork (stream_at st m) (stream_at su m) (alike-stream_at f g st su m h))
+        (same-fork (slice_get st m) (slice_get su m) (alike-slice_get f g st su m h))
         (same-inside f g st su m k h))
         (record { answer = refl; state = alike-advanced f g k m st su h })
         (record { answer = refl; state = h })
     alike-on_stream discard e =
-        record { answer = refl; state = alike-all_spent f g k st su h }
+        record { answer = refl; state = alike-ended f g k st su h }
     alike-on_stream close e =
         record { answer = refl; state = alike-closed f g k st su h }
 
@@ -218,17 +222,17 @@ module _ (f g : Laid) where
   module _ (st su : State) (h : StatesAlike f g st su) where
     same-test : (without : Bool) (test : Stream → Bool)
         → ((s t : Stream) → StreamsAlike f g s t → test s ≡ test t) → (k : ℕ)
-        → tested without test (stream_at st k) ≡ tested without test (stream_at su k)
+        → tested without test (slice_get st k) ≡ tested without test (slice_get su k)
     same-test without test e k =
-        same-tested without test e (stream_at st k) (stream_at su k) (alike-stream_at f g st su k h)
+        same-tested without test e (slice_get st k) (slice_get su k) (alike-slice_get f g st su k h)
 
     of_same_kind : (test : StreamKind → Bool) (k : ℕ) → of_kind test st k ≡ of_kind test su k
     of_same_kind test k = same-test false (λ s. test s.kind) (λ s t i. ap test i.kind) k
 
     same-kind_misuse : (a : Action) (k : ℕ) → kind_misuse a st k ≡ kind_misuse a su k
-    same-kind_misuse (advance m) k = ap (λ b. cond b None (Some 3)) (of_same_kind is_fork m)
-    same-kind_misuse discard k = ap (λ b. cond b None (Some 3)) (of_same_kind is_fork k)
-    same-kind_misuse close k = ap (λ b. cond b None (Some 4)) (of_same_kind is_content k)
+    same-kind_misuse (advance m) k = ap (λ b. cond b None (Some NoFork)) (of_same_kind is_fork m)
+    same-kind_misuse discard k = ap (λ b. cond b None (Some NoFork)) (of_same_kind is_fork k)
+    same-kind_misuse close k = ap (λ b. cond b None (Some NoContent)) (of_same_kind is_content k)
     same-kind_misuse a k = refl
 
     same-misuse : (c : Command) → misuse c st ≡ misuse c su
@@ -240,10 +244,12 @@ module _ (f g : Laid) where
         same-any_of (is_spent st) (is_spent su)
         (same-test false (λ s. not s.is_open) (λ s t i. ap not i.is_open)) (named c) in
         ap
-        (λ b. cond b (Some 1)
-        (cond (any_of (is_spent st) (named c)) (Some 2) (kind_misuse c.action st c.stream)))
+        (λ b. cond b (Some NoStream)
+        (cond (any_of (is_spent st) (named c)) (Some Spent) (kind_misuse c.action st c.stream)))
         missing
-        ∙ ap₂ (λ b r. cond (any_of (is_missing su) (named c)) (Some 1) (cond b (Some 2) r)) over
+        ∙ ap₂
+        (λ b r. cond (any_of (is_missing su) (named c)) (Some NoStream) (cond b (Some Spent) r))
+        over
         (same-kind_misuse c.action c.stream)
 
     alike-step_on : (c : Action) → is_transparent_action c ≡ true → (k : ℕ) (a b : Option Stream)
@@ -253,9 +259,9 @@ module _ (f g : Laid) where
     alike-step_on c e k (Some s) None i = absurd i
     alike-step_on c e k (Some s) (Some t) i = alike-on_stream st su h k s t i c e
 
-    either-misuse : (a b : Option ℕ) (x y : Stepped) → a ≡ b → StepsAlike x y
-        → StepsAlike (elim a [ Some n ↦ stays st (unfit n) | None ↦ x ])
-        (elim b [ Some n ↦ stays su (unfit n) | None ↦ y ])
+    either-misuse : (a b : Option Misuse) (x y : Stepped) → a ≡ b → StepsAlike x y
+        → StepsAlike (elim a [ Some n ↦ stays st (misused n) | None ↦ x ])
+        (elim b [ Some n ↦ stays su (misused n) | None ↦ y ])
     either-misuse None None x y e i = i
     either-misuse None (Some n) x y e i = absurd (cc)
     either-misuse (Some m) None x y e i = absurd (cc)
@@ -265,6 +271,6 @@ module _ (f g : Laid) where
     alike-step c e =
         let a = c.action in
         let k = c.stream in
-        either-misuse (misuse c st) (misuse c su) (step_on a st k (stream_at st k))
-        (step_on a su k (stream_at su k)) (same-misuse c)
-        (alike-step_on a e k (stream_at st k) (stream_at su k) (alike-stream_at f g st su k h))
+        either-misuse (misuse c st) (misuse c su) (step_on a st k (slice_get st k))
+        (step_on a su k (slice_get su k)) (same-misuse c)
+        (alike-step_on a e k (slice_get st k) (slice_get su k) (alike-slice_get f g st su k h))

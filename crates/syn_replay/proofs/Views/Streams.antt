@@ -1,6 +1,6 @@
 -- Streams of two walks that are alike: at places with equal views, with equal spans of what is
 -- noted.
-use Rattle.std.proofs.Common.{◌≡◌, ◌∙◌, ap, ap₂, subst, refl, ℕ, zero, suc, ◌+◌, ◌-◌, ◌==◌, ◌&&◌}
+use Rattle.std.proofs.Common.{◌≡◌, ◌∙◌, ap, ap₂, subst, refl, ℕ, zero, suc, ◌+◌, ◌==◌, ◌&&◌}
 use Rattle.std.proofs.Common.{◌||◌}
 use Rattle.std.proofs.Common.{Bool, true, false, [], ◌∷◌, ◌++◌, length, Option, Some}
 use Rattle.std.proofs.Common.{None}
@@ -11,15 +11,15 @@ use Rattle.tok_buffer.specs.Buffer.{Laid}
 use Rattle.tok_buffer.specs.Ahead.{Leftover, leftover}
 use Rattle.tok_buffer.specs.Place.{Place}
 use Rattle.tok_buffer.proofs.View.Alike.{Alike, alike-leftover}
+use Rattle.std.specs.List.{slice_get}
+use Rattle.std.specs.Prelude.{cond}
+use Rattle.syn_parse.specs.State as parse
 use Rattle.syn_replay.specs.Session.State.{Stream, StreamKind, outermost, content_of, a_fork, State}
-use Rattle.syn_replay.specs.Session.State.{stream_at, with_stream, moved_to, spent, with_note}
-use Rattle.syn_replay.specs.Session.State.{is_content_of}
-use Rattle.syn_replay.specs.Session.State.{is_open_content_of, kind_at, is_within}
-use Rattle.syn_replay.specs.Session.State.{is_inside, all_spent, handed_note, with_note_on_parent}
-use Rattle.syn_replay.specs.Session.State.{handed_up, ended, contents_ended, ended_inside, closed}
-use Rattle.syn_replay.specs.Session.State.{taken_over, advanced}
-use Rattle.syn_replay.proofs.Walk.Tracks.{handed_with}
-use Rattle.syn_replay.proofs.Views.Choices.{either}
+use Rattle.syn_replay.specs.Session.State.{with_stream, moved_to, spent, spent_if, with_note, put}
+use Rattle.syn_replay.specs.Session.State.{at_rest, with_note_on_parent, is_content_of, kind_at}
+use Rattle.syn_replay.specs.Session.State.{is_entered_from, is_within, is_inside, ended_from, ended}
+use Rattle.syn_replay.specs.Session.State.{left_from, left_inside, handed_note, gathered, closed}
+use Rattle.syn_replay.specs.Session.State.{advanced}
 
 -- a leftover is compared by its span alone
 abbrev pub span_of : Option Leftover → Option Span
@@ -43,13 +43,13 @@ module _ (f g : Laid) where
   StatesAlike (s ∷ st) (t ∷ su) = StreamsAlike s t × StatesAlike st su
   StatesAlike st su = ⊥
 
-  pub alike-stream_at : (st su : State) (k : ℕ) → StatesAlike st su
-      → BothAlike (stream_at st k) (stream_at su k)
-  alike-stream_at [] [] k h = tt
-  alike-stream_at [] (t ∷ su) k h = absurd h
-  alike-stream_at (s ∷ st) [] k h = absurd h
-  alike-stream_at (s ∷ st) (t ∷ su) zero h = h.0
-  alike-stream_at (s ∷ st) (t ∷ su) (suc k) h = alike-stream_at st su k h.1
+  pub alike-slice_get : (st su : State) (k : ℕ) → StatesAlike st su
+      → BothAlike (slice_get st k) (slice_get su k)
+  alike-slice_get [] [] k h = tt
+  alike-slice_get [] (t ∷ su) k h = absurd h
+  alike-slice_get (s ∷ st) [] k h = absurd h
+  alike-slice_get (s ∷ st) (t ∷ su) zero h = h.0
+  alike-slice_get (s ∷ st) (t ∷ su) (suc k) h = alike-slice_get st su k h.1
 
   pub alike-length : (st su : State) → StatesAlike st su → length st ≡ length su
   alike-length [] [] h = refl
@@ -114,12 +114,6 @@ module _ (f g : Laid) where
         note = note-or s.note t.note n m k.note e;
       }
 
-  pub alike-handed : (s t : Stream) → StreamsAlike s t
-      → span_of (handed_note s) ≡ span_of (handed_note t)
-  alike-handed s t k =
-      note-or s.note t.note (leftover s.place) (leftover t.place) k.note
-      (alike-leftover f g s.place t.place k.place)
-
   -- Closing.
   noted-kind : (k : StreamKind) (n m : Option Leftover) (st su : State) → span_of n ≡ span_of m
       → StatesAlike st su → StatesAlike (with_note_on_parent k n st) (with_note_on_parent k m su)
@@ -135,77 +129,116 @@ module _ (f g : Laid) where
       subst (λ x. StatesAlike (with_note_on_parent k n st) (with_note_on_parent x m su)) e
       (noted-kind k n m st su i h)
 
-  alike-handed_up : (k : ℕ) (st su : State) → StatesAlike st su
-      → StatesAlike (handed_up k st) (handed_up k su)
-  alike-handed_up k st su h = go (stream_at st k) (stream_at su k) (alike-stream_at st su k h) where
-    go : (a b : Option Stream) → BothAlike a b
-        → StatesAlike (handed_with k st a) (handed_with k su b)
-    go None None i = h
-    go None (Some t) i = absurd i
-    go (Some s) None i = absurd i
-    go (Some s) (Some t) i =
-        alike-with_stream (with_note_on_parent s.kind (handed_note s) st)
-        (with_note_on_parent t.kind (handed_note t) su) k spent spent alike-spent
-        (noted-parent s.kind t.kind (handed_note s) (handed_note t) st su i.kind
-        (alike-handed s t i) h)
+  -- what is left inside a stream
+  alike-chosen : (b c : Bool) (x y : Option Leftover) → b ≡ c → span_of x ≡ span_of y
+      → span_of (cond b x None) ≡ span_of (cond c y None)
+  alike-chosen true true x y e h = h
+  alike-chosen true false x y e h = cc
+  alike-chosen false true x y e h = cc
+  alike-chosen false false x y e h = refl
 
-  same-content : (k : ℕ) (a b : Option Stream) → BothAlike a b
-      → is_open_content_of k a ≡ is_open_content_of k b
-  same-content k None None h = refl
-  same-content k None (Some t) h = absurd h
-  same-content k (Some s) None h = absurd h
-  same-content k (Some s) (Some t) h = ap₂ (λ x y. x && is_content_of k y) h.is_open h.kind
+  alike-left : (k n : ℕ) (st su : State) → StatesAlike st su
+      → span_of (left_from k n st) ≡ span_of (left_from k n su)
+  alike-left k n [] [] h = refl
+  alike-left k n [] (t ∷ su) h = absurd h
+  alike-left k n (s ∷ st) [] h = absurd h
+  alike-left k n (s ∷ st) (t ∷ su) h =
+      let i = h.0 in
+      note-or _ _ (left_from k (n + 1) st) (left_from k (n + 1) su)
+      (alike-chosen (s.is_open && is_content_of k s.kind) (t.is_open && is_content_of k t.kind) _ _
+      (ap₂ (λ x y. x && is_content_of k y) i.is_open i.kind)
+      (note-or _ _ (leftover s.place) (leftover t.place)
+      (note-or s.note t.note (left_from n (n + 1) st) (left_from n (n + 1) su) i.note
+      (alike-left n (n + 1) st su h.1))
+      (alike-leftover f g s.place t.place i.place)))
+      (alike-left k (n + 1) st su h.1)
 
-  alike-ended : (d : Bool) (k : ℕ) (st su : State) → StatesAlike st su
-      → StatesAlike (ended d k st) (ended d k su)
-  alike-ended true k st su h = alike-with_stream st su k spent spent alike-spent h
-  alike-ended false k st su h = alike-handed_up k st su h
+  pub alike-handed : (st su : State) → StatesAlike st su → (k : ℕ) (s t : Stream)
+      → StreamsAlike s t → span_of (handed_note st k s) ≡ span_of (handed_note su k t)
+  alike-handed st su h k s t i =
+      note-or _ _ (leftover s.place) (leftover t.place)
+      (note-or s.note t.note (left_inside st k) (left_inside su k) i.note (alike-left k 0 st su h))
+      (alike-leftover f g s.place t.place i.place)
 
-  alike-contents : (d : Bool) (room k next : ℕ) (st su : State) → StatesAlike st su
-      → StatesAlike (contents_ended d room k next st) (contents_ended d room k next su)
-  alike-contents d zero k next st su h = h
-  alike-contents d (suc room) k next st su h =
-      alike-contents d room k (next + 1) _ _
-      (either StatesAlike (is_open_content_of k (stream_at st next))
-      (is_open_content_of k (stream_at su next)) _ _ st su
-      (same-content k (stream_at st next) (stream_at su next) (alike-stream_at st su next h))
-      (alike-ended d next _ _ (alike-contents d room next (next + 1) st su h)) h)
+  -- streams that end
+  alike-if : (b : Bool) (s t : Stream) → StreamsAlike s t
+      → StreamsAlike (spent_if b s) (spent_if b t)
+  alike-if true s t h = alike-spent s t h
+  alike-if false s t h = h
 
-  pub alike-ended_inside : (d : Bool) (k : ℕ) (st su : State) → StatesAlike st su
-      → StatesAlike (ended_inside d k st) (ended_inside d k su)
-  alike-ended_inside d k st su h =
-      subst (λ n. StatesAlike (ended_inside d k st) (contents_ended d (n - (k + 1)) k (k + 1) su))
-      (alike-length st su h) (alike-contents d (length st - (k + 1)) k (k + 1) st su h)
+  alike-from : (ends : ℕ → Bool) (n : ℕ) (st su : State) → StatesAlike st su
+      → StatesAlike (ended_from ends n st) (ended_from ends n su)
+  alike-from ends n [] [] h = tt
+  alike-from ends n [] (t ∷ su) h = absurd h
+  alike-from ends n (s ∷ st) [] h = absurd h
+  alike-from ends n (s ∷ st) (t ∷ su) h =
+      let b = s.is_open && (ends n || is_entered_from ends s.kind) in
+      let same : b ≡ (t.is_open && (ends n || is_entered_from ends t.kind)) =
+      ap₂ (λ x y. x && (ends n || is_entered_from ends y)) h.0.is_open h.0.kind in
+      subst
+      (λ c. StatesAlike (ended_from ends n (s ∷ st))
+      (spent_if c t ∷ ended_from (λ i. cond (i == n) c (ends i)) (n + 1) su)) same
+      (alike-if b s t h.0, alike-from (λ i. cond (i == n) b (ends i)) (n + 1) st su h.1)
+
+  pub alike-ended : (k : ℕ) (st su : State) → StatesAlike st su
+      → StatesAlike (ended k st) (ended k su)
+  alike-ended k st su h = alike-from (λ n. n == k) 0 st su h
+
+  abbrev closed_with : (k : ℕ) → State → Option Stream → State
+  closed_with k st o =
+      elim o [
+        | None ↦ st
+        | Some s ↦ ended k (with_note_on_parent s.kind (handed_note st k s) st)
+      ]
 
   pub alike-closed : (k : ℕ) (st su : State) → StatesAlike st su
       → StatesAlike (closed k st) (closed k su)
-  alike-closed k st su h = alike-handed_up k _ _ (alike-ended_inside false k st su h)
-
-  pub alike-all_spent : (k : ℕ) (st su : State) → StatesAlike st su
-      → StatesAlike (all_spent k st) (all_spent k su)
-  alike-all_spent k st su h =
-      alike-with_stream _ _ k spent spent alike-spent (alike-ended_inside true k st su h)
+  alike-closed k st su h =
+      go (slice_get st k) (slice_get su k) (alike-slice_get st su k h)
+    where
+      go : (a b : Option Stream) → BothAlike a b
+          → StatesAlike (closed_with k st a) (closed_with k su b)
+      go None None i = h
+      go None (Some t) i = absurd i
+      go (Some s) None i = absurd i
+      go (Some s) (Some t) i =
+          alike-ended k _ _
+          (noted-parent s.kind t.kind (handed_note st k s) (handed_note su k t) st su i.kind
+          (alike-handed st su h k s t i) h)
 
   -- Advancing.
-  alike-taken : (a b : Option Stream) → BothAlike a b → ChangesAlike (taken_over a) (taken_over b)
-  alike-taken None None h s t k = k
-  alike-taken None (Some y) h s t k = absurd h
-  alike-taken (Some x) None h s t k = absurd h
-  alike-taken (Some x) (Some y) h s t k =
-      record {
-        place = h.place;
-        scope_span = k.scope_span;
-        kind = k.kind;
-        is_open = k.is_open;
-        note = note-or s.note t.note x.note y.note k.note h.note;
-      }
+  abbrev advanced_with : (k n : ℕ) → State → Option Stream → State
+  advanced_with k n st o =
+      elim o [
+        | None ↦ st
+        | Some x ↦
+            ended n
+            (with_stream st k
+            (λ s. put (parse.advanced (at_rest (gathered st n x)) (at_rest s)) s))
+      ]
 
   pub alike-advanced : (k n : ℕ) (st su : State) → StatesAlike st su
       → StatesAlike (advanced k n st) (advanced k n su)
   alike-advanced k n st su h =
-      let now = alike-ended_inside false n st su h in
-      alike-with_stream _ _ n spent spent alike-spent
-      (alike-with_stream _ _ k _ _ (alike-taken _ _ (alike-stream_at _ _ n now)) now)
+      go (slice_get st n) (slice_get su n) (alike-slice_get st su n h)
+    where
+      go : (a b : Option Stream) → BothAlike a b
+          → StatesAlike (advanced_with k n st a) (advanced_with k n su b)
+      go None None i = h
+      go None (Some y) i = absurd i
+      go (Some x) None i = absurd i
+      go (Some x) (Some y) i =
+          alike-ended n _ _ (alike-with_stream st su k _ _
+          (λ s t j. record {
+            place = i.place;
+            scope_span = j.scope_span;
+            kind = j.kind;
+            is_open = j.is_open;
+            note =
+                note-or s.note t.note _ _ j.note
+                (note-or x.note y.note (left_inside st n) (left_inside su n) i.note
+                (alike-left n 0 st su h));
+          }) h)
 
   -- What is inside a stream.
   abbrev kind_in : Option Stream → StreamKind
@@ -224,11 +257,11 @@ module _ (f g : Laid) where
   same-within (suc depth) st su outer a_fork h = refl
   same-within (suc depth) st su outer (content_of p) h =
       ap (λ z. p == outer || z) (same-within depth st su outer (kind_at st p) h
-      ∙ ap (is_within depth su outer) (same-kind _ _ (alike-stream_at st su p h)))
+      ∙ ap (is_within depth su outer) (same-kind _ _ (alike-slice_get st su p h)))
 
   pub same-inside : (st su : State) (outer inner : ℕ) → StatesAlike st su
       → is_inside st outer inner ≡ is_inside su outer inner
   same-inside st su outer inner h =
       same-within (length st) st su outer (kind_at st inner) h
       ∙ ap₂ (λ n k. is_within n su outer k) (alike-length st su h)
-      (same-kind _ _ (alike-stream_at st su inner h))
+      (same-kind _ _ (alike-slice_get st su inner h))

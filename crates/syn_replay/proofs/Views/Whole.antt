@@ -1,24 +1,24 @@
 -- Invisible groups do not matter to walks: the proof.
 use Rattle.tok_leaves.specs.Spans.{covering}
-use Rattle.std.proofs.Common.{◌≡◌, ap, refl, true, List, [], ◌∷◌, Option, Some, None, false}
+use Rattle.std.proofs.Common.{◌≡◌, ap, refl, true, List, [], ◌∷◌, Option, Some, None}
 use Rattle.std.proofs.lemmas.Bool.{and_parts}
 use Rattle.tok_core.specs.Forest.{Forest}
 use Rattle.tok_buffer.specs.Buffer.{Laid}
 use Rattle.tok_buffer.specs.Ahead.{Leftover}
 use Rattle.tok_buffer.proofs.View.Alike.{alike-start}
-use Rattle.syn_parse.specs.ErrorWords.{leftover_message}
 use Rattle.syn_replay.specs.Agree.{LinesAgree, VerdictsAgree}
 use Rattle.syn_replay.specs.Commands.{Command}
-use Rattle.syn_replay.specs.Reports.{accepted, left_over}
+use Rattle.syn_replay.specs.Reports.{Verdict, accepted}
 use Rattle.syn_replay.specs.Transparent.{is_transparent, all_transparent, DifferInInvisibleGroups}
 use Rattle.syn_replay.specs.Transparent.{InvisibleGroupsDoNotMatter}
-use Rattle.syn_replay.specs.Session.State.{Stream, State, first_state, stream_at, closed_inside}
+use Rattle.syn_replay.specs.Session.State.{Stream, State, first_state}
+use Rattle.std.specs.List.{slice_get}
 use Rattle.syn_replay.specs.Session.State.{handed_note}
 use Rattle.syn_replay.specs.Session.Step.{step}
-use Rattle.syn_replay.specs.Session.Walk.{lines_from, last_state, stream_verdict, verdict}
+use Rattle.syn_replay.specs.Session.Walk.{lines_from, last_state, verdict, verdict_on}
 use Rattle.syn_replay.proofs.Views.Steps.{alike-step}
 use Rattle.syn_replay.proofs.Views.Streams.{BothAlike, StatesAlike, span_of, alike-handed}
-use Rattle.syn_replay.proofs.Views.Streams.{alike-stream_at, alike-ended_inside}
+use Rattle.syn_replay.proofs.Views.Streams.{alike-slice_get}
 
 module _ (f g : Laid) where
   lines-agree : (cs : List Command) → all_transparent cs ≡ true → (st su : State)
@@ -38,27 +38,28 @@ module _ (f g : Laid) where
       (alike-step f g st su h c parts.0).state
 
   left-agree : (a b : Option Leftover) → span_of a ≡ span_of b
-      → VerdictsAgree (elim a [ None ↦ accepted | Some l ↦ left_over (leftover_message l) ])
-      (elim b [ None ↦ accepted | Some l ↦ left_over (leftover_message l) ])
+      → VerdictsAgree (verdict_on a) (verdict_on b)
   left-agree None None e = tt
   left-agree None (Some l) e = absurd (cc)
   left-agree (Some l) None e = absurd (cc)
   left-agree (Some l) (Some k) e =
       let same : l.span ≡ k.span = cc in ap (λ s. covering s s) same
 
-  stream-agrees : (a b : Option Stream) → BothAlike f g a b
-      → VerdictsAgree (stream_verdict a) (stream_verdict b)
-  stream-agrees None None h = tt
-  stream-agrees None (Some t) h = absurd h
-  stream-agrees (Some s) None h = absurd h
-  stream-agrees (Some s) (Some t) h =
-      left-agree (handed_note s) (handed_note t) (alike-handed f g s t h)
+  abbrev verdict_with : State → Option Stream → Verdict
+  verdict_with st o =
+      elim o [ None ↦ accepted | Some s ↦ verdict_on (handed_note st 0 s) ]
 
   verdicts-agree : (st su : State) → StatesAlike f g st su → VerdictsAgree (verdict st) (verdict su)
   verdicts-agree st su h =
-      stream-agrees (stream_at (closed_inside 0 st) 0) (stream_at (closed_inside 0 su) 0)
-      (alike-stream_at f g (closed_inside 0 st) (closed_inside 0 su) 0
-      (alike-ended_inside f g false 0 st su h))
+      go (slice_get st 0) (slice_get su 0) (alike-slice_get f g st su 0 h)
+    where
+      go : (a b : Option Stream) → BothAlike f g a b
+          → VerdictsAgree (verdict_with st a) (verdict_with su b)
+      go None None i = tt
+      go None (Some t) i = absurd i
+      go (Some s) None i = absurd i
+      go (Some s) (Some t) i =
+          left-agree (handed_note st 0 s) (handed_note su 0 t) (alike-handed f g st su h 0 s t i)
 
 -- a forest under the buffer number of a walk
 abbrev laid : Forest → Laid

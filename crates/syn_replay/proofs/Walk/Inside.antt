@@ -5,8 +5,8 @@ use Rattle.std.proofs.lemmas.Bool.{ne_eqb, eq-eqb, or_left}
 use Rattle.std.specs.Prelude.{◌==◌, ◌||◌}
 use Rattle.syn_replay.specs.Session.State.{State, content_of, kind_at}
 use Rattle.syn_replay.specs.Session.State.{is_within, is_inside}
-use Rattle.syn_replay.specs.Session.Links.{links_of, AreLinked}
-use Rattle.syn_replay.specs.Session.Tracks.{kind_of, state_of_list}
+use Rattle.syn_replay.specs.Session.Links.{AreListed}
+use Rattle.syn_replay.specs.Session.Stream.{kind_of, state_of_list}
 use Rattle.syn_replay.specs.declared.session.stream.Stream.{Stream}
 use Rattle.syn_replay.proofs.Walk.Links.{parent_below}
 use Rattle.syn_replay.proofs.Walk.Tracks.{stream_there, length-state}
@@ -41,20 +41,20 @@ pub record LeftToLook (xs : List Stream) (outer : ℕ) (next : Option ℕ) (all 
   pub within : (p : ℕ) → next ≡ Some p → p < length xs
   pub rest : is_within depth (state_of_list xs) outer (kind_of false next) ≡ all
 
-module _ (xs : List Stream) (outer : ℕ) (linked : AreLinked (links_of xs)) where
+module _ (xs : List Stream) (outer : ℕ) (linked : AreListed xs) where
   kind_there : (i : ℕ) (x : Stream) → x ≡ get_or xs i x → i < length xs → (depth : ℕ)
-      → is_within depth (state_of_list xs) outer (kind_of false x.links.parent)
+      → is_within depth (state_of_list xs) outer (kind_of false x.parent)
       ≡ is_within depth (state_of_list xs) outer (kind_at (state_of_list xs) i)
   kind_there i x e h depth =
       let st = state_of_list xs in
-      sym (any_fork depth st outer x.is_fork x.links.parent)
+      sym (any_fork depth st outer x.is_fork x.parent)
       ∙ ap (is_within depth st outer)
       (sym (kind_seen st i ∙ ap (λ o. (or_nobody o).kind) (stream_there xs i x e h)))
 
   pub look_first : (i : ℕ) (x : Stream) → x ≡ get_or xs i x → i < length xs
-      → LeftToLook xs outer x.links.parent (is_inside (state_of_list xs) outer i)
+      → LeftToLook xs outer x.parent (is_inside (state_of_list xs) outer i)
   look_first i x e h =
-      let below : (p : ℕ) → x.links.parent ≡ Some p → p < length xs =
+      let below : (p : ℕ) → x.parent ≡ Some p → p < length xs =
       λ p q. let b = parent_below xs i p x linked e h q in omega (arith, b, h) in
       record {
         depth = length (state_of_list xs);
@@ -65,12 +65,12 @@ module _ (xs : List Stream) (outer : ℕ) (linked : AreLinked (links_of xs)) whe
 
   module _ (next : Option ℕ) (all : Bool) (left : LeftToLook xs outer next all) where
     pub look_on : (p : ℕ) (x : Stream) → next ≡ Some p → (p ≡ outer → ⊥) → x ≡ get_or xs p x
-        → LeftToLook xs outer x.links.parent all
+        → LeftToLook xs outer x.parent all
     look_on p x is other e =
         let st = state_of_list xs in
         let h = left.within p is in
         let b = left.enough p is in
-        let below : (q : ℕ) → x.links.parent ≡ Some q → q < p =
+        let below : (q : ℕ) → x.parent ≡ Some q → q < p =
         λ q f. parent_below xs p q x linked e h f in
         record {
           depth = left.depth - 1;
@@ -93,9 +93,9 @@ fall : (i : ℕ) (o : Option ℕ) → ((p : ℕ) → o ≡ Some p → p < i) →
 fall i None h = omega arith
 fall i (Some p) h = let below = h p refl in omega arith
 
-pub falls : (xs : List Stream) (i : ℕ) (x : Stream) → AreLinked (links_of xs) → x ≡ get_or xs i x
-    → i < length xs → (o : Option ℕ) → o ≡ Some i → above x.links.parent < above o
+pub falls : (xs : List Stream) (i : ℕ) (x : Stream) → AreListed xs → x ≡ get_or xs i x
+    → i < length xs → (o : Option ℕ) → o ≡ Some i → above x.parent < above o
 falls xs i x linked e h o is =
-    let less = fall i x.links.parent (λ p q. parent_below xs i p x linked e h q) in
+    let less = fall i x.parent (λ p q. parent_below xs i p x linked e h q) in
     let same : above o ≡ i + 1 = ap above is in
     omega (arith, less, same)

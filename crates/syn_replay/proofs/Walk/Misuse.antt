@@ -1,54 +1,113 @@
--- A command that no test refuses.
+-- A command that fits its streams, and one that does not.
 use Rattle.std.proofs.Common.{◌≡◌, ◌∙◌, ap, sym, refl, ℕ, ◌<◌, Bool, true, false, length, Option}
 use Rattle.std.proofs.Common.{Some, None}
-use Rattle.std.proofs.lemmas.Bool.{or_parts}
-use Rattle.std.specs.Prelude.{◌||◌, cond}
-use Rattle.syn_replay.specs.Commands.{Command}
+use Rattle.std.proofs.lemmas.Bool.{not-false, or_parts}
+use Rattle.std.specs.List.{slice_get}
+use Rattle.std.specs.Prelude.{◌||◌, not, cond}
+use Rattle.syn_replay.specs.Commands.{Action, Command}
 use Rattle.syn_replay.specs.Commands as spec
-use Rattle.syn_replay.specs.Session.State.{State, stream_at}
-use Rattle.syn_replay.specs.Session.State as states
-use Rattle.syn_replay.specs.Session.Step.{any_of, is_missing, is_spent, kind_misuse, misuse, named}
-use Rattle.syn_replay.specs.Session.Step.{other_named, tested, with_other}
-use Rattle.syn_replay.proofs.Walk.Changes.{there_within}
+use Rattle.syn_replay.specs.Reports.{missing}
+use Rattle.syn_replay.specs.declared.report.Misuse.{Misuse}
+use Rattle.syn_replay.specs.declared.report.Misuse.TheVariants.{NoStream, Spent, NoFork, NoContent}
+use Rattle.syn_replay.specs.Session.State.{Stream, State, is_open_at, position_of}
+use Rattle.syn_replay.specs.Session.Step.{any_of, is_fork, is_content, is_missing, is_spent}
+use Rattle.syn_replay.specs.Session.Step.{kind_misuse, misuse, named, of_kind, other_named}
+use Rattle.syn_replay.specs.Session.Step.{position_in, tested, with_other}
+use Rattle.syn_replay.proofs.Walk.Changes.{look, open_seen, open_within, or_nobody}
 
-is_there : (st : State) (n : ℕ) → is_missing st n ≡ false → n < length st
-is_there st n h = go (stream_at st n) refl h where
-  go : (o : Option states.Stream) → stream_at st n ≡ o → tested true (λ s. false) o ≡ false
-      → n < length st
-  go None e q = cc
-  go (Some s) e q = there_within st n s e
+-- what the tests say of the streams that a command names
+cond_none : (b : Bool) (n : Misuse) (rest : Option Misuse) → cond b (Some n) rest ≡ None
+    → (b ≡ false) × (rest ≡ None)
+cond_none true n rest h = cc
+cond_none false n rest h = (refl, h)
 
-none_missing : (c : Command) (st : State) → misuse c st ≡ None
-    → any_of (is_missing st) (named c) ≡ false
-none_missing c st h = go (any_of (is_missing st) (named c)) h where
-  go : (b : Bool) → cond {A =
-      Option ℕ} b (Some 1) (cond (any_of (is_spent st) (named c)) (Some 2)
-      (kind_misuse c.action st c.stream)) ≡ None → b ≡ false
-  go true q = cc
-  go false q = refl
+pub record Fits (c : Command) (st : State) : Type 0 where
+  pub there : any_of (is_missing st) (named c) ≡ false
+  pub is_open : any_of (is_spent st) (named c) ≡ false
+  pub kind : kind_misuse c.action st c.stream ≡ None
 
-first_there : (st : State) (n : ℕ) (other : Option ℕ)
-    → any_of (is_missing st) (with_other n other) ≡ false → n < length st
-first_there st n None h = is_there st n ((or_parts (is_missing st n) false h).0)
-first_there st n (Some m) h =
-    is_there st n ((or_parts (is_missing st n) (is_missing st m || false) h).0)
+pub fits : (c : Command) (st : State) → misuse c st ≡ None → Fits c st
+fits c st h =
+    let (a, rest) =
+    cond_none (any_of (is_missing st) (named c)) NoStream
+    (cond (any_of (is_spent st) (named c)) (Some Spent) (kind_misuse c.action st c.stream)) h in
+    let (b, d) =
+    cond_none (any_of (is_spent st) (named c)) Spent (kind_misuse c.action st c.stream) rest in
+    record { there = a; is_open = b; kind = d }
 
-module _ (c : Command) (st : State) (n : ℕ) (other : Option ℕ) (fits : misuse c st ≡ None)
-    (own : c.stream ≡ n) (others : other_named c.action ≡ other) where
-  none_missing_of : any_of (is_missing st) (with_other n other) ≡ false
-  none_missing_of =
-      ap (λ k. any_of (is_missing st) (with_other k other)) (sym own)
-      ∙ ap (λ o. any_of (is_missing st) (with_other c.stream o)) (sym others)
-      ∙ none_missing c st fits
+pub stream_is_open : (o : Option Stream) → tested true (λ s. false) o ≡ false
+    → tested false (λ s. not s.is_open) o ≡ false → (or_nobody o).is_open ≡ true
+stream_is_open None a b = cc
+stream_is_open (Some s) a b = not-false s.is_open b
 
-  pub own_there : n < length st
-  own_there = first_there st n other none_missing_of
+pub one_open : (st : State) (n : ℕ) → (is_missing st n || false) ≡ false
+    → (is_spent st n || false) ≡ false → (look st n).is_open ≡ true
+one_open st n a b =
+    stream_is_open (slice_get st n) (or_parts (is_missing st n) false a).0
+    (or_parts (is_spent st n) false b).0
 
-pub fork_there : (c : Command) (st : State) (n f : ℕ) → misuse c st ≡ None
-    → c ≡ spec.on n (spec.advance f) → f < length st
-fork_there c st n f h e =
-    let test : (is_missing st n || (is_missing st f || false)) ≡ false =
-    ap (λ z. any_of (is_missing st) (named z)) (sym e) ∙ none_missing c st h in
-    is_there st f
-    (or_parts (is_missing st f) false
-    (or_parts (is_missing st n) (is_missing st f || false) test).1).0
+first_open : (st : State) (n : ℕ) (other : Option ℕ)
+    → any_of (is_missing st) (with_other n other) ≡ false
+    → any_of (is_spent st) (with_other n other) ≡ false → (look st n).is_open ≡ true
+first_open st n None a b = one_open st n a b
+first_open st n (Some m) a b =
+    stream_is_open (slice_get st n) (or_parts (is_missing st n) _ a).0
+    (or_parts (is_spent st n) _ b).0
+
+pub own_open : (c : Command) (st : State) → misuse c st ≡ None → is_open_at st c.stream ≡ true
+own_open c st h =
+    let f = fits c st h in
+    open_seen st c.stream ∙ first_open st c.stream (other_named c.action) f.there f.is_open
+
+pub own_there : (c : Command) (st : State) → misuse c st ≡ None → c.stream < length st
+own_there c st h = open_within st c.stream (sym (open_seen st c.stream) ∙ own_open c st h)
+
+pub fork_open : (c : Command) (st : State) (n f : ℕ) → misuse c st ≡ None
+    → c ≡ spec.on n (spec.advance f) → is_open_at st f ≡ true
+fork_open c st n f h e =
+    let fit = fits c st h in
+    let there = ap (λ z. any_of (is_missing st) (named z)) (sym e) ∙ fit.there in
+    let is_open = ap (λ z. any_of (is_spent st) (named z)) (sym e) ∙ fit.is_open in
+    open_seen st f
+    ∙ one_open st f (or_parts (is_missing st n) (is_missing st f || false) there).1
+    (or_parts (is_spent st n) (is_spent st f || false) is_open).1
+
+-- where the stream of a command is after it
+no_kind : (b : Bool) (m : Misuse) → cond b None (Some m) ≡ Some NoStream → m ≡ NoStream
+no_kind true m e = cc
+no_kind false m e = cc
+
+kind_never : (a : Action) (st : State) (k : ℕ) → kind_misuse a st k ≡ Some NoStream → ⊥
+kind_never (spec.advance f) st k e = let n = no_kind (of_kind is_fork st f) NoFork e in cc
+kind_never spec.discard st k e = let n = no_kind (of_kind is_fork st k) NoFork e in cc
+kind_never spec.close st k e = let n = no_kind (of_kind is_content st k) NoContent e in cc
+kind_never (spec.read r) st k e = cc
+kind_never (spec.enter w) st k e = cc
+kind_never spec.fork st k e = cc
+
+pub position_missing : (c : Command) (st after : State) → misuse c st ≡ Some NoStream
+    → position_in c st after ≡ missing
+position_missing c st after h =
+    go (any_of (is_missing st) (named c)) (any_of (is_spent st) (named c)) h where
+      go : (a b : Bool)
+          → cond a (Some NoStream) (cond b (Some Spent) (kind_misuse c.action st c.stream))
+          ≡ Some NoStream
+          → cond a missing
+          (elim (slice_get after c.stream) [ None ↦ missing | Some s ↦ position_of s.place ])
+          ≡ missing
+      go true b e = refl
+      go false true e = cc
+      go false false e = absurd (kind_never c.action st c.stream e)
+
+pub position_found : (c : Command) (st after : State) → (misuse c st ≡ Some NoStream → ⊥)
+    → position_in c st after
+    ≡ elim (slice_get after c.stream) [ None ↦ missing | Some s ↦ position_of s.place ]
+position_found c st after h =
+    go (any_of (is_missing st) (named c))
+    (cond (any_of (is_spent st) (named c)) (Some Spent) (kind_misuse c.action st c.stream)) h where
+      go : (a : Bool) (rest : Option Misuse) → (cond a (Some NoStream) rest ≡ Some NoStream → ⊥)
+          → cond a missing
+          (elim (slice_get after c.stream) [ None ↦ missing | Some s ↦ position_of s.place ])
+          ≡ elim (slice_get after c.stream) [ None ↦ missing | Some s ↦ position_of s.place ]
+      go true rest h = absurd (h refl)
+      go false rest h = refl

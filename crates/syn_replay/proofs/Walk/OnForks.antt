@@ -3,7 +3,7 @@ use Rattle.std.proofs.Common.{◌≡◌, ◌≢◌, ◌∙◌, sym, ap, subst, r
 use Rattle.std.proofs.Common.{Bool, true, false, List, [], ◌∷◌, ◌++◌, ◌⊎◌, length, map, Option}
 use Rattle.std.proofs.Common.{Some}
 use Rattle.std.proofs.Common.{None, arith, inl, inr, length-append}
-use Rattle.std.proofs.lemmas.Bool.{ne_eqb, eq-eqb, leb-true, le-leb, and_parts, not-true, or_from}
+use Rattle.std.proofs.lemmas.Bool.{ne_eqb, eq-eqb, leb-true, le-leb, and_parts, not-true}
 use Rattle.std.proofs.lemmas.Bool.{cases_eq}
 use Rattle.std.proofs.lemmas.Bool.{cases_lt}
 use Rattle.std.proofs.lemmas.Bool.Decides.{eqb_tells}
@@ -24,19 +24,19 @@ use Rattle.syn_replay.specs.Commands as commands
 use Rattle.syn_replay.specs.Commands.{Action, Command, Read, listed_to, looked, parsed, read_answer}
 use Rattle.syn_replay.specs.Forks.{is_own, is_own_action, is_own_command, is_self_contained}
 use Rattle.syn_replay.specs.Forks.{on_fork}
-use Rattle.syn_replay.specs.Forks.{command_on_fork, answer_on_fork, line_on_fork, made_closed}
+use Rattle.syn_replay.specs.Forks.{command_on_fork, answer_on_fork, line_on_fork}
 use Rattle.syn_replay.specs.Forks.{IsFollowed, ForksFollowCommands}
 use Rattle.syn_replay.specs.Kinds.{Look, display, peek, peek_kind, read}
 use Rattle.syn_replay.specs.Reports as reports
-use Rattle.syn_replay.specs.Reports.{Answer, Position, absent, done, missing, unfit}
+use Rattle.syn_replay.specs.Reports.{Answer, Position, absent, done, missing, misused}
 use Rattle.syn_replay.specs.Session.Entering.{entered_by, entering_words}
 use Rattle.syn_replay.specs.Session.State.{Stream, StreamKind, outermost, content_of, a_fork, State}
-use Rattle.syn_replay.specs.Session.State.{stream_at, with_stream, moved_to, with_note, spent}
-use Rattle.syn_replay.specs.Session.State.{with_note_on_parent, handed_note, handed_up}
-use Rattle.syn_replay.specs.Session.State.{contents_ended, closed_inside, closed}
-use Rattle.syn_replay.specs.Session.State.{is_open_content_of}
-use Rattle.syn_replay.specs.Session.State.{is_content_of, advanced, taken_over, is_inside}
-use Rattle.syn_replay.specs.Session.State.{first_state, is_within, position_of}
+use Rattle.syn_replay.specs.Session.State.{with_stream, moved_to, with_note, spent_if, put, at_rest}
+use Rattle.syn_replay.specs.Session.State.{with_note_on_parent, handed_note, gathered, left_inside}
+use Rattle.syn_replay.specs.Session.State.{left_from, ended, closed, advanced, is_content_of}
+use Rattle.syn_replay.specs.Session.State.{is_entered_from, is_inside, is_or_inside, is_open_at}
+use Rattle.syn_replay.specs.Session.State.{first_state, kind_at, position_of}
+use Rattle.syn_parse.specs.State as parse
 use Rattle.syn_replay.specs.Session.Step.{Stepped, any_of, is_content, is_missing}
 use Rattle.syn_replay.specs.Session.Step.{kind_misuse, misuse, moves, named, other_named}
 use Rattle.syn_replay.specs.Session.Step.{with_other}
@@ -44,21 +44,30 @@ use Rattle.syn_replay.specs.Session.Step.{new_stream, into_group, on_stream, pla
 use Rattle.syn_replay.specs.Session.Step.{step_on, tested, position_in, line}
 use Rattle.syn_replay.specs.Session.Walk.{last_state, lines_from}
 use Rattle.syn_replay.specs.Turns.{Outcome, read_all, refused_at, turns, turns_left}
-use Rattle.syn_replay.proofs.Walk.Acceptance.{first_tidy, run_tidy}
 use Rattle.syn_replay.proofs.Walk.Changes.{at_front, before_end, changed_at, changed_not}
-use Rattle.syn_replay.proofs.Walk.Changes.{length_changed}
-use Rattle.syn_replay.proofs.Walk.Changes.{kind_seen, look, nothing_past, or_nobody, past_end}
-use Rattle.syn_replay.proofs.Walk.Changes.{there_within}
-use Rattle.syn_replay.proofs.Walk.Notes.{IsIn, Tidy}
-use Rattle.syn_replay.proofs.Walk.Tracks.{handed_with}
+use Rattle.syn_replay.proofs.Walk.Changes.{kept_by, kind_seen, kinds_changed, length_changed, look}
+use Rattle.syn_replay.proofs.Walk.Changes.{open_seen, or_nobody, past_end, same_length, within_there}
+use Rattle.syn_replay.proofs.Walk.Ends.{kinds_from}
+use Rattle.syn_replay.proofs.Walk.Inner.{IsSound, above_all, all_ended, by_parent, not_inside}
+use Rattle.syn_replay.proofs.Walk.Inner.{sound_like}
+use Rattle.syn_replay.proofs.Walk.Left.{left_after, left_none, left_skips}
+use Rattle.syn_replay.proofs.Walk.Nesting.{noted_kinds, noted_open}
+use Rattle.syn_replay.proofs.Walk.Steps.{first_sound, nothing, run_sound, steps}
+use Rattle.std.proofs.lemmas.Bool.{and_from, both_ways}
+use Rattle.std.proofs.lemmas.Option.{slice_get_past, slice_get_within, slice_get-map}
+use Rattle.std.proofs.Common.{ap₂, drop}
+use Rattle.std.specs.List.{slice_get}
+use Rattle.tok_buffer.specs.Ahead.{leftover}
+use Rattle.syn_replay.specs.declared.report.Misuse.{Misuse}
+use Rattle.syn_replay.specs.declared.report.Misuse.TheVariants.{NoContent, OutOfScope}
 
 noted_on : (a b c : Option Leftover) → option_or (option_or a b) c ≡ option_or a (option_or b c)
 noted_on None b c = refl
 noted_on (Some l) b c = refl
 
 -- what a refused command leaves, and what any other makes
-abbrev unfit_or : State → Option ℕ → Stepped → Stepped
-unfit_or st o r = elim o [ Some n ↦ stays st (unfit n) | None ↦ r ]
+abbrev misused_or : State → Option Misuse → Stepped → Stepped
+misused_or st o r = elim o [ Some m ↦ stays st (misused m) | None ↦ r ]
 
 -- a read makes no stream, so its answer names none
 taken_unchanged : (answers : List Tree → Answer)
@@ -104,7 +113,7 @@ read_unchanged commands.next_tree p scope =
 read_unchanged commands.next_group p scope = taken_unchanged _ (λ ts. refl) _ p (read_group p)
 read_unchanged r p scope = refl
 
-module _ (front : State) (k : ℕ) (s0 : Stream) (here : stream_at front k ≡ Some s0) where
+module _ (front : State) (k : ℕ) (s0 : Stream) (here : slice_get front k ≡ Some s0) where
   abbrev made : ℕ
   made = length front
 
@@ -145,11 +154,11 @@ module _ (front : State) (k : ℕ) (s0 : Stream) (here : stream_at front k ≡ S
     n : Option Leftover
     longer : length x + 1 ≡ length y
     room : made ≤ length x
-    mine : stream_at x k ≡ Some (after_commands p n s0)
-    forks : stream_at y made ≡ Some (fork_at p n)
-    kept : stream_at y k ≡ Some s0
-    later : (j : ℕ) → made ≤ j → stream_at y (j + 1) ≡ option_map shift_kind (stream_at x j)
-    own : (j : ℕ) (s : Stream) → made ≤ j → stream_at x j ≡ Some s → OwnKind s.kind
+    mine : slice_get x k ≡ Some (after_commands p n s0)
+    forks : slice_get y made ≡ Some (fork_at p n)
+    kept : slice_get y k ≡ Some s0
+    later : (j : ℕ) → made ≤ j → slice_get y (j + 1) ≡ option_map shift_kind (slice_get x j)
+    own : (j : ℕ) (s : Stream) → made ≤ j → slice_get x j ≡ Some s → OwnKind s.kind
 
   data Own (j : ℕ) : Type 0 where
     stream : j ≡ k → Own j
@@ -163,7 +172,7 @@ module _ (front : State) (k : ℕ) (s0 : Stream) (here : stream_at front k ≡ S
       ]
 
   k_below : k < made
-  k_below = there_within front k s0 here
+  k_below = slice_get_within front k s0 here
 
   on_stream_is : on k ≡ made
   on_stream_is = ap (λ b. cond b made (k + 1)) (eq-eqb k k refl)
@@ -184,13 +193,13 @@ module _ (front : State) (k : ℕ) (s0 : Stream) (here : stream_at front k ≡ S
   pair_up (Some s) b e = both s (kind_on s.kind) s.note refl e
 
   streams_pair : (x y : State) (j : ℕ) → Beside x y → Own j
-      → Pair (stream_at x j) (stream_at y (on j))
+      → Pair (slice_get x j) (slice_get y (on j))
   streams_pair x y j b (stream e) =
-      both (after_commands b.p b.n s0) a_fork b.n (ap (stream_at x) e ∙ b.mine)
-      (ap (λ z. stream_at y (on z)) e ∙ ap (stream_at y) on_stream_is ∙ b.forks)
+      both (after_commands b.p b.n s0) a_fork b.n (ap (slice_get x) e ∙ b.mine)
+      (ap (λ z. slice_get y (on z)) e ∙ ap (slice_get y) on_stream_is ∙ b.forks)
   streams_pair x y j b (later h) =
-      pair_up (stream_at x j) (stream_at y (on j))
-      (ap (stream_at y) (on_later j h) ∙ b.later j h)
+      pair_up (slice_get x j) (slice_get y (on j))
+      (ap (slice_get y) (on_later j h) ∙ b.later j h)
 
   beside_eq : (x y u v : State) → x ≡ u → y ≡ v → Beside u v → Beside x y
   beside_eq x y u v e f b =
@@ -243,29 +252,29 @@ module _ (front : State) (k : ℕ) (s0 : Stream) (here : stream_at front k ≡ S
         twice (Some s) = ap (λ z. Some z) (sym (shifts s))
 
         at : (j : ℕ) → made ≤ j → (j ≡ i) ⊎ (j ≡ i → ⊥)
-            → stream_at (with_stream y (i + 1) f) (j + 1)
-            ≡ option_map shift_kind (stream_at (with_stream x i f) j)
+            → slice_get (with_stream y (i + 1) f) (j + 1)
+            ≡ option_map shift_kind (slice_get (with_stream x i f) j)
         at j h (inl e) =
-            ap (λ z. stream_at (with_stream y (i + 1) f) (z + 1)) e ∙ changed_at y (i + 1) f
-            ∙ ap (option_map f) (b.later i le) ∙ twice (stream_at x i)
+            ap (λ z. slice_get (with_stream y (i + 1) f) (z + 1)) e ∙ changed_at y (i + 1) f
+            ∙ ap (option_map f) (b.later i le) ∙ twice (slice_get x i)
             ∙ ap (option_map shift_kind) (sym (changed_at x i f))
-            ∙ ap (λ z. option_map shift_kind (stream_at (with_stream x i f) z)) (sym e)
+            ∙ ap (λ z. option_map shift_kind (slice_get (with_stream x i f) z)) (sym e)
         at j h (inr d) =
             changed_not y (i + 1) (j + 1) f (λ w. d (omega (arith, w))) ∙ b.later j h
             ∙ ap (option_map shift_kind) (sym (changed_not x i j f d))
 
-        own_at : (o : Option Stream) (s : Stream) → stream_at x i ≡ o → option_map f o ≡ Some s
+        own_at : (o : Option Stream) (s : Stream) → slice_get x i ≡ o → option_map f o ≡ Some s
             → OwnKind s.kind
         own_at None s q h = cc
         own_at (Some t) s q h =
             let is : f t ≡ s = cc in
             subst OwnKind (sym (same t) ∙ ap (λ z. z.kind) is) (b.own i t le q)
 
-        own : (j : ℕ) (s : Stream) → made ≤ j → stream_at (with_stream x i f) j ≡ Some s
+        own : (j : ℕ) (s : Stream) → made ≤ j → slice_get (with_stream x i f) j ≡ Some s
             → (j ≡ i) ⊎ (j ≡ i → ⊥) → OwnKind s.kind
         own j s h e (inl q) =
-            own_at (stream_at x i) s refl
-            (sym (changed_at x i f) ∙ ap (stream_at (with_stream x i f)) (sym q) ∙ e)
+            own_at (slice_get x i) s refl
+            (sym (changed_at x i f) ∙ ap (slice_get (with_stream x i f)) (sym q) ∙ e)
         own j s h e (inr d) = b.own j s h (sym (changed_not x i j f d) ∙ e)
 
   changed_beside : (x y : State) (b : Beside x y) (j : ℕ) → Own j → (f : Stream → Stream)
@@ -311,13 +320,13 @@ module _ (front : State) (k : ℕ) (s0 : Stream) (here : stream_at front k ≡ S
         own = λ j s le e. own j s le e (cases_lt j (length x));
       } where
         one : (i : ℕ)
-            → stream_at (shift_kind t ∷ []) i ≡ option_map shift_kind (stream_at (t ∷ []) i)
+            → slice_get (shift_kind t ∷ []) i ≡ option_map shift_kind (slice_get (t ∷ []) i)
         one zero = refl
         one (suc i) = refl
 
         at : (j : ℕ) → made ≤ j → (j < length x) ⊎ (length x ≤ j)
-            → stream_at (y ++ shift_kind t ∷ []) (j + 1)
-            ≡ option_map shift_kind (stream_at (x ++ t ∷ []) j)
+            → slice_get (y ++ shift_kind t ∷ []) (j + 1)
+            ≡ option_map shift_kind (slice_get (x ++ t ∷ []) j)
         at j le (inl low) =
             before_end y (shift_kind t ∷ []) (j + 1) (omega (arith, low, b.longer)) ∙ b.later j le
             ∙ ap (option_map shift_kind) (sym (before_end x (t ∷ []) j low))
@@ -326,11 +335,11 @@ module _ (front : State) (k : ℕ) (s0 : Stream) (here : stream_at front k ≡ S
             past_end y (shift_kind t ∷ []) (j + 1) i (omega (arith, past, b.longer)) ∙ one i
             ∙ ap (option_map shift_kind) (sym (past_end x (t ∷ []) j i (omega (arith, past))))
 
-        only : (i : ℕ) (s : Stream) → stream_at (t ∷ []) i ≡ Some s → OwnKind s.kind
+        only : (i : ℕ) (s : Stream) → slice_get (t ∷ []) i ≡ Some s → OwnKind s.kind
         only zero s e = subst (λ (z : Stream). OwnKind z.kind) (let q : t ≡ s = cc in q) h
         only (suc i) s e = cc
 
-        own : (j : ℕ) (s : Stream) → made ≤ j → stream_at (x ++ t ∷ []) j ≡ Some s
+        own : (j : ℕ) (s : Stream) → made ≤ j → slice_get (x ++ t ∷ []) j ≡ Some s
             → (j < length x) ⊎ (length x ≤ j) → OwnKind s.kind
         own j s le e (inl low) = b.own j s le (sym (before_end x (t ∷ []) j low) ∙ e)
         own j s le e (inr past) =
@@ -381,20 +390,6 @@ module _ (front : State) (k : ℕ) (s0 : Stream) (here : stream_at front k ≡ S
   parents x y (content_of p) n h b = noted_beside x y p n b (own_by_test p h)
   parents x y a_fork n h b = b
 
-  raises : (x y : State) (i : ℕ) (b : Beside x y) → made ≤ i → (o : Option Stream)
-      → stream_at x i ≡ o
-      → Beside (handed_with i x o) (handed_with (i + 1) y (option_map shift_kind o))
-  raises x y i b le None e = b
-  raises x y i b le (Some s) e =
-      changed_later _ _ (parents x y s.kind (handed_note s) (b.own i s le e) b) i le spent
-      (λ u. refl) (λ u. refl)
-
-  hands : (x y : State) (i : ℕ) → made ≤ i → Beside x y
-      → Beside (handed_up i x) (handed_up (i + 1) y)
-  hands x y i le b =
-      beside_eq _ _ _ _ refl (ap (handed_with (i + 1) y) (b.later i le))
-      (raises x y i b le (stream_at x i) refl)
-
   -- the numbers of different streams stay different
   apart_on : (q j : ℕ) → Own q → Own j → q ≢ j → on q ≢ on j
   apart_on q j (stream e) (stream f) ne same = ne (e ∙ sym f)
@@ -421,43 +416,220 @@ module _ (front : State) (k : ℕ) (s0 : Stream) (here : stream_at front k ≡ S
   content_test j own (content_of q) h = same_parent q j (own_by_test q h) own
   content_test j own a_fork h = refl
 
-  open_test : (j : ℕ) → Own j → (o : Option Stream) → ((s : Stream) → o ≡ Some s → OwnKind s.kind)
-      → is_open_content_of (on j) (option_map shift_kind o) ≡ is_open_content_of j o
-  open_test j own None h = refl
-  open_test j own (Some s) h = ap (λ z. s.is_open && z) (content_test j own s.kind (h s refl))
+  -- what is left inside a stream that was made, and inside the stream
+  left_on : (xs : State) (j n : ℕ) → Own j → made ≤ n
+      → ((m : ℕ) (s : Stream) → slice_get xs m ≡ Some s → OwnKind s.kind)
+      → left_from (on j) (n + 1) (map shift_kind xs) ≡ left_from j n xs
+  left_on [] j n own le kinds = refl
+  left_on (s ∷ xs) j n own le kinds =
+      let next : made ≤ n + 1 = omega (arith, le) in
+      let more : (m : ℕ) (t : Stream) → slice_get xs m ≡ Some t → OwnKind t.kind =
+      λ m. kinds (suc m) in
+      ap (λ b. option_or (cond (s.is_open && b)
+      (option_or (option_or s.note (left_from (n + 1) ((n + 1) + 1) (map shift_kind xs)))
+      (leftover s.place)) None) (left_from (on j) ((n + 1) + 1) (map shift_kind xs)))
+      (content_test j own s.kind (kinds 0 s refl))
+      ∙ ap (λ z. option_or (cond (s.is_open && is_content_of j s.kind)
+      (option_or (option_or s.note z) (leftover s.place)) None)
+      (left_from (on j) ((n + 1) + 1) (map shift_kind xs)))
+      (ap (λ z. left_from z ((n + 1) + 1) (map shift_kind xs)) (sym (on_later n le))
+      ∙ left_on xs n (n + 1) (later le) next more)
+      ∙ ap (option_or (cond (s.is_open && is_content_of j s.kind)
+      (option_or (option_or s.note (left_from n (n + 1) xs)) (leftover s.place)) None))
+      (left_on xs j (n + 1) own next more)
 
-  chooses : (c d : Bool) (x y u v : State) → c ≡ d → Beside u v → Beside x y
-      → Beside (cond c u x) (cond d v y)
-  chooses true d x y u v e g h = beside_eq _ _ _ _ refl (ap (λ z. cond z v y) (sym e)) g
-  chooses false d x y u v e g h = beside_eq _ _ _ _ refl (ap (λ z. cond z v y) (sym e)) h
+  get_drop : (xs : State) (n i : ℕ) → slice_get (drop n xs) i ≡ slice_get xs (n + i)
+  get_drop xs zero i = let same : i ≡ 0 + i = omega arith in ap (slice_get xs) same
+  get_drop [] (suc n) i = sym (slice_get_past [] (suc n + i) (omega arith))
+  get_drop (x ∷ xs) (suc n) i =
+      let same : suc (n + i) ≡ suc n + i = omega arith in
+      get_drop xs n i ∙ ap (slice_get (x ∷ xs)) same
 
-  closes : (room j i : ℕ) (x y : State) → Own j → made ≤ i → Beside x y
-      → Beside (contents_ended false room j i x) (contents_ended false room (on j) (i + 1) y)
-  closes zero j i x y own le b = b
-  closes (suc room) j i x y own le b =
-      let next : made ≤ i + 1 = omega (arith, le) in
-      let inside = beside_eq _ _ _ _ refl
-      (ap (λ z. contents_ended false room z ((i + 1) + 1) y) (sym (on_later i le)))
-      (closes room i (i + 1) x y (later le) next b) in
-      closes room j (i + 1) _ _ own next (chooses _ _ x y _ _ test (hands _ _ i le inside) b) where
-        test : is_open_content_of j (stream_at x i)
-            ≡ is_open_content_of (on j) (stream_at y (i + 1))
-        test =
-            sym (open_test j own (stream_at x i) (λ s e. b.own i s le e))
-            ∙ ap (is_open_content_of (on j)) (sym (b.later i le))
+  same_gets : (xs ys : State) → ((i : ℕ) → slice_get xs i ≡ slice_get ys i) → xs ≡ ys
+  same_gets [] [] h = refl
+  same_gets [] (y ∷ ys) h = let e = h 0 in cc
+  same_gets (x ∷ xs) [] h = let e = h 0 in cc
+  same_gets (x ∷ xs) (y ∷ ys) h =
+      let e = h 0 in
+      let same : x ≡ y = cc in
+      ap (λ z. z ∷ xs) same ∙ ap (λ z. y ∷ z) (same_gets xs ys (λ i. h (suc i)))
 
-  closes_made : (i : ℕ) (x y : State) → made ≤ i → Beside x y
+  next_same : (p i : ℕ) → (p + 1 == i + 1) ≡ (p == i)
+  next_same p i =
+      elim (eqb_tells p i) [
+        | inl same ↦ eq-eqb (p + 1) (i + 1) (ap (λ z. z + 1) same.1) ∙ sym same.0
+        | inr apart ↦ ne_eqb (p + 1) (i + 1) (λ q. apart.1 (omega arith)) ∙ sym apart.0
+      ]
+
+  shifts : (c : Bool) (o : Option Stream)
+      → option_map (spent_if c) (option_map shift_kind o)
+      ≡ option_map shift_kind (option_map (spent_if c) o)
+  shifts c None = refl
+  shifts true (Some s) = refl
+  shifts false (Some s) = refl
+
+  own_then : (c : Bool) (o : Option Stream) (s : Stream) {j : ℕ}
+      → ((t : Stream) → made ≤ j → o ≡ Some t → OwnKind t.kind) → made ≤ j
+      → option_map (spent_if c) o ≡ Some s → OwnKind s.kind
+  own_then c None s own le e = cc
+  own_then true (Some t) s own le e =
+      let same : t.kind ≡ s.kind = cc in subst OwnKind same (own t le refl)
+  own_then false (Some t) s own le e =
+      let same : t ≡ s = cc in subst (λ (z : Stream). OwnKind z.kind) same (own t le refl)
+
+  module _ (x y : State) (b : Beside x y) (x_sound : IsSound x) (y_sound : IsSound y) where
+    later_on : drop (made + 1) y ≡ map shift_kind (drop made x)
+    later_on = same_gets _ _ (λ i.
+        let same : (made + 1) + i ≡ (made + i) + 1 = omega arith in
+        get_drop y (made + 1) i ∙ ap (slice_get y) same
+        ∙ b.later (made + i) (omega arith)
+        ∙ ap (option_map shift_kind) (sym (get_drop x made i))
+        ∙ sym (slice_get-map shift_kind (drop made x) i))
+
+    own_later : (m : ℕ) (s : Stream) → slice_get (drop made x) m ≡ Some s → OwnKind s.kind
+    own_later m s e = b.own (made + m) s (omega arith) (sym (get_drop x made m) ∙ e)
+
+    left_own : left_inside y made ≡ left_from k made (drop made x)
+    left_own =
+        left_after y (above_all y y_sound.nested) made
+        ∙ ap (left_from made (made + 1)) later_on
+        ∙ ap (λ z. left_from z (made + 1) (map shift_kind (drop made x))) (sym on_stream_is)
+        ∙ left_on (drop made x) k made (stream refl) (omega arith) own_later
+
+    left_made : (i : ℕ) → made ≤ i → left_inside y (i + 1) ≡ left_inside x i
+    left_made i le =
+        let from_y : 0 + (made + 1) ≡ made + 1 = omega arith in
+        let from_x : made ≡ 0 + made = omega arith in
+        left_skips (i + 1) 0 (made + 1) y
+        (λ m l e. let low = y_sound.nested m (i + 1) e in omega (arith, low, l, le))
+        ∙ ap (λ z. left_from (i + 1) z (drop (made + 1) y)) from_y
+        ∙ ap (left_from (i + 1) (made + 1)) later_on
+        ∙ ap (λ z. left_from z (made + 1) (map shift_kind (drop made x))) (sym (on_later i le))
+        ∙ left_on (drop made x) i made (later le) (omega arith) own_later
+        ∙ ap (λ z. left_from i z (drop made x)) from_x
+        ∙ sym (left_skips i 0 made x
+        (λ m l e. let low = x_sound.nested m i e in omega (arith, low, l, le)))
+
+    handed_made : (i : ℕ) → made ≤ i → (s : Stream)
+        → handed_note y (i + 1) (shift_kind s) ≡ handed_note x i s
+    handed_made i le s =
+        ap (λ z. option_or (option_or s.note z) (leftover s.place)) (left_made i le)
+
+    -- a stream is inside another where it is on the other side
+    kind_later : (j : ℕ) → made ≤ j → (look y (j + 1)).kind ≡ kind_on (look x j).kind
+    kind_later j le = ap (λ o. (or_nobody o).kind) (b.later j le) ∙ go (slice_get x j) where
+      go : (o : Option Stream)
+          → (or_nobody (option_map shift_kind o)).kind ≡ kind_on (or_nobody o).kind
+      go None = refl
+      go (Some s) = refl
+
+    own_look : (j : ℕ) → made ≤ j → OwnKind (look x j).kind
+    own_look j le =
+        elim (cases_lt j (length x)) [
+          | inl l ↦ b.own j (look x j) le (within_there x j l)
+          | inr l ↦ subst OwnKind (sym (ap (λ o. (or_nobody o).kind) (slice_get_past x j l))) tt
+        ]
+
+    in_parent : (i j : ℕ) → made ≤ i → made ≤ j → (kind : StreamKind) → OwnKind kind
+        → ((p : ℕ) → kind ≡ content_of p → made ≤ p
+        → is_inside y (i + 1) (p + 1) ≡ is_inside x i p)
+        → is_entered_from (is_or_inside y (i + 1)) (kind_on kind)
+        ≡ is_entered_from (is_or_inside x i) kind
+    in_parent i j le lj outermost own again = refl
+    in_parent i j le lj a_fork own again = refl
+    in_parent i j le lj (content_of p) own again =
+        let low = k_below in
+        elim (own_by_test p own) [
+          | stream e ↦
+              ap (is_or_inside y (i + 1)) (ap on e ∙ on_stream_is)
+              ∙ not_inside y y_sound.nested (i + 1) made (omega arith)
+              ∙ sym (ap (is_or_inside x i) e ∙ not_inside x x_sound.nested i k (omega arith))
+          | later lp ↦
+              ap (is_or_inside y (i + 1)) (on_later p lp)
+              ∙ ap₂ (λ c d. c || d) (next_same p i) (again p refl lp)
+        ]
+
+    inside_on : (room i j : ℕ) → made ≤ i → made ≤ j → j ≤ room
+        → is_inside y (i + 1) (j + 1) ≡ is_inside x i j
+    inside_on zero i j le lj h = let low = k_below in absurd (omega arith)
+    inside_on (suc room) i j le lj h =
+        by_parent y y_sound.nested (i + 1) (j + 1)
+        ∙ ap (is_entered_from (is_or_inside y (i + 1)))
+        (kind_seen y (j + 1) ∙ kind_later j lj)
+        ∙ in_parent i j le lj (look x j).kind (own_look j lj)
+        (λ p e lp. let b = x_sound.nested j p e in inside_on room i p le lp (omega arith))
+        ∙ sym (by_parent x x_sound.nested i j
+        ∙ ap (is_entered_from (is_or_inside x i)) (kind_seen x j))
+
+    -- a stream that was made ends on both sides
+    ends_made : (i : ℕ) → made ≤ i → Beside (ended i x) (ended (i + 1) y)
+    ends_made i le =
+        let low = k_below in
+        let len = same_length (ended i x) x (kinds_from (λ n. n == i) 0 x) in
+        let other = same_length (ended (i + 1) y) y (kinds_from (λ n. n == i + 1) 0 y) in
+        let longer = b.longer in
+        let room = b.room in
+        record {
+          p = b.p;
+          n = b.n;
+          longer = omega (arith, len, other, longer);
+          room = omega (arith, len, room);
+          mine =
+              all_ended x x_sound i k ∙ ap (option_map (spent_if (is_or_inside x i k))) b.mine
+              ∙ ap (λ c. Some (spent_if c (after_commands b.p b.n s0)))
+              (not_inside x x_sound.nested i k (omega arith));
+          forks =
+              all_ended y y_sound (i + 1) made
+              ∙ ap (option_map (spent_if (is_or_inside y (i + 1) made))) b.forks
+              ∙ ap (λ c. Some (spent_if c (fork_at b.p b.n)))
+              (not_inside y y_sound.nested (i + 1) made (omega arith));
+          kept =
+              all_ended y y_sound (i + 1) k
+              ∙ ap (option_map (spent_if (is_or_inside y (i + 1) k))) b.kept
+              ∙ ap (λ c. Some (spent_if c s0))
+              (not_inside y y_sound.nested (i + 1) k (omega arith));
+          later = λ j lj.
+              all_ended y y_sound (i + 1) (j + 1)
+              ∙ ap (option_map (spent_if (is_or_inside y (i + 1) (j + 1)))) (b.later j lj)
+              ∙ ap (λ c. option_map (spent_if c) (option_map shift_kind (slice_get x j)))
+              (ap₂ (λ c d. c || d) (next_same j i) (inside_on j i j le lj (omega arith)))
+              ∙ shifts (is_or_inside x i j) (slice_get x j)
+              ∙ ap (option_map shift_kind) (sym (all_ended x x_sound i j));
+          own = λ j s lj e.
+              own_then (is_or_inside x i j) (slice_get x j) s (b.own j) lj
+              (sym (all_ended x x_sound i j) ∙ e);
+        }
+
+  -- a content that was made is closed
+  abbrev closed_with : (st : State) (i : ℕ) → Option Stream → State
+  closed_with st i o =
+      elim o [
+        | None ↦ st
+        | Some s ↦ ended i (with_note_on_parent s.kind (handed_note st i s) st)
+      ]
+
+  closes_made : (i : ℕ) (x y : State) → made ≤ i → IsSound x → IsSound y → Beside x y
       → Beside (closed i x) (closed (on i) y)
-  closes_made i x y le b =
-      let next : made ≤ i + 1 = omega (arith, le) in
-      let room : length y - ((i + 1) + 1) ≡ length x - (i + 1) = omega (arith, b.longer) in
+  closes_made i x y le sx sy b =
       beside_eq _ _ _ _ refl
       (ap (λ z. closed z y) (on_later i le)
-      ∙ ap (λ z. handed_up (i + 1) (contents_ended false z (i + 1) ((i + 1) + 1) y)) room
-      ∙ ap
-      (λ z. handed_up (i + 1) (contents_ended false (length x - (i + 1)) z ((i + 1) + 1) y))
-      (sym (on_later i le)))
-      (hands _ _ i le (closes (length x - (i + 1)) i (i + 1) x y (later le) next b))
+      ∙ ap (closed_with y (i + 1)) (b.later i le))
+      (go (slice_get x i) refl)
+    where
+      go : (o : Option Stream) → slice_get x i ≡ o
+          → Beside (closed_with x i o) (closed_with y (i + 1) (option_map shift_kind o))
+      go None e = b
+      go (Some s) e =
+          let given = handed_note x i s in
+          let u = with_note_on_parent s.kind given x in
+          let v = with_note_on_parent (kind_on s.kind) given y in
+          beside_eq _ _ _ _ refl
+          (ap (λ z. ended (i + 1) (with_note_on_parent (kind_on s.kind) z y))
+          (handed_made x y b sx sy i le s))
+          (ends_made u v (parents x y s.kind given (b.own i s le e) b)
+          (sound_like x u sx (noted_kinds s.kind given x) (noted_open s.kind given x))
+          (sound_like y v sy (noted_kinds (kind_on s.kind) given y)
+          (noted_open (kind_on s.kind) given y)) i le)
 
   -- a command that names one stream
   missing_alike : (a b : Option Stream) → Pair a b
@@ -482,8 +654,8 @@ module _ (front : State) (k : ℕ) (s0 : Stream) (here : stream_at front k ≡ S
     same_line : line_on_fork (line c x) ≡ line d y
     after : Beside (step c x).state (step d y).state
 
-  same_chosen : (x y : State) → Beside x y → (v : Option ℕ) (r q : Stepped) → Same r q
-      → Same (unfit_or x v r) (unfit_or y v q)
+  same_chosen : (x y : State) → Beside x y → (v : Option Misuse) (r q : Stepped) → Same r q
+      → Same (misused_or x v r) (misused_or y v q)
   same_chosen x y b None r q h = h
   same_chosen x y b (Some n) r q h = record { answer = refl; after = b }
 
@@ -518,10 +690,10 @@ module _ (front : State) (k : ℕ) (s0 : Stream) (here : stream_at front k ≡ S
       let same_spent = spent_alike _ _ pair in
       let absent : any_of (is_missing x) (named c) ≡ any_of (is_missing y) (named d) = cc in
       let misused : misuse c x ≡ misuse d y = cc in
-      let is_d : step d y ≡ unfit_or y (misuse c x) (step_on a y (on j) (stream_at y (on j))) =
-      ap (λ z. unfit_or y z (step_on a y (on j) (stream_at y (on j)))) (sym misused) in
+      let is_d : step d y ≡ misused_or y (misuse c x) (step_on a y (on j) (slice_get y (on j))) =
+      ap (λ z. misused_or y z (step_on a y (on j) (slice_get y (on j)))) (sym misused) in
       let whole :
-      Same (step c x) (unfit_or y (misuse c x) (step_on a y (on j) (stream_at y (on j)))) =
+      Same (step c x) (misused_or y (misuse c x) (step_on a y (on j) (slice_get y (on j)))) =
       same_chosen x y b (misuse c x) _ _ (same_step_on a x y j b _ _ pair same) in
       let after : Beside (step c x).state (step d y).state =
       beside_eq _ _ _ _ refl (ap (λ z. z.state) is_d) whole.after in
@@ -547,59 +719,64 @@ module _ (front : State) (k : ℕ) (s0 : Stream) (here : stream_at front k ≡ S
   kinds_on None = refl
   kinds_on (Some s) = content_on s.kind
 
-  follow_close : (x y : State) (b : Beside x y) (n : ℕ) → (n == k) ≡ false → Own n
+  follow_close : (x y : State) (b : Beside x y) → IsSound x → IsSound y → (n : ℕ)
+      → (n == k) ≡ false → Own n
       → Follows (commands.on n commands.close) (commands.on (on n) commands.close) x y
-  follow_close x y b n ne (stream e) = absurd (let q : (n == k) ≡ true = eq-eqb n k e in cc)
-  follow_close x y b n ne (later le) =
+  follow_close x y b sx sy n ne (stream e) = absurd (let q : (n == k) ≡ true = eq-eqb n k e in cc)
+  follow_close x y b sx sy n ne (later le) =
       let of_content = tested false (λ (s : Stream). is_content s.kind) in
       follow x y b n (later le) commands.close refl
-      (ap (λ z. cond z None (Some 4))
-      (kinds_on (stream_at x n)
-      ∙ sym (ap (λ z. of_content (stream_at y z)) (on_later n le) ∙ ap of_content (b.later n le))))
-      (λ s kind note. record { answer = refl; after = closes_made n x y le b })
+      (ap (λ z. cond z None (Some NoContent))
+      (kinds_on (slice_get x n)
+      ∙ sym (ap (λ z. of_content (slice_get y z)) (on_later n le) ∙ ap of_content (b.later n le))))
+      (λ s kind note. record { answer = refl; after = closes_made n x y le sx sy b })
 
-  follows_action : (a : Action) (n : ℕ) (x y : State) → Beside x y
+  follows_action : (a : Action) (n : ℕ) (x y : State) → Beside x y → IsSound x → IsSound y
       → is_own_action k (made) n a ≡ true → is_own k (made) n ≡ true
       → Follows (commands.on n a) (command_on_fork k (made) (commands.on n a)) x y
-  follows_action (commands.read r) n x y b h own =
+  follows_action (commands.read r) n x y b sx sy h own =
       let o = own_by_test n own in
       follow x y b n o (commands.read r) refl refl
       (λ s kind note. same_moves x y b n o own (read_answer r s.place s.scope_span)
       (read_unchanged r s.place s.scope_span))
-  follows_action (commands.enter wanted) n x y b h own =
+  follows_action (commands.enter wanted) n x y b sx sy h own =
       let o = own_by_test n own in
       follow x y b n o (commands.enter wanted) refl refl
       (λ s kind note. same_group x y b n o own s kind note (entering_words wanted)
       (entered_by wanted s.place))
-  follows_action commands.fork n x y b h own =
+  follows_action commands.fork n x y b sx sy h own =
       let o = own_by_test n own in
       follow x y b n o commands.fork refl refl (λ s kind note. same_fork x y b n o own s kind note)
-  follows_action (commands.advance f) n x y b h own = absurd (cc)
-  follows_action commands.discard n x y b h own = absurd (cc)
-  follows_action commands.close n x y b h own =
-      follow_close x y b n (not-true (n == k) h) (own_by_test n own)
+  follows_action (commands.advance f) n x y b sx sy h own = absurd (cc)
+  follows_action commands.discard n x y b sx sy h own = absurd (cc)
+  follows_action commands.close n x y b sx sy h own =
+      follow_close x y b sx sy n (not-true (n == k) h) (own_by_test n own)
 
-  follows_each : (c : Command) (x y : State) → Beside x y
+  follows_each : (c : Command) (x y : State) → Beside x y → IsSound x → IsSound y
       → is_own_command k (made) c ≡ true
       → Follows c (command_on_fork k (made) c) x y
-  follows_each c x y b h =
+  follows_each c x y b sx sy h =
       let (a, o) =
       and_parts (is_own_action k (made) c.stream c.action)
       (is_own k (made) c.stream) h in
-      follows_action c.action c.stream x y b a o
+      follows_action c.action c.stream x y b sx sy a o
 
   record Runs (cs : List Command) (x y : State) : Type 0 where
     same_lines : lines_from y (map (command_on_fork k (made)) cs)
         ≡ map line_on_fork (lines_from x cs)
     after : Beside (last_state x cs) (last_state y (map (command_on_fork k (made)) cs))
 
-  runs : (cs : List Command) (x y : State) → Beside x y → is_self_contained k (made) cs ≡ true
+  runs : (cs : List Command) (x y : State) → Beside x y → IsSound x → IsSound y
+      → is_self_contained k (made) cs ≡ true
       → Runs cs x y
-  runs [] x y b h = record { same_lines = refl; after = b }
-  runs (c ∷ cs) x y b h =
+  runs [] x y b sx sy h = record { same_lines = refl; after = b }
+  runs (c ∷ cs) x y b sx sy h =
       let (a, o) = and_parts (is_own_command k (made) c) (is_self_contained k (made) cs) h in
-      let one = follows_each c x y b a in
-      let more = runs cs (step c x).state (step (command_on_fork k (made) c) y).state one.after o in
+      let one = follows_each c x y b sx sy a in
+      let d = command_on_fork k (made) c in
+      let more =
+      runs cs (step c x).state (step d y).state one.after (steps nothing c x sx).sound
+      (steps nothing d y sy).sound o in
       record {
         same_lines =
             ap (λ z. z ∷ lines_from (step (command_on_fork k (made) c) y).state
@@ -607,17 +784,6 @@ module _ (front : State) (k : ℕ) (s0 : Stream) (here : stream_at front k ≡ S
             ∙ ap (λ z. line_on_fork (line c x) ∷ z) more.same_lines;
         after = more.after;
       }
-
-  -- nothing is closed where nothing is open
-  none_closed : (room j next : ℕ) (x : State)
-      → ((n : ℕ) → next ≤ n → is_open_content_of j (stream_at x n) ≡ false)
-      → contents_ended false room j next x ≡ x
-  none_closed zero j next x h = refl
-  none_closed (suc room) j next x h =
-      ap (λ z. contents_ended false room j (next + 1)
-      (cond z (handed_up next (contents_ended false room next (next + 1) x)) x))
-      (h next (omega arith))
-      ∙ none_closed room j (next + 1) x (λ n le. h n (omega arith))
 
   abbrev to_fork : Action
   to_fork = commands.advance (made)
@@ -642,9 +808,10 @@ module _ (front : State) (k : ℕ) (s0 : Stream) (here : stream_at front k ≡ S
               ∙ ap (λ z. Some (record (fork_at s0.place None) { is_open = z })) (sym is_open0);
           kept = at_front front (new ∷ []) k s0 here;
           later = λ j h.
-              nothing_past (front ++ new ∷ []) (j + 1) (omega (arith, h, more))
-              ∙ sym (ap (option_map shift_kind) (nothing_past front j h));
-          own = λ j s h e. absurd (let q : None ≡ Some s = sym (nothing_past front j h) ∙ e in cc);
+              slice_get_past (front ++ new ∷ []) (j + 1) (omega (arith, h, more))
+              ∙ sym (ap (option_map shift_kind) (slice_get_past front j h));
+          own = λ j s h e.
+              absurd (let q : None ≡ Some s = sym (slice_get_past front j h) ∙ e in cc);
         }
 
     forks : step (commands.on k commands.fork) front ≡ on_stream commands.fork front k s0
@@ -656,117 +823,105 @@ module _ (front : State) (k : ℕ) (s0 : Stream) (here : stream_at front k ≡ S
     not_it : k ≢ made
     not_it e = let h = k_below in absurd (omega arith)
 
-    module _ (x y : State) (b : Beside x y) (out : is_inside y (made) k ≡ false) where
+    module _ (x y : State) (b : Beside x y) (x_sound : IsSound x) (y_sound : IsSound y) where
       abbrev may_advance : Bool
       may_advance =
-          same_scope s0.place (place_of (stream_at y (made)))
-          && not (k == made || is_inside y (made) k)
+          same_scope s0.place (place_of (slice_get y made)) && not (is_or_inside y made k)
 
       advances : step (commands.on k to_fork) y
-          ≡ cond may_advance (record { answer = done; state = advanced k (made) y })
-          (stays y (unfit 5))
+          ≡ cond may_advance (record { answer = done; state = advanced k made y })
+          (stays y (misused OutOfScope))
       advances = let p = b.kept in let q = b.forks in cc
 
-      may : same_scope (place_of (stream_at y k)) (place_of (stream_at y (made))) ≡ true
+      may : same_scope (place_of (slice_get y k)) (place_of (slice_get y made)) ≡ true
           → may_advance ≡ true
-      may h = let p = b.kept in let q = ne_eqb k (made) not_it in cc
+      may h =
+          and_from (same_scope s0.place (place_of (slice_get y made))) (not (is_or_inside y made k))
+          (ap (λ o. same_scope (place_of o) (place_of (slice_get y made))) (sym b.kept) ∙ h)
+          (ap not (not_inside y y_sound.nested made k k_below))
 
-      ends : same_scope (place_of (stream_at y k)) (place_of (stream_at y (made))) ≡ true
-          → step (commands.on k to_fork) y ≡ record { answer = done; state = advanced k (made) y }
-      ends h = let p = advances in let q = may h in cc
+      ends : same_scope (place_of (slice_get y k)) (place_of (slice_get y made)) ≡ true
+          → step (commands.on k to_fork) y ≡ record { answer = done; state = advanced k made y }
+      ends h =
+          advances
+          ∙ ap (λ c. cond c (record { answer = done; state = advanced k made y })
+          (stays y (misused OutOfScope))) (may h)
 
-      abbrev closed_y : State
-      closed_y = closed_inside (made) y
+      abbrev left : Option Leftover
+      left = left_from k made (drop made x)
 
-      abbrev closed_x : State
-      closed_x = made_closed k (made) x
-
-      beside_closed : Beside closed_x closed_y
-      beside_closed =
-          let room : length y - (made + 1) ≡ length x - made = omega (arith, b.longer) in
-          beside_eq _ _ _ _ refl
-          (ap (λ z. contents_ended false z made (made + 1) y) room
-          ∙ ap (λ z. contents_ended false (length x - made) z (made + 1) y) (sym on_stream_is))
-          (closes (length x - made) k made x y (stream refl) (omega arith) b)
-
-      stream_then : stream_at (advanced k made y) k ≡ stream_at closed_x k
+      stream_then : slice_get (advanced k made y) k ≡ option_map (with_note left) (slice_get x k)
       stream_then =
-          let c = beside_closed in
-          changed_not (with_stream closed_y k (taken_over (stream_at closed_y made))) made k spent
-          not_it
-          ∙ changed_at closed_y k (taken_over (stream_at closed_y made))
-          ∙ ap (λ z. option_map (taken_over z) (stream_at closed_y k)) c.forks
-          ∙ ap (option_map (taken_over (Some (fork_at c.p c.n)))) c.kept ∙ sym c.mine
+          let fork = gathered y made (fork_at b.p b.n) in
+          let goes = λ (s : Stream). put (parse.advanced (at_rest fork) (at_rest s)) s in
+          let mid = with_stream y k goes in
+          let mid_sound =
+          sound_like y mid y_sound (kinds_changed y k goes (λ s. refl))
+          (kept_by (λ s. s.is_open) goes (λ s. refl) y k) in
+          ap (λ o. slice_get (elim o [
+            | None ↦ y
+            | Some f ↦
+                ended made (with_stream y k
+                (λ s. put (parse.advanced (at_rest (gathered y made f)) (at_rest s)) s))
+          ]) k) b.forks
+          ∙ all_ended mid mid_sound made k
+          ∙ ap (λ c. option_map (spent_if c) (slice_get mid k))
+          (not_inside mid mid_sound.nested made k k_below)
+          ∙ ap (option_map (spent_if false)) (changed_at y k goes ∙ ap (option_map goes) b.kept)
+          ∙ ap (λ z. Some (record s0 { place = b.p; note = z }))
+          (ap (λ z. option_or s0.note (option_or b.n z)) (left_own x y b x_sound y_sound)
+          ∙ sym (noted_on s0.note b.n left))
+          ∙ ap (option_map (with_note left)) (sym b.mine)
 
-    is_followed : (cs : List Command) → is_self_contained k (made) cs ≡ true
-        → is_inside (last_state (step (commands.on k commands.fork) front).state
-        (map (command_on_fork k (made)) cs)) (made) k ≡ false → IsFollowed front k cs
-    is_followed cs h out =
-        let r = runs cs front (step (commands.on k commands.fork) front).state starts h in
+      none_left : ((n : ℕ) → nat_le made n ≡ true → kind_at x n ≡ content_of k
+          → is_open_at x n ≡ false)
+          → option_map (with_note left) (slice_get x k) ≡ slice_get x k
+      none_left q =
+          ap (λ l. option_map (with_note l) (slice_get x k))
+          (left_none (λ j. j ≡ k) k made (drop made x)
+          (λ m p o f e.
+          let at = ap or_nobody (get_drop x made m) in
+          let here : made ≤ made + m = omega arith in
+          absurd (both_ways (look x (made + m)).is_open
+          (sym (open_seen x (made + m))
+          ∙ q (made + m) (le-leb made (made + m) here)
+          (kind_seen x (made + m) ∙ ap (λ s. s.kind) (sym at) ∙ f ∙ ap content_of e))
+          (ap (λ s. s.is_open) (sym at) ∙ o)))
+          refl)
+          ∙ ap (option_map (with_note None)) b.mine
+          ∙ ap (λ z. Some (record s0 { place = b.p; note = z }))
+          (noted_none (option_or s0.note b.n))
+          ∙ sym b.mine
+
+    is_followed : (cs : List Command) → IsSound front → is_self_contained k made cs ≡ true
+        → IsFollowed front k cs
+    is_followed cs sound h =
+        let first = step (commands.on k commands.fork) front in
+        let first_is_sound = (steps nothing (commands.on k commands.fork) front sound).sound in
+        let forked = map (command_on_fork k made) cs in
+        let r = runs cs front first.state starts sound first_is_sound h in
         let x = last_state front cs in
-        let y =
-        last_state (step (commands.on k commands.fork) front).state
-        (map (command_on_fork k (made)) cs) in
+        let y = last_state first.state forked in
+        let x_sound = run_sound front cs sound in
+        let y_sound = run_sound first.state forked first_is_sound in
         record {
           lines = r.same_lines;
-          done = λ q. ap (λ z. z.answer) (ends x y r.after out q);
+          done = λ q. ap (λ z. z.answer) (ends x y r.after x_sound y_sound q);
           stream_after =
-              λ q. ap (λ z. stream_at z.state k) (ends x y r.after out q)
-              ∙ stream_then x y r.after out;
-          if_closed =
-              λ q. ap (λ z. stream_at z k)
-              (none_closed (length x - made) k (made) x (λ n le. q n (le-leb (made) n le)));
+              λ q. ap (λ z. slice_get z.state k) (ends x y r.after x_sound y_sound q)
+              ∙ stream_then x y r.after x_sound y_sound;
+          if_closed = none_left x y r.after x_sound y_sound;
         }
 
--- a stream is inside none with a higher number
-outside : (depth : ℕ) (st : State) (f k : ℕ) → Tidy st → (look st k).is_open ≡ true → k < f
-    → is_within depth st f (look st k).kind ≡ false
-outside zero st f k tidy o less = refl
-outside (suc depth) st f k tidy o less =
-    go (look st k).kind refl
-    (λ p i. outside depth st f p tidy i.parent (let b = i.below in omega arith)) where
-      go : (kind : StreamKind) → (look st k).kind ≡ kind
-          → ((p : ℕ) → IsIn st k p → is_within depth st f (look st p).kind ≡ false)
-          → is_within (suc depth) st f kind ≡ false
-      go outermost e again = refl
-      go a_fork e again = refl
-      go (content_of p) e again =
-          let i = tidy k p o e in
-          let b = i.below in
-          or_from (p == f) _ (ne_eqb p f (λ q. omega arith))
-          (ap (is_within depth st f) (kind_seen st p) ∙ again p i)
-
 -- a stream that is open is there
-open_there : (o : Option Stream) → tested false (λ (s : Stream). s.is_open) o ≡ true
+open_there : (o : Option Stream) → elim o [ None ↦ false | Some s ↦ s.is_open ] ≡ true
     → (s : Stream) × ((o ≡ Some s) × (s.is_open ≡ true))
 open_there None e = absurd (cc)
 open_there (Some s) e = (s, (refl, e))
 
--- the stream stays open on the fork's side
-module _ (st : State) (k : ℕ) (cs : List Command) (s : Stream) (there_is : stream_at st k ≡ Some s)
-    (open_is : s.is_open ≡ true) where
-  abbrev tried_state : State
-  tried_state =
-      last_state (step (commands.on k commands.fork) st).state
-      (map (command_on_fork k (length st)) cs)
-
-  fork_out : Tidy tried_state → is_self_contained k (length st) cs ≡ true
-      → is_inside tried_state (length st) k ≡ false
-  fork_out tidy contained =
-      let r =
-      runs st k s there_is cs st (step (commands.on k commands.fork) st).state
-      (starts st k s there_is open_is) contained in
-      let less = there_within st k s there_is in
-      ap (is_within (length tried_state) tried_state (length st)) (kind_seen tried_state k)
-      ∙ outside (length tried_state) tried_state (length st) k tidy
-      (ap (λ o. (or_nobody o).is_open) r.after.kept ∙ open_is) less
-
 pub forks_follow_commands : ForksFollowCommands
 forks_follow_commands f before cs k is contained =
     let st = last_state (first_state f) before in
-    let (s, (there_is, open_is)) = open_there (stream_at st k) is in
-    let tidy = run_tidy (first_state f) before (first_tidy f) in
-    let later =
-    run_tidy st (commands.on k commands.fork ∷ map (command_on_fork k (length st)) cs) tidy in
-    is_followed st k s there_is open_is cs contained
-    (fork_out st k cs s there_is open_is later contained)
+    let (s, (there_is, open_is)) = open_there (slice_get st k) is in
+    is_followed st k s there_is open_is cs (run_sound (first_state f) before (first_sound f))
+    contained

@@ -5,7 +5,8 @@ use Rattle.tok_buffer.specs.Ahead.{leftover}
 use Rattle.tok_buffer.specs.Place.{Place}
 use Rattle.syn_replay.specs.Commands.{Action, Command, on, advance, discard}
 use Rattle.syn_replay.specs.Reports.{done, Verdict, accepted}
-use Rattle.syn_replay.specs.Session.State.{Stream, content_of, State, first_state, stream_at}
+use Rattle.syn_replay.specs.Session.State.{Stream, content_of, State, first_state}
+use Rattle.std.specs.List.{slice_get}
 use Rattle.syn_replay.specs.Session.State.{closed_inside}
 use Rattle.syn_replay.specs.Session.Step.{is_spent, step}
 use Rattle.syn_replay.specs.Session.Walk.{last_state}
@@ -13,7 +14,7 @@ use Rattle.syn_replay.specs.Session.Walk.{last_state}
 -- a content of this parent was open, at this place, and is spent afterwards
 pub record IsShut (before after : State) (content parent : ℕ) (p : Place) : Type 0 where
   pub stream : Stream
-  pub here : stream_at before content ≡ Some stream
+  pub here : slice_get before content ≡ Some stream
   pub was_open : stream.is_open ≡ true
   pub inside : stream.kind ≡ content_of parent
   pub at_place : stream.place ≡ p
@@ -60,7 +61,7 @@ module _ (f : Forest) (cs : List Command) where
   -- nothing is left at the end of stream 0, nor in a content that is closed into a stream that
   -- counts
   pub record NothingLeft : Type 0 where
-    pub whole_read : (s : Stream) → stream_at all_run 0 ≡ Some s → leftover s.place ≡ None
+    pub whole_read : (s : Stream) → slice_get all_run 0 ≡ Some s → leftover s.place ≡ None
     pub contents_read : (k parent : ℕ) (p : Place) →
         Closes k parent p → Counts parent → leftover p ≡ None
 

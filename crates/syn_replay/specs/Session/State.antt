@@ -1,6 +1,7 @@
 -- The streams of a replay.
-use Rattle.std.specs.Prelude.{ℕ, zero, suc, ◌+◌, ◌-◌, ◌==◌, ◌&&◌, ◌||◌, Bool, true, false, cond}
-use Rattle.std.specs.Prelude.{List, [], ◌∷◌, length, Option, Some, None}
+use Rattle.std.specs.Prelude.{ℕ, zero, suc, ◌+◌, ◌==◌, ◌&&◌, ◌||◌, Bool, true, false, cond}
+use Rattle.std.specs.Prelude.{List, [], ◌∷◌, length, map, Option, Some, None}
+use Rattle.std.specs.List.{slice_get}
 use Rattle.std.specs.Option.{option_or}
 use Rattle.tok_leaves.specs.declared.span.Span.{Span}
 use Rattle.tok_core.specs.Forest.{Forest}
@@ -58,10 +59,13 @@ first_state f =
       note = None;
     } ∷ []
 
-abbrev pub stream_at : State → ℕ → Option Stream
-stream_at [] k = None
-stream_at (s ∷ st) zero = Some s
-stream_at (s ∷ st) (suc k) = stream_at st k
+-- whether a stream is there and open
+abbrev pub is_open_at : State → ℕ → Bool
+is_open_at st k = elim (slice_get st k) [ None ↦ false | Some s ↦ s.is_open ]
+
+-- the kinds of the streams
+abbrev pub kinds : State → List StreamKind
+kinds st = map (λ s. s.kind) st
 
 -- one stream changed
 abbrev pub with_stream : State → ℕ → (Stream → Stream) → State
@@ -84,68 +88,80 @@ is_content_of parent outermost = false
 is_content_of parent (content_of p) = p == parent
 is_content_of parent a_fork = false
 
-abbrev pub is_open_content_of : ℕ → Option Stream → Bool
-is_open_content_of parent None = false
-is_open_content_of parent (Some s) = s.is_open && is_content_of parent s.kind
+abbrev pub kind_at : State → ℕ → StreamKind
+kind_at st k = elim (slice_get st k) [ None ↦ outermost | Some s ↦ s.kind ]
 
--- what a stream hands up: its note, or else the leftover at its own place
-abbrev pub handed_note : Stream → Option Leftover
-handed_note s = option_or s.note (leftover s.place)
+-- whether a stream was entered from one whose number passes the test
+abbrev pub is_entered_from : (ℕ → Bool) → StreamKind → Bool
+is_entered_from test (content_of p) = test p
+is_entered_from test kind = false
+
+-- a stream is spent if the test is true, and stays as it was otherwise
+abbrev pub spent_if : Bool → Stream → Stream
+spent_if b s = cond b (spent s) s
+
+-- The streams from this number on, of which some end: those that are open and that pass the test,
+-- or were entered from one that ends.
+abbrev pub ended_from : (ends : ℕ → Bool) → (next : ℕ) → State → State
+ended_from ends next [] = []
+ended_from ends next (s ∷ later) =
+    let e = s.is_open && (ends next || is_entered_from ends s.kind) in
+    spent_if e s ∷ ended_from (λ n. cond (n == next) e (ends n)) (next + 1) later
+
+-- a stream ends, and with it the open streams inside
+abbrev pub ended : ℕ → State → State
+ended k st = ended_from (λ n. n == k) 0 st
+
+-- the open streams inside a stream end
+abbrev pub closed_inside : ℕ → State → State
+closed_inside k st = ended_from (λ n. is_content_of k (kind_at st n)) 0 st
+
+-- What is left in the open contents of a stream, among the streams from this number on: the first,
+-- by number, of what each hands up. That is its note, or what is left inside it, or the leftover at
+-- its place.
+abbrev pub left_from : (stream next : ℕ) → State → Option Leftover
+left_from stream next [] = None
+left_from stream next (s ∷ later) =
+    option_or
+    (cond (s.is_open && is_content_of stream s.kind)
+    (option_or (option_or s.note (left_from next (next + 1) later)) (leftover s.place)) None)
+    (left_from stream (next + 1) later)
+
+-- what is left inside a stream
+abbrev pub left_inside : State → ℕ → Option Leftover
+left_inside st k = left_from k 0 st
+
+-- a stream that notes what is left inside it
+abbrev pub gathered : State → ℕ → Stream → Stream
+gathered st k s = with_note (left_inside st k) s
+
+-- what a stream hands up
+abbrev pub handed_note : State → ℕ → Stream → Option Leftover
+handed_note st k s = option_or (gathered st k s).note (leftover s.place)
 
 abbrev pub with_note_on_parent : StreamKind → Option Leftover → State → State
 with_note_on_parent outermost n st = st
 with_note_on_parent (content_of p) n st = with_stream st p (with_note n)
 with_note_on_parent a_fork n st = st
 
--- a stream notes on its parent what it hands up, and is spent
-abbrev pub handed_up : ℕ → State → State
-handed_up k st =
-    elim (stream_at st k) [
+-- a content notes on its parent what it hands up, and ends
+abbrev pub closed : ℕ → State → State
+closed k st =
+    elim (slice_get st k) [
       | None ↦ st
-      | Some s ↦ with_stream (with_note_on_parent s.kind (handed_note s) st) k spent
+      | Some s ↦ ended k (with_note_on_parent s.kind (handed_note st k s) st)
     ]
 
--- A stream ends: it is discarded, or hands up what it leaves.
-abbrev pub ended : (is_discarded : Bool) → ℕ → State → State
-ended true k st = with_stream st k spent
-ended false k st = handed_up k st
-
--- Ends the open contents whose parent is this stream, by number, among so many streams from one
--- on. Each first ends those inside it, which have higher numbers.
-abbrev pub contents_ended : Bool → (room : ℕ) → (stream next : ℕ) → State → State
-contents_ended d zero stream next st = st
-contents_ended d (suc room) stream next st =
-    contents_ended d room stream (next + 1)
-    (cond (is_open_content_of stream (stream_at st next))
-    (ended d next (contents_ended d room next (next + 1) st)) st)
-
--- all open contents inside a stream end
-abbrev pub ended_inside : Bool → ℕ → State → State
-ended_inside d k st = contents_ended d (length st - (k + 1)) k (k + 1) st
-
-abbrev pub closed_inside : ℕ → State → State
-closed_inside = ended_inside false
-
--- and then the stream itself
-abbrev pub closed : ℕ → State → State
-closed k st = handed_up k (closed_inside k st)
-
-abbrev pub all_spent : ℕ → State → State
-all_spent k st = with_stream (ended_inside true k st) k spent
-
--- the open contents inside the fork are closed, its place and note go to the stream, and it is
--- spent
-abbrev pub taken_over : Option Stream → Stream → Stream
-taken_over None s = s
-taken_over (Some f) s = put (parse.advanced (at_rest f) (at_rest s)) s
-
+-- a stream goes to the place of a fork, and notes what is left of it and inside it; the fork ends
 abbrev pub advanced : (stream fork : ℕ) → State → State
 advanced stream fork st =
-    let now = closed_inside fork st in
-    with_stream (with_stream now stream (taken_over (stream_at now fork))) fork spent
-
-abbrev pub kind_at : State → ℕ → StreamKind
-kind_at st k = elim (stream_at st k) [ None ↦ outermost | Some s ↦ s.kind ]
+    elim (slice_get st fork) [
+      | None ↦ st
+      | Some f ↦
+          ended fork
+          (with_stream st stream
+          (λ s. put (parse.advanced (at_rest (gathered st fork f)) (at_rest s)) s))
+    ]
 
 -- a stream of this kind was entered inside another, at most at this depth
 abbrev pub is_within : (depth : ℕ) → State → (outer : ℕ) → StreamKind → Bool

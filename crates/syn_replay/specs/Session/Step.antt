@@ -9,12 +9,16 @@ use Rattle.tok_buffer.specs.Place.{Place, empty_place}
 use Rattle.tok_buffer.specs.Messages.{at_stream}
 use Rattle.syn_replay.specs.Commands.{Action, Command, read, enter, fork, advance, discard, close}
 use Rattle.syn_replay.specs.Commands.{read_answer}
-use Rattle.syn_replay.specs.Reports.{Answer, entered, forked, done, refused, unfit, Position, missing}
+use Rattle.syn_replay.specs.Reports.{Answer, entered, forked, done, refused, misused, Position, missing}
 use Rattle.syn_replay.specs.Reports.{Line}
+use Rattle.syn_replay.specs.declared.report.Misuse.{Misuse}
+use Rattle.syn_replay.specs.declared.report.Misuse.TheVariants.{NoStream, Spent, NoFork, NoContent}
+use Rattle.syn_replay.specs.declared.report.Misuse.TheVariants.{OutOfScope}
 use Rattle.syn_replay.specs.Session.Entering.{entered_by, entering_words}
-use Rattle.syn_replay.specs.Session.State.{Stream, StreamKind, content_of, a_fork, State, stream_at}
+use Rattle.syn_replay.specs.Session.State.{Stream, StreamKind, content_of, a_fork, State}
+use Rattle.std.specs.List.{slice_get}
 use Rattle.syn_replay.specs.Session.State.{with_stream, moved_to, is_or_inside, closed, advanced}
-use Rattle.syn_replay.specs.Session.State.{all_spent, position_of}
+use Rattle.syn_replay.specs.Session.State.{ended, position_of}
 
 -- an answer with the streams after it
 pub record Stepped : Type 0 where
@@ -55,9 +59,9 @@ on_stream fork st k s =
       state = st ++ new_stream s.place s.scope_span a_fork ∷ [];
     }
 on_stream (advance f) st k s =
-    cond (same_scope s.place (place_of (stream_at st f)) && not (is_or_inside st f k))
-    (record { answer = done; state = advanced k f st }) (stays st (unfit 5))
-on_stream discard st k s = record { answer = done; state = all_spent k st }
+    cond (same_scope s.place (place_of (slice_get st f)) && not (is_or_inside st f k))
+    (record { answer = done; state = advanced k f st }) (stays st (misused OutOfScope))
+on_stream discard st k s = record { answer = done; state = ended k st }
 on_stream close st k s = record { answer = done; state = closed k st }
 
 -- the stream that is named beside the command's own, if there is one
@@ -80,10 +84,10 @@ tested without test None = without
 tested without test (Some s) = test s
 
 abbrev pub is_missing : State → ℕ → Bool
-is_missing st k = tested true (λ s. false) (stream_at st k)
+is_missing st k = tested true (λ s. false) (slice_get st k)
 
 abbrev pub is_spent : State → ℕ → Bool
-is_spent st k = tested false (λ s. not s.is_open) (stream_at st k)
+is_spent st k = tested false (λ s. not s.is_open) (slice_get st k)
 
 abbrev pub any_of : (ℕ → Bool) → List ℕ → Bool
 any_of test [] = false
@@ -98,37 +102,37 @@ is_content (content_of p) = true
 is_content k = false
 
 abbrev pub of_kind : (StreamKind → Bool) → State → ℕ → Bool
-of_kind test st k = tested false (λ s. test s.kind) (stream_at st k)
+of_kind test st k = tested false (λ s. test s.kind) (slice_get st k)
 
--- what a command asks of the kinds of its streams: none, or the number of the misuse
-abbrev pub kind_misuse : Action → State → ℕ → Option ℕ
-kind_misuse (advance f) st k = cond (of_kind is_fork st f) None (Some 3)
-kind_misuse discard st k = cond (of_kind is_fork st k) None (Some 3)
-kind_misuse close st k = cond (of_kind is_content st k) None (Some 4)
+-- what a command asks of the kinds of its streams: nothing, or what it misses
+abbrev pub kind_misuse : Action → State → ℕ → Option Misuse
+kind_misuse (advance f) st k = cond (of_kind is_fork st f) None (Some NoFork)
+kind_misuse discard st k = cond (of_kind is_fork st k) None (Some NoFork)
+kind_misuse close st k = cond (of_kind is_content st k) None (Some NoContent)
 kind_misuse a st k = None
 
 -- the first misuse of the streams that a command names
-abbrev pub misuse : Command → State → Option ℕ
+abbrev pub misuse : Command → State → Option Misuse
 misuse c st =
-    cond (any_of (is_missing st) (named c)) (Some 1)
-    (cond (any_of (is_spent st) (named c)) (Some 2) (kind_misuse c.action st c.stream))
+    cond (any_of (is_missing st) (named c)) (Some NoStream)
+    (cond (any_of (is_spent st) (named c)) (Some Spent) (kind_misuse c.action st c.stream))
 
 abbrev pub step_on : Action → State → ℕ → Option Stream → Stepped
-step_on a st k None = stays st (unfit 1)
+step_on a st k None = stays st (misused NoStream)
 step_on a st k (Some s) = on_stream a st k s
 
 abbrev pub step : Command → State → Stepped
 step c st =
     elim (misuse c st) [
-      | Some n ↦ stays st (unfit n)
-      | None ↦ step_on c.action st c.stream (stream_at st c.stream)
+      | Some m ↦ stays st (misused m)
+      | None ↦ step_on c.action st c.stream (slice_get st c.stream)
     ]
 
--- where the stream of a command is after it; C1 is of none
+-- where the stream of a command is after it; if one that it names is missing, nowhere
 abbrev pub position_in : Command → State → State → Position
 position_in c st after =
     cond (any_of (is_missing st) (named c)) missing
-    (elim (stream_at after c.stream) [ None ↦ missing | Some s ↦ position_of s.place ])
+    (elim (slice_get after c.stream) [ None ↦ missing | Some s ↦ position_of s.place ])
 
 -- the line of a command, from the streams before it
 abbrev pub line : Command → State → Line

@@ -1,13 +1,16 @@
 -- What the parts of a replay promise.
-use Rattle.std.specs.Prelude.{◌≡◌, ℕ, List, map, Some, None, Result, Ok, Err}
+use Rattle.std.specs.Prelude.{◌≡◌, ℕ, List, map, Option, Some, None, Result, Ok, Err}
 use Rattle.std.specs.List.{All}
+use Rattle.std.specs.Option.{option_map}
+use Rattle.syn_parse.specs.State as parse
 use Rattle.std.specs.declared.alloc.AllocError.{AllocError}
 use Rattle.syn_parse.specs.declared.fault.Fault.{Fault}
 use Rattle.syn_parse.specs.declared.fault.Fault.TheVariants.{Refused, Memory}
 use Rattle.syn_replay.specs.Commands.{command_of}
 use Rattle.syn_replay.specs.Reports as reports
 use Rattle.syn_replay.specs.Reports.{Position, missing}
-use Rattle.syn_replay.specs.Session.State.{State, position_of, stream_at}
+use Rattle.syn_replay.specs.Session.State.{State, at_rest, gathered, position_of}
+use Rattle.std.specs.List.{slice_get}
 use Rattle.syn_replay.specs.Session.Step.{Stepped, step, line}
 use Rattle.syn_replay.specs.Session.Walk.{lines_from, last_state}
 use Rattle.tok_buffer.specs.Messages.{first_message}
@@ -50,4 +53,8 @@ IsPlainVerdict (verdict.Refused e) = IsOneMessage e
 
 -- where a stream is
 abbrev pub stands : State → ℕ → Position
-stands st n = elim (stream_at st n) [ None ↦ missing | Some s ↦ position_of s.place ]
+stands st n = elim (slice_get st n) [ None ↦ missing | Some s ↦ position_of s.place ]
+
+-- a stream as it is once its contents are closed
+abbrev pub gathered_at : State → ℕ → Option parse.State
+gathered_at st n = option_map (λ s. at_rest (gathered st n s)) (slice_get st n)

@@ -1,22 +1,7 @@
 -- What the streams of the program stand for.
-use Rattle.std.specs.Prelude.{ℕ, Bool, true, false, List, map, Option, Some, None}
-use Rattle.syn_parse.specs.Pauses.{paused_state}
-use Rattle.syn_replay.specs.Session.State.{State, StreamKind, outermost, content_of, a_fork}
-use Rattle.syn_replay.specs.Session.State.{standing}
-use Rattle.syn_replay.specs.Session.State as spec
-use Rattle.syn_replay.specs.declared.session.stream.Stream.{Stream}
+use Rattle.syn_replay.specs.Session.State.{State}
+use Rattle.syn_replay.specs.Session.Stream.{state_of_list}
 use Rattle.syn_replay.specs.declared.session.streams.Streams.{Streams}
-
-abbrev pub kind_of : (is_fork : Bool) → Option ℕ → StreamKind
-kind_of is_fork (Some p) = content_of p
-kind_of true None = a_fork
-kind_of false None = outermost
-
-abbrev pub stream_of : Stream → spec.Stream
-stream_of s = standing (paused_state s.paused) (kind_of s.is_fork s.links.parent) s.is_open
-
-abbrev pub state_of_list : List Stream → State
-state_of_list ss = map stream_of ss
 
 abbrev pub state_of : Streams → State
 state_of s = state_of_list s.list.items

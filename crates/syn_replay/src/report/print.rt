@@ -6,7 +6,7 @@ ghost use Rattle.syn_replay.specs.ReportText as spec;
 ghost use Rattle.tok_buffer.specs.Messages.{first_message};
 ghost use Rattle.syn_replay.specs.Meanings.{piece_of, pieces_in, answer_of, position_of, line_of, verdict_of, report_of};
 
-use crate::report::{Answer, Line, Piece, Position, Report, Verdict};
+use crate::report::{Answer, Line, Misuse, Piece, Position, Report, Verdict};
 use itoa::Buffer;
 use std::fmt;
 use std::fmt::{Formatter, Write};
@@ -55,7 +55,22 @@ impl fmt::Display for Answer {
                 write_span(f, *span)
             }
             Answer::Refused(error) => write_message(f, error),
-            Answer::Unfit(number) => write!(f, "refused C{number}"),
+            Answer::Misused(misuse) => write!(f, "refused C{}", misuse.number()),
+        }
+    }
+}
+
+impl Misuse {
+    // Returns the number that is printed.
+    fn number(self) -> u8
+        ensures { result ≡ spec.misuse_number self }
+    {
+        match self {
+            Misuse::NoStream => 1,
+            Misuse::Spent => 2,
+            Misuse::NoFork => 3,
+            Misuse::NoContent => 4,
+            Misuse::OutOfScope => 5,
         }
     }
 }

@@ -1,14 +1,23 @@
 //! The streams of a replay, by number.
-ghost use Rattle.std.specs.Prelude.{◌<◌, length};
-ghost use Rattle.syn_replay.specs.Session.Links.{links_of, AreLinked};
+ghost use Rattle.std.specs.Prelude.{◌≡◌, ◌<◌, length};
+ghost use Rattle.syn_parse.specs.Groups.{AreParts, Enters};
+ghost use Rattle.syn_parse.specs.ErrorWords.{refused_at};
+ghost use Rattle.syn_replay.specs.Session.Entering.{entered_by, entering_words};
+ghost use Rattle.syn_replay.specs.Session.Links.{AreListed};
+ghost use Rattle.syn_replay.specs.Session.Stepping.{Answers};
 
-use crate::session::stream::{Stream, link};
+use crate::report::{Answer, Misuse};
+use crate::session::stream::Stream;
 use std::alloc::{AllocError, Global};
-use syn_parse::Paused;
+use syn_parse::{
+    Braces, Brackets, Fault, Group, Parens, ParseBuffer, ParseStream, Paused, parse_braces,
+    parse_brackets, parse_group, parse_parens,
+};
+use tok_core::{DelimSpan, Delimiter};
 
 /// The streams of a replay. Stream 0 is the whole.
 ///
-/// Each stream is linked to those of its groups, so that closing it visits those alone.
+/// Each stream lists those of its groups, so that closing it visits those alone.
 ///
 /// # Requires
 ///
@@ -17,32 +26,35 @@ use syn_parse::Paused;
 pub struct Streams<'a> {
     list: Vec<Stream<'a>>,
     ghost rooted: { 0 < length list.items },
-    ghost linked: { AreLinked (links_of list.items) },
+    ghost listed: { AreListed list.items },
 }
 
 impl<'a> Streams<'a> {
     ghost use Rattle.std.specs.Prelude.{◌≡◌, ◌<◌, ◌∷◌, [], ◌++◌, length, Some, None, MatchOption, IfOk, OnOk, OnErr, true};
-    ghost use Rattle.tok_buffer.specs.Order.{same_scope};
+    ghost use Rattle.std.specs.List.{slice_get};
     ghost use Rattle.syn_parse.specs.Pauses.{paused_state};
-    ghost use Rattle.syn_replay.specs.Session.State.{outermost, content_of, a_fork, stream_at, with_stream, standing, put, handed_up, ended, ended_inside, closed_inside, closed, spent, advanced, all_spent, is_inside, is_or_inside};
-    ghost use Rattle.syn_replay.specs.Session.Step.{place_of};
-    ghost use Rattle.syn_replay.specs.Session.Tracks.{stream_of, state_of};
+    ghost use Rattle.syn_replay.specs.Commands as commands;
+    ghost use Rattle.syn_replay.specs.Session.State.{outermost, content_of, a_fork, with_stream, standing, put, closed, ended, is_inside, is_open_at, is_or_inside};
+    ghost use Rattle.syn_replay.specs.Session.Step.{step_on};
+    ghost use Rattle.syn_replay.specs.Session.Stepping.{IsStepped, gathered_at};
+    ghost use Rattle.syn_replay.specs.Session.Stream.{stream_of};
+    ghost use Rattle.syn_replay.specs.Session.Tracks.{state_of};
 
-    /// Creates the table with the whole stream.
+    /// Creates the list with the whole stream.
     pub fn new(alloc: Global, whole: Paused<'a>) -> Result<Self, AllocError>
         ensures { IfOk result
             (λ s. state_of s ≡ standing (paused_state whole.entry) outermost true ∷ []) }
     {
         let mut list = Vec::new(alloc);
-        list.push(Stream::new(whole, None))?;
+        list.push(Stream::new(alloc, whole, None))?;
         Ok(Streams { list })
     }
 
     /// Returns stream `n`, if it exists.
     pub fn get(&self, n: usize) -> Option<&Stream<'a>>
         ensures { MatchOption result
-            (stream_at (state_of self.now) n ≡ None)
-            (λ s. stream_at (state_of self.now) n ≡ Some (stream_of s.now)) }
+            (slice_get (state_of self.now) n ≡ None)
+            (λ s. slice_get (state_of self.now) n ≡ Some (stream_of s.now)) }
     {
         if n < self.list.len() {
             Some(&self.list[n])
@@ -54,32 +66,23 @@ impl<'a> Streams<'a> {
     /// Returns stream `n`, which exists.
     pub fn at(&self, n: usize) -> &Stream<'a>
         requires { n < length (state_of self.now) }
-        ensures { stream_at (state_of self.now) n ≡ Some (stream_of result.now) }
+        ensures { slice_get (state_of self.now) n ≡ Some (stream_of result.now) }
     {
         &self.list[n]
-    }
-
-    /// Returns the whole stream.
-    pub fn whole(&self) -> &Stream<'a>
-        ensures { stream_at (state_of self.now) 0 ≡ Some (stream_of result.now) }
-    {
-        &self.list[0]
     }
 
     /// Puts stream `n` at another place.
     pub fn put(&mut self, n: usize, paused: Paused<'a>)
         requires { n < length (state_of self.old) }
-        ensures after { state_of self.new
+        ensures { state_of self.new
             ≡ with_stream (state_of self.old) n (put (paused_state paused.entry)) }
-        ensures links { links_of self.new.list.items ≡ links_of self.old.list.items }
     {
         self.list[n].paused = paused;
     }
 
-    /// Moves stream `n` past a group, whose stream becomes the last one.
-    ///
-    /// If an allocation fails, nothing changes.
-    pub fn enter(
+    // Moves stream `n` past a group, whose stream becomes the last one. If an allocation fails,
+    // nothing changes.
+    fn add_content(
         &mut self,
         n: usize,
         content: Paused<'a>,
@@ -94,14 +97,39 @@ impl<'a> Streams<'a> {
         ensures err { OnErr result (state_of self.new ≡ state_of self.old) }
     {
         let number = self.list.len();
-        self.list.push(Stream::new(content, Some(n)))?;
-        link(&mut self.list, n, number);
-        self.list[n].paused = parent;
+        let alloc = *self.list.allocator();
+        self.list.reserve(1)?;
+        let stream = &mut self.list[n];
+        stream.contents.push(number)?;
+        stream.paused = parent;
+        self.list
+            .push_reserved(Stream::new(alloc, content, Some(n)));
         Ok(number)
     }
 
-    /// Appends a fork. If the allocation fails, nothing changes.
-    pub fn fork(&mut self, fork: Paused<'a>) -> Result<usize, AllocError>
+    /// Enters the next group of stream `n`, if it has the wanted delimiter.
+    pub fn enter(&mut self, n: usize, wanted: Option<Delimiter>) -> Result<Answer, AllocError>
+        requires { n < length (state_of self.old) }
+        ensures { IfOk result
+            (λ a. IsStepped a (state_of self.new)
+            (step_on (commands.enter wanted) (state_of self.old) n
+            (slice_get (state_of self.old) n))) }
+    {
+        let mut input = self.list[n].paused.resume();
+        match enter_group(&mut input, wanted) {
+            Ok((delimiter, span, content)) => {
+                let number = self.add_content(n, content.pause(), input.pause())?;
+                Ok(Answer::Entered(number, delimiter, span))
+            }
+            Err(fault) => {
+                input.discard();
+                refused(fault)
+            }
+        }
+    }
+
+    // Appends a fork. If the allocation fails, nothing changes.
+    fn add_fork(&mut self, fork: Paused<'a>) -> Result<usize, AllocError>
         ensures number { IfOk result (λ i. i ≡ length (state_of self.old)) }
         ensures ok { OnOk result
             (state_of self.new
@@ -109,79 +137,68 @@ impl<'a> Streams<'a> {
         ensures err { OnErr result (state_of self.new ≡ state_of self.old) }
     {
         let number = self.list.len();
-        self.list.push(Stream::fork(fork))?;
+        let alloc = *self.list.allocator();
+        self.list.push(Stream::fork(alloc, fork))?;
         Ok(number)
     }
 
-    fn spend(&mut self, n: usize)
+    /// Makes a stream at the place of stream `n`.
+    pub fn fork(&mut self, n: usize) -> Result<Answer, AllocError>
         requires { n < length (state_of self.old) }
-        ensures after { state_of self.new ≡ with_stream (state_of self.old) n spent }
-        ensures links { links_of self.new.list.items ≡ links_of self.old.list.items }
+        ensures { IfOk result
+            (λ a. IsStepped a (state_of self.new)
+            (step_on commands.fork (state_of self.old) n (slice_get (state_of self.old) n))) }
     {
-        self.list[n].is_open = false;
+        let input = self.list[n].paused.resume();
+        let fork = input.fork();
+        input.discard();
+        let number = self.add_fork(fork.pause())?;
+        Ok(Answer::Forked(number))
     }
 
-    // Closes a group's stream into its parent, and ends it.
-    fn hand_up(&mut self, k: usize)
-        requires { k < length (state_of self.old) }
-        ensures after { state_of self.new ≡ handed_up k (state_of self.old) }
-        ensures links { links_of self.new.list.items ≡ links_of self.old.list.items }
+    /// Returns stream `n` as it is once the open groups inside it are closed.
+    pub fn gathered(&self, n: usize) -> ParseBuffer<'a>
+        requires { n < length (state_of self.now) }
+        ensures { gathered_at (state_of self.now) n ≡ Some result }
     {
-        let stream = self.list[k];
-        if let Some(parent) = stream.links.parent {
-            let mut input = self.list[parent].paused.resume();
-            input.close(stream.paused.resume());
-            self.put(parent, input.pause());
-        }
-        self.spend(k);
-    }
-
-    // Ends a stream. What it leaves is recorded nowhere if it is discarded.
-    fn end(&mut self, i: usize, is_discarded: bool)
-        requires { i < length (state_of self.old) }
-        ensures after { state_of self.new ≡ ended is_discarded i (state_of self.old) }
-        ensures links { links_of self.new.list.items ≡ links_of self.old.list.items }
-    {
-        if is_discarded {
-            self.spend(i);
-        } else {
-            self.hand_up(i);
-        }
-    }
-
-    // Ends the open groups inside a stream. No list is walked twice, since a stream ends once.
-    fn end_contents(&mut self, k: usize, is_discarded: bool)
-        requires { k < length (state_of self.old) }
-        ensures after { state_of self.new ≡ ended_inside is_discarded k (state_of self.old) }
-        ensures links { links_of self.new.list.items ≡ links_of self.old.list.items }
-    {
-        let mut next = self.list[k].links.first;
-        while let Some(i) = next {
-            let stream = self.list[i];
-            if stream.is_open {
-                self.end_contents(i, is_discarded);
-                self.end(i, is_discarded);
+        let stream = &self.list[n];
+        let mut input = stream.paused.resume();
+        for index in 0..stream.contents.len() {
+            let i = stream.contents[index];
+            if self.list[i].is_open {
+                input.close(self.gathered(i));
             }
-            next = stream.links.next;
+        }
+        input
+    }
+
+    /// Ends a stream and the open groups inside it. What they leave unread is recorded nowhere. No
+    /// list is walked twice, since a stream ends once.
+    pub fn end(&mut self, k: usize)
+        requires { is_open_at (state_of self.old) k ≡ true }
+        ensures { state_of self.new ≡ ended k (state_of self.old) }
+    {
+        self.list[k].is_open = false;
+        for index in 0..self.list[k].contents.len() {
+            let i = self.list[k].contents[index];
+            if self.list[i].is_open {
+                self.end(i);
+            }
         }
     }
 
-    /// Closes the open groups inside a stream.
-    pub fn close_contents(&mut self, k: usize)
-        requires { k < length (state_of self.old) }
-        ensures after { state_of self.new ≡ closed_inside k (state_of self.old) }
-        ensures links { links_of self.new.list.items ≡ links_of self.old.list.items }
-    {
-        self.end_contents(k, false);
-    }
-
-    /// Closes the open groups inside a stream, and then the stream.
+    /// Closes a group's stream, and all that are open inside it, into its parent.
     pub fn close(&mut self, k: usize)
-        requires { k < length (state_of self.old) }
+        requires { is_open_at (state_of self.old) k ≡ true }
         ensures { state_of self.new ≡ closed k (state_of self.old) }
     {
-        self.close_contents(k);
-        self.hand_up(k);
+        if let Some(parent) = self.list[k].parent {
+            let content = self.gathered(k);
+            let mut input = self.list[parent].paused.resume();
+            input.close(content);
+            self.put(parent, input.pause());
+        }
+        self.end(k);
     }
 
     /// Returns `true` if a stream was entered inside another, at any depth.
@@ -189,29 +206,39 @@ impl<'a> Streams<'a> {
         requires { inner < length (state_of self.now) }
         ensures { result ≡ is_inside (state_of self.now) outer inner }
     {
-        let mut next = self.list[inner].links.parent;
+        let mut next = self.list[inner].parent;
         while let Some(parent) = next {
             if parent == outer {
                 return true;
             }
-            next = self.list[parent].links.parent;
+            next = self.list[parent].parent;
         }
         false
     }
 
-    /// Closes the open groups inside a fork, moves stream `n` to its place, and ends it.
-    pub fn advance(&mut self, n: usize, fork: usize)
+    /// Moves stream `n` to the place of a fork, and ends the fork. The open groups inside the fork
+    /// are closed.
+    ///
+    /// The fork must be in the same scope, and the stream neither the fork nor inside it.
+    pub fn advance(&mut self, n: usize, fork: usize) -> Answer
         requires stream { n < length (state_of self.old) }
-        requires fork { fork < length (state_of self.old) }
-        requires scope { same_scope (place_of (stream_at (state_of self.old) n))
-            (place_of (stream_at (state_of self.old) fork)) ≡ true }
-        ensures { state_of self.new ≡ advanced n fork (state_of self.old) }
+        requires fork { is_open_at (state_of self.old) fork ≡ true }
+        ensures { IsStepped result (state_of self.new)
+            (step_on (commands.advance fork) (state_of self.old) n
+            (slice_get (state_of self.old) n)) }
     {
-        self.close_contents(fork);
         let mut input = self.list[n].paused.resume();
-        input.advance_to(self.list[fork].paused.resume());
-        self.put(n, input.pause());
-        self.spend(fork);
+        let other = self.gathered(fork);
+        if input.cursor().same_scope(other.cursor()) && !self.is_or_inside(fork, n) {
+            input.advance_to(other);
+            self.put(n, input.pause());
+            self.end(fork);
+            Answer::Done
+        } else {
+            input.discard();
+            other.discard();
+            Answer::Misused(Misuse::OutOfScope)
+        }
     }
 
     /// Returns `true` if a stream is another, or was entered inside it.
@@ -221,14 +248,45 @@ impl<'a> Streams<'a> {
     {
         n == outer || self.is_inside(outer, n)
     }
+}
 
-    /// Ends a stream and all open groups inside it. What they leave unread is recorded nowhere.
-    pub fn discard(&mut self, n: usize)
-        requires { n < length (state_of self.old) }
-        ensures after { state_of self.new ≡ all_spent n (state_of self.old) }
-        ensures links { links_of self.new.list.items ≡ links_of self.old.list.items }
-    {
-        self.end_contents(n, true);
-        self.spend(n);
+/// Returns the answer to a command at which a stream returned an error.
+pub fn refused(fault: Fault) -> Result<Answer, AllocError>
+    ensures { Answers fault result }
+{
+    match fault {
+        Fault::Refused(error) => Ok(Answer::Refused(error)),
+        Fault::Memory(error) => Err(error),
+    }
+}
+
+// Enters the next group if it has the wanted delimiter. Returns its delimiter, its span and its
+// stream.
+fn enter_group<'a>(
+    input: ParseStream<'_, 'a>,
+    wanted: Option<Delimiter>,
+) -> syn_parse::Result<(Delimiter, DelimSpan, ParseBuffer<'a>)>
+    ensures { Enters (λ p e. (p.0 ≡ e.delimiter) × AreParts p.1 p.2 e)
+        (entered_by wanted input.old.place)
+        (refused_at input.old (entering_words wanted)) input.old result input.new }
+{
+    match wanted {
+        None => input.parse_any_delimiter(),
+        Some(Delimiter::Parenthesis) => {
+            let Parens { token, content } = parse_parens(input)?;
+            Ok((Delimiter::Parenthesis, token.span, content))
+        }
+        Some(Delimiter::Brace) => {
+            let Braces { token, content } = parse_braces(input)?;
+            Ok((Delimiter::Brace, token.span, content))
+        }
+        Some(Delimiter::Bracket) => {
+            let Brackets { token, content } = parse_brackets(input)?;
+            Ok((Delimiter::Bracket, token.span, content))
+        }
+        Some(Delimiter::None) => {
+            let Group { token, content } = parse_group(input)?;
+            Ok((Delimiter::None, DelimSpan::new(token.span), content))
+        }
     }
 }

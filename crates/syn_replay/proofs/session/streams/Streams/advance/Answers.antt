@@ -1,75 +1,70 @@
-use Rattle.std.proofs.Common.{◌≡◌, ◌∙◌, ◌<◌, ap, sym, refl, ℕ, List, Some, length, arith}
-use Rattle.tok_buffer.specs.Order.{same_scope}
+use Rattle.std.proofs.Common.{◌∙◌, ◌<◌, ap, sym, length, arith}
+use Rattle.std.proofs.lemmas.Bool.{and_from, and_right}
+use Rattle.std.specs.Prelude.{◌&&◌, not}
 use Rattle.syn_parse.specs.Pauses.{paused_state}
 use Rattle.syn_parse.specs.State as parse
-use Rattle.syn_replay.specs.Session.State.{with_stream, closed_inside, put, spent, stream_at}
-use Rattle.syn_replay.specs.Session.State.{taken_over}
-use Rattle.syn_replay.specs.Session.Step.{place_of}
-use Rattle.syn_replay.specs.Session.Links.{links_of}
-use Rattle.syn_replay.specs.Session.Tracks.{stream_of, state_of_list}
-use Rattle.syn_replay.specs.declared.session.stream.Stream.{Stream}
-use Rattle.syn_replay.proofs.Walk.Links.{length-links}
-use Rattle.syn_replay.proofs.Walk.Changes.{changed_alike}
-use Rattle.syn_replay.proofs.Walk.Tracks.{inside_place, length-state, stream_there}
+use Rattle.syn_replay.specs.Session.State.{ended, is_open_at, is_or_inside}
+use Rattle.syn_replay.specs.Session.Stream.{stream_of}
+use Rattle.syn_replay.specs.Session.Tracks.{state_of}
+use Rattle.syn_replay.proofs.Walk.Changes.{look, within_there}
+use Rattle.syn_replay.proofs.Walk.Closing.{advance_rejected, advance_taken, advances_to, gathered_is}
+use Rattle.syn_replay.proofs.Walk.Closing.{open_length, open_put, scope_found}
+use Rattle.syn_replay.proofs.Walk.Tracks.{length-state, stream_there}
 use Rattle.syn_replay.proofs.session.streams.Streams.advance.Goals as goal
+use Rattle.syn_replay.proofs.session.streams.Streams.advance.Goals.{else-same_scope-via-then-same_scope+else-not-is_or_inside}
+use Rattle.syn_replay.proofs.session.streams.Streams.advance.Goals.{else-same_scope-via-else-same_scope}
 
--- closing keeps where a stream stands
-still_there : (xs ys : List Stream) (k i : ℕ) (y : Stream) (s : parse.State)
-    → state_of_list ys ≡ closed_inside k (state_of_list xs)
-    → stream_at (state_of_list ys) i ≡ Some (stream_of y) → s ≡ paused_state y.paused
-    → s.place ≡ place_of (stream_at (state_of_list xs) i)
-still_there xs ys k i y s e there q =
-    ap (λ t. t.place) q ∙ ap place_of (sym there) ∙ ap (λ z. place_of (stream_at z i)) e
-    ∙ inside_place k i (state_of_list xs)
+pub end-requires : goal.end-requires
+end-requires c =
+    ap (λ z. is_open_at z c.args.fork) c.put.ensures
+    ∙ open_put (state_of c.args.self.now) c.args.n c.args.fork (paused_state c.pause.result)
+    ∙ c.requires.fork
 
-within : (xs ys : List Stream) (i : ℕ) → links_of ys ≡ links_of xs → i < length (state_of_list xs)
-    → i < length ys
-within xs ys i e h =
-    let len : length ys ≡ length xs = sym (length-links ys) ∙ ap length e ∙ length-links xs in
-    omega (arith, len, length-state xs)
-
-pub advance_to-requires : goal.advance_to-requires
-advance_to-requires c =
+pub returns-then-not-is_or_inside : goal.returns-then-not-is_or_inside
+returns-then-not-is_or_inside c =
     let xs = c.args.self.now.list.items in
-    let ys = c.close_contents.new.self.list.items in
-    let n = c.args.n in
-    let f = c.args.fork in
-    let links = c.close_contents.ensures.links in
-    let mine =
-    still_there xs ys f n c.index.result.now c.resume-input.result
-    c.close_contents.ensures.after
-    (stream_there ys n c.index.result.now c.index.ensures
-    (within xs ys n links c.requires.stream)) c.resume-input.ensures in
-    let forks =
-    still_there xs ys f f c.index-2.result.now c.resume.result c.close_contents.ensures.after
-    (stream_there ys f c.index-2.result.now c.index-2.ensures
-    (within xs ys f links c.requires.fork)) c.resume.ensures in
-    ap (λ z. same_scope z c.resume.result.place) mine
-    ∙ ap (λ z. same_scope (place_of (stream_at (state_of_list xs) n)) z) forks
-    ∙ c.requires.scope
-
-pub returns : goal.returns
-returns c =
-    let xs = c.args.self.now.list.items in
-    let ys = c.close_contents.new.self.list.items in
-    let us = state_of_list ys in
+    let st = state_of c.args.self.now in
     let n = c.args.n in
     let f = c.args.fork in
     let x = c.index.result.now in
-    let y = c.index-2.result.now in
-    let links = c.close_contents.ensures.links in
-    let here = stream_there ys n x c.index.ensures (within xs ys n links c.requires.stream) in
-    let there = stream_there ys f y c.index-2.ensures (within xs ys f links c.requires.fork) in
-    let moved =
-    c.pause.ensures ∙ c.advance_to.ensures.moves
-    ∙ ap (λ s. parse.advanced s c.resume-input.result) c.resume.ensures
-    ∙ ap (parse.advanced (paused_state y.paused)) c.resume-input.ensures in
-    c.spend.ensures.after
-    ∙ ap (λ z. with_stream z f spent) (
-    c.put.ensures.after
-    ∙ ap (λ t. with_stream us n (put t)) moved
-    ∙ changed_alike us n (stream_of x)
-    (put (parse.advanced (paused_state y.paused) (paused_state x.paused)))
-    (taken_over (Some (stream_of y))) here refl
-    ∙ ap (λ o. with_stream us n (taken_over o)) (sym there)
-    ∙ ap (λ z. with_stream z n (taken_over (stream_at z f))) c.close_contents.ensures.after)
+    let within : n < length xs = omega (arith, c.requires.stream, length-state xs) in
+    let here = stream_there xs n x c.index.ensures within in
+    let there = within_there st f (open_length st f c.requires.fork) in
+    let other = c.gathered-other.result in
+    let is = gathered_is st f (look st f) other there c.gathered-other.ensures in
+    let scope =
+    scope_found st f (stream_of x) (look st f) there c.resume-input.result other
+    c.resume-input.ensures is _ _ c.cursor.ensures c.cursor-2.ensures in
+    let inside = c.is_or_inside.ensures in
+    let out = c.if-not-is_or_inside.true in
+    advance_taken st n f (stream_of x) here (state_of c.end.new.self)
+    (and_from _ _ (scope ∙ sym c.same_scope.ensures ∙ c.if-same_scope.true)
+    (ap not (sym inside ∙ out)))
+    (c.end.ensures ∙ ap (ended f) c.put.ensures
+    ∙ advances_to st f (look st f) there n (stream_of x) other (paused_state c.pause.result) here is
+    (c.pause.ensures ∙ c.advance_to.ensures.moves
+    ∙ ap (parse.advanced other) c.resume-input.ensures))
+
+pub returns-else-same_scope : goal.returns-else-same_scope
+returns-else-same_scope c =
+    let xs = c.args.self.now.list.items in
+    let st = state_of c.args.self.now in
+    let n = c.args.n in
+    let f = c.args.fork in
+    let x = c.index.result.now in
+    let within : n < length xs = omega (arith, c.requires.stream, length-state xs) in
+    let here = stream_there xs n x c.index.ensures within in
+    let there = within_there st f (open_length st f c.requires.fork) in
+    let other = c.gathered-other.result in
+    let is = gathered_is st f (look st f) other there c.gathered-other.ensures in
+    let scope =
+    scope_found st f (stream_of x) (look st f) there c.resume-input.result other
+    c.resume-input.ensures is _ _ c.cursor.ensures c.cursor-2.ensures in
+    advance_rejected st n f (stream_of x) here
+    (elim c.else-same_scope.branch [
+      | else-same_scope-via-then-same_scope+else-not-is_or_inside w ↦
+          and_right _ _ (ap not (sym w.is_or_inside.ensures ∙ w.if-not-is_or_inside.false))
+      | else-same_scope-via-else-same_scope w ↦
+          ap (λ b. b && not (is_or_inside st f n))
+          (scope ∙ sym c.same_scope.ensures ∙ w.if-same_scope.false)
+    ])
