@@ -50,7 +50,7 @@ overflow_add-position-in-Group-2 t c =
 pub copy_ahead-requires : goal.copy_ahead-requires
 copy_ahead-requires t c =
     let f = held_fits _ _ _ _ _ c.loop-position.invariant.within
-          (sym c.entry.ensures ∙ c.held.ensures ∙ ap entry_of c.in-Group.is) in (
+    (sym c.entry.ensures ∙ c.held.ensures ∙ ap entry_of c.in-Group.is) in (
       omega (arith, f, c.decreases, c.loop-position.invariant.later),
       (
         omega (arith, f, c.requires.in_buffer),
