@@ -48,13 +48,13 @@ fn rebuilds_visible_trees(rt: HostRuntime) {
             (
                 "«a» b",
                 At::Front(0),
-                Some((Some((0, 2, 3)), Some(3))),
+                Some((Some((0, 0, 1)), Some(3))),
                 (4, Some(4), 0),
             ),
             (
                 "(«a») b",
                 At::Front(0),
-                Some((Some((0, 0, 7)), Some(5))),
+                Some((Some((0, 0, 3)), Some(5))),
                 (6, Some(6), 0),
             ),
             (
