@@ -13,7 +13,6 @@ use tok_buffer::Cursor;
 use tok_core::TokenStream;
 
 /// What decides how far a run of visible trees goes: a state that each tree leads to the next one.
-/// `Until` in `crates/examples/src/binding.rt` is one.
 pub trait Run: Sized + Copy {
     // The state after a tree, or nothing if the run ends before it.
     ghost passes: { Self → Tree → Option Self };
