@@ -6,6 +6,7 @@ pub mod Loops
 pub mod Nested
 pub mod Records
 pub mod Routes
+pub mod Rules
 pub mod Services
 pub mod Settings
 pub mod Streams

@@ -8,6 +8,7 @@ pub mod loops;
 pub mod punctuated;
 pub mod records;
 pub mod route;
+pub mod rule;
 pub mod service;
 pub mod setting;
 pub mod streams;

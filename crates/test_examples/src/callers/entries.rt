@@ -1,10 +1,12 @@
-//! The parsers of `example_callers::entry`, `setting`, `records`, `route`, `service` and `value`.
+//! The parsers of `example_callers::entry`, `setting`, `records`, `route`, `rule`, `service` and
+//! `value`.
 use crate::said::all_said;
 use example_callers::entry::{
     Call, Entry, Mark, Pair, parse_entry, parse_entry_both, parse_entry_text,
 };
 use example_callers::records::Record;
 use example_callers::route::Route;
+use example_callers::rule::Rule;
 use example_callers::service::Service;
 use example_callers::setting::{Field, Flag, read_label, read_setting, try_field};
 use example_callers::value::Value;
@@ -39,6 +41,7 @@ enum Read {
     WholeRecord,
     WholeRoute,
     WholeService,
+    WholeRule,
     WholeValue,
     WholeSetting,
     WholeFlag,
@@ -56,6 +59,7 @@ impl Sample for Read {
             Read::WholeRecord => whole_record.parse_str(alloc, text),
             Read::WholeRoute => whole_route.parse_str(alloc, text),
             Read::WholeService => whole_service.parse_str(alloc, text),
+            Read::WholeRule => whole_rule.parse_str(alloc, text),
             Read::WholeValue => whole_value.parse_str(alloc, text),
             Read::WholeSetting => whole_setting.parse_str(alloc, text),
             Read::WholeFlag => whole_flag.parse_str(alloc, text),
@@ -210,6 +214,43 @@ fn reads_services(rt: HostRuntime) {
             ("service a (b: C) as d (e)", "22..23 expected curly braces"),
             ("service a (b: C) as d { e } = f;", "28..29 expected `->`"),
             ("service a (b: C) as d { e } -> f", "call expected `;`"),
+        ],
+    );
+}
+
+// Returns the names of a rule, how many inputs and assignments it has, and whether it has a guard.
+fn whole_rule(input: ParseStream<'_, '_>) -> Result<String> {
+    let rule: Rule = input.parse()?;
+    let name = rule.name.as_str();
+    let inputs = rule.inputs.list.len();
+    let assignments = rule.assignments.len();
+    let lifetime = rule.lifetime.ident.as_str();
+    let owner = rule.target.owner.as_str();
+    let target = rule.target.name.as_str();
+    let has_guard = rule.guard.is_some();
+    Ok(format!(in input.allocator();
+        "{name} {inputs} {assignments} {lifetime} {owner} {target} {has_guard}"
+    )?)
+}
+
+#[test]
+fn reads_rules(rt: HostRuntime) {
+    all_said(
+        &rt,
+        &Read::WholeRule,
+        &[
+            (
+                "rule a: [\"x\", 1] { b = 2; c = 3; } => 'd (e::f) where g!",
+                "a 2 2 d e f true",
+            ),
+            ("rule a: [] {} => 'd (e::f)!", "a 0 0 d e f false"),
+            ("rule a: [] { b = 2 } => 'd (e::f)!", "19..20 expected `;`"),
+            ("rule a: [] { b 2; }", "15..16 expected `=`"),
+            (
+                "rule a: [] {} => 'd (e::f) where !",
+                "33..34 expected identifier",
+            ),
+            ("rule a: [] {} => 'd (e::f) g!", "27..28 expected `!`"),
         ],
     );
 }
