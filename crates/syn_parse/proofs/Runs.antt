@@ -10,7 +10,7 @@ use Rattle.tok_core.proofs.Erasures.{erase_concat}
 use Rattle.tok_core.proofs.Facts.{concat-none, joined_assoc}
 use Rattle.tok_buffer.specs.Buffer.{Laid}
 use Rattle.tok_buffer.specs.Descent.{descend}
-use Rattle.tok_buffer.specs.InFront.{first_if}
+use Rattle.tok_buffer.specs.EachRead.{first_if}
 use Rattle.tok_buffer.specs.Place.{Place}
 use Rattle.tok_buffer.specs.Progress.{remaining}
 use Rattle.tok_buffer.specs.Reached.{Reached, down}

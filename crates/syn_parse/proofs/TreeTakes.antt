@@ -7,7 +7,8 @@ use Rattle.tok_core.specs.Forest.{Tree, Forest}
 use Rattle.tok_core.specs.Seen.{tree_of}
 use Rattle.tok_core.specs.declared.stream.TokenTree.{TokenTree}
 use Rattle.tok_buffer.specs.Descent.{descend}
-use Rattle.tok_buffer.specs.InFront.{first_if, with_ahead}
+use Rattle.tok_buffer.specs.EachRead.{first_if}
+use Rattle.tok_buffer.specs.InFront.{with_ahead}
 use Rattle.tok_buffer.specs.Place.{Place}
 use Rattle.tok_buffer.specs.Reached.{Reached, down}
 use Rattle.tok_buffer.specs.Reads.{any_tree}

@@ -10,7 +10,7 @@ use Rattle.tok_core.proofs.Erasures.{erase_concat}
 use Rattle.tok_buffer.specs.Buffer.{Laid}
 use Rattle.tok_buffer.specs.Cursors.{place_of, spot_place}
 use Rattle.tok_buffer.specs.Descent.{descend}
-use Rattle.tok_buffer.specs.InFront.{first_if}
+use Rattle.tok_buffer.specs.EachRead.{first_if}
 use Rattle.tok_buffer.specs.Moves.{end_of, is_settled, levels_at, up_to}
 use Rattle.tok_buffer.specs.Order.{same_scope}
 use Rattle.tok_buffer.specs.Place.{Level, level, Place, empty_place, at, is_at_end}
@@ -120,7 +120,7 @@ pub passes-keep : (p q : Place) → PassesTrees p q → same_scope p p ≡ true
 passes-keep p q here i = (i, omega arith, λ b r. r)
 passes-keep p z (further q r ts h e) i =
     let k = passes-keep p q h i in (
-      reads_keep_scope.along p q r k.0 (reads_keep_scope.trees q ts r e),
+      reads_keep_scope.along p q r k.0 (reads_keep_scope.calls.trees q ts r e),
       omega (arith, k.1, reads_go_on.trees.lowers q ts r e),
       λ b j.
           subst (LeadsTo (Reached b)) e
