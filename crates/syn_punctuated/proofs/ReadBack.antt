@@ -11,7 +11,7 @@ use Rattle.std.specs.Ordering.{nat_cmp}
 use Rattle.std.specs.declared.cmp.Ordering.TheVariants.{Less}
 use Rattle.std.specs.Global.{Box}
 use Rattle.tok_core.specs.Forest.{Forest, no_trees, concat}
-use Rattle.tok_buffer.specs.Place.{Owner, Place, is_at_end}
+use Rattle.tok_buffer.specs.Place.{Enclosing, Place, is_at_end}
 use Rattle.syn_parse.specs.Faults.{IsMemory}
 use Rattle.syn_parse.specs.Reads.{Call}
 use Rattle.syn_parse.specs.State.{State, moved}
@@ -36,7 +36,7 @@ pub list_by_turns : {X Y : Type 0} (list : Punctuated X Y)
     → AreByTurns (values_of list) (separators_of list)
 list_by_turns list = pairs_by_turns list.inner.items list.last
 
-later_progresses : (o : Owner) (n s c d : ℕ) (p q f g : Forest) → c < d
+later_progresses : (o : Enclosing) (n s c d : ℕ) (p q f g : Forest) → c < d
     → progresses (flat o n s c p f) (flat o n s d q g) ≡ true
 later_progresses o n s c d p q f g l =
     let same : eqb n n ≡ true = eq-eqb n n refl in
@@ -45,7 +45,7 @@ later_progresses o n s c d p q f g l =
     rw (same, scope, less) refl
 
 module _ {T P : Type 0} (value_parses : Call T) (value_printed : T → Forest)
-    (separator_parses : Call P) (separator_printed : P → Forest) (o : Owner) (n s : ℕ) where
+    (separator_parses : Call P) (separator_printed : P → Forest) (o : Enclosing) (n s : ℕ) where
   abbrev Reads : Unit {0} → State → Result T Fault → Unit {0} → State → Type 0
   Reads f from r g to = value_parses from r to
 

@@ -14,7 +14,7 @@ use Rattle.tok_lexical.specs.Characters.{is_punct_or_apostrophe}
 use Rattle.tok_leaves.specs.Spans.{call_site}
 use Rattle.tok_buffer.specs.Ahead.{Leftover}
 use Rattle.tok_core.specs.Weight.{weight}
-use Rattle.tok_buffer.specs.Place.{Owner, whole, is_at_end}
+use Rattle.tok_buffer.specs.Place.{Enclosing, whole, is_at_end}
 use Rattle.tok_buffer.specs.Reads.{and_then, read_word, read_punctuation, read_ident}
 use Rattle.tok_buffer.specs.declared.error.Message.{Message}
 use Rattle.tok_types.specs.Printed.{joint_puncts, puncts}
@@ -45,7 +45,7 @@ first_ident i ts = i
 abbrev no_ident : State → Message
 no_ident from = refused_at from (ident_words (read_ident from.place))
 
-ident_reads : (i : Ident) (o : Owner) (n s c : ℕ) (p f : Forest) (from to : State)
+ident_reads : (i : Ident) (o : Enclosing) (n s c : ℕ) (p f : Forest) (from to : State)
     (r : Result Ident Fault)
     → Reads IsIdent (Some (
       leaf (ident_of i) ∷ [],
@@ -111,7 +111,7 @@ spans_of_puncts (c ∷ (d ∷ cs)) [] l = absurd (omega (arith, l))
 spans_of_puncts (c ∷ (d ∷ cs)) (s ∷ ss) l =
     ap (λ xs. s ∷ xs) (spans_of_puncts (d ∷ cs) ss (omega (arith, l)))
 
-some_puncts : (text : List ℕ) (spans : List Span) (o : Owner) (n s c : ℕ) (p f : Forest)
+some_puncts : (text : List ℕ) (spans : List Span) (o : Enclosing) (n s c : ℕ) (p f : Forest)
     → 0 < length text → length text ≡ length spans
     → is_at_end (flat o n s c p (concat (forest (joint_puncts text spans)) f)) ≡ false
 some_puncts [] spans o n s c p f some l = absurd (omega (arith, some))
@@ -125,7 +125,7 @@ is_itself x h = let e : (x == x) ≡ true =
     eq-eqb x x refl in rw e (and_parts (is_punct_or_apostrophe x) _ h).1
 
 -- the puncts of a text that stand in front are read
-read_puncts : (text : List ℕ) (spans : List Span) (o : Owner) (n s c : ℕ) (p f : Forest)
+read_puncts : (text : List ℕ) (spans : List Span) (o : Enclosing) (n s c : ℕ) (p f : Forest)
     → 0 < length text → length text ≡ length spans → list_all is_plain text ≡ true
     → (d : ℕ) × (q : Forest) × (c < d) × (read_punctuation text
     (flat o n s c p (concat (forest (joint_puncts text spans)) f)) ≡ Some
@@ -172,7 +172,7 @@ module _ (k n : ℕ) (y : Punctuation k n) (some : IsInTable k n) (l : length y.
   as_puncts : punctuation_printed k n y ≡ forest (joint_puncts text y.spans)
   as_puncts = puncts_are_joint text y.spans long (plain_word k n)
 
-  punctuation_reads : (o : Owner) (m s c d : ℕ) (f q : Forest) (from to : State)
+  punctuation_reads : (o : Enclosing) (m s c d : ℕ) (f q : Forest) (from to : State)
       (r : Result (Punctuation k n) Fault) → c < d
       → ReadsAtOnce Means (Some (joint_puncts text y.spans, flat o m s d q f))
       (punctuation_message text from) from r to

@@ -5,11 +5,11 @@ use Rattle.std.specs.Prelude.{cond, IfSome}
 use Rattle.tok_core.specs.Forest.{Tree, leaf, group, Forest, no_trees, tree, forest}
 use Rattle.tok_buffer.specs.Descent.{descend}
 use Rattle.tok_buffer.specs.EachRead.{First, Read}
-use Rattle.tok_buffer.specs.Place.{level, Place, empty_place, at}
+use Rattle.tok_buffer.specs.Place.{frame, Place, empty_place, at}
 use Rattle.tok_buffer.specs.Reads.{and_then, read_if}
 use Rattle.tok_buffer.proofs.View.Unmarked.{plain-ahead}
 use Rattle.tok_buffer.proofs.View.Readings.{Reading, never, one, more, IsOfLeaves}
-use Rattle.tok_buffer.proofs.View.Unmarked.{trees_ahead-descend, trees_ahead-settle}
+use Rattle.tok_buffer.proofs.View.Unmarked.{trees_ahead-descend, trees_ahead-leave_finished}
 use Rattle.tok_buffer.proofs.View.Unmarked.{trees_ahead as forest_ahead}
 use Rattle.syn_punctuated.specs.Trees.{trees_ahead}
 
@@ -40,12 +40,12 @@ if_wanted false ts t q h = tt
 take_is : (wanted : Tree → Bool) → IsOfLeaves wanted → (p : Place)
     → Takes (shown_at p) (read_if wanted p)
 take_is wanted none empty_place = tt
-take_is wanted none (at n s c (level o passed no_trees) ls) = tt
-take_is wanted none (at n s c (level o passed (tree (leaf l) f)) ls) =
+take_is wanted none (at n s c (frame o passed no_trees) ls) = tt
+take_is wanted none (at n s c (frame o passed (tree (leaf l) f)) ls) =
     if_wanted (wanted (leaf l)) _ (leaf l) _
     (ap (λ g. leaf l ∷ list_trees g)
-    (sym (trees_ahead-settle n s (c + 1) (level o (tree (leaf l) passed) f) ls)))
-take_is wanted none (at n s c (level o passed (tree (group d inside span) f)) ls) =
+    (sym (trees_ahead-leave_finished n s (c + 1) (frame o (tree (leaf l) passed) f) ls)))
+take_is wanted none (at n s c (frame o passed (tree (group d inside span) f)) ls) =
     rw (none d inside span) tt
 
 one_is : (wanted : Tree → Bool) → IsOfLeaves wanted → (p : Place)

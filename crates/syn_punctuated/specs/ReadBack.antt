@@ -4,7 +4,7 @@ use Rattle.std.specs.List.{All}
 use Rattle.tok_core.specs.Forest.{Forest, no_trees, concat}
 use Rattle.tok_leaves.specs.declared.ident.Ident.{Ident}
 use Rattle.tok_types.specs.Texts.{accept_as_ident, punctuation_word}
-use Rattle.tok_buffer.specs.Place.{Owner, level, Place, at, is_at_end}
+use Rattle.tok_buffer.specs.Place.{Enclosing, frame, Place, at, is_at_end}
 use Rattle.syn_parse.specs.Faults.{IsMemory}
 use Rattle.syn_parse.specs.Reads.{Call}
 use Rattle.syn_parse.specs.State.{State, moved}
@@ -15,13 +15,13 @@ use Rattle.syn_punctuated.specs.Turns.{terminated, IsPlainRun}
 use Rattle.syn_punctuated.specs.declared.punctuated.Punctuated.{Punctuated}
 
 -- a place in no invisible group: the trees passed, the last one first, and the trees ahead
-abbrev pub flat : Owner → (number scope count : ℕ) → (passed ahead : Forest) → Place
-flat o n s c p f = at n s c (level o p f) []
+abbrev pub flat : Enclosing → (number scope count : ℕ) → (passed ahead : Forest) → Place
+flat o n s c p f = at n s c (frame o p f) []
 
 module _ {T : Type 0} (parses : Call T) (printed : T → Forest) where
   -- x is read, and the stream is after its trees; or an allocation failed
   abbrev pub ReadsAs :
-      T → Owner → (number scope count : ℕ) → (ahead : Forest) → Call T
+      T → Enclosing → (number scope count : ℕ) → (ahead : Forest) → Call T
   ReadsAs x o n s c f from (Ok v) to =
       (v ≡ x)
       × ((d : ℕ) × (q : Forest) × (c < d) × (to ≡ moved (flat o n s d q f) from))
@@ -29,9 +29,9 @@ module _ {T : Type 0} (parses : Call T) (printed : T → Forest) where
 
   -- Where the trees of x are in front, whatever follows them, x is read.
   pub record IsReadBack (x : T) : Type 0 where
-    pub some : (o : Owner) (n s c : ℕ) (p f : Forest)
+    pub some : (o : Enclosing) (n s c : ℕ) (p f : Forest)
         → is_at_end (flat o n s c p (concat (printed x) f)) ≡ false
-    pub reads : (o : Owner) (n s c : ℕ) (p f : Forest) (from to : State) (r : Result T Fault)
+    pub reads : (o : Enclosing) (n s c : ℕ) (p f : Forest) (from to : State) (r : Result T Fault)
         → from.place ≡ flat o n s c p (concat (printed x) f)
         → parses from r to → ReadsAs x o n s c f from r to
 
@@ -46,7 +46,7 @@ module _ {T P : Type 0} (value_parses : Call T) (value_printed : T → Forest)
     (separator_parses : Call P) (separator_printed : P → Forest) where
   -- a list of these values and separators is read, and nothing is left; or an allocation failed
   abbrev pub ReadsList :
-      List T → List P → Owner → (number scope : ℕ) → Call (Punctuated T P)
+      List T → List P → Enclosing → (number scope : ℕ) → Call (Punctuated T P)
   ReadsList xs ys o n s from (Ok list) to =
       (values_of list ≡ xs) × (separators_of list ≡ ys)
       × ((d : ℕ) × (q : Forest) × (to ≡ moved (flat o n s d q no_trees) from))
@@ -58,7 +58,8 @@ module _ {T P : Type 0} (value_parses : Call T) (value_printed : T → Forest)
       (xs : List T) (ys : List P) → AreByTurns xs ys
       → All (IsReadBack value_parses value_printed) xs
       → All (IsReadBack separator_parses separator_printed) ys
-      → (o : Owner) (n s c : ℕ) (p : Forest) (from to : State) (r : Result (Punctuated T P) Fault)
+      → (o : Enclosing) (n s c : ℕ) (p : Forest) (from to : State)
+      (r : Result (Punctuated T P) Fault)
       → from.place ≡ flat o n s c p (by_turns value_printed separator_printed xs ys)
       → IsPlainRun terminated value_parses separator_parses from r to
       → ReadsList xs ys o n s from r to

@@ -6,21 +6,23 @@ use Rattle.std.specs.Option.{option_or}
 use Rattle.std.proofs.lemmas.Bool.{false≢true}
 use Rattle.tok_leaves.specs.declared.span.Span.{Span}
 use Rattle.tok_lexical.specs.declared.delimiter.Delimiter.TheVariants as delimiter
-use Rattle.tok_core.specs.Forest.{Tree, leaf, group, Forest, no_trees, tree, turned_onto}
+use Rattle.tok_core.specs.Forest.{Tree, leaf, group, Forest, no_trees, tree, reverse_onto}
 use Rattle.tok_core.specs.Weight.{weight}
-use Rattle.tok_core.proofs.Facts.{turned_back}
+use Rattle.tok_core.proofs.Facts.{reversed_back}
 use Rattle.tok_buffer.specs.Descent.{into_front, descend_from, descend}
-use Rattle.tok_buffer.specs.Place.{Owner, in_group, Level, level, Place, at, absorb, settle}
-use Rattle.tok_buffer.specs.Place.{settled}
-use Rattle.tok_buffer.specs.Moves.{level_ahead, advance, is_settled, invisible_front}
+use Rattle.tok_buffer.specs.Place.{Enclosing, in_group, Frame, frame, Place, at, leave_group}
+use Rattle.tok_buffer.specs.Place.{leave_finished, settled}
+use Rattle.tok_buffer.specs.Moves.{frame_ahead, advance, is_settled, invisible_front}
 
 -- a descent is one into the settled place
-pub descend-settle : (n s c : ℕ) (l : Level) (ls : List Level) → descend (settle n s c l ls)
+pub descend-leave_finished : (n s c : ℕ) (l : Frame) (ls : List Frame)
+    → descend (leave_finished n s c l ls)
     ≡ descend_from n s c l ls
-descend-settle n s c l [] = refl
-descend-settle n s c (level o p no_trees) (m ∷ ls) = descend-settle n s (c + 1) (absorb o p m) ls
-    ∙ ap (λ k. descend_from n s (k + 1) (absorb o p m) ls) (sym (add-zero c))
-descend-settle n s c (level o p (tree t f)) (m ∷ ls) = refl
+descend-leave_finished n s c l [] = refl
+descend-leave_finished n s c (frame o p no_trees) (m ∷ ls) = descend-leave_finished n s (c + 1)
+    (leave_group o p m) ls
+    ∙ ap (λ k. descend_from n s (k + 1) (leave_group o p m) ls) (sym (add-zero c))
+descend-leave_finished n s c (frame o p (tree t f)) (m ∷ ls) = refl
 
 or-unwrap : (a b : Option Place) (p : Place) → unwrap_or (option_or a b) p
     ≡ unwrap_or a (unwrap_or b p)
@@ -28,36 +30,38 @@ or-unwrap None b p = refl
 or-unwrap (Some a) b p = refl
 
 -- what follows the trees ahead
-abbrev after : (k s n : ℕ) → Owner → (passed ahead : Forest) → List Level → Place
-after k s n o p f [] = at k s (n + weight f) (level o (turned_onto f p) no_trees) []
-after k s n o p f (l ∷ ls) = descend_from k s (n + weight f + 1) (absorb o (turned_onto f p) l) ls
+abbrev after : (k s n : ℕ) → Enclosing → (passed ahead : Forest) → List Frame → Place
+after k s n o p f [] = at k s (n + weight f) (frame o (reverse_onto f p) no_trees) []
+after k s n o p f (l ∷ ls) = descend_from k s (n + weight f + 1)
+    (leave_group o (reverse_onto f p) l) ls
 
-descend_from_is : (k s n : ℕ) (o : Owner) (p f : Forest) (ls : List Level) →
-    descend_from k s n (level o p f) ls ≡ unwrap_or (into_front f k s n o p ls)
+descend_from_is : (k s n : ℕ) (o : Enclosing) (p f : Forest) (ls : List Frame) →
+    descend_from k s n (frame o p f) ls ≡ unwrap_or (into_front f k s n o p ls)
     (after k s n o p f ls)
 descend_from_is k s n o p f [] = refl
 descend_from_is k s n o p f (l ∷ ls) = refl
 
-after_group : (k s n m : ℕ) (o : Owner) (p : Forest) (t : Tree) (f : Forest) (ls : List Level) →
+after_group : (k s n m : ℕ) (o : Enclosing) (p : Forest) (t : Tree) (f : Forest) (ls : List Frame) →
     m + weight f ≡ n + weight (tree t f) → after k s m o (tree t p) f ls
     ≡ after k s n o p (tree t f) ls
 after_group k s n m o p t f [] e =
-    ap (λ c. at k s c (level o (turned_onto f (tree t p)) no_trees) []) e
+    ap (λ c. at k s c (frame o (reverse_onto f (tree t p)) no_trees) []) e
 after_group k s n m o p t f (l ∷ ls) e =
-    ap (λ c. descend_from k s (c + 1) (absorb o (turned_onto f (tree t p)) l) ls) e
+    ap (λ c. descend_from k s (c + 1) (leave_group o (reverse_onto f (tree t p)) l) ls) e
 
-into_step : (k s n : ℕ) (o : Owner) (p c : Forest) (span : Span) (f : Forest) (ls : List Level) →
-    descend_from k s (n + 1) (level (in_group delimiter.None span) no_trees c) (level o p f ∷ ls)
-    ≡ descend_from k s n (level o p (tree (group delimiter.None c span) f)) ls
+into_step : (k s n : ℕ) (o : Enclosing) (p c : Forest) (span : Span) (f : Forest) (ls : List Frame)
+    →
+    descend_from k s (n + 1) (frame (in_group delimiter.None span) no_trees c) (frame o p f ∷ ls)
+    ≡ descend_from k s n (frame o p (tree (group delimiter.None c span) f)) ls
 into_step k s n o p c span f ls =
     let g = group delimiter.None c span in
-    let a = into_front c k s (n + 1) (in_group delimiter.None span) no_trees (level o p f ∷ ls) in
+    let a = into_front c k s (n + 1) (in_group delimiter.None span) no_trees (frame o p f ∷ ls) in
     let m = n + 1 + weight c + 1 in
     let e : m ≡ n + (2 + weight c) = omega arith in
     let far = after k s n o p (tree g f) ls in
-    ap (λ z. unwrap_or a (descend_from k s m (level o (tree (group delimiter.None z span) p) f)
-    ls)) (turned_back c)
-    ∙ ap (λ z. unwrap_or a (descend_from k s z (level o (tree g p) f) ls)) e
+    ap (λ z. unwrap_or a (descend_from k s m (frame o (tree (group delimiter.None z span) p) f)
+    ls)) (reversed_back c)
+    ∙ ap (λ z. unwrap_or a (descend_from k s z (frame o (tree g p) f) ls)) e
     ∙ ap (unwrap_or a) (descend_from_is k s (n + (2 + weight c)) o (tree g p) f ls)
     ∙ ap (λ z. unwrap_or a (unwrap_or (into_front f k s (n + (2 + weight c)) o (tree g p) ls) z))
     (after_group k s n (n + (2 + weight c)) o p g f ls (omega arith))
@@ -65,38 +69,38 @@ into_step k s n o p c span f ls =
     ∙ sym (descend_from_is k s n o p (tree g f) ls)
 
 -- entering the invisible group in front doesn't change where the descent leads
-pub descend_step : (k s n : ℕ) (l : Level) (us : List Level) → invisible_front (level_ahead l)
+pub descend_step : (k s n : ℕ) (l : Frame) (us : List Frame) → invisible_front (frame_ahead l)
     ≡ true → descend (settled (advance (at k s n l us))) ≡ descend (at k s n l us)
-descend_step k s n (level o p no_trees) us h = absurd (false≢true h)
-descend_step k s n (level o p (tree (leaf i) f)) us h = absurd (false≢true h)
-descend_step k s n (level o p (tree (group delimiter.None c span) f)) us h =
-    descend-settle k s (n + 1) (level (in_group delimiter.None span) no_trees c)
-    (level o p f ∷ us) ∙ into_step k s n o p c span f us
-descend_step k s n (level o p (tree (group delimiter.Parenthesis c span) f)) us h =
+descend_step k s n (frame o p no_trees) us h = absurd (false≢true h)
+descend_step k s n (frame o p (tree (leaf i) f)) us h = absurd (false≢true h)
+descend_step k s n (frame o p (tree (group delimiter.None c span) f)) us h =
+    descend-leave_finished k s (n + 1) (frame (in_group delimiter.None span) no_trees c)
+    (frame o p f ∷ us) ∙ into_step k s n o p c span f us
+descend_step k s n (frame o p (tree (group delimiter.Parenthesis c span) f)) us h =
     absurd (false≢true h)
-descend_step k s n (level o p (tree (group delimiter.Brace c span) f)) us h = absurd (false≢true h)
-descend_step k s n (level o p (tree (group delimiter.Bracket c span) f)) us h =
+descend_step k s n (frame o p (tree (group delimiter.Brace c span) f)) us h = absurd (false≢true h)
+descend_step k s n (frame o p (tree (group delimiter.Bracket c span) f)) us h =
     absurd (false≢true h)
 
-visible_done : (k s n : ℕ) (o : Owner) (p f : Forest) (us : List Level) →
-    into_front f k s n o p us ≡ Some (at k s n (level o p f) us) →
-    descend (at k s n (level o p f) us) ≡ at k s n (level o p f) us
+visible_done : (k s n : ℕ) (o : Enclosing) (p f : Forest) (us : List Frame) →
+    into_front f k s n o p us ≡ Some (at k s n (frame o p f) us) →
+    descend (at k s n (frame o p f) us) ≡ at k s n (frame o p f) us
 visible_done k s n o p f us e = descend_from_is k s n o p f us
     ∙ ap (λ z. unwrap_or z (after k s n o p f us)) e
 
 -- where no invisible group is in front a settled place is the descent's end
-pub descend_done : (k s n : ℕ) (l : Level) (us : List Level) → is_settled l us ≡ true →
-    invisible_front (level_ahead l) ≡ false → descend (at k s n l us) ≡ at k s n l us
-descend_done k s n (level o p no_trees) [] q h = ap (λ m. at k s m (level o p no_trees) [])
+pub descend_done : (k s n : ℕ) (l : Frame) (us : List Frame) → is_settled l us ≡ true →
+    invisible_front (frame_ahead l) ≡ false → descend (at k s n l us) ≡ at k s n l us
+descend_done k s n (frame o p no_trees) [] q h = ap (λ m. at k s m (frame o p no_trees) [])
     (add-zero n)
-descend_done k s n (level o p no_trees) (u ∷ us) q h = absurd (false≢true q)
-descend_done k s n (level o p (tree (leaf i) f)) us q h =
+descend_done k s n (frame o p no_trees) (u ∷ us) q h = absurd (false≢true q)
+descend_done k s n (frame o p (tree (leaf i) f)) us q h =
     visible_done k s n o p (tree (leaf i) f) us refl
-descend_done k s n (level o p (tree (group delimiter.None c t) f)) us q h =
+descend_done k s n (frame o p (tree (group delimiter.None c t) f)) us q h =
     absurd (false≢true (sym h))
-descend_done k s n (level o p (tree (group delimiter.Parenthesis c t) f)) us q h =
+descend_done k s n (frame o p (tree (group delimiter.Parenthesis c t) f)) us q h =
     visible_done k s n o p (tree (group delimiter.Parenthesis c t) f) us refl
-descend_done k s n (level o p (tree (group delimiter.Brace c t) f)) us q h =
+descend_done k s n (frame o p (tree (group delimiter.Brace c t) f)) us q h =
     visible_done k s n o p (tree (group delimiter.Brace c t) f) us refl
-descend_done k s n (level o p (tree (group delimiter.Bracket c t) f)) us q h =
+descend_done k s n (frame o p (tree (group delimiter.Bracket c t) f)) us q h =
     visible_done k s n o p (tree (group delimiter.Bracket c t) f) us refl

@@ -6,22 +6,24 @@ use Rattle.tok_core.specs.Forest.{leaf, group, no_trees, tree}
 use Rattle.tok_buffer.specs.Descent.{descend, is_before_invisible, inwards, Descends, stop}
 use Rattle.tok_buffer.specs.Descent.{enters, DescentsEnter}
 use Rattle.tok_buffer.specs.Moves.{is_settled}
-use Rattle.tok_buffer.specs.Place.{in_group, Level, level, Place, empty_place, at, absorb}
-use Rattle.tok_buffer.specs.Place.{settle, settled}
+use Rattle.tok_buffer.specs.Place.{in_group, Frame, frame, Place, empty_place, at, leave_group}
+use Rattle.tok_buffer.specs.Place.{leave_finished, settled}
 use Rattle.tok_buffer.specs.Progress.{remaining}
-use Rattle.tok_buffer.proofs.Descents.{descend-settle, descend_step, descend_done}
-use Rattle.tok_buffer.proofs.Onwards.{settle_remaining}
+use Rattle.tok_buffer.proofs.Descents.{descend-leave_finished, descend_step, descend_done}
+use Rattle.tok_buffer.proofs.Onwards.{leave_finished_remaining}
 
--- no level is left here
+-- no frame is left here
 abbrev at_rest : Place → Bool
 at_rest empty_place = true
 at_rest (at n s c l ls) = is_settled l ls
 
-settle_rests : (n s c : ℕ) (l : Level) (ls : List Level) → at_rest (settle n s c l ls) ≡ true
-settle_rests n s c (level o p no_trees) [] = refl
-settle_rests n s c (level o p (tree t f)) [] = refl
-settle_rests n s c (level o p no_trees) (u ∷ us) = settle_rests n s (c + 1) (absorb o p u) us
-settle_rests n s c (level o p (tree t f)) (u ∷ us) = refl
+leave_finished_rests : (n s c : ℕ) (l : Frame) (ls : List Frame)
+    → at_rest (leave_finished n s c l ls) ≡ true
+leave_finished_rests n s c (frame o p no_trees) [] = refl
+leave_finished_rests n s c (frame o p (tree t f)) [] = refl
+leave_finished_rests n s c (frame o p no_trees) (u ∷ us) = leave_finished_rests n s (c + 1)
+    (leave_group o p u) us
+leave_finished_rests n s c (frame o p (tree t f)) (u ∷ us) = refl
 
 abbrev Enters : Place → Place → Type 0
 Enters p q = Descends p q × (is_before_invisible q ≡ false)
@@ -31,39 +33,40 @@ enters_at_once p q e h = subst (Enters p) (sym e) (stop p h, h)
 
 enters_down : (fuel : ℕ) (p : Place) → remaining p ≤ fuel → at_rest p ≡ true → Enters p (descend p)
 enters_down fuel empty_place h r = (stop empty_place refl, refl)
-enters_down fuel (at n s c (level o p no_trees) ls) h r =
-    enters_at_once _ _ (descend_done n s c (level o p no_trees) ls r refl) refl
-enters_down fuel (at n s c (level o p (tree (leaf l) f)) ls) h r =
-    enters_at_once _ _ (descend_done n s c (level o p (tree (leaf l) f)) ls r refl) refl
-enters_down fuel (at n s c (level o p (tree (group delimiter.Parenthesis inside span) f)) ls) h
+enters_down fuel (at n s c (frame o p no_trees) ls) h r =
+    enters_at_once _ _ (descend_done n s c (frame o p no_trees) ls r refl) refl
+enters_down fuel (at n s c (frame o p (tree (leaf l) f)) ls) h r =
+    enters_at_once _ _ (descend_done n s c (frame o p (tree (leaf l) f)) ls r refl) refl
+enters_down fuel (at n s c (frame o p (tree (group delimiter.Parenthesis inside span) f)) ls) h
     r = enters_at_once _ _
-    (descend_done n s c (level o p (tree (group delimiter.Parenthesis inside span) f)) ls r refl)
+    (descend_done n s c (frame o p (tree (group delimiter.Parenthesis inside span) f)) ls r refl)
     refl
-enters_down fuel (at n s c (level o p (tree (group delimiter.Brace inside span) f)) ls) h r =
+enters_down fuel (at n s c (frame o p (tree (group delimiter.Brace inside span) f)) ls) h r =
     enters_at_once _ _
-    (descend_done n s c (level o p (tree (group delimiter.Brace inside span) f)) ls r refl) refl
-enters_down fuel (at n s c (level o p (tree (group delimiter.Bracket inside span) f)) ls) h r =
+    (descend_done n s c (frame o p (tree (group delimiter.Brace inside span) f)) ls r refl) refl
+enters_down fuel (at n s c (frame o p (tree (group delimiter.Bracket inside span) f)) ls) h r =
     enters_at_once _ _
-    (descend_done n s c (level o p (tree (group delimiter.Bracket inside span) f)) ls r refl) refl
-enters_down zero (at n s c (level o p (tree (group delimiter.None inside span) f)) ls) h r =
+    (descend_done n s c (frame o p (tree (group delimiter.Bracket inside span) f)) ls r refl) refl
+enters_down zero (at n s c (frame o p (tree (group delimiter.None inside span) f)) ls) h r =
     absurd (omega (arith, h))
-enters_down (suc k) (at n s c (level o p (tree (group delimiter.None inside span) f)) ls) h r =
-    let here = at n s c (level o p (tree (group delimiter.None inside span) f)) ls in
-    let l = level (in_group delimiter.None span) no_trees inside in
-    let us = level o p f ∷ ls in
+enters_down (suc k) (at n s c (frame o p (tree (group delimiter.None inside span) f)) ls) h r =
+    let here = at n s c (frame o p (tree (group delimiter.None inside span) f)) ls in
+    let l = frame (in_group delimiter.None span) no_trees inside in
+    let us = frame o p f ∷ ls in
     let e : descend (inwards here) ≡ descend here =
-    descend_step n s c (level o p (tree (group delimiter.None inside span) f)) ls refl in
-    let down = enters_down k (inwards here) (omega (arith, h, settle_remaining n s (c + 1) l us))
-    (settle_rests n s (c + 1) l us) in
+    descend_step n s c (frame o p (tree (group delimiter.None inside span) f)) ls refl in
+    let down = enters_down k (inwards here)
+    (omega (arith, h, leave_finished_remaining n s (c + 1) l us))
+    (leave_finished_rests n s (c + 1) l us) in
     subst (Enters here) e (enters here (descend (inwards here)) refl down.0, down.1)
 
 descend-settled : (p : Place) → descend (settled p) ≡ descend p
 descend-settled empty_place = refl
-descend-settled (at n s c l ls) = descend-settle n s c l ls
+descend-settled (at n s c l ls) = descend-leave_finished n s c l ls
 
 settled_rests : (p : Place) → at_rest (settled p) ≡ true
 settled_rests empty_place = refl
-settled_rests (at n s c l ls) = settle_rests n s c l ls
+settled_rests (at n s c l ls) = leave_finished_rests n s c l ls
 
 pub descents_enter : DescentsEnter
 descents_enter p = subst (Enters (settled p)) (descend-settled p)

@@ -7,61 +7,61 @@ use Rattle.tok_lexical.specs.declared.delimiter.Delimiter.{Delimiter}
 use Rattle.tok_core.specs.Forest.{leaf, group, Forest, no_trees, tree}
 use Rattle.tok_core.specs.Weight.{weight}
 use Rattle.tok_buffer.specs.Entry.{Entered, enter_any}
-use Rattle.tok_buffer.specs.Place.{in_group, Level, level, Place, at, settle, settled}
-use Rattle.tok_buffer.specs.Moves.{level_ahead, level_passed, level_owner, move, levels_at}
-use Rattle.tok_buffer.specs.Moves.{up_to, some_ends, end_of, place_at, is_settled, in_scope}
-use Rattle.tok_buffer.specs.Moves.{settled_at}
+use Rattle.tok_buffer.specs.Place.{in_group, Frame, frame, Place, at, leave_finished, settled}
+use Rattle.tok_buffer.specs.Moves.{frame_ahead, frame_passed, frame_enclosing, move, frames_at}
+use Rattle.tok_buffer.specs.Moves.{frames_in_scope, is_scope_end, end_of, place_at, is_settled}
+use Rattle.tok_buffer.specs.Moves.{in_scope, settled_at}
 use Rattle.tok_buffer.specs.Private.Layout.{entry_here}
 use Rattle.tok_buffer.specs.declared.entry.Opening.{Opening as Sort}
 use Rattle.tok_buffer.specs.declared.entry.Entry.TheVariants.{Group}
 use Rattle.tok_buffer.proofs.Layouts.{not_leaf}
-use Rattle.tok_buffer.proofs.Stacks.{levels_next, jump}
+use Rattle.tok_buffer.proofs.Stacks.{frames_next, jump}
 use Rattle.tok_buffer.proofs.InScope.{ends_later, In, seen, root_settled}
 
--- a level whose front is this group
-abbrev pub Fronts : Level → Delimiter → Span → Forest → Forest → Type 0
-Fronts l d t c f = l ≡ level (level_owner l) (level_passed l) (tree (group d c t) f)
+-- a frame whose front is this group
+abbrev pub Fronts : Frame → Delimiter → Span → Forest → Forest → Type 0
+Fronts l d t c f = l ≡ frame (frame_enclosing l) (frame_passed l) (tree (group d c t) f)
 
-pub group_front : (l : Level) (g : Sort) (k : ℕ) → entry_here l ≡ Group g k → (c : Forest)
+pub group_front : (l : Frame) (g : Sort) (k : ℕ) → entry_here l ≡ Group g k → (c : Forest)
     × (f : Forest) × (Fronts l g.delimiter g.span c f × (k ≡ weight c + 1))
-group_front (level o p no_trees) g k e = cc
-group_front (level o p (tree (leaf i) f)) g k e = absurd (not_leaf (Group g k) i refl e)
-group_front (level o p (tree (group d c t) f)) g k e =
+group_front (frame o p no_trees) g k e = cc
+group_front (frame o p (tree (leaf i) f)) g k e = absurd (not_leaf (Group g k) i refl e)
+group_front (frame o p (tree (group d c t) f)) g k e =
     let G : Sort = record { delimiter = d; span = t } in
     let h : G ≡ g = cc in
     let q : weight c + 1 ≡ k = cc in
-    (c, f, (ap (λ x. level o p (tree (group x.delimiter c x.span) f)) h, sym q))
+    (c, f, (ap (λ x. frame o p (tree (group x.delimiter c x.span) f)) h, sym q))
 
 module _ (F : Forest) (n s : ℕ) (d : Delimiter) (t : Span) (c f : Forest)
-    (h : in_scope F n s ≡ true) (fronts : Fronts (levels_at F n).0 d t c f) where
+    (h : in_scope F n s ≡ true) (fronts : Fronts (frames_at F n).0 d t c f) where
   group_fits : n + (weight c + 1) + 1 ≤ s
   group_fits =
       omega (
         arith,
-        ap (λ l. weight (level_ahead l)) fronts,
-        ends_later (end_of n (levels_at F n).0) s (levels_at F n).1 h,
+        ap (λ l. weight (frame_ahead l)) fronts,
+        ends_later (end_of n (frames_at F n).0) s (frames_at F n).1 h,
       )
 
-  inside : levels_at F (n + 1)
+  inside : frames_at F (n + 1)
       ≡ (
-        level (in_group d t) no_trees c,
-        level (level_owner (levels_at F n).0)
-            (level_passed (levels_at F n).0) f ∷ (levels_at F n).1,
+        frame (in_group d t) no_trees c,
+        frame (frame_enclosing (frames_at F n).0)
+            (frame_passed (frames_at F n).0) f ∷ (frames_at F n).1,
       )
-  inside = levels_next F n ∙ ap (λ l. move l (levels_at F n).1) fronts
+  inside = frames_next F n ∙ ap (λ l. move l (frames_at F n).1) fronts
 
-  after : levels_at F (n + (weight c + 1) + 1)
+  after : frames_at F (n + (weight c + 1) + 1)
       ≡ (
-        level (level_owner (levels_at F n).0)
-            (tree (group d c t) (level_passed (levels_at F n).0)) f,
-        (levels_at F n).1,
+        frame (frame_enclosing (frames_at F n).0)
+            (tree (group d c t) (frame_passed (frames_at F n).0)) f,
+        (frames_at F n).1,
       )
   after =
       let q : n + (weight c + 1) + 1 ≡ n + (2 + weight c + 0) = omega arith in
-      ap (levels_at F) q
-      ∙ jump F (tree (group d c t) no_trees) n (level_owner (levels_at F n).0)
-      (level_passed (levels_at F n).0) f (levels_at F n).1
-      (ap (λ l. (l, (levels_at F n).1)) fronts)
+      ap (frames_at F) q
+      ∙ jump F (tree (group d c t) no_trees) n (frame_enclosing (frames_at F n).0)
+      (frame_passed (frames_at F n).0) f (frames_at F n).1
+      (ap (λ l. (l, (frames_at F n).1)) fronts)
 
   inside_within : in_scope F (n + 1) (n + (weight c + 1)) ≡ true
   inside_within =
@@ -71,74 +71,75 @@ module _ (F : Forest) (n s : ℕ) (d : Delimiter) (t : Span) (c f : Forest)
       (or_left (eqb (n + 1 + weight c) (n + (weight c + 1))) _
       (eq-eqb (n + 1 + weight c) (n + (weight c + 1)) (omega arith)))
 
-  no_outer : up_to (n + 1 + weight c) (n + (weight c + 1))
-      (level (level_owner (levels_at F n).0) (level_passed (levels_at F n).0) f
-      ∷ (levels_at F n).1) ≡ []
+  no_outer : frames_in_scope (n + 1 + weight c) (n + (weight c + 1))
+      (frame (frame_enclosing (frames_at F n).0) (frame_passed (frames_at F n).0) f
+      ∷ (frames_at F n).1) ≡ []
   no_outer =
       cond-true (eqb (n + 1 + weight c) (n + (weight c + 1))) [] _
       (eq-eqb (n + 1 + weight c) (n + (weight c + 1)) (omega arith))
 
   inside_settled : settled_at F (n + 1) (n + (weight c + 1)) ≡ true
   inside_settled =
-      ap (λ x. is_settled x.0 (up_to (end_of (n + 1) x.0) (n + (weight c + 1)) x.1)) inside
-      ∙ ap (is_settled (level (in_group d t) no_trees c)) no_outer
-      ∙ root_settled (level (in_group d t) no_trees c)
+      ap (λ x. is_settled x.0 (frames_in_scope (end_of (n + 1) x.0) (n + (weight c + 1)) x.1))
+      inside
+      ∙ ap (is_settled (frame (in_group d t) no_trees c)) no_outer
+      ∙ root_settled (frame (in_group d t) no_trees c)
 
   pub inside_place : (k : ℕ) → place_at k F (n + 1) (n + (weight c + 1))
-      ≡ at k (n + 1 + weight c) (n + 1) (level (in_group d t) no_trees c) []
+      ≡ at k (n + 1 + weight c) (n + 1) (frame (in_group d t) no_trees c) []
   inside_place k =
       let q : n + (weight c + 1) ≡ n + 1 + weight c = omega arith in
       ap (seen k (n + (weight c + 1)) (n + 1)) inside
-      ∙ ap (at k (n + (weight c + 1)) (n + 1) (level (in_group d t) no_trees c)) no_outer
-      ∙ ap (λ z. at k z (n + 1) (level (in_group d t) no_trees c) []) q
+      ∙ ap (at k (n + (weight c + 1)) (n + 1) (frame (in_group d t) no_trees c)) no_outer
+      ∙ ap (λ z. at k z (n + 1) (frame (in_group d t) no_trees c) []) q
 
-  same_end : n + (weight c + 1) + 1 + weight f ≡ end_of n (levels_at F n).0
-  same_end = omega (arith, ap (λ l. weight (level_ahead l)) fronts)
+  same_end : n + (weight c + 1) + 1 + weight f ≡ end_of n (frames_at F n).0
+  same_end = omega (arith, ap (λ l. weight (frame_ahead l)) fronts)
 
   after_within : in_scope F (n + (weight c + 1) + 1) s ≡ true
   after_within =
       subst
       (In (n + (weight c + 1) + 1) s)
       (sym after)
-      (subst (λ e. some_ends e s (levels_at F n).1 ≡ true) (sym same_end) h)
+      (subst (λ e. is_scope_end e s (frames_at F n).1 ≡ true) (sym same_end) h)
 
   pub after_place : (k : ℕ) → place_at k F (n + (weight c + 1) + 1) s
       ≡ at k s (n + (2 + weight c))
-      (level (level_owner (levels_at F n).0)
-      (tree (group d c t) (level_passed (levels_at F n).0)) f)
-      (up_to (end_of n (levels_at F n).0) s (levels_at F n).1)
+      (frame (frame_enclosing (frames_at F n).0)
+      (tree (group d c t) (frame_passed (frames_at F n).0)) f)
+      (frames_in_scope (end_of n (frames_at F n).0) s (frames_at F n).1)
   after_place k =
-      let l = levels_at F n in
+      let l = frames_at F n in
       let e = n + (weight c + 1) + 1 in
       let q : e ≡ n + (2 + weight c) = omega arith in
-      let m = level (level_owner l.0) (tree (group d c t) (level_passed l.0)) f in
+      let m = frame (frame_enclosing l.0) (tree (group d c t) (frame_passed l.0)) f in
       ap (seen k s e) after
-      ∙ ap (λ z. at k s e m (up_to z s l.1)) same_end
-      ∙ ap (λ z. at k s z m (up_to (end_of n l.0) s l.1)) q
+      ∙ ap (λ z. at k s e m (frames_in_scope z s l.1)) same_end
+      ∙ ap (λ z. at k s z m (frames_in_scope (end_of n l.0) s l.1)) q
 
 -- the same of the group that an entry holds, at its offset k
 module _ (F : Forest) (n s : ℕ) (g : Sort) (k : ℕ) (h : in_scope F n s ≡ true)
-    (e : entry_here (levels_at F n).0 ≡ Group g k) where
+    (e : entry_here (frames_at F n).0 ≡ Group g k) where
   pub held_fits : n + k + 1 ≤ s
   held_fits =
-      let w = group_front (levels_at F n).0 g k e in
+      let w = group_front (frames_at F n).0 g k e in
       omega (arith, w.2.1, group_fits F n s g.delimiter g.span w.0 w.1 h w.2.0)
 
   pub held_within : in_scope F (n + 1) (n + k) ≡ true
   held_within =
-      let w = group_front (levels_at F n).0 g k e in
+      let w = group_front (frames_at F n).0 g k e in
       subst (λ z. in_scope F (n + 1) (n + z) ≡ true) (sym w.2.1)
       (inside_within F n s g.delimiter g.span w.0 w.1 h w.2.0)
 
   pub held_settled : settled_at F (n + 1) (n + k) ≡ true
   held_settled =
-      let w = group_front (levels_at F n).0 g k e in
+      let w = group_front (frames_at F n).0 g k e in
       subst (λ z. settled_at F (n + 1) (n + z) ≡ true) (sym w.2.1)
       (inside_settled F n s g.delimiter g.span w.0 w.1 h w.2.0)
 
   pub held_after : in_scope F (n + k + 1) s ≡ true
   held_after =
-      let w = group_front (levels_at F n).0 g k e in
+      let w = group_front (frames_at F n).0 g k e in
       subst (λ z. in_scope F (n + z + 1) s ≡ true) (sym w.2.1)
       (after_within F n s g.delimiter g.span w.0 w.1 h w.2.0)
 
@@ -146,8 +147,8 @@ module _ (F : Forest) (n s : ℕ) (g : Sort) (k : ℕ) (h : in_scope F n s ≡ t
       b ≡ settled (place_at m F (n + k + 1) s) → enter_any (place_at m F n s)
       ≡ Some (record { delimiter = g.delimiter; span = g.span; content = a; after = b })
   held_enters m a b ea eb =
-      let w = group_front (levels_at F n).0 g k e in
-      let us = up_to (end_of n (levels_at F n).0) s (levels_at F n).1 in
+      let w = group_front (frames_at F n).0 g k e in
+      let us = frames_in_scope (end_of n (frames_at F n).0) s (frames_at F n).1 in
       let held : Place → Place → Option Entered =
       λ y z. Some (record {
         delimiter = g.delimiter;
@@ -158,9 +159,9 @@ module _ (F : Forest) (n s : ℕ) (g : Sort) (k : ℕ) (h : in_scope F n s ≡ t
       }) in
       ap (λ x. enter_any (at m s n x us)) w.2.0
       ∙ ap (λ z. held z
-      (settle m s (n + (2 + weight w.0))
-      (level (level_owner (levels_at F n).0)
-      (tree (group g.delimiter w.0 g.span) (level_passed (levels_at F n).0)) w.1) us))
+      (leave_finished m s (n + (2 + weight w.0))
+      (frame (frame_enclosing (frames_at F n).0)
+      (tree (group g.delimiter w.0 g.span) (frame_passed (frames_at F n).0)) w.1) us))
       (sym (inside_place F n s g.delimiter g.span w.0 w.1 h w.2.0 m))
       ∙ ap (λ z. held (place_at m F (n + 1) (n + (weight w.0 + 1))) (settled z))
       (sym (after_place F n s g.delimiter g.span w.0 w.1 h w.2.0 m))

@@ -6,14 +6,14 @@ use Rattle.tok_leaves.specs.declared.span.Span.{Span}
 use Rattle.tok_lexical.specs.declared.delimiter.Delimiter.{Delimiter}
 use Rattle.tok_core.specs.Code.{top}
 use Rattle.tok_leaves.specs.Leaves.{Leaf, ident, punct, literal, ident_of, punct_of, literal_of}
-use Rattle.tok_core.specs.Forest.{Tree, leaf, group, Forest, no_trees, tree, concat, turned_onto}
+use Rattle.tok_core.specs.Forest.{Tree, leaf, group, Forest, no_trees, tree, concat, reverse_onto}
 use Rattle.tok_core.specs.Weight.{weight}
 use Rattle.tok_core.proofs.Facts.{concat-none}
 use Rattle.tok_buffer.specs.declared.entry.Entry.{Entry}
 use Rattle.tok_buffer.specs.declared.entry.Entry.TheVariants.{Ident, Punct, Literal, Group, End}
 use Rattle.tok_buffer.specs.Private.Layout.{leaf_entry, group_entry, layout, entries_of}
 use Rattle.tok_buffer.specs.Private.Layout.{stack_entry, stack_entries, forest_in}
-use Rattle.tok_buffer.proofs.Forests.{turned_is}
+use Rattle.tok_buffer.proofs.Forests.{reversed_is}
 
 -- the leaf that an entry is
 abbrev as_leaf : Entry → Option Leaf
@@ -55,9 +55,9 @@ layout-concat (tree (group d c s) f) g =
     ∙ ap (λ x. group_entry d s c ∷ x)
     (sym (append_assoc (layout c) (End (weight c + 1) ∷ layout f) (layout g)))
 
-pub layout-turned : (f g : Forest) → layout (turned_onto f g) ≡ layout (turned_onto f no_trees)
+pub layout-reversed : (f g : Forest) → layout (reverse_onto f g) ≡ layout (reverse_onto f no_trees)
     ++ layout g
-layout-turned f g = ap layout (turned_is f g) ∙ layout-concat (turned_onto f no_trees) g
+layout-reversed f g = ap layout (reversed_is f g) ∙ layout-concat (reverse_onto f no_trees) g
 
 pub stack_entries-append : (xs ys : List Entry) (s : List Forest) → stack_entries (xs ++ ys) s
     ≡ stack_entries xs (stack_entries ys s)

@@ -2,6 +2,7 @@ pub mod Befores
 pub mod CompileErrorLoops
 pub mod Counted
 pub mod Descents
+pub mod Enclosing
 pub mod Entered
 pub mod Forests
 pub mod Groups
@@ -12,7 +13,6 @@ pub mod Levels
 pub mod Measured
 pub mod NextChars
 pub mod Onwards
-pub mod Owners
 pub mod Peeks
 pub mod PunctRuns
 pub mod Reading

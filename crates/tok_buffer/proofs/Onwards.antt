@@ -15,13 +15,13 @@ use Rattle.tok_buffer.specs.Descent.{descend}
 use Rattle.tok_buffer.specs.EachRead.{Read, First}
 use Rattle.tok_buffer.specs.Entry.{Entered, enter, enter_any, entered_of, same_delimiter}
 use Rattle.tok_buffer.specs.Order.{order, same_scope}
-use Rattle.tok_buffer.specs.Place.{Owner, whole, in_group, Level, level, Place, empty_place, at}
-use Rattle.tok_buffer.specs.Place.{absorb, front, pass, settle}
+use Rattle.tok_buffer.specs.Place.{Enclosing, whole, in_group, Frame, frame, Place, empty_place, at}
+use Rattle.tok_buffer.specs.Place.{leave_group, front, pass, leave_finished}
 use Rattle.tok_buffer.specs.Progress.{ReadsGoLater, ReadsKeepScope, StaysIn, remaining}
 use Rattle.tok_buffer.specs.Progress.{remaining_around, ReadsOn, ReadsGoOn, SkipsGoOn, EntersOn}
 use Rattle.tok_buffer.specs.Progress.{EntriesGoOn, MovesStay, StaysAlong, CallsLead, ReadLeads}
 use Rattle.tok_buffer.specs.Reads.{any_tree, read_if, read_tree, skip}
-use Rattle.tok_buffer.proofs.View.Keeps.{IsKept, kept-settle, kept-descend}
+use Rattle.tok_buffer.proofs.View.Keeps.{IsKept, kept-leave_finished, kept-descend}
 use Rattle.tok_buffer.proofs.View.Moves.{Leads, LeadsTo, IsEmpty, IsNone, leads, leads-take}
 use Rattle.tok_buffer.proofs.View.Moves.{leads-skip, leads-nowhere}
 use Rattle.tok_buffer.proofs.View.Readings.{Reading, each_read}
@@ -31,10 +31,11 @@ abbrev Since : (number scope count most : ℕ) → Place → Type 0
 Since n s c m empty_place = ⊥
 Since n s c m (at i t d l ls) = (i ≡ n) × (t ≡ s) × (c ≤ d) × (remaining (at i t d l ls) ≤ m)
 
-absorb_adds_nothing : (o : Owner) (p : Forest) (n s c d : ℕ) (u : Level) (us : List Level) →
-    remaining (at n s c (absorb o p u) us) ≤ remaining (at n s d (level o p no_trees) (u ∷ us))
-absorb_adds_nothing whole p n s c d (level a b f) us = omega arith
-absorb_adds_nothing (in_group x t) p n s c d (level a b f) us = omega arith
+leave_group_adds_nothing : (o : Enclosing) (p : Forest) (n s c d : ℕ) (u : Frame) (us : List Frame)
+    →
+    remaining (at n s c (leave_group o p u) us) ≤ remaining (at n s d (frame o p no_trees) (u ∷ us))
+leave_group_adds_nothing whole p n s c d (frame a b f) us = omega arith
+leave_group_adds_nothing (in_group x t) p n s c d (frame a b f) us = omega arith
 
 some_weight : (t : Tree) → 1 ≤ tree_weight t
 some_weight (leaf l) = omega arith
@@ -50,7 +51,7 @@ module _ (n s c m : ℕ) where
       h.0,
       h.1,
       omega (arith, h.2),
-      omega (arith, h.3, absorb_adds_nothing o p i t (d + 1) d l ls),
+      omega (arith, h.3, leave_group_adds_nothing o p i t (d + 1) d l ls),
     );
   }
 
@@ -58,11 +59,11 @@ module _ (n s c m : ℕ) where
   past_since : (p : Place) (t : Tree) → front p ≡ Some t → Since n s c (m + 1) p
       → Since n s (c + 1) m (pass p)
   past_since empty_place t e h = absurd h
-  past_since (at i u d (level o p no_trees) ls) t e h = absurd (cc)
-  past_since (at i u d (level o p (tree x f)) ls) t e h =
+  past_since (at i u d (frame o p no_trees) ls) t e h = absurd (cc)
+  past_since (at i u d (frame o p (tree x f)) ls) t e h =
       let some = some_weight x in
-      kept-settle (Since n s (c + 1) m) (kept_since n s (c + 1) m) i u (d + tree_weight x)
-      (level o (tree x p) f) ls
+      kept-leave_finished (Since n s (c + 1) m) (kept_since n s (c + 1) m) i u (d + tree_weight x)
+      (frame o (tree x p) f) ls
       (h.0, h.1, omega (arith, h.2, some), omega (arith, h.3, some))
 
   weaker_since : (p : Place) → Since n s (c + 1) m p → Since n s c (m + 1) p
@@ -83,7 +84,7 @@ eqb-same n = grind arith
 at_most : (c d : ℕ) → c ≤ d → is_le (nat_cmp c d) ≡ true
 at_most c d h = grind arith
 
-in_scope : (n s c d : ℕ) (l m : Level) (ls ms : List Level) → c ≤ d →
+in_scope : (n s c d : ℕ) (l m : Frame) (ls ms : List Frame) → c ≤ d →
     StaysIn (at n s c l ls) (at n s d m ms)
 in_scope n s c d l m ls ms h =
     inl (
@@ -91,7 +92,7 @@ in_scope n s c d l m ls ms h =
       ap (λ b. is_some_and is_le (cond b (Some (nat_cmp c d)) None)) (eqb-same n) ∙ at_most c d h,
     )
 
-stays_since : (n s c e m : ℕ) (l : Level) (ls : List Level) (q : Place) → c ≤ e → Since n s e m q
+stays_since : (n s c e m : ℕ) (l : Frame) (ls : List Frame) (q : Place) → c ≤ e → Since n s e m q
     → StaysIn (at n s c l ls) q × (remaining q ≤ m)
 stays_since n s c e m l ls empty_place h k = absurd k
 stays_since n s c e m l ls (at i t d x xs) h k =
@@ -100,12 +101,12 @@ stays_since n s c e m l ls (at i t d x xs) h k =
 less : (c d : ℕ) → c < d → nat_cmp c d ≡ Less
 less c d h = grind arith
 
-in_order_later : (n s c d : ℕ) (l m : Level) (ls ms : List Level) → c < d →
+in_order_later : (n s c d : ℕ) (l m : Frame) (ls ms : List Frame) → c < d →
     order (at n s c l ls) (at n s d m ms) ≡ Some Less
 in_order_later n s c d l m ls ms h = ap (λ b. cond b (Some (nat_cmp c d)) None) (eqb-same n)
     ∙ ap Some (less c d h)
 
-later_since : (n s c m : ℕ) (l : Level) (ls : List Level) (q : Place) → Since n s (c + 1) m q
+later_since : (n s c m : ℕ) (l : Frame) (ls : List Frame) (q : Place) → Since n s (c + 1) m q
     → order (at n s c l ls) q ≡ Some Less
 later_since n s c m l ls empty_place h = absurd h
 later_since n s c m l ls (at i t d x xs) h =
@@ -115,12 +116,12 @@ later_since n s c m l ls (at i t d x xs) h =
 abbrev pub GoesOn : Place → Place → Type 0
 GoesOn from to = StaysIn from to × (remaining to < remaining from) × (order from to ≡ Some Less)
 
-goes_on : (n s c : ℕ) (o : Owner) (p f : Forest) (ls : List Level) (q : Place)
-    → Since n s (c + 1) (weight f + remaining_around ls) q → GoesOn (at n s c (level o p f) ls) q
+goes_on : (n s c : ℕ) (o : Enclosing) (p f : Forest) (ls : List Frame) (q : Place)
+    → Since n s (c + 1) (weight f + remaining_around ls) q → GoesOn (at n s c (frame o p f) ls) q
 goes_on n s c o p f ls q h =
     let m = weight f + remaining_around ls in
-    let k = stays_since n s c (c + 1) m (level o p f) ls q (omega arith) h in
-    (k.0, omega (arith, k.1), later_since n s c m (level o p f) ls q h)
+    let k = stays_since n s c (c + 1) m (frame o p f) ls q (omega arith) h in
+    (k.0, omega (arith, k.1), later_since n s c m (frame o p f) ls q h)
 
 -- so does each call that leads where its moves lead
 module _ {A : Type 0} (end : A → Place) (move : Place → Option A) where
@@ -134,12 +135,12 @@ module _ {A : Type 0} (end : A → Place) (move : Place → Option A) where
   goes on empty_place =
       weaken (move empty_place) IsNone (GoesOn empty_place) (λ q h. absurd h)
       (on IsEmpty IsNone leads-nowhere empty_place tt)
-  goes on (at n s c (level o p f) ls) =
+  goes on (at n s c (frame o p f) ls) =
       let m = weight f + remaining_around ls in
-      weaken (move (at n s c (level o p f) ls)) (Since n s (c + 1) m)
-      (GoesOn (at n s c (level o p f) ls)) (goes_on n s c o p f ls)
+      weaken (move (at n s c (frame o p f) ls)) (Since n s (c + 1) m)
+      (GoesOn (at n s c (frame o p f) ls)) (goes_on n s c o p f ls)
       (on (Since n s c (m + 1)) (Since n s (c + 1) m) (leads_on n s c m)
-      (at n s c (level o p f) ls) (refl, refl, omega arith, omega arith))
+      (at n s c (frame o p f) ls) (refl, refl, omega arith, omega arith))
 
 abbrev after_read : List Tree × Place → Place
 after_read r = r.1
@@ -206,7 +207,7 @@ pub record Along (n s c m t d : ℕ) : Type 0 where
   pub scopes : s ≡ t
   pub counts : c ≤ d
 
-pub along : (n s c m t d : ℕ) (l k : Level) (ls ks : List Level) →
+pub along : (n s c m t d : ℕ) (l k : Frame) (ls ks : List Frame) →
     StaysIn (at n s c l ls) (at m t d k ks) → Along n s c m t d
 along n s c m t d l k ls ks (inl h) =
     let p = and_parts (eqb n m) (eqb s t) h.0 in
@@ -218,7 +219,7 @@ along n s c m t d l k ls ks (inl h) =
     }
 along n s c m t d l k ls ks (inr h) = cc
 
-never_out : {A : Type 0} (m t d : ℕ) (k : Level) (ks : List Level) →
+never_out : {A : Type 0} (m t d : ℕ) (k : Frame) (ks : List Frame) →
     StaysIn empty_place (at m t d k ks) → A
 never_out m t d k ks (inl h) = absurd (false≢true h.0)
 never_out m t d k ks (inr h) = cc
@@ -281,7 +282,7 @@ pub lies_nowhere : (q : Place) → GoesOn empty_place q → ⊥
 lies_nowhere empty_place g = false≢true (ap (λ x. is_some_and is_lt x) g.2)
 lies_nowhere (at i u e m ms) g = none_not_less g.2
 
-pub later_count : (n s c m t d : ℕ) (l k : Level) (ls ks : List Level)
+pub later_count : (n s c m t d : ℕ) (l k : Frame) (ls ks : List Frame)
     → GoesOn (at n s c l ls) (at m t d k ks) → c < d
 later_count n s c m t d l k ls ks g = less_than c d (same_and_less (n == m) (nat_cmp c d) g.2).1
 
@@ -297,18 +298,18 @@ descents (at n s c l ls) =
     (kept-descend (Since n s c m) (kept_since n s c m) (at n s c l ls)
     (refl, refl, omega arith, omega arith))
 
-pass_goes_on : (n s c : ℕ) (o : Owner) (p : Forest) (t : Tree) (f : Forest) (ls : List Level)
-    → GoesOn (at n s c (level o p (tree t f)) ls) (pass (at n s c (level o p (tree t f)) ls))
+pass_goes_on : (n s c : ℕ) (o : Enclosing) (p : Forest) (t : Tree) (f : Forest) (ls : List Frame)
+    → GoesOn (at n s c (frame o p (tree t f)) ls) (pass (at n s c (frame o p (tree t f)) ls))
 pass_goes_on n s c o p t f ls =
-    goes_on n s c o p (tree t f) ls (pass (at n s c (level o p (tree t f)) ls))
+    goes_on n s c o p (tree t f) ls (pass (at n s c (frame o p (tree t f)) ls))
     (past_since n s c (weight (tree t f) + remaining_around ls)
-    (at n s c (level o p (tree t f)) ls) t refl (refl, refl, omega arith, omega arith))
+    (at n s c (frame o p (tree t f)) ls) t refl (refl, refl, omega arith, omega arith))
 
 passes : (p : Place) → Stays p (pass p)
 passes empty_place = (inr refl, omega arith)
-passes (at n s c (level o p no_trees) ls) =
-    (stays_here (at n s c (level o p no_trees) ls), omega arith)
-passes (at n s c (level o p (tree t f)) ls) =
+passes (at n s c (frame o p no_trees) ls) =
+    (stays_here (at n s c (frame o p no_trees) ls), omega arith)
+passes (at n s c (frame o p (tree t f)) ls) =
     let h = pass_goes_on n s c o p t f ls in (h.0, omega (arith, h.1))
 
 pub moves_stay : MovesStay
@@ -329,10 +330,10 @@ GoesIn p e = GoesOn p e.after × (remaining e.content < remaining p)
 
 any_goes_in : (p : Place) (e : Entered) → enter_any p ≡ Some e → GoesIn p e
 any_goes_in empty_place e h = cc
-any_goes_in (at n s c (level o p no_trees) ls) e h = cc
-any_goes_in (at n s c (level o p (tree (leaf l) f)) ls) e h = cc
-any_goes_in (at n s c (level o p (tree (group d inside span) f)) ls) e h =
-    subst (GoesIn (at n s c (level o p (tree (group d inside span) f)) ls)) (entered_is _ e h)
+any_goes_in (at n s c (frame o p no_trees) ls) e h = cc
+any_goes_in (at n s c (frame o p (tree (leaf l) f)) ls) e h = cc
+any_goes_in (at n s c (frame o p (tree (group d inside span) f)) ls) e h =
+    subst (GoesIn (at n s c (frame o p (tree (group d inside span) f)) ls)) (entered_is _ e h)
     (pass_goes_on n s c o p (group d inside span) f ls, omega arith)
 
 of_any : (d : Delimiter) (x : Option Entered) (e : Entered) → entered_of d x ≡ Some e → x ≡ Some e
@@ -380,12 +381,12 @@ entries_go_on = record {
       enters_on enter_any any_goes_in;
 }
 
-pub settle_remaining : (n s c : ℕ) (l : Level) (ls : List Level) →
-    remaining (settle n s c l ls) ≤ remaining (at n s c l ls)
-settle_remaining n s c l ls =
+pub leave_finished_remaining : (n s c : ℕ) (l : Frame) (ls : List Frame) →
+    remaining (leave_finished n s c l ls) ≤ remaining (at n s c l ls)
+leave_finished_remaining n s c l ls =
     let m = remaining (at n s c l ls) in
-    (stays_since n s c c m l ls (settle n s c l ls) (omega arith)
-    (kept-settle (Since n s c m) (kept_since n s c m) n s c l ls
+    (stays_since n s c c m l ls (leave_finished n s c l ls) (omega arith)
+    (kept-leave_finished (Since n s c m) (kept_since n s c m) n s c l ls
     (refl, refl, omega arith, omega arith))).1
 
 -- what holds of each move that goes on holds of each call

@@ -12,7 +12,7 @@ use Rattle.tok_leaves.specs.Leaves.{punct}
 use Rattle.tok_core.specs.Forest.{Tree, leaf, group, no_trees, tree}
 use Rattle.tok_core.proofs.Facts.{concat-none}
 use Rattle.tok_buffer.specs.Entry.{Entered, enter_any}
-use Rattle.tok_buffer.specs.Place.{level, Place, empty_place, at, pass}
+use Rattle.tok_buffer.specs.Place.{frame, Place, empty_place, at, pass}
 use Rattle.tok_buffer.specs.Descent.{descend}
 use Rattle.tok_buffer.specs.Reads.{and_then, place_after, read_if, is_group, is_joint_of}
 use Rattle.tok_buffer.specs.Reads.{is_next_of, is_punct_of, read_keyword, read_punctuation}
@@ -34,10 +34,10 @@ keyword_word (c ∷ cs) p e = refl
 pub group_read : (p : Place) (e : Entered) → enter_any p ≡ Some e → read_if is_group p
     ≡ Some (group e.delimiter (rest e.content) e.span ∷ [], e.after)
 group_read empty_place e h = cc
-group_read (at n s c (level o p no_trees) ls) e h = cc
-group_read (at n s c (level o p (tree (leaf l) f)) ls) e h = cc
-group_read (at n s c (level o p (tree (group d inside span) f)) ls) e h =
-    let place = at n s c (level o p (tree (group d inside span) f)) ls in
+group_read (at n s c (frame o p no_trees) ls) e h = cc
+group_read (at n s c (frame o p (tree (leaf l) f)) ls) e h = cc
+group_read (at n s c (frame o p (tree (group d inside span) f)) ls) e h =
+    let place = at n s c (frame o p (tree (group d inside span) f)) ls in
     let same : enter_any place ≡ Some e = h in
     let whole : Option Entered → Option (List Tree × Place) =
     λ x. elim x [

@@ -11,9 +11,9 @@ use Rattle.tok_buffer.specs.Buffer.{Laid}
 use Rattle.tok_buffer.specs.Cursors.{place_of, spot_place}
 use Rattle.tok_buffer.specs.Descent.{descend}
 use Rattle.tok_buffer.specs.EachRead.{first_if}
-use Rattle.tok_buffer.specs.Moves.{end_of, is_settled, levels_at, up_to}
+use Rattle.tok_buffer.specs.Moves.{end_of, is_settled, frames_at, frames_in_scope}
 use Rattle.tok_buffer.specs.Order.{same_scope}
-use Rattle.tok_buffer.specs.Place.{Level, level, Place, empty_place, at, is_at_end}
+use Rattle.tok_buffer.specs.Place.{Frame, frame, Place, empty_place, at, is_at_end}
 use Rattle.tok_buffer.specs.Progress.{remaining}
 use Rattle.tok_buffer.specs.Reached.{Reached}
 use Rattle.tok_buffer.specs.Reads.{any_tree, place_after, read_tree}
@@ -24,7 +24,7 @@ use Rattle.tok_buffer.specs.View.{erased_ahead, erased_in}
 use Rattle.tok_buffer.specs.declared.cursor.Cursor.{Cursor}
 use Rattle.tok_buffer.specs.declared.spot.Spot.{Spot}
 use Rattle.tok_buffer.proofs.Onwards.{reads_go_on, reads_keep_scope}
-use Rattle.tok_buffer.proofs.View.Erased.{erased-descend, erased-settle}
+use Rattle.tok_buffer.proofs.View.Erased.{erased-descend, erased-leave_finished}
 use Rattle.tok_buffer.proofs.View.Keeps.{IsDescended, descended-descend}
 use Rattle.tok_buffer.proofs.View.Laws.{reached_leads_on}
 use Rattle.tok_buffer.proofs.View.Moves.{LeadsTo, leads-take}
@@ -33,15 +33,16 @@ use Rattle.tok_buffer.proofs.View.Moves.{LeadsTo, leads-take}
 front-visible : (p : Place) → IsDescended p
     → erased_read (read_tree p) ≡ first_if any_tree (erased_ahead p)
 front-visible empty_place h = refl
-front-visible (at n s c (level o p no_trees) []) h = refl
-front-visible (at n s c (level o p no_trees) (l ∷ ls)) h = absurd h
-front-visible (at n s c (level o p (tree (leaf l) f)) ls) h =
+front-visible (at n s c (frame o p no_trees) []) h = refl
+front-visible (at n s c (frame o p no_trees) (l ∷ ls)) h = absurd h
+front-visible (at n s c (frame o p (tree (leaf l) f)) ls) h =
     ap (λ g. Some (leaf l ∷ [], g))
-    (erased-settle n s (c + 1) (level o (tree (leaf l) p) f) ls)
-front-visible (at n s c (level o p (tree (group delimiter.None inside span) f)) ls) h = absurd h
-front-visible (at n s c (level o p (tree (group d inside span) f)) ls) h =
+    (erased-leave_finished n s (c + 1) (frame o (tree (leaf l) p) f) ls)
+front-visible (at n s c (frame o p (tree (group delimiter.None inside span) f)) ls) h = absurd h
+front-visible (at n s c (frame o p (tree (group d inside span) f)) ls) h =
     ap (λ g. Some (group d (erase inside) span ∷ [], g))
-    (erased-settle n s (c + (2 + weight inside)) (level o (tree (group d inside span) p) f) ls)
+    (erased-leave_finished n s (c + (2 + weight inside)) (frame o (tree (group d inside span) p) f)
+    ls)
 
 -- the next visible tree is the first one ahead
 pub visible_tells : (p : Place) → erased_read (read_visible p) ≡ first_if any_tree (erased_ahead p)
@@ -59,13 +60,13 @@ same-tree t u p q e =
 front-erased : (p : Place) → IsDescended p → (t : Tree) (q : Place)
     → read_tree p ≡ Some (t ∷ [], q) → erase (tree t no_trees) ≡ tree (erased_tree t) no_trees
 front-erased empty_place h t q e = absurd (cc)
-front-erased (at n s c (level o p no_trees) ls) h t q e = absurd (cc)
-front-erased (at n s c (level o p (tree (leaf l) f)) ls) h t q e =
+front-erased (at n s c (frame o p no_trees) ls) h t q e = absurd (cc)
+front-erased (at n s c (frame o p (tree (leaf l) f)) ls) h t q e =
     let i = same-tree (leaf l) t _ q e in
     subst (λ x. erase (tree x no_trees) ≡ tree (erased_tree x) no_trees) i refl
-front-erased (at n s c (level o p (tree (group delimiter.None inside span) f)) ls) h t q e =
+front-erased (at n s c (frame o p (tree (group delimiter.None inside span) f)) ls) h t q e =
     absurd h
-front-erased (at n s c (level o p (tree (group d inside span) f)) ls) h t q e =
+front-erased (at n s c (frame o p (tree (group d inside span) f)) ls) h t q e =
     let i = same-tree (group d inside span) t _ q e in
     subst (λ x. erase (tree x no_trees) ≡ tree (erased_tree x) no_trees) i refl
 
@@ -87,18 +88,19 @@ pass-one p q r h e = go (read_tree q) refl e where
       (further q r y.0 h j, reads_go_on.trees.lowers q y.0 r j)
 
 -- nothing is ahead of a settled place before no tree
-no-front : (n s c : ℕ) (l : Level) (us : List Level) → is_settled l us ≡ true
+no-front : (n s c : ℕ) (l : Frame) (us : List Frame) → is_settled l us ≡ true
     → place_after (read_tree (at n s c l us)) ≡ None
     → (is_at_end (at n s c l us) ≡ true) × (erased_in (l ∷ us) ≡ no_trees)
-no-front n s c (level o p no_trees) [] h e = (refl, refl)
-no-front n s c (level o p no_trees) (u ∷ us) h e = absurd (false≢true h)
-no-front n s c (level o p (tree t f)) us h e = absurd (cc)
+no-front n s c (frame o p no_trees) [] h e = (refl, refl)
+no-front n s c (frame o p no_trees) (u ∷ us) h e = absurd (false≢true h)
+no-front n s c (frame o p (tree t f)) us h e = absurd (cc)
 
 spot-ends : (x : Spot) → place_after (read_tree (spot_place x)) ≡ None
     → (is_at_end (spot_place x) ≡ true) × (erased_ahead (spot_place x) ≡ no_trees)
 spot-ends x e =
-    let g = levels_at x.buffer.now.forest x.position in
-    no-front x.buffer.now.number x.scope x.position g.0 (up_to (end_of x.position g.0) x.scope g.1)
+    let g = frames_at x.buffer.now.forest x.position in
+    no-front x.buffer.now.number x.scope x.position g.0
+    (frames_in_scope (end_of x.position g.0) x.scope g.1)
     x.settled e
 
 cursor-ends : (x : Option Spot)
@@ -128,9 +130,9 @@ passes-keep p z (further q r ts h e) i =
     )
 
 -- the trees that are left, without invisible groups
-rest-erased : (ls : List Level) → erase (rest_in ls) ≡ erased_in ls
+rest-erased : (ls : List Frame) → erase (rest_in ls) ≡ erased_in ls
 rest-erased [] = refl
-rest-erased (level o p a ∷ ls) =
+rest-erased (frame o p a ∷ ls) =
     erase_concat a (rest_in ls) ∙ ap (concat (erase a)) (rest-erased ls)
 
 pub rest_erased : (p : Place) → erase (rest p) ≡ erased_ahead p

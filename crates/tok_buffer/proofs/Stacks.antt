@@ -1,4 +1,4 @@
--- The levels at a count, against the entries.
+-- The frames at a count, against the entries.
 use Rattle.std.proofs.Common.{◌≡◌, ◌⊎◌, inl, inr, ℕ, zero, suc, ◌+◌, ◌≤◌, ◌<◌, List, [], ◌∷◌}
 use Rattle.std.proofs.Common.{◌++◌, length, get_or, refl, ap, sym, ◌∙◌, arith, append_assoc}
 use Rattle.std.proofs.Common.{length-append, add-zero, add-one}
@@ -6,76 +6,76 @@ use Rattle.std.proofs.lemmas.List.{get_or_at, append-nil}
 use Rattle.tok_leaves.specs.declared.span.Span.{Span}
 use Rattle.tok_lexical.specs.declared.delimiter.Delimiter.{Delimiter}
 use Rattle.tok_leaves.specs.Leaves.{Leaf}
-use Rattle.tok_core.specs.Forest.{leaf, group, Forest, no_trees, tree, concat, turned_onto}
+use Rattle.tok_core.specs.Forest.{leaf, group, Forest, no_trees, tree, concat, reverse_onto}
 use Rattle.tok_core.specs.Weight.{weight}
-use Rattle.tok_core.proofs.Facts.{concat-none, turned_back}
-use Rattle.tok_buffer.specs.Place.{Owner, whole, in_group, Level, level}
-use Rattle.tok_buffer.specs.Moves.{move, levels_at}
+use Rattle.tok_core.proofs.Facts.{concat-none, reversed_back}
+use Rattle.tok_buffer.specs.Place.{Enclosing, whole, in_group, Frame, frame}
+use Rattle.tok_buffer.specs.Moves.{move, frames_at}
 use Rattle.tok_buffer.specs.declared.entry.Entry.{Entry}
 use Rattle.tok_buffer.specs.declared.entry.Entry.TheVariants.{End}
 use Rattle.tok_buffer.specs.Private.Layout.{leaf_entry, layout, entries_of, forest_in}
 use Rattle.tok_buffer.specs.Private.Layout.{group_entry, entry_here}
-use Rattle.tok_buffer.proofs.Layouts.{layout-turned, length-layout}
+use Rattle.tok_buffer.proofs.Layouts.{layout-reversed, length-layout}
 
--- what lies before and after a level's content c
-abbrev pub outside : Owner → Forest → List Level → List Entry × List Entry
+-- what lies before and after a frame's content c
+abbrev pub outside : Enclosing → Forest → List Frame → List Entry × List Entry
 outside whole c us = ([], End 0 ∷ [])
 outside (in_group d s) c [] = ([], End (weight c + 1) ∷ [])
-outside (in_group d s) c (level o p f ∷ us) = (
-  ((outside o (turned_onto p (tree (group d c s) f)) us).0 ++ layout (turned_onto p no_trees))
+outside (in_group d s) c (frame o p f ∷ us) = (
+  ((outside o (reverse_onto p (tree (group d c s) f)) us).0 ++ layout (reverse_onto p no_trees))
       ++ group_entry d s c ∷ [],
-  End (weight c + 1) ∷ (layout f ++ (outside o (turned_onto p (tree (group d c s) f)) us).1),
+  End (weight c + 1) ∷ (layout f ++ (outside o (reverse_onto p (tree (group d c s) f)) us).1),
 )
 
-abbrev pub nested : Level → List Level → Type 0
-nested (level whole p f) [] = Unit {0}
-nested (level whole p f) (u ∷ us) = ⊥
-nested (level (in_group d s) p f) [] = ⊥
-nested (level (in_group d s) p f) (u ∷ us) = nested u us
+abbrev pub nested : Frame → List Frame → Type 0
+nested (frame whole p f) [] = Unit {0}
+nested (frame whole p f) (u ∷ us) = ⊥
+nested (frame (in_group d s) p f) [] = ⊥
+nested (frame (in_group d s) p f) (u ∷ us) = nested u us
 
-abbrev pub before : Level → List Level → List Entry
-before (level o p f) us = (outside o (turned_onto p f) us).0 ++ layout (turned_onto p no_trees)
+abbrev pub before : Frame → List Frame → List Entry
+before (frame o p f) us = (outside o (reverse_onto p f) us).0 ++ layout (reverse_onto p no_trees)
 
-abbrev pub after : Level → List Level → List Entry
-after (level o p f) us = layout f ++ (outside o (turned_onto p f) us).1
+abbrev pub after : Frame → List Frame → List Entry
+after (frame o p f) us = layout f ++ (outside o (reverse_onto p f) us).1
 
-move-nested : (l : Level) (us : List Level) → nested l us → nested (move l us).0 (move l us).1
-move-nested (level whole p no_trees) [] h = h
-move-nested (level (in_group d s) p no_trees) [] h = h
-move-nested (level whole p no_trees) (u ∷ us) h = absurd h
-move-nested (level (in_group d s) p no_trees) (level whole q g ∷ []) h = h
-move-nested (level (in_group d s) p no_trees) (level whole q g ∷ u ∷ us) h = h
-move-nested (level (in_group d s) p no_trees) (level (in_group e t) q g ∷ []) h = h
-move-nested (level (in_group d s) p no_trees) (level (in_group e t) q g ∷ u ∷ us) h = h
-move-nested (level whole p (tree (leaf i) f)) [] h = h
-move-nested (level whole p (tree (leaf i) f)) (u ∷ us) h = h
-move-nested (level (in_group d s) p (tree (leaf i) f)) [] h = h
-move-nested (level (in_group d s) p (tree (leaf i) f)) (u ∷ us) h = h
-move-nested (level whole p (tree (group d c s) f)) [] h = h
-move-nested (level whole p (tree (group d c s) f)) (u ∷ us) h = h
-move-nested (level (in_group e t) p (tree (group d c s) f)) [] h = h
-move-nested (level (in_group e t) p (tree (group d c s) f)) (u ∷ us) h = h
+move-nested : (l : Frame) (us : List Frame) → nested l us → nested (move l us).0 (move l us).1
+move-nested (frame whole p no_trees) [] h = h
+move-nested (frame (in_group d s) p no_trees) [] h = h
+move-nested (frame whole p no_trees) (u ∷ us) h = absurd h
+move-nested (frame (in_group d s) p no_trees) (frame whole q g ∷ []) h = h
+move-nested (frame (in_group d s) p no_trees) (frame whole q g ∷ u ∷ us) h = h
+move-nested (frame (in_group d s) p no_trees) (frame (in_group e t) q g ∷ []) h = h
+move-nested (frame (in_group d s) p no_trees) (frame (in_group e t) q g ∷ u ∷ us) h = h
+move-nested (frame whole p (tree (leaf i) f)) [] h = h
+move-nested (frame whole p (tree (leaf i) f)) (u ∷ us) h = h
+move-nested (frame (in_group d s) p (tree (leaf i) f)) [] h = h
+move-nested (frame (in_group d s) p (tree (leaf i) f)) (u ∷ us) h = h
+move-nested (frame whole p (tree (group d c s) f)) [] h = h
+move-nested (frame whole p (tree (group d c s) f)) (u ∷ us) h = h
+move-nested (frame (in_group e t) p (tree (group d c s) f)) [] h = h
+move-nested (frame (in_group e t) p (tree (group d c s) f)) (u ∷ us) h = h
 
 -- a move goes past one entry
-abbrev pub Moves : Level → List Level → Type 0
+abbrev pub Moves : Frame → List Frame → Type 0
 Moves l us =
     (before (move l us).0 (move l us).1 ≡ before l us ++ entry_here l ∷ [])
     × (after l us ≡ entry_here l ∷ after (move l us).0 (move l us).1)
 
 leaf_moves : (r : List Entry × List Entry) (p : Forest) (i : Leaf) (f : Forest) →
-    (r.0 ++ layout (turned_onto p (tree (leaf i) no_trees))
-    ≡ (r.0 ++ layout (turned_onto p no_trees)) ++ leaf_entry i ∷ [])
+    (r.0 ++ layout (reverse_onto p (tree (leaf i) no_trees))
+    ≡ (r.0 ++ layout (reverse_onto p no_trees)) ++ leaf_entry i ∷ [])
     × (leaf_entry i ∷ (layout f ++ r.1) ≡ leaf_entry i ∷ (layout f ++ r.1))
 leaf_moves r p i f = (
-  ap (λ z. r.0 ++ z) (layout-turned p (tree (leaf i) no_trees))
-      ∙ sym (append_assoc r.0 (layout (turned_onto p no_trees)) (leaf_entry i ∷ [])),
+  ap (λ z. r.0 ++ z) (layout-reversed p (tree (leaf i) no_trees))
+      ∙ sym (append_assoc r.0 (layout (reverse_onto p no_trees)) (leaf_entry i ∷ [])),
   refl,
 )
 
 open_moves : (r : List Entry × List Entry) (p : Forest) (d : Delimiter) (s : Span)
     (c f : Forest) →
-    ((((r.0 ++ layout (turned_onto p no_trees)) ++ group_entry d s c ∷ []) ++ [])
-    ≡ (r.0 ++ layout (turned_onto p no_trees)) ++ group_entry d s c ∷ [])
+    ((((r.0 ++ layout (reverse_onto p no_trees)) ++ group_entry d s c ∷ []) ++ [])
+    ≡ (r.0 ++ layout (reverse_onto p no_trees)) ++ group_entry d s c ∷ [])
     × (group_entry d s c ∷ ((layout c ++ End (weight c + 1) ∷ layout f) ++ r.1)
     ≡ group_entry d s c ∷ (layout c ++ End (weight c + 1) ∷ (layout f ++ r.1)))
 open_moves r p d s c f = (
@@ -85,48 +85,48 @@ open_moves r p d s c f = (
 )
 
 close_moves : (r : List Entry × List Entry) (q : Forest) (d : Delimiter) (s : Span)
-    (x g : Forest) → (r.0 ++ layout (turned_onto q (tree (group d x s) no_trees))
-    ≡ (((r.0 ++ layout (turned_onto q no_trees)) ++ group_entry d s x ∷ []) ++ layout x)
+    (x g : Forest) → (r.0 ++ layout (reverse_onto q (tree (group d x s) no_trees))
+    ≡ (((r.0 ++ layout (reverse_onto q no_trees)) ++ group_entry d s x ∷ []) ++ layout x)
     ++ End (weight x + 1) ∷ [])
     × (End (weight x + 1) ∷ (layout g ++ r.1) ≡ End (weight x + 1) ∷ (layout g ++ r.1))
 close_moves r q d s x g =
-    (ap (λ z. r.0 ++ z) (layout-turned q (tree (group d x s) no_trees)) ∙ simp append_assoc, refl)
+    (ap (λ z. r.0 ++ z) (layout-reversed q (tree (group d x s) no_trees)) ∙ simp append_assoc, refl)
 
-move_past : (o : Owner) (p f : Forest) (us : List Level) → nested (level o p f) us →
-    0 < weight f + length us → Moves (level o p f) us
+move_past : (o : Enclosing) (p f : Forest) (us : List Frame) → nested (frame o p f) us →
+    0 < weight f + length us → Moves (frame o p f) us
 move_past o p (tree (leaf i) f) us h k =
-    leaf_moves (outside o (turned_onto p (tree (leaf i) f)) us) p i f
+    leaf_moves (outside o (reverse_onto p (tree (leaf i) f)) us) p i f
 move_past o p (tree (group d c s) f) us h k =
-    open_moves (outside o (turned_onto p (tree (group d c s) f)) us) p d s c f
+    open_moves (outside o (reverse_onto p (tree (group d c s) f)) us) p d s c f
 move_past o p no_trees [] h k = absurd (omega arith)
 move_past whole p no_trees (u ∷ us) h k = absurd h
-move_past (in_group d s) p no_trees (level o q g ∷ us) h k =
-    let x = turned_onto p no_trees in
-    close_moves (outside o (turned_onto q (tree (group d x s) g)) us) q d s x g
+move_past (in_group d s) p no_trees (frame o q g ∷ us) h k =
+    let x = reverse_onto p no_trees in
+    close_moves (outside o (reverse_onto q (tree (group d x s) g)) us) q d s x g
 
-abbrev pub At : List Entry → Level → List Level → ℕ → Type 0
+abbrev pub At : List Entry → Frame → List Frame → ℕ → Type 0
 At E l us n = nested l us × (E ≡ before l us ++ after l us) × (length (before l us) ≡ n)
 
-pub last_or : (o : Owner) (p f : Forest) (us : List Level) → nested (level o p f) us →
-    (length (after (level o p f) us) ≤ 1) ⊎ (0 < weight f + length us)
+pub last_or : (o : Enclosing) (p f : Forest) (us : List Frame) → nested (frame o p f) us →
+    (length (after (frame o p f) us) ≤ 1) ⊎ (0 < weight f + length us)
 last_or o p (tree (leaf i) f) us h = inr (omega arith)
 last_or o p (tree (group d c s) f) us h = inr (omega arith)
 last_or whole p no_trees [] h = inl (omega arith)
 last_or (in_group d s) p no_trees [] h = absurd h
 last_or o p no_trees (u ∷ us) h = inr (omega arith)
 
-step_at : (E : List Entry) (w n : ℕ) (l : Level) (us : List Level) → length E ≡ w + 1 → n < w →
+step_at : (E : List Entry) (w n : ℕ) (l : Frame) (us : List Frame) → length E ≡ w + 1 → n < w →
     At E l us n → At E (move l us).0 (move l us).1 (suc n)
-step_at E w n (level o p f) us he hn (h, hw, hl) =
-    let b = before (level o p f) us in
-    let a = after (level o p f) us in
+step_at E w n (frame o p f) us he hn (h, hw, hl) =
+    let b = before (frame o p f) us in
+    let a = after (frame o p f) us in
     elim (last_or o p f us h) [
       | inl k ↦ absurd (omega (arith, ap length hw, length-append b a))
       | inr k ↦
           let m = move_past o p f us h k in
-          let x = entry_here (level o p f) in
-          let a' = after (move (level o p f) us).0 (move (level o p f) us).1 in (
-            move-nested (level o p f) us h,
+          let x = entry_here (frame o p f) in
+          let a' = after (move (frame o p f) us).0 (move (frame o p f) us).1 in (
+            move-nested (frame o p f) us h,
             hw ∙ ap (λ z. b ++ z) m.1 ∙ sym (append_assoc b (x ∷ []) a')
                 ∙ ap (λ z. z ++ a') (sym m.0),
             omega (arith, ap length m.0, length-append b (x ∷ [])),
@@ -136,24 +136,24 @@ step_at E w n (level o p f) us he hn (h, hw, hl) =
 pub length-entries_of : (F : Forest) → length (entries_of F) ≡ weight F + 1
 length-entries_of F = omega (arith, length-append (layout F) (End 0 ∷ []), length-layout F)
 
-pub at_all : (F : Forest) (n : ℕ) → n ≤ weight F → At (entries_of F) (levels_at F n).0
-    (levels_at F n).1 n
-unfolding levels_at
+pub at_all : (F : Forest) (n : ℕ) → n ≤ weight F → At (entries_of F) (frames_at F n).0
+    (frames_at F n).1 n
+unfolding frames_at
 at_all F zero h = (tt, refl, refl)
 at_all F (suc n) h =
-    step_at (entries_of F) (weight F) n (levels_at F n).0 (levels_at F n).1 (length-entries_of F)
+    step_at (entries_of F) (weight F) n (frames_at F n).0 (frames_at F n).1 (length-entries_of F)
     h (at_all F n (omega arith))
 
-after_here : (l : Level) (us : List Level) → nested l us → (rest : List Entry)
+after_here : (l : Frame) (us : List Frame) → nested l us → (rest : List Entry)
     × (after l us ≡ entry_here l ∷ rest)
-after_here (level o p (tree (leaf i) f)) us h = (_, refl)
-after_here (level o p (tree (group d c s) f)) us h = (_, refl)
-after_here (level whole p no_trees) [] h = ([], refl)
-after_here (level (in_group d s) p no_trees) [] h = absurd h
-after_here (level whole p no_trees) (u ∷ us) h = absurd h
-after_here (level (in_group d s) p no_trees) (level o q g ∷ us) h = (_, refl)
+after_here (frame o p (tree (leaf i) f)) us h = (_, refl)
+after_here (frame o p (tree (group d c s) f)) us h = (_, refl)
+after_here (frame whole p no_trees) [] h = ([], refl)
+after_here (frame (in_group d s) p no_trees) [] h = absurd h
+after_here (frame whole p no_trees) (u ∷ us) h = absurd h
+after_here (frame (in_group d s) p no_trees) (frame o q g ∷ us) h = (_, refl)
 
-entry_from : (E : List Entry) (l : Level) (us : List Level) (n : ℕ) (d : Entry) → At E l us n →
+entry_from : (E : List Entry) (l : Frame) (us : List Frame) (n : ℕ) (d : Entry) → At E l us n →
     get_or E n d ≡ entry_here l
 entry_from E l us n d (h, hw, hl) =
     let r = after_here l us h in
@@ -161,35 +161,35 @@ entry_from E l us n d (h, hw, hl) =
 
 -- the entry at a count
 pub entry_at : (F : Forest) (n : ℕ) (d : Entry) → n ≤ weight F → get_or (entries_of F) n d
-    ≡ entry_here (levels_at F n).0
-entry_at F n d h = entry_from (entries_of F) (levels_at F n).0 (levels_at F n).1 n d (at_all F n h)
+    ≡ entry_here (frames_at F n).0
+entry_at F n d h = entry_from (entries_of F) (frames_at F n).0 (frames_at F n).1 n d (at_all F n h)
 
 -- moving past a whole forest
-pub jump : (F g : Forest) (n : ℕ) (o : Owner) (p f : Forest) (us : List Level) → levels_at F n
-    ≡ (level o p (concat g f), us) → levels_at F (n + weight g)
-    ≡ (level o (turned_onto g p) f, us)
-unfolding levels_at
+pub jump : (F g : Forest) (n : ℕ) (o : Enclosing) (p f : Forest) (us : List Frame) → frames_at F n
+    ≡ (frame o p (concat g f), us) → frames_at F (n + weight g)
+    ≡ (frame o (reverse_onto g p) f, us)
+unfolding frames_at
 jump F no_trees n o p f us e = rw add-zero e
 jump F (tree (leaf i) g) n o p f us e =
     let q : n + (1 + weight g) ≡ suc n + weight g = omega arith in
-    ap (levels_at F) q ∙ jump F g (suc n) o (tree (leaf i) p) f us (ap (λ x. move x.0 x.1) e)
+    ap (frames_at F) q ∙ jump F g (suc n) o (tree (leaf i) p) f us (ap (λ x. move x.0 x.1) e)
 jump F (tree (group d c s) g) n o p f us e =
     let q : n + (2 + weight c + weight g) ≡ suc (suc n + weight c) + weight g = omega arith in
     let inside =
-    jump F c (suc n) (in_group d s) no_trees no_trees (level o p (concat g f) ∷ us)
+    jump F c (suc n) (in_group d s) no_trees no_trees (frame o p (concat g f) ∷ us)
     (ap (λ x. move x.0 x.1) e
-    ∙ ap (λ z. (level (in_group d s) no_trees z, level o p (concat g f) ∷ us))
+    ∙ ap (λ z. (frame (in_group d s) no_trees z, frame o p (concat g f) ∷ us))
     (sym (concat-none c)))
     in
-    ap (levels_at F) q
+    ap (frames_at F) q
     ∙ jump F g (suc (suc n + weight c)) o (tree (group d c s) p) f us
     (ap (λ x. move x.0 x.1) inside
-    ∙ ap (λ z. (level o (tree (group d z s) p) (concat g f), us)) (turned_back c))
+    ∙ ap (λ z. (frame o (tree (group d z s) p) (concat g f), us)) (reversed_back c))
 
-pub levels_next : (F : Forest) (n : ℕ) → levels_at F (n + 1) ≡ move (levels_at F n).0
-    (levels_at F n).1
-unfolding levels_at
-levels_next F n = rw add-one refl
+pub frames_next : (F : Forest) (n : ℕ) → frames_at F (n + 1) ≡ move (frames_at F n).0
+    (frames_at F n).1
+unfolding frames_at
+frames_next F n = rw add-one refl
 
 -- what a buffer's entries tell
 pub laid_length : (E : List Entry) (F : Forest) → E ≡ entries_of (forest_in E) →
@@ -198,5 +198,5 @@ laid_length E F e v = ap length (e ∙ ap entries_of v) ∙ length-entries_of F
 
 pub laid_entry : (E : List Entry) (F : Forest) (n : ℕ) (x : Entry) →
     E ≡ entries_of (forest_in E) → forest_in E ≡ F → n ≤ weight F → x ≡ get_or E n x →
-    x ≡ entry_here (levels_at F n).0
+    x ≡ entry_here (frames_at F n).0
 laid_entry E F n x e v h q = q ∙ ap (λ z. get_or z n x) (e ∙ ap entries_of v) ∙ entry_at F n x h

@@ -4,7 +4,7 @@ use Rattle.tok_lexical.specs.declared.delimiter.Delimiter.{Delimiter}
 use Rattle.tok_lexical.specs.declared.delimiter.Delimiter.TheVariants as delimiter
 use Rattle.tok_leaves.specs.declared.span.Span.{Span}
 use Rattle.tok_core.specs.Forest.{Tree, leaf, group, Forest, no_trees, tree, tree_span}
-use Rattle.tok_buffer.specs.Place.{Level, level, Place, empty_place, at}
+use Rattle.tok_buffer.specs.Place.{Frame, frame, Place, empty_place, at}
 use Rattle.tok_buffer.specs.Rest.{scope_delimiter}
 
 -- a visible tree, with a mark where it is in an invisible group that has not been entered
@@ -14,10 +14,10 @@ visible mark (tree (leaf l) f) = (mark, leaf l) ∷ visible mark f
 visible mark (tree (group delimiter.None inside span) f) = visible true inside ++ visible mark f
 visible mark (tree (group d inside span) f) = (mark, group d inside span) ∷ visible mark f
 
--- level by level, from the innermost out
-abbrev pub ahead_in : List Level → List (Bool × Tree)
+-- frame by frame, from the innermost out
+abbrev pub ahead_in : List Frame → List (Bool × Tree)
 ahead_in [] = []
-ahead_in (level o p a ∷ ls) = visible false a ++ ahead_in ls
+ahead_in (frame o p a ∷ ls) = visible false a ++ ahead_in ls
 
 abbrev pub ahead : Place → List (Bool × Tree)
 ahead empty_place = []

@@ -7,51 +7,52 @@ use Rattle.tok_core.specs.Code.{delimiter_of, delimiter_back, forest_code}
 use Rattle.tok_core.specs.Forest.{Forest}
 use Rattle.tok_leaves.specs.declared.span.Span.{Span}
 use Rattle.tok_buffer.specs.Ahead.{Leftover}
-use Rattle.tok_buffer.specs.Place.{Owner, whole, in_group, Level, level, Place, empty_place, at}
+use Rattle.tok_buffer.specs.Place.{Enclosing, whole, in_group, Frame, frame, Place, empty_place, at}
 
 abbrev pub coded_spans : Coded Span
 coded_spans = code_by SpanCode coded_span span_code span_of span_back
 
-abbrev pub OwnerCode : Type 0
-OwnerCode = Option (ℕ × SpanCode)
+abbrev pub EnclosingCode : Type 0
+EnclosingCode = Option (ℕ × SpanCode)
 
-abbrev pub owner_code : Owner → OwnerCode
-owner_code whole = None
-owner_code (in_group d span) = Some (delimiter_code d, span_code span)
+abbrev pub enclosing_code : Enclosing → EnclosingCode
+enclosing_code whole = None
+enclosing_code (in_group d span) = Some (delimiter_code d, span_code span)
 
-abbrev pub owner_of : OwnerCode → Owner
-owner_of None = whole
-owner_of (Some c) = in_group (delimiter_of c.0) (span_of c.1)
+abbrev pub enclosing_of : EnclosingCode → Enclosing
+enclosing_of None = whole
+enclosing_of (Some c) = in_group (delimiter_of c.0) (span_of c.1)
 
-pub owner-back : (o : Owner) → owner_of (owner_code o) ≡ o
-owner-back whole = refl
-owner-back (in_group d span) =
+pub enclosing-back : (o : Enclosing) → enclosing_of (enclosing_code o) ≡ o
+enclosing-back whole = refl
+enclosing-back (in_group d span) =
     ap (λ e. in_group e (span_of (span_code span))) (delimiter_back d)
     ∙ ap (in_group d) (span_back span)
 
-abbrev pub coded_owner : Coded Owner
-coded_owner =
-    code_by OwnerCode (coded_option (coded× coded_ℕ coded_span)) owner_code owner_of owner-back
+abbrev pub coded_enclosing : Coded Enclosing
+coded_enclosing =
+    code_by EnclosingCode (coded_option (coded× coded_ℕ coded_span)) enclosing_code enclosing_of
+    enclosing-back
 
-abbrev pub LevelCode : Type 0
-LevelCode = Owner × (Forest × Forest)
+abbrev pub FrameCode : Type 0
+FrameCode = Enclosing × (Forest × Forest)
 
-abbrev pub level_code : Level → LevelCode
-level_code (level o p a) = (o, (p, a))
+abbrev pub frame_code : Frame → FrameCode
+frame_code (frame o p a) = (o, (p, a))
 
-abbrev pub level_of : LevelCode → Level
-level_of c = level c.0 c.1.0 c.1.1
+abbrev pub frame_of : FrameCode → Frame
+frame_of c = frame c.0 c.1.0 c.1.1
 
-pub level-back : (l : Level) → level_of (level_code l) ≡ l
-level-back (level o p a) = refl
+pub frame-back : (l : Frame) → frame_of (frame_code l) ≡ l
+frame-back (frame o p a) = refl
 
-abbrev pub coded_level : Coded Level
-coded_level =
-    code_by LevelCode
-    (coded× coded_owner (coded× forest_code forest_code)) level_code level_of level-back
+abbrev pub coded_frame : Coded Frame
+coded_frame =
+    code_by FrameCode
+    (coded× coded_enclosing (coded× forest_code forest_code)) frame_code frame_of frame-back
 
 abbrev pub PlaceCode : Type 0
-PlaceCode = Option (ℕ × (ℕ × (ℕ × (Level × List Level))))
+PlaceCode = Option (ℕ × (ℕ × (ℕ × (Frame × List Frame))))
 
 abbrev pub place_code : Place → PlaceCode
 place_code empty_place = None
@@ -67,11 +68,11 @@ place-back (at number scope count l ls) = refl
 
 abbrev pub coded_place : Coded Place
 coded_place =
-    let levels = coded× coded_level (coded_list coded_level) in
+    let frames = coded× coded_frame (coded_list coded_frame) in
     code_by PlaceCode
     (coded_option
     (coded× coded_ℕ
-    (coded× coded_ℕ (coded× coded_ℕ levels)))) place_code place_from place-back
+    (coded× coded_ℕ (coded× coded_ℕ frames)))) place_code place_from place-back
 
 abbrev pub LeftoverCode : Type 0
 LeftoverCode = SpanCode × ℕ

@@ -3,39 +3,39 @@ use Rattle.std.specs.Prelude.{◌≡◌, ℕ, ◌+◌, Bool, true, false, List, 
 use Rattle.std.specs.Prelude.{unwrap_or}
 use Rattle.std.specs.Option.{option_or}
 use Rattle.tok_lexical.specs.declared.delimiter.Delimiter.TheVariants as delimiter
-use Rattle.tok_core.specs.Forest.{leaf, group, Forest, no_trees, tree, turned_onto}
+use Rattle.tok_core.specs.Forest.{leaf, group, Forest, no_trees, tree, reverse_onto}
 use Rattle.tok_core.specs.Weight.{weight}
-use Rattle.tok_buffer.specs.Place.{Owner, in_group, Level, level, Place, empty_place, at, absorb}
-use Rattle.tok_buffer.specs.Place.{settle, settled}
+use Rattle.tok_buffer.specs.Place.{Enclosing, in_group, Frame, frame, Place, empty_place, at}
+use Rattle.tok_buffer.specs.Place.{leave_group, leave_finished, settled}
 
--- the place at the first visible tree of these trees, which stand ahead in a level; none where they
+-- the place at the first visible tree of these trees, which stand ahead in a frame; none where they
 -- hold none
-abbrev pub into_front : Forest → (number scope count : ℕ) → Owner → Forest → List Level →
+abbrev pub into_front : Forest → (number scope count : ℕ) → Enclosing → Forest → List Frame →
     Option Place
-into_front no_trees number scope count owner passed ls = None
-into_front (tree (leaf l) f) number scope count owner passed ls =
-    Some (at number scope count (level owner passed (tree (leaf l) f)) ls)
-into_front (tree (group delimiter.None inside span) f) number scope count owner passed ls =
+into_front no_trees number scope count enclosing passed ls = None
+into_front (tree (leaf l) f) number scope count enclosing passed ls =
+    Some (at number scope count (frame enclosing passed (tree (leaf l) f)) ls)
+into_front (tree (group delimiter.None inside span) f) number scope count enclosing passed ls =
     option_or
     (into_front inside number scope (count + 1) (in_group delimiter.None span) no_trees
-    (level owner passed f ∷ ls))
-    (into_front f number scope (count + (2 + weight inside)) owner
+    (frame enclosing passed f ∷ ls))
+    (into_front f number scope (count + (2 + weight inside)) enclosing
     (tree (group delimiter.None inside span) passed) ls)
-into_front (tree (group d inside span) f) number scope count owner passed ls =
-    Some (at number scope count (level owner passed (tree (group d inside span) f)) ls)
+into_front (tree (group d inside span) f) number scope count enclosing passed ls =
+    Some (at number scope count (frame enclosing passed (tree (group d inside span) f)) ls)
 
 -- the place at the first visible tree, or at the scope's end
-abbrev pub descend_from : (number scope count : ℕ) → Level → List Level → Place
-descend_from number scope count (level owner passed ahead) [] =
-    unwrap_or (into_front ahead number scope count owner passed [])
+abbrev pub descend_from : (number scope count : ℕ) → Frame → List Frame → Place
+descend_from number scope count (frame enclosing passed ahead) [] =
+    unwrap_or (into_front ahead number scope count enclosing passed [])
     (at number scope (count + weight ahead)
-    (level owner (turned_onto ahead passed) no_trees) [])
-descend_from number scope count (level owner passed ahead) (l ∷ ls) =
-    unwrap_or (into_front ahead number scope count owner passed (l ∷ ls))
+    (frame enclosing (reverse_onto ahead passed) no_trees) [])
+descend_from number scope count (frame enclosing passed ahead) (l ∷ ls) =
+    unwrap_or (into_front ahead number scope count enclosing passed (l ∷ ls))
     (descend_from number scope (count + weight ahead + 1)
-    (absorb owner (turned_onto ahead passed) l) ls)
+    (leave_group enclosing (reverse_onto ahead passed) l) ls)
 
--- out of each level that is left, and into the invisible groups in front
+-- out of each frame that is left, and into the invisible groups in front
 abbrev pub descend : Place → Place
 descend empty_place = empty_place
 descend (at number scope count l ls) = descend_from number scope count l ls
@@ -43,16 +43,17 @@ descend (at number scope count l ls) = descend_from number scope count l ls
 -- an invisible group is in front
 abbrev pub is_before_invisible : Place → Bool
 is_before_invisible
-    (at number scope count (level owner passed (tree (group delimiter.None inside span) f)) ls) =
+    (at number scope count (frame enclosing passed (tree (group delimiter.None inside span) f))
+    ls) =
     true
 is_before_invisible p = false
 
 -- into the invisible group in front, and out of it again where it holds nothing
 abbrev pub inwards : Place → Place
 inwards (at number scope count
-    (level owner passed (tree (group delimiter.None inside span) f)) ls) =
-    settle number scope (count + 1) (level (in_group delimiter.None span) no_trees inside)
-    (level owner passed f ∷ ls)
+    (frame enclosing passed (tree (group delimiter.None inside span) f)) ls) =
+    leave_finished number scope (count + 1) (frame (in_group delimiter.None span) no_trees inside)
+    (frame enclosing passed f ∷ ls)
 inwards p = p
 
 -- entering, again and again, until no invisible group is in front

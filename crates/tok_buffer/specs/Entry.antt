@@ -7,7 +7,7 @@ use Rattle.tok_leaves.specs.declared.span.Span.{Span}
 use Rattle.tok_core.specs.Forest.{group, no_trees, tree}
 use Rattle.tok_core.specs.Weight.{weight}
 use Rattle.tok_buffer.specs.Descent.{descend}
-use Rattle.tok_buffer.specs.Place.{in_group, level, Place, at, pass}
+use Rattle.tok_buffer.specs.Place.{in_group, frame, Place, at, pass}
 
 abbrev pub same_delimiter : Delimiter → Delimiter → Bool
 same_delimiter Parenthesis Parenthesis = true
@@ -39,14 +39,14 @@ entered_with known e =
 
 -- the group in front, of whatever delimiter
 abbrev pub enter_any : Place → Option Entered
-enter_any (at n s c (level o p (tree (group d inside span) f)) ls) =
+enter_any (at n s c (frame o p (tree (group d inside span) f)) ls) =
     Some (record {
       delimiter = d;
       span = span;
       content = at n (c + 1 + weight inside) (c + 1)
-          (level (in_group d span) no_trees inside) [];
+          (frame (in_group d span) no_trees inside) [];
       after =
-          pass (at n s c (level o p (tree (group d inside span) f)) ls);
+          pass (at n s c (frame o p (tree (group d inside span) f)) ls);
     })
 enter_any p = None
 

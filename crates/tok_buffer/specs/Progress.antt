@@ -10,7 +10,7 @@ use Rattle.tok_buffer.specs.Descent.{descend}
 use Rattle.tok_buffer.specs.EachRead.{EachRead, Read}
 use Rattle.tok_buffer.specs.Entry.{Entered, enter, enter_any}
 use Rattle.tok_buffer.specs.Order.{equal, order, same_scope}
-use Rattle.tok_buffer.specs.Place.{Level, level, Place, empty_place, at, pass}
+use Rattle.tok_buffer.specs.Place.{Frame, frame, Place, empty_place, at, pass}
 use Rattle.tok_buffer.specs.Reads.{read_if, read_tree, skip}
 
 -- in the same buffer and scope and no earlier, or the empty place
@@ -19,15 +19,15 @@ StaysIn from to =
     ((same_scope from to ≡ true) × (partial_le order from to ≡ true)) ⊎ (to ≡ empty_place)
 
 -- the end of each invisible group that has been entered, and what is ahead around it
-abbrev pub remaining_around : List Level → ℕ
+abbrev pub remaining_around : List Frame → ℕ
 remaining_around [] = 0
-remaining_around (level o p f ∷ ls) = 1 + weight f + remaining_around ls
+remaining_around (frame o p f ∷ ls) = 1 + weight f + remaining_around ls
 
 -- how many openings, leaves and closings are left up to the scope's end, and one more; none at the
 -- empty place
 abbrev pub remaining : Place → ℕ
 remaining empty_place = 0
-remaining (at number scope count (level o p f) ls) = weight f + remaining_around ls + 1
+remaining (at number scope count (frame o p f) ls) = weight f + remaining_around ls + 1
 
 -- wherever it reads, it stays in the scope and takes something away from what remains
 pub record ReadsOn (read : Read) : Type 0 where

@@ -6,8 +6,8 @@ use Rattle.tok_lexical.specs.declared.delimiter.Delimiter.TheVariants as delimit
 use Rattle.tok_core.specs.Erase.{erase}
 use Rattle.tok_core.specs.Forest.{Tree, leaf, group, Forest, no_trees, tree, concat}
 use Rattle.tok_buffer.specs.Entry.{Entered, entered_with, EnteredWith}
-use Rattle.tok_buffer.specs.Place.{Level, level, Place, empty_place, at}
-use Rattle.tok_buffer.specs.Rest.{levels_delimiter}
+use Rattle.tok_buffer.specs.Place.{Frame, frame, Place, empty_place, at}
+use Rattle.tok_buffer.specs.Rest.{frames_delimiter}
 
 -- for each opening, leaf and closing in reading order: 0 where it is an invisible group's, else 1
 abbrev pub visible_marks : Forest → List ℕ
@@ -21,10 +21,10 @@ visible_marks (tree (group d inside span) f) = 1 ∷ (visible_marks inside ++ (1
 abbrev pub visible_after : Forest → ℕ → ℕ
 visible_after f k = sum (drop k (visible_marks f))
 
--- the trees ahead of a place without invisible groups, level by level
-abbrev pub erased_in : List Level → Forest
+-- the trees ahead of a place without invisible groups, frame by frame
+abbrev pub erased_in : List Frame → Forest
 erased_in [] = no_trees
-erased_in (level o p a ∷ ls) = concat (erase a) (erased_in ls)
+erased_in (frame o p a ∷ ls) = concat (erase a) (erased_in ls)
 
 abbrev pub erased_ahead : Place → Forest
 erased_ahead empty_place = no_trees
@@ -38,7 +38,7 @@ pub data View : Type 0 where
 
 abbrev pub view : Forest → Place → View
 view f empty_place = empty_view
-view f (at n s c l ls) = seen (visible_after f s) (levels_delimiter l ls) (erased_in (l ∷ ls))
+view f (at n s c l ls) = seen (visible_after f s) (frames_delimiter l ls) (erased_in (l ∷ ls))
 
 -- the delimiter of a view's scope
 abbrev pub delimiter_in_view : View → Delimiter

@@ -4,7 +4,7 @@ ghost use Rattle.tok_core.specs.Forest.{leaf};
 ghost use Rattle.tok_core.specs.Seen.{tree_of};
 ghost use Rattle.tok_leaves.specs.Leaves.{leaf_span};
 ghost use Rattle.tok_buffer.specs.Entry.{same_delimiter};
-ghost use Rattle.tok_buffer.specs.Private.Layout.{entry_owner, entry_of, leaf_in};
+ghost use Rattle.tok_buffer.specs.Private.Layout.{entry_enclosing, entry_of, leaf_in};
 ghost use Rattle.tok_buffer.specs.Spans.{closing_of};
 
 use std::alloc::AllocError;
@@ -89,7 +89,7 @@ impl Entry {
 
     /// Returns the delimiter and the closing span of the group that opens here.
     pub fn closing(&self) -> (Delimiter, Span)
-        ensures { result ≡ closing_of (entry_owner self.now) }
+        ensures { result ≡ closing_of (entry_enclosing self.now) }
     {
         match self {
             Entry::Group(group, _) => (group.delimiter, DelimSpan::new(group.span).close()),

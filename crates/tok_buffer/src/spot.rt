@@ -23,7 +23,7 @@ impl<'a> Spot<'a> {
     ghost use Rattle.tok_buffer.specs.Cursors.{spot_place};
     ghost use Rattle.tok_buffer.specs.Descent.{descend};
     ghost use Rattle.tok_buffer.specs.Private.Layout.{entry_here};
-    ghost use Rattle.tok_buffer.specs.Moves.{place_at, advance, invisible_front, levels_at, level_ahead};
+    ghost use Rattle.tok_buffer.specs.Moves.{place_at, advance, invisible_front, frames_at, frame_ahead};
     ghost use Rattle.tok_buffer.specs.Place.{is_at_end, settled};
 
     /// Returns the spot `length + 1` entries after a position, past the ends of groups there.
@@ -64,7 +64,7 @@ impl<'a> Spot<'a> {
     /// Returns the entry at the position.
     pub fn entry(self) -> &'a Entry
         ensures { result.now
-            ≡ entry_here (levels_at self.entry.buffer.now.forest self.entry.position).0 }
+            ≡ entry_here (frames_at self.entry.buffer.now.forest self.entry.position).0 }
     {
         self.buffer.entry(self.position)
     }
@@ -81,7 +81,7 @@ impl<'a> Spot<'a> {
     fn at_invisible(self) -> bool
         ensures { result
             ≡ invisible_front
-            (level_ahead (levels_at self.entry.buffer.now.forest self.entry.position).0) }
+            (frame_ahead (frames_at self.entry.buffer.now.forest self.entry.position).0) }
     {
         match self.entry() {
             Entry::Group(group, _) => same(group.delimiter, Delimiter::None),

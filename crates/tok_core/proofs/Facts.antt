@@ -4,7 +4,7 @@ use Rattle.tok_lexical.specs.declared.delimiter.Delimiter.TheVariants.{None}
 use Rattle.tok_leaves.specs.declared.span.Span.{Span}
 use Rattle.tok_core.specs.Erase.{erase}
 use Rattle.tok_core.specs.Filled.{filled, has_trees}
-use Rattle.tok_core.specs.Forest.{Tree, leaf, group, Forest, no_trees, tree, concat, turned_onto}
+use Rattle.tok_core.specs.Forest.{Tree, leaf, group, Forest, no_trees, tree, concat, reverse_onto}
 
 pub concat-none : (f : Forest) → concat f no_trees ≡ f
 concat-none no_trees = refl
@@ -79,9 +79,9 @@ pub filled_stops : (t : Tree) (f : Forest) → filled (tree t no_trees) ≡ fals
     ≡ false
 filled_stops t f e = filled_tree t f ∙ ap (λ b. b && filled f) e
 
-turned_turned : (f g h : Forest) → turned_onto (turned_onto f g) h ≡ turned_onto g (concat f h)
-turned_turned no_trees g h = refl
-turned_turned (tree t f) g h = turned_turned f (tree t g) h
+reversed_twice : (f g h : Forest) → reverse_onto (reverse_onto f g) h ≡ reverse_onto g (concat f h)
+reversed_twice no_trees g h = refl
+reversed_twice (tree t f) g h = reversed_twice f (tree t g) h
 
-pub turned_back : (f : Forest) → turned_onto (turned_onto f no_trees) no_trees ≡ f
-turned_back f = turned_turned f no_trees no_trees ∙ concat-none f
+pub reversed_back : (f : Forest) → reverse_onto (reverse_onto f no_trees) no_trees ≡ f
+reversed_back f = reversed_twice f no_trees no_trees ∙ concat-none f

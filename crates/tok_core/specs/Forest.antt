@@ -51,6 +51,6 @@ with_span span (leaf (literal text old)) = leaf (literal text span)
 with_span span (group delimiter inside old) = group delimiter inside span
 
 -- the last tree first, after what is there
-abbrev pub turned_onto : Forest → Forest → Forest
-turned_onto no_trees g = g
-turned_onto (tree t f) g = turned_onto f (tree t g)
+abbrev pub reverse_onto : Forest → Forest → Forest
+reverse_onto no_trees g = g
+reverse_onto (tree t f) g = reverse_onto f (tree t g)

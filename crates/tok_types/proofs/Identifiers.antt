@@ -5,7 +5,7 @@ use Rattle.tok_leaves.specs.declared.span.Span.{Span}
 use Rattle.tok_leaves.specs.Leaves.{ident, punct, literal}
 use Rattle.tok_core.specs.Forest.{Tree, leaf, group, no_trees, tree}
 use Rattle.tok_buffer.specs.Descent.{descend}
-use Rattle.tok_buffer.specs.Place.{level, Place, empty_place, at}
+use Rattle.tok_buffer.specs.Place.{frame, Place, empty_place, at}
 use Rattle.tok_buffer.specs.Reads.{read_if, is_ident, is_ident_of, read_ident, read_word}
 
 abbrev head_text : Option (List Tree × Place) → List ℕ
@@ -16,22 +16,22 @@ pub word_of : (w : List ℕ → Bool) (q : Place) (text : List ℕ) (span : Span
     read_if is_ident q ≡ Some (leaf (ident text span) ∷ [], r) → read_if (is_ident_of w) q
     ≡ cond (w text) (Some (leaf (ident text span) ∷ [], r)) None
 word_of w empty_place text span r e = cc
-word_of w (at k s n (level o p no_trees) us) text span r e = cc
-word_of w (at k s n (level o p (tree (group d c t) f)) us) text span r e = cc
-word_of w (at k s n (level o p (tree (leaf (punct c j t)) f)) us) text span r e = cc
-word_of w (at k s n (level o p (tree (leaf (literal x t)) f)) us) text span r e = cc
-word_of w (at k s n (level o p (tree (leaf (ident x t)) f)) us) text span r e =
+word_of w (at k s n (frame o p no_trees) us) text span r e = cc
+word_of w (at k s n (frame o p (tree (group d c t) f)) us) text span r e = cc
+word_of w (at k s n (frame o p (tree (leaf (punct c j t)) f)) us) text span r e = cc
+word_of w (at k s n (frame o p (tree (leaf (literal x t)) f)) us) text span r e = cc
+word_of w (at k s n (frame o p (tree (leaf (ident x t)) f)) us) text span r e =
     ap (λ z. cond (w x) z None) e
     ∙ ap (λ z. cond (w z) (Some (leaf (ident text span) ∷ [], r)) None) (ap head_text e)
 
 pub word_none : (w : List ℕ → Bool) (q : Place) → read_if is_ident q ≡ None →
     read_if (is_ident_of w) q ≡ None
 word_none w empty_place e = refl
-word_none w (at k s n (level o p no_trees) us) e = refl
-word_none w (at k s n (level o p (tree (group d c t) f)) us) e = refl
-word_none w (at k s n (level o p (tree (leaf (punct c j t)) f)) us) e = refl
-word_none w (at k s n (level o p (tree (leaf (literal x t)) f)) us) e = refl
-word_none w (at k s n (level o p (tree (leaf (ident x t)) f)) us) e = cc
+word_none w (at k s n (frame o p no_trees) us) e = refl
+word_none w (at k s n (frame o p (tree (group d c t) f)) us) e = refl
+word_none w (at k s n (frame o p (tree (leaf (punct c j t)) f)) us) e = refl
+word_none w (at k s n (frame o p (tree (leaf (literal x t)) f)) us) e = refl
+word_none w (at k s n (frame o p (tree (leaf (ident x t)) f)) us) e = cc
 
 cond_is_some : {A : Type 0} (b : Bool) (x : A) → is_some (cond b (Some x) None) ≡ b
 cond_is_some true x = refl

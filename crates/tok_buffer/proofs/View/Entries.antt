@@ -8,11 +8,11 @@ use Rattle.tok_core.specs.Weight.{weight}
 use Rattle.tok_buffer.specs.Descent.{descend}
 use Rattle.tok_buffer.specs.Entry.{Entered, EnteredWith, enter, enter_any}
 use Rattle.tok_buffer.specs.InFront.{entered_ahead, first_group}
-use Rattle.tok_buffer.specs.Place.{in_group, level, Place, empty_place, at, pass}
+use Rattle.tok_buffer.specs.Place.{in_group, frame, Place, empty_place, at, pass}
 use Rattle.tok_buffer.specs.View.{entered_view, erased_ahead, IsVisibleDelimiter}
 use Rattle.tok_buffer.specs.View.{View, empty_view, seen, view, visible_after}
 use Rattle.tok_buffer.proofs.View.Erased.{HasScope, in_scope, scope_of, scope-descend}
-use Rattle.tok_buffer.proofs.View.Erased.{erased-settle, leads-scope, view-scope}
+use Rattle.tok_buffer.proofs.View.Erased.{erased-leave_finished, leads-scope, view-scope}
 use Rattle.tok_buffer.proofs.View.InFront.{tells-enter}
 use Rattle.tok_buffer.proofs.View.Keeps.{IsDescended, descended-descend, kept-descend, of-front}
 use Rattle.tok_buffer.proofs.View.Marks.{after-content, IsIn, moved-in}
@@ -42,17 +42,18 @@ module _ (g : Forest) (v : View) where
   front-entered : (p : Place) → IsDescended p → IsIn g p → HasScope g v p
       → IfSome (enter_any p) IsEntered
   front-entered empty_place u i h = tt
-  front-entered (at n s c (level o p no_trees) ls) u i h = tt
-  front-entered (at n s c (level o p (tree (leaf l) f)) ls) u i h = tt
-  front-entered (at n s c (level o p (tree (group d inside span) f)) ls) u i h =
-      let q = at n s c (level o p (tree (group d inside span) f)) ls in
+  front-entered (at n s c (frame o p no_trees) ls) u i h = tt
+  front-entered (at n s c (frame o p (tree (leaf l) f)) ls) u i h = tt
+  front-entered (at n s c (frame o p (tree (group d inside span) f)) ls) u i h =
+      let q = at n s c (frame o p (tree (group d inside span) f)) ls in
       let content =
-      at n (c + 1 + weight inside) (c + 1) (level (in_group d span) no_trees inside) [] in (
+      at n (c + 1 + weight inside) (c + 1) (frame (in_group d span) no_trees inside) [] in (
         ap (λ k. seen k d (erased_ahead content))
             (after-content g n s c o p d u inside span f ls i
             ∙ ap (λ a. 1 + weight a + visible_after g s)
             (sym
-            (erased-settle n s (c + (2 + weight inside)) (level o (tree (group d inside span) p) f)
+            (erased-leave_finished n s (c + (2 + weight inside))
+            (frame o (tree (group d inside span) p) f)
             ls)))
             ∙ ap (λ w. content_in_view w (entered_ahead (record {
               delimiter = d;

@@ -4,18 +4,18 @@ use Rattle.tok_core.specs.Erase.{erase}
 use Rattle.tok_core.specs.Forest.{Forest, no_trees, tree}
 use Rattle.tok_core.proofs.Facts.{joined_assoc}
 use Rattle.tok_buffer.specs.Descent.{descend}
-use Rattle.tok_buffer.specs.Place.{Owner, whole, in_group, Level, level, Place, empty_place, at}
-use Rattle.tok_buffer.specs.Place.{absorb, settle}
-use Rattle.tok_buffer.specs.Rest.{levels_delimiter}
+use Rattle.tok_buffer.specs.Place.{Enclosing, whole, in_group, Frame, frame, Place, empty_place, at}
+use Rattle.tok_buffer.specs.Place.{leave_group, leave_finished}
+use Rattle.tok_buffer.specs.Rest.{frames_delimiter}
 use Rattle.tok_buffer.specs.View.{erased_ahead, erased_in, View, empty_view, seen, view}
 use Rattle.tok_buffer.specs.View.{visible_after}
-use Rattle.tok_buffer.proofs.View.Keeps.{IsKept, kept-settle, kept-descend}
+use Rattle.tok_buffer.proofs.View.Keeps.{IsKept, kept-leave_finished, kept-descend}
 use Rattle.tok_buffer.proofs.View.Moves.{IsMoved, moved-pass, Leads}
 
-erased-absorb : (o : Owner) (p : Forest) (l : Level) (ls : List Level)
-    → erased_in (absorb o p l ∷ ls) ≡ erased_in (l ∷ ls)
-erased-absorb whole p l ls = refl
-erased-absorb (in_group d span) p (level o q a) ls = refl
+erased-leave_group : (o : Enclosing) (p : Forest) (l : Frame) (ls : List Frame)
+    → erased_in (leave_group o p l ∷ ls) ≡ erased_in (l ∷ ls)
+erased-leave_group whole p l ls = refl
+erased-leave_group (in_group d span) p (frame o q a) ls = refl
 
 -- neither settling nor a descent changes the erased trees ahead
 module _ (ahead : Forest) where
@@ -26,27 +26,28 @@ module _ (ahead : Forest) where
   kept-erased = record {
     into = λ n s c o p inside span f ls h. sym
         (joined_assoc (erase inside) (erase f) (erased_in ls)) ∙ h;
-    out = λ n s c o p l ls h. erased-absorb o p l ls ∙ h;
+    out = λ n s c o p l ls h. erased-leave_group o p l ls ∙ h;
   }
 
-pub erased-settle : (n s c : ℕ) (l : Level) (ls : List Level)
-    → erased_ahead (settle n s c l ls) ≡ erased_in (l ∷ ls)
-erased-settle n s c l ls =
-    kept-settle (HasErased (erased_in (l ∷ ls))) (kept-erased (erased_in (l ∷ ls))) n s c l ls refl
+pub erased-leave_finished : (n s c : ℕ) (l : Frame) (ls : List Frame)
+    → erased_ahead (leave_finished n s c l ls) ≡ erased_in (l ∷ ls)
+erased-leave_finished n s c l ls =
+    kept-leave_finished (HasErased (erased_in (l ∷ ls))) (kept-erased (erased_in (l ∷ ls))) n s c l
+    ls refl
 
 pub erased-descend : (p : Place) → erased_ahead (descend p) ≡ erased_ahead p
 erased-descend p =
     kept-descend (HasErased (erased_ahead p)) (kept-erased (erased_ahead p)) p refl
 
-one_owner : (o : Owner) (p q a b : Forest) (ls : List Level)
-    → levels_delimiter (level o p a) ls ≡ levels_delimiter (level o q b) ls
-one_owner o p q a b [] = refl
-one_owner o p q a b (l ∷ ls) = refl
+one_enclosing : (o : Enclosing) (p q a b : Forest) (ls : List Frame)
+    → frames_delimiter (frame o p a) ls ≡ frames_delimiter (frame o q b) ls
+one_enclosing o p q a b [] = refl
+one_enclosing o p q a b (l ∷ ls) = refl
 
-absorbed_owner : (o : Owner) (p : Forest) (l : Level) (ls : List Level)
-    → levels_delimiter (absorb o p l) ls ≡ levels_delimiter l ls
-absorbed_owner whole p l ls = refl
-absorbed_owner (in_group d span) p (level o q a) ls = one_owner o _ q a a ls
+left_enclosing : (o : Enclosing) (p : Forest) (l : Frame) (ls : List Frame)
+    → frames_delimiter (leave_group o p l) ls ≡ frames_delimiter l ls
+left_enclosing whole p l ls = refl
+left_enclosing (in_group d span) p (frame o q a) ls = one_enclosing o _ q a a ls
 
 -- a view's scope, with these trees ahead, or none
 abbrev pub in_scope : View → Forest → View
@@ -65,12 +66,12 @@ module _ (g : Forest) (v : View) where
   moved-scope = record {
     kept = record {
       into = λ n s c o p inside span f ls h.
-          ap (λ d. seen (visible_after g s) d no_trees) (one_owner o p p f _ ls) ∙ h;
+          ap (λ d. seen (visible_after g s) d no_trees) (one_enclosing o p p f _ ls) ∙ h;
       out = λ n s c o p l ls h.
-          ap (λ d. seen (visible_after g s) d no_trees) (absorbed_owner o p l ls) ∙ h;
+          ap (λ d. seen (visible_after g s) d no_trees) (left_enclosing o p l ls) ∙ h;
     };
     past = λ n s c o p t f ls h.
-        ap (λ d. seen (visible_after g s) d no_trees) (one_owner o (tree t p) p f _ ls) ∙ h;
+        ap (λ d. seen (visible_after g s) d no_trees) (one_enclosing o (tree t p) p f _ ls) ∙ h;
   }
 
   pub scope-descend : (p : Place) → HasScope p → HasScope (descend p)

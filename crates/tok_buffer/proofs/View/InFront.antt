@@ -13,10 +13,11 @@ use Rattle.tok_buffer.specs.Descent.{descend}
 use Rattle.tok_buffer.specs.Entry.{enter, enter_any, entered_of, same_delimiter}
 use Rattle.tok_buffer.specs.InFront.{entered_ahead, first_group, AheadTellsAll, AheadTellsEnds}
 use Rattle.tok_buffer.specs.InFront.{AllAheadAtStart}
-use Rattle.tok_buffer.specs.Place.{Owner, in_group, Level, level, Place, empty_place, at, settle}
+use Rattle.tok_buffer.specs.Place.{Enclosing, in_group, Frame, frame, Place, empty_place, at}
+use Rattle.tok_buffer.specs.Place.{leave_finished}
 use Rattle.tok_buffer.specs.View.{erased_ahead, erased_in, IsVisibleDelimiter}
 use Rattle.tok_buffer.proofs.View.Ends.{end_tells}
-use Rattle.tok_buffer.proofs.View.Erased.{erased-descend, erased-settle}
+use Rattle.tok_buffer.proofs.View.Erased.{erased-descend, erased-leave_finished}
 use Rattle.tok_buffer.proofs.View.Keeps.{IsDescended, descended-descend}
 use Rattle.tok_buffer.proofs.View.Places.{reached_stands}
 use Rattle.tok_buffer.proofs.View.Readings.{each_read}
@@ -24,14 +25,15 @@ use Rattle.tok_buffer.proofs.View.Spans.{leftover_tells}
 use Rattle.tok_buffer.proofs.View.Tells.{tells}
 
 -- a visible group in front
-module _ (n s c : ℕ) (o : Owner) (p : Forest) (d : Delimiter) (inside : Forest) (span : Span)
-    (f : Forest) (ls : List Level) where
+module _ (n s c : ℕ) (o : Enclosing) (p : Forest) (d : Delimiter) (inside : Forest) (span : Span)
+    (f : Forest) (ls : List Frame) where
   group-ahead : (b : Bool)
       → option_map entered_ahead (cond b (Some (record {
         delimiter = d;
         span = span;
-        content = at n (c + 1 + weight inside) (c + 1) (level (in_group d span) no_trees inside) [];
-        after = settle n s (c + (2 + weight inside)) (level o (tree (group d inside span) p) f) ls;
+        content = at n (c + 1 + weight inside) (c + 1) (frame (in_group d span) no_trees inside) [];
+        after = leave_finished n s (c + (2 + weight inside))
+            (frame o (tree (group d inside span) p) f) ls;
       })) None)
       ≡ cond b
       (Some
@@ -44,23 +46,24 @@ module _ (n s c : ℕ) (o : Owner) (p : Forest) (d : Delimiter) (inside : Forest
   group-ahead true =
       ap₂ (λ x y. Some (record { delimiter = d; span = span; content = x; after = y }))
       (concat-none (erase inside))
-      (erased-settle n s (c + (2 + weight inside)) (level o (tree (group d inside span) p) f) ls)
+      (erased-leave_finished n s (c + (2 + weight inside))
+      (frame o (tree (group d inside span) p) f) ls)
   group-ahead false = refl
 
 front-ahead : (d : Delimiter) (p : Place) → IsDescended p
     → option_map entered_ahead (entered_of d (enter_any p)) ≡ first_group d (erased_ahead p)
 front-ahead d empty_place h = refl
-front-ahead d (at n s c (level o p (tree (leaf l) f)) ls) h = refl
-front-ahead d (at n s c (level o p (tree (group delimiter.None inside span) f)) ls) h = absurd h
-front-ahead d (at n s c (level o p (tree (group delimiter.Parenthesis inside span) f)) ls) h =
+front-ahead d (at n s c (frame o p (tree (leaf l) f)) ls) h = refl
+front-ahead d (at n s c (frame o p (tree (group delimiter.None inside span) f)) ls) h = absurd h
+front-ahead d (at n s c (frame o p (tree (group delimiter.Parenthesis inside span) f)) ls) h =
     group-ahead n s c o p delimiter.Parenthesis inside span f ls
     (same_delimiter d delimiter.Parenthesis)
-front-ahead d (at n s c (level o p (tree (group delimiter.Brace inside span) f)) ls) h =
+front-ahead d (at n s c (frame o p (tree (group delimiter.Brace inside span) f)) ls) h =
     group-ahead n s c o p delimiter.Brace inside span f ls (same_delimiter d delimiter.Brace)
-front-ahead d (at n s c (level o p (tree (group delimiter.Bracket inside span) f)) ls) h =
+front-ahead d (at n s c (frame o p (tree (group delimiter.Bracket inside span) f)) ls) h =
     group-ahead n s c o p delimiter.Bracket inside span f ls (same_delimiter d delimiter.Bracket)
-front-ahead d (at n s c (level o p no_trees) []) h = refl
-front-ahead d (at n s c (level o p no_trees) (l ∷ ls)) h = absurd h
+front-ahead d (at n s c (frame o p no_trees) []) h = refl
+front-ahead d (at n s c (frame o p no_trees) (l ∷ ls)) h = absurd h
 
 descended-ahead : (d : Delimiter) (p : Place)
     → option_map entered_ahead (entered_of d (enter_any (descend p)))

@@ -6,24 +6,24 @@ use Rattle.std.specs.Option.{option_or}
 use Rattle.tok_leaves.specs.declared.span.Span.{Span}
 use Rattle.tok_lexical.specs.declared.delimiter.Delimiter.{Delimiter}
 use Rattle.tok_lexical.specs.declared.delimiter.Delimiter.TheVariants as delimiter
-use Rattle.tok_core.specs.Forest.{Tree, leaf, group, Forest, no_trees, tree, turned_onto}
+use Rattle.tok_core.specs.Forest.{Tree, leaf, group, Forest, no_trees, tree, reverse_onto}
 use Rattle.tok_core.specs.Weight.{weight}
-use Rattle.tok_core.proofs.Facts.{turned_back}
+use Rattle.tok_core.proofs.Facts.{reversed_back}
 use Rattle.tok_buffer.specs.Descent.{into_front, descend_from, descend}
 use Rattle.tok_buffer.specs.Entry.{Entered, enter, enter_any, entered_of, same_delimiter}
-use Rattle.tok_buffer.specs.Place.{Owner, in_group, Level, level, Place, empty_place, at, absorb}
-use Rattle.tok_buffer.specs.Place.{settle}
+use Rattle.tok_buffer.specs.Place.{Enclosing, in_group, Frame, frame, Place, empty_place, at}
+use Rattle.tok_buffer.specs.Place.{leave_group, leave_finished}
 use Rattle.tok_buffer.specs.View.{IsVisibleDelimiter}
 
 -- P holds inside an invisible group where it holds before it, and after the group where it holds at
 -- its end
 pub record IsKept (P : Place → Type 0) : Type 0 where
-  pub into : (n s c : ℕ) (o : Owner) (p inside : Forest) (span : Span) (f : Forest)
-      (ls : List Level)
-      → P (at n s c (level o p (tree (group delimiter.None inside span) f)) ls)
-      → P (at n s (c + 1) (level (in_group delimiter.None span) no_trees inside) (level o p f ∷ ls))
-  pub out : (n s c : ℕ) (o : Owner) (p : Forest) (l : Level) (ls : List Level)
-      → P (at n s c (level o p no_trees) (l ∷ ls)) → P (at n s (c + 1) (absorb o p l) ls)
+  pub into : (n s c : ℕ) (o : Enclosing) (p inside : Forest) (span : Span) (f : Forest)
+      (ls : List Frame)
+      → P (at n s c (frame o p (tree (group delimiter.None inside span) f)) ls)
+      → P (at n s (c + 1) (frame (in_group delimiter.None span) no_trees inside) (frame o p f ∷ ls))
+  pub out : (n s c : ℕ) (o : Enclosing) (p : Forest) (l : Frame) (ls : List Frame)
+      → P (at n s c (frame o p no_trees) (l ∷ ls)) → P (at n s (c + 1) (leave_group o p l) ls)
 
 module _ (P : Place → Type 0) (k : IsKept P) where
   abbrev KeptAt : Option Place → Place → Type 0
@@ -34,45 +34,46 @@ module _ (P : Place → Type 0) (k : IsKept P) where
   kept-either (Some p) q x y a b = a
   kept-either None q x y a b = b a
 
-  kept-into_front : (f : Forest) (n s c : ℕ) (o : Owner) (p : Forest) (ls : List Level)
-      → P (at n s c (level o p f) ls)
+  kept-into_front : (f : Forest) (n s c : ℕ) (o : Enclosing) (p : Forest) (ls : List Frame)
+      → P (at n s c (frame o p f) ls)
       → KeptAt (into_front f n s c o p ls)
-      (at n s (c + weight f) (level o (turned_onto f p) no_trees) ls)
+      (at n s (c + weight f) (frame o (reverse_onto f p) no_trees) ls)
   kept-into_front no_trees n s c o p ls h =
-      subst (λ m. P (at n s m (level o p no_trees) ls)) (sym (add-zero c)) h
+      subst (λ m. P (at n s m (frame o p no_trees) ls)) (sym (add-zero c)) h
   kept-into_front (tree (leaf l) f) n s c o p ls h = h
   kept-into_front (tree (group delimiter.None inside span) f) n s c o p ls h =
-      let same : turned_onto (turned_onto inside no_trees) no_trees ≡ inside = turned_back inside in
+      let same : reverse_onto (reverse_onto inside no_trees) no_trees
+      ≡ inside = reversed_back inside in
       let sums : c + 1 + weight inside + 1 ≡ c + (2 + weight inside) = omega arith in
       let more : c + (2 + weight inside) + weight f ≡ c + (2 + weight inside + weight f) =
       omega arith in
       kept-either
-      (into_front inside n s (c + 1) (in_group delimiter.None span) no_trees (level o p f ∷ ls))
+      (into_front inside n s (c + 1) (in_group delimiter.None span) no_trees (frame o p f ∷ ls))
       (into_front f n s (c + (2 + weight inside)) o (tree (group delimiter.None inside span) p) ls)
       (at n s (c + 1 + weight inside)
-      (level (in_group delimiter.None span) (turned_onto inside no_trees) no_trees)
-      (level o p f ∷ ls))
+      (frame (in_group delimiter.None span) (reverse_onto inside no_trees) no_trees)
+      (frame o p f ∷ ls))
       (at n s (c + (2 + weight inside + weight f))
-      (level o (turned_onto f (tree (group delimiter.None inside span) p)) no_trees) ls)
-      (kept-into_front inside n s (c + 1) (in_group delimiter.None span) no_trees (level o p f ∷ ls)
+      (frame o (reverse_onto f (tree (group delimiter.None inside span) p)) no_trees) ls)
+      (kept-into_front inside n s (c + 1) (in_group delimiter.None span) no_trees (frame o p f ∷ ls)
       (k.into n s c o p inside span f ls h))
       (λ past.
       let here =
       subst
       (λ i. P
       (at n s (c + 1 + weight inside + 1)
-      (level o (tree (group delimiter.None i span) p) f) ls)) same
+      (frame o (tree (group delimiter.None i span) p) f) ls)) same
       (k.out n s (c + 1 + weight inside) (in_group delimiter.None span)
-      (turned_onto inside no_trees) (level o p f) ls past) in
+      (reverse_onto inside no_trees) (frame o p f) ls past) in
       subst
       (λ m. KeptAt
       (into_front f n s (c + (2 + weight inside)) o
       (tree (group delimiter.None inside span) p) ls)
-      (at n s m (level o (turned_onto f (tree (group delimiter.None inside span) p)) no_trees) ls))
+      (at n s m (frame o (reverse_onto f (tree (group delimiter.None inside span) p)) no_trees) ls))
       more
       (kept-into_front f n s (c + (2 + weight inside)) o (tree (group delimiter.None inside span) p)
       ls
-      (subst (λ m. P (at n s m (level o (tree (group delimiter.None inside span) p) f) ls))
+      (subst (λ m. P (at n s m (frame o (tree (group delimiter.None inside span) p) f) ls))
       sums here)))
   kept-into_front (tree (group d inside span) f) n s c o p ls h = h
 
@@ -80,31 +81,31 @@ module _ (P : Place → Type 0) (k : IsKept P) where
   kept-unwrap (Some p) x q a b = a
   kept-unwrap None x q a b = b a
 
-  pub kept-descend_from : (n s c : ℕ) (l : Level) (ls : List Level) → P (at n s c l ls)
+  pub kept-descend_from : (n s c : ℕ) (l : Frame) (ls : List Frame) → P (at n s c l ls)
       → P (descend_from n s c l ls)
-  kept-descend_from n s c (level o p a) [] h =
+  kept-descend_from n s c (frame o p a) [] h =
       kept-unwrap (into_front a n s c o p [])
-      (at n s (c + weight a) (level o (turned_onto a p) no_trees) [])
-      (at n s (c + weight a) (level o (turned_onto a p) no_trees) [])
+      (at n s (c + weight a) (frame o (reverse_onto a p) no_trees) [])
+      (at n s (c + weight a) (frame o (reverse_onto a p) no_trees) [])
       (kept-into_front a n s c o p [] h) (λ x. x)
-  kept-descend_from n s c (level o p a) (l ∷ ls) h =
+  kept-descend_from n s c (frame o p a) (l ∷ ls) h =
       kept-unwrap (into_front a n s c o p (l ∷ ls))
-      (at n s (c + weight a) (level o (turned_onto a p) no_trees) (l ∷ ls))
-      (descend_from n s (c + weight a + 1) (absorb o (turned_onto a p) l) ls)
+      (at n s (c + weight a) (frame o (reverse_onto a p) no_trees) (l ∷ ls))
+      (descend_from n s (c + weight a + 1) (leave_group o (reverse_onto a p) l) ls)
       (kept-into_front a n s c o p (l ∷ ls) h)
-      (λ x. kept-descend_from n s (c + weight a + 1) (absorb o (turned_onto a p) l) ls
-      (k.out n s (c + weight a) o (turned_onto a p) l ls x))
+      (λ x. kept-descend_from n s (c + weight a + 1) (leave_group o (reverse_onto a p) l) ls
+      (k.out n s (c + weight a) o (reverse_onto a p) l ls x))
 
   pub kept-descend : (p : Place) → P p → P (descend p)
   kept-descend empty_place h = h
   kept-descend (at n s c l ls) h = kept-descend_from n s c l ls h
 
-  pub kept-settle : (n s c : ℕ) (l : Level) (ls : List Level) → P (at n s c l ls)
-      → P (settle n s c l ls)
-  kept-settle n s c l [] h = h
-  kept-settle n s c (level o p no_trees) (m ∷ ls) h =
-      kept-settle n s (c + 1) (absorb o p m) ls (k.out n s c o p m ls h)
-  kept-settle n s c (level o p (tree t f)) (m ∷ ls) h = h
+  pub kept-leave_finished : (n s c : ℕ) (l : Frame) (ls : List Frame) → P (at n s c l ls)
+      → P (leave_finished n s c l ls)
+  kept-leave_finished n s c l [] h = h
+  kept-leave_finished n s c (frame o p no_trees) (m ∷ ls) h =
+      kept-leave_finished n s (c + 1) (leave_group o p m) ls (k.out n s c o p m ls h)
+  kept-leave_finished n s c (frame o p (tree t f)) (m ∷ ls) h = h
 
 -- After a descent a visible tree is in front, or the place is at its scope's end.
 abbrev pub IsVisible : Tree → Type 0
@@ -113,25 +114,25 @@ IsVisible (group d inside span) = IsVisibleDelimiter d
 
 abbrev pub IsDescended : Place → Type 0
 IsDescended empty_place = ⊤
-IsDescended (at n s c (level o p (tree t f)) ls) = IsVisible t
-IsDescended (at n s c (level o p no_trees) []) = ⊤
-IsDescended (at n s c (level o p no_trees) (l ∷ ls)) = ⊥
+IsDescended (at n s c (frame o p (tree t f)) ls) = IsVisible t
+IsDescended (at n s c (frame o p no_trees) []) = ⊤
+IsDescended (at n s c (frame o p no_trees) (l ∷ ls)) = ⊥
 
 descended-either : (r q : Option Place) → IfSome r IsDescended → IfSome q IsDescended
     → IfSome (option_or r q) IsDescended
 descended-either (Some p) q a b = a
 descended-either None q a b = b
 
-descended-into_front : (f : Forest) (n s c : ℕ) (o : Owner) (p : Forest) (ls : List Level)
+descended-into_front : (f : Forest) (n s c : ℕ) (o : Enclosing) (p : Forest) (ls : List Frame)
     → IfSome (into_front f n s c o p ls) IsDescended
 descended-into_front no_trees n s c o p ls = tt
 descended-into_front (tree (leaf l) f) n s c o p ls = tt
 descended-into_front (tree (group delimiter.None inside span) f) n s c o p ls =
     descended-either
-    (into_front inside n s (c + 1) (in_group delimiter.None span) no_trees (level o p f ∷ ls))
+    (into_front inside n s (c + 1) (in_group delimiter.None span) no_trees (frame o p f ∷ ls))
     (into_front f n s (c + (2 + weight inside)) o (tree (group delimiter.None inside span) p) ls)
     (descended-into_front inside n s (c + 1) (in_group delimiter.None span) no_trees
-    (level o p f ∷ ls))
+    (frame o p f ∷ ls))
     (descended-into_front f n s (c + (2 + weight inside)) o
     (tree (group delimiter.None inside span) p) ls)
 descended-into_front (tree (group d inside span) f) n s c o p ls = tt
@@ -141,18 +142,18 @@ descended-unwrap : (r : Option Place) (q : Place) → IfSome r IsDescended → I
 descended-unwrap (Some p) q a b = a
 descended-unwrap None q a b = b
 
-descended-descend_from : (n s c : ℕ) (l : Level) (ls : List Level)
+descended-descend_from : (n s c : ℕ) (l : Frame) (ls : List Frame)
     → IsDescended (descend_from n s c l ls)
-descended-descend_from n s c (level o p a) [] =
+descended-descend_from n s c (frame o p a) [] =
     descended-unwrap (into_front a n s c o p [])
-    (at n s (c + weight a) (level o (turned_onto a p) no_trees) [])
+    (at n s (c + weight a) (frame o (reverse_onto a p) no_trees) [])
     (descended-into_front a n s c o p []) tt
-descended-descend_from n s c (level o p a) (l ∷ ls) =
+descended-descend_from n s c (frame o p a) (l ∷ ls) =
     descended-unwrap
     (into_front a n s c o p (l ∷ ls))
-    (descend_from n s (c + weight a + 1) (absorb o (turned_onto a p) l) ls)
+    (descend_from n s (c + weight a + 1) (leave_group o (reverse_onto a p) l) ls)
     (descended-into_front a n s c o p (l ∷ ls))
-    (descended-descend_from n s (c + weight a + 1) (absorb o (turned_onto a p) l) ls)
+    (descended-descend_from n s (c + weight a + 1) (leave_group o (reverse_onto a p) l) ls)
 
 pub descended-descend : (p : Place) → IsDescended (descend p)
 descended-descend empty_place = tt

@@ -13,7 +13,7 @@ use Rattle.tok_buffer.specs.Descent.{descend}
 use Rattle.tok_buffer.specs.EachRead.{Read, First}
 use Rattle.tok_buffer.specs.Entry.{Entered, enter, enter_any}
 use Rattle.tok_buffer.specs.InFront.{first_tree_span}
-use Rattle.tok_buffer.specs.Place.{level, Place, empty_place, at, pass, start}
+use Rattle.tok_buffer.specs.Place.{frame, Place, empty_place, at, pass, start}
 use Rattle.tok_buffer.specs.Reached.{Reached, down, past, into}
 use Rattle.tok_buffer.specs.SameView.{ViewsDecide, CallsLeadOn, ViewsTellScopes}
 use Rattle.tok_buffer.specs.SameView.{ViewsTellDelimiters, StartsAgree, ReadsAgree}
@@ -76,9 +76,9 @@ module _ (b : Laid) where
   -- the place after a group is the place after the tree in front
   entry_after : (p : Place) → IfSome (enter_any p) (λ e. e.after ≡ pass p)
   entry_after empty_place = tt
-  entry_after (at n s c (level o p no_trees) ls) = tt
-  entry_after (at n s c (level o p (tree (leaf l) f)) ls) = tt
-  entry_after (at n s c (level o p (tree (group d inside span) f)) ls) = refl
+  entry_after (at n s c (frame o p no_trees) ls) = tt
+  entry_after (at n s c (frame o p (tree (leaf l) f)) ls) = tt
+  entry_after (at n s c (frame o p (tree (group d inside span) f)) ls) = refl
 
   abbrev BothReached : Entered → Type 0
   BothReached e = Reached b e.content × Reached b e.after

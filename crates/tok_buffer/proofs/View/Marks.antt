@@ -11,8 +11,8 @@ use Rattle.tok_lexical.specs.declared.delimiter.Delimiter.TheVariants as delimit
 use Rattle.tok_core.specs.Erase.{erase}
 use Rattle.tok_core.specs.Forest.{Tree, leaf, group, Forest, no_trees, tree, concat}
 use Rattle.tok_core.specs.Weight.{weight, tree_weight}
-use Rattle.tok_buffer.specs.Place.{Owner, whole, in_group, Level, level, Place, empty_place, at}
-use Rattle.tok_buffer.specs.Place.{start, absorb}
+use Rattle.tok_buffer.specs.Place.{Enclosing, whole, in_group, Frame, frame, Place, empty_place, at}
+use Rattle.tok_buffer.specs.Place.{start, leave_group}
 use Rattle.tok_buffer.specs.View.{erased_in, IsVisibleDelimiter, visible_marks, visible_after}
 use Rattle.tok_buffer.proofs.View.Moves.{IsMoved}
 
@@ -79,14 +79,14 @@ pub marks-group : (d : Delimiter) → IsVisibleDelimiter d → (inside : Forest)
 marks-group delimiter.None v inside span a = absurd v
 marks-group d v inside span a = refl
 
--- the marks of what the levels around have ahead
-abbrev pub marks_beyond : List Level → List ℕ
+-- the marks of what the frames around have ahead
+abbrev pub marks_beyond : List Frame → List ℕ
 marks_beyond [] = []
-marks_beyond (level o p a ∷ ls) = 0 ∷ (visible_marks a ++ marks_beyond ls)
+marks_beyond (frame o p a ∷ ls) = 0 ∷ (visible_marks a ++ marks_beyond ls)
 
-sum-beyond : (ls : List Level) → sum (marks_beyond ls) ≡ weight (erased_in ls)
+sum-beyond : (ls : List Frame) → sum (marks_beyond ls) ≡ weight (erased_in ls)
 sum-beyond [] = refl
-sum-beyond (level o p a ∷ ls) =
+sum-beyond (frame o p a ∷ ls) =
     omega (
       arith,
       sum-append (visible_marks a) (marks_beyond ls),
@@ -112,16 +112,16 @@ module _ (g : Forest) where
   -- after the place's count comes what it has ahead, and then what comes after the scope
   abbrev pub IsIn : Place → Type 0
   IsIn empty_place = ⊤
-  IsIn (at n s c (level o p a) ls) =
+  IsIn (at n s c (frame o p a) ls) =
       drop c (visible_marks g)
       ≡ visible_marks a ++ (marks_beyond ls ++ drop s (visible_marks g))
 
-  in-absorb : (n s c : ℕ) (o : Owner) (p : Forest) (l : Level) (ls : List Level)
+  in-leave_group : (n s c : ℕ) (o : Enclosing) (p : Forest) (l : Frame) (ls : List Frame)
       → drop c (visible_marks g) ≡ marks_beyond (l ∷ ls) ++ drop s (visible_marks g)
-      → IsIn (at n s (c + 1) (absorb o p l) ls)
-  in-absorb n s c whole p (level o a b) ls e =
+      → IsIn (at n s (c + 1) (leave_group o p l) ls)
+  in-leave_group n s c whole p (frame o a b) ls e =
       drop_next c (visible_marks g) 0 _ e ∙ append_assoc (visible_marks b) (marks_beyond ls) _
-  in-absorb n s c (in_group d span) p (level o a b) ls e =
+  in-leave_group n s c (in_group d span) p (frame o a b) ls e =
       drop_next c (visible_marks g) 0 _ e ∙ append_assoc (visible_marks b) (marks_beyond ls) _
 
   pub moved-in : IsMoved IsIn
@@ -132,7 +132,7 @@ module _ (g : Forest) where
           ∙ append_assoc (visible_marks inside) (0 ∷ visible_marks f) _
           ∙ ap (λ xs. visible_marks inside ++ (0 ∷ xs))
           (sym (append_assoc (visible_marks f) (marks_beyond ls) _));
-      out = λ n s c o p l ls h. in-absorb n s c o p l ls h;
+      out = λ n s c o p l ls h. in-leave_group n s c o p l ls h;
     };
     past = λ n s c o p t a ls h.
         drop_past c (tree_weight t) (visible_marks g) (visible_marks (tree t no_trees)) _
@@ -152,9 +152,9 @@ module _ (g : Forest) where
   after-start = ap sum nothing_after
 
   -- at a visible group: what comes after its opening, and from its closing on
-  module _ (n s c : ℕ) (o : Owner) (p : Forest) (d : Delimiter) (v : IsVisibleDelimiter d)
-      (inside : Forest) (span : Span) (a : Forest) (ls : List Level)
-      (h : IsIn (at n s c (level o p (tree (group d inside span) a)) ls)) where
+  module _ (n s c : ℕ) (o : Enclosing) (p : Forest) (d : Delimiter) (v : IsVisibleDelimiter d)
+      (inside : Forest) (span : Span) (a : Forest) (ls : List Frame)
+      (h : IsIn (at n s c (frame o p (tree (group d inside span) a)) ls)) where
     pub opened : drop (c + 1) (visible_marks g)
         ≡ visible_marks inside
         ++ (1 ∷ (visible_marks a ++ (marks_beyond ls ++ drop s (visible_marks g))))
@@ -172,7 +172,7 @@ module _ (g : Forest) where
         (length-marks inside)
 
     pub in-content : IsIn
-        (at n (c + 1 + weight inside) (c + 1) (level (in_group d span) no_trees inside) [])
+        (at n (c + 1 + weight inside) (c + 1) (frame (in_group d span) no_trees inside) [])
     in-content = opened ∙ ap (λ xs. visible_marks inside ++ xs) (sym closes)
 
     -- after the content's scope come its closing, what is ahead, and what comes after the scope

@@ -6,24 +6,24 @@ use Rattle.tok_core.specs.Forest.{Tree, Forest, no_trees, tree}
 use Rattle.tok_core.specs.Weight.{tree_weight}
 use Rattle.tok_buffer.specs.Descent.{descend}
 use Rattle.tok_buffer.specs.EachRead.{Read, First}
-use Rattle.tok_buffer.specs.Place.{Owner, Level, level, Place, empty_place, at, front, pass}
+use Rattle.tok_buffer.specs.Place.{Enclosing, Frame, frame, Place, empty_place, at, front, pass}
 use Rattle.tok_buffer.specs.Reads.{read_if, and_then, place_after, read_tree, read_lifetime}
 use Rattle.tok_buffer.specs.Reads.{any_text, any_tree, skip}
-use Rattle.tok_buffer.proofs.View.Keeps.{IsKept, kept-settle}
+use Rattle.tok_buffer.proofs.View.Keeps.{IsKept, kept-leave_finished}
 use Rattle.tok_buffer.proofs.View.Readings.{Reading, one, more, never, of_lifetime}
 
 -- P holds after the front tree, too
 pub record IsMoved (P : Place → Type 0) : Type 0 where
   pub kept : IsKept P
-  pub past : (n s c : ℕ) (o : Owner) (p : Forest) (t : Tree) (f : Forest) (ls : List Level)
-      → P (at n s c (level o p (tree t f)) ls)
-      → P (at n s (c + tree_weight t) (level o (tree t p) f) ls)
+  pub past : (n s c : ℕ) (o : Enclosing) (p : Forest) (t : Tree) (f : Forest) (ls : List Frame)
+      → P (at n s c (frame o p (tree t f)) ls)
+      → P (at n s (c + tree_weight t) (frame o (tree t p) f) ls)
 
 pub moved-pass : (P : Place → Type 0) → IsMoved P → (p : Place) → P p → P (pass p)
 moved-pass P m empty_place h = h
-moved-pass P m (at n s c (level o p no_trees) ls) h = h
-moved-pass P m (at n s c (level o p (tree t f)) ls) h =
-    kept-settle P m.kept n s (c + tree_weight t) (level o (tree t p) f) ls
+moved-pass P m (at n s c (frame o p no_trees) ls) h = h
+moved-pass P m (at n s c (frame o p (tree t f)) ls) h =
+    kept-leave_finished P m.kept n s (c + tree_weight t) (frame o (tree t p) f) ls
     (m.past n s c o p t f ls h)
 
 -- A descent keeps P, and passing a tree leads from P to Q: so each read leads from P to Q.

@@ -10,7 +10,7 @@ use Rattle.tok_core.specs.Erase.{erase}
 use Rattle.tok_core.specs.Forest.{Tree, leaf, group, Forest, no_trees, tree, concat, tree_span}
 use Rattle.tok_buffer.specs.Ahead.{first_left, visible, ahead, ahead_in}
 use Rattle.tok_buffer.specs.InFront.{first_tree_span}
-use Rattle.tok_buffer.specs.Place.{Level, level, Place, empty_place, at}
+use Rattle.tok_buffer.specs.Place.{Frame, frame, Place, empty_place, at}
 use Rattle.tok_buffer.specs.Rest.{scope_delimiter}
 use Rattle.tok_buffer.specs.SameView.{leftover_span}
 use Rattle.tok_buffer.specs.View.{erased_ahead, erased_in, view}
@@ -36,16 +36,16 @@ spans-visible b (tree (group delimiter.None inside span) f) =
     ∙ sym (spans-concat (erase inside) (erase f))
 spans-visible b (tree (group d inside span) f) = ap (λ xs. span ∷ xs) (spans-visible b f)
 
-spans-levels : (ls : List Level) → span_list (ahead_in ls) ≡ spans_of (erased_in ls)
-spans-levels [] = refl
-spans-levels (level o p a ∷ ls) =
+spans-frames : (ls : List Frame) → span_list (ahead_in ls) ≡ spans_of (erased_in ls)
+spans-frames [] = refl
+spans-frames (frame o p a ∷ ls) =
     map-append (λ t. tree_span t.1) (visible false a) (ahead_in ls)
-    ∙ ap₂ (λ x y. x ++ y) (spans-visible false a) (spans-levels ls)
+    ∙ ap₂ (λ x y. x ++ y) (spans-visible false a) (spans-frames ls)
     ∙ sym (spans-concat (erase a) (erased_in ls))
 
 spans-ahead : (p : Place) → span_list (ahead p) ≡ spans_of (erased_ahead p)
 spans-ahead empty_place = refl
-spans-ahead (at n s c l ls) = spans-levels (l ∷ ls)
+spans-ahead (at n s c l ls) = spans-frames (l ∷ ls)
 
 abbrev pub tree_count : Forest → ℕ
 tree_count f = length (spans_of f)

@@ -14,7 +14,7 @@ use Rattle.tok_core.proofs.Facts.{filled_tree}
 use Rattle.tok_buffer.specs.Descent.{descend}
 use Rattle.tok_buffer.specs.Entry.{Entered, enter, enter_any}
 use Rattle.tok_buffer.specs.Order.{same_scope}
-use Rattle.tok_buffer.specs.Place.{whole, in_group, level, Place, empty_place, at}
+use Rattle.tok_buffer.specs.Place.{whole, in_group, frame, Place, empty_place, at}
 use Rattle.tok_buffer.specs.Place.{start, pass}
 use Rattle.tok_buffer.specs.View.{IsVisibleDelimiter, one_scope_in_view, view, visible_after}
 use Rattle.tok_buffer.proofs.View.Ends.{IsSettled, is_settled, IsFilledPlace, kept-filled}
@@ -74,15 +74,15 @@ module _ (number : ℕ) (f : Forest) where
 
   descended-settled : (p : Place) → IsDescended p → IsSettled p
   descended-settled empty_place h = tt
-  descended-settled (at n s c (level o p (tree t a)) ls) h = tt
-  descended-settled (at n s c (level o p no_trees) []) h = tt
-  descended-settled (at n s c (level o p no_trees) (l ∷ ls)) h = h
+  descended-settled (at n s c (frame o p (tree t a)) ls) h = tt
+  descended-settled (at n s c (frame o p no_trees) []) h = tt
+  descended-settled (at n s c (frame o p no_trees) (l ∷ ls)) h = h
 
   settled-pass : (p : Place) → IsSettled p → IsSettled (pass p)
   settled-pass empty_place h = h
-  settled-pass (at n s c (level o p no_trees) ls) h = h
-  settled-pass (at n s c (level o p (tree t a)) ls) h =
-      is_settled n s (c + tree_weight t) (level o (tree t p) a) ls
+  settled-pass (at n s c (frame o p no_trees) ls) h = h
+  settled-pass (at n s c (frame o p (tree t a)) ls) h =
+      is_settled n s (c + tree_weight t) (frame o (tree t p) a) ls
 
   pub stands-descend : (p : Place) → Stands number f p → Stands number f (descend p)
   stands-descend p h =
@@ -101,7 +101,7 @@ module _ (number : ℕ) (f : Forest) where
   -- the start is one, and so is the empty place
   pub stands-start : filled f ≡ true → Stands number f (start number f)
   stands-start h = record {
-    settled = is_settled number (weight f) 0 (level whole no_trees f) [];
+    settled = is_settled number (weight f) 0 (frame whole no_trees f) [];
     holds = record {
       filled = (h, tt);
       inside = in-start f number;
@@ -119,21 +119,21 @@ module _ (number : ℕ) (f : Forest) where
 
   any-stands : (p : Place) → IsDescended p → Stands number f p → IfSome (enter_any p) BothStand
   any-stands empty_place v h = tt
-  any-stands (at n s c (level o p no_trees) ls) v h = tt
-  any-stands (at n s c (level o p (tree (leaf l) a)) ls) v h = tt
-  any-stands (at n s c (level o p (tree (group d inside span) a)) ls) v h =
+  any-stands (at n s c (frame o p no_trees) ls) v h = tt
+  any-stands (at n s c (frame o p (tree (leaf l) a)) ls) v h = tt
+  any-stands (at n s c (frame o p (tree (group d inside span) a)) ls) v h =
       let i = h.holds.inside in (
         record {
           settled =
               is_settled n (c + 1 + weight inside) (c + 1)
-              (level (in_group d span) no_trees inside) [];
+              (frame (in_group d span) no_trees inside) [];
           holds = record {
             filled = (filled-content d v inside span a h.holds.filled.0, tt);
             inside = in-content f n s c o p d v inside span a ls i;
             scoped = (h.holds.scoped.0, inr (_, closes f n s c o p d v inside span a ls i));
           };
         },
-        stands-pass (at n s c (level o p (tree (group d inside span) a)) ls) h,
+        stands-pass (at n s c (frame o p (tree (group d inside span) a)) ls) h,
       )
 
   pub stands-enter : (d : Delimiter) (p : Place) → IsVisibleDelimiter d → Stands number f p

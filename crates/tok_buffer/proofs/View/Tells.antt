@@ -10,11 +10,11 @@ use Rattle.tok_core.specs.Weight.{weight}
 use Rattle.tok_buffer.specs.Descent.{descend}
 use Rattle.tok_buffer.specs.EachRead.{Read, First, first_if, and_first}
 use Rattle.tok_buffer.specs.InFront.{with_ahead}
-use Rattle.tok_buffer.specs.Place.{level, Place, empty_place, at, pass}
+use Rattle.tok_buffer.specs.Place.{frame, Place, empty_place, at, pass}
 use Rattle.tok_buffer.specs.Reads.{read_if, and_then, any_text, is_ident_of, place_after, read_tree}
 use Rattle.tok_buffer.specs.Reads.{read_lifetime, skip}
 use Rattle.tok_buffer.specs.View.{erased_ahead, View, empty_view, seen, view}
-use Rattle.tok_buffer.proofs.View.Erased.{erased-descend, erased-settle}
+use Rattle.tok_buffer.proofs.View.Erased.{erased-descend, erased-leave_finished}
 use Rattle.tok_buffer.proofs.View.Keeps.{IsDescended, descended-descend}
 use Rattle.tok_buffer.proofs.View.Readings.{Reading, never, one, more, IsOfLeaves}
 use Rattle.tok_buffer.proofs.View.Readings.{of_lifetime}
@@ -44,17 +44,17 @@ cond_none b x e = ap (λ c. cond c x None) e
 tells-take : (wanted : Tree → Bool) → IsOfLeaves wanted → (p : Place) → IsDescended p
     → with_ahead (read_if wanted p) ≡ first_if wanted (erased_ahead p)
 tells-take wanted leaves empty_place h = refl
-tells-take wanted leaves (at n s c (level o p (tree (leaf l) a)) ls) h =
-    tells-wanted (wanted (leaf l)) (leaf l) (pass (at n s c (level o p (tree (leaf l) a)) ls))
-    (erased_ahead (at n s c (level o p a) ls))
-    (erased-settle n s (c + 1) (level o (tree (leaf l) p) a) ls)
-tells-take wanted leaves (at n s c (level o p (tree (group delimiter.None inside span) a)) ls) h =
+tells-take wanted leaves (at n s c (frame o p (tree (leaf l) a)) ls) h =
+    tells-wanted (wanted (leaf l)) (leaf l) (pass (at n s c (frame o p (tree (leaf l) a)) ls))
+    (erased_ahead (at n s c (frame o p a) ls))
+    (erased-leave_finished n s (c + 1) (frame o (tree (leaf l) p) a) ls)
+tells-take wanted leaves (at n s c (frame o p (tree (group delimiter.None inside span) a)) ls) h =
     absurd h
-tells-take wanted leaves (at n s c (level o p (tree (group d inside span) a)) ls) h =
+tells-take wanted leaves (at n s c (frame o p (tree (group d inside span) a)) ls) h =
     ap with_ahead (cond_none (wanted (group d inside span)) _ (leaves d inside span))
     ∙ sym (cond_none (wanted (group d (erase inside) span)) _ (leaves d (erase inside) span))
-tells-take wanted leaves (at n s c (level o p no_trees) []) h = refl
-tells-take wanted leaves (at n s c (level o p no_trees) (l ∷ ls)) h = absurd h
+tells-take wanted leaves (at n s c (frame o p no_trees) []) h = refl
+tells-take wanted leaves (at n s c (frame o p no_trees) (l ∷ ls)) h = absurd h
 
 tells-one : (wanted : Tree → Bool) → IsOfLeaves wanted → (p : Place)
     → with_ahead (read_if wanted (descend p)) ≡ first_if wanted (erased_ahead p)
@@ -99,14 +99,15 @@ past_first f =
 front-tells : (p : Place) → IsDescended p
     → option_map erased_ahead (place_after (read_tree p)) ≡ past_front (erased_ahead p)
 front-tells empty_place h = refl
-front-tells (at n s c (level o p no_trees) []) h = refl
-front-tells (at n s c (level o p no_trees) (l ∷ ls)) h = absurd h
-front-tells (at n s c (level o p (tree (leaf l) f)) ls) h =
-    ap Some (erased-settle n s (c + 1) (level o (tree (leaf l) p) f) ls)
-front-tells (at n s c (level o p (tree (group delimiter.None inside span) f)) ls) h = absurd h
-front-tells (at n s c (level o p (tree (group d inside span) f)) ls) h =
+front-tells (at n s c (frame o p no_trees) []) h = refl
+front-tells (at n s c (frame o p no_trees) (l ∷ ls)) h = absurd h
+front-tells (at n s c (frame o p (tree (leaf l) f)) ls) h =
+    ap Some (erased-leave_finished n s (c + 1) (frame o (tree (leaf l) p) f) ls)
+front-tells (at n s c (frame o p (tree (group delimiter.None inside span) f)) ls) h = absurd h
+front-tells (at n s c (frame o p (tree (group d inside span) f)) ls) h =
     ap Some
-    (erased-settle n s (c + (2 + weight inside)) (level o (tree (group d inside span) p) f) ls)
+    (erased-leave_finished n s (c + (2 + weight inside)) (frame o (tree (group d inside span) p) f)
+    ls)
 
 either-tells : (x : Option (List Tree × Place)) (y : Option Place)
     (v : Option (List Tree × Forest)) (w : Option Forest) → with_ahead x ≡ v

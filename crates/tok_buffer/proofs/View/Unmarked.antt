@@ -6,9 +6,9 @@ use Rattle.tok_core.specs.Forest.{Tree, leaf, group, Forest, no_trees, tree, for
 use Rattle.tok_core.proofs.Facts.{joined_assoc}
 use Rattle.tok_buffer.specs.Ahead.{visible, ahead, ahead_in}
 use Rattle.tok_buffer.specs.Descent.{descend}
-use Rattle.tok_buffer.specs.Place.{Owner, whole, in_group, Level, level, Place, empty_place, at}
-use Rattle.tok_buffer.specs.Place.{absorb, settle}
-use Rattle.tok_buffer.proofs.View.Keeps.{IsKept, kept-settle, kept-descend}
+use Rattle.tok_buffer.specs.Place.{Enclosing, whole, in_group, Frame, frame, Place, empty_place, at}
+use Rattle.tok_buffer.specs.Place.{leave_group, leave_finished}
+use Rattle.tok_buffer.proofs.View.Keeps.{IsKept, kept-leave_finished, kept-descend}
 
 -- The visible trees ahead, without marks.
 abbrev pub unmarked : Forest → Forest
@@ -17,18 +17,18 @@ unmarked (tree (leaf l) f) = tree (leaf l) (unmarked f)
 unmarked (tree (group delimiter.None inside span) f) = concat (unmarked inside) (unmarked f)
 unmarked (tree (group d inside span) f) = tree (group d inside span) (unmarked f)
 
-abbrev pub unmarked_in : List Level → Forest
+abbrev pub unmarked_in : List Frame → Forest
 unmarked_in [] = no_trees
-unmarked_in (level o p a ∷ ls) = concat (unmarked a) (unmarked_in ls)
+unmarked_in (frame o p a ∷ ls) = concat (unmarked a) (unmarked_in ls)
 
 abbrev pub trees_ahead : Place → Forest
 trees_ahead empty_place = no_trees
 trees_ahead (at n s c l ls) = unmarked_in (l ∷ ls)
 
-unmarked_in-absorb : (o : Owner) (p : Forest) (l : Level) (ls : List Level)
-    → unmarked_in (absorb o p l ∷ ls) ≡ unmarked_in (l ∷ ls)
-unmarked_in-absorb whole p l ls = refl
-unmarked_in-absorb (in_group d span) p (level o q a) ls = refl
+unmarked_in-leave_group : (o : Enclosing) (p : Forest) (l : Frame) (ls : List Frame)
+    → unmarked_in (leave_group o p l ∷ ls) ≡ unmarked_in (l ∷ ls)
+unmarked_in-leave_group whole p l ls = refl
+unmarked_in-leave_group (in_group d span) p (frame o q a) ls = refl
 
 -- neither settling nor a descent changes the trees ahead
 module _ (ahead : Forest) where
@@ -40,13 +40,14 @@ module _ (ahead : Forest) where
     into =
         λ n s c o p inside span f ls h. sym
         (joined_assoc (unmarked inside) (unmarked f) (unmarked_in ls)) ∙ h;
-    out = λ n s c o p l ls h. unmarked_in-absorb o p l ls ∙ h;
+    out = λ n s c o p l ls h. unmarked_in-leave_group o p l ls ∙ h;
   }
 
-pub trees_ahead-settle : (n s c : ℕ) (l : Level) (ls : List Level)
-    → trees_ahead (settle n s c l ls) ≡ unmarked_in (l ∷ ls)
-trees_ahead-settle n s c l ls =
-    kept-settle (HasAhead (unmarked_in (l ∷ ls))) (kept-ahead (unmarked_in (l ∷ ls))) n s c l ls
+pub trees_ahead-leave_finished : (n s c : ℕ) (l : Frame) (ls : List Frame)
+    → trees_ahead (leave_finished n s c l ls) ≡ unmarked_in (l ∷ ls)
+trees_ahead-leave_finished n s c l ls =
+    kept-leave_finished (HasAhead (unmarked_in (l ∷ ls))) (kept-ahead (unmarked_in (l ∷ ls))) n s c
+    l ls
     refl
 
 pub trees_ahead-descend : (p : Place) → trees_ahead (descend p) ≡ trees_ahead p
@@ -69,9 +70,9 @@ plain-visible b (tree (group delimiter.None inside span) f) =
     ∙ ap (concat (unmarked inside)) (plain-visible b f)
 plain-visible b (tree (group d inside span) f) = ap (tree (group d inside span)) (plain-visible b f)
 
-plain-ahead_in : (ls : List Level) → plain (ahead_in ls) ≡ unmarked_in ls
+plain-ahead_in : (ls : List Frame) → plain (ahead_in ls) ≡ unmarked_in ls
 plain-ahead_in [] = refl
-plain-ahead_in (level o p a ∷ ls) =
+plain-ahead_in (frame o p a ∷ ls) =
     plain-append (visible false a) (ahead_in ls)
     ∙ ap (λ g. concat g (plain (ahead_in ls))) (plain-visible false a)
     ∙ ap (concat (unmarked a)) (plain-ahead_in ls)

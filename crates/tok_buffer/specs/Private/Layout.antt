@@ -5,9 +5,9 @@ use Rattle.tok_leaves.specs.declared.span.Span.{Span}
 use Rattle.tok_core.specs.Building.{Levels}
 use Rattle.tok_core.specs.Code.{top}
 use Rattle.tok_leaves.specs.Leaves.{Leaf, ident, punct, literal, ident_of, punct_of, literal_of}
-use Rattle.tok_core.specs.Forest.{Tree, leaf, group, Forest, no_trees, tree, turned_onto}
+use Rattle.tok_core.specs.Forest.{Tree, leaf, group, Forest, no_trees, tree, reverse_onto}
 use Rattle.tok_core.specs.Weight.{weight}
-use Rattle.tok_buffer.specs.Place.{Owner, whole, in_group, Level, level}
+use Rattle.tok_buffer.specs.Place.{Enclosing, whole, in_group, Frame, frame}
 use Rattle.tok_buffer.specs.declared.entry.Entry.{Entry}
 use Rattle.tok_buffer.specs.declared.entry.Entry.TheVariants.{Ident, Punct, Literal, Group, End}
 use Rattle.tok_buffer.specs.declared.entry.Held.{Held}
@@ -66,19 +66,19 @@ abbrev pub forest_in : List Entry → Forest
 forest_in xs = top (stack_entries xs [])
 
 -- how far an end reaches back
-abbrev pub back : Level → ℕ
-back (level whole p f) = 0
-back (level (in_group d s) p f) = weight (turned_onto p f) + 1
+abbrev pub back : Frame → ℕ
+back (frame whole p f) = 0
+back (frame (in_group d s) p f) = weight (reverse_onto p f) + 1
 
-abbrev pub entry_here : Level → Entry
-entry_here (level o p no_trees) = End (back (level o p no_trees))
-entry_here (level o p (tree (leaf l) f)) = leaf_entry l
-entry_here (level o p (tree (group d c s) f)) = group_entry d s c
+abbrev pub entry_here : Frame → Entry
+entry_here (frame o p no_trees) = End (back (frame o p no_trees))
+entry_here (frame o p (tree (leaf l) f)) = leaf_entry l
+entry_here (frame o p (tree (group d c s) f)) = group_entry d s c
 
 -- whose end reaches back to an entry
-abbrev pub entry_owner : Entry → Owner
-entry_owner (Group g k) = in_group g.delimiter g.span
-entry_owner e = whole
+abbrev pub entry_enclosing : Entry → Enclosing
+entry_enclosing (Group g k) = in_group g.delimiter g.span
+entry_enclosing e = whole
 
 -- The entries of levels that are open, outermost first: the end after each stands where the entry
 -- of the next level's group is to come.

@@ -6,13 +6,13 @@ ghost use Rattle.std.specs.declared.cmp.Ordering.TheVariants.{Equal};
 ghost use Rattle.tok_core.specs.Weight.{weight};
 ghost use Rattle.tok_buffer.specs.Ahead.{ahead, first_of, left_of, leftover};
 ghost use Rattle.tok_buffer.specs.Cursors.{place_of};
-ghost use Rattle.tok_buffer.specs.Moves.{in_scope, place_at, levels_at, level_ahead, level_owner, at_end};
+ghost use Rattle.tok_buffer.specs.Moves.{in_scope, place_at, frames_at, frame_ahead, frame_enclosing, at_end};
 ghost use Rattle.tok_buffer.specs.Order.{same_buffer, same_scope, equal, order};
 ghost use Rattle.tok_buffer.specs.Place.{count_before};
 ghost use Rattle.tok_buffer.specs.Private.OrderLaws.{equal_equiv, order_partial};
 ghost use Rattle.tok_buffer.specs.Progress.{remaining};
 ghost use Rattle.tok_buffer.specs.Rest.{scope_delimiter};
-ghost use Rattle.tok_buffer.specs.Spans.{closing_of, level_span, current_span, start_span, previous_span};
+ghost use Rattle.tok_buffer.specs.Spans.{closing_of, frame_span, current_span, start_span, previous_span};
 ghost use Rattle.tok_buffer.specs.View.{erased_ahead};
 
 use crate::buffer::TokenBuffer;
@@ -112,7 +112,7 @@ impl<'a> Cursor<'a> {
     {
         match self.spot {
             None => Delimiter::None,
-            Some(spot) => owner_at(spot.buffer, spot.scope).0,
+            Some(spot) => enclosing_at(spot.buffer, spot.scope).0,
         }
     }
 
@@ -187,7 +187,7 @@ impl<'a> PartialOrd for Cursor<'a> {
 // Returns the span of the whole tree at a position, or the closing span at an end.
 fn span_at(buffer: &TokenBuffer, position: usize) -> Span
     requires { position ≤ weight buffer.now.forest }
-    ensures { result ≡ level_span (levels_at buffer.now.forest position).0 }
+    ensures { result ≡ frame_span (frames_at buffer.now.forest position).0 }
 {
     match buffer.entry(position).held() {
         Held::Leaf(leaf) => leaf.span(),
@@ -197,10 +197,10 @@ fn span_at(buffer: &TokenBuffer, position: usize) -> Span
 }
 
 // Returns the delimiter and the closing span of the group that ends at a position.
-fn owner_at(buffer: &TokenBuffer, end: usize) -> (Delimiter, Span)
+fn enclosing_at(buffer: &TokenBuffer, end: usize) -> (Delimiter, Span)
     requires in_buffer { end ≤ weight buffer.now.forest }
-    requires is_end { at_end (level_ahead (levels_at buffer.now.forest end).0) ≡ true }
-    ensures { result ≡ closing_of (level_owner (levels_at buffer.now.forest end).0) }
+    requires is_end { at_end (frame_ahead (frames_at buffer.now.forest end).0) ≡ true }
+    ensures { result ≡ closing_of (frame_enclosing (frames_at buffer.now.forest end).0) }
 {
     match buffer.entry(end) {
         Entry::End(back) => buffer.entry(end - *back).closing(),

@@ -1,6 +1,6 @@
 use Rattle.std.proofs.Common.{◌≡◌, ◌∙◌, sym}
 use Rattle.tok_buffer.specs.Cursors.{spot_place}
-use Rattle.tok_buffer.specs.Moves.{levels_at}
+use Rattle.tok_buffer.specs.Moves.{frames_at}
 use Rattle.tok_buffer.specs.Private.Layout.{entry_here}
 use Rattle.tok_buffer.specs.declared.entry.Entry.TheVariants.{Group}
 use Rattle.tok_buffer.proofs.Groups.{held_fits, held_within, held_settled, held_after, held_enters}
@@ -10,7 +10,7 @@ pub inside-content-requires : goal.inside-content-requires
 inside-content-requires c =
     let s = c.in_ok-spot.spot in
     let F = s.buffer.now.forest in
-    let e : entry_here (levels_at F s.position).0 ≡ Group c.in-Group.group c.in-Group.offset =
+    let e : entry_here (frames_at F s.position).0 ≡ Group c.in-Group.group c.in-Group.offset =
     sym c.entry.ensures ∙ c.in-Group.is in
     record {
       in_buffer = s.in_buffer;
@@ -23,7 +23,7 @@ pub past-after-requires : goal.past-after-requires
 past-after-requires c =
     let s = c.in_ok-spot.spot in
     let F = s.buffer.now.forest in
-    let e : entry_here (levels_at F s.position).0 ≡ Group c.in-Group.group c.in-Group.offset =
+    let e : entry_here (frames_at F s.position).0 ≡ Group c.in-Group.group c.in-Group.offset =
     sym c.entry.ensures ∙ c.in-Group.is in
     record {
       in_buffer = s.in_buffer;
@@ -36,7 +36,7 @@ returns-in-Group c =
     let s = c.in_ok-spot.spot in
     let F = s.buffer.now.forest in
     let g = c.in-Group.group in
-    let e : entry_here (levels_at F s.position).0 ≡ Group g c.in-Group.offset =
+    let e : entry_here (frames_at F s.position).0 ≡ Group g c.in-Group.offset =
     sym c.entry.ensures ∙ c.in-Group.is in
     rw (c.in_ok-spot.was, c.new.ensures, c.at.ensures, c.at-in-Group.ensures)
     (held_enters F s.position s.scope g c.in-Group.offset s.within e s.buffer.now.number

@@ -1,5 +1,5 @@
 use Rattle.std.proofs.Common.{arith, ◌∙◌, sym}
-use Rattle.tok_buffer.specs.Moves.{levels_at, up_to, end_of}
+use Rattle.tok_buffer.specs.Moves.{frames_at, frames_in_scope, end_of}
 use Rattle.tok_buffer.proofs.Befores.{current_is}
 use Rattle.tok_buffer.proofs.InScope.{before_scope}
 use Rattle.tok_buffer.proofs.cursor.Cursor.span.Goals as goal
@@ -12,7 +12,7 @@ span_at-requires c =
 pub returns-in-Some : goal.returns-in-Some
 returns-in-Some c =
     let s = c.in-Some.spot in
-    let x = levels_at s.buffer.now.forest s.position in
+    let x = frames_at s.buffer.now.forest s.position in
     rw c.in-Some.is (c.span_at.ensures
     ∙ sym (current_is s.buffer.now.number s.scope s.position x.0
-    (up_to (end_of s.position x.0) s.scope x.1)))
+    (frames_in_scope (end_of s.position x.0) s.scope x.1)))

@@ -3,7 +3,7 @@ use Rattle.tok_core.specs.Forest.{concat, leaf, group}
 use Rattle.tok_core.specs.Seen.{tree_of}
 use Rattle.tok_core.specs.declared.stream.TokenTree.TheVariants as made
 use Rattle.tok_core.proofs.Facts.{concat-none}
-use Rattle.tok_buffer.specs.Moves.{levels_at}
+use Rattle.tok_buffer.specs.Moves.{frames_at}
 use Rattle.tok_buffer.specs.Private.Layout.{entry_here, entry_of, leaf_in}
 use Rattle.tok_buffer.specs.declared.entry.Entry.TheVariants.{Group}
 use Rattle.tok_buffer.proofs.InScope.{before_scope, place_step}
@@ -94,7 +94,7 @@ loop-position-preserved-in-Group t c =
     let i = c.loop-position.invariant in
     let g = c.in-Group.group.now in
     let k = c.in-Group.offset in
-    let e : entry_here (levels_at F n).0 ≡ Group g k = sym c.entry.ensures ∙ c.held.ensures
+    let e : entry_here (frames_at F n).0 ≡ Group g k = sym c.entry.ensures ∙ c.held.ensures
     ∙ ap entry_of c.in-Group.is in
     let inner = rest_at F (n + 1) (n + k) in
     record {

@@ -8,7 +8,7 @@ use Rattle.tok_core.specs.Text.{text, text_after, space}
 use Rattle.tok_leaves.specs.Leaves.{leaf_text}
 use Rattle.tok_lexical.specs.Delimiters.{opening}
 use Rattle.tok_core.specs.Weight.{weight}
-use Rattle.tok_buffer.specs.Moves.{in_scope, levels_at, place_at}
+use Rattle.tok_buffer.specs.Moves.{in_scope, frames_at, place_at}
 use Rattle.tok_buffer.specs.Rest.{rest}
 use Rattle.tok_buffer.specs.Private.Layout.{entry_here, entry_of, leaf_in}
 use Rattle.tok_buffer.specs.declared.entry.Entry.TheVariants.{Group}
@@ -128,7 +128,7 @@ loop-position-preserved-in-Group g t c =
     let o = c.in-Group.group.now in
     let k = c.in-Group.offset in
     let b = c.loop-position.is_glued in
-    let e : entry_here (levels_at F n).0 ≡ Group o k = sym c.entry.ensures ∙ c.held.ensures
+    let e : entry_here (frames_at F n).0 ≡ Group o k = sym c.entry.ensures ∙ c.held.ensures
     ∙ ap entry_of c.in-Group.is in
     let inside = text (rest_at F (n + 1) (n + k)) in
     record {

@@ -1,5 +1,5 @@
 use Rattle.std.proofs.Common.{◌∙◌, ◌+◌, Some, refl, sym, ap, arith}
-use Rattle.tok_buffer.specs.Moves.{levels_at, up_to, end_of}
+use Rattle.tok_buffer.specs.Moves.{frames_at, frames_in_scope, end_of}
 use Rattle.tok_buffer.specs.Ahead.{first_of}
 use Rattle.tok_buffer.specs.Private.Layout.{entry_of, leaf_in}
 use Rattle.tok_buffer.proofs.InScope.{before_scope, place_step}
@@ -49,38 +49,38 @@ pub returns-in-Leaf : goal.returns-in-Leaf
 returns-in-Leaf c =
     let F = c.args.buffer.now.forest in
     let n = c.loop-position.position in
-    let x = levels_at F n in
-    let y = levels_at F c.args.from in
-    let us = up_to (end_of n x.0) c.args.scope x.1 in
+    let x = frames_at F n in
+    let y = frames_at F c.args.from in
+    let us = frames_in_scope (end_of n x.0) c.args.scope x.1 in
     ap (λ z. Some (z, c.span.result)) (sym (marked_is c.loop-position.depth))
     ∙ ap (λ z. Some (marked c.loop-position.depth, z)) c.span.ensures
     ∙ sym (scan_leaf c.loop-position.depth x.0 us (leaf_in c.in-Leaf.leaf) (sym c.entry.ensures
     ∙ c.held.ensures ∙ ap entry_of c.in-Leaf.is))
     ∙ ap first_of (c.loop-position.invariant.same
     ∙ sym (shown_is c.args.buffer.now.number c.args.scope c.args.from y.0
-    (up_to (end_of c.args.from y.0) c.args.scope y.1)))
+    (frames_in_scope (end_of c.args.from y.0) c.args.scope y.1)))
 
 pub returns-then-not-same : goal.returns-then-not-same
 returns-then-not-same c =
     let F = c.args.buffer.now.forest in
     let n = c.loop-position.position in
-    let x = levels_at F n in
-    let y = levels_at F c.args.from in
-    let us = up_to (end_of n x.0) c.args.scope x.1 in
+    let x = frames_at F n in
+    let y = frames_at F c.args.from in
+    let us = frames_in_scope (end_of n x.0) c.args.scope x.1 in
     ap (λ z. Some (z, c.in-Group.group.now.span)) (sym (marked_is c.loop-position.depth))
     ∙ sym (scan_group c.loop-position.depth x.0 us c.in-Group.group.now c.in-Group.field-1
     (sym c.entry.ensures ∙ c.held.ensures ∙ ap entry_of c.in-Group.is) (sym c.same.ensures
     ∙ c.if-not-same.true))
     ∙ ap first_of (c.loop-position.invariant.same
     ∙ sym (shown_is c.args.buffer.now.number c.args.scope c.args.from y.0
-    (up_to (end_of c.args.from y.0) c.args.scope y.1)))
+    (frames_in_scope (end_of c.args.from y.0) c.args.scope y.1)))
 
 pub returns : goal.returns
 returns c =
     let F = c.args.buffer.now.forest in
-    let y = levels_at F c.args.from in
+    let y = frames_at F c.args.from in
     ap first_of (sym (shown_done c.loop-position.depth F c.loop-position.position c.args.scope
     c.loop-position.invariant.within c.loop-position-test.false)
     ∙ c.loop-position.invariant.same
     ∙ sym (shown_is c.args.buffer.now.number c.args.scope c.args.from y.0
-    (up_to (end_of c.args.from y.0) c.args.scope y.1)))
+    (frames_in_scope (end_of c.args.from y.0) c.args.scope y.1)))

@@ -1,33 +1,33 @@
 use Rattle.std.proofs.Common.{◌≡◌, ◌∙◌, sym, ap}
-use Rattle.tok_buffer.specs.Spans.{owner_closing}
-use Rattle.tok_buffer.specs.Moves.{levels_at}
-use Rattle.tok_buffer.specs.Private.Layout.{entry_here, entry_of, entry_owner, leaf_in}
+use Rattle.tok_buffer.specs.Spans.{enclosing_closing}
+use Rattle.tok_buffer.specs.Moves.{frames_at}
+use Rattle.tok_buffer.specs.Private.Layout.{entry_here, entry_of, entry_enclosing, leaf_in}
 use Rattle.tok_buffer.specs.declared.entry.Entry.TheVariants.{End}
-use Rattle.tok_buffer.proofs.Owners.{owner_entry}
+use Rattle.tok_buffer.proofs.Enclosing.{enclosing_entry}
 use Rattle.tok_buffer.proofs.Befores.{end_current, leaf_current, group_current}
 use Rattle.tok_buffer.proofs.cursor.spans.span_at.Goals as goal
 
 pub overflow_sub-position : goal.overflow_sub-position
 overflow_sub-position c =
-    (owner_entry c.args.buffer.now.forest c.args.position c.in-End.back c.requires
+    (enclosing_entry c.args.buffer.now.forest c.args.position c.in-End.back c.requires
     (sym c.entry.ensures ∙ c.held.ensures ∙ ap entry_of c.in-End.is)).0
 
 pub returns-in-Leaf : goal.returns-in-Leaf
 returns-in-Leaf c = c.span.ensures
-    ∙ leaf_current (levels_at c.args.buffer.now.forest c.args.position).0
+    ∙ leaf_current (frames_at c.args.buffer.now.forest c.args.position).0
     (leaf_in c.in-Leaf.leaf) (sym c.entry.ensures ∙ c.held.ensures ∙ ap entry_of c.in-Leaf.is)
 
 pub returns-in-Group : goal.returns-in-Group
-returns-in-Group c = group_current (levels_at c.args.buffer.now.forest c.args.position).0
+returns-in-Group c = group_current (frames_at c.args.buffer.now.forest c.args.position).0
     c.in-Group.group.now c.in-Group.field-1 (sym c.entry.ensures ∙ c.held.ensures
     ∙ ap entry_of c.in-Group.is)
 
 pub returns-in-End : goal.returns-in-End
 returns-in-End c =
     let F = c.args.buffer.now.forest in
-    let e : entry_here (levels_at F c.args.position).0 ≡ End c.in-End.back = sym c.entry.ensures
+    let e : entry_here (frames_at F c.args.position).0 ≡ End c.in-End.back = sym c.entry.ensures
     ∙ c.held.ensures ∙ ap entry_of c.in-End.is in
     ap (λ r. r.1) c.closing.ensures
-    ∙ ap (λ x. owner_closing (entry_owner x)) c.entry-in-End.ensures
-    ∙ ap owner_closing (owner_entry F c.args.position c.in-End.back c.requires e).1
-    ∙ end_current (levels_at F c.args.position).0 c.in-End.back e
+    ∙ ap (λ x. enclosing_closing (entry_enclosing x)) c.entry-in-End.ensures
+    ∙ ap enclosing_closing (enclosing_entry F c.args.position c.in-End.back c.requires e).1
+    ∙ end_current (frames_at F c.args.position).0 c.in-End.back e

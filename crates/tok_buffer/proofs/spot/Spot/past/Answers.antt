@@ -1,6 +1,6 @@
 use Rattle.std.proofs.Common.{◌≡◌, true, arith, ◌∙◌, sym}
 use Rattle.tok_buffer.specs.Moves.{settled_at}
-use Rattle.tok_buffer.proofs.InScope.{settle_step, settled_front, settled_scope}
+use Rattle.tok_buffer.proofs.InScope.{leave_finished_step, settled_front, settled_scope}
 use Rattle.tok_buffer.proofs.InScope.{place_settled}
 use Rattle.tok_buffer.proofs.spot.Spot.past.Goals as goal
 use Rattle.tok_buffer.proofs.spot.Spot.past.Goals.{then-loop-position-test+else-ends_at}
@@ -11,7 +11,7 @@ loop-position-preserved c =
     let b = c.args.buffer.now in
     let n = c.loop-position.position in
     let i = c.loop-position.invariant in
-    let m = settle_step b.number n c.args.scope b.forest i.within c.loop-position-test.true
+    let m = leave_finished_step b.number n c.args.scope b.forest i.within c.loop-position-test.true
     (sym c.ends_at.ensures ∙ c.if-ends_at.true) in
     record {
       within = m.0;
