@@ -1,7 +1,7 @@
 //! The calls of `syn_replay`.
 use std::alloc::{AllocError, Global};
 use syn_replay::{Command, Kind, Look, replay, replay_both, replay_in};
-use test_outcomes::memory::{Outcome, ended, made, worst};
+use test_outcomes::memory::{Outcome, Stop, ended, made, worst};
 use tok_buffer::TokenBuffer;
 use tok_core::{Delimiter, lex_marked};
 
@@ -30,8 +30,10 @@ fn commands(alloc: Global) -> Result<Vec<Command>, AllocError> {
 }
 
 fn of_buffer(alloc: Global, commands: &[Command]) -> Outcome {
-    let buffer = made(TokenBuffer::from_marked(alloc, 0, 0, TEXT))?;
-    ended(replay_in(alloc, &buffer, commands))
+    match TokenBuffer::from_marked(alloc, 0, 0, TEXT) {
+        Ok(buffer) => ended(replay_in(alloc, &buffer, commands)),
+        Err(_) => Err(Stop::Refused),
+    }
 }
 
 fn of_stream(alloc: Global, commands: &[Command]) -> Outcome {

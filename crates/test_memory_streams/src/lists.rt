@@ -55,6 +55,9 @@ impl Clone for Boxed {
 pub fn calls(alloc: Global) -> Outcome {
     worst(&[
         pushes(alloc),
+        inserts(alloc),
+        values(alloc),
+        extends(alloc),
         ended(Letters::from_values(alloc, ['a', 'b'])),
         ended(two_letters(alloc)),
         clones(alloc),
@@ -101,14 +104,26 @@ fn two_letters(alloc: Global) -> Result<Letters, Stop> {
 
 fn pushes(alloc: Global) -> Outcome {
     let mut list = Letters::new(alloc);
-    made(list.push('a'))?;
-    made(list.push_punct(Mark(';')))?;
-    made(list.pop_punct())?;
-    made(list.insert(0, 'b'))?;
-    made(list.extend_values(['c', 'd', 'e', 'f']))?;
-    made(list.push_punct(Mark(';')))?;
-    made(list.push_value('g'))?;
-    ended(list.extend_pairs([Pair::Punctuated('h', Mark(';')), Pair::End('i')]))
+    list.push_value('a')?;
+    list.push_punct(Mark(';'))?;
+    ended(list.pop_punct())
+}
+
+fn inserts(alloc: Global) -> Outcome {
+    let mut list = Letters::new(alloc);
+    list.push('a')?;
+    ended(list.insert(0, 'b'))
+}
+
+fn values(alloc: Global) -> Outcome {
+    let mut list = Letters::new(alloc);
+    ended(list.extend_values(['a', 'b', 'c', 'd', 'e', 'f']))
+}
+
+fn extends(alloc: Global) -> Outcome {
+    let mut list = Letters::new(alloc);
+    list.push_value('a')?;
+    ended(list.extend_pairs([Pair::Punctuated('b', Mark(';')), Pair::End('c')]))
 }
 
 fn clones(alloc: Global) -> Outcome {

@@ -15,6 +15,12 @@ pub enum Stop {
     Wrong(&'static str),
 }
 
+impl From<AllocError> for Stop {
+    fn from(_: AllocError) -> Self {
+        Stop::Refused
+    }
+}
+
 /// Returns how a call ends that succeeds unless an allocation fails.
 pub fn ended<T: Drop, E: Drop>(returned: Result<T, E>) -> Outcome {
     match returned {
