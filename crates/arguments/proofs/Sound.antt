@@ -2,7 +2,6 @@
 use Rattle.std.proofs.Common.{◌≡◌, ◌∙◌, sym, ap, subst, refl, arith, ℕ, zero, suc, ◌<◌, ◌&&◌, Bool}
 use Rattle.std.proofs.Common.{true, false, cond}
 use Rattle.std.proofs.Common.{List, [], ◌∷◌}
-use Rattle.std.proofs.lemmas.Bool.{false≢true}
 use Rattle.tok_lexical.specs.declared.delimiter.Delimiter.TheVariants.{Parenthesis}
 use Rattle.tok_leaves.specs.declared.ident.Ident.{Ident}
 use Rattle.tok_leaves.specs.Leaves.{ident_of, literal_of}

@@ -1,5 +1,5 @@
 //! Values that are parsed, and peeks.
-ghost use Rattle.std.specs.Prelude.{Result, codes};
+ghost use Rattle.std.specs.Prelude.{Result};
 ghost use Rattle.syn_parse.specs.Reads.{BoxParses, Does, OptionParses, Peeks2, Peeks3};
 ghost use Rattle.syn_parse.specs.Skips.{second_sees, third_sees};
 ghost use Rattle.syn_parse.specs.State.{State};

@@ -13,8 +13,6 @@ use Rattle.syn_parse.specs.State.{State}
 use Rattle.syn_parse.specs.Takes.{TakesAs, Taking}
 use Rattle.syn_parse.specs.Takings as states
 use Rattle.syn_parse.specs.Takings.{Lightens, Lowers, Takings, lighter, lower, told, told_filled}
-use Rattle.syn_parse.specs.Takings.{untold}
-use Rattle.syn_parse.specs.Takings.{unweighed}
 use Rattle.syn_parse.specs.Tokens.{take_punctuation}
 use Rattle.syn_parse.specs.TreesAhead.{IsFilled, ahead}
 use Rattle.syn_parse.specs.declared.fault.Fault.{Fault}

@@ -1,5 +1,5 @@
 -- The trees that a run of a list parser passes.
-use Rattle.std.proofs.Common.{◌≡◌, ◌∙◌, inl, inr, sym, ap, refl, subst, ℕ, Bool, true, false, ◌&&◌}
+use Rattle.std.proofs.Common.{◌≡◌, ◌∙◌, inl, inr, sym, ap, refl, subst, ℕ, Bool, true, false}
 use Rattle.std.proofs.Common.{List, [], ◌∷◌, ◌++◌, map, append_assoc, Option, Some, None, Ok, Err}
 use Rattle.std.proofs.Common.{eqb-true}
 use Rattle.std.specs.Prelude.{Result, IfSome, cond, not, ◌==◌}

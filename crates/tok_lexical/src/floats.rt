@@ -1,11 +1,11 @@
 //! Floats, and decimal integers with a dot after them.
-ghost use Rattle.std.specs.Prelude.{◌≡◌, IfSome};
+ghost use Rattle.std.specs.Prelude.{IfSome};
 ghost use Rattle.std.specs.Str.{chars, IsUtf8};
 ghost use Rattle.tok_lexical.specs.Pieces.{ReadsLongest};
 ghost use Rattle.tok_lexical.specs.Floats.{IsExponentDigits, IsSigned, IsExponent, IsScaled, IsFraction, IsFloatTail, IsFloat, IsPointed};
 
 use crate::numbers::{is_exponent, past_decimal, past_digits, starts_digit};
-use crate::text::{next_char, past_char, past_first};
+use crate::text::{past_char, past_first};
 use crate::words::past_suffix;
 
 /// Returns the text after the digits of an exponent and a suffix.

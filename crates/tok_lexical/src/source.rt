@@ -1,5 +1,5 @@
 //! Where a whole source begins.
-ghost use Rattle.std.specs.Prelude.{◌≡◌, ℕ, ◌++◌, List, MatchBool, true, length, ◌≤◌};
+ghost use Rattle.std.specs.Prelude.{◌≡◌, ℕ, ◌++◌, List, MatchBool, true};
 ghost use Rattle.std.specs.Str.{chars};
 ghost use Rattle.tok_lexical.specs.Sources.{is_blank_piece, Blanks, OpensAttribute, past_mark, Begins, BeginsAt};
 ghost use Rattle.tok_lexical.specs.Fits.{IsFirstFit};

@@ -1,19 +1,19 @@
 //! What token types share: the trait of everything that a peek can look for, and how a word is
 //! written.
-ghost use Rattle.std.specs.Prelude.{◌≡◌, ℕ, Bool, List, None, Option, IfOk, OnOk, OnErr};
+ghost use Rattle.std.specs.Prelude.{◌≡◌, ℕ, Bool, List, None, Option, OnOk, OnErr};
 ghost use Rattle.std.specs.Str.{chars};
 ghost use Rattle.tok_buffer.specs.Cursors.{place_of};
 ghost use Rattle.tok_buffer.specs.Place.{Place};
 ghost use Rattle.tok_core.specs.Forest.{AppendsFront, Forest, concat};
-ghost use Rattle.tok_leaves.specs.Leaves.{ident, ident_of};
-ghost use Rattle.tok_lexical.specs.Words.{IsIdentifier, IsSuffix};
+ghost use Rattle.tok_leaves.specs.Leaves.{ident};
+ghost use Rattle.tok_lexical.specs.Words.{IsSuffix};
 ghost use Rattle.tok_types.specs.Printed.{word};
 ghost use Rattle.tok_types.specs.Sees.{Sees};
 
-use std::alloc::{AllocError, Global};
+use std::alloc::AllocError;
 use tok_buffer::Cursor;
 use tok_core::known::identifier;
-use tok_core::{Ident, Span, ToTokens, TokenStream, TokenTree};
+use tok_core::{Ident, Span, TokenStream, TokenTree};
 
 /// A type that a peek can look for, and its name in errors.
 ///

@@ -1,7 +1,7 @@
 //! The values of strings and characters.
 ghost use Rattle.std.specs.Prelude.{◌≡◌, ◌<◌, ◌≤◌, ◌++◌, ℕ, List, None, IfOk, IfSome, MatchBool, [], ◌∷◌, length, true, false, encode_utf8_all, string_bytes};
 ghost use Rattle.std.specs.Str.{chars, IsUtf8};
-ghost use Rattle.tok_values.specs.Strings.{Means, one_char, unit, without_blanks, is_blank, ends_line, escaped, line_feed, FindsUnit};
+ghost use Rattle.tok_values.specs.Strings.{Means, one_char, unit, without_blanks, is_blank, ends_line, escaped, FindsUnit};
 ghost use Rattle.tok_values.specs.Escapes.{Finds};
 
 use crate::escapes::escape;

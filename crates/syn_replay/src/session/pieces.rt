@@ -1,6 +1,5 @@
 //! The leaves that were read, as pieces.
-ghost use Rattle.std.specs.Prelude.{◌≡◌, ◌<◌, ◌∷◌, [], length, map, IfOk, encode_utf8, take};
-ghost use Rattle.std.specs.Str.{chars};
+ghost use Rattle.std.specs.Prelude.{◌≡◌, ◌<◌, ◌∷◌, [], map, IfOk, encode_utf8};
 ghost use Rattle.tok_core.specs.Forest.{leaf};
 ghost use Rattle.tok_leaves.specs.Leaves.{ident_of, literal_of, punct_of};
 ghost use Rattle.tok_core.specs.Seen.{lifetime_trees};

@@ -2,7 +2,7 @@
 ghost use Rattle.std.specs.Prelude.{◌≡◌, IfOk, OnOk};
 ghost use Rattle.std.specs.Str.{chars};
 ghost use Rattle.tok_lexical.specs.Words.{IsIdentifier};
-ghost use Rattle.tok_leaves.specs.Leaves.{ident, punct, ident_of};
+ghost use Rattle.tok_leaves.specs.Leaves.{punct};
 ghost use Rattle.tok_core.specs.Forest.{concat};
 ghost use Rattle.tok_buffer.specs.CompileErrors.{invocation, segment, compile_errors, compile_error};
 

@@ -1,7 +1,7 @@
 //! What the lexer builds: trees, or anything else that takes leaves, openings and closings in
 //! order.
 ghost use Rattle.std.specs.Prelude.{◌≡◌, [], OnOk, OnErr, ◌<◌, length};
-ghost use Rattle.tok_core.specs.Building.{Levels, nothing, add_leaf, opened, Closes};
+ghost use Rattle.tok_core.specs.Building.{Levels, add_leaf, opened, Closes};
 ghost use Rattle.tok_core.specs.Forest.{no_trees};
 ghost use Rattle.tok_leaves.specs.Leaves.{ident_of, punct_of, literal_of};
 

@@ -1,4 +1,4 @@
-use Rattle.std.proofs.Common.{◌<◌, ◌≤◌, arith, rules}
+use Rattle.std.proofs.Common.{◌<◌, arith, rules}
 use Rattle.tok_buffer.specs.Cursors.{place_of}
 use Rattle.tok_buffer.specs.Progress.{remaining}
 use Rattle.attributes.proofs.find.+find.Goals as goal
