@@ -7,7 +7,7 @@ pub mod stream;
 pub mod streams;
 pub mod tokens;
 
-ghost use Rattle.std.specs.Prelude.{◌≡◌, ◌<◌, ◌∷◌, length, Some, None, IfOk, map, true};
+ghost use Rattle.std.specs.Prelude.{◌≡◌, ◌<◌, length, Some, None, IfOk, map, true};
 ghost use Rattle.std.specs.List.{slice_get};
 ghost use Rattle.syn_replay.specs.Session.Step as spec;
 ghost use Rattle.syn_replay.specs.Session.Step.{position_in, step, step_on};
@@ -17,7 +17,6 @@ ghost use Rattle.syn_replay.specs.Session.Reading.{is_read};
 ghost use Rattle.syn_replay.specs.Commands.{command_of};
 ghost use Rattle.syn_replay.specs.Meanings.{position_of, verdict_of, report_of};
 ghost use Rattle.syn_replay.specs.Session.Stepping.{IsStepped, IsLine, HasRun, IsPlainVerdict, ArePlain, stands};
-ghost use Rattle.syn_replay.specs.Session.Stream.{stream_of};
 ghost use Rattle.syn_replay.specs.Session.Tracks.{state_of};
 
 use crate::command::Command;

@@ -1,10 +1,9 @@
 -- Peeks see what is first of the visible trees ahead.
-use Rattle.std.proofs.Common.{◌≡◌, ◌∙◌, ap, ℕ, zero, suc, List, [], ◌∷◌, Option}
+use Rattle.std.proofs.Common.{◌≡◌, ◌∙◌, ap, ℕ, zero, suc, Option}
 use Rattle.std.proofs.Common.{Some, None}
 use Rattle.std.proofs.Common.{Bool}
-use Rattle.std.specs.Prelude.{bytes_eq, codes, is_some, option_map}
+use Rattle.std.specs.Prelude.{codes, is_some, option_map}
 use Rattle.tok_lexical.specs.declared.delimiter.Delimiter.{Delimiter}
-use Rattle.tok_buffer.specs.EachRead.{first_keyword}
 use Rattle.tok_buffer.specs.Entry.{enter}
 use Rattle.tok_buffer.specs.InFront.{entered_ahead}
 use Rattle.tok_buffer.specs.Place.{Place}
@@ -12,8 +11,6 @@ use Rattle.tok_buffer.specs.Reads.{read_ident, read_keyword, read_literal}
 use Rattle.tok_buffer.specs.Reads.{any_text, read_lifetime, read_punct, read_punctuation, read_word}
 use Rattle.tok_buffer.specs.View.{IsVisibleDelimiter, erased_ahead}
 use Rattle.tok_buffer.proofs.View.InFront.{ahead_tells}
-use Rattle.tok_buffer.proofs.View.Readings.{Reading, never, of_word, of_lifetime}
-use Rattle.tok_buffer.proofs.View.Tells.{tells}
 use Rattle.tok_types.specs.Delimiters.{delimiter_at}
 use Rattle.tok_types.specs.Looks.{Finds}
 use Rattle.tok_types.specs.Sees.{any_ident_first, group_first}

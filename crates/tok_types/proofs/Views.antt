@@ -5,7 +5,7 @@ use Rattle.tok_lexical.specs.declared.delimiter.Delimiter.{Delimiter}
 use Rattle.tok_buffer.specs.EachRead.{First, Read}
 use Rattle.tok_buffer.specs.Entry.{enter}
 use Rattle.tok_buffer.specs.Place.{is_at_end}
-use Rattle.tok_buffer.specs.View.{entered_view, IsVisibleDelimiter, view}
+use Rattle.tok_buffer.specs.View.{entered_view, IsVisibleDelimiter}
 use Rattle.tok_buffer.proofs.View.Laws.{read-same, views_decide}
 use Rattle.tok_buffer.proofs.View.Readings.{Reading}
 use Rattle.tok_types.specs.Views.{IgnoresInvisible}

@@ -8,7 +8,7 @@ use Rattle.std.specs.Prelude.{◌==◌, not}
 use Rattle.tok_core.specs.Forest.{Forest}
 use Rattle.tok_buffer.specs.Ahead.{Leftover, leftover}
 use Rattle.tok_buffer.specs.Place.{Place}
-use Rattle.syn_replay.specs.Session.Acceptance.{IsShut, is_discard, Comes, begins, goes_on, all_run}
+use Rattle.syn_replay.specs.Session.Acceptance.{IsShut, Comes, begins, goes_on, all_run}
 use Rattle.syn_replay.specs.Session.Acceptance.{Closes, by_command, at_end, Counts}
 use Rattle.syn_replay.specs.Session.Acceptance.{NothingLeft, IsExact}
 use Rattle.syn_replay.specs.Session.Acceptance as acceptance
