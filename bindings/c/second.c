@@ -1,43 +1,12 @@
 /* Makes each checked call with each of its allocations failing in turn: the status must say so, the
  * sizes must speak of no memory that isn't there, and all memory must be freed by the one call that
- * frees. Link it with --wrap=malloc,--wrap=realloc,--wrap=free. */
+ * frees. */
+#include "failing.h"
 #include "syn_tokens.h"
 
 #include <stdio.h>
 #include <stdlib.h>
 #include <string.h>
-
-void *__real_malloc(size_t size);
-void *__real_realloc(void *block, size_t size);
-void __real_free(void *block);
-
-/* Which allocation fails, counted from 1 (0: none), how many were made, and how many blocks are
- * held. */
-static size_t failing, made, held;
-
-static bool fails(void) {
-    made++;
-    return made == failing;
-}
-
-void *__wrap_malloc(size_t size) {
-    if (fails())
-        return NULL;
-    held++;
-    return __real_malloc(size);
-}
-
-void *__wrap_realloc(void *block, size_t size) {
-    if (fails())
-        return NULL;
-    held += block == NULL;
-    return __real_realloc(block, size);
-}
-
-void __wrap_free(void *block) {
-    held -= block != NULL;
-    __real_free(block);
-}
 
 /* More entries than the first turn has room for, so that a second turn takes memory. */
 static char many[1200];
