@@ -1,0 +1,12 @@
+use Rattle.std.proofs.Common.{◌≤◌, rules}
+use Rattle.tok_core.specs.Seen.{tree_of}
+use Rattle.tok_core.specs.Weight.{weight, tree_weight}
+use Rattle.tok_core.proofs.Trees.{weight_here}
+use Rattle.workloads.proofs.sources.+trees.Goals as goal
+
+pub digest_stream-digest_tree-requires : goal.digest_stream-digest_tree-requires
+digest_stream-digest_tree-requires t c =
+    let small : tree_weight (tree_of c.tree-item.result) ≤ weight c.args.stream.now =
+    weight_here c.trees-tree-items.result.now c.loop-tree.tree-index c.tree-item.result _
+    c.trees-tree-items.ensures c.loop-tree-test.true c.tree-item.is in
+    search rules
