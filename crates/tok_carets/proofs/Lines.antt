@@ -1,12 +1,10 @@
--- Lines, one character or one line feed further.
-use Rattle.std.proofs.Common.{◌≡◌, ◌∙◌, ℕ, ◌+◌, ◌-◌, List, [], ◌∷◌, ◌++◌, Bool, true, false, refl}
-use Rattle.std.proofs.Common.{sym, ap, append_assoc, eqb-true, inl, inr}
-use Rattle.std.specs.Prelude.{◌⊎◌, ◌==◌, ◌||◌, not, if◌then◌else◌}
+-- Lines, one character further.
+use Rattle.std.proofs.Common.{◌≡◌, ◌∙◌, ℕ, ◌-◌, List, [], ◌∷◌, ◌++◌, refl}
+use Rattle.std.proofs.Common.{sym, ap, append_assoc, eqb-true}
+use Rattle.std.specs.Prelude.{◌==◌, if◌then◌else◌}
 use Rattle.std.specs.Char.{len_utf8}
-use Rattle.std.specs.List.{list_all}
-use Rattle.std.proofs.lemmas.Bool.{false≢true, and_parts, false_from_ne_true}
-use Rattle.tok_lexical.specs.Pieces.{Skips, Stops, is_neither}
-use Rattle.tok_carets.specs.Lines.{line_feeds, within, without_return}
+use Rattle.std.proofs.lemmas.Bool.{false_from_ne_true}
+use Rattle.tok_carets.specs.Lines.{within, without_return}
 
 abbrev Longer : (text after whole : List ℕ) → (rest : List ℕ) → Type 0
 Longer text after whole rest = (front : List ℕ) × (text ≡ front ++ after) × (whole ≡ front ++ rest)
@@ -42,45 +40,3 @@ return_kept text rest after front whole c e w h other = (
       ∙ ap (λ x. front ++ x) (head_stays c after (λ k. other (h ∙ k)))
       ∙ sym (append_assoc front (c ∷ []) (without_return after)),
 )
-
-no_feed : (b : Bool) → not (b || b) ≡ true → b ≡ false
-no_feed true h = absurd (false≢true h)
-no_feed false h = refl
-
-front_feeds_none : (front rest : List ℕ) → list_all (is_neither 10 10) front ≡ true
-    → line_feeds (front ++ rest) ≡ line_feeds rest
-front_feeds_none [] rest h = refl
-front_feeds_none (c ∷ front) rest h =
-    let w = and_parts (is_neither 10 10 c) (list_all (is_neither 10 10) front) h in
-    ap (λ b. if b then 1 + line_feeds (front ++ rest) else line_feeds (front ++ rest))
-    (no_feed (c == 10) w.0) ∙ front_feeds_none front rest w.1
-
-module _ (text rest front middle : List ℕ) (s : Skips (is_neither 10 10) rest front middle) where
-  pub feeds_more : (after : List ℕ) → middle ≡ 10 ∷ after → line_feeds rest ≡ 1 + line_feeds after
-  feeds_more after e =
-      ap line_feeds (s.cut ∙ ap (λ x. front ++ x) e) ∙ front_feeds_none front (10 ∷ after) s.pass
-
-  pub feeds_end : ((more : List ℕ) → middle ≡ 10 ∷ more → ⊥) → line_feeds rest ≡ 0
-  feeds_end misses =
-      ap line_feeds s.cut ∙ front_feeds_none front middle s.pass
-      ∙ end_feeds_none middle s.stops misses
-    where
-      end_feeds_none : (m : List ℕ) → Stops (is_neither 10 10) m
-          → ((more : List ℕ) → m ≡ 10 ∷ more → ⊥) → line_feeds m ≡ 0
-      end_feeds_none [] stops h = refl
-      end_feeds_none (c ∷ m) stops h = go (c == 10) refl stops
-        where
-          go : (b : Bool) → (c == 10) ≡ b → not (b || b) ≡ false
-              → (if b then 1 + line_feeds m else line_feeds m) ≡ 0
-          go true e k = absurd (h m (ap (λ x. x ∷ m) (eqb-true c 10 e)))
-          go false e k = absurd (false≢true (sym k))
-
-  pub line_found : (after : List ℕ) → middle ≡ 10 ∷ after
-      → (text ≡ rest) ⊎ ((first : List ℕ) × (text ≡ first ++ 10 ∷ rest))
-      → (first : List ℕ) × (text ≡ first ++ 10 ∷ after)
-  line_found after e (inl h) = (front, h ∙ s.cut ∙ ap (λ x. front ++ x) e)
-  line_found after e (inr (first, h)) = (
-    first ++ 10 ∷ front,
-    h ∙ ap (λ x. first ++ 10 ∷ x) (s.cut ∙ ap (λ x. front ++ x) e)
-        ∙ sym (append_assoc first (10 ∷ front) (10 ∷ after)),
-  )

@@ -4,8 +4,9 @@ ghost use Rattle.std.specs.List.{flat_map, repeat};
 ghost use Rattle.std.specs.Str.{chars};
 ghost use Rattle.tok_carets.specs.Lines.{IsFirstLine, IsLastLine, columns, line_number, marks, shown, within, without_return};
 
+use memchr::{memchr_iter, memrchr};
 use std::alloc::AllocError;
-use tok_lexical::text::{front_of, next_char, past_char, past_others};
+use tok_lexical::text::{front_of, next_char, past_char, past_first, past_others};
 use unicode_width::UnicodeWidthChar;
 
 /// A place in a text: its line, and its column in characters. Both count from 1.
@@ -39,13 +40,13 @@ pub fn last_line(text: &str) -> (usize, &str)
     ensures number { result.0 ≡ line_number (chars text.now) }
     ensures line { IsLastLine (chars text.now) (chars result.1.now) }
 {
-    let mut number = 1;
-    let mut rest = text;
-    while let Some(after) = past_char(past_others(rest, b'\n', b'\n'), '\n') {
-        number += 1;
-        rest = after;
-    }
-    (number, rest)
+    let bytes = text.as_bytes();
+    let number = 1 + memchr_iter(b'\n', bytes).count();
+    let Some(at) = memrchr(b'\n', bytes) else {
+        return (number, text);
+    };
+    let (_, end) = text.split_at(at);
+    (number, past_first(end))
 }
 
 /// Returns a text's first line.

@@ -1,31 +1,38 @@
-use Rattle.std.proofs.Common.{arith, inr}
-use Rattle.std.specs.Str.{chars}
-use Rattle.tok_carets.proofs.Lines.{feeds_end, feeds_more, line_found}
+use Rattle.std.proofs.Common.{ap, arith, inl, length, refl, subst}
+use Rattle.memchr.specs.Find.{is_byte, places}
+use Rattle.memchr.proofs.lemmas.CallerLemmas.{length-places}
+use Rattle.tok_carets.proofs.Feeds.{LastAt, NoneFrom, feeds_in_bytes, line_after, line_without}
 use Rattle.tok_carets.proofs.line.last_line.Goals as goal
 
-pub loop-after-preserved : goal.loop-after-preserved
-loop-after-preserved c =
-    let i = c.loop-after.invariant in
-    let s = c.past_others.ensures.skips in
-    let shorter = c.past_others.ensures.shorter in
-    let less = c.in-Some.ensures.shorter in
-    let size = i.1 in
-    let number = i.2 in
-    let feeds =
-    feeds_more (chars c.args.text.now) (chars c.loop-after.rest.now) s.0 _ s.1
-    (chars c.in-Some.after.now) c.in-Some.ensures.chars in (
-      c.in-Some.ensures.utf8,
-      omega arith,
-      omega arith,
-      inr (line_found (chars c.args.text.now) (chars c.loop-after.rest.now) s.0 _ s.1
-          (chars c.in-Some.after.now) c.in-Some.ensures.chars i.3),
-    )
+pub returns-in_default-clause-number : goal.returns-in_default-clause-number
+returns-in_default-clause-number c =
+    let text = c.args.text.now in
+    let feeds = feeds_in_bytes text c.utf8.text in
+    let counted = length-places (is_byte 10) text in
+    let found = c.count-number.ensures in
+    let listed = ap length c.memchr_iter.ensures.value in
+    let same = ap (λ xs. length (places (is_byte 10) xs)) c.as_bytes-bytes.ensures.value in
+    omega arith
+
+pub returns-in_default-clause-line : goal.returns-in_default-clause-line
+returns-in_default-clause-line c = (
+  line_without c.args.text.now c.utf8.text
+      (subst (λ xs. NoneFrom xs 0) c.as_bytes-bytes.ensures.value c.in_default.ensures),
+  inl refl,
+)
 
 pub returns-clause-number : goal.returns-clause-number
 returns-clause-number c =
-    let s = c.past_others.ensures.skips in
-    let number = c.loop-after.invariant.2 in
-    let feeds =
-    feeds_end (chars c.args.text.now) (chars c.loop-after.rest.now) s.0 _ s.1
-    c.in_default.ensures.chars in
+    let text = c.args.text.now in
+    let feeds = feeds_in_bytes text c.utf8.text in
+    let counted = length-places (is_byte 10) text in
+    let found = c.count-number.ensures in
+    let listed = ap length c.memchr_iter.ensures.value in
+    let same = ap (λ xs. length (places (is_byte 10) xs)) c.as_bytes-bytes.ensures.value in
     omega arith
+
+pub returns-clause-line : goal.returns-clause-line
+returns-clause-line c =
+    line_after c.args.text.now _ _ c.in-Some.at c.split_at.ensures.front c.split_at.ensures.back
+    (subst (λ xs. LastAt xs c.in-Some.at) c.as_bytes-bytes.ensures.value c.in-Some.ensures)
+    c.utf8.text _ c.past_first.ensures
