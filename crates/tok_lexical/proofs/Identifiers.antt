@@ -1,6 +1,6 @@
 -- Identifiers, plain and raw.
 use Rattle.std.proofs.Common.{◌≡◌, ◌∙◌, ℕ, ◌<◌, inl, inr, List, [], ◌∷◌, ◌++◌, refl, sym, ap}
-use Rattle.std.proofs.Common.{subst, arith, append_assoc, true, false, Bool, zero, suc}
+use Rattle.std.proofs.Common.{subst, arith, append_assoc, true, false, Bool, zero, suc, ◌&&◌}
 use Rattle.std.specs.Prelude.{◌==◌, ◌||◌, Option, Some, None, length, MatchBool, codes, nat_lt}
 use Rattle.std.specs.Prelude.{slice_index, encode_utf8_all}
 use Rattle.std.specs.List.{list_all}
@@ -8,13 +8,16 @@ use Rattle.std.specs.Char.{is_ascii_alphabetic}
 use Rattle.std.specs.Str.{chars, IsUtf8, bytes_eq}
 use Rattle.std.specs.Borrow.{Bor}
 use Rattle.std.proofs.lemmas.List.{append-nil}
-use Rattle.std.proofs.lemmas.Bool.{false≢true, ne_eqb, ltb-true, false_from_ne_true}
+use Rattle.std.proofs.lemmas.Bool.{false≢true, ne_eqb, ltb-true, false_from_ne_true, leb-false}
+use Rattle.std.proofs.Common.{rules, tests, ◌≤◌}
+use Rattle.std.proofs.lemmas.List.Folds.{list_all-append}
+use Rattle.tok_lexical.specs.Characters.{begins_beyond_ascii}
 use Rattle.unicode_ident.specs.Ident.{is_xid_continue}
 use Rattle.unicode_ident.proofs.IdentLemmas.{is_xid_continue-ascii, is_xid_start-ascii}
-use Rattle.tok_lexical.specs.Pieces.{IsLongestPrefix, HasPrefix, ReadsLongest, Skips}
+use Rattle.tok_lexical.specs.Pieces.{IsLongestPrefix, HasPrefix, ReadsLongest, Skips, Stops}
 use Rattle.tok_lexical.specs.Following.{starts_name}
 use Rattle.tok_lexical.specs.Words.{is_identifier_start, IsIdentifier, IsRawIdentifier, IsName}
-use Rattle.tok_lexical.specs.Words.{has_no_raw, is_raw_prefix}
+use Rattle.tok_lexical.specs.Words.{has_no_raw, is_raw_prefix, is_ascii_continue}
 use Rattle.tok_lexical.proofs.Longest.{no_more}
 use Rattle.tok_lexical.proofs.Digits.{head_passes, tail_passes}
 use Rattle.std.proofs.lemmas.Str.{encodes-chars, encodes-IsAscii, chars-IsAscii, chars-nil}
@@ -150,3 +153,42 @@ whole_identifier text (x ∷ rest) false e u t = is_part text (chars (x ∷ rest
     (λ none.
     let bytes : x ∷ rest ≡ [] = sym (encodes-chars (x ∷ rest) u) ∙ ap encode_utf8_all none in cc)
     t
+
+-- ASCII characters that may go on, and then what may go on from there
+pub ascii_continues_low : (x : ℕ) → is_ascii_continue x ≡ true → x < 128
+ascii_continues_low x h = let l : x ≤ 122 = search (rules, tests) in omega arith
+
+ascii_continues : (x : ℕ) → is_ascii_continue x ≡ true → is_xid_continue x ≡ true
+ascii_continues x h = is_xid_continue-ascii x (ascii_continues_low x h) ∙ h
+
+all_continue : (cs : List ℕ) → list_all is_ascii_continue cs ≡ true → list_all is_xid_continue cs
+    ≡ true
+all_continue [] h = refl
+all_continue (c ∷ cs) h =
+    rw (ascii_continues c (head_passes is_ascii_continue c cs h))
+    (all_continue cs (tail_passes is_ascii_continue c cs h))
+
+-- where no character beyond ASCII follows
+pub stops_ascii : (rest : List ℕ) → Stops is_ascii_continue rest → begins_beyond_ascii rest ≡ false →
+    Stops is_xid_continue rest
+stops_ascii [] s b = tt
+stops_ascii (c ∷ rest) s b = is_xid_continue-ascii c (leb-false 128 c b) ∙ s
+
+pub skips_ascii_continues : (text rest : List ℕ) → (front : List ℕ)
+    × Skips is_ascii_continue text front rest → begins_beyond_ascii rest ≡ false →
+    (skipped : List ℕ) × Skips is_xid_continue text skipped rest
+skips_ascii_continues text rest (front, s) b =
+    (front, record { cut = s.cut; pass = all_continue front s.pass; stops = stops_ascii rest s.stops b })
+
+pub skips_more_continues : (text mid rest : List ℕ) → (front : List ℕ)
+    × Skips is_ascii_continue text front mid → (more : List ℕ) × Skips is_xid_continue mid more rest →
+    (skipped : List ℕ) × Skips is_xid_continue text skipped rest
+skips_more_continues text mid rest (front, s) (more, t) = (
+  front ++ more,
+  record {
+    cut = s.cut ∙ ap (λ w. front ++ w) t.cut ∙ sym (append_assoc front more rest);
+    pass = list_all-append is_xid_continue front more
+        ∙ ap (λ b. b && list_all is_xid_continue more) (all_continue front s.pass) ∙ t.pass;
+    stops = t.stops;
+  },
+)

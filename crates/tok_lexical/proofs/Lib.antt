@@ -10,9 +10,11 @@ pub mod FloatTails
 pub mod Fronts
 pub mod Heads
 pub mod Identifiers
+pub mod Lanes
 pub mod Longest
 pub mod NestedComments
 pub mod RawStrings
+pub mod Runs
 pub mod Scans
 pub mod Seconds
 pub mod Slashes
@@ -22,3 +24,4 @@ pub mod StringPrefixes
 pub mod Tables
 pub mod Texts
 pub mod Units
+pub mod WhiteSpace

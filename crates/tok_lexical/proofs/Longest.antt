@@ -14,7 +14,7 @@ use Rattle.tok_lexical.specs.Pieces.{HasPrefix, IsLongestPrefix, ReadsLongest, R
 use Rattle.tok_lexical.specs.Pieces.{Stops, Skips, IsOne, After}
 use Rattle.std.specs.Prelude.{Option, Some, None, MatchOption, unwrap_or}
 use Rattle.std.specs.Borrow.{Bor}
-use Rattle.tok_lexical.specs.Characters.{is_space, is_whitespace, begins_visibly}
+use Rattle.tok_lexical.specs.Characters.{is_whitespace, begins_visibly}
 
 pub chars_next : (text start mid rest : List ℕ) (c : ℕ) → IsUtf8 text → start ≡ text →
     start ≡ encode_utf8 c ++ mid → rest ≡ mid → chars text ≡ c ∷ chars rest
@@ -60,28 +60,6 @@ skips_more p text mid rest front c e a g h = (
   front ++ c ∷ [],
   e ∙ ap (λ w. front ++ w) g ∙ sym (append_assoc front (c ∷ []) rest),
   list_all_push p front c a h,
-)
-
--- a run of spaces after one of white space
-spaces_pass : (cs : List ℕ) → list_all is_space cs ≡ true → list_all is_whitespace cs ≡ true
-spaces_pass [] h = refl
-spaces_pass (c ∷ cs) h = go (c == 32) refl h (spaces_pass cs)
-  where
-    go : (b : Bool) → (c == 32) ≡ b → b && list_all is_space cs ≡ true →
-        (list_all is_space cs ≡ true → list_all is_whitespace cs ≡ true) →
-        list_all is_whitespace (c ∷ cs) ≡ true
-    go true e k more = ap (λ d. is_whitespace d && list_all is_whitespace cs) (eqb-true c 32 e)
-        ∙ more k
-    go false e k more = absurd (false≢true k)
-
-pub skips_spaces : (text mid rest front : List ℕ) → text ≡ front ++ mid →
-    list_all is_whitespace front ≡ true → (run : List ℕ) × Skips is_space mid run rest →
-    (longer : List ℕ) × (text ≡ longer ++ rest) × (list_all is_whitespace longer ≡ true)
-skips_spaces text mid rest front e a (run, s) = (
-  front ++ run,
-  e ∙ ap (λ w. front ++ w) s.cut ∙ sym (append_assoc front run rest),
-  list_all-append is_whitespace front run ∙ ap (λ b. b && list_all is_whitespace run) a
-      ∙ spaces_pass run s.pass,
 )
 
 -- a space and white space after it

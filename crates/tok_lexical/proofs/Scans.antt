@@ -1,11 +1,11 @@
 -- What a search of the bytes of a text for ASCII characters says of its characters.
 use Rattle.std.proofs.Common.{◌≡◌, ◌∙◌, ℕ, suc, ◌+◌, ◌<◌, List, [], ◌∷◌, ◌++◌, length}
 use Rattle.std.proofs.Common.{length-append, refl, sym, ap, subst, arith, Bool, true, false}
-use Rattle.std.proofs.Common.{get_or, take}
+use Rattle.std.proofs.Common.{get_or, take, inl, inr}
 use Rattle.std.specs.Prelude.{drop, not, ◌==◌, ◌||◌, encode_utf8, encode_utf8_all}
 use Rattle.std.specs.List.{list_all, list_any}
 use Rattle.std.specs.Str.{chars, IsUtf8, IsCharBoundary}
-use Rattle.std.proofs.lemmas.Bool.{false≢true, eqb-true}
+use Rattle.std.proofs.lemmas.Bool.{false≢true, eqb-true, not-true, not-false, cases_lt}
 use Rattle.std.proofs.lemmas.List.{append-nil, get_or-take, get_or-append-add, take-append-drop}
 use Rattle.std.proofs.lemmas.List.{get_or-drop}
 use Rattle.std.proofs.lemmas.List.Folds.{list_any-append}
@@ -14,6 +14,7 @@ use Rattle.std.proofs.lemmas.Str.{length-encode, len_utf8_bounds, encodes-chars,
 use Rattle.std.proofs.lemmas.Str.{chars-append, IsUtf8-take, IsUtf8-drop}
 use Rattle.std.proofs.lemmas.Str.{IsCharBoundary-before_ascii, IsCharBoundary-end}
 use Rattle.tok_lexical.specs.Pieces.{Skips, Stops}
+use Rattle.tok_lexical.specs.Scans.{IsRun}
 
 -- a test that only ASCII characters pass
 module _ (stop : ℕ → Bool) (low : (x : ℕ) → stop x ≡ true → x < 128) where
@@ -107,33 +108,45 @@ module _ (stop : ℕ → Bool) (low : (x : ℕ) → stop x ≡ true → x < 128)
         },
       )
 
-  -- up to the first byte that passes
-  pub skips_to : (text front rest : List ℕ) (n : ℕ) → IsUtf8 text → front ≡ take n text →
-      rest ≡ drop n text → length front ≡ n → length rest + n ≡ length text → n < length text →
-      stop (get_or text n 0) ≡ true → NoneBefore text n → (skipped : List ℕ)
-      × Skips (λ c. not (stop c)) (chars text) skipped (chars rest)
-  skips_to text front rest n u f r l m high h before =
-      let same : n + 0 ≡ n = omega arith in
-      skips_at text front rest n u (boundary_at text n high h) f r l before
-      (λ w. stops_at (chars rest) rest (encodes-chars rest w) (omega arith)
-      (ap stop (ap (λ x. get_or x 0 0) r ∙ get_or-drop n text 0 0
-      ∙ ap (λ i. get_or text i 0) same) ∙ h))
+  none_before : (text : List ℕ) (n : ℕ) → IsRun (λ c. not (stop c)) text 0 (length text) n →
+      NoneBefore text n
+  none_before text n run k l h =
+      false≢true (sym (not-true (stop (get_or text k 0)) (run.pass k (omega arith) (omega arith)))
+      ∙ h)
 
-  -- where none passes
-  pub skips_all : (text front rest : List ℕ) (n : ℕ) → n ≡ length text → IsUtf8 text →
-      front ≡ take n text → rest ≡ drop n text → length front ≡ n → length rest + n
-      ≡ length text → NoneBefore text (length text) → (skipped : List ℕ)
+  stop_at : (text : List ℕ) (n : ℕ) → IsRun (λ c. not (stop c)) text 0 (length text) n →
+      n < length text → stop (get_or text n 0) ≡ true
+  stop_at text n run l =
+      let same : n ≡ 0 + n = omega arith in
+      ap (λ i. stop (get_or text i 0)) same
+      ∙ not-false (stop (get_or text (0 + n) 0)) (run.stops l)
+
+  pub run_ends : (text : List ℕ) (n : ℕ) → IsUtf8 text →
+      IsRun (λ c. not (stop c)) text 0 (length text) n → IsCharBoundary text n
+  run_ends text n u run = elim (cases_lt n (length text)) [
+    | inl l ↦ boundary_at text n l (stop_at text n run l)
+    | inr m ↦ let whole : length text ≡ n = omega (arith, run.few) in
+        subst (IsCharBoundary text) whole (IsCharBoundary-end text)
+  ]
+
+  stops_after : (text rest : List ℕ) (n : ℕ) → IsUtf8 rest → rest ≡ drop n text →
+      length rest + n ≡ length text → IsRun (λ c. not (stop c)) text 0 (length text) n →
+      Stops (λ c. not (stop c)) (chars rest)
+  stops_after text [] n w r m run = subst (Stops (λ c. not (stop c))) (sym chars-nil) tt
+  stops_after text (x ∷ more) n w r m run =
+      let same : n + 0 ≡ n = omega arith in
+      stops_at (chars (x ∷ more)) (x ∷ more) (encodes-chars (x ∷ more) w) (omega arith)
+      (ap stop (ap (λ y. get_or y 0 0) r ∙ get_or-drop n text 0 0
+      ∙ ap (λ i. get_or text i 0) same) ∙ stop_at text n run (omega arith))
+
+  -- a text cut before the first byte that passes, or at its end
+  pub skips_to : (text front rest : List ℕ) (n : ℕ) → IsUtf8 text → front ≡ take n text →
+      rest ≡ drop n text → length front ≡ n → length rest + n ≡ length text →
+      IsRun (λ c. not (stop c)) text 0 (length text) n → (skipped : List ℕ)
       × Skips (λ c. not (stop c)) (chars text) skipped (chars rest)
-  skips_all text front rest n e u f r l m none =
-      skips_at text front rest n u
-      (subst (IsCharBoundary text) (sym e) (IsCharBoundary-end text)) f r l
-      (λ k i. none k (omega (arith, i, e)))
-      (λ w. subst (λ x. Stops (λ c. not (stop c)) (chars x)) (sym (nothing rest (omega arith)))
-      (subst (Stops (λ c. not (stop c))) (sym chars-nil) tt))
-    where
-      nothing : (xs : List ℕ) → length xs ≡ 0 → xs ≡ []
-      nothing [] e = refl
-      nothing (x ∷ xs) e = absurd (omega arith)
+  skips_to text front rest n u f r l m run =
+      skips_at text front rest n u (run_ends text n u run) f r l (none_before text n run)
+      (λ w. stops_after text rest n w r m run)
 
 -- one of two bytes
 abbrev pub is_either : (a b : ℕ) → ℕ → Bool

@@ -4,9 +4,10 @@ use Rattle.std.proofs.Common.{take, drop, get_or, sym, ap, subst, length-append,
 use Rattle.std.proofs.Common.{tests, ◌≤◌}
 use Rattle.std.specs.Str.{chars, IsUtf8, IsAscii, IsCharBoundary}
 use Rattle.std.specs.Char.{is_ascii_graphic}
-use Rattle.std.specs.Prelude.{Bool, encode_utf8, encode_utf8_all, true, false}
+use Rattle.std.specs.Prelude.{Bool, encode_utf8, encode_utf8_all, true, false, nat_lt, nat_le}
 use Rattle.std.proofs.Common.{refl}
-use Rattle.tok_lexical.specs.Characters.{begins_visibly}
+use Rattle.std.proofs.lemmas.Bool.{ltb-true, ltb-false, lt-leb, le-leb}
+use Rattle.tok_lexical.specs.Characters.{begins_visibly, begins_beyond_ascii}
 use Rattle.tok_lexical.specs.Widths.{width, is_group_mark}
 use Rattle.tok_lexical.specs.declared.rule.Rule.{Rule}
 use Rattle.std.proofs.lemmas.Str.{encodes-append, encodes-chars, chars-nil, chars-append}
@@ -134,3 +135,27 @@ visible_first text x u l e = go (chars text) refl
 pub nothing_visible : (text : List ℕ) → length text ≡ 0 → begins_visibly (chars text) ≡ false
 nothing_visible [] z = ap begins_visibly chars-nil
 nothing_visible (x ∷ text) z = absurd (omega arith)
+
+ascii_low : (x : ℕ) → nat_lt x 128 ≡ true → x < 128
+ascii_low x h = ltb-true x 128 h
+
+-- two characters, both ASCII or both beyond
+same_side : (a b : ℕ) → nat_lt a 128 ≡ nat_lt b 128 → nat_le 128 a ≡ nat_le 128 b
+same_side a b e = go (nat_lt a 128) refl
+  where
+    go : (p : Bool) → nat_lt a 128 ≡ p → nat_le 128 a ≡ nat_le 128 b
+    go true f = lt-leb 128 a (ltb-true a 128 f) ∙ sym (lt-leb 128 b (ltb-true b 128 (sym e ∙ f)))
+    go false f = le-leb 128 a (ltb-false a 128 f) ∙ sym (le-leb 128 b (ltb-false b 128 (sym e ∙ f)))
+
+pub beyond_first : (text : List ℕ) (x : ℕ) → IsUtf8 text → 0 < length text →
+    x ≡ get_or text 0 0 → nat_le 128 x ≡ begins_beyond_ascii (chars text)
+beyond_first text x u l e = go (chars text) refl
+  where
+    go : (cs : List ℕ) → chars text ≡ cs → nat_le 128 x ≡ begins_beyond_ascii cs
+    go [] f = absurd (omega (arith, ap length (sym (encodes-chars text u) ∙ ap encode_utf8_all f)))
+    go (c ∷ cs) f = ap (nat_le 128) e ∙ same_side (get_or text 0 0) c
+        (first_byte (λ d. nat_lt d 128) ascii_low text cs c u f)
+
+pub nothing_beyond : (text : List ℕ) → length text ≡ 0 → begins_beyond_ascii (chars text) ≡ false
+nothing_beyond [] z = ap begins_beyond_ascii chars-nil
+nothing_beyond (x ∷ text) z = absurd (omega arith)

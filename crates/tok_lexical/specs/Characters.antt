@@ -9,14 +9,20 @@ use Rattle.tok_lexical.specs.declared.delimiter.Delimiter.{Delimiter}
 use Rattle.tok_lexical.specs.declared.delimiter.Delimiter.TheVariants.{Parenthesis, Brace, Bracket}
 use Rattle.tok_lexical.specs.declared.delimiter.Delimiter.TheVariants.{None}
 
-abbrev pub is_space : ℕ → Bool
-is_space c = c == space
-
 -- U+0009 to U+000D, space, U+0085, U+200E, U+200F, U+2028, U+2029
 abbrev pub is_whitespace : ℕ → Bool
 is_whitespace c =
     (nat_le 9 c && nat_le c 13) || (c == space) || (c == 0x85) || (c == 0x200E) || (c == 0x200F)
     || (c == 0x2028) || (c == 0x2029)
+
+-- white space that is ASCII
+abbrev pub is_ascii_whitespace : ℕ → Bool
+is_ascii_whitespace c = (nat_le 9 c && nat_le c 13) || (c == space)
+
+-- the text begins with a character beyond ASCII
+abbrev pub begins_beyond_ascii : List ℕ → Bool
+begins_beyond_ascii [] = false
+begins_beyond_ascii (c ∷ text) = nat_le 128 c
 
 -- the text begins with a visible ASCII character
 abbrev pub begins_visibly : List ℕ → Bool

@@ -13,6 +13,7 @@ pub mod Numbers
 pub mod Pieces
 pub mod Raw
 pub mod Rules
+pub mod Scans
 pub mod Sources
 pub mod Starts
 pub mod Strings

@@ -1,6 +1,7 @@
 -- The spellings of identifiers (Rust Reference: Identifiers; Tokens, Suffixes and Lifetimes).
 use Rattle.std.specs.Prelude.{◌≡◌, ℕ, List, [], ◌∷◌, ◌⊎◌, Bool, true, false, not, ◌||◌, ◌&&◌, ◌==◌}
 use Rattle.std.specs.Prelude.{codes}
+use Rattle.std.specs.Char.{is_ascii_alphanumeric}
 use Rattle.std.specs.List.{list_all}
 use Rattle.std.specs.Str.{bytes_eq}
 use Rattle.unicode_ident.specs.Ident.{is_xid_start, is_xid_continue}
@@ -9,6 +10,10 @@ use Rattle.tok_lexical.specs.Pieces.{After}
 
 abbrev pub is_identifier_start : ℕ → Bool
 is_identifier_start c = is_xid_start c || (c == underscore)
+
+-- an ASCII character that may go on in an identifier
+abbrev pub is_ascii_continue : ℕ → Bool
+is_ascii_continue c = is_ascii_alphanumeric c || (c == underscore)
 
 -- a plain identifier
 abbrev pub IsIdentifier : List ℕ → Type 0

@@ -1,12 +1,13 @@
 //! White space, punctuation characters, and the marks of groups.
 ghost use Rattle.std.specs.Prelude.{◌≡◌, ◌≤◌, ℕ, List, length};
 ghost use Rattle.std.specs.Str.{chars};
-ghost use Rattle.tok_lexical.specs.Characters.{is_space, is_whitespace, begins_visibly, is_punct, is_punct_or_apostrophe, opening_mark, closing_mark};
+ghost use Rattle.tok_lexical.specs.Characters.{is_whitespace, begins_visibly, is_punct, is_punct_or_apostrophe, opening_mark, closing_mark};
 ghost use Rattle.tok_lexical.specs.Delimiters.{is_invisible};
 ghost use Rattle.tok_lexical.specs.Pieces.{Skips};
 
 use crate::delimiter::Delimiter;
-use crate::text::{next_char, past_char};
+use crate::scan::Blanks;
+use crate::text::{begins_beyond_ascii, next_char, past_char, past_run};
 
 /// Returns `true` for white space.
 pub fn is_whitespace(c: char) -> bool
@@ -34,19 +35,6 @@ fn begins_visibly(text: &str) -> bool
     }
 }
 
-/// Returns the text after the spaces at the front.
-#[inline]
-fn past_spaces(text: &str) -> &str
-    ensures skips { (front : List ℕ) × Skips is_space (chars text.now) front (chars result.now) }
-    ensures shorter { length result.now ≤ length text.now }
-{
-    let mut rest = text;
-    while let Some(after) = past_char(rest, ' ') {
-        rest = after;
-    }
-    rest
-}
-
 /// Returns the text after the white space at the front.
 #[inline]
 pub fn past_whitespace(text: &str) -> &str
@@ -64,7 +52,24 @@ pub fn past_whitespace(text: &str) -> &str
 }
 
 /// Returns the text after the white space at the front, of any kind and length.
+#[inline(always)]
 fn past_any_whitespace(text: &str) -> &str
+    ensures skips { (front : List ℕ)
+        × Skips is_whitespace (chars text.now) front (chars result.now) }
+    ensures shorter { length result.now ≤ length text.now }
+{
+    let rest = past_run(text, &Blanks);
+    if begins_beyond_ascii(rest) {
+        past_other_whitespace(rest)
+    } else {
+        rest
+    }
+}
+
+/// Returns the text after the white space at the front, by each character that isn't ASCII.
+// Kept out of line: little white space is beyond ASCII.
+#[inline(never)]
+fn past_other_whitespace(text: &str) -> &str
     ensures skips { (front : List ℕ)
         × Skips is_whitespace (chars text.now) front (chars result.now) }
     ensures shorter { length result.now ≤ length text.now }
@@ -74,7 +79,7 @@ fn past_any_whitespace(text: &str) -> &str
         if !is_whitespace(c) {
             break;
         }
-        rest = past_spaces(after);
+        rest = past_run(after, &Blanks);
     }
     rest
 }

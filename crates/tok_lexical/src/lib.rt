@@ -19,6 +19,7 @@ mod numbers;
 mod prefixes;
 mod raw;
 mod rule;
+mod scan;
 pub mod source;
 mod start;
 mod strings;

@@ -1,7 +1,10 @@
 //! Texts, read from their front.
-ghost use Rattle.std.specs.Prelude.{◌≡◌, ℕ, ◌<◌, ◌≤◌, ◌+◌, ◌++◌, ◌∷◌, [], length, List, MatchOption, IfSome, encode_utf8, encode_utf8_all};
+ghost use Rattle.std.specs.Prelude.{◌≡◌, ℕ, ◌<◌, ◌≤◌, ◌+◌, ◌++◌, ◌∷◌, [], length, List, MatchOption, IfSome, encode_utf8, encode_utf8_all, true};
 ghost use Rattle.std.specs.Str.{chars, IsUtf8};
+ghost use Rattle.tok_lexical.specs.Characters.{begins_beyond_ascii};
 ghost use Rattle.tok_lexical.specs.Pieces.{after_first, Skips, begins_with, is_neither, up_to};
+
+use crate::scan::{ByteTest, Others, front_run};
 
 /// Returns the first character and the text after it, or `None` if the text is empty.
 pub fn next_char(text: &str) -> Option<(char, &str)>
@@ -111,6 +114,33 @@ pub fn past_first(text: &str) -> &str
     }
 }
 
+/// Returns `true` if the text begins with a character beyond ASCII.
+#[inline(always)]
+pub fn begins_beyond_ascii(text: &str) -> bool
+    ensures { result ≡ begins_beyond_ascii (chars text.now) }
+{
+    match text.as_bytes().first() {
+        Some(byte) => *byte >= 0x80,
+        None => false,
+    }
+}
+
+/// Returns the text after the characters at the front whose bytes pass the test.
+///
+/// # Requires
+///
+/// Only ASCII characters may pass.
+#[inline(always)]
+pub fn past_run<'a, S: ByteTest>(text: &'a str, test: &S) -> &'a str
+    requires ascii { (x : ℕ) → S.passes test.now x ≡ true → x < 128 }
+    ensures skips { (front : List ℕ)
+        × Skips (S.passes test.now) (chars text.now) front (chars result.now) }
+    ensures shorter { length result.now ≤ length text.now }
+{
+    let (_, rest) = text.split_at(front_run(test, text.as_bytes()));
+    rest
+}
+
 /// Returns the text after the characters at the front that are neither of these.
 ///
 /// # Requires
@@ -124,14 +154,8 @@ pub fn past_others(text: &str, one: u8, other: u8) -> &str
         × Skips (is_neither one other) (chars text.now) front (chars result.now) }
     ensures shorter { length result.now ≤ length text.now }
 {
-    let end = match text
-        .as_bytes()
-        .iter()
-        .position(|&byte| byte == one || byte == other)
-    {
-        Some(end) => end,
-        None => text.len(),
-    };
+    let others = Others { one, other };
+    let end = front_run(&others, text.as_bytes());
     let (_, rest) = text.split_at(end);
     rest
 }

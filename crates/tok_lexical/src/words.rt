@@ -6,7 +6,8 @@ ghost use Rattle.tok_lexical.specs.Following.{starts_name};
 ghost use Rattle.tok_lexical.specs.Pieces.{After, IsLongestPrefix, ReadsLongest, Skips};
 ghost use Rattle.tok_lexical.specs.Words.{IsIdentifier, IsRawIdentifier, IsName, IsSuffix, is_identifier_start, has_no_raw, is_missing, is_plain, is_raw_prefix};
 
-use crate::text::{next_char, past_char, past_pair};
+use crate::scan::Continues;
+use crate::text::{begins_beyond_ascii, next_char, past_char, past_pair, past_run};
 use unicode_ident::{is_xid_continue, is_xid_start};
 
 /// Returns `true` if an identifier may begin with this character.
@@ -52,9 +53,11 @@ fn goes_on(c: char) -> bool
     }
 }
 
-/// Returns the text after the characters at the front that may go on in an identifier.
-#[inline(always)]
-pub fn past_continues(text: &str) -> &str
+// Returns the text after the characters at the front that may go on in an identifier, by each
+// character.
+// Kept out of line: few names have a character beyond ASCII.
+#[inline(never)]
+fn past_any_continues(text: &str) -> &str
     ensures { (front : List ℕ) × Skips is_xid_continue (chars text.now) front (chars result.now) }
 {
     let mut rest = text;
@@ -65,6 +68,19 @@ pub fn past_continues(text: &str) -> &str
         rest = after;
     }
     rest
+}
+
+/// Returns the text after the characters at the front that may go on in an identifier.
+#[inline(always)]
+pub fn past_continues(text: &str) -> &str
+    ensures { (front : List ℕ) × Skips is_xid_continue (chars text.now) front (chars result.now) }
+{
+    let rest = past_run(text, &Continues);
+    if begins_beyond_ascii(rest) {
+        past_any_continues(rest)
+    } else {
+        rest
+    }
 }
 
 /// Returns the text after a plain identifier.

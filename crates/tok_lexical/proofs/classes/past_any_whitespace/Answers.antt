@@ -1,18 +1,14 @@
-use Rattle.std.proofs.Common.{◌∙◌, sym, arith}
-use Rattle.tok_lexical.specs.Characters.{is_whitespace}
-use Rattle.tok_lexical.proofs.Longest.{skips_more, skips_spaces}
+use Rattle.std.proofs.Common.{sym, ◌∙◌}
+use Rattle.tok_lexical.proofs.WhiteSpace.{blanks_low, skips_ascii_blanks, skips_more_blanks}
 use Rattle.tok_lexical.proofs.classes.past_any_whitespace.Goals as goal
 
-pub loop-c-preserved : goal.loop-c-preserved
-loop-c-preserved c =
-    let i = c.loop-c.invariant.2 in
-    let b = c.loop-c.invariant.1 in
-    let s = c.in-Some.ensures.shorter in
-    let t = c.past_spaces-rest.ensures.shorter in
-    let more = skips_more is_whitespace _ _ _ i.0 c.in-Some.c i.1 i.2 c.in-Some.ensures.chars
-    (sym c.is_whitespace.ensures ∙ c.if-not-is_whitespace.false) in (
-      c.past_spaces-rest.utf8,
-      omega arith,
-      skips_spaces _ _ _ more.0 more.1 more.2
-          c.past_spaces-rest.ensures.skips,
-    )
+pub past_run-rest-requires : goal.past_run-rest-requires
+past_run-rest-requires c = record { ascii = blanks_low }
+
+pub returns-then-begins_beyond_ascii-clause-skips : goal.returns-then-begins_beyond_ascii-clause-skips
+returns-then-begins_beyond_ascii-clause-skips c = skips_more_blanks _ _ _
+    c.past_run-rest.ensures.skips c.past_other_whitespace.ensures.skips
+
+pub returns-else-begins_beyond_ascii-clause-skips : goal.returns-else-begins_beyond_ascii-clause-skips
+returns-else-begins_beyond_ascii-clause-skips c = skips_ascii_blanks _ _
+    c.past_run-rest.ensures.skips (sym c.begins_beyond_ascii.ensures ∙ c.if-begins_beyond_ascii.false)

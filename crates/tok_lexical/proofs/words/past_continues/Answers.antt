@@ -1,12 +1,15 @@
-use Rattle.std.proofs.Common.{◌∙◌, sym}
-use Rattle.unicode_ident.specs.Ident.{is_xid_continue}
-use Rattle.tok_lexical.proofs.Longest.{skips_more}
+use Rattle.std.proofs.Common.{sym, ◌∙◌}
+use Rattle.tok_lexical.proofs.Identifiers.{ascii_continues_low, skips_ascii_continues}
+use Rattle.tok_lexical.proofs.Identifiers.{skips_more_continues}
 use Rattle.tok_lexical.proofs.words.past_continues.Goals as goal
 
-pub loop-c-preserved : goal.loop-c-preserved
-loop-c-preserved c =
-    let i = c.loop-c.invariant.1 in (
-      c.in-Some.ensures.utf8,
-      skips_more is_xid_continue _ _ _ i.0 c.in-Some.c i.1 i.2
-          c.in-Some.ensures.chars (sym c.goes_on.ensures ∙ c.if-not-goes_on.false),
-    )
+pub past_run-rest-requires : goal.past_run-rest-requires
+past_run-rest-requires c = record { ascii = ascii_continues_low }
+
+pub returns-then-begins_beyond_ascii : goal.returns-then-begins_beyond_ascii
+returns-then-begins_beyond_ascii c = skips_more_continues _ _ _ c.past_run-rest.ensures.skips
+    c.past_any_continues.ensures
+
+pub returns-else-begins_beyond_ascii : goal.returns-else-begins_beyond_ascii
+returns-else-begins_beyond_ascii c = skips_ascii_continues _ _ c.past_run-rest.ensures.skips
+    (sym c.begins_beyond_ascii.ensures ∙ c.if-begins_beyond_ascii.false)

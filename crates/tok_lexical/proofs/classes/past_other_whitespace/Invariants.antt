@@ -4,7 +4,7 @@ use denote.Shadow.{shadow}
 use Rattle.std.specs.Str.{chars}
 use Rattle.std.specs.List.{list_all}
 use Rattle.tok_lexical.specs.Characters.{is_whitespace}
-use Rattle.tok_lexical.proofs.classes.past_any_whitespace.Given as goal
+use Rattle.tok_lexical.proofs.classes.past_other_whitespace.Given as goal
 
 abbrev pub invariant-loop-c : goal.invariant-loop-c
 invariant-loop-c l = shadow (Utf8 l.rest) × (length l.rest ≤ length l.fn.text)

@@ -4,7 +4,7 @@ use denote.Shadow.{shadow}
 use Rattle.std.specs.Str.{chars}
 use Rattle.std.specs.List.{list_all}
 use Rattle.unicode_ident.specs.Ident.{is_xid_continue}
-use Rattle.tok_lexical.proofs.words.past_continues.Given as goal
+use Rattle.tok_lexical.proofs.words.past_any_continues.Given as goal
 
 abbrev pub invariant-loop-c : goal.invariant-loop-c
 invariant-loop-c l = shadow (Utf8 l.rest)

@@ -1,0 +1,62 @@
+-- White space, of which ASCII characters are found by their bytes.
+use Rattle.std.proofs.Common.{◌≡◌, ◌∙◌, ℕ, ◌<◌, ◌≤◌, List, [], ◌∷◌, ◌++◌, refl, sym, ap, true, false}
+use Rattle.std.proofs.Common.{append_assoc, ◌&&◌, arith, rules, tests}
+use Rattle.std.specs.List.{list_all}
+use Rattle.std.proofs.lemmas.Bool.{leb-false}
+use Rattle.std.proofs.lemmas.List.Folds.{list_all-append}
+use Rattle.tok_lexical.specs.Characters.{begins_beyond_ascii, is_ascii_whitespace, is_whitespace}
+use Rattle.tok_lexical.specs.Pieces.{Skips, Stops}
+use Rattle.tok_lexical.proofs.Digits.{head_passes, tail_passes}
+
+-- white space that is ASCII
+pub blanks_low : (x : ℕ) → is_ascii_whitespace x ≡ true → x < 128
+blanks_low x h = let l : x ≤ 32 = search (rules, tests) in omega arith
+
+blank_whitespace : (c : ℕ) → is_ascii_whitespace c ≡ true → is_whitespace c ≡ true
+blank_whitespace c h = search (rules, tests)
+
+blanks_pass : (cs : List ℕ) → list_all is_ascii_whitespace cs ≡ true → list_all is_whitespace cs
+    ≡ true
+blanks_pass [] h = refl
+blanks_pass (c ∷ cs) h =
+    rw (blank_whitespace c (head_passes is_ascii_whitespace c cs h))
+    (blanks_pass cs (tail_passes is_ascii_whitespace c cs h))
+
+-- a run of it after other white space
+pub skips_blanks : (text mid rest front : List ℕ) → text ≡ front ++ mid →
+    list_all is_whitespace front ≡ true → (run : List ℕ) × Skips is_ascii_whitespace mid run rest →
+    (longer : List ℕ) × (text ≡ longer ++ rest) × (list_all is_whitespace longer ≡ true)
+skips_blanks text mid rest front e a (run, s) = (
+  front ++ run,
+  e ∙ ap (λ w. front ++ w) s.cut ∙ sym (append_assoc front run rest),
+  list_all-append is_whitespace front run ∙ ap (λ b. b && list_all is_whitespace run) a
+      ∙ blanks_pass run s.pass,
+)
+
+stops_blank : (rest : List ℕ) → Stops is_ascii_whitespace rest → begins_beyond_ascii rest ≡ false →
+    Stops is_whitespace rest
+stops_blank [] s b = tt
+stops_blank (c ∷ rest) s b = let l = leb-false 128 c b in search (rules, tests)
+
+-- where no character beyond ASCII follows it
+pub skips_ascii_blanks : (text rest : List ℕ) → (front : List ℕ)
+    × Skips is_ascii_whitespace text front rest → begins_beyond_ascii rest ≡ false →
+    (skipped : List ℕ) × Skips is_whitespace text skipped rest
+skips_ascii_blanks text rest (front, s) b = (
+  front,
+  record { cut = s.cut; pass = blanks_pass front s.pass; stops = stops_blank rest s.stops b },
+)
+
+-- and where more may follow
+pub skips_more_blanks : (text mid rest : List ℕ) → (front : List ℕ)
+    × Skips is_ascii_whitespace text front mid → (more : List ℕ) × Skips is_whitespace mid more rest →
+    (skipped : List ℕ) × Skips is_whitespace text skipped rest
+skips_more_blanks text mid rest (front, s) (more, t) = (
+  front ++ more,
+  record {
+    cut = s.cut ∙ ap (λ w. front ++ w) t.cut ∙ sym (append_assoc front more rest);
+    pass = list_all-append is_whitespace front more
+        ∙ ap (λ b. b && list_all is_whitespace more) (blanks_pass front s.pass) ∙ t.pass;
+    stops = t.stops;
+  },
+)

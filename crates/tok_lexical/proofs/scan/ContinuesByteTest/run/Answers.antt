@@ -1,0 +1,19 @@
+use Rattle.std.proofs.Common.{refl, leb, cond}
+use Rattle.std.proofs.lemmas.Simd.{length-chunk}
+use lib.Lanes.{chunk}
+use Rattle.tok_lexical.specs.Words.{is_ascii_continue}
+use Rattle.tok_lexical.proofs.Lanes.{lanewise, run_of_table, splat, with_splat}
+use Rattle.tok_lexical.proofs.scan.ContinuesByteTest.run.Goals as goal
+
+pub returns : goal.returns
+returns c =
+    let load = chunk c.args.at 16 c.args.bytes.now in
+    let long = length-chunk c.args.at 16 c.args.bytes.now c.requires in
+    run_of_table is_ascii_continue c.args.bytes.now c.args.at _ _ _ c.requires
+    c.type_inv.bytes c.first_set.ensures
+    (lanewise _ _ _ load
+    (lanewise _ _ _ load
+    (lanewise (λ a b. cond (leb a b) 255 0) _ _ load (splat load 16 26 long)
+    (lanewise _ _ _ load (with_splat _ load 16 32 long) (splat load 16 97 long)))
+    (lanewise (λ a b. cond (leb a b) 255 0) _ _ load (splat load 16 10 long)
+    (with_splat _ load 16 48 long))) (with_splat _ load 16 95 long)) refl
