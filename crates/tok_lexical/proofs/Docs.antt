@@ -1,13 +1,21 @@
 -- Doc comments.
 use Rattle.std.proofs.Common.{◌≡◌, ◌∙◌, ℕ, zero, suc, ◌+◌, ◌-◌, ◌<◌, get_or, List, [], ◌∷◌, ◌++◌}
-use Rattle.std.proofs.Common.{length, length-append, take, refl, sym, ap, arith, true}
+use Rattle.std.proofs.Common.{length, length-append, take, refl, sym, ap, arith, true, false, Bool}
 use Rattle.std.specs.Str.{chars}
-use Rattle.std.proofs.lemmas.Bool.{false≢true}
+use Rattle.std.specs.Prelude.{◌==◌, ◌||◌}
+use Rattle.std.proofs.lemmas.Bool.{false≢true, false_from_ne_true}
+use Rattle.tok_lexical.specs.Contents.{has_return}
+use Rattle.tok_lexical.specs.Docs.{after_mark, breaks_line, is_bare, line_doc_text}
+use Rattle.tok_lexical.specs.Pieces.{after_first, from_first, up_to}
 use Rattle.std.proofs.Math.Seq.{take-append_seam}
 use Rattle.std.proofs.lemmas.Str.{chars-IsAscii}
 use Rattle.std.proofs.lemmas.Str.Ascii.{IsAscii-nil}
 use Rattle.tok_lexical.specs.Comments.{Closes, done, nested, ended, plain, IsBlockComment}
 use Rattle.tok_lexical.specs.Comments.{is_block_doc}
+
+or_parts : (p q : Bool) → (p || q) ≡ false → (p ≡ false) × (q ≡ false)
+or_parts true q h = absurd (false≢true (sym h))
+or_parts false q h = (refl, h)
 
 -- a block comment ends with its mark
 closes_end : (n : ℕ) (body : List ℕ) → Closes (suc n) body → (front : List ℕ)
@@ -44,3 +52,31 @@ mark_ascii (suc (suc i)) = IsAscii-nil i
 
 pub mark_chars : chars (42 ∷ 47 ∷ []) ≡ 42 ∷ 47 ∷ []
 mark_chars = chars-IsAscii (42 ∷ 47 ∷ []) mark_ascii
+
+-- a text with no U+000D
+pub no_return : (b : Bool) (text : List ℕ) → (has_return text ≡ true → b ≡ true) → b ≡ false →
+    has_return text ≡ false
+no_return b text may none = false_from_ne_true (has_return text) (λ h. false≢true (sym none ∙ may h))
+
+no_return_after : (text : List ℕ) → has_return text ≡ false → has_return (after_first text) ≡ false
+no_return_after [] h = h
+no_return_after (c ∷ rest) h = (or_parts (c == 13) (has_return rest) h).1
+
+-- is its own front up to one, and has none to begin at
+pub whole_up_to : (text : List ℕ) → has_return text ≡ false → (up_to 13 text ≡ text)
+    × (from_first 13 text ≡ [])
+whole_up_to [] h = (refl, refl)
+whole_up_to (c ∷ rest) h =
+    let both = or_parts (c == 13) (has_return rest) h in
+    let more = whole_up_to rest both.1 in
+    (rw both.0 (ap (λ w. c ∷ w) more.0), rw both.0 more.1)
+
+pub never_breaks : (text after : List ℕ) → has_return text ≡ false → breaks_line text after ≡ false
+never_breaks text after h = ap (λ w. is_bare w after) (whole_up_to text h).1
+
+pub whole_doc_text : (piece : List ℕ) → has_return piece ≡ false → after_mark piece
+    ≡ line_doc_text piece
+whole_doc_text piece h =
+    sym (whole_up_to (after_mark piece)
+    (no_return_after (after_first (after_first piece)) (no_return_after (after_first piece)
+    (no_return_after piece h)))).0

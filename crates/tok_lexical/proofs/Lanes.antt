@@ -1,14 +1,14 @@
 -- From the mask of a load to how many of its bytes pass a test.
 use Rattle.std.proofs.Common.{◌≡◌, ◌∙◌, ℕ, ◌+◌, ◌<◌, ◌≤◌, ◌%◌, ◌^◌, Bool, not, List, map, length}
-use Rattle.std.proofs.Common.{get_or, sym, ap, arith, Fits, w8, replicate, true}
+use Rattle.std.proofs.Common.{get_or, sym, ap, arith, Fits, w8, replicate, true, inl, inr}
 use Rattle.std.specs.List.{prefix_len}
-use Rattle.std.proofs.lemmas.Bool.{not-true, not-false, agree_below, agree_below_at}
+use Rattle.std.proofs.lemmas.Bool.{not-true, not-false, agree_below, agree_below_at, cases_lt}
 use Rattle.std.proofs.lemmas.List.{length-map}
 use Rattle.std.proofs.lemmas.Simd.{map-map, mask_l-mod, length-chunk, first_set_mask_l}
 use Rattle.std.proofs.lemmas.Simd.{zip2_of_maps, zip2_splat, splat_is_map}
 use Rattle.std.proofs.lemmas.Simd.{run_in_chunk_le, run_in_chunk_fails, run_in_chunk_stops}
 use lib.Lanes.{chunk, mask_l, top, zip2}
-use Rattle.tok_lexical.specs.Scans.{IsRun, first_set}
+use Rattle.tok_lexical.specs.Scans.{AllPass, IsRun, first_set}
 
 -- an operation on two vectors that were computed lane by lane from one
 pub lanewise : (h : ℕ → ℕ → ℕ) (f g : ℕ → ℕ) (load : List ℕ) {xs ys : List ℕ} →
@@ -56,3 +56,18 @@ pub run_of_table : (passes : ℕ → Bool) (bytes : List ℕ) (at run : ℕ) (la
 run_of_table passes bytes at run lanes f room fits found same table =
     run_of_mask passes bytes at run lanes f room fits found same
     (λ x l. agree_below_at (λ d. top 7 (f d)) (λ d. not (passes d)) 256 x table l)
+
+-- a last load, which goes back over bytes that pass
+pub last_run : (passes : ℕ → Bool) (bytes : List ℕ) (at seen run : ℕ) → at + 16 ≡ length bytes →
+    at ≤ seen → AllPass passes bytes 0 seen → IsRun passes bytes at 16 run →
+    IsRun passes bytes 0 (length bytes) (at + run)
+last_run passes bytes at seen run whole back pass r =
+    let same : at + run ≡ 0 + (at + run) = omega arith in
+    record {
+      few = let f = r.few in omega arith;
+      pass = λ k from to. elim (cases_lt k seen) [
+        | inl early ↦ pass k from early
+        | inr late ↦ r.pass k (omega arith) (omega arith)
+      ];
+      stops = λ short. ap (λ i. passes (get_or bytes i 0)) (sym same) ∙ r.stops (omega arith);
+    }

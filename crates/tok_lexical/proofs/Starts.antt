@@ -1,11 +1,17 @@
 -- The table of the starts of ASCII characters, held against their definition.
-use Rattle.std.proofs.Common.{◌≡◌, ◌∙◌, refl, sym, ℕ, ◌<◌, Bool, get_or, ap}
-use Rattle.std.specs.Prelude.{◌==◌, ◌||◌, if◌then◌else◌}
+use Rattle.std.proofs.Common.{◌≡◌, ◌∙◌, refl, sym, ℕ, ◌<◌, ◌≤◌, Bool, get_or, ap, List, [], ◌∷◌}
+use Rattle.std.proofs.Common.{length, true, false, arith, rules, tests}
+use Rattle.std.specs.Prelude.{◌==◌, ◌||◌, ◌&&◌, not, map, if◌then◌else◌, encode_utf8_all}
+use Rattle.std.specs.List.{range_with_len}
+use Rattle.std.specs.Str.{chars, IsUtf8}
+use Rattle.std.proofs.lemmas.Bool.{eqb-true, false_from_ne_true}
+use Rattle.std.proofs.lemmas.Str.{chars-nil, encodes-chars}
+use Rattle.tok_lexical.proofs.Texts.{begins_by, beyond_fails}
 use Rattle.std.specs.Char.{is_digit, is_ascii_alphabetic}
 use Rattle.tok_lexical.proofs.Tables.{in_table}
 use Rattle.unicode_ident.proofs.IdentLemmas.{is_xid_start-ascii}
 use Rattle.tok_lexical.specs.Characters.{is_whitespace, is_punct}
-use Rattle.tok_lexical.specs.Starts.{start_of, is_mark, is_prefix}
+use Rattle.tok_lexical.specs.Starts.{start_of, is_mark, is_prefix, begins_letter, begins_punct}
 use Rattle.tok_lexical.specs.declared.delimiter.Delimiter.TheVariants.{Parenthesis, Brace, Bracket}
 use Rattle.tok_lexical.specs.declared.start.Start.{Start}
 use Rattle.tok_lexical.specs.declared.start.Start.TheVariants.{Whitespace, Zero, Digit, Prefix}
@@ -65,3 +71,51 @@ pub start_by : (c b : ℕ) → c < 128 → get_or ASCII c 0 ≡ b → meant b �
 start_by c b h e =
     ap meant (sym e) ∙ by_table c h ∙ ap (λ letter. start_if (letter || (c == 95)) c)
     (sym (is_xid_start-ascii c h))
+
+-- a byte of the table, where the character is told by it
+told_at : (b : ℕ) (is : ℕ → Bool) → map (λ x. x == b) ASCII ≡ map is (range_with_len 0 128) →
+    (c : ℕ) → c < 128 → (get_or ASCII c 0 == b) ≡ is c
+told_at b is same c h = in_table (λ x. x == b) is ASCII false c same refl h
+
+abbrev pub is_letter : ℕ → Bool
+is_letter c = (is_ascii_alphabetic c || (c == 95)) && not (is_prefix c)
+
+abbrev pub is_other_punct : ℕ → Bool
+is_other_punct c = is_punct c && not (c == 47)
+
+pub letter_by : (c : ℕ) → c < 128 → (get_or ASCII c 0 == 97) ≡ is_letter c
+letter_by c h = told_at 97 is_letter refl c h
+
+pub punct_by : (c : ℕ) → c < 128 → (get_or ASCII c 0 == 43) ≡ is_other_punct c
+punct_by c h = told_at 43 is_other_punct refl c h
+
+letter_low : (c : ℕ) → is_letter c ≡ true → c < 128
+letter_low c h = let l : c ≤ 122 = search (rules, tests) in omega arith
+
+punct_low : (c : ℕ) → is_other_punct c ≡ true → c < 128
+punct_low c h = let l : c ≤ 126 = search (rules, tests) in omega arith
+
+-- what such a character starts
+pub letter_starts : (c : ℕ) → is_letter c ≡ true → start_of c ≡ Letter
+letter_starts c h =
+    sym (start_by c 97 (letter_low c h)
+    (eqb-true (get_or ASCII c 0) 97 (letter_by c (letter_low c h) ∙ h)))
+
+pub punct_starts : (c : ℕ) → is_other_punct c ≡ true → start_of c ≡ Punct
+punct_starts c h =
+    sym (start_by c 43 (punct_low c h)
+    (eqb-true (get_or ASCII c 0) 43 (punct_by c (punct_low c h) ∙ h)))
+
+pub begins_letter_by : (text : List ℕ) (x : ℕ) → IsUtf8 text → 0 < length text →
+    x ≡ get_or text 0 0 → is_letter x ≡ begins_letter (chars text)
+begins_letter_by = begins_by is_letter letter_low begins_letter refl (λ c rest. refl)
+
+pub begins_punct_by : (text : List ℕ) (x : ℕ) → IsUtf8 text → 0 < length text →
+    x ≡ get_or text 0 0 → is_other_punct x ≡ begins_punct (chars text)
+begins_punct_by = begins_by is_other_punct punct_low begins_punct refl (λ c rest. refl)
+
+pub no_letter_beyond : (x : ℕ) → (x < 128 → ⊥) → is_letter x ≡ false
+no_letter_beyond = beyond_fails is_letter letter_low
+
+pub no_punct_beyond : (x : ℕ) → (x < 128 → ⊥) → is_other_punct x ≡ false
+no_punct_beyond = beyond_fails is_other_punct punct_low

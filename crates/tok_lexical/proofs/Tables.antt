@@ -7,6 +7,7 @@ use Rattle.std.proofs.lemmas.List.{get_or-map}
 use Rattle.std.proofs.lemmas.List.FromFn.{get_or-map-range_with_len}
 use Rattle.unicode_ident.specs.Ident.{is_xid_continue}
 use Rattle.unicode_ident.proofs.IdentLemmas.{is_xid_continue-ascii}
+use Rattle.tok_lexical.specs.Words.{is_ascii_continue}
 use Rattle.tok_lexical.specs.declared.words.TheConstants.{CONTINUES}
 
 pub in_table : {X : Type 0} (meant defined : ℕ → X) (table : List ℕ) (d : X) (c : ℕ) →
@@ -19,3 +20,6 @@ in_table meant defined table d c same l h =
 pub continues_by : (c : ℕ) → c < 128 → not (get_or CONTINUES c 0 == 45) ≡ is_xid_continue c
 continues_by c h = in_table (λ b. not (b == 45)) (λ d. is_ascii_alphanumeric d || (d == 95))
     CONTINUES true c refl refl h ∙ sym (is_xid_continue-ascii c h)
+
+pub continues_ascii : (c : ℕ) → c < 128 → not (get_or CONTINUES c 0 == 45) ≡ is_ascii_continue c
+continues_ascii c h = in_table (λ b. not (b == 45)) is_ascii_continue CONTINUES true c refl refl h

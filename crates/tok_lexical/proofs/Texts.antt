@@ -6,7 +6,7 @@ use Rattle.std.specs.Str.{chars, IsUtf8, IsAscii, IsCharBoundary}
 use Rattle.std.specs.Char.{is_ascii_graphic}
 use Rattle.std.specs.Prelude.{Bool, encode_utf8, encode_utf8_all, true, false, nat_lt, nat_le}
 use Rattle.std.proofs.Common.{refl}
-use Rattle.std.proofs.lemmas.Bool.{ltb-true, ltb-false, lt-leb, le-leb}
+use Rattle.std.proofs.lemmas.Bool.{ltb-true, ltb-false, lt-leb, le-leb, false_from_ne_true}
 use Rattle.tok_lexical.specs.Characters.{begins_visibly, begins_beyond_ascii}
 use Rattle.tok_lexical.specs.Widths.{width, is_group_mark}
 use Rattle.tok_lexical.specs.declared.rule.Rule.{Rule}
@@ -159,3 +159,22 @@ beyond_first text x u l e = go (chars text) refl
 pub nothing_beyond : (text : List ℕ) → length text ≡ 0 → begins_beyond_ascii (chars text) ≡ false
 nothing_beyond [] z = ap begins_beyond_ascii chars-nil
 nothing_beyond (x ∷ text) z = absurd (omega arith)
+
+-- a test of the first byte that only ASCII passes says the same of the first character
+module _ (is : ℕ → Bool) (low : (c : ℕ) → is c ≡ true → c < 128) where
+  pub begins_by : (begins : List ℕ → Bool) → begins [] ≡ false →
+      ((c : ℕ) (rest : List ℕ) → begins (c ∷ rest) ≡ is c) → (text : List ℕ) (x : ℕ) →
+      IsUtf8 text → 0 < length text → x ≡ get_or text 0 0 → is x ≡ begins (chars text)
+  begins_by begins none first text x u l e = go (chars text) refl
+    where
+      go : (cs : List ℕ) → chars text ≡ cs → is x ≡ begins cs
+      go [] f =
+          absurd (omega (arith, ap length (sym (encodes-chars text u) ∙ ap encode_utf8_all f)))
+      go (c ∷ cs) f = ap is e ∙ first_byte is low text cs c u f ∙ sym (first c cs)
+
+  pub beyond_fails : (x : ℕ) → (x < 128 → ⊥) → is x ≡ false
+  beyond_fails x beyond = false_from_ne_true (is x) (λ h. beyond (low x h))
+
+pub nothing_begins : (text : List ℕ) → length text ≡ 0 → chars text ≡ []
+nothing_begins [] z = chars-nil
+nothing_begins (x ∷ text) z = absurd (omega arith)

@@ -2,7 +2,7 @@
 use Rattle.std.proofs.Common.{◌≡◌, ◌∙◌, ℕ, ◌<◌, ◌≤◌, List, [], ◌∷◌, ◌++◌, refl, sym, ap, true, false}
 use Rattle.std.proofs.Common.{append_assoc, ◌&&◌, arith, rules, tests}
 use Rattle.std.specs.List.{list_all}
-use Rattle.std.proofs.lemmas.Bool.{leb-false}
+use Rattle.std.proofs.lemmas.Bool.{leb-false, leb-true}
 use Rattle.std.proofs.lemmas.List.Folds.{list_all-append}
 use Rattle.tok_lexical.specs.Characters.{begins_beyond_ascii, is_ascii_whitespace, is_whitespace}
 use Rattle.tok_lexical.specs.Pieces.{Skips, Stops}
@@ -60,3 +60,12 @@ skips_more_blanks text mid rest (front, s) (more, t) = (
     stops = t.stops;
   },
 )
+
+-- a character beyond ASCII is none of it
+pub none_beyond : (text : List ℕ) → begins_beyond_ascii text ≡ true → (front : List ℕ)
+    × Skips is_ascii_whitespace text front text
+none_beyond text beyond = ([], record { cut = refl; pass = refl; stops = stops text beyond })
+  where
+    stops : (cs : List ℕ) → begins_beyond_ascii cs ≡ true → Stops is_ascii_whitespace cs
+    stops [] b = tt
+    stops (c ∷ cs) b = let l : 128 ≤ c = leb-true 128 c b in search (rules, tests)

@@ -1,11 +1,11 @@
 -- What the first two characters of a text tell.
 use Rattle.std.specs.Prelude.{◌==◌, ◌||◌, ◌&&◌, if◌then◌else◌, Bool, true, false, ℕ}
-use Rattle.std.specs.Prelude.{List}
-use Rattle.std.specs.Char.{is_digit}
+use Rattle.std.specs.Prelude.{List, [], ◌∷◌, not}
+use Rattle.std.specs.Char.{is_ascii_alphabetic, is_digit}
 use Rattle.tok_lexical.specs.Ascii.{apostrophe, byte_order_mark, close_brace, close_bracket}
 use Rattle.tok_lexical.specs.Ascii.{close_mark, close_parenthesis, digit_zero, lower_b, lower_c}
 use Rattle.tok_lexical.specs.Ascii.{lower_o, lower_r, lower_x, number_sign, open_brace}
-use Rattle.tok_lexical.specs.Ascii.{open_bracket, open_mark, open_parenthesis, quote, slash}
+use Rattle.tok_lexical.specs.Ascii.{open_bracket, open_mark, open_parenthesis, quote, slash, underscore}
 use Rattle.tok_lexical.specs.Characters.{is_whitespace, is_punct}
 use Rattle.tok_lexical.specs.Pieces.{after_first, begins_with}
 use Rattle.tok_lexical.specs.Words.{is_identifier_start}
@@ -51,6 +51,16 @@ tells Punct = true
 tells (Opening delimiter) = true
 tells (Closing delimiter) = true
 tells start = false
+
+-- the text begins with an ASCII character that begins an identifier and nothing else
+abbrev pub begins_letter : List ℕ → Bool
+begins_letter [] = false
+begins_letter (c ∷ rest) = (is_ascii_alphabetic c || (c == underscore)) && not (is_prefix c)
+
+-- the text begins with a character that is a punct whatever follows
+abbrev pub begins_punct : List ℕ → Bool
+begins_punct [] = false
+begins_punct (c ∷ rest) = is_punct c && not (c == slash)
 
 -- after a zero: the letter of a base
 abbrev pub names_base : List ℕ → Bool

@@ -15,6 +15,11 @@ is_identifier_start c = is_xid_start c || (c == underscore)
 abbrev pub is_ascii_continue : ℕ → Bool
 is_ascii_continue c = is_ascii_alphanumeric c || (c == underscore)
 
+-- the text begins with such a character
+abbrev pub begins_continue : List ℕ → Bool
+begins_continue [] = false
+begins_continue (c ∷ text) = is_ascii_continue c
+
 -- a plain identifier
 abbrev pub IsIdentifier : List ℕ → Type 0
 IsIdentifier [] = ⊥

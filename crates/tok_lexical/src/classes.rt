@@ -1,7 +1,7 @@
 //! White space, punctuation characters, and the marks of groups.
 ghost use Rattle.std.specs.Prelude.{◌≡◌, ◌≤◌, ℕ, List, length};
 ghost use Rattle.std.specs.Str.{chars};
-ghost use Rattle.tok_lexical.specs.Characters.{is_whitespace, begins_visibly, is_punct, is_punct_or_apostrophe, opening_mark, closing_mark};
+ghost use Rattle.tok_lexical.specs.Characters.{is_ascii_whitespace, is_whitespace, begins_visibly, is_punct, is_punct_or_apostrophe, opening_mark, closing_mark};
 ghost use Rattle.tok_lexical.specs.Delimiters.{is_invisible};
 ghost use Rattle.tok_lexical.specs.Pieces.{Skips};
 
@@ -51,6 +51,20 @@ pub fn past_whitespace(text: &str) -> &str
     }
 }
 
+/// Returns the text after the ASCII white space at the front.
+#[inline(always)]
+fn past_ascii_whitespace(text: &str) -> &str
+    ensures skips { (front : List ℕ)
+        × Skips is_ascii_whitespace (chars text.now) front (chars result.now) }
+    ensures shorter { length result.now ≤ length text.now }
+{
+    if begins_beyond_ascii(text) {
+        text
+    } else {
+        past_run(text, &Blanks)
+    }
+}
+
 /// Returns the text after the white space at the front, of any kind and length.
 #[inline(always)]
 fn past_any_whitespace(text: &str) -> &str
@@ -58,7 +72,7 @@ fn past_any_whitespace(text: &str) -> &str
         × Skips is_whitespace (chars text.now) front (chars result.now) }
     ensures shorter { length result.now ≤ length text.now }
 {
-    let rest = past_run(text, &Blanks);
+    let rest = past_ascii_whitespace(text);
     if begins_beyond_ascii(rest) {
         past_other_whitespace(rest)
     } else {

@@ -1,8 +1,9 @@
 //! Comments.
-ghost use Rattle.std.specs.Prelude.{◌≡◌, ℕ, ◌∷◌, ◌++◌, [], List, IfSome};
+ghost use Rattle.std.specs.Prelude.{◌≡◌, ℕ, ◌∷◌, ◌++◌, [], List, IfSome, true};
 ghost use Rattle.std.specs.Str.{chars, IsUtf8};
 ghost use Rattle.tok_lexical.specs.Pieces.{ReadsLongest, Skips};
 ghost use Rattle.tok_lexical.specs.Comments.{is_not_line_feed, IsLineComment, IsBlockComment, Closes, is_line_doc, is_block_doc, opens_line_doc, opens_block_doc};
+ghost use Rattle.tok_lexical.specs.Contents.{has_return};
 ghost use Rattle.tok_lexical.specs.Docs.{is_inner_doc, line_doc_text, breaks_line, block_doc_text};
 
 use crate::text::{
@@ -114,6 +115,36 @@ pub fn line_doc_text(piece: &str) -> &str
 {
     let text = past_first(past_first(past_first(piece)));
     up_to(text, b'\r')
+}
+
+/// Returns the contents of a `///` or `//!` comment, as `line_doc_text` does.
+///
+/// # Requires
+///
+/// If the piece has a U+000D, `returns` must be `true`. If it isn't, none is searched for.
+#[inline(always)]
+pub fn line_doc_contents(piece: &str, returns: bool) -> &str
+    requires { has_return (chars piece.now) ≡ true → returns ≡ true }
+    ensures { chars result.now ≡ line_doc_text (chars piece.now) }
+{
+    if returns {
+        line_doc_text(piece)
+    } else {
+        past_first(past_first(past_first(piece)))
+    }
+}
+
+/// Returns `true` if a line comment has a U+000D that isn't part of its line's end.
+///
+/// # Requires
+///
+/// If the piece has a U+000D, `returns` must be `true`. If it isn't, none is searched for.
+#[inline(always)]
+pub fn has_broken_line(piece: &str, after: &str, returns: bool) -> bool
+    requires { has_return (chars piece.now) ≡ true → returns ≡ true }
+    ensures { result ≡ breaks_line (chars piece.now) (chars after.now) }
+{
+    returns && breaks_line(piece, after)
 }
 
 /// Returns `true` if a line comment has a U+000D that isn't part of its line's end.

@@ -4,7 +4,7 @@ ghost use Rattle.std.specs.Str.{chars};
 ghost use Rattle.tok_lexical.specs.Contents.{has_return};
 ghost use Rattle.tok_lexical.specs.Errors.{error_kind, is_reserved, is_guard, lifetime_error};
 
-use crate::comments::{breaks_line, is_block_doc, is_line_doc};
+use crate::comments::{has_broken_line, is_block_doc, is_line_doc};
 use crate::contents::{has_bare_return, is_unfit, is_wrong};
 use crate::edition::Edition;
 use crate::lex_error_kind::LexErrorKind;
@@ -86,7 +86,7 @@ pub fn error_kind(
         Rule::ByteOrderMark => refused_if(at != 0, LexErrorKind::UnknownCharacter),
         Rule::LineComment => match mode {
             Mode::Source(_) => refused_if(
-                is_line_doc(piece) && breaks_line(piece, after),
+                is_line_doc(piece) && has_broken_line(piece, after, returns),
                 LexErrorKind::BareReturn,
             ),
             Mode::Plain | Mode::Marked => refused_if(is_line_doc(piece), LexErrorKind::DocComment),

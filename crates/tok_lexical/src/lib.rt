@@ -32,4 +32,4 @@ pub use edition::Edition;
 pub use errors::error_kind;
 pub use lex_error_kind::LexErrorKind;
 pub use numbers::Base;
-pub use rule::{Mode, Rule, first_rule};
+pub use rule::{Mode, Rule, first_rule, past_told_identifier, past_told_punct};

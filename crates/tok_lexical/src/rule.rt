@@ -1,5 +1,5 @@
 //! The rules of the grammar in their order, and what each takes.
-ghost use Rattle.std.specs.Prelude.{◌≡◌, ◌++◌, ◌∷◌, [], ℕ, List, true, false, IfSome};
+ghost use Rattle.std.specs.Prelude.{◌≡◌, ◌++◌, ◌∷◌, [], ℕ, List, true, false, IfSome, MatchOption};
 ghost use Rattle.std.specs.Str.{chars, IsUtf8};
 ghost use Rattle.tok_lexical.specs.Fits.{IsFirstFit, ReadsByRules};
 ghost use Rattle.tok_lexical.specs.Widths.{is_group_mark, width};
@@ -7,7 +7,9 @@ ghost use Rattle.tok_lexical.specs.Pieces.{ReadsLongest, Skips};
 ghost use Rattle.tok_lexical.specs.Numbers.{is_digit_or_underscore, starts_digit};
 ghost use Rattle.tok_lexical.specs.Rules.{among, beginning, decimal_rules, last_rules, rules_of, Spells};
 ghost use Rattle.tok_lexical.specs.declared.start.Start.TheVariants.{Prefix};
-ghost use Rattle.tok_lexical.specs.Starts.{tells, start_of, names_base, opens_string, opens_literal};
+ghost use Rattle.tok_lexical.specs.Starts.{tells, start_of, names_base, opens_string, opens_literal, begins_letter, begins_punct};
+ghost use Rattle.tok_lexical.specs.declared.rule.Mode.{Mode};
+ghost use Rattle.tok_lexical.specs.declared.rule.Rule.TheVariants.{Identifier, Punct};
 
 use crate::char_literals::{past_byte_char, past_escaped_char, past_plain_char};
 use crate::classes::{closing_mark, is_invisible, is_punct, is_whitespace, opening_mark};
@@ -20,7 +22,7 @@ use crate::joint::begins_comment;
 use crate::numbers::{Base, past_based, past_decimal, past_digits, past_number_suffix};
 use crate::prefixes::{past_prefix_of, past_string_prefix};
 use crate::raw::past_raw_string;
-use crate::start::Start;
+use crate::start::{Start, begins_letter, begins_punct};
 use crate::strings::{past_byte_string, past_c_string, past_string};
 use crate::text::{begins_with, next_char, past_char, past_first, past_pair};
 use crate::words::{
@@ -329,6 +331,37 @@ fn second_told<'a>(
         }
         _ => None,
     }
+}
+
+/// Returns the text after an identifier, if its first character is ASCII and shows that no other
+/// rule takes it.
+#[inline(always)]
+pub fn past_told_identifier(text: &str) -> Option<&str>
+    ensures told { MatchOption result (begins_letter (chars text.now) ≡ false)
+        (λ rest. (begins_letter (chars text.now) ≡ true) × ((mode : Mode) → (piece : List ℕ)
+        × IsFirstFit (chars text.now) (rules_of mode) Identifier piece (chars rest.now))) }
+    ensures utf8 { IfSome result (λ rest. IsUtf8 rest.now) }
+{
+    if !begins_letter(text) {
+        return None;
+    }
+    let (_, rest) = next_char(text)?;
+    Some(past_continues(rest))
+}
+
+/// Returns the text after a punct, if its character shows that no other rule takes it.
+#[inline(always)]
+pub fn past_told_punct(text: &str) -> Option<&str>
+    ensures told { MatchOption result (begins_punct (chars text.now) ≡ false)
+        (λ rest. (begins_punct (chars text.now) ≡ true) × ((mode : Mode) → (piece : List ℕ)
+        × IsFirstFit (chars text.now) (rules_of mode) Punct piece (chars rest.now))) }
+    ensures utf8 { IfSome result (λ rest. IsUtf8 rest.now) }
+{
+    if !begins_punct(text) {
+        return None;
+    }
+    let (_, rest) = next_char(text)?;
+    Some(rest)
 }
 
 /// Returns the first rule that fits at the front of the text, and the text after its piece, or

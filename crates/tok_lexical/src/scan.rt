@@ -135,6 +135,11 @@ fn run_from<S: ByteTest>(test: &S, bytes: &[u8], from: usize) -> usize
             return end;
         }
     }
+    if LANES <= bytes.len() {
+        // The last load goes back over bytes that pass.
+        let at = bytes.len() - LANES;
+        return at + test.run(bytes, at);
+    }
     while end < bytes.len() {
         if !test.holds(bytes[end]) {
             return end;

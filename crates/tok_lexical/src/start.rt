@@ -1,6 +1,7 @@
 //! What the first character of a text decides.
 ghost use Rattle.std.specs.Prelude.{◌≡◌, ◌≤◌};
-ghost use Rattle.tok_lexical.specs.Starts.{start_of, is_mark};
+ghost use Rattle.std.specs.Str.{chars};
+ghost use Rattle.tok_lexical.specs.Starts.{start_of, is_mark, begins_letter, begins_punct};
 
 use crate::classes::is_whitespace;
 use crate::delimiter::Delimiter;
@@ -30,6 +31,29 @@ static ASCII: [u8; 128] = *b"\
     \x20+\"++++'()+++++/0111111111++++++\
     +aaaaaaaaaaaaaaaaaaaaaaaaaa[?]+a\
     ?abbaaaaaaaaaaaaaabaaaaaaaa{+}+?";
+
+/// Returns `true` if the text begins with an ASCII character that begins an identifier and nothing
+/// else.
+#[inline(always)]
+pub fn begins_letter(text: &str) -> bool
+    ensures { result ≡ begins_letter (chars text.now) }
+{
+    match text.as_bytes().first() {
+        Some(byte) => *byte < 0x80 && ASCII[*byte as usize] == b'a',
+        None => false,
+    }
+}
+
+/// Returns `true` if the text begins with a character that is a punct whatever follows.
+#[inline(always)]
+pub fn begins_punct(text: &str) -> bool
+    ensures { result ≡ begins_punct (chars text.now) }
+{
+    match text.as_bytes().first() {
+        Some(byte) => *byte < 0x80 && ASCII[*byte as usize] == b'+',
+        None => false,
+    }
+}
 
 fn is_mark(c: char) -> bool
     ensures { result ≡ is_mark c }

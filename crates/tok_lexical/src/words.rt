@@ -4,7 +4,7 @@ ghost use Rattle.std.specs.Str.{chars, IsUtf8};
 ghost use Rattle.unicode_ident.specs.Ident.{is_xid_continue};
 ghost use Rattle.tok_lexical.specs.Following.{starts_name};
 ghost use Rattle.tok_lexical.specs.Pieces.{After, IsLongestPrefix, ReadsLongest, Skips};
-ghost use Rattle.tok_lexical.specs.Words.{IsIdentifier, IsRawIdentifier, IsName, IsSuffix, is_identifier_start, has_no_raw, is_missing, is_plain, is_raw_prefix};
+ghost use Rattle.tok_lexical.specs.Words.{IsIdentifier, IsRawIdentifier, IsName, IsSuffix, begins_continue, is_ascii_continue, is_identifier_start, has_no_raw, is_missing, is_plain, is_raw_prefix};
 
 use crate::scan::Continues;
 use crate::text::{begins_beyond_ascii, next_char, past_char, past_pair, past_run};
@@ -70,12 +70,36 @@ fn past_any_continues(text: &str) -> &str
     rest
 }
 
+// Returns `true` if the text begins with an ASCII character that may go on in an identifier.
+#[inline(always)]
+fn begins_continue(text: &str) -> bool
+    ensures { result ≡ begins_continue (chars text.now) }
+{
+    match text.as_bytes().first() {
+        Some(byte) => *byte < 0x80 && CONTINUES[*byte as usize] != b'-',
+        None => false,
+    }
+}
+
+// Returns the text after the ASCII characters at the front that may go on in an identifier.
+// Many names are one letter, and no run is looked for after those.
+#[inline(always)]
+fn past_ascii_continues(text: &str) -> &str
+    ensures { (front : List ℕ) × Skips is_ascii_continue (chars text.now) front (chars result.now) }
+{
+    if begins_continue(text) {
+        past_run(text, &Continues)
+    } else {
+        text
+    }
+}
+
 /// Returns the text after the characters at the front that may go on in an identifier.
 #[inline(always)]
 pub fn past_continues(text: &str) -> &str
     ensures { (front : List ℕ) × Skips is_xid_continue (chars text.now) front (chars result.now) }
 {
-    let rest = past_run(text, &Continues);
+    let rest = past_ascii_continues(text);
     if begins_beyond_ascii(rest) {
         past_any_continues(rest)
     } else {

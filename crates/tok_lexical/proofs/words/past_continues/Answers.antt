@@ -1,15 +1,12 @@
 use Rattle.std.proofs.Common.{sym, ◌∙◌}
-use Rattle.tok_lexical.proofs.Identifiers.{ascii_continues_low, skips_ascii_continues}
+use Rattle.tok_lexical.proofs.Identifiers.{skips_ascii_continues}
 use Rattle.tok_lexical.proofs.Identifiers.{skips_more_continues}
 use Rattle.tok_lexical.proofs.words.past_continues.Goals as goal
 
-pub past_run-rest-requires : goal.past_run-rest-requires
-past_run-rest-requires c = record { ascii = ascii_continues_low }
-
 pub returns-then-begins_beyond_ascii : goal.returns-then-begins_beyond_ascii
-returns-then-begins_beyond_ascii c = skips_more_continues _ _ _ c.past_run-rest.ensures.skips
+returns-then-begins_beyond_ascii c = skips_more_continues _ _ _ c.past_ascii_continues-rest.ensures
     c.past_any_continues.ensures
 
 pub returns-else-begins_beyond_ascii : goal.returns-else-begins_beyond_ascii
-returns-else-begins_beyond_ascii c = skips_ascii_continues _ _ c.past_run-rest.ensures.skips
+returns-else-begins_beyond_ascii c = skips_ascii_continues _ _ c.past_ascii_continues-rest.ensures
     (sym c.begins_beyond_ascii.ensures ∙ c.if-begins_beyond_ascii.false)

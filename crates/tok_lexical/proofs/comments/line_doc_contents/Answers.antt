@@ -1,0 +1,12 @@
+use Rattle.std.proofs.Common.{◌∙◌, ap}
+use Rattle.std.specs.Str.{chars}
+use Rattle.tok_lexical.specs.Pieces.{after_first}
+use Rattle.tok_lexical.proofs.Docs.{no_return, whole_doc_text}
+use Rattle.tok_lexical.proofs.comments.line_doc_contents.Goals as goal
+
+pub returns-else-returns : goal.returns-else-returns
+returns-else-returns c =
+    c.past_first-else-returns-2.ensures ∙ ap after_first c.past_first-else-returns.ensures
+    ∙ ap (λ w. after_first (after_first w)) c.past_first.ensures
+    ∙ whole_doc_text (chars c.args.piece.now)
+    (no_return c.args.returns (chars c.args.piece.now) c.requires c.if-returns.false)
