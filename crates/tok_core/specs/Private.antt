@@ -4,5 +4,6 @@ pub mod Attribute
 pub mod Built
 pub mod Excess
 pub mod Halted
+pub mod Taken
 pub mod Pending
 pub mod TreeFalls

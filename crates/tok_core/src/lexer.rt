@@ -22,8 +22,7 @@ pub use error::{LexError, LexFault};
 use nest::Nest;
 use std::alloc::Global;
 use tok_lexical::source::past_start;
-use tok_lexical::text::front_of;
-use tok_lexical::{Edition, LexErrorKind, Mode, first_rule, has_return};
+use tok_lexical::{Edition, LexErrorKind, Mode, has_return};
 
 // Returns `false` only if the text has no U+000D. It is searched if the mode asks pieces for one.
 //
@@ -74,13 +73,11 @@ pub fn read<B: Build + Drop>(
     let mut nest = Nest::new(alloc, source, builder);
     let mut rest = text;
     let mut at = start;
-    while let Some((rule, after)) = first_rule(mode, rest) {
-        let piece = front_of(rest, after);
-        let end = at + rule.width(piece);
-        match nest.take_in(rule, mode, at, end, piece, after, returns) {
-            Ok(()) => {}
+    while !rest.is_empty() {
+        let (end, after) = match nest.take_first(mode, at, rest, returns) {
+            Ok(taken) => taken,
             Err(halt) => return Err(halt.fault(source, at)),
-        }
+        };
         rest = past_blanks(after);
         at = end + (after.len() - rest.len());
     }

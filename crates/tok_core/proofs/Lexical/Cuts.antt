@@ -6,6 +6,8 @@ use Rattle.std.specs.Str.{chars, IsUtf8}
 use Rattle.std.proofs.lemmas.List.{append-nil}
 use Rattle.std.proofs.lemmas.List.Folds.{list_any-append}
 use Rattle.std.proofs.Math.Bool.{or-true}
+use Rattle.std.proofs.lemmas.Bool.{false≢true, ne_eqb}
+use Rattle.std.proofs.lemmas.Str.{chars-nil, encodes-chars}
 use Rattle.tok_lexical.specs.Contents.{has_return}
 use Rattle.tok_core.specs.Forest.{Forest}
 use Rattle.tok_lexical.specs.Fits.{NoneBefore}
@@ -14,6 +16,7 @@ use Rattle.tok_core.specs.Private.Built.{EndsInOther, IsBlank, State, IsPaired, 
 use Rattle.tok_core.specs.Private.Built.{last, outer, Reached, Grows, Halts}
 use Rattle.tok_core.specs.Lexical.Errors.{OnRefused}
 use Rattle.tok_core.specs.Private.Halted.{OnHalted, fault_of}
+use Rattle.tok_core.specs.Private.Taken.{HaltsAt, Taken}
 use Rattle.tok_core.specs.Lexical.Items.{Item, no_items}
 use Rattle.tok_lexical.specs.Errors.{error_kind}
 use Rattle.tok_core.specs.Lexical.Meaning.{items}
@@ -152,12 +155,9 @@ module _ (begin : ℕ) (mode : Mode) (number : ℕ) (text rest : List ℕ) (at :
         holds = s.holds;
       }
 
-  -- a U+000D of the next piece is one of the whole text
-  pub returns_from : (rule : Rule) (taken after : List ℕ) →
-      IsFirstFit (chars rest) (rules_of mode) rule
-      taken after → has_return taken ≡ true → has_return (chars text) ≡ true
-  returns_from rule taken after d h =
-      cut_return s.cut (has_piece_return (chars rest) taken after (fits_longest d).cut h)
+  -- a U+000D of what is left is one of the whole text
+  pub returns_left : has_return (chars rest) ≡ true → has_return (chars text) ≡ true
+  returns_left h = cut_return s.cut h
 
   pub nest_is_paired : IsPaired nest
   nest_is_paired = paired_of s.holds
@@ -200,6 +200,48 @@ module _ (begin : ℕ) (mode : Mode) (number : ℕ) (text rest : List ℕ) (at :
       subst (λ w. OnRefused w (IsRefusedFrom begin mode number (chars text))) (sym is)
       (refuses_here (record { kind = why; source = number; at = at }) (sym s.same_source)
       (refuses mode nest.groups rule at why (chars rest) taken after d h))
+
+  -- the same of the piece that a rule found, whichever it was
+  pub fault_at : (halt : Halt) (fault : LexFault) →
+      OnHalted halt (HaltsAt nest.groups mode at (chars rest)) → fault ≡ fault_of number at halt →
+      OnRefused fault (IsRefusedFrom begin mode number (chars text))
+  fault_at Memory fault h is =
+      subst (λ w. OnRefused w (IsRefusedFrom begin mode number (chars text))) (sym is) tt
+  fault_at (Refused why) fault h is =
+      fault_here h.piece h.after h.rule (Refused why) fault h.fits h.halts is
+
+  -- a piece that was taken
+  pub so_far_taken : (after : List ℕ) (end : ℕ) (new : State) → IsUtf8 rest → IsUtf8 after →
+      Taken mode at nest new (chars rest) end (chars after) →
+      SoFar begin mode number text after end new
+  so_far_taken after end new u v t =
+      so_far_more after t.piece end new t.rule u v t.fits t.ends t.meant t.grown
+
+-- a halt at the piece that this rule found
+pub halted_at : (levels : List (Delimiter × ℕ)) (mode : Mode) (at : ℕ) (text : List ℕ)
+    (rule : Rule) (taken after : List ℕ) (halt : Halt) →
+    IsFirstFit text (rules_of mode) rule taken after →
+    OnHalted halt (Halts levels rule mode at taken after) →
+    OnHalted halt (HaltsAt levels mode at text)
+halted_at levels mode at text rule taken after Memory d h = tt
+halted_at levels mode at text rule taken after (Refused why) d h =
+    record { rule = rule; piece = taken; after = after; fits = d; halts = h }
+
+-- a U+000D of a piece is one of the text that it begins
+pub returns_in : (rules : List Rule) (rule : Rule) (text taken after : List ℕ) →
+    IsFirstFit text rules rule taken after → has_return taken ≡ true → has_return text ≡ true
+returns_in rules rule text taken after d h = has_piece_return text taken after (fits_longest d).cut h
+
+-- the rest of a text that isn't at its end
+pub some_left : (text : List ℕ) → IsUtf8 text → (length text == 0) ≡ false → chars text ≡ [] → ⊥
+some_left text u some none =
+    let same : text ≡ [] = sym (encodes-chars text u) ∙ ap encode_utf8_all none in
+    false≢true (sym some ∙ ap (λ w. length w == 0) same)
+
+pub nothing_left : (text : List ℕ) → (length text == 0) ≡ true → chars text ≡ []
+nothing_left [] e = chars-nil
+nothing_left (x ∷ text) e =
+    absurd (false≢true (sym (ne_eqb (length (x ∷ text)) 0 (λ z. absurd (omega arith))) ∙ e))
 
 pub ends_in_other : (mode : Mode) → EndsInOther (rules_of mode)
 unfolding all_rules

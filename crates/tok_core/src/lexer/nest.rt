@@ -1,14 +1,16 @@
 //! A builder and the groups that are open in it.
-ghost use Rattle.std.specs.Prelude.{◌≡◌, ℕ, ◌+◌, ◌<◌, ◌≤◌, ◌^◌, ◌∷◌, [], IfErr, OnOk, None, if◌then◌else◌, true};
-ghost use Rattle.std.specs.Str.{chars};
+ghost use Rattle.std.specs.Prelude.{◌≡◌, ℕ, ◌+◌, ◌<◌, ◌≤◌, ◌^◌, ◌∷◌, [], List, length, IfOk, IfErr, OnOk, None, if◌then◌else◌, true};
+ghost use Rattle.std.specs.Str.{chars, IsUtf8};
 ghost use Rattle.tok_core.specs.Private.Built.{state, Grows, Reached, IsPaired, Halts, IsTooDeep, IsUnfit};
 ghost use Rattle.tok_core.specs.Private.Halted.{OnHalted};
+ghost use Rattle.tok_core.specs.Private.Taken.{HaltsAt, Taken};
 ghost use Rattle.tok_core.specs.Lexical.Items.{opening, closing};
 ghost use Rattle.tok_lexical.specs.Contents.{has_return};
 ghost use Rattle.tok_lexical.specs.Errors.{error_kind};
 ghost use Rattle.tok_core.specs.Lexical.Meaning.{items, ident_item, is_joint, literal_item, punct_item, pointed_items, doc_items};
 ghost use Rattle.tok_lexical.specs.Widths.{bytes, width};
-ghost use Rattle.tok_lexical.specs.Rules.{Spells};
+ghost use Rattle.tok_lexical.specs.Fits.{IsFirstFit};
+ghost use Rattle.tok_lexical.specs.Rules.{rules_of, Spells};
 
 use crate::lexer::attribute::append_doc;
 use crate::lexer::build::Build;
@@ -16,11 +18,14 @@ use crate::lexer::error::Halt;
 use std::alloc::{AllocError, Global};
 use tok_leaves::{Spacing, Span, Text, known};
 use tok_lexical::comments::{
-    block_doc_text, is_block_doc, is_inner_doc, is_line_doc, line_doc_text,
+    block_doc_text, is_block_doc, is_inner_doc, is_line_doc, line_doc_contents,
 };
 use tok_lexical::joint::{makes_joint, makes_joint_apostrophe, past_marks, takes_point};
-use tok_lexical::text::{first_of, past_first, up_to};
-use tok_lexical::{Delimiter, LexErrorKind, Mode, Rule, error_kind};
+use tok_lexical::text::{first_of, front_of, past_first, up_to};
+use tok_lexical::{
+    Delimiter, LexErrorKind, Mode, Rule, error_kind, first_rule, past_told_identifier,
+    past_told_punct,
+};
 
 /// A builder and its open groups, the outermost first: the delimiter of each, and where it begins.
 #[derive(Drop)]
@@ -206,12 +211,95 @@ impl<B: Build + Drop> Nest<B> {
         Ok(())
     }
 
+    /// Appends the piece at the front of `text`, which begins at `at`. Returns where it ends, and the
+    /// text after it.
+    ///
+    /// # Requires
+    ///
+    /// - The text must not be empty.
+    /// - If the text has a U+000D, `returns` must be `true`.
+    // Most pieces are told by their first character. Where their rule stands in the code, no table
+    // of rules is asked for it, three times a piece.
+    #[inline(always)]
+    pub fn take_first<'a>(
+        &mut self,
+        mode: Mode,
+        at: usize,
+        text: &'a str,
+        returns: bool,
+    ) -> Result<(usize, &'a str), Halt>
+        requires some { chars text.now ≡ [] → ⊥ }
+        requires returns { has_return (chars text.now) ≡ true → returns ≡ true }
+        requires fits { at + length text.now < 2 ^ 64 }
+        requires reached { Reached self.old.«open».items at }
+        requires paired { IsPaired (state B.levels self.old) }
+        ensures taken { IfOk result
+            (λ next. Taken mode at (state B.levels self.old) (state B.levels self.new)
+            (chars text.now) next.0 (chars next.1.now)) }
+        ensures utf8 { IfOk result (λ next. IsUtf8 next.1.now) }
+        ensures refused { IfErr result
+            (λ halt. OnHalted halt (HaltsAt self.old.«open».items mode at (chars text.now))) }
+    {
+        if let Some(after) = past_told_identifier(text) {
+            let end = self.take(Rule::Identifier, mode, at, text, after, returns)?;
+            return Ok((end, after));
+        }
+        if let Some(after) = past_told_punct(text) {
+            let end = self.take(Rule::Punct, mode, at, text, after, returns)?;
+            return Ok((end, after));
+        }
+        let Some((rule, after)) = first_rule(mode, text) else {
+            unreachable!();
+        };
+        let end = self.take(rule, mode, at, text, after, returns)?;
+        Ok((end, after))
+    }
+
+    /// Appends the piece that `rule` found at the front of `text`, before the text `after`. Returns
+    /// where it ends.
+    ///
+    /// # Requires
+    ///
+    /// - The rule must be the first that fits.
+    /// - If the text has a U+000D, `returns` must be `true`.
+    #[inline(always)]
+    fn take(
+        &mut self,
+        rule: Rule,
+        mode: Mode,
+        at: usize,
+        text: &str,
+        after: &str,
+        returns: bool,
+    ) -> Result<usize, Halt>
+        requires found { (piece : List ℕ)
+            × IsFirstFit (chars text.now) (rules_of mode) rule piece (chars after.now) }
+        requires returns { has_return (chars text.now) ≡ true → returns ≡ true }
+        requires fits { at + length text.now < 2 ^ 64 }
+        requires reached { Reached self.old.«open».items at }
+        requires paired { IsPaired (state B.levels self.old) }
+        ensures taken { IfOk result
+            (λ end. Taken mode at (state B.levels self.old) (state B.levels self.new)
+            (chars text.now) end (chars after.now)) }
+        ensures refused { IfErr result
+            (λ halt. OnHalted halt (HaltsAt self.old.«open».items mode at (chars text.now))) }
+    {
+        let piece = front_of(text, after);
+        let end = at + rule.width(piece);
+        match self.take_in(rule, mode, at, end, piece, after, returns) {
+            Ok(()) => Ok(end),
+            Err(halt) => Err(halt),
+        }
+    }
+
     /// Appends the piece that `rule` found from `at` to `end`, before the text `after`.
     ///
     /// # Requires
     ///
     /// If the piece has a U+000D, `returns` must be `true`.
-    pub fn take_in(
+    // Inlined, so that nothing is left of it where the rule is known but what the rule asks for.
+    #[inline(always)]
+    fn take_in(
         &mut self,
         rule: Rule,
         mode: Mode,
@@ -248,7 +336,12 @@ impl<B: Build + Drop> Nest<B> {
         match rule {
             Rule::LineComment => {
                 if is_line_doc(piece) {
-                    return self.doc(at, end, is_inner_doc(piece), line_doc_text(piece));
+                    return self.doc(
+                        at,
+                        end,
+                        is_inner_doc(piece),
+                        line_doc_contents(piece, returns),
+                    );
                 }
             }
             Rule::BlockComment => {

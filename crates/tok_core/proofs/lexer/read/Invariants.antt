@@ -5,9 +5,9 @@ use Rattle.tok_core.specs.Private.Built.{state}
 use Rattle.tok_core.proofs.Lexical.Cuts.{SoFar}
 use Rattle.tok_core.proofs.lexer.read.Given as goal
 
-abbrev pub invariant-loop-rule : goal.invariant-loop-rule
-invariant-loop-rule g l = shadow (Utf8 l.rest) × SoFar l.start l.mode l.source l.text
+abbrev pub invariant-loop-rest : goal.invariant-loop-rest
+invariant-loop-rest g l = shadow (Utf8 l.rest) × SoFar l.start l.mode l.source l.text
     l.rest l.at (state g.B.Build.levels l.nest)
 
-abbrev pub decreases-loop-rule : goal.decreases-loop-rule
-decreases-loop-rule g l = length l.rest
+abbrev pub decreases-loop-rest : goal.decreases-loop-rest
+decreases-loop-rest g l = length l.rest
