@@ -16,7 +16,10 @@ use Rattle.tok_lexical.specs.Fits.{IsFirstFit, here, later}
 use Rattle.tok_lexical.specs.declared.rule.Mode.{Mode}
 use Rattle.tok_lexical.specs.declared.rule.Rule.{Rule}
 use Rattle.tok_lexical.specs.declared.rule.Rule.TheVariants.{Opening, Closing, Identifier}
-use Rattle.tok_lexical.specs.declared.rule.Rule.TheVariants.{Punct, Other}
+use Rattle.tok_lexical.specs.declared.rule.Rule.TheVariants.{LineComment, Punct, QuotedString, Other}
+use Rattle.tok_lexical.specs.declared.contents.Contents.TheVariants.{Text}
+use Rattle.tok_lexical.specs.Comments.{IsLineComment}
+use Rattle.tok_lexical.specs.Strings.{IsString}
 use Rattle.tok_lexical.specs.Characters.{is_punct, opening_mark, closing_mark}
 use Rattle.tok_lexical.specs.Words.{is_identifier_start, IsIdentifier}
 use Rattle.tok_lexical.specs.declared.start.Start.{Start}
@@ -247,6 +250,17 @@ module _ (mode : Mode) (c : ℕ) (text more : List ℕ) (e : text ≡ c ∷ more
   decides_letter rest is s =
       let t = takes_identifier text more rest c e (told c start.Letter is) s in
       (t.0, decides_begun mode c more start.Letter e is (here t.1))
+
+  -- the first of the rules that may begin so
+  pub decides_line : (rest : List ℕ) → start_of c ≡ start.Slash → (piece : List ℕ)
+      × IsLongestPrefix IsLineComment text piece rest → (piece : List ℕ)
+      × IsFirstFit text (rules_of mode) LineComment piece rest
+  decides_line rest is t = (t.0, decides_begun mode c more start.Slash e is (here t.1))
+
+  pub decides_string : (rest : List ℕ) → start_of c ≡ start.Quote → (piece : List ℕ)
+      × IsLongestPrefix (IsString Text) text piece rest → (piece : List ℕ)
+      × IsFirstFit text (rules_of mode) (QuotedString Text) piece rest
+  decides_string rest is t = (t.0, decides_begun mode c more start.Quote e is (here t.1))
 
   pub decides_one : (k : Start) → tells_one k ≡ true → start_of c ≡ k → (piece : List ℕ)
       × IsFirstFit text (rules_of mode) (told_rule k) piece more

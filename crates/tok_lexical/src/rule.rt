@@ -380,6 +380,17 @@ pub fn first_rule(mode: Mode, text: &str) -> Option<(Rule, &str)>
         Start::Opening(delimiter) => return Some((Rule::Opening(delimiter), rest)),
         Start::Closing(delimiter) => return Some((Rule::Closing(delimiter), rest)),
         Start::Slash if !begins_comment(text) => return Some((Rule::Punct, rest)),
+        // The first rules of those that may begin so fit nearly always.
+        Start::Slash => {
+            if let Some(end) = past_line_comment(text) {
+                return Some((Rule::LineComment, end));
+            }
+        }
+        Start::Quote => {
+            if let Some(end) = past_string(text) {
+                return Some((Rule::QuotedString(Contents::Text), end));
+            }
+        }
         _ => {}
     }
     if start.has_second() {

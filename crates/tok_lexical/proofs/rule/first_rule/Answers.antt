@@ -1,6 +1,7 @@
 use Rattle.std.proofs.Common.{◌≡◌, ◌∙◌, refl, sym, subst, false, rules, tests}
 use Rattle.tok_lexical.proofs.First.{decides_at, none_more, none_at_all, none_fits}
 use Rattle.tok_lexical.proofs.First.{decides_listed, decides_letter, decides_one, fits_front}
+use Rattle.tok_lexical.proofs.First.{decides_line, decides_string}
 use Rattle.tok_lexical.proofs.First.{fits_behind, last_identifier, last_punct, last_other}
 use Rattle.tok_lexical.proofs.Slashes.{decides_alone}
 use Rattle.tok_lexical.specs.Fits.{ReadsByRules}
@@ -39,7 +40,17 @@ returns-in-Slash-clause-tries c = decides_alone c.args.mode c.in_ok-first.first 
     (sym c.if-not-begins_comment.ensures)
 
 pub returns-in-Some-clause-tries : goal.returns-in-Some-clause-tries
-returns-in-Some-clause-tries c = c.in-Some.ensures.fits
+returns-in-Some-clause-tries c = decides_line c.args.mode c.in_ok-first.first _ _
+    c.in_ok-first.ensures.chars _ (sym c.of-start.ensures ∙ c.in-Slash.is)
+    c.in-Some.ensures.tries
+
+pub returns-in-Some-past_string-clause-tries : goal.returns-in-Some-past_string-clause-tries
+returns-in-Some-past_string-clause-tries c = decides_string c.args.mode c.in_ok-first.first _ _
+    c.in_ok-first.ensures.chars _ (sym c.of-start.ensures ∙ c.in-Quote.is)
+    c.in-Some-past_string.ensures.tries
+
+pub returns-in-Some-second_told-clause-tries : goal.returns-in-Some-second_told-clause-tries
+returns-in-Some-second_told-clause-tries c = c.in-Some-second_told.ensures.fits
 
 pub second_told-requires : goal.second_told-requires
 second_told-requires c = (c.in_ok-first.first, c.in_ok-first.ensures.chars, c.of-start.ensures)
