@@ -56,7 +56,8 @@ mark_chars = chars-IsAscii (42 ∷ 47 ∷ []) mark_ascii
 -- a text with no U+000D
 pub no_return : (b : Bool) (text : List ℕ) → (has_return text ≡ true → b ≡ true) → b ≡ false →
     has_return text ≡ false
-no_return b text may none = false_from_ne_true (has_return text) (λ h. false≢true (sym none ∙ may h))
+no_return b text may none =
+    false_from_ne_true (has_return text) (λ h. false≢true (sym none ∙ may h))
 
 no_return_after : (text : List ℕ) → has_return text ≡ false → has_return (after_first text) ≡ false
 no_return_after [] h = h

@@ -170,8 +170,8 @@ all_continue (c ∷ cs) h =
     (all_continue cs (tail_passes is_ascii_continue c cs h))
 
 -- where no character beyond ASCII follows
-pub stops_ascii : (rest : List ℕ) → Stops is_ascii_continue rest → begins_beyond_ascii rest ≡ false →
-    Stops is_xid_continue rest
+pub stops_ascii : (rest : List ℕ) → Stops is_ascii_continue rest →
+    begins_beyond_ascii rest ≡ false → Stops is_xid_continue rest
 stops_ascii [] s b = tt
 stops_ascii (c ∷ rest) s b = is_xid_continue-ascii c (leb-false 128 c b) ∙ s
 
@@ -179,11 +179,13 @@ pub skips_ascii_continues : (text rest : List ℕ) → (front : List ℕ)
     × Skips is_ascii_continue text front rest → begins_beyond_ascii rest ≡ false →
     (skipped : List ℕ) × Skips is_xid_continue text skipped rest
 skips_ascii_continues text rest (front, s) b =
-    (front, record { cut = s.cut; pass = all_continue front s.pass; stops = stops_ascii rest s.stops b })
+    let pass = all_continue front s.pass in
+    (front, record { cut = s.cut; pass = pass; stops = stops_ascii rest s.stops b })
 
 pub skips_more_continues : (text mid rest : List ℕ) → (front : List ℕ)
-    × Skips is_ascii_continue text front mid → (more : List ℕ) × Skips is_xid_continue mid more rest →
-    (skipped : List ℕ) × Skips is_xid_continue text skipped rest
+    × Skips is_ascii_continue text front mid → (more : List ℕ)
+    × Skips is_xid_continue mid more rest → (skipped : List ℕ)
+    × Skips is_xid_continue text skipped rest
 skips_more_continues text mid rest (front, s) (more, t) = (
   front ++ more,
   record {
@@ -197,7 +199,8 @@ skips_more_continues text mid rest (front, s) (more, t) = (
 -- a text whose first byte goes on, or doesn't
 pub begins_continue_by : (text : List ℕ) (x : ℕ) → IsUtf8 text → 0 < length text →
     x ≡ get_or text 0 0 → is_ascii_continue x ≡ begins_continue (chars text)
-begins_continue_by = begins_by is_ascii_continue ascii_continues_low begins_continue refl (λ c rest. refl)
+begins_continue_by =
+    begins_by is_ascii_continue ascii_continues_low begins_continue refl (λ c rest. refl)
 
 pub no_continue_beyond : (x : ℕ) → (x < 128 → ⊥) → is_ascii_continue x ≡ false
 no_continue_beyond x beyond =

@@ -3,13 +3,11 @@ use Rattle.std.proofs.Common.{◌≡◌, ◌∙◌, ◌⊎◌, inl, inr, ℕ, �
 use Rattle.std.proofs.Common.{refl, sym, ap, subst, Bool, true, false, ◌&&◌, append_assoc, arith}
 use Rattle.std.proofs.Common.{length-append, rules, tests}
 use Rattle.std.proofs.lemmas.List.{append_cancel_left, append-nil}
-use Rattle.std.proofs.lemmas.List.Folds.{list_all-append}
-use Rattle.std.specs.Prelude.{◌==◌}
 use Rattle.std.specs.List.{list_all}
 use Rattle.std.specs.Str.{chars, IsUtf8}
 use Rattle.std.specs.Char.{encode_utf8}
 use Rattle.std.proofs.lemmas.Str.{chars_past_char, length-encode, len_utf8_bounds}
-use Rattle.std.proofs.lemmas.Bool.{false≢true, eqb-true}
+use Rattle.std.proofs.lemmas.Bool.{false≢true}
 use Rattle.tok_lexical.specs.Pieces.{HasPrefix, IsLongestPrefix, ReadsLongest, ReadsPrefix}
 use Rattle.tok_lexical.specs.Pieces.{Stops, Skips, IsOne, After}
 use Rattle.std.specs.Prelude.{Option, Some, None, MatchOption, unwrap_or}

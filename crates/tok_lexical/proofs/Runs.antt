@@ -57,7 +57,8 @@ module _ (pass : ℕ → Bool) (low : (x : ℕ) → pass x ≡ true → x < 128)
 
   pub run_boundary : (text : List ℕ) (n : ℕ) → IsUtf8 text → IsRun pass text 0 (length text) n →
       IsCharBoundary text n
-  run_boundary text n u run = boundary_after text n u run.few (λ k h. run.pass k (omega arith) (omega arith))
+  run_boundary text n u run =
+      boundary_after text n u run.few (λ k h. run.pass k (omega arith) (omega arith))
 
   -- a text cut where a run of its bytes ends
   pub skips_run : (text front rest : List ℕ) (n : ℕ) → IsUtf8 text → front ≡ take n text →

@@ -1,11 +1,10 @@
 -- The table of the starts of ASCII characters, held against their definition.
-use Rattle.std.proofs.Common.{◌≡◌, ◌∙◌, refl, sym, ℕ, ◌<◌, ◌≤◌, Bool, get_or, ap, List, [], ◌∷◌}
+use Rattle.std.proofs.Common.{◌≡◌, ◌∙◌, refl, sym, ℕ, ◌<◌, ◌≤◌, Bool, get_or, ap, List}
 use Rattle.std.proofs.Common.{length, true, false, arith, rules, tests}
-use Rattle.std.specs.Prelude.{◌==◌, ◌||◌, ◌&&◌, not, map, if◌then◌else◌, encode_utf8_all}
+use Rattle.std.specs.Prelude.{◌==◌, ◌||◌, ◌&&◌, not, map, if◌then◌else◌}
 use Rattle.std.specs.List.{range_with_len}
 use Rattle.std.specs.Str.{chars, IsUtf8}
-use Rattle.std.proofs.lemmas.Bool.{eqb-true, false_from_ne_true}
-use Rattle.std.proofs.lemmas.Str.{chars-nil, encodes-chars}
+use Rattle.std.proofs.lemmas.Bool.{eqb-true}
 use Rattle.tok_lexical.proofs.Texts.{begins_by, beyond_fails}
 use Rattle.std.specs.Char.{is_digit, is_ascii_alphabetic}
 use Rattle.tok_lexical.proofs.Tables.{in_table}

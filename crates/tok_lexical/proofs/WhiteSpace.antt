@@ -49,8 +49,8 @@ skips_ascii_blanks text rest (front, s) b = (
 
 -- and where more may follow
 pub skips_more_blanks : (text mid rest : List ℕ) → (front : List ℕ)
-    × Skips is_ascii_whitespace text front mid → (more : List ℕ) × Skips is_whitespace mid more rest →
-    (skipped : List ℕ) × Skips is_whitespace text skipped rest
+    × Skips is_ascii_whitespace text front mid → (more : List ℕ)
+    × Skips is_whitespace mid more rest → (skipped : List ℕ) × Skips is_whitespace text skipped rest
 skips_more_blanks text mid rest (front, s) (more, t) = (
   front ++ more,
   record {

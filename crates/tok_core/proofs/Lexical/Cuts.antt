@@ -230,7 +230,8 @@ halted_at levels mode at text rule taken after (Refused why) d h =
 -- a U+000D of a piece is one of the text that it begins
 pub returns_in : (rules : List Rule) (rule : Rule) (text taken after : List ℕ) →
     IsFirstFit text rules rule taken after → has_return taken ≡ true → has_return text ≡ true
-returns_in rules rule text taken after d h = has_piece_return text taken after (fits_longest d).cut h
+returns_in rules rule text taken after d h =
+    has_piece_return text taken after (fits_longest d).cut h
 
 -- the rest of a text that isn't at its end
 pub some_left : (text : List ℕ) → IsUtf8 text → (length text == 0) ≡ false → chars text ≡ [] → ⊥

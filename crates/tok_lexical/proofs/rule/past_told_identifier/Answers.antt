@@ -7,9 +7,11 @@ use Rattle.tok_lexical.proofs.rule.past_told_identifier.Goals as goal
 
 pub returns-clause-told : goal.returns-clause-told
 returns-clause-told c =
-    let told : begins_letter (chars c.args.text.now) ≡ true = sym c.begins_letter.ensures ∙ c.if-not-begins_letter.false in (
+    let told : begins_letter (chars c.args.text.now) ≡ true =
+    sym c.begins_letter.ensures ∙ c.if-not-begins_letter.false in (
       told,
       λ mode. decides_letter mode c.in_ok-rest.field-0-0 _ _ c.in_ok-rest.ensures.chars _
-          (letter_starts c.in_ok-rest.field-0-0 (sym (ap begins_letter c.in_ok-rest.ensures.chars) ∙ told))
+          (letter_starts c.in_ok-rest.field-0-0
+          (sym (ap begins_letter c.in_ok-rest.ensures.chars) ∙ told))
           c.past_continues.ensures,
     )

@@ -1,4 +1,4 @@
-use Rattle.std.proofs.Common.{ℕ, ◌≤◌, ◌-◌, length}
+use Rattle.std.proofs.Common.{◌≤◌, ◌-◌, length}
 use Rattle.tok_lexical.specs.Scans.{AllPass}
 use Rattle.tok_lexical.proofs.scan.run_from.Given as goal
 

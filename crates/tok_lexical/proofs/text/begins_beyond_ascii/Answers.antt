@@ -1,4 +1,4 @@
-use Rattle.std.proofs.Common.{◌≡◌, ◌<◌, ◌∙◌, sym, length, get_or, rules}
+use Rattle.std.proofs.Common.{◌≡◌, ◌<◌, sym, length, get_or, rules}
 use Rattle.tok_lexical.proofs.Texts.{beyond_first, nothing_beyond}
 use Rattle.tok_lexical.proofs.text.begins_beyond_ascii.Goals as goal
 
