@@ -4,13 +4,13 @@ use Rattle.std.specs.Prelude.{string_bytes}
 use Rattle.tok_leaves.specs.Private.Kept.{IsKept, bytes_of}
 use Rattle.tok_leaves.proofs.text.Text.as_str.Goals as goal
 
-pub unreachable-requires : goal.unreachable-requires
-unreachable-requires c =
-    c.in-Err.ensures.cases.0
-    (IsUtf8-from_is_utf8 _ (subst IsKept c.in-Short.is c.self.invariant).1)
+pub from_utf8_unchecked-requires : goal.from_utf8_unchecked-requires
+from_utf8_unchecked-requires c =
+    IsUtf8-from_is_utf8 _ (subst IsKept c.in-Short.is c.self.invariant).1
 
-pub returns-in-Ok : goal.returns-in-Ok
-returns-in-Ok c = c.in-Ok.ensures.cases.0 ∙ sym (ap bytes_of c.in-Short.is) ∙ c.self.view_is
+pub returns-in-Short : goal.returns-in-Short
+returns-in-Short c =
+    c.from_utf8_unchecked.ensures ∙ sym (ap bytes_of c.in-Short.is) ∙ c.self.view_is
 
 pub returns-in-Long : goal.returns-in-Long
 returns-in-Long c = c.as_str.ensures.value ∙ ap string_bytes c.deref.ensures
