@@ -1,4 +1,5 @@
 pub mod ByText
 pub mod Kept
 pub mod Names
+pub mod Plain
 pub mod Quoting

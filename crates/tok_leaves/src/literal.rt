@@ -1,16 +1,19 @@
 //! Literals.
-ghost use Rattle.std.specs.Prelude.{◌≡◌, ◌++◌, [], ◌∷◌, codes, string_bytes, IfOk, OnOk, Some};
-ghost use Rattle.std.specs.Str.{chars};
+ghost use Rattle.std.specs.Prelude.{◌≡◌, ◌≤◌, ℕ, List, ◌++◌, [], ◌∷◌, length, codes, string_bytes, IfOk, OnOk, Some};
+ghost use Rattle.std.specs.Str.{chars, IsUtf8};
 ghost use Rattle.std.specs.CStr.{c_str_bytes};
 ghost use Rattle.tok_leaves.specs.Leaves.{literal, literal_of, leaf_span, leaf_text};
 ghost use Rattle.tok_leaves.specs.Quoting.{escaped, in_quotes, in_apostrophes, is_unseen, shown, shown_in_quotes, escaped_byte, bytes_between};
+ghost use Rattle.tok_leaves.specs.Private.Plain.{is_plain};
 ghost use Rattle.tok_leaves.specs.Spans.{call_site};
+ghost use Rattle.tok_lexical.specs.Pieces.{Skips};
 
 use crate::span::Span;
 use crate::text::Text;
 use std::alloc::{AllocError, Global};
 use std::ffi::CStr;
 use std::fmt::{self, Display, Formatter, Write};
+use tok_lexical::text::next_char;
 
 /// A literal: its text, with quotes, prefix and suffix, and its span.
 ///
@@ -28,13 +31,37 @@ pub struct Literal {
 
 // Counts the bytes of the text in quotes: one more for each escape.
 fn quoted_len(text: &str) -> usize {
-    let mut len = text.len().saturating_add(2);
-    for c in text.chars() {
-        if matches!(c, '"' | '\\' | '\n' | '\r' | '\t' | '\0') {
-            len = len.saturating_add(1);
-        }
+    let mut escapes = 0usize;
+    for byte in text.as_bytes() {
+        escapes = escapes.wrapping_add(is_escaped(*byte) as usize);
     }
-    len
+    text.len().saturating_add(2).saturating_add(escapes)
+}
+
+fn is_escaped(byte: u8) -> bool {
+    matches!(byte, b'"' | b'\\' | b'\n' | b'\r' | b'\t' | 0)
+}
+
+fn is_plain(byte: u8) -> bool
+    ensures { result ≡ is_plain byte }
+{
+    matches!(byte, b' '..=b'!' | b'#'..=b'[' | b']'..=b'~')
+}
+
+// Appends the plain bytes at the front of a text, and returns what follows them.
+fn push_plain<'a>(to: &mut String, text: &'a str) -> Result<&'a str, AllocError>
+    ensures value { IfOk result (λ rest. (front : List ℕ) × Skips is_plain text.now front rest.now
+        × (string_bytes to.new ≡ string_bytes to.old ++ front)) }
+    ensures utf8 { IfOk result (λ rest. IsUtf8 rest.now) }
+    ensures shorter { IfOk result (λ rest. length rest.now ≤ length text.now) }
+{
+    let end = match text.as_bytes().iter().position(|&byte| !is_plain(byte)) {
+        Some(end) => end,
+        None => text.len(),
+    };
+    let (front, rest) = text.split_at(end);
+    to.push_str(front)?;
+    Ok(rest)
 }
 
 fn push_escaped(to: &mut String, c: char) -> Result<(), AllocError>
@@ -133,8 +160,10 @@ impl Literal {
     {
         let mut out = String::with_capacity(alloc, quoted_len(text))?;
         out.push('"')?;
-        for c in text.chars() {
+        let mut rest = push_plain(&mut out, text)?;
+        while let Some((c, after)) = next_char(rest) {
             push_escaped(&mut out, c)?;
+            rest = push_plain(&mut out, after)?;
         }
         out.push('"')?;
         let text = Text::from_string(alloc, out)?;
@@ -152,8 +181,10 @@ impl Literal {
     {
         let mut out = String::with_capacity(alloc, quoted_len(text))?;
         out.push('"')?;
-        for c in text.chars() {
+        let mut rest = push_plain(&mut out, text)?;
+        while let Some((c, after)) = next_char(rest) {
             push_shown(&mut out, c)?;
+            rest = push_plain(&mut out, after)?;
         }
         out.push('"')?;
         let text = Text::from_string(alloc, out)?;
