@@ -2,6 +2,7 @@
 pub mod Alikes
 pub mod Attribute
 pub mod Built
+pub mod Cuts
 pub mod Excess
 pub mod Halted
 pub mod Taken

@@ -111,7 +111,7 @@ fn read_trees(
         (IsRefusedFrom start mode source (chars text.now))) }
 {
     match read(TreeBuilder::new(alloc), alloc, source, mode, start, text) {
-        Ok(built) => Ok(built.trees),
+        Ok(built) => Ok(built.into_stream()?),
         Err(fault) => Err(fault),
     }
 }

@@ -93,30 +93,12 @@ impl TokenStream {
         Ok(())
     }
 
-    // Appends a group. If the allocation fails, the stream is unchanged, and the group's trees are
-    // returned.
+    // Makes a stream of these trees.
     #[inline(always)]
-    pub(crate) fn append_group(
-        &mut self,
-        delimiter: Delimiter,
-        inside: TokenStream,
-        span: Span,
-    ) -> Result<(), TokenStream>
-        ensures ok { OnOk result
-            (self.new ≡ concat self.old (tree (group delimiter inside span) no_trees)) }
-        ensures err { OnErr result (self.new ≡ self.old) }
-        ensures returned { IfErr result (λ s. s ≡ inside) }
+    pub(crate) fn from_trees(alloc: Global, trees: Vec<TokenTree>) -> TokenStream
+        ensures { result ≡ trees_of trees.items }
     {
-        match self
-            .trees
-            .push(TokenTree::Group(Group::new(delimiter, inside, span)))
-        {
-            Ok(()) => Ok(()),
-            Err(failed) => match failed.value {
-                TokenTree::Group(group) => Err(group.into_stream()),
-                _ => unreachable!(),
-            },
-        }
+        TokenStream { trees, alloc }
     }
 
     /// Returns the trees in order.

@@ -1,13 +1,14 @@
 //! What the lexer builds: trees, or anything else that takes leaves, openings and closings in
 //! order.
-ghost use Rattle.std.specs.Prelude.{◌≡◌, [], OnOk, OnErr, ◌<◌, length};
-ghost use Rattle.tok_core.specs.Building.{Levels, add_leaf, opened, Closes};
-ghost use Rattle.tok_core.specs.Forest.{no_trees};
+ghost use Rattle.std.specs.Prelude.{◌≡◌, [], OnOk, OnErr, IfOk, ◌<◌, ◌≤◌, length, take, drop};
+ghost use Rattle.std.specs.Vec.{vec_len, vec_capacity};
+ghost use Rattle.tok_core.specs.Building.{Levels, add_leaf, nothing, opened, Closes};
 ghost use Rattle.tok_leaves.specs.Leaves.{ident_of, punct_of, literal_of};
 
+use crate::group::Group;
 use crate::stream::{TokenStream, TokenTree};
 use std::alloc::{AllocError, Global};
-use std::mem;
+use std::marker::Model;
 use tok_leaves::{Ident, Literal, Punct, Span};
 use tok_lexical::Delimiter;
 
@@ -53,72 +54,127 @@ pub trait Build {
         ensures err { OnErr result (levels self.new ≡ levels self.old) };
 }
 
-/// A builder of streams.
+/// A builder of streams. Contracts see it as the forests of the levels.
+///
+/// The trees of all levels lie in one vector, the outermost level first, and the positions where
+/// the inner ones begin in another. When a group closes, its trees move to a vector of their exact
+/// number: so only the outermost level ever grows a vector that lasts.
 #[derive(Drop)]
 pub struct TreeBuilder {
-    /// The allocator of the streams.
-    pub alloc: Global,
-    /// The trees before each open group, the outermost first.
-    pub before: Vec<TokenStream>,
-    /// The trees of the innermost level.
-    pub trees: TokenStream,
+    alloc: Global,
+    trees: Vec<TokenTree>,
+    starts: Vec<usize>,
+}
+
+impl Model for TreeBuilder {
+    ghost use Rattle.std.specs.Prelude.{◌≡◌, true, length, reverse};
+    ghost use Rattle.tok_core.specs.Building.{Levels, levels_code};
+    ghost use Rattle.tok_core.specs.Private.Cuts.{levels_in, is_in_order};
+
+    ghost Value = { Levels };
+
+    ghost coded = { levels_code };
+
+    ghost view = { λ b. levels_in (reverse b.starts.items) b.trees.items };
+
+    ghost invariant = { λ b.
+        is_in_order (reverse b.starts.items) (length b.trees.items) ≡ true };
+}
+
+// Takes the trees from this one on out of the vector, which then has room for one more.
+fn take_level(trees: &mut Vec<TokenTree>, start: usize) -> Result<Vec<TokenTree>, AllocError>
+    requires { start ≤ length trees.old.items }
+    ensures kept { OnOk result (trees.new.items ≡ take start trees.old.items) }
+    ensures taken { IfOk result (λ level. level.items ≡ drop start trees.old.items) }
+    ensures room { OnOk result (vec_len trees.new < vec_capacity trees.new) }
+    ensures err { OnErr result (trees.new.items ≡ trees.old.items) }
+{
+    if start == trees.len() {
+        trees.reserve(1)?;
+    }
+    trees.split_off(start)
 }
 
 impl TreeBuilder {
     /// Creates an empty builder.
     pub fn new(alloc: Global) -> TreeBuilder
-        ensures before { result.before.items ≡ [] }
-        ensures trees { result.trees ≡ no_trees }
+        ensures { result ≡ nothing }
     {
         TreeBuilder {
             alloc,
-            before: Vec::new(alloc),
-            trees: TokenStream::new(alloc),
+            trees: Vec::new(alloc),
+            starts: Vec::new(alloc),
         }
+    }
+
+    /// Returns the trees of the outermost level.
+    ///
+    /// Returns an error if the allocation fails.
+    ///
+    /// # Requires
+    ///
+    /// No level may be open.
+    //
+    // The inner levels may have taken far more room than the outermost one needs.
+    pub fn into_stream(self) -> Result<TokenStream, AllocError>
+        requires { self.outer ≡ [] }
+        ensures { IfOk result (λ stream. stream ≡ self.inner) }
+    {
+        let TreeBuilder {
+            alloc,
+            mut trees,
+            starts: _,
+        } = self;
+        let room = trees.capacity();
+        if room > 4 && room / 2 > trees.len() {
+            trees = trees.split_off(0)?;
+        }
+        Ok(TokenStream::from_trees(alloc, trees))
     }
 }
 
 impl Build for TreeBuilder {
-    ghost levels = { λ b. record { outer = b.before.items; inner = b.trees } };
+    ghost levels = { λ b. b };
 
     #[inline(always)]
     fn ident(&mut self, ident: Ident) -> Result<(), AllocError> {
-        self.trees.append(TokenTree::Ident(ident))
+        self.trees.push(TokenTree::Ident(ident))?;
+        Ok(())
     }
 
     #[inline(always)]
     fn punct(&mut self, punct: Punct) -> Result<(), AllocError> {
-        self.trees.append(TokenTree::Punct(punct))
+        self.trees.push(TokenTree::Punct(punct))?;
+        Ok(())
     }
 
     #[inline(always)]
     fn literal(&mut self, literal: Literal) -> Result<(), AllocError> {
-        self.trees.append(TokenTree::Literal(literal))
+        self.trees.push(TokenTree::Literal(literal))?;
+        Ok(())
     }
 
     #[inline(always)]
     fn open(&mut self) -> Result<(), AllocError> {
-        let before = mem::replace(&mut self.trees, TokenStream::new(self.alloc));
-        match self.before.push(before) {
-            Ok(()) => Ok(()),
-            Err(failed) => {
-                self.trees = failed.value;
-                Err(AllocError)
-            }
-        }
+        self.starts.push(self.trees.len())?;
+        Ok(())
     }
 
+    // If the allocation fails, nothing changes.
     #[inline(always)]
     fn close(&mut self, delimiter: Delimiter, span: Span) -> Result<(), AllocError> {
-        let Some(before) = self.before.pop() else {
+        let Some(start) = self.starts.pop() else {
             unreachable!()
         };
-        let inside = mem::replace(&mut self.trees, before);
-        match self.trees.append_group(delimiter, inside, span) {
-            Ok(()) => Ok(()),
-            Err(inside) => {
-                let before = mem::replace(&mut self.trees, inside);
-                self.before.push_reserved(before);
+        match take_level(&mut self.trees, start) {
+            Ok(inside) => {
+                let inside = TokenStream::from_trees(self.alloc, inside);
+                let group = Group::new(delimiter, inside, span);
+                self.trees.push_reserved(TokenTree::Group(group));
+                Ok(())
+            }
+            Err(_) => {
+                self.starts.push_reserved(start);
                 Err(AllocError)
             }
         }

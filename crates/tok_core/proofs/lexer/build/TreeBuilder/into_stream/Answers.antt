@@ -1,0 +1,20 @@
+use Rattle.std.proofs.Common.{◌≡◌, ◌∙◌, ap, rules, []}
+use Rattle.std.specs.Prelude.{reverse}
+use Rattle.tok_core.specs.Building.{Levels}
+use Rattle.tok_core.specs.Seen.{trees_of}
+use Rattle.tok_core.proofs.Cuts.{none_open}
+use Rattle.tok_core.proofs.lexer.build.TreeBuilder.into_stream.Goals as goal
+use Rattle.tok_core.proofs.lexer.build.TreeBuilder.into_stream.Goals.{then-room-gt4+then-room-len+in_ok-trees, else-room-gt4}
+
+pub returns : goal.returns
+returns c =
+    let old = c.self.inside.trees.items in
+    let same : c.if-room-gt4.trees.items ≡ old = elim c.if-room-gt4.branch [
+      | then-room-gt4+then-room-len+in_ok-trees w ↦ search rules
+      | else-room-gt4 w ↦ search rules
+    ] in
+    let none : c.args.self.outer ≡ [] = c.requires in
+    c.from_trees.ensures ∙ ap trees_of same
+    ∙ none_open (reverse c.self.inside.starts.items) old
+    (ap (λ (s : Levels). s.outer) c.self.view_is ∙ none)
+    ∙ ap (λ (s : Levels). s.inner) c.self.view_is
