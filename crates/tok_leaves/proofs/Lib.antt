@@ -1,5 +1,6 @@
 pub mod ByText
 pub mod Kept
+pub mod Lanes
 pub mod Names
 pub mod Plain
 pub mod Quoting

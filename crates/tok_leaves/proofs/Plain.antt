@@ -2,10 +2,11 @@
 -- are.
 use Rattle.std.proofs.Common.{◌≡◌, ◌∙◌, ℕ, zero, suc, ◌+◌, ◌<◌, ◌≤◌, List, [], ◌∷◌, ◌++◌, length, refl}
 use Rattle.std.proofs.Common.{sym, ap, arith, true, false, append_assoc, get_or, take}
+use Rattle.std.specs.Prelude.{not, Bool, ◌||◌}
 use Rattle.std.specs.Prelude.{drop, encode_utf8}
 use Rattle.std.specs.List.{list_all, flat_map}
 use Rattle.std.specs.Str.{chars, IsUtf8, IsAscii, IsCharBoundary}
-use Rattle.std.proofs.lemmas.Bool.{and_parts}
+use Rattle.std.proofs.lemmas.Bool.{and_parts, agree_below_at}
 use Rattle.std.proofs.lemmas.Bool.Decides.{nat_tests}
 use Rattle.std.proofs.lemmas.List.{take-append-drop, get_or-drop}
 use Rattle.std.proofs.lemmas.Str.{chars-append, chars-IsAscii, IsUtf8-from_ascii, encode_ascii}
@@ -13,7 +14,7 @@ use Rattle.std.proofs.lemmas.Str.{IsCharBoundary-from_take}
 use Rattle.std.proofs.lemmas.Str.Ascii.{IsAscii-nil, IsAscii-cons}
 use Rattle.tok_lexical.specs.Pieces.{Skips, Stops}
 use Rattle.tok_leaves.specs.Quoting.{escaped, is_unseen, shown}
-use Rattle.tok_leaves.specs.Private.Plain.{is_plain}
+use Rattle.tok_leaves.specs.Private.Plain.{is_loose, is_plain}
 
 plain_low : (c : ℕ) → is_plain c ≡ true → c < 128
 plain_low c p = grind (arith, nat_tests)
@@ -22,7 +23,13 @@ plain_escaped : (c : ℕ) → is_plain c ≡ true → escaped c ≡ encode_utf8 
 plain_escaped c p = grind (arith, nat_tests)
 
 plain_seen : (c : ℕ) → is_plain c ≡ true → is_unseen c ≡ false
-plain_seen c p = grind (arith, nat_tests)
+plain_seen c p = seen (is_loose c) (is_unseen c) p
+    (agree_below_at (λ b. is_loose b || not (is_unseen b)) (λ _. true) 256 c refl
+    (omega (arith, plain_low c p)))
+  where
+    seen : (loose unseen : Bool) → not loose ≡ true → (loose || not unseen) ≡ true →
+        unseen ≡ false
+    seen loose unseen p h = grind arith
 
 pub escaped_plain : (c : ℕ) → is_plain c ≡ true → escaped c ≡ c ∷ []
 escaped_plain c p = plain_escaped c p ∙ encode_ascii c (plain_low c p)

@@ -1,18 +1,20 @@
 //! Literals.
-ghost use Rattle.std.specs.Prelude.{◌≡◌, ◌≤◌, ℕ, List, ◌++◌, [], ◌∷◌, length, codes, string_bytes, IfOk, OnOk, Some};
+ghost use Rattle.std.specs.Prelude.{◌≡◌, ◌<◌, ◌≤◌, ◌+◌, ℕ, List, ◌++◌, [], ◌∷◌, length, map, slice_index, true, false, codes, string_bytes, IfOk, OnOk, Some};
 ghost use Rattle.std.specs.Str.{chars, IsUtf8};
 ghost use Rattle.std.specs.CStr.{c_str_bytes};
 ghost use Rattle.tok_leaves.specs.Leaves.{literal, literal_of, leaf_span, leaf_text};
 ghost use Rattle.tok_leaves.specs.Quoting.{escaped, in_quotes, in_apostrophes, is_unseen, shown, shown_in_quotes, escaped_byte, bytes_between};
-ghost use Rattle.tok_leaves.specs.Private.Plain.{is_plain};
+ghost use Rattle.tok_leaves.specs.Private.Plain.{is_loose, is_plain};
 ghost use Rattle.tok_leaves.specs.Spans.{call_site};
 ghost use Rattle.tok_lexical.specs.Pieces.{Skips};
+ghost use lib.Lanes.{chunk, mask_l};
 
 use crate::span::Span;
 use crate::text::Text;
 use std::alloc::{AllocError, Global};
 use std::ffi::CStr;
 use std::fmt::{self, Display, Formatter, Write};
+use std::simd::prelude::*;
 use tok_lexical::text::next_char;
 
 /// A literal: its text, with quotes, prefix and suffix, and its span.
@@ -29,37 +31,85 @@ pub struct Literal {
     span: Span,
 }
 
+const LANES: usize = 16;
+
+// Returns how many of these bytes a literal writes with an escape of two bytes.
+#[inline(always)]
+fn escapes_in(bytes: u8x16) -> usize {
+    let escaped = bytes.simd_eq(u8x16::splat(b'"'))
+        | bytes.simd_eq(u8x16::splat(b'\\'))
+        | bytes.simd_eq(u8x16::splat(b'\n'))
+        | bytes.simd_eq(u8x16::splat(b'\r'))
+        | bytes.simd_eq(u8x16::splat(b'\t'))
+        | bytes.simd_eq(u8x16::splat(0));
+    escaped.to_bitmask().count_ones() as usize
+}
+
 // Counts the bytes of the text in quotes: one more for each escape.
 fn quoted_len(text: &str) -> usize {
-    let mut escapes = 0usize;
-    for byte in text.as_bytes() {
-        escapes = escapes.wrapping_add(is_escaped(*byte) as usize);
+    let bytes = text.as_bytes();
+    let mut len = bytes.len().saturating_add(2);
+    let mut at = 0;
+    while bytes.len() - at >= LANES {
+        len = len.saturating_add(escapes_in(u8x16::from_slice(&bytes[at..])));
+        at += LANES;
     }
-    text.len().saturating_add(2).saturating_add(escapes)
+    for byte in &bytes[at..] {
+        if matches!(*byte, b'"' | b'\\' | b'\n' | b'\r' | b'\t' | 0) {
+            len = len.saturating_add(1);
+        }
+    }
+    len
 }
 
-fn is_escaped(byte: u8) -> bool {
-    matches!(byte, b'"' | b'\\' | b'\n' | b'\r' | b'\t' | 0)
-}
-
-fn is_plain(byte: u8) -> bool
-    ensures { result ≡ is_plain byte }
+fn is_loose(byte: u8) -> bool
+    ensures { result ≡ is_loose byte }
 {
-    matches!(byte, b' '..=b'!' | b'#'..=b'[' | b']'..=b'~')
+    byte < b' ' || byte > b'~' || byte == b'"' || byte == b'\\'
 }
 
-// Appends the plain bytes at the front of a text, and returns what follows them.
+// Returns a bit for each of 16 bytes from `at` on, the lowest for the first: 1 if it is loose.
+#[inline(always)]
+fn loose_bits(text: &[u8], at: usize) -> u64
+    requires { at + LANES ≤ length text.now }
+    ensures { result ≡ mask_l (map is_loose (chunk at LANES text.now)) }
+{
+    let bytes = u8x16::from_slice(&text[at..]);
+    let loose = bytes.simd_lt(u8x16::splat(b' '))
+        | bytes.simd_gt(u8x16::splat(b'~'))
+        | bytes.simd_eq(u8x16::splat(b'"'))
+        | bytes.simd_eq(u8x16::splat(b'\\'));
+    loose.to_bitmask()
+}
+
+// Counts the bytes at the front of a text before the first loose one.
+fn plain_len(text: &[u8]) -> usize
+    ensures bound { result ≤ length text.now }
+    ensures plain { (k : ℕ) → k < result → is_loose (slice_index text.now k) ≡ false }
+    ensures stops { result < length text.now → is_loose (slice_index text.now result) ≡ true }
+{
+    let mut at = 0;
+    while text.len() - at >= LANES {
+        let loose = loose_bits(text, at);
+        if loose != 0 {
+            return at + loose.trailing_zeros() as usize;
+        }
+        at += LANES;
+    }
+    while at < text.len() && !is_loose(text[at]) {
+        at += 1;
+    }
+    at
+}
+
+// Appends the bytes of a text before the first loose one, and returns what is left.
 fn push_plain<'a>(to: &mut String, text: &'a str) -> Result<&'a str, AllocError>
     ensures value { IfOk result (λ rest. (front : List ℕ) × Skips is_plain text.now front rest.now
         × (string_bytes to.new ≡ string_bytes to.old ++ front)) }
     ensures utf8 { IfOk result (λ rest. IsUtf8 rest.now) }
     ensures shorter { IfOk result (λ rest. length rest.now ≤ length text.now) }
 {
-    let end = match text.as_bytes().iter().position(|&byte| !is_plain(byte)) {
-        Some(end) => end,
-        None => text.len(),
-    };
-    let (front, rest) = text.split_at(end);
+    let (front, rest) = text.split_at(plain_len(text.as_bytes()));
     to.push_str(front)?;
     Ok(rest)
 }

@@ -1,7 +1,9 @@
 -- The bytes that a literal of a text holds as they are.
-use Rattle.std.specs.Prelude.{ℕ, Bool, ◌||◌}
-use Rattle.tok_leaves.specs.Quoting.{is_within}
+use Rattle.std.specs.Prelude.{ℕ, Bool, ◌==◌, ◌||◌, not, nat_lt}
 
--- ASCII that shows, but neither a quote nor a backslash
+-- neither ASCII that shows, or a quote or a backslash
+abbrev pub is_loose : ℕ → Bool
+is_loose b = nat_lt b 0x20 || nat_lt 0x7E b || (b == 0x22) || (b == 0x5C)
+
 abbrev pub is_plain : ℕ → Bool
-is_plain b = is_within 0x20 0x21 b || is_within 0x23 0x5B b || is_within 0x5D 0x7E b
+is_plain b = not (is_loose b)
