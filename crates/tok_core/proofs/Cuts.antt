@@ -152,5 +152,6 @@ close_one starts left trees kept new s t delimiter inside span old e h k n v i g
       around.inner,
       sym (ap (λ w. w.outer) was) ∙ ap (λ w. w ++ around.inner ∷ []) (sym (ap (λ w. w.outer) now)),
       ap (λ w. w.inner) now
-          ∙ ap (λ w. concat around.inner (tree w no_trees)) (g ∙ ap (λ w. group delimiter w span) same),
+          ∙ ap (λ w. concat around.inner (tree w no_trees))
+          (g ∙ ap (λ w. group delimiter w span) same),
     )

@@ -1,5 +1,5 @@
 //! The text of a stream.
-ghost use Rattle.std.specs.Prelude.{◌≡◌, Some};
+ghost use Rattle.std.specs.Prelude.{◌≡◌, encode_utf8, Some};
 ghost use Rattle.std.specs.Fmt.{WritesOnOk};
 ghost use Rattle.tok_core.specs.Seen.{group_of, tree_of};
 ghost use Rattle.tok_core.specs.Text as spec;
@@ -56,7 +56,7 @@ fn write_stream<W: Write>(f: &mut Formatter<W>, stream: &TokenStream) -> fmt::Re
 {
     let mut is_glued = true;
     for next in stream.trees() {
-        f.write_str(space(is_glued))?;
+        write_space(f, is_glued)?;
         write_tree(f, next)?;
         is_glued = is_joint(next);
     }
@@ -74,15 +74,25 @@ fn write_tree<W: Write>(f: &mut Formatter<W>, next: &TokenTree) -> fmt::Result
             f.write_str(group.delimiter().closing())
         }
         TokenTree::Ident(ident) => f.write_str(ident.as_str()),
-        TokenTree::Punct(punct) => f.write_char(punct.as_char()),
+        TokenTree::Punct(punct) => write_mark(f, punct.as_char()),
         TokenTree::Literal(literal) => f.write_str(literal.as_str()),
     }
 }
 
-fn space(is_glued: bool) -> &'static str
-    ensures { result.now ≡ spec.space is_glued }
+#[inline(always)]
+fn write_space<W: Write>(f: &mut Formatter<W>, is_glued: bool) -> fmt::Result
+    ensures { WritesOnOk W.write_str_gives f.old result (spec.space is_glued) f.new }
 {
-    if is_glued { "" } else { " " }
+    if is_glued { Ok(()) } else { f.write_str(" ") }
+}
+
+// Writes a character as a text: `write_char` would test its bytes again.
+#[inline(always)]
+fn write_mark<W: Write>(f: &mut Formatter<W>, mark: char) -> fmt::Result
+    ensures { WritesOnOk W.write_str_gives f.old result (encode_utf8 mark) f.new }
+{
+    let mut bytes = [0u8; 4];
+    f.write_str(mark.encode_utf8(&mut bytes))
 }
 
 fn is_joint(next: &TokenTree) -> bool
