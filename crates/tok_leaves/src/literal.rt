@@ -88,6 +88,10 @@ fn plain_len(text: &[u8]) -> usize
     ensures plain { (k : ℕ) → k < result → is_loose (slice_index text.now k) ≡ false }
     ensures stops { result < length text.now → is_loose (slice_index text.now result) ≡ true }
 {
+    // In a text that isn't ASCII, most runs are empty.
+    if text.is_empty() || is_loose(text[0]) {
+        return 0;
+    }
     let mut at = 0;
     while text.len() - at >= LANES {
         let loose = loose_bits(text, at);
@@ -109,7 +113,11 @@ fn push_plain<'a>(to: &mut String, text: &'a str) -> Result<&'a str, AllocError>
     ensures utf8 { IfOk result (λ rest. IsUtf8 rest.now) }
     ensures shorter { IfOk result (λ rest. length rest.now ≤ length text.now) }
 {
-    let (front, rest) = text.split_at(plain_len(text.as_bytes()));
+    let end = plain_len(text.as_bytes());
+    if end == 0 {
+        return Ok(text);
+    }
+    let (front, rest) = text.split_at(end);
     to.push_str(front)?;
     Ok(rest)
 }
