@@ -12,14 +12,29 @@ use std::alloc::{AllocError, Global};
 use std::fmt;
 use std::fmt::{Debug, Display, Formatter, Write};
 use std::marker::Model;
-use tok_core::{LexError, Span, Text, ToTokens, TokenTree};
+use tok_core::{LexError, Span, ToTokens, TokenTree};
+
+// The text of a message, in the string that it was written to: a message is on the heap, so a text
+// in place would save no room in an error.
+#[derive(Drop)]
+struct Words {
+    string: String,
+}
+
+impl Model for Words {
+    ghost use Rattle.std.specs.Prelude.{List, ℕ, string_bytes};
+
+    ghost Value = { List ℕ };
+
+    ghost view = { λ w. string_bytes w.string };
+}
 
 // A message: the spans of the first and the last token it is about, and its text.
 #[derive(Drop)]
 struct Message {
     start: Span,
     end: Span,
-    text: Text,
+    text: Words,
 }
 
 /// One or more messages that say why input is rejected, each with the spans of the first and the
@@ -55,6 +70,28 @@ impl Model for Error {
     ghost view = { λ e. e.first.value ∷ unboxed e.more.items };
 }
 
+impl Words {
+    ghost use Rattle.std.specs.Prelude.{string_bytes};
+
+    fn new(string: String) -> Words
+        ensures { result ≡ string_bytes string }
+    {
+        Words { string }
+    }
+
+    fn as_str(&self) -> &str
+        ensures { result.now ≡ self.now }
+    {
+        self.string.as_str()
+    }
+
+    fn copied(&self, alloc: Global) -> Result<Words, AllocError>
+        ensures { IfOk result (λ w. w ≡ self.now) }
+    {
+        Ok(Words::new(String::from_str(alloc, self.as_str())?))
+    }
+}
+
 impl Message {
     fn boxed_clone(&self, alloc: Global) -> Result<Box<Message>, AllocError>
         ensures { IfOk result (λ m. m.value ≡ self.now) }
@@ -62,7 +99,7 @@ impl Message {
         let copy = Message {
             start: self.start,
             end: self.end,
-            text: self.text.clone()?,
+            text: self.text.copied(alloc)?,
         };
         Ok(Box::new(alloc, copy)?)
     }
@@ -120,7 +157,7 @@ impl Error {
     fn of_string(alloc: Global, start: Span, end: Span, text: String) -> Result<Error, AllocError>
         ensures { IfOk result (λ e. e ≡ error_of start end (string_bytes text)) }
     {
-        let text = Text::from_string(alloc, text)?;
+        let text = Words::new(text);
         let first = Box::new(alloc, Message { start, end, text })?;
         Ok(Error {
             first,

@@ -147,6 +147,8 @@ impl<'a> Cursor<'a> {
 
     /// Returns `true` if the next token is an identifier with this text. The empty text is never
     /// found.
+    // Inlined: callers mostly know the text, so a comparison with it is a few instructions.
+    #[inline(always)]
     pub fn peek_keyword(self, text: &str) -> bool
         ensures { result ≡ is_some (read_keyword text.now (place_of self.entry)) }
     {
@@ -225,6 +227,8 @@ impl<'a> Cursor<'a> {
     /// Returns `true` if the next puncts are the characters of `text`, each but the last joint.
     ///
     /// The empty text is never found, nor is one with an apostrophe.
+    // Inlined, as `puncts` is: nothing is left of the decoding and of the loop.
+    #[inline(always)]
     pub fn peek_punct(self, text: &str) -> bool
         ensures { result ≡ is_some (read_punctuation (chars text.now) (place_of self.entry)) }
     {
@@ -307,6 +311,7 @@ impl<'a> Spot<'a> {
     }
 
     // Returns `true` if the next token is a punct of this character.
+    #[inline(always)]
     fn peek_char(self, wanted: char) -> bool
         ensures { result
             ≡ is_some (read_if (is_punct_of wanted) (descend (spot_place self.entry))) }
