@@ -87,7 +87,7 @@ fn any_ident(input: ParseStream<'_, '_>) -> Result<Ident>
     ensures { AnyIdentParses input.old result input.new }
 {
     let Some((ident, rest)) = input.cursor().ident() else {
-        return Err(input.error("expected ident"));
+        return Err(input.refuse("expected ident"));
     };
     let ident = ident.clone()?;
     input.move_to(rest);
@@ -99,7 +99,7 @@ fn any_lifetime(input: ParseStream<'_, '_>) -> Result<Lifetime>
     ensures { AnyLifetimeParses input.old result input.new }
 {
     let Some((lifetime, rest)) = input.cursor().lifetime() else {
-        return Err(input.error("expected lifetime"));
+        return Err(input.refuse("expected lifetime"));
     };
     let ident = lifetime.ident.clone()?;
     input.move_to(rest);

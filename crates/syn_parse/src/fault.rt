@@ -1,5 +1,5 @@
 //! Why a call on a stream returns no value, and the texts of errors.
-ghost use Rattle.std.specs.Prelude.{◌≡◌, IfSome, MatchResult};
+ghost use Rattle.std.specs.Prelude.{◌≡◌, ◌++◌, IfOk, IfSome, MatchResult, codes, string_bytes};
 ghost use Rattle.tok_buffer.specs.Messages.{message_at};
 ghost use Rattle.syn_parse.specs.Faults.{Refuses, RefusesAt};
 ghost use Rattle.syn_parse.specs.ErrorWords.{delimiter_words, leftover_words};
@@ -37,6 +37,22 @@ impl Fault {
             (λ words. Refuses (message_at span words) result) }
     {
         Fault::refused(Error::new(alloc, span, message))
+    }
+
+    // Returns the fault of an error of this text at `span`, or the allocation failure in its place.
+    pub(crate) fn of_text(
+        alloc: Global,
+        span: Span,
+        text: std::result::Result<String, AllocError>,
+    ) -> Fault
+        ensures { MatchResult text
+            (λ t. Refuses (message_at span (string_bytes t)) result)
+            (λ e. result ≡ Memory e) }
+    {
+        match text {
+            Ok(text) => Fault::refused(Error::from_string(alloc, span, text)),
+            Err(error) => Fault::Memory(error),
+        }
     }
 
     // Returns the fault of an error, or the allocation failure in its place.
@@ -114,4 +130,34 @@ pub(crate) fn words_of(delimiter: Delimiter) -> (&'static str, &'static str)
         Delimiter::Bracket => ("expected square brackets", "unexpected token, expected `]`"),
         Delimiter::None => ("expected invisible group", "unexpected token"),
     }
+}
+
+// Returns two texts in a row, written in one allocation.
+pub(crate) fn joined(
+    alloc: Global,
+    front: &str,
+    text: &str,
+) -> std::result::Result<String, AllocError>
+    ensures { IfOk result (λ t. string_bytes t ≡ front.now ++ text.now) }
+{
+    let mut words = String::with_capacity(alloc, front.len().saturating_add(text.len()))?;
+    words.push_str(front)?;
+    words.push_str(text)?;
+    Ok(words)
+}
+
+// Returns two texts in a row and a backquote, written in one allocation.
+pub(crate) fn quoted(
+    alloc: Global,
+    front: &str,
+    text: &str,
+) -> std::result::Result<String, AllocError>
+    ensures { IfOk result (λ t. string_bytes t ≡ front.now ++ (text.now ++ codes "`")) }
+{
+    let room = front.len().saturating_add(text.len()).saturating_add(1);
+    let mut words = String::with_capacity(alloc, room)?;
+    words.push_str(front)?;
+    words.push_str(text)?;
+    words.push_str("`")?;
+    Ok(words)
 }

@@ -9,9 +9,9 @@ ghost use Rattle.syn_parse.specs.Faults.{Refuses};
 ghost use Rattle.syn_parse.specs.Parses.{PunctuationParses, WordParses, ascii_chars};
 ghost use Rattle.syn_parse.specs.ErrorWords.{punctuation_message, punctuation_span};
 
-use crate::fault::{Fault, Result};
+use crate::fault::{Fault, Result, quoted};
 use crate::stream::{ParseBuffer, ParseStream};
-use tok_buffer::{Cursor, Error};
+use tok_buffer::Cursor;
 use tok_core::Span;
 
 /// Parses the identifier with this text, and returns its span.
@@ -23,6 +23,8 @@ use tok_core::Span;
 /// ```rust
 /// let span = parsing::keyword(input, "sealed")?;
 /// ```
+// Inlined: callers mostly know the text, so a comparison with it is a few instructions.
+#[inline(always)]
 pub fn keyword(input: ParseStream<'_, '_>, text: &str) -> Result<Span>
     ensures { WordParses (λ span. span) text.now input.old result input.new }
 {
@@ -31,7 +33,7 @@ pub fn keyword(input: ParseStream<'_, '_>, text: &str) -> Result<Span>
             input.move_to(rest);
             Ok(span)
         }
-        None => Err(input.error(format_args!("expected `{text}`"))),
+        None => Err(input.refuse_text(text)),
     }
 }
 
@@ -79,8 +81,8 @@ impl<'a> ParseBuffer<'a> {
         ensures { Refuses (punctuation_message text.now self.now) result }
     {
         let span = self.punct_span(text);
-        let error = Error::new(self.allocator(), span, format_args!("expected `{text}`"));
-        Fault::refused(error)
+        let alloc = self.allocator();
+        Fault::of_text(alloc, span, quoted(alloc, "expected `", text))
     }
 
     fn punct_span(&self, text: &str) -> Span
@@ -98,6 +100,7 @@ impl<'a> ParseBuffer<'a> {
 
 // Returns the span of the next token if it is the identifier with this text, and the cursor after
 // it.
+#[inline(always)]
 fn word<'a>(cursor: Cursor<'a>, text: &str) -> Option<(Span, Cursor<'a>)>
     ensures { MatchOption result
         (read_keyword text.now (place_of cursor.entry) ≡ None)

@@ -8,11 +8,12 @@ ghost use Rattle.tok_buffer.specs.Order.{same_scope};
 ghost use Rattle.tok_buffer.specs.Place.{start, is_at_end};
 ghost use Rattle.syn_parse.specs.Faults.{Refuses, RefusesAt, IsRefused};
 ghost use Rattle.syn_parse.specs.State.{fresh, moved, handed, closed, forked, advanced, state_span};
-ghost use Rattle.syn_parse.specs.ErrorWords.{refused_at, leftover_message};
+ghost use Rattle.syn_parse.specs.ErrorWords.{expected, refused_at, leftover_message};
 ghost use Rattle.syn_parse.specs.Takes.{HasWords, or_end};
+ghost use Rattle.tok_types.specs.Texts.{in_backquotes};
 ghost use Rattle.syn_parse.specs.TreesAhead.{IsFilled, after_content, after_fork, ahead, is_spent};
 
-use crate::fault::{Fault, Result, words_of};
+use crate::fault::{Fault, Result, joined, quoted, words_of};
 use std::alloc::Global;
 use std::fmt;
 use std::fmt::{Debug, Display, Formatter, Write};
@@ -176,6 +177,34 @@ impl<'a> ParseBuffer<'a> {
             (λ words. Refuses (refused_at self.now words) result) }
     {
         Fault::refused(Error::new_at(self.alloc, self.scope_span, self.cursor, message))
+    }
+
+    // Returns the error with these words, as `error` does. No formatter is called.
+    // Kept out of line: parsers mostly find their token.
+    #[inline(never)]
+    pub(crate) fn refuse(&self, words: &str) -> Fault
+        ensures { Refuses (refused_at self.now words.now) result }
+    {
+        let text = if self.cursor.eof() {
+            joined(self.alloc, "unexpected end of input, ", words)
+        } else {
+            String::from_str(self.alloc, words)
+        };
+        Fault::of_text(self.alloc, self.span(), text)
+    }
+
+    // Returns the error that this text was expected, as `error` does. No formatter is called.
+    #[inline(never)]
+    pub(crate) fn refuse_text(&self, text: &str) -> Fault
+        ensures { Refuses (refused_at self.now (expected (in_backquotes text.now))) result }
+    {
+        let front = if self.cursor.eof() {
+            "unexpected end of input, expected `"
+        } else {
+            "expected `"
+        };
+        let words = quoted(self.alloc, front, text);
+        Fault::of_text(self.alloc, self.span(), words)
     }
 
     /// Returns a second stream at the same place, which reads independently.

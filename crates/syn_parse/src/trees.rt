@@ -30,7 +30,7 @@ fn ident(input: ParseStream<'_, '_>) -> Result<Ident>
     ensures { IdentParses input.old result input.new }
 {
     let Some((ident, rest)) = input.cursor().ident() else {
-        return Err(input.error("expected identifier"));
+        return Err(input.refuse("expected identifier"));
     };
     let name = ident.as_str();
     if !accept_as_ident(name) {
@@ -57,7 +57,7 @@ fn lifetime(input: ParseStream<'_, '_>) -> Result<Lifetime>
     ensures { LifetimeParses input.old result input.new }
 {
     let Some((lifetime, rest)) = input.cursor().lifetime() else {
-        return Err(input.error("expected lifetime"));
+        return Err(input.refuse("expected lifetime"));
     };
     let name = lifetime.ident.as_str();
     if !accept_as_lifetime(name) {
@@ -94,7 +94,7 @@ fn literal(input: ParseStream<'_, '_>) -> Result<Literal>
     ensures { LiteralParses input.old result input.new }
 {
     let Some((literal, rest)) = input.cursor().literal() else {
-        return Err(input.error("expected literal token"));
+        return Err(input.refuse("expected literal token"));
     };
     let literal = literal.clone()?;
     input.move_to(rest);
@@ -117,7 +117,7 @@ fn punct(input: ParseStream<'_, '_>) -> Result<Punct>
     ensures { PunctParses input.old result input.new }
 {
     let Some((punct, rest)) = input.cursor().punct() else {
-        return Err(input.error("expected punctuation token"));
+        return Err(input.refuse("expected punctuation token"));
     };
     input.move_to(rest);
     Ok(punct)
@@ -130,7 +130,7 @@ impl Parse for TokenTree {
     fn parse(input: ParseStream<'_, '_>) -> Result<Self> {
         let alloc = input.allocator();
         let Some((next, rest)) = input.cursor().token_tree(alloc)? else {
-            return Err(input.error("expected token tree"));
+            return Err(input.refuse("expected token tree"));
         };
         input.move_to(rest);
         Ok(next)
@@ -145,10 +145,10 @@ impl Parse for Group {
         let alloc = input.allocator();
         let cursor = input.cursor();
         if !is_at_visible_group(cursor) {
-            return Err(input.error("expected group token"));
+            return Err(input.refuse("expected group token"));
         }
         let Some((group, rest)) = cursor.any_group_token(alloc)? else {
-            return Err(input.error("expected group token"));
+            return Err(input.refuse("expected group token"));
         };
         input.move_to(rest);
         Ok(group)

@@ -34,7 +34,7 @@ impl<'a> ParseBuffer<'a> {
     {
         let alloc = self.allocator();
         let Some((tree, rest)) = self.cursor().visible_tree(alloc)? else {
-            return Err(self.error("expected token tree"));
+            return Err(self.refuse("expected token tree"));
         };
         self.move_to(rest);
         Ok(tree)

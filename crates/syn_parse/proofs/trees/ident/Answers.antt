@@ -12,8 +12,8 @@ use Rattle.syn_parse.proofs.trees.ident.Goals as goal
 
 pub returns-in_default : goal.returns-in_default
 returns-in_default c =
-    ident-none c.args.input.now c.error.result (ap read_ident (sym c.cursor.ensures)
-    ∙ c.in_default.ensures) c.error.ensures.words
+    ident-none c.args.input.now c.refuse.result (ap read_ident (sym c.cursor.ensures)
+    ∙ c.in_default.ensures) c.refuse.ensures
 
 pub returns-then-not-accept_as_ident : goal.returns-then-not-accept_as_ident
 returns-then-not-accept_as_ident c =
@@ -21,14 +21,14 @@ returns-then-not-accept_as_ident c =
     let h : accept_as_ident i.text ≡ false =
     ap accept_as_ident (sym c.as_str-name.ensures) ∙ sym c.accept_as_ident.ensures
     ∙ c.if-not-accept_as_ident.true in
-    ident-keyword c.args.input.now c.error-then-not-accept_as_ident.result i.text i.span
+    ident-keyword c.args.input.now c.error.result i.text i.span
     (place_of c.in-Some.rest) (ap read_ident (sym c.cursor.ensures)
     ∙ c.in-Some.ensures) h
     (subst (λ name. Refuses
     (refused_at c.args.input.now
     (codes "expected identifier, found keyword " ++ in_backquotes name))
-    c.error-then-not-accept_as_ident.result) c.as_str-name.ensures
-    c.error-then-not-accept_as_ident.ensures.words)
+    c.error.result) c.as_str-name.ensures
+    c.error.ensures.words)
 
 pub returns-in_err-ident : goal.returns-in_err-ident
 returns-in_err-ident c =

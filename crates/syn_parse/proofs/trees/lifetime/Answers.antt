@@ -10,9 +10,9 @@ use Rattle.syn_parse.proofs.trees.lifetime.Goals as goal
 
 pub returns-in_default : goal.returns-in_default
 returns-in_default c =
-    lifetime-none c.args.input.now c.error.result
+    lifetime-none c.args.input.now c.refuse.result
     (ap (read_lifetime any_text) (sym c.cursor.ensures)
-    ∙ c.in_default.ensures) c.error.ensures.words
+    ∙ c.in_default.ensures) c.refuse.ensures
 
 pub returns-then-not-accept_as_lifetime : goal.returns-then-not-accept_as_lifetime
 returns-then-not-accept_as_lifetime c =
@@ -20,15 +20,15 @@ returns-then-not-accept_as_lifetime c =
     let h : accept_as_lifetime i.text ≡ false =
     ap accept_as_lifetime (sym c.as_str-name.ensures) ∙ sym c.accept_as_lifetime.ensures
     ∙ c.if-not-accept_as_lifetime.true in
-    lifetime-keyword c.args.input.now c.error-then-not-accept_as_lifetime.result i.text
+    lifetime-keyword c.args.input.now c.error.result i.text
     c.in-Some.lifetime.apostrophe i.span (place_of c.in-Some.rest)
     (ap (read_lifetime any_text) (sym c.cursor.ensures)
     ∙ c.in-Some.ensures) h
     (subst (λ name. Refuses
     (refused_at c.args.input.now
     (codes "unexpected keyword lifetime \"'" ++ (name ++ codes "\"")))
-    c.error-then-not-accept_as_lifetime.result) c.as_str-name.ensures
-    c.error-then-not-accept_as_lifetime.ensures.words)
+    c.error.result) c.as_str-name.ensures
+    c.error.ensures.words)
 
 pub returns : goal.returns
 returns c =
