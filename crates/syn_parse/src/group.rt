@@ -112,6 +112,8 @@ pub fn parse_group<'a>(input: ParseStream<'_, 'a>) -> Result<Group<'a>>
 
 impl<'a> ParseBuffer<'a> {
     // Enters the group with this delimiter. Returns its span, and the stream of its contents.
+    // Inlined: the result is large, and mostly taken apart at once.
+    #[inline(always)]
     fn enter(&mut self, delimiter: Delimiter) -> Result<(DelimSpan, Self)>
         ensures { Enters (λ p. AreParts p.0 p.1) (enter delimiter self.old.place)
             (refused_at self.old (delimiter_words delimiter)) self.old result self.new }
@@ -126,7 +128,7 @@ impl<'a> ParseBuffer<'a> {
             }
             None => {
                 let (expected, _) = words_of(delimiter);
-                Err(self.error(expected))
+                Err(self.refuse(expected))
             }
         }
     }
@@ -146,7 +148,7 @@ impl<'a> ParseBuffer<'a> {
                 let content = ParseBuffer::made(self.allocator(), content, span.close(), None);
                 Ok((delimiter, span, content))
             }
-            None => Err(self.error("expected any delimiter")),
+            None => Err(self.refuse("expected any delimiter")),
         }
     }
 
