@@ -18,9 +18,11 @@ impl fmt::Display for Report {
 
     fn fmt<W: Write>(&self, f: &mut Formatter<W>) -> fmt::Result {
         for line in &self.lines {
-            writeln!(f, "{line}")?;
+            write_line(f, line)?;
+            f.write_str("\n")?;
         }
-        writeln!(f, "{}", self.verdict)
+        write_verdict(f, &self.verdict)?;
+        f.write_char('\n')
     }
 }
 
@@ -28,35 +30,62 @@ impl fmt::Display for Line {
     ghost output = { λ l. Some (spec.line_text (line_of l)) };
 
     fn fmt<W: Write>(&self, f: &mut Formatter<W>) -> fmt::Result {
-        write!(f, "{} {}", self.answer, self.position)
+        write_line(f, self)
     }
+}
+
+// Writes an answer and the position after it. The parts of a line are written without a format,
+// since a report has many and each format is a call.
+fn write_line<W: Write>(f: &mut Formatter<W>, line: &Line) -> fmt::Result
+    ensures { WritesOnOk W.write_str_gives f.old result (spec.line_text (line_of line.now)) f.new }
+{
+    write_answer(f, &line.answer)?;
+    f.write_str(" ")?;
+    write_position(f, line.position)
 }
 
 impl fmt::Display for Answer {
     ghost output = { λ a. Some (spec.answer_text (answer_of a)) };
 
     fn fmt<W: Write>(&self, f: &mut Formatter<W>) -> fmt::Result {
-        match self {
-            Answer::Truth(true) => f.write_str("true"),
-            Answer::Truth(false) => f.write_str("false"),
-            Answer::Read(pieces) => write_pieces(f, pieces),
-            Answer::Entered(number, delimiter, span) => {
-                write!(f, "entered {number} {} ", delimiter.opening())?;
-                write_span(f, span.join())
-            }
-            Answer::Absent => f.write_str("none"),
-            Answer::Forked(number) => write!(f, "forked {number}"),
-            Answer::List(parts) => write_parts(f, parts),
-            Answer::Found(index) => write!(f, "found {index}"),
-            Answer::Trees(stream) => write_trees(f, stream),
-            Answer::Done => f.write_str("done"),
-            Answer::At(span) => {
-                f.write_str("span ")?;
-                write_span(f, *span)
-            }
-            Answer::Refused(error) => write_message(f, error),
-            Answer::Misused(misuse) => write!(f, "refused C{}", misuse.number()),
+        write_answer(f, self)
+    }
+}
+
+fn write_answer<W: Write>(f: &mut Formatter<W>, answer: &Answer) -> fmt::Result
+    ensures { WritesOnOk W.write_str_gives f.old result
+        (spec.answer_text (answer_of answer.now)) f.new }
+{
+    match answer {
+        Answer::Truth(true) => f.write_str("true"),
+        Answer::Truth(false) => f.write_str("false"),
+        Answer::Read(pieces) => write_pieces(f, pieces),
+        Answer::Entered(number, delimiter, span) => {
+            f.write_str("entered ")?;
+            write_number(f, *number)?;
+            f.write_str(" ")?;
+            f.write_str(delimiter.opening())?;
+            f.write_str(" ")?;
+            write_span(f, span.join())
         }
+        Answer::Absent => f.write_str("none"),
+        Answer::Forked(number) => {
+            f.write_str("forked ")?;
+            write_number(f, *number)
+        }
+        Answer::List(parts) => write_parts(f, parts),
+        Answer::Found(index) => {
+            f.write_str("found ")?;
+            write_number(f, *index)
+        }
+        Answer::Trees(stream) => write_trees(f, stream),
+        Answer::Done => f.write_str("done"),
+        Answer::At(span) => {
+            f.write_str("span ")?;
+            write_span(f, *span)
+        }
+        Answer::Refused(error) => write_message(f, error),
+        Answer::Misused(misuse) => write!(f, "refused C{}", misuse.number()),
     }
 }
 
@@ -86,14 +115,21 @@ impl fmt::Display for Position {
     ghost output = { λ p. Some (spec.position_text (position_of p)) };
 
     fn fmt<W: Write>(&self, f: &mut Formatter<W>) -> fmt::Result {
-        match self {
-            Position::At(n) => {
-                f.write_char('@')?;
-                write_number(f, *n)
-            }
-            Position::Empty => f.write_str("@empty"),
-            Position::Missing => f.write_str("@-"),
+        write_position(f, *self)
+    }
+}
+
+fn write_position<W: Write>(f: &mut Formatter<W>, position: Position) -> fmt::Result
+    ensures { WritesOnOk W.write_str_gives f.old result
+        (spec.position_text (position_of position)) f.new }
+{
+    match position {
+        Position::At(n) => {
+            f.write_str("@")?;
+            write_number(f, n)
         }
+        Position::Empty => f.write_str("@empty"),
+        Position::Missing => f.write_str("@-"),
     }
 }
 
@@ -101,10 +137,17 @@ impl fmt::Display for Verdict {
     ghost output = { λ v. Some (spec.verdict_text (verdict_of v)) };
 
     fn fmt<W: Write>(&self, f: &mut Formatter<W>) -> fmt::Result {
-        match self {
-            Verdict::Accepted => f.write_str("accepted"),
-            Verdict::Refused(error) => write_message(f, error),
-        }
+        write_verdict(f, self)
+    }
+}
+
+fn write_verdict<W: Write>(f: &mut Formatter<W>, verdict: &Verdict) -> fmt::Result
+    ensures { WritesOnOk W.write_str_gives f.old result
+        (spec.verdict_text (verdict_of verdict.now)) f.new }
+{
+    match verdict {
+        Verdict::Accepted => f.write_str("accepted"),
+        Verdict::Refused(error) => write_message(f, error),
     }
 }
 
@@ -123,7 +166,7 @@ fn write_more<W: Write>(f: &mut Formatter<W>, pieces: &[Piece]) -> fmt::Result
 {
     for piece in pieces {
         write_spaced(f, piece.text.as_str())?;
-        f.write_char(' ')?;
+        f.write_str(" ")?;
         write_span(f, piece.span)?;
     }
     Ok(())
@@ -150,10 +193,10 @@ fn write_part<W: Write>(f: &mut Formatter<W>, part: &[Piece]) -> fmt::Result
         Some((first, rest)) => {
             f.write_str(" [")?;
             f.write_str(first.text.as_str())?;
-            f.write_char(' ')?;
+            f.write_str(" ")?;
             write_span(f, first.span)?;
             write_more(f, rest)?;
-            f.write_char(']')
+            f.write_str("]")
         }
     }
 }
@@ -178,7 +221,8 @@ fn write_message<W: Write>(f: &mut Formatter<W>, error: &Error) -> fmt::Result
 {
     f.write_str("refused ")?;
     write_span(f, error.span())?;
-    write!(f, " {error}")
+    f.write_str(" ")?;
+    f.write_str(error.as_str())
 }
 
 fn write_span<W: Write>(f: &mut Formatter<W>, span: Span) -> fmt::Result
@@ -208,6 +252,7 @@ fn write_spaced<W: Write>(f: &mut Formatter<W>, part: &str) -> fmt::Result
     if part.is_empty() {
         Ok(())
     } else {
-        write!(f, " {part}")
+        f.write_str(" ")?;
+        f.write_str(part)
     }
 }
