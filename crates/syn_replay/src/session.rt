@@ -152,7 +152,7 @@ fn run<'a>(
 {
     let mut lines = Vec::with_capacity(alloc, commands.len())?;
     for command in commands {
-        lines.push(line(streams, command)?)?;
+        lines.push_reserved(line(streams, command)?);
     }
     Ok(lines)
 }
