@@ -69,6 +69,7 @@ fn optional(input: ParseStream<'_, '_>, kind: Kind) -> Result<Answer>
 }
 
 // Finds the first of these looks that is true. If none is, the error names them all.
+#[inline(never)]
 fn look_ahead(input: &ParseBuffer<'_>, looks: &[Look]) -> Result<Answer>
     ensures { GivesAnswer
         (looked 0 (map look_of looks.now) [] input.now.place input.now.scope_span) result }
@@ -84,6 +85,7 @@ fn look_ahead(input: &ParseBuffer<'_>, looks: &[Look]) -> Result<Answer>
 }
 
 // Parses the next tree.
+#[inline(never)]
 fn tree(input: ParseStream<'_, '_>) -> Result<Answer>
     ensures { IsRead commands.next_tree input.old result input.new }
 {
@@ -93,6 +95,7 @@ fn tree(input: ParseStream<'_, '_>) -> Result<Answer>
 }
 
 // Parses the next tree if it is a visible group.
+#[inline(never)]
 fn group(input: ParseStream<'_, '_>) -> Result<Answer>
     ensures { IsRead commands.next_group input.old result input.new }
 {

@@ -108,6 +108,8 @@ impl<'a> Streams<'a> {
     }
 
     /// Enters the next group of stream `n`, if it has the wanted delimiter.
+    // Kept out of line, as all that few commands call: the commands that read keep a small frame.
+    #[inline(never)]
     pub fn enter(&mut self, n: usize, wanted: Option<Delimiter>) -> Result<Answer, AllocError>
         requires { n < length (state_of self.old) }
         ensures { IfOk result
@@ -143,6 +145,7 @@ impl<'a> Streams<'a> {
     }
 
     /// Makes a stream at the place of stream `n`.
+    #[inline(never)]
     pub fn fork(&mut self, n: usize) -> Result<Answer, AllocError>
         requires { n < length (state_of self.old) }
         ensures { IfOk result
@@ -188,6 +191,7 @@ impl<'a> Streams<'a> {
     }
 
     /// Closes a group's stream, and all that are open inside it, into its parent.
+    #[inline(never)]
     pub fn close(&mut self, k: usize)
         requires { is_open_at (state_of self.old) k ≡ true }
         ensures { state_of self.new ≡ closed k (state_of self.old) }
@@ -220,6 +224,7 @@ impl<'a> Streams<'a> {
     /// are closed.
     ///
     /// The fork must be in the same scope, and the stream neither the fork nor inside it.
+    #[inline(never)]
     pub fn advance(&mut self, n: usize, fork: usize) -> Answer
         requires stream { n < length (state_of self.old) }
         requires fork { is_open_at (state_of self.old) fork ≡ true }
