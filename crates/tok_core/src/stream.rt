@@ -1,5 +1,5 @@
 //! Streams of trees.
-ghost use Rattle.std.specs.Prelude.{◌≡◌, ◌+◌, not, min, IfErr, OnOk, OnErr};
+ghost use Rattle.std.specs.Prelude.{◌≡◌, ◌+◌, not, min, OnOk, OnErr};
 ghost use Rattle.std.specs.Slice.Iter.{iter_rest};
 ghost use Rattle.std.specs.Vec.Iter.{into_iter_items};
 ghost use Rattle.tok_core.specs.Filled.{has_trees};
@@ -15,7 +15,6 @@ use std::alloc::{AllocError, Global};
 use std::marker::Model;
 use std::{slice, vec};
 use tok_leaves::{Ident, Literal, Punct, Span};
-use tok_lexical::Delimiter;
 
 /// A list of trees. Contracts see it as a forest.
 ///
