@@ -107,6 +107,8 @@ fn plain_len(text: &[u8]) -> usize
 }
 
 // Appends the bytes of a text before the first loose one, and returns what is left.
+// Inlined: a text that isn't ASCII calls it for each character, and a call returns through memory.
+#[inline(always)]
 fn push_plain<'a>(to: &mut String, text: &'a str) -> Result<&'a str, AllocError>
     ensures value { IfOk result (λ rest. (front : List ℕ) × Skips is_plain text.now front rest.now
         × (string_bytes to.new ≡ string_bytes to.old ++ front)) }
