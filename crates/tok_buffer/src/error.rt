@@ -79,6 +79,18 @@ impl Words {
         Words { string }
     }
 
+    // Keeps a string, or a copy of it if it is short and has much spare room.
+    fn kept(alloc: Global, string: String) -> Words
+        ensures { result ≡ string_bytes string }
+    {
+        if string.len() <= 14 && string.capacity() > 64 {
+            if let Ok(copy) = String::from_str(alloc, string.as_str()) {
+                return Words::new(copy);
+            }
+        }
+        Words::new(string)
+    }
+
     fn as_str(&self) -> &str
         ensures { result.now ≡ self.now }
     {
@@ -157,7 +169,7 @@ impl Error {
     fn of_string(alloc: Global, start: Span, end: Span, text: String) -> Result<Error, AllocError>
         ensures { IfOk result (λ e. e ≡ error_of start end (string_bytes text)) }
     {
-        let text = Words::new(text);
+        let text = Words::kept(alloc, text);
         let first = Box::new(alloc, Message { start, end, text })?;
         Ok(Error {
             first,

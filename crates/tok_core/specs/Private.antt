@@ -5,6 +5,6 @@ pub mod Built
 pub mod Cuts
 pub mod Excess
 pub mod Halted
-pub mod Taken
 pub mod Pending
+pub mod Taken
 pub mod TreeFalls

@@ -116,7 +116,7 @@ pub fn past_first(text: &str) -> &str
 
 /// Returns `true` if the text begins with a character beyond ASCII.
 #[inline(always)]
-pub fn begins_beyond_ascii(text: &str) -> bool
+pub(crate) fn begins_beyond_ascii(text: &str) -> bool
     ensures { result ≡ begins_beyond_ascii (chars text.now) }
 {
     match text.as_bytes().first() {
@@ -131,7 +131,7 @@ pub fn begins_beyond_ascii(text: &str) -> bool
 ///
 /// Only ASCII characters may pass.
 #[inline(always)]
-pub fn past_run<'a, S: ByteTest>(text: &'a str, test: &S) -> &'a str
+pub(crate) fn past_run<'a, S: ByteTest>(text: &'a str, test: &S) -> &'a str
     requires ascii { (x : ℕ) → S.passes test.now x ≡ true → x < 128 }
     ensures skips { (front : List ℕ)
         × Skips (S.passes test.now) (chars text.now) front (chars result.now) }

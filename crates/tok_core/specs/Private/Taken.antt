@@ -1,4 +1,4 @@
--- What is known once the piece at the front of a text is taken in, or is refused.
+-- A piece at the front of a text that is taken in or rejected.
 use Rattle.std.specs.Prelude.{◌≡◌, ℕ, ◌+◌, List, None}
 use Rattle.tok_lexical.specs.Errors.{error_kind}
 use Rattle.tok_lexical.specs.Fits.{IsFirstFit}
@@ -21,7 +21,7 @@ pub record Taken (mode : Mode) (at : ℕ) (old new : State) (text : List ℕ) (e
   pub meant : error_kind rule mode at piece after ≡ None
   pub grown : Grows at old new (items old.source rule mode at piece after)
 
--- why that piece is refused
+-- why that piece is rejected
 pub record HaltsAt (levels : List (Delimiter × ℕ)) (mode : Mode) (at : ℕ) (text : List ℕ)
     (why : LexErrorKind) : Type 0 where
   pub rule : Rule

@@ -1,7 +1,7 @@
 -- The bytes that a literal of a text holds as they are.
 use Rattle.std.specs.Prelude.{ℕ, Bool, ◌==◌, ◌||◌, not, nat_lt}
 
--- neither ASCII that shows, or a quote or a backslash
+-- a byte that is not ASCII that shows, or that is a quote or a backslash
 abbrev pub is_loose : ℕ → Bool
 is_loose b = nat_lt b 0x20 || nat_lt 0x7E b || (b == 0x22) || (b == 0x5C)
 
