@@ -127,6 +127,23 @@ impl Ident {
         self.text.as_str()
     }
 
+    /// Copies the text, which begins with `r#` if the identifier is raw.
+    ///
+    /// Returns an error if an allocation fails.
+    pub fn to_text(&self) -> Result<Text, AllocError>
+        ensures { IfOk result (λ t. t ≡ leaf_text (ident_of self.now)) }
+    {
+        self.text.clone()
+    }
+
+    /// Turns the identifier into its text.
+    pub fn into_text(self) -> Text
+        ensures { result ≡ leaf_text (ident_of self) }
+    {
+        let Ident { text, .. } = self;
+        text
+    }
+
     /// Returns the span.
     pub fn span(&self) -> Span
         ensures { result ≡ leaf_span (ident_of self.now) }

@@ -317,6 +317,23 @@ impl Literal {
         self.text.as_str()
     }
 
+    /// Copies the text, with quotes, prefix and suffix.
+    ///
+    /// Returns an error if an allocation fails.
+    pub fn to_text(&self) -> Result<Text, AllocError>
+        ensures { IfOk result (λ t. t ≡ leaf_text (literal_of self.now)) }
+    {
+        self.text.clone()
+    }
+
+    /// Turns the literal into its text.
+    pub fn into_text(self) -> Text
+        ensures { result ≡ leaf_text (literal_of self) }
+    {
+        let Literal { text, .. } = self;
+        text
+    }
+
     /// Returns the span.
     pub fn span(&self) -> Span
         ensures { result ≡ leaf_span (literal_of self.now) }
