@@ -5,3 +5,5 @@
 mod buffer;
 #[cfg(test)]
 mod carets;
+#[cfg(test)]
+mod threads;

@@ -5,6 +5,8 @@
 #[cfg(test)]
 mod leaves;
 #[cfg(test)]
+mod texts;
+#[cfg(test)]
 mod trees;
 #[cfg(test)]
 mod values;

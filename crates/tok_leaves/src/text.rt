@@ -12,19 +12,36 @@ use std::fmt::{self, Debug, Display, Formatter, Write};
 use std::hash::{Hash, Hasher};
 use std::marker::Model;
 use std::str::from_utf8_unchecked;
+use std::sync::Arc;
 
-// A text of up to 14 bytes is stored in place, a longer one on the heap.
+// The bytes of a text of up to 47, and how many it has. With the count of the texts that share them
+// they take 56 bytes, of which an allocator wastes none.
+#[derive(Drop)]
+struct Block {
+    len: u8,
+    bytes: [u8; 47],
+}
+
+// A text of up to 14 bytes is stored in place, a longer one on the heap, where its clones share it.
 #[derive(Drop)]
 enum Node {
     Short(u8, [u8; 14]),
-    Long(Box<String>),
+    Medium(Arc<Block>),
+    Long(Arc<String>),
 }
 
-/// A text in 16 bytes. It allocates only if it is longer than 14 bytes.
-#[derive(Drop)]
+/// A text in 16 bytes. It allocates only if it is longer than 14 bytes; its clones then share it.
 pub struct Text {
     node: Node,
     alloc: Global,
+}
+
+// Not derived: so a caller's proof sees a drop as one call, and not the cases of a node.
+impl Drop for Text {
+    fn drop(self) {
+        let Text { node, alloc: _ } = self;
+        drop(node);
+    }
 }
 
 impl Model for Text {
@@ -49,6 +66,9 @@ impl Text {
         if text.len() <= 14 {
             return Ok(Text::short(alloc, text));
         }
+        if text.len() <= 47 {
+            return Text::medium(alloc, text);
+        }
         Text::long(alloc, String::from_str(alloc, text)?)
     }
 
@@ -60,6 +80,9 @@ impl Text {
     {
         if text.len() <= 14 {
             return Ok(Text::short(alloc, text.as_str()));
+        }
+        if text.len() <= 47 {
+            return Text::medium(alloc, text.as_str());
         }
         Text::long(alloc, text)
     }
@@ -77,13 +100,30 @@ impl Text {
         }
     }
 
+    // Kept out of line, as `long`.
+    #[inline(never)]
+    fn medium(alloc: Global, text: &str) -> Result<Text, AllocError>
+        requires { length text.now ≤ 47 }
+        ensures { IfOk result (λ t. t ≡ text.now) }
+    {
+        let mut bytes = [0u8; 47];
+        let len = text.len();
+        bytes[..len].copy_from_slice(text.as_bytes());
+        let block = Block {
+            len: len as u8,
+            bytes,
+        };
+        let node = Node::Medium(Arc::new(alloc, block)?);
+        Ok(Text { node, alloc })
+    }
+
     // Kept out of line: long texts are rare, and inlining their allocation makes callers save more
     // registers.
     #[inline(never)]
     fn long(alloc: Global, text: String) -> Result<Text, AllocError>
         ensures { IfOk result (λ t. t ≡ string_bytes text) }
     {
-        let node = Node::Long(Box::new(alloc, text)?);
+        let node = Node::Long(Arc::new(alloc, text)?);
         Ok(Text { node, alloc })
     }
 
@@ -97,12 +137,19 @@ impl Text {
                 // They came from a text, so nothing is tested again.
                 unsafe { from_utf8_unchecked(kept) }
             }
+            Node::Medium(block) => {
+                let block: &Block = block;
+                let front = &block.bytes[..block.len as usize];
+                // As above.
+                unsafe { from_utf8_unchecked(front) }
+            }
             Node::Long(text) => text.as_str(),
         }
     }
 }
 
-/// Copies the text. A text of up to 14 bytes takes no memory.
+/// Copies the text. A text of up to 14 bytes takes no memory, and a longer one is shared, unless its
+/// string has much unused room.
 impl Clone for Text {
     ghost is_clone = { λ t u. u ≡ t };
 
@@ -112,10 +159,18 @@ impl Clone for Text {
                 node: Node::Short(*len, *bytes),
                 alloc: self.alloc,
             }),
-            Node::Long(text) => Text::long(
-                self.alloc,
-                String::from_str(self.alloc, text.as_str())?,
-            ),
+            Node::Medium(block) => Ok(Text {
+                node: Node::Medium(block.clone()?),
+                alloc: self.alloc,
+            }),
+            // A string with much unused room is copied: a clone would keep that room in use.
+            Node::Long(text) if text.capacity() / 2 > text.len() => {
+                Text::from_str(self.alloc, text.as_str())
+            }
+            Node::Long(text) => Ok(Text {
+                node: Node::Long(text.clone()?),
+                alloc: self.alloc,
+            }),
         }
     }
 }
