@@ -174,6 +174,7 @@ impl Ident {
 impl Clone for Ident {
     ghost is_clone = { λ i j. j ≡ i };
 
+    #[inline(always)]
     fn clone(&self) -> Result<Ident, AllocError> {
         Ok(Ident {
             text: self.text.clone()?,

@@ -353,6 +353,7 @@ impl Literal {
 impl Clone for Literal {
     ghost is_clone = { λ l m. m ≡ l };
 
+    #[inline(always)]
     fn clone(&self) -> Result<Literal, AllocError> {
         Ok(Literal {
             text: self.text.clone()?,

@@ -1,5 +1,6 @@
 //! Texts that contracts see as their bytes, so that a copy equals its source.
-ghost use Rattle.std.specs.Prelude.{◌≡◌, ◌≤◌, length, nat_eq, string_bytes, IfOk, Some};
+ghost use Rattle.std.specs.Prelude.{◌≡◌, ◌≤◌, ◌++◌, ℕ, List, length, nat_eq, string_bytes, IfOk, Some};
+ghost use Rattle.std.specs.Str.{chars};
 ghost use Rattle.std.specs.Cmp as compared;
 ghost use Rattle.std.specs.Cmp.Lexicographic.{pointwise, slice_cmp, nat_list_eq_equiv, nat_list_cmp_total, texts_ties, texts_po};
 ghost use Rattle.std.specs.Hash as fed;
@@ -72,7 +73,45 @@ impl Text {
         Text::long(alloc, String::from_str(alloc, text)?)
     }
 
-    /// Turns a string into a text. A string longer than 14 bytes is moved, not copied.
+    /// Copies `piece`, which is at the front of `text`.
+    ///
+    /// Returns an error if the allocation fails.
+    ///
+    /// # Requires
+    ///
+    /// `text` must begin with `piece`.
+    //
+    // Fourteen bytes, whatever they are, are copied by two moves. To copy as many as a piece has
+    // takes a call, and its branches are seldom told ahead.
+    #[inline(always)]
+    pub fn from_front(alloc: Global, piece: &str, text: &str) -> Result<Text, AllocError>
+        requires { (rest : List ℕ) × (chars text.now ≡ chars piece.now ++ rest) }
+        ensures { IfOk result (λ t. t ≡ piece.now) }
+    {
+        if piece.len() <= 14 && text.len() >= 14 {
+            Ok(Text::front(alloc, piece, text))
+        } else {
+            Text::from_str(alloc, piece)
+        }
+    }
+
+    // Stores a piece with what follows it in the text, up to 14 bytes.
+    #[inline(always)]
+    fn front(alloc: Global, piece: &str, text: &str) -> Text
+        requires short { length piece.now ≤ 14 }
+        requires long { 14 ≤ length text.now }
+        requires front { (rest : List ℕ) × (chars text.now ≡ chars piece.now ++ rest) }
+        ensures { result ≡ piece.now }
+    {
+        let mut bytes = [0u8; 14];
+        bytes.copy_from_slice(&text.as_bytes()[..14]);
+        Text {
+            node: Node::Short(piece.len() as u8, bytes),
+            alloc,
+        }
+    }
+
+    /// Turns a string into a text. A string longer than 47 bytes is moved, not copied.
     ///
     /// Returns an error if the allocation fails; the string is then dropped.
     pub fn from_string(alloc: Global, text: String) -> Result<Text, AllocError>
@@ -153,6 +192,8 @@ impl Text {
 impl Clone for Text {
     ghost is_clone = { λ t u. u ≡ t };
 
+    // Inlined: nearly all texts are short, and are copied as they lie.
+    #[inline(always)]
     fn clone(&self) -> Result<Text, AllocError> {
         match &self.node {
             Node::Short(len, bytes) => Ok(Text {

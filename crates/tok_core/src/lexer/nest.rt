@@ -1,5 +1,5 @@
 //! A builder and the groups that are open in it.
-ghost use Rattle.std.specs.Prelude.{◌≡◌, ℕ, ◌+◌, ◌<◌, ◌≤◌, ◌^◌, ◌∷◌, [], List, length, IfOk, IfErr, OnOk, None, if◌then◌else◌, true};
+ghost use Rattle.std.specs.Prelude.{◌≡◌, ℕ, ◌+◌, ◌++◌, ◌<◌, ◌≤◌, ◌^◌, ◌∷◌, [], List, length, IfOk, IfErr, OnOk, None, if◌then◌else◌, true};
 ghost use Rattle.std.specs.Str.{chars, IsUtf8};
 ghost use Rattle.tok_core.specs.Private.Built.{state, Grows, Reached, IsPaired, Halts, IsTooDeep, IsUnfit};
 ghost use Rattle.tok_core.specs.Private.Halted.{OnHalted};
@@ -85,30 +85,40 @@ impl<B: Build + Drop> Nest<B> {
         Ok(())
     }
 
+    // Appends an identifier, whose text is at the front of `whole`.
     // Inlined: most pieces are identifiers, and a call would save and restore registers for each.
     #[inline(always)]
-    fn ident(&mut self, start: usize, end: usize, text: &str) -> Result<(), AllocError>
+    fn ident(&mut self, start: usize, end: usize, text: &str, whole: &str) -> Result<(), AllocError>
         requires order { start ≤ end }
+        requires front { (rest : List ℕ) × (chars whole.now ≡ chars text.now ++ rest) }
         ensures { (at : ℕ)
             → OnOk result
             (Grows at (state B.levels self.old) (state B.levels self.new)
             (ident_item self.old.source start end (chars text.now) ∷ [])) }
     {
-        let text = Text::from_str(self.alloc, text)?;
+        let text = Text::from_front(self.alloc, text, whole)?;
         let span = Span::source(self.source, start, end);
         self.built.ident(known::unchecked_ident(text, span))?;
         Ok(())
     }
 
+    // Appends a literal, whose text is at the front of `whole`.
     // Inlined: literals are appended in two places, and a call would cost the more frequent one.
     #[inline(always)]
-    fn literal(&mut self, start: usize, end: usize, text: &str) -> Result<(), AllocError>
+    fn literal(
+        &mut self,
+        start: usize,
+        end: usize,
+        text: &str,
+        whole: &str,
+    ) -> Result<(), AllocError>
         requires order { start ≤ end }
+        requires front { (rest : List ℕ) × (chars whole.now ≡ chars text.now ++ rest) }
         ensures { OnOk result
             (Grows start (state B.levels self.old) (state B.levels self.new)
             (literal_item self.old.source start end (chars text.now) ∷ [])) }
     {
-        let text = Text::from_str(self.alloc, text)?;
+        let text = Text::from_front(self.alloc, text, whole)?;
         let span = Span::source(self.source, start, end);
         self.built.literal(known::unchecked_literal(text, span))?;
         Ok(())
@@ -127,7 +137,7 @@ impl<B: Build + Drop> Nest<B> {
             ∷ ident_item self.old.source (at + 1) end (chars name.now) ∷ [])) }
     {
         self.punct(at, '\'', true)?;
-        self.ident(at + 1, end, name)?;
+        self.ident(at + 1, end, name, name)?;
         Ok(())
     }
 
@@ -141,10 +151,11 @@ impl<B: Build + Drop> Nest<B> {
             (pointed_items self.old.source at (chars piece.now) (chars after.now))) }
     {
         if takes_point(after) {
-            self.literal(at, end, piece)?;
+            self.literal(at, end, piece, piece)?;
         } else {
             let dot = end - 1;
-            self.literal(at, dot, up_to(piece, b'.'))?;
+            let digits = up_to(piece, b'.');
+            self.literal(at, dot, digits, digits)?;
             self.punct(dot, '.', makes_joint(after))?;
         }
         Ok(())
@@ -286,13 +297,14 @@ impl<B: Build + Drop> Nest<B> {
     {
         let piece = front_of(text, after);
         let end = at + rule.width(piece);
-        match self.take_in(rule, mode, at, end, piece, after, returns) {
+        match self.take_in(rule, mode, at, end, piece, after, text, returns) {
             Ok(()) => Ok(end),
             Err(halt) => Err(halt),
         }
     }
 
-    /// Appends the piece that `rule` found from `at` to `end`, before the text `after`.
+    /// Appends the piece that `rule` found from `at` to `end`, before the text `after`. The piece and
+    /// this text are `whole`.
     ///
     /// # Requires
     ///
@@ -307,8 +319,10 @@ impl<B: Build + Drop> Nest<B> {
         end: usize,
         piece: &str,
         after: &str,
+        whole: &str,
         returns: bool,
     ) -> Result<(), Halt>
+        requires front { chars whole.now ≡ chars piece.now ++ chars after.now }
         requires returns { has_return (chars piece.now) ≡ true → returns ≡ true }
         requires spelled { Spells rule (chars piece.now) }
         requires ends { end ≡ at + width rule (chars piece.now) }
@@ -353,7 +367,7 @@ impl<B: Build + Drop> Nest<B> {
             Rule::Lifetime | Rule::PlainLifetime => self.lifetime(at, end, past_first(piece))?,
             Rule::Apostrophe => self.punct(at, '\'', makes_joint_apostrophe(after))?,
             Rule::Punct => self.punct(at, first_of(piece), is_joint(mode, after))?,
-            Rule::RawIdentifier | Rule::Identifier => self.ident(at, end, piece)?,
+            Rule::RawIdentifier | Rule::Identifier => self.ident(at, end, piece, whole)?,
             Rule::QuotedString(_)
             | Rule::ByteChar
             | Rule::RawString(_)
@@ -361,7 +375,7 @@ impl<B: Build + Drop> Nest<B> {
             | Rule::PlainChar
             | Rule::Based(_)
             | Rule::Float
-            | Rule::Decimal => self.literal(at, end, piece)?,
+            | Rule::Decimal => self.literal(at, end, piece, whole)?,
             _ => {}
         }
         Ok(())

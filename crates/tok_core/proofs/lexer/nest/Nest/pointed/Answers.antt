@@ -10,6 +10,6 @@ returns-in_ok-literal g c = grows_float c.args.at c.args.end _ _ (chars c.args.p
 
 pub returns-in_ok-punct : goal.returns-in_ok-punct
 returns-in_ok-punct g c = grows_point c.args.at c.args.end (c.args.end - 1) _ _ _
-    (chars c.args.piece.now) (chars c.args.after.now) (chars c.up_to.result.now)
-    c.makes_joint.result c.requires.ends refl c.up_to.ensures c.makes_joint.ensures
+    (chars c.args.piece.now) (chars c.args.after.now) (chars c.up_to-digits.result.now)
+    c.makes_joint.result c.requires.ends refl c.up_to-digits.ensures c.makes_joint.ensures
     (sym c.if-takes_point.ensures) c.in_ok-literal-2.ensures (c.in_ok-punct.ensures c.args.at)
