@@ -1,7 +1,8 @@
 //! The builder of a buffer's entries from a text.
-ghost use Rattle.std.specs.Prelude.{◌≡◌, ◌++◌};
+ghost use Rattle.std.specs.Prelude.{◌≡◌, ◌++◌, ◌∷◌, [], IfOk};
 ghost use Rattle.tok_core.specs.Building.{nothing};
 ghost use Rattle.tok_buffer.specs.Private.Layout.{layout, laid};
+ghost use Rattle.tok_buffer.specs.declared.entry.Entry.TheVariants.{End};
 
 use crate::entry::{Entry, Opening};
 use std::alloc::{AllocError, Global};
@@ -37,22 +38,47 @@ impl Model for EntryBuilder {
         × (b.«open».items ≡ places 0 (levels_in b.entries.items).outer) };
 }
 
+// A text of fewer bytes gets no room before its first entry, and one of more no more than these.
+const FEWEST_BYTES: usize = 1 << 8;
+
+const MOST_BYTES: usize = 1 << 18;
+
 impl EntryBuilder {
-    /// Creates an empty builder.
-    pub fn new(alloc: Global) -> EntryBuilder
-        ensures { result ≡ nothing }
+    /// Creates an empty builder, with room for the entries that a text of so many bytes has at
+    /// most, as a rule.
+    ///
+    /// Returns an error if the allocation fails.
+    //
+    // A vector that grows from nothing copies its entries about once more.
+    pub fn with_room(alloc: Global, bytes: usize) -> Result<EntryBuilder, AllocError>
+        ensures { IfOk result (λ b. b ≡ nothing) }
     {
-        EntryBuilder {
-            entries: Vec::new(alloc),
+        let room = if bytes < FEWEST_BYTES {
+            0
+        } else {
+            bytes.min(MOST_BYTES) / 4
+        };
+        Ok(EntryBuilder {
+            entries: Vec::with_capacity(alloc, room)?,
             open: Vec::new(alloc),
-        }
+        })
     }
 
-    /// Returns the entries.
-    pub fn into_entries(self) -> Vec<Entry>
-        ensures { result.items ≡ laid self.outer ++ layout self.inner }
+    /// Returns the entries, and the end of the buffer after them.
+    ///
+    /// If they fill less than half of the room, they move to a vector of their exact number. Returns
+    /// an error if an allocation fails.
+    pub fn into_entries(self) -> Result<Vec<Entry>, AllocError>
+        ensures { IfOk result
+            (λ v. v.items ≡ (laid self.outer ++ layout self.inner) ++ End 0 ∷ []) }
     {
-        self.entries
+        let mut entries = self.entries;
+        entries.push(Entry::End(0))?;
+        let room = entries.capacity();
+        if room >= FEWEST_BYTES / 4 && room / 2 > entries.len() {
+            entries = entries.split_off(0)?;
+        }
+        Ok(entries)
     }
 }
 

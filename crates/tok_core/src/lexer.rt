@@ -110,7 +110,8 @@ fn read_trees(
         (λ fault. OnRefused fault
         (IsRefusedFrom start mode source (chars text.now))) }
 {
-    match read(TreeBuilder::new(alloc), alloc, source, mode, start, text) {
+    let builder = TreeBuilder::with_room(alloc, text.len())?;
+    match read(builder, alloc, source, mode, start, text) {
         Ok(built) => Ok(built.into_stream()?),
         Err(fault) => Err(fault),
     }

@@ -95,16 +95,29 @@ fn take_level(trees: &mut Vec<TokenTree>, start: usize) -> Result<Vec<TokenTree>
     trees.split_off(start)
 }
 
+// A text of fewer bytes gets no room before its first tree, and one of more no more than these.
+const FEWEST_BYTES: usize = 1 << 8;
+
+const MOST_BYTES: usize = 1 << 18;
+
 impl TreeBuilder {
-    /// Creates an empty builder.
-    pub fn new(alloc: Global) -> TreeBuilder
-        ensures { result ≡ nothing }
+    /// Creates an empty builder, with room for the trees that are open at once in a text of so many
+    /// bytes, as a rule.
+    ///
+    /// Returns an error if the allocation fails.
+    pub fn with_room(alloc: Global, bytes: usize) -> Result<TreeBuilder, AllocError>
+        ensures { IfOk result (λ b. b ≡ nothing) }
     {
-        TreeBuilder {
+        let room = if bytes < FEWEST_BYTES {
+            0
+        } else {
+            bytes.min(MOST_BYTES) / 16
+        };
+        Ok(TreeBuilder {
             alloc,
-            trees: Vec::new(alloc),
+            trees: Vec::with_capacity(alloc, room)?,
             starts: Vec::new(alloc),
-        }
+        })
     }
 
     /// Returns the trees of the outermost level.
