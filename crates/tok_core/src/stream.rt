@@ -1,5 +1,5 @@
 //! Streams of trees.
-ghost use Rattle.std.specs.Prelude.{◌≡◌, ◌+◌, not, min, OnOk, OnErr};
+ghost use Rattle.std.specs.Prelude.{◌≡◌, ◌+◌, not, min, IfOk, IsOk, OnOk, OnErr};
 ghost use Rattle.std.specs.Slice.Iter.{iter_rest};
 ghost use Rattle.std.specs.Vec.Iter.{into_iter_items};
 ghost use Rattle.tok_core.specs.Filled.{has_trees};
@@ -73,6 +73,17 @@ impl TokenStream {
             trees: Vec::new(alloc),
             alloc,
         }
+    }
+
+    /// Creates an empty stream with room for so many trees.
+    ///
+    /// Returns an error if the allocation fails. Room for no tree takes none.
+    pub fn with_capacity(alloc: Global, capacity: usize) -> Result<TokenStream, AllocError>
+        ensures empty { IfOk result (λ s. s ≡ no_trees) }
+        ensures succeeds { capacity ≡ 0 → IsOk result }
+    {
+        let trees = Vec::with_capacity(alloc, capacity)?;
+        Ok(TokenStream { trees, alloc })
     }
 
     /// Returns the allocator of the trees. A program has one `Global`, so all streams share it.
@@ -193,7 +204,10 @@ impl TokenTree {
 impl Clone for TokenTree {
     ghost is_clone = { λ t u. u ≡ t };
 
+    // Inlined: a stream copies its trees into their places, and a call would return each through
+    // memory.
     #[cycle(clone)]
+    #[inline(always)]
     fn clone(&self) -> Result<TokenTree, AllocError> {
         match self {
             TokenTree::Group(group) => Ok(TokenTree::Group(group.clone()?)),

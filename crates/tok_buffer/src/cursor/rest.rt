@@ -1,9 +1,9 @@
 //! Copying and printing the trees ahead of a cursor.
-ghost use Rattle.std.specs.Prelude.{◌≡◌, ◌≤◌, ◌++◌, ◌∷◌, [], OnOk, IfOk, true};
+ghost use Rattle.std.specs.Prelude.{◌+◌, ◌≡◌, ◌≤◌, ◌++◌, ◌∷◌, [], IfOk, true};
 ghost use Rattle.std.specs.Fmt.{WritesOnOk};
 ghost use Rattle.tok_lexical.specs.Delimiters as delimiters;
 ghost use Rattle.tok_leaves.specs.Leaves.{leaf_text};
-ghost use Rattle.tok_core.specs.Forest.{concat, leaf};
+ghost use Rattle.tok_core.specs.Forest.{leaf};
 ghost use Rattle.tok_core.specs.Seen.{group_of, tree_of};
 ghost use Rattle.tok_core.specs.Text as spec;
 ghost use Rattle.tok_core.specs.Text.{text};
@@ -18,7 +18,7 @@ ghost use Rattle.tok_buffer.specs.Trees.{read_visible};
 
 use crate::buffer::TokenBuffer;
 use crate::cursor::Cursor;
-use crate::entry::{Held, Leaf};
+use crate::entry::{Entry, Held, Leaf};
 use std::alloc::{AllocError, Global};
 use std::fmt;
 use std::fmt::{Debug, Formatter, Write};
@@ -83,11 +83,10 @@ impl<'a> Cursor<'a> {
     pub fn token_stream(self, alloc: Global) -> Result<TokenStream, AllocError>
         ensures { IfOk result (λ s. s ≡ rest (place_of self.entry)) }
     {
-        let mut stream = TokenStream::new(alloc);
         if let Some(spot) = self.spot {
-            copy_ahead(alloc, &mut stream, spot.buffer, spot.position, spot.scope)?;
+            return copy_ahead(alloc, spot.buffer, spot.position, spot.scope);
         }
-        Ok(stream)
+        Ok(TokenStream::new(alloc))
     }
 
     /// Writes the trees that are left in the scope, as the stream that `token_stream` returns is
@@ -121,19 +120,43 @@ impl Debug for TokenBuffer {
     }
 }
 
-// Appends the trees from a position to the scope's end.
+// Counts the trees from a position to the scope's end. A group is one.
+fn count_ahead(buffer: &TokenBuffer, from: usize, scope: usize) -> usize
+    requires in_buffer { scope ≤ weight buffer.now.forest }
+    requires within { in_scope buffer.now.forest from scope ≡ true }
+    ensures { from + result ≤ scope }
+{
+    let mut position = from;
+    let mut count = 0;
+    while position != scope {
+        match buffer.entry(position) {
+            Entry::Group(_, offset) => {
+                count += 1;
+                position = position + *offset + 1;
+            }
+            Entry::End(_) => position += 1,
+            _ => {
+                count += 1;
+                position += 1;
+            }
+        }
+    }
+    count
+}
+
+// Copies the trees from a position to the scope's end, into a stream of their number.
 fn copy_ahead(
     alloc: Global,
-    stream: &mut TokenStream,
     buffer: &TokenBuffer,
     from: usize,
     scope: usize,
-) -> Result<(), AllocError>
+) -> Result<TokenStream, AllocError>
     requires in_buffer { scope ≤ weight buffer.now.forest }
     requires within { in_scope buffer.now.forest from scope ≡ true }
-    ensures { OnOk result (stream.new
-        ≡ concat stream.old (rest (place_at buffer.now.number buffer.now.forest from scope))) }
+    ensures { IfOk result
+        (λ s. s ≡ rest (place_at buffer.now.number buffer.now.forest from scope)) }
 {
+    let mut stream = TokenStream::with_capacity(alloc, count_ahead(buffer, from, scope))?;
     let mut position = from;
     while position != scope {
         match buffer.entry(position).held() {
@@ -142,8 +165,7 @@ fn copy_ahead(
                 position += 1;
             }
             Held::Group(group, offset) => {
-                let mut content = TokenStream::new(alloc);
-                copy_ahead(alloc, &mut content, buffer, position + 1, position + offset)?;
+                let content = copy_ahead(alloc, buffer, position + 1, position + offset)?;
                 let copy = Group::new(group.delimiter, content, group.span);
                 stream.append(TokenTree::Group(copy))?;
                 position = position + offset + 1;
@@ -151,7 +173,7 @@ fn copy_ahead(
             Held::End(_) => position += 1,
         }
     }
-    Ok(())
+    Ok(stream)
 }
 
 // Writes the trees from a position to the scope's end.

@@ -1,4 +1,4 @@
-use Rattle.std.proofs.Common.{◌≡◌, ◌∙◌, ◌+◌, refl, sym, ap, arith}
+use Rattle.std.proofs.Common.{◌≡◌, ◌∙◌, ◌+◌, sym, ap, arith}
 use Rattle.tok_core.specs.Forest.{concat, leaf, group}
 use Rattle.tok_core.specs.Seen.{tree_of}
 use Rattle.tok_core.specs.declared.stream.TokenTree.TheVariants as made
@@ -13,12 +13,14 @@ use Rattle.tok_buffer.proofs.Rests.{rest_group, tree_copied}
 use Rattle.tok_buffer.proofs.cursor.rest.+copy_ahead.Goals as goal
 
 pub loop-position-init : goal.loop-position-init
-loop-position-init t c = record {
-  within = c.requires.within;
-  before = before_scope _ _ _ c.requires.within;
-  later = omega arith;
-  same = refl;
-}
+loop-position-init t c =
+    let F = c.args.buffer.now.forest in
+    record {
+      within = c.requires.within;
+      before = before_scope _ _ _ c.requires.within;
+      later = omega arith;
+      same = ap (λ z. concat z (rest_at F c.args.from c.args.scope)) (c.in_ok-stream.ensures).empty;
+    }
 
 pub loop-position-preserved-in-Leaf : goal.loop-position-preserved-in-Leaf
 loop-position-preserved-in-Leaf t c =
@@ -105,9 +107,9 @@ loop-position-preserved-in-Group t c =
           (rest_at F (n + k + 1) s) (rest_at F n s) (group g.delimiter inner g.span)
           (tree_of (made.Group c.new-copy.result)) (c.in_ok-append-in-Group.ensures {u = tt}).ok
           (c.new-copy.ensures ∙ ap (λ z. group g.delimiter z g.span)
-          (c.in_ok-copy_ahead-in-Group.ensures {u = tt}
-          ∙ ap (λ z. concat z inner) c.new-content.ensures ∙ rest_any c.args.buffer.now.number F
-          (n + 1) (n + k))) (rest_group F n s g k i.within e) ∙ i.same;
+          (c.in_ok-content-in-Group.ensures
+          ∙ rest_any c.args.buffer.now.number F (n + 1) (n + k)))
+          (rest_group F n s g k i.within e) ∙ i.same;
     }
 
 pub loop-position-preserved : goal.loop-position-preserved
@@ -134,4 +136,4 @@ returns t c =
     sym (concat-none c.loop-position.stream)
     ∙ ap (concat c.loop-position.stream) (sym (rest_done F n s i.within c.loop-position-test.false))
     ∙ i.same
-    ∙ ap (concat c.args.stream.now) (sym (rest_any c.args.buffer.now.number F c.args.from s))
+    ∙ sym (rest_any c.args.buffer.now.number F c.args.from s)

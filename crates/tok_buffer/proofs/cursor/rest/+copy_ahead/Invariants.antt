@@ -12,8 +12,8 @@ invariant-loop-position l = record {
   within : in_scope l.buffer.forest l.position l.scope ≡ true;
   before : l.position ≤ l.scope;
   later : l.from ≤ l.position;
-  same : concat l.stream (rest_at l.buffer.forest l.position l.scope) ≡ concat l.fn.stream
-      (rest_at l.buffer.forest l.from l.scope);
+  same : concat l.stream (rest_at l.buffer.forest l.position l.scope)
+      ≡ rest_at l.buffer.forest l.from l.scope;
 }
 
 abbrev pub decreases-loop-position : goal.decreases-loop-position
