@@ -127,6 +127,26 @@ fn strings(rt: HostRuntime) {
             ("\"a\\\n\n\n b\"", Some("ab")),
             ("\"a\r\nb\"", Some("a\nb")),
             ("\"a\\\n\u{a0}b\"", Some("a\u{a0}b")),
+            ("\"fourteen bytes\"", Some("fourteen bytes")),
+            ("\"fifteen bytes..\"", Some("fifteen bytes..")),
+            ("\"sixteen bytes...\"", Some("sixteen bytes...")),
+            (
+                "\"thirty-two bytes, and an escape..\\n\"",
+                Some("thirty-two bytes, and an escape..\n"),
+            ),
+            (
+                "\"äußere Zeichen, länger als 16 Bytes\\té\"",
+                Some("äußere Zeichen, länger als 16 Bytes\té"),
+            ),
+            (
+                "\"a long line that ends here\r\nand another of the same\r\n\"",
+                Some("a long line that ends here\nand another of the same\n"),
+            ),
+            (
+                "\"a long line that goes on \\\r\n    after it has ended\"",
+                Some("a long line that goes on after it has ended"),
+            ),
+            ("\"a text of more than 16 bytes\"s", None),
             ("\"a\"s", None),
             ("b\"a\"", None),
             ("'a'", None),
@@ -144,6 +164,14 @@ fn byte_strings(rt: HostRuntime) {
             (
                 "b\"a\\xff\\x00\\n\\\n  c\"",
                 Some(b"a\xFF\x00\nc".as_slice()),
+            ),
+            (
+                "b\"more than sixteen bytes, \\xff and\r\nagain more than sixteen\"",
+                Some(b"more than sixteen bytes, \xFF and\nagain more than sixteen".as_slice()),
+            ),
+            (
+                "b\"sixteen bytes...\"",
+                Some(b"sixteen bytes...".as_slice()),
             ),
             ("b\"a\"s", None),
             ("\"a\"", None),
@@ -183,6 +211,8 @@ fn integers(rt: HostRuntime) {
             ("0xe1u32", Ok((225, "u32"))),
             ("0o17_i8", Ok((15, "i8"))),
             ("0b1010", Ok((10, ""))),
+            ("0_9", Ok((9, ""))),
+            ("12é", Ok((12, "é"))),
             ("18446744073709551615", Ok((u64::MAX, ""))),
             ("18446744073709551616", Err(IntegerFault::TooLarge)),
             ("0x1_0000_0000_0000_0000", Err(IntegerFault::TooLarge)),

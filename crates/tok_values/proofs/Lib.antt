@@ -4,5 +4,6 @@ mod Codes
 mod Digits
 mod Quoted
 mod Read
+mod Runs
 mod Units
 mod Values

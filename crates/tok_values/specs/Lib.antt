@@ -3,6 +3,7 @@ pub mod Floats
 pub mod Integers
 pub mod Laws
 pub mod Numbers
+pub mod Private
 pub mod Strings
 pub mod Values
 pub use Rattle.tok_leaves.specs.Leaves

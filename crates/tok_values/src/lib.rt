@@ -10,6 +10,7 @@ mod floats;
 mod integers;
 pub mod laws;
 mod literal;
+mod plain;
 mod strings;
 
 pub use integers::{Integer, IntegerFault};

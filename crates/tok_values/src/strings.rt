@@ -1,12 +1,15 @@
 //! The values of strings and characters.
 ghost use Rattle.std.specs.Prelude.{◌≡◌, ◌<◌, ◌≤◌, ◌++◌, ℕ, List, None, IfOk, IfSome, MatchBool, [], ◌∷◌, length, true, false, encode_utf8_all, string_bytes};
 ghost use Rattle.std.specs.Str.{chars, IsUtf8};
+ghost use Rattle.tok_lexical.specs.Pieces.{Skips};
+ghost use Rattle.tok_values.specs.Private.Plain.{is_plain};
 ghost use Rattle.tok_values.specs.Strings.{Means, one_char, unit, without_blanks, is_blank, ends_line, escaped, FindsUnit};
 ghost use Rattle.tok_values.specs.Escapes.{Finds};
 
 use crate::escapes::escape;
+use crate::plain::past_plain;
 use std::alloc::AllocError;
-use tok_lexical::text::{begins_with, next_char, past_char, past_first};
+use tok_lexical::text::{begins_with, front_of, next_char, past_char, past_first};
 
 fn is_blank(c: char) -> bool
     ensures { result ≡ is_blank c }
@@ -88,19 +91,72 @@ pub fn is_only(text: &str, ch: char) -> bool
     }
 }
 
+// Returns how much room to ask for before so many bytes are added, of a text of which so many are
+// left after them. It is no more than the value may take, nor than doubling would give.
+fn room_for(added: usize, left: usize, len: usize, capacity: usize) -> usize {
+    let least = len.saturating_add(added);
+    // Where a quote alone is left, the append itself asks for just what it takes.
+    if left <= 1 || least <= capacity || least > 1 << 62 {
+        return 0;
+    }
+    let most = least.saturating_add(left - 1);
+    least.next_power_of_two().min(most).saturating_sub(len)
+}
+
+// Appends the characters at the front of a text that mean themselves, and returns what is left.
+// Inlined: a text of escapes calls it after each, and a call returns through memory.
+#[inline(always)]
+fn push_plain<'a>(to: &mut String, text: &'a str) -> Result<&'a str, AllocError>
+    ensures value { IfOk result (λ rest. (front : List ℕ)
+        × Skips (is_plain false) (chars text.now) front (chars rest.now)
+        × (string_bytes to.new ≡ string_bytes to.old ++ encode_utf8_all front)) }
+    ensures utf8 { IfOk result (λ rest. IsUtf8 rest.now) }
+    ensures shorter { IfOk result (λ rest. length rest.now ≤ length text.now) }
+{
+    let rest = past_plain(text, false);
+    let front = front_of(text, rest);
+    if front.is_empty() {
+        return Ok(rest);
+    }
+    to.reserve(room_for(front.len(), rest.len(), to.len(), to.capacity()))?;
+    to.push_str(front)?;
+    Ok(rest)
+}
+
+// Does the same in bytes.
+#[inline(always)]
+fn push_plain_bytes<'a>(to: &mut Vec<u8>, text: &'a str) -> Result<&'a str, AllocError>
+    ensures value { IfOk result (λ rest. (front : List ℕ)
+        × Skips (is_plain true) (chars text.now) front (chars rest.now)
+        × (to.new.items ≡ to.old.items ++ front)) }
+    ensures utf8 { IfOk result (λ rest. IsUtf8 rest.now) }
+    ensures shorter { IfOk result (λ rest. length rest.now ≤ length text.now) }
+{
+    let rest = past_plain(text, true);
+    let front = front_of(text, rest);
+    if front.is_empty() {
+        return Ok(rest);
+    }
+    to.reserve(room_for(front.len(), rest.len(), to.len(), to.capacity()))?;
+    to.extend_from_slice(front.as_bytes())?;
+    Ok(rest)
+}
+
 /// Appends what the units at the front of a text mean, and returns the text after them.
+///
+/// A run of characters that mean themselves is appended whole: most texts are one.
 pub fn push_text<'a>(to: &mut String, text: &'a str) -> Result<&'a str, AllocError>
     ensures { IfOk result (λ rest. (characters : List ℕ)
         × Means false (chars text.now) (chars rest.now) characters
         × (string_bytes to.new ≡ string_bytes to.old ++ encode_utf8_all characters)
         × (unit false (chars rest.now) ≡ None)) }
 {
-    let mut rest = text;
+    let mut rest = push_plain(to, text)?;
     while let Some((c, after)) = unit(rest, false) {
         if let Some(c) = c {
             to.push(c)?;
         }
-        rest = after;
+        rest = push_plain(to, after)?;
     }
     Ok(rest)
 }
@@ -112,12 +168,12 @@ pub fn push_bytes<'a>(to: &mut Vec<u8>, text: &'a str) -> Result<&'a str, AllocE
         × (to.new.items ≡ to.old.items ++ bytes)
         × (unit true (chars rest.now) ≡ None)) }
 {
-    let mut rest = text;
+    let mut rest = push_plain_bytes(to, text)?;
     while let Some((c, after)) = unit(rest, true) {
         if let Some(c) = c {
             to.push(c as u32 as u8)?;
         }
-        rest = after;
+        rest = push_plain_bytes(to, after)?;
     }
     Ok(rest)
 }

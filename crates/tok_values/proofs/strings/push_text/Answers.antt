@@ -1,40 +1,50 @@
-use Rattle.std.proofs.Common.{◌∙◌, [], ◌∷◌, ◌++◌, Some, false, sym, ap, subst}
+use Rattle.std.proofs.Common.{◌≡◌, ◌∙◌, ℕ, List, [], ◌∷◌, ◌++◌, Some, false, ap, subst}
+use Rattle.std.specs.Prelude.{encode_utf8_all, string_bytes}
 use Rattle.std.specs.Str.{chars}
 use Rattle.std.proofs.lemmas.List.{append-nil}
-use Rattle.tok_values.specs.Strings.{Means, characters_of, nothing}
+use Rattle.tok_values.specs.Strings.{Means, characters_of}
+use Rattle.tok_values.proofs.Runs.{run_encoded, run_means, run_more}
 use Rattle.tok_values.proofs.Units.{encoded_more, unit_more}
 use Rattle.tok_values.proofs.strings.push_text.Goals as goal
+use Rattle.tok_values.proofs.strings.push_text.Goals.{in-Some-c+in_ok-push, in_default-c}
 
 pub loop-c-init : goal.loop-c-init
-loop-c-init c = (c.utf8.text, ([], nothing (chars c.args.text.now), sym (append-nil _)))
-
-pub loop-c-preserved-in_ok-push : goal.loop-c-preserved-in_ok-push
-loop-c-preserved-in_ok-push c =
-    let i = c.loop-c.invariant.1 in
-    let e =
-    c.in-Some.ensures.finds
-    ∙ ap (λ o. Some (characters_of o, chars c.in-Some.after.now)) c.in-Some-c.is in (
-      c.in-Some.ensures.utf8,
-      (
-        i.0 ++ c.in-Some-c.c ∷ [],
-        unit_more false (chars c.args.text.now) (chars c.loop-c.rest.now)
-            (chars c.in-Some.after.now) i.0 (c.in-Some-c.c ∷ []) i.1 e,
-        encoded_more _ _ _ i.0 c.in-Some-c.c i.2 c.in_ok-push.ensures.bytes,
-      ),
+loop-c-init c =
+    let run = c.in_ok-rest.ensures.value in (
+      c.in_ok-rest.ensures.utf8,
+      (run.0, run_means false (chars c.args.text.now) run.0 _ run.1, run.2),
     )
 
 pub loop-c-preserved : goal.loop-c-preserved
 loop-c-preserved c =
     let i = c.loop-c.invariant.1 in
-    let e =
-    c.in-Some.ensures.finds
-    ∙ ap (λ o. Some (characters_of o, chars c.in-Some.after.now)) c.in_default-c.is in (
-      c.in-Some.ensures.utf8,
-      (
+    let text = chars c.args.text.now in
+    let rest = chars c.loop-c.rest.now in
+    let after = chars c.in-Some.after.now in
+    let finds = c.in-Some.ensures.finds in
+    let past : (characters : List ℕ) × Means false text after characters
+    × (string_bytes c.match-c.to ≡ string_bytes c.args.to.now ++ encode_utf8_all characters) =
+    elim c.match-c.branch [
+      | in-Some-c+in_ok-push w ↦ (
+        i.0 ++ w.in-Some-c.c ∷ [],
+        unit_more false text rest after i.0 (w.in-Some-c.c ∷ []) i.1
+            (finds ∙ ap (λ o. Some (characters_of o, after)) w.in-Some-c.is),
+        ap string_bytes w.to-is
+            ∙ encoded_more _ _ _ i.0 w.in-Some-c.c i.2 w.in_ok-push.ensures.bytes,
+      )
+      | in_default-c w ↦ (
         i.0,
-        subst (Means false (chars c.args.text.now) (chars c.in-Some.after.now)) (append-nil i.0)
-            (unit_more false (chars c.args.text.now) (chars c.loop-c.rest.now)
-            (chars c.in-Some.after.now) i.0 [] i.1 e),
-        i.2,
+        subst (Means false text after) (append-nil i.0)
+            (unit_more false text rest after i.0 [] i.1
+            (finds ∙ ap (λ o. Some (characters_of o, after)) w.in_default-c.is)),
+        ap string_bytes w.to-is ∙ i.2,
+      )
+    ] in
+    let run = c.in_ok-rest-2.ensures.value in (
+      c.in_ok-rest-2.ensures.utf8,
+      (
+        past.0 ++ run.0,
+        run_more false text after _ past.0 run.0 past.1 run.1,
+        run_encoded _ _ _ past.0 run.0 past.2 run.2,
       ),
     )

@@ -1,0 +1,2 @@
+-- Definitions that only contracts of private items cite.
+pub mod Plain
