@@ -2,6 +2,7 @@ mod Bytes
 mod Chars
 mod Codes
 mod Digits
+mod Numerals
 mod Quoted
 mod Read
 mod Runs

@@ -1,14 +1,15 @@
 //! The values of integers.
-ghost use Rattle.std.specs.Prelude.{◌≡◌, ◌<◌, ◌≤◌, ◌+◌, ◌*◌, ◌^◌, Some, SomeIff, ℕ, List, MatchBool, MatchOption};
+ghost use Rattle.std.specs.Prelude.{◌≡◌, ◌<◌, ◌≤◌, ◌+◌, ◌*◌, ◌^◌, Some, SomeIff, ℕ, List, MatchBool, MatchOption, length};
 ghost use Rattle.std.specs.Str.{chars};
 ghost use Rattle.tok_lexical.specs.Numbers.{IsNumberSuffix, has_digit, is_digit_or_underscore, starts_digit};
 ghost use Rattle.tok_lexical.specs.Pieces.{Skips};
+ghost use Rattle.tok_lexical.specs.Scans.{IsRun};
 ghost use Rattle.tok_values.specs.Integers.{ReadsInteger, base_of, integer_fault_words};
 ghost use Rattle.tok_values.specs.Numbers.{is_digits, number};
 
 use std::fmt;
 use std::fmt::{Display, Formatter, Write};
-use tok_lexical::text::{front_of, next_char, past_pair};
+use tok_lexical::text::{begins_with, front_of, next_char, past_pair};
 use tok_lexical::words::is_identifier;
 
 /// The value of an integer literal, and its suffix, which is empty if there is none.
@@ -59,9 +60,9 @@ pub fn number(digits: &str, radix: u32) -> Option<u64>
         (λ n. n ≡ number radix (chars digits.now)) }
 {
     let mut value = 0u64;
-    let mut rest = digits;
-    while let Some((c, after)) = next_char(rest) {
-        if let Some(digit) = c.to_digit(radix) {
+    let mut rest = digits.as_bytes();
+    while let Some((byte, after)) = rest.split_first() {
+        if let Some(digit) = (*byte as char).to_digit(radix) {
             let Some(longer) = appended(value, radix, digit) else {
                 return None;
             };
@@ -72,6 +73,23 @@ pub fn number(digits: &str, radix: u32) -> Option<u64>
     Some(value)
 }
 
+// Counts the digits and underscores at the front.
+fn digits_len(bytes: &[u8], radix: u32) -> usize
+    requires low { 2 ≤ radix }
+    requires high { radix ≤ 16 }
+    ensures { IsRun (is_digit_or_underscore radix) bytes.now 0 (length bytes.now) result }
+{
+    let mut end = 0;
+    while end < bytes.len() {
+        let c = bytes[end] as char;
+        if !(c.is_digit(radix) || c == '_') {
+            return end;
+        }
+        end += 1;
+    }
+    end
+}
+
 // Returns the text after the digits and underscores at the front.
 fn past_digits(text: &str, radix: u32) -> &str
     requires low { 2 ≤ radix }
@@ -79,13 +97,7 @@ fn past_digits(text: &str, radix: u32) -> &str
     ensures { (digits : List ℕ)
         × Skips (is_digit_or_underscore radix) (chars text.now) digits (chars result.now) }
 {
-    let mut rest = text;
-    while let Some((c, after)) = next_char(rest) {
-        if !(c.is_digit(radix) || c == '_') {
-            break;
-        }
-        rest = after;
-    }
+    let (_, rest) = text.split_at(digits_len(text.as_bytes(), radix));
     rest
 }
 
@@ -127,6 +139,10 @@ fn base_of(text: &str) -> (u32, &str)
     ensures low { 2 ≤ result.0 }
     ensures high { result.0 ≤ 16 }
 {
+    // Most integers are decimal.
+    if !begins_with(text, '0') {
+        return (10, text);
+    }
     if let Some(rest) = past_pair(text, '0', 'x') {
         return (16, rest);
     }
@@ -158,8 +174,8 @@ fn is_number_suffix(text: &str, radix: u32) -> bool
 fn starts_digit(text: &str) -> bool
     ensures { result ≡ starts_digit (chars text.now) }
 {
-    match next_char(text) {
-        Some((first, _)) => first.is_digit(10),
+    match text.as_bytes().first() {
+        Some(first) => (*first as char).is_digit(10),
         None => false,
     }
 }

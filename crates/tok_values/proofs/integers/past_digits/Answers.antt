@@ -1,19 +1,22 @@
-use Rattle.std.proofs.Common.{◌≡◌, true, refl, rules}
-use Rattle.std.specs.Char.{is_digit}
-use Rattle.tok_lexical.specs.Numbers.{has_digit, is_digit_or_underscore}
-use Rattle.tok_lexical.proofs.Digits.{digits_more}
+use Rattle.std.proofs.Common.{ℕ, length, subst}
+use Rattle.tok_lexical.specs.Numbers.{is_digit_or_underscore}
+use Rattle.tok_lexical.specs.Scans.{IsRun}
+use Rattle.tok_lexical.proofs.Runs.{run_boundary, skips_run}
+use Rattle.tok_values.proofs.Numerals.{passes_low}
 use Rattle.tok_values.proofs.integers.past_digits.Goals as goal
-use Rattle.tok_values.proofs.integers.past_digits.Goals.{then-is_digit, else-is_digit}
 
-pub loop-c-preserved : goal.loop-c-preserved
-loop-c-preserved c =
-    let i = c.loop-c.invariant.1 in
-    let goes_on : is_digit_or_underscore c.args.radix c.in-Some.c ≡ true =
-    elim c.if-is_digit.branch [
-      | then-is_digit w ↦ search rules
-      | else-is_digit w ↦ search rules
-    ] in
-    let longer =
-    digits_more c.args.radix _ _ _ i.0 c.in-Some.c (has_digit c.args.radix i.0)
-    (is_digit c.in-Some.c c.args.radix) i.1 i.2 refl c.in-Some.ensures.chars goes_on refl in
-    (c.in-Some.ensures.utf8, (longer.0, longer.1, longer.2))
+pub split_at-requires : goal.split_at-requires
+split_at-requires c =
+    run_boundary (is_digit_or_underscore c.args.radix)
+    (λ (x : ℕ). passes_low c.args.radix x c.requires.high) _ _ c.utf8.text
+    (subst (λ w. IsRun (is_digit_or_underscore c.args.radix) w 0 (length w) c.digits_len.result)
+    c.as_bytes.ensures.value c.digits_len.ensures)
+
+pub returns : goal.returns
+returns c =
+    let parts = c.split_at.ensures in
+    skips_run (is_digit_or_underscore c.args.radix)
+    (λ (x : ℕ). passes_low c.args.radix x c.requires.high) _ _ _ _ c.utf8.text parts.front
+    parts.back parts.front_len parts.back_len
+    (subst (λ w. IsRun (is_digit_or_underscore c.args.radix) w 0 (length w) c.digits_len.result)
+    c.as_bytes.ensures.value c.digits_len.ensures)
