@@ -1,3 +1,4 @@
 mod Feeds
 mod Laid
+mod Lanes
 mod Lines

@@ -10,6 +10,7 @@
 //! say which line and which carets are shown (`specs/Shown.antt`).
 #![tactic(auto)]
 
+mod counts;
 mod line;
 mod source;
 

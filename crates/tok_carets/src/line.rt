@@ -4,7 +4,8 @@ ghost use Rattle.std.specs.List.{flat_map, repeat};
 ghost use Rattle.std.specs.Str.{chars};
 ghost use Rattle.tok_carets.specs.Lines.{IsFirstLine, IsLastLine, columns, line_number, marks, shown, within, without_return};
 
-use memchr::{memchr_iter, memrchr};
+use crate::counts::line_feeds;
+use memchr::memrchr;
 use std::alloc::AllocError;
 use tok_lexical::text::{front_of, next_char, past_char, past_first, past_others};
 use unicode_width::UnicodeWidthChar;
@@ -41,7 +42,7 @@ pub fn last_line(text: &str) -> (usize, &str)
     ensures line { IsLastLine (chars text.now) (chars result.1.now) }
 {
     let bytes = text.as_bytes();
-    let number = 1 + memchr_iter(b'\n', bytes).count();
+    let number = 1 + line_feeds(bytes);
     let Some(at) = memrchr(b'\n', bytes) else {
         return (number, text);
     };

@@ -1,18 +1,13 @@
-use Rattle.std.proofs.Common.{ap, arith, inl, length, refl, subst}
-use Rattle.memchr.specs.Find.{is_byte, places}
-use Rattle.memchr.proofs.lemmas.CallerLemmas.{length-places}
+use Rattle.std.proofs.Common.{ap, arith, count_by, inl, refl, subst}
+use Rattle.memchr.specs.Find.{is_byte}
 use Rattle.tok_carets.proofs.Feeds.{LastAt, NoneFrom, feeds_in_bytes, line_after, line_without}
 use Rattle.tok_carets.proofs.line.last_line.Goals as goal
 
 pub returns-in_default-clause-number : goal.returns-in_default-clause-number
 returns-in_default-clause-number c =
-    let text = c.args.text.now in
-    let feeds = feeds_in_bytes text c.utf8.text in
-    let counted = length-places (is_byte 10) text in
-    let found = c.count-number.ensures in
-    let listed = ap length c.memchr_iter.ensures.value in
-    let same = ap (λ xs. length (places (is_byte 10) xs)) c.as_bytes-bytes.ensures.value in
-    omega arith
+    let feeds = feeds_in_bytes c.args.text.now c.utf8.text in
+    let same = ap (count_by (is_byte 10)) c.as_bytes-bytes.ensures.value in
+    omega (arith, c.line_feeds-number.ensures)
 
 pub returns-in_default-clause-line : goal.returns-in_default-clause-line
 returns-in_default-clause-line c = (
@@ -23,13 +18,9 @@ returns-in_default-clause-line c = (
 
 pub returns-clause-number : goal.returns-clause-number
 returns-clause-number c =
-    let text = c.args.text.now in
-    let feeds = feeds_in_bytes text c.utf8.text in
-    let counted = length-places (is_byte 10) text in
-    let found = c.count-number.ensures in
-    let listed = ap length c.memchr_iter.ensures.value in
-    let same = ap (λ xs. length (places (is_byte 10) xs)) c.as_bytes-bytes.ensures.value in
-    omega arith
+    let feeds = feeds_in_bytes c.args.text.now c.utf8.text in
+    let same = ap (count_by (is_byte 10)) c.as_bytes-bytes.ensures.value in
+    omega (arith, c.line_feeds-number.ensures)
 
 pub returns-clause-line : goal.returns-clause-line
 returns-clause-line c =
