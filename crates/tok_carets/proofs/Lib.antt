@@ -1,4 +1,3 @@
 mod Feeds
-mod Laid
 mod Lanes
 mod Lines

@@ -1,18 +1,23 @@
 //! Errors in a text, with its lines.
-ghost use Rattle.std.specs.Prelude.{◌≡◌, IfOk, string_bytes};
+ghost use Rattle.std.specs.Prelude.{◌≡◌, ℕ, ◌++◌, ◌∷◌, [], IfOk, OnOk, decimal, string_bytes};
+ghost use Rattle.std.specs.List.{flat_map, repeat};
 ghost use Rattle.tok_leaves.specs.Spans.{range};
 ghost use Rattle.std.specs.Str.{chars};
 ghost use Rattle.tok_core.specs.Lexical.Errors.{error_span, error_words};
 ghost use Rattle.tok_buffer.specs.Messages.{each_message};
-ghost use Rattle.tok_carets.specs.Shown.{IsPlaced, Shows, ShowsEach, carets, drawn, gutter, words_alone};
-ghost use Rattle.tok_carets.specs.Lines.{marks};
+ghost use Rattle.tok_carets.specs.Shown.{IsPlaced, Shows, ShowsEach, carets, drawn, gutter, heading, place, row, words_alone};
+ghost use Rattle.tok_carets.specs.Lines.{marks, shown};
 
 use crate::line::{
     chars_in, first_line, last_line, push_marks, push_shown, push_times, within, without_return,
 };
+use itoa::Buffer;
 use std::alloc::{AllocError, Global};
 use tok_buffer::Error;
 use tok_core::{LexError, Span};
+
+// How many bytes stand beside the words, the name and the line, with numbers of up to 6 digits.
+const ROOM: usize = 64;
 
 /// A text in which errors are shown: its name, the number that spans have for it, and the text.
 ///
@@ -100,26 +105,59 @@ fn alone(alloc: Global, words: &str) -> Result<String, AllocError>
     format!(in alloc; "error: {words}\n")
 }
 
-// Returns spaces as wide as a line's number.
-fn gutter(alloc: Global, line: usize) -> Result<String, AllocError>
-    ensures { IfOk result (λ out. string_bytes out ≡ gutter line) }
+// Appends the words, and the name of the source, after a gutter so wide.
+fn push_heading(to: &mut String, words: &str, gutter: usize, name: &str) -> Result<(), AllocError>
+    ensures { OnOk result (string_bytes to.new
+        ≡ string_bytes to.old ++ heading words.now (repeat gutter (32 ∷ [])) name.now) }
 {
-    let number = format!(in alloc; "{line}")?;
-    let mut out = String::new(alloc);
-    push_times(&mut out, ' ', number.len())?;
-    Ok(out)
+    to.push_str("error: ")?;
+    to.push_str(words)?;
+    to.push_str("\n")?;
+    push_times(to, ' ', gutter)?;
+    to.push_str("--> ")?;
+    to.push_str(name)?;
+    to.push_str(":")
 }
 
-// Returns the carets under a part of a line.
-fn carets_under(alloc: Global, marked: &str) -> Result<String, AllocError>
-    ensures { IfOk result (λ out. string_bytes out ≡ carets (marks 94 (chars marked.now))) }
+// Appends the place, whose line is written so.
+fn push_place(to: &mut String, line: &str, column: usize) -> Result<(), AllocError>
+    ensures { OnOk result ((number : ℕ) → line.now ≡ decimal number → string_bytes to.new
+        ≡ string_bytes to.old ++ place number column (gutter number)) }
 {
-    let mut out = String::new(alloc);
-    push_marks(&mut out, marked, '^')?;
-    if out.is_empty() {
-        out.push('^')?;
+    to.push_str(line)?;
+    to.push_str(":")?;
+    to.push_str(Buffer::new().format(column))?;
+    to.push_str("\n")?;
+    push_times(to, ' ', line.len())?;
+    to.push_str(" |\n")
+}
+
+// Appends two parts of the line whose number is written so.
+fn push_row(to: &mut String, line: &str, head: &str, tail: &str) -> Result<(), AllocError>
+    ensures { OnOk result ((number : ℕ) → line.now ≡ decimal number → string_bytes to.new
+        ≡ string_bytes to.old ++ row number (flat_map shown (chars head.now))
+        (flat_map shown (chars tail.now)) (gutter number)) }
+{
+    to.push_str(line)?;
+    to.push_str(" | ")?;
+    push_shown(to, head)?;
+    push_shown(to, tail)?;
+    to.push_str("\n")?;
+    push_times(to, ' ', line.len())?;
+    to.push_str(" | ")
+}
+
+// Appends the carets under a part of a line.
+fn push_carets(to: &mut String, marked: &str) -> Result<(), AllocError>
+    ensures { OnOk result (string_bytes to.new
+        ≡ string_bytes to.old ++ carets (marks 94 (chars marked.now))) }
+{
+    let before = to.len();
+    push_marks(to, marked, '^')?;
+    if to.len() == before {
+        to.push('^')?;
     }
-    Ok(out)
+    Ok(())
 }
 
 // Returns the words and the line between these two parts of a text.
@@ -152,18 +190,22 @@ fn drawn(
     ensures { IfOk result (λ out. string_bytes out
         ≡ drawn words.now name.now line (chars head.now) (chars tail.now) (chars marked.now)) }
 {
-    let gutter = gutter(alloc, line)?;
-    let column = chars_in(head) + 1;
-    let mut before = String::new(alloc);
-    push_shown(&mut before, head)?;
-    let mut after = String::new(alloc);
-    push_shown(&mut after, tail)?;
-    let mut blanks = String::new(alloc);
-    push_marks(&mut blanks, head, ' ')?;
-    let carets = carets_under(alloc, marked)?;
-    let heading = format!(in alloc; "error: {words}\n{gutter}--> {name}:")?;
-    let place = format!(in alloc; "{line}:{column}\n{gutter} |\n")?;
-    let row = format!(in alloc; "{line} | {before}{after}\n{gutter} | ")?;
-    let text = format!(in alloc; "{heading}{place}{row}{blanks}{carets}\n")?;
-    Ok(text)
+    let mut buffer = Buffer::new();
+    let number = buffer.format(line);
+    // A tab is wider than it is long, so for long lines this is a guess.
+    let room = words
+        .len()
+        .saturating_add(name.len())
+        .saturating_add(head.len().saturating_mul(2))
+        .saturating_add(tail.len())
+        .saturating_add(marked.len())
+        .saturating_add(ROOM);
+    let mut out = String::with_capacity(alloc, room)?;
+    push_heading(&mut out, words, number.len(), name)?;
+    push_place(&mut out, number, chars_in(head) + 1)?;
+    push_row(&mut out, number, head, tail)?;
+    push_marks(&mut out, head, ' ')?;
+    push_carets(&mut out, marked)?;
+    out.push_str("\n")?;
+    Ok(out)
 }
