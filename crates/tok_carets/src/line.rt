@@ -1,5 +1,5 @@
 //! Lines of a text, and what is shown of one.
-ghost use Rattle.std.specs.Prelude.{◌≡◌, ◌<◌, ◌≤◌, ◌+◌, ◌++◌, ◌∷◌, [], ℕ, List, MatchBool, OnOk, length, string_bytes};
+ghost use Rattle.std.specs.Prelude.{◌≡◌, ◌<◌, ◌≤◌, ◌+◌, ◌++◌, ◌∷◌, [], ℕ, List, OnOk, length, string_bytes};
 ghost use Rattle.std.specs.List.{flat_map, repeat};
 ghost use Rattle.std.specs.Str.{chars};
 ghost use Rattle.tok_carets.specs.Lines.{IsFirstLine, IsLastLine, columns, line_number, marks, shown, within, without_return};
@@ -71,31 +71,14 @@ pub fn chars_in(text: &str) -> usize
     count
 }
 
-// Returns `true` if the text is a carriage return.
-fn is_return(text: &str) -> bool
-    ensures { MatchBool result (chars text.now ≡ 13 ∷ []) (chars text.now ≡ 13 ∷ [] → ⊥) }
-{
-    let Some(rest) = past_char(text, '\r') else {
-        return false;
-    };
-    match next_char(rest) {
-        Some(_) => false,
-        None => true,
-    }
-}
-
 /// Returns the line without the carriage return of its end.
 pub fn without_return(line: &str) -> &str
     ensures { chars result.now ≡ without_return (chars line.now) }
 {
-    let mut rest = line;
-    while let Some((_, after)) = next_char(rest) {
-        if is_return(rest) {
-            return front_of(line, rest);
-        }
-        rest = after;
+    match line.strip_suffix('\r') {
+        Some(front) => front,
+        None => line,
     }
-    line
 }
 
 /// Returns the characters that begin in the first bytes of a text.
@@ -127,15 +110,15 @@ pub fn push_shown(to: &mut String, line: &str) -> Result<(), AllocError>
         (string_bytes to.new ≡ string_bytes to.old ++ flat_map shown (chars line.now)) }
 {
     let mut rest = line;
-    while let Some((c, after)) = next_char(rest) {
-        if c == '\t' {
-            to.push_str("    ")?;
-        } else {
-            to.push(c)?;
-        }
+    loop {
+        let tab = past_others(rest, b'\t', b'\t');
+        to.push_str(front_of(rest, tab))?;
+        let Some(after) = past_char(tab, '\t') else {
+            return Ok(());
+        };
+        to.push_str("    ")?;
         rest = after;
     }
-    Ok(())
 }
 
 /// Appends a mark, so many times.

@@ -7,11 +7,11 @@ use Rattle.std.specs.Str.{chars}
 use Rattle.tok_carets.specs.Lines.{shown}
 use Rattle.tok_carets.proofs.line.push_shown.Given as goal
 
-abbrev pub invariant-loop-c : goal.invariant-loop-c
-invariant-loop-c l =
+abbrev pub invariant-loop-after : goal.invariant-loop-after
+invariant-loop-after l =
     shadow (Utf8 l.rest)
     × (string_bytes l.to ++ flat_map shown (chars l.rest)
     ≡ string_bytes l.fn.to ++ flat_map shown (chars l.fn.line))
 
-abbrev pub decreases-loop-c : goal.decreases-loop-c
-decreases-loop-c l = length l.rest
+abbrev pub decreases-loop-after : goal.decreases-loop-after
+decreases-loop-after l = length l.rest

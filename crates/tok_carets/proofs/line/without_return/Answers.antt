@@ -1,20 +1,16 @@
-use Rattle.std.proofs.Common.{◌∙◌, sym, ap, ◌++◌}
-use Rattle.std.specs.Str.{chars}
-use Rattle.std.proofs.lemmas.List.{append-nil}
-use Rattle.tok_carets.specs.Lines.{without_return}
-use Rattle.tok_carets.proofs.Lines.{return_kept}
+use Rattle.std.proofs.Common.{◌≡◌, ◌++◌, ◌∷◌, [], ℕ, List, arith, subst}
+use Rattle.std.specs.Prelude.{MatchOption}
+use Rattle.std.proofs.lemmas.Str.Pattern.{strip_suffix_char}
+use Rattle.tok_carets.proofs.Lines.{stripped, unstripped}
 use Rattle.tok_carets.proofs.line.without_return.Goals as goal
 
-pub returns-then-is_return : goal.returns-then-is_return
-returns-then-is_return c =
-    let i = c.loop-after.invariant.1 in
-    c.front_of.ensures.is i.0 i.1
-    ∙ sym (i.2 ∙ ap (λ x. i.0 ++ without_return x) c.if-is_return.ensures ∙ append-nil i.0)
+pub returns-in-Some : goal.returns-in-Some
+returns-in-Some c =
+    let line = c.args.line.now in
+    stripped line c.in-Some.front.now c.utf8.line
+    (subst (λ r. MatchOption r ((front : List ℕ) → line ≡ front ++ 13 ∷ [] → ⊥)
+    (λ x. line ≡ x.now ++ 13 ∷ [])) c.in-Some.is
+    (strip_suffix_char 13 line c.strip_suffix.result c.strip_suffix.ensures.cases (omega arith)))
 
-pub loop-after-preserved : goal.loop-after-preserved
-loop-after-preserved c =
-    let i = c.loop-after.invariant.1 in (
-      c.in-Some.ensures.utf8,
-      return_kept (chars c.args.line.now) (chars c.loop-after.rest.now) (chars c.in-Some.after.now)
-          i.0 _ _ i.1 i.2 c.in-Some.ensures.chars c.if-is_return.ensures,
-    )
+pub returns-in-None : goal.returns-in-None
+returns-in-None c = unstripped c.args.line.now c.utf8.line c.in-None.ensures.cases
