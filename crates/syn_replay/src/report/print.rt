@@ -6,6 +6,7 @@ ghost use Rattle.syn_replay.specs.ReportText as spec;
 ghost use Rattle.tok_buffer.specs.Messages.{first_message};
 ghost use Rattle.syn_replay.specs.Meanings.{piece_of, pieces_in, answer_of, position_of, line_of, verdict_of, report_of};
 
+use crate::report::ending::{write_end, write_spanned, write_spanned_end};
 use crate::report::{Answer, Line, Misuse, Piece, Position, Report, Verdict};
 use itoa::Buffer;
 use std::fmt;
@@ -18,12 +19,19 @@ impl fmt::Display for Report {
 
     fn fmt<W: Write>(&self, f: &mut Formatter<W>) -> fmt::Result {
         for line in &self.lines {
-            write_line(f, line)?;
-            f.write_str("\n")?;
+            write_ended(f, line)?;
         }
-        write_verdict(f, &self.verdict)?;
-        f.write_char('\n')
+        write_last(f, &self.verdict)
     }
+}
+
+/// Writes a verdict and its line feed.
+pub fn write_last<W: Write>(f: &mut Formatter<W>, verdict: &Verdict) -> fmt::Result
+    ensures { WritesOnOk W.write_str_gives f.old result
+        (spec.ended (spec.verdict_text (verdict_of verdict.now))) f.new }
+{
+    write_verdict(f, verdict)?;
+    f.write_char('\n')
 }
 
 impl fmt::Display for Line {
@@ -42,6 +50,37 @@ fn write_line<W: Write>(f: &mut Formatter<W>, line: &Line) -> fmt::Result
     write_answer(f, &line.answer)?;
     f.write_str(" ")?;
     write_position(f, line.position)
+}
+
+/// Writes a line and its line feed. Most lines end in a span or a position.
+pub fn write_ended<W: Write>(f: &mut Formatter<W>, line: &Line) -> fmt::Result
+    ensures { WritesOnOk W.write_str_gives f.old result
+        (spec.ended (spec.line_text (line_of line.now))) f.new }
+{
+    match &line.answer {
+        Answer::Read(pieces) if pieces.len() == 1 => write_read(f, &pieces[0], line.position),
+        answer => {
+            write_answer(f, answer)?;
+            write_end(f, line.position)
+        }
+    }
+}
+
+// Writes the line of one piece.
+fn write_read<W: Write>(f: &mut Formatter<W>, piece: &Piece, position: Position) -> fmt::Result
+    ensures { WritesOnOk W.write_str_gives f.old result
+        (spec.ended (codes "read"
+        ++ (spec.piece_text (piece_of piece.now)
+        ++ (codes " " ++ spec.position_text (position_of position))))) f.new }
+{
+    let text = piece.text.as_str();
+    if text.is_empty() {
+        f.write_str("read")?;
+    } else {
+        f.write_str("read ")?;
+        f.write_str(text)?;
+    }
+    write_spanned_end(f, piece.span, position)
 }
 
 impl fmt::Display for Answer {
@@ -119,7 +158,8 @@ impl fmt::Display for Position {
     }
 }
 
-fn write_position<W: Write>(f: &mut Formatter<W>, position: Position) -> fmt::Result
+/// Writes a position.
+pub fn write_position<W: Write>(f: &mut Formatter<W>, position: Position) -> fmt::Result
     ensures { WritesOnOk W.write_str_gives f.old result
         (spec.position_text (position_of position)) f.new }
 {
@@ -166,8 +206,7 @@ fn write_more<W: Write>(f: &mut Formatter<W>, pieces: &[Piece]) -> fmt::Result
 {
     for piece in pieces {
         write_spaced(f, piece.text.as_str())?;
-        f.write_str(" ")?;
-        write_span(f, piece.span)?;
+        write_spanned(f, piece.span)?;
     }
     Ok(())
 }
@@ -193,8 +232,7 @@ fn write_part<W: Write>(f: &mut Formatter<W>, part: &[Piece]) -> fmt::Result
         Some((first, rest)) => {
             f.write_str(" [")?;
             f.write_str(first.text.as_str())?;
-            f.write_str(" ")?;
-            write_span(f, first.span)?;
+            write_spanned(f, first.span)?;
             write_more(f, rest)?;
             f.write_str("]")
         }
@@ -225,7 +263,8 @@ fn write_message<W: Write>(f: &mut Formatter<W>, error: &Error) -> fmt::Result
     f.write_str(error.as_str())
 }
 
-fn write_span<W: Write>(f: &mut Formatter<W>, span: Span) -> fmt::Result
+/// Writes a span.
+pub fn write_span<W: Write>(f: &mut Formatter<W>, span: Span) -> fmt::Result
     ensures { WritesOnOk W.write_str_gives f.old result (spec.span_text span) f.new }
 {
     match span.as_range() {

@@ -1,0 +1,125 @@
+//! The ends of printed lines. Each is written into bytes on the stack, from its last byte on, and
+//! pushed at once.
+ghost use Rattle.std.specs.Prelude.{◌≡◌, ◌+◌, ◌≤◌, ◌<◌, ◌∷◌, ◌++◌, codes, drop};
+ghost use Rattle.std.specs.Fmt.{WritesOnOk, decimal};
+ghost use Rattle.std.specs.Str.{IsAscii};
+ghost use Rattle.syn_replay.specs.ReportText as spec;
+ghost use Rattle.syn_replay.specs.ReportText.{ended};
+ghost use Rattle.syn_replay.specs.Meanings.{position_of};
+
+use crate::report::Position;
+use crate::report::print::{write_position, write_span};
+use itoa::write_digits;
+use std::fmt;
+use std::fmt::{Formatter, Write};
+use std::str::from_utf8_unchecked;
+use tok_core::Span;
+
+// Puts a byte before the bytes from `end` on, and returns where it is.
+fn put(bytes: &mut [u8; 72], byte: u8, end: usize) -> usize
+    requires room { (0 < end) × (end ≤ 72) }
+    requires ascii { byte < 128 }
+    ensures written { drop result bytes.new ≡ byte ∷ drop end bytes.old }
+    ensures place { result + 1 ≡ end }
+    ensures ascii { IsAscii (drop end bytes.old) → IsAscii (drop result bytes.new) }
+{
+    bytes[end - 1] = byte;
+    end - 1
+}
+
+// Puts a number before the bytes from `end` on, and returns where it begins.
+fn put_number(bytes: &mut [u8; 72], number: usize, end: usize) -> usize
+    requires { (20 ≤ end) × (end ≤ 72) }
+    ensures written { drop result bytes.new ≡ decimal number ++ drop end bytes.old }
+    ensures place { (end ≤ result + 20) × (result ≤ end) }
+    ensures ascii { IsAscii (drop end bytes.old) → IsAscii (drop result bytes.new) }
+{
+    write_digits(number as u64, bytes, end)
+}
+
+// Puts a space and a range.
+fn put_range(bytes: &mut [u8; 72], start: usize, stop: usize, end: usize) -> usize
+    requires { (43 ≤ end) × (end ≤ 72) }
+    ensures written { drop result bytes.new
+        ≡ codes " " ++ (decimal start ++ (codes ".." ++ (decimal stop ++ drop end bytes.old))) }
+    ensures place { (end ≤ result + 43) × (result ≤ end) }
+    ensures ascii { IsAscii (drop end bytes.old) → IsAscii (drop result bytes.new) }
+{
+    let at = put_number(bytes, stop, end);
+    let at = put(bytes, b'.', at);
+    let at = put(bytes, b'.', at);
+    let at = put_number(bytes, start, at);
+    put(bytes, b' ', at)
+}
+
+// Puts a space, a place and a line feed at the end of the bytes.
+fn put_place(bytes: &mut [u8; 72], place: usize) -> usize
+    ensures written { drop result bytes.new ≡ codes " @" ++ (decimal place ++ codes "\n") }
+    ensures place { (49 ≤ result) × (result ≤ 72) }
+    ensures ascii { IsAscii (drop result bytes.new) }
+{
+    let at = put(bytes, b'\n', 72);
+    let at = put_number(bytes, place, at);
+    let at = put(bytes, b'@', at);
+    put(bytes, b' ', at)
+}
+
+// Pushes the bytes from `start` on.
+fn push<W: Write>(f: &mut Formatter<W>, bytes: &[u8; 72], start: usize) -> fmt::Result
+    requires within { start ≤ 72 }
+    requires ascii { IsAscii (drop start bytes.now) }
+    ensures { WritesOnOk W.write_str_gives f.old result (drop start bytes.now) f.new }
+{
+    // They are ASCII, so nothing is tested again.
+    f.write_str(unsafe { from_utf8_unchecked(&bytes[start..]) })
+}
+
+/// Writes a space, a position and a line feed.
+pub fn write_end<W: Write>(f: &mut Formatter<W>, position: Position) -> fmt::Result
+    ensures { WritesOnOk W.write_str_gives f.old result
+        (ended (codes " " ++ spec.position_text (position_of position))) f.new }
+{
+    if let Position::At(place) = position {
+        let mut bytes = [0u8; 72];
+        let start = put_place(&mut bytes, place);
+        return push(f, &bytes, start);
+    }
+    f.write_str(" ")?;
+    write_position(f, position)?;
+    f.write_str("\n")
+}
+
+/// Writes a space, a span, a space, a position and a line feed.
+pub fn write_spanned_end<W: Write>(
+    f: &mut Formatter<W>,
+    span: Span,
+    position: Position,
+) -> fmt::Result
+    ensures { WritesOnOk W.write_str_gives f.old result
+        (ended (codes " "
+        ++ (spec.span_text span ++ (codes " " ++ spec.position_text (position_of position)))))
+        f.new }
+{
+    if let (Some((_, start, stop)), Position::At(place)) = (span.as_range(), position) {
+        let mut bytes = [0u8; 72];
+        let at = put_place(&mut bytes, place);
+        let at = put_range(&mut bytes, start, stop, at);
+        return push(f, &bytes, at);
+    }
+    f.write_str(" ")?;
+    write_span(f, span)?;
+    write_end(f, position)
+}
+
+/// Writes a space and a span.
+pub fn write_spanned<W: Write>(f: &mut Formatter<W>, span: Span) -> fmt::Result
+    ensures { WritesOnOk W.write_str_gives f.old result (codes " " ++ spec.span_text span) f.new }
+{
+    if let Some((_, start, stop)) = span.as_range() {
+        let mut bytes = [0u8; 72];
+        let at = put_range(&mut bytes, start, stop, 72);
+        return push(f, &bytes, at);
+    }
+    f.write_str(" ")?;
+    write_span(f, span)
+}
