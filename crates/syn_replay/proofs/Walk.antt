@@ -18,3 +18,4 @@ pub mod Runs
 pub mod Steps
 pub mod Tracks
 pub mod Verdict
+pub mod Written

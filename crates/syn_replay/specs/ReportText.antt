@@ -89,5 +89,9 @@ abbrev pub verdict_text : Verdict → List ℕ
 verdict_text accepted = codes "accepted"
 verdict_text (left_over r) = message_text r
 
+-- lines, each with its line feed
+abbrev pub lines_text : List Line → List ℕ
+lines_text = flat_map (λ l. ended (line_text l))
+
 abbrev pub report_text : Report → List ℕ
 report_text r = flat_map (λ l. ended (line_text l)) r.lines ++ ended (verdict_text r.verdict)

@@ -1,6 +1,7 @@
 //! Reports that agree.
 pub mod both;
 mod same;
+pub mod written;
 
 ghost use Rattle.std.specs.Prelude.{◌≡◌, ◌↔◌, map, true};
 ghost use Rattle.syn_replay.specs.Agree.{AnswersAgree, LinesAgree, ReportsAgree, VerdictsAgree};

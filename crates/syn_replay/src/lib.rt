@@ -11,7 +11,9 @@ mod session;
 
 pub use agreement::agree;
 pub use agreement::both::replay_both;
+pub use agreement::written::{BothTexts, replay_both_texts};
 pub use command::{Command, Kind, Look, Separator, is_transparent};
 pub use forks::is_self_contained;
 pub use report::{Answer, Line, Misuse, Piece, Position, Report, Verdict};
+pub use session::written::replay_onto;
 pub use session::{replay, replay_in};

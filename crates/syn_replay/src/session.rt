@@ -6,6 +6,7 @@ pub mod reads;
 pub mod stream;
 pub mod streams;
 pub mod tokens;
+pub mod written;
 
 ghost use Rattle.std.specs.Prelude.{◌≡◌, ◌<◌, length, Some, None, IfOk, map, true};
 ghost use Rattle.std.specs.List.{slice_get};
@@ -125,7 +126,8 @@ fn misplaced<'a>(streams: &Streams<'a>, command: &Command, misuse: Misuse) -> Po
     }
 }
 
-fn line<'a>(streams: &mut Streams<'a>, command: &Command) -> Result<Line, AllocError>
+/// Runs a command.
+pub fn line<'a>(streams: &mut Streams<'a>, command: &Command) -> Result<Line, AllocError>
     ensures { IfOk result
         (λ l. IsLine l (state_of streams.new) (state_of streams.old) command.now) }
 {
@@ -157,7 +159,8 @@ fn run<'a>(
     Ok(lines)
 }
 
-fn verdict<'a>(streams: &Streams<'a>) -> Result<Verdict, AllocError>
+/// Returns the verdict on stream 0.
+pub fn verdict<'a>(streams: &Streams<'a>) -> Result<Verdict, AllocError>
     ensures { IfOk result
         (λ v. (verdict_of v ≡ verdict (state_of streams.now)) × IsPlainVerdict v) }
 {

@@ -2,7 +2,11 @@
 use replay_program::respond;
 use std::alloc::{AllocError, AllocGlobal, Global};
 use std::process::Abort;
-use syn_replay::{Command, Kind, agree, is_self_contained, is_transparent, replay, replay_both};
+use syn_replay::{
+    Command, Kind, agree, is_self_contained, is_transparent, replay, replay_both,
+    replay_both_texts, replay_onto,
+};
+use tok_buffer::TokenBuffer;
 use tok_core::{LexFault, lex, lex_marked};
 
 fn one(rt: &(impl Abort + AllocGlobal), alloc: Global) -> Result<(), LexFault> {
@@ -24,6 +28,23 @@ fn two(rt: &(impl Abort + AllocGlobal), alloc: Global) -> Result<(), LexFault> {
     Ok(())
 }
 
+fn written(rt: &(impl Abort + AllocGlobal), alloc: Global) -> Result<(), LexFault> {
+    let buffer = TokenBuffer::from_marked(alloc, 0, 0, "a b")?;
+    let commands = [Command::Parse(0, Kind::Ident), Command::Rest(0)];
+    let (text, _) = replay_onto(alloc, &buffer, &commands, String::new(alloc))?;
+    assert_eq!(rt; text.as_str(), "read a 0..1 @1\ntrees b @empty\naccepted\n");
+    Ok(())
+}
+
+fn both_written(rt: &(impl Abort + AllocGlobal), alloc: Global) -> Result<(), LexFault> {
+    let plain = lex(alloc, 0, "a b")?;
+    let marked = lex_marked(alloc, 0, "«a» b")?;
+    let commands = [Command::Parse(0, Kind::Ident)];
+    let both = replay_both_texts(alloc, plain, marked, &commands)?;
+    assert_eq!(rt; both.agree, true);
+    Ok(())
+}
+
 fn contained(rt: &(impl Abort + AllocGlobal)) {
     let commands = [Command::Parse(0, Kind::Ident), Command::Empty(0)];
     assert_eq!(rt; is_self_contained(0, 1, &commands), true);
@@ -41,6 +62,8 @@ fn program(rt: &(impl Abort + AllocGlobal), alloc: Global) -> Result<(), AllocEr
 fn replays(rt: HostRuntime) {
     assert!(rt; one(&rt, rt.alloc()).is_ok());
     assert!(rt; two(&rt, rt.alloc()).is_ok());
+    assert!(rt; written(&rt, rt.alloc()).is_ok());
+    assert!(rt; both_written(&rt, rt.alloc()).is_ok());
     contained(&rt);
     assert!(rt; program(&rt, rt.alloc()).is_ok());
 }

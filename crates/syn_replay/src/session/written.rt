@@ -1,0 +1,98 @@
+//! Runs commands in order over a stream, and writes the report as it goes.
+ghost use Rattle.std.specs.Prelude.{◌≡◌, ◌++◌, IfOk, OnOk, map, string_bytes};
+ghost use Rattle.std.specs.Fmt.{HasWritten, IsPlainFormatter};
+ghost use Rattle.syn_replay.specs.Commands.{command_of};
+ghost use Rattle.syn_replay.specs.Meanings.{line_of, verdict_of};
+ghost use Rattle.syn_replay.specs.ReportText.{ended, line_text, lines_text, report_text, verdict_text};
+ghost use Rattle.syn_replay.specs.Session.Tracks.{state_of};
+ghost use Rattle.syn_replay.specs.Session.Walk.{last_state, lines_from, walk};
+
+use crate::command::Command;
+use crate::report::print::{write_ended, write_last};
+use crate::report::{Line, Verdict};
+use crate::session::streams::Streams;
+use crate::session::{line, verdict};
+use std::alloc::{AllocError, Global};
+use std::fmt::{Formatter, Write};
+use syn_parse::tokens_to_parse_buffer;
+use tok_buffer::TokenBuffer;
+use tok_core::Span;
+
+/// Writes a line and its line feed. An error of the writer counts as a failed allocation, as it does
+/// where a value is formatted.
+pub fn push_line<W: Write>(f: &mut Formatter<W>, line: &Line) -> Result<(), AllocError>
+    ensures { OnOk result (IsPlainFormatter f.old → HasWritten W.write_str_gives f.old
+        (ended (line_text (line_of line.now))) f.new) }
+{
+    match write_ended(f, line) {
+        Ok(()) => Ok(()),
+        Err(_) => Err(AllocError),
+    }
+}
+
+/// Writes a verdict and its line feed.
+pub fn push_verdict<W: Write>(f: &mut Formatter<W>, verdict: &Verdict) -> Result<(), AllocError>
+    ensures { OnOk result (IsPlainFormatter f.old → HasWritten W.write_str_gives f.old
+        (ended (verdict_text (verdict_of verdict.now))) f.new) }
+{
+    match write_last(f, verdict) {
+        Ok(()) => Ok(()),
+        Err(_) => Err(AllocError),
+    }
+}
+
+// Runs commands, and writes the line of each.
+fn run<'a, W: Write>(
+    streams: &mut Streams<'a>,
+    commands: &[Command],
+    f: &mut Formatter<W>,
+) -> Result<(), AllocError>
+    ensures state { OnOk result
+        (state_of streams.new ≡ last_state (state_of streams.old) (map command_of commands.now)) }
+    ensures text { OnOk result (IsPlainFormatter f.old → HasWritten W.write_str_gives f.old
+        (lines_text (lines_from (state_of streams.old) (map command_of commands.now))) f.new) }
+{
+    for command in commands {
+        let line = line(streams, command)?;
+        push_line(f, &line)?;
+    }
+    Ok(())
+}
+
+/// Runs the commands over a buffer, as `replay_in` does, and appends the text of the report to
+/// `text`. Each line is written once its command has run, and no line is kept.
+///
+/// Returns the text and the verdict, or an error if an allocation fails.
+///
+/// # Requires
+///
+/// The number of the buffer must be 0.
+///
+/// # Examples
+///
+/// ```rust
+/// let buffer = TokenBuffer::from_marked(alloc, 0, 0, "a b")?;
+/// let commands = [Command::Parse(0, Kind::Ident), Command::Rest(0)];
+/// let (text, _) = replay_onto(alloc, &buffer, &commands, String::new(alloc))?;
+/// assert_eq!(rt; text.as_str(), "read a 0..1 @1\ntrees b @empty\naccepted\n");
+/// ```
+pub fn replay_onto(
+    alloc: Global,
+    buffer: &TokenBuffer,
+    commands: &[Command],
+    text: String,
+) -> Result<(String, Verdict), AllocError>
+    requires { buffer.now.number ≡ 0 }
+    ensures text { IfOk result (λ r. string_bytes r.0 ≡ string_bytes text
+        ++ report_text (walk buffer.now.forest (map command_of commands.now))) }
+    ensures verdict { IfOk result (λ r. verdict_of r.1
+        ≡ (walk buffer.now.forest (map command_of commands.now)).verdict) }
+{
+    let whole = tokens_to_parse_buffer(alloc, buffer, Span::call_site());
+    let mut streams = Streams::new(alloc, whole.pause())?;
+    let mut f = Formatter::new(text);
+    run(&mut streams, commands, &mut f)?;
+    let verdict = verdict(&streams)?;
+    push_verdict(&mut f, &verdict)?;
+    Ok((f.into_inner(), verdict))
+}
