@@ -10,31 +10,13 @@ use Rattle.std.proofs.lemmas.Bool.{false_from_ne_true}
 use Rattle.std.proofs.lemmas.List.Sums.{fails_before_first, position_or_len_is}
 use Rattle.std.proofs.lemmas.List.Splits.{slice_split_first, slice_split_none, slice_split_at}
 use Rattle.std.proofs.lemmas.List.Splits.{length-slice_split}
-use Rattle.std.proofs.lemmas.Str.Pattern.{IsSplitOnceResult, split_once_first}
 use Rattle.memchr.specs.Find.{IsFirstByte, is_byte}
 use Rattle.std.specs.List.{All, slice_split, after_first, position_or_len}
 use Rattle.std.specs.Str.{IsUtf8}
 use Rattle.replay_program.specs.Input.{lines, is_cut, text_of, texts_in, parts_of, lines_left}
 use Rattle.syn_replay.specs.ReportText.{ended}
 
--- `split_once` at a byte cuts off the first part
-pub split_some : (c : ℕ) (bs : List ℕ) (x : Bor (List ℕ) × Bor (List ℕ))
-    → IsSplitOnceResult c bs (Some x) → c < 128
-    → slice_split (λ b. eqb b c) bs ≡ x.0.now ∷ slice_split (λ b. eqb b c) x.1.now
-split_some c bs x h small =
-    let (inside, front, back) = split_once_first c bs (Some x) h small in
-    slice_split_first (λ b. eqb b c) bs 0 inside
-    ∙ ap (λ z. z ∷ slice_split (λ b. eqb b c) (after_first (λ b. eqb b c) bs)) (sym front)
-    ∙ ap (λ z. x.0.now ∷ slice_split (λ b. eqb b c) z) (sym back)
-
-pub split_none : (c : ℕ) (bs : List ℕ) → IsSplitOnceResult c bs None → c < 128
-    → slice_split (λ b. eqb b c) bs ≡ bs ∷ []
-split_none c bs h small =
-    let past : position_or_len (λ b. eqb b c) bs ≡ length bs = split_once_first c bs None h small in
-    slice_split_none (λ b. eqb b c) bs
-    (λ k d inside. fails_before_first (λ b. eqb b c) bs k d (omega arith))
-
--- a byte that `memchr` finds cuts off the first part
+-- the first such byte cuts off the first part
 pub cut_at : (c : ℕ) (bs front back : List ℕ) (k : ℕ) → IsFirstByte (is_byte c) bs (Some k)
     → front ≡ take k bs → back ≡ drop (k + 1) bs
     → slice_split (λ b. eqb b c) bs ≡ front ∷ slice_split (λ b. eqb b c) back

@@ -1,7 +1,9 @@
 //! The text of commands, one a line.
-ghost use Rattle.std.specs.Prelude.{◌≡◌, ◌∷◌, [], IfOk, IfSome, MatchOption, MatchResult, ℕ, None, Some, false, map};
+ghost use Rattle.std.specs.Prelude.{◌≡◌, ◌<◌, ◌==◌, ◌∷◌, [], length, IfOk, IfSome, MatchOption, MatchResult, ℕ, None, Some, false, map};
 ghost use Rattle.std.specs.Option.{ForSome, option_map};
 ghost use Rattle.std.specs.Str.{IsUtf8};
+ghost use Rattle.std.specs.List.{slice_split};
+ghost use Rattle.memchr.specs.Find.{IsFirstByte, is_byte};
 ghost use Rattle.syn_replay.specs.Commands as commands;
 ghost use Rattle.replay_program.specs.CommandText as spec;
 ghost use Rattle.replay_program.specs.Faults.{IsUnreadableLine, OnUnreadable};
@@ -251,10 +253,17 @@ fn delimiter(word: &str) -> Option<Delimiter>
 fn number(word: &str) -> Option<usize>
     ensures { result ≡ spec.number word.now }
 {
-    if word.len() > 9 || word.starts_with('+') {
+    if word.is_empty() || word.len() > 9 {
         return None;
     }
-    word.parse().ok()
+    let mut value = 0usize;
+    for &byte in word.as_bytes() {
+        if !byte.is_ascii_digit() {
+            return None;
+        }
+        value = value * 10 + usize::from(byte - b'0');
+    }
+    Some(value)
 }
 
 // Returns the command if no words follow it.
@@ -289,13 +298,42 @@ fn first_word(line: &str) -> Option<(&str, &str)>
 {
     let mut rest = line;
     while !rest.is_empty() {
-        let Some((word, after)) = rest.split_once(' ') else {
+        let Some((word, after)) = split_at_space(rest) else {
             return Some((rest, ""));
         };
         if !word.is_empty() {
             return Some((word, after));
         }
         rest = after;
+    }
+    None
+}
+
+// Splits a text at its first space.
+#[inline(always)]
+fn split_at_space(text: &str) -> Option<(&str, &str)>
+    ensures parts { MatchOption result
+        (slice_split (λ b. b == 32) text.now ≡ text.now ∷ [])
+        (λ p. slice_split (λ b. b == 32) text.now
+        ≡ p.0.now ∷ slice_split (λ b. b == 32) p.1.now) }
+    ensures less { IfSome result (λ p. length p.1.now < length text.now) }
+    ensures utf8 { IfSome result (λ p. IsUtf8 p.0.now × IsUtf8 p.1.now) }
+{
+    match first_space(text.as_bytes()) {
+        Some(end) => Some((&text[..end], &text[end + 1..])),
+        None => None,
+    }
+}
+
+// Returns the index of the first space. Most words are too short for a search by vectors.
+#[inline(always)]
+fn first_space(bytes: &[u8]) -> Option<usize>
+    ensures { IsFirstByte (is_byte 32) bytes.now result }
+{
+    for i in 0..bytes.len() {
+        if bytes[i] == b' ' {
+            return Some(i);
+        }
     }
     None
 }
