@@ -1,4 +1,5 @@
 pub mod CommandLines
+pub mod Dashes
 pub mod Failing
 pub mod Fronts
 pub mod Lines

@@ -1,13 +1,13 @@
 //! The program's input.
-ghost use Rattle.std.specs.Prelude.{◌≡◌, ◌∷◌, [], ◌++◌, List, ℕ, IfErr, IfOk, IfSome, Some, None, MatchOption};
-ghost use Rattle.std.specs.List.{slice_split};
+ghost use Rattle.std.specs.Prelude.{◌≡◌, ◌∷◌, [], ◌++◌, List, ℕ, true, false, IfErr, IfOk, IfSome, Some, None, MatchOption};
+ghost use Rattle.std.specs.List.{All, slice_split};
 ghost use Rattle.std.specs.Str.{IsUtf8};
 ghost use Rattle.replay_program.specs.Failures.{reading};
 ghost use Rattle.replay_program.specs.Input as spec;
 ghost use Rattle.syn_replay.specs.ReportText.{ended};
 
 use crate::channel::Source;
-use memchr::memchr;
+use memchr::{memchr, memmem};
 use std::alloc::Global;
 use std::io::ErrorKind;
 
@@ -79,6 +79,9 @@ fn cut(input: Option<&str>) -> Option<(&str, Option<&str>)>
     ensures utf8 { IfSome result (λ p. IsUtf8 p.0.now × IfSome p.1 (λ rest. IsUtf8 rest.now)) }
 {
     let text = input?;
+    if lacks_cuts(text) {
+        return None;
+    }
     let mut left = input;
     while let Some(rest) = left {
         let (line, after) = first_line(rest);
@@ -88,6 +91,16 @@ fn cut(input: Option<&str>) -> Option<(&str, Option<&str>)>
         left = after;
     }
     None
+}
+
+// Returns `true` if the bytes of a line `---` stand nowhere. So it is with most lists of commands.
+fn lacks_cuts(text: &str) -> bool
+    ensures { result ≡ true → All (λ line. spec.is_cut line ≡ false) (spec.lines text.now) }
+{
+    match memmem::find(text.as_bytes(), b"---") {
+        None => true,
+        Some(_) => false,
+    }
 }
 
 /// Returns the first line, and the rest after its line feed.
