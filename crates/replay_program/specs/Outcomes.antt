@@ -1,10 +1,15 @@
--- What the program's outcomes stand for.
+-- What the program's comparison stands for, and what comes of an input.
+use Rattle.std.specs.Prelude.{◌≡◌, ℕ, List, ◌++◌, codes, string_bytes}
 use Rattle.replay_program.specs.Comparison as spec
-use Rattle.syn_replay.specs.Meanings.{report_of}
+use Rattle.replay_program.specs.Comparison.{AreFacts, facts_text, outcome_status, outcome_text}
+use Rattle.replay_program.specs.Program.{HasOutcome}
+use Rattle.tok_core.specs.Forest.{Forest}
+use Rattle.syn_replay.specs.Commands.{Command}
+use Rattle.syn_replay.specs.Meanings.{verdict_of}
+use Rattle.syn_replay.specs.ReportText.{ended, report_text}
+use Rattle.syn_replay.specs.Session.Walk.{walk}
 use Rattle.replay_program.specs.declared.compared.Comparison.{Comparison}
 use Rattle.replay_program.specs.declared.compared.Facts.{Facts}
-use Rattle.replay_program.specs.declared.compared.Outcome.{Outcome}
-use Rattle.replay_program.specs.declared.compared.Outcome.TheVariants.{Reported, Compared}
 
 abbrev pub facts_of : Facts → spec.Facts
 facts_of f =
@@ -16,10 +21,23 @@ facts_of f =
       agree = f.agree;
     }
 
-abbrev pub comparison_of : Comparison → spec.Comparison
-comparison_of c =
-    record { left = report_of c.left; right = report_of c.right; facts = facts_of c.facts }
+-- both texts and the facts
+abbrev pub texts_of : Comparison → List ℕ
+texts_of c =
+    string_bytes c.left
+    ++ (ended (codes "---")
+    ++ (string_bytes c.right ++ (ended (codes "---") ++ facts_text (facts_of c.facts))))
 
-abbrev pub outcome_of : Outcome → spec.Outcome
-outcome_of (Reported r) = spec.reported (report_of r)
-outcome_of (Compared c) = spec.compared (comparison_of c)
+-- the texts and the verdicts are those of the walks of two forests, and the facts are theirs
+pub record HasCompared (f g : Forest) (commands : List Command) (c : Comparison) : Type 0 where
+  pub left : string_bytes c.left ≡ report_text (walk f commands)
+  pub right : string_bytes c.right ≡ report_text (walk g commands)
+  pub left_verdict : verdict_of c.left_verdict ≡ (walk f commands).verdict
+  pub right_verdict : verdict_of c.right_verdict ≡ (walk g commands).verdict
+  pub facts : AreFacts f g commands (facts_of c.facts)
+
+-- all is read, and this text with this status is what comes of it
+abbrev pub Comes : List ℕ → List ℕ → ℕ → Type 0
+Comes bytes printed status =
+    (o : spec.Outcome) × HasOutcome bytes o × (printed ≡ outcome_text o)
+    × (status ≡ outcome_status o)

@@ -1,7 +1,7 @@
 //! Two texts under one list of commands.
 ghost use Rattle.std.specs.Prelude.{◌≡◌, Some, IfOk, map};
 ghost use Rattle.replay_program.specs.Comparison as spec;
-ghost use Rattle.replay_program.specs.Outcomes.{comparison_of};
+ghost use Rattle.replay_program.specs.Outcomes.{HasCompared, texts_of};
 ghost use Rattle.syn_replay.specs.Commands.{command_of};
 ghost use Rattle.syn_replay.specs.Meanings.{verdict_of};
 ghost use Rattle.syn_replay.specs.Transparent as transparent;
@@ -9,7 +9,7 @@ ghost use Rattle.syn_replay.specs.Transparent as transparent;
 use std::alloc::{AllocError, Global};
 use std::fmt;
 use std::fmt::{Formatter, Write};
-use syn_replay::{Command, Report, Verdict, agree, is_transparent, replay_both};
+use syn_replay::{BothTexts, Command, Verdict, is_transparent, replay_both_texts};
 use tok_core::{TokenStream, is_clear, is_filled, same_visible};
 
 /// What holds of two texts and the commands. Each fact is about both texts, or about all commands.
@@ -27,13 +27,17 @@ pub struct Facts {
     pub agree: bool,
 }
 
-/// The reports on two texts, and what holds of them.
+/// The texts of the reports on two texts, their verdicts, and what holds of both.
 #[derive(Drop)]
 pub struct Comparison {
-    /// The report on the first text.
-    pub left: Report,
-    /// The report on the second text.
-    pub right: Report,
+    /// The text of the report on the first text.
+    pub left: String,
+    /// The text of the report on the second text.
+    pub right: String,
+    /// The verdict on the first text.
+    pub left_verdict: Verdict,
+    /// The verdict on the second text.
+    pub right_verdict: Verdict,
     /// What holds of both.
     pub facts: Facts,
 }
@@ -57,51 +61,51 @@ pub fn compare(
     commands: &[Command],
 ) -> Result<Comparison, AllocError>
     ensures { IfOk result
-        (λ c. spec.Compares left right (map command_of commands.now) (comparison_of c)) }
+        (λ c. HasCompared left right (map command_of commands.now) c) }
 {
     let visible = same_visible(alloc, &left, &right)?;
     let filled = is_filled(&left) && is_filled(&right);
     let clear = is_clear(&left) && is_clear(&right);
     let transparent = all_transparent(commands);
-    let (left, right) = replay_both(alloc, left, right, commands)?;
-    let agree = agree(&left, &right);
+    let both = replay_both_texts(alloc, left, right, commands)?;
     let facts = Facts {
         visible,
         filled,
         clear,
         transparent,
-        agree,
+        agree: both.agree,
     };
-    Ok(Comparison { left, right, facts })
+    let BothTexts {
+        left,
+        right,
+        left_verdict,
+        right_verdict,
+        agree: _,
+    } = both;
+    Ok(Comparison {
+        left,
+        right,
+        left_verdict,
+        right_verdict,
+        facts,
+    })
 }
 
-/// What the program prints for an input: a report, or a comparison of two.
-#[derive(Drop)]
-pub enum Outcome {
-    /// The report on one text.
-    Reported(Report),
-    /// The reports on two texts.
-    Compared(Comparison),
-}
-
-impl Outcome {
-    ghost use Rattle.replay_program.specs.Outcomes.{outcome_of};
-
+impl Comparison {
     /// Returns the exit status of the program.
     pub fn status(&self) -> u8
-        ensures { result ≡ spec.outcome_status (outcome_of self.now) }
+        ensures { result ≡ spec.both_status (verdict_of self.now.left_verdict)
+            (verdict_of self.now.right_verdict) }
     {
-        match self {
-            Outcome::Reported(report) => status(&report.verdict),
-            Outcome::Compared(both) => match both.left.verdict {
-                Verdict::Accepted => status(&both.right.verdict),
-                Verdict::Refused(_) => 1,
-            },
+        match self.left_verdict {
+            Verdict::Accepted => status(&self.right_verdict),
+            Verdict::Refused(_) => 1,
         }
     }
 }
 
-fn status(verdict: &Verdict) -> u8
+/// Returns the exit status of the program for one text.
+pub fn status(verdict: &Verdict) -> u8
     ensures { result ≡ spec.verdict_status (verdict_of verdict.now) }
 {
     match verdict {
@@ -137,22 +141,9 @@ impl fmt::Display for Facts {
 }
 
 impl fmt::Display for Comparison {
-    ghost output = { λ c. Some (spec.comparison_text (comparison_of c)) };
+    ghost output = { λ c. Some (texts_of c) };
 
     fn fmt<W: Write>(&self, f: &mut Formatter<W>) -> fmt::Result {
         write!(f, "{}---\n{}---\n{}", self.left, self.right, self.facts)
-    }
-}
-
-impl fmt::Display for Outcome {
-    ghost use Rattle.replay_program.specs.Outcomes.{outcome_of};
-
-    ghost output = { λ o. Some (spec.outcome_text (outcome_of o)) };
-
-    fn fmt<W: Write>(&self, f: &mut Formatter<W>) -> fmt::Result {
-        match self {
-            Outcome::Reported(report) => write!(f, "{report}"),
-            Outcome::Compared(both) => write!(f, "{both}"),
-        }
     }
 }

@@ -8,21 +8,25 @@ mod fault;
 mod input;
 mod output;
 
-ghost use Rattle.std.specs.Prelude.{IfOk, IfSome, MatchResult, Some, string_bytes};
+ghost use Rattle.std.specs.Prelude.{◌≡◌, IfOk, IfSome, MatchResult, Some, map, string_bytes};
 ghost use Rattle.replay_program.specs.Failures.{all_read, reading, writing};
 ghost use Rattle.replay_program.specs.Faults.{OnUnreadable};
-ghost use Rattle.replay_program.specs.Outcomes.{outcome_of};
-ghost use Rattle.replay_program.specs.Program.{HasOutcome, IsForest, IsUnreadable, IsUnreadableOther, Prints, PrintsOnly, Serves, ServesOnly};
+ghost use Rattle.replay_program.specs.Comparison.{Comparison, Compares, both_status, comparison_text, verdict_status};
+ghost use Rattle.replay_program.specs.Outcomes.{Comes};
+ghost use Rattle.syn_replay.specs.Commands.{command_of};
+ghost use Rattle.syn_replay.specs.ReportText.{report_text};
+ghost use Rattle.syn_replay.specs.Session.Walk.{walk};
+ghost use Rattle.replay_program.specs.Program.{IsForest, IsUnreadable, IsUnreadableOther, Prints, PrintsOnly, Serves, ServesOnly};
 
 pub use crate::channel::{Sink, Source};
 use crate::command_text::read_commands;
-use crate::compared::{Outcome, compare};
+use crate::compared::{compare, status};
 use crate::fault::{Fault, Unreadable};
 use crate::input::{ReadFault, parts, read_input};
 use crate::output::send;
 use std::alloc::{AllocError, Global};
 use std::str::from_utf8;
-use syn_replay::replay_in;
+use syn_replay::{Command, replay_onto};
 use tok_buffer::TokenBuffer;
 use tok_core::{TokenStream, lex_marked};
 
@@ -93,16 +97,17 @@ pub fn respond(alloc: Global, input: &[u8]) -> Result<(String, u8), AllocError>
     ensures only { IfOk result (λ p. PrintsOnly input.now (string_bytes p.0) p.1) }
 {
     match outcome(alloc, input) {
-        Ok(outcome) => Ok((outcome.to_string(alloc)?, outcome.status())),
+        Ok((text, status)) => Ok((text, status)),
         Err(Fault::Unreadable(why)) => Ok((format!(in alloc; "{why}\n")?, 2)),
         Err(Fault::Memory) => Err(AllocError),
     }
 }
 
-// Returns the outcome of an input, or the first thing in it that can't be read.
-fn outcome(alloc: Global, input: &[u8]) -> Result<Outcome, Fault>
+// Returns what the program prints for an input and the status, or the first thing in it that can't
+// be read.
+fn outcome(alloc: Global, input: &[u8]) -> Result<(String, u8), Fault>
     ensures { MatchResult result
-        (λ o. HasOutcome input.now (outcome_of o))
+        (λ p. Comes input.now (string_bytes p.0) p.1)
         (λ fault. OnUnreadable fault (IsUnreadable input.now)) }
 {
     let Ok(input) = from_utf8(input) else {
@@ -114,12 +119,43 @@ fn outcome(alloc: Global, input: &[u8]) -> Result<Outcome, Fault>
     let Some(other) = other else {
         let buffer = TokenBuffer::from_marked(alloc, 0, 0, text)?;
         let commands = read_commands(alloc, lines)?;
-        return Ok(Outcome::Reported(replay_in(alloc, &buffer, &commands)?));
+        return told(alloc, &buffer, &commands);
     };
     let stream = lex_marked(alloc, 0, text)?;
     let right = lex_other(alloc, other)?;
     let commands = read_commands(alloc, lines)?;
-    Ok(Outcome::Compared(compare(alloc, stream, right, &commands)?))
+    told_both(alloc, stream, right, &commands)
+}
+
+// Returns the text of the report on a buffer, and the status.
+fn told(alloc: Global, buffer: &TokenBuffer, commands: &[Command]) -> Result<(String, u8), Fault>
+    requires { buffer.now.number ≡ 0 }
+    ensures { MatchResult result
+        (λ p. let report = walk buffer.now.forest (map command_of commands.now) in
+        (string_bytes p.0 ≡ report_text report) × (p.1 ≡ verdict_status report.verdict))
+        (λ fault. fault ≡ Fault.Memory) }
+{
+    let (text, verdict) = replay_onto(alloc, buffer, commands, String::new(alloc))?;
+    let status = status(&verdict);
+    Ok((text, status))
+}
+
+// Returns the text of a comparison of two streams, and the status.
+fn told_both(
+    alloc: Global,
+    left: TokenStream,
+    right: TokenStream,
+    commands: &[Command],
+) -> Result<(String, u8), Fault>
+    ensures { MatchResult result
+        (λ p. (c : Comparison) × Compares left right (map command_of commands.now) c
+        × (string_bytes p.0 ≡ comparison_text c)
+        × (p.1 ≡ both_status c.left.verdict c.right.verdict))
+        (λ fault. fault ≡ Fault.Memory) }
+{
+    let both = compare(alloc, left, right, commands)?;
+    let status = both.status();
+    Ok((both.to_string(alloc)?, status))
 }
 
 // Lexes the second text.

@@ -1,4 +1,4 @@
-use Rattle.std.proofs.Common.{◌≡◌, List, ℕ, Option, Result, Ok, Err, Some, None, ap, sym, subst}
+use Rattle.std.proofs.Common.{◌≡◌, List, ℕ, Option, Result, Ok, Err, Some, None, ap, sym, subst, rules}
 use Rattle.std.proofs.Common.{◌∙◌}
 use Rattle.std.specs.Prelude.{map}
 use Rattle.syn_replay.specs.Commands.{command_of}
@@ -13,11 +13,10 @@ use Rattle.tok_core.specs.declared.lexer.error.LexFault.TheVariants.{Refused, Me
 use Rattle.replay_program.specs.Faults.{OnUnreadable, fault_of}
 use Rattle.replay_program.specs.Input.{lines_left, parts_of, text_in}
 use Rattle.replay_program.specs.CommandText.{unreadable_line}
-use Rattle.replay_program.specs.Comparison.{Compares}
-use Rattle.replay_program.specs.Outcomes.{outcome_of, comparison_of}
-use Rattle.replay_program.specs.Program.{HasOutcome, HasForests, HasParts, IsForest}
+use Rattle.replay_program.specs.Comparison.{Compares, compared, reported}
+use Rattle.replay_program.specs.Program.{HasForests, HasParts, IsForest}
 use Rattle.replay_program.specs.Program.{IsUnreadable, IsUnreadableOther}
-use Rattle.replay_program.specs.declared.compared.Outcome.{Outcome}
+use Rattle.syn_replay.specs.Session.Walk.{walk}
 use Rattle.replay_program.specs.declared.fault.Fault.{Fault}
 use Rattle.replay_program.specs.declared.fault.Fault.TheVariants as faults
 use Rattle.replay_program.specs.declared.fault.Unreadable.TheVariants as why
@@ -46,12 +45,19 @@ other_refused bytes text (Some other) lines h forest r (faults.Unreadable (why.C
     absurd k
 other_refused bytes text other lines h forest r faults.Memory k = tt
 
-refuse : (bytes : List ℕ) (fault : Fault) (r : Result Outcome Fault) → IsErrAnd r (λ f. f ≡ fault)
-    → OnUnreadable fault (IsUnreadable bytes)
-    → MatchResult r (λ o. HasOutcome bytes (outcome_of o))
-    (λ f. OnUnreadable f (IsUnreadable bytes))
-refuse bytes fault (Ok o) e h = absurd e
-refuse bytes fault (Err f) e h = subst (λ f. OnUnreadable f (IsUnreadable bytes)) (sym e) h
+refuse : {A : Type 0} (P : A → Type 0) (bytes : List ℕ) (fault : Fault) (r : Result A Fault)
+    → IsErrAnd r (λ f. f ≡ fault) → OnUnreadable fault (IsUnreadable bytes)
+    → MatchResult r P (λ f. OnUnreadable f (IsUnreadable bytes))
+refuse P bytes fault (Ok o) e h = absurd e
+refuse P bytes fault (Err f) e h = subst (λ f. OnUnreadable f (IsUnreadable bytes)) (sym e) h
+
+-- what is told of all that was read
+told_so : {A : Type 0} (P Q : A → Type 0) (bytes : List ℕ) (r : Result A Fault)
+    → MatchResult r P (λ f. f ≡ faults.Memory) → ((a : A) → P a → Q a)
+    → MatchResult r Q (λ f. OnUnreadable f (IsUnreadable bytes))
+told_so P Q bytes (Ok a) h more = more a h
+told_so P Q bytes (Err f) h more =
+    subst (λ f. OnUnreadable f (IsUnreadable bytes)) (sym h) tt
 
 commands_refused : (bytes : List ℕ) (forest : Forest) (more : Option Forest) (lines : List (List ℕ))
     → HasForests bytes forest more lines → (fault : Fault)
@@ -70,9 +76,39 @@ returns-in_err-buffer c =
     let parts : HasParts bytes text (text_in c.in-Some.other) lines =
     (utf8, ap parts_of (sym same) ∙ c.in-Some.ensures.parts) in
     let fault = c.in_err-buffer.field-0.0 in
-    refuse bytes (fault_of fault) c.from_residual.result c.from_residual.ensures.1
+    refuse _ bytes (fault_of fault) c.from_residual.result c.from_residual.ensures.1
     (text_refused bytes text (text_in c.in-Some.other) lines parts fault
     c.in_err-buffer.ensures.follows.refuses)
+
+pub returns-in_default-other : goal.returns-in_default-other
+returns-in_default-other c =
+    let bytes = c.args.input.now in
+    let text = c.in-Some.text.now in
+    let lines = lines_left c.in-Some.lines in
+    let (same, utf8) = c.in-Ok.ensures.cases in
+    let parts : HasParts bytes text None lines = (
+      utf8,
+      ap parts_of (sym same) ∙ c.in-Some.ensures.parts
+          ∙ ap (λ o. Some (text, text_in o, lines)) c.in_default-other.is,
+    ) in
+    let forest = c.in_ok-buffer.buffer.forest in
+    let read : IsForest text forest = search rules in
+    let cs = map command_of c.deref.result.now in
+    let same_commands =
+    ap (map command_of) c.deref.ensures.value ∙ c.in_ok-commands.ensures.1 in
+    told_so _ _ bytes c.told.result c.told.ensures (λ p (printed, status). (
+      reported (walk forest cs),
+      (
+        forest,
+        None,
+        lines,
+        (text, None, parts, read, tt),
+        c.in_ok-commands.ensures.0,
+        ap (walk forest) same_commands,
+      ),
+      printed,
+      status,
+    ))
 
 pub returns-in_err-stream : goal.returns-in_err-stream
 returns-in_err-stream c =
@@ -87,7 +123,7 @@ returns-in_err-stream c =
           ∙ ap (λ o. Some (text, text_in o, lines)) c.in-Some-other.is,
     ) in
     let fault = c.in_err-stream.field-0.0 in
-    refuse bytes (fault_of fault) c.from_residual-in_err-stream.result
+    refuse _ bytes (fault_of fault) c.from_residual-in_err-stream.result
     c.from_residual-in_err-stream.ensures.1
     (text_refused bytes text (Some other) lines parts fault c.in_err-stream.ensures.refuses)
 
@@ -104,7 +140,7 @@ returns-in_err-right c =
           ∙ ap (λ o. Some (text, text_in o, lines)) c.in-Some-other.is,
     ) in
     let fault = c.in_err-right.field-0.0 in
-    refuse bytes fault c.from_residual-in_err-right.result c.from_residual-in_err-right.ensures.1
+    refuse _ bytes fault c.from_residual-in_err-right.result c.from_residual-in_err-right.ensures.1
     (other_refused bytes text (Some other) lines parts c.in_ok-stream.stream
     c.in_ok-stream.ensures.reads fault
     c.in_err-right.ensures)
@@ -122,7 +158,7 @@ returns-in_err-commands-2 c =
           ∙ ap (λ o. Some (text, text_in o, lines)) c.in-Some-other.is,
     ) in
     let fault = c.in_err-commands-2.field-0.0 in
-    refuse bytes fault c.from_residual-in_err-commands-2.result
+    refuse _ bytes fault c.from_residual-in_err-commands-2.result
     c.from_residual-in_err-commands-2.ensures.1
     (commands_refused bytes c.in_ok-stream.stream (Some c.in_ok-right.right) lines (
       text,
@@ -145,13 +181,19 @@ returns c =
           ∙ ap (λ o. Some (text, text_in o, lines)) c.in-Some-other.is,
     ) in
     let left = c.in_ok-stream.stream in
-    let right = c.in_ok-right.right in (
-      left,
-      Some right,
-      lines,
-      (text, Some other, parts, c.in_ok-stream.ensures.reads, c.in_ok-right.ensures),
-      c.in_ok-commands-2.ensures.0,
-      subst (λ cs. Compares left right cs (comparison_of c.in_ok-compare.field-0))
-          (ap (map command_of) c.deref-2.ensures.value
-          ∙ c.in_ok-commands-2.ensures.1) c.in_ok-compare.ensures,
-    )
+    let right = c.in_ok-right.right in
+    let same_commands =
+    ap (map command_of) c.deref-2.ensures.value ∙ c.in_ok-commands-2.ensures.1 in
+    told_so _ _ bytes c.told_both.result c.told_both.ensures (λ p (x, compares, printed, status). (
+      compared x,
+      (
+        left,
+        Some right,
+        lines,
+        (text, Some other, parts, c.in_ok-stream.ensures.reads, c.in_ok-right.ensures),
+        c.in_ok-commands-2.ensures.0,
+        subst (λ cs. Compares left right cs x) same_commands compares,
+      ),
+      printed,
+      status,
+    ))
