@@ -8,7 +8,7 @@ ghost use Rattle.syn_replay.specs.ReportText.{ended};
 ghost use Rattle.syn_replay.specs.Meanings.{position_of};
 
 use crate::report::Position;
-use crate::report::print::{write_position, write_span};
+use crate::report::place::{write_position, write_span};
 use itoa::write_digits;
 use std::fmt;
 use std::fmt::{Formatter, Write};

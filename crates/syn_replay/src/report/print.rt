@@ -1,18 +1,18 @@
 //! The text of a report.
 ghost use Rattle.std.specs.Prelude.{◌≡◌, ◌++◌, Some, codes, map};
-ghost use Rattle.std.specs.Fmt.{WritesOnOk, decimal};
+ghost use Rattle.std.specs.Fmt.{WritesOnOk};
 ghost use Rattle.std.specs.List.{flat_map};
 ghost use Rattle.syn_replay.specs.ReportText as spec;
 ghost use Rattle.tok_buffer.specs.Messages.{first_message};
 ghost use Rattle.syn_replay.specs.Meanings.{piece_of, pieces_in, answer_of, position_of, line_of, verdict_of, report_of};
 
 use crate::report::ending::{write_end, write_spanned, write_spanned_end};
+use crate::report::place::{write_number, write_position, write_span};
 use crate::report::{Answer, Line, Misuse, Piece, Position, Report, Verdict};
-use itoa::Buffer;
 use std::fmt;
 use std::fmt::{Formatter, Write};
 use tok_buffer::Error;
-use tok_core::{Span, TokenStream};
+use tok_core::TokenStream;
 
 impl fmt::Display for Report {
     ghost output = { λ r. Some (spec.report_text (report_of r)) };
@@ -158,21 +158,6 @@ impl fmt::Display for Position {
     }
 }
 
-/// Writes a position.
-pub fn write_position<W: Write>(f: &mut Formatter<W>, position: Position) -> fmt::Result
-    ensures { WritesOnOk W.write_str_gives f.old result
-        (spec.position_text (position_of position)) f.new }
-{
-    match position {
-        Position::At(n) => {
-            f.write_str("@")?;
-            write_number(f, n)
-        }
-        Position::Empty => f.write_str("@empty"),
-        Position::Missing => f.write_str("@-"),
-    }
-}
-
 impl fmt::Display for Verdict {
     ghost output = { λ v. Some (spec.verdict_text (verdict_of v)) };
 
@@ -261,27 +246,6 @@ fn write_message<W: Write>(f: &mut Formatter<W>, error: &Error) -> fmt::Result
     write_span(f, error.span())?;
     f.write_str(" ")?;
     f.write_str(error.as_str())
-}
-
-/// Writes a span.
-pub fn write_span<W: Write>(f: &mut Formatter<W>, span: Span) -> fmt::Result
-    ensures { WritesOnOk W.write_str_gives f.old result (spec.span_text span) f.new }
-{
-    match span.as_range() {
-        None => f.write_str("call"),
-        Some((_, start, end)) => {
-            write_number(f, start)?;
-            f.write_str("..")?;
-            write_number(f, end)
-        }
-    }
-}
-
-// Writes a number. Most lines have three or more, so `itoa` writes them in place of `Display`.
-fn write_number<W: Write>(f: &mut Formatter<W>, number: usize) -> fmt::Result
-    ensures { WritesOnOk W.write_str_gives f.old result (decimal number) f.new }
-{
-    f.write_str(Buffer::new().format(number))
 }
 
 // Writes a part after a space, or nothing if it is empty.
