@@ -30,18 +30,28 @@ pub fn word(alloc: Global, text: &str, span: Span) -> Result<Vec<Piece>, AllocEr
     Ok(pieces)
 }
 
+// Returns one piece with this text.
+fn one(alloc: Global, text: Text, span: Span) -> Result<Vec<Piece>, AllocError>
+    ensures { IfOk result
+        (λ ps. map piece_of ps.items ≡ record { text = text; span = span } ∷ []) }
+{
+    let mut pieces = Vec::with_capacity(alloc, 1)?;
+    pieces.push_reserved(Piece { text, span });
+    Ok(pieces)
+}
+
 /// Returns the piece of an identifier.
 pub fn ident(alloc: Global, ident: &Ident) -> Result<Vec<Piece>, AllocError>
     ensures { IfOk result (ArePieces (leaf (ident_of ident.now) ∷ [])) }
 {
-    word(alloc, ident.as_str(), ident.span())
+    one(alloc, ident.to_text()?, ident.span())
 }
 
 /// Returns the piece of a literal.
 pub fn literal(alloc: Global, literal: &Literal) -> Result<Vec<Piece>, AllocError>
     ensures { IfOk result (ArePieces (leaf (literal_of literal.now) ∷ [])) }
 {
-    word(alloc, literal.as_str(), literal.span())
+    one(alloc, literal.to_text()?, literal.span())
 }
 
 // Returns the piece of one character.
