@@ -93,7 +93,7 @@ fn cut(input: Option<&str>) -> Option<(&str, Option<&str>)>
     None
 }
 
-// Returns `true` if the bytes of a line `---` stand nowhere. So it is with most lists of commands.
+// Returns `true` if the text has no `---`, as most lists of commands.
 fn lacks_cuts(text: &str) -> bool
     ensures { result ≡ true → All (λ line. spec.is_cut line ≡ false) (spec.lines text.now) }
 {

@@ -1,6 +1,8 @@
 //! The calls of `syn_replay`.
 use std::alloc::{AllocError, Global};
-use syn_replay::{Command, Kind, Look, replay, replay_both, replay_in};
+use syn_replay::{
+    Command, Kind, Look, replay, replay_both, replay_both_texts, replay_in, replay_onto,
+};
 use test_outcomes::memory::{Outcome, Stop, ended, made, worst};
 use tok_buffer::TokenBuffer;
 use tok_core::{Delimiter, lex_marked};
@@ -14,6 +16,8 @@ pub fn calls(alloc: Global) -> Outcome {
         of_buffer(alloc, &commands),
         of_stream(alloc, &commands),
         of_both(alloc, &commands),
+        text_of_buffer(alloc, &commands),
+        texts_of_both(alloc, &commands),
     ])
 }
 
@@ -45,4 +49,17 @@ fn of_both(alloc: Global, commands: &[Command]) -> Outcome {
     let left = made(lex_marked(alloc, 0, "(a b) '«c»"))?;
     let right = made(lex_marked(alloc, 0, TEXT))?;
     ended(replay_both(alloc, left, right, commands))
+}
+
+fn text_of_buffer(alloc: Global, commands: &[Command]) -> Outcome {
+    match TokenBuffer::from_marked(alloc, 0, 0, TEXT) {
+        Ok(buffer) => ended(replay_onto(alloc, &buffer, commands, String::new(alloc))),
+        Err(_) => Err(Stop::Refused),
+    }
+}
+
+fn texts_of_both(alloc: Global, commands: &[Command]) -> Outcome {
+    let left = made(lex_marked(alloc, 0, "(a b) '«c»"))?;
+    let right = made(lex_marked(alloc, 0, TEXT))?;
+    ended(replay_both_texts(alloc, left, right, commands))
 }

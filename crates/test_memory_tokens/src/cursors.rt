@@ -1,6 +1,6 @@
 //! The calls of `tok_buffer` on texts, buffers and cursors, and lifetimes.
 use crate::errors;
-use crate::trees::writes;
+use crate::trees::{SPARSE, writes};
 use std::alloc::{AllocError, Global};
 use test_outcomes::memory::{Outcome, Stop, ended, made, worst};
 use tok_buffer::{Cursor, Lifetime, TokenBuffer};
@@ -30,6 +30,7 @@ fn texts(alloc: Global) -> Outcome {
         ended(TokenBuffer::from_text(alloc, 0, 0, text)),
         ended(TokenBuffer::from_marked(alloc, 0, 0, "«a «()» +»")),
         ended(TokenBuffer::from_source(alloc, 0, Edition::default(), 0, source)),
+        ended(TokenBuffer::from_text(alloc, 0, 0, SPARSE)),
     ])
 }
 

@@ -25,6 +25,15 @@ pub fn calls(alloc: Global) -> Outcome {
 // Longer than a `Text` stores in place, so that each allocates.
 const NAME: &str = "abcdefghijklmnop";
 
+// Longer than the texts that a `Text` stores in one allocation.
+const LONG_NAME: &str = "abcdefghijklmnopqrstuvwxyzabcdefghijklmnopqrstuvwxyz";
+
+/// One name in a text so long that it gets room for its trees at once, and more than it needs.
+pub const SPARSE: &str = "a /* abcdefghijklmnopqrstuvwxyzabcdefghijklmnopqrstuvwxyzabcdefghijklm \
+    abcdefghijklmnopqrstuvwxyzabcdefghijklmnopqrstuvwxyzabcdefghijklmnopqrstuvwxyz \
+    abcdefghijklmnopqrstuvwxyzabcdefghijklmnopqrstuvwxyzabcdefghijklmnopqrstuvwxyz \
+    abcdefghijklmnopqrstuvwxyzabcdefghijklmnopqrstuvwxyzabcdefghijklmnopqrstuv */";
+
 fn idents(alloc: Global) -> Outcome {
     let ident = made(Ident::new_raw(alloc, NAME, Span::call_site()))?;
     let outcomes = [
@@ -57,13 +66,29 @@ fn c_string(alloc: Global) -> Outcome {
 }
 
 fn texts(alloc: Global) -> Outcome {
-    let text = made(Text::from_str(alloc, NAME))?;
-    worst(&[ended::<_, AllocError>(text.clone()), from_string(alloc)])
+    worst(&[text(alloc, NAME), text(alloc, LONG_NAME), roomy(alloc)])
 }
 
-fn from_string(alloc: Global) -> Outcome {
-    let text = made(String::from_str(alloc, NAME))?;
+fn text(alloc: Global, words: &str) -> Outcome {
+    let text = made(Text::from_str(alloc, words))?;
+    worst(&[
+        ended::<_, AllocError>(text.clone()),
+        ended(Text::from_front(alloc, words, words)),
+        from_string(alloc, words),
+    ])
+}
+
+fn from_string(alloc: Global, words: &str) -> Outcome {
+    let text = made(String::from_str(alloc, words))?;
     ended(Text::from_string(alloc, text))
+}
+
+// A text with much unused room is copied, not shared.
+fn roomy(alloc: Global) -> Outcome {
+    let mut words = made(String::with_capacity(alloc, 1_000))?;
+    made(words.push_str(LONG_NAME))?;
+    let text = made(Text::from_string(alloc, words))?;
+    ended::<_, AllocError>(text.clone())
 }
 
 /// Returns a plus.
@@ -139,5 +164,7 @@ fn reads(alloc: Global) -> Outcome {
         )),
         ended(lex_marked(alloc, 0, "«a «()» +»")),
         ended(lex_source(alloc, Edition::default(), 0, source)),
+        ended(lex(alloc, 0, SPARSE)),
+        ended(TokenStream::with_capacity(alloc, 2)),
     ])
 }

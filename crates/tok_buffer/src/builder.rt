@@ -44,8 +44,7 @@ const FEWEST_BYTES: usize = 1 << 8;
 const MOST_BYTES: usize = 1 << 18;
 
 impl EntryBuilder {
-    /// Creates an empty builder, with room for the entries that a text of so many bytes has at
-    /// most, as a rule.
+    /// Creates an empty builder, with room for as many entries as most texts of so many bytes have.
     ///
     /// Returns an error if the allocation fails.
     //
@@ -66,8 +65,8 @@ impl EntryBuilder {
 
     /// Returns the entries, and the end of the buffer after them.
     ///
-    /// If they fill less than half of the room, they move to a vector of their exact number. Returns
-    /// an error if an allocation fails.
+    /// If they fill less than half of a room for 64 or more, they move to a vector of their exact
+    /// number. Returns an error if an allocation fails.
     pub fn into_entries(self) -> Result<Vec<Entry>, AllocError>
         ensures { IfOk result
             (λ v. v.items ≡ (laid self.outer ++ layout self.inner) ++ End 0 ∷ []) }

@@ -77,7 +77,7 @@ impl TokenStream {
 
     /// Creates an empty stream with room for so many trees.
     ///
-    /// Returns an error if the allocation fails. Room for no tree takes none.
+    /// Returns an error if the allocation fails. Room for no tree takes no memory.
     pub fn with_capacity(alloc: Global, capacity: usize) -> Result<TokenStream, AllocError>
         ensures empty { IfOk result (λ s. s ≡ no_trees) }
         ensures succeeds { capacity ≡ 0 → IsOk result }

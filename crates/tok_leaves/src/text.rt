@@ -15,8 +15,8 @@ use std::marker::Model;
 use std::str::from_utf8_unchecked;
 use std::sync::Arc;
 
-// The bytes of a text of up to 47, and how many it has. With the count of the texts that share them
-// they take 56 bytes, of which an allocator wastes none.
+// The bytes of a text of up to 47, and how many it has. With the count of the texts that share them,
+// they take 56 bytes.
 #[derive(Drop)]
 struct Block {
     len: u8,
@@ -81,8 +81,8 @@ impl Text {
     ///
     /// `text` must begin with `piece`.
     //
-    // Fourteen bytes, whatever they are, are copied by two moves. To copy as many as a piece has
-    // takes a call, and its branches are seldom told ahead.
+    // Fourteen bytes, whatever they are, are copied by a few moves. To copy as many as a piece has
+    // takes a call, whose branches are often mispredicted.
     #[inline(always)]
     pub fn from_front(alloc: Global, piece: &str, text: &str) -> Result<Text, AllocError>
         requires { (rest : List ℕ) × (chars text.now ≡ chars piece.now ++ rest) }

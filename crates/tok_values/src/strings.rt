@@ -91,8 +91,8 @@ pub fn is_only(text: &str, ch: char) -> bool
     }
 }
 
-// Returns how much room to ask for before so many bytes are added, of a text of which so many are
-// left after them. It is no more than the value may take, nor than doubling would give.
+// Returns how much room to ask for before `added` bytes are appended and `left` more follow: no more
+// than doubling gives, and no more than the value may take.
 fn room_for(added: usize, left: usize, len: usize, capacity: usize) -> usize {
     let least = len.saturating_add(added);
     // Where a quote alone is left, the append itself asks for just what it takes.

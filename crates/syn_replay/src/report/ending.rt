@@ -1,5 +1,5 @@
-//! The ends of printed lines. Each is written into bytes on the stack, from its last byte on, and
-//! pushed at once.
+//! The ends of printed lines. Each is written into bytes on the stack, backwards, and pushed at
+//! once.
 ghost use Rattle.std.specs.Prelude.{◌≡◌, ◌+◌, ◌≤◌, ◌<◌, ◌∷◌, ◌++◌, codes, drop};
 ghost use Rattle.std.specs.Fmt.{WritesOnOk, decimal};
 ghost use Rattle.std.specs.Str.{IsAscii};
@@ -109,17 +109,4 @@ pub fn write_spanned_end<W: Write>(
     f.write_str(" ")?;
     write_span(f, span)?;
     write_end(f, position)
-}
-
-/// Writes a space and a span.
-pub fn write_spanned<W: Write>(f: &mut Formatter<W>, span: Span) -> fmt::Result
-    ensures { WritesOnOk W.write_str_gives f.old result (codes " " ++ spec.span_text span) f.new }
-{
-    if let Some((_, start, stop)) = span.as_range() {
-        let mut bytes = [0u8; 72];
-        let at = put_range(&mut bytes, start, stop, 72);
-        return push(f, &bytes, at);
-    }
-    f.write_str(" ")?;
-    write_span(f, span)
 }

@@ -6,7 +6,7 @@ ghost use Rattle.syn_replay.specs.ReportText as spec;
 ghost use Rattle.tok_buffer.specs.Messages.{first_message};
 ghost use Rattle.syn_replay.specs.Meanings.{piece_of, pieces_in, answer_of, position_of, line_of, verdict_of, report_of};
 
-use crate::report::ending::{write_end, write_spanned, write_spanned_end};
+use crate::report::ending::{write_end, write_spanned_end};
 use crate::report::place::{write_number, write_position, write_span};
 use crate::report::{Answer, Line, Misuse, Piece, Position, Report, Verdict};
 use std::fmt;
@@ -19,7 +19,8 @@ impl fmt::Display for Report {
 
     fn fmt<W: Write>(&self, f: &mut Formatter<W>) -> fmt::Result {
         for line in &self.lines {
-            write_ended(f, line)?;
+            write_line(f, line)?;
+            f.write_str("\n")?;
         }
         write_last(f, &self.verdict)
     }
@@ -52,7 +53,8 @@ fn write_line<W: Write>(f: &mut Formatter<W>, line: &Line) -> fmt::Result
     write_position(f, line.position)
 }
 
-/// Writes a line and its line feed. Most lines end in a span or a position.
+/// Writes a line and its line feed, in fewer pieces than `Display` writes them. Most lines end in a
+/// span or a position.
 pub fn write_ended<W: Write>(f: &mut Formatter<W>, line: &Line) -> fmt::Result
     ensures { WritesOnOk W.write_str_gives f.old result
         (spec.ended (spec.line_text (line_of line.now))) f.new }
@@ -191,7 +193,8 @@ fn write_more<W: Write>(f: &mut Formatter<W>, pieces: &[Piece]) -> fmt::Result
 {
     for piece in pieces {
         write_spaced(f, piece.text.as_str())?;
-        write_spanned(f, piece.span)?;
+        f.write_str(" ")?;
+        write_span(f, piece.span)?;
     }
     Ok(())
 }
@@ -217,7 +220,8 @@ fn write_part<W: Write>(f: &mut Formatter<W>, part: &[Piece]) -> fmt::Result
         Some((first, rest)) => {
             f.write_str(" [")?;
             f.write_str(first.text.as_str())?;
-            write_spanned(f, first.span)?;
+            f.write_str(" ")?;
+            write_span(f, first.span)?;
             write_more(f, rest)?;
             f.write_str("]")
         }

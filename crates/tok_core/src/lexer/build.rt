@@ -101,8 +101,8 @@ const FEWEST_BYTES: usize = 1 << 8;
 const MOST_BYTES: usize = 1 << 18;
 
 impl TreeBuilder {
-    /// Creates an empty builder, with room for the trees that are open at once in a text of so many
-    /// bytes, as a rule.
+    /// Creates an empty builder, with room for the trees that most texts of so many bytes hold in
+    /// open groups at once.
     ///
     /// Returns an error if the allocation fails.
     pub fn with_room(alloc: Global, bytes: usize) -> Result<TreeBuilder, AllocError>
