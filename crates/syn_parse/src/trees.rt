@@ -36,9 +36,14 @@ fn ident(input: ParseStream<'_, '_>) -> Result<Ident>
     if !accept_as_ident(name) {
         return Err(input.error(format_args!("expected identifier, found keyword `{name}`")));
     }
-    let ident = ident.clone()?;
+    // A short one is returned apart, and so goes through memory once less.
+    if let Some(short) = ident.copied_if_short() {
+        input.move_to(rest);
+        return Ok(short);
+    }
+    let copy = ident.clone()?;
     input.move_to(rest);
-    Ok(ident)
+    Ok(copy)
 }
 
 /// Parses a lifetime whose name is no reserved word, or is `static` or `_`.
@@ -96,9 +101,13 @@ fn literal(input: ParseStream<'_, '_>) -> Result<Literal>
     let Some((literal, rest)) = input.cursor().literal() else {
         return Err(input.refuse("expected literal token"));
     };
-    let literal = literal.clone()?;
+    if let Some(short) = literal.copied_if_short() {
+        input.move_to(rest);
+        return Ok(short);
+    }
+    let copy = literal.clone()?;
     input.move_to(rest);
-    Ok(literal)
+    Ok(copy)
 }
 
 /// Parses a punct other than an apostrophe.

@@ -49,6 +49,30 @@ fn is_quoted(alloc: Global, text: &str, quoted: &str) -> bool {
     }
 }
 
+// Returns `true` if a copy of an identifier is made just for a short text, and equals it.
+fn is_copied_if_short(alloc: Global, text: &str, is_short: bool) -> bool {
+    match Ident::new(alloc, text, Span::source(0, 1, 2)) {
+        Ok(ident) => match ident.copied_if_short() {
+            Some(copy) => is_short && copy == ident && copy.span() == ident.span(),
+            None => !is_short,
+        },
+        Err(_) => false,
+    }
+}
+
+// Does the same for the literal of a text in quotes.
+fn is_quoted_if_short(alloc: Global, text: &str, is_short: bool) -> bool {
+    match Literal::string(alloc, text) {
+        Ok(literal) => match literal.copied_if_short() {
+            Some(copy) => {
+                is_short && copy.as_str() == literal.as_str() && copy.span() == literal.span()
+            }
+            None => !is_short,
+        },
+        Err(_) => false,
+    }
+}
+
 fn all_copied(rt: &(impl Abort + AllocGlobal), rows: &[&str]) {
     for text in rows {
         assert!(rt; is_copied(rt.alloc(), text), "at {text}");
@@ -117,6 +141,52 @@ fn hands_out_texts_of_literals(rt: HostRuntime) {
                 "abcdefghijklmnopqrstuvwxyz0123456789abcdefghijkl",
                 "\"abcdefghijklmnopqrstuvwxyz0123456789abcdefghijkl\"",
             ),
+        ],
+    );
+}
+
+fn all_copied_if_short(rt: &(impl Abort + AllocGlobal), rows: &[(&str, bool)]) {
+    for (text, is_short) in rows {
+        assert!(rt;
+            is_copied_if_short(rt.alloc(), text, *is_short),
+            "at {text}"
+        );
+    }
+}
+
+fn all_quoted_if_short(rt: &(impl Abort + AllocGlobal), rows: &[(&str, bool)]) {
+    for (text, is_short) in rows {
+        assert!(rt;
+            is_quoted_if_short(rt.alloc(), text, *is_short),
+            "at {text}"
+        );
+    }
+}
+
+// 1, 14, 15 and 48 bytes.
+#[test]
+fn copies_short_identifiers(rt: HostRuntime) {
+    all_copied_if_short(
+        &rt,
+        &[
+            ("a", true),
+            ("a_of_14_letter", true),
+            ("a_of_15_letters", false),
+            ("a_name_that_has_48_letters_and_is_a_text_of_heap", false),
+        ],
+    );
+}
+
+// 2, 14, 15 and 49 bytes with the quotes.
+#[test]
+fn copies_short_literals(rt: HostRuntime) {
+    all_quoted_if_short(
+        &rt,
+        &[
+            ("", true),
+            ("of 12 letter", true),
+            ("of 13 letters", false),
+            ("a string of forty-seven letters, and of no more", false),
         ],
     );
 }

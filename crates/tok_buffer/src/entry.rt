@@ -1,6 +1,6 @@
 //! The entries of a buffer: leaves, openings of groups and their ends.
-ghost use Rattle.std.specs.Prelude.{◌≡◌, IfOk};
-ghost use Rattle.tok_core.specs.Forest.{leaf};
+ghost use Rattle.std.specs.Prelude.{◌≡◌, IfOk, OnErr, OnOk};
+ghost use Rattle.tok_core.specs.Forest.{concat, leaf, no_trees, tree};
 ghost use Rattle.tok_core.specs.Seen.{tree_of};
 ghost use Rattle.tok_leaves.specs.Leaves.{leaf_span};
 ghost use Rattle.tok_buffer.specs.Entry.{same_delimiter};
@@ -8,7 +8,7 @@ ghost use Rattle.tok_buffer.specs.Private.Layout.{entry_enclosing, entry_of, lea
 ghost use Rattle.tok_buffer.specs.Spans.{closing_of};
 
 use std::alloc::AllocError;
-use tok_core::{DelimSpan, Delimiter, Ident, Literal, Punct, Span, TokenTree};
+use tok_core::{DelimSpan, Delimiter, Ident, Literal, Punct, Span, TokenStream, TokenTree};
 
 /// The delimiter of a group and its whole span.
 #[derive(Clone, Copy)]
@@ -69,6 +69,31 @@ impl<'a> Leaf<'a> {
             Leaf::Ident(ident) => Ok(TokenTree::Ident(ident.clone()?)),
             Leaf::Punct(punct) => Ok(TokenTree::Punct(*punct)),
             Leaf::Literal(literal) => Ok(TokenTree::Literal(literal.clone()?)),
+        }
+    }
+
+    /// Appends a copy of the leaf to a stream.
+    ///
+    /// Returns an error if an allocation fails. The stream is then unchanged.
+    //
+    // Each kind is appended apart, and so is a short text. If they met before that, each leaf would
+    // go through memory once more.
+    #[inline(always)]
+    pub fn append_to(self, stream: &mut TokenStream) -> Result<(), AllocError>
+        ensures ok { OnOk result
+            (stream.new ≡ concat stream.old (tree (leaf (leaf_in self.entry)) no_trees)) }
+        ensures err { OnErr result (stream.new ≡ stream.old) }
+    {
+        match self {
+            Leaf::Ident(ident) => match ident.copied_if_short() {
+                Some(copy) => stream.append(TokenTree::Ident(copy)),
+                None => stream.append(TokenTree::Ident(ident.clone()?)),
+            },
+            Leaf::Punct(punct) => stream.append(TokenTree::Punct(*punct)),
+            Leaf::Literal(literal) => match literal.copied_if_short() {
+                Some(copy) => stream.append(TokenTree::Literal(copy)),
+                None => stream.append(TokenTree::Literal(literal.clone()?)),
+            },
         }
     }
 }

@@ -165,7 +165,22 @@ impl Clone for TokenStream {
     fn clone(&self) -> Result<TokenStream, AllocError> {
         let mut trees = Vec::with_capacity(self.alloc, self.trees.len())?;
         for next in &self.trees {
-            trees.push(next.clone()?)?;
+            // Each kind is put in its place apart, and so is a short text. If they met before that,
+            // each tree would go through memory once more.
+            match next {
+                TokenTree::Group(group) => {
+                    trees.push_reserved(TokenTree::Group(group.clone()?));
+                }
+                TokenTree::Ident(ident) => match ident.copied_if_short() {
+                    Some(copy) => trees.push_reserved(TokenTree::Ident(copy)),
+                    None => trees.push_reserved(TokenTree::Ident(ident.clone()?)),
+                },
+                TokenTree::Punct(punct) => trees.push_reserved(TokenTree::Punct(*punct)),
+                TokenTree::Literal(literal) => match literal.copied_if_short() {
+                    Some(copy) => trees.push_reserved(TokenTree::Literal(copy)),
+                    None => trees.push_reserved(TokenTree::Literal(literal.clone()?)),
+                },
+            }
         }
         Ok(TokenStream {
             trees,
@@ -204,10 +219,6 @@ impl TokenTree {
 impl Clone for TokenTree {
     ghost is_clone = { λ t u. u ≡ t };
 
-    // Inlined: a stream copies its trees into their places, and a call would return each through
-    // memory.
-    #[cycle(clone)]
-    #[inline(always)]
     fn clone(&self) -> Result<TokenTree, AllocError> {
         match self {
             TokenTree::Group(group) => Ok(TokenTree::Group(group.clone()?)),

@@ -1,5 +1,5 @@
 //! Identifiers.
-ghost use Rattle.std.specs.Prelude.{◌≡◌, ◌++◌, codes, IfOk, IfErr, Err, Some};
+ghost use Rattle.std.specs.Prelude.{◌≡◌, ◌++◌, codes, IfOk, IfErr, IfSome, Err, Some};
 ghost use Rattle.std.specs.Str.{chars};
 ghost use Rattle.tok_leaves.specs.Leaves.{ident, ident_of, leaf_span, leaf_text, make_fault_words, unraw};
 ghost use Rattle.tok_lexical.specs.Words.{IsIdentifier, HasRaw};
@@ -134,6 +134,17 @@ impl Ident {
         ensures { IfOk result (λ t. t ≡ leaf_text (ident_of self.now)) }
     {
         self.text.clone()
+    }
+
+    /// Copies the identifier if its text has at most 14 bytes, which takes no memory. Returns `None`
+    /// for a longer one.
+    #[inline(always)]
+    pub fn copied_if_short(&self) -> Option<Ident>
+        ensures { IfSome result (λ i. i ≡ self.now) }
+    {
+        let text = self.text.copied_if_short()?;
+        let span = self.span;
+        Some(Ident { text, span })
     }
 
     /// Turns the identifier into its text.

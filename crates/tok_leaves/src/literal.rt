@@ -1,5 +1,5 @@
 //! Literals.
-ghost use Rattle.std.specs.Prelude.{◌≡◌, ◌<◌, ◌≤◌, ◌+◌, ℕ, List, ◌++◌, [], ◌∷◌, length, map, slice_index, true, false, codes, string_bytes, IfOk, OnOk, Some};
+ghost use Rattle.std.specs.Prelude.{◌≡◌, ◌<◌, ◌≤◌, ◌+◌, ℕ, List, ◌++◌, [], ◌∷◌, length, map, slice_index, true, false, codes, string_bytes, IfOk, IfSome, OnOk, Some};
 ghost use Rattle.std.specs.Str.{chars, IsUtf8};
 ghost use Rattle.std.specs.CStr.{c_str_bytes};
 ghost use Rattle.tok_leaves.specs.Leaves.{literal, literal_of, leaf_span, leaf_text};
@@ -324,6 +324,17 @@ impl Literal {
         ensures { IfOk result (λ t. t ≡ leaf_text (literal_of self.now)) }
     {
         self.text.clone()
+    }
+
+    /// Copies the literal if its text has at most 14 bytes, which takes no memory. Returns `None` for a
+    /// longer one.
+    #[inline(always)]
+    pub fn copied_if_short(&self) -> Option<Literal>
+        ensures { IfSome result (λ l. l ≡ self.now) }
+    {
+        let text = self.text.copied_if_short()?;
+        let span = self.span;
+        Some(Literal { text, span })
     }
 
     /// Turns the literal into its text.

@@ -1,5 +1,5 @@
 //! Texts that contracts see as their bytes, so that a copy equals its source.
-ghost use Rattle.std.specs.Prelude.{◌≡◌, ◌≤◌, ◌++◌, ℕ, List, length, nat_eq, string_bytes, IfOk, Some};
+ghost use Rattle.std.specs.Prelude.{◌≡◌, ◌≤◌, ◌++◌, ℕ, List, length, nat_eq, take, string_bytes, IfOk, IfSome, Some};
 ghost use Rattle.std.specs.Str.{chars};
 ghost use Rattle.std.specs.Cmp as compared;
 ghost use Rattle.std.specs.Cmp.Lexicographic.{pointwise, slice_cmp, nat_list_eq_equiv, nat_list_cmp_total, texts_ties, texts_po};
@@ -88,25 +88,21 @@ impl Text {
         requires { (rest : List ℕ) × (chars text.now ≡ chars piece.now ++ rest) }
         ensures { IfOk result (λ t. t ≡ piece.now) }
     {
-        if piece.len() <= 14 && text.len() >= 14 {
-            Ok(Text::front(alloc, piece, text))
-        } else {
-            Text::from_str(alloc, piece)
+        match text.as_bytes().split_first_chunk::<14>() {
+            Some((bytes, _)) if piece.len() <= 14 => Ok(Text::front(alloc, piece, bytes)),
+            _ => Text::from_str(alloc, piece),
         }
     }
 
-    // Stores a piece with what follows it in the text, up to 14 bytes.
+    // Stores a piece with what follows it, up to 14 bytes.
     #[inline(always)]
-    fn front(alloc: Global, piece: &str, text: &str) -> Text
+    fn front(alloc: Global, piece: &str, bytes: &[u8; 14]) -> Text
         requires short { length piece.now ≤ 14 }
-        requires long { 14 ≤ length text.now }
-        requires front { (rest : List ℕ) × (chars text.now ≡ chars piece.now ++ rest) }
+        requires front { take (length piece.now) bytes.now ≡ piece.now }
         ensures { result ≡ piece.now }
     {
-        let mut bytes = [0u8; 14];
-        bytes.copy_from_slice(&text.as_bytes()[..14]);
         Text {
-            node: Node::Short(piece.len() as u8, bytes),
+            node: Node::Short(piece.len() as u8, *bytes),
             alloc,
         }
     }
@@ -164,6 +160,23 @@ impl Text {
     {
         let node = Node::Long(Arc::new(alloc, text)?);
         Ok(Text { node, alloc })
+    }
+
+    /// Copies a text of at most 14 bytes, which takes no memory. Returns `None` for a longer one.
+    //
+    // A caller that puts the copy in its place at once, apart from that of a longer text, spares it
+    // the way through memory that two kinds of copies share.
+    #[inline(always)]
+    pub fn copied_if_short(&self) -> Option<Text>
+        ensures { IfSome result (λ t. t ≡ self.now) }
+    {
+        match &self.node {
+            Node::Short(len, kept) => Some(Text {
+                node: Node::Short(*len, *kept),
+                alloc: self.alloc,
+            }),
+            _ => None,
+        }
     }
 
     /// Returns the text.

@@ -161,7 +161,7 @@ fn copy_ahead(
     while position != scope {
         match buffer.entry(position).held() {
             Held::Leaf(leaf) => {
-                stream.append(leaf.copied()?)?;
+                leaf.append_to(&mut stream)?;
                 position += 1;
             }
             Held::Group(group, offset) => {

@@ -30,9 +30,20 @@ returns-then-not-accept_as_ident c =
     c.error.result) c.as_str-name.ensures
     c.error.ensures.words)
 
-pub returns-in_err-ident : goal.returns-in_err-ident
-returns-in_err-ident c =
-    reads-stops IsIdent _ c.args.input.now _ c.from_residual.result c.in_err-ident.field-0.0
+pub returns-in-Some-copied_if_short : goal.returns-in-Some-copied_if_short
+returns-in-Some-copied_if_short c =
+    let i = c.in-Some.ident.now in
+    let h : accept_as_ident i.text ≡ true =
+    ap accept_as_ident (sym c.as_str-name.ensures) ∙ sym c.accept_as_ident.ensures
+    ∙ c.if-not-accept_as_ident.false in
+    let copy : c.in-Some-copied_if_short.short ≡ i = search rules in
+    rw (c.move_to.ensures, copy)
+    (ident-value c.args.input.now i (place_of c.in-Some.rest)
+    (ap read_ident (sym c.cursor.ensures) ∙ c.in-Some.ensures) h)
+
+pub returns-in_err-copy : goal.returns-in_err-copy
+returns-in_err-copy c =
+    reads-stops IsIdent _ c.args.input.now _ c.from_residual.result c.in_err-copy.field-0.0
     c.from_residual.ensures.1
 
 pub returns : goal.returns
@@ -41,7 +52,7 @@ returns c =
     let h : accept_as_ident i.text ≡ true =
     ap accept_as_ident (sym c.as_str-name.ensures) ∙ sym c.accept_as_ident.ensures
     ∙ c.if-not-accept_as_ident.false in
-    let copy : c.in_ok-ident.ident ≡ i = search rules in
-    rw (c.move_to.ensures, copy)
+    let copy : c.in_ok-copy.copy ≡ i = search rules in
+    rw (c.move_to-2.ensures, copy)
     (ident-value c.args.input.now i (place_of c.in-Some.rest)
     (ap read_ident (sym c.cursor.ensures) ∙ c.in-Some.ensures) h)

@@ -1,4 +1,4 @@
-use Rattle.std.proofs.Common.{◌≡◌, ◌∙◌, ◌+◌, sym, ap, arith}
+use Rattle.std.proofs.Common.{◌≡◌, ◌∙◌, ◌+◌, sym, ap, refl, arith}
 use Rattle.tok_core.specs.Forest.{concat, leaf, group}
 use Rattle.tok_core.specs.Seen.{tree_of}
 use Rattle.tok_core.specs.declared.stream.TokenTree.TheVariants as made
@@ -32,10 +32,9 @@ loop-position-preserved-in-Leaf t c =
       within = (place_step 0 n s F i.within c.loop-position-test.true).0;
       before = omega (arith, i.before, c.loop-position-test.true);
       later = omega (arith, i.later);
-      same = tree_copied c.append.new.self c.loop-position.stream (rest_at F (n + 1) s)
-          (rest_at F n s) (leaf (leaf_in c.in-Leaf.leaf))
-          (tree_of c.in_ok-copied-in-Leaf.field-0) (c.in_ok-append-in-Leaf.ensures {u = tt}).ok
-          (c.in_ok-copied-in-Leaf.ensures {u = tt})
+      same = tree_copied c.append_to.new.stream c.loop-position.stream (rest_at F (n + 1) s)
+          (rest_at F n s) (leaf (leaf_in c.in-Leaf.leaf)) (leaf (leaf_in c.in-Leaf.leaf))
+          (c.in_ok-append_to-in-Leaf.ensures {u = tt}).ok refl
           (rest_leaf F n s (leaf_in c.in-Leaf.leaf) i.within c.loop-position-test.true
           (sym c.entry.ensures ∙ c.held.ensures ∙ ap entry_of c.in-Leaf.is)) ∙ i.same;
     }
@@ -103,7 +102,7 @@ loop-position-preserved-in-Group t c =
       within = held_after F n s g k i.within e;
       before = before_scope F (n + k + 1) s (held_after F n s g k i.within e);
       later = omega (arith, i.later);
-      same = tree_copied c.append-in-Group.new.self c.loop-position.stream
+      same = tree_copied c.append.new.self c.loop-position.stream
           (rest_at F (n + k + 1) s) (rest_at F n s) (group g.delimiter inner g.span)
           (tree_of (made.Group c.new-copy.result)) (c.in_ok-append-in-Group.ensures {u = tt}).ok
           (c.new-copy.ensures ∙ ap (λ z. group g.delimiter z g.span)
