@@ -9,10 +9,12 @@ pub mod Inner
 pub mod Inside
 pub mod Left
 pub mod Links
+pub mod Lines
 pub mod Lists
 pub mod Misuse
 pub mod Nesting
 pub mod OnForks
+pub mod Parsed
 pub mod Pieces
 pub mod Runs
 pub mod Steps

@@ -8,48 +8,98 @@ pub mod streams;
 pub mod tokens;
 pub mod written;
 
-ghost use Rattle.std.specs.Prelude.{◌≡◌, ◌<◌, length, Some, None, IfOk, map, true};
-ghost use Rattle.std.specs.List.{slice_get};
+ghost use Rattle.std.specs.Prelude.{◌≡◌, None, Some, IfOk, map, true, false};
+ghost use Rattle.tok_buffer.specs.Cursors.{place_of};
+ghost use Rattle.syn_replay.specs.Session.State as states;
 ghost use Rattle.syn_replay.specs.Session.Step as spec;
-ghost use Rattle.syn_replay.specs.Session.Step.{position_in, step, step_on};
+ghost use Rattle.syn_replay.specs.Session.Step.{position_in, step};
 ghost use Rattle.syn_replay.specs.Session.Acceptance.{IsExact};
 ghost use Rattle.syn_replay.specs.Session.Walk.{verdict, walk};
 ghost use Rattle.syn_replay.specs.Session.Reading.{is_read};
 ghost use Rattle.syn_replay.specs.Commands.{command_of};
+ghost use Rattle.syn_replay.specs.declared.command.Command.TheVariants as program;
 ghost use Rattle.syn_replay.specs.Meanings.{position_of, verdict_of, report_of};
 ghost use Rattle.syn_replay.specs.Session.Stepping.{IsStepped, IsLine, HasRun, IsPlainVerdict, ArePlain, stands};
 ghost use Rattle.syn_replay.specs.Session.Tracks.{state_of};
 
-use crate::command::Command;
+use crate::command::{Command, Kind};
 use crate::report::{Answer, Line, Misuse, Position, Report, Verdict};
 use crate::session::streams::Streams;
 use std::alloc::{AllocError, Global};
 use syn_parse::{Fault, tokens_to_parse_buffer};
-use tok_buffer::TokenBuffer;
+use tok_buffer::{Cursor, TokenBuffer};
 use tok_core::{Span, TokenStream};
 
-// Runs a command that concerns stream `n` alone.
-fn read<'a>(streams: &mut Streams<'a>, n: usize, command: &Command) -> Result<Answer, AllocError>
-    requires here { n < length (state_of streams.old) }
-    requires read { is_read (command_of command.now).action ≡ true }
-    ensures { IfOk result
-        (λ a. IsStepped a (state_of streams.new)
-        (step_on (command_of command.now).action (state_of streams.old) n
-        (slice_get (state_of streams.old) n))) }
+// Returns the position of a stream at this cursor.
+fn position_at(cursor: Cursor<'_>) -> Position
+    ensures { position_of result ≡ states.position_of (place_of cursor.entry) }
 {
-    let mut input = streams.at(n).paused.resume();
-    let answer = reads::answer(&mut input, command);
-    streams.put(n, input.pause());
-    match answer {
-        Ok(answer) => Ok(answer),
-        Err(fault) => streams::refused(fault),
+    match cursor.position() {
+        None => Position::Empty,
+        Some(n) => Position::At(n),
     }
 }
 
-// Runs a command that fits its streams.
+// Runs a command that fits its streams, and that concerns its own alone.
+//
+// The line is made where it is returned, so its answer is moved once. Functions that make lines are
+// out of line: `line` then hands on a whole line. If it made a misuse too, which is one byte, the
+// compiler would move the answer as that byte and the rest.
+#[inline(never)]
+#[tactic(auto, using(crate::proofs::Walk::Misuse::own_there))]
+fn read_line<'a>(streams: &mut Streams<'a>, command: &Command) -> Result<Line, AllocError>
+    requires fits { spec.misuse (command_of command.now) (state_of streams.old) ≡ None }
+    requires read { is_read (command_of command.now).action ≡ true }
+    ensures { IfOk result
+        (λ l. IsLine l (state_of streams.new) (state_of streams.old) command.now) }
+{
+    let n = command.stream_number();
+    let mut input = streams.at(n).paused.resume();
+    let answer = reads::answer(&mut input, command);
+    let position = position_at(input.cursor());
+    streams.put(n, input.pause());
+    match answer {
+        Ok(answer) => Ok(Line { answer, position }),
+        Err(Fault::Refused(error)) => Ok(Line {
+            answer: Answer::Refused(error),
+            position,
+        }),
+        Err(Fault::Memory(error)) => Err(error),
+    }
+}
+
+// Parses a token of this kind from stream `n`, which is open. The pieces go into the line at once,
+// and not by way of an answer.
+#[inline(never)]
+#[tactic(auto, using(crate::proofs::Walk::Misuse::own_there))]
+fn parse_line<'a>(streams: &mut Streams<'a>, n: usize, kind: Kind) -> Result<Line, AllocError>
+    requires { spec.misuse (command_of (program.Parse n kind)) (state_of streams.old) ≡ None }
+    ensures { IfOk result
+        (λ l. IsLine l (state_of streams.new) (state_of streams.old) (program.Parse n kind)) }
+{
+    let mut stream = streams.at(n).paused.resume();
+    let pieces = tokens::parse(&mut stream, kind);
+    let position = position_at(stream.cursor());
+    streams.put(n, stream.pause());
+    match pieces {
+        Ok(pieces) => Ok(Line {
+            answer: Answer::Read(pieces),
+            position,
+        }),
+        Err(Fault::Refused(refusal)) => Ok(Line {
+            answer: Answer::Refused(refusal),
+            position,
+        }),
+        Err(Fault::Memory(error)) => Err(error),
+    }
+}
+
+// Runs a command that fits its streams, and that concerns others beside its own.
+#[inline(never)]
 #[tactic(auto, using(crate::proofs::Walk::Misuse::own_there))]
 fn act<'a>(streams: &mut Streams<'a>, command: &Command) -> Result<Answer, AllocError>
-    requires { spec.misuse (command_of command.now) (state_of streams.old) ≡ None }
+    requires fits { spec.misuse (command_of command.now) (state_of streams.old) ≡ None }
+    requires read { is_read (command_of command.now).action ≡ false }
     ensures { IfOk result
         (λ a. IsStepped a (state_of streams.new)
         (step (command_of command.now) (state_of streams.old))) }
@@ -68,7 +118,8 @@ fn act<'a>(streams: &mut Streams<'a>, command: &Command) -> Result<Answer, Alloc
             streams.close(n);
             Ok(Answer::Done)
         }
-        _ => read(streams, n, command),
+        // The others concern one stream alone.
+        _ => Ok(Answer::Done),
     }
 }
 
@@ -107,10 +158,7 @@ fn position<'a>(streams: &Streams<'a>, n: usize) -> Position
 {
     match streams.get(n) {
         None => Position::Missing,
-        Some(stream) => match stream.paused.cursor().position() {
-            None => Position::Empty,
-            Some(n) => Position::At(n),
-        },
+        Some(stream) => position_at(stream.paused.cursor()),
     }
 }
 
@@ -126,21 +174,57 @@ fn misplaced<'a>(streams: &Streams<'a>, command: &Command, misuse: Misuse) -> Po
     }
 }
 
+// Runs a command that fits its streams, and that concerns others beside its own.
+#[inline(never)]
+fn act_line<'a>(streams: &mut Streams<'a>, command: &Command) -> Result<Line, AllocError>
+    requires fits { spec.misuse (command_of command.now) (state_of streams.old) ≡ None }
+    requires read { is_read (command_of command.now).action ≡ false }
+    ensures { IfOk result
+        (λ l. IsLine l (state_of streams.new) (state_of streams.old) command.now) }
+{
+    match act(streams, command) {
+        Ok(answer) => {
+            let position = position(streams, command.stream_number());
+            Ok(Line { answer, position })
+        }
+        Err(error) => Err(error),
+    }
+}
+
+// Returns the line of a command that doesn't fit its streams.
+#[inline(never)]
+fn misused_line<'a>(
+    streams: &Streams<'a>,
+    command: &Command,
+    misuse: Misuse,
+) -> Result<Line, AllocError>
+    requires { spec.misuse (command_of command.now) (state_of streams.now) ≡ Some misuse }
+    ensures { IfOk result
+        (λ l. IsLine l (state_of streams.now) (state_of streams.now) command.now) }
+{
+    Ok(Line {
+        answer: Answer::Misused(misuse),
+        position: misplaced(streams, command, misuse),
+    })
+}
+
 /// Runs a command.
 pub fn line<'a>(streams: &mut Streams<'a>, command: &Command) -> Result<Line, AllocError>
     ensures { IfOk result
         (λ l. IsLine l (state_of streams.new) (state_of streams.old) command.now) }
 {
     match misuse(streams, command) {
-        Some(misuse) => Ok(Line {
-            answer: Answer::Misused(misuse),
-            position: misplaced(streams, command, misuse),
-        }),
-        None => {
-            let answer = act(streams, command)?;
-            let position = position(streams, command.stream_number());
-            Ok(Line { answer, position })
-        }
+        Some(misuse) => misused_line(streams, command, misuse),
+        None => match command {
+            Command::Enter(_, _)
+            | Command::EnterAny(_)
+            | Command::Fork(_)
+            | Command::Advance(_, _)
+            | Command::Discard(_)
+            | Command::Close(_) => act_line(streams, command),
+            Command::Parse(n, kind) => parse_line(streams, *n, *kind),
+            _ => read_line(streams, command),
+        },
     }
 }
 

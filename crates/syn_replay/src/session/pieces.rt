@@ -88,7 +88,7 @@ pub fn characters(alloc: Global, text: &[u8], spans: &[Span]) -> Result<Vec<Piec
 {
     let mut pieces = Vec::with_capacity(alloc, text.len())?;
     for (&byte, &span) in text.iter().zip(spans) {
-        pieces.push(character(alloc, char::from(byte), span)?)?;
+        pieces.push_reserved(character(alloc, char::from(byte), span)?);
     }
     Ok(pieces)
 }

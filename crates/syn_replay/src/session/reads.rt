@@ -16,6 +16,7 @@ use syn_parse::{Parse, ParseBuffer, ParseStream, Result};
 use tok_core::{Group, TokenStream, TokenTree};
 
 /// Runs a command that concerns no other stream.
+#[inline(never)]
 pub fn answer(input: ParseStream<'_, '_>, command: &Command) -> Result<Answer>
     requires { is_read (command_of command.now).action ≡ true }
     ensures { IsDone (command_of command.now).action input.old result input.new }
@@ -24,6 +25,7 @@ pub fn answer(input: ParseStream<'_, '_>, command: &Command) -> Result<Answer>
         Command::Peek(_, look) => Ok(Answer::Truth(look.peek(input.cursor()))),
         Command::Peek2(_, look) => Ok(Answer::Truth(look.peek2(input.cursor()))),
         Command::Peek3(_, look) => Ok(Answer::Truth(look.peek3(input.cursor()))),
+        // A session runs this one by itself, and its pieces go into the line at once.
         Command::Parse(_, kind) => parse(input, *kind),
         Command::Optional(_, kind) => optional(input, *kind),
         Command::Empty(_) => Ok(Answer::Truth(input.is_empty())),

@@ -1,7 +1,7 @@
 //! Tokens whose kind is known only at run time.
 ghost use Rattle.std.specs.Prelude.{◌≡◌, ◌≤◌, length};
 ghost use Rattle.std.specs.Str.{chars};
-ghost use Rattle.tok_buffer.specs.Reads.{read_keyword, read_punctuation};
+ghost use Rattle.tok_buffer.specs.Reads.{read_keyword, read_punctuation, sized};
 ghost use Rattle.tok_types.specs.Texts.{in_backquotes};
 ghost use Rattle.syn_parse.specs.ErrorWords.{expected, refused_at, punctuation_message};
 ghost use Rattle.syn_replay.specs.Kinds as spec;
@@ -17,43 +17,93 @@ use tok_core::{Ident, Literal, Punct};
 use tok_types::token::{keyword_text, punctuation_text};
 
 /// Parses a token of this kind.
+// Each kind has a function of its own, out of line. A call clears the locals of all its arms at its
+// beginning, so it would clear those of nine kinds for each token.
 pub fn parse(input: ParseStream<'_, '_>, kind: Kind) -> Result<Vec<Piece>>
     ensures { ReadsPieces (spec.read (kind_of kind) input.old.place)
         (spec.kind_message (kind_of kind) input.old) input.old result input.new }
 {
-    let alloc = input.allocator();
     match kind {
-        Kind::Ident => {
-            let ident = Ident::parse(input)?;
-            Ok(pieces::ident(alloc, &ident)?)
-        }
-        Kind::IdentAny => {
-            let ident = Ident::parse_any(input)?;
-            Ok(pieces::ident(alloc, &ident)?)
-        }
-        Kind::Lifetime => {
-            let lifetime = Lifetime::parse(input)?;
-            Ok(pieces::lifetime(alloc, &lifetime)?)
-        }
-        Kind::LifetimeAny => {
-            let lifetime = Lifetime::parse_any(input)?;
-            Ok(pieces::lifetime(alloc, &lifetime)?)
-        }
-        Kind::Literal => {
-            let literal = Literal::parse(input)?;
-            Ok(pieces::literal(alloc, &literal)?)
-        }
-        Kind::Punct => {
-            let punct = Punct::parse(input)?;
-            Ok(pieces::punct(alloc, punct)?)
-        }
+        Kind::Ident => ident(input),
+        Kind::IdentAny => any_ident(input),
+        Kind::Lifetime => lifetime(input),
+        Kind::LifetimeAny => any_lifetime(input),
+        Kind::Literal => literal(input),
+        Kind::Punct => punct(input),
         Kind::Underscore => keyword(input, "_"),
         Kind::Keyword(k) => keyword(input, keyword_text(k)),
         Kind::Punctuation(k) => punctuation(input, punctuation_text(k)),
     }
 }
 
+// Parses an identifier that is no reserved word.
+#[inline(never)]
+fn ident(input: ParseStream<'_, '_>) -> Result<Vec<Piece>>
+    ensures { ReadsPieces (spec.read spec.ident input.old.place)
+        (spec.kind_message spec.ident input.old) input.old result input.new }
+{
+    let alloc = input.allocator();
+    let ident = Ident::parse(input)?;
+    Ok(pieces::ident(alloc, &ident)?)
+}
+
+// Parses an identifier of any text.
+#[inline(never)]
+fn any_ident(input: ParseStream<'_, '_>) -> Result<Vec<Piece>>
+    ensures { ReadsPieces (spec.read spec.ident_any input.old.place)
+        (spec.kind_message spec.ident_any input.old) input.old result input.new }
+{
+    let alloc = input.allocator();
+    let ident = Ident::parse_any(input)?;
+    Ok(pieces::ident(alloc, &ident)?)
+}
+
+// Parses a lifetime whose name is no reserved word, or is `static` or `_`.
+#[inline(never)]
+fn lifetime(input: ParseStream<'_, '_>) -> Result<Vec<Piece>>
+    ensures { ReadsPieces (spec.read spec.lifetime input.old.place)
+        (spec.kind_message spec.lifetime input.old) input.old result input.new }
+{
+    let alloc = input.allocator();
+    let lifetime = Lifetime::parse(input)?;
+    Ok(pieces::lifetime(alloc, &lifetime)?)
+}
+
+// Parses a lifetime of any name.
+#[inline(never)]
+fn any_lifetime(input: ParseStream<'_, '_>) -> Result<Vec<Piece>>
+    ensures { ReadsPieces (spec.read spec.lifetime_any input.old.place)
+        (spec.kind_message spec.lifetime_any input.old) input.old result input.new }
+{
+    let alloc = input.allocator();
+    let lifetime = Lifetime::parse_any(input)?;
+    Ok(pieces::lifetime(alloc, &lifetime)?)
+}
+
+// Parses a literal.
+#[inline(never)]
+fn literal(input: ParseStream<'_, '_>) -> Result<Vec<Piece>>
+    ensures { ReadsPieces (spec.read spec.literal input.old.place)
+        (spec.kind_message spec.literal input.old) input.old result input.new }
+{
+    let alloc = input.allocator();
+    let literal = Literal::parse(input)?;
+    Ok(pieces::literal(alloc, &literal)?)
+}
+
+// Parses a punct other than an apostrophe.
+#[inline(never)]
+fn punct(input: ParseStream<'_, '_>) -> Result<Vec<Piece>>
+    ensures { ReadsPieces (spec.read spec.punct input.old.place)
+        (spec.kind_message spec.punct input.old) input.old result input.new }
+{
+    let alloc = input.allocator();
+    let punct = Punct::parse(input)?;
+    Ok(pieces::punct(alloc, punct)?)
+}
+
 // Parses the identifier with this text.
+#[inline(never)]
 fn keyword(input: ParseStream<'_, '_>, text: &str) -> Result<Vec<Piece>>
     ensures { ReadsPieces (read_keyword text.now input.old.place)
         (refused_at input.old (expected (in_backquotes text.now))) input.old result input.new }
@@ -70,19 +120,23 @@ fn punctuation(input: ParseStream<'_, '_>, text: &str) -> Result<Vec<Piece>>
     ensures { ReadsPieces (read_punctuation text.now input.old.place)
         (punctuation_message text.now input.old) input.old result input.new }
 {
-    let alloc = input.allocator();
     match text.len() {
-        3 => {
-            let spans = parsing::punct::<3>(input, text)?;
-            Ok(pieces::characters(alloc, text.as_bytes(), &spans)?)
-        }
-        2 => {
-            let spans = parsing::punct::<2>(input, text)?;
-            Ok(pieces::characters(alloc, text.as_bytes(), &spans)?)
-        }
-        _ => {
-            let spans = parsing::punct::<1>(input, text)?;
-            Ok(pieces::characters(alloc, text.as_bytes(), &spans)?)
-        }
+        3 => puncts::<3>(input, text),
+        2 => puncts::<2>(input, text),
+        _ => puncts::<1>(input, text),
     }
+}
+
+// Parses the puncts of this text, which is ASCII, of `N` characters or empty.
+#[inline(never)]
+fn puncts<const N: usize>(input: ParseStream<'_, '_>, text: &str) -> Result<Vec<Piece>>
+    requires few { N ≤ 3 }
+    requires length { sized N text.now ≡ text.now }
+    requires ascii { chars text.now ≡ text.now }
+    ensures { ReadsPieces (read_punctuation text.now input.old.place)
+        (punctuation_message text.now input.old) input.old result input.new }
+{
+    let alloc = input.allocator();
+    let spans = parsing::punct::<N>(input, text)?;
+    Ok(pieces::characters(alloc, text.as_bytes(), &spans)?)
 }

@@ -53,8 +53,11 @@ fn run<'a, W: Write>(
         (lines_text (lines_from (state_of streams.old) (map command_of commands.now))) f.new) }
 {
     for command in commands {
-        let line = line(streams, command)?;
-        push_line(f, &line)?;
+        // The line stays where it was returned.
+        match &line(streams, command) {
+            Ok(line) => push_line(f, line)?,
+            Err(_) => return Err(AllocError),
+        }
     }
     Ok(())
 }
