@@ -46,7 +46,9 @@ pub fn read_commands(alloc: Global, lines: Option<&str>) -> Result<Vec<Command>,
         (λ fault. OnUnreadable fault (λ why. (n : ℕ) × (why ≡ unreadable.Command n)
         × (spec.unreadable_line (lines_left lines.entry) ≡ Some n))) }
 {
-    let mut commands = Vec::new(alloc);
+    // Most lines have eight bytes or more, so the commands seldom outgrow their room and move.
+    let bytes = lines.map_or(0, str::len);
+    let mut commands = Vec::with_capacity(alloc, bytes / 8)?;
     let mut number = 0usize;
     let mut left = lines;
     while let Some(rest) = left {

@@ -276,7 +276,7 @@ pub fn replay_in(
     ensures errors { IfOk result (λ r. ArePlain r.lines.items × IsPlainVerdict r.verdict) }
 {
     let whole = tokens_to_parse_buffer(alloc, buffer, Span::call_site());
-    let mut streams = Streams::new(alloc, whole.pause())?;
+    let mut streams = Streams::new(alloc, whole.pause(), commands.len())?;
     let lines = run(alloc, &mut streams, commands)?;
     let verdict = verdict(&streams)?;
     Ok(Report { lines, verdict })

@@ -132,11 +132,13 @@ fn both_onto(
         (walk right.now.forest (map command_of commands.now))) }
 {
     let whole = tokens_to_parse_buffer(alloc, left, Span::call_site());
-    let mut ours = Streams::new(alloc, whole.pause())?;
+    let mut ours = Streams::new(alloc, whole.pause(), commands.len())?;
     let whole = tokens_to_parse_buffer(alloc, right, Span::call_site());
-    let mut theirs = Streams::new(alloc, whole.pause())?;
-    let mut f = Formatter::new(String::new(alloc));
-    let mut g = Formatter::new(String::new(alloc));
+    let mut theirs = Streams::new(alloc, whole.pause(), commands.len())?;
+    // Most lines have fewer than 24 bytes.
+    let room = commands.len().saturating_mul(24);
+    let mut f = Formatter::new(String::with_capacity(alloc, room)?);
+    let mut g = Formatter::new(String::with_capacity(alloc, room)?);
     let lines_agree = run(&mut ours, &mut theirs, commands, &mut f, &mut g)?;
     let left_verdict = verdict(&ours)?;
     let right_verdict = verdict(&theirs)?;

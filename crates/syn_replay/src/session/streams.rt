@@ -40,13 +40,14 @@ impl<'a> Streams<'a> {
     ghost use Rattle.syn_replay.specs.Session.Stream.{stream_of};
     ghost use Rattle.syn_replay.specs.Session.Tracks.{state_of};
 
-    /// Creates the list with the whole stream.
-    pub fn new(alloc: Global, whole: Paused<'a>) -> Result<Self, AllocError>
+    /// Creates the list with the whole stream, for so many commands. In long lists, about one in
+    /// eight makes a stream.
+    pub fn new(alloc: Global, whole: Paused<'a>, commands: usize) -> Result<Self, AllocError>
         ensures { IfOk result
             (λ s. state_of s ≡ standing (paused_state whole.entry) outermost true ∷ []) }
     {
-        let mut list = Vec::new(alloc);
-        list.push(Stream::new(alloc, whole, None))?;
+        let mut list = Vec::with_capacity(alloc, commands / 8 + 4)?;
+        list.push_reserved(Stream::new(alloc, whole, None));
         Ok(Streams { list })
     }
 

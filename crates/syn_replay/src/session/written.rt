@@ -92,7 +92,7 @@ pub fn replay_onto(
         ≡ (walk buffer.now.forest (map command_of commands.now)).verdict) }
 {
     let whole = tokens_to_parse_buffer(alloc, buffer, Span::call_site());
-    let mut streams = Streams::new(alloc, whole.pause())?;
+    let mut streams = Streams::new(alloc, whole.pause(), commands.len())?;
     let mut f = Formatter::new(text);
     run(&mut streams, commands, &mut f)?;
     let verdict = verdict(&streams)?;
