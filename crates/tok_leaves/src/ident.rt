@@ -1,5 +1,5 @@
 //! Identifiers.
-ghost use Rattle.std.specs.Prelude.{◌≡◌, ◌++◌, codes, IfOk, IfErr, IfSome, Err, Some};
+ghost use Rattle.std.specs.Prelude.{◌≡◌, ◌++◌, ◌≤◌, length, codes, IfOk, IfErr, SomeIff, Err, Some};
 ghost use Rattle.std.specs.Str.{chars};
 ghost use Rattle.tok_leaves.specs.Leaves.{ident, ident_of, leaf_span, leaf_text, make_fault_words, unraw};
 ghost use Rattle.tok_lexical.specs.Words.{IsIdentifier, HasRaw};
@@ -140,7 +140,7 @@ impl Ident {
     /// for a longer one.
     #[inline(always)]
     pub fn copied_if_short(&self) -> Option<Ident>
-        ensures { IfSome result (λ i. i ≡ self.now) }
+        ensures { SomeIff result (length (leaf_text (ident_of self.now)) ≤ 14) self.now }
     {
         let text = self.text.copied_if_short()?;
         let span = self.span;

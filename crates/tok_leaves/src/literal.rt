@@ -1,5 +1,5 @@
 //! Literals.
-ghost use Rattle.std.specs.Prelude.{◌≡◌, ◌<◌, ◌≤◌, ◌+◌, ℕ, List, ◌++◌, [], ◌∷◌, length, map, slice_index, true, false, codes, string_bytes, IfOk, IfSome, OnOk, Some};
+ghost use Rattle.std.specs.Prelude.{◌≡◌, ◌<◌, ◌≤◌, ◌+◌, ℕ, List, ◌++◌, [], ◌∷◌, length, map, slice_index, true, false, codes, string_bytes, IfOk, SomeIff, OnOk, Some};
 ghost use Rattle.std.specs.Str.{chars, IsUtf8};
 ghost use Rattle.std.specs.CStr.{c_str_bytes};
 ghost use Rattle.tok_leaves.specs.Leaves.{literal, literal_of, leaf_span, leaf_text};
@@ -330,7 +330,7 @@ impl Literal {
     /// longer one.
     #[inline(always)]
     pub fn copied_if_short(&self) -> Option<Literal>
-        ensures { IfSome result (λ l. l ≡ self.now) }
+        ensures { SomeIff result (length (leaf_text (literal_of self.now)) ≤ 14) self.now }
     {
         let text = self.text.copied_if_short()?;
         let span = self.span;

@@ -1,5 +1,5 @@
 //! Texts that contracts see as their bytes, so that a copy equals its source.
-ghost use Rattle.std.specs.Prelude.{◌≡◌, ◌≤◌, ◌++◌, ℕ, List, length, nat_eq, take, string_bytes, IfOk, IfSome, Some};
+ghost use Rattle.std.specs.Prelude.{◌≡◌, ◌<◌, ◌≤◌, ◌++◌, ℕ, List, length, nat_eq, take, string_bytes, IfOk, SomeIff, Some};
 ghost use Rattle.std.specs.Str.{chars};
 ghost use Rattle.std.specs.Cmp as compared;
 ghost use Rattle.std.specs.Cmp.Lexicographic.{pointwise, slice_cmp, nat_list_eq_equiv, nat_list_cmp_total, texts_ties, texts_po};
@@ -138,7 +138,8 @@ impl Text {
     // Kept out of line, as `long`.
     #[inline(never)]
     fn medium(alloc: Global, text: &str) -> Result<Text, AllocError>
-        requires { length text.now ≤ 47 }
+        requires long { 14 < length text.now }
+        requires short { length text.now ≤ 47 }
         ensures { IfOk result (λ t. t ≡ text.now) }
     {
         let mut bytes = [0u8; 47];
@@ -156,6 +157,7 @@ impl Text {
     // registers.
     #[inline(never)]
     fn long(alloc: Global, text: String) -> Result<Text, AllocError>
+        requires { 14 < length (string_bytes text) }
         ensures { IfOk result (λ t. t ≡ string_bytes text) }
     {
         let node = Node::Long(Arc::new(alloc, text)?);
@@ -168,7 +170,7 @@ impl Text {
     // the way through memory that two kinds of copies share.
     #[inline(always)]
     pub fn copied_if_short(&self) -> Option<Text>
-        ensures { IfSome result (λ t. t ≡ self.now) }
+        ensures { SomeIff result (length self.now ≤ 14) self.now }
     {
         match &self.node {
             Node::Short(len, kept) => Some(Text {
