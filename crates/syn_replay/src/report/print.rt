@@ -1,10 +1,9 @@
 //! The text of a report.
 ghost use Rattle.std.specs.Prelude.{◌≡◌, ◌++◌, Some, codes, map};
-ghost use Rattle.std.specs.Fmt.{WritesOnOk, decimal};
+ghost use Rattle.std.specs.Fmt.{WritesOnOk};
 ghost use Rattle.std.specs.List.{flat_map};
 ghost use Rattle.syn_replay.specs.ReportText as spec;
 ghost use Rattle.tok_buffer.specs.Messages.{first_message};
-ghost use Rattle.tok_lexical.specs.Delimiters.{opening};
 ghost use Rattle.syn_replay.specs.Meanings.{piece_of, pieces_in, answer_of, position_of, line_of, verdict_of, report_of};
 
 use crate::report::ending::{write_end, write_spanned_end};
@@ -13,7 +12,7 @@ use crate::report::{Answer, Line, Misuse, Piece, Position, Report, Verdict};
 use std::fmt;
 use std::fmt::{Formatter, Write};
 use tok_buffer::Error;
-use tok_core::{Delimiter, TokenStream};
+use tok_core::TokenStream;
 
 impl fmt::Display for Report {
     ghost output = { λ r. Some (spec.report_text (report_of r)) };
@@ -62,14 +61,6 @@ pub fn write_ended<W: Write>(f: &mut Formatter<W>, line: &Line) -> fmt::Result
 {
     match &line.answer {
         Answer::Read(pieces) if pieces.len() == 1 => write_read(f, &pieces[0], line.position),
-        Answer::Entered(number, delimiter, span) => {
-            write_entered(f, *number, *delimiter)?;
-            write_spanned_end(f, span.join(), line.position)
-        }
-        Answer::At(span) => {
-            f.write_str("span")?;
-            write_spanned_end(f, *span, line.position)
-        }
         answer => {
             write_answer(f, answer)?;
             write_end(f, line.position)
@@ -94,17 +85,6 @@ fn write_read<W: Write>(f: &mut Formatter<W>, piece: &Piece, position: Position)
     write_spanned_end(f, piece.span, position)
 }
 
-// Writes the number of a group's stream, and the group's opening delimiter.
-fn write_entered<W: Write>(f: &mut Formatter<W>, number: usize, delimiter: Delimiter) -> fmt::Result
-    ensures { WritesOnOk W.write_str_gives f.old result
-        (codes "entered " ++ (decimal number ++ (codes " " ++ opening delimiter))) f.new }
-{
-    f.write_str("entered ")?;
-    write_number(f, number)?;
-    f.write_str(" ")?;
-    f.write_str(delimiter.opening())
-}
-
 impl fmt::Display for Answer {
     ghost output = { λ a. Some (spec.answer_text (answer_of a)) };
 
@@ -122,7 +102,10 @@ fn write_answer<W: Write>(f: &mut Formatter<W>, answer: &Answer) -> fmt::Result
         Answer::Truth(false) => f.write_str("false"),
         Answer::Read(pieces) => write_pieces(f, pieces),
         Answer::Entered(number, delimiter, span) => {
-            write_entered(f, *number, *delimiter)?;
+            f.write_str("entered ")?;
+            write_number(f, *number)?;
+            f.write_str(" ")?;
+            f.write_str(delimiter.opening())?;
             f.write_str(" ")?;
             write_span(f, span.join())
         }
