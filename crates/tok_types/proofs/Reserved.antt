@@ -1,6 +1,6 @@
 -- The reserved texts by their first byte.
 use Rattle.std.proofs.Common.{◌≡◌, ◌∙◌, ◌<◌, sym, ap, refl, ℕ, Bool, true, false, ◌||◌, ◌&&◌}
-use Rattle.std.proofs.Common.{cond, drop, List, [], ◌∷◌, Bor, length, get_or, arith}
+use Rattle.std.proofs.Common.{cond, List, [], ◌∷◌, Bor, length, get_or, arith}
 use Rattle.std.specs.Prelude.{bytes_eq, ◌==◌}
 use Rattle.std.specs.List.{list_all, list_any}
 use Rattle.std.proofs.lemmas.Bool.{false≢true, eqb-true, and_parts}
@@ -19,18 +19,20 @@ among_beginning ((d ∷ t) ∷ ts) c s = go (d == c) refl (among_beginning ts c 
     go true e more = ap (λ w. bytes_eq (d ∷ t) (c ∷ s) || w) more
     go false e more = more ∙ ap (λ w. (w && bytes_eq t s) || is_among ts (c ∷ s)) (sym e)
 
--- a text is among the reserved ones that begin as it does, or among none
+-- the texts of a table
+among_rows : (rows : List (Bor (List ℕ))) (text : List ℕ) →
+    list_any (λ (row : Bor (List ℕ)). bytes_eq row.now text) rows ≡ is_among (texts_of rows) text
+among_rows [] text = refl
+among_rows (row ∷ rows) text = ap (λ w. bytes_eq row.now text || w) (among_rows rows text)
+
 pub rows_tell_reserved : (rows : List (Bor (List ℕ))) (text : List ℕ) (first : ℕ) →
     0 < length text → first ≡ get_or text 0 0 → texts_of rows ≡ beginning first reserved →
-    is_among (texts_of rows) text ≡ is_among reserved text
+    list_any (λ (row : Bor (List ℕ)). bytes_eq row.now text) rows ≡ is_among reserved text
 rows_tell_reserved rows [] first l f e = absurd (omega arith)
 rows_tell_reserved rows (c ∷ s) first l f e =
-    ap (λ ts. is_among ts (c ∷ s)) (e ∙ ap (λ w. beginning w reserved) f)
+    among_rows rows (c ∷ s)
+    ∙ ap (λ ts. is_among ts (c ∷ s)) (e ∙ ap (λ w. beginning w reserved) f)
     ∙ among_beginning reserved c s
-
--- none of the first texts is this one
-abbrev pub Left : List (Bor (List ℕ)) → List ℕ → ℕ → Type 0
-Left rows text n = is_among (texts_of rows) text ≡ is_among (texts_of (drop n rows)) text
 
 pub empty_accepted : (text : List ℕ) → length text ≡ 0 → accept_as_ident text ≡ true
 empty_accepted [] h = refl
