@@ -16,7 +16,7 @@ use Rattle.tok_lexical.specs.Fits.{IsFirstFit, here, later}
 use Rattle.tok_lexical.specs.declared.rule.Mode.{Mode}
 use Rattle.tok_lexical.specs.declared.rule.Rule.{Rule}
 use Rattle.tok_lexical.specs.declared.rule.Rule.TheVariants.{Opening, Closing, Identifier}
-use Rattle.tok_lexical.specs.declared.rule.Rule.TheVariants.{LineComment, Punct, QuotedString, Other}
+use Rattle.tok_lexical.specs.declared.rule.Rule.TheVariants.{LineComment, Punct, QuotedString, BadString, Other}
 use Rattle.tok_lexical.specs.declared.contents.Contents.TheVariants.{Text}
 use Rattle.tok_lexical.specs.Comments.{IsLineComment}
 use Rattle.tok_lexical.specs.Strings.{IsString}
@@ -216,6 +216,8 @@ agrees c start.Digit = is_digit c 10
 agrees c start.Prefix = is_prefix c
 agrees c start.Letter = is_identifier_start c
 agrees c start.Slash = c == 47
+agrees c start.Quote = c == 34
+agrees c start.Apostrophe = c == 39
 agrees c (start.Opening delimiter.None) = false
 agrees c (start.Opening d) = c == opening_mark d
 agrees c (start.Closing delimiter.None) = false
@@ -261,6 +263,15 @@ module _ (mode : Mode) (c : ℕ) (text more : List ℕ) (e : text ≡ c ∷ more
       × IsLongestPrefix (IsString Text) text piece rest → (piece : List ℕ)
       × IsFirstFit text (rules_of mode) (QuotedString Text) piece rest
   decides_string rest is t = (t.0, decides_begun mode c more start.Quote e is (here t.1))
+
+  -- where it isn't a whole string, the quote is one that is bad
+  pub decides_quote : start_of c ≡ start.Quote → (HasPrefix (IsString Text) text → ⊥) →
+      (piece : List ℕ) × IsFirstFit text (rules_of mode) BadString piece more
+  decides_quote is misses = (
+    c ∷ [],
+    decides_begun mode c more start.Quote e is
+        (later misses (here (takes_one (λ x. x == 34) text more c e (told c start.Quote is)))),
+  )
 
   pub decides_one : (k : Start) → tells_one k ≡ true → start_of c ≡ k → (piece : List ℕ)
       × IsFirstFit text (rules_of mode) (told_rule k) piece more

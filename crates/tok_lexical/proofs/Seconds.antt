@@ -2,17 +2,17 @@
 use Rattle.std.proofs.Common.{◌≡◌, ◌∙◌, ◌++◌, refl, sym, ℕ, inl, inr, ◌⊎◌, List, [], ◌∷◌, ap}
 use Rattle.std.proofs.Common.{arith, subst, append_assoc}
 use Rattle.std.proofs.lemmas.Bool.{false≢true, eqb-true}
-use Rattle.std.specs.Prelude.{◌==◌, ◌||◌, Bool, true, false}
+use Rattle.std.specs.Prelude.{◌==◌, ◌||◌, Bool, true, false, cond, not}
 use Rattle.std.specs.List.{list_all}
 use Rattle.unicode_ident.specs.Ident.{is_xid_continue}
 use Rattle.unicode_ident.proofs.IdentLemmas.{is_xid_start-ascii}
 use Rattle.tok_lexical.specs.Fits.{IsFirstFit, here, later}
-use Rattle.tok_lexical.specs.Pieces.{HasPrefix, IsLongestPrefix, Skips}
-use Rattle.tok_lexical.specs.Rules.{among, based_rules, decimal_rules, last_rules, literal_rules}
-use Rattle.tok_lexical.specs.Rules.{rules_of, Spells}
-use Rattle.tok_lexical.specs.Strings.{IsPrefixed}
+use Rattle.tok_lexical.specs.Pieces.{After, HasPrefix, IsLongestPrefix, IsOne, Skips}
+use Rattle.tok_lexical.specs.Rules.{among, based_rules, beginning, decimal_rules, last_rules}
+use Rattle.tok_lexical.specs.Rules.{has_raw_lifetimes, literal_rules, rules_of, Spells}
+use Rattle.tok_lexical.specs.Strings.{IsEscapedChar, IsPrefixed, IsQuoted, is_char}
 use Rattle.tok_lexical.specs.Starts.{start_of, is_prefix, names_base, opens_string, opens_literal}
-use Rattle.tok_lexical.specs.Words.{is_identifier_start, IsRawIdentifier}
+use Rattle.tok_lexical.specs.Words.{is_identifier_start, IsIdentifier, IsName, IsRawIdentifier}
 use Rattle.tok_lexical.specs.declared.contents.Contents.TheVariants.{Text, Bytes, C}
 use Rattle.tok_lexical.specs.declared.numbers.Base.TheVariants.{Hexadecimal, Octal, Binary}
 use Rattle.tok_lexical.specs.declared.rule.Mode.{Mode}
@@ -21,10 +21,13 @@ use Rattle.tok_lexical.specs.declared.rule.Rule.TheVariants.{ByteChar, BadByteCh
 use Rattle.tok_lexical.specs.declared.rule.Rule.TheVariants.{QuotedString, RawString}
 use Rattle.tok_lexical.specs.declared.rule.Rule.TheVariants.{BadPrefixed, Based, BadBased}
 use Rattle.tok_lexical.specs.declared.rule.Rule.TheVariants.{RawIdentifier, Identifier}
+use Rattle.tok_lexical.specs.declared.rule.Rule.TheVariants.{EscapedChar, BadEscapedChar, PlainChar}
+use Rattle.tok_lexical.specs.declared.rule.Rule.TheVariants.{Lifetime, PlainLifetime, Apostrophe}
 use Rattle.tok_lexical.specs.declared.start.Start.TheVariants as start
 use Rattle.tok_lexical.proofs.EscapedChars.{heads, tails}
 use Rattle.tok_lexical.proofs.First.{decides_begun, fits_before, skip_all, told}
 use Rattle.tok_lexical.proofs.Identifiers.{takes_identifier}
+use Rattle.tok_lexical.proofs.Longest.{takes_one}
 use Rattle.tok_lexical.proofs.Digits.{head_passes, tail_passes}
 
 -- what comes after a first character
@@ -251,3 +254,79 @@ module _ (mode : Mode) (c : ℕ) (text more : List ℕ) (e : text ≡ c ∷ more
   decides_raw piece rest t = decides_begun mode c more start.Prefix e is
       (skip_all mode is_literal (λ q l fits. raw_misses q text piece rest l t fits) literal_rules
       (RawIdentifier ∷ last_rules) refl (here t))
+
+-- what begins with an apostrophe
+module _ (mode : Mode) (text more : List ℕ) (e : text ≡ 39 ∷ more) where
+  fits_quoted : (piece rest : List ℕ) (rule : Rule) →
+      IsFirstFit text (among mode (beginning start.Apostrophe)) rule piece rest →
+      IsFirstFit text (rules_of mode) rule piece rest
+  fits_quoted piece rest rule d = decides_begun mode 39 more start.Apostrophe e refl d
+
+  pub decides_escaped : (rest : List ℕ) → (piece : List ℕ)
+      × IsLongestPrefix (IsQuoted IsEscapedChar) text piece rest → (piece : List ℕ)
+      × IsFirstFit text (rules_of mode) EscapedChar piece rest
+  decides_escaped rest t = (t.0, fits_quoted t.0 rest EscapedChar (here t.1))
+
+  pub decides_bad_escaped : (rest : List ℕ) → (HasPrefix (IsQuoted IsEscapedChar) text → ⊥) →
+      (piece : List ℕ) × IsLongestPrefix (Spells BadEscapedChar) text piece rest →
+      (piece : List ℕ) × IsFirstFit text (rules_of mode) BadEscapedChar piece rest
+  decides_bad_escaped rest misses t =
+      (t.0, fits_quoted t.0 rest BadEscapedChar (later misses (here t.1)))
+
+  -- with no backslash after it
+  module _ (n : (after : List ℕ) → more ≡ 92 ∷ after → ⊥) where
+    no_escape : (piece after tail : List ℕ) → text ≡ piece ++ after → piece ≡ 39 ∷ 92 ∷ tail → ⊥
+    no_escape piece after tail cut f =
+        n (tail ++ after) (second 39 39 more piece after (92 ∷ tail) (sym e ∙ cut) f)
+
+    no_escaped : HasPrefix (IsQuoted IsEscapedChar) text → ⊥
+    no_escaped (piece, after, cut, (inner, suffix, f, (tail, g, k), s)) =
+        no_escape piece after (tail ++ 39 ∷ suffix) cut
+        (f ∙ ap (λ w. 39 ∷ (w ++ 39 ∷ suffix)) g)
+
+    no_bad_escaped : HasPrefix (Spells BadEscapedChar) text → ⊥
+    no_bad_escaped (piece, after, cut, f) = no_escape piece after [] cut f
+
+    pub decides_char : (rest : List ℕ) → (piece : List ℕ)
+        × IsLongestPrefix (IsQuoted (IsOne is_char)) text piece rest → (piece : List ℕ)
+        × IsFirstFit text (rules_of mode) PlainChar piece rest
+    decides_char rest t =
+        let d = later no_escaped (later no_bad_escaped (here t.1)) in
+        (t.0, fits_quoted t.0 rest PlainChar d)
+
+    module _ (misses : HasPrefix (IsQuoted (IsOne is_char)) text → ⊥) where
+      -- raw lifetimes, or plain ones, and else the apostrophe alone
+      abbrev after_char : Bool → List Rule
+      after_char raw =
+          let others = Apostrophe ∷ last_rules in
+          let plain = cond (not raw) (PlainLifetime ∷ others) others in
+          cond raw (Lifetime ∷ plain) plain
+
+      fits_after : (raw : Bool) (piece rest : List ℕ) (rule : Rule) → has_raw_lifetimes mode ≡ raw →
+          IsFirstFit text (after_char raw) rule piece rest →
+          IsFirstFit text (rules_of mode) rule piece rest
+      fits_after raw piece rest rule h d =
+          let those = subst (λ b. IsFirstFit text (after_char b) rule piece rest) (sym h) d in
+          fits_quoted piece rest rule (later no_escaped (later no_bad_escaped (later misses those)))
+
+      lone : (raw : Bool) → (HasPrefix (Spells (cond raw Lifetime PlainLifetime)) text → ⊥) →
+          IsFirstFit text (after_char raw) Apostrophe (39 ∷ []) more
+      lone true misses = later misses (here (takes_one (λ d. d == 39) text more 39 e refl))
+      lone false misses = later misses (here (takes_one (λ d. d == 39) text more 39 e refl))
+
+      pub decides_lifetime : (rest : List ℕ) → has_raw_lifetimes mode ≡ true → (piece : List ℕ)
+          × IsLongestPrefix (After 39 IsName) text piece rest → (piece : List ℕ)
+          × IsFirstFit text (rules_of mode) Lifetime piece rest
+      decides_lifetime rest raw t = (t.0, fits_after true t.0 rest Lifetime raw (here t.1))
+
+      pub decides_plain_lifetime : (rest : List ℕ) → has_raw_lifetimes mode ≡ false →
+          (piece : List ℕ) × IsLongestPrefix (After 39 IsIdentifier) text piece rest →
+          (piece : List ℕ) × IsFirstFit text (rules_of mode) PlainLifetime piece rest
+      decides_plain_lifetime rest raw t =
+          (t.0, fits_after false t.0 rest PlainLifetime raw (here t.1))
+
+      pub decides_lone_quote : (raw : Bool) → has_raw_lifetimes mode ≡ raw →
+          (HasPrefix (Spells (cond raw Lifetime PlainLifetime)) text → ⊥) → (piece : List ℕ)
+          × IsFirstFit text (rules_of mode) Apostrophe piece more
+      decides_lone_quote raw h misses =
+          (39 ∷ [], fits_after raw (39 ∷ []) more Apostrophe h (lone raw misses))

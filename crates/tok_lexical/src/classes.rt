@@ -74,9 +74,24 @@ fn past_any_whitespace(text: &str) -> &str
 {
     let rest = past_ascii_whitespace(text);
     if begins_beyond_ascii(rest) {
-        past_other_whitespace(rest)
+        past_beyond_ascii(rest)
     } else {
         rest
+    }
+}
+
+/// Returns the text after the white space at the front, if that begins beyond ASCII.
+// Kept out of line, so that what comes before it is inlined. Most characters beyond ASCII are no
+// white space: they are told here, without the loop.
+#[inline(never)]
+fn past_beyond_ascii(text: &str) -> &str
+    ensures skips { (front : List ℕ)
+        × Skips is_whitespace (chars text.now) front (chars result.now) }
+    ensures shorter { length result.now ≤ length text.now }
+{
+    match next_char(text) {
+        Some((c, _)) if is_whitespace(c) => past_other_whitespace(text),
+        _ => text,
     }
 }
 

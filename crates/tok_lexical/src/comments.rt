@@ -140,7 +140,7 @@ pub fn line_doc_contents(piece: &str, returns: bool) -> &str
 ///
 /// If the piece has a U+000D, `returns` must be `true`. If it isn't, none is searched for.
 #[inline(always)]
-pub fn has_broken_line(piece: &str, after: &str, returns: bool) -> bool
+pub(crate) fn has_broken_line(piece: &str, after: &str, returns: bool) -> bool
     requires { has_return (chars piece.now) ≡ true → returns ≡ true }
     ensures { result ≡ breaks_line (chars piece.now) (chars after.now) }
 {

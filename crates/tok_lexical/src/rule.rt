@@ -5,7 +5,7 @@ ghost use Rattle.tok_lexical.specs.Fits.{IsFirstFit, ReadsByRules};
 ghost use Rattle.tok_lexical.specs.Widths.{is_group_mark, width};
 ghost use Rattle.tok_lexical.specs.Pieces.{ReadsLongest, Skips};
 ghost use Rattle.tok_lexical.specs.Numbers.{is_digit_or_underscore, starts_digit};
-ghost use Rattle.tok_lexical.specs.Rules.{among, beginning, decimal_rules, last_rules, rules_of, Spells};
+ghost use Rattle.tok_lexical.specs.Rules.{among, beginning, decimal_rules, has_raw_lifetimes, last_rules, rules_of, Spells};
 ghost use Rattle.tok_lexical.specs.declared.start.Start.TheVariants.{Prefix};
 ghost use Rattle.tok_lexical.specs.Starts.{tells, start_of, names_base, opens_string, opens_literal, begins_letter, begins_punct};
 ghost use Rattle.tok_lexical.specs.declared.rule.Mode.{Mode};
@@ -141,6 +141,16 @@ impl Mode {
             },
             // Told by the first character.
             _ => &[],
+        }
+    }
+
+    // Returns `true` if raw lifetimes exist.
+    fn has_raw_lifetimes(self) -> bool
+        ensures { result ≡ has_raw_lifetimes self }
+    {
+        match self {
+            Mode::Source(edition) => edition.reserves_prefixes(),
+            Mode::Plain | Mode::Marked => true,
         }
     }
 
@@ -305,6 +315,38 @@ fn opens_literal(rest: &str) -> bool
         || begins_with(rest, 'r') && opens_string(past_first(rest))
 }
 
+/// Returns the first rule that fits, and the text after its piece. `rest` begins after an apostrophe.
+// Kept out of line: few pieces begin so. Nothing is read twice, not even a long escape without an
+// end.
+#[inline(never)]
+fn past_apostrophe<'a>(mode: Mode, text: &'a str, rest: &'a str) -> (Rule, &'a str)
+    requires { chars text.now ≡ 39 ∷ chars rest.now }
+    ensures fits { (piece : List ℕ)
+        × IsFirstFit (chars text.now) (rules_of mode) result.0 piece (chars result.1.now) }
+    ensures utf8 { IsUtf8 result.1.now }
+{
+    if let Some(after) = past_char(rest, '\\') {
+        return match past_escaped_char(text) {
+            Some(end) => (Rule::EscapedChar, end),
+            None => (Rule::BadEscapedChar, after),
+        };
+    }
+    if let Some(end) = past_plain_char(text) {
+        return (Rule::PlainChar, end);
+    }
+    if mode.has_raw_lifetimes() {
+        match past_lifetime(text) {
+            Some(end) => (Rule::Lifetime, end),
+            None => (Rule::Apostrophe, rest),
+        }
+    } else {
+        match past_plain_lifetime(text) {
+            Some(end) => (Rule::PlainLifetime, end),
+            None => (Rule::Apostrophe, rest),
+        }
+    }
+}
+
 /// Returns the first rule that fits and the text after its piece, if a digit begins the text or if
 /// the second character shows that a letter begins no literal, as in a raw identifier.
 // Inlined: most numbers, and most words that begin so, are told here.
@@ -380,17 +422,20 @@ pub fn first_rule(mode: Mode, text: &str) -> Option<(Rule, &str)>
         Start::Opening(delimiter) => return Some((Rule::Opening(delimiter), rest)),
         Start::Closing(delimiter) => return Some((Rule::Closing(delimiter), rest)),
         Start::Slash if !begins_comment(text) => return Some((Rule::Punct, rest)),
-        // The first rules of those that may begin so fit nearly always.
+        // The first of the rules that may begin so fits nearly always.
         Start::Slash => {
             if let Some(end) = past_line_comment(text) {
                 return Some((Rule::LineComment, end));
             }
         }
+        // Two rules may begin so, and the second always fits: no string is read twice.
         Start::Quote => {
             if let Some(end) = past_string(text) {
                 return Some((Rule::QuotedString(Contents::Text), end));
             }
+            return Some((Rule::BadString, rest));
         }
+        Start::Apostrophe => return Some(past_apostrophe(mode, text, rest)),
         _ => {}
     }
     if start.has_second() {

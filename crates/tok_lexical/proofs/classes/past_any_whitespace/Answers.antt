@@ -5,7 +5,7 @@ use Rattle.tok_lexical.proofs.classes.past_any_whitespace.Goals as goal
 pub returns-then-begins_beyond_ascii-clause-skips :
     goal.returns-then-begins_beyond_ascii-clause-skips
 returns-then-begins_beyond_ascii-clause-skips c = skips_more_blanks _ _ _
-    c.past_ascii_whitespace-rest.ensures.skips c.past_other_whitespace.ensures.skips
+    c.past_ascii_whitespace-rest.ensures.skips c.past_beyond_ascii.ensures.skips
 
 pub returns-else-begins_beyond_ascii-clause-skips :
     goal.returns-else-begins_beyond_ascii-clause-skips

@@ -1,7 +1,9 @@
-use Rattle.std.proofs.Common.{◌≡◌, ◌∙◌, refl, sym, subst, false, rules, tests}
+use Rattle.std.proofs.Common.{◌≡◌, ◌∙◌, ◌∷◌, ap, refl, sym, subst, false, rules, tests}
+use Rattle.std.proofs.lemmas.Bool.{eqb-true}
+use Rattle.std.specs.Str.{chars}
 use Rattle.tok_lexical.proofs.First.{decides_at, none_more, none_at_all, none_fits}
 use Rattle.tok_lexical.proofs.First.{decides_listed, decides_letter, decides_one, fits_front}
-use Rattle.tok_lexical.proofs.First.{decides_line, decides_string}
+use Rattle.tok_lexical.proofs.First.{decides_line, decides_quote, decides_string, told}
 use Rattle.tok_lexical.proofs.First.{fits_behind, last_identifier, last_punct, last_other}
 use Rattle.tok_lexical.proofs.Slashes.{decides_alone}
 use Rattle.tok_lexical.specs.Fits.{ReadsByRules}
@@ -48,6 +50,20 @@ pub returns-in-Some-past_string-clause-tries : goal.returns-in-Some-past_string-
 returns-in-Some-past_string-clause-tries c = decides_string c.args.mode c.in_ok-first.first _ _
     c.in_ok-first.ensures.chars _ (sym c.of-start.ensures ∙ c.in-Quote.is)
     c.in-Some-past_string.ensures.tries
+
+pub returns-in-Quote-clause-tries : goal.returns-in-Quote-clause-tries
+returns-in-Quote-clause-tries c = decides_quote c.args.mode c.in_ok-first.first _ _
+    c.in_ok-first.ensures.chars (sym c.of-start.ensures ∙ c.in-Quote.is)
+    c.in_default-past_string.ensures.tries
+
+pub past_apostrophe-requires : goal.past_apostrophe-requires
+past_apostrophe-requires c =
+    let quote = eqb-true c.in_ok-first.first 39
+    (told c.in_ok-first.first start.Apostrophe (sym c.of-start.ensures ∙ c.in-Apostrophe.is)) in
+    c.in_ok-first.ensures.chars ∙ ap (λ k. k ∷ chars c.in_ok-first.rest.now) quote
+
+pub returns-in-Apostrophe-clause-tries : goal.returns-in-Apostrophe-clause-tries
+returns-in-Apostrophe-clause-tries c = c.past_apostrophe.ensures.fits
 
 pub returns-in-Some-second_told-clause-tries : goal.returns-in-Some-second_told-clause-tries
 returns-in-Some-second_told-clause-tries c = c.in-Some-second_told.ensures.fits
