@@ -1,7 +1,8 @@
 -- The bits that a test of 16 bytes at once gives are those of a test of each byte.
 use Rattle.std.proofs.Common.{◌≡◌, ◌∙◌, ℕ, ◌+◌, ◌*◌, ◌%◌, ◌^◌, ◌<◌, ◌≤◌, Bool, true, false, not}
 use Rattle.std.proofs.Common.{List, [], ◌∷◌, map, length, get_or, Fits, w8, refl, sym, ap, cond}
-use Rattle.std.proofs.Common.{eqb, ltb, replicate, suc, inl, inr, arith}
+use Rattle.std.proofs.Common.{eqb, ltb, replicate, suc, zero, inl, inr, arith, count_by, take, ◌++◌}
+use Rattle.std.proofs.lemmas.List.Sums.{sum_by-append}
 use Rattle.std.proofs.lemmas.Bool.{agree_below, agree_below_at, cases_eq, cases_lt}
 use Rattle.std.proofs.lemmas.Simd.{chunk-fits, length-chunk, map-map, mask_l-mod, zip2_of_maps}
 use Rattle.std.proofs.lemmas.Simd.{zip2_splat, zip2_splat_left}
@@ -92,3 +93,21 @@ none_more p d i j before here k low = elim (cases_lt k i) [
   | inl early ↦ before k early
   | inr late ↦ here k (omega arith) low
 ]
+
+-- what n bytes more add to the count of those that pass
+pub count_more : (p : ℕ → Bool) (xs : List ℕ) (i n : ℕ) →
+    count_by p (take (i + n) xs) ≡ count_by p (take i xs) + count_by p (chunk i n xs)
+count_more p xs i n =
+    ap (count_by p) (cut i xs) ∙ sum_by-append (λ x. cond (p x) 1 0) (take i xs) (chunk i n xs)
+  where
+    none : (m : ℕ) → take {A = ℕ} m [] ≡ []
+    none zero = refl
+    none (suc m) = refl
+
+    next : (i : ℕ) → suc i + n ≡ suc (i + n)
+    next i = omega arith
+
+    cut : (i : ℕ) (xs : List ℕ) → take (i + n) xs ≡ take i xs ++ chunk i n xs
+    cut zero xs = ap (λ m. take m xs) (omega arith)
+    cut (suc i) [] = ap (λ m. take m []) (next i) ∙ sym (none n)
+    cut (suc i) (x ∷ xs) = ap (λ m. take m (x ∷ xs)) (next i) ∙ ap (λ rest. x ∷ rest) (cut i xs)

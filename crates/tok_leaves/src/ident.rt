@@ -147,14 +147,6 @@ impl Ident {
         Some(Ident { text, span })
     }
 
-    /// Turns the identifier into its text.
-    pub fn into_text(self) -> Text
-        ensures { result ≡ leaf_text (ident_of self) }
-    {
-        let Ident { text, .. } = self;
-        text
-    }
-
     /// Returns the span.
     pub fn span(&self) -> Span
         ensures { result ≡ leaf_span (ident_of self.now) }

@@ -1,10 +1,10 @@
 //! Literals.
-ghost use Rattle.std.specs.Prelude.{◌≡◌, ◌<◌, ◌≤◌, ◌+◌, ℕ, List, ◌++◌, [], ◌∷◌, length, map, slice_index, true, false, codes, string_bytes, IfOk, SomeIff, OnOk, Some};
+ghost use Rattle.std.specs.Prelude.{◌≡◌, ◌<◌, ◌≤◌, ◌+◌, ◌^◌, ℕ, List, ◌++◌, [], ◌∷◌, length, map, take, count_by, slice_index, true, false, codes, string_bytes, IfOk, SomeIff, OnOk, Some};
 ghost use Rattle.std.specs.Str.{chars, IsUtf8};
 ghost use Rattle.std.specs.CStr.{c_str_bytes};
 ghost use Rattle.tok_leaves.specs.Leaves.{literal, literal_of, leaf_span, leaf_text};
 ghost use Rattle.tok_leaves.specs.Quoting.{escaped, in_quotes, in_apostrophes, is_unseen, shown, shown_in_quotes, escaped_byte, bytes_between};
-ghost use Rattle.tok_leaves.specs.Private.Plain.{is_loose, is_plain};
+ghost use Rattle.tok_leaves.specs.Private.Plain.{has_escape, is_loose, is_plain};
 ghost use Rattle.tok_leaves.specs.Spans.{call_site};
 ghost use Rattle.tok_lexical.specs.Pieces.{Skips};
 ghost use lib.Lanes.{chunk, mask_l};
@@ -33,9 +33,20 @@ pub struct Literal {
 
 const LANES: usize = 16;
 
-// Returns how many of these bytes a literal writes with an escape of two bytes.
+fn has_escape(byte: u8) -> bool
+    ensures { result ≡ has_escape byte }
+{
+    matches!(byte, b'"' | b'\\' | b'\n' | b'\r' | b'\t' | 0)
+}
+
+// Returns how many of the 16 bytes from `at` on have an escape.
 #[inline(always)]
-fn escapes_in(bytes: u8x16) -> usize {
+fn escapes_in(text: &[u8], at: usize) -> usize
+    requires { at + 16 ≤ length text.now }
+    ensures { count_by has_escape (take at text.now) + result
+        ≡ count_by has_escape (take (at + 16) text.now) }
+{
+    let bytes = u8x16::from_slice(&text[at..]);
     let escaped = bytes.simd_eq(u8x16::splat(b'"'))
         | bytes.simd_eq(u8x16::splat(b'\\'))
         | bytes.simd_eq(u8x16::splat(b'\n'))
@@ -45,21 +56,34 @@ fn escapes_in(bytes: u8x16) -> usize {
     escaped.to_bitmask().count_ones() as usize
 }
 
-// Counts the bytes of the text in quotes: one more for each escape.
-fn quoted_len(text: &str) -> usize {
-    let bytes = text.as_bytes();
-    let mut len = bytes.len().saturating_add(2);
+// Returns how many of the bytes have an escape.
+fn escapes(text: &[u8]) -> usize
+    ensures { result ≡ count_by has_escape text.now }
+{
+    let mut count = 0;
     let mut at = 0;
-    while bytes.len() - at >= LANES {
-        len = len.saturating_add(escapes_in(u8x16::from_slice(&bytes[at..])));
+    while LANES <= text.len() - at {
+        count += escapes_in(text, at);
         at += LANES;
     }
-    for byte in &bytes[at..] {
-        if matches!(*byte, b'"' | b'\\' | b'\n' | b'\r' | b'\t' | 0) {
-            len = len.saturating_add(1);
+    while at < text.len() {
+        if has_escape(text[at]) {
+            count += 1;
         }
+        at += 1;
     }
-    len
+    count
+}
+
+// Returns the length of the text in quotes, if it is less than 2^64.
+fn quoted_len(text: &str) -> usize
+    ensures { length (in_quotes (chars text.now)) < 2 ^ 64
+        → result ≡ length (in_quotes (chars text.now)) }
+{
+    // An escape takes one byte more than what it stands for.
+    text.len()
+        .saturating_add(escapes(text.as_bytes()))
+        .saturating_add(2)
 }
 
 fn is_loose(byte: u8) -> bool
@@ -335,14 +359,6 @@ impl Literal {
         let text = self.text.copied_if_short()?;
         let span = self.span;
         Some(Literal { text, span })
-    }
-
-    /// Turns the literal into its text.
-    pub fn into_text(self) -> Text
-        ensures { result ≡ leaf_text (literal_of self) }
-    {
-        let Literal { text, .. } = self;
-        text
     }
 
     /// Returns the span.

@@ -164,12 +164,12 @@ impl Text {
         Ok(Text { node, alloc })
     }
 
-    /// Copies a text of at most 14 bytes, which takes no memory. Returns `None` for a longer one.
+    // Copies a text of at most 14 bytes, which takes no memory. Returns `None` for a longer one.
     //
     // A caller that puts the copy in its place at once, apart from that of a longer text, spares it
     // the way through memory that two kinds of copies share.
     #[inline(always)]
-    pub fn copied_if_short(&self) -> Option<Text>
+    pub(crate) fn copied_if_short(&self) -> Option<Text>
         ensures { SomeIff result (length self.now ≤ 14) self.now }
     {
         match &self.node {
