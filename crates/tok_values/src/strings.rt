@@ -1,5 +1,5 @@
 //! The values of strings and characters.
-ghost use Rattle.std.specs.Prelude.{◌≡◌, ◌<◌, ◌≤◌, ◌++◌, ℕ, List, None, IfOk, IfSome, MatchBool, [], ◌∷◌, length, true, false, encode_utf8_all, string_bytes};
+ghost use Rattle.std.specs.Prelude.{◌≡◌, ◌<◌, ◌≤◌, ◌+◌, ◌*◌, ◌++◌, ℕ, List, None, IfOk, IfSome, MatchBool, [], ◌∷◌, length, true, false, encode_utf8_all, string_bytes};
 ghost use Rattle.std.specs.Str.{chars, IsUtf8};
 ghost use Rattle.tok_lexical.specs.Pieces.{Skips};
 ghost use Rattle.tok_values.specs.Private.Plain.{is_plain};
@@ -91,9 +91,13 @@ pub fn is_only(text: &str, ch: char) -> bool
     }
 }
 
-// Returns how much room to ask for before `added` bytes are appended and `left` more follow: no more
-// than doubling gives, and no more than the value may take.
-fn room_for(added: usize, left: usize, len: usize, capacity: usize) -> usize {
+// Returns how many bytes to reserve before `added` are appended and `left` more of the literal
+// follow: up to a power of two, but no more than the value may take. `reserve` may then ask for
+// more, since it at least doubles the room that it has.
+fn room_for(added: usize, left: usize, len: usize, capacity: usize) -> usize
+    ensures few { result ≤ added + left }
+    ensures doubled { result ≤ len + 2 * added }
+{
     let least = len.saturating_add(added);
     // Where a quote alone is left, the append itself asks for just what it takes.
     if left <= 1 || least <= capacity || least > 1 << 62 {
