@@ -1,7 +1,7 @@
 -- What is added to the trees so far.
 use Rattle.std.proofs.Common.{◌≡◌, ◌∙◌, ℕ, zero, suc, ◌+◌, ◌<◌, ◌≤◌, List, [], ◌∷◌, ◌++◌, length}
 use Rattle.std.proofs.Common.{refl, sym, ap, subst, arith, append_assoc}
-use Rattle.std.specs.Prelude.{Bool, true, false, ◌-◌, if◌then◌else◌, encode_utf8_all}
+use Rattle.std.specs.Prelude.{Bool, true, false, ◌-◌, ◌==◌, if◌then◌else◌, encode_utf8_all}
 use Rattle.std.specs.Str.{chars, IsUtf8}
 use Rattle.std.proofs.lemmas.Str.{encodes-chars}
 use Rattle.tok_lexical.specs.declared.delimiter.Delimiter.{Delimiter}
@@ -309,6 +309,24 @@ grows_float at end old new piece after e p g =
     ∷ [] else literal_item old.source at (at + bytes piece - 1) (up_to 46 piece)
     ∷ punct_item old.source (at + bytes piece - 1) 46 (makes_joint after) ∷ [])) (sym p)
     (subst (λ w. Grows at old new (literal_item old.source at w piece ∷ [])) e g)
+
+up_to_front : (a : ℕ) (text : List ℕ) → (rest : List ℕ) × (text ≡ up_to a text ++ rest)
+up_to_front a [] = ([], refl)
+up_to_front a (c ∷ text) = go (c == a) (up_to_front a text)
+  where
+    go : (b : Bool) → ((rest : List ℕ) × (text ≡ up_to a text ++ rest)) →
+        (rest : List ℕ) × (c ∷ text ≡ (if b then [] else c ∷ up_to a text) ++ rest)
+    go true w = (c ∷ text, refl)
+    go false w = (w.0, ap (λ x. c ∷ x) w.1)
+
+-- what is before a character of the piece is at the front of the text that the piece begins
+pub digits_in_front : (a : ℕ) (piece after whole digits : List ℕ) → whole ≡ piece ++ after →
+    digits ≡ up_to a piece → (rest : List ℕ) × (whole ≡ digits ++ rest)
+digits_in_front a piece after whole digits e d =
+    let w = up_to_front a piece in (
+      w.0 ++ after,
+      e ∙ ap (λ x. x ++ after) (w.1 ∙ ap (λ x. x ++ w.0) (sym d)) ∙ append_assoc digits w.0 after,
+    )
 
 pub grows_point : (at end dot : ℕ) (old mid new : State) (piece after digits : List ℕ)
     (joint : Bool) → end ≡ at + bytes piece → dot ≡ end - 1 → digits ≡ up_to 46 piece →

@@ -1,6 +1,6 @@
 //! What the lexer builds: trees, or anything else that takes leaves, openings and closings in
 //! order.
-ghost use Rattle.std.specs.Prelude.{◌≡◌, [], OnOk, OnErr, IfOk, ◌<◌, ◌≤◌, length, take, drop};
+ghost use Rattle.std.specs.Prelude.{◌≡◌, [], OnOk, OnErr, IfOk, ◌<◌, ◌≤◌, ◌*◌, ◌^◌, length, take, drop};
 ghost use Rattle.std.specs.Vec.{vec_len, vec_capacity};
 ghost use Rattle.tok_core.specs.Building.{Levels, add_leaf, nothing, opened, Closes};
 ghost use Rattle.tok_leaves.specs.Leaves.{ident_of, punct_of, literal_of};
@@ -82,7 +82,11 @@ impl Model for TreeBuilder {
 }
 
 // Takes the trees from this one on out of the vector, which then has room for one more.
-fn take_level(trees: &mut Vec<TokenTree>, start: usize) -> Result<Vec<TokenTree>, AllocError>
+fn take_level(
+    alloc: Global,
+    trees: &mut Vec<TokenTree>,
+    start: usize,
+) -> Result<Vec<TokenTree>, AllocError>
     requires { start ≤ length trees.old.items }
     ensures kept { OnOk result (trees.new.items ≡ take start trees.old.items) }
     ensures taken { IfOk result (λ level. level.items ≡ drop start trees.old.items) }
@@ -91,6 +95,7 @@ fn take_level(trees: &mut Vec<TokenTree>, start: usize) -> Result<Vec<TokenTree>
 {
     if start == trees.len() {
         trees.reserve(1)?;
+        return Ok(Vec::new(alloc));
     }
     trees.split_off(start)
 }
@@ -100,6 +105,18 @@ const FEWEST_BYTES: usize = 1 << 8;
 
 const MOST_BYTES: usize = 1 << 18;
 
+// Returns for how many trees a builder has room at first.
+fn first_room(bytes: usize) -> usize
+    ensures share { 16 * result ≤ bytes }
+    ensures most { result ≤ 2 ^ 14 }
+{
+    if bytes < FEWEST_BYTES {
+        0
+    } else {
+        bytes.min(MOST_BYTES) / 16
+    }
+}
+
 impl TreeBuilder {
     /// Creates an empty builder, with room for the trees that most texts of so many bytes hold in
     /// open groups at once.
@@ -108,14 +125,9 @@ impl TreeBuilder {
     pub fn with_room(alloc: Global, bytes: usize) -> Result<TreeBuilder, AllocError>
         ensures { IfOk result (λ b. b ≡ nothing) }
     {
-        let room = if bytes < FEWEST_BYTES {
-            0
-        } else {
-            bytes.min(MOST_BYTES) / 16
-        };
         Ok(TreeBuilder {
             alloc,
-            trees: Vec::with_capacity(alloc, room)?,
+            trees: Vec::with_capacity(alloc, first_room(bytes))?,
             starts: Vec::new(alloc),
         })
     }
@@ -179,7 +191,7 @@ impl Build for TreeBuilder {
         let Some(start) = self.starts.pop() else {
             unreachable!()
         };
-        match take_level(&mut self.trees, start) {
+        match take_level(self.alloc, &mut self.trees, start) {
             Ok(inside) => {
                 let inside = TokenStream::from_trees(self.alloc, inside);
                 let group = Group::new(delimiter, inside, span);

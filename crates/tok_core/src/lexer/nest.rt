@@ -141,21 +141,31 @@ impl<B: Build + Drop> Nest<B> {
         Ok(())
     }
 
-    /// Appends digits and the dot after them: a float, or an integer and a punct.
+    /// Appends digits and the dot after them: a float, or an integer and a punct. The piece and the
+    /// text after it are `whole`.
     #[inline(never)]
-    fn pointed(&mut self, at: usize, end: usize, piece: &str, after: &str) -> Result<(), AllocError>
+    fn pointed(
+        &mut self,
+        at: usize,
+        end: usize,
+        piece: &str,
+        after: &str,
+        whole: &str,
+    ) -> Result<(), AllocError>
+        requires front { chars whole.now ≡ chars piece.now ++ chars after.now }
         requires some { at < end }
         requires ends { end ≡ at + bytes (chars piece.now) }
         ensures { OnOk result
             (Grows at (state B.levels self.old) (state B.levels self.new)
             (pointed_items self.old.source at (chars piece.now) (chars after.now))) }
     {
-        if takes_point(after) {
-            self.literal(at, end, piece, piece)?;
+        let is_float = takes_point(after);
+        if is_float {
+            self.literal(at, end, piece, whole)?;
         } else {
             let dot = end - 1;
             let digits = up_to(piece, b'.');
-            self.literal(at, dot, digits, digits)?;
+            self.literal(at, dot, digits, whole)?;
             self.punct(dot, '.', makes_joint(after))?;
         }
         Ok(())
@@ -363,7 +373,7 @@ impl<B: Build + Drop> Nest<B> {
                     return self.doc(at, end, is_inner_doc(piece), block_doc_text(piece));
                 }
             }
-            Rule::PointedDecimal => self.pointed(at, end, piece, after)?,
+            Rule::PointedDecimal => self.pointed(at, end, piece, after, whole)?,
             Rule::Lifetime | Rule::PlainLifetime => self.lifetime(at, end, past_first(piece))?,
             Rule::Apostrophe => self.punct(at, '\'', makes_joint_apostrophe(after))?,
             Rule::Punct => self.punct(at, first_of(piece), is_joint(mode, after))?,
