@@ -1,3 +1,4 @@
 -- Definitions that only contracts of private items cite.
+pub mod Counts
 pub mod Layout
 pub mod OrderLaws

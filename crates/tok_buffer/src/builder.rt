@@ -1,5 +1,5 @@
 //! The builder of a buffer's entries from a text.
-ghost use Rattle.std.specs.Prelude.{◌≡◌, ◌++◌, ◌∷◌, [], IfOk};
+ghost use Rattle.std.specs.Prelude.{◌≡◌, ◌++◌, ◌∷◌, [], IfOk, ◌≤◌, ◌*◌, ◌^◌};
 ghost use Rattle.tok_core.specs.Building.{nothing};
 ghost use Rattle.tok_buffer.specs.Private.Layout.{layout, laid};
 ghost use Rattle.tok_buffer.specs.declared.entry.Entry.TheVariants.{End};
@@ -43,6 +43,18 @@ const FEWEST_BYTES: usize = 1 << 8;
 
 const MOST_BYTES: usize = 1 << 18;
 
+// Returns for how many entries a builder has room at first.
+fn first_room(bytes: usize) -> usize
+    ensures share { 4 * result ≤ bytes }
+    ensures most { result ≤ 2 ^ 16 }
+{
+    if bytes < FEWEST_BYTES {
+        0
+    } else {
+        bytes.min(MOST_BYTES) / 4
+    }
+}
+
 impl EntryBuilder {
     /// Creates an empty builder, with room for as many entries as most texts of so many bytes have.
     ///
@@ -52,13 +64,8 @@ impl EntryBuilder {
     pub fn with_room(alloc: Global, bytes: usize) -> Result<EntryBuilder, AllocError>
         ensures { IfOk result (λ b. b ≡ nothing) }
     {
-        let room = if bytes < FEWEST_BYTES {
-            0
-        } else {
-            bytes.min(MOST_BYTES) / 4
-        };
         Ok(EntryBuilder {
-            entries: Vec::with_capacity(alloc, room)?,
+            entries: Vec::with_capacity(alloc, first_room(bytes))?,
             open: Vec::new(alloc),
         })
     }

@@ -1,5 +1,5 @@
 -- How a forest is laid out in a buffer, and which forest is there.
-use Rattle.std.specs.Prelude.{ℕ, ◌+◌, List, [], ◌∷◌, ◌++◌}
+use Rattle.std.specs.Prelude.{◌≡◌, ℕ, ◌+◌, List, [], ◌∷◌, ◌++◌}
 use Rattle.tok_lexical.specs.declared.delimiter.Delimiter.{Delimiter}
 use Rattle.tok_leaves.specs.declared.span.Span.{Span}
 use Rattle.tok_core.specs.Building.{Levels}
@@ -11,6 +11,7 @@ use Rattle.tok_buffer.specs.Place.{Enclosing, whole, in_group, Frame, frame}
 use Rattle.tok_buffer.specs.declared.entry.Entry.{Entry}
 use Rattle.tok_buffer.specs.declared.entry.Entry.TheVariants.{Ident, Punct, Literal, Group, End}
 use Rattle.tok_buffer.specs.declared.entry.Held.{Held}
+use Rattle.tok_buffer.specs.declared.entry.Opening.{Opening}
 use Rattle.tok_buffer.specs.declared.entry.Held.TheVariants as held
 use Rattle.tok_buffer.specs.declared.entry.Leaf.{Leaf as Lent}
 use Rattle.tok_buffer.specs.declared.entry.Leaf.TheVariants as lent
@@ -74,6 +75,10 @@ abbrev pub entry_here : Frame → Entry
 entry_here (frame o p no_trees) = End (back (frame o p no_trees))
 entry_here (frame o p (tree (leaf l) f)) = leaf_entry l
 entry_here (frame o p (tree (group d c s) f)) = group_entry d s c
+
+-- a group opens here
+abbrev pub OpensGroup : Frame → Type 0
+OpensGroup l = (g : Opening) × (k : ℕ) × (entry_here l ≡ Group g k)
 
 -- whose end reaches back to an entry
 abbrev pub entry_enclosing : Entry → Enclosing

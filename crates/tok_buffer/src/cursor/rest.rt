@@ -1,24 +1,25 @@
 //! Copying and printing the trees ahead of a cursor.
-ghost use Rattle.std.specs.Prelude.{◌+◌, ◌≡◌, ◌≤◌, ◌++◌, ◌∷◌, [], IfOk, true};
+ghost use Rattle.std.specs.Prelude.{◌≡◌, ◌≤◌, ◌++◌, ◌∷◌, [], IfOk, true};
 ghost use Rattle.std.specs.Fmt.{WritesOnOk};
 ghost use Rattle.tok_lexical.specs.Delimiters as delimiters;
 ghost use Rattle.tok_leaves.specs.Leaves.{leaf_text};
-ghost use Rattle.tok_core.specs.Forest.{leaf};
+ghost use Rattle.tok_core.specs.Forest.{concat, leaf, no_trees};
 ghost use Rattle.tok_core.specs.Seen.{group_of, tree_of};
 ghost use Rattle.tok_core.specs.Text as spec;
 ghost use Rattle.tok_core.specs.Text.{text};
 ghost use Rattle.tok_core.specs.Weight.{weight};
-ghost use Rattle.tok_buffer.specs.Private.Layout.{leaf_in};
+ghost use Rattle.tok_buffer.specs.Private.Counts.{tree_count};
+ghost use Rattle.tok_buffer.specs.Private.Layout.{OpensGroup, leaf_in};
 ghost use Rattle.tok_buffer.specs.Cursors.{place_of};
 ghost use Rattle.tok_buffer.specs.Gives.{Gives};
-ghost use Rattle.tok_buffer.specs.Moves.{in_scope, place_at};
+ghost use Rattle.tok_buffer.specs.Moves.{frames_at, in_scope, place_at};
 ghost use Rattle.tok_buffer.specs.Reads.{is_group, read_if, read_tree};
 ghost use Rattle.tok_buffer.specs.Rest.{rest};
 ghost use Rattle.tok_buffer.specs.Trees.{read_visible};
 
 use crate::buffer::TokenBuffer;
 use crate::cursor::Cursor;
-use crate::entry::{Entry, Held, Leaf};
+use crate::entry::{Held, Leaf};
 use std::alloc::{AllocError, Global};
 use std::fmt;
 use std::fmt::{Debug, Formatter, Write};
@@ -124,24 +125,75 @@ impl Debug for TokenBuffer {
 fn count_ahead(buffer: &TokenBuffer, from: usize, scope: usize) -> usize
     requires in_buffer { scope ≤ weight buffer.now.forest }
     requires within { in_scope buffer.now.forest from scope ≡ true }
-    ensures { from + result ≤ scope }
+    ensures { result
+        ≡ tree_count (rest (place_at buffer.now.number buffer.now.forest from scope)) }
 {
     let mut position = from;
     let mut count = 0;
     while position != scope {
-        match buffer.entry(position) {
-            Entry::Group(_, offset) => {
-                count += 1;
-                position = position + *offset + 1;
-            }
-            Entry::End(_) => position += 1,
-            _ => {
+        match buffer.entry(position).held() {
+            Held::Leaf(_) => {
                 count += 1;
                 position += 1;
             }
+            Held::Group(_, offset) => {
+                count += 1;
+                position = position + offset + 1;
+            }
+            Held::End(_) => position += 1,
         }
     }
     count
+}
+
+// Creates an empty stream with room for the trees from a position to the scope's end.
+// Kept out of line: inlined, it would take its stack at each level of `copy_ahead`.
+#[inline(never)]
+fn room_ahead(
+    alloc: Global,
+    buffer: &TokenBuffer,
+    from: usize,
+    scope: usize,
+) -> Result<TokenStream, AllocError>
+    requires in_buffer { scope ≤ weight buffer.now.forest }
+    requires within { in_scope buffer.now.forest from scope ≡ true }
+    ensures { IfOk result (λ s. s ≡ no_trees) }
+{
+    TokenStream::with_capacity(alloc, count_ahead(buffer, from, scope))
+}
+
+// Appends the leaves from a position up to the next group, or to the scope's end, and returns that
+// position.
+// Kept out of line, as `room_ahead` is.
+#[inline(never)]
+fn copy_leaves(
+    stream: &mut TokenStream,
+    buffer: &TokenBuffer,
+    from: usize,
+    scope: usize,
+) -> Result<usize, AllocError>
+    requires in_buffer { scope ≤ weight buffer.now.forest }
+    requires within { in_scope buffer.now.forest from scope ≡ true }
+    ensures within { IfOk result (λ n. in_scope buffer.now.forest n scope ≡ true) }
+    ensures later { IfOk result (λ n. from ≤ n) }
+    ensures stops { IfOk result
+        (λ n. (n ≡ scope → ⊥) → OpensGroup (frames_at buffer.now.forest n).0) }
+    ensures copied { IfOk result (λ n. concat stream.new
+        (rest (place_at buffer.now.number buffer.now.forest n scope))
+        ≡ concat stream.old (rest (place_at buffer.now.number buffer.now.forest from scope))) }
+{
+    let mut position = from;
+    while position != scope {
+        match buffer.entry(position).held() {
+            Held::Leaf(leaf) => {
+                leaf.append_to(stream)?;
+                position += 1;
+            }
+            Held::Group(_, _) => return Ok(position),
+            Held::End(_) => position += 1,
+        }
+    }
+    Ok(position)
 }
 
 // Copies the trees from a position to the scope's end, into a stream of their number.
@@ -156,22 +208,16 @@ fn copy_ahead(
     ensures { IfOk result
         (λ s. s ≡ rest (place_at buffer.now.number buffer.now.forest from scope)) }
 {
-    let mut stream = TokenStream::with_capacity(alloc, count_ahead(buffer, from, scope))?;
-    let mut position = from;
+    let mut stream = room_ahead(alloc, buffer, from, scope)?;
+    let mut position = copy_leaves(&mut stream, buffer, from, scope)?;
     while position != scope {
-        match buffer.entry(position).held() {
-            Held::Leaf(leaf) => {
-                leaf.append_to(&mut stream)?;
-                position += 1;
-            }
-            Held::Group(group, offset) => {
-                let content = copy_ahead(alloc, buffer, position + 1, position + offset)?;
-                let copy = Group::new(group.delimiter, content, group.span);
-                stream.append(TokenTree::Group(copy))?;
-                position = position + offset + 1;
-            }
-            Held::End(_) => position += 1,
-        }
+        let Held::Group(group, offset) = buffer.entry(position).held() else {
+            unreachable!();
+        };
+        let content = copy_ahead(alloc, buffer, position + 1, position + offset)?;
+        let copy = Group::new(group.delimiter, content, group.span);
+        stream.append(TokenTree::Group(copy))?;
+        position = copy_leaves(&mut stream, buffer, position + offset + 1, scope)?;
     }
     Ok(stream)
 }
