@@ -193,19 +193,14 @@ fn act_line<'a>(streams: &mut Streams<'a>, command: &Command) -> Result<Line, Al
 
 // Returns the line of a command that doesn't fit its streams.
 #[inline(never)]
-fn misused_line<'a>(
-    streams: &Streams<'a>,
-    command: &Command,
-    misuse: Misuse,
-) -> Result<Line, AllocError>
+fn misused_line<'a>(streams: &Streams<'a>, command: &Command, misuse: Misuse) -> Line
     requires { spec.misuse (command_of command.now) (state_of streams.now) ≡ Some misuse }
-    ensures { IfOk result
-        (λ l. IsLine l (state_of streams.now) (state_of streams.now) command.now) }
+    ensures { IsLine result (state_of streams.now) (state_of streams.now) command.now }
 {
-    Ok(Line {
+    Line {
         answer: Answer::Misused(misuse),
         position: misplaced(streams, command, misuse),
-    })
+    }
 }
 
 /// Runs a command.
@@ -214,7 +209,7 @@ pub fn line<'a>(streams: &mut Streams<'a>, command: &Command) -> Result<Line, Al
         (λ l. IsLine l (state_of streams.new) (state_of streams.old) command.now) }
 {
     match misuse(streams, command) {
-        Some(misuse) => misused_line(streams, command, misuse),
+        Some(misuse) => Ok(misused_line(streams, command, misuse)),
         None => match command {
             Command::Enter(_, _)
             | Command::EnterAny(_)
@@ -238,7 +233,7 @@ fn run<'a>(
 {
     let mut lines = Vec::with_capacity(alloc, commands.len())?;
     for command in commands {
-        lines.push_reserved(line(streams, command)?);
+        lines.push(line(streams, command)?)?;
     }
     Ok(lines)
 }

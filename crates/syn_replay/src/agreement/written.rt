@@ -5,6 +5,7 @@ ghost use Rattle.syn_replay.specs.Agree.{AnswersAgree, LinesAgree, ReportsAgree}
 ghost use Rattle.syn_replay.specs.Commands.{command_of};
 ghost use Rattle.syn_replay.specs.Meanings.{line_of, verdict_of};
 ghost use Rattle.syn_replay.specs.ReportText.{lines_text, report_text};
+ghost use Rattle.syn_replay.specs.Session.Stepping.{IsPlainVerdict};
 ghost use Rattle.syn_replay.specs.Session.Tracks.{state_of};
 ghost use Rattle.syn_replay.specs.Session.Walk.{last_state, lines_from, walk};
 
@@ -12,7 +13,7 @@ use crate::agreement::{answers_agree, verdicts_agree};
 use crate::command::Command;
 use crate::report::{Line, Verdict};
 use crate::session::streams::Streams;
-use crate::session::written::{push_line, push_verdict};
+use crate::session::written::{push_line, push_verdict, report_room};
 use crate::session::{line, verdict};
 use std::alloc::{AllocError, Global};
 use std::fmt::{Formatter, Write};
@@ -105,6 +106,8 @@ pub fn replay_both_texts(
     ensures agree { IfOk result (λ b. (b.agree ≡ true)
         ↔ ReportsAgree (walk left (map command_of commands.now))
         (walk right (map command_of commands.now))) }
+    ensures errors { IfOk result
+        (λ b. IsPlainVerdict b.left_verdict × IsPlainVerdict b.right_verdict) }
 {
     let left = TokenBuffer::new2(alloc, 0, left)?;
     let right = TokenBuffer::new2(alloc, 0, right)?;
@@ -130,15 +133,15 @@ fn both_onto(
     ensures agree { IfOk result (λ b. (b.agree ≡ true)
         ↔ ReportsAgree (walk left.now.forest (map command_of commands.now))
         (walk right.now.forest (map command_of commands.now))) }
+    ensures errors { IfOk result
+        (λ b. IsPlainVerdict b.left_verdict × IsPlainVerdict b.right_verdict) }
 {
     let whole = tokens_to_parse_buffer(alloc, left, Span::call_site());
     let mut ours = Streams::new(alloc, whole.pause(), commands.len())?;
     let whole = tokens_to_parse_buffer(alloc, right, Span::call_site());
     let mut theirs = Streams::new(alloc, whole.pause(), commands.len())?;
-    // Most lines have fewer than 24 bytes.
-    let room = commands.len().saturating_mul(24);
-    let mut f = Formatter::new(String::with_capacity(alloc, room)?);
-    let mut g = Formatter::new(String::with_capacity(alloc, room)?);
+    let mut f = Formatter::new(report_room(alloc, commands.len())?);
+    let mut g = Formatter::new(report_room(alloc, commands.len())?);
     let lines_agree = run(&mut ours, &mut theirs, commands, &mut f, &mut g)?;
     let left_verdict = verdict(&ours)?;
     let right_verdict = verdict(&theirs)?;

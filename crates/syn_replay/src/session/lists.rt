@@ -26,7 +26,6 @@ pub enum Form {
 }
 
 /// Parses tokens of this kind, with this separator between them.
-#[inline(never)]
 pub fn read(
     input: ParseStream<'_, '_>,
     form: Form,
@@ -75,7 +74,7 @@ fn parts<const K: usize, const N: usize>(
         ≡ flat_map (pair_parts text.now)
         (paired (values_of list.entry) (separators_of list.entry))) }
 {
-    let mut parts = Vec::with_capacity(alloc, list.len().saturating_mul(2))?;
+    let mut parts = Vec::new(alloc);
     let mut pairs = list.into_pairs();
     while let Some(pair) = pairs.next() {
         let (value, separator) = pair.into_tuple();

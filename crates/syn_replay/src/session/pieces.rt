@@ -26,7 +26,7 @@ pub fn word(alloc: Global, text: &str, span: Span) -> Result<Vec<Piece>, AllocEr
         (λ ps. map piece_of ps.items ≡ record { text = text.now; span = span } ∷ []) }
 {
     let mut pieces = Vec::with_capacity(alloc, 1)?;
-    pieces.push_reserved(piece(alloc, text, span)?);
+    pieces.push(piece(alloc, text, span)?)?;
     Ok(pieces)
 }
 
@@ -67,7 +67,7 @@ pub fn punct(alloc: Global, punct: Punct) -> Result<Vec<Piece>, AllocError>
     ensures { IfOk result (ArePieces (leaf (punct_of punct) ∷ [])) }
 {
     let mut pieces = Vec::with_capacity(alloc, 1)?;
-    pieces.push_reserved(character(alloc, punct.as_char(), punct.span())?);
+    pieces.push(character(alloc, punct.as_char(), punct.span())?)?;
     Ok(pieces)
 }
 
@@ -77,8 +77,8 @@ pub fn lifetime(alloc: Global, lifetime: &Lifetime) -> Result<Vec<Piece>, AllocE
         (ArePieces (lifetime_trees lifetime.now.apostrophe (ident_of lifetime.now.ident))) }
 {
     let mut pieces = Vec::with_capacity(alloc, 2)?;
-    pieces.push_reserved(character(alloc, '\'', lifetime.apostrophe)?);
-    pieces.push_reserved(piece(alloc, lifetime.ident.as_str(), lifetime.ident.span())?);
+    pieces.push(character(alloc, '\'', lifetime.apostrophe)?)?;
+    pieces.push(piece(alloc, lifetime.ident.as_str(), lifetime.ident.span())?)?;
     Ok(pieces)
 }
 

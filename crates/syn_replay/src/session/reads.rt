@@ -71,7 +71,6 @@ fn optional(input: ParseStream<'_, '_>, kind: Kind) -> Result<Answer>
 }
 
 // Finds the first of these looks that is true. If none is, the error names them all.
-#[inline(never)]
 fn look_ahead(input: &ParseBuffer<'_>, looks: &[Look]) -> Result<Answer>
     ensures { GivesAnswer
         (looked 0 (map look_of looks.now) [] input.now.place input.now.scope_span) result }
@@ -87,7 +86,6 @@ fn look_ahead(input: &ParseBuffer<'_>, looks: &[Look]) -> Result<Answer>
 }
 
 // Parses the next tree.
-#[inline(never)]
 fn tree(input: ParseStream<'_, '_>) -> Result<Answer>
     ensures { IsRead commands.next_tree input.old result input.new }
 {
@@ -97,7 +95,6 @@ fn tree(input: ParseStream<'_, '_>) -> Result<Answer>
 }
 
 // Parses the next tree if it is a visible group.
-#[inline(never)]
 fn group(input: ParseStream<'_, '_>) -> Result<Answer>
     ensures { IsRead commands.next_group input.old result input.new }
 {

@@ -15,6 +15,9 @@ use syn_parse::{
 };
 use tok_core::{DelimSpan, Delimiter};
 
+/// The most commands for which room is asked for at first.
+pub const MOST_COMMANDS: usize = 1 << 16;
+
 /// The streams of a replay. Stream 0 is the whole.
 ///
 /// Each stream lists those of its groups, so that closing it visits those alone.
@@ -30,7 +33,7 @@ pub struct Streams<'a> {
 }
 
 impl<'a> Streams<'a> {
-    ghost use Rattle.std.specs.Prelude.{◌≡◌, ◌<◌, ◌∷◌, [], ◌++◌, length, Some, None, MatchOption, IfOk, OnOk, OnErr, true};
+    ghost use Rattle.std.specs.Prelude.{◌≡◌, ◌+◌, ◌/◌, ◌<◌, ◌∷◌, [], ◌++◌, length, min, vec_capacity, Some, None, MatchOption, IfOk, OnOk, OnErr, true};
     ghost use Rattle.std.specs.List.{slice_get};
     ghost use Rattle.syn_parse.specs.Pauses.{paused_state};
     ghost use Rattle.syn_replay.specs.Commands as commands;
@@ -43,10 +46,12 @@ impl<'a> Streams<'a> {
     /// Creates the list with the whole stream, for so many commands. In long lists, about one in
     /// eight makes a stream.
     pub fn new(alloc: Global, whole: Paused<'a>, commands: usize) -> Result<Self, AllocError>
-        ensures { IfOk result
+        ensures state { IfOk result
             (λ s. state_of s ≡ standing (paused_state whole.entry) outermost true ∷ []) }
+        ensures room { IfOk result
+            (λ s. vec_capacity s.list ≡ min commands 65536 / 8 + 4) }
     {
-        let mut list = Vec::with_capacity(alloc, commands / 8 + 4)?;
+        let mut list = Vec::with_capacity(alloc, commands.min(MOST_COMMANDS) / 8 + 4)?;
         list.push_reserved(Stream::new(alloc, whole, None));
         Ok(Streams { list })
     }
@@ -109,8 +114,6 @@ impl<'a> Streams<'a> {
     }
 
     /// Enters the next group of stream `n`, if it has the wanted delimiter.
-    // Kept out of line, as all that few commands call: the commands that read keep a small frame.
-    #[inline(never)]
     pub fn enter(&mut self, n: usize, wanted: Option<Delimiter>) -> Result<Answer, AllocError>
         requires { n < length (state_of self.old) }
         ensures { IfOk result
@@ -146,7 +149,6 @@ impl<'a> Streams<'a> {
     }
 
     /// Makes a stream at the place of stream `n`.
-    #[inline(never)]
     pub fn fork(&mut self, n: usize) -> Result<Answer, AllocError>
         requires { n < length (state_of self.old) }
         ensures { IfOk result
@@ -192,7 +194,6 @@ impl<'a> Streams<'a> {
     }
 
     /// Closes a group's stream, and all that are open inside it, into its parent.
-    #[inline(never)]
     pub fn close(&mut self, k: usize)
         requires { is_open_at (state_of self.old) k ≡ true }
         ensures { state_of self.new ≡ closed k (state_of self.old) }
@@ -225,7 +226,6 @@ impl<'a> Streams<'a> {
     /// are closed.
     ///
     /// The fork must be in the same scope, and the stream neither the fork nor inside it.
-    #[inline(never)]
     pub fn advance(&mut self, n: usize, fork: usize) -> Answer
         requires stream { n < length (state_of self.old) }
         requires fork { is_open_at (state_of self.old) fork ≡ true }

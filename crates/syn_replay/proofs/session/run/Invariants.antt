@@ -1,13 +1,9 @@
-use Rattle.std.proofs.Common.{◌≡◌, ◌≤◌, drop, length}
-use Rattle.std.specs.Prelude.{vec_capacity, vec_len}
+use Rattle.std.proofs.Common.{drop}
 use Rattle.syn_replay.specs.Session.Tracks.{state_of}
 use Rattle.syn_replay.proofs.Walk.Runs.{RunsOn}
 use Rattle.syn_replay.proofs.session.run.Given as goal
 
 abbrev pub invariant-loop-command : goal.invariant-loop-command
-invariant-loop-command l = record {
-  runs : RunsOn l.lines.items (state_of l.streams) (drop l.command-index l.commands)
-      (state_of l.fn.streams) l.commands;
-  count : vec_len l.lines ≡ l.command-index;
-  room : length l.commands ≤ vec_capacity l.lines;
-}
+invariant-loop-command l =
+    RunsOn l.lines.items (state_of l.streams) (drop l.command-index l.commands)
+    (state_of l.fn.streams) l.commands

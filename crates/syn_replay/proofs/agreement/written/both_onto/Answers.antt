@@ -21,7 +21,7 @@ returns-clause-left c =
     ∙ text_told _ string_bytes (λ _ _ _ t. t) c.new-f.result c.run.new.f c.push_verdict.new.f _ _
     c.new-f.ensures.plain c.in_ok-lines_agree.ensures.left_text c.in_ok-push_verdict.ensures
     ∙ ap (λ w. string_bytes w ++ text) c.new-f.ensures.writer
-    ∙ ap (λ x. x ++ text) c.in_ok-with_capacity.ensures.bytes
+    ∙ ap (λ x. x ++ text) c.in_ok-report_room.ensures.bytes
     ∙ report_written forest cs st (state_of c.run.new.left) v first
     c.in_ok-lines_agree.ensures.left c.in_ok-left_verdict.ensures.0
 
@@ -37,6 +37,6 @@ returns-clause-right c =
     ∙ text_told _ string_bytes (λ _ _ _ t. t) c.new-g.result c.run.new.g c.push_verdict-2.new.f _ _
     c.new-g.ensures.plain c.in_ok-lines_agree.ensures.right_text c.in_ok-push_verdict-2.ensures
     ∙ ap (λ w. string_bytes w ++ text) c.new-g.ensures.writer
-    ∙ ap (λ x. x ++ text) c.in_ok-with_capacity-2.ensures.bytes
+    ∙ ap (λ x. x ++ text) c.in_ok-report_room-2.ensures.bytes
     ∙ report_written forest cs st (state_of c.run.new.right) v first
     c.in_ok-lines_agree.ensures.right c.in_ok-right_verdict.ensures.0
