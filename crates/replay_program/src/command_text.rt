@@ -46,9 +46,7 @@ pub fn read_commands(alloc: Global, lines: Option<&str>) -> Result<Vec<Command>,
         (λ fault. OnUnreadable fault (λ why. (n : ℕ) × (why ≡ unreadable.Command n)
         × (spec.unreadable_line (lines_left lines.entry) ≡ Some n))) }
 {
-    // Most lines have eight bytes or more, so the commands seldom outgrow their room and move.
-    let bytes = lines.map_or(0, str::len);
-    let mut commands = Vec::with_capacity(alloc, bytes / 8)?;
+    let mut commands = Vec::new(alloc);
     let mut number = 0usize;
     let mut left = lines;
     while let Some(rest) = left {

@@ -59,10 +59,10 @@ pub fn parts(input: &str) -> Option<(&str, Option<&str>, Option<&str>)>
         × IfSome p.2 (λ rest. IsUtf8 rest.now)) }
 {
     let (text, rest) = cut(Some(input))?;
-    let Some((other, lines)) = cut(rest) else {
+    let Some((other, lines)) = cut_again(rest) else {
         return Some((text, None, rest));
     };
-    match cut(lines) {
+    match cut_again(lines) {
         Some(_) => None,
         None => Some((text, Some(other), lines)),
     }
@@ -79,9 +79,6 @@ fn cut(input: Option<&str>) -> Option<(&str, Option<&str>)>
     ensures utf8 { IfSome result (λ p. IsUtf8 p.0.now × IfSome p.1 (λ rest. IsUtf8 rest.now)) }
 {
     let text = input?;
-    if lacks_cuts(text) {
-        return None;
-    }
     let mut left = input;
     while let Some(rest) = left {
         let (line, after) = first_line(rest);
@@ -91,6 +88,23 @@ fn cut(input: Option<&str>) -> Option<(&str, Option<&str>)>
         left = after;
     }
     None
+}
+
+// Splits what is left of an input, as `cut` does. Mostly it is a list of commands, and has no `---`.
+fn cut_again(input: Option<&str>) -> Option<(&str, Option<&str>)>
+    requires { IfSome input (λ input. IsUtf8 input.now) }
+    ensures parts { MatchOption result
+        (slice_split spec.is_cut (spec.lines_left input.entry) ≡ spec.lines_left input.entry ∷ [])
+        (λ p. (before : List (List ℕ)) × (p.0.now ≡ spec.text_of before)
+        × (slice_split spec.is_cut (spec.lines_left input.entry)
+        ≡ before ∷ slice_split spec.is_cut (spec.lines_left p.1))) }
+    ensures utf8 { IfSome result (λ p. IsUtf8 p.0.now × IfSome p.1 (λ rest. IsUtf8 rest.now)) }
+{
+    let text = input?;
+    if lacks_cuts(text) {
+        return None;
+    }
+    cut(input)
 }
 
 // Returns `true` if the text has no `---`, as most lists of commands.

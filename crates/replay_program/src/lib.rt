@@ -135,12 +135,9 @@ fn told(alloc: Global, buffer: &TokenBuffer, commands: &[Command]) -> Result<(St
         (string_bytes p.0 ≡ report_text report) × (p.1 ≡ verdict_status report.verdict))
         (λ fault. fault ≡ Fault.Memory) }
 {
-    // Most lines have fewer than 24 bytes.
-    let room = commands.len().saturating_mul(24);
-    let text = String::with_capacity(alloc, room)?;
-    let (text, verdict) = replay_onto(alloc, buffer, commands, text)?;
-    let status = status(&verdict);
-    Ok((text, status))
+    let mut text = String::new(alloc);
+    let verdict = replay_onto(alloc, buffer, commands, &mut text)?;
+    Ok((text, status(&verdict)))
 }
 
 // Returns the text of a comparison of two streams, and the status.

@@ -1,14 +1,7 @@
 use Rattle.std.proofs.Common.{◌≡◌, ◌-◌, ◌<◌, true, false, length, take, sym, subst, ◌∙◌, arith}
-use Rattle.replay_program.specs.Input.{is_cut, lines}
-use Rattle.std.proofs.lemmas.List.Splits.{slice_split_none}
+use Rattle.replay_program.specs.Input.{is_cut}
 use Rattle.replay_program.proofs.Lines.{IsPast, past_more, past_cut, past_all, left_len, left_less}
 use Rattle.replay_program.proofs.input.cut.Goals as goal
-
-pub returns-then-lacks_cuts-clause-parts : goal.returns-then-lacks_cuts-clause-parts
-returns-then-lacks_cuts-clause-parts c =
-    rw (c.in_ok-text.was {u = tt})
-    (slice_split_none is_cut (lines c.in_ok-text.text.now)
-    (c.lacks_cuts.ensures c.if-lacks_cuts.true))
 
 pub returns-then-eq-clause-parts : goal.returns-then-eq-clause-parts
 returns-then-eq-clause-parts c =
