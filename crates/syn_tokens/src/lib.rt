@@ -8,8 +8,9 @@ pub use syn_parse::{
 };
 pub use syn_punctuated as punctuated;
 pub use syn_replay::{
-    Answer, Command, Kind, Line, Look, Misuse, Piece, Position, Report, Separator, Verdict, agree,
-    is_self_contained, is_transparent, replay, replay_both,
+    Answer, BothTexts, Command, Kind, Line, Look, Misuse, Piece, Position, Report, Separator,
+    Verdict, agree, is_self_contained, is_transparent, replay, replay_both, replay_both_texts,
+    replay_onto,
 };
 pub use tok_buffer::{Error, Lifetime, LifetimeFault, error};
 pub use tok_core::{
