@@ -31,7 +31,8 @@ fn two(rt: &(impl Abort + AllocGlobal), alloc: Global) -> Result<(), LexFault> {
 fn written(rt: &(impl Abort + AllocGlobal), alloc: Global) -> Result<(), LexFault> {
     let buffer = TokenBuffer::from_marked(alloc, 0, 0, "a b")?;
     let commands = [Command::Parse(0, Kind::Ident), Command::Rest(0)];
-    let (text, _) = replay_onto(alloc, &buffer, &commands, String::new(alloc))?;
+    let mut text = String::new(alloc);
+    let _verdict = replay_onto(alloc, &buffer, &commands, &mut text)?;
     assert_eq!(rt; text.as_str(), "read a 0..1 @1\ntrees b @empty\naccepted\n");
     Ok(())
 }

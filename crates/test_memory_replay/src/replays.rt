@@ -16,7 +16,8 @@ pub fn calls(alloc: Global) -> Outcome {
         of_buffer(alloc, &commands),
         of_stream(alloc, &commands),
         of_both(alloc, &commands),
-        text_of_buffer(alloc, &commands),
+        text_of_buffer(alloc, &commands, ""),
+        text_of_buffer(alloc, &commands, "before"),
         texts_of_both(alloc, &commands),
     ])
 }
@@ -51,10 +52,16 @@ fn of_both(alloc: Global, commands: &[Command]) -> Outcome {
     ended(replay_both(alloc, left, right, commands))
 }
 
-fn text_of_buffer(alloc: Global, commands: &[Command]) -> Outcome {
-    match TokenBuffer::from_marked(alloc, 0, 0, TEXT) {
-        Ok(buffer) => ended(replay_onto(alloc, &buffer, commands, String::new(alloc))),
-        Err(_) => Err(Stop::Refused),
+// Appends to no text, and to one. If an allocation fails, the text is as before.
+fn text_of_buffer(alloc: Global, commands: &[Command], before: &str) -> Outcome {
+    let mut text = made(String::from_str(alloc, before))?;
+    let Ok(buffer) = TokenBuffer::from_marked(alloc, 0, 0, TEXT) else {
+        return Err(Stop::Refused);
+    };
+    match replay_onto(alloc, &buffer, commands, &mut text) {
+        Ok(_) => Ok(()),
+        Err(_) if text.as_str() == before => Err(Stop::Refused),
+        Err(_) => Err(Stop::Wrong("replay_onto")),
     }
 }
 

@@ -138,6 +138,34 @@ transparent yes\n\
 agree yes\n\
 ";
 
+const FIRST_LINE_BAD: &str = "\
+a\n\
+---\n\
+no command\n\
+empty 0\n\
+";
+
+const SIXTH_COMMAND_BAD: &str = "\
+a\n\
+---\n\
+empty 0\n\
+\n\
+empty 0\n\
+empty 0\n\
+empty 0\n\
+empty 0\n\
+empty 0 0\n\
+empty 0\n\
+";
+
+const NO_COMMANDS: &str = "\
+a\n\
+---\n\
+\n\
+   \n\
+\n\
+";
+
 // Compares the output with two texts: keeps the rest of each, while it matches.
 #[derive(Drop)]
 struct Compared<'a> {
@@ -184,11 +212,15 @@ fn serves(alloc: Global, input: &str, answer: &str, status: u8) -> Outcome {
     }
 }
 
-/// Serves the first run of the program, a run of every command, and two texts.
+/// Serves the first run of the program, a run of every command, and two texts; then a list whose
+/// first line is bad, one with a bad line after commands that moved, and lines without words.
 pub fn calls(alloc: Global) -> Outcome {
     worst(&[
         serves(alloc, FIRST, FIRST_ANSWER, 0),
         serves(alloc, INPUT, ANSWER, 1),
         serves(alloc, TWO_TEXTS, TWO_ANSWERS, 1),
+        serves(alloc, FIRST_LINE_BAD, "unreadable: command 1\n", 2),
+        serves(alloc, SIXTH_COMMAND_BAD, "unreadable: command 7\n", 2),
+        serves(alloc, NO_COMMANDS, "refused 0..1 unexpected token\n", 1),
     ])
 }

@@ -8,14 +8,16 @@
 //! Some inputs are names. For `buffer` it lays out an empty stream and does nothing else. For `laid
 //! out` it lays out some tokens, and for `free` the same tokens, on which it then makes calls that
 //! don't allocate. For `listed` it makes lists, and for `emptied` the same ones, which it then
-//! empties. For `kept` and the name of a call it adds several things by that call: if an allocation
-//! fails, the status is 10 and how many are there.
+//! empties. For `exact` it makes texts, and for `shared` it clones the same ones too; so for `roomy`
+//! and `copied`. For `kept` and the name of a call it adds several things by that call: if an
+//! allocation fails, the status is 10 and how many are there.
 #![tactic(auto)]
 
 mod argument_lists;
 mod kept;
 mod lists;
 mod streams;
+mod texts;
 
 use kept::Kept;
 use std::alloc::Global;
@@ -41,6 +43,14 @@ fn main(rt: HostRuntime) -> ExitCode {
         lists::listed(alloc)
     } else if bytes.starts_with(b"emptied") {
         lists::emptied(alloc)
+    } else if bytes.starts_with(b"exact") {
+        texts::exact(alloc)
+    } else if bytes.starts_with(b"shared") {
+        texts::shared(alloc)
+    } else if bytes.starts_with(b"roomy") {
+        texts::roomy(alloc)
+    } else if bytes.starts_with(b"copied") {
+        texts::copied(alloc)
     } else if bytes.starts_with(b"kept ") {
         match kept_by(alloc, &bytes[5..], count) {
             Ok(kept) if kept.is_refused => return ExitCode::from(status_of(kept.count)),

@@ -10,6 +10,10 @@ mod front;
 #[cfg(test)]
 mod names;
 #[cfg(test)]
+mod pieces;
+#[cfg(test)]
 mod session;
 #[cfg(test)]
 mod sizes;
+#[cfg(test)]
+mod written;

@@ -33,10 +33,10 @@ fn is_copied(alloc: Global, text: &str) -> bool {
     made && is_text(from_string(alloc, text), text)
 }
 
-// Returns `true` if an identifier of this text hands it out, shared and whole.
+// Returns `true` if an identifier of this text hands it out whole.
 fn is_handed_out(alloc: Global, text: &str) -> bool {
     match Ident::new(alloc, text, Span::call_site()) {
-        Ok(ident) => is_text(ident.to_text(), text) && ident.into_text().as_str() == text,
+        Ok(ident) => is_text(ident.to_text(), text),
         Err(_) => false,
     }
 }
@@ -44,7 +44,7 @@ fn is_handed_out(alloc: Global, text: &str) -> bool {
 // Returns `true` if the literal of this text hands out the text in quotes.
 fn is_quoted(alloc: Global, text: &str, quoted: &str) -> bool {
     match Literal::string(alloc, text) {
-        Ok(literal) => is_text(literal.to_text(), quoted) && literal.into_text().as_str() == quoted,
+        Ok(literal) => is_text(literal.to_text(), quoted),
         Err(_) => false,
     }
 }

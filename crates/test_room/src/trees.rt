@@ -1,0 +1,37 @@
+//! The calls of `tok_core` on texts.
+use crate::{mark, push_times};
+use std::alloc::Global;
+use test_outcomes::memory::{Outcome, Stop, made};
+use tok_core::lex;
+
+/// Returns a text of so many bytes: this opening, `count` names, blanks, and this closing.
+pub fn names(
+    alloc: Global,
+    opening: &str,
+    closing: &str,
+    count: usize,
+    bytes: usize,
+) -> Result<String, Stop> {
+    let mut text = made(String::from_str(alloc, opening))?;
+    push_times(&mut text, "a ", count)?;
+    let taken = text.len().saturating_add(closing.len());
+    push_times(&mut text, " ", bytes.saturating_sub(taken))?;
+    made(text.push_str(closing))?;
+    Ok(text)
+}
+
+/// Lexes `count` names in a text of `bytes`.
+pub fn lexed(alloc: Global, count: usize, bytes: usize) -> Outcome {
+    let text = names(alloc, "", "", count, bytes)?;
+    mark(alloc)?;
+    let _stream = made(lex(alloc, 0, text.as_str()))?;
+    mark(alloc)
+}
+
+/// Lexes a group of `count` names in a text of `bytes`.
+pub fn in_group(alloc: Global, count: usize, bytes: usize) -> Outcome {
+    let text = names(alloc, "(", ")", count, bytes)?;
+    mark(alloc)?;
+    let _stream = made(lex(alloc, 0, text.as_str()))?;
+    mark(alloc)
+}
