@@ -1,0 +1,20 @@
+-- A forest without the invisible groups that hold nothing visible.
+use Rattle.std.specs.Prelude.{Bool, true, cond}
+use Rattle.tok_lexical.specs.declared.delimiter.Delimiter.{Delimiter}
+use Rattle.tok_lexical.specs.declared.delimiter.Delimiter.TheVariants.{None}
+use Rattle.tok_core.specs.Erase.{erase}
+use Rattle.tok_core.specs.Filled.{has_trees}
+use Rattle.tok_core.specs.Forest.{leaf, group, Forest, no_trees, tree}
+
+abbrev pub pruned : Forest → Forest
+pruned no_trees = no_trees
+pruned (tree (leaf l) f) = tree (leaf l) (pruned f)
+pruned (tree (group None inside span) f) =
+    cond (has_trees (erase inside)) (tree (group None (pruned inside) span) (pruned f)) (pruned f)
+pruned (tree (group delimiter inside span) f) =
+    tree (group delimiter (pruned inside) span) (pruned f)
+
+-- a group with these pruned contents stays
+abbrev pub stays : Delimiter → Forest → Bool
+stays None inside = has_trees inside
+stays delimiter inside = true
