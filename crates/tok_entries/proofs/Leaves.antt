@@ -1,0 +1,51 @@
+-- No leaf has an entry and text that were refused.
+use Rattle.std.proofs.Common.{◌≡◌, ℕ, ◌+◌, List, ◌++◌, length, ap, sym, ◌∙◌, subst, arith}
+use Rattle.std.specs.Prelude.{true, encode_utf8}
+use Rattle.tok_lexical.specs.Characters.{is_punct_or_apostrophe}
+use Rattle.tok_leaves.specs.Leaves.{Leaf, ident, punct, literal, leaf_text}
+use Rattle.tok_leaves.specs.declared.punct.Spacing.{Spacing}
+use Rattle.tok_leaves.specs.declared.span.Span.{Span}
+use Rattle.tok_entries.specs.declared.entry.Entry.{Entry}
+use Rattle.tok_entries.specs.Entries.{leaf_entry, leaf_kind}
+use Rattle.tok_entries.specs.Private.Parts.{AreLeafParts, HasNoLeaf}
+use Rattle.tok_entries.specs.Texts.{IsLiteral, IsWord}
+use Rattle.tok_entries.proofs.Once.{fronts}
+
+-- an entry with these parts, and a leaf that has it
+module _ (at : ℕ) (e : Entry) (bs text after : List ℕ) (spacing : Spacing) (span : Span)
+    (parts : AreLeafParts at e bs spacing span text after) where
+  text_is : (l : Leaf) (behind : List ℕ) → e ≡ leaf_entry at l → bs ≡ leaf_text l ++ behind
+      → text ≡ leaf_text l
+  text_is l behind he hb =
+      let p : e.text_end ≡ at + length text = ap (λ x. x.text_end) parts.0 in
+      let q : e.text_end ≡ at + length (leaf_text l) = ap (λ x. x.text_end) he in
+      let n : length text ≡ length (leaf_text l) = omega (arith, p, q) in
+      fronts text (leaf_text l) after behind n (sym parts.1 ∙ hb)
+
+  kind_is : (l : Leaf) → e ≡ leaf_entry at l → e.kind ≡ leaf_kind l
+  kind_is l he = ap (λ x. x.kind) he
+
+  pub no_ident : e.kind ≡ 0 → (IsWord text → ⊥) → HasNoLeaf at e bs
+  no_ident k none (ident t s) behind ((u, w), i) hu he hb =
+      none (subst IsWord (sym (text_is (ident t s) behind he hb)) w)
+  no_ident k none (punct c p s) behind hl hu he hb =
+      absurd (omega (arith, k, kind_is (punct c p s) he))
+  no_ident k none (literal t s) behind hl hu he hb =
+      absurd (omega (arith, k, kind_is (literal t s) he))
+
+  pub no_literal : e.kind ≡ 2 → (IsLiteral text → ⊥) → HasNoLeaf at e bs
+  no_literal k none (literal t s) behind ((u, w), i) hu he hb =
+      none (subst IsLiteral (sym (text_is (literal t s) behind he hb)) w)
+  no_literal k none (punct c p s) behind hl hu he hb =
+      absurd (omega (arith, k, kind_is (punct c p s) he))
+  no_literal k none (ident t s) behind hl hu he hb =
+      absurd (omega (arith, k, kind_is (ident t s) he))
+
+  pub no_punct : e.kind ≡ 1
+      → ((c : ℕ) → is_punct_or_apostrophe c ≡ true → text ≡ encode_utf8 c → ⊥) → HasNoLeaf at e bs
+  no_punct k none (punct c p s) behind (w, i) hu he hb =
+      none c w (text_is (punct c p s) behind he hb)
+  no_punct k none (ident t s) behind hl hu he hb =
+      absurd (omega (arith, k, kind_is (ident t s) he))
+  no_punct k none (literal t s) behind hl hu he hb =
+      absurd (omega (arith, k, kind_is (literal t s) he))

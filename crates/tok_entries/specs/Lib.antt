@@ -1,0 +1,5 @@
+pub mod Denotes
+pub mod Entries
+pub mod Refusals
+pub mod Texts
+pub mod Private

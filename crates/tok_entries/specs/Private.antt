@@ -1,0 +1,3 @@
+-- Definitions that only contracts of private items cite.
+pub mod Parts
+pub mod Steps

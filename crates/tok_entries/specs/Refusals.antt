@@ -1,0 +1,27 @@
+-- Why entries are refused, in words, and what holds then.
+use Rattle.std.specs.Prelude.{◌≤◌, ◌+◌, List, ℕ, ◌++◌, codes}
+use Rattle.std.specs.Fmt.{decimal}
+use Rattle.tok_entries.specs.declared.intake.fault.EntryFault.{EntryFault}
+use Rattle.tok_entries.specs.declared.intake.fault.EntryFault.TheVariants.{Refused, Memory}
+use Rattle.tok_entries.specs.declared.intake.fault.Refusal.{Refusal}
+use Rattle.tok_entries.specs.declared.intake.fault.Refusal.TheVariants.{Shape, Text, Depth}
+
+abbrev pub refusal_words : Refusal → List ℕ
+refusal_words Shape = codes "a field does not fit"
+refusal_words Text = codes "not a token of this kind"
+refusal_words Depth = codes "groups nested too deep"
+
+abbrev pub fault_words : EntryFault → List ℕ
+fault_words (Refused refusal number) =
+    codes "entry " ++ (decimal number ++ (codes ": " ++ refusal_words refusal))
+fault_words Memory = codes "out of memory"
+
+-- this, unless an allocation failed
+abbrev pub OnDenied : EntryFault → Type 0 → Type 0
+OnDenied (Refused why number) P = P
+OnDenied Memory P = Unit {0}
+
+-- the number of one of so many entries from this one on, or of the one after them
+abbrev pub IsAmong : ℕ → ℕ → EntryFault → Type 0
+IsAmong first count (Refused refusal number) = (first ≤ number) × (number ≤ first + count)
+IsAmong first count Memory = Unit {0}

@@ -1,0 +1,108 @@
+//! Which texts a leaf may have.
+ghost use Rattle.std.specs.Prelude.{◌≡◌, [], MatchBool, MatchOption, None};
+ghost use Rattle.std.specs.Str.{chars};
+ghost use Rattle.tok_lexical.specs.Errors as errors;
+ghost use Rattle.tok_lexical.specs.declared.edition.Edition.TheVariants.{Edition2024};
+ghost use Rattle.tok_lexical.specs.declared.rule.Mode.TheVariants.{Source};
+ghost use Rattle.tok_lexical.specs.declared.rule.Rule.{Rule};
+ghost use Rattle.tok_entries.specs.Texts.{IsLiteral, IsNegative, IsPiece, IsRawWord, IsUnsigned, IsWord, is_number_rule, is_quoted_rule};
+
+use tok_lexical::words::{has_no_raw, is_identifier};
+use tok_lexical::{Edition, Mode, Rule, error_kind, first_rule};
+
+// How a compiler's own literals are read.
+const SOURCE: Mode = Mode::Source(Edition::Edition2024);
+
+// Returns `true` for an identifier, raw or not, and for the root `$crate` of a path, which a
+// compiler hands out as one.
+pub fn is_word(text: &str) -> bool
+    ensures { MatchBool result (IsWord text.now) (IsWord text.now → ⊥) }
+{
+    is_identifier(text) || is_raw_word(text) || text == "$crate"
+}
+
+fn is_raw_word(text: &str) -> bool
+    ensures { MatchBool result (IsRawWord text.now) (IsRawWord text.now → ⊥) }
+{
+    match text.strip_prefix("r#") {
+        Some(name) => is_identifier(name) && !has_no_raw(name),
+        None => false,
+    }
+}
+
+// Returns `true` if the rules of a source read all of this text as one literal, or the text after a
+// minus sign as one number.
+pub fn is_literal(text: &str) -> bool
+    ensures { MatchBool result (IsLiteral text.now) (IsLiteral text.now → ⊥) }
+{
+    is_unsigned(text) || is_negative(text)
+}
+
+fn is_unsigned(text: &str) -> bool
+    ensures { MatchBool result (IsUnsigned text.now) (IsUnsigned text.now → ⊥) }
+{
+    match rule_of(text) {
+        Some(rule) => makes_number(rule) || makes_quoted(rule),
+        None => false,
+    }
+}
+
+fn is_negative(text: &str) -> bool
+    ensures { MatchBool result (IsNegative text.now) (IsNegative text.now → ⊥) }
+{
+    match text.strip_prefix("-") {
+        Some(number) => match rule_of(number) {
+            Some(rule) => makes_number(rule),
+            None => false,
+        },
+        None => false,
+    }
+}
+
+// Returns the rule that takes all of this text.
+fn rule_of(text: &str) -> Option<Rule>
+    ensures { MatchOption result ((r : Rule) → IsPiece r text.now → ⊥)
+        (λ r. IsPiece r text.now × ((s : Rule) → IsPiece s text.now → s ≡ r)) }
+{
+    let Some((rule, after)) = first_rule(SOURCE, text) else {
+        return None;
+    };
+    if after.is_empty() && is_read(rule, text) {
+        Some(rule)
+    } else {
+        None
+    }
+}
+
+fn is_read(rule: Rule, text: &str) -> bool
+    ensures { MatchBool result
+        (errors.error_kind rule (Source Edition2024) 0 (chars text.now) [] ≡ None)
+        (errors.error_kind rule (Source Edition2024) 0 (chars text.now) [] ≡ None → ⊥) }
+{
+    match error_kind(rule, SOURCE, 0, text, "", true) {
+        Some(_) => false,
+        None => true,
+    }
+}
+
+fn makes_number(rule: Rule) -> bool
+    ensures { result ≡ is_number_rule rule }
+{
+    matches!(
+        rule,
+        Rule::Based(_) | Rule::Float | Rule::PointedDecimal | Rule::Decimal
+    )
+}
+
+fn makes_quoted(rule: Rule) -> bool
+    ensures { result ≡ is_quoted_rule rule }
+{
+    matches!(
+        rule,
+        Rule::QuotedString(_)
+            | Rule::RawString(_)
+            | Rule::ByteChar
+            | Rule::EscapedChar
+            | Rule::PlainChar
+    )
+}

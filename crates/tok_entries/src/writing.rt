@@ -1,0 +1,87 @@
+//! A stream as entries.
+ghost use Rattle.std.specs.Prelude.{◌≡◌, ◌++◌, length, OnOk, string_bytes};
+ghost use Rattle.tok_core.specs.Seen.{tree_of};
+ghost use Rattle.tok_entries.specs.Entries as spec;
+
+use crate::entry::{CLOSING, Entry, IDENT, LITERAL, OPENING, PUNCT, edge, leaf, spacing_number};
+use std::alloc::AllocError;
+use tok_core::{TokenStream, TokenTree};
+
+/// Appends the entries of a stream, and the texts of its leaves.
+///
+/// The texts are counted from the front of `texts`, and each distance between two edges in entries.
+/// Returns an error if an allocation fails; what is behind the entries and texts of before is then
+/// not told.
+///
+/// # Examples
+///
+/// ```rust
+/// let mut entries = Vec::new(alloc);
+/// let mut texts = String::new(alloc);
+/// write_entries(&mut entries, &mut texts, &lex(alloc, 0, "a(b)")?)?;
+/// assert_eq!(rt; (entries.len(), texts.as_str()), (4, "ab"));
+/// assert_eq!(rt; (entries[1].kind, entries[1].distance), (3, 2));
+/// ```
+#[cycle(write)]
+pub fn write_entries(
+    entries: &mut Vec<Entry>,
+    texts: &mut String,
+    stream: &TokenStream,
+) -> Result<(), AllocError>
+    ensures entries { OnOk result (entries.new.items
+        ≡ entries.old.items ++ spec.entries (length (string_bytes texts.old)) stream.now) }
+    ensures texts { OnOk result
+        (string_bytes texts.new ≡ string_bytes texts.old ++ spec.texts stream.now) }
+{
+    for next in stream.trees() {
+        write_tree(entries, texts, next)?;
+    }
+    Ok(())
+}
+
+#[cycle(write)]
+fn write_tree(
+    entries: &mut Vec<Entry>,
+    texts: &mut String,
+    next: &TokenTree,
+) -> Result<(), AllocError>
+    ensures entries { OnOk result (entries.new.items
+        ≡ entries.old.items
+        ++ spec.tree_entries (length (string_bytes texts.old)) (tree_of next.now)) }
+    ensures texts { OnOk result
+        (string_bytes texts.new ≡ string_bytes texts.old ++ spec.tree_texts (tree_of next.now)) }
+{
+    let begin = texts.len();
+    match next {
+        TokenTree::Ident(ident) => {
+            texts.push_str(ident.as_str())?;
+            entries.push(leaf(IDENT, 0, ident.span(), begin, texts.len()))?;
+        }
+        TokenTree::Punct(punct) => {
+            texts.push(punct.as_char())?;
+            let spacing = spacing_number(punct.spacing());
+            entries.push(leaf(PUNCT, spacing, punct.span(), begin, texts.len()))?;
+        }
+        TokenTree::Literal(literal) => {
+            texts.push_str(literal.as_str())?;
+            entries.push(leaf(LITERAL, 0, literal.span(), begin, texts.len()))?;
+        }
+        TokenTree::Group(group) => {
+            let start = entries.len();
+            let delimiter = group.delimiter();
+            entries.push(edge(OPENING, delimiter, group.span_open(), begin, 0))?;
+            write_entries(entries, texts, group.stream())?;
+            let distance = entries.len() - start;
+            let closing = edge(
+                CLOSING,
+                delimiter,
+                group.span_close(),
+                texts.len(),
+                distance,
+            );
+            entries.push(closing)?;
+            entries[start] = edge(OPENING, delimiter, group.span_open(), begin, distance);
+        }
+    }
+    Ok(())
+}
