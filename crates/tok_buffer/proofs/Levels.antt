@@ -5,6 +5,9 @@ use Rattle.tok_leaves.specs.declared.span.Span.{Span}
 use Rattle.tok_leaves.specs.Leaves.{Leaf}
 use Rattle.tok_lexical.specs.declared.delimiter.Delimiter.{Delimiter}
 use Rattle.tok_core.specs.Building.{Levels, add_leaf, opened, Closes}
+use Rattle.std.specs.Prelude.{true, ◌≤◌, Option, None, Some}
+use Rattle.std.specs.Option.{option_to_list}
+use Rattle.tok_core.specs.Filled.{has_trees}
 use Rattle.tok_core.specs.Forest.{leaf, group, Forest, no_trees, tree, concat}
 use Rattle.tok_core.specs.Weight.{weight}
 use Rattle.tok_core.proofs.Facts.{concat-none}
@@ -145,6 +148,14 @@ one_end (w ∷ xs) (v ∷ ys) x y e =
     let h : (w ≡ v) × (xs ++ x ∷ [] ≡ ys ++ y ∷ []) = (cc, cc) in
     let r = one_end xs ys x y h.1 in (λ i. h.0 i ∷ r.0 i, r.1)
 
+append_nothing : (zs : List Entry) → zs ++ [] ≡ zs
+append_nothing [] = refl
+append_nothing (z ∷ zs) = ap (λ w. z ∷ w) (append_nothing zs)
+
+same_levels : (s : Levels) (outer : List Forest) (inner : Forest) → s.outer ≡ outer →
+    s.inner ≡ inner → s ≡ record { outer = outer; inner = inner }
+same_levels s outer inner p q = λ i. record { outer = p i; inner = q i }
+
 -- Where a level is left, its group's place is the last one, and it is in the entries.
 pub record Left (xs : List Entry) (ps : List ℕ) (n : ℕ) (s : Levels) : Type 0 where
   pub outer : List Forest
@@ -212,6 +223,66 @@ module _ (xs ys : List Entry) (ps : List ℕ) (n k : ℕ) (s : Levels) (d : Deli
       subst (λ w. Closes d p w
       (levels_in (set ys n (Group (record { delimiter = d; span = p }) (k - n))))) same
       (h.before, h.is ∙ ap (λ w. w.outer ++ h.before ∷ []) (sym e), ap (λ w. w.inner) e)
+
+no_layout : (f : Forest) → length (layout f) ≡ 0 → f ≡ no_trees
+no_layout no_trees e = refl
+no_layout (tree (leaf l) f) e = absurd (omega (arith, e))
+no_layout (tree (group d g s) f) e = absurd (omega (arith, e))
+
+some_layout : (f : Forest) → 0 < length (layout f) → has_trees f ≡ true
+some_layout no_trees e = absurd (omega (arith, e))
+some_layout (tree t f) e = refl
+
+-- the innermost level has as many entries as there are after its place
+inner_size : (xs : List Entry) (ps : List ℕ) (n : ℕ) (s : Levels) → Left xs ps n s →
+    length xs ≡ n + 1 + length (layout s.inner)
+inner_size xs ps n s h =
+    let x = laid h.outer ++ layout h.before in
+    omega (
+      arith,
+      h.place,
+      ap length h.entries,
+      length-append (x ++ End 0 ∷ []) (layout s.inner),
+      length-append x (End 0 ∷ []),
+    )
+
+-- a level with more entries after its place holds a tree
+pub left_filled : (xs : List Entry) (ps : List ℕ) (n : ℕ) (s old : Levels) → Left xs ps n s →
+    s ≡ old → n + 1 < length xs → has_trees old.inner ≡ true
+left_filled xs ps n s old h e more =
+    ap (λ w. has_trees w.inner) (sym e)
+    ∙ some_layout s.inner (omega (arith, more, inner_size xs ps n s h))
+
+-- where something was taken off the end, it was the last
+pub last_taken : (xs ys : List Entry) (r : Option Entry) → (r ≡ None → ⊥) →
+    xs ≡ ys ++ option_to_list r → (x : Entry) × (xs ≡ ys ++ x ∷ [])
+last_taken xs ys None some e = absurd (some refl)
+last_taken xs ys (Some x) some e = (x, e)
+
+-- the last entry is the place of a level that is empty
+module _ (xs ys : List Entry) (ps : List ℕ) (n : ℕ) (s : Levels) (x : Entry)
+    (h : Left xs ps n s) (y : xs ≡ ys ++ x ∷ []) (few : length xs ≤ n + 1) where
+  is_empty : s.inner ≡ no_trees
+  is_empty = no_layout s.inner (omega (arith, few, inner_size xs ps n s h))
+
+  before_is : ys ≡ laid h.outer ++ layout h.before
+  before_is =
+      (one_end ys (laid h.outer ++ layout h.before) x (End 0)
+      (sym y ∙ h.entries
+      ∙ ap (λ w. ((laid h.outer ++ layout h.before) ++ End 0 ∷ []) ++ layout w) is_empty
+      ∙ append_nothing ((laid h.outer ++ layout h.before) ++ End 0 ∷ []))).0
+
+  built_back : IsBuilt ys ps (record { outer = h.outer; inner = h.before })
+  built_back = (before_is, h.places)
+
+  pub back_built : IsBuilt ys ps (levels_in ys)
+  back_built = entries_built ys ps (record { outer = h.outer; inner = h.before }) built_back
+
+  pub back_shown : (old : Levels) → s ≡ old → old ≡ opened (levels_in ys)
+  back_shown old e =
+      let now = levels_are ys h.outer h.before before_is in
+      sym e ∙ same_levels s (h.outer ++ h.before ∷ []) no_trees h.is is_empty
+      ∙ ap opened (sym now)
 
 -- entries of one level alone, and an end after them
 pub end_completes : (xs ys : List Entry) (s : Levels) → xs ≡ laid s.outer ++ layout s.inner →

@@ -1,4 +1,4 @@
-//! The builder of a buffer's entries from a text.
+//! The builder of a buffer's entries from a text, or from a caller's entries.
 ghost use Rattle.std.specs.Prelude.{◌≡◌, ◌++◌, ◌∷◌, [], IfOk, ◌≤◌, ◌*◌, ◌^◌};
 ghost use Rattle.tok_core.specs.Building.{nothing};
 ghost use Rattle.tok_buffer.specs.Private.Layout.{layout, laid};
@@ -8,6 +8,7 @@ use crate::entry::{Entry, Opening};
 use std::alloc::{AllocError, Global};
 use std::marker::Model;
 use tok_core::{Build, Delimiter, Ident, Literal, Punct, Span};
+use tok_entries::TakeBack;
 
 /// The entries so far. Contracts see it as the forests of the levels.
 ///
@@ -66,6 +67,18 @@ impl EntryBuilder {
     {
         Ok(EntryBuilder {
             entries: Vec::with_capacity(alloc, first_room(bytes))?,
+            open: Vec::new(alloc),
+        })
+    }
+
+    /// Creates an empty builder, with room for so many entries.
+    ///
+    /// Returns an error if the allocation fails.
+    pub fn with_capacity(alloc: Global, capacity: usize) -> Result<EntryBuilder, AllocError>
+        ensures { IfOk result (λ b. b ≡ nothing) }
+    {
+        Ok(EntryBuilder {
+            entries: Vec::with_capacity(alloc, capacity)?,
             open: Vec::new(alloc),
         })
     }
@@ -140,5 +153,20 @@ impl Build for EntryBuilder {
                 Err(AllocError::from(failed))
             }
         }
+    }
+}
+
+impl TakeBack for EntryBuilder {
+    #[inline(always)]
+    fn take_back(&mut self) -> bool {
+        let Some(place) = self.open.pop() else {
+            unreachable!()
+        };
+        if self.entries.len() - place > 1 {
+            self.open.push_reserved(place);
+            return false;
+        }
+        self.entries.pop();
+        true
     }
 }
