@@ -1,0 +1,10 @@
+use Rattle.std.proofs.Common.{subst}
+use Rattle.syn_parse.specs.Takings.{KeepsWhole}
+use Rattle.visible_parse.proofs.Visible.{keeps_visible}
+use Rattle.visible_parse.proofs.whole.parse_visible.Goals as goal
+
+pub returns-clause-takes : goal.returns-clause-takes
+returns-clause-takes g c =
+    keeps_visible g.T.Parse.takes c.args.tokens c.parse2.result
+    (subst (λ f. KeepsWhole g.T.Parse.takes f c.parse2.result) c.in_ok-filled.ensures.prunes
+    c.parse2.ensures.takes)

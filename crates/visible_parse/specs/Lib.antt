@@ -1,0 +1,3 @@
+pub use Rattle.tok_core.specs.Erase
+pub use Rattle.tok_pruned.specs.Pruned
+pub mod Visible

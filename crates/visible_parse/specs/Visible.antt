@@ -1,0 +1,31 @@
+-- What is parsed of the visible trees of a stream. No premise speaks of its invisible groups.
+use Rattle.std.specs.Prelude.{Result, Ok, Err}
+use Rattle.tok_core.specs.Forest.{Forest}
+use Rattle.syn_parse.specs.Takes.{Agree, IsAll, MemoryOr, SaysAll, Taking, WordsAgree}
+use Rattle.syn_parse.specs.Takings.{Takings, told, told_filled, untold}
+use Rattle.syn_parse.specs.TreesAhead.{whole}
+use Rattle.syn_parse.specs.declared.fault.Fault.{Fault}
+
+-- the value that all visible trees are; or, where they are none, an error that says what is missing
+abbrev pub TakesVisible : {T A : Type 0} → (T → A) → Taking A → Forest → Result T Fault → Type 0
+TakesVisible form take f (Ok v) = IsAll take f (form v)
+TakesVisible {A} form take f (Err e) =
+    MemoryOr e ((x : A) → IsAll take f x → ⊥) × SaysAll (take (whole f)) e
+
+-- the visible trees of a stream are read as the type states
+abbrev pub KeepsVisible : {T : Type 0} → Takings T → Forest → Result T Fault → Type 0
+KeepsVisible untold f r = Unit {0}
+KeepsVisible (told form take weighs) f r = TakesVisible form take f r
+KeepsVisible (told_filled form take weighs) f r = TakesVisible form take f r
+
+-- two results agree, in the form in which contracts see the type's values
+abbrev pub AgreeAs : {T : Type 0} → Takings T → (left right : Result T Fault) → Type 0
+AgreeAs untold left right = Unit {0}
+AgreeAs (told form take weighs) left right = Agree form left right
+AgreeAs (told_filled form take weighs) left right = Agree form left right
+
+-- two errors have equal texts, where a token is missing from these visible trees
+abbrev pub SaySame : {T : Type 0} → Takings T → Forest → (left right : Result T Fault) → Type 0
+SaySame untold f left right = Unit {0}
+SaySame (told form take weighs) f left right = WordsAgree (take (whole f)) left right
+SaySame (told_filled form take weighs) f left right = WordsAgree (take (whole f)) left right
