@@ -9,4 +9,4 @@ pub mod laws;
 mod read;
 
 pub use argument::{Argument, Arguments, Value};
-pub use read::{arguments_both, parse_arguments};
+pub use read::{arguments_both, parse_arguments, parse_to_end};

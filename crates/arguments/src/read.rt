@@ -33,6 +33,13 @@ pub fn parse_arguments(alloc: Global, tokens: TokenStream) -> Result<Arguments>
     parse_whole(alloc, tokens)
 }
 
+/// Parses the arguments up to the end of a stream.
+pub fn parse_to_end(input: ParseStream<'_, '_>) -> Result<Arguments>
+    ensures { Keeps arguments input.old result input.new }
+{
+    read_arguments(input)
+}
+
 /// Parses two streams of tokens as arguments.
 ///
 /// If they differ only in invisible groups, the lists are the same, spans included, or the errors
