@@ -2,7 +2,7 @@
 use Rattle.std.specs.Prelude.{◌≡◌, ℕ, List, ◌++◌, codes, string_bytes}
 use Rattle.replay_program.specs.Comparison as spec
 use Rattle.replay_program.specs.Comparison.{AreFacts, facts_text, outcome_status, outcome_text}
-use Rattle.replay_program.specs.Program.{HasOutcome}
+use Rattle.replay_program.specs.Program.{HasOutcome, HasOutcomeFor}
 use Rattle.tok_core.specs.Forest.{Forest}
 use Rattle.syn_replay.specs.Commands.{Command}
 use Rattle.syn_replay.specs.Meanings.{verdict_of}
@@ -40,4 +40,10 @@ pub record HasCompared (f g : Forest) (commands : List Command) (c : Comparison)
 abbrev pub Comes : List ℕ → List ℕ → ℕ → Type 0
 Comes bytes printed status =
     (o : spec.Outcome) × HasOutcome bytes o × (printed ≡ outcome_text o)
+    × (status ≡ outcome_status o)
+
+-- the commands are read, and this text with this status is what comes of the forest under them
+abbrev pub ComesFor : Forest → List ℕ → List ℕ → ℕ → Type 0
+ComesFor forest bytes printed status =
+    (o : spec.Outcome) × HasOutcomeFor forest bytes o × (printed ≡ outcome_text o)
     × (status ≡ outcome_status o)

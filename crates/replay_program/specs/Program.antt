@@ -10,7 +10,7 @@ use Rattle.syn_replay.specs.Commands.{Command}
 use Rattle.replay_program.specs.Comparison.{Compares, Outcome, reported, compared, outcome_text}
 use Rattle.replay_program.specs.Comparison.{outcome_status}
 use Rattle.replay_program.specs.Faults.{unreadable_text}
-use Rattle.replay_program.specs.Input.{parts_of}
+use Rattle.replay_program.specs.Input.{lines, parts_of}
 use Rattle.replay_program.specs.Failures.{Reading, Writing}
 use Rattle.replay_program.specs.Output.{GoesOut}
 use Rattle.syn_replay.specs.ReportText.{ended}
@@ -84,6 +84,28 @@ Prints bytes printed status =
 abbrev pub PrintsOnly : List ℕ → List ℕ → ℕ → Type 0
 PrintsOnly bytes printed status =
     (other : List ℕ) (code : ℕ) → Prints bytes other code → (printed ≡ other) × (status ≡ code)
+
+-- the lines of commands are read, and this comes of a forest under them
+abbrev pub HasOutcomeFor : Forest → List ℕ → Outcome → Type 0
+HasOutcomeFor forest bytes o =
+    IsUtf8 bytes × (unreadable_line (lines bytes) ≡ None)
+    × IsOutcome forest None (commands_in (lines bytes)) o
+
+-- the first thing in lines of commands that can't be read
+abbrev pub IsUnreadableFor : List ℕ → Unreadable → Type 0
+IsUnreadableFor bytes Utf8 = ¬ (IsUtf8 bytes)
+IsUnreadableFor bytes (unreadable.Command n) =
+    IsUtf8 bytes × (unreadable_line (lines bytes) ≡ Some n)
+IsUnreadableFor bytes why = ⊥
+
+-- what comes of a forest under lines of commands, with 0 or 1, or one line with 2
+abbrev pub PrintsFor : Forest → List ℕ → List ℕ → ℕ → Type 0
+PrintsFor forest bytes printed status =
+    ((o : Outcome) × HasOutcomeFor forest bytes o × (printed ≡ outcome_text o)
+    × (status ≡ outcome_status o))
+    ⊎
+    ((why : Unreadable) × IsUnreadableFor bytes why × (printed ≡ ended (unreadable_text why))
+    × (status ≡ 2))
 
 -- of how the source was read, and how the sink was written to
 module _ (read : Reading) (written : Writing) where

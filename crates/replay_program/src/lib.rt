@@ -12,11 +12,11 @@ ghost use Rattle.std.specs.Prelude.{◌≡◌, IfOk, IfSome, MatchResult, Some, 
 ghost use Rattle.replay_program.specs.Failures.{all_read, reading, writing};
 ghost use Rattle.replay_program.specs.Faults.{OnUnreadable};
 ghost use Rattle.replay_program.specs.Comparison.{Comparison, Compares, both_status, comparison_text, verdict_status};
-ghost use Rattle.replay_program.specs.Outcomes.{Comes};
+ghost use Rattle.replay_program.specs.Outcomes.{Comes, ComesFor};
 ghost use Rattle.syn_replay.specs.Commands.{command_of};
 ghost use Rattle.syn_replay.specs.ReportText.{report_text};
 ghost use Rattle.syn_replay.specs.Session.Walk.{walk};
-ghost use Rattle.replay_program.specs.Program.{IsForest, IsUnreadable, IsUnreadableOther, Prints, PrintsOnly, Serves, ServesOnly};
+ghost use Rattle.replay_program.specs.Program.{IsForest, IsUnreadable, IsUnreadableFor, IsUnreadableOther, Prints, PrintsFor, PrintsOnly, Serves, ServesOnly};
 
 pub use crate::channel::{Sink, Source};
 use crate::command_text::read_commands;
@@ -101,6 +101,49 @@ pub fn respond(alloc: Global, input: &[u8]) -> Result<(String, u8), AllocError>
         Err(Fault::Unreadable(why)) => Ok((format!(in alloc; "{why}\n")?, 2)),
         Err(Fault::Memory) => Err(AllocError),
     }
+}
+
+/// Runs the commands of a text, one a line, over a buffer, and returns what the program would print
+/// for a text of these tokens, and its exit status: the report, or one line that says which command
+/// is unreadable.
+///
+/// Returns an error if an allocation fails.
+///
+/// # Requires
+///
+/// The number of the buffer must be 0.
+pub fn respond_to(
+    alloc: Global,
+    buffer: &TokenBuffer,
+    commands: &[u8],
+) -> Result<(String, u8), AllocError>
+    requires { buffer.now.number ≡ 0 }
+    ensures { IfOk result
+        (λ p. PrintsFor buffer.now.forest commands.now (string_bytes p.0) p.1) }
+{
+    match outcome_for(alloc, buffer, commands) {
+        Ok((text, status)) => Ok((text, status)),
+        Err(Fault::Unreadable(why)) => {
+            let line = format!(in alloc; "{why}\n")?;
+            Ok((line, 2))
+        }
+        Err(Fault::Memory) => Err(AllocError),
+    }
+}
+
+// Returns what comes of a buffer under the commands of a text and the status, or the first thing in
+// the commands that can't be read.
+fn outcome_for(alloc: Global, buffer: &TokenBuffer, commands: &[u8]) -> Result<(String, u8), Fault>
+    requires { buffer.now.number ≡ 0 }
+    ensures { MatchResult result
+        (λ p. ComesFor buffer.now.forest commands.now (string_bytes p.0) p.1)
+        (λ fault. OnUnreadable fault (IsUnreadableFor commands.now)) }
+{
+    let Ok(lines) = from_utf8(commands) else {
+        return Err(Fault::Unreadable(Unreadable::Utf8));
+    };
+    let commands = read_commands(alloc, Some(lines))?;
+    told(alloc, buffer, &commands)
 }
 
 // Returns what the program prints for an input and the status, or the first thing in it that can't
