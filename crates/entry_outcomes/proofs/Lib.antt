@@ -1,0 +1,2 @@
+mod Messages
+pub mod Stops
