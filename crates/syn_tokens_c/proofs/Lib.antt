@@ -1,1 +1,4 @@
-mod Fillings
+mod Flattening
+mod Judging
+mod Literals
+mod Reporting

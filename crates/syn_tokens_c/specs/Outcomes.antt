@@ -11,8 +11,8 @@ use Rattle.tok_lexical.specs.declared.edition.Edition.{Edition}
 use Rattle.tok_lexical.specs.declared.edition.Edition.TheVariants.{Edition2015, Edition2018}
 use Rattle.tok_lexical.specs.declared.edition.Edition.TheVariants.{Edition2021, Edition2024}
 use Rattle.replay_program.specs.Program.{Prints, PrintsOnly}
-use Rattle.syn_tokens_c.specs.Entries.{entries, texts}
-use Rattle.syn_tokens_c.specs.declared.entry.Entry.{Entry}
+use Rattle.tok_entries.specs.Entries.{entries, texts}
+use Rattle.tok_entries.specs.declared.entry.Entry.{Entry}
 use Rattle.syn_tokens_c.specs.declared.read.Answer.{Answer as Made}
 use Rattle.syn_tokens_c.specs.declared.read.Reading.{Reading}
 

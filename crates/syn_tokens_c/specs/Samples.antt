@@ -1,5 +1,10 @@
 -- Structs in which each field has a value of its own.
-use Rattle.syn_tokens_c.specs.declared.entry.Entry.{Entry}
+use Rattle.std.specs.Prelude.{◌≡◌}
+use Rattle.tok_entries.specs.declared.entry.Entry.{Entry}
+use Rattle.entry_outcomes.specs.declared.outcome.Message.{Message}
+use Rattle.entry_outcomes.specs.declared.outcome.Outcome.{Outcome}
+use Rattle.syn_tokens_c.specs.declared.flat.FlatArgument.{FlatArgument}
+use Rattle.syn_tokens_c.specs.declared.value.LiteralValue.{LiteralValue}
 use Rattle.syn_tokens_c.specs.declared.read.Reading.{Reading}
 
 abbrev pub entry_sample : Entry
@@ -17,3 +22,26 @@ entry_sample =
 
 abbrev pub reading_sample : Reading
 reading_sample = record { status = 9; rule = 10; at = 11; entries = 12; bytes = 13 }
+
+abbrev pub outcome_sample : Outcome
+outcome_sample =
+    record { status = 14; refusal = 15; entry = 16; values = 17; messages = 18; bytes = 19 }
+
+abbrev pub message_sample : Message
+message_sample = record { start = 20; end = 21; text_start = 22; text_end = 23 }
+
+abbrev pub argument_sample : FlatArgument
+argument_sample =
+    record {
+      kind = 24;
+      name_start = 25;
+      name_end = 26;
+      value_start = 27;
+      value_end = 28;
+      inside = 29;
+    }
+
+-- the double between these fields is any
+abbrev pub IsValueSample : LiteralValue → Type 0
+IsValueSample v =
+    (v.status ≡ 30) × (v.kind ≡ 31) × (v.number ≡ 32) × (v.suffix ≡ 33) × (v.bytes ≡ 34)

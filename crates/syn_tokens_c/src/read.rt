@@ -5,11 +5,10 @@ ghost use Rattle.tok_core.specs.declared.lexer.error.LexFault.TheVariants.{Refus
 ghost use Rattle.tok_lexical.specs.declared.rule.Mode.TheVariants.{Plain, Marked};
 ghost use Rattle.syn_tokens_c.specs.Outcomes.{Lexes, LexesSource, Returns, Tells, answer_of, answered, bare, edition_of};
 
-use crate::entry::Entry;
-use crate::fill::fill;
 use std::alloc::{AllocError, Global};
 use std::str::from_utf8;
 use tok_core::{Edition, LexError, LexFault, TokenStream, lex, lex_marked, lex_source};
+use tok_entries::{Entry, write_entries};
 
 const READ: u32 = 0;
 
@@ -79,7 +78,7 @@ impl Answer {
     {
         let mut entries = Vec::with_capacity(alloc, stream.weight())?;
         let mut bytes = String::new(alloc);
-        fill(&mut entries, &mut bytes, stream)?;
+        write_entries(&mut entries, &mut bytes, stream)?;
         Ok(Answer {
             status: READ,
             rule: 0,

@@ -1,9 +1,12 @@
 //! How the structs are laid out.
 ghost use Rattle.std.specs.Prelude.{◌≡◌, length, replicate};
-ghost use Rattle.syn_tokens_c.specs.Samples.{entry_sample, reading_sample};
+ghost use Rattle.syn_tokens_c.specs.Samples.{argument_sample, entry_sample, message_sample, outcome_sample, reading_sample, IsValueSample};
 
-use crate::entry::Entry;
+use crate::flat::FlatArgument;
 use crate::read::Reading;
+use crate::value::LiteralValue;
+use entry_outcomes::{Message, Outcome};
+use tok_entries::Entry;
 
 /// Writes structs in which each field has a value of its own, so that a caller can see whether its
 /// structs are laid out as these: the fields of an entry are 1 to 8 in the order of their
@@ -29,5 +32,54 @@ pub extern "C" fn syn_tokens_sample(entries: &mut [Entry], reading: &mut Reading
         at: 11,
         entries: 12,
         bytes: 13,
+    };
+}
+
+/// Writes structs of the calls that take entries, as `syn_tokens_sample` does: the fields of an
+/// outcome are 14 to 19, those of a message 20 to 23, those of an argument 24 to 29, and those of a
+/// value 30 to 34; its double is 0.
+///
+/// This is a call of its own, so that an older caller of `syn_tokens_sample` lends what it did.
+#[unsafe(no_mangle)]
+pub extern "C" fn syn_tokens_sample_answers(
+    outcome: &mut Outcome,
+    messages: &mut [Message],
+    arguments: &mut [FlatArgument],
+    value: &mut LiteralValue,
+)
+    ensures outcome { outcome.new ≡ outcome_sample }
+    ensures messages { messages.new ≡ replicate (length messages.old) message_sample }
+    ensures arguments { arguments.new ≡ replicate (length arguments.old) argument_sample }
+    ensures value { IsValueSample value.new }
+{
+    *outcome = Outcome {
+        status: 14,
+        refusal: 15,
+        entry: 16,
+        values: 17,
+        messages: 18,
+        bytes: 19,
+    };
+    messages.fill(Message {
+        start: 20,
+        end: 21,
+        text_start: 22,
+        text_end: 23,
+    });
+    arguments.fill(FlatArgument {
+        kind: 24,
+        name_start: 25,
+        name_end: 26,
+        value_start: 27,
+        value_end: 28,
+        inside: 29,
+    });
+    *value = LiteralValue {
+        status: 30,
+        kind: 31,
+        number: 32,
+        float: 0.0,
+        suffix: 33,
+        bytes: 34,
     };
 }

@@ -1,0 +1,85 @@
+//! Arguments as a flat array, each before those inside it.
+ghost use Rattle.std.specs.Prelude.{◌≡◌, ◌++◌, IfOk, OnOk};
+ghost use Rattle.arguments.specs.Forms.{argument_form, forms, list_form};
+ghost use Rattle.entry_outcomes.specs.Answers.{answered};
+ghost use Rattle.syn_tokens_c.specs.Flats as spec;
+
+use arguments::{Argument, Arguments, Value};
+use entry_outcomes::{Answer, range};
+use std::alloc::{AllocError, Global};
+use tok_core::Span;
+
+/// An argument: a name, and its value.
+#[repr(C)]
+#[derive(Clone, Copy)]
+pub struct FlatArgument {
+    /// 0 for a name alone, 1 for a name and a literal, 2 for a name and arguments in parentheses.
+    pub kind: usize,
+    /// The span of the name.
+    pub name_start: usize,
+    pub name_end: usize,
+    /// The span of the literal, or from one parenthesis to the other. Both are 0 for a name alone.
+    pub value_start: usize,
+    pub value_end: usize,
+    /// How many of the next arguments are inside this one, at any depth.
+    pub inside: usize,
+}
+
+// Makes the argument of this kind with these spans, which so many others are inside of.
+fn flat(kind: usize, name: Span, value: Span, inside: usize) -> FlatArgument
+    ensures { result ≡ spec.flat_as kind name value inside }
+{
+    let (name_start, name_end) = range(name);
+    let (value_start, value_end) = range(value);
+    FlatArgument {
+        kind,
+        name_start,
+        name_end,
+        value_start,
+        value_end,
+        inside,
+    }
+}
+
+// Appends the arguments of a list.
+#[cycle(flatten)]
+fn push_all(flats: &mut Vec<FlatArgument>, list: &Arguments) -> Result<(), AllocError>
+    ensures { OnOk result
+        (flats.new.items ≡ flats.old.items ++ spec.flats (forms (list_form list.now).0)) }
+{
+    for argument in list.iter() {
+        push_one(flats, argument)?;
+    }
+    Ok(())
+}
+
+// Appends an argument, and after it those inside it.
+#[cycle(flatten)]
+fn push_one(flats: &mut Vec<FlatArgument>, argument: &Argument) -> Result<(), AllocError>
+    ensures { OnOk result
+        (flats.new.items ≡ flats.old.items ++ spec.flat (argument_form argument.now)) }
+{
+    let name = argument.name.span();
+    match &argument.value {
+        Value::Flag => flats.push(flat(0, name, Span::call_site(), 0))?,
+        Value::Literal(_, literal) => flats.push(flat(1, name, literal.span(), 0))?,
+        Value::List(paren, inner) => {
+            let start = flats.len();
+            let span = paren.span.join();
+            flats.push(flat(2, name, span, 0))?;
+            push_all(flats, inner)?;
+            let inside = flats.len() - start - 1;
+            flats[start] = flat(2, name, span, inside);
+        }
+    }
+    Ok(())
+}
+
+/// Returns the answer of a list of arguments.
+pub fn flatten(alloc: Global, list: &Arguments) -> Result<Answer<FlatArgument>, AllocError>
+    ensures { IfOk result (λ a. answered a ≡ spec.given_list list.now) }
+{
+    let mut answer = Answer::new(alloc);
+    push_all(&mut answer.values, list)?;
+    Ok(answer)
+}
