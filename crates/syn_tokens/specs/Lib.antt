@@ -25,6 +25,11 @@ pub use Rattle.tok_core.specs.Seen as TreeSeen
 pub use Rattle.tok_core.specs.Spanless
 pub use Rattle.tok_core.specs.Text
 pub use Rattle.tok_core.specs.Weight
+pub use Rattle.tok_pruned.specs.Pruned
+pub use Rattle.tok_entries.specs.Denotes
+pub use Rattle.tok_entries.specs.Entries
+pub use Rattle.tok_entries.specs.Refusals
+pub use Rattle.tok_entries.specs.Texts as EntryTexts
 pub use Rattle.tok_buffer.specs.Ahead
 pub use Rattle.tok_buffer.specs.Buffer
 pub use Rattle.tok_buffer.specs.CompileErrors
@@ -104,3 +109,5 @@ pub use Rattle.syn_replay.specs.Reports
 pub use Rattle.syn_replay.specs.Session
 pub use Rattle.syn_replay.specs.Transparent
 pub use Rattle.syn_replay.specs.Turns
+pub use Rattle.visible_parse.specs.Visible
+pub use Rattle.visible_replay.specs.Decide

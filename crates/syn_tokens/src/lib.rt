@@ -18,7 +18,10 @@ pub use tok_core::{
     Spacing, Span, Text, ToTokens, TokenStream, TokenStreamHelper, TokenTree, TokenTreeHelper,
     is_clear, is_filled, lex, lex_marked, lex_source, same_visible,
 };
+pub use tok_pruned::prune;
 pub use tok_types::{accept_as_ident, token};
+pub use visible_parse::{parse_visible, parse_visible_both, parse_visible_with};
+pub use visible_replay::{visible_replay, visible_replay_both};
 
 /// Laws. Each is the contract of a function that does nothing, or nearly nothing: a proof that calls
 /// it may use the law.
@@ -48,6 +51,10 @@ pub mod laws {
         idents_by_text, never_both, read_visibly, refused_once, spans_are_compared_whole,
         streams_without_spans, trees_without_spans, writes_follow_writes,
     };
+    pub use tok_entries::laws::denoted_once;
+    pub use tok_pruned::laws::{
+        filled_forests_stay, pruning_again_changes_nothing, pruning_fills, pruning_goes_by_parts,
+    };
     pub use tok_types::laws::{
         clones_keep_tokens, delimiters_are_equal, delimiters_ignore_invisible, groups_are_equal,
         keyword_past_the_table, keywords_are_equal, peeks_ignore_invisible,
@@ -58,11 +65,17 @@ pub mod laws {
         byte_strings_are_read, characters_are_read, strings_are_read, strings_keep_text,
         values_are_functions,
     };
+    pub use visible_replay::laws::visible_tokens_decide;
 }
 
 /// Token buffers and cursors.
 pub mod buffer {
     pub use tok_buffer::{Cursor, LifetimeRef, TokenBuffer};
+}
+
+/// Streams as arrays of plain structs, as C and a compiler's macros see them.
+pub mod entries {
+    pub use tok_entries::{Entry, EntryFault, Refusal, write_entries};
 }
 
 /// Identifiers and lifetimes of any text.
