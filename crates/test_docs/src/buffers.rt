@@ -2,7 +2,8 @@
 use std::alloc::{AllocError, AllocGlobal, Global};
 use std::process::Abort;
 use tok_buffer::{Error, TokenBuffer};
-use tok_core::{LexFault, Span, lex};
+use tok_core::{LexFault, Span, lex, lex_marked};
+use tok_entries::{EntryFault, write_entries};
 
 fn buffer(rt: &(impl Abort + AllocGlobal), alloc: Global) -> Result<(), LexFault> {
     let buffer = TokenBuffer::from_text(alloc, 0, 0, "a(b)")?;
@@ -22,8 +23,56 @@ fn cursor(rt: &(impl Abort + AllocGlobal), alloc: Global) -> Result<(), LexFault
     Ok(())
 }
 
+// Why an example of entries fails.
+#[derive(Clone, Copy)]
+enum Failed {
+    Lex,
+    Entries,
+    Memory,
+}
+
+impl From<LexFault> for Failed {
+    fn from(_: LexFault) -> Self {
+        Failed::Lex
+    }
+}
+
+impl From<EntryFault> for Failed {
+    fn from(_: EntryFault) -> Self {
+        Failed::Entries
+    }
+}
+
+impl From<AllocError> for Failed {
+    fn from(_: AllocError) -> Self {
+        Failed::Memory
+    }
+}
+
+fn entries(rt: &(impl Abort + AllocGlobal), alloc: Global) -> Result<(), Failed> {
+    let mut entries = Vec::new(alloc);
+    let mut texts = String::new(alloc);
+    write_entries(&mut entries, &mut texts, &lex(alloc, 0, "a(b)")?)?;
+    assert_eq!(rt; (entries.len(), texts.as_str()), (4, "ab"));
+    assert_eq!(rt; (entries[1].kind, entries[1].distance), (3, 2));
+    Ok(())
+}
+
+fn pruned(rt: &(impl Abort + AllocGlobal), alloc: Global) -> Result<(), Failed> {
+    let mut entries = Vec::new(alloc);
+    let mut texts = String::new(alloc);
+    let stream = lex_marked(alloc, 0, "« a + «» »")?;
+    write_entries(&mut entries, &mut texts, &stream)?;
+    let buffer = TokenBuffer::from_entries(alloc, 0, &entries, texts.as_str())?;
+    let pruned = TokenBuffer::from_marked(alloc, 1, 0, "« a +  »")?;
+    assert_eq!(rt; buffer.begin().remaining(), pruned.begin().remaining());
+    Ok(())
+}
+
 #[test]
 fn buffers(rt: HostRuntime) {
+    assert!(rt; entries(&rt, rt.alloc()).is_ok());
+    assert!(rt; pruned(&rt, rt.alloc()).is_ok());
     assert!(rt; buffer(&rt, rt.alloc()).is_ok());
     assert!(rt; cursor(&rt, rt.alloc()).is_ok());
 }

@@ -22,3 +22,5 @@ mod tokens;
 mod trees;
 #[cfg(test)]
 mod values;
+#[cfg(test)]
+mod visible;

@@ -1,5 +1,5 @@
-//! Makes the calls of `tok_core`, `tok_values`, `tok_carets`, `tok_buffer` and `tok_types` that
-//! allocate.
+//! Makes the calls of `tok_core`, `tok_values`, `tok_entries`, `tok_carets`, `tok_buffer` and
+//! `tok_types` that allocate.
 //!
 //! The status is 0 if each allocation succeeds, 3 if one fails and so does a call, and 1 if
 //! something is wrong; then the name of the call is printed. Before the calls it makes one
@@ -8,6 +8,7 @@
 #![tactic(auto)]
 
 mod cursors;
+mod entries;
 mod errors;
 mod tokens;
 mod trees;
@@ -33,6 +34,7 @@ fn run(alloc: Global, before: usize) -> Outcome {
     worst(&[
         trees::calls(alloc),
         values::calls(alloc),
+        entries::calls(alloc),
         cursors::calls(alloc),
         errors::calls(alloc),
         tokens::calls(alloc),

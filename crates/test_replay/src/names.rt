@@ -1,9 +1,11 @@
 //! Names of the front: each is the item of the crate below that it is named after.
 use std::alloc::{AllocGlobal, Global};
 use std::process::Abort;
+use syn_tokens::buffer::TokenBuffer;
+use syn_tokens::entries::write_entries;
 use syn_tokens::token::{self, Token};
 use syn_tokens::{
-    Edition, LexFault, TokenStream, is_clear, is_filled, lex, lex_marked, lex_source,
+    Edition, LexFault, TokenStream, is_clear, is_filled, lex, lex_marked, lex_source, prune,
 };
 
 fn all_displays(rt: &impl Abort, rows: &[(&str, &str)]) {
@@ -80,5 +82,35 @@ fn shapes(rt: HostRuntime) {
     all_shapes(
         &rt,
         &[("«»", Some((false, true))), ("'«+»", Some((true, false)))],
+    );
+}
+
+// Returns how many trees are left of a text once empty groups are removed, and how many tokens the
+// buffer of its entries has.
+fn left(alloc: Global, text: &str) -> Option<(usize, usize)> {
+    let stream = lex_marked(alloc, 0, text).ok()?;
+    let mut entries = Vec::new(alloc);
+    let mut texts = String::new(alloc);
+    write_entries(&mut entries, &mut texts, &stream).ok()?;
+    let buffer = TokenBuffer::from_entries(alloc, 0, entries.as_slice(), texts.as_str()).ok()?;
+    let trees = prune(alloc, stream).ok()?.trees().len();
+    Some((trees, buffer.begin().remaining()))
+}
+
+fn all_left(rt: &(impl Abort + AllocGlobal), rows: &[(&str, Option<(usize, usize)>)]) {
+    for (text, wanted) in rows {
+        assert_eq!(rt; left(rt.alloc(), text), *wanted, "at {text}");
+    }
+}
+
+#[test]
+fn entries(rt: HostRuntime) {
+    all_left(
+        &rt,
+        &[
+            ("", Some((0, 0))),
+            ("«» a", Some((1, 1))),
+            ("«a «»» (b)", Some((2, 6))),
+        ],
     );
 }

@@ -5,13 +5,28 @@ use crate::{mark, push_times, times};
 use std::alloc::Global;
 use test_outcomes::memory::{Outcome, Stop, made};
 use tok_buffer::{Error, TokenBuffer};
-use tok_core::Span;
+use tok_core::{Span, lex_marked};
+use tok_entries::write_entries;
 
 /// Reads `count` names in a text of `bytes` into a buffer.
 pub fn read(alloc: Global, count: usize, bytes: usize) -> Outcome {
     let text = names(alloc, "", "", count, bytes)?;
     mark(alloc)?;
     let _buffer = made(TokenBuffer::from_text(alloc, 0, 0, text.as_str()))?;
+    mark(alloc)
+}
+
+/// Reads the entries of `count` names, and of so many empty invisible groups, into a buffer.
+pub fn accepted(alloc: Global, count: usize, groups: usize) -> Outcome {
+    let mut text = times(alloc, "a ", count)?;
+    push_times(&mut text, "«» ", groups)?;
+    let stream = made(lex_marked(alloc, 0, text.as_str()))?;
+    let mut entries = Vec::new(alloc);
+    let mut texts = String::new(alloc);
+    made(write_entries(&mut entries, &mut texts, &stream))?;
+    mark(alloc)?;
+    let (entries, texts) = (entries.as_slice(), texts.as_str());
+    let _buffer = made(TokenBuffer::from_entries(alloc, 0, entries, texts))?;
     mark(alloc)
 }
 
