@@ -29,6 +29,34 @@ static void show(uint32_t rules, const char *text) {
     syn_tokens_free(&tokens);
 }
 
+static const char *const VALUES[] = {"flag", "literal", "list"};
+
+/* Reads a text, and its tokens as arguments. */
+static void show_arguments(const char *text) {
+    struct syn_tokens tokens;
+    struct syn_tokens_argument arguments[8];
+    struct syn_tokens_message messages[2];
+    struct syn_tokens_outcome outcome;
+    uint8_t words[128];
+    printf("%s\n", text);
+    if (syn_tokens_read(&tokens, SYN_TOKENS_MARKED, text, strlen(text)) == SYN_TOKENS_OK) {
+        syn_tokens_arguments(tokens.entries, tokens.reading.entries, (uint8_t *)tokens.texts,
+                             tokens.reading.bytes, arguments, 8, messages, 2, words, sizeof words,
+                             &outcome);
+        for (size_t i = 0; outcome.status == SYN_TOKENS_OK && i < outcome.values; i++) {
+            const struct syn_tokens_argument *it = &arguments[i];
+            printf("    %zu..%zu %s, %zu inside\n", it->name_start, it->name_end,
+                   VALUES[it->kind], it->inside);
+        }
+        for (size_t i = 0; outcome.status == SYN_TOKENS_REJECTED && i < outcome.messages; i++) {
+            const struct syn_tokens_message *it = &messages[i];
+            printf("    %zu..%zu %.*s\n", it->start, it->end,
+                   (int)(it->text_end - it->text_start), (const char *)words + it->text_start);
+        }
+    }
+    syn_tokens_free(&tokens);
+}
+
 int main(void) {
     if (!syn_tokens_matches()) {
         fprintf(stderr, "demo: syn_tokens.h is not of this library\n");
@@ -42,6 +70,9 @@ int main(void) {
     show(2022, "struct Point;");
     show(SYN_TOKENS_PLAIN, "\xff");
     show(SYN_TOKENS_PLAIN, "");
+
+    show_arguments("a = «1», b(c, «d»), «»");
+    show_arguments("a = 1 2");
 
     struct syn_tokens none;
     printf("null: status %d\n", syn_tokens_read(&none, SYN_TOKENS_PLAIN, NULL, 1));

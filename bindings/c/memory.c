@@ -8,16 +8,27 @@
 #include <stdlib.h>
 #include <string.h>
 
-enum { ENTRIES = 64, BYTES = 512 };
+enum { ENTRIES = 64, BYTES = 512, VALUES = 8, MESSAGES = 2 };
 
 /* What the caller lends, and what is returned. */
 struct lent {
     struct syn_tokens_entry entries[ENTRIES];
     uint8_t bytes[BYTES];
+    struct syn_tokens_argument arguments[VALUES];
+    struct syn_tokens_message messages[MESSAGES];
     struct syn_tokens_reading reading;
+    struct syn_tokens_outcome outcome;
+    struct syn_tokens_literal value;
     size_t size;
     uint8_t status;
 };
+
+/* What a text is read into: entries that are passed back in. */
+static struct {
+    struct syn_tokens_entry entries[ENTRIES];
+    uint8_t texts[BYTES];
+    struct syn_tokens_reading reading;
+} taken;
 
 static const char LONG_NAMES[] =
     "a_name_of_many_characters ('c', {\"a string of many characters\"} [another_long_name])";
@@ -26,9 +37,19 @@ static const char SOURCE[] = "/// A point of two coordinates.\nstruct Point;";
 static const char REJECTED[] = "x = '\\q'";
 static const char INPUT[] = "(a b)\n---\nenter 0 (\nterminated 1 Ident ,\nfork 0\n"
                             "parse 1 LifetimeAny\nlookahead 0 Ident +\n";
+static const char ARGUMENTS[] = "\xc2\xab\xc2\xbb a_name_of_many_characters = 'x', b(c, d(e))";
+static const char NO_ARGUMENTS[] = "a = \xc2\xab" "b\xc2\xbb";
+static const char STRING[] = "\"a string of many characters, and \\x41 and \\u{e9} among them\"";
+static const char COMMANDS[] = "parse 0 Ident\nlookahead 0 Ident +\n";
+
+static void take(const char *text) {
+    syn_tokens_lex_marked((const uint8_t *)text, strlen(text), taken.entries, ENTRIES, taken.texts,
+                          BYTES, &taken.reading);
+}
 
 static void call(int which, struct lent *it) {
-    const char *const texts[] = {LONG_NAMES, MARKED, SOURCE, REJECTED, INPUT};
+    const char *const texts[] = {LONG_NAMES, MARKED, SOURCE, REJECTED, INPUT,
+                                 ARGUMENTS, NO_ARGUMENTS, COMMANDS, STRING};
     const uint8_t *text = (const uint8_t *)texts[which];
     size_t length = strlen(texts[which]);
     switch (which) {
@@ -43,6 +64,22 @@ static void call(int which, struct lent *it) {
         it->status = syn_tokens_respond(text, length, it->bytes, BYTES, &it->size);
         it->reading.status = it->status == 3 ? SYN_TOKENS_NO_MEMORY : SYN_TOKENS_OK;
         break;
+    case 5:
+    case 6:
+        syn_tokens_arguments(taken.entries, taken.reading.entries, taken.texts,
+                             taken.reading.bytes, it->arguments, VALUES, it->messages, MESSAGES,
+                             it->bytes, BYTES, &it->outcome);
+        it->reading.status = it->outcome.status;
+        break;
+    case 7:
+        syn_tokens_replay(taken.entries, taken.reading.entries, taken.texts, taken.reading.bytes,
+                          text, length, it->bytes, BYTES, &it->outcome);
+        it->reading.status = it->outcome.status;
+        break;
+    case 8:
+        syn_tokens_value(text, length, it->bytes, BYTES, &it->value);
+        it->reading.status = it->value.status;
+        break;
     default:
         syn_tokens_lex(text, length, it->entries, ENTRIES, it->bytes, BYTES, &it->reading);
     }
@@ -54,6 +91,7 @@ static size_t try_all(int which) {
     memset(&before, 0xa5, sizeof before);
     wanted = before;
     failing = 0;
+    take(which == 6 ? NO_ARGUMENTS : ARGUMENTS);
     call(which, &wanted);
     for (size_t number = 1;; number++) {
         got = before;
@@ -67,6 +105,8 @@ static size_t try_all(int which) {
         if (got.reading.status != SYN_TOKENS_NO_MEMORY)
             return 0;
         if (memcmp(got.entries, before.entries, sizeof got.entries) != 0 ||
+            memcmp(got.arguments, before.arguments, sizeof got.arguments) != 0 ||
+            memcmp(got.messages, before.messages, sizeof got.messages) != 0 ||
             memcmp(got.bytes, before.bytes, sizeof got.bytes) != 0)
             return 0;
     }
@@ -75,8 +115,10 @@ static size_t try_all(int which) {
 int main(void) {
     static const char *const CALLS[] = {"syn_tokens_lex", "syn_tokens_lex_marked",
                                         "syn_tokens_lex_source", "a rejected text",
-                                        "syn_tokens_respond"};
-    for (int which = 0; which < 5; which++) {
+                                        "syn_tokens_respond", "syn_tokens_arguments",
+                                        "rejected arguments", "syn_tokens_replay",
+                                        "syn_tokens_value"};
+    for (int which = 0; which < 9; which++) {
         size_t count = try_all(which);
         if (count == 0) {
             fprintf(stderr, "memory: %s\n", CALLS[which]);

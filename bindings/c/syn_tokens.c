@@ -43,6 +43,48 @@ void rattle_dealloc(void *block) { free(block); }
  * show. So each is written into far more room than any version of it takes. */
 enum { SAMPLE_ROOM = 1024 };
 
+/* Whether the structs of the calls that take entries are laid out as the library's. */
+static bool answers_match(void) {
+    union {
+        struct syn_tokens_outcome outcome;
+        unsigned char room[SAMPLE_ROOM];
+    } first;
+    union {
+        struct syn_tokens_message messages[2];
+        unsigned char room[SAMPLE_ROOM];
+    } second;
+    union {
+        struct syn_tokens_argument arguments[2];
+        unsigned char room[SAMPLE_ROOM];
+    } third;
+    union {
+        struct syn_tokens_literal value;
+        unsigned char room[SAMPLE_ROOM];
+    } fourth;
+    memset(&first, 0, sizeof first);
+    memset(&second, 0, sizeof second);
+    memset(&third, 0, sizeof third);
+    memset(&fourth, 0, sizeof fourth);
+    syn_tokens_sample_answers(&first.outcome, second.messages, 2, third.arguments, 2,
+                              &fourth.value);
+    for (size_t i = 0; i < 2; i++) {
+        const struct syn_tokens_message *it = &second.messages[i];
+        if (it->start != 20 || it->end != 21 || it->text_start != 22 || it->text_end != 23)
+            return false;
+        const struct syn_tokens_argument *argument = &third.arguments[i];
+        if (argument->kind != 24 || argument->name_start != 25 || argument->name_end != 26 ||
+            argument->value_start != 27 || argument->value_end != 28 || argument->inside != 29)
+            return false;
+    }
+    const struct syn_tokens_literal *value = &fourth.value;
+    if (value->status != 30 || value->kind != 31 || value->number != 32 || value->suffix != 33 ||
+        value->bytes != 34)
+        return false;
+    const struct syn_tokens_outcome *outcome = &first.outcome;
+    return outcome->status == 14 && outcome->refusal == 15 && outcome->entry == 16 &&
+           outcome->values == 17 && outcome->messages == 18 && outcome->bytes == 19;
+}
+
 bool syn_tokens_matches(void) {
     union {
         struct syn_tokens_entry entries[2];
@@ -63,7 +105,7 @@ bool syn_tokens_matches(void) {
     }
     const struct syn_tokens_reading *reading = &second.reading;
     return reading->status == 9 && reading->rule == 10 && reading->at == 11 &&
-           reading->entries == 12 && reading->bytes == 13;
+           reading->entries == 12 && reading->bytes == 13 && answers_match();
 }
 
 /* Nothing was read: the sizes say so, whatever an earlier turn has written into them. */

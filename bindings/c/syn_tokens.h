@@ -48,6 +48,8 @@ enum syn_tokens_status {
     SYN_TOKENS_NO_EDITION = 5,
     /* Of the checked calls alone: a null pointer, or a header of another library. */
     SYN_TOKENS_BAD_CALL = 6,
+    /* Of the calls that take entries alone: they are those of no text. */
+    SYN_TOKENS_MALFORMED = 6,
 };
 
 /* By which rules a text is read. A whole source has the year of its edition: 2015, 2018, 2021 or
@@ -73,6 +75,38 @@ struct syn_tokens_reading {
     uint32_t rule; /* of a rejected text: 1 for L1 */
     size_t at;     /* of a rejected text: the byte */
     size_t entries, bytes;
+};
+
+/* What comes of entries that a caller passes in. */
+struct syn_tokens_outcome {
+    uint32_t status;  /* as above, or SYN_TOKENS_MALFORMED */
+    uint32_t refusal; /* of malformed entries: 1 a field, 2 a text, 3 groups too deep; else 0 */
+    size_t entry;     /* of malformed entries: one that does not fit; else 0 */
+    size_t values, messages, bytes;
+};
+
+/* A message of an error: its span, and the range of its text in the bytes that are written. */
+struct syn_tokens_message {
+    size_t start, end;
+    size_t text_start, text_end;
+};
+
+/* An argument: 0 a name alone, 1 a name and a literal, 2 a name and arguments in parentheses. */
+struct syn_tokens_argument {
+    size_t kind;
+    size_t name_start, name_end;   /* the span of the name */
+    size_t value_start, value_end; /* of the literal or the parentheses; else 0 */
+    size_t inside;                 /* how many of the next arguments are inside this one */
+};
+
+/* The value of a literal. */
+struct syn_tokens_literal {
+    uint32_t status; /* as above */
+    uint32_t kind;   /* 1 string, 2 bytes, 3 character, 4 byte, 5 integer, 6 float; else 0 */
+    uint64_t number; /* of a character, a byte or an integer; else 0 */
+    double real;     /* of a float; else 0 */
+    size_t suffix;   /* of an integer: how many bytes of the text are its suffix; else 0 */
+    size_t bytes;    /* of a string or bytes: how many bytes the value has */
 };
 
 /* ---- Checked calls ---- */
@@ -122,6 +156,27 @@ uint8_t syn_tokens_respond(const uint8_t *input, size_t length, uint8_t *printed
                            size_t *size);
 void syn_tokens_sample(struct syn_tokens_entry *entries, size_t count,
                        struct syn_tokens_reading *reading);
+
+/* Reads entries as arguments: `name`, `name = literal` and `name(..)`, with commas between them. */
+void syn_tokens_arguments(const struct syn_tokens_entry *entries, size_t count,
+                          const uint8_t *texts, size_t size, struct syn_tokens_argument *arguments,
+                          size_t arguments_room, struct syn_tokens_message *messages,
+                          size_t messages_room, uint8_t *bytes, size_t bytes_room,
+                          struct syn_tokens_outcome *outcome);
+
+/* Runs commands, one a line, over entries. The status is that of the program: 0, 1 or 2; or 3, 4 or
+ * SYN_TOKENS_MALFORMED, and nothing is printed. */
+void syn_tokens_replay(const struct syn_tokens_entry *entries, size_t count, const uint8_t *texts,
+                       size_t size, const uint8_t *commands, size_t length, uint8_t *printed,
+                       size_t room, struct syn_tokens_outcome *outcome);
+void syn_tokens_sample_answers(struct syn_tokens_outcome *outcome,
+                               struct syn_tokens_message *messages, size_t messages_count,
+                               struct syn_tokens_argument *arguments, size_t arguments_count,
+                               struct syn_tokens_literal *value);
+
+/* Reads the text of a literal. The value of a string is written to `bytes`. */
+void syn_tokens_value(const uint8_t *text, size_t length, uint8_t *bytes, size_t room,
+                      struct syn_tokens_literal *value);
 
 #ifdef __cplusplus
 }

@@ -92,8 +92,8 @@ impl From<Span> for Range<usize> {
 /// ```
 #[derive(Clone, Default, PartialEq, Eq, Hash)]
 pub struct Buffer {
-    entries: Vec<Entry>,
-    texts: String,
+    pub(crate) entries: Vec<Entry>,
+    pub(crate) texts: String,
 }
 
 impl Buffer {
@@ -102,11 +102,8 @@ impl Buffer {
     ///
     /// # Errors
     ///
-    /// Returns why the grammar rejects the text, or that an allocation failed.
-    ///
-    /// # Panics
-    ///
-    /// Panics if the library that is linked is of another version.
+    /// Returns why the grammar rejects the text, that an allocation failed, or that the library is
+    /// of another version.
     ///
     /// ```
     /// use syn_tokens::{Buffer, Error};
@@ -124,10 +121,6 @@ impl Buffer {
     /// # Errors
     ///
     /// As [`Buffer::lex`].
-    ///
-    /// # Panics
-    ///
-    /// As [`Buffer::lex`].
     pub fn lex_marked(text: &str) -> Result<Self, Error> {
         Buffer::read(Rules::Marked, text)
     }
@@ -136,10 +129,6 @@ impl Buffer {
     /// shebang line mean nothing.
     ///
     /// # Errors
-    ///
-    /// As [`Buffer::lex`].
-    ///
-    /// # Panics
     ///
     /// As [`Buffer::lex`].
     pub fn lex_source(edition: Edition, text: &str) -> Result<Self, Error> {
@@ -189,8 +178,9 @@ impl Buffer {
 }
 
 impl fmt::Debug for Buffer {
+    /// Writes the tokens as text, in quotes.
     fn fmt(&self, f: &mut fmt::Formatter<'_>) -> fmt::Result {
-        f.debug_list().entries(self.tokens()).finish()
+        self.tokens().fmt(f)
     }
 }
 
@@ -278,6 +268,14 @@ impl Token<'_> {
     }
 }
 
+// What is printed of an entry.
+pub(crate) enum Piece<'b> {
+    Text(&'b str),
+    Punct(&'b str, Spacing),
+    Opening(Delimiter),
+    Closing(Delimiter),
+}
+
 /// A place among the tokens of a group or of a whole text, and an iterator over those from there
 /// on. A clone is a cursor at the same place.
 #[derive(Clone)]
@@ -314,21 +312,43 @@ impl<'b> Cursor<'b> {
         Groups { tokens: self }
     }
 
+    // The entries that are left, each with its own text, wherever the texts of the buffer are: so
+    // cursors of two buffers are compared and hashed, however deep the groups are.
+    fn flat(&self) -> impl Iterator<Item = (Entry, &'b str)> + 'b {
+        let (entries, texts) = (self.entries, self.texts);
+        entries.iter().map(move |it| {
+            let text = texts.get(it.text_start..it.text_end).unwrap_or_default();
+            (Entry { text_start: 0, text_end: 0, ..*it }, text)
+        })
+    }
+
+    // The entries that are left as they are printed.
+    pub(crate) fn pieces(&self) -> impl Iterator<Item = Piece<'b>> + 'b {
+        self.flat().map(|(it, text)| match it.kind {
+            ffi::IDENT | ffi::LITERAL => Piece::Text(text),
+            ffi::PUNCT => Piece::Punct(text, spacing(&it)),
+            ffi::CLOSING => Piece::Closing(delimiter(it.delimiter)),
+            _ => Piece::Opening(delimiter(it.delimiter)),
+        })
+    }
+
     fn leaf(&self, entry: &Entry) -> Leaf<'b> {
-        Leaf { text: &self.texts[entry.text_start..entry.text_end], span: span(entry) }
+        let text = self.texts.get(entry.text_start..entry.text_end);
+        Leaf { text: text.unwrap_or_default(), span: span(entry) }
     }
 }
 
 impl fmt::Debug for Cursor<'_> {
+    /// Writes the tokens that are left as text, in quotes.
     fn fmt(&self, f: &mut fmt::Formatter<'_>) -> fmt::Result {
-        f.debug_list().entries(self.clone()).finish()
+        write!(f, "\"{}\"", format_args!("{self}"))
     }
 }
 
 /// Two cursors are equal if equal tokens are left, spans included, in whichever buffers.
 impl PartialEq for Cursor<'_> {
     fn eq(&self, other: &Self) -> bool {
-        self.clone().eq(other.clone())
+        self.flat().eq(other.flat())
     }
 }
 
@@ -336,8 +356,9 @@ impl Eq for Cursor<'_> {}
 
 impl Hash for Cursor<'_> {
     fn hash<H: Hasher>(&self, state: &mut H) {
-        for token in self.clone() {
-            token.hash(state);
+        self.entries.len().hash(state);
+        for entry in self.flat() {
+            entry.hash(state);
         }
     }
 }
@@ -351,13 +372,14 @@ impl<'b> Iterator for Cursor<'b> {
             ffi::IDENT => Token::Ident(self.leaf(entry)),
             ffi::LITERAL => Token::Literal(self.leaf(entry)),
             ffi::PUNCT => Token::Punct(Punct {
-                ch: self.texts[entry.text_start..].chars().next()?,
-                spacing: if entry.spacing == 0 { Spacing::Alone } else { Spacing::Joint },
+                ch: self.texts.get(entry.text_start..)?.chars().next()?,
+                spacing: spacing(entry),
                 span: span(entry),
             }),
             // A cursor is never before a closing, so this is an opening.
             _ => {
-                let (inside, after) = rest.split_at(entry.distance - 1);
+                let size = entry.distance.checked_sub(1)?;
+                let (inside, after) = (rest.get(..size)?, rest.get(size..)?);
                 let (closing, after) = after.split_first()?;
                 let group = Group {
                     delimiter: delimiter(entry.delimiter),
@@ -407,6 +429,14 @@ fn start_closings_at_characters(entries: &mut [Entry], text: &str) {
 
 fn span(entry: &Entry) -> Span {
     Span { start: entry.start, end: entry.end }
+}
+
+fn spacing(entry: &Entry) -> Spacing {
+    if entry.spacing == 0 {
+        Spacing::Alone
+    } else {
+        Spacing::Joint
+    }
 }
 
 fn delimiter(number: u16) -> Delimiter {

@@ -21,6 +21,8 @@ pub enum Error {
     },
     /// An allocation failed.
     Memory,
+    /// The library that is linked is of another version: its structs are laid out in another way.
+    Version,
 }
 
 impl Error {
@@ -43,6 +45,7 @@ impl fmt::Display for Error {
         match self {
             Error::Rejected { rule, at, words } => write!(f, "{words} (L{rule}) at byte {at}"),
             Error::Memory => f.write_str("an allocation failed"),
+            Error::Version => f.write_str("libsyn_tokens_c.a is of another version"),
         }
     }
 }

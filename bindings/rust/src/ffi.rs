@@ -1,4 +1,5 @@
-//! The calls of the static library. All `unsafe` of this package stands here.
+//! The calls of the static library. The `unsafe` of this package stands here, in `memory`, and in
+//! `compiler::Buffer::call`, whose caller names an export.
 #![allow(unsafe_code)]
 
 use alloc::collections::TryReserveError;
@@ -6,9 +7,13 @@ use alloc::string::String;
 use alloc::vec::Vec;
 use core::sync::atomic::{AtomicBool, Ordering};
 
-/// A leaf, an opening or a closing.
+use crate::error::Error;
+
+/// A leaf, an opening or a closing, as the library takes and writes it. The page `docs/BINDINGS.md`
+/// of the repository says what the fields hold.
 #[repr(C)]
 #[derive(Clone, Copy, Debug, Default, PartialEq, Eq, Hash)]
+#[allow(missing_docs)]
 pub struct Entry {
     pub kind: u32,
     pub spacing: u16,
@@ -23,6 +28,8 @@ pub struct Entry {
 pub const IDENT: u32 = 0;
 pub const PUNCT: u32 = 1;
 pub const LITERAL: u32 = 2;
+#[cfg(feature = "proc-macro2")]
+pub const OPENING: u32 = 3;
 pub const CLOSING: u32 = 4;
 
 /// What came of a text.
@@ -39,6 +46,54 @@ pub struct Reading {
 pub const READ: u32 = 0;
 pub const REJECTED: u32 = 1;
 const NO_ROOM: u32 = 4;
+
+/// What an export returns.
+#[repr(C)]
+#[derive(Clone, Copy, Debug, Default, PartialEq, Eq)]
+#[allow(missing_docs)]
+pub struct Outcome {
+    pub status: u32,
+    pub refusal: u32,
+    pub entry: usize,
+    pub values: usize,
+    pub messages: usize,
+    pub bytes: usize,
+}
+
+/// A message of an error, as an export writes it: its span, and the range of its text.
+#[repr(C)]
+#[derive(Clone, Copy, Debug, Default, PartialEq, Eq)]
+#[allow(missing_docs)]
+pub struct Message {
+    pub start: usize,
+    pub end: usize,
+    pub text_start: usize,
+    pub text_end: usize,
+}
+
+/// An argument, as the library writes it.
+#[repr(C)]
+#[derive(Clone, Copy, Debug, Default, PartialEq, Eq)]
+pub struct FlatArgument {
+    pub kind: usize,
+    pub name_start: usize,
+    pub name_end: usize,
+    pub value_start: usize,
+    pub value_end: usize,
+    pub inside: usize,
+}
+
+/// The value of a literal.
+#[repr(C)]
+#[derive(Clone, Copy, Debug, Default, PartialEq)]
+pub struct Value {
+    pub status: u32,
+    pub kind: u32,
+    pub number: u64,
+    pub float: f64,
+    pub suffix: usize,
+    pub bytes: usize,
+}
 
 /// By which rules a text is read.
 #[derive(Clone, Copy)]
@@ -84,14 +139,29 @@ extern "C" {
         room: usize,
         size: *mut usize,
     ) -> u8;
+    fn syn_tokens_value(
+        text: *const u8,
+        length: usize,
+        bytes: *mut u8,
+        room: usize,
+        value: *mut Value,
+    );
     fn syn_tokens_sample(entries: *mut Entry, count: usize, reading: *mut Reading);
+    fn syn_tokens_sample_answers(
+        outcome: *mut Outcome,
+        messages: *mut Message,
+        messages_count: usize,
+        arguments: *mut FlatArgument,
+        arguments_count: usize,
+        value: *mut Value,
+    );
 }
 
-/// Panics if the structs of this module are not laid out as those of the library.
-fn check_layout() {
+/// Whether the structs of this module are laid out as those of the library.
+fn is_of_this_version() -> bool {
     static IS_CHECKED: AtomicBool = AtomicBool::new(false);
     if IS_CHECKED.load(Ordering::Relaxed) {
-        return;
+        return true;
     }
     // Far more room than any version of the library takes: its structs may be larger than these,
     // which is what the samples are to show.
@@ -114,19 +184,60 @@ fn check_layout() {
         distance: 8,
     };
     let wanted = Reading { status: 9, rule: 10, at: 11, entries: 12, bytes: 13 };
-    assert!(entries == [entry; 2] && reading == wanted, "libsyn_tokens_c.a is of another version");
-    IS_CHECKED.store(true, Ordering::Relaxed);
+    let is_same = entries == [entry; 2] && reading == wanted && answers_match();
+    IS_CHECKED.store(is_same, Ordering::Relaxed);
+    is_same
 }
 
-/// Returns what the library has written as a text.
-fn text_of(bytes: Vec<u8>) -> String {
-    String::from_utf8(bytes).expect("the library writes texts")
+/// Whether the structs of calls that take entries or literals are laid out as those of the library.
+fn answers_match() -> bool {
+    let (mut outcome, mut value) = ([0u64; 128], [0u64; 128]);
+    let (mut messages, mut arguments) = ([0u64; 128], [0u64; 128]);
+    // SAFETY: The pointers are to live, initialized and aligned memory that is not shared, and that
+    // is larger than what the library writes. Any bytes are values of these structs.
+    let (outcome, messages, arguments, value) = unsafe {
+        syn_tokens_sample_answers(
+            outcome.as_mut_ptr().cast(),
+            messages.as_mut_ptr().cast(),
+            2,
+            arguments.as_mut_ptr().cast(),
+            2,
+            value.as_mut_ptr().cast(),
+        );
+        (
+            outcome.as_ptr().cast::<Outcome>().read(),
+            messages.as_ptr().cast::<[Message; 2]>().read(),
+            arguments.as_ptr().cast::<[FlatArgument; 2]>().read(),
+            value.as_ptr().cast::<Value>().read(),
+        )
+    };
+    let wanted =
+        Outcome { status: 14, refusal: 15, entry: 16, values: 17, messages: 18, bytes: 19 };
+    let message = Message { start: 20, end: 21, text_start: 22, text_end: 23 };
+    let argument = FlatArgument {
+        kind: 24,
+        name_start: 25,
+        name_end: 26,
+        value_start: 27,
+        value_end: 28,
+        inside: 29,
+    };
+    let number = Value { status: 30, kind: 31, number: 32, float: 0.0, suffix: 33, bytes: 34 };
+    outcome == wanted && messages == [message; 2] && arguments == [argument; 2] && value == number
+}
+
+/// Returns what the library has written as a text. It writes nothing but texts.
+pub fn text_of(bytes: Vec<u8>) -> String {
+    String::from_utf8(bytes)
+        .unwrap_or_else(|error| String::from_utf8_lossy(error.as_bytes()).into_owned())
 }
 
 /// Reads a text, and returns what came of it, its entries and the texts of its leaves or the words
 /// of its error.
-pub fn lex(rules: Rules, text: &str) -> Result<(Reading, Vec<Entry>, String), TryReserveError> {
-    check_layout();
+pub fn lex(rules: Rules, text: &str) -> Result<(Reading, Vec<Entry>, String), Error> {
+    if !is_of_this_version() {
+        return Err(Error::Version);
+    }
     let mut entries: Vec<Entry> = Vec::new();
     let mut bytes: Vec<u8> = Vec::new();
     // Enough for most sources. If that much memory is not there, the first turn says how much is
@@ -188,5 +299,195 @@ pub fn respond(input: &[u8]) -> Result<(u8, String), TryReserveError> {
             return Ok((status, text_of(printed)));
         }
         printed.try_reserve_exact(size)?;
+    }
+}
+
+/// Reads the text of a literal, and returns what came of it, and the bytes of a string.
+pub fn value(text: &str) -> Result<(Value, Vec<u8>), Error> {
+    if !is_of_this_version() {
+        return Err(Error::Version);
+    }
+    let mut bytes: Vec<u8> = Vec::new();
+    // No value is longer than its literal.
+    bytes.try_reserve_exact(text.len().max(1))?;
+    let mut value = Value::default();
+    // SAFETY: The pointers are to live memory of these lengths, which is not shared. The library
+    // reads the text alone, and only writes to the rest.
+    unsafe {
+        let (from, length) = (text.as_ptr(), text.len());
+        syn_tokens_value(from, length, bytes.as_mut_ptr(), bytes.capacity(), &mut value);
+    }
+    match value.status {
+        READ => {
+            // SAFETY: The library has written so many bytes, since there was room.
+            unsafe { bytes.set_len(value.bytes.min(bytes.capacity())) };
+            Ok((value, bytes))
+        }
+        _ => Err(Error::Memory),
+    }
+}
+
+/// The calls that take entries.
+#[cfg(feature = "proc-macro2")]
+pub use self::taken::{arguments, call, replay, Answer, Export};
+
+#[cfg(feature = "proc-macro2")]
+mod taken {
+    use super::{
+        is_of_this_version, text_of, Entry, Error, FlatArgument, Message, Outcome, NO_ROOM,
+    };
+    use alloc::string::String;
+    use alloc::vec::Vec;
+
+    /// An export that parses entries: the entries and the bytes of their texts, room for its
+    /// values, for messages and for bytes, and the outcome.
+    pub type Export<T> = unsafe extern "C" fn(
+        entries: *const Entry,
+        count: usize,
+        texts: *const u8,
+        size: usize,
+        values: *mut T,
+        values_room: usize,
+        messages: *mut Message,
+        messages_room: usize,
+        bytes: *mut u8,
+        bytes_room: usize,
+        outcome: *mut Outcome,
+    );
+
+    extern "C" {
+        fn syn_tokens_arguments(
+            entries: *const Entry,
+            count: usize,
+            texts: *const u8,
+            size: usize,
+            values: *mut FlatArgument,
+            values_room: usize,
+            messages: *mut Message,
+            messages_room: usize,
+            bytes: *mut u8,
+            bytes_room: usize,
+            outcome: *mut Outcome,
+        );
+        fn syn_tokens_replay(
+            entries: *const Entry,
+            count: usize,
+            texts: *const u8,
+            size: usize,
+            commands: *const u8,
+            length: usize,
+            printed: *mut u8,
+            room: usize,
+            outcome: *mut Outcome,
+        );
+    }
+
+    /// All that an export has written.
+    #[derive(Debug)]
+    pub struct Answer<T> {
+        pub outcome: Outcome,
+        pub values: Vec<T>,
+        pub messages: Vec<Message>,
+        pub texts: String,
+    }
+
+    /// Calls an export over entries and texts.
+    ///
+    /// # Safety
+    ///
+    /// The export must read the entries and texts alone, write only what it says, and say how much
+    /// it has written. `T` must be laid out as its values, and any bytes must be a `T`.
+    pub unsafe fn call<T>(
+        export: Export<T>,
+        entries: &[Entry],
+        texts: &str,
+    ) -> Result<Answer<T>, Error> {
+        if !is_of_this_version() {
+            return Err(Error::Version);
+        }
+        let (mut values, mut messages, mut bytes) = (Vec::new(), Vec::new(), Vec::new());
+        // A value has a token, so this is enough for most, and for one message. If it is not, the
+        // first turn says how much is.
+        values.try_reserve_exact(entries.len().max(1))?;
+        messages.try_reserve_exact(4)?;
+        bytes.try_reserve_exact(texts.len() + 256)?;
+        // The second turn has as much room as the first one asked for.
+        for _ in 0..2 {
+            let mut outcome = Outcome::default();
+            // SAFETY: The pointers are to live memory of these lengths, which is not shared. The
+            // caller vouches for the export.
+            unsafe {
+                export(
+                    entries.as_ptr(),
+                    entries.len(),
+                    texts.as_ptr(),
+                    texts.len(),
+                    values.as_mut_ptr(),
+                    values.capacity(),
+                    messages.as_mut_ptr(),
+                    messages.capacity(),
+                    bytes.as_mut_ptr(),
+                    bytes.capacity(),
+                    &mut outcome,
+                );
+            }
+            if outcome.status != NO_ROOM {
+                // SAFETY: The export has written so many, since there was room.
+                unsafe {
+                    values.set_len(outcome.values.min(values.capacity()));
+                    messages.set_len(outcome.messages.min(messages.capacity()));
+                    bytes.set_len(outcome.bytes.min(bytes.capacity()));
+                }
+                return Ok(Answer { outcome, values, messages, texts: text_of(bytes) });
+            }
+            values.try_reserve_exact(outcome.values)?;
+            messages.try_reserve_exact(outcome.messages)?;
+            bytes.try_reserve_exact(outcome.bytes)?;
+        }
+        Err(Error::Version)
+    }
+
+    /// Reads entries as arguments.
+    pub fn arguments(entries: &[Entry], texts: &str) -> Result<Answer<FlatArgument>, Error> {
+        // SAFETY: The library's export keeps to what is asked, and `is_of_this_version` has looked
+        // at the layout of its values. Any bytes are a `FlatArgument`.
+        unsafe { call(syn_tokens_arguments, entries, texts) }
+    }
+
+    /// Runs commands, one a line, over entries.
+    pub fn replay(
+        entries: &[Entry],
+        texts: &str,
+        commands: &str,
+    ) -> Result<(Outcome, String), Error> {
+        if !is_of_this_version() {
+            return Err(Error::Version);
+        }
+        let mut printed: Vec<u8> = Vec::new();
+        printed.try_reserve_exact(4096)?;
+        loop {
+            let mut outcome = Outcome::default();
+            // SAFETY: The pointers are to live memory of these lengths, which is not shared. The
+            // library reads the entries, texts and commands alone, and only writes to the rest.
+            unsafe {
+                syn_tokens_replay(
+                    entries.as_ptr(),
+                    entries.len(),
+                    texts.as_ptr(),
+                    texts.len(),
+                    commands.as_ptr(),
+                    commands.len(),
+                    printed.as_mut_ptr(),
+                    printed.capacity(),
+                    &mut outcome,
+                );
+            }
+            if outcome.status != NO_ROOM {
+                // SAFETY: The library has written so many bytes, since there was room.
+                unsafe { printed.set_len(outcome.bytes.min(printed.capacity())) };
+                return Ok((outcome, text_of(printed)));
+            }
+            printed.try_reserve_exact(outcome.bytes)?;
+        }
     }
 }

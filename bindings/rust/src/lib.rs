@@ -1,11 +1,11 @@
 //! Tokens of Rust source text, read by a proved library.
 //!
 //! The contracts of the library say which texts are read as which tokens, and which are rejected
-//! and why. This package turns what the library writes into safe types, without a proof; its one
-//! module with `unsafe` says why each call is sound.
+//! and why. This package turns what the library writes into safe types, without a proof; its
+//! modules with `unsafe` say why each call is sound.
 //!
-//! The first call panics if the library is of another version, which lays its structs out in
-//! another way.
+//! No call panics. A library of another version, which lays its structs out in another way, is an
+//! error of each call that reads a text or takes tokens.
 //!
 //! ```
 //! use syn_tokens::{Buffer, Token};
@@ -27,10 +27,14 @@
 #![warn(missing_debug_implementations, missing_docs)]
 
 extern crate alloc;
+#[cfg(feature = "proc-macro")]
+extern crate proc_macro;
 #[cfg(feature = "std")]
 extern crate std;
 
 mod buffer;
+#[cfg(feature = "proc-macro2")]
+pub mod compiler;
 mod error;
 mod ffi;
 mod memory;
@@ -38,11 +42,13 @@ mod print;
 #[cfg(feature = "proc-macro2")]
 mod proc_macro2;
 mod respond;
+mod values;
 
+#[cfg(feature = "proc-macro2")]
+pub use self::proc_macro2::UnknownToken;
 pub use buffer::{
     Buffer, Cursor, Delimiter, Edition, Group, Groups, Leaf, Punct, Spacing, Span, Token,
 };
 pub use error::Error;
-#[cfg(feature = "proc-macro2")]
-pub use self::proc_macro2::UnknownToken;
 pub use respond::{respond, Response};
+pub use values::LiteralValue;

@@ -1,7 +1,7 @@
 //! Tokens as text: a space between two tokens, unless the first is a joint punct.
 use core::fmt::{self, Display, Formatter};
 
-use crate::buffer::{Buffer, Cursor, Delimiter, Group, Spacing, Token};
+use crate::buffer::{Buffer, Cursor, Delimiter, Group, Piece, Spacing, Token};
 
 impl Display for Buffer {
     fn fmt(&self, f: &mut Formatter<'_>) -> fmt::Result {
@@ -12,15 +12,37 @@ impl Display for Buffer {
 impl Display for Cursor<'_> {
     /// Writes the tokens that are left.
     fn fmt(&self, f: &mut Formatter<'_>) -> fmt::Result {
-        let mut is_joint = true;
-        for token in self.clone() {
-            if !is_joint {
+        // The entries in order, and not group by group, so that no nesting takes more of the stack.
+        let mut is_first = true;
+        for piece in self.pieces() {
+            let is_closing = matches!(piece, Piece::Closing(_));
+            if !is_first && !is_closing {
                 f.write_str(" ")?;
             }
-            token.fmt(f)?;
-            is_joint = matches!(&token, Token::Punct(it) if it.spacing == Spacing::Joint);
+            is_first = false;
+            match piece {
+                Piece::Text(text) => f.write_str(text)?,
+                Piece::Punct(text, spacing) => {
+                    f.write_str(text)?;
+                    is_first = spacing == Spacing::Joint;
+                }
+                Piece::Opening(delimiter) => {
+                    f.write_str(edges(delimiter).0)?;
+                    is_first = true;
+                }
+                Piece::Closing(delimiter) => f.write_str(edges(delimiter).1)?,
+            }
         }
         Ok(())
+    }
+}
+
+fn edges(delimiter: Delimiter) -> (&'static str, &'static str) {
+    match delimiter {
+        Delimiter::Parenthesis => ("(", ")"),
+        Delimiter::Brace => ("{", "}"),
+        Delimiter::Bracket => ("[", "]"),
+        Delimiter::None => ("", ""),
     }
 }
 
@@ -36,12 +58,7 @@ impl Display for Token<'_> {
 
 impl Display for Group<'_> {
     fn fmt(&self, f: &mut Formatter<'_>) -> fmt::Result {
-        let (open, close) = match self.delimiter {
-            Delimiter::Parenthesis => ("(", ")"),
-            Delimiter::Brace => ("{", "}"),
-            Delimiter::Bracket => ("[", "]"),
-            Delimiter::None => ("", ""),
-        };
+        let (open, close) = edges(self.delimiter);
         write!(f, "{open}{}{close}", self.tokens)
     }
 }

@@ -1,9 +1,10 @@
 //! Buffers as token streams of `proc_macro2`.
 use ::proc_macro2::{self as other, TokenStream, TokenTree};
 use alloc::string::{String, ToString};
-use core::fmt;
+use alloc::vec::Vec;
+use core::{fmt, mem};
 
-use crate::buffer::{Buffer, Cursor, Delimiter, Group, Leaf, Punct, Spacing, Span, Token};
+use crate::buffer::{Buffer, Cursor, Delimiter, Leaf, Punct, Spacing, Span, Token};
 
 /// A token that this version of `proc_macro2` has no value for: a kind of literal or a character of
 /// a name that is newer than it.
@@ -42,35 +43,54 @@ impl TryFrom<&Buffer> for TokenStream {
     type Error = UnknownToken;
 
     fn try_from(buffer: &Buffer) -> Result<Self, UnknownToken> {
-        stream(buffer.tokens())
+        stream(buffer.tokens(), &|_| other::Span::call_site())
     }
 }
 
-fn stream(tokens: Cursor<'_>) -> Result<TokenStream, UnknownToken> {
-    tokens.map(tree).collect()
-}
+/// The span that `proc_macro2` is to have for one of the library.
+type Spans<'s> = &'s dyn Fn(Span) -> other::Span;
 
-fn tree(token: Token<'_>) -> Result<TokenTree, UnknownToken> {
-    Ok(match token {
-        Token::Ident(leaf) => word(leaf)?.into(),
-        Token::Punct(it) => punct(&it).into(),
-        Token::Literal(leaf) => literal(leaf)?.into(),
-        Token::Group(it) => group(it)?.into(),
-    })
+/// Converts the tokens from the cursor on. The groups around them are on a stack of its own.
+pub(crate) fn stream(tokens: Cursor<'_>, spans: Spans<'_>) -> Result<TokenStream, UnknownToken> {
+    let mut outer = Vec::new();
+    let mut tokens = tokens;
+    let mut trees: Vec<TokenTree> = Vec::new();
+    loop {
+        match tokens.next() {
+            Some(Token::Ident(leaf)) => trees.push(word(leaf, spans(leaf.span))?.into()),
+            Some(Token::Punct(it)) => trees.push(punct(&it, spans(it.span)).into()),
+            Some(Token::Literal(leaf)) => trees.push(literal(leaf, spans(leaf.span))?.into()),
+            Some(Token::Group(it)) => {
+                let (delimiter, span) = (it.delimiter, spans(it.span()));
+                let after = mem::replace(&mut tokens, it.tokens);
+                outer.push((after, mem::take(&mut trees), delimiter, span));
+            }
+            None => match outer.pop() {
+                Some((after, before, delimiter, span)) => {
+                    let inside = mem::replace(&mut trees, before);
+                    trees.push(group(delimiter, inside, span).into());
+                    tokens = after;
+                }
+                None => return Ok(trees.into_iter().collect()),
+            },
+        }
+    }
 }
 
 fn unknown(leaf: Leaf<'_>) -> UnknownToken {
     UnknownToken { text: leaf.text.to_string(), span: leaf.span }
 }
 
-fn word(leaf: Leaf<'_>) -> Result<other::Ident, UnknownToken> {
-    // `Ident::new` panics for a name that is none to proc_macro2. Its reader doesn't.
-    if !leaf.text.is_ascii() && !is_one_ident(leaf.text) {
+fn word(leaf: Leaf<'_>, span: other::Span) -> Result<other::Ident, UnknownToken> {
+    // `Ident::new` panics for a name that is none to proc_macro2, as `$crate` is. Its reader
+    // doesn't.
+    let is_plain = leaf.text.is_ascii() && !leaf.text.starts_with('$');
+    if !is_plain && !is_one_ident(leaf.text) {
         return Err(unknown(leaf));
     }
     Ok(match leaf.text.strip_prefix("r#") {
-        Some(name) => other::Ident::new_raw(name, other::Span::call_site()),
-        None => other::Ident::new(leaf.text, other::Span::call_site()),
+        Some(name) => other::Ident::new_raw(name, span),
+        None => other::Ident::new(leaf.text, span),
     })
 }
 
@@ -81,24 +101,30 @@ fn is_one_ident(text: &str) -> bool {
     })
 }
 
-fn literal(leaf: Leaf<'_>) -> Result<other::Literal, UnknownToken> {
-    leaf.text.parse().map_err(|_| unknown(leaf))
+fn literal(leaf: Leaf<'_>, span: other::Span) -> Result<other::Literal, UnknownToken> {
+    let mut literal: other::Literal = leaf.text.parse().map_err(|_| unknown(leaf))?;
+    literal.set_span(span);
+    Ok(literal)
 }
 
-fn punct(punct: &Punct) -> other::Punct {
+fn punct(punct: &Punct, span: other::Span) -> other::Punct {
     let spacing = match punct.spacing {
         Spacing::Alone => other::Spacing::Alone,
         Spacing::Joint => other::Spacing::Joint,
     };
-    other::Punct::new(punct.ch, spacing)
+    let mut punct = other::Punct::new(punct.ch, spacing);
+    punct.set_span(span);
+    punct
 }
 
-fn group(group: Group<'_>) -> Result<other::Group, UnknownToken> {
-    let delimiter = match group.delimiter {
+fn group(delimiter: Delimiter, inside: Vec<TokenTree>, span: other::Span) -> other::Group {
+    let delimiter = match delimiter {
         Delimiter::Parenthesis => other::Delimiter::Parenthesis,
         Delimiter::Brace => other::Delimiter::Brace,
         Delimiter::Bracket => other::Delimiter::Bracket,
         Delimiter::None => other::Delimiter::None,
     };
-    Ok(other::Group::new(delimiter, stream(group.tokens)?))
+    let mut group = other::Group::new(delimiter, inside.into_iter().collect());
+    group.set_span(span);
+    group
 }

@@ -1,7 +1,7 @@
 //! What no example shows: each list of rules, errors, spans, and room that is too little at first.
 use std::ops::Range;
 
-use syn_tokens::{respond, Buffer, Delimiter, Edition, Error, Spacing, Token};
+use syn_tokens::{respond, Buffer, Delimiter, Edition, Error, LiteralValue, Spacing, Token};
 
 /// Lists the tokens in order, a group as its edges.
 fn listed(buffer: &Buffer) -> String {
@@ -121,5 +121,33 @@ fn the_closing_of_a_doc_comment_is_a_character() -> Result<(), Error> {
     let closings: Vec<&str> =
         buffer.tokens().groups().map(|it| &text[Range::from(it.close)]).collect();
     assert_eq!(closings, ["é"]);
+    Ok(())
+}
+
+#[test]
+fn values() -> Result<(), Error> {
+    let rows = [
+        (r#""a\n""#, Some(LiteralValue::Str("a\n".to_string()))),
+        (r#"b"b\x41""#, Some(LiteralValue::ByteStr(b"bA".to_vec()))),
+        ("'c'", Some(LiteralValue::Char('c'))),
+        ("b'c'", Some(LiteralValue::Byte(b'c'))),
+        ("0x1F_u8", Some(LiteralValue::Int { value: 31, suffix: "u8" })),
+        ("1_0", Some(LiteralValue::Int { value: 10, suffix: "" })),
+        ("1.5e3", Some(LiteralValue::Float(1500.0))),
+        ("18446744073709551616", Some(LiteralValue::Float(18_446_744_073_709_551_616.0))),
+        (r#"r"a""#, None),
+        (r#"c"a""#, None),
+        (r#""a"suffix"#, None),
+        ("a", None),
+    ];
+    for (text, wanted) in rows {
+        let buffer: Buffer = text.parse()?;
+        match buffer.tokens().peek() {
+            Some(Token::Ident(leaf) | Token::Literal(leaf)) => {
+                assert_eq!(leaf.value()?, wanted, "{text}");
+            }
+            other => panic!("{text}: {other:?}"),
+        }
+    }
     Ok(())
 }

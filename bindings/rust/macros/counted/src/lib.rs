@@ -1,0 +1,3 @@
+//! The macro on a list that `bench/macros` writes.
+#[cfg(counted)]
+include!(env!("LIST"));

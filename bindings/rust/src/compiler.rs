@@ -1,0 +1,551 @@
+//! A compiler's own tokens: those of a macro's call, with the compiler's spans.
+//!
+//! A [`Buffer`] is made of a `TokenStream`. The library parses it: as arguments, or by a parser of
+//! one's own. An error is at the compiler's spans, and [`Error::to_compile_error`] makes of it what
+//! a macro returns.
+//!
+//! The span of a visible token is its number, `n..n + 1`. The two delimiters of a group are a token
+//! each, and those of an invisible group take no number. So two streams of the same visible tokens
+//! have equal spans, whatever invisible groups the compiler has put around them. A range of numbers
+//! stands for the compiler's spans from its first token to its last.
+//!
+//! ```
+//! use syn_tokens::compiler::{Buffer, Value};
+//!
+//! let tokens: proc_macro2::TokenStream = "name = \"x\", flags(a, b)".parse().unwrap();
+//! let buffer = Buffer::from(tokens);
+//! let list = buffer.arguments()?;
+//! for argument in &list {
+//!     match argument.value {
+//!         Value::Flag => println!("{}", argument.name.text),
+//!         Value::Literal(literal) => println!("{} is {}", argument.name.text, literal.text),
+//!         Value::List(_, inside) => println!("{} has {}", argument.name.text, inside.count()),
+//!     }
+//! }
+//!
+//! let buffer = Buffer::from("name = ,".parse::<proc_macro2::TokenStream>().unwrap());
+//! let error = buffer.arguments().unwrap_err();
+//! assert_eq!(error.to_string(), "expected literal token");
+//! # Ok::<(), syn_tokens::compiler::Error>(())
+//! ```
+use ::proc_macro2 as other;
+use ::proc_macro2::{Ident, Literal, TokenStream, TokenTree};
+use alloc::string::{String, ToString};
+use alloc::vec::{self, Vec};
+use alloc::{format, vec as list};
+use core::fmt::{self, Display, Write};
+use core::iter::FusedIterator;
+use core::slice;
+
+use crate::buffer::{self, Cursor, Leaf, Span};
+use crate::error::Error as Failure;
+use crate::ffi::{self, Entry, FlatArgument, Outcome};
+use crate::proc_macro2::UnknownToken;
+use crate::respond::Response;
+
+pub use crate::ffi::Export;
+
+/// What an export returns, how it is laid out, and what it takes.
+pub mod layout {
+    pub use crate::ffi::{Entry, Message, Outcome};
+}
+
+/// The tokens of a macro's call.
+#[derive(Clone, Debug, Default)]
+pub struct Buffer {
+    tokens: buffer::Buffer,
+    // The compiler's span of each visible token, and the place of its entry.
+    spans: Vec<other::Span>,
+    places: Vec<usize>,
+}
+
+/// Fills a buffer from the token streams of this crate. The streams around a group are kept on a
+/// stack of its own, so that no nesting takes more of the machine's.
+macro_rules! fill_from {
+    ($fill:ident, $from:ident) => {
+        fn $fill(&mut self, stream: $from::TokenStream) {
+            use $from::{Delimiter, Spacing, TokenTree};
+            let mut outer = Vec::new();
+            let mut trees = stream.into_iter();
+            loop {
+                let start = self.tokens.texts.len();
+                match trees.next() {
+                    Some(TokenTree::Ident(it)) => {
+                        // Writing into a string does not fail.
+                        let _ = write!(self.tokens.texts, "{it}");
+                        self.push(ffi::IDENT, 0, 0, start, it.span().into());
+                    }
+                    Some(TokenTree::Punct(it)) => {
+                        let spacing = if it.spacing() == Spacing::Joint { 1 } else { 0 };
+                        self.tokens.texts.push(it.as_char());
+                        self.push(ffi::PUNCT, spacing, 0, start, it.span().into());
+                    }
+                    Some(TokenTree::Literal(it)) => {
+                        let _ = write!(self.tokens.texts, "{it}");
+                        self.push(ffi::LITERAL, 0, 0, start, it.span().into());
+                    }
+                    Some(TokenTree::Group(it)) => {
+                        let delimiter = match it.delimiter() {
+                            Delimiter::Parenthesis => 0,
+                            Delimiter::Brace => 1,
+                            Delimiter::Bracket => 2,
+                            Delimiter::None => INVISIBLE,
+                        };
+                        let span = it.span_open().into();
+                        let opening = self.push(ffi::OPENING, 0, delimiter, start, span);
+                        let after = core::mem::replace(&mut trees, it.stream().into_iter());
+                        // The group is kept, since one that is dropped while its stream is shared
+                        // is taken apart at each level.
+                        outer.push((after, opening, delimiter, it));
+                    }
+                    None => match outer.pop() {
+                        Some((after, opening, delimiter, it)) => {
+                            let span = it.span_close().into();
+                            let closing = self.push(ffi::CLOSING, 0, delimiter, start, span);
+                            self.tie(opening, closing);
+                            trees = after;
+                        }
+                        None => return,
+                    },
+                }
+            }
+        }
+    };
+}
+
+const INVISIBLE: u16 = 3;
+
+impl Buffer {
+    fill_from!(fill, other);
+
+    #[cfg(feature = "proc-macro")]
+    fill_from!(fill_from_compiler, proc_macro);
+
+    // Appends an entry whose text begins at this byte and ends where the texts end, and returns its
+    // place. Written out, since macros are mostly built without optimization.
+    fn push(
+        &mut self,
+        kind: u32,
+        spacing: u16,
+        delimiter: u16,
+        text_start: usize,
+        span: other::Span,
+    ) -> usize {
+        let place = self.tokens.entries.len();
+        let start = self.spans.len();
+        let mut end = start;
+        if delimiter != INVISIBLE {
+            end += 1;
+            self.spans.push(span);
+            self.places.push(place);
+        }
+        let text_end = self.tokens.texts.len();
+        let distance = 0;
+        self.tokens.entries.push(Entry {
+            kind,
+            spacing,
+            delimiter,
+            start,
+            end,
+            text_start,
+            text_end,
+            distance,
+        });
+        place
+    }
+
+    // Ties the edges of a group together. Those of an invisible one have the spans of the first and
+    // the last visible token inside.
+    fn tie(&mut self, opening: usize, closing: usize) {
+        let entries = &mut self.tokens.entries;
+        let end = match entries.get_mut(closing) {
+            Some(last) => {
+                last.distance = closing - opening;
+                last.end
+            }
+            None => return,
+        };
+        let is_around = match entries.get_mut(opening) {
+            Some(first) => {
+                first.distance = closing - opening;
+                let is_around = first.delimiter == INVISIBLE && first.start < end;
+                if is_around {
+                    first.end = first.start + 1;
+                }
+                is_around
+            }
+            None => return,
+        };
+        if let (true, Some(last)) = (is_around, entries.get_mut(closing)) {
+            last.start = end - 1;
+        }
+    }
+
+    /// Returns a cursor at the first token. Spans are numbers of tokens.
+    #[must_use]
+    pub fn tokens(&self) -> Cursor<'_> {
+        self.tokens.tokens()
+    }
+
+    /// Returns how many leaves, openings and closings there are, those of invisible groups too.
+    #[must_use]
+    pub fn len(&self) -> usize {
+        self.tokens.len()
+    }
+
+    /// Returns `true` if there is no token.
+    #[must_use]
+    pub fn is_empty(&self) -> bool {
+        self.tokens.is_empty()
+    }
+
+    /// Returns the identifier or literal with this number. Its text is empty if another token has
+    /// the number, or none.
+    #[must_use]
+    pub fn leaf(&self, number: usize) -> Leaf<'_> {
+        let entry = self.places.get(number).and_then(|&place| self.tokens.entries.get(place));
+        let text = entry.and_then(|it| self.tokens.texts.get(it.text_start..it.text_end));
+        Leaf {
+            text: text.unwrap_or_default(),
+            span: Span { start: number, end: number.saturating_add(1) },
+        }
+    }
+
+    /// Returns the compiler's spans of the first and the last token of a range. If the range is
+    /// empty, or not of this buffer, both are the call site.
+    #[must_use]
+    pub fn ends(&self, span: Span) -> (other::Span, other::Span) {
+        match self.spans.get(span.start..span.end) {
+            Some([first, .., last]) => (*first, *last),
+            Some([only]) => (*only, *only),
+            _ => (other::Span::call_site(), other::Span::call_site()),
+        }
+    }
+
+    /// Returns the compiler's span of a range: from its first token to its last if the compiler
+    /// joins them, which a stable one does not, and else that of the first.
+    #[must_use]
+    pub fn span(&self, span: Span) -> other::Span {
+        let (first, last) = self.ends(span);
+        first.join(last).unwrap_or(first)
+    }
+
+    /// Converts the tokens from a cursor on, each at the compiler's span. A group is at that of
+    /// [`Buffer::span`].
+    ///
+    /// # Errors
+    ///
+    /// Returns the first token that this version of `proc_macro2` does not know, or `$crate`, which
+    /// no macro can make.
+    pub fn stream(&self, tokens: Cursor<'_>) -> Result<TokenStream, UnknownToken> {
+        crate::proc_macro2::stream(tokens, &|span| self.span(span))
+    }
+
+    /// Creates an error at a range of tokens.
+    #[must_use]
+    pub fn error(&self, span: Span, text: impl Display) -> Error {
+        let (start, end) = self.ends(span);
+        Error::of(text.to_string(), start, end)
+    }
+
+    /// Reads all tokens as arguments: `name`, `name = literal` and `name(..)`, with commas between
+    /// them, and nested.
+    ///
+    /// # Errors
+    ///
+    /// Returns why the tokens are none, or that an allocation failed.
+    pub fn arguments(&self) -> Result<ArgumentList<'_>, Error> {
+        let answer = ffi::arguments(&self.tokens.entries, &self.tokens.texts);
+        let arguments = self.settled(answer)?.values;
+        Ok(ArgumentList { buffer: self, arguments })
+    }
+
+    /// Runs commands, one a line, over the tokens. The page `docs/PROGRAM.md` of the repository has
+    /// the commands and what they print.
+    ///
+    /// # Errors
+    ///
+    /// Returns an error if the library takes no such tokens, or if an allocation fails. An
+    /// unreadable line is none: the response has status 2.
+    ///
+    /// ```
+    /// use syn_tokens::compiler::Buffer;
+    ///
+    /// let tokens: proc_macro2::TokenStream = "a b".parse().unwrap();
+    /// let response = Buffer::from(tokens).run("parse 0 Ident")?;
+    /// assert_eq!(response.text, "read a 0..1 @1\nrefused 1..2 unexpected token\n");
+    /// # Ok::<(), syn_tokens::compiler::Error>(())
+    /// ```
+    pub fn run(&self, commands: &str) -> Result<Response, Error> {
+        match ffi::replay(&self.tokens.entries, &self.tokens.texts, commands) {
+            Ok((Outcome { status: 0, .. }, text)) => Ok(Response { status: 0, text }),
+            Ok((Outcome { status: 1, .. }, text)) => Ok(Response { status: 1, text }),
+            Ok((Outcome { status: 2, .. }, text)) => Ok(Response { status: 2, text }),
+            Ok((outcome, _)) => Err(self.stopped(outcome)),
+            Err(failure) => Err(Error::failed(&failure)),
+        }
+    }
+
+    /// Parses all tokens by an export of one's own, and returns the values that it has written.
+    ///
+    /// # Errors
+    ///
+    /// Returns why the parser rejects the tokens, or that an allocation failed.
+    ///
+    /// # Safety
+    ///
+    /// The export must be one of a library in Rattle that returns what `entry_outcomes::write`
+    /// does. `T` must be laid out as its values, and any bytes must be a `T`.
+    #[allow(unsafe_code)]
+    pub unsafe fn call<T: Copy>(&self, export: Export<T>) -> Result<Values<T>, Error> {
+        // SAFETY: The caller vouches for the export, and for the layout of its values.
+        let answer = unsafe { ffi::call(export, &self.tokens.entries, &self.tokens.texts) };
+        self.settled(answer)
+    }
+
+    // Returns the values of an answer, or its error at the compiler's spans.
+    fn settled<T>(&self, answer: Result<ffi::Answer<T>, Failure>) -> Result<Values<T>, Error> {
+        match answer {
+            Ok(it) if it.outcome.status == 0 => Ok(Values { values: it.values, texts: it.texts }),
+            Ok(it) => Err(self.rejected(&it)),
+            Err(failure) => Err(Error::failed(&failure)),
+        }
+    }
+
+    fn rejected<T>(&self, answer: &ffi::Answer<T>) -> Error {
+        let mut all = answer.messages.iter().map(|it| {
+            let text = answer.texts.get(it.text_start..it.text_end).unwrap_or_default();
+            self.error(Span { start: it.start, end: it.end }, text)
+        });
+        match all.next() {
+            Some(mut error) if answer.outcome.status == ffi::REJECTED => {
+                all.for_each(|another| error.combine(another));
+                error
+            }
+            _ => self.stopped(answer.outcome),
+        }
+    }
+
+    // The error of an outcome without a message.
+    fn stopped(&self, outcome: Outcome) -> Error {
+        match (outcome.status, self.tokens.entries.get(outcome.entry)) {
+            (3, _) => Error::failed(&Failure::Memory),
+            (6, Some(entry)) => {
+                let span = Span { start: entry.start, end: entry.end };
+                let text = self.tokens.texts.get(entry.text_start..entry.text_end);
+                match outcome.refusal {
+                    2 => self.error(span, format!("unknown token `{}`", text.unwrap_or_default())),
+                    3 => self.error(span, "groups are nested deeper than 256"),
+                    _ => self.error(span, "malformed tokens"),
+                }
+            }
+            _ => Error::failed(&Failure::Version),
+        }
+    }
+}
+
+impl TryFrom<&Buffer> for TokenStream {
+    type Error = UnknownToken;
+
+    /// Converts all tokens, as [`Buffer::stream`].
+    fn try_from(buffer: &Buffer) -> Result<Self, UnknownToken> {
+        buffer.stream(buffer.tokens())
+    }
+}
+
+impl From<TokenStream> for Buffer {
+    fn from(stream: TokenStream) -> Self {
+        let mut buffer = Buffer::default();
+        buffer.fill(stream);
+        buffer
+    }
+}
+
+#[cfg(feature = "proc-macro")]
+impl From<proc_macro::TokenStream> for Buffer {
+    /// Takes the compiler's tokens as they are, without a detour by `proc_macro2`.
+    fn from(stream: proc_macro::TokenStream) -> Self {
+        let mut buffer = Buffer::default();
+        buffer.fill_from_compiler(stream);
+        buffer
+    }
+}
+
+/// What an export has written: its values, and the texts that they speak of.
+#[derive(Clone, Debug, PartialEq, Eq)]
+pub struct Values<T> {
+    /// The values, in order.
+    pub values: Vec<T>,
+    /// The texts.
+    pub texts: String,
+}
+
+/// Arguments, as [`Buffer::arguments`] reads them.
+#[derive(Clone, Debug)]
+pub struct ArgumentList<'b> {
+    buffer: &'b Buffer,
+    arguments: Vec<FlatArgument>,
+}
+
+impl ArgumentList<'_> {
+    /// Returns an iterator over the arguments.
+    #[must_use]
+    pub fn iter(&self) -> Arguments<'_> {
+        Arguments { buffer: self.buffer, arguments: self.arguments.iter() }
+    }
+}
+
+impl<'l> IntoIterator for &'l ArgumentList<'_> {
+    type Item = Argument<'l>;
+    type IntoIter = Arguments<'l>;
+
+    fn into_iter(self) -> Arguments<'l> {
+        self.iter()
+    }
+}
+
+/// An argument: a name, and its value.
+#[derive(Clone, Debug)]
+pub struct Argument<'l> {
+    /// The name, which is no keyword.
+    pub name: Leaf<'l>,
+    /// What is after the name.
+    pub value: Value<'l>,
+}
+
+/// The value of an argument.
+#[derive(Clone, Debug)]
+pub enum Value<'l> {
+    /// A name alone.
+    Flag,
+    /// `= literal`
+    Literal(Leaf<'l>),
+    /// Arguments in parentheses, and the span from one parenthesis to the other.
+    List(Span, Arguments<'l>),
+}
+
+/// An iterator over arguments, without those inside them.
+#[derive(Clone, Debug)]
+pub struct Arguments<'l> {
+    buffer: &'l Buffer,
+    arguments: slice::Iter<'l, FlatArgument>,
+}
+
+impl<'l> Iterator for Arguments<'l> {
+    type Item = Argument<'l>;
+
+    fn next(&mut self) -> Option<Argument<'l>> {
+        let first = self.arguments.next()?;
+        let rest = self.arguments.as_slice();
+        let inside = rest.get(..first.inside).unwrap_or(rest);
+        self.arguments = rest.get(first.inside..).unwrap_or_default().iter();
+        let value = match first.kind {
+            0 => Value::Flag,
+            1 => Value::Literal(self.buffer.leaf(first.value_start)),
+            _ => Value::List(
+                Span { start: first.value_start, end: first.value_end },
+                Arguments { buffer: self.buffer, arguments: inside.iter() },
+            ),
+        };
+        Some(Argument { name: self.buffer.leaf(first.name_start), value })
+    }
+}
+
+impl FusedIterator for Arguments<'_> {}
+
+/// A message of an error.
+#[derive(Clone, Debug)]
+pub struct Message {
+    /// The words.
+    pub text: String,
+    /// The compiler's span of the first token that the message is about.
+    pub start: other::Span,
+    /// The compiler's span of the last one.
+    pub end: other::Span,
+}
+
+/// Why a compiler's tokens are rejected: one or more messages. It is shown as its first one.
+#[derive(Clone, Debug)]
+pub struct Error {
+    first: Message,
+    more: Vec<Message>,
+}
+
+impl Error {
+    /// Creates an error of one message.
+    #[must_use]
+    pub fn new(span: other::Span, text: impl Display) -> Self {
+        Error::of(text.to_string(), span, span)
+    }
+
+    fn of(text: String, start: other::Span, end: other::Span) -> Self {
+        Error { first: Message { text, start, end }, more: Vec::new() }
+    }
+
+    fn failed(failure: &Failure) -> Self {
+        Error::new(other::Span::call_site(), failure)
+    }
+
+    /// Appends the messages of another error.
+    pub fn combine(&mut self, another: Error) {
+        self.more.push(another.first);
+        self.more.extend(another.more);
+    }
+
+    /// Returns an iterator over the messages, in order.
+    pub fn messages(&self) -> impl Iterator<Item = &Message> {
+        core::iter::once(&self.first).chain(&self.more)
+    }
+
+    /// Returns the tokens of `::core::compile_error! { "text" }` for each message, at which the
+    /// compiler reports it: from the first token that it is about to the last.
+    #[must_use]
+    pub fn to_compile_error(&self) -> TokenStream {
+        self.messages().flat_map(Message::to_trees).collect()
+    }
+}
+
+impl Message {
+    fn to_trees(&self) -> Vec<TokenTree> {
+        let punct = |ch, spacing| {
+            let mut punct = other::Punct::new(ch, spacing);
+            punct.set_span(self.start);
+            TokenTree::from(punct)
+        };
+        let word = |text| TokenTree::from(Ident::new(text, self.start));
+        let mut words = Literal::string(&self.text);
+        words.set_span(self.end);
+        let inside = TokenStream::from(TokenTree::from(words));
+        let mut braces = other::Group::new(other::Delimiter::Brace, inside);
+        braces.set_span(self.end);
+        list![
+            punct(':', other::Spacing::Joint),
+            punct(':', other::Spacing::Alone),
+            word("core"),
+            punct(':', other::Spacing::Joint),
+            punct(':', other::Spacing::Alone),
+            word("compile_error"),
+            punct('!', other::Spacing::Alone),
+            braces.into(),
+        ]
+    }
+}
+
+impl Display for Error {
+    fn fmt(&self, f: &mut fmt::Formatter<'_>) -> fmt::Result {
+        f.write_str(&self.first.text)
+    }
+}
+
+#[cfg(feature = "std")]
+impl std::error::Error for Error {}
+
+impl IntoIterator for Error {
+    type Item = Message;
+    type IntoIter = core::iter::Chain<core::iter::Once<Message>, vec::IntoIter<Message>>;
+
+    /// Returns an iterator over the messages, in order.
+    fn into_iter(self) -> Self::IntoIter {
+        core::iter::once(self.first).chain(self.more)
+    }
+}
