@@ -1,4 +1,0 @@
-use Rattle.test_streams.proofs.argument_lists.+add_list.Given as goal
-
-abbrev pub decreases-add_list : goal.decreases-add_list
-decreases-add_list l = l.depth
