@@ -1,8 +1,9 @@
 //! The program: its first run, a run of every command, and two texts.
-use replay_program::serve;
+use replay_program::{respond, respond_to, serve};
 use std::alloc::Global;
 use std::io::{self, Write};
-use test_outcomes::memory::{Outcome, Stop, worst};
+use test_outcomes::memory::{Outcome, Stop, ended, worst};
+use tok_buffer::TokenBuffer;
 
 const FIRST: &str = "\
 (a «b»)\n\
@@ -222,5 +223,16 @@ pub fn calls(alloc: Global) -> Outcome {
         serves(alloc, FIRST_LINE_BAD, "unreadable: command 1\n", 2),
         serves(alloc, SIXTH_COMMAND_BAD, "unreadable: command 7\n", 2),
         serves(alloc, NO_COMMANDS, "refused 0..1 unexpected token\n", 1),
+        ended(respond(alloc, INPUT.as_bytes())),
+        responds(alloc),
     ])
+}
+
+// The first input, of which the text is in a buffer.
+fn responds(alloc: Global) -> Outcome {
+    let commands = "enter 0 (\nparse 1 Ident\nclose 1\n";
+    match TokenBuffer::from_marked(alloc, 0, 0, "(a «b»)") {
+        Ok(buffer) => ended(respond_to(alloc, &buffer, commands.as_bytes())),
+        Err(_) => Err(Stop::Refused),
+    }
 }

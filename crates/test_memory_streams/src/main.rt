@@ -1,4 +1,4 @@
-//! Makes the calls of `syn_parse`, `syn_punctuated` and `arguments` that allocate.
+//! Makes the calls of `syn_parse`, `syn_punctuated`, `arguments` and `entry_outcomes` that allocate.
 //!
 //! The status is 0 if each allocation succeeds, 3 if one fails and so does a call, and 1 if
 //! something is wrong; then the name of the call is printed. Before the calls it makes one
@@ -14,6 +14,7 @@
 #![tactic(auto)]
 
 mod argument_lists;
+mod entries;
 mod kept;
 mod lists;
 mod streams;
@@ -96,5 +97,6 @@ fn run(alloc: Global, before: usize) -> Outcome {
         lists::calls(alloc),
         streams::calls(alloc),
         argument_lists::calls(alloc),
+        entries::calls(alloc),
     ])
 }

@@ -38,6 +38,7 @@ fn idents(alloc: Global) -> Outcome {
     let ident = made(Ident::new_raw(alloc, NAME, Span::call_site()))?;
     let outcomes = [
         ended::<_, AllocError>(ident.clone()),
+        ended(ident.to_text()),
         ended(ident.unraw(alloc)),
         writes(alloc, &ident),
         ended(ident.to_token_stream(alloc)),
@@ -50,6 +51,7 @@ fn literals(alloc: Global) -> Outcome {
     let literal = made(Literal::string(alloc, "abcdefghijklm\n"))?;
     worst(&[
         ended::<_, AllocError>(literal.clone()),
+        ended(literal.to_text()),
         writes(alloc, &literal),
         ended(Literal::doc_comment(alloc, "abcdefghij\u{301}")),
         ended(Literal::character(alloc, 'é')),

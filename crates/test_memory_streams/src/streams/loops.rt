@@ -1,4 +1,4 @@
-//! The parsers of values that follow one another.
+//! The parsers of values that follow one another, and of one after a token.
 use super::{rejects, takes};
 use std::alloc::Global;
 use syn_parse::{Nothing, Parse, ParseStream, Result};
@@ -16,10 +16,21 @@ impl Parse for Stars {
     }
 }
 
+/// By `ParseBuffer::parse_after`.
+#[derive(Drop)]
+struct Guard(Option<(token::Where, Ident)>);
+
+impl Parse for Guard {
+    fn parse(input: ParseStream<'_, '_>) -> Result<Self> {
+        Ok(Guard(input.parse_after::<token::Where, Ident>()?))
+    }
+}
+
 /// Makes each call.
 pub fn calls(alloc: Global) -> Outcome {
     worst(&[
         takes::<Stars>(alloc, "**"),
+        takes::<Guard>(alloc, "where abcdefghijklmnop"),
         takes::<Vec<Ident>>(alloc, "a b"),
         rejects::<Vec<Nothing>>(alloc, "a", "ParseBuffer::parse_until_end"),
     ])
