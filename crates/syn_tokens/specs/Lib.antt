@@ -37,6 +37,7 @@ pub use Rattle.tok_buffer.specs.Cursors
 pub use Rattle.tok_buffer.specs.Descent
 pub use Rattle.tok_buffer.specs.EachRead
 pub use Rattle.tok_buffer.specs.Entry
+pub use Rattle.tok_buffer.specs.Gives
 pub use Rattle.tok_buffer.specs.InFront
 pub use Rattle.tok_buffer.specs.Messages
 pub use Rattle.tok_buffer.specs.Order
@@ -47,6 +48,7 @@ pub use Rattle.tok_buffer.specs.Reads
 pub use Rattle.tok_buffer.specs.Rest
 pub use Rattle.tok_buffer.specs.SameView
 pub use Rattle.tok_buffer.specs.Spans as CursorSpans
+pub use Rattle.tok_buffer.specs.Trees
 pub use Rattle.tok_buffer.specs.View
 pub use Rattle.tok_carets.specs.Lines
 pub use Rattle.tok_carets.specs.Shown
@@ -57,12 +59,15 @@ pub use Rattle.tok_types.specs.Printed
 pub use Rattle.tok_types.specs.Sees
 pub use Rattle.tok_types.specs.Texts
 pub use Rattle.tok_types.specs.Views as TokenViews
+pub use Rattle.syn_parse.specs.After
 pub use Rattle.syn_parse.specs.Faults
 pub use Rattle.syn_parse.specs.Grouped
 pub use Rattle.syn_parse.specs.Groups
+pub use Rattle.syn_parse.specs.Inside
 pub use Rattle.syn_parse.specs.Laws as StreamLaws
 pub use Rattle.syn_parse.specs.Lighter
 pub use Rattle.syn_parse.specs.Lookahead
+pub use Rattle.syn_parse.specs.Many
 pub use Rattle.syn_parse.specs.Nested
 pub use Rattle.syn_parse.specs.Optional
 pub use Rattle.syn_parse.specs.Owned
@@ -72,6 +77,7 @@ pub use Rattle.syn_parse.specs.Pauses
 pub use Rattle.syn_parse.specs.Progress as ParseProgress
 pub use Rattle.syn_parse.specs.Reads as ParseReads
 pub use Rattle.syn_parse.specs.ErrorWords
+pub use Rattle.syn_parse.specs.Runs
 pub use Rattle.syn_parse.specs.Skips
 pub use Rattle.syn_parse.specs.Sources
 pub use Rattle.syn_parse.specs.State
@@ -80,8 +86,10 @@ pub use Rattle.syn_parse.specs.Takes
 pub use Rattle.syn_parse.specs.Takings
 pub use Rattle.syn_parse.specs.TokenNames
 pub use Rattle.syn_parse.specs.Tokens
+pub use Rattle.syn_parse.specs.TreeTakes
 pub use Rattle.syn_parse.specs.TreesAhead
 pub use Rattle.syn_parse.specs.Views as ParseViews
+pub use Rattle.syn_parse.specs.Weighing
 pub use Rattle.syn_punctuated.specs.Adds
 pub use Rattle.syn_punctuated.specs.Faults as ListFaults
 pub use Rattle.syn_punctuated.specs.Hashed
@@ -98,6 +106,7 @@ pub use Rattle.syn_punctuated.specs.Retained
 pub use Rattle.syn_punctuated.specs.TakeLists
 pub use Rattle.syn_punctuated.specs.Trees as ListTrees
 pub use Rattle.syn_punctuated.specs.Turns as ListTurns
+pub use Rattle.syn_punctuated.specs.Weighing as ListWeighing
 pub use Rattle.syn_replay.specs.Agree
 pub use Rattle.syn_replay.specs.Commands
 pub use Rattle.syn_replay.specs.Forks
