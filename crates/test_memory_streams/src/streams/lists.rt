@@ -1,7 +1,7 @@
 //! The list parsers.
 use super::{rejects, takes};
 use std::alloc::Global;
-use syn_parse::{Nothing, Parse, ParseStream, Result};
+use syn_parse::{IdentExt, Nothing, Parse, ParseStream, Result};
 use syn_punctuated::{ParseTerminated, Punctuated};
 use test_outcomes::memory::{Outcome, worst};
 use tok_core::Ident;
@@ -19,7 +19,18 @@ impl Parse for Terminated {
     }
 }
 
-/// By `ParseTerminated::parse_terminated`, and so by `Punctuated::parse_terminated_with`.
+/// By `Punctuated::parse_terminated_with`.
+#[derive(Drop)]
+struct TerminatedWith(Names);
+
+impl Parse for TerminatedWith {
+    fn parse(input: ParseStream<'_, '_>) -> Result<Self> {
+        let names = Punctuated::parse_terminated_with(input, |input| Ident::parse_any(input))?;
+        Ok(TerminatedWith(names))
+    }
+}
+
+/// By `ParseTerminated::parse_terminated`.
 #[derive(Drop)]
 struct ByStream(Names);
 
@@ -30,8 +41,21 @@ impl Parse for ByStream {
     }
 }
 
-/// By `Punctuated::parse_separated_nonempty`, and so by
-/// `Punctuated::parse_separated_nonempty_with`.
+/// By `Punctuated::parse_separated_nonempty_with`.
+#[derive(Drop)]
+struct SeparatedWith(Names);
+
+impl Parse for SeparatedWith {
+    fn parse(input: ParseStream<'_, '_>) -> Result<Self> {
+        let names = Punctuated::parse_separated_nonempty_with(
+            input,
+            |input| Ident::parse_any(input),
+        )?;
+        Ok(SeparatedWith(names))
+    }
+}
+
+/// By `Punctuated::parse_separated_nonempty`.
 #[derive(Drop)]
 struct Separated(Names);
 
@@ -55,8 +79,10 @@ impl Parse for Stuck {
 pub fn calls(alloc: Global) -> Outcome {
     worst(&[
         takes::<Terminated>(alloc, "a, b"),
+        takes::<TerminatedWith>(alloc, "a, b"),
         takes::<ByStream>(alloc, "a, b"),
         takes::<Separated>(alloc, "a, b"),
+        takes::<SeparatedWith>(alloc, "a, b"),
         rejects::<Stuck>(alloc, "a", "Punctuated::parse_terminated"),
     ])
 }

@@ -26,12 +26,23 @@ impl Parse for Guard {
     }
 }
 
+/// By `ParseBuffer::parse_until_end`.
+#[derive(Drop)]
+struct ToEnd(Vec<Ident>);
+
+impl Parse for ToEnd {
+    fn parse(input: ParseStream<'_, '_>) -> Result<Self> {
+        Ok(ToEnd(input.parse_until_end::<Ident>()?))
+    }
+}
+
 /// Makes each call.
 pub fn calls(alloc: Global) -> Outcome {
     worst(&[
         takes::<Stars>(alloc, "**"),
         takes::<Guard>(alloc, "where abcdefghijklmnop"),
         takes::<Vec<Ident>>(alloc, "a b"),
+        takes::<ToEnd>(alloc, "a b"),
         rejects::<Vec<Nothing>>(alloc, "a", "ParseBuffer::parse_until_end"),
     ])
 }
