@@ -1,5 +1,6 @@
 pub mod Closings
 pub mod Fillings
+pub mod Fronts
 pub mod Groups
 pub mod Leaves
 pub mod Once

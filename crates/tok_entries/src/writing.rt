@@ -1,7 +1,8 @@
 //! A stream as entries.
-ghost use Rattle.std.specs.Prelude.{◌≡◌, ◌++◌, length, OnOk, string_bytes};
+ghost use Rattle.std.specs.Prelude.{◌≡◌, ◌++◌, length, OnErr, OnOk, string_bytes};
 ghost use Rattle.tok_core.specs.Seen.{tree_of};
 ghost use Rattle.tok_entries.specs.Entries as spec;
+ghost use Rattle.tok_entries.specs.Entries.{BeginsWith};
 
 use crate::entry::{CLOSING, Entry, IDENT, LITERAL, OPENING, PUNCT, edge, leaf, spacing_number};
 use std::alloc::AllocError;
@@ -10,8 +11,8 @@ use tok_core::{TokenStream, TokenTree};
 /// Appends the entries of a stream, and the texts of its leaves.
 ///
 /// The texts are counted from the front of `texts`, and each distance between two edges in entries.
-/// Returns an error if an allocation fails; what is behind the entries and texts of before is then
-/// not told.
+/// Returns an error if an allocation fails. The entries and texts that were there before are still
+/// at the front, and what follows them is unspecified.
 ///
 /// # Examples
 ///
@@ -32,6 +33,9 @@ pub fn write_entries(
         ≡ entries.old.items ++ spec.entries (length (string_bytes texts.old)) stream.now) }
     ensures texts { OnOk result
         (string_bytes texts.new ≡ string_bytes texts.old ++ spec.texts stream.now) }
+    ensures entries_kept { OnErr result (BeginsWith entries.new.items entries.old.items) }
+    ensures texts_kept { OnErr result
+        (BeginsWith (string_bytes texts.new) (string_bytes texts.old)) }
 {
     for next in stream.trees() {
         write_tree(entries, texts, next)?;
@@ -50,6 +54,9 @@ fn write_tree(
         ++ spec.tree_entries (length (string_bytes texts.old)) (tree_of next.now)) }
     ensures texts { OnOk result
         (string_bytes texts.new ≡ string_bytes texts.old ++ spec.tree_texts (tree_of next.now)) }
+    ensures entries_kept { OnErr result (BeginsWith entries.new.items entries.old.items) }
+    ensures texts_kept { OnErr result
+        (BeginsWith (string_bytes texts.new) (string_bytes texts.old)) }
 {
     let begin = texts.len();
     match next {

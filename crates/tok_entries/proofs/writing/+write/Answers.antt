@@ -6,6 +6,7 @@ use Rattle.tok_core.specs.Weight.{weight, tree_weight}
 use Rattle.tok_core.proofs.Trees.{weight_here}
 use Rattle.tok_entries.specs.Entries.{texts}
 use Rattle.tok_entries.proofs.Fillings.{fill_lays}
+use Rattle.tok_entries.proofs.Fronts.{begins_then, on_err}
 use Rattle.tok_entries.proofs.writing.+write.Goals as goal
 
 pub write_entries-write_tree-requires : goal.write_entries-write_tree-requires
@@ -37,3 +38,18 @@ write_tree-returns-in_ok-push-in-Group-2-clause-entries t c =
     (tree_span (group_of c.in-Group.group))) (sym c.stream.ensures)
     ∙ ap (λ d. group d c.stream.result.now (tree_span (group_of c.in-Group.group)))
     (sym c.delimiter-delimiter.ensures))
+
+pub write_entries-returns-in_err-write_tree-clause-entries_kept :
+    goal.write_entries-returns-in_err-write_tree-clause-entries_kept
+write_entries-returns-in_err-write_tree-clause-entries_kept t c =
+    on_err c.from_residual.result
+    (begins_then c.write_tree.new.entries.items c.loop-next.entries.items c.args.entries.now.items
+    c.in_err-write_tree.ensures.entries_kept c.loop-next.invariant.2)
+
+pub write_entries-returns-in_err-write_tree-clause-texts_kept :
+    goal.write_entries-returns-in_err-write_tree-clause-texts_kept
+write_entries-returns-in_err-write_tree-clause-texts_kept t c =
+    on_err c.from_residual.result
+    (begins_then (string_bytes c.write_tree.new.texts) (string_bytes c.loop-next.texts)
+    (string_bytes c.args.texts.now) c.in_err-write_tree.ensures.texts_kept
+    c.loop-next.invariant.3)
