@@ -31,6 +31,7 @@ pub use Rattle.tok_entries.specs.Entries
 pub use Rattle.tok_entries.specs.Refusals
 pub use Rattle.tok_entries.specs.Texts as EntryTexts
 pub use Rattle.tok_buffer.specs.Ahead
+pub use Rattle.tok_buffer.specs.Between
 pub use Rattle.tok_buffer.specs.Buffer
 pub use Rattle.tok_buffer.specs.CompileErrors
 pub use Rattle.tok_buffer.specs.Cursors

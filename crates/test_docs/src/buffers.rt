@@ -2,7 +2,7 @@
 use std::alloc::{AllocError, AllocGlobal, Global};
 use std::process::Abort;
 use tok_buffer::{Error, TokenBuffer};
-use tok_core::{LexFault, Span, lex, lex_marked};
+use tok_core::{LexFault, Span, TokenTree, lex, lex_marked};
 use tok_entries::{EntryFault, write_entries};
 
 fn buffer(rt: &(impl Abort + AllocGlobal), alloc: Global) -> Result<(), LexFault> {
@@ -20,6 +20,15 @@ fn cursor(rt: &(impl Abort + AllocGlobal), alloc: Global) -> Result<(), LexFault
         assert_eq!(rt; rest.peek_punct("="), true);
     }
     assert!(rt; buffer.begin().ident().is_some());
+    Ok(())
+}
+
+fn between(rt: &(impl Abort + AllocGlobal), alloc: Global) -> Result<(), LexFault> {
+    let buffer = TokenBuffer::from_marked(alloc, 0, 0, "«a» = b")?;
+    if let Some((_, rest)) = buffer.begin().ident() {
+        let tokens = buffer.begin().tokens_up_to(alloc, rest)?;
+        assert!(rt; matches!(tokens.trees().first(), Some(TokenTree::Group(_))));
+    }
     Ok(())
 }
 
@@ -75,6 +84,7 @@ fn buffers(rt: HostRuntime) {
     assert!(rt; pruned(&rt, rt.alloc()).is_ok());
     assert!(rt; buffer(&rt, rt.alloc()).is_ok());
     assert!(rt; cursor(&rt, rt.alloc()).is_ok());
+    assert!(rt; between(&rt, rt.alloc()).is_ok());
 }
 
 fn error(rt: &(impl Abort + AllocGlobal), alloc: Global) -> Result<(), AllocError> {

@@ -48,6 +48,7 @@ fn at_group(alloc: Global, cursor: Cursor<'_>) -> Outcome {
         ended(cursor.visible_tree(alloc)),
         ended(cursor.any_group_token(alloc)),
         ended(cursor.token_stream(alloc)),
+        ended(cursor.tokens_up_to(alloc, cursor.scope_end())),
         at_leaf(alloc, cursor),
     ])
 }

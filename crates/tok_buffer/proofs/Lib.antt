@@ -1,9 +1,12 @@
 pub mod Befores
+pub mod Between
+pub mod BetweenAt
 pub mod CompileErrorLoops
 pub mod Counted
 pub mod Descents
 pub mod Enclosing
 pub mod Entered
+pub mod Followed
 pub mod Forests
 pub mod Groups
 pub mod InScope

@@ -1,4 +1,5 @@
 pub mod Ahead
+pub mod Between
 pub mod Buffer
 pub mod Code
 pub mod CompileErrors

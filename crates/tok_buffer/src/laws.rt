@@ -6,6 +6,7 @@ ghost use Rattle.tok_core.specs.Lexical.Outcome.{FollowsGrammar, FollowsSource};
 ghost use Rattle.tok_buffer.specs.Buffer.{forest_of, KeepsReading, SameReading};
 ghost use Rattle.std.specs.declared.cmp.Ordering.TheVariants.{Equal};
 ghost use Rattle.tok_core.specs.Forest.{Forest};
+ghost use Rattle.tok_buffer.specs.Between.{ReadsFollow};
 ghost use Rattle.tok_buffer.specs.Cursors.{place_of, CursorsLoseNone};
 ghost use Rattle.tok_buffer.specs.Descent.{DescentsEnter};
 ghost use Rattle.tok_buffer.specs.InFront.{AheadTellsAll, AheadTellsEnds, AllAheadAtStart};
@@ -141,6 +142,12 @@ pub fn reads_go_later()
 /// place after several of these in turn. So a stream may always advance to a fork that has read.
 pub fn reads_keep_scope()
     ensures { ReadsKeepScope }
+{}
+
+/// The place after a read, a skip or a group that is entered follows the place before it, and so
+/// does the place after several of these in turn. So `tokens_up_to` leaves out no visible tree.
+pub fn reads_follow()
+    ensures { ReadsFollow }
 {}
 
 /// A descent and a pass stay in the scope, and add nothing to what remains.

@@ -14,7 +14,7 @@ ghost use Rattle.tok_buffer.specs.Gives.{Gives};
 ghost use Rattle.tok_buffer.specs.Reads.{and_then, any_text, place_after, skip, read_if, read_ident, read_keyword, read_punct, read_literal, read_lifetime, read_tree, read_word};
 ghost use Rattle.tok_buffer.specs.Reads.{is_punct_of, read_next, read_punctuation, read_spans, sized};
 ghost use Rattle.tok_buffer.specs.Reads as spec;
-ghost use Rattle.tok_buffer.specs.Trees.{EndsScope};
+ghost use Rattle.tok_buffer.specs.Trees.{EndsScope, read_visible};
 
 use crate::cursor::{Cursor, LifetimeRef};
 use crate::entry::{Entry, same};
@@ -116,6 +116,16 @@ impl<'a> Cursor<'a> {
             Some((_, rest)) => Some(rest),
             None => front.after_front(),
         }
+    }
+
+    /// Returns the cursor after the next visible tree, as `visible_tree` does, and copies nothing.
+    /// Returns `None` if no visible tree is left.
+    ///
+    /// A lifetime is two trees.
+    pub fn skip_tree(self) -> Option<Cursor<'a>>
+        ensures { Gives result (place_after (read_visible (place_of self.entry))) place_of }
+    {
+        Cursor::at(self.spot?.ignore_none()).after_front()
     }
 
     // Returns the cursor after the next tree.

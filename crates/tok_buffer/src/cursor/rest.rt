@@ -3,6 +3,7 @@ ghost use Rattle.std.specs.Prelude.{◌≡◌, ◌≤◌, ◌++◌, ◌∷◌, [
 ghost use Rattle.std.specs.Fmt.{WritesOnOk};
 ghost use Rattle.tok_lexical.specs.Delimiters as delimiters;
 ghost use Rattle.tok_leaves.specs.Leaves.{leaf_text};
+ghost use Rattle.tok_core.specs.Erase.{erase};
 ghost use Rattle.tok_core.specs.Forest.{concat, leaf, no_trees};
 ghost use Rattle.tok_core.specs.Seen.{group_of, tree_of};
 ghost use Rattle.tok_core.specs.Text as spec;
@@ -10,16 +11,19 @@ ghost use Rattle.tok_core.specs.Text.{text};
 ghost use Rattle.tok_core.specs.Weight.{weight};
 ghost use Rattle.tok_buffer.specs.Private.Counts.{tree_count};
 ghost use Rattle.tok_buffer.specs.Private.Layout.{OpensGroup, leaf_in};
-ghost use Rattle.tok_buffer.specs.Cursors.{place_of};
+ghost use Rattle.tok_buffer.specs.Between.{Follows, between, trees_to};
+ghost use Rattle.tok_buffer.specs.Cursors.{place_of, spot_place};
 ghost use Rattle.tok_buffer.specs.Gives.{Gives};
 ghost use Rattle.tok_buffer.specs.Moves.{frames_at, in_scope, place_at};
 ghost use Rattle.tok_buffer.specs.Reads.{is_group, read_if, read_tree};
 ghost use Rattle.tok_buffer.specs.Rest.{rest};
 ghost use Rattle.tok_buffer.specs.Trees.{read_visible};
+ghost use Rattle.tok_buffer.specs.View.{erased_ahead};
 
 use crate::buffer::TokenBuffer;
 use crate::cursor::Cursor;
 use crate::entry::{Held, Leaf};
+use crate::spot::Spot;
 use std::alloc::{AllocError, Global};
 use std::fmt;
 use std::fmt::{Debug, Formatter, Write};
@@ -86,6 +90,39 @@ impl<'a> Cursor<'a> {
     {
         if let Some(spot) = self.spot {
             return copy_ahead(alloc, spot.buffer, spot.position, spot.scope);
+        }
+        Ok(TokenStream::new(alloc))
+    }
+
+    /// Copies the trees from here up to `end`, a later cursor of the same scope.
+    ///
+    /// An invisible group is copied if it lies wholly between the two cursors. Of one that only
+    /// begins or ends there, the trees between are copied alone. If `end` is earlier, or in another
+    /// scope or buffer, the stream is empty.
+    ///
+    /// Returns an error if an allocation fails.
+    ///
+    /// # Examples
+    ///
+    /// ```rust
+    /// let buffer = TokenBuffer::from_marked(alloc, 0, 0, "«a» = b")?;
+    /// if let Some((_, rest)) = buffer.begin().ident() {
+    ///     let tokens = buffer.begin().tokens_up_to(alloc, rest)?;
+    ///     assert!(rt; matches!(tokens.trees().first(), Some(TokenTree::Group(_))));
+    /// }
+    /// ```
+    pub fn tokens_up_to(self, alloc: Global, end: Cursor<'_>) -> Result<TokenStream, AllocError>
+        ensures trees { IfOk result
+            (λ s. s ≡ between (place_of self.entry) (place_of end.entry)) }
+        ensures visible { IfOk result
+            (λ s. Follows (place_of self.entry) (place_of end.entry)
+            → concat (erase s) (erased_ahead (place_of end.entry))
+            ≡ erased_ahead (place_of self.entry)) }
+    {
+        if let (Some(from), Some(to)) = (self.spot, end.spot) {
+            if self.same_scope(end) {
+                return copy_up_to(alloc, from, to.position);
+            }
         }
         Ok(TokenStream::new(alloc))
     }
@@ -218,6 +255,65 @@ fn copy_ahead(
         let copy = Group::new(group.delimiter, content, group.span);
         stream.append(TokenTree::Group(copy))?;
         position = copy_leaves(&mut stream, buffer, position + offset + 1, scope)?;
+    }
+    Ok(stream)
+}
+
+// Counts the trees from a spot up to a position. A group that ends by then is one.
+fn count_up_to(spot: Spot<'_>, end: usize) -> usize
+    requires { end ≤ spot.scope }
+    ensures { result ≡ tree_count (trees_to end (spot_place spot.entry)) }
+{
+    let buffer = spot.buffer;
+    let mut position = spot.position;
+    let mut trees = 0;
+    while position < end {
+        match buffer.entry(position).held() {
+            Held::Leaf(_) => {
+                trees += 1;
+                position += 1;
+            }
+            Held::Group(_, offset) => {
+                if offset < end - position {
+                    trees += 1;
+                    position = position + offset + 1;
+                } else {
+                    position += 1;
+                }
+            }
+            Held::End(_) => position += 1,
+        }
+    }
+    trees
+}
+
+// Copies the trees from a spot up to a position, into a stream of their number. Enters the groups
+// that end later.
+fn copy_up_to(alloc: Global, spot: Spot<'_>, end: usize) -> Result<TokenStream, AllocError>
+    requires { end ≤ spot.scope }
+    ensures { IfOk result (λ s. s ≡ trees_to end (spot_place spot.entry)) }
+{
+    let buffer = spot.buffer;
+    let mut stream = TokenStream::with_capacity(alloc, count_up_to(spot, end))?;
+    let mut position = spot.position;
+    while position < end {
+        match buffer.entry(position).held() {
+            Held::Leaf(leaf) => {
+                leaf.append_to(&mut stream)?;
+                position += 1;
+            }
+            Held::Group(group, offset) => {
+                if offset < end - position {
+                    let content = copy_ahead(alloc, buffer, position + 1, position + offset)?;
+                    let group = Group::new(group.delimiter, content, group.span);
+                    stream.append(TokenTree::Group(group))?;
+                    position = position + offset + 1;
+                } else {
+                    position += 1;
+                }
+            }
+            Held::End(_) => position += 1,
+        }
     }
     Ok(stream)
 }

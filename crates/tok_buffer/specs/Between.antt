@@ -1,0 +1,48 @@
+-- The trees between two places of a scope.
+use Rattle.std.specs.Prelude.{ℕ, ◌+◌, ◌-◌, nat_le, if◌then◌else◌, List, [], ◌∷◌}
+use Rattle.tok_core.specs.Forest.{Tree, leaf, group, Forest, no_trees, tree, concat}
+use Rattle.tok_core.specs.Weight.{weight, tree_weight}
+use Rattle.tok_buffer.specs.Descent.{descend}
+use Rattle.tok_buffer.specs.Order.{same_scope}
+use Rattle.tok_buffer.specs.Place.{Frame, frame, Place, empty_place, at, pass}
+use Rattle.tok_buffer.specs.Progress.{CallsLead}
+
+-- The trees that end with the first so many openings, leaves and closings of a forest; of a group
+-- that ends later, those of its contents that do.
+abbrev mutual
+  pub first_trees : ℕ → Forest → Forest
+  first_trees n no_trees = no_trees
+  first_trees n (tree t f) =
+      if nat_le (tree_weight t) n then tree t (first_trees (n - tree_weight t) f)
+      else first_inside n t
+
+  pub first_inside : ℕ → Tree → Forest
+  first_inside n (leaf l) = no_trees
+  first_inside n (group d inside span) = first_trees (n - 1) inside
+
+-- the same of frames, from the innermost out; the end of each counts as one
+abbrev pub first_in : ℕ → List Frame → Forest
+first_in n [] = no_trees
+first_in n (frame o p a ∷ ls) = concat (first_trees n a) (first_in (n - (weight a + 1)) ls)
+
+-- the trees from a place up to a count
+abbrev pub trees_to : ℕ → Place → Forest
+trees_to end empty_place = no_trees
+trees_to end (at n s c l ls) = first_in (end - c) (l ∷ ls)
+
+-- the trees from a place up to a later one of its scope; up to any other place there are none
+abbrev pub between : Place → Place → Forest
+between p empty_place = no_trees
+between p (at n s c l ls) =
+    if same_scope p (at n s c l ls) then trees_to c p else no_trees
+
+-- where a place leads by descents and by passing trees
+pub data Follows (p : Place) : Place → Type 0 where
+  from_here : Follows p p
+  after_descent : (q : Place) → Follows p q → Follows p (descend q)
+  after_tree : (q : Place) → Follows p q → Follows p (pass q)
+
+-- each call leads there, and so do several in turn
+pub record ReadsFollow : Type 0 where
+  pub calls : CallsLead Follows
+  pub along : (p q r : Place) → Follows p q → Follows q r → Follows p r
