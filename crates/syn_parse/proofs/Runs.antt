@@ -4,19 +4,19 @@ use Rattle.std.proofs.Common.{Option, Some, None, Ok}
 use Rattle.std.specs.Prelude.{option_map}
 use Rattle.tok_core.specs.Erase.{erase}
 use Rattle.tok_core.specs.Forest.{Tree, Forest, no_trees, tree, concat}
-use Rattle.tok_core.specs.Seen.{tree_of}
-use Rattle.tok_core.specs.declared.stream.TokenTree.{TokenTree}
-use Rattle.tok_core.proofs.Erasures.{erase_concat}
 use Rattle.tok_core.proofs.Facts.{concat-none, joined_assoc}
+use Rattle.tok_buffer.specs.Between.{Follows, between, from_here}
 use Rattle.tok_buffer.specs.Buffer.{Laid}
 use Rattle.tok_buffer.specs.Descent.{descend}
 use Rattle.tok_buffer.specs.EachRead.{first_if}
 use Rattle.tok_buffer.specs.Place.{Place}
 use Rattle.tok_buffer.specs.Progress.{remaining}
 use Rattle.tok_buffer.specs.Reached.{Reached, down}
-use Rattle.tok_buffer.specs.Reads.{any_tree}
+use Rattle.tok_buffer.specs.Reads.{any_tree, place_after}
 use Rattle.tok_buffer.specs.Trees.{erased_read, erased_tree, read_visible}
 use Rattle.tok_buffer.specs.View.{erased_ahead}
+use Rattle.tok_buffer.proofs.Between.{between_next, between_same}
+use Rattle.tok_buffer.proofs.Followed.{tree_follows, tree_read}
 use Rattle.tok_buffer.proofs.Onwards.{GoesOn, keeps_scope, visible_goes}
 use Rattle.tok_buffer.proofs.ScopeEnds.{visible_erased, visible_tells}
 use Rattle.tok_buffer.proofs.View.Laws.{reached_leads_on}
@@ -33,24 +33,35 @@ same-pair {A} {B} {x} {y} e = let k : x ≡ y = cc in (ap (λ p. p.0) k, ap (λ 
 same-head : (t u : Tree) → t ∷ [] ≡ u ∷ [] → t ≡ u
 same-head t u e = cc
 
+none-read : (x : Option (List Tree × Place)) → place_after x ≡ None → x ≡ None
+none-read None e = refl
+none-read (Some y) e = absurd (cc)
+
 -- these trees come first
 abbrev first_of : Forest → Forest × Forest → Forest × Forest
 first_of f r = (concat f r.0, r.1)
 
 module _ {S : Type 0} (step : S → Tree → Option S) where
-  -- what is ahead of the start is these trees of the run, and then what is ahead now
-  pub record Passed (p : Place) (s : S) (f : Forest) (q : Place) (r : S) : Type 0 where
-    trees : passing step s (erased_ahead p) ≡ first_of (erase f) (passing step r (erased_ahead q))
+  -- what is ahead of the start is the trees up to here, and then what is ahead now
+  pub record Passed (p : Place) (s : S) (q : Place) (r : S) : Type 0 where
+    trees : passing step s (erased_ahead p)
+        ≡ first_of (erase (between p q)) (passing step r (erased_ahead q))
+    follows : Follows p q
     scope : scope_of q ≡ scope_of p
     less : remaining q ≤ remaining p
     reached : (b : Laid) → Reached b p → Reached b q
 
-  pub none-passed : (p : Place) (s : S) (f : Forest) (q : Place) → f ≡ no_trees → q ≡ p
-      → Passed p s f q s
-  none-passed p s f q e h =
-      subst (λ g. Passed p s g q s) (sym e)
-      (subst (λ n. Passed p s no_trees n s) (sym h)
-      (record { trees = refl; scope = refl; less = omega arith; reached = λ b i. i }))
+  pub none-passed : (p : Place) (s : S) (q : Place) → q ≡ p → Passed p s q s
+  none-passed p s q h =
+      subst (λ n. Passed p s n s) (sym h)
+      (record {
+        trees =
+            sym (ap (λ f. first_of (erase f) (passing step s (erased_ahead p))) (between_same p));
+        follows = from_here;
+        scope = refl;
+        less = omega arith;
+        reached = λ b i. i;
+      })
 
   -- the first tree of a run, and what is ahead after it
   first-tree : (t u : Tree) (q : Place) (f : Forest)
@@ -72,28 +83,31 @@ module _ {S : Type 0} (step : S → Tree → Option S) where
       → first_of f (first_of g r) ≡ first_of (concat f g) r
   first-first f g r = ap (λ h. (h, r.1)) (sym (joined_assoc f g r.0))
 
-  pub one-passed : (p : Place) (s : S) (f g : Forest) (q : Place) (r : S) (t : TokenTree)
-      (n : Place) (x : S) → Passed p s f q r → StepsPast step r (erased_ahead q) (Some x)
-      → read_visible q ≡ Some (tree_of t ∷ [], n) → g ≡ concat f (tree (tree_of t) no_trees)
-      → Passed p s g n x × (remaining n < remaining q)
-  one-passed p s f g q r t n x so go e a =
-      let u = erased_tree (tree_of t) in
+  pub one-passed : (p : Place) (s : S) (q : Place) (r : S) (n : Place) (x : S) → Passed p s q r
+      → StepsPast step r (erased_ahead q) (Some x) → place_after (read_visible q) ≡ Some n
+      → Passed p s n x × (remaining n < remaining q)
+  one-passed p s q r n x so go a =
+      let read = tree_read q n a in
+      let t = read.0 in
+      let e = read.1 in
+      let u = erased_tree t in
       let goes = subst (LeadsTo (GoesOn q)) e (visible_goes q) in
+      let follows = tree_follows p q n (t ∷ []) so.follows e in
       let now : erased_ahead q ≡ tree u (erased_ahead n) =
-      first-tree (tree_of t) u n (erased_ahead q)
-      (sym (ap erased_read e) ∙ visible_tells q) refl in
+      first-tree t u n (erased_ahead q) (sym (ap erased_read e) ∙ visible_tells q) refl in
       let next : step r u ≡ Some x =
       sym (subst (λ h. StepsPast step r h (Some x)) now go) in
-      let all : erase g ≡ concat (erase f) (tree u no_trees) =
-      ap erase a ∙ erase_concat f (tree (tree_of t) no_trees)
-      ∙ ap (concat (erase f)) (visible_erased q (tree_of t) n e) in (
+      let before = erase (between p q) in
+      let all : erase (between p n) ≡ concat before (tree u no_trees) =
+      between_next p q n t so.follows follows e ∙ ap (concat before) (visible_erased q t n e) in (
         record {
           trees =
               so.trees
-              ∙ ap (λ h. first_of (erase f) (passing step r h)) now
-              ∙ ap (first_of (erase f)) (gone u (erased_ahead n) r x next)
-              ∙ first-first (erase f) (tree u no_trees) (passing step x (erased_ahead n))
+              ∙ ap (λ h. first_of before (passing step r h)) now
+              ∙ ap (first_of before) (gone u (erased_ahead n) r x next)
+              ∙ first-first before (tree u no_trees) (passing step x (erased_ahead n))
               ∙ ap (λ h. first_of h (passing step x (erased_ahead n))) (sym all);
+          follows = follows;
           scope = one_scope q n (keeps_scope q n goes) ∙ so.scope;
           less = omega (arith, so.less, goes.1);
           reached =
@@ -113,21 +127,24 @@ module _ {S : Type 0} (step : S → Tree → Option S) where
     go (tree t f) h = ap (λ o. onwards t f (option_map (λ x. passing step x f) o)) (sym h)
 
   -- where no tree is read a run ends
-  pub at-end : (q : Place) (r : S) → read_visible q ≡ None
+  pub at-end : (q : Place) (r : S) → place_after (read_visible q) ≡ None
       → passing step r (erased_ahead q) ≡ (no_trees, erased_ahead q)
-  at-end q r k = go (erased_ahead q) (sym (ap erased_read k) ∙ visible_tells q) where
-    go : (f : Forest) → None ≡ first_if any_tree f → passing step r f ≡ (no_trees, f)
-    go no_trees h = refl
-    go (tree t f) h = absurd (cc)
+  at-end q r k =
+      go (erased_ahead q)
+      (sym (ap erased_read (none-read (read_visible q) k)) ∙ visible_tells q) where
+        go : (f : Forest) → None ≡ first_if any_tree f → passing step r f ≡ (no_trees, f)
+        go no_trees h = refl
+        go (tree t f) h = absurd (cc)
 
-  pub run-ends : (s t : State) (run r : S) (f : Forest) (q : Place) → Passed s.place run f q r
-      → passing step r (erased_ahead q) ≡ (no_trees, erased_ahead q) → t ≡ moved q s
-      → TakesAs erase (take_run step run) s (Ok f) t
+  pub run-ends : (s t : State) (run r : S) (f : Forest) (q : Place) → Passed s.place run q r
+      → passing step r (erased_ahead q) ≡ (no_trees, erased_ahead q) → f ≡ between s.place q
+      → t ≡ moved q s → TakesAs erase (take_run step run) s (Ok f) t
   unfolding take_run
-  run-ends s t run r f q so e m =
+  run-ends s t run r f q so e k m =
       let all : passing step run (erased_ahead s.place) ≡ (erase f, erased_ahead q) =
-      so.trees ∙ ap (first_of (erase f)) e
-      ∙ ap (λ h. (h, erased_ahead q)) (concat-none (erase f)) in
+      so.trees ∙ ap (first_of (erase (between s.place q))) e
+      ∙ ap (λ h. (h, erased_ahead q))
+      (concat-none (erase (between s.place q)) ∙ sym (ap erase k)) in
       subst (λ u. TakesAs erase (take_run step run) s (Ok f) u) (sym m) (
         ap (λ x. found x.0 (record (ahead s) { trees = x.1 })) all,
         (

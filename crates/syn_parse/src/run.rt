@@ -1,5 +1,6 @@
 //! Runs of trees up to one that ends them.
-ghost use Rattle.std.specs.Prelude.{Option};
+ghost use Rattle.std.specs.Prelude.{◌≡◌, IfOk, OnErr, Option};
+ghost use Rattle.tok_buffer.specs.Between.{between};
 ghost use Rattle.tok_buffer.specs.Cursors.{place_of};
 ghost use Rattle.tok_buffer.specs.View.{erased_ahead};
 ghost use Rattle.tok_core.specs.Erase.{erase};
@@ -25,21 +26,25 @@ pub trait Run: Sized + Copy {
 
 impl<'a> ParseBuffer<'a> {
     /// Parses the trees of a run. A run may have none.
+    ///
+    /// An invisible group that lies wholly in the run is kept. If an allocation fails, nothing is
+    /// parsed.
     pub fn parse_run<R: Run>(&mut self, run: R) -> Result<TokenStream>
-        ensures { TakesAs erase (take_run R.passes run) self.old result self.new }
+        ensures takes { TakesAs erase (take_run R.passes run) self.old result self.new }
+        ensures kept { IfOk result (λ tokens. tokens ≡ between self.old.place self.new.place) }
+        ensures stays { OnErr result (self.new ≡ self.old) }
     {
-        let alloc = self.allocator();
-        let mut tokens = TokenStream::new(alloc);
+        let start = self.cursor();
         let mut state = run;
-        let mut rest = self.cursor();
+        let mut rest = start;
         while let Some(next) = state.pass(rest) {
-            let Some((tree, after)) = rest.visible_tree(alloc)? else {
+            let Some(after) = rest.skip_tree() else {
                 break;
             };
-            tokens.append(tree)?;
             state = next;
             rest = after;
         }
+        let tokens = start.tokens_up_to(self.allocator(), rest)?;
         self.move_to(rest);
         Ok(tokens)
     }
