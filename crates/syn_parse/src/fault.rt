@@ -1,7 +1,7 @@
 //! Why a call on a stream returns no value, and the texts of errors.
 ghost use Rattle.std.specs.Prelude.{◌≡◌, ◌++◌, IfOk, IfSome, MatchResult, codes, string_bytes};
 ghost use Rattle.tok_buffer.specs.Messages.{message_at};
-ghost use Rattle.syn_parse.specs.Faults.{Refuses, RefusesAt};
+ghost use Rattle.syn_parse.specs.Faults.{Combines, Refuses, RefusesAt};
 ghost use Rattle.syn_parse.specs.ErrorWords.{delimiter_words, leftover_words};
 ghost use Rattle.syn_parse.specs.declared.fault.Fault.TheVariants.{Memory, Refused};
 
@@ -37,6 +37,34 @@ impl Fault {
             (λ words. Refuses (message_at span words) result) }
     {
         Fault::refused(Error::new(alloc, span, message))
+    }
+
+    /// Appends the messages of another fault, so that both are reported.
+    ///
+    /// If either is a failed allocation, or one fails here, the fault is `Memory` and the messages
+    /// are dropped.
+    ///
+    /// # Examples
+    ///
+    /// ```rust
+    /// let mut fault = Fault::at(alloc, Span::source(0, 2, 5), "this name is taken");
+    /// fault.combine(Fault::at(alloc, Span::source(0, 0, 1), "it was defined here"));
+    /// if let Fault::Refused(error) = fault {
+    ///     assert_eq!(rt; error.into_iter().count(), 2);
+    /// }
+    /// ```
+    pub fn combine(&mut self, another: Fault)
+        ensures { Combines self.old another self.new }
+    {
+        if let Fault::Refused(error) = self {
+            let outcome = match another {
+                Fault::Refused(more) => error.combine(more),
+                Fault::Memory(failed) => Err(failed),
+            };
+            if let Err(failed) = outcome {
+                *self = Fault::Memory(failed);
+            }
+        }
     }
 
     // Returns the fault of an error of this text at `span`, or the allocation failure in its place.

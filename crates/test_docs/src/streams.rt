@@ -4,7 +4,8 @@ ghost use Rattle.syn_parse.specs.Steps.{step_state};
 ghost use Rattle.tok_buffer.specs.Cursors.{place_of};
 ghost use Rattle.tok_buffer.specs.Progress.{StaysIn};
 
-use std::alloc::Global;
+use std::alloc::{AllocGlobal, Global};
+use std::process::Abort;
 use syn_parse::{
     Fault, IdentExt, Own, Parens, Parse, ParseStream, Parser, Result, Word, parenthesized,
     parse_parens, parse_str, parse2, parsing,
@@ -153,6 +154,14 @@ fn taken(input: ParseStream<'_, '_>) -> Result<Span> {
     Err(fault)
 }
 
+fn combined(rt: &(impl Abort + AllocGlobal), alloc: Global) {
+    let mut fault = Fault::at(alloc, Span::source(0, 2, 5), "this name is taken");
+    fault.combine(Fault::at(alloc, Span::source(0, 0, 1), "it was defined here"));
+    if let Fault::Refused(error) = fault {
+        assert_eq!(rt; error.into_iter().count(), 2);
+    }
+}
+
 fn matches(input: ParseStream<'_, '_>) -> Result<Span> {
     let spans: [Span; 2] = parsing::punct(input, "=~")?;
     Ok(spans[1])
@@ -227,6 +236,7 @@ fn values(rt: HostRuntime) {
     );
     assert!(rt; server.parse_str(alloc, "servers").is_err());
     assert!(rt; taken.parse_str(alloc, "a").is_err());
+    combined(&rt, alloc);
     assert_eq!(rt;
         matches.parse_str(alloc, "=~").ok(),
         Some(Span::source(0, 1, 2))

@@ -105,5 +105,12 @@ fn errors_of_tokens(alloc: Global) -> Outcome {
         rejects::<Plus>(alloc, "a", "parsing::punct"),
         rejects::<Own<LongWord>>(alloc, "a", "Own::parse"),
         told(Fault::at(alloc, Span::call_site(), "an error at this span")),
+        told(combined(alloc)),
     ])
+}
+
+fn combined(alloc: Global) -> Fault {
+    let mut fault = Fault::at(alloc, Span::call_site(), "an error at this span");
+    fault.combine(Fault::at(alloc, Span::call_site(), "another one"));
+    fault
 }
