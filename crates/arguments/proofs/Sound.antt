@@ -1,5 +1,9 @@
 -- What is taken as arguments, the grammar has as arguments.
-use Rattle.std.proofs.Common.{◌≡◌, ◌∙◌, sym, ap, subst, refl, arith, ℕ, zero, suc, ◌<◌, ◌&&◌, Bool}
+use Rattle.std.specs.Prelude.{None, Option, Some}
+use Rattle.std.specs.Option.{option_or}
+use Rattle.tok_buffer.specs.InFront.{first_tree_span}
+use Rattle.tok_leaves.specs.declared.span.Span.{Span}
+use Rattle.std.proofs.Common.{◌≡◌, ◌∙◌, sym, ap, subst, refl, arith, ℕ, zero, suc, ◌<◌, Bool}
 use Rattle.std.proofs.Common.{true, false, cond}
 use Rattle.std.proofs.Common.{List, [], ◌∷◌}
 use Rattle.tok_lexical.specs.declared.delimiter.Delimiter.TheVariants.{Parenthesis}
@@ -16,7 +20,7 @@ use Rattle.syn_parse.specs.Takings.{Lightens}
 use Rattle.syn_parse.specs.Lighter.{lowers_punctuation}
 use Rattle.syn_parse.specs.Tokens.{sees_group, take_ident, take_literal}
 use Rattle.syn_parse.specs.TokenNames.{sees_eq, take_comma, take_eq}
-use Rattle.syn_parse.specs.TreesAhead.{Ahead, all_taken, is_spent}
+use Rattle.syn_parse.specs.TreesAhead.{Ahead, all_taken, unread_after}
 use Rattle.syn_punctuated.proofs.ListShapes.{Turns, bare, done, list_taken, no_trees_left}
 use Rattle.syn_punctuated.proofs.ListShapes.{nothing_left, turn}
 use Rattle.syn_punctuated.specs.TakeLists.{is_left}
@@ -39,22 +43,22 @@ record Taken (f : Form) (a b : Ahead) : Type 0 where
   trees : List Tree
   is : IsArgument trees f
   ahead : a.trees ≡ concat (forest trees) b.trees
-  clean : b.clean ≡ a.clean
+  unread : b.unread ≡ a.unread
 
 -- within groups all is taken, and is what the grammar has
 abbrev Inner : ℕ → Type 0
 Inner n =
     (inside : Forest) (x : ListForm) (left : Ahead) → weight inside < n
-    → take_arguments (record { trees = inside; clean = true }) ≡ found x left
+    → take_arguments (record { trees = inside; unread = None }) ≡ found x left
     → (left ≡ all_taken) × AreListed inside x.0 x.1
 
 pub none_after : (f : Forest) → concat f no_trees ≡ f
 none_after no_trees = refl
 none_after (tree t f) = ap (tree t) (none_after f)
 
-still : (c : Bool) → (c && true && true) ≡ c
-still true = refl
-still false = refl
+still : (c : Option Span) → option_or c (option_or None (first_tree_span no_trees)) ≡ c
+still None = refl
+still (Some span) = refl
 
 module _ (n : ℕ) (within : Inner n) where
   module _ (a c b : Ahead) (name : Ident) (accepted : IsName name)
@@ -83,7 +87,7 @@ module _ (n : ℕ) (within : Inner n) where
               (ap (λ e. assigned name e text.value) (sym is_sign.1.3) ∙ found_first text.rest)
               (is_assigned name is_sign.1.0 is_sign.1.1 text.value accepted);
           ahead = ap (λ (x : Ahead). x.trees) all;
-          clean = sym (ap (λ (x : Ahead). x.clean) all);
+          unread = sym (ap (λ (x : Ahead). x.unread) all);
         }
 
     as_list : (f : Form)
@@ -110,10 +114,10 @@ module _ (n : ℕ) (within : Inner n) where
               ∙ ap (λ (x : Ahead). tree (leaf (ident_of name))
               (tree (group Parenthesis taken.content span) x.trees))
               (found_second parens.rest);
-          clean =
-              sym (ap (λ (x : Ahead). x.clean) (found_second parens.rest)) ∙ taken.clean
-              ∙ ap (λ (x : Ahead). c.clean && x.clean && is_spent x) inner.0 ∙ still c.clean
-              ∙ sym (ap (λ (x : Ahead). x.clean) start);
+          unread =
+              sym (ap (λ (x : Ahead). x.unread) (found_second parens.rest)) ∙ taken.unread
+              ∙ ap (unread_after c) inner.0 ∙ still c.unread
+              ∙ sym (ap (λ (x : Ahead). x.unread) start);
         }
 
     as_flag : (f : Form) → found (flag name) c ≡ found f b → Taken f a b
@@ -122,7 +126,7 @@ module _ (n : ℕ) (within : Inner n) where
       is = subst (IsArgument _) (found_first k) (is_flag name accepted);
       ahead = ap (λ (x : Ahead). x.trees) (start
           ∙ ap (before (leaf (ident_of name) ∷ [])) (found_second k));
-      clean = sym (ap (λ (x : Ahead). x.clean) (start
+      unread = sym (ap (λ (x : Ahead). x.unread) (start
           ∙ ap (before (leaf (ident_of name) ∷ [])) (found_second k)));
     }
 
@@ -148,7 +152,7 @@ module _ (n : ℕ) (within : Inner n) where
 
   as_turns : (a d : Ahead) (vs : List Form) (ps : List Comma) → weight a.trees < suc n
       → AreTurns a vs ps d
-      → AreListed a.trees vs ps × (d.trees ≡ no_trees) × (d.clean ≡ a.clean)
+      → AreListed a.trees vs ps × (d.trees ≡ no_trees) × (d.unread ≡ a.unread)
   as_turns _ _ _ _ small (done a e) =
       (subst (λ f. AreListed f [] []) (sym (no_trees_left a e)) nothing, no_trees_left a e, refl)
   as_turns _ _ _ _ small (bare a b v e h g) =
@@ -158,7 +162,7 @@ module _ (n : ℕ) (within : Inner n) where
             ∙ none_after (forest t.trees)))
             (last t.trees v t.is),
         no_trees_left b g,
-        t.clean,
+        t.unread,
       )
   as_turns _ _ _ _ small (turn a b c d v p vs ps e h g s rest) =
       let t = as_argument a b v small h in
@@ -172,19 +176,19 @@ module _ (n : ℕ) (within : Inner n) where
             (sym (t.ahead ∙ ap (λ (x : Ahead). concat (forest t.trees) x.trees) after))
             (and_more t.trees v comma_.1.0 comma_.1.1 c.trees vs ps t.is more.0)),
         more.1,
-        more.2 ∙ sym (ap (λ (x : Ahead). x.clean) after) ∙ t.clean,
+        more.2 ∙ sym (ap (λ (x : Ahead). x.unread) after) ∙ t.unread,
       )
 
 sound_below : (n : ℕ) → Inner n
 sound_below zero inside x left w e = absurd (omega arith)
 sound_below (suc n) inside x left w e =
-    let a : Ahead = record { trees = inside; clean = true } in
+    let a : Ahead = record { trees = inside; unread = None } in
     let t = as_turns n (sound_below n) a left x.0 x.1 w
     (list_taken is_left is_left take_argument take_comma a left x e) in
     (nothing_left left t.1 t.2, t.0)
 
 -- arguments are taken to the end, and are what the grammar has
 pub sound : (f : Forest) (x : ListForm) (left : Ahead)
-    → take_arguments (record { trees = f; clean = true }) ≡ found x left
+    → take_arguments (record { trees = f; unread = None }) ≡ found x left
     → (left ≡ all_taken) × AreListed f x.0 x.1
 sound f x left e = sound_below (suc (weight f)) f x left (omega arith) e

@@ -1,5 +1,6 @@
 -- What the grammar has as arguments is taken as arguments.
-use Rattle.std.proofs.Common.{◌≡◌, ◌∙◌, ap, subst, refl, Bool, true, List, []}
+use Rattle.std.specs.Prelude.{None, Option}
+use Rattle.std.proofs.Common.{◌≡◌, ◌∙◌, ap, subst, refl, true, List, []}
 use Rattle.std.proofs.Common.{◌∷◌}
 use Rattle.tok_lexical.specs.declared.delimiter.Delimiter.TheVariants.{Parenthesis}
 use Rattle.tok_leaves.specs.declared.ident.Ident.{Ident}
@@ -27,9 +28,9 @@ use Rattle.arguments.specs.Values.{Comma, IsName, sign_at}
 
 -- nothing is left after an argument, or a comma is next
 data Ends : Ahead → Type 0 where
-  at_end : (c : Bool) → Ends (record { trees = no_trees; clean = c })
-  at_comma : (spacing : Spacing) (span : Span) (f : Forest) (c : Bool)
-      → Ends (record { trees = tree (sign comma spacing span) f; clean = c })
+  at_end : (c : Option Span) → Ends (record { trees = no_trees; unread = c })
+  at_comma : (spacing : Spacing) (span : Span) (f : Forest) (c : Option Span)
+      → Ends (record { trees = tree (sign comma spacing span) f; unread = c })
 
 flag_alone : (name : Ident) (b : Ahead) → Ends b → take_value take_arguments name b
     ≡ found (flag name) b
@@ -57,7 +58,7 @@ value_assigned name spacing span text b =
     (literal_shape.takes b text _ refl)
 
 value_list : (name : Ident) (inside : Forest) (span : Span) (x : ListForm) (b : Ahead)
-    → take_arguments (record { trees = inside; clean = true }) ≡ found x all_taken
+    → take_arguments (record { trees = inside; unread = None }) ≡ found x all_taken
     → take_value take_arguments name (before (group Parenthesis inside span ∷ []) b)
     ≡ found (with_list name span (forms x.0) x.1) b
 unfolding punctuation_first group_first
@@ -71,8 +72,8 @@ starts _ _ (is_assigned name spacing span text accepted) b = refl
 starts _ _ (is_list name inside span inner commas accepted l) b = refl
 
 by_turns : (f : Forest) (vs : List Form) (ps : List Comma)
-    → AreTurns (record { trees = f; clean = true }) vs ps all_taken
-    → take_arguments (record { trees = f; clean = true }) ≡ found (vs, ps) all_taken
+    → AreTurns (record { trees = f; unread = None }) vs ps all_taken
+    → take_arguments (record { trees = f; unread = None }) ≡ found (vs, ps) all_taken
 by_turns f vs ps t =
     takes_list is_left is_left take_argument take_comma lightens_argument (lowers_punctuation 7 1) _
     _ vs
@@ -92,23 +93,23 @@ mutual
       (by_turns inside inner commas (list_takes inside inner commas l))
 
   list_takes : (f : Forest) (vs : List Form) (ps : List Comma) → AreListed f vs ps
-      → AreTurns (record { trees = f; clean = true }) vs ps all_taken
+      → AreTurns (record { trees = f; unread = None }) vs ps all_taken
   list_takes _ _ _ nothing = done all_taken refl
   list_takes _ _ _ (last ts argument a) =
-      subst (λ f. AreTurns (record { trees = f; clean = true }) (argument ∷ []) [] all_taken)
+      subst (λ f. AreTurns (record { trees = f; unread = None }) (argument ∷ []) [] all_taken)
       (none_after (forest ts))
       (bare (before ts all_taken) all_taken argument (starts ts argument a all_taken)
-      (argument_takes ts argument a all_taken (at_end true)) refl)
+      (argument_takes ts argument a all_taken (at_end None)) refl)
   list_takes _ _ _ (and_more ts argument spacing span rest others commas a l) =
-      let b : Ahead = record { trees = tree (sign comma spacing span) rest; clean = true } in
-      let c : Ahead = record { trees = rest; clean = true } in
+      let b : Ahead = record { trees = tree (sign comma spacing span) rest; unread = None } in
+      let c : Ahead = record { trees = rest; unread = None } in
       turn (before ts b) b c all_taken argument (sign_at span) others commas
       (starts ts argument a b)
-      (argument_takes ts argument a b (at_comma spacing span rest true)) refl
+      (argument_takes ts argument a b (at_comma spacing span rest None)) refl
       ((sign_shape 7 comma refl refl).takes c (sign_at span) _ (spacing, span, refl, refl))
       (list_takes rest others commas l)
 
 -- the arguments that the grammar has are taken, to the end
 pub arguments_taken : (f : Forest) (x : ListForm) → AreListed f x.0 x.1
-    → take_arguments (record { trees = f; clean = true }) ≡ found x all_taken
+    → take_arguments (record { trees = f; unread = None }) ≡ found x all_taken
 arguments_taken f x l = by_turns f x.0 x.1 (list_takes f x.0 x.1 l)

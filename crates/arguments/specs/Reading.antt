@@ -1,9 +1,11 @@
 -- How arguments are read.
-use Rattle.std.specs.Prelude.{◌≡◌, ℕ, List, true}
+use Rattle.std.specs.Prelude.{None}
+use Rattle.std.specs.Prelude.{◌≡◌}
 use Rattle.tok_lexical.specs.declared.delimiter.Delimiter.TheVariants.{Parenthesis}
 use Rattle.tok_leaves.specs.declared.ident.Ident.{Ident}
 use Rattle.tok_core.specs.Forest.{Forest}
 use Rattle.syn_parse.specs.Nested.{Descends, lightens_nested, nested_again, take_nested}
+use Rattle.syn_parse.specs.Positions.{Missing}
 use Rattle.syn_parse.specs.Takes.{Taking, ◌>>=◌, gives, missing, take_group, where_ahead}
 use Rattle.syn_parse.specs.Takings.{Takings, lighter, taken_filled, told_filled}
 use Rattle.syn_parse.specs.TokenNames.{sees_eq, take_comma, take_eq}
@@ -59,6 +61,6 @@ argument =
 abbrev pub arguments : Takings Arguments
 arguments = taken_filled list_form take_arguments
 
--- these words say what is missing first in these trees
-abbrev pub IsMissing : Forest → List ℕ → Type 0
-IsMissing trees words = take_arguments (record { trees = trees; clean = true }) ≡ missing words
+-- this is missing first in these trees
+abbrev pub IsMissing : Forest → Missing → Type 0
+IsMissing trees lack = take_arguments (record { trees = trees; unread = None }) ≡ missing lack

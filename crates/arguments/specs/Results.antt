@@ -1,9 +1,13 @@
 -- What the reader returns.
-use Rattle.std.specs.Prelude.{◌≡◌, List, ◌⊎◌, Result, Ok, Err, length}
+use Rattle.std.specs.Prelude.{◌≡◌, List, ◌⊎◌, Result, Ok, Err}
 use Rattle.tok_buffer.specs.Messages.{first_text}
 use Rattle.tok_buffer.specs.declared.error.Message.{Message}
+use Rattle.tok_leaves.specs.Spans.{call_site}
+use Rattle.tok_core.specs.Erase.{erase}
 use Rattle.tok_core.specs.Forest.{Forest}
 use Rattle.syn_parse.specs.Faults.{IsMemory}
+use Rattle.syn_parse.specs.Positions.{Missing}
+use Rattle.syn_parse.specs.Takes.{IsSaid}
 use Rattle.syn_parse.specs.declared.fault.Fault.{Fault}
 use Rattle.syn_parse.specs.declared.fault.Fault.TheVariants as fault
 use Rattle.arguments.specs.Grammar.{AreArguments, AreNoArguments}
@@ -16,19 +20,21 @@ abbrev pub Parses : Forest → Result Arguments Fault → Type 0
 Parses trees (Ok arguments) = AreArguments trees arguments
 Parses trees (Err f) = IsMemory f ⊎ AreNoArguments trees
 
--- an error is one message, with the words that reading in order finds missing
+-- an error is one message, which says what reading these tokens in order finds missing, and where
 abbrev pub IsWhy : Forest → List Message → Type 0
-IsWhy trees error = IsMissing trees (first_text error) × (length error ≡ 1)
+IsWhy tokens error =
+    (lack : Missing) × IsMissing (erase tokens) lack
+    × IsSaid tokens call_site lack (fault.Refused error)
 
 -- so is an error
 abbrev pub SaysWhy : Forest → Result Arguments Fault → Type 0
-SaysWhy trees (Err (fault.Refused error)) = IsWhy trees error
-SaysWhy trees result = Unit {0}
+SaysWhy tokens (Err (fault.Refused error)) = IsWhy tokens error
+SaysWhy tokens result = Unit {0}
 
--- the arguments that these trees are, or an error that says why they are none
+-- the arguments that these tokens are, or an error that says why they are none
 abbrev pub ParsesTo : Forest → Result Arguments (List Message) → Type 0
-ParsesTo trees (Ok arguments) = AreArguments trees arguments
-ParsesTo trees (Err error) = AreNoArguments trees × IsWhy trees error
+ParsesTo tokens (Ok arguments) = AreArguments (erase tokens) arguments
+ParsesTo tokens (Err error) = AreNoArguments (erase tokens) × IsWhy tokens error
 
 -- the same arguments, spans included, or errors with equal words
 abbrev pub Agree : Result Arguments (List Message) → Result Arguments (List Message) → Type 0

@@ -2,6 +2,7 @@
 ghost use Rattle.std.specs.Prelude.{◌≡◌, true, IfOk};
 ghost use Rattle.tok_core.specs.Erase.{erase};
 ghost use Rattle.tok_core.specs.Filled.{filled};
+ghost use Rattle.tok_leaves.specs.Spans.{call_site};
 ghost use Rattle.tok_leaves.specs.declared.ident.Ident.{Ident};
 ghost use Rattle.syn_parse.specs.Takings.{Keeps, KeepsWhole};
 ghost use Rattle.arguments.specs.Reading.{argument, arguments, value_after};
@@ -28,7 +29,7 @@ use tok_types::token;
 /// ```
 pub fn parse_arguments(alloc: Global, tokens: TokenStream) -> Result<Arguments>
     ensures parses { filled tokens ≡ true → Parses (erase tokens) result }
-    ensures says { filled tokens ≡ true → SaysWhy (erase tokens) result }
+    ensures says { filled tokens ≡ true → SaysWhy tokens result }
 {
     parse_whole(alloc, tokens)
 }
@@ -55,8 +56,8 @@ pub fn arguments_both(
     ),
     AllocError,
 >
-    ensures left { IfOk result (λ both. filled left ≡ true → ParsesTo (erase left) both.0) }
-    ensures right { IfOk result (λ both. filled right ≡ true → ParsesTo (erase right) both.1) }
+    ensures left { IfOk result (λ both. filled left ≡ true → ParsesTo left both.0) }
+    ensures right { IfOk result (λ both. filled right ≡ true → ParsesTo right both.1) }
     ensures agree { IfOk result
         (λ both. filled left ≡ true → filled right ≡ true → erase left ≡ erase right
         → Agree both.0 both.1) }
@@ -81,7 +82,7 @@ fn without_memory(
 
 // Parses all of these tokens as what the reader takes.
 fn parse_whole(alloc: Global, tokens: TokenStream) -> Result<Arguments>
-    ensures { KeepsWhole arguments tokens result }
+    ensures { KeepsWhole arguments tokens call_site result }
 {
     read_arguments.parse2(alloc, tokens)
 }

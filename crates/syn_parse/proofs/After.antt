@@ -8,7 +8,7 @@ use Rattle.syn_parse.specs.After.{after, take_after}
 use Rattle.syn_parse.specs.State.{State}
 use Rattle.syn_parse.specs.Takes.{Outcome, Taking, TakesAs, and_then, found}
 use Rattle.syn_parse.specs.Takings.{Keeps, Takings, told, told_filled}
-use Rattle.syn_parse.specs.TreesAhead.{Ahead, IsFilled, ahead}
+use Rattle.syn_parse.specs.TreesAhead.{Ahead, ahead}
 use Rattle.syn_parse.specs.declared.fault.Fault.{Fault}
 
 module _ {P T A B : Type 0} (shape : P → A) (form : T → B) (token : Taking A) (take : Taking B)
@@ -22,11 +22,11 @@ module _ {P T A B : Type 0} (shape : P → A) (form : T → B) (token : Taking A
       (Err f) t
   value-fails s m t p f h k w =
       fails_on (take (ahead m)) (take_after test token take (ahead s))
-      (λ words e. ap (λ b. cond b (and_then (token (ahead s)) then_value) (found None (ahead s)))
+      (λ x e. ap (λ b. cond b (and_then (token (ahead s)) then_value) (found None (ahead s)))
       (sym h)
       ∙ ap (λ o. and_then o then_value) k.0
       ∙ ap (λ o. and_then o (λ v d. found (Some (shape p, v)) d)) e) f
-      (IsFilled m.place) (IsFilled s.place) k.1.0 w
+      s m k.1 w
 
 pub value_fails : {P T : Type 0} (sees : Option (Forest → Bool)) (tokens : Takings P)
     (values : Takings T) (s m t : State) (p : P) (f : Fault) → Sees sees s.place true

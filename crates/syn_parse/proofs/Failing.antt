@@ -1,23 +1,58 @@
--- What is missing in a part is missing in the whole.
-use Rattle.std.proofs.Common.{◌≡◌, sym, subst, refl, ℕ, List}
+-- What is missing in a part is missing in the whole; and streams that stay in their scope.
+use Rattle.std.proofs.Common.{◌≡◌, ◌∙◌, sym, subst, refl, arith}
+use Rattle.std.specs.declared.alloc.AllocError.{AllocError}
+use Rattle.tok_core.specs.Forest.{Forest}
+use Rattle.tok_leaves.specs.declared.span.Span.{Span}
 use Rattle.syn_parse.specs.declared.fault.Fault.{Fault}
 use Rattle.syn_parse.specs.declared.fault.Fault.TheVariants.{Refused, Memory}
-use Rattle.syn_parse.specs.Takes.{IsMissing, MemoryOr, Outcome, Says, found, missing}
+use Rattle.syn_parse.specs.Positions.{Missing, scope_trees}
+use Rattle.syn_parse.specs.State.{State}
+use Rattle.syn_parse.specs.Takes.{IsMissing, MemoryOr, Outcome, Says, SaysAt, Stays, found, missing}
+
+-- of an allocation failure nothing is said
+pub says_memory : {A : Type 0} (f : Forest) (scope : Span) (o : Outcome A) (e : AllocError)
+    → Says f scope o (Memory e)
+says_memory f scope (found v a) e = tt
+says_memory f scope (missing m) e = tt
+
+pub stays_here : (s : State) → Stays s s
+stays_here s = (λ i. i, refl, omega arith, refl, refl)
+
+pub stays_along : (s t u : State) → Stays s t → Stays t u → Stays s u
+stays_along s t u h k = (
+  λ i. k.0 (h.0 i),
+  k.1 ∙ h.1,
+  omega (arith, h.2, k.2),
+  k.3 ∙ h.3,
+  k.4 ∙ h.4,
+)
 
 module _ {A B : Type 0} (o : Outcome A) (q : Outcome B)
-    (then : (words : List ℕ) → o ≡ missing words → q ≡ missing words) where
+    (then : (m : Missing) → o ≡ missing m → q ≡ missing m) where
   is-missing : (x : Outcome A) → o ≡ x → IsMissing x → IsMissing q
   is-missing (found v a) e h = absurd h
-  is-missing (missing words) e h = subst IsMissing (sym (then words e)) tt
+  is-missing (missing m) e h = subst IsMissing (sym (then m e)) tt
 
   missing-on : (f : Fault) → MemoryOr f (IsMissing o) → MemoryOr f (IsMissing q)
   missing-on (Refused e) h = (is-missing o refl h.0, h.1)
   missing-on (Memory e) h = tt
 
-  says-on : (f : Fault) → Says o f → Says q f
-  says-on (Refused e) h = then _ h
-  says-on (Memory e) h = tt
+  module _ (trees : Forest) (scope : Span) where
+    says-refused : (x : Outcome A) (f : Fault) → o ≡ x → IsMissing x → Says trees scope x f
+        → Says trees scope q f
+    says-refused (found v a) f e h k = absurd h
+    says-refused (missing m) f e h k = subst (λ y. Says trees scope y f) (sym (then m e)) k
 
-  pub fails_on : (f : Fault) (I J : Type 0) → (J → I) → MemoryOr f (IsMissing o) × (I → Says o f)
-      → MemoryOr f (IsMissing q) × (J → Says q f)
-  fails_on f I J on h = (missing-on f h.0, λ j. says-on f (h.1 (on j)))
+    says-on : (f : Fault) → MemoryOr f (IsMissing o) → Says trees scope o f → Says trees scope q f
+    says-on (Refused e) h k = says-refused o (Refused e) refl h.0 k
+    says-on (Memory e) h k = says_memory trees scope q e
+
+  pub fails_on : (f : Fault) (s t : State) → Stays s t → MemoryOr f (IsMissing o) × SaysAt t o f
+      → MemoryOr f (IsMissing q) × SaysAt s q f
+  fails_on f s t stays h = (
+    missing-on f h.0,
+    λ i.
+        subst (λ x. Says (scope_trees s.place) x q f) stays.4
+        (subst (λ x. Says x t.scope_span q f) stays.3
+        (says-on (scope_trees t.place) t.scope_span f h.0 (h.1 (stays.0 i)))),
+  )

@@ -1,21 +1,24 @@
 -- Whole streams, by what is taken of them.
-use Rattle.std.proofs.Common.{◌≡◌, ◌∙◌, sym, ap, subst, refl, true, false, not}
+use Rattle.std.proofs.Common.{◌≡◌, ◌∙◌, sym, ap, subst, refl, true, false}
 use Rattle.std.proofs.Common.{Option, Some, None, Ok, Err}
-use Rattle.std.specs.Prelude.{Result, is_some, length, MatchOption}
+use Rattle.std.proofs.Common.{ℕ, List}
+use Rattle.std.specs.Prelude.{IfSome, MatchOption, Result, is_some, length, option_map}
+use Rattle.std.specs.declared.alloc.AllocError.{AllocError}
 use Rattle.std.specs.Option.{option_or}
 use Rattle.tok_core.specs.Erase.{erase}
 use Rattle.tok_core.specs.Filled.{filled, has_trees}
-use Rattle.tok_buffer.specs.Messages.{first_text}
+use Rattle.tok_buffer.specs.InFront.{first_tree_span}
+use Rattle.tok_buffer.specs.Messages.{first_text, message_at, spans_of}
 use Rattle.tok_buffer.specs.Reached.{begin}
 use Rattle.tok_core.specs.Forest.{Forest, no_trees, tree}
-use Rattle.tok_leaves.specs.Spans.{call_site}
+use Rattle.tok_leaves.specs.declared.span.Span.{Span}
 use Rattle.tok_buffer.specs.Ahead.{Leftover, leftover}
 use Rattle.tok_buffer.specs.declared.error.Message.{Message}
 use Rattle.tok_buffer.specs.View.{erased_ahead}
-use Rattle.tok_buffer.proofs.View.InFront.{all_ahead_at_start}
-use Rattle.syn_parse.specs.Faults.{IsMemory, IsRefused, Refuses}
+use Rattle.tok_buffer.proofs.View.InFront.{ahead_tells, all_ahead_at_start}
+use Rattle.syn_parse.specs.Faults.{IsMemory, IsRefused, Refuses, RefusesAt}
 use Rattle.syn_parse.specs.Parsers.{Finishes, OnMemory, whole_stream}
-use Rattle.syn_parse.specs.ErrorWords.{leftover_message}
+use Rattle.syn_parse.specs.ErrorWords.{leftover_message, leftover_words}
 use Rattle.syn_parse.specs.State.{State, handed}
 use Rattle.syn_parse.specs.declared.fault.Fault.{Fault}
 use Rattle.syn_parse.specs.declared.fault.Fault.TheVariants.{Refused, Memory}
@@ -23,6 +26,7 @@ use Rattle.syn_parse.specs.TreesAhead.{Ahead, IsFilled, ahead, all_taken, whole}
 use Rattle.syn_parse.specs.Takes.{Agree, IsAll, IsMissing, MemoryOr, Outcome, Says, SaysAll}
 use Rattle.syn_parse.specs.Takes.{TakesAll, WordsAgree}
 use Rattle.syn_parse.specs.Takes.{TakesAs, Taking, found, missing}
+use Rattle.syn_parse.proofs.Failing.{says_memory}
 use Rattle.syn_parse.proofs.GroupTakes.{leftover-trees}
 
 no-trees : (f : Forest) → has_trees f ≡ false → f ≡ no_trees
@@ -31,17 +35,17 @@ no-trees (tree t f) h = absurd (cc)
 
 -- nothing is handed up exactly where all is taken
 spent-in : (n l : Option Leftover) (f : Forest) → is_some l ≡ has_trees f → option_or n l ≡ None
-    → record { trees = f; clean = not (is_some n) } ≡ all_taken
-spent-in None None f e h = ap (λ g. record { trees = g; clean = true }) (no-trees f (sym e))
+    → record { trees = f; unread = option_map (λ x. x.span) n } ≡ all_taken
+spent-in None None f e h = ap (λ g. record { trees = g; unread = None }) (no-trees f (sym e))
 spent-in None (Some l) f e h = absurd (cc)
 spent-in (Some n) l f e h = absurd (cc)
 
 handed-in : (n l : Option Leftover) (f : Forest) → is_some l ≡ has_trees f
-    → record { trees = f; clean = not (is_some n) } ≡ all_taken → option_or n l ≡ None
+    → record { trees = f; unread = option_map (λ x. x.span) n } ≡ all_taken → option_or n l ≡ None
 handed-in None None f e h = refl
 handed-in None (Some l) f e h =
     absurd (let k : true ≡ false = e ∙ ap (λ a. has_trees a.trees) h in cc)
-handed-in (Some n) l f e h = absurd (let k : false ≡ true = ap (λ a. a.clean) h in cc)
+handed-in (Some n) l f e h = absurd (let k : Some n.span ≡ None = ap (λ a. a.unread) h in cc)
 
 found-second : {A : Type 0} {x y : A} {a b : Ahead} → found x a ≡ found y b → a ≡ b
 found-second e = cc
@@ -49,11 +53,38 @@ found-second e = cc
 found-first : {A : Type 0} {x y : A} {a b : Ahead} → found x a ≡ found y b → x ≡ y
 found-first e = cc
 
-module _ {T A : Type 0} (form : T → A) (take : Taking A) (f : Forest) where
-  start-ahead : ahead (whole_stream f call_site) ≡ whole f
-  start-ahead = ap (λ g. record { trees = g; clean = true }) (all_ahead_at_start 0 f)
+-- a leftover's error is at the first tree that is unread
+refuses-at : (span : Span) (words : List ℕ) (e : Fault) → Refuses (message_at span words) e
+    → RefusesAt span e
+refuses-at span words (Refused d) h = ap spans_of h
+refuses-at span words (Memory d) h = tt
 
-  pub start-filled : filled f ≡ true → IsFilled (whole_stream f call_site).place
+same-left : {k l : Leftover} → Some k ≡ Some l → l ≡ k
+same-left e = cc
+
+at-left : (k l : Leftover) (e : Fault) → Some k ≡ Some l → Refuses (leftover_message l) e
+    → RefusesAt k.span e
+at-left k l e h r =
+    subst (λ (x : Leftover). RefusesAt x.span e) (same-left h)
+    (refuses-at l.span (leftover_words l.delimiter) e r)
+
+left-at : (n q : Option Leftover) (t : Option Span) (l : Leftover) (e : Fault)
+    → option_or n q ≡ Some l → option_map (λ x. x.span) q ≡ t → Refuses (leftover_message l) e
+    → IfSome (option_or (option_map (λ x. x.span) n) t) (λ span. RefusesAt span e)
+left-at (Some n) q t l e h s r = at-left n l e h r
+left-at None None t l e h s r = absurd (cc)
+left-at None (Some k) t l e h s r =
+    subst (λ x. IfSome x (λ span. RefusesAt span e)) s (at-left k l e h r)
+
+memory-at : (t : Option Span) (e : AllocError) → IfSome t (λ span. RefusesAt span (Memory e))
+memory-at None e = tt
+memory-at (Some t) e = tt
+
+module _ {T A : Type 0} (form : T → A) (take : Taking A) (f : Forest) (scope : Span) where
+  start-ahead : ahead (whole_stream f scope) ≡ whole f
+  start-ahead = ap (λ g. record { trees = g; unread = None }) (all_ahead_at_start 0 f)
+
+  pub start-filled : filled f ≡ true → IsFilled (whole_stream f scope).place
   start-filled i = record {
     buffer = record { number = 0; forest = f };
     filled_buffer = i;
@@ -62,39 +93,40 @@ module _ {T A : Type 0} (form : T → A) (take : Taking A) (f : Forest) where
 
   not-all : (o : Outcome A) (x : A) → IsMissing o → o ≡ found x all_taken → ⊥
   not-all (found v a) x h k = h
-  not-all (missing words) x h k = absurd (cc)
+  not-all (missing m) x h k = absurd (cc)
 
-  says-all : (o : Outcome A) (e : Fault) → Says o e → SaysAll o e
-  says-all (found v a) e h = tt
-  says-all (missing words) (Refused d) h = let k : words ≡ first_text d = cc in sym k
-  says-all (missing words) (Memory d) h = tt
+  says-all : (o : Outcome A) (e : Fault) → MemoryOr e (IsMissing o) → Says f scope o e
+      → SaysAll f scope o e
+  says-all (found v a) (Refused d) h k = absurd h.0
+  says-all (found v a) (Memory d) h k =
+      memory-at (option_or a.unread (first_tree_span a.trees)) d
+  says-all (missing m) e h k = k
 
   none-refuses : (e : Fault) → MemoryOr e (IsMissing (take (whole f)))
-      → (filled f ≡ true → Says (take (whole f)) e) → TakesAll form take f (Err e)
+      → (filled f ≡ true → Says f scope (take (whole f)) e) → TakesAll form take f scope (Err e)
   none-refuses (Refused d) h k = (
     (λ x q. not-all (take (whole f)) x h.0 q, h.1),
-    λ i. says-all (take (whole f)) (Refused d) (k i),
+    λ i. says-all (take (whole f)) (Refused d) h (k i),
   )
-  none-refuses (Memory d) h k = (tt, λ i. says-all (take (whole f)) (Memory d) (k i))
-
-  left-says : (o : Outcome A) (x : A) (y : Ahead) (e : Fault) → o ≡ found x y → SaysAll o e
-  left-says (found v a) x y e h = tt
-  left-says (missing words) x y e h = absurd (cc)
+  none-refuses (Memory d) h k = (tt, λ i. says-all (take (whole f)) (Memory d) tt (k i))
 
   left-refuses : (e : Fault) (x : A) (y : Ahead) (l : Message) → Refuses l e
-      → take (whole f) ≡ found x y → (y ≡ all_taken → ⊥) → TakesAll form take f (Err e)
-  left-refuses (Refused d) x y l r h other = (
+      → take (whole f) ≡ found x y → (y ≡ all_taken → ⊥)
+      → IfSome (option_or y.unread (first_tree_span y.trees)) (λ span. RefusesAt span e)
+      → TakesAll form take f scope (Err e)
+  left-refuses (Refused d) x y l r h other left = (
     (λ z k. other (found-second (sym h ∙ k)), ap length r),
-    λ i. left-says (take (whole f)) x y (Refused d) h,
+    λ i. subst (λ o. SaysAll f scope o (Refused d)) (sym h) left,
   )
-  left-refuses (Memory d) x y l r h other = (tt, λ i. left-says (take (whole f)) x y (Memory d) h)
+  left-refuses (Memory d) x y l r h other left =
+      (tt, λ i. subst (λ o. SaysAll f scope o (Memory d)) (sym h) left)
 
   value_takes_all : (v : T) (left : State) (result : Result T Fault) (o : Option Leftover)
       → handed left ≡ o → take (whole f) ≡ found (form v) (ahead left)
       → MatchOption o (result ≡ Ok v) (λ l. IsRefused (leftover_message l) result)
-      → TakesAll form take f result
+      → TakesAll form take f scope result
   value_takes_all v left result None h k m =
-      subst (TakesAll form take f) (sym m)
+      subst (TakesAll form take f scope) (sym m)
       (k ∙ ap (found (form v))
       (spent-in left.noted (leftover left.place) (erased_ahead left.place)
       (leftover-trees left.place) h))
@@ -104,27 +136,27 @@ module _ {T A : Type 0} (form : T → A) (take : Taking A) (f : Forest) where
       let other : Some l ≡ None = sym h ∙ handed-in left.noted (leftover left.place)
       (erased_ahead left.place) (leftover-trees left.place) a in
       absurd (cc))
+      (left-at left.noted (leftover left.place) (first_tree_span (erased_ahead left.place)) l e h
+      (ahead_tells left.place).leftovers m)
 
   pub finish_takes_all : (returned : Result T Fault) (left : State) (result : Result T Fault)
-      → TakesAs form take (whole_stream f call_site) returned left → Finishes returned left result
-      → TakesAll form take f result
+      → TakesAs form take (whole_stream f scope) returned left → Finishes returned left result
+      → TakesAll form take f scope result
   finish_takes_all (Ok v) left result h k =
       value_takes_all v left result (handed left) refl (ap take (sym start-ahead) ∙ h.0) k
   finish_takes_all (Err e) left result h k =
-      subst (TakesAll form take f) (sym k)
+      subst (TakesAll form take f scope) (sym k)
       (none-refuses e (subst (λ a. MemoryOr e (IsMissing (take a))) start-ahead h.0)
-      (λ i. subst (λ a. Says (take a) e) start-ahead (h.1 (start-filled i))))
+      (λ i. subst (λ a. Says f scope (take a) e) start-ahead (h.1 (start-filled i))))
 
-  pub memory-fails : (result : Result T Fault) → OnMemory result → TakesAll form take f result
+  pub memory-fails : (result : Result T Fault) → OnMemory result → TakesAll form take f scope result
   memory-fails (Ok v) m = absurd m
   memory-fails (Err (Refused e)) m = absurd m
-  memory-fails (Err (Memory e)) m = (tt, λ i. no-words (take (whole f))) where
-    no-words : (o : Outcome A) → SaysAll o (Memory e)
-    no-words (found v a) = tt
-    no-words (missing words) = tt
+  memory-fails (Err (Memory e)) m =
+      (tt, λ i. says-all (take (whole f)) (Memory e) tt (says_memory f scope (take (whole f)) e))
 
 -- two results of the same trees
-module _ {T A : Type 0} (form : T → A) (take : Taking A) (f : Forest) where
+module _ {T A : Type 0} (form : T → A) (take : Taking A) (f : Forest) (scope : Span) where
   -- without the words
   abbrev ValueOf : Result T Fault → Type 0
   ValueOf (Ok v) = IsAll take f (form v)
@@ -135,44 +167,47 @@ module _ {T A : Type 0} (form : T → A) (take : Taking A) (f : Forest) where
   no-value (Refused d) x h k = k.0 x h
   no-value (Memory d) x h k = tt
 
-  agree-in : (x y : Result T Fault) → TakesAll form take f x → ValueOf y → Agree form x y
+  agree-in : (x y : Result T Fault) → TakesAll form take f scope x → ValueOf y → Agree form x y
   agree-in (Ok v) (Ok w) h k = found-first (sym h ∙ k)
   agree-in (Ok v) (Err e) h k = no-value e (form v) h k
   agree-in (Err e) (Ok v) h k = no-value e (form v) k h.0
   agree-in (Err e) (Err d) h k = tt
 
-  pub results_agree : (g : Forest) → erase f ≡ erase g → (x y : Result T Fault)
-      → TakesAll form take f x → TakesAll form take g y → Agree form x y
-  results_agree g e x y h k = agree-in x y h (over y k) where
+  pub results_agree : (g : Forest) (other : Span) → erase f ≡ erase g → (x y : Result T Fault)
+      → TakesAll form take f scope x → TakesAll form take g other y → Agree form x y
+  results_agree g other e x y h k = agree-in x y h (over y k) where
     same : whole g ≡ whole f
-    same = ap (λ z. record { trees = z; clean = true }) (sym e)
+    same = ap (λ z. record { trees = z; unread = None }) (sym e)
 
-    over : (z : Result T Fault) → TakesAll form take g z → ValueOf z
+    over : (z : Result T Fault) → TakesAll form take g other z → ValueOf z
     over (Ok v) k = ap take (sym same) ∙ k
     over (Err (Refused d)) k = (λ x q. k.0.0 x (ap take same ∙ q), k.0.1)
     over (Err (Memory d)) k = tt
 
-  says-both : (o : Outcome A) (x y : Fault) → SaysAll o x → SaysAll o y
-      → WordsAgree {T = T} o (Err x) (Err y)
-  says-both (found v a) x y h k = tt
-  says-both (missing words) (Refused d) (Refused e) h k = h ∙ sym k
-  says-both (missing words) (Refused d) (Memory e) h k = tt
-  says-both (missing words) (Memory d) y h k = tt
+  says-both : (g : Forest) (other : Span) (o : Outcome A) (x y : Fault) → SaysAll f scope o x
+      → SaysAll g other o y → WordsAgree {T = T} o (Err x) (Err y)
+  says-both g other (found v a) x y h k = tt
+  says-both g other (missing m) (Refused d) (Refused e) h k =
+      ap first_text h.2 ∙ sym (ap first_text k.2)
+  says-both g other (missing m) (Refused d) (Memory e) h k = tt
+  says-both g other (missing m) (Memory d) y h k = tt
 
   no-words : (o : Outcome A) (v : T) (y : Result T Fault) → WordsAgree o (Ok v) y
   no-words (found v a) w y = tt
-  no-words (missing words) w y = tt
+  no-words (missing m) w y = tt
 
   no-words-either : (o : Outcome A) (x : Fault) (v : T) → WordsAgree o (Err x) (Ok v)
   no-words-either (found v a) x w = tt
-  no-words-either (missing words) (Refused d) w = tt
-  no-words-either (missing words) (Memory d) w = tt
+  no-words-either (missing m) (Refused d) w = tt
+  no-words-either (missing m) (Memory d) w = tt
 
-  pub words_agree : (g : Forest) → erase f ≡ erase g → filled f ≡ true → filled g ≡ true
-      → (x y : Result T Fault) → TakesAll form take f x → TakesAll form take g y
+  pub words_agree : (g : Forest) (other : Span) → erase f ≡ erase g → filled f ≡ true
+      → filled g ≡ true
+      → (x y : Result T Fault) → TakesAll form take f scope x → TakesAll form take g other y
       → WordsAgree (take (whole f)) x y
-  words_agree g e i j (Ok v) y h k = no-words (take (whole f)) v y
-  words_agree g e i j (Err x) (Ok v) h k = no-words-either (take (whole f)) x v
-  words_agree g e i j (Err x) (Err y) h k =
-      let same : whole g ≡ whole f = ap (λ z. record { trees = z; clean = true }) (sym e) in
-      says-both (take (whole f)) x y (h.1 i) (subst (λ a. SaysAll (take a) y) same (k.1 j))
+  words_agree g other e i j (Ok v) y h k = no-words (take (whole f)) v y
+  words_agree g other e i j (Err x) (Ok v) h k = no-words-either (take (whole f)) x v
+  words_agree g other e i j (Err x) (Err y) h k =
+      let same : whole g ≡ whole f = ap (λ z. record { trees = z; unread = None }) (sym e) in
+      says-both g other (take (whole f)) x y (h.1 i)
+      (subst (λ a. SaysAll g other (take a) y) same (k.1 j))

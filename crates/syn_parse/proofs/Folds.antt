@@ -1,14 +1,15 @@
 -- Loops: what is taken again and again up to the end.
 use Rattle.std.proofs.Common.{◌≡◌, ◌∙◌, ap, refl, arith, ℕ, zero, suc, ◌<◌, true, false, cond}
-use Rattle.std.proofs.Common.{List, []}
+use Rattle.std.proofs.Common.{[]}
 use Rattle.tok_core.specs.Weight.{weight}
+use Rattle.syn_parse.specs.Positions.{Missing, at_end}
 use Rattle.syn_parse.specs.TreesAhead.{Ahead, is_spent}
 use Rattle.syn_parse.specs.Takings.{Lowers}
 use Rattle.syn_parse.specs.Takes.{Outcome, Taking, found, missing, and_then}
 
 -- at most so many turns
 abbrev pub fold_turns : {A B : Type 0} → ℕ → (B → A → B) → B → Taking A → Taking B
-fold_turns zero f b item a = missing []
+fold_turns zero f b item a = missing (record { position = at_end; words = [] })
 fold_turns (suc n) f b item a =
     cond (is_spent a) (found b a) (and_then (item a) (λ v c. fold_turns n f (f b v) item c))
 
@@ -22,7 +23,7 @@ module _ {A B : Type 0} (f : B → A → B) (item : Taking A) (lower : Lowers it
     one-turn : (b : B) (o : Outcome A) → item a ≡ o
         → and_then o (λ v c. fold_turns n f (f b v) item c)
         ≡ and_then o (λ v c. fold_turns m f (f b v) item c)
-    one-turn b (missing words) e = refl
+    one-turn b (missing m) e = refl
     one-turn b (found v c) e = same (f b v) c (lower.less a c v e)
 
   enough : (n m : ℕ) (b : B) (a : Ahead) → weight a.trees < n → weight a.trees < m
@@ -55,7 +56,7 @@ module _ {A B : Type 0} (f : B → A → B) (item : Taking A) (lower : Lowers it
       turn b a e ∙ ap (λ o. and_then o (λ w d. fold_turns (weight a.trees) f (f b w) item d)) h
       ∙ enough (weight a.trees) (suc (weight c.trees)) (f b v) c (lower.less a c v h) (omega arith)
 
-  pub fold_missing : (b : B) (a : Ahead) (words : List ℕ) → is_spent a ≡ false
-      → item a ≡ missing words → take_fold f b item a ≡ missing words
-  fold_missing b a words e h =
+  pub fold_missing : (b : B) (a : Ahead) (m : Missing) → is_spent a ≡ false
+      → item a ≡ missing m → take_fold f b item a ≡ missing m
+  fold_missing b a m e h =
       turn b a e ∙ ap (λ o. and_then o (λ w d. fold_turns (weight a.trees) f (f b w) item d)) h

@@ -1,6 +1,6 @@
 -- A group takes what is inside, and then what is after it.
 use Rattle.std.proofs.Common.{◌≡◌, ◌∙◌, sym, ap, subst, refl, arith, ◌<◌, ◌≤◌, Bool, true, false}
-use Rattle.std.proofs.Common.{not, ◌&&◌}
+use Rattle.std.proofs.Common.{not}
 use Rattle.std.proofs.Common.{Option, Some, None, Ok, Err, cond}
 use Rattle.std.specs.Option.{option_or}
 use Rattle.std.specs.Prelude.{Result, IfSome, is_some, length, option_map}
@@ -9,7 +9,7 @@ use Rattle.tok_lexical.specs.declared.delimiter.Delimiter.{Delimiter}
 use Rattle.tok_lexical.specs.declared.delimiter.Delimiter.TheVariants as delimiter
 use Rattle.tok_leaves.specs.declared.span.DelimSpan.{DelimSpan}
 use Rattle.tok_leaves.specs.declared.span.Span.{Span}
-use Rattle.tok_leaves.specs.Spans.{whole_span}
+use Rattle.tok_leaves.specs.Spans.{closing_span, whole_span}
 use Rattle.tok_core.specs.Filled.{has_trees}
 use Rattle.tok_core.specs.Forest.{Forest, leaf, group, no_trees, tree}
 use Rattle.tok_core.specs.Weight.{weight}
@@ -17,7 +17,6 @@ use Rattle.tok_buffer.specs.Ahead.{Leftover, left_of, leftover}
 use Rattle.tok_buffer.specs.Entry.{Entered, enter, same_delimiter, EnteredWith}
 use Rattle.tok_buffer.specs.InFront.{entered_ahead, first_group, first_tree_span}
 use Rattle.tok_buffer.specs.Place.{Place}
-use Rattle.tok_buffer.specs.Messages.{first_text}
 use Rattle.tok_buffer.specs.Reached.{Reached}
 use Rattle.tok_buffer.specs.declared.error.Message.{Message}
 use Rattle.tok_buffer.specs.View.{IsVisibleDelimiter, erased_ahead}
@@ -32,16 +31,21 @@ use Rattle.syn_parse.specs.Reads.{Call}
 use Rattle.syn_parse.specs.State.{State, after_group, closed, content_of}
 use Rattle.syn_parse.specs.declared.fault.Fault.{Fault}
 use Rattle.syn_parse.specs.declared.fault.Fault.TheVariants.{Refused, Memory}
-use Rattle.syn_parse.specs.TreesAhead.{Ahead, IsFilled, after_content, ahead, is_spent, scope_of}
+use Rattle.syn_parse.specs.TreesAhead.{Ahead, IsFilled, after_content, ahead, scope_of}
+use Rattle.syn_parse.specs.TreesAhead.{unread_after}
 use Rattle.syn_parse.specs.Lighter.{group_weighs}
 use Rattle.syn_parse.specs.Grouped.{grouped}
 use Rattle.syn_parse.specs.Takings.{Keeps, Takings, told, told_filled, untold}
 use Rattle.syn_parse.specs.Takes.{Finds, TakeWithinBy, TakesBy, Within}
-use Rattle.syn_parse.specs.Takes.{EntersAhead, IsMissing, MemoryOr, Outcome, Says, TakeWithin}
+use Rattle.syn_parse.specs.Positions.{Missing, missing_within, scope_trees}
+use Rattle.syn_parse.specs.Takes.{EntersAhead, IsMissing, IsSaid, MemoryOr, Outcome, Says}
+use Rattle.syn_parse.specs.Takes.{TakeWithin}
 use Rattle.syn_parse.specs.Takes.{TakesAs, Taking}
 use Rattle.syn_parse.specs.Takes.{after_inside, found, inside_first, missing, take_group}
 use Rattle.syn_parse.proofs.Scopes.{one_scope}
-use Rattle.syn_parse.proofs.Told.{words_told}
+use Rattle.syn_parse.proofs.Failing.{says_memory}
+use Rattle.syn_parse.proofs.Positions.{after_trees, content_at}
+use Rattle.syn_parse.proofs.Told.{here_told}
 
 -- a leftover is there where a visible tree is
 left-trees : (l : Option Leftover) (f : Forest) → option_map (λ x. x.span) l ≡ first_tree_span f
@@ -54,26 +58,24 @@ left-trees (Some l) (tree t f) e = refl
 pub leftover-trees : (p : Place) → is_some (leftover p) ≡ has_trees (erased_ahead p)
 leftover-trees p = left-trees (leftover p) (erased_ahead p) (ahead_tells p).leftovers
 
-clean-or : (n m l : Option Leftover)
-    → not (is_some (option_or n (option_or m l)))
-    ≡ (not (is_some n) && not (is_some m) && not (is_some l))
-clean-or None None None = refl
-clean-or None None (Some l) = refl
-clean-or None (Some m) None = refl
-clean-or None (Some m) (Some l) = refl
-clean-or (Some n) m l = refl
+abbrev span_of : Option Leftover → Option Span
+span_of = option_map (λ l. l.span)
+
+unread-or : (n m l : Option Leftover)
+    → span_of (option_or n (option_or m l))
+    ≡ option_or (span_of n) (option_or (span_of m) (span_of l))
+unread-or None None l = refl
+unread-or None (Some m) l = refl
+unread-or (Some n) m l = refl
 
 after-closed : (left s : State) (e : Entered)
     → ahead (closed left (after_group e s))
-    ≡ record {
-      trees = erased_ahead e.after;
-      clean = (ahead s).clean && (ahead left).clean && is_spent (ahead left);
-    }
+    ≡ record { trees = erased_ahead e.after; unread = unread_after (ahead s) (ahead left) }
 after-closed left s e =
-    ap (λ b. record { trees = erased_ahead e.after; clean = b })
-    (clean-or s.noted left.noted (leftover left.place)
-    ∙ ap (λ b. not (is_some s.noted) && not (is_some left.noted) && not b)
-    (leftover-trees left.place))
+    ap (λ b. record { trees = erased_ahead e.after; unread = b })
+    (unread-or s.noted left.noted (leftover left.place)
+    ∙ ap (λ b. option_or (span_of s.noted) (option_or (span_of left.noted) b))
+    (ahead_tells left.place).leftovers)
 
 span-is : (d : DelimSpan) (x : Span) → d.join ≡ x → d ≡ record { join = x }
 span-is d x e = ap (λ y. record { join = y }) e
@@ -115,6 +117,25 @@ content-lighter d v p e h =
     let w = group_weighs d (erased_ahead p) (entered_ahead e) first in
     omega (arith, w)
 
+-- what an error says in a group it says outside of it
+module _ (d : Delimiter) (visible : IsVisibleDelimiter d) (s : State) (e : Entered)
+    (is : enter d s.place ≡ Some e) (i : IsFilled s.place) where
+  pub said_outside : (m : Missing) (f : Fault)
+      → IsSaid (scope_trees e.content) (closing_span e.span) m f
+      → IsSaid (scope_trees s.place) s.scope_span (missing_within (closing_span e.span) m) f
+  said_outside m (Refused x) h = (
+    h.0,
+    content_at d visible s.place e is i (closing_span e.span) s.scope_span m.position h.0 h.1,
+    h.2,
+  )
+  said_outside m (Memory x) h = tt
+
+  inside_says : {A : Type 0} (o : Outcome A) (f : Fault)
+      → Says (scope_trees e.content) (closing_span e.span) o f
+      → Says (scope_trees s.place) s.scope_span (after_inside (ahead s) (entered_ahead e) o) f
+  inside_says (found v b) f h = tt
+  inside_says (missing m) f h = said_outside m f h
+
 module _ {T A : Type 0} (form : T → A) (inner : Taking A) (calls : Call T)
     (d : Delimiter) (visible : IsVisibleDelimiter d) (s t : State)
     (each : TakeWithin s form inner calls) where
@@ -131,12 +152,7 @@ module _ {T A : Type 0} (form : T → A) (inner : Taking A) (calls : Call T)
   inside-missing : (e : EnteredWith Forest) (o : Outcome A) → IsMissing o
       → IsMissing (after_inside (ahead s) e o)
   inside-missing e (found v b) h = h
-  inside-missing e (missing words) h = h
-
-  inside-says : (e : EnteredWith Forest) (o : Outcome A) (f : Fault) → Says o f
-      → Says (after_inside (ahead s) e o) f
-  inside-says e o (Refused d) h = ap (after_inside (ahead s) e) h
-  inside-says e o (Memory d) h = tt
+  inside-missing e (missing m) h = h
 
   ran : (e : Entered) (returned : Result T Fault) (left : State) (r : Result (DelimSpan × T) Fault)
       → enter d s.place ≡ Some e → TakesAs form inner (content_of e) returned left
@@ -153,6 +169,8 @@ module _ {T A : Type 0} (form : T → A) (inner : Taking A) (calls : Call T)
           λ j. subst (λ u. IsFilled u.place) (sym k) (both-filled d visible s.place e h j).1,
           ap (λ u. scope_of u.place) k ∙ after-scope d s.place e h,
           subst (λ u. remaining u.place ≤ remaining s.place) (sym k) (after-remains d s.place e h),
+          ap (λ u. scope_trees u.place) k ∙ after_trees d visible s.place e h,
+          ap (λ u. u.scope_span) k,
         ),
       )
   ran e (Ok v) left (Err g) h i w k = absurd w
@@ -162,8 +180,8 @@ module _ {T A : Type 0} (form : T → A) (inner : Taking A) (calls : Call T)
         memory-or f _ _
             (λ n. subst IsMissing (sym (is-first (Some e) h))
             (inside-missing (entered_ahead e) _ n)) i.0,
-        λ j. subst (λ o. Says o f) (sym (is-first (Some e) h))
-            (inside-says (entered_ahead e) _ f (i.1 (both-filled d visible s.place e h j).0)),
+        λ j. subst (λ o. Says (scope_trees s.place) s.scope_span o f) (sym (is-first (Some e) h))
+            (inside_says d visible s e h j _ f (i.1 (both-filled d visible s.place e h j).0)),
       )
 
   no_group_refuses : (f : Fault) → enter d s.place ≡ None
@@ -171,10 +189,11 @@ module _ {T A : Type 0} (form : T → A) (inner : Taking A) (calls : Call T)
       → TakesAs both (take_group d inner) s (Err f) t
   no_group_refuses (Refused e) h r = (
     (subst IsMissing (sym (is-first None h)) tt, ap length r),
-    λ i. is-first None h ∙ ap missing (sym (words_told (delimiter_words d) s i)
-        ∙ sym (ap first_text r)),
+    λ i. subst (λ o. Says (scope_trees s.place) s.scope_span o (Refused e))
+        (sym (is-first None h)) (here_told (delimiter_words d) s (Refused e) r i),
   )
-  no_group_refuses (Memory e) h r = (tt, λ i. tt)
+  no_group_refuses (Memory e) h r =
+      (tt, λ i. says_memory (scope_trees s.place) s.scope_span (take_group d inner (ahead s)) e)
 
   within : (x : Option Entered) (r : Result (DelimSpan × T) Fault) → enter d s.place ≡ x
       → RunsWithin calls x (refused_at s (delimiter_words d)) s r t
@@ -227,12 +246,7 @@ module _ {T A : Type 0} (Is : T → A → Type 0) (inner : Taking A) (calls : Ca
   inside-missing-by : (e : EnteredWith Forest) (o : Outcome A) → IsMissing o
       → IsMissing (after_inside (ahead s) e o)
   inside-missing-by e (found v b) h = h
-  inside-missing-by e (missing words) h = h
-
-  inside-says-by : (e : EnteredWith Forest) (o : Outcome A) (f : Fault) → Says o f
-      → Says (after_inside (ahead s) e o) f
-  inside-says-by e o (Refused d) h = ap (after_inside (ahead s) e) h
-  inside-says-by e o (Memory d) h = tt
+  inside-missing-by e (missing m) h = h
 
   ran-by : (e : Entered) (returned : Result T Fault) (left : State)
       (r : Result (DelimSpan × T) Fault)
@@ -245,18 +259,17 @@ module _ {T A : Type 0} (Is : T → A → Type 0) (inner : Taking A) (calls : Ca
       λ j. subst (λ u. IsFilled u.place) (sym k) (both-filled d visible s.place e h j).1,
       ap (λ u. scope_of u.place) k ∙ after-scope d s.place e h,
       subst (λ u. remaining u.place ≤ remaining s.place) (sym k) (after-remains d s.place e h),
+      ap (λ u. scope_trees u.place) k ∙ after_trees d visible s.place e h,
+      ap (λ u. u.scope_span) k,
     ),
   ) where
     both : (o : Outcome A) → Finds Is v (ahead left) o
         → Finds (Within Is) found_ (ahead t) (after_inside (ahead s) (entered_ahead e) o)
-    both (missing words) f = f
+    both (missing m) f = f
     both (found x c) f = (
       (sym (span-is found_.0 e.span w.0), subst (λ u. Is u x) (sym w.1) f.0),
-      ap (λ (y : Ahead). record {
-        trees =
-            erased_ahead e.after;
-        clean = (ahead s).clean && y.clean && is_spent y;
-      }) f.1
+      ap (λ (y : Ahead). record { trees = erased_ahead e.after; unread = unread_after (ahead s) y })
+          f.1
           ∙ sym (ap ahead k ∙ after-closed left s e),
     )
   ran-by e (Ok v) left (Err g) h i w k = absurd w
@@ -266,18 +279,20 @@ module _ {T A : Type 0} (Is : T → A → Type 0) (inner : Taking A) (calls : Ca
         memory-or f _ _
             (λ n. subst IsMissing (sym (is-first-by (Some e) h))
             (inside-missing-by (entered_ahead e) _ n)) i.0,
-        λ j. subst (λ o. Says o f) (sym (is-first-by (Some e) h))
-            (inside-says-by (entered_ahead e) _ f (i.1 (both-filled d visible s.place e h j).0)),
+        λ j. subst (λ o. Says (scope_trees s.place) s.scope_span o f)
+            (sym (is-first-by (Some e) h))
+            (inside_says d visible s e h j _ f (i.1 (both-filled d visible s.place e h j).0)),
       )
 
   refused-by : (f : Fault) → enter d s.place ≡ None → Refuses (refused_at s (delimiter_words d)) f
       → TakesBy (Within Is) (take_group d inner) s (Err f) t
   refused-by (Refused e) h r = (
     (subst IsMissing (sym (is-first-by None h)) tt, ap length r),
-    λ i. is-first-by None h ∙ ap missing (sym (words_told (delimiter_words d) s i)
-        ∙ sym (ap first_text r)),
+    λ i. subst (λ o. Says (scope_trees s.place) s.scope_span o (Refused e))
+        (sym (is-first-by None h)) (here_told (delimiter_words d) s (Refused e) r i),
   )
-  refused-by (Memory e) h r = (tt, λ i. tt)
+  refused-by (Memory e) h r =
+      (tt, λ i. says_memory (scope_trees s.place) s.scope_span (take_group d inner (ahead s)) e)
 
   within-by : (x : Option Entered) (r : Result (DelimSpan × T) Fault) → enter d s.place ≡ x
       → RunsWithin calls x (refused_at s (delimiter_words d)) s r t
@@ -299,10 +314,10 @@ module _ {T A : Type 0} (Is : T → A → Type 0) (inner : Taking A) (calls : Ca
 pub closed_ahead : (content s : State)
     → ahead (closed content s) ≡ after_content (ahead content) (ahead s)
 closed_ahead content s =
-    ap (λ b. record { trees = erased_ahead s.place; clean = b })
-    (clean-or s.noted content.noted (leftover content.place)
-    ∙ ap (λ b. not (is_some s.noted) && not (is_some content.noted) && not b)
-    (leftover-trees content.place))
+    ap (λ b. record { trees = erased_ahead s.place; unread = b })
+    (unread-or s.noted content.noted (leftover content.place)
+    ∙ ap (λ b. option_or (span_of s.noted) (option_or (span_of content.noted) b))
+    (ahead_tells content.place).leftovers)
 
 -- the delimiter of a group that is entered
 same-is : (d c : Delimiter) → same_delimiter d c ≡ true → c ≡ d
@@ -361,14 +376,21 @@ module _ {T : Type 0} (span_of : T → DelimSpan) (content : T → State) (d : D
           content = erased_ahead (content v).place;
           after = erased_ahead u.place;
         })) (sym k),
-    ap (λ u. (ahead u).clean) j,
-    ap (λ u. (ahead u).clean) k,
+    ap (λ u. (ahead u).unread) j,
+    ap (λ u. (ahead u).unread) k,
     λ f. subst (λ u. IsFilled u.place) (sym j) (both-filled d visible s.place e h f).0,
+    λ f m g k.
+        subst (λ x. IsSaid (scope_trees s.place) s.scope_span (missing_within (closing_span x) m) g)
+        (sym i)
+        (said_outside d visible s e h f m g
+        (subst (λ (u : State). IsSaid (scope_trees u.place) u.scope_span m g) j k)),
     subst (λ u. remaining u.place < remaining s.place) (sym j) (content-remains d s.place e h),
     (
       λ f. subst (λ u. IsFilled u.place) (sym k) (both-filled d visible s.place e h f).1,
       ap (λ u. scope_of u.place) k ∙ after-scope d s.place e h,
       subst (λ u. remaining u.place ≤ remaining s.place) (sym k) (after-remains d s.place e h),
+      ap (λ u. scope_trees u.place) k ∙ after_trees d visible s.place e h,
+      ap (λ u. u.scope_span) k,
     ),
   )
 
@@ -376,7 +398,7 @@ module _ {T : Type 0} (span_of : T → DelimSpan) (content : T → State) (d : D
       → EntersAhead span_of content d s (Err f) t
   not-entered (Refused e) h r = (
     (sym ((ahead_tells s.place).enters d visible) ∙ ap (option_map entered_ahead) h, ap length r),
-    λ i. ap first_text r ∙ words_told (delimiter_words d) s i,
+    here_told (delimiter_words d) s (Refused e) r,
   )
   not-entered (Memory e) h r = (tt, λ i. tt)
 

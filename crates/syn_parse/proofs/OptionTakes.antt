@@ -1,16 +1,16 @@
 -- An optional value takes what its type states.
-use Rattle.std.proofs.Common.{◌≡◌, ◌∙◌, sym, ap, refl, arith, true, false, cond, Option, Some, None}
+use Rattle.std.proofs.Common.{◌≡◌, ◌∙◌, sym, ap, true, false, cond, Option, Some, None}
 use Rattle.std.proofs.Common.{Ok, Err}
 use Rattle.std.specs.Prelude.{Bool, option_map}
 use Rattle.tok_core.specs.Forest.{Forest}
 use Rattle.tok_buffer.specs.View.{erased_ahead}
 use Rattle.tok_types.specs.Sees.{Sees}
-use Rattle.syn_parse.proofs.Failing.{fails_on}
+use Rattle.syn_parse.proofs.Failing.{fails_on, stays_here}
 use Rattle.syn_parse.specs.Optional.{optional, take_optional}
 use Rattle.syn_parse.specs.State.{State}
 use Rattle.syn_parse.specs.Takes.{Taking, TakesAs, and_then, found}
 use Rattle.syn_parse.specs.Takings.{Keeps, Takings, told, told_filled, untold}
-use Rattle.syn_parse.specs.TreesAhead.{Ahead, IsFilled, ahead}
+use Rattle.syn_parse.specs.TreesAhead.{Ahead, ahead}
 use Rattle.syn_parse.specs.declared.fault.Fault.{Fault}
 
 where-true : {A : Type 0} (test : Ahead → Bool) (take : Taking A) (a : Ahead) → true ≡ test a
@@ -34,16 +34,15 @@ module _ {T A : Type 0} (form : T → A) (take : Taking A) (test : Forest → Bo
   none-taken h = (
     ap (λ c. cond c (and_then (take (ahead s)) (λ x b. found (Some x) b)) (found None (ahead s)))
         (sym h),
-    (λ i. i, refl, omega arith),
+    stays_here s,
   )
 
   error-taken : (f : Fault) → true ≡ test (erased_ahead s.place) → TakesAs form take s (Err f) t
       → TakesAs (option_map form) either s (Err f) t
   error-taken f h k =
       fails_on (take (ahead s)) (either (ahead s))
-      (λ words e. where-true (λ a. test a.trees) take (ahead s) h
-      ∙ ap (λ o. and_then o (λ x b. found (Some x) b)) e) f (IsFilled s.place) (IsFilled s.place)
-      (λ i. i) k
+      (λ m e. where-true (λ a. test a.trees) take (ahead s) h
+      ∙ ap (λ o. and_then o (λ x b. found (Some x) b)) e) f s s (stays_here s) k
 
 pub some_keeps : {T : Type 0} (sees : Option (Forest → Bool)) (takes : Takings T) (s t : State)
     (v : T)

@@ -8,8 +8,9 @@ use Rattle.std.specs.Prelude.{Result, not, option_map}
 use Rattle.tok_core.specs.Forest.{Forest}
 use Rattle.tok_core.specs.Weight.{weight}
 use Rattle.tok_types.specs.Sees.{Sees}
-use Rattle.syn_parse.proofs.Failing.{fails_on}
+use Rattle.syn_parse.proofs.Failing.{fails_on, stays_along, stays_here}
 use Rattle.syn_parse.specs.Many.{many_again, many_of, take_many, vec_form, where_filled}
+use Rattle.syn_parse.specs.Positions.{Missing}
 use Rattle.syn_parse.specs.State.{State}
 use Rattle.syn_parse.specs.Takes.{Outcome, Stays, Taking, TakesAs, and_then, found, missing}
 use Rattle.syn_parse.specs.Takings.{Keeps, Lowers, Takings, lower, lighter, told, told_filled}
@@ -30,7 +31,7 @@ module _ {A : Type 0} (test : Ahead → Bool) (take : Taking A) (less : Lowers t
   SoFar a vs b = all a ≡ first_of vs (all b)
 
   first-none : (o : Outcome (List A)) → o ≡ first_of [] o
-  first-none (missing words) = refl
+  first-none (missing m) = refl
   first-none (found ws b) = refl
 
   abbrev then_more : A → Ahead → Outcome (List A)
@@ -41,7 +42,7 @@ module _ {A : Type 0} (test : Ahead → Bool) (take : Taking A) (less : Lowers t
 
   first-first : (vs : List A) (v : A) (o : Outcome (List A))
       → first_of vs (and_then o (λ ws d. found (v ∷ ws) d)) ≡ first_of (vs ++ v ∷ []) o
-  first-first vs v (missing words) = refl
+  first-first vs v (missing m) = refl
   first-first vs v (found ws d) = ap (λ us. found us d) (sym (append_assoc vs (v ∷ []) ws))
 
   one-more : (a b c : Ahead) (vs : List A) (v : A) → SoFar a vs b → test b ≡ true
@@ -60,9 +61,9 @@ module _ {A : Type 0} (test : Ahead → Bool) (take : Taking A) (less : Lowers t
       (again b ∙ ap (λ x. cond x (and_then (take b) then_more) (found [] b)) e)
       ∙ ap (λ us. found us b) (append-nil vs)
 
-  one-missing : (a b : Ahead) (vs : List A) (words : List ℕ) → SoFar a vs b → test b ≡ true
-      → take b ≡ missing words → all a ≡ missing words
-  one-missing a b vs words h e k =
+  one-missing : (a b : Ahead) (vs : List A) (m : Missing) → SoFar a vs b → test b ≡ true
+      → take b ≡ missing m → all a ≡ missing m
+  one-missing a b vs m h e k =
       h
       ∙ ap (first_of vs)
       (again b ∙ ap (λ x. cond x (and_then (take b) then_more) (found [] b)) e
@@ -79,7 +80,7 @@ module _ {A : Type 0} (test : Ahead → Bool) (take : Taking A) (less : Lowers t
     start s n h =
         record {
           so_far = first-none (all (ahead s));
-          stays = (λ i. i, refl, omega arith);
+          stays = stays_here s;
           enough = h;
         }
 
@@ -92,8 +93,7 @@ module _ {A : Type 0} (test : Ahead → Bool) (take : Taking A) (less : Lowers t
               subst (λ xs. SoFar (ahead s) xs (ahead u)) (sym (map-append form vs (v ∷ [])))
               (one-more (ahead s) (ahead t) (ahead u) (map form vs) (form v) so.so_far (sym e)
               w.0);
-          stays =
-              (λ i. w.1.0 (so.stays.0 i), w.1.1 ∙ so.stays.1, omega (arith, so.stays.2, w.1.2));
+          stays = stays_along s t u so.stays w.1;
           enough =
               omega (arith, so.enough, less.less (ahead t) (ahead u) (form v) w.0, k);
         }
@@ -113,8 +113,8 @@ module _ {A : Type 0} (test : Ahead → Bool) (take : Taking A) (less : Lowers t
         → TakesAs (vec_form form) all s (Err f) u
     failed s t u vs n f so e w =
         fails_on (take (ahead t)) (all (ahead s))
-        (λ words k. one-missing (ahead s) (ahead t) (map form vs) words so.so_far (sym e) k) f
-        (IsFilled t.place) (IsFilled s.place) so.stays.0 w
+        (λ m k. one-missing (ahead s) (ahead t) (map form vs) m so.so_far (sym e) k) f s t so.stays
+        w
 
 -- the same for each kind of statement
 abbrev pub TurnsOf : {T : Type 0} → Option (Ahead → Bool) → Takings T → State → List T → State → ℕ

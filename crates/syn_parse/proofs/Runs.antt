@@ -21,10 +21,12 @@ use Rattle.tok_buffer.proofs.Onwards.{GoesOn, keeps_scope, visible_goes}
 use Rattle.tok_buffer.proofs.ScopeEnds.{visible_erased, visible_tells}
 use Rattle.tok_buffer.proofs.View.Laws.{reached_leads_on}
 use Rattle.tok_buffer.proofs.View.Moves.{LeadsTo, leads-take}
+use Rattle.syn_parse.specs.Positions.{scope_trees}
 use Rattle.syn_parse.specs.Runs.{StepsPast, onwards, passing, take_run}
 use Rattle.syn_parse.specs.State.{State, moved}
 use Rattle.syn_parse.specs.Takes.{TakesAs, found}
 use Rattle.syn_parse.specs.TreesAhead.{ahead, scope_of}
+use Rattle.syn_parse.proofs.Positions.{InScope, visible_kept}
 use Rattle.syn_parse.proofs.Scopes.{one_scope}
 
 same-pair : {A B : Type 0} {x y : A × B} → Some x ≡ Some y → (x.0 ≡ y.0) × (x.1 ≡ y.1)
@@ -50,6 +52,7 @@ module _ {S : Type 0} (step : S → Tree → Option S) where
     scope : scope_of q ≡ scope_of p
     less : remaining q ≤ remaining p
     reached : (b : Laid) → Reached b p → Reached b q
+    kept : scope_trees q ≡ scope_trees p
 
   pub none-passed : (p : Place) (s : S) (q : Place) → q ≡ p → Passed p s q s
   none-passed p s q h =
@@ -61,6 +64,7 @@ module _ {S : Type 0} (step : S → Tree → Option S) where
         scope = refl;
         less = omega arith;
         reached = λ b i. i;
+        kept = refl;
       })
 
   -- the first tree of a run, and what is ahead after it
@@ -115,6 +119,7 @@ module _ {S : Type 0} (step : S → Tree → Option S) where
               subst (LeadsTo (Reached b)) e
               (leads-take (Reached b) (Reached b) (reached_leads_on b) any_tree (descend q)
               (down q (so.reached b i)));
+          kept = subst (LeadsTo (InScope (scope_trees q))) e (visible_kept q) ∙ so.kept;
         },
         goes.1,
       )
@@ -155,5 +160,7 @@ module _ {S : Type 0} (step : S → Tree → Option S) where
           },
           so.scope,
           so.less,
+          so.kept,
+          refl,
         ),
       )

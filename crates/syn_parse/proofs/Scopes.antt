@@ -1,9 +1,9 @@
 -- Scopes, and what is ahead after calls that put two streams together.
-use Rattle.std.proofs.Common.{◌≡◌, ◌∙◌, sym, ap, refl, arith, ℕ, ◌==◌, ◌&&◌, true, not}
+use Rattle.std.proofs.Common.{◌≡◌, ◌∙◌, sym, ap, refl, arith, ℕ, ◌==◌, ◌&&◌, true}
 use Rattle.std.proofs.Common.{Option, Some, None, eqb-true}
 use Rattle.std.proofs.lemmas.Bool.{and_parts, false≢true}
 use Rattle.std.specs.Option.{option_or}
-use Rattle.std.specs.Prelude.{is_some, unwrap_or}
+use Rattle.std.specs.Prelude.{option_map, unwrap_or}
 use Rattle.tok_buffer.specs.Ahead.{Leftover}
 use Rattle.tok_buffer.specs.Order.{same_scope}
 use Rattle.tok_buffer.specs.Place.{Place, empty_place, at}
@@ -33,12 +33,12 @@ in_one_scope (at n s c l ls) (at m t d k ks) h =
     ap (λ x. n == x && s == t) number ∙ ap (λ x. n == n && s == x) scope
     ∙ ap (λ b. b && (s == s)) (same-number n) ∙ same-number s
 
-clean-either : (n m : Option Leftover)
-    → not (is_some (option_or n m)) ≡ (not (is_some n) && not (is_some m))
-clean-either None None = refl
-clean-either None (Some m) = refl
-clean-either (Some n) m = refl
+unread-either : (n m : Option Leftover)
+    → option_map (λ l. l.span) (option_or n m)
+    ≡ option_or (option_map (λ l. l.span) n) (option_map (λ l. l.span) m)
+unread-either None m = refl
+unread-either (Some n) m = refl
 
 pub advanced_ahead : (fork s : State) → ahead (advanced fork s) ≡ after_fork (ahead fork) (ahead s)
 advanced_ahead fork s =
-    ap (λ b. record { trees = (ahead fork).trees; clean = b }) (clean-either s.noted fork.noted)
+    ap (λ b. record { trees = (ahead fork).trees; unread = b }) (unread-either s.noted fork.noted)

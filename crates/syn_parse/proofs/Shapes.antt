@@ -6,6 +6,7 @@ use Rattle.std.proofs.Common.{List, [], ◌∷◌, ◌++◌, map, Option, Some, 
 use Rattle.std.proofs.Common.{bytes_eq}
 use Rattle.std.proofs.lemmas.Bool.{and_parts, false≢true}
 use Rattle.std.proofs.lemmas.Slice.Eq.{bytes_eq-Decides}
+use Rattle.std.specs.Option.{option_or}
 use Rattle.std.specs.Prelude.{codes}
 use Rattle.tok_lexical.specs.declared.delimiter.Delimiter.{Delimiter}
 use Rattle.tok_lexical.specs.declared.delimiter.Delimiter.TheVariants as delimiter
@@ -24,7 +25,7 @@ use Rattle.tok_core.specs.Forest.{tree_span}
 use Rattle.tok_buffer.specs.EachRead.{and_first, first_if, first_keyword, first_lifetime}
 use Rattle.tok_buffer.specs.EachRead.{first_puncts}
 use Rattle.tok_buffer.specs.Entry.{same_delimiter, EnteredWith}
-use Rattle.tok_buffer.specs.InFront.{first_group}
+use Rattle.tok_buffer.specs.InFront.{first_group, first_tree_span}
 use Rattle.tok_buffer.specs.Reads.{any_text, is_ident as any_ident, is_ident_of, is_joint_of}
 use Rattle.tok_buffer.specs.Reads.{is_literal, is_punct, is_punct_of}
 use Rattle.tok_types.specs.Texts.{accept_as_ident, keyword_text, punctuation_word}
@@ -37,7 +38,8 @@ use Rattle.syn_parse.specs.Tokens.{literal_in, punct_in, span_in}
 use Rattle.syn_parse.specs.Tokens.{take_any_ident, take_any_lifetime, take_ident, take_keyword}
 use Rattle.syn_parse.specs.Tokens.{take_lifetime, take_literal, take_nothing}
 use Rattle.syn_parse.specs.Tokens.{take_punct, take_punctuation, take_underscore}
-use Rattle.syn_parse.specs.TreesAhead.{Ahead, all_taken, is_spent}
+use Rattle.syn_parse.specs.Positions.{Missing}
+use Rattle.syn_parse.specs.TreesAhead.{Ahead, all_taken, unread_after}
 use Rattle.syn_parse.specs.Takes.{Outcome, Taking, after_inside, found, inside_first, missing}
 use Rattle.syn_parse.specs.Takes.{and_then}
 use Rattle.syn_parse.specs.Takes.{read_as, take_by, take_group}
@@ -63,7 +65,7 @@ pub record Then {A B : Type 0} (o : Outcome A) (k : A → Ahead
 pub then_found : {A B : Type 0} (o : Outcome A) (k : A → Ahead → Outcome B) (w : B) (b : Ahead)
     → and_then o k ≡ found w b → Then o k w b
 then_found (found v c) k w b e = record { value = v; after = c; first = refl; rest = e }
-then_found (missing words) k w b e = absurd (cc)
+then_found (missing m) k w b e = absurd (cc)
 
 pub found_first : {A : Type 0} {x y : A} {a b : Ahead} → found x a ≡ found y b → x ≡ y
 found_first e = cc
@@ -79,27 +81,27 @@ record ReadShape (read : Forest → Option (List Tree × Forest)) (Are : List Tr
   takes : (g : Forest) (ts : List Tree) → Are ts → read (concat (forest ts) g) ≡ Some (ts, g)
 
 by_read : {T : Type 0} (Is : T → List Tree → Type 0) (read : Forest → Option (List Tree × Forest))
-    (Are : List Tree → Type 0) (means : List Tree → T) (words : Forest → List ℕ)
+    (Are : List Tree → Type 0) (means : List Tree → T) (lack : Forest → Missing)
     → ReadShape read Are
     → ((ts : List Tree) → Are ts → Is (means ts) ts)
     → ((v : T) (ts : List Tree) → Is v ts → Are ts × (means ts ≡ v))
-    → Shape Is (take_by read means words)
-by_read {T} Is read Are means words r is are = record {
+    → Shape Is (take_by read means lack)
+by_read {T} Is read Are means lack r is are = record {
   taken = λ a b v e. go a b v (read a.trees) refl e;
   takes = λ b v ts i.
       let k = are v ts i in
-      ap (read_as means words (before ts b)) (r.takes b.trees ts k.0) ∙ ap (λ w. found w b) k.1;
+      ap (read_as means lack (before ts b)) (r.takes b.trees ts k.0) ∙ ap (λ w. found w b) k.1;
 } where
   go : (a b : Ahead) (v : T) (o : Option (List Tree × Forest)) → read a.trees ≡ o
-      → read_as means words a o ≡ found v b → (ts : List Tree) × Is v ts × (a ≡ before ts b)
+      → read_as means lack a o ≡ found v b → (ts : List Tree) × Is v ts × (a ≡ before ts b)
   go a b v None h e = absurd (cc)
   go a b v (Some (ts, g)) h e =
       let k = r.taken a.trees g ts h in
       let same : means ts ≡ v = found_first e in
-      let after : record { trees = g; clean = a.clean } ≡ b = found_second e in (
+      let after : record { trees = g; unread = a.unread } ≡ b = found_second e in (
         ts,
         subst (λ w. Is w ts) same (is ts k.0),
-        ap (λ f. record { trees = f; clean = a.clean }) k.1 ∙ ap (before ts) after,
+        ap (λ f. record { trees = f; unread = a.unread }) k.1 ∙ ap (before ts) after,
       )
 
 abbrev Read : Type 0
@@ -396,9 +398,9 @@ pub record GroupTaken {A : Type 0} (d : Delimiter) (inner : Taking A) (v : Delim
     : Type 0 where
   pub content : Forest
   pub left : Ahead
-  pub inside : inner (record { trees = content; clean = true }) ≡ found v.1 left
+  pub inside : inner (record { trees = content; unread = None }) ≡ found v.1 left
   pub trees : a.trees ≡ tree (group d content v.0.join) b.trees
-  pub clean : b.clean ≡ (a.clean && left.clean && is_spent left)
+  pub unread : b.unread ≡ unread_after a left
 
 same_is : (d c : Delimiter) → same_delimiter d c ≡ true → c ≡ d
 same_is delimiter.Parenthesis delimiter.Parenthesis h = refl
@@ -416,9 +418,9 @@ itself delimiter.None = refl
 module _ {A : Type 0} (d : Delimiter) (inner : Taking A) where
   inside_taken : (a : Ahead) (e : EnteredWith Forest) (b : Ahead) (v : DelimSpan × A)
       (o : Outcome A)
-      → inner (record { trees = e.content; clean = true }) ≡ o → after_inside a e o ≡ found v b
+      → inner (record { trees = e.content; unread = None }) ≡ o → after_inside a e o ≡ found v b
       → a.trees ≡ tree (group d e.content e.span) e.after → GroupTaken d inner v a b
-  inside_taken a e b v (missing words) h k m = absurd (cc)
+  inside_taken a e b v (missing lack) h k m = absurd (cc)
   inside_taken a e b v (found w left) h k m =
       let first : (record { join = e.span }, w) ≡ v = found_first k in
       let after = found_second k in
@@ -429,7 +431,7 @@ module _ {A : Type 0} (d : Delimiter) (inner : Taking A) where
         trees =
             m ∙ ap (λ (x : DelimSpan × A). tree (group d e.content x.0.join) e.after) first
             ∙ ap (λ (x : Ahead). tree (group d e.content v.0.join) x.trees) after;
-        clean = sym (ap (λ (x : Ahead). x.clean) after);
+        unread = sym (ap (λ (x : Ahead). x.unread) after);
       }
 
   group_is_first : (f : Forest) (e : EnteredWith Forest) → first_group d f ≡ Some e
@@ -458,7 +460,7 @@ module _ {A : Type 0} (d : Delimiter) (inner : Taking A) where
     go (Some x) h k = inside_taken a x b v _ refl k (group_is_first a.trees x h)
 
   pub takes_group : (content : Forest) (span : Span) (x : A) (b : Ahead)
-      → inner (record { trees = content; clean = true }) ≡ found x all_taken
+      → inner (record { trees = content; unread = None }) ≡ found x all_taken
       → take_group d inner (before (group d content span ∷ []) b)
       ≡ found (record { join = span }, x) b
   unfolding take_group
@@ -472,11 +474,11 @@ module _ {A : Type 0} (d : Delimiter) (inner : Taking A) where
       let a = before (group d content span ∷ []) b in
       ap (λ t. inside_first d inner a (cond t (Some e) None)) (itself d)
       ∙ ap (after_inside a e) h
-      ∙ ap (λ c. found (record { join = span }, x) (record { trees = b.trees; clean = c }))
-      (still b.clean) where
-        still : (c : Bool) → (c && true && true) ≡ c
-        still true = refl
-        still false = refl
+      ∙ ap (λ c. found (record { join = span }, x) (record { trees = b.trees; unread = c }))
+      (still b.unread) where
+        still : (c : Option Span) → option_or c (option_or None (first_tree_span no_trees)) ≡ c
+        still None = refl
+        still (Some s) = refl
 
 abbrev is_own : ℕ → Bool
 is_own c = not (c == apostrophe)

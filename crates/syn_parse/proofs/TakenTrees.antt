@@ -1,14 +1,18 @@
 -- What is taken is these trees: of two steps, of a choice, of a group, and of nested values.
-use Rattle.std.proofs.Common.{◌≡◌, ◌∙◌, sym, ap, subst, refl, ℕ, zero, suc, ◌&&◌, Bool, true, false}
-use Rattle.std.proofs.Common.{cond, List, [], ◌∷◌}
+use Rattle.std.proofs.Common.{◌≡◌, ◌∙◌, sym, ap, subst, refl, ℕ, zero, suc, Bool, true, false}
+use Rattle.std.proofs.Common.{cond, List, [], ◌∷◌, Option, Some, None}
+use Rattle.std.specs.Option.{option_or}
 use Rattle.tok_lexical.specs.declared.delimiter.Delimiter.{Delimiter}
 use Rattle.tok_leaves.specs.declared.span.DelimSpan.{DelimSpan}
-use Rattle.tok_core.specs.Forest.{Tree, group, Forest, tree}
+use Rattle.tok_leaves.specs.declared.span.Span.{Span}
+use Rattle.tok_core.specs.Forest.{Tree, group, Forest, no_trees, tree}
 use Rattle.tok_core.specs.Weight.{weight}
+use Rattle.tok_buffer.specs.InFront.{first_tree_span}
 use Rattle.syn_parse.proofs.Shapes.{before, found_first, found_second, group_taken, then_found}
 use Rattle.syn_parse.specs.Nested.{levels, take_nested}
-use Rattle.syn_parse.specs.Takes.{Taking, ◌>>=◌, found, gives, refuses, take_group, where_ahead}
-use Rattle.syn_parse.specs.TreesAhead.{Ahead, all_taken, is_spent}
+use Rattle.syn_parse.specs.Takes.{Taking, ◌>>=◌, found, gives, refuses, refuses_at}
+use Rattle.syn_parse.specs.Takes.{take_group, where_ahead}
+use Rattle.syn_parse.specs.TreesAhead.{Ahead, all_taken, unread_after}
 
 -- what is taken is these trees
 abbrev pub IsTaken : {A : Type 0} → (A → List Tree → Type 0) → Taking A → Type 0
@@ -43,6 +47,9 @@ module _ {A : Type 0} (Is : A → List Tree → Type 0) where
   pub refuses_taken : (words : List ℕ) → IsTaken Is (refuses words)
   refuses_taken words a b v e = absurd (cc)
 
+  pub refuses_at_taken : (span : Span) (words : List ℕ) → IsTaken Is (refuses_at span words)
+  refuses_at_taken span words a b v e = absurd (cc)
+
   -- of values within values it is enough to show it of one level
   pub nested_taken : (step : Taking A → Taking A)
       → ((m : Taking A) → IsTaken Is m → IsTaken Is (step m)) → IsTaken Is (take_nested step)
@@ -59,19 +66,19 @@ IsGroup d Inside v ts = (inside : Forest) × (ts ≡ group d inside v.0.join ∷
 
 pub whole_group_taken : {A : Type 0} (d : Delimiter) (Inside : A → Forest → Type 0)
     (inner : Taking A)
-    → ((f : Forest) (b : Ahead) (v : A) → inner (record { trees = f; clean = true }) ≡ found v b
+    → ((f : Forest) (b : Ahead) (v : A) → inner (record { trees = f; unread = None }) ≡ found v b
     → (b ≡ all_taken) × Inside v f) → IsTaken (IsGroup d Inside) (take_group d inner)
 whole_group_taken d Inside inner h a b v e =
     let g = group_taken d inner a b v e in
     let k = h g.content g.left v.1 g.inside in
-    let clean = g.clean ∙ ap (λ (x : Ahead). a.clean && x.clean && is_spent x) k.0
-    ∙ still a.clean in (
+    let unread = g.unread ∙ ap (unread_after a) k.0
+    ∙ still a.unread in (
       group d g.content v.0.join ∷ [],
       (g.content, refl, k.1),
-      ap (λ f. record { trees = f; clean = a.clean }) g.trees
-          ∙ ap (λ c. record { trees = tree (group d g.content v.0.join) b.trees; clean = c })
-          (sym clean),
+      ap (λ f. record { trees = f; unread = a.unread }) g.trees
+          ∙ ap (λ c. record { trees = tree (group d g.content v.0.join) b.trees; unread = c })
+          (sym unread),
     ) where
-      still : (c : Bool) → (c && true && true) ≡ c
-      still true = refl
-      still false = refl
+      still : (c : Option Span) → option_or c (option_or None (first_tree_span no_trees)) ≡ c
+      still None = refl
+      still (Some span) = refl

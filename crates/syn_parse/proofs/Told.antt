@@ -13,11 +13,11 @@ use Rattle.tok_core.specs.Forest.{Tree, Forest, tree_span}
 use Rattle.tok_buffer.specs.EachRead.{first_if, first_keyword, first_lifetime, first_puncts}
 use Rattle.tok_buffer.specs.InFront.{with_ahead}
 use Rattle.tok_buffer.specs.Buffer.{Laid}
-use Rattle.tok_buffer.specs.Messages.{first_text}
+use Rattle.tok_buffer.specs.Messages.{first_text, message_at, one_message}
 use Rattle.tok_buffer.specs.Place.{Place, is_at_end}
 use Rattle.tok_buffer.specs.Reached.{Reached}
 use Rattle.tok_buffer.specs.Reads.{any_text, is_ident, is_ident_of, is_literal, is_punct}
-use Rattle.tok_buffer.specs.Reads.{read_ident, read_lifetime}
+use Rattle.tok_buffer.specs.Reads.{read_ident, read_lifetime, read_punct}
 use Rattle.tok_buffer.specs.declared.error.Message.{Message}
 use Rattle.tok_buffer.specs.Rest.{scope_delimiter}
 use Rattle.tok_buffer.specs.View.{erased_ahead}
@@ -43,21 +43,23 @@ use Rattle.syn_parse.specs.Progress.{KeywordParses, PunctuationTypeParses, Under
 use Rattle.syn_parse.specs.Faults.{IsMemory, Refuses}
 use Rattle.syn_parse.specs.Reads.{Read, Reads, ReadsAtOnce}
 use Rattle.syn_parse.specs.ErrorWords.{ident_words, expected, lifetime_words, punctuation_message}
-use Rattle.syn_parse.specs.ErrorWords.{refused_at}
-use Rattle.syn_parse.specs.State.{State, moved}
+use Rattle.syn_parse.specs.ErrorWords.{punct_span, punctuation_span, refused_at}
+use Rattle.syn_parse.specs.Positions.{IsAt, Missing, scope_trees, within}
+use Rattle.syn_parse.specs.State.{State, fresh, moved, state_span}
 use Rattle.syn_parse.specs.declared.fault.Fault.{Fault}
 use Rattle.syn_parse.specs.declared.fault.Fault.TheVariants.{Refused, Memory}
 use Rattle.syn_parse.specs.TreesAhead.{Ahead, IsFilled, ahead, scope_of}
-use Rattle.syn_parse.specs.Lookahead.{Look, closing_word, list_words, look_message, look_words}
-use Rattle.syn_parse.specs.Lookahead.{named_ends}
-use Rattle.syn_parse.specs.Lookahead.{names_message, words_of_names}
-use Rattle.syn_parse.specs.Takes.{HasWords, IsMissing, Outcome, found, missing, Takes, TakesAs}
-use Rattle.syn_parse.specs.Takes.{or_end, read_as, take_by}
+use Rattle.syn_parse.specs.Lookahead.{Look, SaysLook, SaysNames, closing_word, list_words}
+use Rattle.syn_parse.specs.Lookahead.{look_message, named_ends, names_message}
+use Rattle.syn_parse.specs.Takes.{IsMissing, IsSaid, Outcome, Says, SaysHere, Takes, TakesAs, found}
+use Rattle.syn_parse.specs.Takes.{lacks, or_end, read_as, take_by}
 use Rattle.syn_parse.specs.Tokens.{ident_in, ident_missing, lifetime_in, lifetime_missing}
-use Rattle.syn_parse.specs.Tokens.{literal_in}
+use Rattle.syn_parse.specs.Tokens.{literal_in, punct_position, sign_missing, sign_position}
 use Rattle.syn_parse.specs.Tokens.{punct_in, span_in, take_any_ident, take_any_lifetime, take_ident}
 use Rattle.syn_parse.specs.Tokens.{take_keyword, take_lifetime, take_literal, take_punct}
 use Rattle.syn_parse.specs.Tokens.{take_punctuation, take_underscore}
+use Rattle.syn_parse.proofs.Failing.{says_memory}
+use Rattle.syn_parse.proofs.Positions.{InScope, scope_kept, start_told}
 use Rattle.syn_parse.proofs.Progress.{at_once}
 use Rattle.syn_parse.proofs.Scopes.{one_scope}
 
@@ -71,55 +73,62 @@ pub words_told : (words : List ℕ) (s : State) → IsFilled s.place
 words_told words s i =
     ap (λ b. cond b (codes "unexpected end of input, " ++ words) words) (end_told s.place i)
 
+-- an error at a stream says that these words are missing there
+pub here_told : (words : List ℕ) (s : State) (f : Fault) → Refuses (refused_at s words) f
+    → SaysHere s words f
+here_told words s (Refused e) h i = (
+  state_span s,
+  start_told s.place s.scope_span i,
+  h ∙ ap (λ w. one_message (message_at (state_span s) w)) (words_told words s i),
+)
+here_told words s (Memory e) h i = tt
+
 -- an error with a message
 pub message_told : (message : Option (List ℕ)) (s : State) (f : Fault)
     → IfSome message (λ words. Refuses (refused_at s words) f)
-    → IfSome message (λ words. IsFilled s.place → HasWords (or_end words (ahead s).trees) f)
+    → IfSome message (λ words. SaysHere s words f)
 message_told None s f h = tt
-message_told (Some words) s (Refused e) h = λ i. ap first_text h ∙ words_told words s i
-message_told (Some words) s (Memory e) h = λ i. tt
+message_told (Some words) s f h = here_told words s f h
 
 either-text : (b : Bool) (r q : Message) → (cond b r q).text ≡ cond b r.text q.text
 either-text true r q = refl
 either-text false r q = refl
 
-names-told : (names : List (List ℕ)) (p : Place) (scope : Span) → IsFilled p
-    → (names_message names p scope).text ≡ words_of_names names (erased_ahead p)
-names-told [] p scope i =
-    either-text (is_at_end p) _ _
-    ∙ ap (λ b. cond b (codes "unexpected end of input") (codes "unexpected token")) (end_told p i)
-names-told (d ∷ ds) p scope i =
-    ap (λ b. cond b (codes "unexpected end of input, " ++ list_words (d ∷ ds))
-    (list_words (d ∷ ds)))
-    (end_told p i)
-
 -- a lookahead's error
-pub look_told : (l : Look) (f : Fault) → Refuses (look_message l) f → IsFilled l.place
-    → HasWords (look_words l) f
-look_told l (Refused e) h i =
-    ap first_text h
-    ∙ names-told (named_ends (closing_word (scope_delimiter l.place)) l.missed) l.place l.scope_span
-    i
-look_told l (Memory e) h i = tt
+module _ (l : Look) (i : IsFilled l.place) where
+  says-names : (names : List (List ℕ)) (f : Fault)
+      → Refuses (names_message names l.place l.scope_span) f → SaysNames names l f
+  says-names [] (Refused e) h =
+      ap first_text h
+      ∙ either-text (is_at_end l.place) _ _
+      ∙ ap (λ b. cond b (codes "unexpected end of input") (codes "unexpected token"))
+      (end_told l.place i)
+  says-names [] (Memory e) h = tt
+  says-names (d ∷ ds) f h = here_told (list_words (d ∷ ds)) (fresh l.place l.scope_span) f h i
+
+pub look_told : (l : Look) (f : Fault) → Refuses (look_message l) f → SaysLook l f
+look_told l f h i =
+    says-names l i (named_ends (closing_word (scope_delimiter l.place)) l.missed) f h
 
 module _ {T A : Type 0} (form : T → A) (Means : T → List Tree → Type 0) (means : List Tree → A)
     (fits : (v : T) (ts : List Tree) → Means v ts → form v ≡ means ts)
-    (first : Forest → Option (List Tree × Forest)) (words : Forest → List ℕ) (message : Message)
+    (first : Forest → Option (List Tree × Forest)) (lack : Forest → Missing) (message : Message)
     (s t : State)
-    (worded : IsFilled s.place → message.text ≡ words (erased_ahead s.place)) where
+    (says : (f : Fault) → Refuses message f → IsFilled s.place
+    → IsSaid (scope_trees s.place) s.scope_span (lack (erased_ahead s.place)) f) where
   abbrev take : Ahead → Outcome A
-  take = take_by first means words
+  take = take_by first means lack
 
   abbrev outcome_of : Option (List Tree × Forest) → Outcome A
-  outcome_of = read_as means words (ahead s)
+  outcome_of = read_as means lack (ahead s)
 
   read_takes : (q : List Tree × Place) (v : T)
       → Some (q.0, erased_ahead q.1) ≡ first (erased_ahead s.place)
       → ((b : Laid) → Reached b s.place → Reached b q.1)
-      → GoesOn s.place q.1
+      → GoesOn s.place q.1 → scope_trees q.1 ≡ scope_trees s.place
       → Means v q.0
       → t ≡ moved q.1 s → TakesAs form take s (Ok v) t
-  read_takes q v e leads goes m k = (
+  read_takes q v e leads goes same m k = (
     ap outcome_of (sym e) ∙ ap (λ u. found (means q.0) (ahead u)) (sym k)
         ∙ ap (λ x. found x (ahead t)) (sym (fits v q.0 m)),
     (
@@ -130,6 +139,8 @@ module _ {T A : Type 0} (form : T → A) (Means : T → List Tree → Type 0) (m
       },
       ap (λ u. scope_of u.place) k ∙ one_scope s.place q.1 (keeps_scope s.place q.1 goes),
       subst (λ u. remaining u.place ≤ remaining s.place) (sym k) (omega (arith, goes.1)),
+      ap (λ u. scope_trees u.place) k ∙ same,
+      ap (λ u. u.scope_span) k,
     ),
   )
 
@@ -137,21 +148,24 @@ module _ {T A : Type 0} (form : T → A) (Means : T → List Tree → Type 0) (m
       → TakesAs form take s (Err f) t
   none (Refused e) h r = (
     (subst (λ o. IsMissing o) (ap outcome_of h) tt, ap length r),
-    λ i. ap outcome_of (sym h) ∙ ap missing (sym (worded i)) ∙ ap missing (sym (ap first_text r)),
+    λ i.
+        subst (λ o. Says (scope_trees s.place) s.scope_span o (Refused e)) (ap outcome_of h)
+        (says (Refused e) r i),
   )
-  none (Memory e) h r = (tt, λ i. tt)
+  none (Memory e) h r = (tt, λ i. says_memory (scope_trees s.place) s.scope_span (take (ahead s)) e)
 
   memory : (f : Fault) → IsMemory f → TakesAs form take s (Err f) t
   memory (Refused e) m = absurd m
-  memory (Memory e) m = (tt, λ i. tt)
+  memory (Memory e) m = (tt, λ i. says_memory (scope_trees s.place) s.scope_span (take (ahead s)) e)
 
   pub told-by : (x : Read) (r : Result T Fault) → with_ahead x ≡ first (erased_ahead s.place)
       → ((b : Laid) → Reached b s.place → LeadsTo (Reached b) x)
-      → LeadsTo (GoesOn s.place) x → Reads Means x message s r t → TakesAs form take s r t
-  told-by None (Ok v) e leads goes h = absurd h
-  told-by (Some q) (Ok v) e leads goes h = read_takes q v e leads goes h.0 h.1
-  told-by None (Err f) e leads goes h = none f e h.0
-  told-by (Some q) (Err f) e leads goes h = memory f h.0
+      → LeadsTo (GoesOn s.place) x → LeadsTo (InScope (scope_trees s.place)) x
+      → Reads Means x message s r t → TakesAs form take s r t
+  told-by None (Ok v) e leads goes same h = absurd h
+  told-by (Some q) (Ok v) e leads goes same h = read_takes q v e leads goes same h.0 h.1
+  told-by None (Err f) e leads goes same h = none f e h.0
+  told-by (Some q) (Err f) e leads goes same h = memory f h.0
 
   module _ {read : Place → Read} (reading : Reading read first) where
     pub read_told : (r : Result T Fault) → Reads Means (read s.place) message s r t
@@ -159,7 +173,7 @@ module _ {T A : Type 0} (form : T → A) (Means : T → List Tree → Type 0) (m
     read_told r h =
         told-by (read s.place) r (tells reading s.place)
         (λ b i. leads (Reached b) (Reached b) (reached_leads_on b) reading s.place i)
-        (reading_goes reading s.place) h
+        (reading_goes reading s.place) (scope_kept reading s.place) h
 
     pub told-at-once : (r : Result T Fault) → ReadsAtOnce Means (read s.place) message s r t
         → TakesAs form take s r t
@@ -176,6 +190,11 @@ lifetime-words (Some r) = refl
 abbrev same : {A : Type 0} → A → A
 same v = v
 
+-- the same words, in another form
+in_words : {v w : List ℕ} (s : State) (f : Fault) → v ≡ w → SaysHere s v f → SaysHere s w f
+in_words s f e h =
+    subst (λ x. SaysHere s x f) e h
+
 pub ident_told : (s : State) (r : Result Ident Fault) (t : State) → IdentParses s r t
     → Takes take_ident s r t
 unfolding take_ident
@@ -185,10 +204,9 @@ ident_told s r t h =
     ident-words (read_ident s.place) ∙ ap ident_missing (tells of_ident s.place) in
     read_told same IsIdent ident_in (λ v ts m. sym (ap ident_in m))
     (first_if (is_ident_of accept_as_ident))
-    (λ f. or_end (ident_missing (first_if is_ident f)) f)
+    (λ f. lacks (ident_missing (first_if is_ident f)) f)
     (refused_at s (ident_words (read_ident s.place))) s t
-    (λ i. words_told (ident_words (read_ident s.place)) s i
-    ∙ ap (λ w. or_end w (erased_ahead s.place)) words)
+    (λ f k. in_words s f words (here_told (ident_words (read_ident s.place)) s f k))
     (of_word accept_as_ident) r h
 
 pub any_ident_told : (s : State) (r : Result Ident Fault) (t : State) → AnyIdentParses s r t
@@ -197,7 +215,7 @@ unfolding take_any_ident
 any_ident_told s r t h =
     let words = codes "expected ident" in
     read_told same IsIdent ident_in (λ v ts m. sym (ap ident_in m)) (first_if is_ident)
-    (or_end words) (refused_at s words) s t (words_told words s) of_ident r h
+    (lacks words) (refused_at s words) s t (here_told words s) of_ident r h
 
 pub literal_told : (s : State) (r : Result Literal Fault) (t : State) → LiteralParses s r t
     → Takes take_literal s r t
@@ -205,8 +223,8 @@ unfolding take_literal
 literal_told s r t h =
     let words = codes "expected literal token" in
     read_told same IsLiteral literal_in (λ v ts m. sym (ap literal_in m)) (first_if is_literal)
-    (or_end words)
-    (refused_at s words) s t (words_told words s) of_literal r h
+    (lacks words)
+    (refused_at s words) s t (here_told words s) of_literal r h
 
 pub punct_told : (s : State) (r : Result Punct Fault) (t : State) → PunctParses s r t
     → Takes take_punct s r t
@@ -214,8 +232,8 @@ unfolding take_punct
 punct_told s r t h =
     let words = codes "expected punctuation token" in
     told-at-once same IsPunct punct_in (λ v ts m. sym (ap punct_in m)) (first_if is_punct)
-    (or_end words)
-    (refused_at s words) s t (words_told words s) of_punct r h
+    (lacks words)
+    (refused_at s words) s t (here_told words s) of_punct r h
 
 pub lifetime_told : (s : State) (r : Result Lifetime Fault) (t : State) → LifetimeParses s r t
     → Takes take_lifetime s r t
@@ -227,9 +245,9 @@ lifetime_told s r t h =
     lifetime-words read ∙ ap lifetime_missing (tells (of_lifetime any_text) s.place) in
     read_told same IsLifetime lifetime_in (λ v ts m. sym (ap lifetime_in m))
     (first_lifetime accept_as_lifetime)
-    (λ f. or_end (lifetime_missing (first_lifetime any_text f)) f)
+    (λ f. lacks (lifetime_missing (first_lifetime any_text f)) f)
     (refused_at s (lifetime_words read)) s t
-    (λ i. words_told (lifetime_words read) s i ∙ ap (λ w. or_end w (erased_ahead s.place)) words)
+    (λ f k. in_words s f words (here_told (lifetime_words read) s f k))
     (of_lifetime accept_as_lifetime) r h
 
 pub any_lifetime_told : (s : State) (r : Result Lifetime Fault) (t : State)
@@ -239,18 +257,18 @@ unfolding take_any_lifetime
 any_lifetime_told s r t h =
     let words = codes "expected lifetime" in
     read_told same IsLifetime lifetime_in (λ v ts m. sym (ap lifetime_in m))
-    (first_lifetime any_text) (or_end words) (refused_at s words) s t (words_told words s)
+    (first_lifetime any_text) (lacks words) (refused_at s words) s t (here_told words s)
     (of_lifetime any_text) r h
 
 module _ {T A : Type 0} (form : T → A) (span_of : T → Span) (means : List Tree → A) (text : List ℕ)
     (fits : (v : T) (ts : List Tree) → IsSpanOf text (span_of v) ts → form v ≡ means ts) where
   pub word_told : (s : State) (r : Result T Fault) (t : State) → WordParses span_of text s r t
-      → TakesAs form (take_by (first_keyword text) means (or_end (expected (in_backquotes text))))
+      → TakesAs form (take_by (first_keyword text) means (lacks (expected (in_backquotes text))))
       s r t
   word_told s r t h =
       let words = expected (in_backquotes text) in
       told-at-once form (λ v. IsSpanOf text (span_of v)) means fits (first_keyword text)
-      (or_end words) (refused_at s words) s t (words_told words s) (of_keyword text) r h
+      (lacks words) (refused_at s words) s t (here_told words s) (of_keyword text) r h
 
 pub keyword_told : (k : ℕ) (s : State) (r : Result (Keyword k) Fault) (t : State)
     → KeywordParses k s r t → Takes (take_keyword k) s r t
@@ -266,6 +284,32 @@ underscore_told s r t h =
     word_told (λ u. first_span u.spans) (λ u. first_span u.spans) span_in (codes "_")
     (λ v ts m. sym (ap span_in m)) s r t h
 
+-- a punctuation's error is at the punct that is next, if one is
+sign-at : (s : State) → IsFilled s.place → (x : Read)
+    → IsAt (scope_trees s.place)
+    (within s.scope_span (punct_position (with_ahead x) (erased_ahead s.place)))
+    (punct_span x (state_span s))
+sign-at s i None = start_told s.place s.scope_span i
+sign-at s i (Some ([], q)) = start_told s.place s.scope_span i
+sign-at s i (Some (t ∷ ts, q)) = refl
+
+sign_at : (text : List ℕ) (s : State) → IsFilled s.place
+    → IsAt (scope_trees s.place)
+    (within s.scope_span (sign_position text (erased_ahead s.place))) (punctuation_span text s)
+sign_at [] s i = start_told s.place s.scope_span i
+sign_at (c ∷ cs) s i =
+    subst
+    (λ y. IsAt (scope_trees s.place)
+    (within s.scope_span (punct_position y (erased_ahead s.place)))
+    (punct_span (read_punct s.place) (state_span s)))
+    (tells of_punct s.place) (sign-at s i (read_punct s.place))
+
+sign_told : (text : List ℕ) (s : State) (f : Fault) → Refuses (punctuation_message text s) f
+    → IsFilled s.place
+    → IsSaid (scope_trees s.place) s.scope_span (sign_missing text (erased_ahead s.place)) f
+sign_told text s (Refused e) h i = (punctuation_span text s, sign_at text s i, h)
+sign_told text s (Memory e) h i = tt
+
 pub punctuation_told : (k n : ℕ) (s : State) (r : Result (Punctuation k n) Fault) (t : State)
     → PunctuationTypeParses k n s r t → Takes (take_punctuation k n) s r t
 unfolding take_punctuation
@@ -273,5 +317,5 @@ punctuation_told k n s r t h =
     let text = punctuation_word k n in
     told-at-once same (λ v. AreSpans v.spans) (λ ts. record { spans = map tree_span ts })
     (λ v ts m. ap (λ x. record { spans = x }) m) (first_puncts text)
-    (λ f. expected (in_backquotes text)) (punctuation_message text s) s t (λ i. refl)
+    (sign_missing text) (punctuation_message text s) s t (sign_told text s)
     (of_punctuation text) r h

@@ -24,12 +24,13 @@ use Rattle.syn_parse.specs.Parses.{IsTree}
 use Rattle.syn_parse.specs.Reads.{Read, Reads}
 use Rattle.syn_parse.specs.ErrorWords.{refused_at}
 use Rattle.syn_parse.specs.State.{State, moved}
-use Rattle.syn_parse.specs.Takes.{TakesAs, found, or_end}
+use Rattle.syn_parse.specs.Takes.{TakesAs, found, lacks}
 use Rattle.syn_parse.specs.TreeTakes.{VisibleParses, take_rest, take_tree, tree_in}
 use Rattle.syn_parse.specs.TreesAhead.{ahead}
 use Rattle.syn_parse.specs.declared.fault.Fault.{Fault}
+use Rattle.syn_parse.proofs.Positions.{passes_kept, visible_kept}
 use Rattle.syn_parse.proofs.Scopes.{in_one_scope, one_scope}
-use Rattle.syn_parse.proofs.Told.{told-by, words_told}
+use Rattle.syn_parse.proofs.Told.{here_told, told-by}
 
 -- a read, with the trees that are read without invisible groups
 abbrev erased : Read → Read
@@ -59,13 +60,14 @@ unfolding take_tree
 tree_told s r t h =
     let words = codes "expected token tree" in
     told-by (λ v. erased_tree (tree_of v)) IsErased tree_in (λ v ts m. sym (ap tree_in m))
-    (first_if any_tree) (or_end words) (refused_at s words) s t (words_told words s)
+    (first_if any_tree) (lacks words) (refused_at s words) s t (here_told words s)
     (erased (read_visible s.place)) r
     (erased-ahead (read_visible s.place) ∙ visible_tells s.place)
     (λ b i. leads-erased (Reached b) (read_visible s.place)
     (leads-take (Reached b) (Reached b) (reached_leads_on b) any_tree (descend s.place)
     (down s.place i)))
     (leads-erased _ (read_visible s.place) (visible_goes s.place))
+    (leads-erased _ (read_visible s.place) (visible_kept s.place))
     (reads-erased (read_visible s.place) (refused_at s words) s r t h)
 
 pub rest_told : (s : State) (f : Forest) (q : Place) (t : State) → f ≡ rest s.place
@@ -83,5 +85,7 @@ rest_told s f q t e h m =
         },
         one_scope s.place q keep.0,
         keep.1,
+        passes_kept s.place q h.passes,
+        refl,
       ),
     )

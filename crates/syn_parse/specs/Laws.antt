@@ -1,15 +1,22 @@
 -- What holds of all streams: peeks tell what a parse does, and a fork may run in its stream's
 -- place.
 use Rattle.std.specs.Prelude.{◌≡◌, ℕ, Bool, true, false, Result, Ok, Err}
+use Rattle.tok_leaves.specs.declared.span.Span.{Span}
+use Rattle.tok_core.specs.Erase.{erase}
+use Rattle.tok_core.specs.Forest.{Forest}
 use Rattle.tok_buffer.specs.Entry.{enter}
+use Rattle.tok_buffer.specs.Messages.{message_at}
 use Rattle.tok_buffer.specs.Order.{same_scope}
 use Rattle.tok_buffer.specs.Place.{Place}
 use Rattle.tok_types.specs.Delimiters.{delimiter_at}
 use Rattle.tok_types.specs.declared.delimiter.Visible.{Visible}
+use Rattle.syn_parse.specs.Faults.{Refuses}
 use Rattle.syn_parse.specs.Groups.{AreParts, Enters}
+use Rattle.syn_parse.specs.Positions.{Missing, span_of}
 use Rattle.syn_parse.specs.Reads.{Call}
 use Rattle.syn_parse.specs.State.{State, advanced, closed, forked, moved}
 use Rattle.syn_parse.specs.ErrorWords.{delimiter_words, refused_at}
+use Rattle.syn_parse.specs.Takes.{IsSaid}
 use Rattle.syn_parse.specs.TreesAhead.{scope_of}
 use Rattle.syn_parse.specs.declared.fault.Fault.{Fault}
 use Rattle.syn_parse.specs.declared.fault.Fault.TheVariants.{Refused, Memory}
@@ -41,6 +48,12 @@ pub record ForksFollow : Type 0 where
       advanced (moved p fork) s ≡ moved p (advanced fork s)
   pub closing : (content fork s : State) →
       advanced (closed content fork) s ≡ closed content (advanced fork s)
+
+-- where no invisible group is, an error says what is missing at the one span of its position
+abbrev pub ErrorsHaveOneSpan : Type 0
+ErrorsHaveOneSpan =
+    (f : Forest) → erase f ≡ f → (scope : Span) (m : Missing) (e : Fault) → IsSaid f scope m e
+    → Refuses (message_at (span_of scope m.position) m.words) e
 
 -- places of one scope share it
 abbrev pub ScopesTell : Type 0

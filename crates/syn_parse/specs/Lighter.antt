@@ -4,6 +4,7 @@ use Rattle.std.proofs.Common.{List, [], ◌∷◌, ◌++◌, Option, Some, None}
 use Rattle.std.specs.Prelude.{bytes_eq, codes}
 use Rattle.tok_lexical.specs.declared.delimiter.Delimiter.{Delimiter}
 use Rattle.tok_leaves.specs.declared.span.DelimSpan.{DelimSpan}
+use Rattle.tok_leaves.specs.declared.span.Span.{Span}
 use Rattle.tok_core.specs.Forest.{Tree, leaf, group, Forest, no_trees, tree}
 use Rattle.tok_core.specs.Weight.{weight, tree_weight}
 use Rattle.tok_core.specs.Clear.{is_joint_apostrophe}
@@ -12,10 +13,12 @@ use Rattle.tok_buffer.specs.EachRead.{first_puncts}
 use Rattle.tok_buffer.specs.Entry.{same_delimiter, EnteredWith}
 use Rattle.tok_buffer.specs.InFront.{first_group}
 use Rattle.tok_buffer.specs.Reads.{is_ident_of, is_joint_of, is_punct_of}
+use Rattle.syn_parse.specs.Positions.{Missing}
 use Rattle.syn_parse.specs.TreesAhead.{Ahead}
 use Rattle.syn_parse.specs.Takings.{Lightens, Lowers}
 use Rattle.syn_parse.specs.Takes.{Outcome, Taking, found, missing, and_then, ◌>>=◌, gives, where_ahead}
-use Rattle.syn_parse.specs.Takes.{or_end, read_as, refuses, take_by, take_group, after_inside, inside_first}
+use Rattle.syn_parse.specs.Takes.{after_inside, inside_first, lacks, read_as, refuses, refuses_at}
+use Rattle.syn_parse.specs.Takes.{take_by, take_group}
 use Rattle.syn_parse.specs.Tokens.{take_any_ident, take_any_lifetime, take_ident, take_keyword}
 use Rattle.syn_parse.specs.Tokens.{take_lifetime, take_literal, take_punct, take_punctuation}
 use Rattle.syn_parse.specs.Owned.{take_own}
@@ -32,12 +35,16 @@ lightens_gives v = record { less = λ a b w e. let k : a ≡ b = cc in rw k (ome
 pub lightens_refuses : {A : Type 0} (words : List ℕ) → Lightens {A = A} (refuses words)
 lightens_refuses words = record { less = λ a b w e. absurd (cc) }
 
+pub lightens_refuses_at : {A : Type 0} (span : Span) (words : List ℕ)
+    → Lightens {A = A} (refuses_at span words)
+lightens_refuses_at span words = record { less = λ a b w e. absurd (cc) }
+
 pub lightens_bind : {A B : Type 0} (m : Taking A) (k : A → Taking B) → Lightens m
     → ((v : A) → Lightens (k v)) → Lightens (m >>= k)
 lightens_bind {A} {B} m k h g = record { less = λ a b w e. go a b w (m a) refl e } where
   go : (a b : Ahead) (w : B) (o : Outcome A) → m a ≡ o → and_then o k ≡ found w b
       → weight b.trees ≤ weight a.trees
-  go a b w (missing words) e f = absurd (cc)
+  go a b w (missing m) e f = absurd (cc)
   go a b w (found v c) e f = omega (arith, h.less a c v e, (g v).less c b w f)
 
 pub lightens_where : {A : Type 0} (test : Ahead → Bool) (m n : Taking A) → Lightens m → Lightens n
@@ -53,7 +60,7 @@ pub lowers_bind : {A B : Type 0} (m : Taking A) (k : A → Taking B) → Lowers 
 lowers_bind {A} {B} m k h g = record { less = λ a b w e. go a b w (m a) refl e } where
   go : (a b : Ahead) (w : B) (o : Outcome A) → m a ≡ o → and_then o k ≡ found w b
       → weight b.trees < weight a.trees
-  go a b w (missing words) e f = absurd (cc)
+  go a b w (missing m) e f = absurd (cc)
   go a b w (found v c) e f = omega (arith, h.less a c v e, (g v).less c b w f)
 
 pub lowers_where : {A : Type 0} (test : Ahead → Bool) (m n : Taking A) → Lowers m → Lowers n
@@ -112,14 +119,14 @@ lifetime-shorter wanted f r e =
     and-shorter f (first_if (is_ident_of wanted)) (if-shorter _) (first_if is_joint_apostrophe f)
     (λ q k. if-shorter is_joint_apostrophe f q k) r e
 
-pub by-lowers : {T : Type 0} (read : Reading) (means : List Tree → T) (words : Forest → List ℕ)
-    → Shorter read → Lowers (take_by read means words)
-by-lowers {T} read means words h = record { less = λ a b v e. go a b v (read a.trees) refl e } where
+pub by-lowers : {T : Type 0} (read : Reading) (means : List Tree → T) (lack : Forest → Missing)
+    → Shorter read → Lowers (take_by read means lack)
+by-lowers {T} read means lack h = record { less = λ a b v e. go a b v (read a.trees) refl e } where
   go : (a b : Ahead) (v : T) (x : Option (List Tree × Forest)) → read a.trees ≡ x
-      → read_as means words a x ≡ found v b → weight b.trees < weight a.trees
+      → read_as means lack a x ≡ found v b → weight b.trees < weight a.trees
   go a b v None k e = absurd (cc)
   go a b v (Some r) k e =
-      let m : record { trees = r.1; clean = a.clean } ≡ b = cc in
+      let m : record { trees = r.1; unread = a.unread } ≡ b = cc in
       subst (λ (c : Ahead). weight c.trees < weight a.trees) m (h a.trees r k)
 
 pub lowers_ident : Lowers take_ident
@@ -145,7 +152,7 @@ lowers_punct = by-lowers _ _ _ (if-shorter _)
 pub lowers_underscore : Lowers take_underscore
 unfolding take_underscore
 lowers_underscore =
-    by-lowers (first_keyword (codes "_")) span_in (or_end (expected (in_backquotes (codes "_"))))
+    by-lowers (first_keyword (codes "_")) span_in (lacks (expected (in_backquotes (codes "_"))))
     (word-shorter (codes "_"))
 
 pub lowers_literal : Lowers take_literal
@@ -190,7 +197,7 @@ lowers_group {A} d inner =
     record { less = λ a b v e. go a b v (first_group d a.trees) refl e } where
       inside : (a b : Ahead) (v : DelimSpan × A) (x : EnteredWith Forest) (o : Outcome A)
           → after_inside a x o ≡ found v b → x.after ≡ b.trees
-      inside a b v x (missing words) e = absurd (cc)
+      inside a b v x (missing m) e = absurd (cc)
       inside a b v x (found w c) e = ap (λ (y : Ahead). y.trees) (second e) where
         second : {B : Type 0} {p q : B} {y z : Ahead} → found p y ≡ found q z → y ≡ z
         second k = cc
@@ -240,6 +247,7 @@ lightens_group d inner = lightens_lower (take_group d inner) (lowers_group d inn
 pub ruleset lightening = (
   lightens_gives,
   lightens_refuses,
+  lightens_refuses_at,
   lightens_bind,
   lightens_where,
   lightens_ident,

@@ -1,6 +1,6 @@
 -- Values that hold values of their own kind: how they are taken, by what is taken within them.
 use Rattle.std.proofs.Common.{◌≡◌, ◌∙◌, ap, refl, arith, ℕ, zero, suc, ◌+◌, ◌<◌, Bool, cond}
-use Rattle.std.proofs.Common.{Option, Some, None, true, []}
+use Rattle.std.proofs.Common.{Option, Some, None, []}
 use Rattle.tok_lexical.specs.declared.delimiter.Delimiter.{Delimiter}
 use Rattle.tok_core.specs.Weight.{weight}
 use Rattle.tok_core.specs.Forest.{Forest}
@@ -8,6 +8,7 @@ use Rattle.tok_buffer.specs.Entry.{EnteredWith}
 use Rattle.tok_buffer.specs.InFront.{first_group}
 use Rattle.syn_parse.specs.Lighter.{group_weighs, lightens_bind, lightens_group, lightens_lower}
 use Rattle.syn_parse.specs.Lighter.{lightens_where, lowering}
+use Rattle.syn_parse.specs.Positions.{at_end}
 use Rattle.syn_parse.specs.Takes.{Outcome, Taking, found, missing, and_then, ◌>>=◌, where_ahead}
 use Rattle.syn_parse.specs.Takes.{after_inside, inside_first, take_group}
 use Rattle.syn_parse.specs.Takings.{Lightens, Lowers}
@@ -41,7 +42,7 @@ descends_same slack take l = record { light = λ m k. l; same = λ m n k l a h. 
 on_found : {B C : Type 0} (o : Outcome B) (f g : B → Ahead → Outcome C)
     → ((v : B) (b : Ahead) → o ≡ found v b → f v b ≡ g v b) → and_then o f ≡ and_then o g
 on_found (found v b) f g h = h v b refl
-on_found (missing words) f g h = refl
+on_found (missing m) f g h = refl
 
 pub descends_bind : (slack : ℕ) {A B C : Type 0} (step : Taking A → Taking B)
     (k : Taking A → B → Taking C) → Descends slack step
@@ -86,7 +87,7 @@ descends_group {A} d inner h = record {
       → inside_first d (inner m) a x ≡ inside_first d (inner n) a x
   go m n l j a e None k = refl
   go m n l j a e (Some x) k =
-      ap (after_inside a x) (h.same m n l j (record { trees = x.content; clean = true })
+      ap (after_inside a x) (h.same m n l j (record { trees = x.content; unread = None })
       (λ b u. e b (omega (arith, u, group_weighs d a.trees x k))))
 
 -- with these `search` proves it of what is built of tokens, groups and the parser itself
@@ -103,7 +104,7 @@ pub ruleset descending = (
 
 -- values within values, at most so many levels of them
 abbrev pub levels : {A : Type 0} → ℕ → (Taking A → Taking A) → Taking A
-levels zero step = λ a. missing []
+levels zero step = λ a. missing (record { position = at_end; words = [] })
 levels (suc n) step = step (levels n step)
 
 -- as many levels as there are

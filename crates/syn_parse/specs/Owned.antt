@@ -9,7 +9,7 @@ use Rattle.tok_leaves.specs.Leaves.{ident}
 use Rattle.tok_core.specs.Forest.{Forest, leaf, no_trees, tree}
 use Rattle.tok_types.specs.Texts.{in_backquotes}
 use Rattle.syn_parse.specs.ErrorWords.{expected}
-use Rattle.syn_parse.specs.Takes.{Taking, or_end, take_by}
+use Rattle.syn_parse.specs.Takes.{Taking, lacks, take_by}
 use Rattle.syn_parse.specs.Tokens.{span_in}
 use Rattle.tok_buffer.specs.EachRead.{first_keyword}
 
@@ -28,4 +28,4 @@ own_first text f = is_some (first_keyword text f)
 
 -- the keyword with this text is taken, and its span is the value
 unfoldable pub take_own : List ℕ → Taking Span
-take_own text = take_by (first_keyword text) span_in (or_end (expected (in_backquotes text)))
+take_own text = take_by (first_keyword text) span_in (lacks (expected (in_backquotes text)))

@@ -29,7 +29,7 @@ ParsesSource edition parses text result =
 
 -- a parse of the tokens that were read keeps what is stated
 abbrev pub KeepsRead : {T : Type 0} → Takings T → Result Forest LexFault → Result T Fault → Type 0
-KeepsRead takes (Ok f) result = KeepsWhole takes f result
+KeepsRead takes (Ok f) result = KeepsWhole takes f call_site result
 KeepsRead takes (Err why) result = MatchResult result (λ _. ⊥) (IsUnread why)
 
 -- a source of an edition is read, and a parse of its tokens keeps what is stated

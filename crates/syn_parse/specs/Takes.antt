@@ -1,36 +1,41 @@
 -- Parsers as functions of what is ahead.
-use Rattle.std.specs.Prelude.{◌≡◌, ◌<◌, ◌≤◌, ℕ, Bool, ◌&&◌, true, cond, not, List, ◌++◌, codes}
-use Rattle.std.specs.Prelude.{Option, Some, None, Result, Ok, Err, length}
+use Rattle.std.specs.Option.{option_or}
+use Rattle.std.specs.Prelude.{◌≡◌, ◌<◌, ◌≤◌, ℕ, Bool, true, cond, not, List, ◌++◌, codes}
+use Rattle.std.specs.Prelude.{IfSome, Option, Some, None, Result, Ok, Err, length}
 use Rattle.tok_lexical.specs.declared.delimiter.Delimiter.{Delimiter}
 use Rattle.tok_leaves.specs.declared.span.DelimSpan.{DelimSpan}
+use Rattle.tok_leaves.specs.declared.span.Span.{Span}
+use Rattle.tok_leaves.specs.Spans.{closing_span}
 use Rattle.tok_core.specs.Filled.{filled, has_trees}
 use Rattle.tok_core.specs.Forest.{Tree, Forest}
 use Rattle.tok_core.specs.Weight.{weight}
 use Rattle.tok_buffer.specs.Entry.{EnteredWith}
-use Rattle.tok_buffer.specs.InFront.{first_group}
-use Rattle.tok_buffer.specs.Messages.{first_text}
+use Rattle.tok_buffer.specs.InFront.{first_group, first_tree_span}
+use Rattle.tok_buffer.specs.Messages.{first_text, message_at, one_message}
 use Rattle.tok_buffer.specs.Progress.{remaining}
 use Rattle.tok_buffer.specs.View.{IsVisibleDelimiter}
-use Rattle.syn_parse.specs.Faults.{IsMemory}
+use Rattle.syn_parse.specs.Faults.{IsMemory, RefusesAt}
 use Rattle.syn_parse.specs.Reads.{Call}
 use Rattle.syn_parse.specs.ErrorWords.{delimiter_words}
+use Rattle.syn_parse.specs.Positions.{IsAt, Missing, at_next, at_span, missing_within, scope_trees}
+use Rattle.syn_parse.specs.Positions.{within}
 use Rattle.syn_parse.specs.State.{State}
 use Rattle.syn_parse.specs.declared.fault.Fault.{Fault}
 use Rattle.syn_parse.specs.declared.fault.Fault.TheVariants.{Refused, Memory}
-use Rattle.syn_parse.specs.TreesAhead.{Ahead, IsFilled, after_fork, ahead, all_taken, is_spent, scope_of}
-use Rattle.syn_parse.specs.TreesAhead.{whole}
+use Rattle.syn_parse.specs.TreesAhead.{Ahead, IsFilled, after_fork, ahead, all_taken, scope_of}
+use Rattle.syn_parse.specs.TreesAhead.{unread_after, whole}
 
--- a value and what is ahead after it, or the words of an error
+-- a value and what is ahead after it, or what is missing
 pub data Outcome (A : Type 0) : Type 0 where
   found : A → Ahead → Outcome A
-  missing : List ℕ → Outcome A
+  missing : Missing → Outcome A
 
 abbrev pub Taking : Type 0 → Type 0
 Taking A = Ahead → Outcome A
 
 abbrev pub and_then : {A B : Type 0} → Outcome A → (A → Ahead → Outcome B) → Outcome B
 and_then (found v a) k = k v a
-and_then (missing words) k = missing words
+and_then (missing m) k = missing m
 
 infixl 10 ◌>>=◌
 abbrev pub ◌>>=◌ : {A B : Type 0} → Taking A → (A → Taking B) → Taking B
@@ -48,38 +53,47 @@ where_ahead test there other a = cond (test a) (there a) (other a)
 abbrev pub or_end : List ℕ → Forest → List ℕ
 or_end words f = cond (not (has_trees f)) (codes "unexpected end of input, " ++ words) words
 
--- no value, but an error with these words, which name the end where nothing is left
+-- missing with these words, where these trees are ahead
+abbrev pub lacks : List ℕ → Forest → Missing
+lacks words f = record { position = at_next f; words = or_end words f }
+
+-- no value, but an error with these words at what is next; they name the end where nothing is left
 abbrev pub refuses : {A : Type 0} → List ℕ → Taking A
-refuses words a = missing (or_end words a.trees)
+refuses words a = missing (lacks words a.trees)
+
+-- no value, but an error with these words at this span, whatever is ahead
+abbrev pub refuses_at : {A : Type 0} → Span → List ℕ → Taking A
+refuses_at span words a = missing (record { position = at_span span; words = words })
 
 -- what is taken on a fork, to whose place the stream then goes
 abbrev pub on_fork : {A : Type 0} → Taking A → Taking A
 on_fork take a =
-    and_then (take (record a { clean = true })) (λ v fork. found v (after_fork fork a))
+    and_then (take (record a { unread = None })) (λ v fork. found v (after_fork fork a))
 
 -- trees that are read, and what they mean
-abbrev pub read_as : {T : Type 0} → (List Tree → T) → (Forest → List ℕ) → Ahead
+abbrev pub read_as : {T : Type 0} → (List Tree → T) → (Forest → Missing) → Ahead
     → Option (List Tree × Forest) → Outcome T
-read_as means words a None = missing (words a.trees)
-read_as means words a (Some r) = found (means r.0) (record { trees = r.1; clean = a.clean })
+read_as means lack a None = missing (lack a.trees)
+read_as means lack a (Some r) = found (means r.0) (record { trees = r.1; unread = a.unread })
 
 abbrev pub take_by : {T : Type 0} → (Forest → Option (List Tree × Forest)) → (List Tree → T)
-    → (Forest → List ℕ) → Taking T
-take_by read means words a = read_as means words a (read a.trees)
+    → (Forest → Missing) → Taking T
+take_by read means lack a = read_as means lack a (read a.trees)
 
--- a group: what is taken inside, and then what is after; a tree left unread inside is noted
+-- A group: what is taken inside, and then what is after. A tree left unread inside is noted. What
+-- is missing at the end inside is missing where the group closes.
 abbrev pub after_inside : {T : Type 0} → Ahead → EnteredWith Forest → Outcome T
     → Outcome (DelimSpan × T)
-after_inside a e (missing words) = missing words
+after_inside a e (missing m) = missing (missing_within (closing_span e.span) m)
 after_inside a e (found v b) =
     found (record { join = e.span }, v)
-    (record { trees = e.after; clean = a.clean && b.clean && is_spent b })
+    (record { trees = e.after; unread = unread_after a b })
 
 abbrev pub inside_first : {T : Type 0} → Delimiter → Taking T → Ahead → Option (EnteredWith Forest)
     → Outcome (DelimSpan × T)
-inside_first d inner a None = missing (or_end (delimiter_words d) a.trees)
+inside_first d inner a None = missing (lacks (delimiter_words d) a.trees)
 inside_first d inner a (Some e) =
-    after_inside a e (inner (record { trees = e.content; clean = true }))
+    after_inside a e (inner (record { trees = e.content; unread = None }))
 
 unfoldable pub take_group : {T : Type 0} → Delimiter → Taking T → Taking (DelimSpan × T)
 take_group d inner a = inside_first d inner a (first_group d a.trees)
@@ -87,17 +101,34 @@ take_group d inner a = inside_first d inner a (first_group d a.trees)
 -- nothing is found
 abbrev pub IsMissing : {A : Type 0} → Outcome A → Type 0
 IsMissing (found v a) = ⊥
-IsMissing (missing words) = Unit {0}
+IsMissing (missing m) = Unit {0}
 
 -- an error of one message, where this holds, or an allocation failure
 abbrev pub MemoryOr : Fault → Type 0 → Type 0
 MemoryOr (Refused e) P = P × (length e ≡ 1)
 MemoryOr (Memory e) P = Unit {0}
 
--- an error has these words
-abbrev pub Says : {A : Type 0} → Outcome A → Fault → Type 0
-Says o (Refused e) = o ≡ missing (first_text e)
-Says o (Memory e) = Unit {0}
+-- An error says what is missing: it is one message with these words, at a span of this position,
+-- among the trees of a scope that ends at that span.
+abbrev pub IsSaid : Forest → Span → Missing → Fault → Type 0
+IsSaid f scope m (Refused e) =
+    (span : Span) × IsAt f (within scope m.position) span
+    × (e ≡ one_message (message_at span m.words))
+IsSaid f scope m (Memory e) = Unit {0}
+
+-- an error says what is found missing; of another error nothing is said
+abbrev pub Says : {A : Type 0} → Forest → Span → Outcome A → Fault → Type 0
+Says f scope (found v a) e = Unit {0}
+Says f scope (missing m) e = IsSaid f scope m e
+
+-- at a stream, in a forest that is filled
+abbrev pub SaysAt : {A : Type 0} → State → Outcome A → Fault → Type 0
+SaysAt s o f = IsFilled s.place → Says (scope_trees s.place) s.scope_span o f
+
+-- an error with these words at a stream
+abbrev pub SaysHere : State → List ℕ → Fault → Type 0
+SaysHere s words f =
+    IsFilled s.place → IsSaid (scope_trees s.place) s.scope_span (lacks words (ahead s).trees) f
 
 -- a stream stays in its scope, in which no more remains, and in a forest that is filled
 abbrev pub Stays : State → State → Type 0
@@ -105,18 +136,15 @@ Stays s t =
     (IsFilled s.place → IsFilled t.place)
     × (scope_of t.place ≡ scope_of s.place)
     × (remaining t.place ≤ remaining s.place)
-
--- an error has these words
-abbrev pub HasWords : List ℕ → Fault → Type 0
-HasWords words (Refused e) = first_text e ≡ words
-HasWords words (Memory e) = Unit {0}
+    × (scope_trees t.place ≡ scope_trees s.place)
+    × (t.scope_span ≡ s.scope_span)
 
 -- a call returns what is taken, seen in a form, and leaves what is ahead then
 abbrev pub TakesAs : {T A : Type 0} → (T → A) → Taking A → Call T
 TakesAs form take s (Ok v) t =
     (take (ahead s) ≡ found (form v) (ahead t)) × Stays s t
 TakesAs form take s (Err f) t =
-    MemoryOr f (IsMissing (take (ahead s))) × (IsFilled s.place → Says (take (ahead s)) f)
+    MemoryOr f (IsMissing (take (ahead s))) × SaysAt s (take (ahead s)) f
 
 -- the same of the value itself
 abbrev pub Takes : {T : Type 0} → Taking T → Call T
@@ -125,14 +153,14 @@ Takes = TakesAs (λ v. v)
 -- what is found is the form of this value, and this is ahead then
 abbrev pub Finds : {T A : Type 0} → (T → A → Type 0) → T → Ahead → Outcome A → Type 0
 Finds Is v b (found x c) = Is v x × (c ≡ b)
-Finds Is v b (missing words) = ⊥
+Finds Is v b (missing m) = ⊥
 
 -- a call returns a value of which what is taken is the form, where the form is no function of it
 abbrev pub TakesBy : {T A : Type 0} → (T → A → Type 0) → Taking A → Call T
 TakesBy Is take s (Ok v) t =
     Finds Is v (ahead t) (take (ahead s)) × Stays s t
 TakesBy Is take s (Err f) t =
-    MemoryOr f (IsMissing (take (ahead s))) × (IsFilled s.place → Says (take (ahead s)) f)
+    MemoryOr f (IsMissing (take (ahead s))) × SaysAt s (take (ahead s)) f
 
 -- less is ahead of a stream, and it is in a filled forest if the other one is
 abbrev pub IsWithin : (inner outer : State) → Type 0
@@ -149,6 +177,13 @@ TakeWithinBy {T} start Is take calls =
 abbrev pub Within : {T A : Type 0} → (T → A → Type 0) → DelimSpan × T → DelimSpan × A → Type 0
 Within Is v x = (x.0 ≡ v.0) × Is v.1 x.1
 
+-- what an error says of a group's contents it says outside of the group
+abbrev pub SaysOutside : (content : State) → Span → State → Type 0
+SaysOutside content span s =
+    IsFilled s.place → (m : Missing) (f : Fault)
+    → IsSaid (scope_trees content.place) content.scope_span m f
+    → IsSaid (scope_trees s.place) s.scope_span (missing_within (closing_span span) m) f
+
 -- A group is entered: its contents are ahead of a stream of their own, in which less remains, and
 -- what is after it is ahead of this one. Or there is none.
 abbrev pub EntersAhead : {T : Type 0} → (T → DelimSpan) → (T → State) → Delimiter → Call T
@@ -159,14 +194,15 @@ EntersAhead span_of content_of d s (Ok v) t =
       content = (ahead (content_of v)).trees;
       after = (ahead t).trees;
     }))
-    × ((ahead (content_of v)).clean ≡ true)
-    × ((ahead t).clean ≡ (ahead s).clean)
+    × ((ahead (content_of v)).unread ≡ None)
+    × ((ahead t).unread ≡ (ahead s).unread)
     × (IsFilled s.place → IsFilled (content_of v).place)
+    × SaysOutside (content_of v) (span_of v).join s
     × (remaining (content_of v).place < remaining s.place)
     × Stays s t
 EntersAhead span_of content_of d s (Err f) t =
     MemoryOr f (first_group d (ahead s).trees ≡ None)
-    × (IsFilled s.place → HasWords (or_end (delimiter_words d) (ahead s).trees) f)
+    × SaysHere s (delimiter_words d) f
 
 -- each call of a function does
 abbrev pub TakeEach : {T A : Type 0} → (T → A) → Taking A → Call T → Type 0
@@ -189,17 +225,19 @@ RunsAhead {R} calls d s r t =
 abbrev pub IsAll : {A : Type 0} → Taking A → Forest → A → Type 0
 IsAll take f x = take (whole f) ≡ found x all_taken
 
--- an error has the words that are found missing; of a leftover's words nothing is said
-abbrev pub SaysAll : {A : Type 0} → Outcome A → Fault → Type 0
-SaysAll (found v a) f = Unit {0}
-SaysAll (missing words) (Refused e) = first_text e ≡ words
-SaysAll (missing words) (Memory e) = Unit {0}
+-- an error says what is found missing, or is at the first tree that is left over, also in a group
+abbrev pub SaysAll : {A : Type 0} → Forest → Span → Outcome A → Fault → Type 0
+SaysAll f scope (found v a) e =
+    IfSome (option_or a.unread (first_tree_span a.trees)) (λ span. RefusesAt span e)
+SaysAll f scope (missing m) e = IsSaid f scope m e
 
 -- the value that all trees are, or an error where they are none
-abbrev pub TakesAll : {T A : Type 0} → (T → A) → Taking A → Forest → Result T Fault → Type 0
-TakesAll form take f (Ok v) = IsAll take f (form v)
-TakesAll {A} form take f (Err e) =
-    MemoryOr e ((x : A) → IsAll take f x → ⊥) × (filled f ≡ true → SaysAll (take (whole f)) e)
+abbrev pub TakesAll : {T A : Type 0} → (T → A) → Taking A → Forest → Span → Result T Fault
+    → Type 0
+TakesAll form take f scope (Ok v) = IsAll take f (form v)
+TakesAll {A} form take f scope (Err e) =
+    MemoryOr e ((x : A) → IsAll take f x → ⊥)
+    × (filled f ≡ true → SaysAll f scope (take (whole f)) e)
 
 -- two results agree: values of one form, or none in both; an allocation failure agrees with each
 abbrev pub Agree : {T A : Type 0} → (T → A) → Result T Fault → Result T Fault → Type 0
@@ -210,5 +248,5 @@ Agree form (Err f) (Err g) = Unit {0}
 
 -- two errors agree where words are found missing, and not a tree left over
 abbrev pub WordsAgree : {T A : Type 0} → Outcome A → Result T Fault → Result T Fault → Type 0
-WordsAgree (missing words) (Err (Refused d)) (Err (Refused e)) = first_text d ≡ first_text e
+WordsAgree (missing m) (Err (Refused d)) (Err (Refused e)) = first_text d ≡ first_text e
 WordsAgree o left right = Unit {0}

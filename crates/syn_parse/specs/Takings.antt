@@ -2,6 +2,8 @@
 use Rattle.std.specs.Prelude.{◌≡◌, ◌<◌, ◌≤◌, ◌⊎◌, ℕ, List, Result, true}
 use Rattle.std.specs.Global.{Box}
 use Rattle.tok_lexical.specs.declared.rule.Mode.TheVariants.{Plain}
+use Rattle.tok_leaves.specs.Spans.{call_site}
+use Rattle.tok_leaves.specs.declared.span.Span.{Span}
 use Rattle.tok_core.specs.Erase.{erase}
 use Rattle.tok_core.specs.Filled.{filled}
 use Rattle.tok_core.specs.Forest.{Forest}
@@ -60,11 +62,12 @@ boxed untold = untold
 boxed (told form take weighs) = told (λ b. form b.value) take weighs
 boxed (told_filled form take weighs) = told_filled (λ b. form b.value) take weighs
 
--- a whole stream keeps what is stated
-abbrev pub KeepsWhole : {T : Type 0} → Takings T → Forest → Result T Fault → Type 0
-KeepsWhole untold f r = Unit {0}
-KeepsWhole (told form take weighs) f r = TakesAll form take f r
-KeepsWhole (told_filled form take weighs) f r = filled f ≡ true → TakesAll form take f r
+-- a whole stream, whose end is at this span, keeps what is stated
+abbrev pub KeepsWhole : {T : Type 0} → Takings T → Forest → Span → Result T Fault → Type 0
+KeepsWhole untold f scope r = Unit {0}
+KeepsWhole (told form take weighs) f scope r = TakesAll form take f scope r
+KeepsWhole (told_filled form take weighs) f scope r =
+    filled f ≡ true → TakesAll form take f scope r
 
 -- two streams that differ only in invisible groups agree
 abbrev pub KeepsBoth : {T : Type 0} → Takings T → (left right : Forest) → Result T Fault
@@ -88,6 +91,6 @@ KeepsWords (told_filled form take weighs) left right x y =
 -- a text reads as a forest, which keeps what is stated; or the grammar refuses it
 abbrev pub KeepsText : {T : Type 0} → Takings T → List ℕ → Result T Fault → Type 0
 KeepsText takes text r =
-    ((f : Forest) × grammar.Reads Plain 0 text f × KeepsWhole takes f r)
+    ((f : Forest) × grammar.Reads Plain 0 text f × KeepsWhole takes f call_site r)
     ⊎ (((e : LexError) × grammar.IsRefused Plain 0 text e × IsRefused (lex_message e) r)
     ⊎ OnMemory r)

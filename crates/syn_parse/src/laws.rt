@@ -1,5 +1,5 @@
 //! Laws of streams. Each is the contract of a function that does nothing.
-ghost use Rattle.syn_parse.specs.Laws.{ForksFollow, PeekTells, ScopesTell, VisibleParses};
+ghost use Rattle.syn_parse.specs.Laws.{ErrorsHaveOneSpan, ForksFollow, PeekTells, ScopesTell, VisibleParses};
 ghost use Rattle.syn_parse.specs.Progress.{ParsesGoOn};
 ghost use Rattle.syn_parse.specs.Reads.{Peeks2, Peeks3};
 ghost use Rattle.syn_parse.specs.Views.{ViewsDecideLookaheads, ViewsDecideWords};
@@ -54,6 +54,12 @@ pub fn peeks_tell_groups<const D: usize>()
 /// stream.
 pub fn forks_follow()
     ensures { ForksFollow }
+{}
+
+/// In a stream without invisible groups, as that of a text, an error says what is missing at exactly
+/// one span: the token's, or that of the scope's end.
+pub fn errors_have_one_span()
+    ensures { ErrorsHaveOneSpan }
 {}
 
 /// Streams whose places have equal scopes are in one scope, as `advance_to` needs. Each call that

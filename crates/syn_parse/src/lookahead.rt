@@ -3,10 +3,8 @@ ghost use Rattle.std.specs.Prelude.{◌≡◌, ◌<◌, [], ◌∷◌, ◌++◌,
 ghost use Rattle.std.specs.Str.{IsUtf8};
 ghost use Rattle.tok_buffer.specs.Messages.{one_message};
 ghost use Rattle.syn_parse.specs.Faults.{Refuses};
-ghost use Rattle.syn_parse.specs.Lookahead.{Looked, looks, look_words, noted_as, look_message, more_words, named, named_ends, texts_of};
+ghost use Rattle.syn_parse.specs.Lookahead.{Looked, SaysLook, looks, noted_as, look_message, more_words, named, named_ends, texts_of};
 ghost use Rattle.syn_parse.specs.Lookahead as spec;
-ghost use Rattle.syn_parse.specs.Takes.{HasWords};
-ghost use Rattle.syn_parse.specs.TreesAhead.{IsFilled};
 ghost use Rattle.tok_types.specs.Sees.{Sees};
 
 use crate::fault::Fault;
@@ -114,7 +112,7 @@ impl<'a> Lookahead1<'a> {
     /// `Fault::Memory` if an allocation fails.
     pub fn error(self) -> Fault
         ensures refuses { Refuses (look_message self.entry) result }
-        ensures says { IsFilled self.entry.place → HasWords (look_words self.entry) result }
+        ensures says { SaysLook self.entry result }
     {
         refused(self)
     }

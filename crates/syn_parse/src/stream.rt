@@ -9,7 +9,7 @@ ghost use Rattle.tok_buffer.specs.Place.{start, is_at_end};
 ghost use Rattle.syn_parse.specs.Faults.{Refuses, RefusesAt, IsRefused};
 ghost use Rattle.syn_parse.specs.State.{fresh, moved, handed, closed, forked, advanced, state_span};
 ghost use Rattle.syn_parse.specs.ErrorWords.{expected, refused_at, leftover_message};
-ghost use Rattle.syn_parse.specs.Takes.{HasWords, or_end};
+ghost use Rattle.syn_parse.specs.Takes.{SaysHere};
 ghost use Rattle.tok_types.specs.Texts.{in_backquotes};
 ghost use Rattle.syn_parse.specs.TreesAhead.{IsFilled, after_content, after_fork, ahead, is_spent};
 
@@ -164,8 +164,7 @@ impl<'a> ParseBuffer<'a> {
         ensures words { IfSome (T.output message)
             (λ words. Refuses (refused_at self.now words) result) }
         ensures says { IfSome (T.output message)
-            (λ words. IsFilled self.now.place
-            → HasWords (or_end words (ahead self.now).trees) result) }
+            (λ words. SaysHere self.now words result) }
     {
         self.fault(message)
     }

@@ -22,7 +22,7 @@ use tok_core::{Edition, Span, TokenStream};
 /// ```
 pub fn parse2<T: Parse + Drop>(alloc: Global, tokens: TokenStream) -> Result<T>
     ensures reads { ParsesWhole T.parses (whole_stream tokens call_site) result }
-    ensures takes { KeepsWhole T.takes tokens result }
+    ensures takes { KeepsWhole T.takes tokens call_site result }
 {
     let buffer = TokenBuffer::new2(alloc, 0, tokens)?;
     let mut input = tokens_to_parse_buffer(alloc, &buffer, Span::call_site());
@@ -77,8 +77,8 @@ pub fn parse_both<T: Parse + Drop>(
 ) -> (Result<T>, Result<T>)
     ensures reads_left { ParsesWhole T.parses (whole_stream left call_site) result.0 }
     ensures reads_right { ParsesWhole T.parses (whole_stream right call_site) result.1 }
-    ensures left { KeepsWhole T.takes left result.0 }
-    ensures right { KeepsWhole T.takes right result.1 }
+    ensures left { KeepsWhole T.takes left call_site result.0 }
+    ensures right { KeepsWhole T.takes right call_site result.1 }
     ensures agree { KeepsBoth T.takes left right result.0 result.1 }
     ensures words { KeepsWords T.takes left right result.0 result.1 }
 {

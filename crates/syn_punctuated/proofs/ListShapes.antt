@@ -1,4 +1,5 @@
 -- Which lists are taken, in both directions: turn by turn.
+use Rattle.std.specs.Prelude.{None}
 use Rattle.std.proofs.Common.{◌≡◌, ◌∙◌, sym, ap, subst, refl, arith, ℕ, zero, suc, ◌<◌, Bool, true}
 use Rattle.std.proofs.Common.{false, cond}
 use Rattle.std.proofs.Common.{List, [], ◌∷◌}
@@ -50,13 +51,13 @@ module _ {A P : Type 0} (begins goes_on : Ahead → Bool) (value : Taking A) (si
     at_rest : (v : A) (b : Ahead) (p : P) (c : Ahead) → value a ≡ found v b → goes_on b ≡ true
         → sign b ≡ found p c → (o : Outcome Both) → turns n c ≡ o
         → and_then o (λ rest d. found (v ∷ rest.0, p ∷ rest.1) d) ≡ found x d → Is a x d
-    at_rest v b p c h g s (missing words) k e = absurd (cc)
+    at_rest v b p c h g s (missing m) k e = absurd (cc)
     at_rest v b p c h g s (found r f) k e =
         of_found a f d (v ∷ r.0, p ∷ r.1) x (turn a b c f v p r.0 r.1 t h g s (more c f r k)) e
 
     at_sign : (v : A) (b : Ahead) → value a ≡ found v b → goes_on b ≡ true → (o : Outcome P)
         → sign b ≡ o → and_then o (λ p c. after_sign n v p c) ≡ found x d → Is a x d
-    at_sign v b h g (missing words) s e = absurd (cc)
+    at_sign v b h g (missing m) s e = absurd (cc)
     at_sign v b h g (found p c) s e = at_rest v b p c h g s (turns n c) refl e
 
     at_value : (v : A) (b : Ahead) → value a ≡ found v b → (g : Bool) → goes_on b ≡ g
@@ -66,7 +67,7 @@ module _ {A P : Type 0} (begins goes_on : Ahead → Bool) (value : Taking A) (si
     at_value v b h false g e = of_found a b d (v ∷ [], []) x (bare a b v t h g) e
 
     at_turn : (o : Outcome A) → value a ≡ o → and_then o (after_value n) ≡ found x d → Is a x d
-    at_turn (missing words) h e = absurd (cc)
+    at_turn (missing m) h e = absurd (cc)
     at_turn (found v b) h e = at_value v b h (goes_on b) refl e
 
   from_begins : (n : ℕ) (more : (c d : Ahead) (x : Both) → turns n c ≡ found x d → Is c x d)
@@ -114,14 +115,14 @@ module _ {A P : Type 0} (begins goes_on : Ahead → Bool) (value : Taking A) (si
 -- at the end nothing is left
 pub no_trees_left : (a : Ahead) → is_left a ≡ false → a.trees ≡ no_trees
 no_trees_left a = go a.trees where
-  go : (f : Forest) → is_left (record { trees = f; clean = true }) ≡ false → f ≡ no_trees
+  go : (f : Forest) → is_left (record { trees = f; unread = None }) ≡ false → f ≡ no_trees
   go no_trees e = refl
   go (tree t f) e = absurd (false≢true (sym e))
 
-pub nothing_left : (a : Ahead) → a.trees ≡ no_trees → a.clean ≡ true → a ≡ all_taken
+pub nothing_left : (a : Ahead) → a.trees ≡ no_trees → a.unread ≡ None → a ≡ all_taken
 nothing_left a e c =
-    ap (λ f. record { trees = f; clean = a.clean }) e
-    ∙ ap (λ b. record { trees = no_trees; clean = b }) c
+    ap (λ f. record { trees = f; unread = a.unread }) e
+    ∙ ap (λ b. record { trees = no_trees; unread = b }) c
 
 pub none_after : (f : Forest) → concat f no_trees ≡ f
 none_after no_trees = refl
@@ -137,7 +138,7 @@ module _ {A P : Type 0} (Is : A → List Tree → Type 0) (IsSign : P → List T
     → Is v ts → IsSign p us → Are f vs ps
     → Are (concat (forest ts) (concat (forest us) f)) (v ∷ vs) (p ∷ ps)) where
   turns_are : (a d : Ahead) (vs : List A) (ps : List P) → Turns is_left is_left value sign a vs ps d
-      → Are a.trees vs ps × (d.trees ≡ no_trees) × (d.clean ≡ a.clean)
+      → Are a.trees vs ps × (d.trees ≡ no_trees) × (d.unread ≡ a.unread)
   turns_are _ _ _ _ (done a e) =
       (subst (λ f. Are f [] []) (sym (no_trees_left a e)) none, no_trees_left a e, refl)
   turns_are _ _ _ _ (bare a b v e i g) =
@@ -146,7 +147,7 @@ module _ {A P : Type 0} (Is : A → List Tree → Type 0) (IsSign : P → List T
             ∙ ap (concat (forest t.0)) (no_trees_left b g) ∙ none_after (forest t.0)))
             (last t.0 v t.1),
         no_trees_left b g,
-        sym (ap (λ (x : Ahead). x.clean) t.2),
+        sym (ap (λ (x : Ahead). x.unread) t.2),
       )
   turns_are _ _ _ _ (turn a b c d v p vs ps e i g s rest) =
       let t = h a b v i in
@@ -156,13 +157,13 @@ module _ {A P : Type 0} (Is : A → List Tree → Type 0) (IsSign : P → List T
             ∙ ap (λ (x : Ahead). concat (forest t.0) x.trees) u.2))
             (more t.0 u.0 c.trees v p vs ps t.1 u.1 m.0),
         m.1,
-        m.2 ∙ sym (ap (λ (x : Ahead). x.clean) u.2) ∙ sym (ap (λ (x : Ahead). x.clean) t.2),
+        m.2 ∙ sym (ap (λ (x : Ahead). x.unread) u.2) ∙ sym (ap (λ (x : Ahead). x.unread) t.2),
       )
 
   pub list_is : (f : Forest) (d : Ahead) (x : List A × List P)
-      → take_terminated value sign (record { trees = f; clean = true }) ≡ found x d
+      → take_terminated value sign (record { trees = f; unread = None }) ≡ found x d
       → (d ≡ all_taken) × Are f x.0 x.1
   list_is f d x e =
-      let a : Ahead = record { trees = f; clean = true } in
+      let a : Ahead = record { trees = f; unread = None } in
       let t = turns_are a d x.0 x.1 (list_taken is_left is_left value sign a d x e) in
       (nothing_left d t.1 t.2, t.0)

@@ -5,6 +5,7 @@ use Rattle.std.proofs.Common.{append-nil}
 use Rattle.tok_core.specs.Weight.{weight}
 use Rattle.syn_parse.specs.TreesAhead.{Ahead}
 use Rattle.syn_parse.specs.Takings.{Lightens, Lowers}
+use Rattle.syn_parse.specs.Positions.{Missing}
 use Rattle.syn_parse.specs.Takes.{Outcome, Taking, found, missing, and_then}
 use Rattle.syn_punctuated.specs.TakeLists.{take_list, take_turns}
 
@@ -40,7 +41,7 @@ module _ {A P : Type 0} (begins goes_on : Ahead → Bool) (value : Taking A) (si
       (same : (c : Ahead) → weight c.trees < weight a.trees → turns n c ≡ turns m c) where
     at-sign : (v : A) (b : Ahead) → weight b.trees ≤ weight a.trees → (o : Outcome P) → sign b ≡ o
         → and_then o (λ p c. after_sign n v p c) ≡ and_then o (λ p c. after_sign m v p c)
-    at-sign v b l (missing words) e = refl
+    at-sign v b l (missing m) e = refl
     at-sign v b l (found p c) e =
         let less = lower.less b c p e in
         ap (λ o. and_then o (λ rest d. found (v ∷ rest.0, p ∷ rest.1) d))
@@ -49,7 +50,7 @@ module _ {A P : Type 0} (begins goes_on : Ahead → Bool) (value : Taking A) (si
     one-turn : (o : Outcome A) → value a ≡ o
         → cond (begins a) (and_then o (after_value n)) (found ([], []) a)
         ≡ cond (begins a) (and_then o (after_value m)) (found ([], []) a)
-    one-turn (missing words) e = refl
+    one-turn (missing m) e = refl
     one-turn (found v b) e =
         ap (λ o. cond (begins a) (cond (goes_on b) o (found (v ∷ [], []) b)) (found ([], []) a))
         (at-sign v b (lighter.less a b v e) (sign b) refl)
@@ -62,7 +63,7 @@ module _ {A P : Type 0} (begins goes_on : Ahead → Bool) (value : Taking A) (si
       refl
 
   before-none : (o : Outcome Both) → o ≡ before ([], []) o
-  before-none (missing words) = refl
+  before-none (missing m) = refl
   before-none (found x d) = refl
 
   pub no-turns : (s : Ahead) → SoFar s ([], []) s
@@ -115,7 +116,7 @@ module _ {A P : Type 0} (begins goes_on : Ahead → Bool) (value : Taking A) (si
 
   before-before : (x : Both) (v : A) (p : P) (o : Outcome Both)
       → before x (before (v ∷ [], p ∷ []) o) ≡ before (x.0 ++ v ∷ [], x.1 ++ p ∷ []) o
-  before-before x v p (missing words) = refl
+  before-before x v p (missing m) = refl
   before-before x v p (found y d) =
       ap (λ vs. found (vs, x.1 ++ (p ∷ y.1)) d) (sym (append_assoc x.0 (v ∷ []) y.0))
       ∙ ap (λ ps. found ((x.0 ++ v ∷ []) ++ y.0, ps) d) (sym (append_assoc x.1 (p ∷ []) y.1))
@@ -127,19 +128,19 @@ module _ {A P : Type 0} (begins goes_on : Ahead → Bool) (value : Taking A) (si
       h ∙ ap (before x) (went a b c v p e k m n) ∙ before-before x v p (take c)
 
   -- a part that is missing
-  pub no-value : (s : Ahead) (x : Both) (a : Ahead) (words : List ℕ) → SoFar s x a
-      → begins a ≡ true → value a ≡ missing words → take s ≡ missing words
+  pub no-value : (s : Ahead) (x : Both) (a : Ahead) (lack : Missing) → SoFar s x a
+      → begins a ≡ true → value a ≡ missing lack → take s ≡ missing lack
   unfolding take_list
-  no-value s x a words h e k =
+  no-value s x a lack h e k =
       h
       ∙ ap (λ t. before x (cond t (and_then (value a) (after_value (weight a.trees)))
       (found ([], []) a))) e
       ∙ ap (λ o. before x (and_then o (after_value (weight a.trees)))) k
 
-  pub no-sign : (s : Ahead) (x : Both) (a b : Ahead) (v : A) (words : List ℕ) → SoFar s x a
-      → begins a ≡ true → value a ≡ found v b → goes_on b ≡ true → sign b ≡ missing words
-      → take s ≡ missing words
-  no-sign s x a b v words h e k m n =
+  pub no-sign : (s : Ahead) (x : Both) (a b : Ahead) (v : A) (lack : Missing) → SoFar s x a
+      → begins a ≡ true → value a ≡ found v b → goes_on b ≡ true → sign b ≡ missing lack
+      → take s ≡ missing lack
+  no-sign s x a b v lack h e k m n =
       h
       ∙ ap (before x) (turn_begins a b v e k
       ∙ ap

@@ -4,12 +4,13 @@ use Rattle.std.proofs.Common.{List, [], ◌∷◌, ◌++◌, append_assoc, appen
 use Rattle.std.proofs.lemmas.List.{map-append}
 use Rattle.std.specs.Prelude.{Result}
 use Rattle.tok_buffer.specs.Progress.{remaining}
-use Rattle.syn_parse.proofs.Failing.{fails_on}
+use Rattle.syn_parse.proofs.Failing.{fails_on, says_memory, stays_along, stays_here}
 use Rattle.syn_parse.proofs.Scopes.{in_one_scope}
 use Rattle.syn_parse.specs.Faults.{IsMemory}
 use Rattle.syn_parse.specs.Reads.{Call}
+use Rattle.syn_parse.specs.Positions.{scope_trees}
 use Rattle.syn_parse.specs.State.{State}
-use Rattle.syn_parse.specs.TreesAhead.{Ahead, IsFilled, ahead, scope_of}
+use Rattle.syn_parse.specs.TreesAhead.{Ahead, ahead, scope_of}
 use Rattle.syn_parse.specs.Takings.{Lightens, Lowers}
 use Rattle.syn_parse.specs.Takes.{Stays, TakesAs, Taking, found}
 use Rattle.syn_parse.specs.declared.fault.Fault.{Fault}
@@ -23,9 +24,6 @@ use Rattle.syn_punctuated.specs.Turns.{Rule, ValueCall, Turn, turn_value, turn_s
 use Rattle.syn_punctuated.specs.Turns.{Holds, IsTurn, IsRun, Ending, at_end, bare, value_refused}
 use Rattle.syn_punctuated.specs.Turns.{separator_refused, value_lost, turn_lost, stuck}
 use Rattle.syn_punctuated.specs.declared.punctuated.Punctuated.{Punctuated}
-
-stays-along : (s m t : State) → Stays s m → Stays m t → Stays s t
-stays-along s m t a b = (λ i. b.0 (a.0 i), b.1 ∙ a.1, omega (arith, a.2, b.2))
 
 -- a rule by two tests of what is ahead
 pub record Tells (rule : Rule) (begins goes_on : Ahead → Bool) (Good : State
@@ -94,8 +92,8 @@ module _ {T P F A S : Type 0} (rule : Rule) (reads : ValueCall F T) (separates :
             (tells.begins_there s so.good i.opens.0) v.0
             (tells.goes_on_there turn.between good i.goes_on) p.0);
         stays =
-            stays-along start turn.between turn.after
-            (stays-along start s turn.between so.stays v.1) p.1;
+            stays_along start turn.between turn.after
+            (stays_along start s turn.between so.stays v.1) p.1;
         good = tells.stays_good turn.between turn.after p.1 good;
       }
 
@@ -122,7 +120,8 @@ module _ {T P F A S : Type 0} (rule : Rule) (reads : ValueCall F T) (separates :
       → r ≡ Err e → TakesAs (list_form form shape) take start r t
   memory_fails start t r (Refused d) m h = absurd m
   memory_fails start t r (Memory d) m h =
-      subst (λ x. TakesAs (list_form form shape) take start x t) (sym h) (tt, λ i. tt)
+      subst (λ x. TakesAs (list_form form shape) take start x t) (sym h)
+      (tt, λ i. says_memory (scope_trees start.place) start.scope_span (take (ahead start)) d)
 
   ending_takes : (start : State) (turns : List (Turn T P F)) (f : F) (s t : State)
       (r : Result (Punctuated T P) Fault) → Taken start turns s
@@ -144,34 +143,33 @@ module _ {T P F A S : Type 0} (rule : Rule) (reads : ValueCall F T) (separates :
             (form v) so.so_far (tells.begins_there s so.good b.0) w.0
             (tells.stops_there t (tells.stays_good s t w.1 so.good) q)
             ∙ ap (λ x. found x (ahead t)) (sym (as-list turns (v ∷ []) list h)),
-        stays-along start s t so.stays w.1,
+        stays_along start s t so.stays w.1,
       )
   ending_takes start turns f s t (Err x) so (bare v g b q h) = absurd h
   ending_takes start turns f s t r so (value_refused e g b q) =
       subst (λ x. TakesAs (list_form form shape) take start x t) (sym q)
       (fails_on (value (ahead s)) (take (ahead start))
-      (λ words k. no-value begins goes_on value sign lighter lower (ahead start) (turns_form turns)
+      (λ x k. no-value begins goes_on value sign lighter lower (ahead start) (turns_form turns)
       (ahead s)
-      words so.so_far (tells.begins_there s so.good b.0) k) e (IsFilled s.place)
-      (IsFilled start.place)
-      so.stays.0 (each f g s t (Err e) so.good b.1))
+      x so.so_far (tells.begins_there s so.good b.0) k) e start s
+      so.stays (each f g s t (Err e) so.good b.1))
   ending_takes start turns f s t r so (separator_refused v g m e b q p h) =
       let w = each f g s m (Ok v) so.good b.1 in
       let good = tells.stays_good s m w.1 so.good in
       subst (λ x. TakesAs (list_form form shape) take start x t) (sym h)
       (fails_on (sign (ahead m)) (take (ahead start))
-      (λ words k. no-sign begins goes_on value sign lighter lower (ahead start) (turns_form turns)
+      (λ x k. no-sign begins goes_on value sign lighter lower (ahead start) (turns_form turns)
       (ahead s)
-      (ahead m) (form v) words so.so_far (tells.begins_there s so.good b.0) w.0
-      (tells.goes_on_there m good q) k) e (IsFilled m.place) (IsFilled start.place)
-      (λ i. w.1.0 (so.stays.0 i)) (signs m t (Err e) good p))
+      (ahead m) (form v) x so.so_far (tells.begins_there s so.good b.0) w.0
+      (tells.goes_on_there m good q) k) e start m
+      (stays_along start s m so.stays w.1) (signs m t (Err e) good p))
   ending_takes start turns f s t r so (value_lost v g e b q p h) = memory_fails start t r e p h
   ending_takes start turns f s t r so (turn_lost turn e i q p h) = memory_fails start t r e p h
   ending_takes start turns f s t r so (stuck turn e i q n w h) =
       let v = each f turn.parser s turn.between (Ok turn.value) so.good i.opens.1 in
       let good = tells.stays_good s turn.between v.1 so.good in
       let p = signs turn.between turn.after (Ok turn.separator) good i.closes in
-      let all = stays-along s turn.between turn.after v.1 p.1 in
+      let all = stays_along s turn.between turn.after v.1 p.1 in
       let few = less turn.between turn.separator turn.after i.closes in
       let kept = subst (λ (u : State). remaining s.place ≤ remaining u.place) q
       (n.1 (in_one_scope s.place t.place
@@ -185,6 +183,6 @@ module _ {T P F A S : Type 0} (rule : Rule) (reads : ValueCall F T) (separates :
       (chain_takes s [] i.turns f i.parser s i.last i.chain
       (record {
         so_far = no-turns begins goes_on value sign lighter lower (ahead s);
-        stays = (λ filled. filled, refl, omega arith);
+        stays = stays_here s;
         good = good;
       })) i.ending

@@ -3,6 +3,7 @@ use Rattle.std.specs.Prelude.{ℕ, zero, suc, Bool, true, not, List, [], ◌∷�
 use Rattle.std.specs.Prelude.{Option, Some, Result}
 use Rattle.tok_core.specs.Forest.{Forest}
 use Rattle.tok_core.specs.Weight.{weight}
+use Rattle.syn_parse.specs.Positions.{at_end}
 use Rattle.syn_parse.specs.Reads.{Call}
 use Rattle.syn_parse.specs.TreesAhead.{Ahead, is_spent}
 use Rattle.syn_parse.specs.State.{State}
@@ -18,7 +19,8 @@ use Rattle.syn_punctuated.specs.declared.punctuated.Punctuated.{Punctuated}
 -- and a separator follows a value where the second is.
 abbrev pub take_turns : {A P : Type 0} → ℕ → (begins goes_on : Ahead → Bool) → Taking A → Taking P
     → Taking (List A × List P)
-take_turns zero begins goes_on value sign = λ a. missing []
+take_turns zero begins goes_on value sign =
+    λ a. missing (record { position = at_end; words = [] })
 take_turns (suc n) begins goes_on value sign =
     where_ahead begins (do
       v ← value

@@ -2,6 +2,7 @@
 use Rattle.std.proofs.Common.{◌≡◌, ℕ, List, Ok, Err, inl, inr, subst, sym, true}
 use Rattle.std.specs.Prelude.{Result}
 use Rattle.std.specs.declared.alloc.AllocError.{AllocError}
+use Rattle.tok_leaves.specs.Spans.{call_site}
 use Rattle.tok_core.specs.Erase.{erase}
 use Rattle.tok_core.specs.Filled.{filled}
 use Rattle.tok_core.specs.Forest.{Forest}
@@ -30,7 +31,7 @@ use Rattle.syn_tokens_c.specs.declared.flat.FlatArgument.{FlatArgument}
 
 module _ (es : List Entry) (bs : List ℕ) where
   of_parsed : (f : Forest) (parsed : Result Arguments Fault) → Denotes es bs f
-      → Parses (erase f) parsed → SaysWhy (erase f) parsed
+      → Parses (erase f) parsed → SaysWhy (pruned f) parsed
       → ParsesArguments es bs (result_of parsed)
   of_parsed f (Ok list) d p s = (f, d, p)
   of_parsed f (Err (fault.Refused e)) d (inl m) s = absurd m
@@ -50,11 +51,9 @@ module _ (es : List Entry) (bs : List ℕ) where
       → ParsesArguments es bs result
   arguments_of_entries calls each fills result (inl (f, parsed, d, whole, same)) =
       let taken =
-      parser_keeps arguments (pruned f) calls each parsed whole (fills f).1 in
+      parser_keeps arguments (pruned f) call_site calls each parsed whole (fills f).1 in
       let p = subst (λ trees. Parses trees parsed) (fills f).0 (parses (pruned f) parsed taken) in
-      let s =
-      subst (λ trees. SaysWhy trees parsed) (fills f).0
-      (says (pruned f) parsed (fills f).1 taken) in
+      let s = says (pruned f) parsed (fills f).1 taken in
       subst (ParsesArguments es bs) (sym same) (of_parsed f parsed d p s)
   arguments_of_entries calls each fills result (inr (stop, h, same)) =
       subst (ParsesArguments es bs) (sym same) (of_stopped stop h)

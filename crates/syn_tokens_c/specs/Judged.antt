@@ -15,6 +15,7 @@ use Rattle.entry_outcomes.specs.declared.outcome.Outcome.{Outcome}
 use Rattle.entry_outcomes.specs.declared.parse.EntriesFault.{EntriesFault}
 use Rattle.entry_outcomes.specs.declared.parse.EntriesFault.TheVariants.{Rejected}
 use Rattle.tok_entries.specs.Denotes.{Denotes}
+use Rattle.tok_pruned.specs.Pruned.{pruned}
 use Rattle.tok_entries.specs.declared.entry.Entry.{Entry}
 use Rattle.syn_tokens_c.specs.Flats.{given_list}
 use Rattle.syn_tokens_c.specs.declared.flat.FlatArgument.{FlatArgument}
@@ -25,7 +26,7 @@ abbrev pub ParsesArguments : List Entry → List ℕ → Result Arguments Entrie
 ParsesArguments es bs (Ok list) =
     (f : Forest) × Denotes es bs f × AreArguments (erase f) list
 ParsesArguments es bs (Err (Rejected e)) =
-    (f : Forest) × Denotes es bs f × AreNoArguments (erase f) × IsWhy (erase f) e
+    (f : Forest) × Denotes es bs f × AreNoArguments (erase f) × IsWhy (pruned f) e
 ParsesArguments es bs (Err fault) = IsStopped es bs fault
 
 -- what there is to write of a result

@@ -2,6 +2,7 @@
 ghost use Rattle.std.specs.Prelude.{◌≡◌, IfOk};
 ghost use Rattle.arguments.specs.Results.{Agree, Parses, ParsesTo, SaysWhy};
 ghost use Rattle.tok_core.specs.Erase.{erase};
+ghost use Rattle.tok_pruned.specs.Pruned.{pruned};
 
 use arguments::{Arguments, arguments_both, parse_arguments};
 use std::alloc::{AllocError, Global};
@@ -23,7 +24,7 @@ use tok_pruned::prune;
 /// ```
 pub fn visible_arguments(alloc: Global, tokens: TokenStream) -> Result<Arguments>
     ensures parses { Parses (erase tokens) result }
-    ensures says { SaysWhy (erase tokens) result }
+    ensures says { SaysWhy (pruned tokens) result }
 {
     let filled = prune(alloc, tokens)?;
     parse_arguments(alloc, filled)
@@ -53,8 +54,8 @@ pub fn visible_arguments_both(
     ),
     AllocError,
 >
-    ensures left { IfOk result (λ both. ParsesTo (erase left) both.0) }
-    ensures right { IfOk result (λ both. ParsesTo (erase right) both.1) }
+    ensures left { IfOk result (λ both. ParsesTo (pruned left) both.0) }
+    ensures right { IfOk result (λ both. ParsesTo (pruned right) both.1) }
     ensures agree { IfOk result (λ both. erase left ≡ erase right → Agree both.0 both.1) }
 {
     let first = prune(alloc, left)?;

@@ -1,8 +1,10 @@
 -- What is stated of a pruned forest holds of the visible trees of the forest.
-use Rattle.std.proofs.Common.{◌≡◌, Ok, Err, true, ap, subst, sym, ◌∙◌}
+use Rattle.std.specs.Prelude.{None}
+use Rattle.std.proofs.Common.{◌≡◌, Ok, Err, ap, subst, sym, ◌∙◌}
 use Rattle.std.specs.Prelude.{Result}
 use Rattle.tok_core.specs.Erase.{erase}
 use Rattle.tok_core.specs.Forest.{Forest}
+use Rattle.tok_leaves.specs.Spans.{call_site}
 use Rattle.tok_pruned.specs.Pruned.{pruned}
 use Rattle.tok_pruned.proofs.Pruning.{erase_pruned, filled_pruned}
 use Rattle.syn_parse.proofs.Finished.{results_agree, words_agree}
@@ -15,38 +17,51 @@ use Rattle.syn_parse.specs.declared.fault.Fault.{Fault}
 use Rattle.visible_parse.specs.Visible.{AgreeAs, KeepsVisible, SaySame, TakesVisible}
 
 same_whole : (f : Forest) → whole (pruned f) ≡ whole f
-same_whole f = ap (λ g. record { trees = g; clean = true }) (erase_pruned f)
+same_whole f = ap (λ g. record { trees = g; unread = None }) (erase_pruned f)
 
 module _ {T A : Type 0} (form : T → A) (take : Taking A) where
-  -- what is stated speaks of what is ahead alone
-  abbrev TakesAhead : Ahead → Result T Fault → Type 0
-  TakesAhead a (Ok v) = take a ≡ found (form v) all_taken
-  TakesAhead a (Err e) =
-      MemoryOr e ((x : A) → take a ≡ found x all_taken → ⊥) × SaysAll (take a) e
+  -- what is stated speaks of what is ahead, and of the places of errors in the pruned forest
+  abbrev TakesAhead : Forest → Ahead → Result T Fault → Type 0
+  TakesAhead f a (Ok v) = take a ≡ found (form v) all_taken
+  TakesAhead f a (Err e) =
+      MemoryOr e ((x : A) → take a ≡ found x all_taken → ⊥) × SaysAll f call_site (take a) e
 
-  over : (f g : Forest) → whole f ≡ whole g → (r : Result T Fault)
-      → TakesVisible form take f r → TakesVisible form take g r
-  over f g e (Ok v) h = subst (λ a. TakesAhead a (Ok v)) e h
-  over f g e (Err x) h = subst (λ a. TakesAhead a (Err x)) e h
+  over : (f : Forest) (a b : Ahead) → a ≡ b → (r : Result T Fault) → TakesAhead f a r
+      → TakesAhead f b r
+  over f a b e r h = subst (λ x. TakesAhead f x r) e h
 
-  -- nothing in a pruned forest is empty, so the words of an error are right
-  is_taken : (f : Forest) (r : Result T Fault) → TakesAll form take (pruned f) r
-      → TakesVisible form take (pruned f) r
+  -- nothing in a pruned forest is empty, so what an error says is right
+  is_taken : (f : Forest) (r : Result T Fault) → TakesAll form take (pruned f) call_site r
+      → TakesAhead (pruned f) (whole (pruned f)) r
   is_taken f (Ok v) h = h
   is_taken f (Err e) h = (h.0, h.1 (filled_pruned f))
 
-  takes_all : (f : Forest) (r : Result T Fault) → TakesVisible form take f r
-      → TakesAll form take f r
+  takes_all : (f : Forest) (r : Result T Fault) → TakesAhead (pruned f) (whole (pruned f)) r
+      → TakesAll form take (pruned f) call_site r
   takes_all f (Ok v) h = h
   takes_all f (Err e) h = (h.0, λ i. h.1)
 
-  takes_visible : (f : Forest) (r : Result T Fault) → TakesAll form take (pruned f) r
+  visible_ahead : (f : Forest) (r : Result T Fault) → TakesAhead (pruned f) (whole f) r
       → TakesVisible form take f r
-  takes_visible f r h = over (pruned f) f (same_whole f) r (is_taken f r h)
+  visible_ahead f (Ok v) h = h
+  visible_ahead f (Err e) h = h
+
+  ahead_visible : (f : Forest) (r : Result T Fault) → TakesVisible form take f r
+      → TakesAhead (pruned f) (whole f) r
+  ahead_visible f (Ok v) h = h
+  ahead_visible f (Err e) h = h
+
+  takes_visible : (f : Forest) (r : Result T Fault) → TakesAll form take (pruned f) call_site r
+      → TakesVisible form take f r
+  takes_visible f r h =
+      visible_ahead f r
+      (over (pruned f) (whole (pruned f)) (whole f) (same_whole f) r (is_taken f r h))
 
   takes_pruned : (f : Forest) (r : Result T Fault) → TakesVisible form take f r
-      → TakesAll form take (pruned f) r
-  takes_pruned f r h = takes_all (pruned f) r (over f (pruned f) (sym (same_whole f)) r h)
+      → TakesAll form take (pruned f) call_site r
+  takes_pruned f r h =
+      takes_all f r
+      (over (pruned f) (whole f) (whole (pruned f)) (sym (same_whole f)) r (ahead_visible f r h))
 
   module _ (f g : Forest) (e : erase f ≡ erase g) (x y : Result T Fault) where
     same_pruned : erase (pruned f) ≡ erase (pruned g)
@@ -54,26 +69,28 @@ module _ {T A : Type 0} (form : T → A) (take : Taking A) where
 
     agree_visibly : TakesVisible form take f x → TakesVisible form take g y → Agree form x y
     agree_visibly h k =
-        results_agree form take (pruned f) (pruned g) same_pruned x y (takes_pruned f x h)
+        results_agree form take (pruned f) call_site (pruned g) call_site same_pruned x y
+        (takes_pruned f x h)
         (takes_pruned g y k)
 
     say_same : TakesVisible form take f x → TakesVisible form take g y
         → WordsAgree (take (whole f)) x y
     say_same h k =
         subst (λ a. WordsAgree (take a) x y) (same_whole f)
-        (words_agree form take (pruned f) (pruned g) same_pruned (filled_pruned f)
+        (words_agree form take (pruned f) call_site (pruned g) call_site same_pruned
+        (filled_pruned f)
         (filled_pruned g) x y (takes_pruned f x h) (takes_pruned g y k))
 
 module _ {T : Type 0} where
   pub keeps_visible : (takes : Takings T) (f : Forest) (r : Result T Fault)
-      → KeepsWhole takes (pruned f) r → KeepsVisible takes f r
+      → KeepsWhole takes (pruned f) call_site r → KeepsVisible takes f r
   keeps_visible untold f r h = tt
   keeps_visible (told form take w) f r h = takes_visible form take f r h
   keeps_visible (told_filled form take w) f r h = takes_visible form take f r (h (filled_pruned f))
 
   pub fails_visibly : (takes : Takings T) (f : Forest) (r : Result T Fault) → OnMemory r
       → KeepsVisible takes f r
-  fails_visibly takes f r h = keeps_visible takes f r (memory_keeps takes (pruned f) r h)
+  fails_visibly takes f r h = keeps_visible takes f r (memory_keeps takes (pruned f) call_site r h)
 
   pub both_agree : (takes : Takings T) (f g : Forest) (x y : Result T Fault)
       → KeepsVisible takes f x → KeepsVisible takes g y → erase f ≡ erase g → AgreeAs takes x y

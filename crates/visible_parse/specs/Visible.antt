@@ -1,16 +1,19 @@
 -- What is parsed of the visible trees of a stream. No premise speaks of its invisible groups.
 use Rattle.std.specs.Prelude.{Result, Ok, Err}
 use Rattle.tok_core.specs.Forest.{Forest}
+use Rattle.tok_leaves.specs.Spans.{call_site}
+use Rattle.tok_pruned.specs.Pruned.{pruned}
 use Rattle.syn_parse.specs.Takes.{Agree, IsAll, MemoryOr, SaysAll, Taking, WordsAgree}
 use Rattle.syn_parse.specs.Takings.{Takings, told, told_filled, untold}
 use Rattle.syn_parse.specs.TreesAhead.{whole}
 use Rattle.syn_parse.specs.declared.fault.Fault.{Fault}
 
--- the value that all visible trees are; or, where they are none, an error that says what is missing
+-- The value that all visible trees are; or, where they are none, an error that says what is
+-- missing, at its place in the pruned stream.
 abbrev pub TakesVisible : {T A : Type 0} → (T → A) → Taking A → Forest → Result T Fault → Type 0
 TakesVisible form take f (Ok v) = IsAll take f (form v)
 TakesVisible {A} form take f (Err e) =
-    MemoryOr e ((x : A) → IsAll take f x → ⊥) × SaysAll (take (whole f)) e
+    MemoryOr e ((x : A) → IsAll take f x → ⊥) × SaysAll (pruned f) call_site (take (whole f)) e
 
 -- the visible trees of a stream are read as the type states
 abbrev pub KeepsVisible : {T : Type 0} → Takings T → Forest → Result T Fault → Type 0

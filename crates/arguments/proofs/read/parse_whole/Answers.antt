@@ -1,4 +1,5 @@
 use Rattle.std.specs.Fn.{FnOnceReturnsAtMut}
+use Rattle.tok_leaves.specs.Spans.{call_site}
 use Rattle.syn_parse.proofs.GroupTakes.{at-states}
 use Rattle.syn_parse.proofs.WholeTakes.{parser_keeps}
 use Rattle.syn_parse.specs.Takings.{Keeps}
@@ -7,5 +8,5 @@ use Rattle.arguments.proofs.read.parse_whole.Goals as goal
 
 pub returns : goal.returns
 returns c =
-    parser_keeps arguments c.args.tokens (FnOnceReturnsAtMut _ _)
+    parser_keeps arguments c.args.tokens call_site (FnOnceReturnsAtMut _ _)
     (λ s t r h. at-states (Keeps arguments) _ _ s t r h.shows h.leaves h.met) _ c.parse2.ensures

@@ -9,7 +9,8 @@ pub returns-clause-takes : goal.returns-clause-takes
 returns-clause-takes g c =
     let from : c.tokens_to_parse_buffer-input.result ≡ whole_stream c.args.tokens call_site =
     search rules in
-    whole_keeps g.T.Parse.takes c.args.tokens c.parse-parsed.result c.parse-parsed.new.input
+    whole_keeps g.T.Parse.takes c.args.tokens call_site c.parse-parsed.result
+    c.parse-parsed.new.input
     c.settle.result
     (subst (λ s. Keeps g.T.Parse.takes s c.parse-parsed.result c.parse-parsed.new.input) from
     c.parse-parsed.ensures.takes)

@@ -22,7 +22,8 @@ returns-in-Ok-clause-takes g c =
     let f = c.in-Ok.buffer.forest in
     let from : c.tokens_to_parse_buffer-input.result ≡ whole_stream f call_site = search rules in
     let kept =
-    whole_keeps g.T.Parse.takes f c.parse-parsed.result c.parse-parsed.new.input c.settle.result
+    whole_keeps g.T.Parse.takes f call_site c.parse-parsed.result c.parse-parsed.new.input
+    c.settle.result
     (subst (λ s. Keeps g.T.Parse.takes s c.parse-parsed.result c.parse-parsed.new.input) from
     c.parse-parsed.ensures.takes)
     c.settle.ensures in

@@ -12,7 +12,8 @@ returns-in-Ok-clause-takes g c =
     inl (
       f,
       c.in-Ok.ensures.follows.reads,
-      whole_keeps g.T.Parse.takes f c.parse-parsed.result c.parse-parsed.new.input c.settle.result
+      whole_keeps g.T.Parse.takes f call_site c.parse-parsed.result c.parse-parsed.new.input
+          c.settle.result
           (subst (λ s. Keeps g.T.Parse.takes s c.parse-parsed.result c.parse-parsed.new.input) from
           c.parse-parsed.ensures.takes)
           c.settle.ensures,

@@ -1,5 +1,5 @@
 use Rattle.arguments.specs.Results.{Parses, SaysWhy}
-use Rattle.visible_arguments.proofs.Visible.{visible}
+use Rattle.visible_arguments.proofs.Visible.{prunes, visible}
 use Rattle.visible_arguments.proofs.read.visible_arguments.Goals as goal
 
 pub returns-clause-parses : goal.returns-clause-parses
@@ -10,6 +10,6 @@ returns-clause-parses c =
 
 pub returns-clause-says : goal.returns-clause-says
 returns-clause-says c =
-    visible (λ x. SaysWhy x c.parse_arguments.result) c.args.tokens c.in_ok-filled.filled
+    prunes (λ x. SaysWhy x c.parse_arguments.result) c.args.tokens c.in_ok-filled.filled
     c.in_ok-filled.ensures.prunes
     c.parse_arguments.ensures.says
