@@ -1,6 +1,7 @@
 //! Types that state what they take, and their parsers.
 ghost use Rattle.std.specs.Prelude.{◌≡◌, true};
 ghost use Rattle.std.specs.Str.{chars};
+ghost use Rattle.tok_leaves.specs.Spans.{call_site};
 ghost use Rattle.tok_core.specs.Erase.{erase};
 ghost use Rattle.tok_core.specs.Filled.{filled};
 ghost use Rattle.syn_parse.specs.Takes.{Agree, Takes, TakesAll, WordsAgree};
@@ -101,7 +102,7 @@ impl Parse for Mark {
 
 /// Parses all of these tokens as an entry.
 pub fn parse_entry(alloc: Global, tokens: TokenStream) -> Result<Entry>
-    ensures { TakesAll (λ v. v) take_entry tokens result }
+    ensures { TakesAll (λ v. v) take_entry tokens call_site result }
 {
     parse2(alloc, tokens)
 }

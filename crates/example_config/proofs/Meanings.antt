@@ -9,26 +9,39 @@ use Rattle.std.proofs.lemmas.Str.{encodes-chars}
 use Rattle.std.specs.Prelude.{◌==◌, codes, encode_utf8_all, if◌then◌else◌, length}
 use Rattle.std.specs.Str.{IsUtf8, chars}
 use Rattle.tok_leaves.specs.declared.span.Span.{Span}
-use Rattle.tok_buffer.specs.Messages.{first_text}
+use Rattle.tok_core.specs.Forest.{Forest}
+use Rattle.tok_buffer.specs.Messages.{message_at}
 use Rattle.tok_buffer.specs.declared.error.Message.{Message}
 use Rattle.syn_parse.specs.Faults.{Refuses}
 use Rattle.tok_values.specs.Values.{HasValue}
 use Rattle.tok_values.specs.declared.integers.IntegerFault.TheVariants.{TooLarge}
 use Rattle.syn_parse.specs.State.{State}
-use Rattle.syn_parse.specs.Takes.{IsMissing, Outcome, Taking, TakesAs, ◌>>=◌, and_then, found}
-use Rattle.syn_parse.specs.Takes.{missing}
+use Rattle.syn_parse.specs.Positions.{scope_trees}
+use Rattle.syn_parse.specs.Takes.{IsMissing, MemoryOr, Outcome, Says, Taking, TakesAs, ◌>>=◌}
+use Rattle.syn_parse.specs.Takes.{and_then, found, refuses_at}
 use Rattle.syn_parse.specs.TreesAhead.{Ahead, ahead}
 use Rattle.syn_parse.specs.declared.fault.Fault.{Fault}
 use Rattle.syn_parse.specs.declared.fault.Fault.TheVariants.{Memory, Refused}
 use Rattle.example_config.specs.Forms.{Form, number, value_form}
-use Rattle.example_config.specs.Reading.{Means, SaysOnce, in_integer, in_number, rejects}
+use Rattle.example_config.specs.Reading.{Means, SaysOnce, in_integer, in_number}
 use Rattle.example_config.specs.declared.value.Value.{Value}
 
--- an error of one message with these words says what is missing
-pub says : {A : Type 0} (o : Outcome A) (r : Message) (f : Fault) → o ≡ missing r.text
-    → Refuses r f → SaysOnce o f
-says o r (Refused e) h k = (h ∙ ap missing (sym (ap first_text k)), ap length k)
-says o r (Memory e) h k = tt
+-- an error at this span says what is missing there
+at_given : (A : Type 0) (a : Ahead) (span : Span) (words : List ℕ) (f : Fault)
+    → Refuses (message_at span words) f
+    → (trees : Forest) (scope : Span) → Says trees scope (refuses_at {A = A} span words a) f
+at_given A a span words (Refused e) k trees scope = (span, refl, k)
+at_given A a span words (Memory e) k trees scope = tt
+
+one_missing : (r : Message) (f : Fault) → Refuses r f → MemoryOr f (Unit {0})
+one_missing r (Refused e) k = (tt, ap length k)
+one_missing r (Memory e) k = tt
+
+pub says : {A : Type 0} (o : Outcome A) (a : Ahead) (span : Span) (words : List ℕ) (f : Fault)
+    → o ≡ refuses_at span words a → Refuses (message_at span words) f → SaysOnce o f
+says {A} o a span words f h k =
+    subst (λ x. SaysOnce x f) (sym h)
+    (one_missing (message_at span words) f k, at_given A a span words f k)
 
 pub is_empty : (text : List ℕ) → true ≡ (length text == 0) → text ≡ []
 is_empty [] e = refl
@@ -42,7 +55,7 @@ module _ (span : Span) (n : ℕ) (suffix : List ℕ) (a : Ahead) (small : n < 2 
   fits : in_integer span (Some (n, chars suffix)) a ≡ in_number span n (chars suffix) a
   fits =
       ap (λ b. (if b then in_number span n (chars suffix)
-      else rejects (codes "expected an integer below 2^64")) a) (lt-ltb n (2 ^ 64) small)
+      else refuses_at span (codes "expected an integer below 2^64")) a) (lt-ltb n (2 ^ 64) small)
 
   pub without_suffix : true ≡ (length suffix == 0)
       → in_integer span (Some (n, chars suffix)) a ≡ found (number span n) a
@@ -50,22 +63,23 @@ module _ (span : Span) (n : ℕ) (suffix : List ℕ) (a : Ahead) (small : n < 2 
   without_suffix e = fits ∙ ap (λ t. in_number span n (chars t) a) (is_empty suffix e)
 
   pub with_suffix : IsUtf8 suffix → false ≡ (length suffix == 0)
-      → in_integer span (Some (n, chars suffix)) a ≡ missing (codes "expected no suffix")
+      → in_integer span (Some (n, chars suffix)) a ≡ refuses_at span (codes "expected no suffix") a
   with_suffix u e = fits ∙ go (chars suffix) refl where
     go : (cs : List ℕ) → chars suffix ≡ cs
-        → in_number span n cs a ≡ missing (codes "expected no suffix")
+        → in_number span n cs a ≡ refuses_at span (codes "expected no suffix") a
     go [] k = absurd (no_text suffix e (sym (encodes-chars suffix u) ∙ ap encode_utf8_all k))
     go (c ∷ cs) k = refl
 
 -- an integer that is too large
 pub too_large : (span : Span) (wanted : Option (ℕ × List ℕ)) (a : Ahead)
     → HasValue wanted (Err TooLarge)
-    → in_integer span wanted a ≡ missing (codes "expected an integer below 2^64")
+    → in_integer span wanted a ≡ refuses_at span (codes "expected an integer below 2^64") a
 too_large span None a h = absurd h
 too_large span (Some i) a h = go (nat_lt i.0 (2 ^ 64)) refl where
   go : (b : Bool) → nat_lt i.0 (2 ^ 64) ≡ b
-      → (if b then in_number span i.0 i.1 else rejects (codes "expected an integer below 2^64")) a
-      ≡ missing (codes "expected an integer below 2^64")
+      → (if b then in_number span i.0 i.1
+      else refuses_at span (codes "expected an integer below 2^64")) a
+      ≡ refuses_at span (codes "expected an integer below 2^64") a
   go true e = let k = ltb-true i.0 (2 ^ 64) e in absurd (omega (arith, k, h))
   go false e = refl
 
@@ -74,7 +88,9 @@ module _ {B : Type 0} (take : Taking B) (m : B → Taking Form) (v : B) (s t : S
   pub then_means : (r : Result Value Fault) → TakesAs (λ v. v) take s (Ok v) t → Means (m v) r
       → TakesAs value_form (take >>= m) s r t
   then_means (Ok x) h k = (ap (λ o. and_then o m) h.0 ∙ k (ahead t), h.1)
-  then_means (Err (Refused e)) h k =
-      let missing_here = ap (λ o. and_then o m) h.0 ∙ (k (ahead t)).0 in
-      ((subst IsMissing (sym missing_here) tt, (k (ahead t)).1), λ i. missing_here)
-  then_means (Err (Memory e)) h k = (tt, λ i. tt)
+  then_means (Err f) h k =
+      let here = ap (λ o. and_then o m) h.0 in (
+        subst (λ o. MemoryOr f (IsMissing o)) (sym here) (k (ahead t)).0,
+        λ i. subst (λ o. Says (scope_trees s.place) s.scope_span o f) (sym here)
+            ((k (ahead t)).1 (scope_trees s.place) s.scope_span),
+      )

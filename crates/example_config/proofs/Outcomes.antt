@@ -2,6 +2,7 @@
 use Rattle.std.proofs.Common.{◌≡◌, Err, List, Ok, inl, inr, refl, subst, true, ℕ}
 use Rattle.std.specs.Prelude.{Result}
 use Rattle.tok_lexical.specs.declared.rule.Mode.TheVariants.{Plain}
+use Rattle.tok_leaves.specs.declared.span.Span.{Span}
 use Rattle.tok_core.specs.Erase.{erase}
 use Rattle.tok_core.specs.Filled.{filled}
 use Rattle.tok_core.specs.Forest.{Forest}
@@ -20,21 +21,22 @@ use Rattle.example_config.specs.declared.value.Setting.{Setting}
 use Rattle.example_config.proofs.Sound.{sound}
 use Rattle.example_config.proofs.Written.{settings_taken}
 
-parses : (f : Forest) (r : Result (Punctuated Setting Comma) Fault) → KeepsWhole settings f r
-    → filled f ≡ true → Parses (erase f) r
-parses f (Ok config) h i =
+parses : (f : Forest) (end : Span) (r : Result (Punctuated Setting Comma) Fault)
+    → KeepsWhole settings f end r → filled f ≡ true → Parses (erase f) r
+parses f end (Ok config) h i =
     (sound (erase f) all_taken (list_form setting_form (λ p. p) config) (h i)).1
-parses f (Err (Refused e)) h i = inr (λ form l. (h i).0.0 form (settings_taken (erase f) form l))
-parses f (Err (Memory e)) h i = inl tt
+parses f end (Err (Refused e)) h i =
+    inr (λ form l. (h i).0.0 form (settings_taken (erase f) form l))
+parses f end (Err (Memory e)) h i = inl tt
 
-pub reads_tokens : (f : Forest) (r : Result (Punctuated Setting Comma) Fault)
-    → KeepsWhole settings f r → ReadsTokens f r
-reads_tokens f r h = (h, parses f r h)
+pub reads_tokens : (f : Forest) (end : Span) (r : Result (Punctuated Setting Comma) Fault)
+    → KeepsWhole settings f end r → ReadsTokens f end r
+reads_tokens f end r h = (h, parses f end r h)
 
 -- a text has no invisible groups, so its tokens are all that is read
-pub reads_text : (source : ℕ) (cs : List ℕ) (f : Forest)
+pub reads_text : (source : ℕ) (cs : List ℕ) (end : Span) (f : Forest)
     (r : Result (Punctuated Setting Comma) Fault) → Reads Plain source cs f
-    → ReadsTokens f r → ReadsText source cs r
-reads_text source cs f r h k =
+    → ReadsTokens f end r → ReadsText source cs end r
+reads_text source cs end f r h k =
     let s = all_visible 0 Plain source cs f refl h in
     inl (f, h, k.0 s.0, subst (λ g. Parses g r) s.1 (k.1 s.0))

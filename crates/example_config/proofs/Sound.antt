@@ -18,7 +18,8 @@ use Rattle.syn_parse.proofs.TakenTrees.{IsGroup, IsTaken, given_taken, nested_ta
 use Rattle.syn_parse.proofs.TakenTrees.{where_taken, whole_group_taken}
 use Rattle.syn_parse.specs.Owned.{own_first, take_own}
 use Rattle.syn_parse.specs.Parses.{IsSpanOf}
-use Rattle.syn_parse.specs.Takes.{Taking, and_then, found, refuses, take_group, where_ahead}
+use Rattle.syn_parse.specs.Takes.{Taking, and_then, found, refuses, refuses_at}
+use Rattle.syn_parse.specs.Takes.{take_group, where_ahead}
 use Rattle.syn_parse.specs.Tokens.{sees_group, sees_literal, take_ident, take_literal}
 use Rattle.syn_parse.specs.TokenNames.{take_colon, take_comma}
 use Rattle.syn_parse.specs.TreesAhead.{Ahead, all_taken}
@@ -30,7 +31,7 @@ use Rattle.example_config.specs.Grammar.{and_values, colon, comma, is_false, is_
 use Rattle.example_config.specs.Grammar.{is_map, is_number, is_setting}
 use Rattle.example_config.specs.Grammar.{is_text, is_true, last_setting, last_value, no_setting, no_value}
 use Rattle.example_config.specs.Grammar.{sign, sign_at}
-use Rattle.example_config.specs.Reading.{in_integer, in_number, in_text, meaning, rejects, sees_own}
+use Rattle.example_config.specs.Reading.{in_integer, in_number, in_text, meaning, sees_own}
 use Rattle.example_config.specs.Reading.{setting_step, take_list_value, take_literal_value, take_map_value}
 use Rattle.example_config.specs.Reading.{take_meaning, take_plain, take_setting, take_truth, take_value}
 use Rattle.example_config.specs.Reading.{value_step}
@@ -53,7 +54,7 @@ module _ (literal : Literal) (a b : Ahead) (v : Form) where
   by_size : (i : ℕ × List ℕ) (t : Bool) → integer_value (chars literal.text) ≡ Some i
       → nat_lt i.0 (2 ^ 64) ≡ t
       → (if t then in_number literal.span i.0 i.1
-      else rejects (codes "expected an integer below 2^64")) a ≡ found v b → Means
+      else refuses_at literal.span (codes "expected an integer below 2^64")) a ≡ found v b → Means
   by_size i true k w e = by_suffix i.0 i.1 k (ltb-true i.0 (2 ^ 64) w) e
   by_size i false k w e = absurd (cc)
 
@@ -167,7 +168,7 @@ module _ (m : Taking Form) (h : IsTaken IsValue m) where
       ))
 
   settings_are : (f : Forest) (d : Ahead) (x : List SettingForm × List Comma)
-      → take_terminated (setting_step m) take_comma (record { trees = f; clean = true })
+      → take_terminated (setting_step m) take_comma (record { trees = f; unread = None })
       ≡ found x d → (d ≡ all_taken) × AreSettings f x.0 x.1
   settings_are =
       list_is IsSetting (IsSign comma) AreSettings (setting_step m) take_comma setting_sound
@@ -200,6 +201,6 @@ value_sound = nested_taken IsValue value_step level_sound
 
 -- settings are taken to the end, and are what the grammar has
 pub sound : (f : Forest) (d : Ahead) (x : List SettingForm × List Comma)
-    → take_terminated take_setting take_comma (record { trees = f; clean = true }) ≡ found x d
+    → take_terminated take_setting take_comma (record { trees = f; unread = None }) ≡ found x d
     → (d ≡ all_taken) × AreSettings f x.0 x.1
 sound = settings_are take_value value_sound

@@ -1,6 +1,6 @@
 -- What the grammar has as settings is taken as settings.
 use Rattle.std.proofs.Common.{◌≡◌, ◌∙◌, sym, ap, subst, refl, ℕ, ◌^◌, ◌==◌, Bool, true, false}
-use Rattle.std.proofs.Common.{List, [], ◌∷◌, Some, None, bytes_eq, cond, eqb-true, length}
+use Rattle.std.proofs.Common.{List, [], ◌∷◌, Option, Some, None, bytes_eq, cond, eqb-true, length}
 use Rattle.std.proofs.lemmas.Bool.{lt-ltb}
 use Rattle.std.proofs.lemmas.Slice.Eq.{bytes_eq-Decides}
 use Rattle.std.specs.Prelude.{codes, encode_utf8_all, if◌then◌else◌, is_some, option_map}
@@ -16,7 +16,7 @@ use Rattle.tok_types.specs.Sees.{group_first, literal_first}
 use Rattle.syn_parse.proofs.Shapes.{before, ident_shape, literal_shape, sign_shape, takes_group}
 use Rattle.syn_parse.specs.Lighter.{lowers_punctuation}
 use Rattle.syn_parse.specs.Owned.{own_first, take_own}
-use Rattle.syn_parse.specs.Takes.{Taking, and_then, found, refuses}
+use Rattle.syn_parse.specs.Takes.{Taking, and_then, found, refuses, refuses_at}
 use Rattle.syn_parse.specs.Tokens.{take_ident}
 use Rattle.syn_parse.specs.TokenNames.{take_colon, take_comma}
 use Rattle.syn_parse.specs.TreesAhead.{Ahead, all_taken}
@@ -29,7 +29,7 @@ use Rattle.example_config.specs.Grammar.{is_list, is_map}
 use Rattle.example_config.specs.Grammar.{is_number, is_setting, is_text, is_true, last_setting, last_value}
 use Rattle.example_config.specs.Grammar.{no_setting, no_value, sign, sign_at}
 use Rattle.example_config.specs.Nesting.{lightens_setting, lightens_value, value_again}
-use Rattle.example_config.specs.Reading.{in_integer, in_number, in_text, meaning, rejects, sees_own}
+use Rattle.example_config.specs.Reading.{in_integer, in_number, in_text, meaning, sees_own}
 use Rattle.example_config.specs.Reading.{setting_step, take_list_value, take_literal_value, take_map_value}
 use Rattle.example_config.specs.Reading.{take_plain, take_setting, take_value, value_step}
 
@@ -62,7 +62,8 @@ module _ (literal : Literal) (b : Ahead) where
   number_there n h =
       ap (λ o. in_text literal o b) (no_string _ _ h.0) ∙ ap (λ o. in_integer literal.span o b) h.0
       ∙ ap (λ t. (if t then in_number literal.span n []
-      else rejects (codes "expected an integer below 2^64")) b) (lt-ltb n (2 ^ 64) h.1)
+      else refuses_at literal.span (codes "expected an integer below 2^64")) b)
+      (lt-ltb n (2 ^ 64) h.1)
 
 true_there : (span : Span) (b : Ahead)
     → value_step take_value (before (leaf (ident (codes "true") span) ∷ []) b)
@@ -78,7 +79,7 @@ false_there span b = refl
 
 module _ (inside : Forest) (span : Span) (b : Ahead) where
   list_there : (x : List Form × List Comma)
-      → take_terminated take_value take_comma (record { trees = inside; clean = true })
+      → take_terminated take_value take_comma (record { trees = inside; unread = None })
       ≡ found x all_taken
       → value_step take_value (before (group Bracket inside span ∷ []) b) ≡ found (listed span x) b
   unfolding group_first take_list_value
@@ -87,7 +88,7 @@ module _ (inside : Forest) (span : Span) (b : Ahead) where
       (takes_group Bracket (take_terminated take_value take_comma) inside span x b h)
 
   map_there : (x : List SettingForm × List Comma)
-      → take_terminated take_setting take_comma (record { trees = inside; clean = true })
+      → take_terminated take_setting take_comma (record { trees = inside; unread = None })
       ≡ found x all_taken
       → value_step take_value (before (group Brace inside span ∷ []) b) ≡ found (mapped span x) b
   unfolding group_first take_map_value
@@ -95,8 +96,8 @@ module _ (inside : Forest) (span : Span) (b : Ahead) where
       ap (λ o. and_then o (λ s. found (mapped s.0.join s.1)))
       (takes_group Brace (take_terminated take_setting take_comma) inside span x b h)
 
-not_include : (key : Ident) (f : Forest) (c : Bool) → (key.text ≡ codes "include" → ⊥)
-    → sees_own (codes "include") (record { trees = tree (leaf (ident_of key)) f; clean = c })
+not_include : (key : Ident) (f : Forest) (c : Option Span) → (key.text ≡ codes "include" → ⊥)
+    → sees_own (codes "include") (record { trees = tree (leaf (ident_of key)) f; unread = c })
     ≡ false
 unfolding own_first
 not_include key f c other = go (bytes_eq (codes "include") key.text) refl where
@@ -116,7 +117,7 @@ setting_there key spacing span value ts b k h =
     (λ p d. and_then (take_value d) (λ x. found (key, p, x))) in
     ap (λ t. cond t (refuses (codes "this language has no `include`") a)
     (and_then (take_ident a) more))
-    (not_include key (before (sign colon spacing span ∷ ts) b).trees b.clean k.1)
+    (not_include key (before (sign colon spacing span ∷ ts) b).trees b.unread k.1)
     ∙ ap (λ o. and_then o more)
     (ident_shape.takes (before (sign colon spacing span ∷ ts) b) key _ (refl, k.0))
     ∙ ap (λ o. and_then o (λ p d. and_then (take_value d) (λ x. found (key, p, x))))
@@ -161,34 +162,34 @@ mutual
       setting_there key spacing span value ts b k (value_takes value ts i b)
 
   values_turns : (f : Forest) (vs : List Form) (ps : List Comma) → AreValues f vs ps
-      → Turns is_left is_left take_value take_comma (record { trees = f; clean = true }) vs ps
+      → Turns is_left is_left take_value take_comma (record { trees = f; unread = None }) vs ps
       all_taken
   values_turns _ _ _ no_value = done all_taken refl
   values_turns _ _ _ (last_value ts v i) =
-      subst (λ f. Turns is_left is_left take_value take_comma (record { trees = f; clean = true })
+      subst (λ f. Turns is_left is_left take_value take_comma (record { trees = f; unread = None })
       (v ∷ []) [] all_taken) (none_after (forest ts))
       (bare (before ts all_taken) all_taken v (value_left v ts i all_taken)
       (value_takes v ts i all_taken) refl)
   values_turns _ _ _ (and_values ts v spacing span rest vs ps i l) =
-      let b : Ahead = record { trees = tree (sign comma spacing span) rest; clean = true } in
-      let c : Ahead = record { trees = rest; clean = true } in
+      let b : Ahead = record { trees = tree (sign comma spacing span) rest; unread = None } in
+      let c : Ahead = record { trees = rest; unread = None } in
       turn (before ts b) b c all_taken v (sign_at span) vs ps (value_left v ts i b)
       (value_takes v ts i b) refl
       ((sign_shape 7 comma refl refl).takes c (sign_at span) _ (spacing, span, refl, refl))
       (values_turns rest vs ps l)
 
   settings_turns : (f : Forest) (vs : List SettingForm) (ps : List Comma) → AreSettings f vs ps
-      → Turns is_left is_left take_setting take_comma (record { trees = f; clean = true }) vs ps
+      → Turns is_left is_left take_setting take_comma (record { trees = f; unread = None }) vs ps
       all_taken
   settings_turns _ _ _ no_setting = done all_taken refl
   settings_turns _ _ _ (last_setting ts v i) =
       subst (λ f. Turns is_left is_left take_setting take_comma
-      (record { trees = f; clean = true }) (v ∷ []) [] all_taken) (none_after (forest ts))
+      (record { trees = f; unread = None }) (v ∷ []) [] all_taken) (none_after (forest ts))
       (bare (before ts all_taken) all_taken v (setting_left v ts i all_taken)
       (setting_takes v ts i all_taken) refl)
   settings_turns _ _ _ (and_settings ts v spacing span rest vs ps i l) =
-      let b : Ahead = record { trees = tree (sign comma spacing span) rest; clean = true } in
-      let c : Ahead = record { trees = rest; clean = true } in
+      let b : Ahead = record { trees = tree (sign comma spacing span) rest; unread = None } in
+      let c : Ahead = record { trees = rest; unread = None } in
       turn (before ts b) b c all_taken v (sign_at span) vs ps (setting_left v ts i b)
       (setting_takes v ts i b) refl
       ((sign_shape 7 comma refl refl).takes c (sign_at span) _ (spacing, span, refl, refl))
@@ -196,7 +197,7 @@ mutual
 
 -- the settings that the grammar has are taken, to the end
 pub settings_taken : (f : Forest) (x : List SettingForm × List Comma) → AreSettings f x.0 x.1
-    → take_terminated take_setting take_comma (record { trees = f; clean = true })
+    → take_terminated take_setting take_comma (record { trees = f; unread = None })
     ≡ found x all_taken
 settings_taken f x l =
     takes_list is_left is_left take_setting take_comma lightens_setting (lowers_punctuation 7 1) _ _

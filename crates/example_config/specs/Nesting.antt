@@ -5,34 +5,32 @@ use Rattle.std.specs.Str.{chars}
 use Rattle.tok_leaves.specs.declared.literal.Literal.{Literal}
 use Rattle.tok_leaves.specs.declared.span.Span.{Span}
 use Rattle.tok_values.specs.Values.{integer_value, string_value}
-use Rattle.syn_parse.specs.Lighter.{lightening, lightens_gives}
+use Rattle.syn_parse.specs.Lighter.{lightening, lightens_gives, lightens_refuses_at}
 use Rattle.syn_parse.specs.Nested.{Descends, lightens_nested, nested_again}
+use Rattle.syn_parse.specs.Takes.{refuses_at}
 use Rattle.syn_parse.specs.Takings.{Lightens, Takings, lighter, told_filled}
 use Rattle.syn_parse.specs.TreesAhead.{Ahead}
 use Rattle.syn_punctuated.specs.NestedLists.{descending_lists}
 use Rattle.example_config.specs.Forms.{setting_form, value_form}
-use Rattle.example_config.specs.Reading.{in_integer, in_number, in_text, meaning, rejects, setting_step}
+use Rattle.example_config.specs.Reading.{in_integer, in_number, in_text, meaning, setting_step}
 use Rattle.example_config.specs.Reading.{take_list_value, take_literal_value, take_map_value, take_plain}
 use Rattle.example_config.specs.Reading.{take_setting, take_value, value_step}
 use Rattle.example_config.specs.declared.value.Setting.{Setting}
 use Rattle.example_config.specs.declared.value.Value.{Value}
 
 -- none of these adds anything to what is ahead
-lightens_rejects : {A : Type 0} (words : List ℕ) → Lightens {A = A} (rejects words)
-lightens_rejects words = record { less = λ a b v e. absurd (cc) }
-
 lightens_number : (span : Span) (n : ℕ) (suffix : List ℕ) → Lightens (in_number span n suffix)
 lightens_number span n [] = lightens_gives _
-lightens_number span n (c ∷ cs) = lightens_rejects _
+lightens_number span n (c ∷ cs) = lightens_refuses_at span _
 
 lightens_integer : (span : Span) (o : Option (ℕ × List ℕ)) → Lightens (in_integer span o)
-lightens_integer span None = lightens_rejects _
+lightens_integer span None = lightens_refuses_at span _
 lightens_integer span (Some i) = below (nat_lt i.0 (2 ^ 64)) where
   below : (b : Bool) → Lightens (if b
       then in_number span i.0 i.1
-      else rejects (codes "expected an integer below 2^64"))
+      else refuses_at span (codes "expected an integer below 2^64"))
   below true = lightens_number span i.0 i.1
-  below false = lightens_rejects _
+  below false = lightens_refuses_at span _
 
 lightens_text : (literal : Literal) (o : Option (List ℕ)) → Lightens (in_text literal o)
 lightens_text literal (Some t) = lightens_gives _

@@ -16,8 +16,8 @@ use Rattle.syn_parse.specs.Faults.{IsRefused}
 use Rattle.syn_parse.specs.Nested.{take_nested}
 use Rattle.syn_parse.specs.Owned.{own_first, take_own}
 use Rattle.syn_parse.specs.Parsers.{OnMemory, lex_message}
-use Rattle.syn_parse.specs.Takes.{MemoryOr, Outcome, Says, Taking, ◌>>=◌, found, gives, missing}
-use Rattle.syn_parse.specs.Takes.{TakesAll, refuses, take_group, where_ahead}
+use Rattle.syn_parse.specs.Takes.{IsMissing, MemoryOr, Outcome, Says, Taking, ◌>>=◌, found, gives}
+use Rattle.syn_parse.specs.Takes.{TakesAll, refuses, refuses_at, take_group, where_ahead}
 use Rattle.syn_parse.specs.Takings.{KeepsWhole, Takings, taken_filled}
 use Rattle.syn_parse.specs.TokenNames.{take_colon, take_comma}
 use Rattle.syn_parse.specs.Tokens.{sees_group, sees_literal, take_ident, take_literal}
@@ -31,22 +31,19 @@ use Rattle.example_config.specs.Grammar.{Parses}
 use Rattle.example_config.specs.declared.value.Setting.{Setting}
 use Rattle.example_config.specs.declared.value.Value.{Value}
 
--- an error with these words
-abbrev pub rejects : {A : Type 0} → List ℕ → Taking A
-rejects words a = missing words
-
 -- an integer without a suffix
 abbrev pub in_number : Span → (n : ℕ) → (suffix : List ℕ) → Taking Form
 in_number span n [] = gives (number span n)
-in_number span n (c ∷ cs) = rejects (codes "expected no suffix")
+in_number span n (c ∷ cs) = refuses_at span (codes "expected no suffix")
 
 -- the value of an integer literal, below 2^64
 abbrev pub in_integer : Span → Option (ℕ × List ℕ) → Taking Form
-in_integer span None = rejects (codes "expected a string without a suffix, or an integer")
+in_integer span None =
+    refuses_at span (codes "expected a string without a suffix, or an integer")
 in_integer span (Some i) =
     if nat_lt i.0 (2 ^ 64)
     then in_number span i.0 i.1
-    else rejects (codes "expected an integer below 2^64")
+    else refuses_at span (codes "expected an integer below 2^64")
 
 -- the value of a string literal, or else of an integer literal
 abbrev pub in_text : Literal → Option (List ℕ) → Taking Form
@@ -57,9 +54,9 @@ in_text literal None = in_integer literal.span (integer_value (chars literal.tex
 unfoldable pub meaning : Literal → Taking Form
 meaning literal = in_text literal (string_value (chars literal.text))
 
--- an error has one message, which says what is missing
+-- an error has one message, which says what is missing, whatever the scope is
 abbrev pub SaysOnce : {A : Type 0} → Outcome A → Fault → Type 0
-SaysOnce o f = MemoryOr f (Says o f)
+SaysOnce o f = MemoryOr f (IsMissing o) × ((trees : Forest) (scope : Span) → Says trees scope o f)
 
 -- a value that is meant, or the words of an error
 abbrev pub Means : Taking Form → Result Value Fault → Type 0
@@ -145,16 +142,17 @@ values = taken_filled (list_form value_form (λ p. p)) (take_terminated take_val
 abbrev pub settings : Takings (Punctuated Setting Comma)
 settings = taken_filled (list_form setting_form (λ p. p)) take_settings
 
--- Tokens are read as the grammar has them, and an error has the words that are missing first. An
+-- Tokens are read as the grammar has them, and an error says what is missing first, and where. An
 -- empty invisible group is not the end, so it holds where there is none.
-abbrev pub ReadsTokens : Forest → Result (Punctuated Setting Comma) Fault → Type 0
-ReadsTokens f r = KeepsWhole settings f r × (filled f ≡ true → Parses (erase f) r)
+abbrev pub ReadsTokens : Forest → (end : Span) → Result (Punctuated Setting Comma) Fault → Type 0
+ReadsTokens f end r = KeepsWhole settings f end r × (filled f ≡ true → Parses (erase f) r)
 
 -- The text of a source is tokens, which are the settings that are returned; or which are none, and
--- the error has the words that are missing first. Or the grammar of tokens refuses it.
-abbrev pub ReadsText : (source : ℕ) → List ℕ → Result (Punctuated Setting Comma) Fault → Type 0
-ReadsText source cs r =
+-- the error says what is missing first, and where. Or the grammar of tokens refuses it.
+abbrev pub ReadsText : (source : ℕ) → List ℕ → (end : Span)
+    → Result (Punctuated Setting Comma) Fault → Type 0
+ReadsText source cs end r =
     ((f : Forest) × grammar.Reads Plain source cs f
-    × TakesAll (list_form setting_form (λ p. p)) take_settings f r × Parses f r)
+    × TakesAll (list_form setting_form (λ p. p)) take_settings f end r × Parses f r)
     ⊎ (((e : LexError) × grammar.IsRefused Plain source cs e × IsRefused (lex_message e) r)
     ⊎ OnMemory r)

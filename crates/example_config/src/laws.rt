@@ -1,5 +1,5 @@
 //! Laws of settings. Each is the contract of a function that does nothing.
-ghost use Rattle.std.specs.Prelude.{◌≡◌, ◌↔◌, true};
+ghost use Rattle.std.specs.Prelude.{◌≡◌, ◌↔◌, None};
 ghost use Rattle.tok_core.specs.Forest.{Forest};
 ghost use Rattle.syn_parse.specs.Takes.{found};
 ghost use Rattle.syn_parse.specs.TreesAhead.{all_taken};
@@ -10,7 +10,7 @@ ghost use Rattle.example_config.specs.Reading.{take_settings};
 /// the trees as these settings.
 pub fn grammar_is_read()
     ensures { (trees : Forest) (form : ListForm)
-        → (take_settings (record { trees = trees; clean = true }) ≡ found form all_taken)
+        → (take_settings (record { trees = trees; unread = None }) ≡ found form all_taken)
         ↔ AreForms trees form }
 {}
 

@@ -1,6 +1,7 @@
 //! The reader.
-ghost use Rattle.std.specs.Prelude.{ℕ, Err, List, Option, Some};
+ghost use Rattle.std.specs.Prelude.{ℕ, Err, List, Option, Some, length};
 ghost use Rattle.std.specs.Str.{chars};
+ghost use Rattle.tok_leaves.specs.Spans.{source};
 ghost use Rattle.syn_parse.specs.Takes.{TakesAs};
 ghost use Rattle.syn_parse.specs.TreesAhead.{Ahead};
 ghost use Rattle.syn_parse.specs.Takings.{Keeps};
@@ -26,7 +27,8 @@ use tok_values::{Integer, IntegerFault, LiteralExt};
 /// If the text is no configuration, returns the error of the first parser that fails. An error at
 /// the end of the text has an empty span there.
 pub fn parse_config(alloc: Global, number: u32, text: &str) -> Result<Config>
-    ensures { ReadsText number (chars text.now) result }
+    ensures { let size = length text.now in
+        ReadsText number (chars text.now) (source number size size) result }
 {
     match lex(alloc, number, text) {
         Ok(tokens) => parse_tokens(alloc, Span::source(number, text.len(), text.len()), tokens),
@@ -37,7 +39,7 @@ pub fn parse_config(alloc: Global, number: u32, text: &str) -> Result<Config>
 
 // Reads all of these tokens. An error at their end is at `end`.
 fn parse_tokens(alloc: Global, end: Span, tokens: TokenStream) -> Result<Config>
-    ensures { ReadsTokens tokens result }
+    ensures { ReadsTokens tokens end result }
 {
     read_settings.parse_scoped(alloc, end, tokens)
 }

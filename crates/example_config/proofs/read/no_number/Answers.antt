@@ -6,4 +6,4 @@ use Rattle.example_config.proofs.read.no_number.Goals as goal
 pub returns-in-TooLarge : goal.returns-in-TooLarge
 returns-in-TooLarge c = λ wanted h a.
     let large = subst (λ fault. HasValue wanted (Err fault)) c.in-TooLarge.is h in
-    says _ _ c.at.result (too_large c.args.span wanted a large) c.at.ensures.words
+    says _ a c.args.span _ c.at.result (too_large c.args.span wanted a large) c.at.ensures.words

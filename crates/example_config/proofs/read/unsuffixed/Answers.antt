@@ -12,6 +12,6 @@ returns-then-is_empty c = λ a.
 
 pub returns-else-is_empty : goal.returns-else-is_empty
 returns-else-is_empty c = λ a.
-    says _ _ c.at.result
+    says _ a c.args.span _ c.at.result
     (with_suffix c.args.span c.args.number c.args.suffix.now a (omega (arith, c.ranges.number.fits))
     c.utf8.suffix c.if-is_empty.ensures) c.at.ensures.words
