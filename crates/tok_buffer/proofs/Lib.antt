@@ -10,6 +10,7 @@ pub mod Followed
 pub mod Forests
 pub mod Groups
 pub mod InScope
+pub mod Joined
 pub mod Layouts
 pub mod Lefts
 pub mod Levels

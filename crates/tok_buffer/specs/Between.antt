@@ -1,11 +1,15 @@
 -- The trees between two places of a scope.
-use Rattle.std.specs.Prelude.{ℕ, ◌+◌, ◌-◌, nat_le, if◌then◌else◌, List, [], ◌∷◌}
+use Rattle.std.specs.Prelude.{◌≡◌, ℕ, ◌+◌, ◌-◌, nat_le, if◌then◌else◌, List, [], ◌∷◌}
+use Rattle.tok_core.specs.Erase.{erase}
 use Rattle.tok_core.specs.Forest.{Tree, leaf, group, Forest, no_trees, tree, concat}
 use Rattle.tok_core.specs.Weight.{weight, tree_weight}
 use Rattle.tok_buffer.specs.Descent.{descend}
 use Rattle.tok_buffer.specs.Order.{same_scope}
 use Rattle.tok_buffer.specs.Place.{Frame, frame, Place, empty_place, at, pass}
 use Rattle.tok_buffer.specs.Progress.{CallsLead}
+use Rattle.tok_buffer.specs.Rest.{rest}
+use Rattle.tok_buffer.specs.Trees.{PassesTrees}
+use Rattle.tok_buffer.specs.View.{erased_ahead}
 
 -- The trees that end with the first so many openings, leaves and closings of a forest; of a group
 -- that ends later, those of its contents that do.
@@ -41,6 +45,14 @@ pub data Follows (p : Place) : Place → Type 0 where
   from_here : Follows p p
   after_descent : (q : Place) → Follows p q → Follows p (descend q)
   after_tree : (q : Place) → Follows p q → Follows p (pass q)
+
+-- no visible tree is lost: these trees, and those ahead of a place that follows, are all ahead
+abbrev pub LosesNone : Place → Place → Forest → Type 0
+LosesNone p q f = Follows p q → concat (erase f) (erased_ahead q) ≡ erased_ahead p
+
+-- trees that are passed whole, and then the rest, are the rest before them
+abbrev pub PassedJoin : Type 0
+PassedJoin = (p q : Place) → PassesTrees p q → concat (between p q) (rest q) ≡ rest p
 
 -- each call leads there, and so do several in turn
 pub record ReadsFollow : Type 0 where

@@ -138,9 +138,21 @@ impl Error {
     ghost use Rattle.tok_buffer.specs.Spans.{current_span, range_end};
     ghost use Rattle.tok_buffer.specs.Messages.{stream_span, at_stream};
 
-    /// Creates an error of one message at `span`.
+    /// Creates an error of one message at `span`, whose text is what `message` displays.
+    ///
+    /// The text is allocated in `alloc`. `message` is a `&str` or any other value that implements
+    /// `Display`. `format_args!` makes one of a text with values in it, and allocates nothing.
     ///
     /// Returns an `AllocError` if an allocation fails.
+    ///
+    /// # Examples
+    ///
+    /// ```rust
+    /// let wanted: usize = 3;
+    /// let span = Span::source(0, 2, 5);
+    /// let error = Error::new(alloc, span, format_args!("expected {wanted} values"))?;
+    /// assert_eq!(rt; error.as_str(), "expected 3 values");
+    /// ```
     pub fn new<T: Display + Drop>(
         alloc: Global,
         span: Span,

@@ -6,7 +6,7 @@ ghost use Rattle.tok_core.specs.Lexical.Outcome.{FollowsGrammar, FollowsSource};
 ghost use Rattle.tok_buffer.specs.Buffer.{forest_of, KeepsReading, SameReading};
 ghost use Rattle.std.specs.declared.cmp.Ordering.TheVariants.{Equal};
 ghost use Rattle.tok_core.specs.Forest.{Forest};
-ghost use Rattle.tok_buffer.specs.Between.{ReadsFollow};
+ghost use Rattle.tok_buffer.specs.Between.{PassedJoin, ReadsFollow};
 ghost use Rattle.tok_buffer.specs.Cursors.{place_of, CursorsLoseNone};
 ghost use Rattle.tok_buffer.specs.Descent.{DescentsEnter};
 ghost use Rattle.tok_buffer.specs.InFront.{AheadTellsAll, AheadTellsEnds, AllAheadAtStart};
@@ -148,6 +148,12 @@ pub fn reads_keep_scope()
 /// does the place after several of these in turn. So `tokens_up_to` leaves out no visible tree.
 pub fn reads_follow()
     ensures { ReadsFollow }
+{}
+
+/// The trees between two cursors, if they were passed whole, and then the rest of the second are the
+/// rest of the first. So `tokens_up_to` copies exactly what was passed.
+pub fn passed_trees_join()
+    ensures { PassedJoin }
 {}
 
 /// A descent and a pass stay in the scope, and add nothing to what remains.

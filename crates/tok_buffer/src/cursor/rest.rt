@@ -3,7 +3,6 @@ ghost use Rattle.std.specs.Prelude.{◌≡◌, ◌≤◌, ◌++◌, ◌∷◌, [
 ghost use Rattle.std.specs.Fmt.{WritesOnOk};
 ghost use Rattle.tok_lexical.specs.Delimiters as delimiters;
 ghost use Rattle.tok_leaves.specs.Leaves.{leaf_text};
-ghost use Rattle.tok_core.specs.Erase.{erase};
 ghost use Rattle.tok_core.specs.Forest.{concat, leaf, no_trees};
 ghost use Rattle.tok_core.specs.Seen.{group_of, tree_of};
 ghost use Rattle.tok_core.specs.Text as spec;
@@ -11,14 +10,13 @@ ghost use Rattle.tok_core.specs.Text.{text};
 ghost use Rattle.tok_core.specs.Weight.{weight};
 ghost use Rattle.tok_buffer.specs.Private.Counts.{tree_count};
 ghost use Rattle.tok_buffer.specs.Private.Layout.{OpensGroup, leaf_in};
-ghost use Rattle.tok_buffer.specs.Between.{Follows, between, trees_to};
+ghost use Rattle.tok_buffer.specs.Between.{LosesNone, between, trees_to};
 ghost use Rattle.tok_buffer.specs.Cursors.{place_of, spot_place};
 ghost use Rattle.tok_buffer.specs.Gives.{Gives};
 ghost use Rattle.tok_buffer.specs.Moves.{frames_at, in_scope, place_at};
 ghost use Rattle.tok_buffer.specs.Reads.{is_group, read_if, read_tree};
 ghost use Rattle.tok_buffer.specs.Rest.{rest};
 ghost use Rattle.tok_buffer.specs.Trees.{read_visible};
-ghost use Rattle.tok_buffer.specs.View.{erased_ahead};
 
 use crate::buffer::TokenBuffer;
 use crate::cursor::Cursor;
@@ -114,10 +112,7 @@ impl<'a> Cursor<'a> {
     pub fn tokens_up_to(self, alloc: Global, end: Cursor<'_>) -> Result<TokenStream, AllocError>
         ensures trees { IfOk result
             (λ s. s ≡ between (place_of self.entry) (place_of end.entry)) }
-        ensures visible { IfOk result
-            (λ s. Follows (place_of self.entry) (place_of end.entry)
-            → concat (erase s) (erased_ahead (place_of end.entry))
-            ≡ erased_ahead (place_of self.entry)) }
+        ensures visible { IfOk result (LosesNone (place_of self.entry) (place_of end.entry)) }
     {
         if let (Some(from), Some(to)) = (self.spot, end.spot) {
             if self.same_scope(end) {
