@@ -1,5 +1,5 @@
 //! Errors in a text, with its lines.
-ghost use Rattle.std.specs.Prelude.{◌≡◌, ℕ, ◌++◌, ◌∷◌, [], IfOk, OnOk, decimal, string_bytes};
+ghost use Rattle.std.specs.Prelude.{◌≡◌, ℕ, ◌++◌, ◌∷◌, [], IfOk, OnOk, codes, decimal, string_bytes};
 ghost use Rattle.std.specs.List.{flat_map, repeat};
 ghost use Rattle.tok_leaves.specs.Spans.{range};
 ghost use Rattle.std.specs.Str.{chars};
@@ -43,23 +43,40 @@ pub struct Source<'a> {
 }
 
 impl Source<'_> {
-    /// Returns words with the line of a span, and carets under the span in that line, at least one.
+    /// Shows an error: its words, the line of its span, and carets under the span in that line, at
+    /// least one.
     ///
     /// If the span is the call site, or begins at no character of this text, the words are alone.
     /// Returns an error if an allocation fails.
     pub fn show(&self, alloc: Global, span: Span, words: &str) -> Result<String, AllocError>
-        ensures { IfOk result (λ out. Shows self.now words.now (range span) (string_bytes out)) }
+        ensures { IfOk result (λ out. Shows self.now (codes "error") words.now (range span)
+            (string_bytes out)) }
+    {
+        self.show_as(alloc, "error", span, words)
+    }
+
+    // Returns words at this level, as `show` shows those of an error.
+    fn show_as(
+        &self,
+        alloc: Global,
+        level: &str,
+        span: Span,
+        words: &str,
+    ) -> Result<String, AllocError>
+        ensures { IfOk result (λ out. Shows self.now level.now words.now (range span)
+            (string_bytes out)) }
     {
         let Some((number, start, end)) = span.as_range() else {
-            return alone(alloc, words);
+            return alone(alloc, level, words);
         };
         if number != self.number {
-            return alone(alloc, words);
+            return alone(alloc, level, words);
         }
         match self.text.split_at_checked(start) {
             Some((before, after)) => {
                 placed(
                     alloc,
+                    level,
                     words,
                     self.name,
                     before,
@@ -67,22 +84,39 @@ impl Source<'_> {
                     end.saturating_sub(start),
                 )
             }
-            None => alone(alloc, words),
+            None => alone(alloc, level, words),
         }
     }
 
-    /// Returns each message of an error, as `show` shows it.
+    /// Shows an error as `show` does, and after it each message that was combined with it, as a note.
     ///
-    /// Returns an error if an allocation fails.
+    /// A note says `note` in place of `error`. To show the messages as errors of their own, call
+    /// `show` for each message of the error. Returns an error if an allocation fails.
+    ///
+    /// # Examples
+    ///
+    /// ```rust
+    /// let mut error = Error::new(alloc, Span::source(0, 2, 3), "this name is taken")?;
+    /// error.combine(Error::new(alloc, Span::source(0, 0, 1), "it was defined here")?)?;
+    /// let shown = source.show_error(alloc, &error)?;
+    /// assert!(rt;
+    ///     shown
+    ///         .as_str()
+    ///         .contains("\nnote: it was defined here\n --> config:1:1\n")
+    /// );
+    /// ```
     pub fn show_error(&self, alloc: Global, error: &Error) -> Result<String, AllocError>
         ensures { IfOk result
-            (λ out. ShowsEach self.now (each_message error.now) (string_bytes out)) }
+            (λ out. ShowsEach self.now (codes "error") (each_message error.now)
+            (string_bytes out)) }
     {
         let mut out = String::new(alloc);
+        let mut level = "error";
         for message in error {
             let message = message?;
-            let shown = self.show(alloc, message.span(), message.as_str())?;
+            let shown = self.show_as(alloc, level, message.span(), message.as_str())?;
             out.push_str(shown.as_str())?;
+            level = "note";
         }
         Ok(out)
     }
@@ -91,28 +125,44 @@ impl Source<'_> {
     ///
     /// Returns an error if an allocation fails.
     pub fn show_lex(&self, alloc: Global, error: LexError) -> Result<String, AllocError>
-        ensures { IfOk result (λ out. Shows self.now (error_words error) (range (error_span error))
-            (string_bytes out)) }
+        ensures { IfOk result (λ out. Shows self.now (codes "error") (error_words error)
+            (range (error_span error)) (string_bytes out)) }
     {
         let words = format!(in alloc; "{error}")?;
         self.show(alloc, error.span(), words.as_str())
     }
 }
 
-fn alone(alloc: Global, words: &str) -> Result<String, AllocError>
-    ensures { IfOk result (λ out. string_bytes out ≡ words_alone words.now) }
+fn alone(alloc: Global, level: &str, words: &str) -> Result<String, AllocError>
+    ensures { IfOk result (λ out. string_bytes out ≡ words_alone level.now words.now) }
 {
-    format!(in alloc; "error: {words}\n")
+    format!(in alloc; "{level}: {words}\n")
+}
+
+// Appends the words alone.
+fn push_words(to: &mut String, level: &str, words: &str) -> Result<(), AllocError>
+    ensures { OnOk result (string_bytes to.new
+        ≡ string_bytes to.old ++ words_alone level.now words.now) }
+{
+    to.push_str(level)?;
+    to.push_str(": ")?;
+    to.push_str(words)?;
+    to.push_str("\n")
 }
 
 // Appends the words, and the name of the source, after a gutter so wide.
-fn push_heading(to: &mut String, words: &str, gutter: usize, name: &str) -> Result<(), AllocError>
+fn push_heading(
+    to: &mut String,
+    level: &str,
+    words: &str,
+    gutter: usize,
+    name: &str,
+) -> Result<(), AllocError>
     ensures { OnOk result (string_bytes to.new
-        ≡ string_bytes to.old ++ heading words.now (repeat gutter (32 ∷ [])) name.now) }
+        ≡ string_bytes to.old
+        ++ heading level.now words.now (repeat gutter (32 ∷ [])) name.now) }
 {
-    to.push_str("error: ")?;
-    to.push_str(words)?;
-    to.push_str("\n")?;
+    push_words(to, level, words)?;
     push_times(to, ' ', gutter)?;
     to.push_str("--> ")?;
     to.push_str(name)?;
@@ -163,6 +213,7 @@ fn push_carets(to: &mut String, marked: &str) -> Result<(), AllocError>
 // Returns the words and the line between these two parts of a text.
 fn placed(
     alloc: Global,
+    level: &str,
     words: &str,
     name: &str,
     before: &str,
@@ -170,16 +221,27 @@ fn placed(
     bytes: usize,
 ) -> Result<String, AllocError>
     ensures { IfOk result
-        (λ out. IsPlaced words.now name.now before.now after.now bytes (string_bytes out)) }
+        (λ out. IsPlaced level.now words.now name.now before.now after.now bytes
+        (string_bytes out)) }
 {
     let (number, head) = last_line(before);
     let tail = without_return(first_line(after));
-    drawn(alloc, words, name, number, head, tail, within(tail, bytes))
+    drawn(
+        alloc,
+        level,
+        words,
+        name,
+        number,
+        head,
+        tail,
+        within(tail, bytes),
+    )
 }
 
 // Returns the words and this line.
 fn drawn(
     alloc: Global,
+    level: &str,
     words: &str,
     name: &str,
     line: usize,
@@ -188,7 +250,8 @@ fn drawn(
     marked: &str,
 ) -> Result<String, AllocError>
     ensures { IfOk result (λ out. string_bytes out
-        ≡ drawn words.now name.now line (chars head.now) (chars tail.now) (chars marked.now)) }
+        ≡ drawn level.now words.now name.now line (chars head.now) (chars tail.now)
+        (chars marked.now)) }
 {
     let mut buffer = Buffer::new();
     let number = buffer.format(line);
@@ -201,7 +264,7 @@ fn drawn(
         .saturating_add(marked.len())
         .saturating_add(ROOM);
     let mut out = String::with_capacity(alloc, room)?;
-    push_heading(&mut out, words, number.len(), name)?;
+    push_heading(&mut out, level, words, number.len(), name)?;
     push_place(&mut out, number, chars_in(head) + 1)?;
     push_row(&mut out, number, head, tail)?;
     push_marks(&mut out, head, ' ')?;

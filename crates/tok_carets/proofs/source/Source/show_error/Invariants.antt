@@ -1,10 +1,13 @@
+use denote.Shadow.{shadow}
+use denote.Text.{Utf8}
 use Rattle.std.proofs.Common.{◌++◌, ℕ, List}
-use Rattle.std.specs.Prelude.{string_bytes}
+use Rattle.std.specs.Prelude.{codes, string_bytes}
 use Rattle.tok_buffer.specs.Messages.{each_message}
 use Rattle.tok_carets.specs.Shown.{ShowsEach}
 use Rattle.tok_carets.proofs.source.Source.show_error.Given as goal
 
 abbrev pub invariant-loop-message : goal.invariant-loop-message
 invariant-loop-message l =
-    (rest : List ℕ) → ShowsEach l.self l.message-iterator rest
-    → ShowsEach l.fn.self (each_message l.fn.error) (string_bytes l.out ++ rest)
+    shadow (Utf8 l.level)
+    × ((rest : List ℕ) → ShowsEach l.self l.level l.message-iterator rest
+    → ShowsEach l.fn.self (codes "error") (each_message l.fn.error) (string_bytes l.out ++ rest))
