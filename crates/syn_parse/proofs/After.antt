@@ -20,6 +20,7 @@ module _ {P T A B : Type 0} (shape : P → A) (form : T → B) (token : Taking A
       → TakesAs shape token s (Ok p) m → TakesAs form take m (Err f) t
       → TakesAs (option_map (λ (r : P × T). (shape r.0, form r.1))) (take_after test token take) s
       (Err f) t
+  unfolding take_after
   value-fails s m t p f h k w =
       fails_on (take (ahead m)) (take_after test token take (ahead s))
       (λ x e. ap (λ b. cond b (and_then (token (ahead s)) then_value) (found None (ahead s)))

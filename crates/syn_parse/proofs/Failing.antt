@@ -7,13 +7,14 @@ use Rattle.syn_parse.specs.declared.fault.Fault.{Fault}
 use Rattle.syn_parse.specs.declared.fault.Fault.TheVariants.{Refused, Memory}
 use Rattle.syn_parse.specs.Positions.{Missing, scope_trees}
 use Rattle.syn_parse.specs.State.{State}
-use Rattle.syn_parse.specs.Takes.{IsMissing, MemoryOr, Outcome, Says, SaysAt, Stays, found, missing}
+use Rattle.syn_parse.specs.Takes.{FailsAt, IsMissing, MemoryOr, Outcome, SaysFound, Stays, found}
+use Rattle.syn_parse.specs.Takes.{missing}
 
 -- of an allocation failure nothing is said
-pub says_memory : {A : Type 0} (f : Forest) (scope : Span) (o : Outcome A) (e : AllocError)
-    → Says f scope o (Memory e)
-says_memory f scope (found v a) e = tt
-says_memory f scope (missing m) e = tt
+pub says_memory : {A : Type 0} (trees : Forest) (scope : Span) (o : Outcome A) (e : AllocError)
+    → SaysFound trees scope o (Memory e)
+says_memory trees scope (found v a) e = tt
+says_memory trees scope (missing m) e = tt
 
 pub stays_here : (s : State) → Stays s s
 stays_here s = (λ i. i, refl, omega arith, refl, refl)
@@ -38,21 +39,21 @@ module _ {A B : Type 0} (o : Outcome A) (q : Outcome B)
   missing-on (Memory e) h = tt
 
   module _ (trees : Forest) (scope : Span) where
-    says-refused : (x : Outcome A) (f : Fault) → o ≡ x → IsMissing x → Says trees scope x f
-        → Says trees scope q f
+    says-refused : (x : Outcome A) (f : Fault) → o ≡ x → IsMissing x → SaysFound trees scope x f
+        → SaysFound trees scope q f
     says-refused (found v a) f e h k = absurd h
-    says-refused (missing m) f e h k = subst (λ y. Says trees scope y f) (sym (then m e)) k
+    says-refused (missing m) f e h k = subst (λ y. SaysFound trees scope y f) (sym (then m e)) k
 
-    says-on : (f : Fault) → MemoryOr f (IsMissing o) → Says trees scope o f → Says trees scope q f
+    says-on : (f : Fault) → MemoryOr f (IsMissing o) → SaysFound trees scope o f
+        → SaysFound trees scope q f
     says-on (Refused e) h k = says-refused o (Refused e) refl h.0 k
     says-on (Memory e) h k = says_memory trees scope q e
 
-  pub fails_on : (f : Fault) (s t : State) → Stays s t → MemoryOr f (IsMissing o) × SaysAt t o f
-      → MemoryOr f (IsMissing q) × SaysAt s q f
+  pub fails_on : (f : Fault) (s t : State) → Stays s t → FailsAt t o f → FailsAt s q f
   fails_on f s t stays h = (
     missing-on f h.0,
     λ i.
-        subst (λ x. Says (scope_trees s.place) x q f) stays.4
-        (subst (λ x. Says x t.scope_span q f) stays.3
+        subst (λ x. SaysFound (scope_trees s.place) x q f) stays.4
+        (subst (λ x. SaysFound x t.scope_span q f) stays.3
         (says-on (scope_trees t.place) t.scope_span f h.0 (h.1 (stays.0 i)))),
   )

@@ -22,11 +22,9 @@ use Rattle.syn_parse.specs.ErrorWords.{leftover_message, leftover_words}
 use Rattle.syn_parse.specs.State.{State, handed}
 use Rattle.syn_parse.specs.declared.fault.Fault.{Fault}
 use Rattle.syn_parse.specs.declared.fault.Fault.TheVariants.{Refused, Memory}
-use Rattle.syn_parse.specs.TreesAhead.{Ahead, IsFilled, ahead, all_taken, whole}
-use Rattle.syn_parse.specs.Takes.{Agree, IsAll, IsMissing, MemoryOr, Outcome, Says, SaysAll}
-use Rattle.syn_parse.specs.Takes.{TakesAll, WordsAgree}
-use Rattle.syn_parse.specs.Takes.{TakesAs, Taking, found, missing}
-use Rattle.syn_parse.proofs.Failing.{says_memory}
+use Rattle.syn_parse.specs.TreesAhead.{Ahead, IsFilled, ahead, all_taken, only_trees, whole}
+use Rattle.syn_parse.specs.Takes.{Agree, ErrorsAgree, FailsAt, IsAll, IsMissing, MemoryOr, Outcome}
+use Rattle.syn_parse.specs.Takes.{SaysAll, SaysFound, TakesAll, TakesAs, Taking, found, missing}
 use Rattle.syn_parse.proofs.GroupTakes.{leftover-trees}
 
 no-trees : (f : Forest) → has_trees f ≡ false → f ≡ no_trees
@@ -36,7 +34,7 @@ no-trees (tree t f) h = absurd (cc)
 -- nothing is handed up exactly where all is taken
 spent-in : (n l : Option Leftover) (f : Forest) → is_some l ≡ has_trees f → option_or n l ≡ None
     → record { trees = f; unread = option_map (λ x. x.span) n } ≡ all_taken
-spent-in None None f e h = ap (λ g. record { trees = g; unread = None }) (no-trees f (sym e))
+spent-in None None f e h = ap only_trees (no-trees f (sym e))
 spent-in None (Some l) f e h = absurd (cc)
 spent-in (Some n) l f e h = absurd (cc)
 
@@ -82,7 +80,7 @@ memory-at (Some t) e = tt
 
 module _ {T A : Type 0} (form : T → A) (take : Taking A) (f : Forest) (scope : Span) where
   start-ahead : ahead (whole_stream f scope) ≡ whole f
-  start-ahead = ap (λ g. record { trees = g; unread = None }) (all_ahead_at_start 0 f)
+  start-ahead = ap only_trees (all_ahead_at_start 0 f)
 
   pub start-filled : filled f ≡ true → IsFilled (whole_stream f scope).place
   start-filled i = record {
@@ -95,20 +93,22 @@ module _ {T A : Type 0} (form : T → A) (take : Taking A) (f : Forest) (scope :
   not-all (found v a) x h k = h
   not-all (missing m) x h k = absurd (cc)
 
-  says-all : (o : Outcome A) (e : Fault) → MemoryOr e (IsMissing o) → Says f scope o e
+  says-all : (o : Outcome A) (e : Fault) → IsMissing o → SaysFound f scope o e
       → SaysAll f scope o e
-  says-all (found v a) (Refused d) h k = absurd h.0
-  says-all (found v a) (Memory d) h k =
-      memory-at (option_or a.unread (first_tree_span a.trees)) d
+  says-all (found v a) e h k = absurd h
   says-all (missing m) e h k = k
 
-  none-refuses : (e : Fault) → MemoryOr e (IsMissing (take (whole f)))
-      → (filled f ≡ true → Says f scope (take (whole f)) e) → TakesAll form take f scope (Err e)
-  none-refuses (Refused d) h k = (
-    (λ x q. not-all (take (whole f)) x h.0 q, h.1),
-    λ i. says-all (take (whole f)) (Refused d) h (k i),
+  memory-all : (o : Outcome A) (d : AllocError) → SaysAll f scope o (Memory d)
+  memory-all (found v a) d = memory-at (option_or a.unread (first_tree_span a.trees)) d
+  memory-all (missing m) d = tt
+
+  none-refuses : (e : Fault) → FailsAt (whole_stream f scope) (take (whole f)) e
+      → TakesAll form take f scope (Err e)
+  none-refuses (Refused d) h = (
+    (λ x q. not-all (take (whole f)) x h.0.0 q, h.0.1),
+    λ i. says-all (take (whole f)) (Refused d) h.0.0 (h.1 (start-filled i)),
   )
-  none-refuses (Memory d) h k = (tt, λ i. says-all (take (whole f)) (Memory d) tt (k i))
+  none-refuses (Memory d) h = (tt, λ i. memory-all (take (whole f)) d)
 
   left-refuses : (e : Fault) (x : A) (y : Ahead) (l : Message) → Refuses l e
       → take (whole f) ≡ found x y → (y ≡ all_taken → ⊥)
@@ -146,14 +146,13 @@ module _ {T A : Type 0} (form : T → A) (take : Taking A) (f : Forest) (scope :
       value_takes_all v left result (handed left) refl (ap take (sym start-ahead) ∙ h.0) k
   finish_takes_all (Err e) left result h k =
       subst (TakesAll form take f scope) (sym k)
-      (none-refuses e (subst (λ a. MemoryOr e (IsMissing (take a))) start-ahead h.0)
-      (λ i. subst (λ a. Says f scope (take a) e) start-ahead (h.1 (start-filled i))))
+      (none-refuses e (subst (λ a. FailsAt (whole_stream f scope) (take a) e) start-ahead h))
 
   pub memory-fails : (result : Result T Fault) → OnMemory result → TakesAll form take f scope result
   memory-fails (Ok v) m = absurd m
   memory-fails (Err (Refused e)) m = absurd m
   memory-fails (Err (Memory e)) m =
-      (tt, λ i. says-all (take (whole f)) (Memory e) tt (says_memory f scope (take (whole f)) e))
+      (tt, λ i. memory-all (take (whole f)) e)
 
 -- two results of the same trees
 module _ {T A : Type 0} (form : T → A) (take : Taking A) (f : Forest) (scope : Span) where
@@ -177,37 +176,52 @@ module _ {T A : Type 0} (form : T → A) (take : Taking A) (f : Forest) (scope :
       → TakesAll form take f scope x → TakesAll form take g other y → Agree form x y
   results_agree g other e x y h k = agree-in x y h (over y k) where
     same : whole g ≡ whole f
-    same = ap (λ z. record { trees = z; unread = None }) (sym e)
+    same = ap only_trees (sym e)
 
     over : (z : Result T Fault) → TakesAll form take g other z → ValueOf z
     over (Ok v) k = ap take (sym same) ∙ k
     over (Err (Refused d)) k = (λ x q. k.0.0 x (ap take same ∙ q), k.0.1)
     over (Err (Memory d)) k = tt
 
-  says-both : (g : Forest) (other : Span) (o : Outcome A) (x y : Fault) → SaysAll f scope o x
-      → SaysAll g other o y → WordsAgree {T = T} o (Err x) (Err y)
-  says-both g other (found v a) x y h k = tt
-  says-both g other (missing m) (Refused d) (Refused e) h k =
-      ap first_text h.2 ∙ sym (ap first_text k.2)
-  says-both g other (missing m) (Refused d) (Memory e) h k = tt
-  says-both g other (missing m) (Memory d) y h k = tt
+  -- two errors of one leftover
+  left-both : (d e : List Message) (trees : Forest) (unread : Option Span)
+      → (record { trees = trees; unread = unread } ≡ all_taken → ⊥)
+      → IfSome (option_or unread (first_tree_span trees)) (λ span. RefusesAt span (Refused d))
+      → IfSome (option_or unread (first_tree_span trees)) (λ span. RefusesAt span (Refused e))
+      → spans_of d ≡ spans_of e
+  left-both d e no_trees None other h k = absurd (other refl)
+  left-both d e (tree t g) None other h k = h ∙ sym k
+  left-both d e trees (Some span) other h k = h ∙ sym k
 
-  no-words : (o : Outcome A) (v : T) (y : Result T Fault) → WordsAgree o (Ok v) y
+  says-both : (g : Forest) (other : Span) (o : Outcome A) (x y : Fault)
+      → MemoryOr x ((z : A) → o ≡ found z all_taken → ⊥) → SaysAll f scope o x
+      → SaysAll g other o y → ErrorsAgree {T = T} o (Err x) (Err y)
+  says-both g other (found v a) (Refused d) (Refused e) none h k =
+      left-both d e a.trees a.unread (λ q. none.0 v (ap (found v) q)) h k
+  says-both g other (found v a) (Refused d) (Memory e) none h k = tt
+  says-both g other (found v a) (Memory d) y none h k = tt
+  says-both g other (missing m) (Refused d) (Refused e) none h k =
+      ap first_text h.2 ∙ sym (ap first_text k.2)
+  says-both g other (missing m) (Refused d) (Memory e) none h k = tt
+  says-both g other (missing m) (Memory d) y none h k = tt
+
+  no-words : (o : Outcome A) (v : T) (y : Result T Fault) → ErrorsAgree o (Ok v) y
   no-words (found v a) w y = tt
   no-words (missing m) w y = tt
 
-  no-words-either : (o : Outcome A) (x : Fault) (v : T) → WordsAgree o (Err x) (Ok v)
-  no-words-either (found v a) x w = tt
+  no-words-either : (o : Outcome A) (x : Fault) (v : T) → ErrorsAgree o (Err x) (Ok v)
+  no-words-either (found v a) (Refused d) w = tt
+  no-words-either (found v a) (Memory d) w = tt
   no-words-either (missing m) (Refused d) w = tt
   no-words-either (missing m) (Memory d) w = tt
 
   pub words_agree : (g : Forest) (other : Span) → erase f ≡ erase g → filled f ≡ true
       → filled g ≡ true
       → (x y : Result T Fault) → TakesAll form take f scope x → TakesAll form take g other y
-      → WordsAgree (take (whole f)) x y
+      → ErrorsAgree (take (whole f)) x y
   words_agree g other e i j (Ok v) y h k = no-words (take (whole f)) v y
   words_agree g other e i j (Err x) (Ok v) h k = no-words-either (take (whole f)) x v
   words_agree g other e i j (Err x) (Err y) h k =
-      let same : whole g ≡ whole f = ap (λ z. record { trees = z; unread = None }) (sym e) in
-      says-both g other (take (whole f)) x y (h.1 i)
+      let same : whole g ≡ whole f = ap only_trees (sym e) in
+      says-both g other (take (whole f)) x y h.0 (h.1 i)
       (subst (λ a. SaysAll g other (take a) y) same (k.1 j))

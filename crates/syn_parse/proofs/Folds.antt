@@ -2,14 +2,14 @@
 use Rattle.std.proofs.Common.{◌≡◌, ◌∙◌, ap, refl, arith, ℕ, zero, suc, ◌<◌, true, false, cond}
 use Rattle.std.proofs.Common.{[]}
 use Rattle.tok_core.specs.Weight.{weight}
-use Rattle.syn_parse.specs.Positions.{Missing, at_end}
+use Rattle.syn_parse.specs.Positions.{Missing}
 use Rattle.syn_parse.specs.TreesAhead.{Ahead, is_spent}
 use Rattle.syn_parse.specs.Takings.{Lowers}
-use Rattle.syn_parse.specs.Takes.{Outcome, Taking, found, missing, and_then}
+use Rattle.syn_parse.specs.Takes.{Outcome, Taking, and_then, found, missing, refuses}
 
 -- at most so many turns
 abbrev pub fold_turns : {A B : Type 0} → ℕ → (B → A → B) → B → Taking A → Taking B
-fold_turns zero f b item a = missing (record { position = at_end; words = [] })
+fold_turns zero f b item a = refuses [] a
 fold_turns (suc n) f b item a =
     cond (is_spent a) (found b a) (and_then (item a) (λ v c. fold_turns n f (f b v) item c))
 

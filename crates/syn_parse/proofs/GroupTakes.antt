@@ -37,8 +37,8 @@ use Rattle.syn_parse.specs.Lighter.{group_weighs}
 use Rattle.syn_parse.specs.Grouped.{grouped}
 use Rattle.syn_parse.specs.Takings.{Keeps, Takings, told, told_filled, untold}
 use Rattle.syn_parse.specs.Takes.{Finds, TakeWithinBy, TakesBy, Within}
-use Rattle.syn_parse.specs.Positions.{Missing, missing_within, scope_trees}
-use Rattle.syn_parse.specs.Takes.{EntersAhead, IsMissing, IsSaid, MemoryOr, Outcome, Says}
+use Rattle.syn_parse.specs.Positions.{Missing, missing_inside, scope_trees}
+use Rattle.syn_parse.specs.Takes.{EntersAhead, IsMissing, MemoryOr, Outcome, Says, SaysFound}
 use Rattle.syn_parse.specs.Takes.{TakeWithin}
 use Rattle.syn_parse.specs.Takes.{TakesAs, Taking}
 use Rattle.syn_parse.specs.Takes.{after_inside, found, inside_first, missing, take_group}
@@ -58,12 +58,12 @@ left-trees (Some l) (tree t f) e = refl
 pub leftover-trees : (p : Place) → is_some (leftover p) ≡ has_trees (erased_ahead p)
 leftover-trees p = left-trees (leftover p) (erased_ahead p) (ahead_tells p).leftovers
 
-abbrev span_of : Option Leftover → Option Span
-span_of = option_map (λ l. l.span)
+abbrev left_span : Option Leftover → Option Span
+left_span = option_map (λ l. l.span)
 
 unread-or : (n m l : Option Leftover)
-    → span_of (option_or n (option_or m l))
-    ≡ option_or (span_of n) (option_or (span_of m) (span_of l))
+    → left_span (option_or n (option_or m l))
+    ≡ option_or (left_span n) (option_or (left_span m) (left_span l))
 unread-or None None l = refl
 unread-or None (Some m) l = refl
 unread-or (Some n) m l = refl
@@ -74,7 +74,7 @@ after-closed : (left s : State) (e : Entered)
 after-closed left s e =
     ap (λ b. record { trees = erased_ahead e.after; unread = b })
     (unread-or s.noted left.noted (leftover left.place)
-    ∙ ap (λ b. option_or (span_of s.noted) (option_or (span_of left.noted) b))
+    ∙ ap (λ b. option_or (left_span s.noted) (option_or (left_span left.noted) b))
     (ahead_tells left.place).leftovers)
 
 span-is : (d : DelimSpan) (x : Span) → d.join ≡ x → d ≡ record { join = x }
@@ -121,8 +121,8 @@ content-lighter d v p e h =
 module _ (d : Delimiter) (visible : IsVisibleDelimiter d) (s : State) (e : Entered)
     (is : enter d s.place ≡ Some e) (i : IsFilled s.place) where
   pub said_outside : (m : Missing) (f : Fault)
-      → IsSaid (scope_trees e.content) (closing_span e.span) m f
-      → IsSaid (scope_trees s.place) s.scope_span (missing_within (closing_span e.span) m) f
+      → Says (scope_trees e.content) (closing_span e.span) m f
+      → Says (scope_trees s.place) s.scope_span (missing_inside (closing_span e.span) m) f
   said_outside m (Refused x) h = (
     h.0,
     content_at d visible s.place e is i (closing_span e.span) s.scope_span m.position h.0 h.1,
@@ -131,8 +131,8 @@ module _ (d : Delimiter) (visible : IsVisibleDelimiter d) (s : State) (e : Enter
   said_outside m (Memory x) h = tt
 
   inside_says : {A : Type 0} (o : Outcome A) (f : Fault)
-      → Says (scope_trees e.content) (closing_span e.span) o f
-      → Says (scope_trees s.place) s.scope_span (after_inside (ahead s) (entered_ahead e) o) f
+      → SaysFound (scope_trees e.content) (closing_span e.span) o f
+      → SaysFound (scope_trees s.place) s.scope_span (after_inside (ahead s) (entered_ahead e) o) f
   inside_says (found v b) f h = tt
   inside_says (missing m) f h = said_outside m f h
 
@@ -180,7 +180,9 @@ module _ {T A : Type 0} (form : T → A) (inner : Taking A) (calls : Call T)
         memory-or f _ _
             (λ n. subst IsMissing (sym (is-first (Some e) h))
             (inside-missing (entered_ahead e) _ n)) i.0,
-        λ j. subst (λ o. Says (scope_trees s.place) s.scope_span o f) (sym (is-first (Some e) h))
+        λ j.
+            subst (λ o. SaysFound (scope_trees s.place) s.scope_span o f)
+            (sym (is-first (Some e) h))
             (inside_says d visible s e h j _ f (i.1 (both-filled d visible s.place e h j).0)),
       )
 
@@ -189,7 +191,8 @@ module _ {T A : Type 0} (form : T → A) (inner : Taking A) (calls : Call T)
       → TakesAs both (take_group d inner) s (Err f) t
   no_group_refuses (Refused e) h r = (
     (subst IsMissing (sym (is-first None h)) tt, ap length r),
-    λ i. subst (λ o. Says (scope_trees s.place) s.scope_span o (Refused e))
+    λ i.
+        subst (λ o. SaysFound (scope_trees s.place) s.scope_span o (Refused e))
         (sym (is-first None h)) (here_told (delimiter_words d) s (Refused e) r i),
   )
   no_group_refuses (Memory e) h r =
@@ -279,7 +282,8 @@ module _ {T A : Type 0} (Is : T → A → Type 0) (inner : Taking A) (calls : Ca
         memory-or f _ _
             (λ n. subst IsMissing (sym (is-first-by (Some e) h))
             (inside-missing-by (entered_ahead e) _ n)) i.0,
-        λ j. subst (λ o. Says (scope_trees s.place) s.scope_span o f)
+        λ j.
+            subst (λ o. SaysFound (scope_trees s.place) s.scope_span o f)
             (sym (is-first-by (Some e) h))
             (inside_says d visible s e h j _ f (i.1 (both-filled d visible s.place e h j).0)),
       )
@@ -288,7 +292,8 @@ module _ {T A : Type 0} (Is : T → A → Type 0) (inner : Taking A) (calls : Ca
       → TakesBy (Within Is) (take_group d inner) s (Err f) t
   refused-by (Refused e) h r = (
     (subst IsMissing (sym (is-first-by None h)) tt, ap length r),
-    λ i. subst (λ o. Says (scope_trees s.place) s.scope_span o (Refused e))
+    λ i.
+        subst (λ o. SaysFound (scope_trees s.place) s.scope_span o (Refused e))
         (sym (is-first-by None h)) (here_told (delimiter_words d) s (Refused e) r i),
   )
   refused-by (Memory e) h r =
@@ -316,7 +321,7 @@ pub closed_ahead : (content s : State)
 closed_ahead content s =
     ap (λ b. record { trees = erased_ahead s.place; unread = b })
     (unread-or s.noted content.noted (leftover content.place)
-    ∙ ap (λ b. option_or (span_of s.noted) (option_or (span_of content.noted) b))
+    ∙ ap (λ b. option_or (left_span s.noted) (option_or (left_span content.noted) b))
     (ahead_tells content.place).leftovers)
 
 -- the delimiter of a group that is entered
@@ -380,10 +385,10 @@ module _ {T : Type 0} (span_of : T → DelimSpan) (content : T → State) (d : D
     ap (λ u. (ahead u).unread) k,
     λ f. subst (λ u. IsFilled u.place) (sym j) (both-filled d visible s.place e h f).0,
     λ f m g k.
-        subst (λ x. IsSaid (scope_trees s.place) s.scope_span (missing_within (closing_span x) m) g)
+        subst (λ x. Says (scope_trees s.place) s.scope_span (missing_inside (closing_span x) m) g)
         (sym i)
         (said_outside d visible s e h f m g
-        (subst (λ (u : State). IsSaid (scope_trees u.place) u.scope_span m g) j k)),
+        (subst (λ (u : State). Says (scope_trees u.place) u.scope_span m g) j k)),
     subst (λ u. remaining u.place < remaining s.place) (sym j) (content-remains d s.place e h),
     (
       λ f. subst (λ u. IsFilled u.place) (sym k) (both-filled d visible s.place e h f).1,

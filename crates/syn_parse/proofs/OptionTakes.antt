@@ -15,6 +15,7 @@ use Rattle.syn_parse.specs.declared.fault.Fault.{Fault}
 
 where-true : {A : Type 0} (test : Ahead → Bool) (take : Taking A) (a : Ahead) → true ≡ test a
     → take_optional test take a ≡ and_then (take a) (λ v b. found (Some v) b)
+unfolding take_optional
 where-true test take a h =
     ap (λ c. cond c (and_then (take a) (λ v b. found (Some v) b)) (found None a)) (sym h)
 
@@ -31,6 +32,7 @@ module _ {T A : Type 0} (form : T → A) (take : Taking A) (test : Forest → Bo
   )
 
   none-taken : false ≡ test (erased_ahead s.place) → TakesAs (option_map form) either s (Ok None) s
+  unfolding take_optional
   none-taken h = (
     ap (λ c. cond c (and_then (take (ahead s)) (λ x b. found (Some x) b)) (found None (ahead s)))
         (sym h),

@@ -1,9 +1,14 @@
 -- Keywords of one's own: what a peek sees, and whether a text can be written.
 use Rattle.std.proofs.Common.{◌≡◌, ◌∙◌, sym, ap, refl, ℕ, List, [], ◌∷◌, Bool}
-use Rattle.std.proofs.Common.{true, false, Ok, Err, inl, inr}
+use Rattle.std.proofs.Common.{true, false, Ok, Err, inl, inr, arith, subst, ◌++◌, ◌<◌, ◌-◌}
+use Rattle.std.proofs.Common.{codes, drop, get_or, length, take}
+use Rattle.std.proofs.Math.Seq.{take-append_seam}
+use Rattle.std.proofs.lemmas.List.{length-append}
+use Rattle.std.proofs.lemmas.Str.{IsCharBoundary-after_ascii, IsCharBoundary-at_seam}
+use Rattle.std.proofs.lemmas.Str.{IsUtf8-from_ascii}
 use Rattle.std.specs.Prelude.{◌⊎◌, ◌&&◌, cond, Result, IfErr}
 use Rattle.std.specs.List.{list_all}
-use Rattle.std.specs.Str.{chars}
+use Rattle.std.specs.Str.{IsCharBoundary, IsUtf8, chars}
 use Rattle.unicode_ident.specs.Ident.{is_xid_continue}
 use Rattle.tok_lexical.specs.Words.{IsIdentifier, is_identifier_start}
 use Rattle.tok_leaves.specs.declared.ident.Ident.{Ident}
@@ -16,14 +21,15 @@ use Rattle.tok_buffer.specs.Place.{Place}
 use Rattle.tok_buffer.specs.Reads.{read_keyword}
 use Rattle.tok_buffer.specs.View.{erased_ahead}
 use Rattle.tok_types.specs.Looks.{Finds}
+use Rattle.tok_types.specs.Texts.{in_backquotes}
 use Rattle.tok_buffer.proofs.View.Readings.{of_keyword}
 use Rattle.tok_buffer.proofs.View.Tells.{tells}
 use Rattle.tok_types.proofs.Seen.{found_as}
+use Rattle.syn_parse.specs.ErrorWords.{span_in}
 use Rattle.syn_parse.specs.Owned.{is_word, own_first, own_word, take_own}
 use Rattle.syn_parse.specs.Parses.{WordParses}
 use Rattle.syn_parse.specs.State.{State}
 use Rattle.syn_parse.specs.Takes.{TakesAs}
-use Rattle.syn_parse.specs.Tokens.{span_in}
 use Rattle.syn_parse.specs.declared.fault.Fault.{Fault}
 use Rattle.syn_parse.proofs.Told.{word_told}
 
@@ -73,3 +79,29 @@ module _ (text : List ℕ) (span : Span) (made : Result Ident MakeFault)
       apart (Ok i) h e = cc
       apart (Err fault.Refused) h e = cc
       apart (Err fault.Memory) h e = cc
+
+-- a text in backquotes is cut to the text
+module _ (quoted text : List ℕ) (is : quoted ≡ in_backquotes text) where
+  pub after_quote : IsUtf8 quoted → IsCharBoundary quoted 1
+  after_quote u =
+      IsCharBoundary-after_ascii quoted 0 u (subst (λ q. 0 < length q) (sym is) (omega arith))
+      (subst (λ q. get_or q 0 0 < 128) (sym is) (omega arith))
+
+  all_but_quote : length (text ++ codes "`") - 1 ≡ length text
+  all_but_quote = ap (λ n. n - 1) (length-append text (codes "`")) ∙ omega arith
+
+  module _ (rest : List ℕ) (cut : rest ≡ drop 1 quoted) where
+    rest_is : rest ≡ text ++ codes "`"
+    rest_is = cut ∙ ap (drop 1) is
+
+    pub before_quote : IsCharBoundary rest (length rest - 1)
+    before_quote =
+        subst (λ n. IsCharBoundary rest n) (sym (ap (λ q. length q - 1) rest_is ∙ all_but_quote))
+        (IsCharBoundary-at_seam rest text (codes "`") rest_is
+        (IsUtf8-from_ascii (codes "`") (λ i. grind arith)))
+
+    pub text_is : take (length rest - 1) rest ≡ text
+    text_is =
+        ap (λ q. take (length q - 1) q) rest_is
+        ∙ ap (λ n. take n (text ++ codes "`")) all_but_quote
+        ∙ take-append_seam text (codes "`")

@@ -1,24 +1,25 @@
 -- The span of a stream is one of the position of what is ahead of it.
-use Rattle.std.proofs.Common.{◌≡◌, ◌∙◌, sym, subst, refl, ◌&&◌, true, false}
-use Rattle.std.proofs.Common.{List, [], ◌∷◌, Some, None, inl, inr}
+use Rattle.std.proofs.Common.{◌≡◌, ◌∙◌, sym, ap, subst, refl, ◌&&◌, Bool, true, false, cond}
+use Rattle.std.proofs.Common.{List, [], ◌∷◌, Option, Some, None}
 use Rattle.std.proofs.lemmas.Bool.{and_parts, false≢true}
 use Rattle.std.specs.Prelude.{⊤, IfSome}
 use Rattle.tok_lexical.specs.declared.delimiter.Delimiter.{Delimiter}
 use Rattle.tok_lexical.specs.declared.delimiter.Delimiter.TheVariants as delimiter
 use Rattle.tok_leaves.specs.declared.span.Span.{Span}
-use Rattle.tok_leaves.specs.Spans.{opening_span}
 use Rattle.tok_core.specs.Clear.{is_invisible_group}
 use Rattle.tok_core.specs.Erase.{erase}
 use Rattle.tok_core.specs.Filled.{filled, has_trees}
 use Rattle.tok_core.specs.Forest.{Tree, leaf, group, Forest, no_trees, tree, concat, reverse_onto}
+use Rattle.tok_core.specs.Forest.{tree_span}
 use Rattle.tok_buffer.specs.Buffer.{Laid}
 use Rattle.tok_buffer.specs.Descent.{descend}
 use Rattle.tok_buffer.specs.EachRead.{Read, First}
-use Rattle.tok_buffer.specs.Entry.{Entered, enter, enter_any}
+use Rattle.tok_buffer.specs.Entry.{Entered, enter, enter_any, entered_of, same_delimiter}
 use Rattle.tok_buffer.specs.Messages.{stream_span}
 use Rattle.tok_buffer.specs.Place.{Enclosing, whole, in_group, Frame, frame, Place, empty_place, at}
-use Rattle.tok_buffer.specs.Place.{leave_group, pass}
+use Rattle.tok_buffer.specs.Place.{front, is_at_end, leave_group, pass}
 use Rattle.tok_buffer.specs.Reads.{any_tree}
+use Rattle.tok_buffer.specs.Spans.{current_span}
 use Rattle.tok_buffer.specs.Trees.{PassesTrees, further, read_visible}
 use Rattle.tok_buffer.specs.Trees as trees
 use Rattle.tok_buffer.specs.Reached.{Reached, begin, down, past, into, nowhere}
@@ -28,16 +29,16 @@ use Rattle.tok_buffer.proofs.View.Keeps.{kept-descend, of-front}
 use Rattle.tok_buffer.proofs.View.Moves.{IsMoved, Leads, LeadsTo, leads, leads-take, moved-pass}
 use Rattle.tok_buffer.proofs.View.Readings.{Reading}
 use Rattle.tok_buffer.proofs.View.Places.{reached_stands}
-use Rattle.syn_parse.specs.Positions.{IsAt, Position, StandsBefore, among, at_end, at_next, at_span}
-use Rattle.syn_parse.specs.Positions.{at_token, here, later, scope_trees, span_of, trees_in}
-use Rattle.syn_parse.specs.Positions.{tree_start, within}
+use Rattle.syn_parse.specs.Positions.{IsAt, IsNext, Position, Stands, among, at_span, at_trees, here}
+use Rattle.syn_parse.specs.Positions.{later, only_span, over_tree, scope_trees, seen_outside}
+use Rattle.syn_parse.specs.Positions.{tree_start, trees_in}
 use Rattle.syn_parse.specs.TreesAhead.{IsFilled}
 
--- only the last frame can be the whole forest's
+-- each frame but the last one is of an invisible group
 abbrev Nested : Frame → List Frame → Type 0
 Nested l [] = ⊤
-Nested (frame whole p a) (l ∷ ls) = ⊥
-Nested (frame (in_group d span) p a) (l ∷ ls) = Nested l ls
+Nested (frame (in_group delimiter.None span) p a) (l ∷ ls) = Nested l ls
+Nested (frame o p a) (l ∷ ls) = ⊥
 
 abbrev IsNested : Place → Type 0
 IsNested empty_place = ⊤
@@ -46,14 +47,14 @@ IsNested (at n s c l ls) = Nested l ls
 nested-ahead : (o : Enclosing) (p q a b : Forest) (ls : List Frame) → Nested (frame o p a) ls
     → Nested (frame o q b) ls
 nested-ahead o p q a b [] h = tt
-nested-ahead whole p q a b (l ∷ ls) h = absurd h
-nested-ahead (in_group d span) p q a b (l ∷ ls) h = h
+nested-ahead (in_group delimiter.None span) p q a b (l ∷ ls) h = h
+nested-ahead o p q a b (l ∷ ls) h = absurd h
 
 nested-out : (o : Enclosing) (p : Forest) (l : Frame) (ls : List Frame)
     → Nested (frame o p no_trees) (l ∷ ls) → Nested (leave_group o p l) ls
-nested-out whole p l ls h = absurd h
-nested-out (in_group d span) p (frame o q a) ls h =
-    nested-ahead o q (tree (group d (reverse_onto p no_trees) span) q) a a ls h
+nested-out (in_group delimiter.None span) p (frame o q a) ls h =
+    nested-ahead o q (tree (group delimiter.None (reverse_onto p no_trees) span) q) a a ls h
+nested-out o p l ls h = absurd h
 
 moved-nested : IsMoved IsNested
 moved-nested = record {
@@ -144,53 +145,122 @@ descended-trees p = (leads-trees (scope_trees p)).down p refl
 passed-trees : (p : Place) → scope_trees (pass p) ≡ scope_trees p
 passed-trees p = moved-pass (InScope (scope_trees p)) (moved-trees (scope_trees p)) p refl
 
--- what stands before a token among some trees stands there among all trees of the scope
-module _ (token start : Span) where
-  before-onto : (p a : Forest) → StandsBefore token start a
-      → StandsBefore token start (reverse_onto p a)
-  before-onto no_trees a h = h
-  before-onto (tree t p) a h = before-onto p (tree t a) (later t a h)
+-- what stands among some trees stands among all trees of the scope
+module _ (part : Tree → Span) (span : Span) (ahead : Forest) where
+  stands-onto : (p a after : Forest) → Stands part span ahead a after
+      → Stands part span ahead (reverse_onto p a) after
+  stands-onto no_trees a after h = h
+  stands-onto (tree t p) a after h = stands-onto p (tree t a) after (later t a after h)
 
-  before-around : (o : Enclosing) (p a : Forest) (ls : List Frame) → Nested (frame o p a) ls
-      → StandsBefore token start a → StandsBefore token start (trees_in (frame o p a) ls)
-  before-around o p a [] n h = before-onto p a h
-  before-around whole p a (l ∷ ls) n h = absurd n
-  before-around (in_group d span) p a (frame o q b ∷ ls) n h =
-      before-around o q (tree (group d (reverse_onto p a) span) b) ls (nested-ahead o q q b _ ls n)
-      (among d (reverse_onto p a) b span (before-onto p a h))
+  stands-around : (o : Enclosing) (p a : Forest) (ls : List Frame) → Nested (frame o p a) ls
+      → Stands part span ahead a (erased_in ls)
+      → Stands part span ahead (trees_in (frame o p a) ls) no_trees
+  stands-around o p a [] n h = stands-onto p a no_trees h
+  stands-around (in_group delimiter.None s) p a (frame o q b ∷ ls) n h =
+      stands-around o q (tree (group delimiter.None (reverse_onto p a) s) b) ls
+      (nested-ahead o q q b _ ls n)
+      (among delimiter.None (reverse_onto p a) b (erased_in ls) s
+      (stands-onto p a (erased_in (frame o q b ∷ ls)) h))
+  stands-around o p a (l ∷ ls) n h = absurd n
 
--- the token that is next, and the span of a stream before it
-next-of : (f g : Forest) → has_trees f ≡ true → at_next (concat f g) ≡ at_next f
-next-of no_trees g h = absurd (false≢true h)
-next-of (tree t f) g h = refl
+-- the part of the front tree, and the scope's span at its end
+abbrev front_span : (Tree → Span) → Span → Place → Span
+front_span part scope p = elim (front p) [ Some t ↦ part t | None ↦ scope ]
 
-invisible-start : (scope start : Span) (f g x y : Forest) → has_trees g ≡ true
-    → ((token : Span) → at_next g ≡ at_token token → StandsBefore token start f)
-    → IsAt f (within scope (at_next (concat (concat g x) y))) start
-invisible-start scope start f no_trees x y h k = absurd (false≢true h)
-invisible-start scope start f (tree t g) x y h k = inr (k (tree_start t) refl)
+has-first : (f g : Forest) → has_trees f ≡ true → has_trees (concat f g) ≡ true
+has-first no_trees g h = absurd (false≢true h)
+has-first (tree t f) g h = refl
 
-next-start : (p : Place) → IsSettled p → IsFilledPlace p → IsNested p → (scope : Span)
-    → IsAt (scope_trees p) (within scope (at_next (erased_ahead p))) (stream_span p scope)
-next-start empty_place h k n scope = refl
-next-start (at i s c (frame o p no_trees) []) h k n scope = refl
-next-start (at i s c (frame o p no_trees) (l ∷ ls)) h k n scope = absurd h
-next-start (at i s c (frame o p (tree (leaf l) f)) ls) h k n scope = inl refl
-next-start (at i s c (frame o p (tree (group delimiter.None inside span) f)) ls) h k n scope =
-    let outer = and_parts (has_trees (erase inside) && filled inside) (filled f) k.0 in
-    let inner = and_parts (has_trees (erase inside)) (filled inside) outer.0 in
-    invisible-start scope (opening_span span)
-    (trees_in (frame o p (tree (group delimiter.None inside span) f)) ls) (erase inside) (erase f)
-    (erased_in ls) inner.0
-    (λ token e. before-around token (opening_span span) o p
-    (tree (group delimiter.None inside span) f) ls n (here inside f span e refl))
-next-start (at i s c (frame o p (tree (group d inside span) f)) ls) h k n scope = inl refl
+module _ (part : Tree → Span) where
+  is-next : (trees ahead : Forest) (scope span : Span) → has_trees ahead ≡ true
+      → Stands part span ahead trees no_trees → IsNext part trees scope ahead span
+  is-next trees no_trees scope span h k = absurd (false≢true h)
+  is-next trees (tree t f) scope span h k = k
+
+  front-next : (o : Enclosing) (p : Forest) (t : Tree) (f : Forest) (ls : List Frame)
+      → Nested (frame o p (tree t f)) ls → (scope : Span)
+      → has_trees (concat (erase (tree t f)) (erased_in ls)) ≡ true
+      → IsNext part (trees_in (frame o p (tree t f)) ls) scope
+      (concat (erase (tree t f)) (erased_in ls)) (part t)
+  front-next o p t f ls n scope h =
+      let ahead = concat (erase (tree t f)) (erased_in ls) in
+      is-next (trees_in (frame o p (tree t f)) ls) ahead scope (part t) h
+      (stands-around part (part t) ahead o p (tree t f) ls n
+      (here t f (erased_in ls) refl refl))
+
+  next-front : (p : Place) → IsSettled p → IsFilledPlace p → IsNested p → (scope : Span)
+      → IsNext part (scope_trees p) scope (erased_ahead p) (front_span part scope p)
+  next-front empty_place h k n scope = refl
+  next-front (at i s c (frame o p no_trees) []) h k n scope = refl
+  next-front (at i s c (frame o p no_trees) (l ∷ ls)) h k n scope = absurd h
+  next-front (at i s c (frame o p (tree (leaf l) f)) ls) h k n scope =
+      front-next o p (leaf l) f ls n scope refl
+  next-front (at i s c (frame o p (tree (group delimiter.None inside span) f)) ls) h k n scope =
+      let outer = and_parts (has_trees (erase inside) && filled inside) (filled f) k.0 in
+      let inner = and_parts (has_trees (erase inside)) (filled inside) outer.0 in
+      front-next o p (group delimiter.None inside span) f ls n scope
+      (has-first (concat (erase inside) (erase f)) (erased_in ls)
+      (has-first (erase inside) (erase f) inner.0))
+  next-front (at i s c (frame o p (tree (group d inside span) f)) ls) h k n scope =
+      front-next o p (group d inside span) f ls n scope refl
+
+  next-told : (p : Place) (scope : Span) → IsFilled p
+      → IsNext part (scope_trees p) scope (erased_ahead p) (front_span part scope p)
+  next-told p scope i =
+      let stands = reached_stands i.buffer i.filled_buffer p i.reached in
+      next-front p stands.settled stands.holds.filled (reached-nested i.buffer p i.reached) scope
+
+-- the span of a stream, and that of the whole next tree
+starts-front : (p : Place) (scope : Span) → front_span tree_start scope p ≡ stream_span p scope
+starts-front empty_place scope = refl
+starts-front (at i s c (frame o p no_trees) ls) scope = refl
+starts-front (at i s c (frame o p (tree (leaf l) f)) ls) scope = refl
+starts-front (at i s c (frame o p (tree (group d inside span) f)) ls) scope = refl
+
+covers-front : (p : Place) (scope : Span)
+    → front_span tree_span scope p ≡ cond (is_at_end p) scope (current_span p)
+covers-front empty_place scope = refl
+covers-front (at i s c (frame o p no_trees) ls) scope = refl
+covers-front (at i s c (frame o p (tree t f)) ls) scope = refl
 
 pub start_told : (p : Place) (scope : Span) → IsFilled p
-    → IsAt (scope_trees p) (within scope (at_next (erased_ahead p))) (stream_span p scope)
+    → IsAt (scope_trees p) scope (at_trees (erased_ahead p)) (stream_span p scope)
 start_told p scope i =
-    let stands = reached_stands i.buffer i.filled_buffer p i.reached in
-    next-start p stands.settled stands.holds.filled (reached-nested i.buffer p i.reached) scope
+    subst (IsAt (scope_trees p) scope (at_trees (erased_ahead p))) (starts-front p scope)
+    (next-told tree_start p scope i)
+
+pub whole_told : (p : Place) (scope : Span) → IsFilled p
+    → IsAt (scope_trees p) scope (over_tree (erased_ahead p))
+    (cond (is_at_end p) scope (current_span p))
+whole_told p scope i =
+    subst (IsAt (scope_trees p) scope (over_tree (erased_ahead p))) (covers-front p scope)
+    (next-told tree_span p scope i)
+
+-- a group that is entered as a visible one is visible
+visible-as : (d x : Delimiter) → IsVisibleDelimiter d → same_delimiter d x ≡ true
+    → IsVisibleDelimiter x
+visible-as delimiter.None x v h = absurd v
+visible-as delimiter.Parenthesis delimiter.Parenthesis v h = tt
+visible-as delimiter.Brace delimiter.Brace v h = tt
+visible-as delimiter.Bracket delimiter.Bracket v h = tt
+visible-as d x v h = absurd (false≢true h)
+
+visible-of : (d : Delimiter) → IsVisibleDelimiter d → (x : Option Entered) (e : Entered)
+    → entered_of d x ≡ Some e → IsVisibleDelimiter e.delimiter
+visible-of d v None e h = absurd (cc)
+visible-of d v (Some y) e h = go (same_delimiter d y.delimiter) refl h where
+  go : (b : Bool) → same_delimiter d y.delimiter ≡ b
+      → cond {A = Option Entered} b (Some y) None ≡ Some e
+      → IsVisibleDelimiter e.delimiter
+  go true k m =
+      let same : y ≡ e = cc in
+      subst (λ (z : Entered). IsVisibleDelimiter z.delimiter) same (visible-as d y.delimiter v k)
+  go false k m = absurd (cc)
+
+entered-visible : (d : Delimiter) → IsVisibleDelimiter d → (p : Place) (e : Entered)
+    → enter d p ≡ Some e → IsVisibleDelimiter e.delimiter
+entered-visible delimiter.None v p e h = absurd v
+entered-visible d v p e h = visible-of d v (enter_any (descend p)) e h
 
 -- a group that is entered is among the trees of the scope, and stays there
 module _ (d : Delimiter) (visible : IsVisibleDelimiter d) (p : Place) (e : Entered)
@@ -209,34 +279,47 @@ module _ (d : Delimiter) (visible : IsVisibleDelimiter d) (p : Place) (e : Enter
       (after-any (descend p)))
       ∙ descended-trees p
 
-  module _ (token first : Span) where
+  module _ (part : Tree → Span) (span : Span) (ahead : Forest) where
+    in-visible : (x : Delimiter) → IsVisibleDelimiter x → (inside f after : Forest) (s : Span)
+        → Stands part span ahead inside no_trees
+        → Stands part span ahead (tree (group x inside s) f) after
+    in-visible delimiter.None v inside f after s h = absurd v
+    in-visible x v inside f after s h = among x inside f after s h
+
     content-any : (q : Place) → IsNested q
-        → IfSome (enter_any q) (λ x. StandsBefore token first (scope_trees x.content)
-        → StandsBefore token first (scope_trees q))
+        → IfSome (enter_any q) (λ x. IsVisibleDelimiter x.delimiter
+        → Stands part span ahead (scope_trees x.content) no_trees
+        → Stands part span ahead (scope_trees q) no_trees)
     content-any empty_place n = tt
     content-any (at i s c (frame o q no_trees) ls) n = tt
     content-any (at i s c (frame o q (tree (leaf l) a)) ls) n = tt
-    content-any (at i s c (frame o q (tree (group x inside span) a)) ls) n =
-        λ h. before-around token first o q (tree (group x inside span) a) ls n
-        (among x inside a span h)
+    content-any (at i k c (frame o q (tree (group x inside s) a)) ls) n =
+        λ v h. stands-around part span ahead o q (tree (group x inside s) a) ls n
+        (in-visible x v inside a (erased_in ls) s h)
 
-    before-content : IsFilled p → StandsBefore token first (scope_trees e.content)
-        → StandsBefore token first (scope_trees p)
+    before-content : IsFilled p → Stands part span ahead (scope_trees e.content) no_trees
+        → Stands part span ahead (scope_trees p) no_trees
     before-content i h =
-        subst (StandsBefore token first) (descended-trees p)
-        (subst (λ x. IfSome x (λ y. StandsBefore token first (scope_trees y.content)
-        → StandsBefore token first (scope_trees (descend p)))) is
-        (of-front (λ y. StandsBefore token first (scope_trees y.content)
-        → StandsBefore token first (scope_trees (descend p))) d p visible
-        (content-any (descend p) (reached-nested i.buffer (descend p) (down p i.reached)))) h)
+        subst (λ f. Stands part span ahead f no_trees) (descended-trees p)
+        (subst (λ x. IfSome x (λ y. IsVisibleDelimiter y.delimiter
+        → Stands part span ahead (scope_trees y.content) no_trees
+        → Stands part span ahead (scope_trees (descend p)) no_trees)) is
+        (of-front (λ y. IsVisibleDelimiter y.delimiter
+        → Stands part span ahead (scope_trees y.content) no_trees
+        → Stands part span ahead (scope_trees (descend p)) no_trees) d p visible
+        (content-any (descend p) (reached-nested i.buffer (descend p) (down p i.reached))))
+        (entered-visible d visible p e is) h)
 
   pub content_at : IsFilled p → (close scope : Span) (x : Position) (span : Span)
-      → IsAt (scope_trees e.content) (within close x) span
-      → IsAt (scope_trees p) (within scope (within close x)) span
-  content_at i close scope at_end span h = h
+      → IsAt (scope_trees e.content) close x span
+      → IsAt (scope_trees p) scope (seen_outside close x) span
+  content_at i close scope (at_trees no_trees) span h = h
+  content_at i close scope (at_trees (tree t f)) span h =
+      before-content tree_start span (tree t f) i h
+  content_at i close scope (over_tree no_trees) span h = h
+  content_at i close scope (over_tree (tree t f)) span h =
+      before-content tree_span span (tree t f) i h
   content_at i close scope (at_span given) span h = h
-  content_at i close scope (at_token token) span (inl h) = inl h
-  content_at i close scope (at_token token) span (inr h) = inr (before-content token span i h)
 
 -- In a forest without invisible groups a position has one span.
 abbrev StartsVisible : Forest → Type 0
@@ -278,16 +361,22 @@ erased-inside : (d : Delimiter) (inside f : Forest) (span : Span)
 erased-inside delimiter.None inside f span e = no-invisible inside f span e
 erased-inside d inside f span e = same-inside e
 
-none-before : {A : Type 0} (token first : Span) (f : Forest) → StandsBefore token first f
-    → erase f ≡ f → A
-none-before token first _ (here inside f span n o) e = no-invisible inside f span e
-none-before token first _ (among d inside f span h) e =
-    none-before token first inside h (erased-inside d inside f span e)
-none-before token first _ (later t f h) e = none-before token first f h (erased-rest t f e)
+same-first : {t u : Tree} {f g : Forest} → tree t f ≡ tree u g → t ≡ u
+same-first e = cc
+
+module _ (part : Tree → Span) (span : Span) (t : Tree) (g : Forest) where
+  stands-once : (f after : Forest) → Stands part span (tree t g) f after → erase f ≡ f
+      → span ≡ part t
+  stands-once _ _ (here u f after same all) e =
+      sym same ∙ ap part (same-first (ap (λ x. concat x after) (sym e) ∙ all))
+  stands-once _ _ (later u f after h) e = stands-once f after h (erased-rest u f e)
+  stands-once _ _ (among d inside f after s h) e =
+      stands-once inside _ h (erased-inside d inside f s e)
 
 pub one_span : (f : Forest) → erase f ≡ f → (scope : Span) (x : Position) (span : Span)
-    → IsAt f (within scope x) span → span ≡ span_of scope x
-one_span f e scope at_end span h = h
+    → IsAt f scope x span → span ≡ only_span scope x
+one_span f e scope (at_trees no_trees) span h = h
+one_span f e scope (at_trees (tree t g)) span h = stands-once tree_start span t g f no_trees h e
+one_span f e scope (over_tree no_trees) span h = h
+one_span f e scope (over_tree (tree t g)) span h = stands-once tree_span span t g f no_trees h e
 one_span f e scope (at_span given) span h = h
-one_span f e scope (at_token token) span (inl h) = h
-one_span f e scope (at_token token) span (inr h) = none-before token span f h e

@@ -22,7 +22,8 @@ use Rattle.tok_buffer.proofs.ScopeEnds.{visible_erased, visible_tells}
 use Rattle.tok_buffer.proofs.View.Laws.{reached_leads_on}
 use Rattle.tok_buffer.proofs.View.Moves.{LeadsTo, leads-take}
 use Rattle.syn_parse.specs.Positions.{scope_trees}
-use Rattle.syn_parse.specs.Runs.{StepsPast, onwards, passing, take_run}
+use Rattle.syn_parse.specs.Runs.{PassesVisible, StepsPast, none_passed, one_more, onwards, passing}
+use Rattle.syn_parse.specs.Runs.{take_run}
 use Rattle.syn_parse.specs.State.{State, moved}
 use Rattle.syn_parse.specs.Takes.{TakesAs, found}
 use Rattle.syn_parse.specs.TreesAhead.{ahead, scope_of}
@@ -49,6 +50,7 @@ module _ {S : Type 0} (step : S → Tree → Option S) where
     trees : passing step s (erased_ahead p)
         ≡ first_of (erase (between p q)) (passing step r (erased_ahead q))
     follows : Follows p q
+    pub passes : PassesVisible p q
     scope : scope_of q ≡ scope_of p
     less : remaining q ≤ remaining p
     reached : (b : Laid) → Reached b p → Reached b q
@@ -61,6 +63,7 @@ module _ {S : Type 0} (step : S → Tree → Option S) where
         trees =
             sym (ap (λ f. first_of (erase f) (passing step s (erased_ahead p))) (between_same p));
         follows = from_here;
+        passes = none_passed;
         scope = refl;
         less = omega arith;
         reached = λ b i. i;
@@ -112,6 +115,7 @@ module _ {S : Type 0} (step : S → Tree → Option S) where
               ∙ first-first before (tree u no_trees) (passing step x (erased_ahead n))
               ∙ ap (λ h. first_of h (passing step x (erased_ahead n))) (sym all);
           follows = follows;
+          passes = one_more q n so.passes a;
           scope = one_scope q n (keeps_scope q n goes) ∙ so.scope;
           less = omega (arith, so.less, goes.1);
           reached =

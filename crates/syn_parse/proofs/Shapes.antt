@@ -33,13 +33,14 @@ use Rattle.tok_types.specs.declared.punctuation.Punctuation.{Punctuation}
 use Rattle.syn_parse.specs.Parses.{AreSpans, IsIdent, IsLifetime, IsLiteral, IsPunct, IsSpanOf}
 use Rattle.syn_parse.specs.Parses.{accept_as_lifetime}
 use Rattle.syn_parse.specs.Owned.{take_own}
+use Rattle.syn_parse.specs.ErrorWords.{span_in}
 use Rattle.syn_parse.specs.Tokens.{ident_in, lifetime_in}
-use Rattle.syn_parse.specs.Tokens.{literal_in, punct_in, span_in}
+use Rattle.syn_parse.specs.Tokens.{literal_in, punct_in}
 use Rattle.syn_parse.specs.Tokens.{take_any_ident, take_any_lifetime, take_ident, take_keyword}
 use Rattle.syn_parse.specs.Tokens.{take_lifetime, take_literal, take_nothing}
 use Rattle.syn_parse.specs.Tokens.{take_punct, take_punctuation, take_underscore}
 use Rattle.syn_parse.specs.Positions.{Missing}
-use Rattle.syn_parse.specs.TreesAhead.{Ahead, all_taken, unread_after}
+use Rattle.syn_parse.specs.TreesAhead.{Ahead, all_taken, only_trees, unread_after}
 use Rattle.syn_parse.specs.Takes.{Outcome, Taking, after_inside, found, inside_first, missing}
 use Rattle.syn_parse.specs.Takes.{and_then}
 use Rattle.syn_parse.specs.Takes.{read_as, take_by, take_group}
@@ -398,7 +399,7 @@ pub record GroupTaken {A : Type 0} (d : Delimiter) (inner : Taking A) (v : Delim
     : Type 0 where
   pub content : Forest
   pub left : Ahead
-  pub inside : inner (record { trees = content; unread = None }) ≡ found v.1 left
+  pub inside : inner (only_trees content) ≡ found v.1 left
   pub trees : a.trees ≡ tree (group d content v.0.join) b.trees
   pub unread : b.unread ≡ unread_after a left
 
@@ -418,7 +419,7 @@ itself delimiter.None = refl
 module _ {A : Type 0} (d : Delimiter) (inner : Taking A) where
   inside_taken : (a : Ahead) (e : EnteredWith Forest) (b : Ahead) (v : DelimSpan × A)
       (o : Outcome A)
-      → inner (record { trees = e.content; unread = None }) ≡ o → after_inside a e o ≡ found v b
+      → inner (only_trees e.content) ≡ o → after_inside a e o ≡ found v b
       → a.trees ≡ tree (group d e.content e.span) e.after → GroupTaken d inner v a b
   inside_taken a e b v (missing lack) h k m = absurd (cc)
   inside_taken a e b v (found w left) h k m =
@@ -460,7 +461,7 @@ module _ {A : Type 0} (d : Delimiter) (inner : Taking A) where
     go (Some x) h k = inside_taken a x b v _ refl k (group_is_first a.trees x h)
 
   pub takes_group : (content : Forest) (span : Span) (x : A) (b : Ahead)
-      → inner (record { trees = content; unread = None }) ≡ found x all_taken
+      → inner (only_trees content) ≡ found x all_taken
       → take_group d inner (before (group d content span ∷ []) b)
       ≡ found (record { join = span }, x) b
   unfolding take_group

@@ -12,7 +12,7 @@ use Rattle.syn_parse.proofs.Shapes.{before, found_first, found_second, group_tak
 use Rattle.syn_parse.specs.Nested.{levels, take_nested}
 use Rattle.syn_parse.specs.Takes.{Taking, ◌>>=◌, found, gives, refuses, refuses_at}
 use Rattle.syn_parse.specs.Takes.{take_group, where_ahead}
-use Rattle.syn_parse.specs.TreesAhead.{Ahead, all_taken, unread_after}
+use Rattle.syn_parse.specs.TreesAhead.{Ahead, all_taken, only_trees, unread_after}
 
 -- what is taken is these trees
 abbrev pub IsTaken : {A : Type 0} → (A → List Tree → Type 0) → Taking A → Type 0
@@ -66,7 +66,7 @@ IsGroup d Inside v ts = (inside : Forest) × (ts ≡ group d inside v.0.join ∷
 
 pub whole_group_taken : {A : Type 0} (d : Delimiter) (Inside : A → Forest → Type 0)
     (inner : Taking A)
-    → ((f : Forest) (b : Ahead) (v : A) → inner (record { trees = f; unread = None }) ≡ found v b
+    → ((f : Forest) (b : Ahead) (v : A) → inner (only_trees f) ≡ found v b
     → (b ≡ all_taken) × Inside v f) → IsTaken (IsGroup d Inside) (take_group d inner)
 whole_group_taken d Inside inner h a b v e =
     let g = group_taken d inner a b v e in

@@ -3,6 +3,7 @@ use Rattle.std.proofs.Common.{◌≡◌, ◌∙◌, sym, ap, subst, refl, arith,
 use Rattle.std.proofs.Common.{Option, Some, None, Ok, Err}
 use Rattle.std.specs.Prelude.{Bool, Result, IfSome, true, false, cond, codes, not, ◌++◌, length}
 use Rattle.std.specs.Prelude.{map}
+use Rattle.std.proofs.lemmas.Bool.{false≢true}
 use Rattle.tok_leaves.specs.declared.ident.Ident.{Ident}
 use Rattle.tok_leaves.specs.declared.lifetime.Lifetime.{Lifetime}
 use Rattle.tok_leaves.specs.declared.literal.Literal.{Literal}
@@ -13,13 +14,14 @@ use Rattle.tok_core.specs.Forest.{Tree, Forest, tree_span}
 use Rattle.tok_buffer.specs.EachRead.{first_if, first_keyword, first_lifetime, first_puncts}
 use Rattle.tok_buffer.specs.InFront.{with_ahead}
 use Rattle.tok_buffer.specs.Buffer.{Laid}
-use Rattle.tok_buffer.specs.Messages.{first_text, message_at, one_message}
+use Rattle.tok_buffer.specs.Messages.{message_at, one_message}
 use Rattle.tok_buffer.specs.Place.{Place, is_at_end}
 use Rattle.tok_buffer.specs.Reached.{Reached}
 use Rattle.tok_buffer.specs.Reads.{any_text, is_ident, is_ident_of, is_literal, is_punct}
 use Rattle.tok_buffer.specs.Reads.{read_ident, read_lifetime, read_punct}
 use Rattle.tok_buffer.specs.declared.error.Message.{Message}
 use Rattle.tok_buffer.specs.Rest.{scope_delimiter}
+use Rattle.tok_buffer.specs.Spans.{current_span}
 use Rattle.tok_buffer.specs.View.{erased_ahead}
 use Rattle.tok_buffer.specs.Progress.{remaining}
 use Rattle.tok_buffer.proofs.Onwards.{GoesOn, keeps_scope, reading_goes}
@@ -43,23 +45,23 @@ use Rattle.syn_parse.specs.Progress.{KeywordParses, PunctuationTypeParses, Under
 use Rattle.syn_parse.specs.Faults.{IsMemory, Refuses}
 use Rattle.syn_parse.specs.Reads.{Read, Reads, ReadsAtOnce}
 use Rattle.syn_parse.specs.ErrorWords.{ident_words, expected, lifetime_words, punctuation_message}
-use Rattle.syn_parse.specs.ErrorWords.{punct_span, punctuation_span, refused_at}
-use Rattle.syn_parse.specs.Positions.{IsAt, Missing, scope_trees, within}
+use Rattle.syn_parse.specs.ErrorWords.{punct_span, punctuation_span, refused_at, span_in}
+use Rattle.syn_parse.specs.Positions.{IsAt, Missing, scope_trees}
 use Rattle.syn_parse.specs.State.{State, fresh, moved, state_span}
 use Rattle.syn_parse.specs.declared.fault.Fault.{Fault}
 use Rattle.syn_parse.specs.declared.fault.Fault.TheVariants.{Refused, Memory}
 use Rattle.syn_parse.specs.TreesAhead.{Ahead, IsFilled, ahead, scope_of}
-use Rattle.syn_parse.specs.Lookahead.{Look, SaysLook, SaysNames, closing_word, list_words}
-use Rattle.syn_parse.specs.Lookahead.{look_message, named_ends, names_message}
-use Rattle.syn_parse.specs.Takes.{IsMissing, IsSaid, Outcome, Says, SaysHere, Takes, TakesAs, found}
-use Rattle.syn_parse.specs.Takes.{lacks, or_end, read_as, take_by}
+use Rattle.syn_parse.specs.Lookahead.{Look, at_look, closing_word, list_words, look_message}
+use Rattle.syn_parse.specs.Lookahead.{look_missing, missing_names, named_ends, names_message}
+use Rattle.syn_parse.specs.Takes.{IsMissing, Outcome, SaysAt, SaysFound, Takes, TakesAs, found}
+use Rattle.syn_parse.specs.Takes.{missing_next, or_end, read_as, take_by}
 use Rattle.syn_parse.specs.Tokens.{ident_in, ident_missing, lifetime_in, lifetime_missing}
 use Rattle.syn_parse.specs.Tokens.{literal_in, punct_position, sign_missing, sign_position}
-use Rattle.syn_parse.specs.Tokens.{punct_in, span_in, take_any_ident, take_any_lifetime, take_ident}
+use Rattle.syn_parse.specs.Tokens.{punct_in, take_any_ident, take_any_lifetime, take_ident}
 use Rattle.syn_parse.specs.Tokens.{take_keyword, take_lifetime, take_literal, take_punct}
 use Rattle.syn_parse.specs.Tokens.{take_punctuation, take_underscore}
 use Rattle.syn_parse.proofs.Failing.{says_memory}
-use Rattle.syn_parse.proofs.Positions.{InScope, scope_kept, start_told}
+use Rattle.syn_parse.proofs.Positions.{InScope, scope_kept, start_told, whole_told}
 use Rattle.syn_parse.proofs.Progress.{at_once}
 use Rattle.syn_parse.proofs.Scopes.{one_scope}
 
@@ -75,7 +77,7 @@ words_told words s i =
 
 -- an error at a stream says that these words are missing there
 pub here_told : (words : List ℕ) (s : State) (f : Fault) → Refuses (refused_at s words) f
-    → SaysHere s words f
+    → SaysAt s (missing_next words (ahead s).trees) f
 here_told words s (Refused e) h i = (
   state_span s,
   start_told s.place s.scope_span i,
@@ -86,36 +88,45 @@ here_told words s (Memory e) h i = tt
 -- an error with a message
 pub message_told : (message : Option (List ℕ)) (s : State) (f : Fault)
     → IfSome message (λ words. Refuses (refused_at s words) f)
-    → IfSome message (λ words. SaysHere s words f)
+    → IfSome message (λ words. SaysAt s (missing_next words (ahead s).trees) f)
 message_told None s f h = tt
 message_told (Some words) s f h = here_told words s f h
 
-either-text : (b : Bool) (r q : Message) → (cond b r q).text ≡ cond b r.text q.text
-either-text true r q = refl
-either-text false r q = refl
+-- with nothing to name
+unexpected-is : (at_end : Bool) (some : Bool) (scope here : Span) → at_end ≡ not some
+    → cond at_end (message_at scope (codes "unexpected end of input"))
+    (message_at here (codes "unexpected token"))
+    ≡ message_at (cond at_end scope here)
+    (cond some (codes "unexpected token") (codes "unexpected end of input"))
+unexpected-is true true scope here e = absurd (false≢true (sym e))
+unexpected-is true false scope here e = refl
+unexpected-is false true scope here e = refl
+unexpected-is false false scope here e = absurd (false≢true e)
 
 -- a lookahead's error
-module _ (l : Look) (i : IsFilled l.place) where
-  says-names : (names : List (List ℕ)) (f : Fault)
-      → Refuses (names_message names l.place l.scope_span) f → SaysNames names l f
-  says-names [] (Refused e) h =
-      ap first_text h
-      ∙ either-text (is_at_end l.place) _ _
-      ∙ ap (λ b. cond b (codes "unexpected end of input") (codes "unexpected token"))
-      (end_told l.place i)
-  says-names [] (Memory e) h = tt
-  says-names (d ∷ ds) f h = here_told (list_words (d ∷ ds)) (fresh l.place l.scope_span) f h i
+names-told : (names : List (List ℕ)) (p : Place) (scope : Span) (f : Fault)
+    → Refuses (names_message names p scope) f
+    → SaysAt (fresh p scope) (missing_names names (erased_ahead p)) f
+names-told [] p scope (Refused e) h i = (
+  cond (is_at_end p) scope (current_span p),
+  whole_told p scope i,
+  h ∙ ap one_message (unexpected-is (is_at_end p) (has_trees (erased_ahead p)) scope
+      (current_span p) (end_told p i)),
+)
+names-told [] p scope (Memory e) h i = tt
+names-told (d ∷ ds) p scope f h i = here_told (list_words (d ∷ ds)) (fresh p scope) f h i
 
-pub look_told : (l : Look) (f : Fault) → Refuses (look_message l) f → SaysLook l f
-look_told l f h i =
-    says-names l i (named_ends (closing_word (scope_delimiter l.place)) l.missed) f h
+pub look_told : (l : Look) (f : Fault) → Refuses (look_message l) f
+    → SaysAt (at_look l) (look_missing l) f
+look_told l f h =
+    names-told (named_ends (closing_word (scope_delimiter l.place)) l.missed) l.place l.scope_span f
+    h
 
 module _ {T A : Type 0} (form : T → A) (Means : T → List Tree → Type 0) (means : List Tree → A)
     (fits : (v : T) (ts : List Tree) → Means v ts → form v ≡ means ts)
     (first : Forest → Option (List Tree × Forest)) (lack : Forest → Missing) (message : Message)
     (s t : State)
-    (says : (f : Fault) → Refuses message f → IsFilled s.place
-    → IsSaid (scope_trees s.place) s.scope_span (lack (erased_ahead s.place)) f) where
+    (says : (f : Fault) → Refuses message f → SaysAt s (lack (erased_ahead s.place)) f) where
   abbrev take : Ahead → Outcome A
   take = take_by first means lack
 
@@ -149,7 +160,7 @@ module _ {T A : Type 0} (form : T → A) (Means : T → List Tree → Type 0) (m
   none (Refused e) h r = (
     (subst (λ o. IsMissing o) (ap outcome_of h) tt, ap length r),
     λ i.
-        subst (λ o. Says (scope_trees s.place) s.scope_span o (Refused e)) (ap outcome_of h)
+        subst (λ o. SaysFound (scope_trees s.place) s.scope_span o (Refused e)) (ap outcome_of h)
         (says (Refused e) r i),
   )
   none (Memory e) h r = (tt, λ i. says_memory (scope_trees s.place) s.scope_span (take (ahead s)) e)
@@ -191,9 +202,10 @@ abbrev same : {A : Type 0} → A → A
 same v = v
 
 -- the same words, in another form
-in_words : {v w : List ℕ} (s : State) (f : Fault) → v ≡ w → SaysHere s v f → SaysHere s w f
+in_words : {v w : List ℕ} (s : State) (f : Fault) → v ≡ w
+    → SaysAt s (missing_next v (ahead s).trees) f → SaysAt s (missing_next w (ahead s).trees) f
 in_words s f e h =
-    subst (λ x. SaysHere s x f) e h
+    subst (λ x. SaysAt s (missing_next x (ahead s).trees) f) e h
 
 pub ident_told : (s : State) (r : Result Ident Fault) (t : State) → IdentParses s r t
     → Takes take_ident s r t
@@ -204,7 +216,7 @@ ident_told s r t h =
     ident-words (read_ident s.place) ∙ ap ident_missing (tells of_ident s.place) in
     read_told same IsIdent ident_in (λ v ts m. sym (ap ident_in m))
     (first_if (is_ident_of accept_as_ident))
-    (λ f. lacks (ident_missing (first_if is_ident f)) f)
+    (λ f. missing_next (ident_missing (first_if is_ident f)) f)
     (refused_at s (ident_words (read_ident s.place))) s t
     (λ f k. in_words s f words (here_told (ident_words (read_ident s.place)) s f k))
     (of_word accept_as_ident) r h
@@ -215,7 +227,7 @@ unfolding take_any_ident
 any_ident_told s r t h =
     let words = codes "expected ident" in
     read_told same IsIdent ident_in (λ v ts m. sym (ap ident_in m)) (first_if is_ident)
-    (lacks words) (refused_at s words) s t (here_told words s) of_ident r h
+    (missing_next words) (refused_at s words) s t (here_told words s) of_ident r h
 
 pub literal_told : (s : State) (r : Result Literal Fault) (t : State) → LiteralParses s r t
     → Takes take_literal s r t
@@ -223,7 +235,7 @@ unfolding take_literal
 literal_told s r t h =
     let words = codes "expected literal token" in
     read_told same IsLiteral literal_in (λ v ts m. sym (ap literal_in m)) (first_if is_literal)
-    (lacks words)
+    (missing_next words)
     (refused_at s words) s t (here_told words s) of_literal r h
 
 pub punct_told : (s : State) (r : Result Punct Fault) (t : State) → PunctParses s r t
@@ -232,7 +244,7 @@ unfolding take_punct
 punct_told s r t h =
     let words = codes "expected punctuation token" in
     told-at-once same IsPunct punct_in (λ v ts m. sym (ap punct_in m)) (first_if is_punct)
-    (lacks words)
+    (missing_next words)
     (refused_at s words) s t (here_told words s) of_punct r h
 
 pub lifetime_told : (s : State) (r : Result Lifetime Fault) (t : State) → LifetimeParses s r t
@@ -245,7 +257,7 @@ lifetime_told s r t h =
     lifetime-words read ∙ ap lifetime_missing (tells (of_lifetime any_text) s.place) in
     read_told same IsLifetime lifetime_in (λ v ts m. sym (ap lifetime_in m))
     (first_lifetime accept_as_lifetime)
-    (λ f. lacks (lifetime_missing (first_lifetime any_text f)) f)
+    (λ f. missing_next (lifetime_missing (first_lifetime any_text f)) f)
     (refused_at s (lifetime_words read)) s t
     (λ f k. in_words s f words (here_told (lifetime_words read) s f k))
     (of_lifetime accept_as_lifetime) r h
@@ -257,18 +269,18 @@ unfolding take_any_lifetime
 any_lifetime_told s r t h =
     let words = codes "expected lifetime" in
     read_told same IsLifetime lifetime_in (λ v ts m. sym (ap lifetime_in m))
-    (first_lifetime any_text) (lacks words) (refused_at s words) s t (here_told words s)
+    (first_lifetime any_text) (missing_next words) (refused_at s words) s t (here_told words s)
     (of_lifetime any_text) r h
 
 module _ {T A : Type 0} (form : T → A) (span_of : T → Span) (means : List Tree → A) (text : List ℕ)
     (fits : (v : T) (ts : List Tree) → IsSpanOf text (span_of v) ts → form v ≡ means ts) where
   pub word_told : (s : State) (r : Result T Fault) (t : State) → WordParses span_of text s r t
-      → TakesAs form (take_by (first_keyword text) means (lacks (expected (in_backquotes text))))
-      s r t
+      → TakesAs form
+      (take_by (first_keyword text) means (missing_next (expected (in_backquotes text)))) s r t
   word_told s r t h =
       let words = expected (in_backquotes text) in
       told-at-once form (λ v. IsSpanOf text (span_of v)) means fits (first_keyword text)
-      (lacks words) (refused_at s words) s t (here_told words s) (of_keyword text) r h
+      (missing_next words) (refused_at s words) s t (here_told words s) (of_keyword text) r h
 
 pub keyword_told : (k : ℕ) (s : State) (r : Result (Keyword k) Fault) (t : State)
     → KeywordParses k s r t → Takes (take_keyword k) s r t
@@ -286,27 +298,23 @@ underscore_told s r t h =
 
 -- a punctuation's error is at the punct that is next, if one is
 sign-at : (s : State) → IsFilled s.place → (x : Read)
-    → IsAt (scope_trees s.place)
-    (within s.scope_span (punct_position (with_ahead x) (erased_ahead s.place)))
-    (punct_span x (state_span s))
+    → IsAt (scope_trees s.place) s.scope_span
+    (punct_position (with_ahead x) (erased_ahead s.place)) (punct_span x (state_span s))
 sign-at s i None = start_told s.place s.scope_span i
-sign-at s i (Some ([], q)) = start_told s.place s.scope_span i
-sign-at s i (Some (t ∷ ts, q)) = refl
+sign-at s i (Some r) = refl
 
 sign_at : (text : List ℕ) (s : State) → IsFilled s.place
-    → IsAt (scope_trees s.place)
-    (within s.scope_span (sign_position text (erased_ahead s.place))) (punctuation_span text s)
+    → IsAt (scope_trees s.place) s.scope_span (sign_position text (erased_ahead s.place))
+    (punctuation_span text s)
 sign_at [] s i = start_told s.place s.scope_span i
 sign_at (c ∷ cs) s i =
     subst
-    (λ y. IsAt (scope_trees s.place)
-    (within s.scope_span (punct_position y (erased_ahead s.place)))
+    (λ y. IsAt (scope_trees s.place) s.scope_span (punct_position y (erased_ahead s.place))
     (punct_span (read_punct s.place) (state_span s)))
     (tells of_punct s.place) (sign-at s i (read_punct s.place))
 
 sign_told : (text : List ℕ) (s : State) (f : Fault) → Refuses (punctuation_message text s) f
-    → IsFilled s.place
-    → IsSaid (scope_trees s.place) s.scope_span (sign_missing text (erased_ahead s.place)) f
+    → SaysAt s (sign_missing text (erased_ahead s.place)) f
 sign_told text s (Refused e) h i = (punctuation_span text s, sign_at text s i, h)
 sign_told text s (Memory e) h i = tt
 

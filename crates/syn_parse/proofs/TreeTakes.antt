@@ -24,7 +24,7 @@ use Rattle.syn_parse.specs.Parses.{IsTree}
 use Rattle.syn_parse.specs.Reads.{Read, Reads}
 use Rattle.syn_parse.specs.ErrorWords.{refused_at}
 use Rattle.syn_parse.specs.State.{State, moved}
-use Rattle.syn_parse.specs.Takes.{TakesAs, found, lacks}
+use Rattle.syn_parse.specs.Takes.{TakesAs, found, missing_next}
 use Rattle.syn_parse.specs.TreeTakes.{VisibleParses, take_rest, take_tree, tree_in}
 use Rattle.syn_parse.specs.TreesAhead.{ahead}
 use Rattle.syn_parse.specs.declared.fault.Fault.{Fault}
@@ -60,7 +60,7 @@ unfolding take_tree
 tree_told s r t h =
     let words = codes "expected token tree" in
     told-by (λ v. erased_tree (tree_of v)) IsErased tree_in (λ v ts m. sym (ap tree_in m))
-    (first_if any_tree) (lacks words) (refused_at s words) s t (here_told words s)
+    (first_if any_tree) (missing_next words) (refused_at s words) s t (here_told words s)
     (erased (read_visible s.place)) r
     (erased-ahead (read_visible s.place) ∙ visible_tells s.place)
     (λ b i. leads-erased (Reached b) (read_visible s.place)

@@ -1,18 +1,31 @@
 -- A whole stream takes what its type states.
-use Rattle.std.proofs.Common.{inl, inr}
-use Rattle.std.specs.Prelude.{Result}
+use Rattle.std.proofs.Common.{Err, Ok, ap, inl, inr, refl}
+use Rattle.std.specs.Prelude.{List, ℕ, MatchResult, Result, length}
+use Rattle.tok_lexical.specs.Widths.{bytes}
+use Rattle.tok_lexical.specs.declared.edition.Edition.{Edition}
+use Rattle.tok_lexical.specs.declared.rule.Mode.TheVariants.{Source}
+use Rattle.tok_core.proofs.Lexical.Visible.{all_visible}
 use Rattle.tok_core.specs.Forest.{Forest}
+use Rattle.tok_core.specs.Lexical.Outcome.{FollowsSource}
+use Rattle.tok_core.specs.declared.lexer.error.LexFault.{LexFault}
+use Rattle.tok_core.specs.declared.lexer.error.LexFault.TheVariants as lexer
+use Rattle.tok_buffer.specs.declared.error.Message.{Message}
 use Rattle.tok_leaves.specs.Spans.{call_site}
 use Rattle.tok_leaves.specs.declared.span.Span.{Span}
 use Rattle.syn_parse.proofs.Finished.{finish_takes_all, memory-fails, results_agree}
 use Rattle.syn_parse.proofs.Finished.{start-filled, words_agree}
-use Rattle.syn_parse.specs.Parsers.{Finishes, OnMemory, ParsesWhole, whole_stream}
+use Rattle.syn_parse.specs.Faults.{IsRefused}
+use Rattle.syn_parse.specs.Parsers.{Finishes, IsUnread, OnMemory, ParsesWhole, lex_message}
+use Rattle.syn_parse.specs.Parsers.{whole_stream}
 use Rattle.syn_parse.specs.Reads.{Call}
+use Rattle.syn_parse.specs.Sources.{KeepsRead, end_of_tokens}
 use Rattle.syn_parse.specs.State.{State}
-use Rattle.syn_parse.specs.Takings.{Keeps, KeepsBoth, KeepsWhole, KeepsWords, Takings, told}
-use Rattle.syn_parse.specs.Takings.{told_filled}
-use Rattle.syn_parse.specs.Takings.{untold}
+use Rattle.syn_parse.specs.Takes.{Taking, TakesAll}
+use Rattle.syn_parse.specs.Takings.{HasOneMessage, Keeps, KeepsBoth, KeepsTextTo, KeepsWhole}
+use Rattle.syn_parse.specs.Takings.{KeepsWords}
+use Rattle.syn_parse.specs.Takings.{Takings, told, told_filled, untold, unweighed}
 use Rattle.syn_parse.specs.declared.fault.Fault.{Fault}
+use Rattle.syn_parse.specs.declared.fault.Fault.TheVariants.{Memory, Refused}
 
 module _ {T : Type 0} where
   pub whole_keeps : (takes : Takings T) (f : Forest) (scope : Span) (returned : Result T Fault)
@@ -58,3 +71,56 @@ module _ {T : Type 0} where
       λ e i j. words_agree form take left call_site right call_site e i j x y h k
   words_keep (told_filled form take w) left right x y h k =
       λ e i j. words_agree form take left call_site right call_site e i j x y (h i) (k j)
+
+-- an error of a text has one message
+module _ {T A : Type 0} (form : T → A) (take : Taking A) where
+  abbrev ErrsOnce : Result T Fault → Type 0
+  ErrsOnce r = HasOneMessage (told form take unweighed) r
+
+  all-once : (f : Forest) (scope : Span) (r : Result T Fault) → TakesAll form take f scope r
+      → ErrsOnce r
+  all-once f scope (Ok v) h = tt
+  all-once f scope (Err (Refused e)) h = (tt, h.0.1)
+  all-once f scope (Err (Memory e)) h = tt
+
+  refused-once : (m : Message) (r : Result T Fault) → IsRefused m r → ErrsOnce r
+  refused-once m (Ok v) h = absurd h
+  refused-once m (Err (Refused e)) h = (tt, ap length h)
+  refused-once m (Err (Memory e)) h = tt
+
+  memory-once : (r : Result T Fault) → OnMemory r → ErrsOnce r
+  memory-once (Ok v) h = absurd h
+  memory-once (Err (Refused e)) h = absurd h
+  memory-once (Err (Memory e)) h = tt
+
+  unread-once : (why : LexFault) (r : Result T Fault) → MatchResult r (λ _. ⊥) (IsUnread why)
+      → ErrsOnce r
+  unread-once why (Ok v) h = absurd h
+  unread-once (lexer.Refused e) (Err f) h = refused-once (lex_message e) (Err f) h
+  unread-once lexer.Memory (Err f) h = memory-once (Err f) h
+
+module _ (number : ℕ) (end : Forest → Span) where
+  pub text_once : {T : Type 0} (takes : Takings T) (text : List ℕ) (r : Result T Fault)
+      → KeepsTextTo number end takes text r → HasOneMessage takes r
+  text_once untold text r h = tt
+  text_once (told form take w) text r (inl h) = all-once form take h.0 (end h.0) r h.3
+  text_once (told form take w) text r (inr (inl h)) =
+      refused-once form take (lex_message h.0) r h.2
+  text_once (told form take w) text r (inr (inr h)) = memory-once form take r h
+  text_once (told_filled form take w) text r (inl h) =
+      all-once form take h.0 (end h.0) r (h.3 h.2.0)
+  text_once (told_filled form take w) text r (inr (inl h)) =
+      refused-once form take (lex_message h.0) r h.2
+  text_once (told_filled form take w) text r (inr (inr h)) = memory-once form take r h
+
+module _ {T : Type 0} (edition : Edition) (text : List ℕ) where
+  pub source_once : (takes : Takings T) (read : Result Forest LexFault) (r : Result T Fault)
+      → FollowsSource edition 0 text read → KeepsRead takes read r → HasOneMessage takes r
+  source_once untold read r follows h = tt
+  source_once (told form take w) (Ok f) r follows h =
+      all-once form take f (end_of_tokens 0 f) r h
+  source_once (told form take w) (Err why) r follows h = unread-once form take why r h
+  source_once (told_filled form take w) (Ok f) r (front, rest, same, begins, follows) h =
+      let shown = all_visible (bytes front) (Source edition) 0 rest f refl follows.reads in
+      all-once form take f (end_of_tokens 0 f) r (h shown.0)
+  source_once (told_filled form take w) (Err why) r follows h = unread-once form take why r h

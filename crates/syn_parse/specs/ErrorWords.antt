@@ -5,6 +5,7 @@ use Rattle.tok_lexical.specs.declared.delimiter.Delimiter.TheVariants.{Parenthes
 use Rattle.tok_lexical.specs.declared.delimiter.Delimiter.TheVariants as delimiter
 use Rattle.tok_leaves.specs.declared.span.Span.{Span}
 use Rattle.tok_leaves.specs.Leaves.{ident}
+use Rattle.tok_leaves.specs.Spans.{call_site}
 use Rattle.tok_core.specs.Forest.{Tree, leaf, tree_span}
 use Rattle.tok_buffer.specs.Ahead.{Leftover}
 use Rattle.tok_buffer.specs.Place.{Place}
@@ -39,13 +40,15 @@ abbrev pub lifetime_words : Option (List Tree × Place) → List ℕ
 lifetime_words None = codes "expected lifetime"
 lifetime_words (Some r) = codes "unexpected keyword lifetime \"'" ++ (name_in r.0 ++ codes "\"")
 
--- of the puncts that are read the first one's span, and else this one
+-- the span of the one tree that is read
+abbrev pub span_in : List Tree → Span
+span_in [] = call_site
+span_in (t ∷ ts) = tree_span t
+
+-- the span of the punct that is read, and else this one
 abbrev pub punct_span : Option (List Tree × Place) → Span → Span
 punct_span None span = span
-punct_span (Some r) span = span_in r.0 where
-  span_in : List Tree → Span
-  span_in [] = span
-  span_in (t ∷ ts) = tree_span t
+punct_span (Some r) span = span_in r.0
 
 -- the span of a punctuation's error: the next punct's, if there is one and the text isn't empty
 abbrev pub punctuation_span : List ℕ → State → Span

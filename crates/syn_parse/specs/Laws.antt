@@ -12,11 +12,11 @@ use Rattle.tok_types.specs.Delimiters.{delimiter_at}
 use Rattle.tok_types.specs.declared.delimiter.Visible.{Visible}
 use Rattle.syn_parse.specs.Faults.{Refuses}
 use Rattle.syn_parse.specs.Groups.{AreParts, Enters}
-use Rattle.syn_parse.specs.Positions.{Missing, span_of}
+use Rattle.syn_parse.specs.Positions.{Missing, only_span}
 use Rattle.syn_parse.specs.Reads.{Call}
 use Rattle.syn_parse.specs.State.{State, advanced, closed, forked, moved}
 use Rattle.syn_parse.specs.ErrorWords.{delimiter_words, refused_at}
-use Rattle.syn_parse.specs.Takes.{IsSaid}
+use Rattle.syn_parse.specs.Takes.{Says}
 use Rattle.syn_parse.specs.TreesAhead.{scope_of}
 use Rattle.syn_parse.specs.declared.fault.Fault.{Fault}
 use Rattle.syn_parse.specs.declared.fault.Fault.TheVariants.{Refused, Memory}
@@ -49,11 +49,11 @@ pub record ForksFollow : Type 0 where
   pub closing : (content fork s : State) →
       advanced (closed content fork) s ≡ closed content (advanced fork s)
 
--- where no invisible group is, an error says what is missing at the one span of its position
+-- in a scope without invisible groups an error says what is missing at the one span of its position
 abbrev pub ErrorsHaveOneSpan : Type 0
 ErrorsHaveOneSpan =
-    (f : Forest) → erase f ≡ f → (scope : Span) (m : Missing) (e : Fault) → IsSaid f scope m e
-    → Refuses (message_at (span_of scope m.position) m.words) e
+    (f : Forest) → erase f ≡ f → (scope : Span) (m : Missing) (e : Fault) → Says f scope m e
+    → Refuses (message_at (only_span scope m.position) m.words) e
 
 -- places of one scope share it
 abbrev pub ScopesTell : Type 0

@@ -16,14 +16,14 @@ use Rattle.tok_buffer.specs.Reads.{is_ident_of, is_joint_of, is_punct_of}
 use Rattle.syn_parse.specs.Positions.{Missing}
 use Rattle.syn_parse.specs.TreesAhead.{Ahead}
 use Rattle.syn_parse.specs.Takings.{Lightens, Lowers}
-use Rattle.syn_parse.specs.Takes.{Outcome, Taking, found, missing, and_then, ◌>>=◌, gives, where_ahead}
-use Rattle.syn_parse.specs.Takes.{after_inside, inside_first, lacks, read_as, refuses, refuses_at}
-use Rattle.syn_parse.specs.Takes.{take_by, take_group}
+use Rattle.syn_parse.specs.Takes.{Outcome, Taking, ◌>>=◌, after_inside, and_then, found, gives}
+use Rattle.syn_parse.specs.Takes.{inside_first, missing, missing_next, read_as, refuses, refuses_at}
+use Rattle.syn_parse.specs.Takes.{take_by, take_group, where_ahead}
 use Rattle.syn_parse.specs.Tokens.{take_any_ident, take_any_lifetime, take_ident, take_keyword}
 use Rattle.syn_parse.specs.Tokens.{take_lifetime, take_literal, take_punct, take_punctuation}
 use Rattle.syn_parse.specs.Owned.{take_own}
-use Rattle.syn_parse.specs.Tokens.{span_in, take_underscore}
-use Rattle.syn_parse.specs.ErrorWords.{expected}
+use Rattle.syn_parse.specs.Tokens.{take_underscore}
+use Rattle.syn_parse.specs.ErrorWords.{expected, span_in}
 use Rattle.tok_types.specs.Texts.{in_backquotes}
 
 pub lightens_lower : {A : Type 0} (take : Taking A) → Lowers take → Lightens take
@@ -152,7 +152,8 @@ lowers_punct = by-lowers _ _ _ (if-shorter _)
 pub lowers_underscore : Lowers take_underscore
 unfolding take_underscore
 lowers_underscore =
-    by-lowers (first_keyword (codes "_")) span_in (lacks (expected (in_backquotes (codes "_"))))
+    by-lowers (first_keyword (codes "_")) span_in
+    (missing_next (expected (in_backquotes (codes "_"))))
     (word-shorter (codes "_"))
 
 pub lowers_literal : Lowers take_literal

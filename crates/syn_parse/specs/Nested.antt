@@ -8,11 +8,10 @@ use Rattle.tok_buffer.specs.Entry.{EnteredWith}
 use Rattle.tok_buffer.specs.InFront.{first_group}
 use Rattle.syn_parse.specs.Lighter.{group_weighs, lightens_bind, lightens_group, lightens_lower}
 use Rattle.syn_parse.specs.Lighter.{lightens_where, lowering}
-use Rattle.syn_parse.specs.Positions.{at_end}
 use Rattle.syn_parse.specs.Takes.{Outcome, Taking, found, missing, and_then, ◌>>=◌, where_ahead}
-use Rattle.syn_parse.specs.Takes.{after_inside, inside_first, take_group}
+use Rattle.syn_parse.specs.Takes.{after_inside, inside_first, refuses, take_group}
 use Rattle.syn_parse.specs.Takings.{Lightens, Lowers}
-use Rattle.syn_parse.specs.TreesAhead.{Ahead}
+use Rattle.syn_parse.specs.TreesAhead.{Ahead, only_trees}
 
 -- two parsers take the same of all that weighs less than this
 abbrev pub SameBelow : {A : Type 0} → ℕ → (m n : Taking A) → Type 0
@@ -87,7 +86,7 @@ descends_group {A} d inner h = record {
       → inside_first d (inner m) a x ≡ inside_first d (inner n) a x
   go m n l j a e None k = refl
   go m n l j a e (Some x) k =
-      ap (after_inside a x) (h.same m n l j (record { trees = x.content; unread = None })
+      ap (after_inside a x) (h.same m n l j (only_trees x.content)
       (λ b u. e b (omega (arith, u, group_weighs d a.trees x k))))
 
 -- with these `search` proves it of what is built of tokens, groups and the parser itself
@@ -104,7 +103,7 @@ pub ruleset descending = (
 
 -- values within values, at most so many levels of them
 abbrev pub levels : {A : Type 0} → ℕ → (Taking A → Taking A) → Taking A
-levels zero step = λ a. missing (record { position = at_end; words = [] })
+levels zero step = refuses []
 levels (suc n) step = step (levels n step)
 
 -- as many levels as there are

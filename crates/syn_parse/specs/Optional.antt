@@ -8,7 +8,7 @@ use Rattle.syn_parse.specs.Takings.{untold, unweighed}
 use Rattle.syn_parse.specs.TreesAhead.{Ahead}
 
 -- a value where the test is true
-abbrev pub take_optional : {A : Type 0} → (Ahead → Bool) → Taking A → Taking (Option A)
+unfoldable pub take_optional : {A : Type 0} → (Ahead → Bool) → Taking A → Taking (Option A)
 take_optional test take =
     where_ahead test (do
       v ← take
@@ -16,6 +16,7 @@ take_optional test take =
 
 pub lightens_optional : {A : Type 0} (test : Ahead → Bool) (take : Taking A) → Lightens take
     → Lightens (take_optional test take)
+unfolding take_optional
 lightens_optional test take h =
     lightens_where test _ _
     (lightens_bind take _ h (λ v. lightens_gives (Some v)))

@@ -8,9 +8,9 @@ use Rattle.tok_leaves.specs.declared.span.Span.{Span}
 use Rattle.tok_leaves.specs.Leaves.{ident}
 use Rattle.tok_core.specs.Forest.{Forest, leaf, no_trees, tree}
 use Rattle.tok_types.specs.Texts.{in_backquotes}
-use Rattle.syn_parse.specs.ErrorWords.{expected}
-use Rattle.syn_parse.specs.Takes.{Taking, lacks, take_by}
-use Rattle.syn_parse.specs.Tokens.{span_in}
+use Rattle.syn_parse.specs.ErrorWords.{expected, span_in}
+use Rattle.syn_parse.specs.Takes.{Taking, missing_next, take_by}
+use Rattle.syn_parse.specs.TreesAhead.{Ahead}
 use Rattle.tok_buffer.specs.EachRead.{first_keyword}
 
 -- the characters are those of an identifier
@@ -28,4 +28,8 @@ own_first text f = is_some (first_keyword text f)
 
 -- the keyword with this text is taken, and its span is the value
 unfoldable pub take_own : List ℕ → Taking Span
-take_own text = take_by (first_keyword text) span_in (lacks (expected (in_backquotes text)))
+take_own text = take_by (first_keyword text) span_in (missing_next (expected (in_backquotes text)))
+
+-- a peek of the keyword with this text, by what is ahead
+abbrev pub sees_own : List ℕ → Ahead → Bool
+sees_own text a = own_first text a.trees

@@ -1,18 +1,20 @@
 -- Where something is missing, and at which spans an error may say so.
-use Rattle.std.specs.Prelude.{◌≡◌, ◌⊎◌, ℕ, List, [], ◌∷◌}
+use Rattle.std.specs.Prelude.{◌≡◌, ℕ, List, [], ◌∷◌}
 use Rattle.tok_lexical.specs.declared.delimiter.Delimiter.{Delimiter}
 use Rattle.tok_lexical.specs.declared.delimiter.Delimiter.TheVariants as delimiter
 use Rattle.tok_leaves.specs.declared.span.Span.{Span}
 use Rattle.tok_leaves.specs.Leaves.{leaf_span}
 use Rattle.tok_leaves.specs.Spans.{opening_span}
 use Rattle.tok_core.specs.Erase.{erase}
-use Rattle.tok_core.specs.Forest.{Tree, leaf, group, Forest, no_trees, tree, reverse_onto}
+use Rattle.tok_core.specs.Forest.{Tree, leaf, group, Forest, no_trees, tree, concat, reverse_onto}
+use Rattle.tok_core.specs.Forest.{tree_span}
 use Rattle.tok_buffer.specs.Place.{Frame, frame, Place, empty_place, at, whole, in_group}
 
--- the end of the scope; the token, or the group, that begins with this span; or this very span
+-- Where a stream has these visible trees ahead: at the start of the first one, or over the whole of
+-- it. With no trees ahead both are the end of the scope. Or at this very span.
 pub data Position : Type 0 where
-  at_end : Position
-  at_token : Span → Position
+  at_trees : Forest → Position
+  over_tree : Forest → Position
   at_span : Span → Position
 
 -- what is missing: where, and in which words an error says so
@@ -25,37 +27,43 @@ abbrev pub tree_start : Tree → Span
 tree_start (leaf l) = leaf_span l
 tree_start (group d inside span) = opening_span span
 
--- at the first of these trees, and at the end where there is none
-abbrev pub at_next : Forest → Position
-at_next no_trees = at_end
-at_next (tree t f) = at_token (tree_start t)
+-- what is ahead at the end of a group's contents: after an invisible group what is after it
+abbrev pub ahead_after : Delimiter → Forest → Forest
+ahead_after delimiter.None after = after
+ahead_after d after = no_trees
 
--- a position in a scope that ends at this span, seen from outside: its end is that span
-abbrev pub within : Span → Position → Position
-within scope at_end = at_span scope
-within scope (at_token token) = at_token token
-within scope (at_span span) = at_span span
+-- Some tree of a level, at any depth, visible or not, has this span as this part of it, and a
+-- stream before the tree has these visible trees ahead. After the level come some more.
+pub data Stands (part : Tree → Span) (span : Span) (ahead : Forest) : (level after : Forest)
+    → Type 0 where
+  here : (t : Tree) (f after : Forest) → part t ≡ span → concat (erase (tree t f)) after ≡ ahead
+      → Stands part span ahead (tree t f) after
+  later : (t : Tree) (f after : Forest) → Stands part span ahead f after
+      → Stands part span ahead (tree t f) after
+  among : (d : Delimiter) (inside f after : Forest) (s : Span)
+      → Stands part span ahead inside (ahead_after d (concat (erase f) after))
+      → Stands part span ahead (tree (group d inside s) f) after
 
--- the same of what is missing
-abbrev pub missing_within : Span → Missing → Missing
-missing_within scope m = record m { position = within scope m.position }
+-- the part of the next tree in a scope, or the scope's span at its end
+abbrev pub IsNext : (Tree → Span) → (trees : Forest) → Span → (ahead : Forest) → Span → Type 0
+IsNext part trees scope no_trees span = span ≡ scope
+IsNext part trees scope (tree t f) span = Stands part span (tree t f) trees no_trees
 
--- An invisible group that begins with this span is among these trees, at some depth, and the first
--- visible token in it with that one.
-pub data StandsBefore (token start : Span) : Forest → Type 0 where
-  here : (inside f : Forest) (span : Span) → at_next (erase inside) ≡ at_token token
-      → opening_span span ≡ start
-      → StandsBefore token start (tree (group delimiter.None inside span) f)
-  among : (d : Delimiter) (inside f : Forest) (span : Span) → StandsBefore token start inside
-      → StandsBefore token start (tree (group d inside span) f)
-  later : (t : Tree) (f : Forest) → StandsBefore token start f → StandsBefore token start (tree t f)
+-- a span of this position, among the trees of a scope that ends at that span
+abbrev pub IsAt : Forest → Span → Position → Span → Type 0
+IsAt trees scope (at_trees ahead) span = IsNext tree_start trees scope ahead span
+IsAt trees scope (over_tree ahead) span = IsNext tree_span trees scope ahead span
+IsAt trees scope (at_span given) span = span ≡ given
 
--- A span of this position among these trees. A token's is its own, or that of an invisible group
--- that stands directly before it.
-abbrev pub IsAt : Forest → Position → Span → Type 0
-IsAt f at_end span = ⊥
-IsAt f (at_token token) span = (span ≡ token) ⊎ StandsBefore token span f
-IsAt f (at_span given) span = span ≡ given
+-- a position in a group that closes at this span, seen from outside: its end is that span
+abbrev pub seen_outside : Span → Position → Position
+seen_outside close (at_trees no_trees) = at_span close
+seen_outside close (over_tree no_trees) = at_span close
+seen_outside close position = position
+
+-- what is missing in such a group, seen from outside
+abbrev pub missing_inside : Span → Missing → Missing
+missing_inside close m = record m { position = seen_outside close m.position }
 
 -- all trees of a scope, from its frames, the innermost first
 abbrev pub trees_in : Frame → List Frame → Forest
@@ -69,8 +77,13 @@ abbrev pub scope_trees : Place → Forest
 scope_trees empty_place = no_trees
 scope_trees (at n s c l ls) = trees_in l ls
 
+-- the part of the first tree, and the scope's span if there is none
+abbrev pub next_span : (Tree → Span) → Span → Forest → Span
+next_span part scope no_trees = scope
+next_span part scope (tree t f) = part t
+
 -- the one span of a position, where no invisible group is
-abbrev pub span_of : Span → Position → Span
-span_of scope at_end = scope
-span_of scope (at_token token) = token
-span_of scope (at_span span) = span
+abbrev pub only_span : Span → Position → Span
+only_span scope (at_trees ahead) = next_span tree_start scope ahead
+only_span scope (over_tree ahead) = next_span tree_span scope ahead
+only_span scope (at_span span) = span

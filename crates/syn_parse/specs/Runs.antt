@@ -3,6 +3,9 @@ use Rattle.std.proofs.Common.{◌≡◌, ◌≤◌, arith}
 use Rattle.std.specs.Prelude.{Option, None, Some, option_map}
 use Rattle.tok_core.specs.Forest.{Tree, Forest, no_trees, tree}
 use Rattle.tok_core.specs.Weight.{weight}
+use Rattle.tok_buffer.specs.Place.{Place}
+use Rattle.tok_buffer.specs.Reads.{place_after}
+use Rattle.tok_buffer.specs.Trees.{read_visible}
 use Rattle.syn_parse.specs.Takes.{Taking, found}
 use Rattle.syn_parse.specs.Takings.{Lightens}
 use Rattle.syn_parse.specs.TreesAhead.{Ahead}
@@ -26,6 +29,12 @@ passing step s (tree t f) = onwards t f (option_map (λ r. passing step r f) (st
 unfoldable pub take_run : {S : Type 0} → (S → Tree → Option S) → S → Taking Forest
 take_run step s a =
     found (passing step s a.trees).0 (record a { trees = (passing step s a.trees).1 })
+
+-- from a place to the one right after so many visible trees
+pub data PassesVisible (p : Place) : Place → Type 0 where
+  none_passed : PassesVisible p p
+  one_more : (q r : Place) → PassesVisible p q → place_after (read_visible q) ≡ Some r
+      → PassesVisible p r
 
 -- a run adds nothing to what is ahead
 passing-lightens : {S : Type 0} (step : S → Tree → Option S) (s : S) (f : Forest)

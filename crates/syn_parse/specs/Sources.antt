@@ -1,27 +1,66 @@
--- Parsers over whole Rust sources.
-use Rattle.std.specs.Prelude.{ℕ, List, Result, Ok, Err, MatchResult}
+-- Parsers over the texts of sources, whose end is behind the last token.
+use Rattle.std.specs.Prelude.{ℕ, List, Result, Ok, Err, MatchResult, ◌⊎◌}
+use Rattle.tok_buffer.specs.Spans.{last_span}
 use Rattle.tok_core.specs.Forest.{Forest}
 use Rattle.tok_core.specs.Lexical.Outcome.{FollowsSource}
+use Rattle.tok_core.specs.Lexical.Reading as grammar
+use Rattle.tok_core.specs.declared.lexer.error.LexError.{LexError}
 use Rattle.tok_core.specs.declared.lexer.error.LexFault.{LexFault}
-use Rattle.tok_leaves.specs.Spans.{call_site}
+use Rattle.tok_leaves.specs.Spans.{call_site, source}
+use Rattle.tok_leaves.specs.declared.span.Origin.TheVariants.{CallSite, Source}
+use Rattle.tok_leaves.specs.declared.span.Span.{Span}
 use Rattle.tok_lexical.specs.declared.edition.Edition.{Edition}
-use Rattle.syn_parse.specs.Parsers.{IsUnread, ParsesWhole, whole_stream}
+use Rattle.tok_lexical.specs.declared.rule.Mode.TheVariants.{Plain}
+use Rattle.syn_parse.specs.Faults.{IsRefused}
+use Rattle.syn_parse.specs.Parsers.{IsUnread, OnMemory, ParsesWhole, lex_message, whole_stream}
 use Rattle.syn_parse.specs.Reads.{Call}
 use Rattle.syn_parse.specs.State.{State}
-use Rattle.syn_parse.specs.Takings.{KeepsWhole, Takings}
+use Rattle.syn_parse.specs.Takings.{KeepsTextTo, KeepsWhole, Takings}
 use Rattle.syn_parse.specs.declared.fault.Fault.{Fault}
 
--- what holds of the stream of a source's tokens, if the source has any
+-- the empty span where a span ends; in place of the call site, the start of this source
+abbrev pub end_of_span : ℕ → Span → Span
+end_of_span number span =
+    elim span.origin [ CallSite ↦ source number 0 0 | Source n a b ↦ source n b b ]
+
+-- where the tokens of a source end: behind the last one, or at the start where there is none
+abbrev pub end_of_tokens : ℕ → Forest → Span
+end_of_tokens number f = end_of_span number (last_span call_site f)
+
+-- the stream of the tokens of a source
+abbrev pub source_stream : ℕ → Forest → State
+source_stream number f = whole_stream f (end_of_tokens number f)
+
+-- what holds of the stream of the tokens of a source's text, if the text has any
+abbrev pub OnTextOf : ℕ → (State → Type 0) → List ℕ → Type 0
+OnTextOf number holds text =
+    (f : Forest) → grammar.Reads Plain number text f → holds (source_stream number f)
+
+-- The text of a source reads as a forest, which is parsed; or it is refused as the grammar refuses
+-- it; or an allocation fails.
+abbrev pub ParsesTextOf : {T : Type 0} → ℕ → Call T → List ℕ → Result T Fault → Type 0
+ParsesTextOf number parses text result =
+    ((f : Forest) × grammar.Reads Plain number text f
+    × ParsesWhole parses (source_stream number f) result)
+    ⊎ (((e : LexError) × grammar.IsRefused Plain number text e
+    × IsRefused (lex_message e) result)
+    ⊎ OnMemory result)
+
+-- the text of a source keeps what is stated up to the end of its tokens
+abbrev pub KeepsTextOf : {T : Type 0} → ℕ → Takings T → List ℕ → Result T Fault → Type 0
+KeepsTextOf number = KeepsTextTo number (end_of_tokens number)
+
+-- what holds of the stream of a Rust source's tokens, if the source has any
 abbrev pub OnSource : Edition → (State → Type 0) → List ℕ → Type 0
 OnSource edition holds text =
-    (f : Forest) → FollowsSource edition 0 text (Ok f) → holds (whole_stream f call_site)
+    (f : Forest) → FollowsSource edition 0 text (Ok f) → holds (source_stream 0 f)
 
 -- the tokens that were read are parsed, or the lexer's fault is returned
 abbrev pub ParsesRead : {T : Type 0} → Call T → Result Forest LexFault → Result T Fault → Type 0
-ParsesRead parses (Ok f) result = ParsesWhole parses (whole_stream f call_site) result
+ParsesRead parses (Ok f) result = ParsesWhole parses (source_stream 0 f) result
 ParsesRead parses (Err why) result = MatchResult result (λ _. ⊥) (IsUnread why)
 
--- a source of an edition is read, and its tokens are parsed
+-- a Rust source of an edition is read, and its tokens are parsed
 abbrev pub ParsesSource : {T : Type 0} → Edition → Call T → List ℕ → Result T Fault → Type 0
 ParsesSource edition parses text result =
     (read : Result Forest LexFault) × FollowsSource edition 0 text read
@@ -29,10 +68,10 @@ ParsesSource edition parses text result =
 
 -- a parse of the tokens that were read keeps what is stated
 abbrev pub KeepsRead : {T : Type 0} → Takings T → Result Forest LexFault → Result T Fault → Type 0
-KeepsRead takes (Ok f) result = KeepsWhole takes f call_site result
+KeepsRead takes (Ok f) result = KeepsWhole takes f (end_of_tokens 0 f) result
 KeepsRead takes (Err why) result = MatchResult result (λ _. ⊥) (IsUnread why)
 
--- a source of an edition is read, and a parse of its tokens keeps what is stated
+-- a Rust source of an edition is read, and a parse of its tokens keeps what is stated
 abbrev pub KeepsSource : {T : Type 0} → Edition → Takings T → List ℕ → Result T Fault → Type 0
 KeepsSource edition takes text result =
     (read : Result Forest LexFault) × FollowsSource edition 0 text read

@@ -11,19 +11,18 @@ use Rattle.tok_core.specs.Forest.{Tree, Forest}
 use Rattle.tok_core.specs.Weight.{weight}
 use Rattle.tok_buffer.specs.Entry.{EnteredWith}
 use Rattle.tok_buffer.specs.InFront.{first_group, first_tree_span}
-use Rattle.tok_buffer.specs.Messages.{first_text, message_at, one_message}
+use Rattle.tok_buffer.specs.Messages.{first_text, message_at, one_message, spans_of}
 use Rattle.tok_buffer.specs.Progress.{remaining}
 use Rattle.tok_buffer.specs.View.{IsVisibleDelimiter}
 use Rattle.syn_parse.specs.Faults.{IsMemory, RefusesAt}
 use Rattle.syn_parse.specs.Reads.{Call}
 use Rattle.syn_parse.specs.ErrorWords.{delimiter_words}
-use Rattle.syn_parse.specs.Positions.{IsAt, Missing, at_next, at_span, missing_within, scope_trees}
-use Rattle.syn_parse.specs.Positions.{within}
+use Rattle.syn_parse.specs.Positions.{IsAt, Missing, at_span, at_trees, missing_inside, scope_trees}
 use Rattle.syn_parse.specs.State.{State}
 use Rattle.syn_parse.specs.declared.fault.Fault.{Fault}
 use Rattle.syn_parse.specs.declared.fault.Fault.TheVariants.{Refused, Memory}
 use Rattle.syn_parse.specs.TreesAhead.{Ahead, IsFilled, after_fork, ahead, all_taken, scope_of}
-use Rattle.syn_parse.specs.TreesAhead.{unread_after, whole}
+use Rattle.syn_parse.specs.TreesAhead.{only_trees, unread_after, whole}
 
 -- a value and what is ahead after it, or what is missing
 pub data Outcome (A : Type 0) : Type 0 where
@@ -53,13 +52,13 @@ where_ahead test there other a = cond (test a) (there a) (other a)
 abbrev pub or_end : List ℕ → Forest → List ℕ
 or_end words f = cond (not (has_trees f)) (codes "unexpected end of input, " ++ words) words
 
--- missing with these words, where these trees are ahead
-abbrev pub lacks : List ℕ → Forest → Missing
-lacks words f = record { position = at_next f; words = or_end words f }
+-- missing where these trees are ahead, in these words; they name the end where none is ahead
+abbrev pub missing_next : List ℕ → Forest → Missing
+missing_next words f = record { position = at_trees f; words = or_end words f }
 
--- no value, but an error with these words at what is next; they name the end where nothing is left
+-- no value, but an error with these words at what is next
 abbrev pub refuses : {A : Type 0} → List ℕ → Taking A
-refuses words a = missing (lacks words a.trees)
+refuses words a = missing (missing_next words a.trees)
 
 -- no value, but an error with these words at this span, whatever is ahead
 abbrev pub refuses_at : {A : Type 0} → Span → List ℕ → Taking A
@@ -68,7 +67,7 @@ refuses_at span words a = missing (record { position = at_span span; words = wor
 -- what is taken on a fork, to whose place the stream then goes
 abbrev pub on_fork : {A : Type 0} → Taking A → Taking A
 on_fork take a =
-    and_then (take (record a { unread = None })) (λ v fork. found v (after_fork fork a))
+    and_then (take (only_trees a.trees)) (λ v fork. found v (after_fork fork a))
 
 -- trees that are read, and what they mean
 abbrev pub read_as : {T : Type 0} → (List Tree → T) → (Forest → Missing) → Ahead
@@ -84,16 +83,16 @@ take_by read means lack a = read_as means lack a (read a.trees)
 -- is missing at the end inside is missing where the group closes.
 abbrev pub after_inside : {T : Type 0} → Ahead → EnteredWith Forest → Outcome T
     → Outcome (DelimSpan × T)
-after_inside a e (missing m) = missing (missing_within (closing_span e.span) m)
+after_inside a e (missing m) = missing (missing_inside (closing_span e.span) m)
 after_inside a e (found v b) =
     found (record { join = e.span }, v)
     (record { trees = e.after; unread = unread_after a b })
 
 abbrev pub inside_first : {T : Type 0} → Delimiter → Taking T → Ahead → Option (EnteredWith Forest)
     → Outcome (DelimSpan × T)
-inside_first d inner a None = missing (lacks (delimiter_words d) a.trees)
+inside_first d inner a None = refuses (delimiter_words d) a
 inside_first d inner a (Some e) =
-    after_inside a e (inner (record { trees = e.content; unread = None }))
+    after_inside a e (inner (only_trees e.content))
 
 unfoldable pub take_group : {T : Type 0} → Delimiter → Taking T → Taking (DelimSpan × T)
 take_group d inner a = inside_first d inner a (first_group d a.trees)
@@ -108,27 +107,28 @@ abbrev pub MemoryOr : Fault → Type 0 → Type 0
 MemoryOr (Refused e) P = P × (length e ≡ 1)
 MemoryOr (Memory e) P = Unit {0}
 
--- An error says what is missing: it is one message with these words, at a span of this position,
+-- An error says that this is missing: it is one message with its words, at a span of its position,
 -- among the trees of a scope that ends at that span.
-abbrev pub IsSaid : Forest → Span → Missing → Fault → Type 0
-IsSaid f scope m (Refused e) =
-    (span : Span) × IsAt f (within scope m.position) span
-    × (e ≡ one_message (message_at span m.words))
-IsSaid f scope m (Memory e) = Unit {0}
+abbrev pub Says : Forest → Span → Missing → Fault → Type 0
+Says trees scope m (Refused e) =
+    (span : Span) × IsAt trees scope m.position span × (e ≡ one_message (message_at span m.words))
+Says trees scope m (Memory e) = Unit {0}
 
--- an error says what is found missing; of another error nothing is said
-abbrev pub Says : {A : Type 0} → Forest → Span → Outcome A → Fault → Type 0
-Says f scope (found v a) e = Unit {0}
-Says f scope (missing m) e = IsSaid f scope m e
+-- it says what is found missing; of a value that is found nothing is said
+abbrev pub SaysFound : {A : Type 0} → Forest → Span → Outcome A → Fault → Type 0
+SaysFound trees scope (found v a) f = Unit {0}
+SaysFound trees scope (missing m) f = Says trees scope m f
 
--- at a stream, in a forest that is filled
-abbrev pub SaysAt : {A : Type 0} → State → Outcome A → Fault → Type 0
-SaysAt s o f = IsFilled s.place → Says (scope_trees s.place) s.scope_span o f
+-- it says at a stream that this is missing, in a forest that is filled
+abbrev pub SaysAt : State → Missing → Fault → Type 0
+SaysAt s m f = IsFilled s.place → Says (scope_trees s.place) s.scope_span m f
 
--- an error with these words at a stream
-abbrev pub SaysHere : State → List ℕ → Fault → Type 0
-SaysHere s words f =
-    IsFilled s.place → IsSaid (scope_trees s.place) s.scope_span (lacks words (ahead s).trees) f
+-- Nothing is found at a stream, and the error says what is missing; or an allocation failed. The
+-- place and the words are those in a forest that is filled.
+abbrev pub FailsAt : {A : Type 0} → State → Outcome A → Fault → Type 0
+FailsAt s o f =
+    MemoryOr f (IsMissing o)
+    × (IsFilled s.place → SaysFound (scope_trees s.place) s.scope_span o f)
 
 -- a stream stays in its scope, in which no more remains, and in a forest that is filled
 abbrev pub Stays : State → State → Type 0
@@ -143,8 +143,7 @@ Stays s t =
 abbrev pub TakesAs : {T A : Type 0} → (T → A) → Taking A → Call T
 TakesAs form take s (Ok v) t =
     (take (ahead s) ≡ found (form v) (ahead t)) × Stays s t
-TakesAs form take s (Err f) t =
-    MemoryOr f (IsMissing (take (ahead s))) × SaysAt s (take (ahead s)) f
+TakesAs form take s (Err f) t = FailsAt s (take (ahead s)) f
 
 -- the same of the value itself
 abbrev pub Takes : {T : Type 0} → Taking T → Call T
@@ -159,8 +158,7 @@ Finds Is v b (missing m) = ⊥
 abbrev pub TakesBy : {T A : Type 0} → (T → A → Type 0) → Taking A → Call T
 TakesBy Is take s (Ok v) t =
     Finds Is v (ahead t) (take (ahead s)) × Stays s t
-TakesBy Is take s (Err f) t =
-    MemoryOr f (IsMissing (take (ahead s))) × SaysAt s (take (ahead s)) f
+TakesBy Is take s (Err f) t = FailsAt s (take (ahead s)) f
 
 -- less is ahead of a stream, and it is in a filled forest if the other one is
 abbrev pub IsWithin : (inner outer : State) → Type 0
@@ -181,8 +179,8 @@ Within Is v x = (x.0 ≡ v.0) × Is v.1 x.1
 abbrev pub SaysOutside : (content : State) → Span → State → Type 0
 SaysOutside content span s =
     IsFilled s.place → (m : Missing) (f : Fault)
-    → IsSaid (scope_trees content.place) content.scope_span m f
-    → IsSaid (scope_trees s.place) s.scope_span (missing_within (closing_span span) m) f
+    → Says (scope_trees content.place) content.scope_span m f
+    → Says (scope_trees s.place) s.scope_span (missing_inside (closing_span span) m) f
 
 -- A group is entered: its contents are ahead of a stream of their own, in which less remains, and
 -- what is after it is ahead of this one. Or there is none.
@@ -202,7 +200,7 @@ EntersAhead span_of content_of d s (Ok v) t =
     × Stays s t
 EntersAhead span_of content_of d s (Err f) t =
     MemoryOr f (first_group d (ahead s).trees ≡ None)
-    × SaysHere s (delimiter_words d) f
+    × SaysAt s (missing_next (delimiter_words d) (ahead s).trees) f
 
 -- each call of a function does
 abbrev pub TakeEach : {T A : Type 0} → (T → A) → Taking A → Call T → Type 0
@@ -229,7 +227,7 @@ IsAll take f x = take (whole f) ≡ found x all_taken
 abbrev pub SaysAll : {A : Type 0} → Forest → Span → Outcome A → Fault → Type 0
 SaysAll f scope (found v a) e =
     IfSome (option_or a.unread (first_tree_span a.trees)) (λ span. RefusesAt span e)
-SaysAll f scope (missing m) e = IsSaid f scope m e
+SaysAll f scope (missing m) e = Says f scope m e
 
 -- the value that all trees are, or an error where they are none
 abbrev pub TakesAll : {T A : Type 0} → (T → A) → Taking A → Forest → Span → Result T Fault
@@ -246,7 +244,9 @@ Agree form (Ok v) (Err f) = IsMemory f
 Agree form (Err f) (Ok w) = IsMemory f
 Agree form (Err f) (Err g) = Unit {0}
 
--- two errors agree where words are found missing, and not a tree left over
-abbrev pub WordsAgree : {T A : Type 0} → Outcome A → Result T Fault → Result T Fault → Type 0
-WordsAgree (missing m) (Err (Refused d)) (Err (Refused e)) = first_text d ≡ first_text e
-WordsAgree o left right = Unit {0}
+-- two errors agree: in their words where something is missing, and in their spans where a tree is
+-- left over
+abbrev pub ErrorsAgree : {T A : Type 0} → Outcome A → Result T Fault → Result T Fault → Type 0
+ErrorsAgree (missing m) (Err (Refused d)) (Err (Refused e)) = first_text d ≡ first_text e
+ErrorsAgree (found v a) (Err (Refused d)) (Err (Refused e)) = spans_of d ≡ spans_of e
+ErrorsAgree o left right = Unit {0}

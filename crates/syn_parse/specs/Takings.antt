@@ -1,5 +1,5 @@
 -- What a type states of its parser, by the visible trees ahead.
-use Rattle.std.specs.Prelude.{◌≡◌, ◌<◌, ◌≤◌, ◌⊎◌, ℕ, List, Result, true}
+use Rattle.std.specs.Prelude.{◌≡◌, ◌<◌, ◌≤◌, ◌⊎◌, ℕ, List, IfErr, Result, true}
 use Rattle.std.specs.Global.{Box}
 use Rattle.tok_lexical.specs.declared.rule.Mode.TheVariants.{Plain}
 use Rattle.tok_leaves.specs.Spans.{call_site}
@@ -7,13 +7,14 @@ use Rattle.tok_leaves.specs.declared.span.Span.{Span}
 use Rattle.tok_core.specs.Erase.{erase}
 use Rattle.tok_core.specs.Filled.{filled}
 use Rattle.tok_core.specs.Forest.{Forest}
+use Rattle.tok_core.specs.Lexical.Laws.{IsAllVisible}
 use Rattle.tok_core.specs.Lexical.Reading as grammar
 use Rattle.tok_core.specs.Weight.{weight}
 use Rattle.tok_core.specs.declared.lexer.error.LexError.{LexError}
 use Rattle.syn_parse.specs.Faults.{IsRefused}
 use Rattle.syn_parse.specs.Parsers.{OnMemory, lex_message}
 use Rattle.syn_parse.specs.Reads.{Call}
-use Rattle.syn_parse.specs.Takes.{Agree, Taking, TakesAll, TakesAs, WordsAgree, found}
+use Rattle.syn_parse.specs.Takes.{Agree, ErrorsAgree, MemoryOr, Taking, TakesAll, TakesAs, found}
 use Rattle.syn_parse.specs.TreesAhead.{Ahead, IsFilled, whole}
 use Rattle.syn_parse.specs.declared.fault.Fault.{Fault}
 
@@ -77,20 +78,32 @@ KeepsBoth (told form take weighs) left right x y = erase left ≡ erase right �
 KeepsBoth (told_filled form take weighs) left right x y =
     erase left ≡ erase right → filled left ≡ true → filled right ≡ true → Agree form x y
 
--- in words too, where each invisible group holds something
+-- in errors too, where each invisible group holds something
 abbrev pub KeepsWords : {T : Type 0} → Takings T → (left right : Forest) → Result T Fault
     → Result T Fault → Type 0
 KeepsWords untold left right x y = Unit {0}
 KeepsWords (told form take weighs) left right x y =
     erase left ≡ erase right → filled left ≡ true → filled right ≡ true
-    → WordsAgree (take (whole left)) x y
+    → ErrorsAgree (take (whole left)) x y
 KeepsWords (told_filled form take weighs) left right x y =
     erase left ≡ erase right → filled left ≡ true → filled right ≡ true
-    → WordsAgree (take (whole left)) x y
+    → ErrorsAgree (take (whole left)) x y
 
--- a text reads as a forest, which keeps what is stated; or the grammar refuses it
-abbrev pub KeepsText : {T : Type 0} → Takings T → List ℕ → Result T Fault → Type 0
-KeepsText takes text r =
-    ((f : Forest) × grammar.Reads Plain 0 text f × KeepsWhole takes f call_site r)
-    ⊎ (((e : LexError) × grammar.IsRefused Plain 0 text e × IsRefused (lex_message e) r)
+-- an error has one message; an allocation failure may take its place
+abbrev pub HasOneMessage : {T : Type 0} → Takings T → Result T Fault → Type 0
+HasOneMessage untold r = Unit {0}
+HasOneMessage takes r = IfErr r (λ f. MemoryOr f (Unit {0}))
+
+-- The text of a source reads as a forest without invisible groups, which keeps what is stated, and
+-- whose end is at a span of its own; or the grammar refuses it.
+abbrev pub KeepsTextTo : {T : Type 0} → ℕ → (Forest → Span) → Takings T → List ℕ
+    → Result T Fault → Type 0
+KeepsTextTo number end takes text r =
+    ((f : Forest) × grammar.Reads Plain number text f × IsAllVisible f
+    × KeepsWhole takes f (end f) r)
+    ⊎ (((e : LexError) × grammar.IsRefused Plain number text e × IsRefused (lex_message e) r)
     ⊎ OnMemory r)
+
+-- the same of source 0, whose end is at the call site
+abbrev pub KeepsText : {T : Type 0} → Takings T → List ℕ → Result T Fault → Type 0
+KeepsText = KeepsTextTo 0 (λ f. call_site)

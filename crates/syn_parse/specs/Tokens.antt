@@ -18,11 +18,11 @@ use Rattle.tok_types.specs.Sees.{punctuation_first, underscore_first}
 use Rattle.tok_types.specs.Texts.{accept_as_ident, in_backquotes, keyword_text, punctuation_word}
 use Rattle.tok_types.specs.declared.keyword.Keyword.{Keyword}
 use Rattle.tok_types.specs.declared.punctuation.Punctuation.{Punctuation}
-use Rattle.syn_parse.specs.ErrorWords.{expected, name_in}
+use Rattle.syn_parse.specs.ErrorWords.{expected, name_in, span_in}
 use Rattle.syn_parse.specs.Parses.{accept_as_lifetime}
-use Rattle.syn_parse.specs.Positions.{Missing, Position, at_next, at_span}
+use Rattle.syn_parse.specs.Positions.{Missing, Position, at_span, at_trees}
 use Rattle.syn_parse.specs.TreesAhead.{Ahead}
-use Rattle.syn_parse.specs.Takes.{Taking, gives, lacks, take_by}
+use Rattle.syn_parse.specs.Takes.{Taking, gives, missing_next, take_by}
 
 -- the identifier, and the literal, that one tree is
 abbrev pub ident_in : List Tree → Ident
@@ -36,10 +36,6 @@ literal_in ts = record { text = []; span = call_site }
 abbrev pub punct_in : List Tree → Punct
 punct_in (leaf (punct c spacing span) ∷ ts) = record { ch = c; spacing = spacing; span = span }
 punct_in ts = record { ch = 0; spacing = Alone; span = call_site }
-
-abbrev pub span_in : List Tree → Span
-span_in [] = call_site
-span_in (t ∷ ts) = tree_span t
 
 -- where an identifier is looked for: there is none, or one that is a keyword
 abbrev pub ident_missing : Option (List Tree × Forest) → List ℕ
@@ -59,14 +55,12 @@ lifetime_missing (Some r) =
 
 -- where a punctuation is missing: at the punct that is next, if one is, and else at what is next
 abbrev pub punct_position : Option (List Tree × Forest) → Forest → Position
-punct_position None f = at_next f
-punct_position (Some r) f = at_first r.0 where
-  at_first : List Tree → Position
-  at_first [] = at_next f
-  at_first (t ∷ ts) = at_span (tree_span t)
+punct_position None f = at_trees f
+punct_position (Some r) f = at_span (span_in r.0)
 
+-- the empty text is missing at what is next
 abbrev pub sign_position : List ℕ → Forest → Position
-sign_position [] f = at_next f
+sign_position [] f = at_trees f
 sign_position (c ∷ cs) f = punct_position (first_if is_punct f) f
 
 -- its words are the same at an end
@@ -78,34 +72,37 @@ sign_missing text f =
 unfoldable pub take_ident : Taking Ident
 take_ident =
     take_by (first_if (is_ident_of accept_as_ident)) ident_in
-    (λ f. lacks (ident_missing (first_if is_ident f)) f)
+    (λ f. missing_next (ident_missing (first_if is_ident f)) f)
 
 unfoldable pub take_literal : Taking Literal
-take_literal = take_by (first_if is_literal) literal_in (lacks (codes "expected literal token"))
+take_literal =
+    take_by (first_if is_literal) literal_in (missing_next (codes "expected literal token"))
 
 -- an identifier of any text
 unfoldable pub take_any_ident : Taking Ident
-take_any_ident = take_by (first_if is_ident) ident_in (lacks (codes "expected ident"))
+take_any_ident = take_by (first_if is_ident) ident_in (missing_next (codes "expected ident"))
 
 -- a lifetime whose name is no reserved word, or is `static` or `_`
 unfoldable pub take_lifetime : Taking Lifetime
 take_lifetime =
     take_by (first_lifetime accept_as_lifetime) lifetime_in
-    (λ f. lacks (lifetime_missing (first_lifetime any_text f)) f)
+    (λ f. missing_next (lifetime_missing (first_lifetime any_text f)) f)
 
 -- a lifetime of any name
 unfoldable pub take_any_lifetime : Taking Lifetime
 take_any_lifetime =
-    take_by (first_lifetime any_text) lifetime_in (lacks (codes "expected lifetime"))
+    take_by (first_lifetime any_text) lifetime_in (missing_next (codes "expected lifetime"))
 
 -- a punct other than an apostrophe
 unfoldable pub take_punct : Taking Punct
-take_punct = take_by (first_if is_punct) punct_in (lacks (codes "expected punctuation token"))
+take_punct =
+    take_by (first_if is_punct) punct_in (missing_next (codes "expected punctuation token"))
 
 -- `_`, of which the span is the value
 unfoldable pub take_underscore : Taking Span
 take_underscore =
-    take_by (first_keyword (codes "_")) span_in (lacks (expected (in_backquotes (codes "_"))))
+    take_by (first_keyword (codes "_")) span_in
+    (missing_next (expected (in_backquotes (codes "_"))))
 
 -- no token
 abbrev pub take_nothing : Taking (Unit {0})
@@ -115,7 +112,7 @@ take_nothing = gives tt
 unfoldable pub take_keyword : (k : ℕ) → Taking (Keyword k)
 take_keyword k =
     take_by (first_keyword (keyword_text k)) (λ ts. record { span = span_in ts })
-    (lacks (expected (in_backquotes (keyword_text k))))
+    (missing_next (expected (in_backquotes (keyword_text k))))
 
 unfoldable pub take_punctuation : (k n : ℕ) → Taking (Punctuation k n)
 take_punctuation k n =

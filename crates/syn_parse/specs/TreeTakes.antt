@@ -12,7 +12,7 @@ use Rattle.syn_parse.specs.ErrorWords.{refused_at}
 use Rattle.syn_parse.specs.Lighter.{by-lowers, if-shorter, lightens_lower}
 use Rattle.syn_parse.specs.Parses.{IsTree}
 use Rattle.syn_parse.specs.Reads.{Call, Reads}
-use Rattle.syn_parse.specs.Takes.{Taking, found, lacks, take_by}
+use Rattle.syn_parse.specs.Takes.{Taking, found, missing_next, take_by}
 use Rattle.syn_parse.specs.Takings.{Lightens, Lowers}
 
 -- the next visible tree
@@ -27,7 +27,7 @@ tree_in [] = leaf (ident [] call_site)
 
 -- a tree, without invisible groups
 unfoldable pub take_tree : Taking Tree
-take_tree = take_by (first_if any_tree) tree_in (lacks (codes "expected token tree"))
+take_tree = take_by (first_if any_tree) tree_in (missing_next (codes "expected token tree"))
 
 -- all trees that are left
 abbrev pub take_rest : Taking Forest
@@ -36,7 +36,7 @@ take_rest a = found a.trees (record a { trees = no_trees })
 pub lowers_tree : Lowers take_tree
 unfolding take_tree
 lowers_tree =
-    by-lowers (first_if any_tree) tree_in (lacks (codes "expected token tree"))
+    by-lowers (first_if any_tree) tree_in (missing_next (codes "expected token tree"))
     (if-shorter any_tree)
 
 pub lightens_tree : Lightens take_tree

@@ -19,6 +19,7 @@ impl<'a> ParseBuffer<'a> {
     /// ```rust
     /// let guard = input.parse_after::<token::Where, Ident>()?;
     /// ```
+    #[tactic(auto, unfolding(crate::specs::After::take_after))]
     pub fn parse_after<P: Token + Parse + Drop, T: Parse>(&mut self) -> Result<Option<(P, T)>>
         ensures { Keeps (after P.sees P.takes T.takes) self.old result self.new }
     {

@@ -56,8 +56,9 @@ pub fn forks_follow()
     ensures { ForksFollow }
 {}
 
-/// In a stream without invisible groups, as that of a text, an error says what is missing at exactly
-/// one span: the token's, or that of the scope's end.
+/// In a scope without invisible groups, as each of a text is, an error says what is missing at exactly
+/// one span: the span at which the next token begins, the whole of it, that of the scope's end, or
+/// the span that was given.
 pub fn errors_have_one_span()
     ensures { ErrorsHaveOneSpan }
 {}

@@ -38,4 +38,4 @@ pub use run::Run;
 pub use step::StepCursor;
 pub use stream::{ParseBuffer, ParseStream, Paused, tokens_to_parse_buffer};
 pub use tokens::Nothing;
-pub use whole::{parse_both, parse_source, parse_str, parse2};
+pub use whole::{parse_both, parse_source, parse_str, parse_text, parse2};

@@ -3,8 +3,9 @@ ghost use Rattle.std.specs.Prelude.{◌≡◌, ◌<◌, [], ◌∷◌, ◌++◌,
 ghost use Rattle.std.specs.Str.{IsUtf8};
 ghost use Rattle.tok_buffer.specs.Messages.{one_message};
 ghost use Rattle.syn_parse.specs.Faults.{Refuses};
-ghost use Rattle.syn_parse.specs.Lookahead.{Looked, SaysLook, looks, noted_as, look_message, more_words, named, named_ends, texts_of};
+ghost use Rattle.syn_parse.specs.Lookahead.{Looked, at_look, look_message, look_missing, looks, more_words, named, named_ends, noted_as, texts_of};
 ghost use Rattle.syn_parse.specs.Lookahead as spec;
+ghost use Rattle.syn_parse.specs.Takes.{SaysAt};
 ghost use Rattle.tok_types.specs.Sees.{Sees};
 
 use crate::fault::Fault;
@@ -112,7 +113,7 @@ impl<'a> Lookahead1<'a> {
     /// `Fault::Memory` if an allocation fails.
     pub fn error(self) -> Fault
         ensures refuses { Refuses (look_message self.entry) result }
-        ensures says { SaysLook self.entry result }
+        ensures says { SaysAt (at_look self.entry) (look_missing self.entry) result }
     {
         refused(self)
     }

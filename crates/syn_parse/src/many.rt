@@ -1,6 +1,8 @@
 //! Parsers of values that follow one another.
 ghost use Rattle.std.specs.Prelude.{◌≡◌, ◌+◌, MatchResult};
 ghost use Rattle.syn_parse.specs.Many.{many, many_to_end};
+ghost use Rattle.syn_parse.specs.Reads.{BothParse, ThreeParse};
+ghost use Rattle.syn_parse.specs.Sequences.{both, three};
 ghost use Rattle.syn_parse.specs.Takings.{Keeps};
 
 use crate::fault::{Fault, Result};
@@ -81,5 +83,46 @@ impl<T: Parse + Drop> Parse for Vec<T> {
 
     fn parse(input: ParseStream<'_, '_>) -> Result<Self> {
         input.parse_until_end()
+    }
+}
+
+/// Parses two values in turn.
+///
+/// # Examples
+///
+/// ```rust
+/// let (_, (name, _)) = input.parse_within::<(Ident, token::Semi)>(Delimiter::Brace)?;
+/// ```
+impl<A: Parse + Drop, B: Parse> Parse for (A, B) {
+    ghost parses = { BothParse A.parses B.parses };
+
+    ghost takes = { both A.takes B.takes };
+
+    fn parse(input: ParseStream<'_, '_>) -> Result<Self> {
+        let first = input.parse()?;
+        let second = input.parse()?;
+        Ok((first, second))
+    }
+}
+
+/// Parses three values in turn.
+///
+/// # Examples
+///
+/// ```rust
+/// let (_, (owner, _, name)) = input.parse_within::<(Ident, token::PathSep, Ident)>(
+///     Delimiter::Parenthesis,
+/// )?;
+/// ```
+impl<A: Parse + Drop, B: Parse + Drop, C: Parse> Parse for (A, B, C) {
+    ghost parses = { ThreeParse A.parses B.parses C.parses };
+
+    ghost takes = { three A.takes B.takes C.takes };
+
+    fn parse(input: ParseStream<'_, '_>) -> Result<Self> {
+        let first = input.parse()?;
+        let second = input.parse()?;
+        let third = input.parse()?;
+        Ok((first, second, third))
     }
 }

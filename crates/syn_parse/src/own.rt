@@ -3,16 +3,18 @@ ghost use Rattle.std.specs.Prelude.{◌≡◌, ℕ, List, Some};
 ghost use Rattle.tok_leaves.specs.Spans.{call_site};
 ghost use Rattle.tok_buffer.specs.Reads.{read_keyword};
 ghost use Rattle.tok_types.specs.Looks.{Finds, IsText};
+ghost use Rattle.tok_types.specs.Sees.{Sees};
 ghost use Rattle.tok_types.specs.Texts.{in_backquotes};
 ghost use Rattle.syn_parse.specs.Owned.{own_first, own_word, take_own};
 ghost use Rattle.syn_parse.specs.Parses.{WordParses};
+ghost use Rattle.syn_parse.specs.Takes.{Takes};
 ghost use Rattle.syn_parse.specs.Takings.{lower, told};
 ghost use Rattle.syn_parse.specs.Lighter.{lowers_own};
 
 use crate::fault::Result;
 use crate::parse::Parse;
 use crate::parsing::keyword;
-use crate::stream::ParseStream;
+use crate::stream::{ParseBuffer, ParseStream};
 use std::alloc::AllocError;
 use std::fmt;
 use std::fmt::{Debug, Display, Formatter, Write};
@@ -31,10 +33,6 @@ use tok_types::token::Token;
 /// impl Word for ServerWord {
 ///     ghost text = { codes "server" };
 ///
-///     fn text() -> &'static str {
-///         "server"
-///     }
-///
 ///     fn display() -> &'static str {
 ///         "`server`"
 ///     }
@@ -45,13 +43,63 @@ use tok_types::token::Token;
 pub trait Word {
     ghost text: { List ℕ };
 
-    /// Returns the text.
-    fn text() -> &'static str
-        ensures { result.now ≡ text };
-
     /// Returns the text in backquotes, as errors name it.
     fn display() -> &'static str
         ensures { result.now ≡ in_backquotes text };
+
+    /// Returns the text.
+    final fn text() -> &'static str
+        ensures { result.now ≡ text }
+    {
+        unquoted(Self::display())
+    }
+}
+
+// Returns the text that is in backquotes.
+// Inlined: callers know the text, so it is cut at compile time.
+#[inline(always)]
+fn unquoted(quoted: &str) -> &str
+    requires { (text : List ℕ) × (quoted.now ≡ in_backquotes text) }
+    ensures { (text : List ℕ) → quoted.now ≡ in_backquotes text → result.now ≡ text }
+{
+    let (_, rest) = quoted.split_at(1);
+    let (text, _) = rest.split_at(rest.len() - 1);
+    text
+}
+
+impl<'a> ParseBuffer<'a> {
+    /// Parses the identifier with this text, and returns its span.
+    ///
+    /// If it is not next, the error names it in backquotes and the stream stays. For a keyword that
+    /// is looked for by `Lookahead1`, or that is written, make a type by `Own`.
+    ///
+    /// # Examples
+    ///
+    /// ```rust
+    /// let span = input.parse_word("target")?;
+    /// ```
+    #[inline(always)]
+    pub fn parse_word(&mut self, text: &str) -> Result<Span>
+        ensures reads { WordParses (λ span. span) text.now self.old result self.new }
+        ensures takes { Takes (take_own text.now) self.old result self.new }
+    {
+        keyword(self, text)
+    }
+
+    /// Returns `true` if the identifier with this text is next. The stream stays.
+    ///
+    /// # Examples
+    ///
+    /// ```rust
+    /// let is_target = input.peek_word("target");
+    /// ```
+    #[inline(always)]
+    pub fn peek_word(&self, text: &str) -> bool
+        ensures peeks { Finds (read_keyword text.now) self.now.place result }
+        ensures sees { Sees (Some (own_first text.now)) self.now.place result }
+    {
+        self.cursor().peek_keyword(text)
+    }
 }
 
 /// The keyword with the text of `W`: an identifier of this text. All values of a type are equal.

@@ -103,6 +103,7 @@ impl<T: Parse + Token> Parse for Option<T> {
 
     ghost takes = { optional T.sees T.takes };
 
+    #[tactic(auto, unfolding(crate::specs::Optional::take_optional))]
     fn parse(input: ParseStream<'_, '_>) -> Result<Self> {
         if T::peek(input.cursor()) {
             Ok(Some(T::parse(input)?))

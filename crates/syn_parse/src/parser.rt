@@ -1,11 +1,12 @@
 //! Parsers of whole texts and streams of tokens.
-ghost use Rattle.std.specs.Prelude.{Result};
+ghost use Rattle.std.specs.Prelude.{◌≡◌, Result};
 ghost use Rattle.std.specs.Str.{chars};
 ghost use Rattle.std.specs.Fn.{FnOnceReturnsAtMut, FnOnceTakesAtMut};
+ghost use Rattle.tok_buffer.specs.Place.{start};
 ghost use Rattle.tok_leaves.specs.Spans.{call_site};
 ghost use Rattle.syn_parse.specs.Parsers.{Finishes, IsUnread, OnText, ParsesText, ParsesWhole, whole_stream};
-ghost use Rattle.syn_parse.specs.Sources.{OnSource, ParsesSource};
-ghost use Rattle.syn_parse.specs.State.{State};
+ghost use Rattle.syn_parse.specs.Sources.{OnSource, OnTextOf, ParsesSource, ParsesTextOf, end_of_span, end_of_tokens};
+ghost use Rattle.syn_parse.specs.State.{State, fresh};
 ghost use Rattle.syn_parse.specs.declared.fault.Fault.{Fault};
 
 use crate::fault::{Fault, Result};
@@ -50,8 +51,22 @@ pub trait Parser: Sized {
         requires { OnText (callable self) (chars text.now) }
         ensures { ParsesText (parses self) (chars text.now) result };
 
+    /// Lexes a text as source `number`, and parses its tokens as `parse2` does.
+    ///
+    /// At the end of the tokens the span is the empty one behind the last, or at the start of the
+    /// text if there is none. So an error at the end has a place in the text.
+    ///
+    /// # Requires
+    ///
+    /// The parser must be callable on the stream of the text's tokens, if it has any.
+    fn parse_text(self, alloc: Global, number: u32, text: &str) -> Result<Self::Output>
+        requires { OnTextOf number (callable self) (chars text.now) }
+        ensures { ParsesTextOf number (parses self) (chars text.now) result };
+
     /// Lexes a Rust source of an edition by the rules of `lex_source`, as source 0, and parses its
     /// tokens as `parse2` does.
+    ///
+    /// Their end is that of `parse_text`, so an error at the end has a place in the source.
     ///
     /// # Requires
     ///
@@ -95,10 +110,21 @@ where
         }
     }
 
+    fn parse_text(self, alloc: Global, number: u32, text: &str) -> Result<T> {
+        match TokenBuffer::from_text(alloc, 0, number, text) {
+            Ok(buffer) => {
+                let mut input = source_stream(alloc, &buffer, number);
+                let parsed = self(&mut input);
+                settle(parsed, input)
+            }
+            Err(fault) => Err(unread(alloc, fault)),
+        }
+    }
+
     fn parse_source(self, alloc: Global, edition: Edition, text: &str) -> Result<T> {
         match TokenBuffer::from_source(alloc, 0, edition, 0, text) {
             Ok(buffer) => {
-                let mut input = tokens_to_parse_buffer(alloc, &buffer, Span::call_site());
+                let mut input = source_stream(alloc, &buffer, 0);
                 let parsed = self(&mut input);
                 settle(parsed, input)
             }
@@ -111,6 +137,29 @@ where
         let mut input = tokens_to_parse_buffer(alloc, &buffer, scope);
         let parsed = self(&mut input);
         settle(parsed, input)
+    }
+}
+
+// Creates a stream over the tokens of a source. Its end is behind the last of them.
+pub(crate) fn source_stream<'a>(
+    alloc: Global,
+    tokens: &'a TokenBuffer,
+    number: u32,
+) -> ParseBuffer<'a>
+    ensures { result ≡ fresh (start tokens.now.number tokens.now.forest)
+        (end_of_tokens number tokens.now.forest) }
+{
+    let last = tokens.begin().scope_end().prev_span();
+    tokens_to_parse_buffer(alloc, tokens, end_of_span(number, last))
+}
+
+// Returns the empty span where a span ends. Of the call site, that is the start of a source.
+fn end_of_span(number: u32, span: Span) -> Span
+    ensures { result ≡ end_of_span number span }
+{
+    match span.as_range() {
+        Some((source, _, end)) => Span::source(source, end, end),
+        None => Span::source(number, 0, 0),
     }
 }
 

@@ -1,11 +1,11 @@
 //! Runs of trees up to one that ends them.
-ghost use Rattle.std.specs.Prelude.{◌≡◌, IfOk, OnErr, Option};
+ghost use Rattle.std.specs.Prelude.{◌≡◌, IfOk, OnErr, OnOk, Option};
 ghost use Rattle.tok_buffer.specs.Between.{between};
 ghost use Rattle.tok_buffer.specs.Cursors.{place_of};
 ghost use Rattle.tok_buffer.specs.View.{erased_ahead};
 ghost use Rattle.tok_core.specs.Erase.{erase};
 ghost use Rattle.tok_core.specs.Forest.{Tree};
-ghost use Rattle.syn_parse.specs.Runs.{StepsPast, take_run};
+ghost use Rattle.syn_parse.specs.Runs.{PassesVisible, StepsPast, take_run};
 ghost use Rattle.syn_parse.specs.Takes.{TakesAs};
 
 use crate::fault::Result;
@@ -25,13 +25,14 @@ pub trait Run: Sized + Copy {
 }
 
 impl<'a> ParseBuffer<'a> {
-    /// Parses the trees of a run. A run may have none.
+    /// Parses the trees of a run, and moves right after the last of them. A run may have none.
     ///
     /// An invisible group that lies wholly in the run is kept. If an allocation fails, nothing is
     /// parsed.
     pub fn parse_run<R: Run>(&mut self, run: R) -> Result<TokenStream>
         ensures takes { TakesAs erase (take_run R.passes run) self.old result self.new }
         ensures kept { IfOk result (λ tokens. tokens ≡ between self.old.place self.new.place) }
+        ensures place { OnOk result (PassesVisible self.old.place self.new.place) }
         ensures stays { OnErr result (self.new ≡ self.old) }
     {
         let start = self.cursor();

@@ -9,7 +9,7 @@ ghost use Rattle.tok_buffer.specs.Place.{start, is_at_end};
 ghost use Rattle.syn_parse.specs.Faults.{Refuses, RefusesAt, IsRefused};
 ghost use Rattle.syn_parse.specs.State.{fresh, moved, handed, closed, forked, advanced, state_span};
 ghost use Rattle.syn_parse.specs.ErrorWords.{expected, refused_at, leftover_message};
-ghost use Rattle.syn_parse.specs.Takes.{SaysHere};
+ghost use Rattle.syn_parse.specs.Takes.{SaysAt, missing_next};
 ghost use Rattle.tok_types.specs.Texts.{in_backquotes};
 ghost use Rattle.syn_parse.specs.TreesAhead.{IsFilled, after_content, after_fork, ahead, is_spent};
 
@@ -164,7 +164,7 @@ impl<'a> ParseBuffer<'a> {
         ensures words { IfSome (T.output message)
             (λ words. Refuses (refused_at self.now words) result) }
         ensures says { IfSome (T.output message)
-            (λ words. SaysHere self.now words result) }
+            (λ words. SaysAt self.now (missing_next words (ahead self.now).trees) result) }
     {
         self.fault(message)
     }

@@ -2,12 +2,12 @@
 ghost use Rattle.std.specs.Str.{chars};
 ghost use Rattle.tok_leaves.specs.Spans.{call_site};
 ghost use Rattle.syn_parse.specs.Parsers.{ParsesText, ParsesWhole, whole_stream};
-ghost use Rattle.syn_parse.specs.Sources.{KeepsSource, ParsesSource};
-ghost use Rattle.syn_parse.specs.Takings.{KeepsBoth, KeepsText, KeepsWhole, KeepsWords};
+ghost use Rattle.syn_parse.specs.Sources.{KeepsSource, KeepsTextOf, ParsesSource, ParsesTextOf};
+ghost use Rattle.syn_parse.specs.Takings.{HasOneMessage, KeepsBoth, KeepsText, KeepsWhole, KeepsWords};
 
 use crate::fault::Result;
 use crate::parse::Parse;
-use crate::parser::{settle, unread};
+use crate::parser::{settle, source_stream, unread};
 use crate::stream::tokens_to_parse_buffer;
 use std::alloc::Global;
 use tok_buffer::TokenBuffer;
@@ -42,6 +42,7 @@ pub fn parse2<T: Parse + Drop>(alloc: Global, tokens: TokenStream) -> Result<T>
 pub fn parse_str<T: Parse + Drop>(alloc: Global, text: &str) -> Result<T>
     ensures reads { ParsesText T.parses (chars text.now) result }
     ensures takes { KeepsText T.takes (chars text.now) result }
+    ensures once { HasOneMessage T.takes result }
 {
     match TokenBuffer::from_text(alloc, 0, 0, text) {
         Ok(buffer) => {
@@ -53,15 +54,44 @@ pub fn parse_str<T: Parse + Drop>(alloc: Global, text: &str) -> Result<T>
     }
 }
 
+/// Lexes a text as source `number`, and parses its tokens as `parse2` does.
+///
+/// At the end of the tokens the span is the empty one behind the last, or at the start of the text
+/// if there is none. So an error at the end has a place in the text. Returns the lexer's error as an
+/// `Error` with its span and text.
+///
+/// # Examples
+///
+/// ```rust
+/// let call: Call = parse_text(alloc, 0, text)?;
+/// ```
+pub fn parse_text<T: Parse + Drop>(alloc: Global, number: u32, text: &str) -> Result<T>
+    ensures reads { ParsesTextOf number T.parses (chars text.now) result }
+    ensures takes { KeepsTextOf number T.takes (chars text.now) result }
+    ensures once { HasOneMessage T.takes result }
+{
+    match TokenBuffer::from_text(alloc, 0, number, text) {
+        Ok(buffer) => {
+            let mut input = source_stream(alloc, &buffer, number);
+            let parsed = T::parse(&mut input);
+            settle(parsed, input)
+        }
+        Err(fault) => Err(unread(alloc, fault)),
+    }
+}
+
 /// Lexes a Rust source of an edition by the rules of `lex_source`, as source 0, and parses its
 /// tokens as `parse2` does.
+///
+/// Their end is that of `parse_text`, so an error at the end has a place in the source.
 pub fn parse_source<T: Parse + Drop>(alloc: Global, edition: Edition, text: &str) -> Result<T>
     ensures reads { ParsesSource edition T.parses (chars text.now) result }
     ensures takes { KeepsSource edition T.takes (chars text.now) result }
+    ensures once { HasOneMessage T.takes result }
 {
     match TokenBuffer::from_source(alloc, 0, edition, 0, text) {
         Ok(buffer) => {
-            let mut input = tokens_to_parse_buffer(alloc, &buffer, Span::call_site());
+            let mut input = source_stream(alloc, &buffer, 0);
             let parsed = T::parse(&mut input);
             settle(parsed, input)
         }

@@ -1,6 +1,7 @@
-use Rattle.std.proofs.Common.{rules, ◌∙◌, ap}
+use Rattle.std.proofs.Common.{rules, ◌∙◌, ap, subst, sym}
 use Rattle.tok_buffer.specs.Between.{between}
 use Rattle.tok_buffer.specs.Cursors.{place_of}
+use Rattle.syn_parse.specs.Runs.{PassesVisible}
 use Rattle.syn_parse.proofs.Runs.{at-end, ended, none-passed, one-passed, run-ends}
 use Rattle.syn_parse.proofs.stream.ParseBuffer.parse_run.Goals as goal
 use Rattle.syn_parse.proofs.stream.ParseBuffer.parse_run.Goals.{in_default}
@@ -39,3 +40,8 @@ returns-clause-takes g c =
           c.in_ok-tokens.tokens q c.loop-next.invariant
           (ended g.R.Run.passes q c.loop-next.state (search rules)) copied c.move_to.ensures
     ]
+
+pub returns-clause-place : goal.returns-clause-place
+returns-clause-place g c =
+    subst (λ u. PassesVisible c.args.self.now.place u.place) (sym c.move_to.ensures)
+    c.loop-next.invariant.passes

@@ -1,0 +1,69 @@
+-- Where the tokens of a source end.
+use Rattle.std.proofs.Common.{◌≡◌, ◌∙◌, ap, subst, refl, ℕ, Bool, true, false, Option, Some, List}
+use Rattle.std.proofs.Common.{[]}
+use Rattle.std.specs.Prelude.{cond, nat_lt, ◌-◌}
+use Rattle.tok_leaves.specs.Spans.{call_site, closing_span, source}
+use Rattle.tok_leaves.specs.declared.span.Origin.{Origin}
+use Rattle.tok_leaves.specs.declared.span.Origin.TheVariants.{CallSite, Source}
+use Rattle.tok_leaves.specs.declared.span.Span.{Span}
+use Rattle.tok_core.specs.Forest.{Tree, leaf, group, Forest, no_trees, tree, tree_span}
+use Rattle.tok_buffer.specs.Place.{Place, at, frame, is_at_end, start, whole}
+use Rattle.tok_buffer.specs.Reads.{place_after, read_tree}
+use Rattle.tok_buffer.specs.Spans.{last_span, previous_span}
+use Rattle.tok_buffer.specs.Trees.{EndsScope, PassesTrees, further, here}
+use Rattle.syn_parse.specs.Sources.{end_of_span, end_of_tokens}
+
+-- the span of the tree that was passed last
+abbrev last-passed : Forest → Span
+last-passed no_trees = call_site
+last-passed (tree t p) = tree_span t
+
+-- a place outside of all groups, of which these trees are the last
+data IsOutside (last : Span) : Place → Type 0 where
+  outside : (n s c : ℕ) (passed ahead : Forest) → last_span (last-passed passed) ahead ≡ last
+      → IsOutside last (at n s c (frame whole passed ahead) [])
+
+after-some : {x : Option (List Tree × Place)} {ts : List Tree} {r : Place}
+    → x ≡ Some (ts, r) → place_after x ≡ Some r
+after-some e = ap place_after e
+
+one-place : {p q : Place} → Some p ≡ Some q → p ≡ q
+one-place e = cc
+
+passes-one : (last : Span) (q r : Place) (ts : List Tree) → IsOutside last q
+    → read_tree q ≡ Some (ts, r) → IsOutside last r
+passes-one last q r ts (outside n s c passed no_trees h) e = absurd (cc)
+passes-one last q r ts (outside n s c passed (tree t f) h) e =
+    subst (IsOutside last) (one-place (after-some e)) (outside n s _ (tree t passed) f h)
+
+passes-all : (last : Span) (p q : Place) → IsOutside last p → PassesTrees p q → IsOutside last q
+passes-all last p q h here = h
+passes-all last p z h (further q r ts k e) = passes-one last q r ts (passes-all last p q h k) e
+
+-- a group ends where its closing delimiter does
+closing-ends : (number : ℕ) (o : Origin)
+    → end_of_span number (closing_span (record { origin = o }))
+    ≡ end_of_span number (record { origin = o })
+closing-ends number CallSite = refl
+closing-ends number (Source n a b) = go (nat_lt a b) where
+  go : (less : Bool)
+      → end_of_span number (cond less (source n (b - 1) b) (source n a b)) ≡ source n b b
+  go true = refl
+  go false = refl
+
+ends-outside : (number : ℕ) (last : Span) (q : Place) → IsOutside last q → is_at_end q ≡ true
+    → end_of_span number (previous_span q) ≡ end_of_span number last
+ends-outside number last q (outside n s c no_trees no_trees h) e = ap (end_of_span number) h
+ends-outside number last q (outside n s c (tree (leaf l) p) no_trees h) e =
+    ap (end_of_span number) h
+ends-outside number last q (outside n s c (tree (group d inside span) p) no_trees h) e =
+    closing-ends number span.origin ∙ ap (end_of_span number) h
+ends-outside number last q (outside n s c passed (tree t f) h) e = absurd (cc)
+
+-- the span before the end of a whole buffer ends where its tokens do
+pub tokens_end : (number n : ℕ) (f : Forest) (q : Place) → EndsScope (start n f) q
+    → end_of_span number (previous_span q) ≡ end_of_tokens number f
+tokens_end number n f q h =
+    ends-outside number (last_span call_site f) q
+    (passes-all (last_span call_site f) (start n f) q (outside n _ 0 no_trees f refl) h.passes)
+    h.at_end
