@@ -1,0 +1,4 @@
+pub mod Bools
+pub mod KindReads
+pub mod Raws
+pub mod Told

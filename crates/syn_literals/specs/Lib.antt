@@ -1,0 +1,3 @@
+pub mod Kinds
+pub mod TakeLiterals
+pub mod TextValues

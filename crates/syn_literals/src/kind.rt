@@ -1,0 +1,47 @@
+//! A kind of literal, and how one is found and parsed.
+ghost use Rattle.std.specs.Prelude.{◌≡◌, ℕ, Bool, List};
+ghost use Rattle.tok_leaves.specs.Leaves.{leaf_text, literal_of};
+ghost use Rattle.tok_buffer.specs.Cursors.{place_of};
+ghost use Rattle.tok_types.specs.Looks.{Finds};
+ghost use Rattle.syn_literals.specs.Kinds.{KindParses, read_literal_of};
+
+use syn_parse::{ParseStream, Result};
+use tok_buffer::Cursor;
+use tok_core::Literal;
+
+/// A kind of literal.
+pub(crate) trait Kind {
+    // Whether a literal of this text is of the kind.
+    ghost accepts: { List ℕ → Bool };
+
+    // The text of the error where there is none.
+    ghost words: { List ℕ };
+
+    /// Returns `true` if the literal is of this kind.
+    fn accepts(literal: &Literal) -> bool
+        ensures { result ≡ accepts (leaf_text (literal_of literal.now)) };
+
+    /// Returns the text of the error if none is next.
+    fn words() -> &'static str
+        ensures { result.now ≡ words };
+}
+
+/// Returns `true` if a literal of this kind is next.
+pub(crate) fn peek_kind<K: Kind>(cursor: Cursor<'_>) -> bool
+    ensures { Finds (read_literal_of K.accepts) (place_of cursor.entry) result }
+{
+    match cursor.literal() {
+        Some((literal, _)) => K::accepts(literal),
+        None => false,
+    }
+}
+
+/// Parses a literal of this kind.
+pub(crate) fn parse_kind<K: Kind>(input: ParseStream<'_, '_>) -> Result<Literal>
+    ensures { KindParses K.accepts K.words input.old result input.new }
+{
+    if !peek_kind::<K>(input.cursor()) {
+        return Err(input.error(K::words()));
+    }
+    input.parse()
+}
