@@ -57,6 +57,23 @@ module _ {T A P : Type 0} (f : T → A) where
       (λ inner b. made (of_parts inner (Some b)) ∙ some inner b
       ∙ ap listed (list_mapped inner.items (b.value ∷ [])))
 
+-- A value of a type that is made level by level, with a list among its parts: of the list in one
+-- level it is enough to show what this makes of it without a last value and with one, which compute
+-- on their own.
+pub list_formed : {T A P V L F : Type 0} (f : T → A) {roll : L → V} (form : V → F)
+    (layer : Punctuated T P → L) (listed : List A × List P → F) {made : Punctuated T P → V}
+    {level : L → F}
+    → ((list : Punctuated T P) → roll (layer list) ≡ made list)
+    → ((l : L) → form (roll l) ≡ level l)
+    → ((inner : Vec (T × P))
+    → level (layer (of_parts inner None)) ≡ listed (Mapped f inner.items []))
+    → ((inner : Vec (T × P)) (last : Box T)
+    → level (layer (of_parts inner (Some last))) ≡ listed (Mapped f inner.items (last.value ∷ [])))
+    → (list : Punctuated T P) → form (made list) ≡ listed (list_form f (λ sign. sign) list)
+list_formed f form layer listed {made} {level} rolls again none some list =
+    values_mapped f (λ l. form (made l)) listed (λ l. level (layer l))
+    (λ l. ap form (sym (rolls l)) ∙ again (layer l)) none some list
+
 -- What a value is that is made of delimiters and a list: this, of their span and of what the list's
 -- values are.
 pub record IsOfList {d : ℕ} {T A P F : Type 0} (f : T → A) (made : Visible d → Punctuated T P → F)
@@ -77,8 +94,7 @@ pub of_list : {d : ℕ} {T A P V L F : Type 0} {f : T → A} {roll : L → V} (f
     → level (layer b (of_parts inner (Some last)))
     ≡ listed (whole_span b.span) (Mapped f inner.items (last.value ∷ [])))
     → IsOfList f (λ b list. form (made b list)) listed
-of_list {f = f} {roll} form layer {listed} {made} {level} rolls again none some = record {
-  is = λ b. values_mapped f (λ list. form (made b list)) (listed (whole_span b.span))
-      (λ list. level (layer b list))
-      (λ list. ap form (sym (rolls b list)) ∙ again (layer b list)) (none b) (some b);
+of_list {f = f} form layer {listed} rolls again none some = record {
+  is = λ b.
+      list_formed f form (layer b) (listed (whole_span b.span)) (rolls b) again (none b) (some b);
 }

@@ -3,12 +3,11 @@ use Rattle.std.specs.Prelude.{ℕ, zero, suc, Bool, true, not, List, [], ◌∷�
 use Rattle.std.specs.Prelude.{Option, Some, Result}
 use Rattle.tok_core.specs.Forest.{Forest}
 use Rattle.tok_core.specs.Weight.{weight}
-use Rattle.syn_parse.specs.Positions.{at_end}
 use Rattle.syn_parse.specs.Reads.{Call}
 use Rattle.syn_parse.specs.TreesAhead.{Ahead, is_spent}
 use Rattle.syn_parse.specs.State.{State}
 use Rattle.syn_parse.specs.declared.fault.Fault.{Fault}
-use Rattle.syn_parse.specs.Takes.{Takes, Taking, ◌>>=◌, gives, missing, where_ahead}
+use Rattle.syn_parse.specs.Takes.{Takes, Taking, ◌>>=◌, gives, refuses, where_ahead}
 use Rattle.syn_parse.specs.Takings.{Keeps, Takings, lighter, lower, told, told_filled, unweighed}
 use Rattle.syn_parse.specs.Takings.{untold}
 use Rattle.syn_punctuated.specs.Lists.{values_of, separators_of}
@@ -19,8 +18,7 @@ use Rattle.syn_punctuated.specs.declared.punctuated.Punctuated.{Punctuated}
 -- and a separator follows a value where the second is.
 abbrev pub take_turns : {A P : Type 0} → ℕ → (begins goes_on : Ahead → Bool) → Taking A → Taking P
     → Taking (List A × List P)
-take_turns zero begins goes_on value sign =
-    λ a. missing (record { position = at_end; words = [] })
+take_turns zero begins goes_on value sign = refuses []
 take_turns (suc n) begins goes_on value sign =
     where_ahead begins (do
       v ← value

@@ -1,4 +1,4 @@
-use Rattle.std.proofs.Common.{◌∙◌, subst, sym, false}
+use Rattle.std.proofs.Common.{◌∙◌, subst, sym}
 use Rattle.tok_buffer.specs.Cursors.{place_of}
 use Rattle.syn_punctuated.specs.Progress.{MakesNone}
 use Rattle.syn_punctuated.proofs.Progress.{keeps_all}
