@@ -79,6 +79,7 @@ pub use Rattle.syn_parse.specs.Progress as ParseProgress
 pub use Rattle.syn_parse.specs.Reads as ParseReads
 pub use Rattle.syn_parse.specs.ErrorWords
 pub use Rattle.syn_parse.specs.Runs
+pub use Rattle.syn_parse.specs.Sequences
 pub use Rattle.syn_parse.specs.Skips
 pub use Rattle.syn_parse.specs.Sources
 pub use Rattle.syn_parse.specs.State
@@ -91,6 +92,9 @@ pub use Rattle.syn_parse.specs.TreeTakes
 pub use Rattle.syn_parse.specs.TreesAhead
 pub use Rattle.syn_parse.specs.Views as ParseViews
 pub use Rattle.syn_parse.specs.Weighing
+pub use Rattle.syn_literals.specs.Kinds as LiteralKinds
+pub use Rattle.syn_literals.specs.TakeLiterals
+pub use Rattle.syn_literals.specs.TextValues
 pub use Rattle.syn_punctuated.specs.Adds
 pub use Rattle.syn_punctuated.specs.Faults as ListFaults
 pub use Rattle.syn_punctuated.specs.Hashed
@@ -108,6 +112,7 @@ pub use Rattle.syn_punctuated.specs.TakeLists
 pub use Rattle.syn_punctuated.specs.Trees as ListTrees
 pub use Rattle.syn_punctuated.specs.Turns as ListTurns
 pub use Rattle.syn_punctuated.specs.Weighing as ListWeighing
+pub use Rattle.syn_choices.specs.Choices
 pub use Rattle.syn_replay.specs.Agree
 pub use Rattle.syn_replay.specs.Commands
 pub use Rattle.syn_replay.specs.Forks

@@ -3,8 +3,9 @@
 //! their names.
 #![tactic(auto)]
 
+pub use syn_literals::{LitBool, LitFloat, LitInt, LitStr};
 pub use syn_parse::{
-    Fault, Own, Result, Word, parse_both, parse_source, parse_str, parse2, parsing,
+    Fault, Own, Result, Word, parse_both, parse_source, parse_str, parse_text, parse2, parsing,
 };
 pub use syn_punctuated as punctuated;
 pub use syn_replay::{
@@ -100,6 +101,7 @@ pub mod group {
 
 /// Parse streams, and the traits of parsers.
 pub mod parse {
+    pub use syn_choices::{Either, ParseBufferExt};
     pub use syn_parse::{
         Fault, Lookahead1, Nothing, Parse, ParseBuffer, ParseStream, Parser, Paused, Result,
         StepCursor, tokens_to_parse_buffer,

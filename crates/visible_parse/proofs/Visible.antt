@@ -1,5 +1,4 @@
 -- What is stated of a pruned forest holds of the visible trees of the forest.
-use Rattle.std.specs.Prelude.{None}
 use Rattle.std.proofs.Common.{◌≡◌, Ok, Err, ap, subst, sym, ◌∙◌}
 use Rattle.std.specs.Prelude.{Result}
 use Rattle.tok_core.specs.Erase.{erase}
@@ -10,14 +9,14 @@ use Rattle.tok_pruned.proofs.Pruning.{erase_pruned, filled_pruned}
 use Rattle.syn_parse.proofs.Finished.{results_agree, words_agree}
 use Rattle.syn_parse.proofs.WholeTakes.{memory_keeps}
 use Rattle.syn_parse.specs.Parsers.{OnMemory}
-use Rattle.syn_parse.specs.Takes.{Agree, MemoryOr, SaysAll, Taking, TakesAll, WordsAgree, found}
+use Rattle.syn_parse.specs.Takes.{Agree, ErrorsAgree, MemoryOr, SaysAll, Taking, TakesAll, found}
 use Rattle.syn_parse.specs.Takings.{KeepsWhole, Takings, told, told_filled, untold}
-use Rattle.syn_parse.specs.TreesAhead.{Ahead, all_taken, whole}
+use Rattle.syn_parse.specs.TreesAhead.{Ahead, all_taken, only_trees, whole}
 use Rattle.syn_parse.specs.declared.fault.Fault.{Fault}
 use Rattle.visible_parse.specs.Visible.{AgreeAs, KeepsVisible, SaySame, TakesVisible}
 
 same_whole : (f : Forest) → whole (pruned f) ≡ whole f
-same_whole f = ap (λ g. record { trees = g; unread = None }) (erase_pruned f)
+same_whole f = ap only_trees (erase_pruned f)
 
 module _ {T A : Type 0} (form : T → A) (take : Taking A) where
   -- what is stated speaks of what is ahead, and of the places of errors in the pruned forest
@@ -74,9 +73,9 @@ module _ {T A : Type 0} (form : T → A) (take : Taking A) where
         (takes_pruned g y k)
 
     say_same : TakesVisible form take f x → TakesVisible form take g y
-        → WordsAgree (take (whole f)) x y
+        → ErrorsAgree (take (whole f)) x y
     say_same h k =
-        subst (λ a. WordsAgree (take a) x y) (same_whole f)
+        subst (λ a. ErrorsAgree (take a) x y) (same_whole f)
         (words_agree form take (pruned f) call_site (pruned g) call_site same_pruned
         (filled_pruned f)
         (filled_pruned g) x y (takes_pruned f x h) (takes_pruned g y k))

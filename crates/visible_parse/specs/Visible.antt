@@ -3,7 +3,7 @@ use Rattle.std.specs.Prelude.{Result, Ok, Err}
 use Rattle.tok_core.specs.Forest.{Forest}
 use Rattle.tok_leaves.specs.Spans.{call_site}
 use Rattle.tok_pruned.specs.Pruned.{pruned}
-use Rattle.syn_parse.specs.Takes.{Agree, IsAll, MemoryOr, SaysAll, Taking, WordsAgree}
+use Rattle.syn_parse.specs.Takes.{Agree, ErrorsAgree, IsAll, MemoryOr, SaysAll, Taking}
 use Rattle.syn_parse.specs.Takings.{Takings, told, told_filled, untold}
 use Rattle.syn_parse.specs.TreesAhead.{whole}
 use Rattle.syn_parse.specs.declared.fault.Fault.{Fault}
@@ -27,8 +27,9 @@ AgreeAs untold left right = Unit {0}
 AgreeAs (told form take weighs) left right = Agree form left right
 AgreeAs (told_filled form take weighs) left right = Agree form left right
 
--- two errors have equal texts, where a token is missing from these visible trees
+-- two errors have equal texts where a token is missing from these visible trees, and equal spans
+-- where one is left over
 abbrev pub SaySame : {T : Type 0} → Takings T → Forest → (left right : Result T Fault) → Type 0
 SaySame untold f left right = Unit {0}
-SaySame (told form take weighs) f left right = WordsAgree (take (whole f)) left right
-SaySame (told_filled form take weighs) f left right = WordsAgree (take (whole f)) left right
+SaySame (told form take weighs) f left right = ErrorsAgree (take (whole f)) left right
+SaySame (told_filled form take weighs) f left right = ErrorsAgree (take (whole f)) left right
