@@ -1,5 +1,4 @@
 -- How arguments are read.
-use Rattle.std.specs.Prelude.{None}
 use Rattle.std.specs.Prelude.{◌≡◌}
 use Rattle.tok_lexical.specs.declared.delimiter.Delimiter.TheVariants.{Parenthesis}
 use Rattle.tok_leaves.specs.declared.ident.Ident.{Ident}
@@ -10,7 +9,7 @@ use Rattle.syn_parse.specs.Takes.{Taking, ◌>>=◌, gives, missing, take_group,
 use Rattle.syn_parse.specs.Takings.{Takings, lighter, taken_filled, told_filled}
 use Rattle.syn_parse.specs.TokenNames.{sees_eq, take_comma, take_eq}
 use Rattle.syn_parse.specs.Tokens.{sees_group, take_ident, take_literal}
-use Rattle.syn_parse.specs.TreesAhead.{Ahead}
+use Rattle.syn_parse.specs.TreesAhead.{Ahead, only_trees}
 use Rattle.syn_punctuated.specs.NestedLists.{descending_lists}
 use Rattle.syn_punctuated.specs.TakeLists.{take_terminated}
 use Rattle.arguments.specs.Forms.{Form, ListForm, argument_form, assigned, flag, list_form}
@@ -61,6 +60,6 @@ argument =
 abbrev pub arguments : Takings Arguments
 arguments = taken_filled list_form take_arguments
 
--- this is missing first in these trees
-abbrev pub IsMissing : Forest → Missing → Type 0
-IsMissing trees lack = take_arguments (record { trees = trees; unread = None }) ≡ missing lack
+-- reading these trees finds this missing
+abbrev pub FindsMissing : Forest → Missing → Type 0
+FindsMissing trees m = take_arguments (only_trees trees) ≡ missing m

@@ -7,11 +7,11 @@ use Rattle.tok_core.specs.Erase.{erase}
 use Rattle.tok_core.specs.Forest.{Forest}
 use Rattle.syn_parse.specs.Faults.{IsMemory}
 use Rattle.syn_parse.specs.Positions.{Missing}
-use Rattle.syn_parse.specs.Takes.{IsSaid}
+use Rattle.syn_parse.specs.Takes.{Says}
 use Rattle.syn_parse.specs.declared.fault.Fault.{Fault}
 use Rattle.syn_parse.specs.declared.fault.Fault.TheVariants as fault
 use Rattle.arguments.specs.Grammar.{AreArguments, AreNoArguments}
-use Rattle.arguments.specs.Reading.{IsMissing}
+use Rattle.arguments.specs.Reading.{FindsMissing}
 use Rattle.arguments.specs.Same.{SameArguments}
 use Rattle.arguments.specs.Values.{Arguments}
 
@@ -23,8 +23,7 @@ Parses trees (Err f) = IsMemory f ⊎ AreNoArguments trees
 -- an error is one message, which says what reading these tokens in order finds missing, and where
 abbrev pub IsWhy : Forest → List Message → Type 0
 IsWhy tokens error =
-    (lack : Missing) × IsMissing (erase tokens) lack
-    × IsSaid tokens call_site lack (fault.Refused error)
+    (m : Missing) × FindsMissing (erase tokens) m × Says tokens call_site m (fault.Refused error)
 
 -- so is an error
 abbrev pub SaysWhy : Forest → Result Arguments Fault → Type 0
