@@ -1,3 +1,4 @@
+pub mod Constants
 pub mod Entries
 pub mod Fields
 pub mod Lists

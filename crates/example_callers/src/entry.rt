@@ -4,14 +4,15 @@ ghost use Rattle.std.specs.Str.{chars};
 ghost use Rattle.tok_leaves.specs.Spans.{call_site};
 ghost use Rattle.tok_core.specs.Erase.{erase};
 ghost use Rattle.tok_core.specs.Filled.{filled};
-ghost use Rattle.syn_parse.specs.Takes.{Agree, Takes, TakesAll, WordsAgree};
+ghost use Rattle.syn_parse.specs.Sources.{KeepsTextOf};
+ghost use Rattle.syn_parse.specs.Takes.{Agree, ErrorsAgree, Takes, TakesAll};
 ghost use Rattle.syn_parse.specs.Tokens.{take_ident};
-ghost use Rattle.syn_parse.specs.Takings.{KeepsText, taken};
+ghost use Rattle.syn_parse.specs.Takings.{taken};
 ghost use Rattle.syn_parse.specs.TreesAhead.{whole};
 ghost use Rattle.example_callers.specs.Entries.{take_call, take_entry, take_mark, take_pair};
 
 use std::alloc::Global;
-use syn_parse::{Parse, ParseStream, Result, bracketed, parse_both, parse_str, parse2};
+use syn_parse::{Parse, ParseStream, Result, bracketed, parse_both, parse_text, parse2};
 use tok_core::{Delimiter, Ident, Literal, TokenStream};
 use tok_types::token;
 
@@ -107,11 +108,11 @@ pub fn parse_entry(alloc: Global, tokens: TokenStream) -> Result<Entry>
     parse2(alloc, tokens)
 }
 
-/// Parses a text as an entry.
-pub fn parse_entry_text(alloc: Global, text: &str) -> Result<Entry>
-    ensures { KeepsText (taken take_entry) (chars text.now) result }
+/// Parses the text of a source as an entry. An error at the end is behind the last token.
+pub fn parse_entry_text(alloc: Global, number: u32, text: &str) -> Result<Entry>
+    ensures { KeepsTextOf number (taken take_entry) (chars text.now) result }
 {
-    parse_str(alloc, text)
+    parse_text(alloc, number, text)
 }
 
 /// Parses two streams as entries. If they differ only in invisible groups, the results agree.
@@ -122,7 +123,7 @@ pub fn parse_entry_both(
 ) -> (Result<Entry>, Result<Entry>)
     ensures agree { erase left ≡ erase right → Agree (λ v. v) result.0 result.1 }
     ensures words { erase left ≡ erase right → filled left ≡ true → filled right ≡ true
-        → WordsAgree (take_entry (whole left)) result.0 result.1 }
+        → ErrorsAgree (take_entry (whole left)) result.0 result.1 }
 {
     parse_both(alloc, left, right)
 }

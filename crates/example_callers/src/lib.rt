@@ -2,6 +2,7 @@
 #![tactic(auto)]
 
 pub mod buffer;
+pub mod constant;
 pub mod entry;
 pub mod lists;
 pub mod loops;

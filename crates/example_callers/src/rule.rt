@@ -1,34 +1,15 @@
-//! A rule `rule a: ["x", 1] { b = 2; c = 3; } => 'd (e::f) where g!`, with a loop in braces and an
-//! option in the middle.
-ghost use Rattle.std.specs.Prelude.{codes};
-ghost use Rattle.syn_parse.specs.Takes.{TakesAs};
-ghost use Rattle.syn_parse.specs.Takings.{lower, taken, taken_filled, told};
-ghost use Rattle.example_callers.specs.Rules.{guard_form, inputs_form, lowers_assignment, rule_form, take_assignment, take_guard, take_inputs, take_rule, take_target};
+//! A rule `rule a: ["x", 1] { b = 2; c = 3; } => 'd (e::f) where g!`, with a list, a loop and a path in
+//! groups, and an option in the middle, by two types.
+ghost use Rattle.syn_parse.specs.Takings.{lower, taken_filled, told};
+ghost use Rattle.example_callers.specs.Rules.{lowers_assignment, rule_form, take_assignment, take_rule};
 
+use syn_choices::ParseBufferExt;
 use syn_parse::laws::parses_go_on;
-use syn_parse::{Own, Parse, ParseStream, Result, Word};
+use syn_parse::{Parse, ParseStream, Result};
 use syn_punctuated::Punctuated;
 use tok_buffer::Lifetime;
 use tok_core::{Delimiter, Ident, Literal};
 use tok_types::token;
-
-/// The text of `RuleKeyword`.
-pub struct RuleWord;
-
-impl Word for RuleWord {
-    ghost text = { codes "rule" };
-
-    fn text() -> &'static str {
-        "rule"
-    }
-
-    fn display() -> &'static str {
-        "`rule`"
-    }
-}
-
-/// The keyword `rule`, with which a rule begins.
-pub type RuleKeyword = Own<RuleWord>;
 
 /// An assignment `name = value;`.
 #[derive(Drop)]
@@ -50,59 +31,15 @@ impl Parse for Assignment {
     }
 }
 
-/// Literals with a comma after each, which the last one may lack.
-#[derive(Drop)]
-pub struct Inputs {
-    pub list: Punctuated<Literal, token::Comma>,
-}
-
-impl Parse for Inputs {
-    ghost takes = { taken_filled inputs_form take_inputs };
-
-    fn parse(input: ParseStream<'_, '_>) -> Result<Self> {
-        parses_go_on();
-        let list = Punctuated::parse_terminated(input)?;
-        Ok(Inputs { list })
-    }
-}
-
-/// A target `owner::name`.
-#[derive(Drop)]
-pub struct Target {
-    pub owner: Ident,
-    pub name: Ident,
-}
-
-impl Parse for Target {
-    ghost takes = { taken take_target };
-
-    #[tactic(auto, unfolding(crate::specs::Rules::take_target))]
-    fn parse(input: ParseStream<'_, '_>) -> Result<Self> {
-        let owner = input.parse()?;
-        let _: token::PathSep = input.parse()?;
-        let name = input.parse()?;
-        Ok(Target { owner, name })
-    }
-}
-
-// Parses `where` and a name, if `where` is next, and `!`.
-#[tactic(auto, unfolding(crate::specs::Rules::take_guard))]
-fn parse_guard(input: ParseStream<'_, '_>) -> Result<Option<(token::Where, Ident)>>
-    ensures { TakesAs guard_form take_guard input.old result input.new }
-{
-    let guard = input.parse_after()?;
-    let _: token::Not = input.parse()?;
-    Ok(guard)
-}
-
 /// A rule.
 #[derive(Drop)]
 pub struct Rule {
     pub name: Ident,
-    pub inputs: Inputs,
+    pub inputs: Punctuated<Literal, token::Comma>,
     pub assignments: Vec<Assignment>,
     pub lifetime: Lifetime,
-    pub target: Target,
+    pub owner: Ident,
+    pub target: Ident,
     pub guard: Option<(token::Where, Ident)>,
 }
 
@@ -110,20 +47,25 @@ impl Parse for Rule {
     ghost takes = { taken_filled rule_form take_rule };
 
     fn parse(input: ParseStream<'_, '_>) -> Result<Self> {
-        let _: RuleKeyword = input.parse()?;
+        parses_go_on();
+        input.parse_word("rule")?;
         let name = input.parse()?;
         let _: token::Colon = input.parse()?;
-        let (_, inputs) = input.parse_within(Delimiter::Bracket)?;
+        let (_, inputs) = input.parse_terminated_within(Delimiter::Bracket)?;
         let (_, assignments) = input.parse_within(Delimiter::Brace)?;
         let _: token::FatArrow = input.parse()?;
         let lifetime = input.parse()?;
-        let (_, target) = input.parse_within(Delimiter::Parenthesis)?;
-        let guard = parse_guard(input)?;
+        let (_, (owner, _, target)) = input.parse_within::<(Ident, token::PathSep, Ident)>(
+            Delimiter::Parenthesis,
+        )?;
+        let guard = input.parse_after()?;
+        let _: token::Not = input.parse()?;
         Ok(Rule {
             name,
             inputs,
             assignments,
             lifetime,
+            owner,
             target,
             guard,
         })

@@ -13,10 +13,6 @@ pub struct ServiceWord;
 impl Word for ServiceWord {
     ghost text = { codes "service" };
 
-    fn text() -> &'static str {
-        "service"
-    }
-
     fn display() -> &'static str {
         "`service`"
     }
