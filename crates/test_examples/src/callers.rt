@@ -1,4 +1,5 @@
 //! The functions of the crate `example_callers`: trees, tokens, lists, and walks with a cursor.
+mod choices;
 mod entries;
 mod streams;
 

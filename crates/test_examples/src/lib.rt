@@ -1,8 +1,10 @@
-//! Tests of `example_callers` and of `example_config`.
+//! Tests of `example_callers`, `example_grammar` and `example_config`.
 #![tactic(auto)]
 
 #[cfg(test)]
 mod callers;
+#[cfg(test)]
+mod grammar;
 #[cfg(test)]
 mod said;
 #[cfg(test)]

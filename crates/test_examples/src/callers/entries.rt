@@ -222,11 +222,11 @@ fn reads_services(rt: HostRuntime) {
 fn whole_rule(input: ParseStream<'_, '_>) -> Result<String> {
     let rule: Rule = input.parse()?;
     let name = rule.name.as_str();
-    let inputs = rule.inputs.list.len();
+    let inputs = rule.inputs.len();
     let assignments = rule.assignments.len();
     let lifetime = rule.lifetime.ident.as_str();
-    let owner = rule.target.owner.as_str();
-    let target = rule.target.name.as_str();
+    let owner = rule.owner.as_str();
+    let target = rule.target.as_str();
     let has_guard = rule.guard.is_some();
     Ok(format!(in input.allocator();
         "{name} {inputs} {assignments} {lifetime} {owner} {target} {has_guard}"
@@ -363,12 +363,18 @@ fn is_entry(alloc: Global, outcome: Result<Entry>, wanted: &str) -> bool {
 
 // Returns `true` if a text is this entry, or is rejected so.
 fn is_entry_text(alloc: Global, text: &str, wanted: &str) -> bool {
-    is_entry(alloc, parse_entry_text(alloc, text), wanted)
+    is_entry(alloc, parse_entry_text(alloc, 0, text), wanted)
 }
 
 fn is_entry_stream(alloc: Global, text: &str, wanted: &str) -> Option<bool> {
     let stream = lex_marked(alloc, 0, text).ok()?;
     Some(is_entry(alloc, parse_entry(alloc, stream), wanted))
+}
+
+fn all_entry_texts(rt: &(impl Abort + AllocGlobal), rows: &[(&str, &str)]) {
+    for (text, wanted) in rows {
+        assert!(rt; is_entry_text(rt.alloc(), text, wanted), "at {text}");
+    }
 }
 
 fn all_entries(rt: &(impl Abort + AllocGlobal), rows: &[(&str, &str)]) {
@@ -392,7 +398,25 @@ fn reads_entries(rt: HostRuntime) {
             ("a, 1, b", "6..7 expected parentheses"),
             ("a, 1, (b c)", "9..10 unexpected token, expected `)`"),
             ("a, 1, (b) c", "10..11 unexpected token"),
-            ("", "call unexpected end of input, expected identifier"),
+        ],
+    );
+}
+
+#[test]
+fn the_text_of_an_entry_ends_behind_its_last_token(rt: HostRuntime) {
+    all_entry_texts(
+        &rt,
+        &[
+            ("", "0..0 unexpected end of input, expected identifier"),
+            (
+                "a,  ",
+                "2..2 unexpected end of input, expected literal token",
+            ),
+            (
+                "a, 1, // (b)",
+                "5..5 unexpected end of input, expected parentheses",
+            ),
+            ("a, 1, (b", "6..6 unclosed group"),
         ],
     );
 }
