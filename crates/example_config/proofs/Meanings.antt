@@ -17,7 +17,7 @@ use Rattle.tok_values.specs.Values.{HasValue}
 use Rattle.tok_values.specs.declared.integers.IntegerFault.TheVariants.{TooLarge}
 use Rattle.syn_parse.specs.State.{State}
 use Rattle.syn_parse.specs.Positions.{scope_trees}
-use Rattle.syn_parse.specs.Takes.{IsMissing, MemoryOr, Outcome, Says, Taking, TakesAs, ◌>>=◌}
+use Rattle.syn_parse.specs.Takes.{IsMissing, MemoryOr, Outcome, SaysFound, Taking, TakesAs, ◌>>=◌}
 use Rattle.syn_parse.specs.Takes.{and_then, found, refuses_at}
 use Rattle.syn_parse.specs.TreesAhead.{Ahead, ahead}
 use Rattle.syn_parse.specs.declared.fault.Fault.{Fault}
@@ -29,7 +29,7 @@ use Rattle.example_config.specs.declared.value.Value.{Value}
 -- an error at this span says what is missing there
 at_given : (A : Type 0) (a : Ahead) (span : Span) (words : List ℕ) (f : Fault)
     → Refuses (message_at span words) f
-    → (trees : Forest) (scope : Span) → Says trees scope (refuses_at {A = A} span words a) f
+    → (trees : Forest) (scope : Span) → SaysFound trees scope (refuses_at {A = A} span words a) f
 at_given A a span words (Refused e) k trees scope = (span, refl, k)
 at_given A a span words (Memory e) k trees scope = tt
 
@@ -91,6 +91,6 @@ module _ {B : Type 0} (take : Taking B) (m : B → Taking Form) (v : B) (s t : S
   then_means (Err f) h k =
       let here = ap (λ o. and_then o m) h.0 in (
         subst (λ o. MemoryOr f (IsMissing o)) (sym here) (k (ahead t)).0,
-        λ i. subst (λ o. Says (scope_trees s.place) s.scope_span o f) (sym here)
+        λ i. subst (λ o. SaysFound (scope_trees s.place) s.scope_span o f) (sym here)
             ((k (ahead t)).1 (scope_trees s.place) s.scope_span),
       )

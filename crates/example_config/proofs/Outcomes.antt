@@ -8,6 +8,7 @@ use Rattle.tok_core.specs.Filled.{filled}
 use Rattle.tok_core.specs.Forest.{Forest}
 use Rattle.tok_core.specs.Lexical.Reading.{Reads}
 use Rattle.tok_core.proofs.Lexical.Visible.{all_visible}
+use Rattle.syn_parse.specs.Sources.{end_of_tokens}
 use Rattle.syn_parse.specs.Takings.{KeepsWhole}
 use Rattle.syn_parse.specs.TreesAhead.{all_taken}
 use Rattle.syn_parse.specs.declared.fault.Fault.{Fault}
@@ -16,7 +17,7 @@ use Rattle.syn_punctuated.specs.TakeLists.{list_form}
 use Rattle.syn_punctuated.specs.declared.punctuated.Punctuated.{Punctuated}
 use Rattle.example_config.specs.Forms.{Comma, setting_form}
 use Rattle.example_config.specs.Grammar.{Parses}
-use Rattle.example_config.specs.Reading.{ReadsText, ReadsTokens, settings}
+use Rattle.example_config.specs.Reading.{ReadsText, settings}
 use Rattle.example_config.specs.declared.value.Setting.{Setting}
 use Rattle.example_config.proofs.Sound.{sound}
 use Rattle.example_config.proofs.Written.{settings_taken}
@@ -29,14 +30,10 @@ parses f end (Err (Refused e)) h i =
     inr (λ form l. (h i).0.0 form (settings_taken (erase f) form l))
 parses f end (Err (Memory e)) h i = inl tt
 
-pub reads_tokens : (f : Forest) (end : Span) (r : Result (Punctuated Setting Comma) Fault)
-    → KeepsWhole settings f end r → ReadsTokens f end r
-reads_tokens f end r h = (h, parses f end r h)
-
 -- a text has no invisible groups, so its tokens are all that is read
-pub reads_text : (source : ℕ) (cs : List ℕ) (end : Span) (f : Forest)
+pub reads_text : (source : ℕ) (cs : List ℕ) (f : Forest)
     (r : Result (Punctuated Setting Comma) Fault) → Reads Plain source cs f
-    → ReadsTokens f end r → ReadsText source cs end r
-reads_text source cs end f r h k =
+    → KeepsWhole settings f (end_of_tokens source f) r → ReadsText source cs r
+reads_text source cs f r h k =
     let s = all_visible 0 Plain source cs f refl h in
-    inl (f, h, k.0 s.0, subst (λ g. Parses g r) s.1 (k.1 s.0))
+    inl (f, h, k s.0, subst (λ g. Parses g r) s.1 (parses f (end_of_tokens source f) r k s.0))

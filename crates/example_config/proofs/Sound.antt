@@ -12,15 +12,16 @@ use Rattle.tok_leaves.specs.declared.punct.Spacing.{Spacing}
 use Rattle.tok_leaves.specs.declared.span.Span.{Span}
 use Rattle.tok_values.specs.Values.{integer_value, string_value}
 use Rattle.tok_core.specs.Forest.{Tree, leaf, Forest, forest, concat, tree}
-use Rattle.syn_parse.proofs.Shapes.{IsSign, before, found_first, found_second, ident_shape}
+use Rattle.tok_types.specs.Texts.{accept_as_ident}
+use Rattle.syn_parse.proofs.Shapes.{IsAccepted, IsSign, before, found_first, found_second, ident_shape}
 use Rattle.syn_parse.proofs.Shapes.{literal_shape, own_shape, sign_shape, then_found}
 use Rattle.syn_parse.proofs.TakenTrees.{IsGroup, IsTaken, given_taken, nested_taken, refuses_taken}
 use Rattle.syn_parse.proofs.TakenTrees.{where_taken, whole_group_taken}
-use Rattle.syn_parse.specs.Owned.{own_first, take_own}
+use Rattle.syn_parse.specs.Owned.{own_first, sees_own, take_own}
 use Rattle.syn_parse.specs.Parses.{IsSpanOf}
 use Rattle.syn_parse.specs.Takes.{Taking, and_then, found, refuses, refuses_at}
 use Rattle.syn_parse.specs.Takes.{take_group, where_ahead}
-use Rattle.syn_parse.specs.Tokens.{sees_group, sees_literal, take_ident, take_literal}
+use Rattle.syn_parse.specs.Tokens.{sees_any_ident, sees_group, sees_literal, take_ident, take_literal}
 use Rattle.syn_parse.specs.TokenNames.{take_colon, take_comma}
 use Rattle.syn_parse.specs.TreesAhead.{Ahead, all_taken}
 use Rattle.syn_punctuated.proofs.ListShapes.{list_is}
@@ -31,8 +32,9 @@ use Rattle.example_config.specs.Grammar.{and_values, colon, comma, is_false, is_
 use Rattle.example_config.specs.Grammar.{is_map, is_number, is_setting}
 use Rattle.example_config.specs.Grammar.{is_text, is_true, last_setting, last_value, no_setting, no_value}
 use Rattle.example_config.specs.Grammar.{sign, sign_at}
-use Rattle.example_config.specs.Reading.{in_integer, in_number, in_text, meaning, sees_own}
-use Rattle.example_config.specs.Reading.{setting_step, take_list_value, take_literal_value, take_map_value}
+use Rattle.example_config.specs.Reading.{in_integer, in_number, in_text, meaning}
+use Rattle.example_config.specs.Reading.{setting_step, take_key, take_list_value, take_literal_value}
+use Rattle.example_config.specs.Reading.{take_map_value}
 use Rattle.example_config.specs.Reading.{take_meaning, take_plain, take_setting, take_truth, take_value}
 use Rattle.example_config.specs.Reading.{value_step}
 use Rattle.tok_buffer.specs.EachRead.{first_keyword}
@@ -112,6 +114,13 @@ plain_sound =
           where_ahead (sees_own (codes "false")) (take_truth (codes "false") false)
           take_literal_value
 
+key_sound : IsTaken (IsAccepted accept_as_ident) take_key
+unfolding take_key
+key_sound =
+    where_taken (IsAccepted accept_as_ident) sees_any_ident take_ident (refuses _)
+    (λ a b v t. ident_shape.taken a b v)
+    (λ a b v t. refuses_taken (IsAccepted accept_as_ident) _ a b v)
+
 with_comma : (Q : List Tree → Comma → Type 0)
     → ((spacing : Spacing) (span : Span) → Q (sign comma spacing span ∷ []) (sign_at span))
     → (us : List Tree) (p : Comma) → IsSign comma p us → Q us p
@@ -143,9 +152,9 @@ module _ (m : Taking Form) (h : IsTaken IsValue m) where
   unfolding setting_step
   setting_sound =
       where_taken IsSetting _ _ _ (λ a b v t. refuses_taken IsSetting _ a b v) (λ a b v t e.
-      let key = then_found (take_ident a) (λ k c. and_then (take_colon c)
+      let key = then_found (take_key a) (λ k c. and_then (take_colon c)
       (λ p d. and_then (m d) (λ x. found (k, p, x)))) v b e in
-      let k = ident_shape.taken a key.after key.value key.first in
+      let k = key_sound a key.after key.value key.first in
       let sep = then_found (take_colon key.after)
       (λ p d. and_then (m d) (λ x. found (key.value, p, x))) v b key.rest in
       let s = (sign_shape 6 colon refl refl).taken key.after sep.after sep.value sep.first in

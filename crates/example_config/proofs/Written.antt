@@ -12,10 +12,10 @@ use Rattle.tok_leaves.specs.declared.punct.Spacing.{Spacing}
 use Rattle.tok_leaves.specs.declared.span.Span.{Span}
 use Rattle.tok_values.specs.Values.{integer_value, string_value, up_to_quote}
 use Rattle.tok_core.specs.Forest.{Tree, leaf, group, Forest, forest, tree}
-use Rattle.tok_types.specs.Sees.{group_first, literal_first}
+use Rattle.tok_types.specs.Sees.{any_ident_first, group_first, literal_first}
 use Rattle.syn_parse.proofs.Shapes.{before, ident_shape, literal_shape, sign_shape, takes_group}
 use Rattle.syn_parse.specs.Lighter.{lowers_punctuation}
-use Rattle.syn_parse.specs.Owned.{own_first, take_own}
+use Rattle.syn_parse.specs.Owned.{own_first, sees_own, take_own}
 use Rattle.syn_parse.specs.Takes.{Taking, and_then, found, refuses, refuses_at}
 use Rattle.syn_parse.specs.Tokens.{take_ident}
 use Rattle.syn_parse.specs.TokenNames.{take_colon, take_comma}
@@ -29,8 +29,9 @@ use Rattle.example_config.specs.Grammar.{is_list, is_map}
 use Rattle.example_config.specs.Grammar.{is_number, is_setting, is_text, is_true, last_setting, last_value}
 use Rattle.example_config.specs.Grammar.{no_setting, no_value, sign, sign_at}
 use Rattle.example_config.specs.Nesting.{lightens_setting, lightens_value, value_again}
-use Rattle.example_config.specs.Reading.{in_integer, in_number, in_text, meaning, sees_own}
-use Rattle.example_config.specs.Reading.{setting_step, take_list_value, take_literal_value, take_map_value}
+use Rattle.example_config.specs.Reading.{in_integer, in_number, in_text, meaning}
+use Rattle.example_config.specs.Reading.{setting_step, take_key, take_list_value, take_literal_value}
+use Rattle.example_config.specs.Reading.{take_map_value}
 use Rattle.example_config.specs.Reading.{take_plain, take_setting, take_value, value_step}
 
 -- an integer is no string
@@ -106,6 +107,13 @@ not_include key f c other = go (bytes_eq (codes "include") key.text) refl where
   go true e = absurd (other (sym ((bytes_eq-Decides (codes "include") key.text).0 e)))
   go false e = refl
 
+-- a word is looked for, and is there
+key_there : (key : Ident) (ts : List Tree) (b : Ahead)
+    → take_key (before (leaf (ident_of key) ∷ ts) b)
+    ≡ take_ident (before (leaf (ident_of key) ∷ ts) b)
+unfolding take_key any_ident_first
+key_there key ts b = refl
+
 setting_there : (key : Ident) (spacing : Spacing) (span : Span) (value : Form) (ts : List Tree)
     (b : Ahead) → IsKey key → take_value (before ts b) ≡ found value b
     → take_setting (before (leaf (ident_of key) ∷ sign colon spacing span ∷ ts) b)
@@ -116,10 +124,11 @@ setting_there key spacing span value ts b k h =
     let more : Ident → Taking SettingForm = λ key c. and_then (take_colon c)
     (λ p d. and_then (take_value d) (λ x. found (key, p, x))) in
     ap (λ t. cond t (refuses (codes "this language has no `include`") a)
-    (and_then (take_ident a) more))
+    (and_then (take_key a) more))
     (not_include key (before (sign colon spacing span ∷ ts) b).trees b.unread k.1)
     ∙ ap (λ o. and_then o more)
-    (ident_shape.takes (before (sign colon spacing span ∷ ts) b) key _ (refl, k.0))
+    (key_there key (sign colon spacing span ∷ ts) b
+    ∙ ident_shape.takes (before (sign colon spacing span ∷ ts) b) key _ (refl, k.0))
     ∙ ap (λ o. and_then o (λ p d. and_then (take_value d) (λ x. found (key, p, x))))
     ((sign_shape 6 colon refl refl).takes (before ts b) (sign_at span) _
     (spacing, span, refl, refl))

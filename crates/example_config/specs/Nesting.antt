@@ -13,8 +13,8 @@ use Rattle.syn_parse.specs.TreesAhead.{Ahead}
 use Rattle.syn_punctuated.specs.NestedLists.{descending_lists}
 use Rattle.example_config.specs.Forms.{setting_form, value_form}
 use Rattle.example_config.specs.Reading.{in_integer, in_number, in_text, meaning, setting_step}
-use Rattle.example_config.specs.Reading.{take_list_value, take_literal_value, take_map_value, take_plain}
-use Rattle.example_config.specs.Reading.{take_setting, take_value, value_step}
+use Rattle.example_config.specs.Reading.{take_key, take_list_value, take_literal_value, take_map_value}
+use Rattle.example_config.specs.Reading.{take_plain, take_setting, take_value, value_step}
 use Rattle.example_config.specs.declared.value.Setting.{Setting}
 use Rattle.example_config.specs.declared.value.Value.{Value}
 
@@ -57,9 +57,15 @@ list_descends : Descends 0 take_list_value
 unfolding take_list_value
 list_descends = search descending_lists depth 20
 
+lightens_key : Lightens take_key
+unfolding take_key
+lightens_key = search lightening depth 20
+
+ruleset keys_nesting = (descending_lists, lightens_key)
+
 setting_descends : Descends 0 setting_step
 unfolding setting_step
-setting_descends = search descending_lists depth 20
+setting_descends = search keys_nesting depth 20
 
 ruleset settings_nesting = (descending_lists, setting_descends)
 

@@ -4,23 +4,23 @@ use Rattle.std.specs.Prelude.{Option, None, Some, MatchResult, Result, if◌then
 use Rattle.std.specs.Str.{chars}
 use Rattle.tok_lexical.specs.declared.rule.Mode.TheVariants.{Plain}
 use Rattle.tok_lexical.specs.declared.delimiter.Delimiter.TheVariants.{Brace, Bracket}
+use Rattle.tok_leaves.specs.declared.ident.Ident.{Ident}
 use Rattle.tok_leaves.specs.declared.literal.Literal.{Literal}
 use Rattle.tok_leaves.specs.declared.span.Span.{Span}
 use Rattle.tok_values.specs.Values.{integer_value, string_value}
-use Rattle.tok_core.specs.Erase.{erase}
-use Rattle.tok_core.specs.Filled.{filled}
 use Rattle.tok_core.specs.Forest.{Forest}
 use Rattle.tok_core.specs.Lexical.Reading as grammar
 use Rattle.tok_core.specs.declared.lexer.error.LexError.{LexError}
 use Rattle.syn_parse.specs.Faults.{IsRefused}
 use Rattle.syn_parse.specs.Nested.{take_nested}
-use Rattle.syn_parse.specs.Owned.{own_first, take_own}
+use Rattle.syn_parse.specs.Owned.{sees_own, take_own}
 use Rattle.syn_parse.specs.Parsers.{OnMemory, lex_message}
-use Rattle.syn_parse.specs.Takes.{IsMissing, MemoryOr, Outcome, Says, Taking, ◌>>=◌, found, gives}
-use Rattle.syn_parse.specs.Takes.{TakesAll, refuses, refuses_at, take_group, where_ahead}
-use Rattle.syn_parse.specs.Takings.{KeepsWhole, Takings, taken_filled}
+use Rattle.syn_parse.specs.Sources.{end_of_tokens}
+use Rattle.syn_parse.specs.Takes.{IsMissing, MemoryOr, Outcome, SaysFound, Taking, TakesAll}
+use Rattle.syn_parse.specs.Takes.{◌>>=◌, found, gives, refuses, refuses_at, take_group, where_ahead}
+use Rattle.syn_parse.specs.Takings.{Takings, taken_filled}
 use Rattle.syn_parse.specs.TokenNames.{take_colon, take_comma}
-use Rattle.syn_parse.specs.Tokens.{sees_group, sees_literal, take_ident, take_literal}
+use Rattle.syn_parse.specs.Tokens.{sees_any_ident, sees_group, sees_literal, take_ident, take_literal}
 use Rattle.syn_parse.specs.TreesAhead.{Ahead}
 use Rattle.syn_parse.specs.declared.fault.Fault.{Fault}
 use Rattle.syn_punctuated.specs.TakeLists.{list_form, take_terminated}
@@ -56,9 +56,11 @@ meaning literal = in_text literal (string_value (chars literal.text))
 
 -- an error has one message, which says what is missing, whatever the scope is
 abbrev pub SaysOnce : {A : Type 0} → Outcome A → Fault → Type 0
-SaysOnce o f = MemoryOr f (IsMissing o) × ((trees : Forest) (scope : Span) → Says trees scope o f)
+SaysOnce o f =
+    MemoryOr f (IsMissing o)
+    × ((trees : Forest) (scope : Span) → SaysFound trees scope o f)
 
--- a value that is meant, or the words of an error
+-- a value that is meant, or an error that says what is missing, at its span
 abbrev pub Means : Taking Form → Result Value Fault → Type 0
 Means m result =
     (a : Ahead) → MatchResult result (λ v. m a ≡ found (value_form v) a) (λ f. SaysOnce (m a) f)
@@ -75,10 +77,6 @@ take_literal_value =
     where_ahead sees_literal take_meaning
     (refuses (codes "expected a string, an integer, `true`, `false`, `[` or `{`"))
 
--- a peek of one's own keyword
-abbrev pub sees_own : List ℕ → Ahead → Bool
-sees_own word a = own_first word a.trees
-
 -- a keyword that is a truth value
 abbrev pub take_truth : (word : List ℕ) → Bool → Taking Form
 take_truth word b = do
@@ -91,11 +89,15 @@ take_plain =
     where_ahead (sees_own (codes "true")) (take_truth (codes "true") true)
     (where_ahead (sees_own (codes "false")) (take_truth (codes "false") false) take_literal_value)
 
+-- a key, if a word is next; of a reserved word the error says which it is
+unfoldable pub take_key : Taking Ident
+take_key = where_ahead sees_any_ident take_ident (refuses (codes "expected a key, such as `name`"))
+
 -- a key that is not `include`, a colon and a value, by how values are taken
 unfoldable pub setting_step : Taking Form → Taking SettingForm
 setting_step value =
     where_ahead (sees_own (codes "include")) (refuses (codes "this language has no `include`")) (do
-      key ← take_ident
+      key ← take_key
       colon ← take_colon
       form ← value
       gives (key, colon, form))
@@ -142,17 +144,12 @@ values = taken_filled (list_form value_form (λ p. p)) (take_terminated take_val
 abbrev pub settings : Takings (Punctuated Setting Comma)
 settings = taken_filled (list_form setting_form (λ p. p)) take_settings
 
--- Tokens are read as the grammar has them, and an error says what is missing first, and where. An
--- empty invisible group is not the end, so it holds where there is none.
-abbrev pub ReadsTokens : Forest → (end : Span) → Result (Punctuated Setting Comma) Fault → Type 0
-ReadsTokens f end r = KeepsWhole settings f end r × (filled f ≡ true → Parses (erase f) r)
-
 -- The text of a source is tokens, which are the settings that are returned; or which are none, and
 -- the error says what is missing first, and where. Or the grammar of tokens refuses it.
-abbrev pub ReadsText : (source : ℕ) → List ℕ → (end : Span)
-    → Result (Punctuated Setting Comma) Fault → Type 0
-ReadsText source cs end r =
+abbrev pub ReadsText : (source : ℕ) → List ℕ → Result (Punctuated Setting Comma) Fault → Type 0
+ReadsText source cs r =
     ((f : Forest) × grammar.Reads Plain source cs f
-    × TakesAll (list_form setting_form (λ p. p)) take_settings f end r × Parses f r)
+    × TakesAll (list_form setting_form (λ p. p)) take_settings f (end_of_tokens source f) r
+    × Parses f r)
     ⊎ (((e : LexError) × grammar.IsRefused Plain source cs e × IsRefused (lex_message e) r)
     ⊎ OnMemory r)

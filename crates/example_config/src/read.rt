@@ -1,47 +1,33 @@
 //! The reader.
-ghost use Rattle.std.specs.Prelude.{ℕ, Err, List, Option, Some, length};
+ghost use Rattle.std.specs.Prelude.{ℕ, Err, List, Option, Some};
 ghost use Rattle.std.specs.Str.{chars};
-ghost use Rattle.tok_leaves.specs.Spans.{source};
-ghost use Rattle.syn_parse.specs.Takes.{TakesAs};
+ghost use Rattle.syn_parse.specs.Takes.{Takes, TakesAs};
 ghost use Rattle.syn_parse.specs.TreesAhead.{Ahead};
 ghost use Rattle.syn_parse.specs.Takings.{Keeps};
 ghost use Rattle.tok_values.specs.Values.{HasValue};
 ghost use Rattle.example_config.specs.Forms.{value_form};
 ghost use Rattle.example_config.specs.Nesting.{setting, value};
-ghost use Rattle.example_config.specs.Reading.{Means, ReadsText, ReadsTokens, SaysOnce, in_integer, list_value, map_value, meaning, settings, take_literal_value, take_meaning, take_plain, values};
+ghost use Rattle.example_config.specs.Reading.{Means, ReadsText, SaysOnce, in_integer, list_value, map_value, meaning, settings, take_key, take_literal_value, take_meaning, take_plain, values};
 
 use crate::value::{Config, False, Include, Setting, True, Value};
-use std::alloc::{AllocError, Global};
+use std::alloc::Global;
 use syn_parse::laws::parses_go_on;
 use syn_parse::{
     Braces, Brackets, Fault, ParseStream, Parser, Result, parse_braces, parse_brackets,
 };
 use syn_punctuated::Punctuated;
-use tok_buffer::Error;
-use tok_core::{LexFault, Literal, Span, TokenStream, lex};
-use tok_types::token;
+use tok_core::{Ident, Literal, Span};
+use tok_types::{IdentAny, token};
 use tok_values::{Integer, IntegerFault, LiteralExt};
 
 /// Reads a text of source `number`.
 ///
 /// If the text is no configuration, returns the error of the first parser that fails. An error at
-/// the end of the text has an empty span there.
+/// the end of the text has the empty span behind the last token.
 pub fn parse_config(alloc: Global, number: u32, text: &str) -> Result<Config>
-    ensures { let size = length text.now in
-        ReadsText number (chars text.now) (source number size size) result }
+    ensures { ReadsText number (chars text.now) result }
 {
-    match lex(alloc, number, text) {
-        Ok(tokens) => parse_tokens(alloc, Span::source(number, text.len(), text.len()), tokens),
-        Err(LexFault::Refused(error)) => Err(Fault::Refused(Error::from_lex(alloc, error)?)),
-        Err(LexFault::Memory) => Err(Fault::Memory(AllocError)),
-    }
-}
-
-// Reads all of these tokens. An error at their end is at `end`.
-fn parse_tokens(alloc: Global, end: Span, tokens: TokenStream) -> Result<Config>
-    ensures { ReadsTokens tokens end result }
-{
-    read_settings.parse_scoped(alloc, end, tokens)
+    read_settings.parse_text(alloc, number, text)
 }
 
 // Reads settings up to the end.
@@ -81,10 +67,22 @@ fn read_setting(input: ParseStream<'_, '_>) -> Result<Setting>
     if input.peek::<Include>() {
         return Err(input.error("this language has no `include`"));
     }
-    let key = input.parse()?;
+    let key = read_key(input)?;
     let colon = input.parse()?;
     let value = read_value(input)?;
     Ok(Setting { key, colon, value })
+}
+
+// Reads a key, if a word is next.
+#[tactic(auto, unfolding(crate::specs::Reading::take_key))]
+fn read_key(input: ParseStream<'_, '_>) -> Result<Ident>
+    ensures { Takes take_key input.old result input.new }
+{
+    if input.peek::<IdentAny>() {
+        input.parse()
+    } else {
+        Err(input.error("expected a key, such as `name`"))
+    }
 }
 
 // Reads a value.

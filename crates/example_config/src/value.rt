@@ -40,10 +40,6 @@ pub struct IncludeWord;
 impl Word for IncludeWord {
     ghost text = { codes "include" };
 
-    fn text() -> &'static str {
-        "include"
-    }
-
     fn display() -> &'static str {
         "`include`"
     }
@@ -58,10 +54,6 @@ pub struct TrueWord;
 impl Word for TrueWord {
     ghost text = { codes "true" };
 
-    fn text() -> &'static str {
-        "true"
-    }
-
     fn display() -> &'static str {
         "`true`"
     }
@@ -75,10 +67,6 @@ pub struct FalseWord;
 
 impl Word for FalseWord {
     ghost text = { codes "false" };
-
-    fn text() -> &'static str {
-        "false"
-    }
 
     fn display() -> &'static str {
         "`false`"
