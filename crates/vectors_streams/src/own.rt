@@ -1,6 +1,7 @@
 //! Keywords of one's own, and errors at a span.
 ghost use Rattle.std.specs.Prelude.{codes};
 
+use crate::visible::marked;
 use std::alloc::Global;
 use syn_parse::{Fault, Own, ParseStream, Parser, Result, Word};
 use test_outcomes::read;
@@ -14,6 +15,8 @@ pub fn parsed(alloc: Global, parser: &str, text: &str) -> Option<Result<String>>
         "Optional" => optional.parse_str(alloc, text),
         "Lookahead" => looked.parse_str(alloc, text),
         "Arrow" => read::<Own<ArrowWord>>.parse_str(alloc, text),
+        "Target" => target.parse_str(alloc, text),
+        "MarkedTarget" => target.parse2(alloc, marked(alloc, text)?),
         "AtName" => at_name.parse_str(alloc, text),
         _ => return None,
     };
@@ -24,10 +27,6 @@ struct ServerWord;
 
 impl Word for ServerWord {
     ghost text = { codes "server" };
-
-    fn text() -> &'static str {
-        "server"
-    }
 
     fn display() -> &'static str {
         "`server`"
@@ -41,10 +40,6 @@ struct ArrowWord;
 
 impl Word for ArrowWord {
     ghost text = { codes "=>" };
-
-    fn text() -> &'static str {
-        "=>"
-    }
 
     fn display() -> &'static str {
         "`=>`"
@@ -65,6 +60,17 @@ fn looked(input: ParseStream<'_, '_>) -> Result<String> {
     }
     lookahead.peek::<token::Comma>()?;
     Err(lookahead.error())
+}
+
+// Whether the word is next, and its span.
+fn target(input: ParseStream<'_, '_>) -> Result<String> {
+    let is_next = input.peek_word("target");
+    let alloc = input.allocator();
+    match input.parse_word("target") {
+        Ok(span) => Ok(format!(in alloc; "{is_next} {span:?}")?),
+        Err(fault) if is_next => Ok(format!(in alloc; "a peek and then {fault}")?),
+        Err(fault) => Err(fault),
+    }
 }
 
 // Rejects a name at its span.

@@ -1,10 +1,15 @@
 //! Values of whole texts and sources.
 use std::alloc::Global;
-use syn_parse::{IdentExt, Nothing, Parse, ParseStream, Parser, Result, parse_source, parsing};
+use syn_parse::{
+    IdentExt, Nothing, Parse, ParseStream, Parser, Result, parse_source, parse_text, parsing,
+};
 use test_outcomes::read;
 use tok_buffer::Lifetime;
 use tok_core::{Edition, Ident, Literal, Punct, Span, TokenStream, TokenTree};
 use tok_types::token;
+
+// The number of the texts that `parse_text` reads.
+const SOURCE: u32 = 1;
 
 /// Parses a text by the parser of this name, if there is one here.
 pub fn parsed(alloc: Global, parser: &str, text: &str) -> Option<Result<String>> {
@@ -25,6 +30,8 @@ pub fn parsed(alloc: Global, parser: &str, text: &str) -> Option<Result<String>>
         "TwoSpans" => two_spans.parse_str(alloc, text),
         "AfterAt" => text_after_at.parse_str(alloc, text),
         "AfterName" => after_name.parse_str(alloc, text),
+        "TextLiteral" => text_literal(alloc, text),
+        "TextLiteralAfterTree" => literal_after_tree.parse_text(alloc, SOURCE, text),
         "SourceLiteral" => source_literal(alloc, Edition::default(), text),
         "SourceLiteral2018" => literal_text.parse_source(alloc, Edition::Edition2018, text),
         _ => return None,
@@ -45,6 +52,16 @@ fn any_ident(input: ParseStream<'_, '_>) -> Result<String> {
 fn literal_text(input: ParseStream<'_, '_>) -> Result<String> {
     let literal: Literal = input.parse()?;
     Ok(format!(in input.allocator(); "{}", literal.as_str())?)
+}
+
+fn text_literal(alloc: Global, text: &str) -> Result<String> {
+    let literal: Literal = parse_text(alloc, SOURCE, text)?;
+    Ok(format!(in alloc; "{}", literal.as_str())?)
+}
+
+fn literal_after_tree(input: ParseStream<'_, '_>) -> Result<String> {
+    let _: TokenTree = input.parse()?;
+    literal_text(input)
 }
 
 fn source_literal(alloc: Global, edition: Edition, text: &str) -> Result<String> {

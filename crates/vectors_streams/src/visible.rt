@@ -18,7 +18,8 @@ pub fn parsed(alloc: Global, parser: &str, text: &str) -> Option<Result<String>>
     Some(returned)
 }
 
-fn marked(alloc: Global, text: &str) -> Option<TokenStream> {
+// Reads a text with marks for invisible groups.
+pub(crate) fn marked(alloc: Global, text: &str) -> Option<TokenStream> {
     lex_marked(alloc, 0, text).ok()
 }
 

@@ -1,0 +1,94 @@
+//! Literals of one kind in sources, with their values.
+use crate::visible::marked;
+use std::alloc::Global;
+use syn_literals::{LitBool, LitFloat, LitInt, LitStr};
+use syn_parse::{Fault, ParseStream, Parser, Result};
+use tok_core::Edition;
+use tok_types::token::Token;
+
+/// Parses a text by the parser of this name, if there is one here.
+pub fn parsed(alloc: Global, parser: &str, text: &str) -> Option<Result<String>> {
+    let edition = Edition::default();
+    let returned = match parser {
+        "LitStr" => string.parse_source(alloc, edition, text),
+        "LitInt" => integer.parse_source(alloc, edition, text),
+        "LitFloat" => float.parse_source(alloc, edition, text),
+        "LitBool" => boolean.parse_source(alloc, edition, text),
+        "LitKind" => kind.parse_source(alloc, edition, text),
+        "LitLookahead" => looked.parse_source(alloc, edition, text),
+        "MarkedStr" => string.parse2(alloc, marked(alloc, text)?),
+        "MarkedBool" => boolean.parse2(alloc, marked(alloc, text)?),
+        _ => return None,
+    };
+    Some(returned)
+}
+
+// The literal and its value.
+fn string(input: ParseStream<'_, '_>) -> Result<String> {
+    let alloc = input.allocator();
+    let literal: LitStr = input.parse()?;
+    Ok(match literal.value(alloc)? {
+        Some(value) => format!(in alloc; "{literal} is {}", value.as_str())?,
+        None => format!(in alloc; "{literal} has no value")?,
+    })
+}
+
+// The literal, its value and its suffix.
+fn integer(input: ParseStream<'_, '_>) -> Result<String> {
+    let alloc = input.allocator();
+    let literal: LitInt = input.parse()?;
+    match literal.value() {
+        Ok(integer) => {
+            let shown = format!(in alloc; "{literal} is {}_{}", integer.value, integer.suffix);
+            Ok(shown?)
+        }
+        Err(fault) => Err(Fault::at(alloc, literal.span(), fault)),
+    }
+}
+
+// The literal, and whether its value is one half.
+fn float(input: ParseStream<'_, '_>) -> Result<String> {
+    let alloc = input.allocator();
+    let literal: LitFloat = input.parse()?;
+    Ok(match literal.value(alloc)? {
+        Some(value) => format!(in alloc; "{literal} is 0.5: {}", value == 0.5)?,
+        None => format!(in alloc; "{literal} has no value")?,
+    })
+}
+
+fn boolean(input: ParseStream<'_, '_>) -> Result<String> {
+    let literal: LitBool = input.parse()?;
+    Ok(format!(in input.allocator(); "{literal} is {}", literal.value)?)
+}
+
+// The names of the kinds that a peek finds, and all that is left is skipped.
+fn kind(input: ParseStream<'_, '_>) -> Result<String> {
+    let mut shown = String::new(input.allocator());
+    let peeks = [
+        (input.peek::<LitStr>(), LitStr::display()),
+        (input.peek::<LitInt>(), LitInt::display()),
+        (input.peek::<LitFloat>(), LitFloat::display()),
+        (input.peek::<LitBool>(), LitBool::display()),
+    ];
+    for (found, name) in &peeks {
+        if *found {
+            shown.push_str(name)?;
+            shown.push_str(";")?;
+        }
+    }
+    let _ = input.rest()?;
+    Ok(shown)
+}
+
+fn looked(input: ParseStream<'_, '_>) -> Result<String> {
+    let mut lookahead = input.lookahead1();
+    if lookahead.peek::<LitStr>()? {
+        return string(input);
+    }
+    if lookahead.peek::<LitInt>()? {
+        return integer(input);
+    }
+    lookahead.peek::<LitFloat>()?;
+    lookahead.peek::<LitBool>()?;
+    Err(lookahead.error())
+}
