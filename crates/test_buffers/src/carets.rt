@@ -116,7 +116,7 @@ fn lines(rt: HostRuntime) {
     );
 }
 
-// An error of another source, at the call site, of two messages, and of the lexer.
+// An error of another source, at the call site, of three messages, and of the lexer.
 fn others(alloc: Global) -> Option<(String, String, String, String)> {
     let text = "a \"";
     let source = Source {
@@ -129,6 +129,9 @@ fn others(alloc: Global) -> Option<(String, String, String, String)> {
     let mut error = Error::new(alloc, Span::source(1, 0, 1), "one").ok()?;
     error
         .combine(Error::new(alloc, Span::source(1, 2, 3), "two").ok()?)
+        .ok()?;
+    error
+        .combine(Error::new(alloc, Span::call_site(), "three").ok()?)
         .ok()?;
     let both = source.show_error(alloc, &error).ok()?;
     match lex(alloc, 1, text) {
@@ -155,7 +158,7 @@ fn other_errors(rt: HostRuntime) {
     assert!(rt;
         shown.as_ref().is_some_and(|it| {
             it.2.as_str()
-                == "error: one\n --> a:1:1\n  |\n1 | a \"\n  | ^\nerror: two\n --> a:1:3\n  |\n1 | a \"\n  |   ^\n"
+                == "error: one\n --> a:1:1\n  |\n1 | a \"\n  | ^\nnote: two\n --> a:1:3\n  |\n1 | a \"\n  |   ^\nnote: three\n"
         })
     );
     assert!(rt;

@@ -8,7 +8,7 @@ use test_outcomes::is_said;
 use tok_buffer::Error;
 use tok_core::lex_marked;
 
-// Returns the names of the outer list, each with a space. `vectors_arguments` prints all of a list.
+// Returns the names of the outer list, each with a space. `vectors_streams` prints all of a list.
 fn shown(alloc: Global, list: &Arguments) -> Result<String> {
     let mut text = String::new(alloc);
     for argument in list {

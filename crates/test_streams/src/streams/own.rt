@@ -10,10 +10,6 @@ struct ServerWord;
 impl Word for ServerWord {
     ghost text = { codes "server" };
 
-    fn text() -> &'static str {
-        "server"
-    }
-
     fn display() -> &'static str {
         "`server`"
     }
@@ -26,10 +22,6 @@ struct ArrowWord;
 
 impl Word for ArrowWord {
     ghost text = { codes "=>" };
-
-    fn text() -> &'static str {
-        "=>"
-    }
 
     fn display() -> &'static str {
         "`=>`"

@@ -1,5 +1,5 @@
 //! Reports on the visible tokens of streams.
-use crate::texts::is_text;
+use crate::visible::texts::is_text;
 use std::alloc::{AllocGlobal, Global};
 use std::process::Abort;
 use syn_replay::{Command, Kind, Report, agree};

@@ -1,5 +1,5 @@
 //! Texts that a leaf has, and texts that it hasn't.
-use crate::refused::fault;
+use crate::entries::refused::fault;
 use std::alloc::Global;
 use tok_entries::{Entry, EntryFault, Refusal};
 

@@ -1,5 +1,5 @@
 //! Arguments of the visible tokens of streams, and errors.
-use crate::texts::{both, is_text};
+use crate::visible::texts::{both, is_text};
 use arguments::Arguments;
 use std::alloc::{AllocGlobal, Global};
 use std::process::Abort;

@@ -1,5 +1,5 @@
 //! Entries that are refused, and where.
-use crate::accepted::written;
+use crate::entries::accepted::written;
 use std::alloc::{AllocError, Global};
 use tok_buffer::TokenBuffer;
 use tok_core::lex;
