@@ -96,7 +96,16 @@ fn error(rt: &(impl Abort + AllocGlobal), alloc: Global) -> Result<(), AllocErro
     Ok(())
 }
 
+fn message(rt: &(impl Abort + AllocGlobal), alloc: Global) -> Result<(), AllocError> {
+    let wanted: usize = 3;
+    let span = Span::source(0, 2, 5);
+    let error = Error::new(alloc, span, format_args!("expected {wanted} values"))?;
+    assert_eq!(rt; error.as_str(), "expected 3 values");
+    Ok(())
+}
+
 #[test]
 fn errors(rt: HostRuntime) {
     assert!(rt; error(&rt, rt.alloc()).is_ok());
+    assert!(rt; message(&rt, rt.alloc()).is_ok());
 }

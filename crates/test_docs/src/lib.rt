@@ -9,6 +9,8 @@ mod choices;
 #[cfg(test)]
 mod lists;
 #[cfg(test)]
+mod literals;
+#[cfg(test)]
 mod loops;
 #[cfg(test)]
 mod replays;

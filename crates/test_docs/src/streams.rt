@@ -8,7 +8,7 @@ use std::alloc::{AllocGlobal, Global};
 use std::process::Abort;
 use syn_parse::{
     Fault, IdentExt, Own, Parens, Parse, ParseStream, Parser, Result, Word, parenthesized,
-    parse_parens, parse_str, parse2, parsing,
+    parse_parens, parse_str, parse_text, parse2, parsing,
 };
 use syn_punctuated::Punctuated;
 use tok_buffer::laws::reads_go_on;
@@ -61,11 +61,17 @@ fn call_of_text(alloc: Global) -> Result<usize> {
     Ok(call.arguments.len())
 }
 
-fn calls(alloc: Global) -> Option<(usize, usize)> {
+fn call_of_source(alloc: Global, text: &str) -> Result<usize> {
+    let call: Call = parse_text(alloc, 0, text)?;
+    Ok(call.name.as_str().len())
+}
+
+fn calls(alloc: Global) -> Option<(usize, usize, usize)> {
     let tokens = lex(alloc, 0, "pub name(a)").ok()?;
     Some((
         call_of_tokens(alloc, tokens).ok()?,
         call_of_text(alloc).ok()?,
+        call_of_source(alloc, "pub f()").ok()?,
     ))
 }
 
@@ -126,14 +132,16 @@ fn sealed(input: ParseStream<'_, '_>) -> Result<Span> {
     Ok(span)
 }
 
+fn word(input: ParseStream<'_, '_>) -> Result<(bool, Span)> {
+    let is_target = input.peek_word("target");
+    let span = input.parse_word("target")?;
+    Ok((is_target, span))
+}
+
 struct ServerWord;
 
 impl Word for ServerWord {
     ghost text = { codes "server" };
-
-    fn text() -> &'static str {
-        "server"
-    }
 
     fn display() -> &'static str {
         "`server`"
@@ -217,7 +225,7 @@ fn by_a_macro(input: ParseStream<'_, '_>) -> Result<(token::Paren, Ident)> {
 fn values(rt: HostRuntime) {
     let alloc = rt.alloc();
     assert_eq!(rt; len_of_name.parse_str(alloc, "abc").ok(), Some(3));
-    assert_eq!(rt; calls(alloc), Some((4, 2)));
+    assert_eq!(rt; calls(alloc), Some((4, 2, 1)));
     assert_eq!(rt; any_word.parse_str(alloc, "fn").ok(), Some(2));
     assert_eq!(rt; has_name(alloc, "a,"), Some(true));
     assert_eq!(rt; has_name(alloc, ""), Some(false));
@@ -229,6 +237,10 @@ fn values(rt: HostRuntime) {
     assert_eq!(rt;
         sealed.parse_str(alloc, "sealed").ok(),
         Some(Span::source(0, 0, 6))
+    );
+    assert_eq!(rt;
+        word.parse_str(alloc, "target").ok(),
+        Some((true, Span::source(0, 0, 6)))
     );
     assert_eq!(rt;
         server.parse_str(alloc, "server").ok(),

@@ -1,6 +1,7 @@
 //! Examples of `tok_values` and `tok_carets`.
 use std::alloc::{AllocError, AllocGlobal, Global};
 use std::process::Abort;
+use tok_buffer::Error;
 use tok_carets::{LineColumn, Source, line_column};
 use tok_core::{LexFault, Literal, Span, TokenTree, lex};
 use tok_values::{IntegerFault, LiteralExt};
@@ -33,6 +34,22 @@ fn carets(rt: &(impl Abort + AllocGlobal), alloc: Global) -> Result<(), AllocErr
     assert_eq!(rt;
         shown.as_str(),
         "error: expected `,`\n --> config:1:3\n  |\n1 | a b\n  |   ^\n"
+    );
+    notes(rt, alloc, source)
+}
+
+fn notes(
+    rt: &(impl Abort + AllocGlobal),
+    alloc: Global,
+    source: Source<'_>,
+) -> Result<(), AllocError> {
+    let mut error = Error::new(alloc, Span::source(0, 2, 3), "this name is taken")?;
+    error.combine(Error::new(alloc, Span::source(0, 0, 1), "it was defined here")?)?;
+    let shown = source.show_error(alloc, &error)?;
+    assert!(rt;
+        shown
+            .as_str()
+            .contains("\nnote: it was defined here\n --> config:1:1\n")
     );
     Ok(())
 }

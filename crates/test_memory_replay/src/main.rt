@@ -1,5 +1,5 @@
-//! Makes the calls of `syn_replay` and of the program that allocate. The program serves three
-//! inputs, and all that it prints is checked.
+//! Makes the calls of `syn_replay`, of the program, and of those that read visible tokens alone, that
+//! allocate. The program serves three inputs, and all that it prints is checked.
 //!
 //! The status is 0 if each allocation succeeds, 3 if one fails and so does a call, of which the
 //! program then prints `memory` alone, and 1 if something is wrong; then the name of the call is
@@ -9,6 +9,7 @@
 
 mod replays;
 mod served;
+mod visible;
 
 use std::alloc::Global;
 use std::io::Read;
@@ -27,5 +28,9 @@ fn main(rt: HostRuntime) -> ExitCode {
 
 fn run(alloc: Global, before: usize) -> Outcome {
     made(spend(alloc, before))?;
-    worst(&[replays::calls(alloc), served::calls(alloc)])
+    worst(&[
+        replays::calls(alloc),
+        served::calls(alloc),
+        visible::calls(alloc),
+    ])
 }

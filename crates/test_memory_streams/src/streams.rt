@@ -1,14 +1,16 @@
 //! The calls of `syn_parse`, and some that don't allocate.
+mod choices;
 pub mod free;
 mod groups;
 mod lists;
+mod literals;
 mod looks;
 mod loops;
 mod own;
 mod visible;
 mod whole;
 
-use own::{AnyIdent, AnyLifetime, LongWord, Plus, Word};
+use own::{AnyIdent, AnyLifetime, LongWord, Plus, Target, Word};
 use std::alloc::Global;
 use syn_parse::{Fault, IdentExt, Own, Parse, tokens_to_parse_buffer};
 use test_outcomes::memory::{Outcome, Stop, ended, made, rejected, told, worst};
@@ -22,10 +24,12 @@ pub fn calls(alloc: Global) -> Outcome {
         values(alloc),
         unraw(alloc),
         own_word(alloc),
+        choices::calls(alloc),
         errors_of_trees(alloc),
         errors_of_tokens(alloc),
         groups::calls(alloc),
         lists::calls(alloc),
+        literals::calls(alloc),
         loops::calls(alloc),
         looks::calls(alloc),
         visible::calls(alloc),
@@ -102,6 +106,7 @@ fn errors_of_tokens(alloc: Global) -> Outcome {
         rejects::<token::Comma>(alloc, "a", "Punctuation::parse"),
         rejects::<token::Underscore>(alloc, "a", "Underscore::parse"),
         rejects::<Word>(alloc, "a", "parsing::keyword"),
+        rejects::<Target>(alloc, "a", "ParseBuffer::parse_word"),
         rejects::<Plus>(alloc, "a", "parsing::punct"),
         rejects::<Own<LongWord>>(alloc, "a", "Own::parse"),
         told(Fault::at(alloc, Span::call_site(), "an error at this span")),

@@ -47,7 +47,8 @@ fn span() -> Span {
 }
 
 fn shown_error(alloc: Global) -> Outcome {
-    let error = made(Error::new(alloc, span(), "no"))?;
+    let mut error = made(Error::new(alloc, span(), "no"))?;
+    made(error.combine(made(Error::new(alloc, Span::call_site(), "since"))?))?;
     ended(source().show_error(alloc, &error))
 }
 

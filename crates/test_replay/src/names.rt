@@ -5,7 +5,8 @@ use syn_tokens::buffer::TokenBuffer;
 use syn_tokens::entries::write_entries;
 use syn_tokens::token::{self, Token};
 use syn_tokens::{
-    Edition, LexFault, TokenStream, is_clear, is_filled, lex, lex_marked, lex_source, prune,
+    Edition, LexFault, LitBool, LitFloat, LitInt, LitStr, TokenStream, is_clear, is_filled, lex,
+    lex_marked, lex_source, prune,
 };
 
 fn all_displays(rt: &impl Abort, rows: &[(&str, &str)]) {
@@ -26,6 +27,10 @@ fn tokens(rt: HostRuntime) {
             (token::Brace::display(), "curly braces"),
             (token::Bracket::display(), "square brackets"),
             (token::Group::display(), "invisible group"),
+            (LitStr::display(), "string literal"),
+            (LitInt::display(), "integer literal"),
+            (LitFloat::display(), "floating point literal"),
+            (LitBool::display(), "boolean literal"),
             (token::keyword_text(18), "fn"),
             (token::keyword_display(18), "`fn`"),
             (token::punctuation_text(7), ","),

@@ -38,15 +38,21 @@ impl Parse for Word {
     }
 }
 
+/// By `parse_word`.
+#[derive(Clone, Copy)]
+pub struct Target(Span);
+
+impl Parse for Target {
+    fn parse(input: ParseStream<'_, '_>) -> Result<Self> {
+        Ok(Target(input.parse_word("target")?))
+    }
+}
+
 /// A keyword with a text that a `Text` does not store in place.
 pub struct LongWord;
 
 impl syn_parse::Word for LongWord {
     ghost text = { codes "a_keyword_of_ones_own" };
-
-    fn text() -> &'static str {
-        "a_keyword_of_ones_own"
-    }
 
     fn display() -> &'static str {
         "`a_keyword_of_ones_own`"

@@ -1,6 +1,8 @@
 //! Parsers of whole texts and streams of tokens.
 use std::alloc::Global;
-use syn_parse::{ParseStream, Parser, Result, parse_both, parse_source, parse_str, parse2};
+use syn_parse::{
+    ParseStream, Parser, Result, parse_both, parse_source, parse_str, parse_text, parse2,
+};
 use test_outcomes::memory::{Outcome, ended, made, rejected, worst};
 use tok_core::{Edition, Ident, Span, lex};
 
@@ -17,6 +19,11 @@ pub fn calls(alloc: Global) -> Outcome {
         rejected(parse_str::<Ident>(alloc, "a b"), "parse_str"),
         ended(parse_source::<Ident>(alloc, edition, "#!/bin/sh\na")),
         rejected(parse_source::<Ident>(alloc, edition, ")"), "parse_source"),
+        ended(name.parse_text(alloc, 0, "a")),
+        rejected(name.parse_text(alloc, 0, ""), "Parser::parse_text"),
+        ended(parse_text::<Ident>(alloc, 0, "a")),
+        rejected(parse_text::<Ident>(alloc, 0, ")"), "parse_text"),
+        rejected(parse_text::<Ident>(alloc, 0, ""), "parse_text"),
         tokens(alloc),
         scoped(alloc),
         of_type(alloc),

@@ -1,11 +1,12 @@
-//! Makes each call that reads visible tokens alone, and `prune`.
+//! Makes the calls of `syn_derive` that allocate.
 //!
-//! The status is 0 if each allocation succeeds, 3 if one fails and so does a call, and 1 if something
-//! is wrong; then the name of the call is printed. Before the calls it makes one allocation for each
-//! byte of its input: so `tests/refuse_each` makes each allocation fail in turn.
+//! The status is 0 if each allocation succeeds, 3 if one fails and so does a call, and 1 if
+//! something is wrong; then the name of the call is printed. Before the calls it makes one
+//! allocation for each byte of its input: so `tests/refuse_each` makes each allocation of the calls
+//! fail in turn.
 #![tactic(auto)]
 
-mod calls;
+mod parts;
 
 use std::alloc::Global;
 use std::io::Read;
@@ -24,5 +25,5 @@ fn main(rt: HostRuntime) -> ExitCode {
 
 fn run(alloc: Global, before: usize) -> Outcome {
     made(spend(alloc, before))?;
-    calls::all(alloc)
+    parts::calls(alloc)
 }

@@ -1,4 +1,4 @@
-//! The calls.
+//! Calls that read visible tokens alone, and `prune`, of streams with empty groups and without.
 use std::alloc::Global;
 use syn_parse::{ParseStream, Result};
 use syn_replay::{Command, Kind};
@@ -9,8 +9,8 @@ use visible_arguments::{visible_arguments, visible_arguments_both};
 use visible_parse::{parse_visible, parse_visible_both, parse_visible_with};
 use visible_replay::{visible_replay, visible_replay_both};
 
-/// Makes each call, of streams with empty groups and without.
-pub fn all(alloc: Global) -> Outcome {
+/// Makes each call.
+pub fn calls(alloc: Global) -> Outcome {
     worst(&[
         pruned(alloc, "« «» (a «») »"),
         pruned(alloc, "a"),
