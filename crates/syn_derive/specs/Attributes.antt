@@ -1,0 +1,47 @@
+-- Outer attributes, by the visible trees ahead: "Attributes" in the Rust Reference.
+use Rattle.std.specs.Prelude.{List}
+use Rattle.std.specs.Global.{Vec}
+use Rattle.tok_lexical.specs.declared.delimiter.Delimiter.TheVariants.{Bracket}
+use Rattle.tok_leaves.specs.declared.span.DelimSpan.{DelimSpan}
+use Rattle.tok_core.specs.Forest.{Forest}
+use Rattle.tok_core.specs.Laws.{followed_by}
+use Rattle.tok_types.specs.declared.punctuation.Punctuation.{Punctuation}
+use Rattle.syn_parse.specs.Many.{take_many, vec_form}
+use Rattle.syn_parse.specs.Takes.{Taking, ◌>>=◌, gives, take_group}
+use Rattle.syn_parse.specs.Takings.{Lowers}
+use Rattle.syn_parse.specs.TokenNames.{sees_pound, take_pound}
+use Rattle.syn_parse.specs.Weighing.{weighing}
+use Rattle.syn_derive.specs.Metas.{MetaForm, meta_form, meta_trees, take_meta}
+use Rattle.syn_derive.specs.Printing.{group_trees, sign_trees}
+use Rattle.syn_derive.specs.declared.attribute.Attribute.{Attribute}
+
+-- `#`, the brackets and what they hold
+abbrev pub AttributeForm : Type 0
+AttributeForm = Punctuation 33 1 × DelimSpan × MetaForm
+
+abbrev pub attribute_form : Attribute → AttributeForm
+attribute_form a = (a.pound_token, a.bracket_token.span, meta_form a.meta)
+
+-- an attribute
+unfoldable pub take_attribute : Taking AttributeForm
+take_attribute = do
+  pound ← take_pound
+  meta ← take_group Bracket take_meta
+  gives (pound, meta.0, meta.1)
+
+pub lowers_attribute : Lowers take_attribute
+unfolding take_attribute
+lowers_attribute = search weighing depth 20
+
+-- attributes, as long as a `#` is next
+abbrev pub take_attributes : Taking (List AttributeForm)
+take_attributes = take_many sees_pound take_attribute
+
+abbrev pub attributes_form : Vec Attribute → List AttributeForm
+attributes_form attributes = vec_form attribute_form attributes
+
+-- what an attribute is written as
+abbrev pub attribute_trees : Attribute → Forest
+attribute_trees a =
+    followed_by (sign_trees a.pound_token)
+    (group_trees Bracket a.bracket_token.span (meta_trees a.meta))

@@ -1,0 +1,51 @@
+-- Parameters and `where` clauses, by the visible trees ahead: "Generic parameters" in the Rust
+-- Reference, with parameters and predicates as tokens.
+use Rattle.std.specs.Prelude.{Option, None, Some}
+use Rattle.tok_core.specs.Erase.{erase}
+use Rattle.tok_core.specs.Forest.{Forest, no_trees}
+use Rattle.tok_types.specs.declared.keyword.Keyword.{Keyword}
+use Rattle.tok_types.specs.declared.punctuation.Punctuation.{Punctuation}
+use Rattle.syn_parse.specs.Takes.{Taking, ◌>>=◌, gives, where_ahead}
+use Rattle.syn_parse.specs.Takings.{Lightens, Lowers}
+use Rattle.syn_parse.specs.TokenNames.{sees_lt, take_gt, take_lt, take_where}
+use Rattle.syn_parse.specs.Weighing.{weighing}
+use Rattle.syn_derive.specs.Runs.{lightens_until, take_until}
+use Rattle.syn_derive.specs.declared.generics.Generics.{Generics}
+use Rattle.syn_derive.specs.declared.generics.WhereClause.{WhereClause}
+use Rattle.syn_derive.specs.declared.run.Until.TheVariants.{Params, Predicates}
+
+-- parameters between `<` and `>`, or none
+abbrev pub ParamsForm : Type 0
+ParamsForm = Option (Punctuation 20 1) × Forest × Option (Punctuation 17 1)
+
+abbrev pub params_form : Generics → ParamsForm
+params_form g = (g.lt_token, erase g.params, g.gt_token)
+
+unfoldable pub take_params : Taking ParamsForm
+take_params =
+    where_ahead sees_lt (do
+      lt ← take_lt
+      params ← take_until Params
+      gt ← take_gt
+      gives (Some lt, params, Some gt)) (gives (None, no_trees, None))
+
+pub lightens_generics : Lightens take_params
+unfolding take_params
+lightens_generics = search (weighing, lightens_until) depth 40
+
+-- `where` and predicates
+abbrev pub WhereForm : Type 0
+WhereForm = Keyword 51 × Forest
+
+abbrev pub where_form : WhereClause → WhereForm
+where_form w = (w.where_token, erase w.predicates)
+
+unfoldable pub take_where_clause : Taking WhereForm
+take_where_clause = do
+  word ← take_where
+  predicates ← take_until Predicates
+  gives (word, predicates)
+
+pub lowers_where_clause : Lowers take_where_clause
+unfolding take_where_clause
+lowers_where_clause = search (weighing, lightens_until) depth 40

@@ -1,0 +1,9 @@
+pub mod Printing
+pub mod Paths
+pub mod Metas
+pub mod Attributes
+pub mod Visibilities
+pub mod Runs
+pub mod Generics
+pub mod Fields
+pub mod Inputs

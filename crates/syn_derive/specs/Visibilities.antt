@@ -1,0 +1,83 @@
+-- Visibilities, by the visible trees ahead: "Visibility and privacy" in the Rust Reference.
+use Rattle.std.specs.Prelude.{Bool, ◌&&◌, ◌||◌, false, not, Option, None, Some}
+use Rattle.tok_lexical.specs.declared.delimiter.Delimiter.TheVariants.{Parenthesis}
+use Rattle.tok_leaves.specs.declared.span.DelimSpan.{DelimSpan}
+use Rattle.tok_core.specs.Filled.{has_trees}
+use Rattle.tok_core.specs.Forest.{Forest, no_trees}
+use Rattle.tok_core.specs.Laws.{followed_by}
+use Rattle.tok_buffer.specs.EachRead.{first_if}
+use Rattle.tok_buffer.specs.Reads.{is_ident}
+use Rattle.tok_types.specs.Sees.{keyword_first}
+use Rattle.tok_types.specs.declared.keyword.Keyword.{Keyword}
+use Rattle.syn_parse.specs.Inside.{sees_inside}
+use Rattle.syn_parse.specs.Optional.{take_optional}
+use Rattle.syn_parse.specs.Sequences.{take_both}
+use Rattle.syn_parse.specs.Takes.{Taking, ◌>>=◌, gives, take_group, where_ahead}
+use Rattle.syn_parse.specs.Takings.{Lightens}
+use Rattle.syn_parse.specs.TokenNames.{sees_in, sees_pub, take_in, take_pub}
+use Rattle.syn_parse.specs.Weighing.{weighing}
+use Rattle.syn_derive.specs.Paths.{PathForm, lightens_path, path_form, path_trees, take_path}
+use Rattle.syn_derive.specs.Printing.{group_trees, keyword_trees, optional_trees}
+use Rattle.syn_derive.specs.declared.visibility.VisRestricted.{VisRestricted}
+use Rattle.syn_derive.specs.declared.visibility.Visibility.{Visibility}
+use Rattle.syn_derive.specs.declared.visibility.Visibility.TheVariants.{Inherited, Public, Restricted}
+
+-- `pub`, the parentheses, and `in` and the path, or the path alone
+abbrev pub RestrictedForm : Type 0
+RestrictedForm = Keyword 32 × DelimSpan × Option (Keyword 22) × PathForm
+
+abbrev pub restricted_form : VisRestricted → RestrictedForm
+restricted_form v = (v.pub_token, v.paren_token.span, v.in_token, path_form v.path)
+
+pub data VisibilityForm : Type 0 where
+  public : Keyword 32 → VisibilityForm
+  restricted : RestrictedForm → VisibilityForm
+  inherited : VisibilityForm
+
+abbrev pub visibility_form : Visibility → VisibilityForm
+visibility_form (Public word) = public word
+visibility_form (Restricted v) = restricted (restricted_form v)
+visibility_form Inherited = inherited
+
+-- `crate`, `self` or `super` is first
+abbrev pub is_word : Forest → Bool
+is_word inside = keyword_first 10 inside || keyword_first 38 inside || keyword_first 41 inside
+
+-- one of these words, and nothing else
+unfoldable pub is_word_alone : Forest → Bool
+is_word_alone inside =
+    elim (first_if is_ident inside) [
+      | Some r ↦ is_word inside && not (has_trees r.1)
+      | None ↦ false
+    ]
+
+-- what parentheses after `pub` hold if they belong to it
+unfoldable pub is_restriction : Forest → Bool
+is_restriction inside = keyword_first 22 inside || is_word_alone inside
+
+-- `pub (crate)`, `pub (self)`, `pub (super)`, `pub (in path)`, `pub` or nothing
+unfoldable pub take_visibility : Taking VisibilityForm
+take_visibility =
+    where_ahead sees_pub (do
+      word ← take_pub
+      where_ahead (sees_inside Parenthesis (λ a. is_restriction a.trees)) (do
+        r ← take_group Parenthesis (take_both (take_optional sees_in take_in) take_path)
+        gives (restricted (word, r.0, r.1.0, r.1.1))) (gives (public word))) (gives inherited)
+
+pub lightens_visibility : Lightens take_visibility
+unfolding take_visibility
+lightens_visibility = search (weighing, lightens_path) depth 40
+
+-- what the parentheses, and a visibility, are written as
+abbrev pub parens_trees : VisRestricted → Forest
+parens_trees v =
+    group_trees Parenthesis v.paren_token.span
+    (followed_by (optional_trees keyword_trees v.in_token) (path_trees v.path))
+
+abbrev pub restricted_trees : VisRestricted → Forest
+restricted_trees v = followed_by (keyword_trees v.pub_token) (parens_trees v)
+
+abbrev pub visibility_trees : Visibility → Forest
+visibility_trees (Public word) = keyword_trees word
+visibility_trees (Restricted v) = restricted_trees v
+visibility_trees Inherited = no_trees

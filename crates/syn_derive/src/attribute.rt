@@ -1,0 +1,71 @@
+//! Outer attributes.
+ghost use Rattle.syn_parse.specs.Takes.{TakesAs};
+ghost use Rattle.syn_parse.specs.Takings.{lower, told};
+ghost use Rattle.std.specs.Prelude.{◌≡◌};
+ghost use Rattle.syn_derive.specs.Metas.{meta_path};
+ghost use Rattle.syn_derive.specs.Attributes.{attribute_form, attribute_trees, attributes_form, lowers_attribute, take_attribute, take_attributes};
+
+use crate::meta::Meta;
+use crate::path::Path;
+use crate::print::write_group;
+use std::alloc::AllocError;
+use syn_parse::{Parse, ParseStream, Result};
+use tok_core::laws::writes_follow_writes;
+use tok_core::{Delimiter, ToTokens, TokenStream};
+use tok_types::token;
+
+/// An outer attribute, as `#[doc = "text"]`.
+///
+/// A doc comment is one too: the lexer writes it so.
+#[derive(Drop)]
+pub struct Attribute {
+    pub pound_token: token::Pound,
+    pub bracket_token: token::Bracket,
+    pub meta: Meta,
+}
+
+impl Attribute {
+    /// Returns the path.
+    pub fn path(&self) -> &Path
+        ensures { result.now ≡ meta_path self.now.meta }
+    {
+        self.meta.path()
+    }
+
+    /// Parses as many outer attributes as there are.
+    pub fn parse_outer(input: ParseStream<'_, '_>) -> Result<Vec<Attribute>>
+        ensures { TakesAs attributes_form take_attributes input.old result input.new }
+    {
+        input.parse_while::<token::Pound, Attribute>()
+    }
+}
+
+impl Parse for Attribute {
+    ghost takes = { told attribute_form take_attribute (lower lowers_attribute) };
+
+    #[tactic(auto, unfolding(crate::specs::Attributes::take_attribute))]
+    fn parse(input: ParseStream<'_, '_>) -> Result<Self> {
+        let pound_token = input.parse()?;
+        let (span, meta) = input.parse_within(Delimiter::Bracket)?;
+        Ok(Attribute {
+            pound_token,
+            bracket_token: token::Bracket::new(span),
+            meta,
+        })
+    }
+}
+
+impl ToTokens for Attribute {
+    ghost printed = { attribute_trees };
+
+    fn to_tokens(&self, tokens: &mut TokenStream) -> std::result::Result<(), AllocError> {
+        writes_follow_writes();
+        self.pound_token.to_tokens(tokens)?;
+        write_group(
+            Delimiter::Bracket,
+            self.bracket_token.span,
+            &self.meta,
+            tokens,
+        )
+    }
+}

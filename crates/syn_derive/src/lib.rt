@@ -1,0 +1,23 @@
+//! Structs, enums and unions, as a derive is given them, by the names of `syn`: attributes, paths,
+//! visibilities, fields and variants. Types, expressions, parameters and predicates are tokens.
+#![tactic(auto)]
+
+mod attribute;
+mod data;
+mod derive;
+mod generics;
+mod meta;
+mod path;
+mod print;
+mod run;
+mod ty;
+mod visibility;
+
+pub use attribute::Attribute;
+pub use data::{Field, Fields, FieldsNamed, FieldsUnnamed, Variant};
+pub use derive::{Data, DataEnum, DataStruct, DataUnion, DeriveInput};
+pub use generics::{Generics, WhereClause};
+pub use meta::{MacroDelimiter, Meta, MetaList, MetaNameValue};
+pub use path::{Path, PathSegment};
+pub use ty::{Expr, Type};
+pub use visibility::{VisRestricted, Visibility};

@@ -1,0 +1,208 @@
+//! What attributes hold.
+ghost use Rattle.std.specs.Prelude.{◌≡◌, OnErr, OnOk};
+ghost use Rattle.tok_core.specs.Erase.{erase};
+ghost use Rattle.tok_core.specs.Forest.{AppendsFront, concat};
+ghost use Rattle.tok_buffer.specs.View.{IsVisibleDelimiter};
+ghost use Rattle.syn_parse.specs.Takes.{TakesAs, take_group};
+ghost use Rattle.syn_parse.specs.TreeTakes.{take_rest};
+ghost use Rattle.syn_parse.specs.Takings.{lighter, taken_as, told};
+ghost use Rattle.syn_derive.specs.Metas.{delimited_trees, lightens_meta, meta_form, meta_list_trees, meta_path, meta_trees, name_value_trees, take_meta, value_trees};
+
+use crate::path::Path;
+use crate::print::write_group;
+use std::alloc::AllocError;
+use syn_parse::{Parse, ParseStream, Result};
+use tok_core::laws::writes_follow_writes;
+use tok_core::{DelimSpan, Delimiter, Literal, ToTokens, TokenStream};
+use tok_types::token;
+
+/// What an attribute holds: a path, and maybe tokens in delimiters or a literal after `=`.
+#[derive(Drop)]
+pub enum Meta {
+    Path(Path),
+    List(MetaList),
+    NameValue(MetaNameValue),
+}
+
+/// A path and tokens in delimiters, as `derive(Debug)`. The tokens can be any.
+#[derive(Drop)]
+pub struct MetaList {
+    pub path: Path,
+    pub delimiter: MacroDelimiter,
+    pub tokens: TokenStream,
+}
+
+/// The delimiters of a `MetaList`.
+#[derive(Clone, Copy)]
+pub enum MacroDelimiter {
+    Paren(token::Paren),
+    Brace(token::Brace),
+    Bracket(token::Bracket),
+}
+
+/// A path and a literal after `=`, as `doc = "text"`.
+#[derive(Drop)]
+pub struct MetaNameValue {
+    pub path: Path,
+    pub eq_token: token::Eq,
+    pub value: Literal,
+}
+
+impl Meta {
+    /// Returns the path.
+    pub fn path(&self) -> &Path
+        ensures { result.now ≡ meta_path self.now }
+    {
+        match self {
+            Meta::Path(path) => path,
+            Meta::List(list) => &list.path,
+            Meta::NameValue(pair) => &pair.path,
+        }
+    }
+}
+
+// All tokens in a group.
+#[derive(Drop)]
+struct Inside {
+    tokens: TokenStream,
+}
+
+impl Parse for Inside {
+    ghost takes = { taken_as (λ i. erase i.tokens) take_rest };
+
+    fn parse(input: ParseStream<'_, '_>) -> Result<Self> {
+        let tokens = input.rest()?;
+        Ok(Inside { tokens })
+    }
+}
+
+// Parses a group with this delimiter, and returns its span and all tokens in it.
+fn parse_delimited(
+    input: ParseStream<'_, '_>,
+    delimiter: Delimiter,
+) -> Result<(DelimSpan, TokenStream)>
+    requires { IsVisibleDelimiter delimiter }
+    ensures { TakesAs (λ r. (r.0, erase r.1)) (take_group delimiter take_rest) input.old result
+        input.new }
+{
+    let (span, inside) = input.parse_within::<Inside>(delimiter)?;
+    Ok((span, inside.tokens))
+}
+
+impl Parse for Meta {
+    ghost takes = { told meta_form take_meta (lighter lightens_meta) };
+
+    #[tactic(auto, unfolding(crate::specs::Metas::take_meta))]
+    fn parse(input: ParseStream<'_, '_>) -> Result<Self> {
+        let path = input.parse()?;
+        if input.peek::<token::Eq>() {
+            let eq_token = input.parse()?;
+            let value = input.parse()?;
+            Ok(Meta::NameValue(MetaNameValue {
+                path,
+                eq_token,
+                value,
+            }))
+        } else if input.peek::<token::Paren>() {
+            let (span, tokens) = parse_delimited(input, Delimiter::Parenthesis)?;
+            let delimiter = MacroDelimiter::Paren(token::Paren::new(span));
+            Ok(Meta::List(MetaList {
+                path,
+                delimiter,
+                tokens,
+            }))
+        } else if input.peek::<token::Bracket>() {
+            let (span, tokens) = parse_delimited(input, Delimiter::Bracket)?;
+            let delimiter = MacroDelimiter::Bracket(token::Bracket::new(span));
+            Ok(Meta::List(MetaList {
+                path,
+                delimiter,
+                tokens,
+            }))
+        } else if input.peek::<token::Brace>() {
+            let (span, tokens) = parse_delimited(input, Delimiter::Brace)?;
+            let delimiter = MacroDelimiter::Brace(token::Brace::new(span));
+            Ok(Meta::List(MetaList {
+                path,
+                delimiter,
+                tokens,
+            }))
+        } else {
+            Ok(Meta::Path(path))
+        }
+    }
+}
+
+// Appends `=` and a literal.
+fn write_value(
+    eq_token: token::Eq,
+    value: &Literal,
+    tokens: &mut TokenStream,
+) -> std::result::Result<(), AllocError>
+    ensures ok { OnOk result
+        (tokens.new ≡ concat tokens.old (value_trees eq_token value.now)) }
+    ensures err { OnErr result
+        (AppendsFront tokens.old (value_trees eq_token value.now) tokens.new) }
+{
+    writes_follow_writes();
+    eq_token.to_tokens(tokens)?;
+    value.to_tokens(tokens)
+}
+
+impl MacroDelimiter {
+    // Appends a group of these tokens.
+    fn write(
+        self,
+        inside: &TokenStream,
+        tokens: &mut TokenStream,
+    ) -> std::result::Result<(), AllocError>
+        ensures ok { OnOk result
+            (tokens.new ≡ concat tokens.old (delimited_trees self inside.now)) }
+        ensures err { OnErr result
+            (AppendsFront tokens.old (delimited_trees self inside.now) tokens.new) }
+    {
+        match self {
+            MacroDelimiter::Paren(paren) => {
+                write_group(Delimiter::Parenthesis, paren.span, inside, tokens)
+            }
+            MacroDelimiter::Brace(brace) => {
+                write_group(Delimiter::Brace, brace.span, inside, tokens)
+            }
+            MacroDelimiter::Bracket(bracket) => {
+                write_group(Delimiter::Bracket, bracket.span, inside, tokens)
+            }
+        }
+    }
+}
+
+impl ToTokens for MetaList {
+    ghost printed = { meta_list_trees };
+
+    fn to_tokens(&self, tokens: &mut TokenStream) -> std::result::Result<(), AllocError> {
+        writes_follow_writes();
+        self.path.to_tokens(tokens)?;
+        self.delimiter.write(&self.tokens, tokens)
+    }
+}
+
+impl ToTokens for MetaNameValue {
+    ghost printed = { name_value_trees };
+
+    fn to_tokens(&self, tokens: &mut TokenStream) -> std::result::Result<(), AllocError> {
+        writes_follow_writes();
+        self.path.to_tokens(tokens)?;
+        write_value(self.eq_token, &self.value, tokens)
+    }
+}
+
+impl ToTokens for Meta {
+    ghost printed = { meta_trees };
+
+    fn to_tokens(&self, tokens: &mut TokenStream) -> std::result::Result<(), AllocError> {
+        match self {
+            Meta::Path(path) => path.to_tokens(tokens),
+            Meta::List(list) => list.to_tokens(tokens),
+            Meta::NameValue(pair) => pair.to_tokens(tokens),
+        }
+    }
+}

@@ -1,0 +1,65 @@
+//! Types and expressions, as tokens.
+ghost use Rattle.tok_core.specs.Erase.{erase};
+ghost use Rattle.syn_parse.specs.Takings.{lighter, told};
+ghost use Rattle.syn_derive.specs.Runs.{lightens_expr, lightens_type, take_expr, take_type};
+
+use crate::run::{Until, parse_until};
+use std::alloc::AllocError;
+use syn_parse::{Parse, ParseStream, Result};
+use tok_core::{ToTokens, TokenStream};
+
+/// A type, as tokens: at least one, up to a `,`, `;`, `=` or `>` that is in no `<..>`.
+#[derive(Drop)]
+pub struct Type {
+    pub tokens: TokenStream,
+}
+
+/// An expression, as tokens: at least one, up to a `,` or `;` that is in no `<..>`.
+#[derive(Drop)]
+pub struct Expr {
+    pub tokens: TokenStream,
+}
+
+impl Parse for Type {
+    ghost takes = { told (λ t. erase t.tokens) take_type (lighter lightens_type) };
+
+    #[tactic(auto, unfolding(crate::specs::Runs::take_type))]
+    fn parse(input: ParseStream<'_, '_>) -> Result<Self> {
+        if Until::Ty.begins(input.cursor()) {
+            let tokens = parse_until(input, Until::Ty)?;
+            Ok(Type { tokens })
+        } else {
+            Err(input.error("expected type"))
+        }
+    }
+}
+
+impl Parse for Expr {
+    ghost takes = { told (λ e. erase e.tokens) take_expr (lighter lightens_expr) };
+
+    #[tactic(auto, unfolding(crate::specs::Runs::take_expr))]
+    fn parse(input: ParseStream<'_, '_>) -> Result<Self> {
+        if Until::Expr.begins(input.cursor()) {
+            let tokens = parse_until(input, Until::Expr)?;
+            Ok(Expr { tokens })
+        } else {
+            Err(input.error("expected an expression"))
+        }
+    }
+}
+
+impl ToTokens for Type {
+    ghost printed = { λ t. t.tokens };
+
+    fn to_tokens(&self, tokens: &mut TokenStream) -> std::result::Result<(), AllocError> {
+        self.tokens.to_tokens(tokens)
+    }
+}
+
+impl ToTokens for Expr {
+    ghost printed = { λ e. e.tokens };
+
+    fn to_tokens(&self, tokens: &mut TokenStream) -> std::result::Result<(), AllocError> {
+        self.tokens.to_tokens(tokens)
+    }
+}
