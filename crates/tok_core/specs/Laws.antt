@@ -1,10 +1,10 @@
 -- What the helpers of streams and trees compare and hash, what it is to be the one value of a type,
 -- and what is written in turn.
-use Rattle.std.specs.Prelude.{◌≡◌, Result, OnOk, OnErr}
+use Rattle.std.specs.Prelude.{◌≡◌, Option, None, Some, Result, OnOk, OnErr}
 use Rattle.std.specs.declared.alloc.AllocError.{AllocError}
 use Rattle.tok_core.specs.declared.tt.TokenStreamHelper.{TokenStreamHelper}
 use Rattle.tok_core.specs.declared.tt.TokenTreeHelper.{TokenTreeHelper}
-use Rattle.tok_core.specs.Forest.{AppendsFront, Forest, Tree, concat}
+use Rattle.tok_core.specs.Forest.{AppendsFront, Forest, Tree, concat, no_trees}
 use Rattle.tok_core.specs.Seen.{tree_of}
 use Rattle.tok_core.specs.Spanless.{spanless, tree_spanless}
 
@@ -18,6 +18,11 @@ tree_shown helper = tree_spanless (tree_of helper.0.now)
 -- a value of a type that has no other
 abbrev pub IsTheOnly : {A : Type 0} → A → Type 0
 IsTheOnly {A} value = (other : A) → other ≡ value
+
+-- the trees of a value, if there is one
+abbrev pub optional_trees : {X : Type 0} → (X → Forest) → Option X → Forest
+optional_trees printed None = no_trees
+optional_trees printed (Some x) = printed x
 
 -- how a call that writes ends
 abbrev pub Written : Type 0

@@ -1,6 +1,7 @@
 //! Values that are written as tokens.
 ghost use Rattle.std.specs.Prelude.{◌≡◌, IfOk, OnOk, OnErr};
 ghost use Rattle.tok_core.specs.Forest.{AppendsFront, Forest, concat, leaf, no_trees, tree};
+ghost use Rattle.tok_core.specs.Laws.{optional_trees};
 ghost use Rattle.tok_core.specs.Seen.{group_of, lifetime_forest, tree_of};
 ghost use Rattle.tok_leaves.specs.Leaves.{ident_of, literal_of, punct_of};
 
@@ -71,6 +72,18 @@ impl<T: ToTokens> ToTokens for &T {
 
     fn to_tokens(&self, tokens: &mut TokenStream) -> Result<(), AllocError> {
         (*self).to_tokens(tokens)
+    }
+}
+
+/// Writes what the value writes, or nothing if there is none.
+impl<T: ToTokens> ToTokens for Option<T> {
+    ghost printed = { optional_trees T.printed };
+
+    fn to_tokens(&self, tokens: &mut TokenStream) -> Result<(), AllocError> {
+        match self {
+            Some(value) => value.to_tokens(tokens),
+            None => Ok(()),
+        }
     }
 }
 
