@@ -1,2 +1,1 @@
-pub mod Braces
 pub mod NamedTypes

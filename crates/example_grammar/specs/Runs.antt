@@ -1,12 +1,12 @@
 -- Values in a row, a run of trees, any tree, and all that is left.
-use Rattle.std.specs.Prelude.{Bool, false, List, None, Option, Some, if◌then◌else◌}
+use Rattle.std.specs.Prelude.{List, None, Option, Some, if◌then◌else◌}
 use Rattle.tok_lexical.specs.declared.delimiter.Delimiter.TheVariants.{Brace}
 use Rattle.tok_leaves.specs.declared.ident.Ident.{Ident}
 use Rattle.tok_core.specs.Erase.{erase}
-use Rattle.tok_core.specs.Forest.{Forest, Tree, group, leaf}
+use Rattle.tok_core.specs.Forest.{Forest, Tree}
 use Rattle.tok_core.specs.Seen.{tree_of}
-use Rattle.tok_buffer.specs.Entry.{same_delimiter}
 use Rattle.tok_buffer.specs.Trees.{erased_tree}
+use Rattle.tok_types.specs.Sees.{group_first}
 use Rattle.tok_types.specs.declared.punctuation.Punctuation.{Punctuation}
 use Rattle.syn_parse.specs.Many.{take_many, take_to_end, vec_form}
 use Rattle.syn_parse.specs.Runs.{take_run}
@@ -55,14 +55,9 @@ body_form b = erase b.tokens
 abbrev pub take_body : Taking Forest
 take_body = take_rest
 
--- a tree in braces
-abbrev pub is_braced : Tree → Bool
-is_braced (leaf l) = false
-is_braced (group d inside span) = same_delimiter Brace d
-
 -- a run ends before a tree in braces
-abbrev pub until_braces : UntilBraces → Tree → Option UntilBraces
-until_braces run t = if is_braced t then None else Some run
+abbrev pub until_braces : UntilBraces → Forest → Option UntilBraces
+until_braces run f = if group_first Brace f then None else Some run
 
 -- `if condition { body }`
 abbrev pub branch_form : Branch → Forest × Forest

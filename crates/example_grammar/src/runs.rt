@@ -61,7 +61,6 @@ pub struct UntilBraces;
 impl Run for UntilBraces {
     ghost passes = { until_braces };
 
-    #[tactic(auto, using(crate::proofs::Braces::all))]
     fn pass(self, cursor: Cursor<'_>) -> Option<Self> {
         if token::Brace::peek(cursor) {
             None

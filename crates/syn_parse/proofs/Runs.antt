@@ -22,8 +22,8 @@ use Rattle.tok_buffer.proofs.ScopeEnds.{visible_erased, visible_tells}
 use Rattle.tok_buffer.proofs.View.Laws.{reached_leads_on}
 use Rattle.tok_buffer.proofs.View.Moves.{LeadsTo, leads-take}
 use Rattle.syn_parse.specs.Positions.{scope_trees}
-use Rattle.syn_parse.specs.Runs.{PassesVisible, StepsPast, none_passed, one_more, onwards, passing}
-use Rattle.syn_parse.specs.Runs.{take_run}
+use Rattle.syn_parse.specs.Runs.{PassesVisible, none_passed, one_more, onwards, passing}
+use Rattle.syn_parse.specs.Runs.{take_run_with_state}
 use Rattle.syn_parse.specs.State.{State, moved}
 use Rattle.syn_parse.specs.Takes.{TakesAs, found}
 use Rattle.syn_parse.specs.TreesAhead.{ahead, scope_of}
@@ -41,10 +41,10 @@ none-read None e = refl
 none-read (Some y) e = absurd (cc)
 
 -- these trees come first
-abbrev first_of : Forest → Forest × Forest → Forest × Forest
-first_of f r = (concat f r.0, r.1)
+abbrev first_of : {S : Type 0} → Forest → Forest × Forest × S → Forest × Forest × S
+first_of f r = (concat f r.0, r.1, r.2)
 
-module _ {S : Type 0} (step : S → Tree → Option S) where
+module _ {S : Type 0} (step : S → Forest → Option S) where
   -- what is ahead of the start is the trees up to here, and then what is ahead now
   pub record Passed (p : Place) (s : S) (q : Place) (r : S) : Type 0 where
     trees : passing step s (erased_ahead p)
@@ -82,16 +82,16 @@ module _ {S : Type 0} (step : S → Tree → Option S) where
       let j = both.1 in
       ap (λ x. tree x g) (sym i ∙ k) ∙ ap (tree u) (sym j)
 
-  gone : (u : Tree) (g : Forest) (s r : S) → step s u ≡ Some r
+  gone : (u : Tree) (g : Forest) (s r : S) → step s (tree u g) ≡ Some r
       → passing step s (tree u g) ≡ first_of (tree u no_trees) (passing step r g)
-  gone u g s r e = ap (λ o. onwards u g (option_map (λ x. passing step x g) o)) e
+  gone u g s r e = ap (λ o. onwards s u g (option_map (λ x. passing step x g) o)) e
 
-  first-first : (f g : Forest) (r : Forest × Forest)
+  first-first : (f g : Forest) (r : Forest × Forest × S)
       → first_of f (first_of g r) ≡ first_of (concat f g) r
-  first-first f g r = ap (λ h. (h, r.1)) (sym (joined_assoc f g r.0))
+  first-first f g r = ap (λ h. (h, r.1, r.2)) (sym (joined_assoc f g r.0))
 
   pub one-passed : (p : Place) (s : S) (q : Place) (r : S) (n : Place) (x : S) → Passed p s q r
-      → StepsPast step r (erased_ahead q) (Some x) → place_after (read_visible q) ≡ Some n
+      → Some x ≡ step r (erased_ahead q) → place_after (read_visible q) ≡ Some n
       → Passed p s n x × (remaining n < remaining q)
   one-passed p s q r n x so go a =
       let read = tree_read q n a in
@@ -102,8 +102,7 @@ module _ {S : Type 0} (step : S → Tree → Option S) where
       let follows = tree_follows p q n (t ∷ []) so.follows e in
       let now : erased_ahead q ≡ tree u (erased_ahead n) =
       first-tree t u n (erased_ahead q) (sym (ap erased_read e) ∙ visible_tells q) refl in
-      let next : step r u ≡ Some x =
-      sym (subst (λ h. StepsPast step r h (Some x)) now go) in
+      let next : step r (tree u (erased_ahead n)) ≡ Some x = sym (go ∙ ap (step r) now) in
       let before = erase (between p q) in
       let all : erase (between p n) ≡ concat before (tree u no_trees) =
       between_next p q n t so.follows follows e ∙ ap (concat before) (visible_erased q t n e) in (
@@ -128,34 +127,39 @@ module _ {S : Type 0} (step : S → Tree → Option S) where
         goes.1,
       )
 
-  pub ended : (q : Place) (r : S) → StepsPast step r (erased_ahead q) None
-      → passing step r (erased_ahead q) ≡ (no_trees, erased_ahead q)
+  pub ended : (q : Place) (r : S) → None ≡ step r (erased_ahead q)
+      → passing step r (erased_ahead q) ≡ (no_trees, erased_ahead q, r)
   ended q r e = go (erased_ahead q) e where
-    go : (f : Forest) → StepsPast step r f None → passing step r f ≡ (no_trees, f)
+    go : (f : Forest) → None ≡ step r f → passing step r f ≡ (no_trees, f, r)
     go no_trees h = refl
-    go (tree t f) h = ap (λ o. onwards t f (option_map (λ x. passing step x f) o)) (sym h)
+    go (tree t f) h = ap (λ o. onwards r t f (option_map (λ x. passing step x f) o)) (sym h)
 
   -- where no tree is read a run ends
   pub at-end : (q : Place) (r : S) → place_after (read_visible q) ≡ None
-      → passing step r (erased_ahead q) ≡ (no_trees, erased_ahead q)
+      → passing step r (erased_ahead q) ≡ (no_trees, erased_ahead q, r)
   at-end q r k =
       go (erased_ahead q)
       (sym (ap erased_read (none-read (read_visible q) k)) ∙ visible_tells q) where
-        go : (f : Forest) → None ≡ first_if any_tree f → passing step r f ≡ (no_trees, f)
+        go : (f : Forest) → None ≡ first_if any_tree f → passing step r f ≡ (no_trees, f, r)
         go no_trees h = refl
         go (tree t f) h = absurd (cc)
 
   pub run-ends : (s t : State) (run r : S) (f : Forest) (q : Place) → Passed s.place run q r
-      → passing step r (erased_ahead q) ≡ (no_trees, erased_ahead q) → f ≡ between s.place q
-      → t ≡ moved q s → TakesAs erase (take_run step run) s (Ok f) t
-  unfolding take_run
+      → passing step r (erased_ahead q) ≡ (no_trees, erased_ahead q, r) → f ≡ between s.place q
+      → t ≡ moved q s
+      → TakesAs {T = Forest × S} (λ v. (erase v.0, v.1)) (take_run_with_state step run) s
+      (Ok (f, r)) t
+  unfolding take_run_with_state
   run-ends s t run r f q so e k m =
-      let all : passing step run (erased_ahead s.place) ≡ (erase f, erased_ahead q) =
+      let all : passing step run (erased_ahead s.place) ≡ (erase f, erased_ahead q, r) =
       so.trees ∙ ap (first_of (erase (between s.place q))) e
-      ∙ ap (λ h. (h, erased_ahead q))
+      ∙ ap (λ h. (h, erased_ahead q, r))
       (concat-none (erase (between s.place q)) ∙ sym (ap erase k)) in
-      subst (λ u. TakesAs erase (take_run step run) s (Ok f) u) (sym m) (
-        ap (λ x. found x.0 (record (ahead s) { trees = x.1 })) all,
+      subst
+      (λ u. TakesAs {T = Forest × S} (λ v. (erase v.0, v.1)) (take_run_with_state step run) s
+      (Ok (f, r)) u)
+      (sym m) (
+        ap (λ (x : Forest × Forest × S). found (x.0, x.2) (record (ahead s) { trees = x.1 })) all,
         (
           λ i. record {
             buffer = i.buffer;

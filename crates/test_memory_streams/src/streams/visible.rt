@@ -50,11 +50,23 @@ impl Parse for InRun {
     }
 }
 
+/// By `ParseBuffer::parse_run_with_state`.
+#[derive(Drop)]
+struct RunWithState(TokenStream);
+
+impl Parse for RunWithState {
+    fn parse(input: ParseStream<'_, '_>) -> Result<Self> {
+        let (tokens, _) = input.parse_run_with_state(Everything)?;
+        Ok(RunWithState(tokens))
+    }
+}
+
 /// Makes each call.
 pub fn calls(alloc: Global) -> Outcome {
     worst(&[
         takes::<AnyTree>(alloc, "(a b)"),
         takes::<All>(alloc, "a (b) c"),
         takes::<InRun>(alloc, "a (b) c"),
+        takes::<RunWithState>(alloc, "a (b) c"),
     ])
 }

@@ -3,9 +3,9 @@ use Rattle.tok_buffer.specs.Between.{between}
 use Rattle.tok_buffer.specs.Cursors.{place_of}
 use Rattle.syn_parse.specs.Runs.{PassesVisible}
 use Rattle.syn_parse.proofs.Runs.{at-end, ended, none-passed, one-passed, run-ends}
-use Rattle.syn_parse.proofs.stream.ParseBuffer.parse_run.Goals as goal
-use Rattle.syn_parse.proofs.stream.ParseBuffer.parse_run.Goals.{in_default}
-use Rattle.syn_parse.proofs.stream.ParseBuffer.parse_run.Goals.{in-Some+in_default-skip_tree}
+use Rattle.syn_parse.proofs.stream.ParseBuffer.parse_run_with_state.Goals as goal
+use Rattle.syn_parse.proofs.stream.ParseBuffer.parse_run_with_state.Goals.{in_default}
+use Rattle.syn_parse.proofs.stream.ParseBuffer.parse_run_with_state.Goals.{in-Some+in_default-skip_tree}
 
 pub loop-next-init : goal.loop-next-init
 loop-next-init g c =

@@ -1,7 +1,7 @@
 use Rattle.tok_buffer.specs.Cursors.{place_of}
 use Rattle.tok_buffer.specs.Progress.{remaining}
 use Rattle.syn_parse.proofs.Runs.{Passed}
-use Rattle.syn_parse.proofs.stream.ParseBuffer.parse_run.Given as goal
+use Rattle.syn_parse.proofs.stream.ParseBuffer.parse_run_with_state.Given as goal
 
 abbrev pub invariant-loop-next : goal.invariant-loop-next
 invariant-loop-next g l =
