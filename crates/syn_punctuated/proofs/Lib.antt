@@ -1,5 +1,7 @@
 pub mod Depth
 pub mod Equality
+pub mod Exactly
+pub mod ExactTokens
 pub mod Hashes
 pub mod Inserts
 pub mod IterRuns

@@ -8,6 +8,7 @@ pub mod NestedLists
 pub mod PairLends
 pub mod Paired
 pub mod Pairs
+pub mod Parts
 pub mod Printed
 pub mod Progress
 pub mod ReadBack
