@@ -12,7 +12,7 @@ use Rattle.syn_parse.specs.Takings.{Lowers}
 use Rattle.syn_parse.specs.TokenNames.{sees_pound, take_pound}
 use Rattle.syn_parse.specs.Weighing.{weighing}
 use Rattle.syn_derive.specs.Metas.{MetaForm, meta_form, meta_trees, take_meta}
-use Rattle.syn_derive.specs.Printing.{group_trees, sign_trees}
+use Rattle.syn_derive.specs.Printing.{all_trees, group_trees, sign_trees}
 use Rattle.syn_derive.specs.declared.attribute.Attribute.{Attribute}
 
 -- `#`, the brackets and what they hold
@@ -40,8 +40,11 @@ take_attributes = take_many sees_pound take_attribute
 abbrev pub attributes_form : Vec Attribute → List AttributeForm
 attributes_form attributes = vec_form attribute_form attributes
 
--- what an attribute is written as
+-- what an attribute is written as, and attributes in turn
 abbrev pub attribute_trees : Attribute → Forest
 attribute_trees a =
     followed_by (sign_trees a.pound_token)
     (group_trees Bracket a.bracket_token.span (meta_trees a.meta))
+
+abbrev pub attributes_trees : Vec Attribute → Forest
+attributes_trees attributes = all_trees attribute_trees attributes.items

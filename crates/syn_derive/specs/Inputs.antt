@@ -24,6 +24,7 @@ use Rattle.syn_derive.specs.declared.derive.Data.{Data}
 use Rattle.syn_derive.specs.declared.derive.Data.TheVariants as kind
 use Rattle.syn_derive.specs.declared.derive.DeriveInput.{DeriveInput}
 use Rattle.syn_derive.specs.declared.derive.Item.{Item}
+use Rattle.syn_derive.specs.declared.generics.Generics.{Generics}
 
 -- a `where` clause, if there is one
 abbrev pub take_clause : Taking (Option WhereForm)
@@ -73,13 +74,12 @@ data_form (kind.Union d) = of_union d.union_token (named_fields_form d.fields)
 abbrev pub ItemForm : Type 0
 ItemForm = Ident × ParamsForm × Option WhereForm × DataForm
 
+abbrev pub form_of_parts : Ident → Generics → Data → ItemForm
+form_of_parts ident generics body =
+    (ident, params_form generics, option_map where_form generics.where_clause, data_form body)
+
 abbrev pub item_form : Item → ItemForm
-item_form i = (
-  i.ident,
-  params_form i.generics,
-  option_map where_form i.generics.where_clause,
-  data_form i.data,
-)
+item_form i = form_of_parts i.ident i.generics i.data
 
 unfoldable pub take_struct_item : Taking ItemForm
 take_struct_item = do
@@ -118,16 +118,8 @@ abbrev pub InputForm : Type 0
 InputForm = List AttributeForm × VisibilityForm × ItemForm
 
 abbrev pub input_form : DeriveInput → InputForm
-input_form i = (
-  attributes_form i.attrs,
-  visibility_form i.vis,
-  (
-    i.ident,
-    params_form i.generics,
-    option_map where_form i.generics.where_clause,
-    data_form i.data,
-  ),
-)
+input_form i =
+    (attributes_form i.attrs, visibility_form i.vis, form_of_parts i.ident i.generics i.data)
 
 abbrev pub take_input : Taking InputForm
 take_input = do

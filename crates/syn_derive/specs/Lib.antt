@@ -1,9 +1,14 @@
+pub mod First
 pub mod Printing
 pub mod Paths
 pub mod Metas
+pub mod Arguments
 pub mod Attributes
 pub mod Visibilities
+pub mod RunGrammar
 pub mod Runs
 pub mod Generics
 pub mod Fields
 pub mod Inputs
+pub mod Grammar
+pub mod Written

@@ -1,25 +1,26 @@
 -- Paths without arguments, by the visible trees ahead: the simple paths of "Paths" in the Rust
 -- Reference. As in syn, `Self` may be a segment of one.
-use Rattle.std.specs.Prelude.{ℕ, Bool, ◌||◌, false, List, [], ◌∷◌, Option, None, Some, bytes_eq}
+use Rattle.std.specs.Prelude.{ℕ, Bool, ◌||◌, false, List, [], ◌∷◌, Option, None, Some}
+use Rattle.std.specs.Prelude.{bytes_eq, codes}
 use Rattle.tok_leaves.specs.Leaves.{ident_of}
 use Rattle.tok_leaves.specs.declared.ident.Ident.{Ident}
 use Rattle.tok_core.specs.Forest.{Forest, leaf, no_trees, tree}
-use Rattle.tok_core.specs.Laws.{followed_by}
+use Rattle.tok_core.specs.Laws.{followed_by, optional_trees}
 use Rattle.tok_types.specs.declared.punctuation.Punctuation.{Punctuation}
 use Rattle.syn_parse.specs.Lighter.{lightens_lower}
 use Rattle.syn_parse.specs.Optional.{take_optional}
-use Rattle.syn_parse.specs.Takes.{Taking, ◌>>=◌, gives, where_ahead}
+use Rattle.syn_parse.specs.Takes.{Taking, ◌>>=◌, gives, refuses, where_ahead}
 use Rattle.syn_parse.specs.Takings.{Lightens, Lowers}
 use Rattle.syn_parse.specs.TokenNames.{sees_crate, sees_path_sep, sees_self_type, sees_self_value}
 use Rattle.syn_parse.specs.TokenNames.{sees_super, take_path_sep}
-use Rattle.syn_parse.specs.Tokens.{take_any_ident, take_ident}
-use Rattle.syn_parse.specs.TreesAhead.{Ahead}
+use Rattle.syn_parse.specs.Tokens.{sees_any_ident, sees_literal, take_any_ident, take_ident}
+use Rattle.syn_parse.specs.TreesAhead.{Ahead, is_spent}
 use Rattle.syn_parse.specs.Weighing.{weighing}
 use Rattle.syn_punctuated.specs.Lists.{separators_of, values_of}
 use Rattle.syn_punctuated.specs.Printed.{by_turns}
 use Rattle.syn_punctuated.specs.TakeLists.{list_form, take_separated}
 use Rattle.syn_punctuated.specs.Weighing.{weighing_lists}
-use Rattle.syn_derive.specs.Printing.{optional_trees, sign_trees}
+use Rattle.syn_derive.specs.Printing.{sign_trees}
 use Rattle.syn_derive.specs.declared.path.Path.{Path}
 use Rattle.syn_derive.specs.declared.path.PathSegment.{PathSegment}
 
@@ -58,6 +59,54 @@ pub lightens_path : Lightens take_path
 unfolding take_path
 lightens_path = search (weighing_lists, lightens_segment) depth 40
 
+-- a segment of any text
+unfoldable pub take_any_segment : Taking PathSegment
+take_any_segment = do
+  ident ← take_any_ident
+  gives (record { ident = ident })
+
+pub lowers_any_segment : Lowers take_any_segment
+unfolding take_any_segment
+lowers_any_segment = search weighing depth 20
+
+pub lightens_any_segment : Lightens take_any_segment
+lightens_any_segment = lightens_lower take_any_segment lowers_any_segment
+
+-- segments of any text with `::` between them; where none is, an error says what is next
+unfoldable pub take_any_segments : Taking (List PathSegment × List (Punctuation 28 2))
+take_any_segments = take_separated sees_path_sep take_any_segment take_path_sep
+
+unfoldable pub take_nested_segments : Taking (List PathSegment × List (Punctuation 28 2))
+take_nested_segments =
+    where_ahead sees_any_ident take_any_segments
+    (where_ahead is_spent (refuses (codes "expected nested attribute"))
+    (where_ahead sees_literal
+    (refuses (codes "unexpected literal in nested attribute, expected ident"))
+    (refuses (codes "unexpected token in nested attribute, expected ident"))))
+
+-- a path of any words
+unfoldable pub take_nested_path : Taking PathForm
+take_nested_path = do
+  colon ← take_optional sees_path_sep take_path_sep
+  segments ← take_nested_segments
+  gives (colon, segments)
+
+pub lightens_any_segments : Lightens take_any_segments
+unfolding take_any_segments
+lightens_any_segments = search (weighing_lists, lightens_any_segment) depth 40
+
+pub lightens_nested_segments : Lightens take_nested_segments
+unfolding take_nested_segments
+lightens_nested_segments = search (weighing_lists, lightens_any_segments) depth 40
+
+pub lightens_nested_path : Lightens take_nested_path
+unfolding take_nested_path
+lightens_nested_path = search (weighing_lists, lightens_nested_segments) depth 40
+
+-- a path that is a segment alone
+abbrev pub only_segment : Ident → PathForm
+only_segment ident = (None, (record { ident = ident } ∷ [], []))
+
 -- the identifier of a path that is a segment alone
 abbrev pub only_ident : PathForm → Option Ident
 only_ident (None, (s ∷ [], [])) = Some s.ident
@@ -67,11 +116,14 @@ only_ident p = None
 abbrev pub is_only : List ℕ → PathForm → Bool
 is_only text p = elim (only_ident p) [ Some i ↦ bytes_eq i.text text | None ↦ false ]
 
--- what a segment, and a path, is written as
+-- what a segment, all segments, and a path are written as
 abbrev pub segment_trees : PathSegment → Forest
 segment_trees s = tree (leaf (ident_of s.ident)) no_trees
 
+abbrev pub segments_trees : Path → Forest
+segments_trees p =
+    by_turns segment_trees sign_trees (values_of p.segments) (separators_of p.segments)
+
 abbrev pub path_trees : Path → Forest
 path_trees p =
-    followed_by (optional_trees sign_trees p.leading_colon)
-    (by_turns segment_trees sign_trees (values_of p.segments) (separators_of p.segments))
+    followed_by (optional_trees sign_trees p.leading_colon) (segments_trees p)

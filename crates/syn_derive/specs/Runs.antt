@@ -1,93 +1,131 @@
 -- Runs of tokens, by the visible trees ahead: where types, expressions, parameters and predicates
 -- end.
-use Rattle.std.specs.Prelude.{ℕ, Bool, ◌&&◌, ◌||◌, ◌==◌, ◌+◌, ◌-◌, false, true, not, min}
+use Rattle.std.specs.Prelude.{ℕ, Bool, ◌&&◌, ◌||◌, ◌==◌, ◌+◌, ◌-◌, false, true, not}
 use Rattle.std.specs.Prelude.{Option, None, Some, if◌then◌else◌, codes, is_some}
 use Rattle.tok_lexical.specs.declared.delimiter.Delimiter.TheVariants.{Brace}
-use Rattle.tok_leaves.specs.Leaves.{apostrophe, punct}
-use Rattle.tok_leaves.specs.declared.punct.Spacing.{Spacing}
-use Rattle.tok_leaves.specs.declared.punct.Spacing.TheVariants.{Alone, Joint}
-use Rattle.tok_core.specs.Forest.{Tree, leaf, group, Forest, no_trees, tree}
-use Rattle.syn_parse.specs.Runs.{lightens_run, take_run}
-use Rattle.syn_parse.specs.Takes.{Taking, refuses, where_ahead}
+use Rattle.tok_core.specs.Filled.{has_trees}
+use Rattle.tok_core.specs.Forest.{Forest}
+use Rattle.tok_types.specs.Sees.{any_ident_first, group_first, ident_first, punct_first}
+use Rattle.syn_parse.specs.Runs.{lightens_run_with_state, take_run_with_state}
+use Rattle.syn_parse.specs.Takes.{Taking, ◌>>=◌, gives, refuses, where_ahead}
 use Rattle.syn_parse.specs.Takings.{Lightens}
 use Rattle.syn_parse.specs.Weighing.{weighing}
+use Rattle.syn_derive.specs.First.{await_first, colon_first, comma_first, crate_first, eq_first}
+use Rattle.syn_derive.specs.First.{gt_first, lt_first, path_sep_first, question_first}
+use Rattle.syn_derive.specs.First.{r_arrow_first, self_type_first, self_value_first, semi_first}
+use Rattle.syn_derive.specs.First.{shl_first, super_first}
 use Rattle.syn_derive.specs.declared.run.Last.{Last}
-use Rattle.syn_derive.specs.declared.run.Last.TheVariants.{Shaft, Operator, Operand}
+use Rattle.syn_derive.specs.declared.run.Last.TheVariants.{Half, Operator, Operand}
 use Rattle.syn_derive.specs.declared.run.Passed.{Passed}
 use Rattle.syn_derive.specs.declared.run.Until.{Until}
 use Rattle.syn_derive.specs.declared.run.Until.TheVariants.{Ty, Expr, Params, Predicates}
-
-abbrev pub start : Until → Passed
-start u = record { until = u; depth = 0; last = Operator }
-
--- a punct at which a run ends where no `<` is open
-abbrev pub ends : Until → ℕ → Bool
-ends Ty c = c == 44 || c == 59 || c == 61 || c == 62
-ends Expr c = c == 44 || c == 59
-ends Params c = c == 62
-ends Predicates c = c == 59
-
-abbrev pub is_shaft : Last → Bool
-is_shaft Shaft = true
-is_shaft last = false
 
 abbrev pub is_operand : Last → Bool
 is_operand Operand = true
 is_operand last = false
 
+-- braces are the body of an item, if they come after a value
+abbrev pub body_first : Last → Forest → Bool
+body_first last f = is_operand last && group_first Brace f
+
+-- a run ends before these trees; within `<..>` it goes on after `>`
+abbrev pub ends : Until → Last → Forest → Bool
+ends Ty last f =
+    comma_first f || semi_first f || eq_first f || gt_first f || colon_first f
+    || body_first last f
+ends Expr last f = comma_first f || semi_first f
+ends Params last f = gt_first f || semi_first f || body_first last f
+ends Predicates last f = semi_first f || group_first Brace f
+
 -- a `<` opens, unless it is an operator: after a value in an expression
-abbrev pub is_expr : Until → Bool
-is_expr Expr = true
-is_expr u = false
+abbrev pub opens : Until → Last → Bool
+opens Expr Operand = false
+opens u last = true
 
-abbrev pub opens : Passed → Bool
-opens p = not (is_expr p.until) || not (p.depth == 0) || not (is_operand p.last)
+-- two characters of one token come first that hold a bracket or an end: `->`, `::`, or the operator
+-- `<<`
+abbrev pub starts_pair : Until → Last → Forest → Bool
+starts_pair u last f =
+    r_arrow_first f || path_sep_first f || (not (opens u last) && shl_first f)
 
-abbrev pub last_of : ℕ → Spacing → Last
-last_of c Joint =
-    if c == 45 || c == 61 then Shaft else if c == 60 || c == 63 then Operand else Operator
-last_of c Alone = if c == 63 then Operand else Operator
+-- a reserved word that ends no value, as `if`, `return` or `as`: not `self`, `Self`, `super`,
+-- `crate` or `await`
+abbrev pub is_operator_word : Forest → Bool
+is_operator_word f =
+    any_ident_first f && not (ident_first f) && not (self_value_first f)
+    && not (self_type_first f) && not (super_first f) && not (crate_first f)
+    && not (await_first f)
 
-abbrev pub pass_punct : Passed → ℕ → Spacing → Option Passed
-pass_punct p c spacing =
-    if c == 60 && opens p
-    then Some (record p { depth = min (p.depth + 1) 18446744073709551615; last = Operator })
-    else if c == 62 && is_shaft p.last then Some (record p { last = Operator })
-    else if c == 62 && not (p.depth == 0)
+-- after an operator a value is expected; `?` ends one
+abbrev pub last_after : Forest → Last
+last_after f =
+    if (punct_first f && not (question_first f)) || is_operator_word f then Operator else Operand
+
+-- what is passed, in what the next token is: within `<..>`, parameters
+abbrev pub start : Until → Passed
+start u = record { until = u; depth = 0; last = Operator }
+
+abbrev pub within : Passed → Until
+within p = if p.depth == 0 then p.until else Params
+
+abbrev pub is_half : Last → Bool
+is_half Half = true
+is_half last = false
+
+-- what comes first of the trees ahead: a pair, a `<` that opens, the end of a run, or another token
+pub data Next : Type 0 where
+  pair opening ending other : Next
+
+abbrev pub next_of : Until → Last → Forest → Next
+next_of u last f =
+    if starts_pair u last f then pair
+    else if opens u last && lt_first f then opening
+    else if ends u last f then ending
+    else other
+
+-- another `<` is open; so many can be, as a `usize` counts
+abbrev pub most_open : ℕ
+most_open = 18446744073709551615
+
+abbrev pub opened : Passed → Option Passed
+opened p =
+    if p.depth == most_open
+    then None
+    else Some (record p { depth = p.depth + 1; last = Operator })
+
+-- a `>` closes the last `<` that is open
+abbrev pub closed : Passed → Forest → Option Passed
+closed p f =
+    if not (p.depth == 0) && gt_first f
     then Some (record p { depth = p.depth - 1; last = Operand })
-    else if p.depth == 0 && ends p.until c then None
-    else Some (record p { last = last_of c spacing })
+    else None
 
--- braces end predicates
-abbrev pub are_predicates : Until → Bool
-are_predicates Predicates = true
-are_predicates u = false
+abbrev pub past : Passed → Forest → Next → Option Passed
+past p f pair = Some (record p { last = Half })
+past p f opening = opened p
+past p f ending = closed p f
+past p f other = Some (record p { last = last_after f })
 
--- what is passed after a tree that is no punct, and may be braces
-abbrev pub pass_other : Passed → (is_braces : Bool) → Option Passed
-pass_other p is_braces =
-    if is_braces && are_predicates p.until && p.depth == 0 then None
-    else Some (record p { last = Operand })
+-- what is passed after the first of these trees; nothing if a run ends before it
+abbrev pub goes_past : Passed → Forest → Option Passed
+goes_past p f =
+    if is_half p.last
+    then Some (record p { last = Operator })
+    else past p f (next_of (within p) p.last f)
 
--- what is passed after a tree; nothing if a run ends before it
-abbrev pub pass : Passed → Tree → Option Passed
-pass p (leaf (punct c spacing span)) =
-    if c == apostrophe then pass_other p false else pass_punct p c spacing
-pass p (leaf l) = pass_other p false
-pass p (group Brace inside span) = pass_other p true
-pass p (group d inside span) = pass_other p false
-
+-- tokens up to where a run ends; each `<` is closed there
 unfoldable pub take_until : Until → Taking Forest
-take_until u = take_run pass (start u)
+take_until u = do
+  r ← take_run_with_state goes_past (start u)
+  where_ahead (λ a. r.1.depth == 0) (gives r.0) (refuses (codes "expected `>`"))
 
 pub lightens_until : (u : Until) → Lightens (take_until u)
 unfolding take_until
-lightens_until u = lightens_run pass (start u)
+lightens_until u = search (weighing, lightens_run_with_state) depth 40
 
 -- a run has a first token
 abbrev pub begins : Until → Forest → Bool
-begins u no_trees = false
-begins u (tree t f) = is_some (pass (start u) t)
+begins u f = has_trees f && is_some (goes_past (start u) f)
 
 -- tokens of a type, and of an expression
 unfoldable pub take_type : Taking Forest

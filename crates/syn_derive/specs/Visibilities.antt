@@ -4,10 +4,9 @@ use Rattle.tok_lexical.specs.declared.delimiter.Delimiter.TheVariants.{Parenthes
 use Rattle.tok_leaves.specs.declared.span.DelimSpan.{DelimSpan}
 use Rattle.tok_core.specs.Filled.{has_trees}
 use Rattle.tok_core.specs.Forest.{Forest, no_trees}
-use Rattle.tok_core.specs.Laws.{followed_by}
+use Rattle.tok_core.specs.Laws.{followed_by, optional_trees}
 use Rattle.tok_buffer.specs.EachRead.{first_if}
 use Rattle.tok_buffer.specs.Reads.{is_ident}
-use Rattle.tok_types.specs.Sees.{keyword_first}
 use Rattle.tok_types.specs.declared.keyword.Keyword.{Keyword}
 use Rattle.syn_parse.specs.Inside.{sees_inside}
 use Rattle.syn_parse.specs.Optional.{take_optional}
@@ -16,8 +15,9 @@ use Rattle.syn_parse.specs.Takes.{Taking, ◌>>=◌, gives, take_group, where_ah
 use Rattle.syn_parse.specs.Takings.{Lightens}
 use Rattle.syn_parse.specs.TokenNames.{sees_in, sees_pub, take_in, take_pub}
 use Rattle.syn_parse.specs.Weighing.{weighing}
+use Rattle.syn_derive.specs.First.{crate_first, in_first, self_value_first, super_first}
 use Rattle.syn_derive.specs.Paths.{PathForm, lightens_path, path_form, path_trees, take_path}
-use Rattle.syn_derive.specs.Printing.{group_trees, keyword_trees, optional_trees}
+use Rattle.syn_derive.specs.Printing.{group_trees, keyword_trees}
 use Rattle.syn_derive.specs.declared.visibility.VisRestricted.{VisRestricted}
 use Rattle.syn_derive.specs.declared.visibility.Visibility.{Visibility}
 use Rattle.syn_derive.specs.declared.visibility.Visibility.TheVariants.{Inherited, Public, Restricted}
@@ -41,7 +41,7 @@ visibility_form Inherited = inherited
 
 -- `crate`, `self` or `super` is first
 abbrev pub is_word : Forest → Bool
-is_word inside = keyword_first 10 inside || keyword_first 38 inside || keyword_first 41 inside
+is_word inside = crate_first inside || self_value_first inside || super_first inside
 
 -- one of these words, and nothing else
 unfoldable pub is_word_alone : Forest → Bool
@@ -53,7 +53,7 @@ is_word_alone inside =
 
 -- what parentheses after `pub` hold if they belong to it
 unfoldable pub is_restriction : Forest → Bool
-is_restriction inside = keyword_first 22 inside || is_word_alone inside
+is_restriction inside = in_first inside || is_word_alone inside
 
 -- `pub (crate)`, `pub (self)`, `pub (super)`, `pub (in path)`, `pub` or nothing
 unfoldable pub take_visibility : Taking VisibilityForm

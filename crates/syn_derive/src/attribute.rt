@@ -1,13 +1,14 @@
 //! Outer attributes.
 ghost use Rattle.syn_parse.specs.Takes.{TakesAs};
 ghost use Rattle.syn_parse.specs.Takings.{lower, told};
-ghost use Rattle.std.specs.Prelude.{◌≡◌};
+ghost use Rattle.std.specs.Prelude.{◌≡◌, OnErr, OnOk};
+ghost use Rattle.tok_core.specs.Forest.{AppendsFront, concat};
 ghost use Rattle.syn_derive.specs.Metas.{meta_path};
-ghost use Rattle.syn_derive.specs.Attributes.{attribute_form, attribute_trees, attributes_form, lowers_attribute, take_attribute, take_attributes};
+ghost use Rattle.syn_derive.specs.Attributes.{attribute_form, attribute_trees, attributes_form, attributes_trees, lowers_attribute, take_attribute, take_attributes};
 
 use crate::meta::Meta;
 use crate::path::Path;
-use crate::print::write_group;
+use crate::print::{write_all, write_group};
 use std::alloc::AllocError;
 use syn_parse::{Parse, ParseStream, Result};
 use tok_core::laws::writes_follow_writes;
@@ -68,4 +69,15 @@ impl ToTokens for Attribute {
             tokens,
         )
     }
+}
+
+/// Appends attributes, in turn.
+pub(crate) fn write_attributes(
+    attrs: &Vec<Attribute>,
+    tokens: &mut TokenStream,
+) -> std::result::Result<(), AllocError>
+    ensures ok { OnOk result (tokens.new ≡ concat tokens.old (attributes_trees attrs.now)) }
+    ensures err { OnErr result (AppendsFront tokens.old (attributes_trees attrs.now) tokens.new) }
+{
+    write_all(attrs, tokens)
 }

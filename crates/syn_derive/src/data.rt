@@ -1,14 +1,21 @@
 //! Fields and variants.
+ghost use Rattle.std.specs.Prelude.{◌≡◌, OnErr, OnOk};
+ghost use Rattle.tok_core.specs.Forest.{AppendsFront, concat};
 ghost use Rattle.syn_parse.specs.Takings.{Keeps, lighter, lower, taken_filled, told_filled};
 ghost use Rattle.syn_derive.specs.Fields.{fields_form, lightens_fields, lightens_variant, lowers_named, lowers_unnamed, list_of, named_field, named_fields_form, named_list, take_fields, take_named, take_named_fields, take_unnamed, take_unnamed_fields, take_variant, unnamed_field, unnamed_fields_form, unnamed_list, variant_form};
+ghost use Rattle.syn_derive.specs.Written.{discriminant_trees, field_head_trees, field_trees, fields_trees, name_trees, named_as_trees, named_trees, typed_trees, unnamed_trees, variant_head_trees, variant_rest_trees, variant_trees};
 
-use crate::attribute::Attribute;
+use crate::attribute::{Attribute, write_attributes};
+use crate::meta::write_value;
+use crate::print::{write_group, write_nothing, write_or_default};
 use crate::ty::{Expr, Type};
 use crate::visibility::Visibility;
+use std::alloc::AllocError;
 use syn_parse::laws::parses_go_on;
 use syn_parse::{Parse, ParseStream, Result};
 use syn_punctuated::Punctuated;
-use tok_core::{Delimiter, Ident};
+use tok_core::laws::writes_follow_writes;
+use tok_core::{Delimiter, Ident, ToTokens, TokenStream};
 use tok_types::token;
 
 /// The fields of a struct or a variant: in braces, in parentheses, or none.
@@ -91,7 +98,6 @@ impl Field {
 }
 
 // Parses fields with names, up to the end.
-
 fn parse_named_list(input: ParseStream<'_, '_>) -> Result<Punctuated<Field, token::Comma>>
     ensures { Keeps named_list input.old result input.new }
 {
@@ -100,7 +106,6 @@ fn parse_named_list(input: ParseStream<'_, '_>) -> Result<Punctuated<Field, toke
 }
 
 // Parses fields without names, up to the end.
-
 fn parse_unnamed_list(input: ParseStream<'_, '_>) -> Result<Punctuated<Field, token::Comma>>
     ensures { Keeps unnamed_list input.old result input.new }
 {
@@ -197,5 +202,154 @@ impl Parse for Variant {
             fields,
             discriminant,
         })
+    }
+}
+
+// Appends a name and `:`, or those at the call site.
+fn write_named(
+    ident: &Ident,
+    colon_token: &Option<token::Colon>,
+    tokens: &mut TokenStream,
+) -> std::result::Result<(), AllocError>
+    ensures ok { OnOk result
+        (tokens.new ≡ concat tokens.old (named_as_trees ident.now colon_token.now)) }
+    ensures err { OnErr result
+        (AppendsFront tokens.old (named_as_trees ident.now colon_token.now) tokens.new) }
+{
+    writes_follow_writes();
+    ident.to_tokens(tokens)?;
+    write_or_default(colon_token, tokens)
+}
+
+// Appends a name and `:`, if there is a name.
+fn write_name(
+    ident: &Option<Ident>,
+    colon_token: &Option<token::Colon>,
+    tokens: &mut TokenStream,
+) -> std::result::Result<(), AllocError>
+    ensures ok { OnOk result
+        (tokens.new ≡ concat tokens.old (name_trees ident.now colon_token.now)) }
+    ensures err { OnErr result
+        (AppendsFront tokens.old (name_trees ident.now colon_token.now) tokens.new) }
+{
+    match ident {
+        Some(ident) => write_named(ident, colon_token, tokens),
+        None => write_nothing(tokens),
+    }
+}
+
+impl Field {
+    // Appends the attributes and the visibility.
+    fn write_head(&self, tokens: &mut TokenStream) -> std::result::Result<(), AllocError>
+        ensures ok { OnOk result (tokens.new ≡ concat tokens.old (field_head_trees self.now)) }
+        ensures err { OnErr result
+            (AppendsFront tokens.old (field_head_trees self.now) tokens.new) }
+    {
+        writes_follow_writes();
+        write_attributes(&self.attrs, tokens)?;
+        self.vis.to_tokens(tokens)
+    }
+
+    // Appends the name and the type.
+    fn write_typed(&self, tokens: &mut TokenStream) -> std::result::Result<(), AllocError>
+        ensures ok { OnOk result (tokens.new ≡ concat tokens.old (typed_trees self.now)) }
+        ensures err { OnErr result (AppendsFront tokens.old (typed_trees self.now) tokens.new) }
+    {
+        writes_follow_writes();
+        write_name(&self.ident, &self.colon_token, tokens)?;
+        self.ty.to_tokens(tokens)
+    }
+}
+
+impl ToTokens for Field {
+    ghost printed = { field_trees };
+
+    fn to_tokens(&self, tokens: &mut TokenStream) -> std::result::Result<(), AllocError> {
+        writes_follow_writes();
+        self.write_head(tokens)?;
+        self.write_typed(tokens)
+    }
+}
+
+impl ToTokens for FieldsNamed {
+    ghost printed = { named_trees };
+
+    fn to_tokens(&self, tokens: &mut TokenStream) -> std::result::Result<(), AllocError> {
+        write_group(Delimiter::Brace, self.brace_token.span, &self.named, tokens)
+    }
+}
+
+impl ToTokens for FieldsUnnamed {
+    ghost printed = { unnamed_trees };
+
+    fn to_tokens(&self, tokens: &mut TokenStream) -> std::result::Result<(), AllocError> {
+        write_group(
+            Delimiter::Parenthesis,
+            self.paren_token.span,
+            &self.unnamed,
+            tokens,
+        )
+    }
+}
+
+impl ToTokens for Fields {
+    ghost printed = { fields_trees };
+
+    fn to_tokens(&self, tokens: &mut TokenStream) -> std::result::Result<(), AllocError> {
+        match self {
+            Fields::Named(fields) => fields.to_tokens(tokens),
+            Fields::Unnamed(fields) => fields.to_tokens(tokens),
+            Fields::Unit => write_nothing(tokens),
+        }
+    }
+}
+
+// Appends `=` and the expression, if there is one.
+fn write_discriminant(
+    discriminant: &Option<(token::Eq, Expr)>,
+    tokens: &mut TokenStream,
+) -> std::result::Result<(), AllocError>
+    ensures ok { OnOk result
+        (tokens.new ≡ concat tokens.old (discriminant_trees discriminant.now)) }
+    ensures err { OnErr result
+        (AppendsFront tokens.old (discriminant_trees discriminant.now) tokens.new) }
+{
+    match discriminant {
+        Some(assigned) => write_value(assigned.0, &assigned.1, tokens),
+        None => write_nothing(tokens),
+    }
+}
+
+impl Variant {
+    // Appends the attributes and the name.
+    fn write_head(&self, tokens: &mut TokenStream) -> std::result::Result<(), AllocError>
+        ensures ok { OnOk result (tokens.new ≡ concat tokens.old (variant_head_trees self.now)) }
+        ensures err { OnErr result
+            (AppendsFront tokens.old (variant_head_trees self.now) tokens.new) }
+    {
+        writes_follow_writes();
+        write_attributes(&self.attrs, tokens)?;
+        self.ident.to_tokens(tokens)
+    }
+
+    // Appends the fields, and `=` and the expression if there is one.
+    fn write_rest(&self, tokens: &mut TokenStream) -> std::result::Result<(), AllocError>
+        ensures ok { OnOk result (tokens.new ≡ concat tokens.old (variant_rest_trees self.now)) }
+        ensures err { OnErr result
+            (AppendsFront tokens.old (variant_rest_trees self.now) tokens.new) }
+    {
+        writes_follow_writes();
+        self.fields.to_tokens(tokens)?;
+        write_discriminant(&self.discriminant, tokens)
+    }
+}
+
+impl ToTokens for Variant {
+    ghost printed = { variant_trees };
+
+    fn to_tokens(&self, tokens: &mut TokenStream) -> std::result::Result<(), AllocError> {
+        writes_follow_writes();
+        self.write_head(tokens)?;
+        self.write_rest(tokens)
     }
 }

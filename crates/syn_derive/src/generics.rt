@@ -1,11 +1,16 @@
 //! Parameters and `where` clauses.
-ghost use Rattle.std.specs.Prelude.{◌≡◌};
+ghost use Rattle.std.specs.Prelude.{◌≡◌, OnErr, OnOk};
+ghost use Rattle.tok_core.specs.Forest.{AppendsFront, concat};
 ghost use Rattle.syn_parse.specs.Takings.{lighter, lower, told};
 ghost use Rattle.syn_derive.specs.Generics.{lightens_generics, lowers_where_clause, params_form, take_params, take_where_clause, where_form};
+ghost use Rattle.syn_derive.specs.Written.{generics_trees, opened_trees, params_trees, predicates_trees, where_trees};
 
+use crate::print::{write_nothing, write_or_default};
 use crate::run::{Until, parse_until};
+use std::alloc::AllocError;
 use syn_parse::{Parse, ParseStream, Result};
-use tok_core::TokenStream;
+use tok_core::laws::writes_follow_writes;
+use tok_core::{ToTokens, TokenStream};
 use tok_types::token;
 
 /// The parameters of an item, as tokens between `<` and `>`, and its `where` clause.
@@ -84,5 +89,67 @@ impl Parse for WhereClause {
             where_token,
             predicates,
         })
+    }
+}
+
+/// Writes the parameters between `<` and `>`, or nothing if there are none. The `where` clause is
+/// not written.
+impl ToTokens for Generics {
+    ghost printed = { generics_trees };
+
+    fn to_tokens(&self, tokens: &mut TokenStream) -> std::result::Result<(), AllocError> {
+        if self.params.is_empty() {
+            write_nothing(tokens)
+        } else {
+            self.write_params(tokens)
+        }
+    }
+}
+
+impl Generics {
+    // Appends `<` and the parameters.
+    fn write_opened(&self, tokens: &mut TokenStream) -> std::result::Result<(), AllocError>
+        ensures ok { OnOk result (tokens.new ≡ concat tokens.old (opened_trees self.now)) }
+        ensures err { OnErr result (AppendsFront tokens.old (opened_trees self.now) tokens.new) }
+    {
+        writes_follow_writes();
+        write_or_default(&self.lt_token, tokens)?;
+        self.params.to_tokens(tokens)
+    }
+
+    // Appends the parameters between `<` and `>`.
+    fn write_params(&self, tokens: &mut TokenStream) -> std::result::Result<(), AllocError>
+        ensures ok { OnOk result (tokens.new ≡ concat tokens.old (params_trees self.now)) }
+        ensures err { OnErr result (AppendsFront tokens.old (params_trees self.now) tokens.new) }
+    {
+        writes_follow_writes();
+        self.write_opened(tokens)?;
+        write_or_default(&self.gt_token, tokens)
+    }
+}
+
+impl WhereClause {
+    // Appends `where` and the predicates.
+    fn write_predicates(&self, tokens: &mut TokenStream) -> std::result::Result<(), AllocError>
+        ensures ok { OnOk result (tokens.new ≡ concat tokens.old (predicates_trees self.now)) }
+        ensures err { OnErr result
+            (AppendsFront tokens.old (predicates_trees self.now) tokens.new) }
+    {
+        writes_follow_writes();
+        self.where_token.to_tokens(tokens)?;
+        self.predicates.to_tokens(tokens)
+    }
+}
+
+/// Writes nothing if there are no predicates.
+impl ToTokens for WhereClause {
+    ghost printed = { where_trees };
+
+    fn to_tokens(&self, tokens: &mut TokenStream) -> std::result::Result<(), AllocError> {
+        if self.predicates.is_empty() {
+            write_nothing(tokens)
+        } else {
+            self.write_predicates(tokens)
+        }
     }
 }

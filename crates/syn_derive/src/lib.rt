@@ -2,10 +2,12 @@
 //! visibilities, fields and variants. Types, expressions, parameters and predicates are tokens.
 #![tactic(auto)]
 
+mod arguments;
 mod attribute;
 mod data;
 mod derive;
 mod generics;
+pub mod laws;
 mod meta;
 mod path;
 mod print;

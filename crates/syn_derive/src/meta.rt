@@ -5,18 +5,22 @@ ghost use Rattle.tok_core.specs.Forest.{AppendsFront, concat};
 ghost use Rattle.tok_buffer.specs.View.{IsVisibleDelimiter};
 ghost use Rattle.syn_parse.specs.Takes.{TakesAs, take_group};
 ghost use Rattle.syn_parse.specs.TreeTakes.{take_rest};
-ghost use Rattle.syn_parse.specs.Takings.{lighter, taken_as, told};
-ghost use Rattle.syn_derive.specs.Metas.{delimited_trees, lightens_meta, meta_form, meta_list_trees, meta_path, meta_trees, name_value_trees, take_meta, value_trees};
+ghost use Rattle.syn_parse.specs.Takings.{Keeps, lighter, taken_as, told};
+ghost use Rattle.syn_derive.specs.Metas.{delimited_trees, lightens_meta, meta_form, meta_list_trees, meta_path, meta_trees, name_value_trees, nested_meta, take_meta, take_meta_after, take_meta_path, take_nested_meta, value_trees};
+ghost use Rattle.syn_derive.specs.Paths.{path_form};
 
 use crate::path::Path;
 use crate::print::write_group;
+use crate::ty::Expr;
 use std::alloc::AllocError;
-use syn_parse::{Parse, ParseStream, Result};
+use syn_parse::{IdentExt, Parse, ParseStream, Result};
 use tok_core::laws::writes_follow_writes;
-use tok_core::{DelimSpan, Delimiter, Literal, ToTokens, TokenStream};
+use tok_core::{DelimSpan, Delimiter, Ident, ToTokens, TokenStream};
 use tok_types::token;
 
-/// What an attribute holds: a path, and maybe tokens in delimiters or a literal after `=`.
+/// What an attribute holds: a path, and maybe tokens in delimiters or an expression after `=`.
+///
+/// The word `unsafe` alone may be the path, as in `unsafe(no_mangle)`.
 #[derive(Drop)]
 pub enum Meta {
     Path(Path),
@@ -40,12 +44,12 @@ pub enum MacroDelimiter {
     Bracket(token::Bracket),
 }
 
-/// A path and a literal after `=`, as `doc = "text"`.
+/// A path and an expression after `=`, as `doc = "text"`.
 #[derive(Drop)]
 pub struct MetaNameValue {
     pub path: Path,
     pub eq_token: token::Eq,
-    pub value: Literal,
+    pub value: Expr,
 }
 
 impl Meta {
@@ -89,60 +93,93 @@ fn parse_delimited(
     Ok((span, inside.tokens))
 }
 
+// Parses the path of an attribute.
+#[tactic(auto, unfolding(crate::specs::Metas::take_meta_path))]
+fn parse_meta_path(input: ParseStream<'_, '_>) -> Result<Path>
+    ensures { TakesAs path_form take_meta_path input.old result input.new }
+{
+    if input.peek::<token::Unsafe>() {
+        let ident = input.call(Ident::parse_any)?;
+        Ok(Path::of_ident(input.allocator(), ident)?)
+    } else {
+        input.parse()
+    }
+}
+
+// Parses what comes after the path.
+#[tactic(auto, unfolding(crate::specs::Metas::take_meta_after))]
+fn parse_meta_after(path: Path, input: ParseStream<'_, '_>) -> Result<Meta>
+    ensures { TakesAs meta_form (take_meta_after (path_form path)) input.old result input.new }
+{
+    if input.peek::<token::Eq>() {
+        let eq_token = input.parse()?;
+        let value = input.parse()?;
+        Ok(Meta::NameValue(MetaNameValue {
+            path,
+            eq_token,
+            value,
+        }))
+    } else if input.peek::<token::Paren>() {
+        let (span, tokens) = parse_delimited(input, Delimiter::Parenthesis)?;
+        let delimiter = MacroDelimiter::Paren(token::Paren::new(span));
+        Ok(Meta::List(MetaList {
+            path,
+            delimiter,
+            tokens,
+        }))
+    } else if input.peek::<token::Bracket>() {
+        let (span, tokens) = parse_delimited(input, Delimiter::Bracket)?;
+        let delimiter = MacroDelimiter::Bracket(token::Bracket::new(span));
+        Ok(Meta::List(MetaList {
+            path,
+            delimiter,
+            tokens,
+        }))
+    } else if input.peek::<token::Brace>() {
+        let (span, tokens) = parse_delimited(input, Delimiter::Brace)?;
+        let delimiter = MacroDelimiter::Brace(token::Brace::new(span));
+        Ok(Meta::List(MetaList {
+            path,
+            delimiter,
+            tokens,
+        }))
+    } else {
+        Ok(Meta::Path(path))
+    }
+}
+
+impl Meta {
+    /// Parses a meta in the arguments of an attribute. Any word may be a segment of its path, as in
+    /// `type = "u8"`.
+    #[tactic(auto, unfolding(crate::specs::Metas::take_nested_meta))]
+    pub fn parse_nested(input: ParseStream<'_, '_>) -> Result<Meta>
+        ensures { Keeps nested_meta input.old result input.new }
+    {
+        let path = Path::parse_nested(input)?;
+        parse_meta_after(path, input)
+    }
+}
+
 impl Parse for Meta {
     ghost takes = { told meta_form take_meta (lighter lightens_meta) };
 
     #[tactic(auto, unfolding(crate::specs::Metas::take_meta))]
     fn parse(input: ParseStream<'_, '_>) -> Result<Self> {
-        let path = input.parse()?;
-        if input.peek::<token::Eq>() {
-            let eq_token = input.parse()?;
-            let value = input.parse()?;
-            Ok(Meta::NameValue(MetaNameValue {
-                path,
-                eq_token,
-                value,
-            }))
-        } else if input.peek::<token::Paren>() {
-            let (span, tokens) = parse_delimited(input, Delimiter::Parenthesis)?;
-            let delimiter = MacroDelimiter::Paren(token::Paren::new(span));
-            Ok(Meta::List(MetaList {
-                path,
-                delimiter,
-                tokens,
-            }))
-        } else if input.peek::<token::Bracket>() {
-            let (span, tokens) = parse_delimited(input, Delimiter::Bracket)?;
-            let delimiter = MacroDelimiter::Bracket(token::Bracket::new(span));
-            Ok(Meta::List(MetaList {
-                path,
-                delimiter,
-                tokens,
-            }))
-        } else if input.peek::<token::Brace>() {
-            let (span, tokens) = parse_delimited(input, Delimiter::Brace)?;
-            let delimiter = MacroDelimiter::Brace(token::Brace::new(span));
-            Ok(Meta::List(MetaList {
-                path,
-                delimiter,
-                tokens,
-            }))
-        } else {
-            Ok(Meta::Path(path))
-        }
+        let path = parse_meta_path(input)?;
+        parse_meta_after(path, input)
     }
 }
 
-// Appends `=` and a literal.
-fn write_value(
+// Appends `=` and an expression.
+pub(crate) fn write_value(
     eq_token: token::Eq,
-    value: &Literal,
+    value: &Expr,
     tokens: &mut TokenStream,
 ) -> std::result::Result<(), AllocError>
     ensures ok { OnOk result
-        (tokens.new ≡ concat tokens.old (value_trees eq_token value.now)) }
+        (tokens.new ≡ concat tokens.old (value_trees eq_token value.now.tokens)) }
     ensures err { OnErr result
-        (AppendsFront tokens.old (value_trees eq_token value.now) tokens.new) }
+        (AppendsFront tokens.old (value_trees eq_token value.now.tokens) tokens.new) }
 {
     writes_follow_writes();
     eq_token.to_tokens(tokens)?;

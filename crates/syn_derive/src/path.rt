@@ -1,18 +1,24 @@
 //! Paths without arguments.
-ghost use Rattle.std.specs.Prelude.{◌≡◌};
 ghost use Rattle.std.specs.Option.{option_copied};
+ghost use Rattle.std.specs.Prelude.{◌≡◌, IfOk, not};
+ghost use Rattle.tok_core.specs.Filled.{has_trees};
+ghost use Rattle.tok_buffer.specs.Cursors.{place_of};
+ghost use Rattle.tok_buffer.specs.View.{erased_ahead};
+ghost use Rattle.syn_parse.specs.Takes.{Takes, TakesAs};
 ghost use Rattle.syn_parse.specs.Takings.{lighter, lower, told};
 ghost use Rattle.syn_parse.specs.TreesAhead.{ahead};
-ghost use Rattle.syn_derive.specs.Paths.{is_only, lightens_path, lowers_segment, only_ident, path_form, path_trees, segment_trees, sees_path_word, take_path, take_segment};
+ghost use Rattle.syn_punctuated.specs.TakeLists.{list_form};
+ghost use Rattle.syn_derive.specs.Paths.{is_only, lightens_path, lowers_segment, only_ident, only_segment, path_form, path_trees, segment_trees, sees_path_word, take_any_segment, take_any_segments, take_nested_path, take_nested_segments, take_path, take_segment};
 
-use crate::print::write_optional;
-use std::alloc::AllocError;
+use std::alloc::{AllocError, Global};
 use syn_parse::laws::parses_go_on;
 use syn_parse::{IdentExt, Parse, ParseBuffer, ParseStream, Result};
 use syn_punctuated::Punctuated;
+use tok_buffer::Cursor;
+use tok_buffer::laws::ahead_tells;
 use tok_core::laws::writes_follow_writes;
-use tok_core::{Ident, ToTokens, TokenStream};
-use tok_types::token;
+use tok_core::{Ident, Literal, ToTokens, TokenStream};
+use tok_types::{IdentAny, token};
 
 /// A path without arguments: segments with `::` between them, and maybe before them.
 ///
@@ -31,6 +37,18 @@ pub struct PathSegment {
 }
 
 impl Path {
+    // Creates a path of one segment.
+    pub(crate) fn of_ident(alloc: Global, ident: Ident) -> std::result::Result<Path, AllocError>
+        ensures { IfOk result (λ p. path_form p ≡ only_segment ident) }
+    {
+        let mut segments = Punctuated::new(alloc);
+        segments.push_value(PathSegment { ident })?;
+        Ok(Path {
+            leading_colon: None,
+            segments,
+        })
+    }
+
     /// Returns the identifier, if the path is a segment alone.
     pub fn get_ident(&self) -> Option<&Ident>
         ensures { option_copied result ≡ only_ident (path_form self.now) }
@@ -79,6 +97,63 @@ impl Parse for PathSegment {
     }
 }
 
+// Returns `true` if no visible tree is left.
+pub(crate) fn is_end(inside: Cursor<'_>) -> bool
+    ensures { result ≡ not (has_trees (erased_ahead (place_of inside.entry))) }
+{
+    ahead_tells();
+    inside.leftover().is_none()
+}
+
+// Parses a segment of any text.
+#[tactic(auto, unfolding(crate::specs::Paths::take_any_segment))]
+fn parse_any_segment(input: ParseStream<'_, '_>) -> Result<PathSegment>
+    ensures { Takes take_any_segment input.old result input.new }
+{
+    let ident = input.call(Ident::parse_any)?;
+    Ok(PathSegment { ident })
+}
+
+fn parse_any_segments(input: ParseStream<'_, '_>) -> Result<Punctuated<PathSegment, token::PathSep>>
+    ensures { TakesAs (list_form (λ v. v) (λ p. p)) take_any_segments input.old result input.new }
+{
+    parses_go_on();
+    Punctuated::parse_separated_nonempty_with(input, parse_any_segment)
+}
+
+#[tactic(auto, unfolding(crate::specs::Paths::take_nested_segments))]
+fn parse_nested_segments(
+    input: ParseStream<'_, '_>,
+) -> Result<Punctuated<PathSegment, token::PathSep>>
+    ensures { TakesAs (list_form (λ v. v) (λ p. p)) take_nested_segments input.old result
+        input.new }
+{
+    if input.peek::<IdentAny>() {
+        parse_any_segments(input)
+    } else if is_end(input.cursor()) {
+        Err(input.error("expected nested attribute"))
+    } else if input.peek::<Literal>() {
+        Err(input.error("unexpected literal in nested attribute, expected ident"))
+    } else {
+        Err(input.error("unexpected token in nested attribute, expected ident"))
+    }
+}
+
+impl Path {
+    // Parses a path of any words.
+    #[tactic(auto, unfolding(crate::specs::Paths::take_nested_path))]
+    pub(crate) fn parse_nested(input: ParseStream<'_, '_>) -> Result<Path>
+        ensures { TakesAs path_form take_nested_path input.old result input.new }
+    {
+        let leading_colon: Option<token::PathSep> = input.parse()?;
+        let segments = parse_nested_segments(input)?;
+        Ok(Path {
+            leading_colon,
+            segments,
+        })
+    }
+}
+
 impl Parse for Path {
     ghost takes = { told path_form take_path (lighter lightens_path) };
 
@@ -107,7 +182,7 @@ impl ToTokens for Path {
 
     fn to_tokens(&self, tokens: &mut TokenStream) -> std::result::Result<(), AllocError> {
         writes_follow_writes();
-        write_optional(&self.leading_colon, tokens)?;
+        self.leading_colon.to_tokens(tokens)?;
         self.segments.to_tokens(tokens)
     }
 }

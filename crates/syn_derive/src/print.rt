@@ -1,24 +1,67 @@
 //! What the values of this crate share in writing themselves.
 ghost use Rattle.std.specs.Prelude.{◌≡◌, OnErr, OnOk};
-ghost use Rattle.tok_core.specs.Forest.{AppendsFront, concat};
-ghost use Rattle.syn_derive.specs.Printing.{group_trees, optional_trees};
+ghost use Rattle.tok_core.specs.Forest.{AppendsFront, concat, no_trees};
+ghost use Rattle.tok_core.specs.Laws.{followed_by};
+ghost use Rattle.syn_derive.specs.Printing.{all_trees, group_trees, or_default_trees};
 
 use std::alloc::AllocError;
+use tok_core::laws::writes_follow_writes;
 use tok_core::{DelimSpan, Delimiter, Group, ToTokens, TokenStream, TokenTree};
+use tok_types::token::Punctuation;
 
-/// Appends the tokens of a value, if there is one.
-pub fn write_optional<T: ToTokens>(
-    value: &Option<T>,
+/// Appends nothing: what is written of a part that is missing.
+pub fn write_nothing(tokens: &mut TokenStream) -> Result<(), AllocError>
+    ensures ok { OnOk result (tokens.new ≡ concat tokens.old no_trees) }
+    ensures err { OnErr result ⊥ }
+{
+    let _ = tokens;
+    Ok(())
+}
+
+/// Appends the tokens of values, in turn.
+pub fn write_all<T: ToTokens>(values: &[T], tokens: &mut TokenStream) -> Result<(), AllocError>
+    ensures ok { OnOk result
+        (tokens.new ≡ concat tokens.old (all_trees T.printed values.now)) }
+    ensures err { OnErr result
+        (AppendsFront tokens.old (all_trees T.printed values.now) tokens.new) }
+{
+    for value in values {
+        value.to_tokens(tokens)?;
+    }
+    Ok(())
+}
+
+/// Appends the tokens of two values, in turn.
+pub fn write_both<A: ToTokens, B: ToTokens>(
+    first: &A,
+    second: &B,
     tokens: &mut TokenStream,
 ) -> Result<(), AllocError>
     ensures ok { OnOk result
-        (tokens.new ≡ concat tokens.old (optional_trees T.printed value.now)) }
+        (tokens.new ≡ concat tokens.old (followed_by (A.printed first.now)
+        (B.printed second.now))) }
     ensures err { OnErr result
-        (AppendsFront tokens.old (optional_trees T.printed value.now) tokens.new) }
+        (AppendsFront tokens.old (followed_by (A.printed first.now) (B.printed second.now))
+        tokens.new) }
 {
-    match value {
-        Some(value) => value.to_tokens(tokens),
-        None => Ok(()),
+    writes_follow_writes();
+    first.to_tokens(tokens)?;
+    second.to_tokens(tokens)
+}
+
+/// Appends a punctuation, or the one at the call site if there is none.
+pub fn write_or_default<const K: usize>(
+    sign: &Option<Punctuation<K, 1>>,
+    tokens: &mut TokenStream,
+) -> Result<(), AllocError>
+    ensures ok { OnOk result
+        (tokens.new ≡ concat tokens.old (or_default_trees sign.now)) }
+    ensures err { OnErr result
+        (AppendsFront tokens.old (or_default_trees sign.now) tokens.new) }
+{
+    match sign {
+        Some(sign) => sign.to_tokens(tokens),
+        None => Punctuation::<K, 1>::default().to_tokens(tokens),
     }
 }
 

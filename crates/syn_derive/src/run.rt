@@ -3,36 +3,35 @@ ghost use Rattle.std.specs.Prelude.{◌≡◌};
 ghost use Rattle.tok_buffer.specs.Cursors.{place_of};
 ghost use Rattle.tok_buffer.specs.View.{erased_ahead};
 ghost use Rattle.tok_core.specs.Erase.{erase};
-ghost use Rattle.tok_leaves.specs.Leaves.{leaf_char, leaf_spacing, punct_of};
 ghost use Rattle.syn_parse.specs.Takes.{TakesAs};
-ghost use Rattle.syn_derive.specs.Runs.{begins, ends, last_of, pass, pass_other, pass_punct, start, take_until};
+ghost use Rattle.syn_derive.specs.Runs.{begins, ends, goes_past, is_operator_word, last_after, opens, start, starts_pair, take_until, within};
 
 use syn_parse::{ParseStream, Result, Run};
 use tok_buffer::Cursor;
 use tok_buffer::laws::ahead_tells;
-use tok_core::{Punct, Spacing, TokenStream};
-use tok_types::token;
+use tok_core::{Ident, Punct, TokenStream};
 use tok_types::token::Token;
+use tok_types::{IdentAny, token};
 
-/// Where a run of tokens ends, if not at the end of its stream. No `<` is open there.
+/// What a run of tokens is, which says where it ends if not at the end of its stream.
 #[derive(Clone, Copy, PartialEq, Eq)]
 pub(crate) enum Until {
-    // A type ends at `,`, `;`, `=` or `>`.
+    // A type ends at `,`, `;`, `=`, `>`, a `:` that is alone, or braces after a value.
     Ty,
     // An expression ends at `,` or `;`. A `<` opens only where a value is expected, or after `::`.
     Expr,
-    // Parameters end at `>`.
+    // Parameters end at `>`, `;` or braces after a value.
     Params,
     // Predicates end at `;` or braces.
     Predicates,
 }
 
-// The token before the next one, as far as it decides what a `<` or a `>` is.
+// The token before the next one, if it decides what that is.
 #[derive(Clone, Copy, PartialEq, Eq)]
 pub(crate) enum Last {
-    // A joint `-` or `=`: a `>` after it is that of an arrow.
-    Shaft,
-    // Another punct, or none: a `<` after it opens, in an expression too.
+    // The first half of a token of two characters, whose second half is nothing of its own.
+    Half,
+    // Another punct, a reserved word, or none: a value is expected.
     Operator,
     // The end of a value.
     Operand,
@@ -57,16 +56,44 @@ impl Until {
         }
     }
 
-    // Returns `true` if a run ends at this punct where no `<` is open.
-    fn ends(self, ch: char) -> bool
-        ensures { result ≡ ends self ch }
+    // Returns `true` if a run ends before the next token where no `<` is open.
+    fn ends(self, last: Last, cursor: Cursor<'_>) -> bool
+        ensures { result ≡ ends self last (erased_ahead (place_of cursor.entry)) }
     {
         match self {
-            Until::Ty => ch == ',' || ch == ';' || ch == '=' || ch == '>',
-            Until::Expr => ch == ',' || ch == ';',
-            Until::Params => ch == '>',
-            Until::Predicates => ch == ';',
+            Until::Ty => {
+                token::Comma::peek(cursor)
+                    || token::Semi::peek(cursor)
+                    || token::Eq::peek(cursor)
+                    || token::Gt::peek(cursor)
+                    || token::Colon::peek(cursor)
+                    || last == Last::Operand && token::Brace::peek(cursor)
+            }
+            Until::Expr => token::Comma::peek(cursor) || token::Semi::peek(cursor),
+            Until::Params => {
+                token::Gt::peek(cursor)
+                    || token::Semi::peek(cursor)
+                    || last == Last::Operand && token::Brace::peek(cursor)
+            }
+            Until::Predicates => token::Semi::peek(cursor) || token::Brace::peek(cursor),
         }
+    }
+
+    // Returns `true` if a `<` after this token opens, and is no operator.
+    fn opens(self, last: Last) -> bool
+        ensures { result ≡ opens self last }
+    {
+        self != Until::Expr || last != Last::Operand
+    }
+
+    // Returns `true` before two characters of one token that hold a bracket or an end: `->`, `::`,
+    // and the operator `<<`.
+    fn starts_pair(self, last: Last, cursor: Cursor<'_>) -> bool
+        ensures { result ≡ starts_pair self last (erased_ahead (place_of cursor.entry)) }
+    {
+        token::RArrow::peek(cursor)
+            || token::PathSep::peek(cursor)
+            || !self.opens(last) && token::Shl::peek(cursor)
     }
 
     // Returns `true` if a token is next, and a run does not end before it.
@@ -79,13 +106,22 @@ impl Until {
 }
 
 impl Run for Passed {
-    ghost passes = { pass };
+    ghost passes = { goes_past };
 
     fn pass(self, cursor: Cursor<'_>) -> Option<Self> {
-        ahead_tells();
-        match cursor.punct() {
-            Some((punct, _)) => self.pass_punct(punct),
-            None => self.pass_other(token::Brace::peek(cursor)),
+        let until = self.within();
+        if self.last == Last::Half {
+            Some(self.then(self.depth, Last::Operator))
+        } else if until.starts_pair(self.last, cursor) {
+            Some(self.then(self.depth, Last::Half))
+        } else if until.opens(self.last) && token::Lt::peek(cursor) {
+            Some(self.then(self.depth.checked_add(1)?, Last::Operator))
+        } else if !until.ends(self.last, cursor) {
+            Some(self.then(self.depth, last_after(cursor)))
+        } else if self.depth != 0 && token::Gt::peek(cursor) {
+            Some(self.then(self.depth - 1, Last::Operand))
+        } else {
+            None
         }
     }
 }
@@ -101,52 +137,51 @@ impl Passed {
         }
     }
 
-    // Passes a tree that is no punct, and may be braces.
-    fn pass_other(self, is_braces: bool) -> Option<Passed>
-        ensures { result ≡ pass_other self is_braces }
+    // Returns what the next token is in: parameters, where a `<` is open.
+    fn within(self) -> Until
+        ensures { result ≡ within self }
     {
-        if is_braces && self.until == Until::Predicates && self.depth == 0 {
-            None
+        if self.depth == 0 {
+            self.until
         } else {
-            Some(self.then(self.depth, Last::Operand))
-        }
-    }
-
-    fn pass_punct(self, punct: Punct) -> Option<Passed>
-        ensures { result
-            ≡ pass_punct self (leaf_char (punct_of punct)) (leaf_spacing (punct_of punct)) }
-    {
-        let Passed { until, depth, last } = self;
-        let ch = punct.as_char();
-        if ch == '<' && (until != Until::Expr || depth != 0 || last != Last::Operand) {
-            Some(self.then(depth.saturating_add(1), Last::Operator))
-        } else if ch == '>' && last == Last::Shaft {
-            Some(self.then(depth, Last::Operator))
-        } else if ch == '>' && depth != 0 {
-            Some(self.then(depth - 1, Last::Operand))
-        } else if depth == 0 && until.ends(ch) {
-            None
-        } else {
-            Some(self.then(depth, last_of(ch, punct.spacing())))
+            Until::Params
         }
     }
 }
 
-fn last_of(ch: char, spacing: Spacing) -> Last
-    ensures { result ≡ last_of ch spacing }
+// Returns `true` before a reserved word that ends no value, as `if`, `return` or `as`.
+fn is_operator_word(cursor: Cursor<'_>) -> bool
+    ensures { result ≡ is_operator_word (erased_ahead (place_of cursor.entry)) }
 {
-    match ch {
-        '-' | '=' if spacing == Spacing::Joint => Last::Shaft,
-        '<' if spacing == Spacing::Joint => Last::Operand,
-        '?' => Last::Operand,
-        _ => Last::Operator,
+    IdentAny::peek(cursor)
+        && !Ident::peek(cursor)
+        && !token::SelfValue::peek(cursor)
+        && !token::SelfType::peek(cursor)
+        && !token::Super::peek(cursor)
+        && !token::Crate::peek(cursor)
+        && !token::Await::peek(cursor)
+}
+
+// Returns what the next token is for the one after it.
+fn last_after(cursor: Cursor<'_>) -> Last
+    ensures { result ≡ last_after (erased_ahead (place_of cursor.entry)) }
+{
+    if Punct::peek(cursor) && !token::Question::peek(cursor) || is_operator_word(cursor) {
+        Last::Operator
+    } else {
+        Last::Operand
     }
 }
 
-/// Parses tokens up to where a run ends.
+/// Parses tokens up to where a run ends. Each `<` that opens there is closed.
 #[tactic(auto, unfolding(crate::specs::Runs::take_until))]
 pub(crate) fn parse_until(input: ParseStream<'_, '_>, until: Until) -> Result<TokenStream>
     ensures { TakesAs erase (take_until until) input.old result input.new }
 {
-    input.parse_run(until.start())
+    let (tokens, end) = input.parse_run_with_state(until.start())?;
+    if end.depth == 0 {
+        Ok(tokens)
+    } else {
+        Err(input.error("expected `>`"))
+    }
 }

@@ -8,13 +8,18 @@ use std::alloc::AllocError;
 use syn_parse::{Parse, ParseStream, Result};
 use tok_core::{ToTokens, TokenStream};
 
-/// A type, as tokens: at least one, up to a `,`, `;`, `=` or `>` that is in no `<..>`.
+/// A type, as tokens: at least one, up to a `,`, `;`, `=`, `>`, a `:` alone, or braces after a value.
+///
+/// Within `<..>` it goes on up to the `>`. An error says if that is missing.
 #[derive(Drop)]
 pub struct Type {
     pub tokens: TokenStream,
 }
 
 /// An expression, as tokens: at least one, up to a `,` or `;` that is in no `<..>`.
+///
+/// A `<` opens where a value is expected, as after an operator or `::`. After a value it is an
+/// operator itself. An error says if the `>` of one that opens is missing.
 #[derive(Drop)]
 pub struct Expr {
     pub tokens: TokenStream,

@@ -1,14 +1,13 @@
 //! Visibilities.
-ghost use Rattle.std.specs.Prelude.{◌≡◌, OnErr, OnOk, Some, not};
-ghost use Rattle.tok_core.specs.Filled.{has_trees};
+ghost use Rattle.std.specs.Prelude.{◌≡◌, OnErr, OnOk, Some};
 ghost use Rattle.tok_core.specs.Forest.{AppendsFront, concat};
 ghost use Rattle.tok_buffer.specs.Cursors.{place_of};
 ghost use Rattle.tok_buffer.specs.View.{erased_ahead};
 ghost use Rattle.syn_parse.specs.Takings.{lighter, told};
 ghost use Rattle.syn_derive.specs.Visibilities.{is_restriction, is_word, is_word_alone, lightens_visibility, parens_trees, restricted_trees, take_visibility, visibility_form, visibility_trees};
 
-use crate::path::Path;
-use crate::print::write_optional;
+use crate::path::{Path, is_end};
+use crate::print::write_nothing;
 use std::alloc::AllocError;
 use syn_parse::{Parse, ParseStream, Result};
 use tok_buffer::Cursor;
@@ -73,14 +72,6 @@ fn is_word(inside: Cursor<'_>) -> bool
     token::Crate::peek(inside) || token::SelfValue::peek(inside) || token::Super::peek(inside)
 }
 
-// Returns `true` if no visible tree is left.
-fn is_end(inside: Cursor<'_>) -> bool
-    ensures { result ≡ not (has_trees (erased_ahead (place_of inside.entry))) }
-{
-    ahead_tells();
-    inside.leftover().is_none()
-}
-
 impl Parse for Visibility {
     ghost takes = { told visibility_form take_visibility (lighter lightens_visibility) };
 
@@ -114,7 +105,7 @@ impl VisRestricted {
     {
         writes_follow_writes();
         let mut inside = TokenStream::new(tokens.allocator());
-        write_optional(&self.in_token, &mut inside)?;
+        self.in_token.to_tokens(&mut inside)?;
         self.path.to_tokens(&mut inside)?;
         let span = self.paren_token.span.join();
         tokens.append(TokenTree::Group(Group::new(Delimiter::Parenthesis, inside, span)))
@@ -139,7 +130,7 @@ impl ToTokens for Visibility {
         match self {
             Visibility::Public(pub_token) => pub_token.to_tokens(tokens),
             Visibility::Restricted(restricted) => restricted.to_tokens(tokens),
-            Visibility::Inherited => Ok(()),
+            Visibility::Inherited => write_nothing(tokens),
         }
     }
 }

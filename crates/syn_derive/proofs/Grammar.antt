@@ -1,0 +1,7 @@
+-- What is parsed is what the grammar has, in both directions.
+pub mod Runs
+pub mod Paths
+pub mod Visibilities
+pub mod Attributes
+pub mod Fields
+pub mod Items

@@ -1,0 +1,13 @@
+use Rattle.std.specs.Fn.{FnOnceReturnsAtMut}
+use Rattle.syn_parse.proofs.GroupTakes.{at-states}
+use Rattle.syn_parse.proofs.WholeTakes.{parser_keeps}
+use Rattle.syn_parse.specs.Takings.{Keeps}
+use Rattle.syn_derive.specs.Arguments.{end_of, nested_list}
+use Rattle.syn_derive.proofs.meta.MetaList.parse_nested_meta.Goals as goal
+
+pub returns : goal.returns
+returns c =
+    parser_keeps nested_list c.args.self.now.tokens (end_of c.args.self.now)
+    (FnOnceReturnsAtMut _ _)
+    (λ s t r h. at-states (Keeps nested_list) _ _ s t r h.shows h.leaves h.met) _
+    c.parse_args_with.ensures

@@ -1,0 +1,69 @@
+//! Laws of derive inputs. Each is the contract of a function that does nothing.
+ghost use Rattle.std.specs.Prelude.{◌≡◌, Result, true};
+ghost use Rattle.tok_leaves.specs.declared.span.Span.{Span};
+ghost use Rattle.tok_core.specs.Filled.{filled};
+ghost use Rattle.tok_core.specs.Forest.{Forest, no_trees};
+ghost use Rattle.syn_parse.specs.Takings.{KeepsWhole};
+ghost use Rattle.syn_parse.specs.declared.fault.Fault.{Fault};
+ghost use Rattle.syn_punctuated.specs.Parts.{HasGrammar};
+ghost use Rattle.syn_derive.specs.Arguments.{take_nested_list};
+ghost use Rattle.syn_derive.specs.Attributes.{take_attributes};
+ghost use Rattle.syn_derive.specs.Fields.{take_fields, take_named_field, take_unnamed_field, take_variant};
+ghost use Rattle.syn_derive.specs.Generics.{take_params, take_where_clause};
+ghost use Rattle.syn_derive.specs.Grammar.{AreAttributes, AreGenericParams, AreNestedMetas, IsAttr};
+ghost use Rattle.syn_derive.specs.Grammar.{IsDeriveInput, IsEnumVariant, IsPath, IsStructField};
+ghost use Rattle.syn_derive.specs.Grammar.{IsTupleField, IsVisibility, IsWhereClause, ParsesInput};
+ghost use Rattle.syn_derive.specs.Grammar.{AreVariantFields};
+ghost use Rattle.syn_derive.specs.Inputs.{InputForm, take_input};
+ghost use Rattle.syn_derive.specs.Metas.{take_meta};
+ghost use Rattle.syn_derive.specs.Paths.{take_path};
+ghost use Rattle.syn_derive.specs.Visibilities.{take_visibility};
+ghost use Rattle.syn_derive.specs.RunGrammar.{AreParams, ArePredicates, AreTaken, IsExpr, IsType};
+ghost use Rattle.syn_derive.specs.Runs.{take_expr, take_type, take_until};
+ghost use Rattle.syn_derive.specs.declared.derive.DeriveInput.{DeriveInput};
+ghost use Rattle.syn_derive.specs.declared.run.Until.TheVariants.{Params, Predicates};
+
+use crate::derive::DeriveInput;
+use syn_parse::Parse;
+
+/// The tokens of a type, an expression, parameters and predicates are those that a grammar has, in
+/// which each `<` that opens has its `>`; and those that the grammar has are parsed.
+pub fn tokens_are_balanced()
+    ensures types { AreTaken IsType take_type }
+    ensures expressions { AreTaken IsExpr take_expr }
+    ensures parameters { AreTaken AreParams (take_until Params) }
+    ensures predicates { AreTaken ArePredicates (take_until Predicates) }
+{}
+
+/// Each of these parsers finds what the grammar has in the visible trees ahead, and leaves the trees
+/// after it. It finds all that the grammar has. `specs/Grammar` has the productions of the Rust
+/// Reference, and says where they are wider, as in `syn`. Types, expressions, parameters and
+/// predicates are tokens here, as in `tokens_are_balanced`.
+pub fn grammar_is_parsed()
+    ensures paths { HasGrammar take_path IsPath }
+    ensures visibilities { HasGrammar take_visibility IsVisibility }
+    ensures metas { HasGrammar take_meta IsAttr }
+    ensures nested_metas { HasGrammar take_nested_list AreNestedMetas }
+    ensures attributes { HasGrammar take_attributes AreAttributes }
+    ensures named_fields { HasGrammar take_named_field IsStructField }
+    ensures unnamed_fields { HasGrammar take_unnamed_field IsTupleField }
+    ensures fields { HasGrammar take_fields AreVariantFields }
+    ensures variants { HasGrammar take_variant IsEnumVariant }
+    ensures generics { HasGrammar take_params AreGenericParams }
+    ensures where_clauses { HasGrammar take_where_clause IsWhereClause }
+    ensures inputs { HasGrammar take_input IsDeriveInput }
+{}
+
+/// What a whole stream is parsed as, for example by `parse2`, is the derive input that the grammar
+/// has for its visible trees. If an error is returned, the grammar has none.
+pub fn inputs_follow_grammar()
+    ensures { (tokens : Forest) (scope : Span) (result : Result DeriveInput Fault)
+        → filled tokens ≡ true → KeepsWhole ⟦<DeriveInput as Parse>⟧.takes tokens scope result
+        → ParsesInput tokens result }
+{}
+
+/// The same trees are never two different derive inputs, spans included.
+pub fn inputs_once()
+    ensures { (trees : Forest) (left right : InputForm) → IsDeriveInput trees left no_trees
+        → IsDeriveInput trees right no_trees → left ≡ right }
+{}
