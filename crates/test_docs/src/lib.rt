@@ -7,6 +7,8 @@ mod buffers;
 #[cfg(test)]
 mod choices;
 #[cfg(test)]
+mod derive;
+#[cfg(test)]
 mod lists;
 #[cfg(test)]
 mod literals;

@@ -1,13 +1,15 @@
 //! What a derive is given and its parts, parsed, and written if they can be.
 use std::alloc::Global;
 use syn_derive::{
-    Attribute, DeriveInput, Expr, Field, Generics, Meta, Path, PathSegment, Type, Variant,
+    Attribute, DeriveInput, Expr, Field, Fields, Generics, Meta, Path, PathSegment, Type, Variant,
     Visibility, WhereClause,
 };
 use syn_parse::{Parse, ParseStream, Result, tokens_to_parse_buffer};
-use test_outcomes::memory::{Outcome, Stop, ended, made, rejected, worst};
+use syn_punctuated::Punctuated;
+use test_outcomes::memory::{Outcome, Stop, ended, made, rejected, told, worst};
 use tok_buffer::TokenBuffer;
-use tok_core::{Span, ToTokens};
+use tok_core::{Ident, Span, ToTokens};
+use tok_types::token;
 
 /// Makes each call.
 pub fn calls(alloc: Global) -> Outcome {
@@ -19,28 +21,40 @@ pub fn calls(alloc: Global) -> Outcome {
         copied::<Meta>(alloc, "a(abcdefghijklmnop, b)"),
         copied::<Meta>(alloc, "a[b]"),
         copied::<Meta>(alloc, "a{b}"),
+        copied::<Meta>(alloc, "unsafe(b)"),
+        takes::<Nested>(alloc, "::type::abcdefghijklmnop = 1"),
+        rejects::<Nested>(alloc, ",", "Meta::parse_nested"),
         copied::<Attribute>(alloc, "#[a]"),
         copied::<Visibility>(alloc, "pub"),
         copied::<Visibility>(alloc, "pub(in abcdefghijklmnop)"),
         copied::<Visibility>(alloc, "pub(crate)"),
         copied::<Type>(alloc, "Abcdefghijklmnop<B>"),
         copied::<Expr>(alloc, "abcdefghijklmnop + 1"),
-        takes::<Generics>(alloc, "<Abcdefghijklmnop>"),
-        takes::<WhereClause>(alloc, "where Abcdefghijklmnop: B"),
-        takes::<Named>(alloc, "pub abcdefghijklmnop: u8"),
+        copied::<Generics>(alloc, "<Abcdefghijklmnop>"),
+        copied::<WhereClause>(alloc, "where Abcdefghijklmnop: B"),
+        takes::<Named>(alloc, "#[a] pub abcdefghijklmnop: u8"),
         takes::<Unnamed>(alloc, "pub u8"),
-        takes::<Variant>(alloc, "Abcdefghijklmnop { a: u8 } = 1"),
-        takes::<DeriveInput>(alloc, "#[a] pub struct A<T> where T: B { a: T, b: u8 }"),
-        takes::<DeriveInput>(alloc, "struct A(u8) where u8: B;"),
-        takes::<DeriveInput>(alloc, "enum A { B, C(u8) }"),
-        takes::<DeriveInput>(alloc, "union A { a: u8 }"),
+        copied::<Fields>(alloc, "{ a: u8 }"),
+        copied::<Fields>(alloc, "(u8)"),
+        copied::<Fields>(alloc, ""),
+        copied::<Variant>(alloc, "#[a] Abcdefghijklmnop { a: u8 } = 1"),
+        copied::<DeriveInput>(alloc, "#[a] pub struct A<T> where T: B { a: T, b: u8 }"),
+        copied::<DeriveInput>(alloc, "struct A(u8) where u8: B;"),
+        copied::<DeriveInput>(alloc, "enum A { B, C(u8) }"),
+        copied::<DeriveInput>(alloc, "union A { a: u8 }"),
         rejects::<Path>(alloc, "fn", "Path::parse"),
-        rejects::<Meta>(alloc, "a = b", "Meta::parse"),
+        rejects::<Meta>(alloc, "a = ,", "Meta::parse"),
         rejects::<Attribute>(alloc, "#a", "Attribute::parse"),
         rejects::<Type>(alloc, ",", "Type::parse"),
         rejects::<Expr>(alloc, ",", "Expr::parse"),
         rejects::<DeriveInput>(alloc, "fn", "DeriveInput::parse"),
         outer(alloc),
+        arguments(alloc),
+        without_arguments(alloc, "#[abcdefghijklmnop::b]"),
+        without_arguments(alloc, "#[abcdefghijklmnop = 1]"),
+        asks(alloc, "abcdefghijklmnop::b"),
+        asks(alloc, "abcdefghijklmnop = 1"),
+        asks(alloc, "abcdefghijklmnop()"),
     ])
 }
 
@@ -75,6 +89,16 @@ impl Parse for Unnamed {
     }
 }
 
+/// By `Meta::parse_nested`.
+#[derive(Drop)]
+struct Nested(Meta);
+
+impl Parse for Nested {
+    fn parse(input: ParseStream<'_, '_>) -> Result<Self> {
+        Ok(Nested(Meta::parse_nested(input)?))
+    }
+}
+
 // Parses a text that has a value.
 fn takes<T: Parse + Drop>(alloc: Global, text: &str) -> Outcome {
     let buffer = laid(alloc, text)?;
@@ -101,4 +125,70 @@ fn outer(alloc: Global) -> Outcome {
     let attributes = Attribute::parse_outer(&mut input);
     input.discard();
     ended(attributes)
+}
+
+fn names(input: ParseStream<'_, '_>) -> Result<Punctuated<Ident, token::Comma>> {
+    Punctuated::parse_terminated(input)
+}
+
+// Parses the arguments of an attribute in each way.
+fn arguments(alloc: Global) -> Outcome {
+    let buffer = laid(alloc, "#[a(bcdefghijklmnop)]")?;
+    let attribute = made(parsed::<Attribute>(alloc, &buffer))?;
+    worst(&[
+        ended(attribute.parse_args::<Ident>(alloc)),
+        ended(attribute.parse_args_with(alloc, names)),
+        ended(attribute.parse_nested_meta(alloc)),
+        of_list(alloc, &attribute.meta),
+    ])
+}
+
+fn of_list(alloc: Global, meta: &Meta) -> Outcome {
+    match meta {
+        Meta::List(list) => worst(&[
+            ended(list.parse_args::<Ident>(alloc)),
+            ended(list.parse_args_with(alloc, names)),
+            ended(list.parse_nested_meta(alloc)),
+        ]),
+        _ => Err(Stop::Wrong("Attribute::parse")),
+    }
+}
+
+// Parses the arguments of an attribute that has none.
+fn without_arguments(alloc: Global, text: &str) -> Outcome {
+    let buffer = laid(alloc, text)?;
+    let attribute = made(parsed::<Attribute>(alloc, &buffer))?;
+    worst(&[
+        rejected(
+            attribute.parse_args::<Ident>(alloc),
+            "Attribute::parse_args",
+        ),
+        rejected(
+            attribute.parse_args_with(alloc, names),
+            "Attribute::parse_args_with",
+        ),
+        rejected(
+            attribute.parse_nested_meta(alloc),
+            "Attribute::parse_nested_meta",
+        ),
+    ])
+}
+
+// Returns how a call ends that may make an error.
+fn asked<T>(returned: Result<&T>) -> Outcome {
+    match returned {
+        Ok(_) => Ok(()),
+        Err(fault) => told(fault),
+    }
+}
+
+// Asks for each form of a meta.
+fn asks(alloc: Global, text: &str) -> Outcome {
+    let buffer = laid(alloc, text)?;
+    let meta = made(parsed::<Meta>(alloc, &buffer))?;
+    worst(&[
+        asked(meta.require_path_only(alloc)),
+        asked(meta.require_list(alloc)),
+        asked(meta.require_name_value(alloc)),
+    ])
 }

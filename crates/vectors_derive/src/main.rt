@@ -9,11 +9,13 @@ use anyhow::{Context, Result};
 use std::alloc::Global;
 use std::io;
 use syn_derive::{
-    Attribute, Data, DeriveInput, Expr, Fields, Generics, Meta, Path, Type, Visibility,
+    Attribute, Data, DeriveInput, Expr, Fields, Generics, Meta, Path, Type, Visibility, WhereClause,
 };
-use syn_parse::{ParseStream, Parser};
+use syn_parse::{ParseStream, Parser, parse2};
+use syn_punctuated::Punctuated;
 use test_outcomes::said;
-use tok_core::{Ident, ToTokens, TokenStream, lex_marked};
+use tok_core::{Ident, Literal, ToTokens, TokenStream, lex_marked};
+use tok_types::token;
 
 fn main(rt: HostRuntime) -> Result<()> {
     let alloc = rt.alloc();
@@ -43,11 +45,19 @@ fn parsed(alloc: Global, name: &str, tokens: TokenStream) -> Option<syn_parse::R
         "Meta" => meta.parse2(alloc, tokens),
         "Attribute" => attribute.parse2(alloc, tokens),
         "Attributes" => attributes.parse2(alloc, tokens),
+        "PathOnly" => path_only.parse2(alloc, tokens),
+        "List" => list.parse2(alloc, tokens),
+        "NameValue" => name_value.parse2(alloc, tokens),
+        "Argument" => argument.parse2(alloc, tokens),
+        "Literals" => literals.parse2(alloc, tokens),
+        "Nested" => nested.parse2(alloc, tokens),
         "Visibility" => visibility.parse2(alloc, tokens),
         "Type" => ty.parse2(alloc, tokens),
         "Expr" => expr.parse2(alloc, tokens),
         "Generics" => generics.parse2(alloc, tokens),
+        "WhereClause" => where_clause.parse2(alloc, tokens),
         "DeriveInput" => input.parse2(alloc, tokens),
+        "Written" => written_input.parse2(alloc, tokens),
         _ => return None,
     };
     Some(returned)
@@ -99,6 +109,56 @@ fn attributes(input: ParseStream<'_, '_>) -> syn_parse::Result<String> {
     Ok(text)
 }
 
+fn path_only(input: ParseStream<'_, '_>) -> syn_parse::Result<String> {
+    let alloc = input.allocator();
+    let meta: Meta = input.parse()?;
+    written(alloc, "path", meta.require_path_only(alloc)?)
+}
+
+fn list(input: ParseStream<'_, '_>) -> syn_parse::Result<String> {
+    let alloc = input.allocator();
+    let meta: Meta = input.parse()?;
+    written(alloc, "list", meta.require_list(alloc)?)
+}
+
+fn name_value(input: ParseStream<'_, '_>) -> syn_parse::Result<String> {
+    let alloc = input.allocator();
+    let meta: Meta = input.parse()?;
+    written(alloc, "value", meta.require_name_value(alloc)?)
+}
+
+// Returns the identifier that is an attribute's argument.
+fn argument(input: ParseStream<'_, '_>) -> syn_parse::Result<String> {
+    let alloc = input.allocator();
+    let attribute: Attribute = input.parse()?;
+    let argument: Ident = attribute.parse_args(alloc)?;
+    written(alloc, "argument", &argument)
+}
+
+// Returns the literals that are an attribute's arguments.
+fn literals(input: ParseStream<'_, '_>) -> syn_parse::Result<String> {
+    let alloc = input.allocator();
+    let attribute: Attribute = input.parse()?;
+    let literals: Punctuated<Literal, token::Comma> = attribute.parse_args_with(
+        alloc,
+        Punctuated::parse_terminated,
+    )?;
+    written(alloc, "literals", &literals)
+}
+
+// Returns the metas that are an attribute's arguments.
+fn nested(input: ParseStream<'_, '_>) -> syn_parse::Result<String> {
+    let alloc = input.allocator();
+    let attribute: Attribute = input.parse()?;
+    let metas = attribute.parse_nested_meta(alloc)?;
+    let mut text = format!(in alloc; "{} read", metas.len())?;
+    for meta in metas.iter() {
+        text.push_str(" ")?;
+        text.push_str(written(alloc, meta_word(meta), meta)?.as_str())?;
+    }
+    Ok(text)
+}
+
 // Returns a visibility, and all after it.
 fn visibility(input: ParseStream<'_, '_>) -> syn_parse::Result<String> {
     let alloc = input.allocator();
@@ -140,9 +200,38 @@ fn count(fields: &Fields) -> usize {
     }
 }
 
+fn where_clause(input: ParseStream<'_, '_>) -> syn_parse::Result<String> {
+    let clause: WhereClause = input.parse()?;
+    written(input.allocator(), "predicates", &clause)
+}
+
+// Returns an item's tokens, and other ones after them if these are read as an item that has those.
+fn again(alloc: Global, read: &DeriveInput) -> syn_parse::Result<String> {
+    let tokens = read.to_token_stream(alloc)?;
+    let first = format!(in alloc; "{tokens}")?;
+    let read: DeriveInput = parse2(alloc, tokens)?;
+    let tokens = read.to_token_stream(alloc)?;
+    let second = format!(in alloc; "{tokens}")?;
+    if first.as_str() == second.as_str() {
+        Ok(first)
+    } else {
+        Ok(format!(in alloc; "{first}, and then: {second}")?)
+    }
+}
+
+fn written_input(input: ParseStream<'_, '_>) -> syn_parse::Result<String> {
+    let alloc = input.allocator();
+    let read: DeriveInput = input.parse()?;
+    again(alloc, &read)
+}
+
 fn input(input: ParseStream<'_, '_>) -> syn_parse::Result<String> {
     let alloc = input.allocator();
     let read: DeriveInput = input.parse()?;
+    let written = again(alloc, &read)?;
+    if written.contains(", and then: ") {
+        return Ok(written);
+    }
     let (word, count) = match &read.data {
         Data::Struct(data) => ("struct", count(&data.fields)),
         Data::Enum(data) => ("enum", data.variants.len()),
