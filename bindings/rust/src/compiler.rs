@@ -44,6 +44,7 @@ use crate::proc_macro2::UnknownToken;
 use crate::respond::Response;
 
 pub use crate::ffi::Export;
+pub use crate::trees::Trees;
 
 /// What an export returns, how it is laid out, and what it takes.
 pub mod layout {

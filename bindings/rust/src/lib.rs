@@ -42,6 +42,8 @@ mod print;
 #[cfg(feature = "proc-macro2")]
 mod proc_macro2;
 mod respond;
+#[cfg(feature = "proc-macro2")]
+mod trees;
 mod values;
 
 #[cfg(feature = "proc-macro2")]

@@ -1,7 +1,7 @@
 //! Buffers of `proc_macro2` streams, outside a compiler.
 #![cfg(feature = "proc-macro2")]
 use proc_macro2::{Delimiter, Group, Ident, Span, TokenStream, TokenTree};
-use syn_tokens::compiler::{Arguments, Buffer, Error, Value};
+use syn_tokens::compiler::{Arguments, Buffer, Error, Trees, Value};
 
 fn buffer(text: &str) -> Buffer {
     Buffer::from(text.parse::<TokenStream>().expect("proc_macro2 reads it"))
@@ -138,4 +138,42 @@ fn nested_groups() {
     let stream = TokenStream::try_from(&buffer).expect("each token is one of proc_macro2");
     assert_eq!(Buffer::from(stream).len(), 6000);
     assert!(buffer.arguments().is_err());
+}
+
+/// A stream as text, with `@` and parentheses around an invisible group.
+fn shown(stream: TokenStream) -> String {
+    let all: Vec<String> = stream
+        .into_iter()
+        .map(|tree| match tree {
+            TokenTree::Group(it) if it.delimiter() == Delimiter::None => {
+                format!("@({})", shown(it.stream()))
+            }
+            TokenTree::Group(it) => format!("({})", shown(it.stream())),
+            other => other.to_string(),
+        })
+        .collect();
+    all.join(" ")
+}
+
+#[test]
+fn parts() {
+    let text = "a @(b c) @() (d @(@(e) f) g) h";
+    let trees = Trees::from(marked(text));
+    let rows = [
+        (0..10, "a @(b c) (d @(@(e) f) g) h"),
+        (0..3, "a @(b c)"),
+        (0..2, "a b"),
+        (1..3, "@(b c)"),
+        (2..9, "c (d @(@(e) f) g)"),
+        (3..9, "(d @(@(e) f) g)"),
+        (4..8, "d @(@(e) f) g"),
+        (5..6, "@(e)"),
+        (6..8, "f g"),
+        (3..3, ""),
+        (20..30, ""),
+    ];
+    for (range, wanted) in rows {
+        let part = trees.part(syn_tokens::Span { start: range.start, end: range.end });
+        assert_eq!(shown(part), wanted, "{range:?}");
+    }
 }

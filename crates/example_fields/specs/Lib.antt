@@ -1,0 +1,4 @@
+pub mod Ends
+pub mod Inputs
+pub mod Ranges
+pub mod Tables
