@@ -2,7 +2,7 @@
 use std::alloc::{AllocGlobal, Global};
 use std::process::Abort;
 use tok_buffer::Error;
-use tok_carets::{LineColumn, Source, line_column};
+use tok_carets::{LineColumn, LineIndex, Source, line_column};
 use tok_core::{LexFault, Span, lex};
 
 // A text, the range of a span in source 1, and what is shown.
@@ -175,4 +175,40 @@ fn places(rt: HostRuntime) {
     assert_eq!(rt; line_column(""), LineColumn { line: 1, column: 1 });
     assert_eq!(rt; line_column("a\né"), LineColumn { line: 2, column: 2 });
     assert_eq!(rt; line_column("a\n\n"), LineColumn { line: 3, column: 1 });
+}
+
+fn indexed(alloc: Global, text: &str, at: usize) -> Option<LineColumn> {
+    LineIndex::new(alloc, text).ok()?.line_column(at)
+}
+
+#[test]
+fn indexed_places(rt: HostRuntime) {
+    let alloc = rt.alloc();
+    let text = "a\né\n\nbc";
+    assert_eq!(rt;
+        indexed(alloc, "", 0),
+        Some(LineColumn { line: 1, column: 1 })
+    );
+    assert_eq!(rt;
+        indexed(alloc, text, 1),
+        Some(LineColumn { line: 1, column: 2 })
+    );
+    assert_eq!(rt;
+        indexed(alloc, text, 2),
+        Some(LineColumn { line: 2, column: 1 })
+    );
+    assert_eq!(rt; indexed(alloc, text, 3), None);
+    assert_eq!(rt;
+        indexed(alloc, text, 4),
+        Some(LineColumn { line: 2, column: 2 })
+    );
+    assert_eq!(rt;
+        indexed(alloc, text, 6),
+        Some(LineColumn { line: 4, column: 1 })
+    );
+    assert_eq!(rt;
+        indexed(alloc, text, 8),
+        Some(LineColumn { line: 4, column: 3 })
+    );
+    assert_eq!(rt; indexed(alloc, text, 9), None);
 }

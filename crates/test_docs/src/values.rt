@@ -2,7 +2,7 @@
 use std::alloc::{AllocError, AllocGlobal, Global};
 use std::process::Abort;
 use tok_buffer::Error;
-use tok_carets::{LineColumn, Source, line_column};
+use tok_carets::{LineColumn, LineIndex, Source, line_column};
 use tok_core::{LexFault, Literal, Span, TokenTree, lex};
 use tok_values::{IntegerFault, LiteralExt};
 
@@ -54,8 +54,18 @@ fn notes(
     Ok(())
 }
 
+fn indexed(rt: &impl Abort, alloc: Global) -> Result<(), AllocError> {
+    let index = LineIndex::new(alloc, "a\nbc")?;
+    assert_eq!(rt;
+        index.line_column(3),
+        Some(LineColumn { line: 2, column: 2 })
+    );
+    Ok(())
+}
+
 #[test]
 fn errors(rt: HostRuntime) {
     assert!(rt; carets(&rt, rt.alloc()).is_ok());
     assert_eq!(rt; line_column("a\né"), LineColumn { line: 2, column: 2 });
+    assert!(rt; indexed(&rt, rt.alloc()).is_ok());
 }

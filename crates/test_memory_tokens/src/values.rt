@@ -2,7 +2,7 @@
 use std::alloc::Global;
 use test_outcomes::memory::{Outcome, Stop, ended, made, worst};
 use tok_buffer::Error;
-use tok_carets::Source;
+use tok_carets::{LineIndex, Source};
 use tok_core::{Edition, LexFault, Literal, Span, TokenTree, lex, lex_source};
 use tok_values::LiteralExt;
 
@@ -14,6 +14,7 @@ pub fn calls(alloc: Global) -> Outcome {
         ended(source().show(alloc, span(), "no")),
         shown_error(alloc),
         shown_lex(alloc),
+        ended(LineIndex::new(alloc, "a\nb\nc\n")),
     ])
 }
 

@@ -1,3 +1,4 @@
+mod Begins
 mod Feeds
 mod Lanes
 mod Lines

@@ -1,9 +1,11 @@
 -- Lines of a text, and how many columns a character takes. Texts are lists of characters.
 use Rattle.std.specs.Prelude.{◌≡◌, ℕ, ◌+◌, ◌-◌, ◌==◌, ◌⊎◌, List, [], ◌∷◌, ◌++◌, true, false}
-use Rattle.std.specs.Prelude.{if◌then◌else◌, unwrap_or, encode_utf8}
+use Rattle.std.specs.Prelude.{◌<◌, if◌then◌else◌, unwrap_or, encode_utf8, get_or, length, take}
 use Rattle.std.specs.List.{flat_map, list_all, repeat}
 use Rattle.std.specs.Char.{len_utf8}
+use Rattle.std.specs.Str.{chars}
 use Rattle.tok_lexical.specs.Comments.{is_not_line_feed}
+use Rattle.tok_carets.specs.declared.line.LineColumn.{LineColumn}
 use Rattle.unicode_width.specs.Width.{char_width}
 
 -- the last line of a text: no line feed is in it, and one is before it, or nothing
@@ -48,3 +50,24 @@ shown c = if c == 9 then 32 ∷ 32 ∷ 32 ∷ 32 ∷ [] else encode_utf8 c
 -- this mark in each column of a text
 abbrev pub marks : (mark : ℕ) → List ℕ → List ℕ
 marks mark text = flat_map (λ c. repeat (columns c) (mark ∷ [])) text
+
+-- the line and the column of the place after a text
+abbrev pub IsLineColumn : (before : List ℕ) → LineColumn → Type 0
+IsLineColumn before place =
+    (place.line ≡ line_number (chars before))
+    × ((line : List ℕ) × IsLastLine (chars before) line × (place.column ≡ 1 + length line))
+
+-- at this byte of a text, right after a line feed, begins a line that comes after so many
+abbrev pub BeginsLine : (text : List ℕ) → (lines at : ℕ) → Type 0
+BeginsLine text lines at =
+    let before = chars (take at text) in
+    (line_feeds before ≡ lines) × (get_or before (length before - 1) 0 ≡ 10)
+
+-- a line begins at each of these bytes, in order
+abbrev pub BeginLines : (text starts : List ℕ) → Type 0
+BeginLines text starts =
+    (k : ℕ) → k < length starts → BeginsLine text (k + 1) (get_or starts k 0)
+
+-- a line begins at this byte, or it is the first byte and no line is before it
+abbrev pub BeginsAt : (text : List ℕ) → (lines at : ℕ) → Type 0
+BeginsAt text lines at = BeginsLine text lines at ⊎ ((lines ≡ 0) × (at ≡ 0))

@@ -11,8 +11,10 @@
 #![tactic(auto)]
 
 mod counts;
+mod index;
 mod line;
 mod source;
 
+pub use index::LineIndex;
 pub use line::{LineColumn, line_column};
 pub use source::Source;
