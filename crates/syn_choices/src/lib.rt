@@ -1,8 +1,10 @@
-//! Choices in the middle of a parser, and lists in groups, for which a parser needs no type or
-//! function of its own.
+//! Choices, attempts and loops by a function in the middle of a parser, lists in groups, and peeks
+//! made of peeks. A parser needs no type of its own for these.
 #![tactic(auto)]
 
 mod ext;
+mod peeks;
 
 pub use either::Either;
 pub use ext::ParseBufferExt;
+pub use peeks::{NotNext, OneOf, Then};

@@ -112,7 +112,9 @@ pub use Rattle.syn_punctuated.specs.TakeLists
 pub use Rattle.syn_punctuated.specs.Trees as ListTrees
 pub use Rattle.syn_punctuated.specs.Turns as ListTurns
 pub use Rattle.syn_punctuated.specs.Weighing as ListWeighing
+pub use Rattle.syn_choices.specs.Attempts
 pub use Rattle.syn_choices.specs.Choices
+pub use Rattle.syn_choices.specs.Peeks
 pub use Rattle.syn_replay.specs.Agree
 pub use Rattle.syn_replay.specs.Commands
 pub use Rattle.syn_replay.specs.Forks

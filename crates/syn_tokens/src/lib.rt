@@ -88,7 +88,7 @@ pub mod ext {
 
 /// Errors with the line that they are about.
 pub mod carets {
-    pub use tok_carets::{LineColumn, Source, line_column};
+    pub use tok_carets::{LineColumn, LineIndex, Source, line_column};
 }
 
 /// Parsers that enter groups.
@@ -101,7 +101,7 @@ pub mod group {
 
 /// Parse streams, and the traits of parsers.
 pub mod parse {
-    pub use syn_choices::{Either, ParseBufferExt};
+    pub use syn_choices::{Either, NotNext, OneOf, ParseBufferExt, Then};
     pub use syn_parse::{
         Fault, Lookahead1, Nothing, Parse, ParseBuffer, ParseStream, Parser, Paused, Result,
         StepCursor, tokens_to_parse_buffer,

@@ -1,8 +1,8 @@
-//! A value after a token that may be missing, one of two values, a peek into a group, and values in
-//! groups.
+//! Choices: a value after a token that may be missing, one of two values, and a value that is tried.
+//! Peeks made of peeks, and into a group. Values in groups.
 use either::Either;
 use std::alloc::Global;
-use syn_choices::ParseBufferExt;
+use syn_choices::{NotNext, OneOf, ParseBufferExt, Then};
 use syn_parse::{ParseStream, Parser, Result};
 use tok_core::{Delimiter, Group, Ident, Literal};
 use tok_types::token;
@@ -15,6 +15,10 @@ pub fn parsed(alloc: Global, parser: &str, text: &str) -> Option<Result<String>>
         "StarIf" => star_if.parse_str(alloc, text),
         "NameOrText" => name_or_text.parse_str(alloc, text),
         "ListInBrackets" => list_in_brackets.parse_str(alloc, text),
+        "Attempt" => attempt.parse_str(alloc, text),
+        "AttemptWith" => attempt_with.parse_str(alloc, text),
+        "AttemptLeaves" => attempt_leaves.parse_str(alloc, text),
+        "Peeks" => peeks.parse_str(alloc, text),
         "Pair" => pair.parse_str(alloc, text),
         "Triple" => triple.parse_str(alloc, text),
         _ => return None,
@@ -58,6 +62,48 @@ fn name_or_text(input: ParseStream<'_, '_>) -> Result<String> {
 fn list_in_brackets(input: ParseStream<'_, '_>) -> Result<String> {
     let (_, names) = input.parse_terminated_within::<Ident, token::Comma>(Delimiter::Bracket)?;
     Ok(format!(in input.allocator(); "{} {}", names.len(), names.trailing_punct())?)
+}
+
+// Returns whether a name and a comma are first, and the name after them.
+fn attempt(input: ParseStream<'_, '_>) -> Result<String> {
+    let found = input.attempt::<(Ident, token::Comma)>()?;
+    let name: Ident = input.parse()?;
+    Ok(format!(in input.allocator(); "{} {}", found.is_some(), name.as_str())?)
+}
+
+// Returns whether a group with a name alone is first, and a name after it or after a group.
+fn attempt_with(input: ParseStream<'_, '_>) -> Result<String> {
+    let found = input.attempt_with(|input| {
+        let (_, name) = input.parse_within::<Ident>(Delimiter::Parenthesis)?;
+        Ok(name)
+    })?;
+    if found.is_none() {
+        let _: Group = input.parse()?;
+    }
+    let name: Ident = input.parse()?;
+    Ok(format!(in input.allocator(); "{} {}", found.is_some(), name.as_str())?)
+}
+
+// Leaves the stream for the group that is next.
+fn enter(input: ParseStream<'_, '_>) -> Result<()> {
+    let (_, _, mut content) = input.parse_any_delimiter()?;
+    input.swap(&mut content);
+    content.discard();
+    Ok(())
+}
+
+fn attempt_leaves(input: ParseStream<'_, '_>) -> Result<String> {
+    let entered = input.attempt_with(enter)?;
+    Ok(format!(in input.allocator(); "{}", entered.is_some())?)
+}
+
+// Returns whether a name and `:` are next, whether `*` or a name is, and whether no `*` is.
+fn peeks(input: ParseStream<'_, '_>) -> Result<String> {
+    let named = input.peek::<Then<Ident, token::Colon>>();
+    let first = input.peek::<OneOf<token::Star, Ident>>();
+    let other = input.peek::<NotNext<token::Star>>();
+    let _ = input.rest()?;
+    Ok(format!(in input.allocator(); "{named} {first} {other}")?)
 }
 
 // Returns two names.

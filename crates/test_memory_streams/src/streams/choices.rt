@@ -1,4 +1,5 @@
-//! The parsers of one of two values, of values of several types, and of a list in a group.
+//! The parsers of one of two values, of values of several types, of a value that is tried, of values
+//! by a function, and of a list in a group.
 use super::takes;
 use either::Either;
 use std::alloc::Global;
@@ -42,6 +43,47 @@ impl Parse for Names {
     }
 }
 
+/// By `ParseBufferExt::attempt`: a name and a comma, or a name.
+#[derive(Drop)]
+struct Tried((Option<(Ident, token::Comma)>, Ident));
+
+impl Parse for Tried {
+    fn parse(input: ParseStream<'_, '_>) -> Result<Self> {
+        let tried = input.attempt()?;
+        Ok(Tried((tried, input.parse()?)))
+    }
+}
+
+/// By `ParseBufferExt::attempt_with`.
+#[derive(Drop)]
+struct TriedName(Option<Ident>);
+
+impl Parse for TriedName {
+    fn parse(input: ParseStream<'_, '_>) -> Result<Self> {
+        Ok(TriedName(input.attempt_with(|input| input.parse())?))
+    }
+}
+
+/// By `ParseBufferExt::parse_while_with`.
+#[derive(Drop)]
+struct StarsBy(Vec<token::Star>);
+
+impl Parse for StarsBy {
+    fn parse(input: ParseStream<'_, '_>) -> Result<Self> {
+        Ok(StarsBy(input.parse_while_with::<token::Star, token::Star, _>(|input| input.parse())?))
+    }
+}
+
+/// By `ParseBufferExt::parse_until_end_with`.
+#[derive(Drop)]
+struct NamesBy(Vec<Ident>);
+
+impl Parse for NamesBy {
+    fn parse(input: ParseStream<'_, '_>) -> Result<Self> {
+        Ok(NamesBy(input.parse_until_end_with(|input| input.parse())?))
+    }
+}
+
 /// Makes each call.
 pub fn calls(alloc: Global) -> Outcome {
     worst(&[
@@ -49,6 +91,11 @@ pub fn calls(alloc: Global) -> Outcome {
         takes::<StarOrName>(alloc, "*"),
         takes::<StarOrName>(alloc, "abcdefghijklmnop"),
         takes::<Names>(alloc, "[abcdefghijklmnop, b]"),
+        takes::<Tried>(alloc, "abcdefghijklmnop, b"),
+        takes::<Tried>(alloc, "abcdefghijklmnop"),
+        takes::<TriedName>(alloc, "abcdefghijklmnop"),
+        takes::<StarsBy>(alloc, "**"),
+        takes::<NamesBy>(alloc, "abcdefghijklmnop b"),
         takes::<(Ident, Ident)>(alloc, "abcdefghijklmnop b"),
         takes::<(Ident, token::Comma, Ident)>(alloc, "abcdefghijklmnop, b"),
     ])

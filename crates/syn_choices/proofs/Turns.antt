@@ -1,0 +1,54 @@
+-- Turns of a loop that stays in its scope.
+use Rattle.std.proofs.Common.{◌≡◌, ◌-◌, ◌<◌, ◌≤◌, ◌⊎◌, ℕ, ap, arith, sym, subst, inl, inr}
+use Rattle.std.proofs.Common.{Bool, true, false, List, [], Ok, Err, Option, Some}
+use Rattle.tok_core.specs.Weight.{weight}
+use Rattle.tok_buffer.specs.Order.{same_scope}
+use Rattle.tok_buffer.specs.Place.{Place, at, empty_place, frame}
+use Rattle.tok_buffer.specs.Progress.{remaining}
+use Rattle.tok_buffer.specs.View.{erased_ahead}
+use Rattle.syn_parse.proofs.Failing.{stays_along}
+use Rattle.syn_parse.proofs.Repeats.{TurnsOf, turns-start, turns-stuck}
+use Rattle.syn_parse.proofs.Scopes.{in_one_scope}
+use Rattle.syn_parse.specs.Many.{many_of}
+use Rattle.syn_parse.specs.State.{State}
+use Rattle.syn_parse.specs.Takes.{Stays}
+use Rattle.syn_parse.specs.Takings.{Keeps, Takings, lower, told, told_filled}
+use Rattle.syn_parse.specs.TreesAhead.{Ahead}
+use Rattle.syn_parse.specs.declared.fault.Fault.{Fault}
+
+-- in one scope no more remains where no more is counted
+pub no_more : (p q : Place) → same_scope p q ≡ true → remaining q - 1 ≤ remaining p - 1
+    → remaining q ≤ remaining p
+no_more empty_place empty_place e h = omega arith
+no_more empty_place (at m t d k ks) e h = absurd (cc)
+no_more (at n s c l ls) empty_place e h = omega arith
+no_more (at n s c (frame o p f) ls) (at m t d (frame q r g) ks) e h = omega (arith, h)
+
+-- a stream that stays is in its scope, and no more remains
+no_more_elsewhere : (s t : State) → Stays s t → (p : Place) → p ≡ s.place
+    → (same_scope p t.place ≡ false) ⊎ (remaining p < remaining t.place) → ⊥
+no_more_elsewhere s t h p e (inl other) = let k = in_one_scope s.place t.place h.1 in cc
+no_more_elsewhere s t h p e (inr more) = omega (arith, more, h.2, ap remaining e)
+
+-- a value that takes something leaves a turn for the next one, in the same scope
+pub turns_stuck : {T : Type 0} (test : Option (Ahead → Bool)) (takes : Takings T) (s t u : State)
+    (vs : List T) (n : ℕ) (v : T) (f : Fault) → TurnsOf test takes s vs t n
+    → Keeps takes t (Ok v) u → (p : Place) → p ≡ s.place
+    → (n ≡ 0) ⊎ ((same_scope p u.place ≡ false) ⊎ (remaining p < remaining u.place))
+    → Keeps (many_of test takes) s (Err f) u
+turns_stuck test takes s t u vs n v f so w p e (inl none) =
+    turns-stuck test takes s t u vs n v f so w none
+turns_stuck (Some test) (told form take (lower less)) s t u vs n v f so w p e (inr other) =
+    absurd (no_more_elsewhere s u (stays_along s t u so.stays w.1) p e other)
+turns_stuck (Some test) (told_filled form take (lower less)) s t u vs n v f so w p e (inr other) =
+    λ i. absurd (no_more_elsewhere s u
+    (stays_along s t u (so i).stays (w ((so i).stays.0 i)).1) p e other)
+turns_stuck test takes s t u vs n v f so w p e (inr other) = tt
+
+-- what is ahead is as heavy as is counted
+pub turns_begin : {T : Type 0} (test : Option (Ahead → Bool)) (takes : Takings T) (s : State)
+    (p : Place) (n : ℕ) (vs : List T) → p ≡ s.place → weight (erased_ahead p) ≤ n → vs ≡ []
+    → TurnsOf test takes s vs s n
+turns_begin test takes s p n vs e h none =
+    subst (λ xs. TurnsOf test takes s xs s n) (sym none)
+    (turns-start test takes s n (omega (arith, h, ap (λ q. weight (erased_ahead q)) e)))
