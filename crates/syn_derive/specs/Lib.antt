@@ -12,3 +12,4 @@ pub mod Fields
 pub mod Inputs
 pub mod Grammar
 pub mod Written
+pub mod Again

@@ -179,7 +179,7 @@ attributes =
     many_exactly pound_tells attribute (record { begins = attribute_first }) lowers_attribute
 
 -- the arguments of attributes
-nested_meta : Exactly IsNestedMeta take_nested_meta
+pub nested_meta : Exactly IsNestedMeta take_nested_meta
 unfolding take_nested_meta take_meta_after
 nested_meta =
     exactly

@@ -48,7 +48,7 @@ use Rattle.syn_derive.proofs.Grammar.Visibilities.{visibility}
 lt_sign : Exactly IsLt take_lt
 lt_sign = sign_exactly 20 1 refl
 
-lt_tells : Tells IsLt sees_lt
+pub lt_tells : Tells IsLt sees_lt
 lt_tells = sign_tells 20 1 refl
 
 gt_sign : Exactly IsGt take_gt
@@ -68,7 +68,7 @@ params =
           simp (lt_tells.seen l, takes lt_sign l, takes plain_params p, takes gt_sign g) refl
       go _ _ _ (no_params n) = simp (unseen lt_tells n) refl
 
-where_tells : Tells IsWhereToken sees_where
+pub where_tells : Tells IsWhereToken sees_where
 where_tells = word_tells 51 _ _ refl
 
 where_word : Exactly IsWhereToken take_where

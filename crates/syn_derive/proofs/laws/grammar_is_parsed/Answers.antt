@@ -1,4 +1,4 @@
-use Rattle.syn_derive.proofs.Grammar.Attributes.{attributes, meta, nested_metas}
+use Rattle.syn_derive.proofs.Grammar.Attributes.{attribute, attributes, meta, nested_meta, nested_metas}
 use Rattle.syn_punctuated.proofs.Exactly.{has_grammar}
 use Rattle.syn_derive.proofs.Grammar.Fields.{named_field, unnamed_field, variant, variant_fields}
 use Rattle.syn_derive.proofs.Grammar.Items.{clause_of, derive_input_exactly, params}
@@ -17,6 +17,12 @@ returns-clause-metas c = has_grammar meta
 
 pub returns-clause-nested_metas : goal.returns-clause-nested_metas
 returns-clause-nested_metas c = has_grammar nested_metas
+
+pub returns-clause-nested_meta : goal.returns-clause-nested_meta
+returns-clause-nested_meta c = has_grammar nested_meta
+
+pub returns-clause-attribute : goal.returns-clause-attribute
+returns-clause-attribute c = has_grammar attribute
 
 pub returns-clause-attributes : goal.returns-clause-attributes
 returns-clause-attributes c = has_grammar attributes
