@@ -1,6 +1,6 @@
 -- Fields and variants, by the visible trees ahead: "Structs" and "Enumerations" in the Rust
 -- Reference.
-use Rattle.std.specs.Prelude.{List, Option, None, Some, option_map}
+use Rattle.std.specs.Prelude.{List, [], Option, None, Some, option_map}
 use Rattle.tok_lexical.specs.declared.delimiter.Delimiter.TheVariants.{Brace, Parenthesis}
 use Rattle.tok_leaves.specs.declared.ident.Ident.{Ident}
 use Rattle.tok_leaves.specs.declared.span.DelimSpan.{DelimSpan}
@@ -13,6 +13,7 @@ use Rattle.syn_parse.specs.Takes.{Taking, ◌>>=◌, gives, take_group, where_ah
 use Rattle.syn_parse.specs.Takings.{Lightens, Lowers, Takings, lighter, taken_filled, told_filled}
 use Rattle.syn_parse.specs.TokenNames.{sees_eq, take_colon, take_comma, take_eq}
 use Rattle.syn_parse.specs.Tokens.{sees_group, take_ident}
+use Rattle.syn_punctuated.specs.Lists.{values_of}
 use Rattle.syn_punctuated.specs.TakeLists.{list_form, take_terminated}
 use Rattle.syn_punctuated.specs.Weighing.{weighing_lists}
 use Rattle.syn_punctuated.specs.declared.punctuated.Punctuated.{Punctuated}
@@ -34,6 +35,12 @@ FieldForm =
 abbrev pub field_form : Field → FieldForm
 field_form f =
     (attributes_form f.attrs, visibility_form f.vis, f.ident, f.colon_token, erase f.ty.tokens)
+
+-- the fields in braces or in parentheses, in order, or none
+abbrev pub each_field : Fields → List Field
+each_field (fields.Named f) = values_of f.named
+each_field (fields.Unnamed f) = values_of f.unnamed
+each_field fields.Unit = []
 
 -- attributes, a visibility, a name, `:` and a type
 unfoldable pub take_named_field : Taking FieldForm

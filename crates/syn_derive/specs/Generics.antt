@@ -1,10 +1,11 @@
 -- Parameters and `where` clauses, by the visible trees ahead: "Generic parameters" in the Rust
 -- Reference, with parameters and predicates as tokens.
-use Rattle.std.specs.Prelude.{Option, None, Some}
+use Rattle.std.specs.Prelude.{◌≡◌, Option, None, Some, Ok, Err}
 use Rattle.tok_core.specs.Erase.{erase}
 use Rattle.tok_core.specs.Forest.{Forest, no_trees}
 use Rattle.tok_types.specs.declared.keyword.Keyword.{Keyword}
 use Rattle.tok_types.specs.declared.punctuation.Punctuation.{Punctuation}
+use Rattle.syn_parse.specs.Reads.{Call}
 use Rattle.syn_parse.specs.Takes.{Taking, ◌>>=◌, gives, where_ahead}
 use Rattle.syn_parse.specs.Takings.{Lightens, Lowers}
 use Rattle.syn_parse.specs.TokenNames.{sees_lt, take_gt, take_lt, take_where}
@@ -20,6 +21,11 @@ ParamsForm = Option (Punctuation 20 1) × Forest × Option (Punctuation 17 1)
 
 abbrev pub params_form : Generics → ParamsForm
 params_form g = (g.lt_token, erase g.params, g.gt_token)
+
+-- parameters are parsed without a `where` clause
+abbrev pub HaveNoClause : Call Generics
+HaveNoClause s (Ok g) t = g.where_clause ≡ None
+HaveNoClause s (Err f) t = Unit {0}
 
 unfoldable pub take_params : Taking ParamsForm
 take_params =

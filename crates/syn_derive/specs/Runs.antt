@@ -1,12 +1,17 @@
 -- Runs of tokens, by the visible trees ahead: where types, expressions, parameters and predicates
 -- end.
-use Rattle.std.specs.Prelude.{ℕ, Bool, ◌&&◌, ◌||◌, ◌==◌, ◌+◌, ◌-◌, false, true, not}
-use Rattle.std.specs.Prelude.{Option, None, Some, if◌then◌else◌, codes, is_some}
+use Rattle.std.specs.Prelude.{◌≡◌, ℕ, Bool, ◌&&◌, ◌||◌, ◌==◌, ◌+◌, ◌-◌, false, true, not}
+use Rattle.std.specs.Prelude.{Option, None, Some, Ok, Err, if◌then◌else◌, codes, is_some}
 use Rattle.tok_lexical.specs.declared.delimiter.Delimiter.TheVariants.{Brace}
+use Rattle.tok_buffer.specs.Between.{between}
+use Rattle.tok_buffer.specs.Place.{Place}
+use Rattle.tok_buffer.specs.Reads.{place_after}
+use Rattle.tok_buffer.specs.Trees.{read_visible}
 use Rattle.tok_core.specs.Filled.{has_trees}
 use Rattle.tok_core.specs.Forest.{Forest}
 use Rattle.tok_types.specs.Sees.{any_ident_first, group_first, ident_first, punct_first}
-use Rattle.syn_parse.specs.Runs.{lightens_run_with_state, take_run_with_state}
+use Rattle.syn_parse.specs.Reads.{Call}
+use Rattle.syn_parse.specs.Runs.{PassesVisible, lightens_run_with_state, take_run_with_state}
 use Rattle.syn_parse.specs.Takes.{Taking, ◌>>=◌, gives, refuses, where_ahead}
 use Rattle.syn_parse.specs.Takings.{Lightens}
 use Rattle.syn_parse.specs.Weighing.{weighing}
@@ -122,6 +127,31 @@ take_until u = do
 pub lightens_until : (u : Until) → Lightens (take_until u)
 unfolding take_until
 lightens_until u = search (weighing, lightens_run_with_state) depth 40
+
+-- The tokens of a value are the trees from the stream's place before it to the one after it, kept
+-- groups included. Visible trees lead from the one to the other.
+abbrev pub PassesTokens : {T : Type 0} → (T → Forest) → Call T
+PassesTokens tokens s (Ok v) t =
+    PassesVisible s.place t.place × (tokens v ≡ between s.place t.place)
+PassesTokens tokens s (Err f) t = Unit {0}
+
+-- a place right after a visible tree
+abbrev pub IsAfterTree : Place → Type 0
+IsAfterTree p = (q : Place) × (place_after (read_visible q) ≡ Some p)
+
+-- The tokens of a value are the trees from right after a visible tree to the place after the value,
+-- kept groups included. Visible trees lead from the one to the other.
+abbrev pub FollowsTree : {T : Type 0} → (T → Forest) → Call T
+FollowsTree tokens s (Ok v) t =
+    (p : Place) × IsAfterTree p × PassesVisible p t.place × (tokens v ≡ between p t.place)
+FollowsTree tokens s (Err f) t = Unit {0}
+
+-- The tokens of a value are the trees from some place to the one after it. Visible trees lead from
+-- the one to the other.
+abbrev pub EndsWithTokens : {T : Type 0} → (T → Forest) → Call T
+EndsWithTokens tokens s (Ok v) t =
+    (p : Place) × PassesVisible p t.place × (tokens v ≡ between p t.place)
+EndsWithTokens tokens s (Err f) t = Unit {0}
 
 -- a run has a first token
 abbrev pub begins : Until → Forest → Bool

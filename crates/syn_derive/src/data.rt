@@ -3,6 +3,7 @@ ghost use Rattle.std.specs.Prelude.{◌≡◌, OnErr, OnOk};
 ghost use Rattle.tok_core.specs.Forest.{AppendsFront, concat};
 ghost use Rattle.syn_parse.specs.Takings.{Keeps, lighter, lower, taken_filled, told_filled};
 ghost use Rattle.syn_derive.specs.Fields.{fields_form, lightens_fields, lightens_variant, lowers_named, lowers_unnamed, list_of, named_field, named_fields_form, named_list, take_fields, take_named, take_named_fields, take_unnamed, take_unnamed_fields, take_variant, unnamed_field, unnamed_fields_form, unnamed_list, variant_form};
+ghost use Rattle.syn_derive.specs.Runs.{EndsWithTokens, FollowsTree};
 ghost use Rattle.syn_derive.specs.Written.{discriminant_trees, field_head_trees, field_trees, fields_trees, name_trees, named_as_trees, named_trees, typed_trees, unnamed_trees, variant_head_trees, variant_rest_trees, variant_trees};
 
 use crate::attribute::{Attribute, write_attributes};
@@ -61,9 +62,10 @@ pub struct Variant {
 
 impl Field {
     /// Parses a field `name: type`.
-    #[tactic(auto, unfolding(crate::specs::Fields::take_named_field))]
+    #[tactic(auto, unfolding(crate::specs::Fields::take_named_field, syn_parse::specs::Reads::Does))]
     pub fn parse_named(input: ParseStream<'_, '_>) -> Result<Field>
-        ensures { Keeps named_field input.old result input.new }
+        ensures takes { Keeps named_field input.old result input.new }
+        ensures kept { FollowsTree (λ f. f.ty.tokens) input.old result input.new }
     {
         let attrs = Attribute::parse_outer(input)?;
         let vis = input.parse()?;
@@ -80,9 +82,10 @@ impl Field {
     }
 
     /// Parses a field without a name: a type after attributes and a visibility.
-    #[tactic(auto, unfolding(crate::specs::Fields::take_unnamed_field))]
+    #[tactic(auto, unfolding(crate::specs::Fields::take_unnamed_field, syn_parse::specs::Reads::Does))]
     pub fn parse_unnamed(input: ParseStream<'_, '_>) -> Result<Field>
-        ensures { Keeps unnamed_field input.old result input.new }
+        ensures takes { Keeps unnamed_field input.old result input.new }
+        ensures kept { EndsWithTokens (λ f. f.ty.tokens) input.old result input.new }
     {
         let attrs = Attribute::parse_outer(input)?;
         let vis = input.parse()?;

@@ -2,7 +2,8 @@
 ghost use Rattle.std.specs.Prelude.{◌≡◌, OnErr, OnOk};
 ghost use Rattle.tok_core.specs.Forest.{AppendsFront, concat};
 ghost use Rattle.syn_parse.specs.Takings.{lighter, lower, told};
-ghost use Rattle.syn_derive.specs.Generics.{lightens_generics, lowers_where_clause, params_form, take_params, take_where_clause, where_form};
+ghost use Rattle.syn_derive.specs.Generics.{HaveNoClause, lightens_generics, lowers_where_clause, params_form, take_params, take_where_clause, where_form};
+ghost use Rattle.syn_derive.specs.Runs.{FollowsTree};
 ghost use Rattle.syn_derive.specs.Written.{generics_trees, opened_trees, params_trees, predicates_trees, where_trees};
 
 use crate::print::{write_nothing, write_or_default};
@@ -53,6 +54,8 @@ impl Generics {
 }
 
 impl Parse for Generics {
+    ghost parses = { HaveNoClause };
+
     ghost takes = { told params_form take_params (lighter lightens_generics) };
 
     #[tactic(auto, unfolding(crate::specs::Generics::take_params))]
@@ -79,6 +82,8 @@ impl Parse for Generics {
 }
 
 impl Parse for WhereClause {
+    ghost parses = { FollowsTree (λ w. w.predicates) };
+
     ghost takes = { told where_form take_where_clause (lower lowers_where_clause) };
 
     #[tactic(auto, unfolding(crate::specs::Generics::take_where_clause))]

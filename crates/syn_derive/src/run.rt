@@ -4,7 +4,7 @@ ghost use Rattle.tok_buffer.specs.Cursors.{place_of};
 ghost use Rattle.tok_buffer.specs.View.{erased_ahead};
 ghost use Rattle.tok_core.specs.Erase.{erase};
 ghost use Rattle.syn_parse.specs.Takes.{TakesAs};
-ghost use Rattle.syn_derive.specs.Runs.{begins, ends, goes_past, is_operator_word, last_after, opens, start, starts_pair, take_until, within};
+ghost use Rattle.syn_derive.specs.Runs.{PassesTokens, begins, ends, goes_past, is_operator_word, last_after, opens, start, starts_pair, take_until, within};
 
 use syn_parse::{ParseStream, Result, Run};
 use tok_buffer::Cursor;
@@ -176,7 +176,8 @@ fn last_after(cursor: Cursor<'_>) -> Last
 /// Parses tokens up to where a run ends. Each `<` that opens there is closed.
 #[tactic(auto, unfolding(crate::specs::Runs::take_until))]
 pub(crate) fn parse_until(input: ParseStream<'_, '_>, until: Until) -> Result<TokenStream>
-    ensures { TakesAs erase (take_until until) input.old result input.new }
+    ensures takes { TakesAs erase (take_until until) input.old result input.new }
+    ensures kept { PassesTokens (λ f. f) input.old result input.new }
 {
     let (tokens, end) = input.parse_run_with_state(until.start())?;
     if end.depth == 0 {

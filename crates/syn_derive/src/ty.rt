@@ -1,7 +1,7 @@
 //! Types and expressions, as tokens.
 ghost use Rattle.tok_core.specs.Erase.{erase};
 ghost use Rattle.syn_parse.specs.Takings.{lighter, told};
-ghost use Rattle.syn_derive.specs.Runs.{lightens_expr, lightens_type, take_expr, take_type};
+ghost use Rattle.syn_derive.specs.Runs.{PassesTokens, lightens_expr, lightens_type, take_expr, take_type};
 
 use crate::run::{Until, parse_until};
 use std::alloc::AllocError;
@@ -9,6 +9,8 @@ use syn_parse::{Parse, ParseStream, Result};
 use tok_core::{ToTokens, TokenStream};
 
 /// A type, as tokens: at least one, up to a `,`, `;`, `=`, `>`, a `:` alone, or braces after a value.
+///
+/// An invisible group that lies wholly in the type is kept.
 ///
 /// Within `<..>` it goes on up to the `>`. An error says if that is missing.
 #[derive(Drop)]
@@ -18,6 +20,8 @@ pub struct Type {
 
 /// An expression, as tokens: at least one, up to a `,` or `;` that is in no `<..>`.
 ///
+/// An invisible group that lies wholly in the expression is kept.
+///
 /// A `<` opens where a value is expected, as after an operator or `::`. After a value it is an
 /// operator itself. An error says if the `>` of one that opens is missing.
 #[derive(Drop)]
@@ -26,6 +30,8 @@ pub struct Expr {
 }
 
 impl Parse for Type {
+    ghost parses = { PassesTokens (λ t. t.tokens) };
+
     ghost takes = { told (λ t. erase t.tokens) take_type (lighter lightens_type) };
 
     #[tactic(auto, unfolding(crate::specs::Runs::take_type))]
@@ -40,6 +46,8 @@ impl Parse for Type {
 }
 
 impl Parse for Expr {
+    ghost parses = { PassesTokens (λ e. e.tokens) };
+
     ghost takes = { told (λ e. erase e.tokens) take_expr (lighter lightens_expr) };
 
     #[tactic(auto, unfolding(crate::specs::Runs::take_expr))]

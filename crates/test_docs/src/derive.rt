@@ -50,9 +50,33 @@ fn public_fields(alloc: Global) -> Result<usize> {
     Ok(count.0)
 }
 
+// Counts the public fields of any struct.
+fn any_public_fields(alloc: Global, text: &str) -> Result<usize> {
+    let mut count = Saturating(0_usize);
+    let input: DeriveInput = parse_str(alloc, text)?;
+    if let Data::Struct(data) = &input.data {
+        for field in data.fields.iter() {
+            if let Visibility::Public(_) = &field.vis {
+                count += 1;
+            }
+        }
+    }
+    Ok(count.0)
+}
+
 #[test]
 fn inputs(rt: HostRuntime) {
-    assert_eq!(rt; public_fields(rt.alloc()).ok(), Some(1));
+    let alloc = rt.alloc();
+    assert_eq!(rt; public_fields(alloc).ok(), Some(1));
+    assert_eq!(rt;
+        any_public_fields(alloc, "struct A(pub u8, u8, pub u8);").ok(),
+        Some(2)
+    );
+    assert_eq!(rt;
+        any_public_fields(alloc, "struct A { x: u8, pub y: u8 }").ok(),
+        Some(1)
+    );
+    assert_eq!(rt; any_public_fields(alloc, "struct A;").ok(), Some(0));
 }
 
 #[test]
