@@ -8,8 +8,9 @@
 #include <stdlib.h>
 #include <string.h>
 
-/* More entries than the first turn has room for, so that a second turn takes memory. */
-static char many[1200];
+/* More entries than the first turn has room for, so that a second turn takes memory: there are none
+ * where that looks. */
+static char many[20 * 251];
 /* More lines than the first turn has room for. */
 static char input[20000];
 
@@ -70,7 +71,8 @@ static size_t try_all(int (*call)(size_t number), int wanted) {
 }
 
 int main(void) {
-    memset(many, '+', sizeof many);
+    for (size_t i = 0; i < sizeof many; i++)
+        many[i] = i % 251 < 16 ? ' ' : '+';
     strcpy(input, "a\n---\n");
     while (strlen(input) + 10 < sizeof input)
         strcat(input, "empty 0\n");

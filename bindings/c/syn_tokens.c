@@ -132,6 +132,38 @@ static bool take(struct syn_tokens *tokens, size_t entries_room, size_t texts_ro
     return true;
 }
 
+/* Whether a byte may be of an identifier or a number. */
+static bool is_of_word(uint8_t c) {
+    return (uint8_t)((c | 0x20) - 'a') < 26 || (uint8_t)(c - '0') < 10 || c == '_' || c >= 0x80;
+}
+
+/* Returns about how many entries a text has, and rather too many: each word is one, and each other
+ * visible character. Of a long text it looks at 16 bytes of each 251, a prime, so that the lines of a
+ * table do not go in step. */
+static size_t about(const uint8_t *text, size_t length, bool is_source) {
+    enum { SHORT = 1024, STEP = 251, SAMPLE = 16, TIMES = 18 };
+    if (length <= SHORT)
+        return is_source ? 2 * length : length;
+    size_t found = 0;
+    for (size_t rest = length; rest >= STEP; rest -= STEP) {
+        const uint8_t *from = text + (length - rest);
+        bool in_word = false;
+        for (const uint8_t *at = from; at < from + SAMPLE; at++) {
+            bool is_word = is_of_word(*at);
+            /* This byte begins a mark, after which a word may begin. */
+            if (*at == 0xc2)
+                found += 2;
+            else if (is_word)
+                found += !in_word;
+            else if (*at > ' ')
+                /* So few characters make a doc comment, an attribute of six or seven entries. */
+                found += !is_source ? 1 : *at == '/' ? 2 : *at == '!' ? 3 : 1;
+            in_word = is_word;
+        }
+    }
+    return found < SIZE_MAX / 64 ? found * TIMES : SIZE_MAX / 2;
+}
+
 int syn_tokens_read(struct syn_tokens *tokens, uint32_t rules, const char *text, size_t length) {
     if (tokens == NULL)
         return SYN_TOKENS_BAD_CALL;
@@ -139,10 +171,16 @@ int syn_tokens_read(struct syn_tokens *tokens, uint32_t rules, const char *text,
     if ((text == NULL && length > 0) || !syn_tokens_matches())
         return ended(tokens, SYN_TOKENS_BAD_CALL);
     const uint8_t *bytes = (const uint8_t *)(length > 0 ? text : "");
-    /* Enough for most sources. If that much memory is not there, the first turn says how much is
+    /* Enough for almost each text. If that much memory is not there, the first turn says how much is
      * needed: a rejected text needs almost none. The second turn has as much as the first one asked
      * for. */
-    size_t entries_room = length / 3 + 16, texts_room = length + 128;
+    bool is_source = rules != SYN_TOKENS_PLAIN && rules != SYN_TOKENS_MARKED;
+    size_t entries_room = about(bytes, length, is_source);
+    if (entries_room < length / 3)
+        entries_room = length / 3;
+    entries_room += 16;
+    /* The texts of a doc comment's attribute take more bytes than the comment. */
+    size_t texts_room = length + 128 + (is_source ? entries_room : 0);
     if (!take(tokens, entries_room, texts_room)) {
         entries_room = 1;
         texts_room = 128;

@@ -232,6 +232,37 @@ pub fn text_of(bytes: Vec<u8>) -> String {
         .unwrap_or_else(|error| String::from_utf8_lossy(error.as_bytes()).into_owned())
 }
 
+/// Returns about how many entries a text has, and rather too many: each word is one, and each other
+/// visible character. Of a long text it looks at 16 bytes of each 251, a prime, so that the lines of
+/// a table do not go in step.
+fn about(text: &[u8], is_source: bool) -> usize {
+    const SHORT: usize = 1024;
+    const STEP: usize = 251;
+    const SAMPLE: usize = 16;
+    const TIMES: usize = 18;
+    if text.len() <= SHORT {
+        return if is_source { 2 * text.len() } else { text.len() };
+    }
+    let mut found: usize = 0;
+    for step in text.chunks_exact(STEP) {
+        let mut in_word = false;
+        for &c in step.iter().take(SAMPLE) {
+            let is_word = c.is_ascii_alphanumeric() || c == b'_' || !c.is_ascii();
+            found += match c {
+                // This byte begins a mark, after which a word may begin.
+                0xc2 => 2,
+                _ if is_word => usize::from(!in_word),
+                // So few characters make a doc comment, an attribute of six or seven entries.
+                b'/' if is_source => 2,
+                b'!' if is_source => 3,
+                _ => usize::from(c > b' '),
+            };
+            in_word = is_word;
+        }
+    }
+    found.saturating_mul(TIMES)
+}
+
 /// Reads a text, and returns what came of it, its entries and the texts of its leaves or the words
 /// of its error.
 pub fn lex(rules: Rules, text: &str) -> Result<(Reading, Vec<Entry>, String), Error> {
@@ -240,13 +271,17 @@ pub fn lex(rules: Rules, text: &str) -> Result<(Reading, Vec<Entry>, String), Er
     }
     let mut entries: Vec<Entry> = Vec::new();
     let mut bytes: Vec<u8> = Vec::new();
-    // Enough for most sources. If that much memory is not there, the first turn says how much is
+    // Enough for almost each text. If that much memory is not there, the first turn says how much is
     // needed: a rejected text needs almost none. The second turn has as much as the first one asked
     // for.
-    if entries.try_reserve_exact(text.len() / 3 + 16).is_err() {
+    let is_source = matches!(rules, Rules::Source { .. });
+    let room = about(text.as_bytes(), is_source).max(text.len() / 3).saturating_add(16);
+    // The texts of a doc comment's attribute take more bytes than the comment.
+    let texts_room = (text.len() + 128).saturating_add(if is_source { room } else { 0 });
+    if entries.try_reserve_exact(room).is_err() {
         entries.try_reserve_exact(1)?;
     }
-    if bytes.try_reserve_exact(text.len() + 128).is_err() {
+    if bytes.try_reserve_exact(texts_room).is_err() {
         bytes.try_reserve_exact(128)?;
     }
     loop {

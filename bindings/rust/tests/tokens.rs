@@ -81,8 +81,9 @@ fn spans_are_ranges_of_the_text() -> Result<(), Error> {
 
 #[test]
 fn a_second_call_has_room_for_all() -> Result<(), Error> {
-    let text = "(".repeat(200) + &"+".repeat(20_000) + &")".repeat(200);
-    assert_eq!(Buffer::lex(&text)?.len(), text.len());
+    // No token stands where the first call looks for them.
+    let text = (" ".repeat(16) + &"+".repeat(235)).repeat(20);
+    assert_eq!(Buffer::lex(&text)?.len(), 20 * 235);
     let lines = "empty 0\n".repeat(2_000);
     let response = respond(format!("a\n---\n{lines}").as_bytes())?;
     assert_eq!((response.status, response.text.lines().count()), (1, 2_001));
