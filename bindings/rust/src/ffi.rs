@@ -245,19 +245,19 @@ fn about(text: &[u8], is_source: bool) -> usize {
     }
     let mut found: usize = 0;
     for step in text.chunks_exact(STEP) {
-        let mut in_word = false;
+        let mut before = false;
         for &c in step.iter().take(SAMPLE) {
             let is_word = c.is_ascii_alphanumeric() || c == b'_' || !c.is_ascii();
             found += match c {
                 // This byte begins a mark, after which a word may begin.
                 0xc2 => 2,
-                _ if is_word => usize::from(!in_word),
+                _ if is_word => usize::from(!before),
                 // So few characters make a doc comment, an attribute of six or seven entries.
                 b'/' if is_source => 2,
                 b'!' if is_source => 3,
                 _ => usize::from(c > b' '),
             };
-            in_word = is_word;
+            before = is_word;
         }
     }
     found.saturating_mul(TIMES)

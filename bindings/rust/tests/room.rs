@@ -1,4 +1,5 @@
 //! What memory a read asks for, counted by an allocator: a text is read in one turn, dense or not.
+#![deny(unsafe_op_in_unsafe_fn)]
 use std::alloc::{GlobalAlloc, Layout, System};
 use std::sync::atomic::{AtomicUsize, Ordering::Relaxed};
 
