@@ -62,6 +62,7 @@ int main(void) {
         fprintf(stderr, "demo: syn_tokens.h is not of this library\n");
         return 1;
     }
+    printf("version %s\n", syn_tokens_version());
     show(SYN_TOKENS_PLAIN, "a (b, 1) => 'c'");
     show(SYN_TOKENS_PLAIN, "x = '\\q'");
     show(SYN_TOKENS_PLAIN, "++++++++++++++++++++++++++++++++++++++++");
@@ -81,7 +82,8 @@ int main(void) {
     const char *input = "(a b)\n---\nenter 0 (\nterminated 1 Ident ,\n";
     struct syn_tokens_report report;
     int status = syn_tokens_run(&report, input, strlen(input));
-    printf("%sstatus %d\n", report.text, status);
+    printf("%sstatus %d%s\n", report.text, status,
+           status == SYN_TOKENS_RUN_REJECTED ? ": a verdict rejects" : "");
     syn_tokens_free_report(&report);
     return 0;
 }

@@ -62,7 +62,8 @@ static void call(int which, struct lent *it) {
         break;
     case 4:
         it->status = syn_tokens_respond(text, length, it->bytes, BYTES, &it->size);
-        it->reading.status = it->status == 3 ? SYN_TOKENS_NO_MEMORY : SYN_TOKENS_OK;
+        it->reading.status =
+            it->status == SYN_TOKENS_RUN_NO_MEMORY ? SYN_TOKENS_NO_MEMORY : SYN_TOKENS_OK;
         break;
     case 5:
     case 6:

@@ -1,7 +1,7 @@
-/* Makes random calls, and looks at all that they return: checked calls and proved ones, of texts and
- * of entries with changed fields, with the room that is needed or less, and with allocations that
- * fail. What is lent ends where a page begins that cannot be touched, since no sanitizer sees into
- * the proved library.
+/* Makes random calls, and looks at all that they return: checked calls and proved ones, of texts
+ * and of entries with changed fields, with the room that is needed or less, and with allocations
+ * that fail. What is lent ends where a page begins that cannot be touched, since no sanitizer sees
+ * into the proved library.
  *
  *     random CALLS [SEED]
  *
@@ -150,7 +150,7 @@ static bool is_untouched(const unsigned char *end, size_t size) {
     return true;
 }
 
-/* Reads a text by the checked call, and by the proved one in all the room that it needs, or less. */
+/* Reads a text by the checked call, and by the proved one in the room that it needs, or in less. */
 static void read(void) {
     uint32_t rules = ANY(RULES);
     struct syn_tokens tokens;
@@ -202,7 +202,8 @@ static void run(bool may_fail) {
     failing = may_fail ? 1 + below(40) : 0;
     int status = syn_tokens_run(&report, text, length);
     failing = 0;
-    if (status < 0 || status > 3 || (status == 3 && (!may_fail || report.size != 0)))
+    if (status < 0 || status > SYN_TOKENS_RUN_NO_MEMORY ||
+        (status == SYN_TOKENS_RUN_NO_MEMORY && (!may_fail || report.size != 0)))
         FAIL("a status of a run");
     if (report.text != NULL && strlen(report.text) > report.size)
         FAIL("a report");
@@ -246,7 +247,7 @@ static void pass(void) {
         if ((outcome.bytes <= room) == (outcome.status == SYN_TOKENS_NO_ROOM))
             FAIL("the room for a report");
     }
-    answered += outcome.status <= 1;
+    answered += outcome.status <= SYN_TOKENS_REJECTED;
     bool is_malformed = outcome.status == SYN_TOKENS_MALFORMED;
     if (outcome.status > SYN_TOKENS_MALFORMED || outcome.status == SYN_TOKENS_NO_MEMORY ||
         (is_malformed && (!is_changed || outcome.entry > count)))

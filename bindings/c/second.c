@@ -47,7 +47,7 @@ static int try_run(size_t number) {
     made = held = 0;
     int status = syn_tokens_run(&report, input, strlen(input));
     failing = 0;
-    bool is_right = status != SYN_TOKENS_NO_MEMORY || report.size == 0;
+    bool is_right = status != SYN_TOKENS_RUN_NO_MEMORY || report.size == 0;
     if (report.text != NULL) {
         sum += sum_of(report.text, report.size + 1);
         is_right = is_right && report.text[report.size] == 0;

@@ -85,6 +85,8 @@ static bool answers_match(void) {
            outcome->values == 17 && outcome->messages == 18 && outcome->bytes == 19;
 }
 
+const char *syn_tokens_version(void) { return SYN_TOKENS_VERSION_TEXT; }
+
 bool syn_tokens_matches(void) {
     union {
         struct syn_tokens_entry entries[2];
@@ -138,8 +140,8 @@ static bool is_of_word(uint8_t c) {
 }
 
 /* Returns about how many entries a text has, and rather too many: each word is one, and each other
- * visible character. Of a long text it looks at 16 bytes of each 251, a prime, so that the lines of a
- * table do not go in step. */
+ * visible character. Of a long text it looks at 16 bytes of each 251, a prime, so that the lines of
+ * a table do not go in step. */
 static size_t about(const uint8_t *text, size_t length, bool is_source) {
     enum { SHORT = 1024, STEP = 251, SAMPLE = 16, TIMES = 18 };
     if (length <= SHORT)
@@ -164,6 +166,12 @@ static size_t about(const uint8_t *text, size_t length, bool is_source) {
     return found < SIZE_MAX / 64 ? found * TIMES : SIZE_MAX / 2;
 }
 
+/* Gives back the room of a block from this size on. If that fails, the block stays as it is. */
+static void *shrunk(void *block, size_t size) {
+    void *smaller = realloc(block, size);
+    return smaller != NULL ? smaller : block;
+}
+
 int syn_tokens_read(struct syn_tokens *tokens, uint32_t rules, const char *text, size_t length) {
     if (tokens == NULL)
         return SYN_TOKENS_BAD_CALL;
@@ -171,9 +179,9 @@ int syn_tokens_read(struct syn_tokens *tokens, uint32_t rules, const char *text,
     if ((text == NULL && length > 0) || !syn_tokens_matches())
         return ended(tokens, SYN_TOKENS_BAD_CALL);
     const uint8_t *bytes = (const uint8_t *)(length > 0 ? text : "");
-    /* Enough for almost each text. If that much memory is not there, the first turn says how much is
-     * needed: a rejected text needs almost none. The second turn has as much as the first one asked
-     * for. */
+    /* Enough for almost each text. If that much memory is not there, the first turn says how much
+     * is needed: a rejected text needs almost none. The second turn has as much as the first one
+     * asked for. */
     bool is_source = rules != SYN_TOKENS_PLAIN && rules != SYN_TOKENS_MARKED;
     size_t entries_room = about(bytes, length, is_source);
     if (entries_room < length / 3)
@@ -202,6 +210,9 @@ int syn_tokens_read(struct syn_tokens *tokens, uint32_t rules, const char *text,
                                   reading);
         if (reading->status != SYN_TOKENS_NO_ROOM) {
             texts[reading->bytes] = 0;
+            size_t count = reading->entries > 0 ? reading->entries : 1;
+            tokens->entries = shrunk(entries, count * sizeof *entries);
+            tokens->texts = shrunk(texts, reading->bytes + 1);
             return (int)reading->status;
         }
         entries_room = reading->entries + 1;
@@ -224,7 +235,7 @@ int syn_tokens_run(struct syn_tokens_report *report, const char *input, size_t l
         return SYN_TOKENS_BAD_CALL;
     memset(report, 0, sizeof *report);
     if (input == NULL && length > 0)
-        return report->status = SYN_TOKENS_BAD_CALL;
+        return report->status = SYN_TOKENS_RUN_BAD_CALL;
     const uint8_t *bytes = (const uint8_t *)(length > 0 ? input : "");
     size_t room = 4096;
     for (;;) {
@@ -233,12 +244,13 @@ int syn_tokens_run(struct syn_tokens_report *report, const char *input, size_t l
             report->size = 0;
             if (report->text != NULL)
                 report->text[0] = 0;
-            return report->status = SYN_TOKENS_NO_MEMORY;
+            return report->status = SYN_TOKENS_RUN_NO_MEMORY;
         }
         report->text = text;
         report->status = syn_tokens_respond(bytes, length, (uint8_t *)text, room, &report->size);
         if (report->size <= room) {
             text[report->size] = 0;
+            report->text = shrunk(text, report->size + 1);
             return report->status;
         }
         room = report->size;

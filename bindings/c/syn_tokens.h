@@ -18,9 +18,11 @@
 extern "C" {
 #endif
 
-/* The version of this header: 1000 * major + minor. `syn_tokens_matches` says whether the library's
- * structs are those of this header. */
-#define SYN_TOKENS_VERSION 1
+/* The version of this header, as a text and as 1000000 * major + 1000 * minor + patch. The version
+ * of the checked calls that are linked is that of `syn_tokens_version`, and `syn_tokens_matches`
+ * says whether the library's structs are those of this header. */
+#define SYN_TOKENS_VERSION_TEXT "0.1.0"
+#define SYN_TOKENS_VERSION 1000
 
 enum syn_tokens_kind {
     SYN_TOKENS_IDENT = 0,
@@ -50,6 +52,22 @@ enum syn_tokens_status {
     SYN_TOKENS_BAD_CALL = 6,
     /* Of the calls that take entries alone: they are those of no text. */
     SYN_TOKENS_MALFORMED = 6,
+};
+
+/* What comes of a run. */
+enum syn_tokens_run_status {
+    /* Each verdict accepts. */
+    SYN_TOKENS_RUN_ACCEPTED = 0,
+    /* A verdict rejects. */
+    SYN_TOKENS_RUN_REJECTED = 1,
+    /* The input is no text with commands: the report is one line that says why. */
+    SYN_TOKENS_RUN_UNREADABLE = 2,
+    SYN_TOKENS_RUN_NO_MEMORY = 3,
+    /* Of `syn_tokens_replay` alone, as the status of its outcome. */
+    SYN_TOKENS_RUN_NO_ROOM = 4,
+    SYN_TOKENS_RUN_MALFORMED = 6,
+    /* Of `syn_tokens_run` alone: a null pointer. */
+    SYN_TOKENS_RUN_BAD_CALL = 6,
 };
 
 /* By which rules a text is read. A whole source has the year of its edition: 2015, 2018, 2021 or
@@ -120,22 +138,26 @@ struct syn_tokens {
 };
 
 /* What the program prints, followed by a zero byte, and its status. After a failed allocation the
- * status is SYN_TOKENS_NO_MEMORY, the size is 0, and `text` is empty or null. */
+ * status is SYN_TOKENS_RUN_NO_MEMORY, the size is 0, and `text` is empty or null. */
 struct syn_tokens_report {
-    int status;
+    int status; /* of enum syn_tokens_run_status */
     size_t size;
     char *text;
 };
 
-/* Reads a text by these rules, and returns the status. Whatever it is, `syn_tokens_free` frees what
+/* Reads a text by these rules, and returns the status. Room that it does not need is given back.
+ * Whatever it is, `syn_tokens_free` frees what
  * was given. */
 int syn_tokens_read(struct syn_tokens *tokens, uint32_t rules, const char *text, size_t length);
 void syn_tokens_free(struct syn_tokens *tokens);
 
-/* Answers an input as the program does, and returns its status, or SYN_TOKENS_BAD_CALL. Whatever it
- * is, `syn_tokens_free_report` frees what was given. */
+/* Answers an input as the program does, and returns its status, or SYN_TOKENS_RUN_BAD_CALL.
+ * Whatever it is, `syn_tokens_free_report` frees what was given. */
 int syn_tokens_run(struct syn_tokens_report *report, const char *input, size_t length);
 void syn_tokens_free_report(struct syn_tokens_report *report);
+
+/* Returns the version of the checked calls, as SYN_TOKENS_VERSION_TEXT. */
+const char *syn_tokens_version(void);
 
 /* Returns whether the structs of this header are laid out as those of the library. The checked call
  * `syn_tokens_read` asks it first. */
@@ -164,8 +186,8 @@ void syn_tokens_arguments(const struct syn_tokens_entry *entries, size_t count,
                           size_t messages_room, uint8_t *bytes, size_t bytes_room,
                           struct syn_tokens_outcome *outcome);
 
-/* Runs commands, one a line, over entries. The status is that of the program: 0, 1 or 2; or 3, 4 or
- * SYN_TOKENS_MALFORMED, and nothing is printed. */
+/* Runs commands, one a line, over entries. The status is one of enum syn_tokens_run_status. Nothing
+ * is printed from SYN_TOKENS_RUN_NO_MEMORY on. */
 void syn_tokens_replay(const struct syn_tokens_entry *entries, size_t count, const uint8_t *texts,
                        size_t size, const uint8_t *commands, size_t length, uint8_t *printed,
                        size_t room, struct syn_tokens_outcome *outcome);

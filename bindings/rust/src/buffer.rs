@@ -204,6 +204,7 @@ impl<'b> IntoIterator for &'b Buffer {
 
 /// An identifier or a literal.
 #[derive(Clone, Copy, Debug, PartialEq, Eq, Hash)]
+#[non_exhaustive]
 pub struct Leaf<'b> {
     /// The text of the token. An identifier may begin with `r#`.
     pub text: &'b str,
@@ -213,6 +214,7 @@ pub struct Leaf<'b> {
 
 /// A character of a punctuation, or the apostrophe of a lifetime.
 #[derive(Clone, Copy, Debug, PartialEq, Eq, Hash)]
+#[non_exhaustive]
 pub struct Punct {
     /// The character.
     pub ch: char,
@@ -224,6 +226,7 @@ pub struct Punct {
 
 /// A group.
 #[derive(Clone, Debug, PartialEq, Eq, Hash)]
+#[non_exhaustive]
 pub struct Group<'b> {
     /// What is around the tokens.
     pub delimiter: Delimiter,

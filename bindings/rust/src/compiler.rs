@@ -279,10 +279,10 @@ impl Buffer {
     /// ```
     pub fn run(&self, commands: &str) -> Result<Response, Error> {
         match ffi::replay(&self.tokens.entries, &self.tokens.texts, commands) {
-            Ok((Outcome { status: 0, .. }, text)) => Ok(Response { status: 0, text }),
-            Ok((Outcome { status: 1, .. }, text)) => Ok(Response { status: 1, text }),
-            Ok((Outcome { status: 2, .. }, text)) => Ok(Response { status: 2, text }),
-            Ok((outcome, _)) => Err(self.stopped(outcome)),
+            Ok((outcome, text)) => match u8::try_from(outcome.status) {
+                Ok(status) if status <= Response::UNREADABLE => Ok(Response { status, text }),
+                _ => Err(self.stopped(outcome)),
+            },
             Err(failure) => Err(Error::failed(&failure)),
         }
     }
@@ -374,6 +374,7 @@ impl From<proc_macro::TokenStream> for Buffer {
 
 /// What an export has written: its values, and the texts that they speak of.
 #[derive(Clone, Debug, PartialEq, Eq)]
+#[non_exhaustive]
 pub struct Values<T> {
     /// The values, in order.
     pub values: Vec<T>,
@@ -407,6 +408,7 @@ impl<'l> IntoIterator for &'l ArgumentList<'_> {
 
 /// An argument: a name, and its value.
 #[derive(Clone, Debug)]
+#[non_exhaustive]
 pub struct Argument<'l> {
     /// The name, which is no keyword.
     pub name: Leaf<'l>,
@@ -456,6 +458,7 @@ impl FusedIterator for Arguments<'_> {}
 
 /// A message of an error.
 #[derive(Clone, Debug)]
+#[non_exhaustive]
 pub struct Message {
     /// The words.
     pub text: String,

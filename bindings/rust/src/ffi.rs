@@ -8,6 +8,7 @@ use alloc::vec::Vec;
 use core::sync::atomic::{AtomicBool, Ordering};
 
 use crate::error::Error;
+use crate::memory::shrunk;
 
 /// A leaf, an opening or a closing, as the library takes and writes it. The page `docs/BINDINGS.md`
 /// of the repository says what the fields hold.
@@ -232,9 +233,9 @@ pub fn text_of(bytes: Vec<u8>) -> String {
         .unwrap_or_else(|error| String::from_utf8_lossy(error.as_bytes()).into_owned())
 }
 
-/// Returns about how many entries a text has, and rather too many: each word is one, and each other
-/// visible character. Of a long text it looks at 16 bytes of each 251, a prime, so that the lines of
-/// a table do not go in step.
+/// Returns about how many entries a text has, and rather too many: each word is one, and each
+/// other visible character. Of a long text it looks at 16 bytes of each 251, a prime, so that the
+/// lines of a table do not go in step.
 fn about(text: &[u8], is_source: bool) -> usize {
     const SHORT: usize = 1024;
     const STEP: usize = 251;
@@ -271,9 +272,9 @@ pub fn lex(rules: Rules, text: &str) -> Result<(Reading, Vec<Entry>, String), Er
     }
     let mut entries: Vec<Entry> = Vec::new();
     let mut bytes: Vec<u8> = Vec::new();
-    // Enough for almost each text. If that much memory is not there, the first turn says how much is
-    // needed: a rejected text needs almost none. The second turn has as much as the first one asked
-    // for.
+    // Enough for almost each text. If that much memory is not there, the first turn says how much
+    // is needed: a rejected text needs almost none. The second turn has as much as the first one
+    // asked for.
     let is_source = matches!(rules, Rules::Source { .. });
     let room = about(text.as_bytes(), is_source).max(text.len() / 3).saturating_add(16);
     // The texts of a doc comment's attribute take more bytes than the comment.
@@ -310,7 +311,7 @@ pub fn lex(rules: Rules, text: &str) -> Result<(Reading, Vec<Entry>, String), Er
                 entries.set_len(reading.entries);
                 bytes.set_len(reading.bytes);
             }
-            return Ok((reading, entries, text_of(bytes)));
+            return Ok((reading, shrunk(entries), text_of(shrunk(bytes))));
         }
         entries.try_reserve_exact(reading.entries)?;
         bytes.try_reserve_exact(reading.bytes)?;
@@ -331,7 +332,7 @@ pub fn respond(input: &[u8]) -> Result<(u8, String), TryReserveError> {
         if size <= room {
             // SAFETY: The library has written so many bytes, since there was room.
             unsafe { printed.set_len(size) };
-            return Ok((status, text_of(printed)));
+            return Ok((status, text_of(shrunk(printed))));
         }
         printed.try_reserve_exact(size)?;
     }
@@ -356,7 +357,7 @@ pub fn value(text: &str) -> Result<(Value, Vec<u8>), Error> {
         READ => {
             // SAFETY: The library has written so many bytes, since there was room.
             unsafe { bytes.set_len(value.bytes.min(bytes.capacity())) };
-            Ok((value, bytes))
+            Ok((value, shrunk(bytes)))
         }
         _ => Err(Error::Memory),
     }
@@ -369,7 +370,7 @@ pub use self::taken::{arguments, call, replay, Answer, Export};
 #[cfg(feature = "proc-macro2")]
 mod taken {
     use super::{
-        is_of_this_version, text_of, Entry, Error, FlatArgument, Message, Outcome, NO_ROOM,
+        is_of_this_version, shrunk, text_of, Entry, Error, FlatArgument, Message, Outcome, NO_ROOM,
     };
     use alloc::string::String;
     use alloc::vec::Vec;
@@ -473,7 +474,8 @@ mod taken {
                     messages.set_len(outcome.messages.min(messages.capacity()));
                     bytes.set_len(outcome.bytes.min(bytes.capacity()));
                 }
-                return Ok(Answer { outcome, values, messages, texts: text_of(bytes) });
+                let (values, texts) = (shrunk(values), text_of(shrunk(bytes)));
+                return Ok(Answer { outcome, values, messages, texts });
             }
             values.try_reserve_exact(outcome.values)?;
             messages.try_reserve_exact(outcome.messages)?;
@@ -520,7 +522,7 @@ mod taken {
             if outcome.status != NO_ROOM {
                 // SAFETY: The library has written so many bytes, since there was room.
                 unsafe { printed.set_len(outcome.bytes.min(printed.capacity())) };
-                return Ok((outcome, text_of(printed)));
+                return Ok((outcome, text_of(shrunk(printed))));
             }
             printed.try_reserve_exact(outcome.bytes)?;
         }

@@ -32,6 +32,9 @@ extern crate proc_macro;
 #[cfg(feature = "std")]
 extern crate std;
 
+/// The version of this package.
+pub const VERSION: &str = env!("CARGO_PKG_VERSION");
+
 mod buffer;
 #[cfg(feature = "proc-macro2")]
 pub mod compiler;

@@ -9,6 +9,7 @@ use crate::buffer::{Buffer, Cursor, Delimiter, Leaf, Punct, Spacing, Span, Token
 /// A token that this version of `proc_macro2` has no value for: a kind of literal or a character of
 /// a name that is newer than it.
 #[derive(Clone, Debug, PartialEq, Eq)]
+#[non_exhaustive]
 pub struct UnknownToken {
     /// The text of the token.
     pub text: String,

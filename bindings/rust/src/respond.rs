@@ -6,12 +6,25 @@ use crate::ffi;
 
 /// What the program prints, and its status.
 #[derive(Clone, Debug, PartialEq, Eq)]
+#[non_exhaustive]
 pub struct Response {
-    /// 0 if each verdict accepts, 1 if one rejects, 2 if the input is unreadable.
+    /// [`Response::ACCEPTED`], [`Response::REJECTED`] or [`Response::UNREADABLE`].
     pub status: u8,
     /// The report, or one line that says why the input is unreadable.
     pub text: String,
 }
+
+impl Response {
+    /// The status if each verdict accepts.
+    pub const ACCEPTED: u8 = 0;
+    /// The status if a verdict rejects.
+    pub const REJECTED: u8 = 1;
+    /// The status if the input is unreadable.
+    pub const UNREADABLE: u8 = 2;
+}
+
+// The status if an allocation failed.
+const NO_MEMORY: u8 = 3;
 
 /// Answers an input as the program does: a text, a line `---`, and commands. The page
 /// `docs/PROGRAM.md` of the repository has the commands and what they print.
@@ -21,14 +34,16 @@ pub struct Response {
 /// Returns [`Error::Memory`] if an allocation fails.
 ///
 /// ```
-/// let response = syn_tokens::respond(b"a b\n---\nparse 0 Ident\n")?;
+/// use syn_tokens::{respond, Response};
+///
+/// let response = respond(b"a b\n---\nparse 0 Ident\n")?;
 /// assert_eq!(response.text, "read a 0..1 @1\nrefused 2..3 unexpected token\n");
-/// assert_eq!(response.status, 1);
+/// assert_eq!(response.status, Response::REJECTED);
 /// # Ok::<(), syn_tokens::Error>(())
 /// ```
 pub fn respond(input: &[u8]) -> Result<Response, Error> {
     match ffi::respond(input)? {
-        (3, _) => Err(Error::Memory),
+        (NO_MEMORY, _) => Err(Error::Memory),
         (status, text) => Ok(Response { status, text }),
     }
 }

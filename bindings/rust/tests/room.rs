@@ -1,35 +1,57 @@
-//! What memory a read asks for, counted by an allocator: a text is read in one turn, dense or not.
+//! What memory a read asks for, counted by an allocator: a text is read in one turn, dense or not,
+//! and room that is not needed is given back.
 #![deny(unsafe_op_in_unsafe_fn)]
+// Clippy of 1.63 finds it in what `thread_local` makes.
+#![allow(clippy::declare_interior_mutable_const)]
 use std::alloc::{GlobalAlloc, Layout, System};
-use std::sync::atomic::{AtomicUsize, Ordering::Relaxed};
+use std::cell::Cell;
+use std::ptr;
 
 use syn_tokens::{Buffer, Edition, Error};
 
-/// How often room for entries was taken or made larger. The library's own blocks are aligned to 16,
-/// and texts to 1.
-static TURNS: AtomicUsize = AtomicUsize::new(0);
+// Each thread has counts of its own, since tests run side by side.
+thread_local! {
+    /// How often room for entries was taken or made larger. The library's own blocks are aligned
+    /// to 16, and texts to 1.
+    static TURNS: Cell<usize> = const { Cell::new(0) };
+    /// How many bytes are held.
+    static HELD: Cell<usize> = const { Cell::new(0) };
+    /// Whether no block can be made smaller.
+    static IS_STUBBORN: Cell<bool> = const { Cell::new(false) };
+}
 
 struct Counting;
+
+impl Counting {
+    /// Counts that a block of one layout becomes one of another size.
+    fn count(layout: Layout, from: usize, to: usize) {
+        // At a thread's end there is nothing to count.
+        let _ = HELD.try_with(|it| it.set(it.get().wrapping_add(to).wrapping_sub(from)));
+        if layout.align() == 8 && to > from {
+            let _ = TURNS.try_with(|it| it.set(it.get() + 1));
+        }
+    }
+}
 
 // SAFETY: The calls are those of the system's allocator.
 unsafe impl GlobalAlloc for Counting {
     unsafe fn alloc(&self, layout: Layout) -> *mut u8 {
-        if layout.align() == 8 {
-            TURNS.fetch_add(1, Relaxed);
-        }
+        Counting::count(layout, 0, layout.size());
         // SAFETY: The caller keeps to what is asked.
         unsafe { System.alloc(layout) }
     }
 
     unsafe fn dealloc(&self, block: *mut u8, layout: Layout) {
+        Counting::count(layout, layout.size(), 0);
         // SAFETY: The caller keeps to what is asked.
         unsafe { System.dealloc(block, layout) }
     }
 
     unsafe fn realloc(&self, block: *mut u8, layout: Layout, size: usize) -> *mut u8 {
-        if layout.align() == 8 && size > layout.size() {
-            TURNS.fetch_add(1, Relaxed);
+        if size < layout.size() && IS_STUBBORN.try_with(Cell::get).unwrap_or_default() {
+            return ptr::null_mut();
         }
+        Counting::count(layout, layout.size(), size);
         // SAFETY: The caller keeps to what is asked.
         unsafe { System.realloc(block, layout, size) }
     }
@@ -50,14 +72,40 @@ fn texts_are_read_in_one_turn() -> Result<(), Error> {
     ] {
         for length in [100, 1_000, 2_000, 100_000] {
             let text = piece.repeat(length / piece.len());
-            let before = TURNS.load(Relaxed);
+            let before = TURNS.with(Cell::get);
             if is_source {
                 Buffer::lex_source(Edition::Edition2021, &text)?;
             } else {
                 Buffer::lex(&text)?;
             }
-            assert_eq!(TURNS.load(Relaxed) - before, 1, "{length} bytes of {piece}");
+            assert_eq!(TURNS.with(Cell::get) - before, 1, "{length} bytes of {piece}");
         }
     }
+    Ok(())
+}
+
+#[test]
+fn room_is_given_back() -> Result<(), Error> {
+    let text = "a_long_name ".repeat(1000);
+    let before = HELD.with(Cell::get);
+    let buffer = Buffer::lex(&text)?;
+    // An entry takes 48 bytes, and its text 11.
+    assert_eq!(HELD.with(Cell::get) - before, 1000 * (48 + 11));
+    drop(buffer);
+    assert_eq!(HELD.with(Cell::get), before);
+    let empty = Buffer::lex("")?;
+    assert_eq!(HELD.with(Cell::get), before);
+    assert!(empty.is_empty());
+    Ok(())
+}
+
+#[test]
+fn room_that_cannot_be_given_back_is_kept() -> Result<(), Error> {
+    let before = HELD.with(Cell::get);
+    IS_STUBBORN.with(|it| it.set(true));
+    let read = Buffer::lex("a b c");
+    IS_STUBBORN.with(|it| it.set(false));
+    assert_eq!(read?.len(), 3);
+    assert_eq!(HELD.with(Cell::get), before);
     Ok(())
 }
