@@ -1,5 +1,5 @@
 //! Finds the static library `libsyn_tokens_c.a`: in the folder that `SYN_TOKENS_LIB` names, or else
-//! where this repository builds it.
+//! in this package, as releases have it, or else where the repository builds it.
 use std::env;
 use std::error::Error;
 use std::path::{Path, PathBuf};
@@ -8,13 +8,18 @@ const LIBRARY: &str = "libsyn_tokens_c.a";
 
 /// The folder of the library, and what to do if it is not there.
 fn folder() -> (PathBuf, &'static str) {
-    match env::var_os("SYN_TOKENS_LIB") {
-        Some(folder) => (folder.into(), "SYN_TOKENS_LIB must name the folder that has it"),
-        None => (
-            Path::new(env!("CARGO_MANIFEST_DIR")).join("../../crates/syn_tokens_c/out"),
-            "run `rt lib` in crates/syn_tokens_c, or set SYN_TOKENS_LIB to the folder that has it",
-        ),
+    if let Some(folder) = env::var_os("SYN_TOKENS_LIB") {
+        return (folder.into(), "SYN_TOKENS_LIB must name the folder that has it");
     }
+    let package = Path::new(env!("CARGO_MANIFEST_DIR"));
+    let folder = package.join("lib");
+    if folder.join(LIBRARY).exists() {
+        return (folder, "");
+    }
+    (
+        package.join("../../crates/syn_tokens_c/out"),
+        "run `rt lib` in crates/syn_tokens_c, or set SYN_TOKENS_LIB to the folder that has it",
+    )
 }
 
 fn main() -> Result<(), Box<dyn Error>> {
