@@ -166,9 +166,11 @@ static size_t about(const uint8_t *text, size_t length, bool is_source) {
     return found < SIZE_MAX / 64 ? found * TIMES : SIZE_MAX / 2;
 }
 
-/* Gives back the room of a block from this size on. If that fails, the block stays as it is. */
-static void *shrunk(void *block, size_t size) {
-    void *smaller = realloc(block, size);
+/* Gives back the room of a block from this size on, if that is much: to do so takes as long as to
+ * read a few tokens. If it fails, the block stays as it is. */
+static void *shrunk(void *block, size_t room, size_t size) {
+    enum { WASTE = 4096 };
+    void *smaller = room - size >= WASTE ? realloc(block, size) : NULL;
     return smaller != NULL ? smaller : block;
 }
 
@@ -211,8 +213,9 @@ int syn_tokens_read(struct syn_tokens *tokens, uint32_t rules, const char *text,
         if (reading->status != SYN_TOKENS_NO_ROOM) {
             texts[reading->bytes] = 0;
             size_t count = reading->entries > 0 ? reading->entries : 1;
-            tokens->entries = shrunk(entries, count * sizeof *entries);
-            tokens->texts = shrunk(texts, reading->bytes + 1);
+            tokens->entries =
+                shrunk(entries, entries_room * sizeof *entries, count * sizeof *entries);
+            tokens->texts = shrunk(texts, texts_room + 1, reading->bytes + 1);
             return (int)reading->status;
         }
         entries_room = reading->entries + 1;
@@ -250,7 +253,7 @@ int syn_tokens_run(struct syn_tokens_report *report, const char *input, size_t l
         report->status = syn_tokens_respond(bytes, length, (uint8_t *)text, room, &report->size);
         if (report->size <= room) {
             text[report->size] = 0;
-            report->text = shrunk(text, report->size + 1);
+            report->text = shrunk(text, room + 1, report->size + 1);
             return report->status;
         }
         room = report->size;

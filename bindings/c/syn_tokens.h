@@ -145,9 +145,8 @@ struct syn_tokens_report {
     char *text;
 };
 
-/* Reads a text by these rules, and returns the status. Room that it does not need is given back.
- * Whatever it is, `syn_tokens_free` frees what
- * was given. */
+/* Reads a text by these rules, and returns the status. More than 4 KiB of room that it does not
+ * take are given back. Whatever the status is, `syn_tokens_free` frees what was given. */
 int syn_tokens_read(struct syn_tokens *tokens, uint32_t rules, const char *text, size_t length);
 void syn_tokens_free(struct syn_tokens *tokens);
 

@@ -84,28 +84,34 @@ fn texts_are_read_in_one_turn() -> Result<(), Error> {
     Ok(())
 }
 
+/// More room than this is given back, of the entries and of the texts.
+const WASTE: usize = 4096;
+
 #[test]
 fn room_is_given_back() -> Result<(), Error> {
-    let text = "a_long_name ".repeat(1000);
+    let text = "a_long_name ".repeat(10_000);
     let before = HELD.with(Cell::get);
     let buffer = Buffer::lex(&text)?;
     // An entry takes 48 bytes, and its text 11.
-    assert_eq!(HELD.with(Cell::get) - before, 1000 * (48 + 11));
+    let held = HELD.with(Cell::get) - before;
+    let needed = 10_000 * (48 + 11);
+    assert!((needed..needed + 2 * WASTE).contains(&held), "{held} bytes");
     drop(buffer);
     assert_eq!(HELD.with(Cell::get), before);
-    let empty = Buffer::lex("")?;
-    assert_eq!(HELD.with(Cell::get), before);
+    let empty = Buffer::lex(&" ".repeat(100_000))?;
+    assert!(HELD.with(Cell::get) - before < 2 * WASTE);
     assert!(empty.is_empty());
     Ok(())
 }
 
 #[test]
 fn room_that_cannot_be_given_back_is_kept() -> Result<(), Error> {
+    let text = "a_long_name ".repeat(10_000);
     let before = HELD.with(Cell::get);
     IS_STUBBORN.with(|it| it.set(true));
-    let read = Buffer::lex("a b c");
+    let read = Buffer::lex(&text);
     IS_STUBBORN.with(|it| it.set(false));
-    assert_eq!(read?.len(), 3);
+    assert_eq!(read?.len(), 10_000);
     assert_eq!(HELD.with(Cell::get), before);
     Ok(())
 }

@@ -1,22 +1,45 @@
-//! Reads a list of names so many times, by ours or by proc-macro2, for `bench/border` to count.
+//! Reads a text so many times, by ours or by proc-macro2, for `bench/border` to count: a list of
+//! names, or a file as a whole source.
 //!
-//!     border ours|theirs NAMES TIMES
+//!     border ours|theirs NAMES|FILE TIMES
+//!     border entries FILE
 use std::env;
+use std::fs;
 use std::process::ExitCode;
 
 use proc_macro2::TokenStream;
-use syn_tokens::Buffer;
+use syn_tokens::{Buffer, Edition};
+
+fn read_source(text: &str) -> Option<Buffer> {
+    Buffer::lex_source(Edition::Edition2021, text).ok()
+}
 
 fn main() -> ExitCode {
     let words: Vec<String> = env::args().skip(1).collect();
-    let number = |at: usize| words.get(at).and_then(|it| it.parse::<usize>().ok()).unwrap_or(0);
-    let names: Vec<String> = (0..number(1)).map(|it| format!("name{}", it % 1000)).collect();
-    let text = names.join(", ");
-    let read: fn(&str) -> bool = match words.first().map(String::as_str) {
-        Some("ours") => |it| Buffer::lex(it).is_ok(),
-        Some("theirs") => |it| it.parse::<TokenStream>().is_ok(),
+    let words: Vec<&str> = words.iter().map(String::as_str).collect();
+    let (side, of, times) = match words[..] {
+        ["entries", of] => ("entries", of, "1"),
+        [side, of, times] => (side, of, times),
         _ => return ExitCode::from(2),
     };
-    let all_read = (0..number(2)).all(|_| read(&text));
+    let (text, is_source) = match of.parse::<usize>() {
+        Ok(count) => {
+            let names: Vec<String> = (0..count).map(|it| format!("name{}", it % 1000)).collect();
+            (names.join(", "), false)
+        }
+        Err(_) => match fs::read_to_string(of) {
+            Ok(text) => (text, true),
+            Err(_) => return ExitCode::from(2),
+        },
+    };
+    let read: fn(&str) -> bool = match side {
+        "ours" if is_source => |it| read_source(it).is_some(),
+        "ours" => |it| Buffer::lex(it).is_ok(),
+        "theirs" => |it| it.parse::<TokenStream>().is_ok(),
+        "entries" => |it| read_source(it).map(|it| println!("{}", it.len())).is_some(),
+        _ => return ExitCode::from(2),
+    };
+    let times = times.parse::<usize>().unwrap_or(0);
+    let all_read = (0..times).all(|_| read(&text));
     ExitCode::from(u8::from(!all_read))
 }
