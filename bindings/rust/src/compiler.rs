@@ -307,7 +307,9 @@ impl Buffer {
     // Returns the values of an answer, or its error at the compiler's spans.
     fn settled<T>(&self, answer: Result<ffi::Answer<T>, Failure>) -> Result<Values<T>, Error> {
         match answer {
-            Ok(it) if it.outcome.status == 0 => Ok(Values { values: it.values, texts: it.texts }),
+            Ok(it) if it.outcome.status == ffi::READ => {
+                Ok(Values { values: it.values, texts: it.texts })
+            }
             Ok(it) => Err(self.rejected(&it)),
             Err(failure) => Err(Error::failed(&failure)),
         }
@@ -330,8 +332,8 @@ impl Buffer {
     // The error of an outcome without a message.
     fn stopped(&self, outcome: Outcome) -> Error {
         match (outcome.status, self.tokens.entries.get(outcome.entry)) {
-            (3, _) => Error::failed(&Failure::Memory),
-            (6, Some(entry)) => {
+            (ffi::NO_MEMORY, _) => Error::failed(&Failure::Memory),
+            (ffi::MALFORMED, Some(entry)) => {
                 let span = Span { start: entry.start, end: entry.end };
                 let text = self.tokens.texts.get(entry.text_start..entry.text_end);
                 match outcome.refusal {

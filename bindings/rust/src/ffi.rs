@@ -46,7 +46,11 @@ pub struct Reading {
 
 pub const READ: u32 = 0;
 pub const REJECTED: u32 = 1;
+#[cfg(feature = "proc-macro2")]
+pub const NO_MEMORY: u32 = 3;
 const NO_ROOM: u32 = 4;
+#[cfg(feature = "proc-macro2")]
+pub const MALFORMED: u32 = 6;
 
 /// What an export returns.
 #[repr(C)]
