@@ -7,7 +7,8 @@ use Rattle.std.specs.Str.{chars}
 use Rattle.std.specs.Borrow.{Bor}
 use Rattle.std.proofs.Math.Utf8.{scalar_cases}
 use Rattle.std.proofs.lemmas.Bool.{lt-ltb, ltb-true, false_from_ne_true}
-use Rattle.tok_lexical.specs.Pieces.{HasPrefix, ReadsPrefix, Skips, IsOne}
+use Rattle.tok_lexical.specs.Pieces.{HasPrefix, Skips, IsOne}
+use Rattle.tok_lexical.specs.Private.Finds.{ReadsPrefix}
 use Rattle.tok_lexical.specs.Strings.{IsEscape, IsByte, is_byte, is_hex, is_hex_or_underscore}
 use Rattle.tok_lexical.specs.Strings.{hex_value, IsHex, NamesChar, IsCode, IsLineEnd}
 use Rattle.tok_lexical.proofs.Longest.{finds_after}

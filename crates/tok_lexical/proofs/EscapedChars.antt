@@ -5,7 +5,8 @@ use Rattle.std.specs.Prelude.{Option, Some, None, if◌then◌else◌}
 use Rattle.std.specs.Borrow.{Bor}
 use Rattle.std.specs.List.{list_all}
 use Rattle.std.proofs.lemmas.Bool.{false≢true, and_parts}
-use Rattle.tok_lexical.specs.Pieces.{HasPrefix, ReadsPrefix, IsOne, After}
+use Rattle.tok_lexical.specs.Pieces.{HasPrefix, IsOne, After}
+use Rattle.tok_lexical.specs.Private.Finds.{ReadsPrefix}
 use Rattle.tok_lexical.specs.Strings.{is_simple_escape, is_hex_or_underscore, IsHex, IsCode}
 use Rattle.tok_lexical.specs.Strings.{IsLineEnd, IsEscape, simple, hex, code, line_end}
 use Rattle.tok_lexical.specs.Strings.{IsCEscape, EscapeOf, is_byte, IsEscapedChar, IsByte}

@@ -9,8 +9,10 @@ use Rattle.std.specs.Char.{is_digit}
 use Rattle.std.specs.List.{list_all}
 use Rattle.tok_lexical.specs.Pieces.{HasPrefix, IsLongestPrefix, IsOne}
 use Rattle.tok_lexical.specs.Fits.{NoneBefore}
-use Rattle.tok_lexical.specs.Starts.{start_of, is_prefix}
-use Rattle.tok_lexical.specs.Rules.{all_rules, among, beginning, is_in, last_rules, rules_of}
+use Rattle.tok_lexical.specs.Private.Starts.{start_of}
+use Rattle.tok_lexical.specs.Starts.{is_prefix}
+use Rattle.tok_lexical.specs.Rules.{all_rules, among, is_in, last_rules, rules_of}
+use Rattle.tok_lexical.specs.Private.Starts.{beginning}
 use Rattle.tok_lexical.specs.Rules.{Spells}
 use Rattle.tok_lexical.specs.Fits.{IsFirstFit, here, later}
 use Rattle.tok_lexical.specs.declared.rule.Mode.{Mode}

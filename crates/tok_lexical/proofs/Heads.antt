@@ -4,7 +4,7 @@ use Rattle.std.proofs.Common.{◌∷◌, length, ap, arith}
 use Rattle.std.proofs.lemmas.Bool.{false≢true, eqb-true}
 use Rattle.std.specs.Prelude.{◌==◌, Bool, true, false}
 use Rattle.tok_lexical.specs.Pieces.{HasPrefix, IsOne}
-use Rattle.tok_lexical.specs.Starts.{start_of}
+use Rattle.tok_lexical.specs.Private.Starts.{start_of}
 use Rattle.tok_lexical.specs.Rules.{Spells}
 use Rattle.tok_lexical.specs.declared.rule.Rule.{Rule}
 use Rattle.tok_lexical.specs.declared.rule.Rule.TheVariants.{ByteOrderMark, Whitespace}

@@ -11,13 +11,14 @@ use Rattle.std.proofs.lemmas.List.{append-nil}
 use Rattle.std.proofs.lemmas.Bool.{false≢true, ne_eqb, ltb-true, false_from_ne_true, leb-false}
 use Rattle.std.proofs.Common.{rules, tests, ◌≤◌, get_or}
 use Rattle.std.proofs.lemmas.List.Folds.{list_all-append}
-use Rattle.tok_lexical.specs.Characters.{begins_beyond_ascii}
+use Rattle.tok_lexical.specs.Private.Fronts.{begins_beyond_ascii}
 use Rattle.unicode_ident.specs.Ident.{is_xid_continue}
 use Rattle.unicode_ident.proofs.IdentLemmas.{is_xid_continue-ascii, is_xid_start-ascii}
 use Rattle.tok_lexical.specs.Pieces.{IsLongestPrefix, HasPrefix, ReadsLongest, Skips, Stops}
 use Rattle.tok_lexical.specs.Following.{starts_name}
 use Rattle.tok_lexical.specs.Words.{is_identifier_start, IsIdentifier, IsRawIdentifier, IsName}
-use Rattle.tok_lexical.specs.Words.{begins_continue, has_no_raw, is_raw_prefix, is_ascii_continue}
+use Rattle.tok_lexical.specs.Private.Fronts.{begins_continue, is_ascii_continue}
+use Rattle.tok_lexical.specs.Words.{has_no_raw, is_raw_prefix}
 use Rattle.tok_lexical.proofs.Texts.{begins_by}
 use Rattle.tok_lexical.proofs.Longest.{no_more}
 use Rattle.tok_lexical.proofs.Digits.{head_passes, tail_passes}

@@ -8,7 +8,7 @@ use Rattle.std.proofs.lemmas.Simd.{map-map, mask_l-mod, length-chunk, first_set_
 use Rattle.std.proofs.lemmas.Simd.{zip2_of_maps, zip2_splat, splat_is_map}
 use Rattle.std.proofs.lemmas.Simd.{run_in_chunk_le, run_in_chunk_fails, run_in_chunk_stops}
 use lib.Lanes.{chunk, mask_l, top, zip2}
-use Rattle.tok_lexical.specs.Scans.{AllPass, IsRun, first_set}
+use Rattle.tok_lexical.specs.Private.Scans.{AllPass, IsRun, first_set}
 
 -- an operation on two vectors that were computed lane by lane from one
 pub lanewise : (h : ℕ → ℕ → ℕ) (f g : ℕ → ℕ) (load : List ℕ) {xs ys : List ℕ} →

@@ -8,11 +8,13 @@ use Rattle.std.specs.Str.{chars, IsUtf8}
 use Rattle.std.specs.Char.{encode_utf8}
 use Rattle.std.proofs.lemmas.Str.{chars_past_char, length-encode, len_utf8_bounds}
 use Rattle.std.proofs.lemmas.Bool.{false≢true}
-use Rattle.tok_lexical.specs.Pieces.{HasPrefix, IsLongestPrefix, ReadsLongest, ReadsPrefix}
+use Rattle.tok_lexical.specs.Pieces.{HasPrefix, IsLongestPrefix, ReadsLongest}
+use Rattle.tok_lexical.specs.Private.Finds.{ReadsPrefix}
 use Rattle.tok_lexical.specs.Pieces.{Stops, Skips, IsOne, After}
 use Rattle.std.specs.Prelude.{Option, Some, None, MatchOption, unwrap_or}
 use Rattle.std.specs.Borrow.{Bor}
-use Rattle.tok_lexical.specs.Characters.{is_whitespace, begins_visibly}
+use Rattle.tok_lexical.specs.Characters.{is_whitespace}
+use Rattle.tok_lexical.specs.Private.Fronts.{begins_visibly}
 
 pub chars_next : (text start mid rest : List ℕ) (c : ℕ) → IsUtf8 text → start ≡ text →
     start ≡ encode_utf8 c ++ mid → rest ≡ mid → chars text ≡ c ∷ chars rest

@@ -12,7 +12,7 @@ use Rattle.std.proofs.lemmas.Str.{chars-IsAscii, IsUtf8-from_ascii, IsUtf8-drop,
 use Rattle.std.proofs.lemmas.Str.{IsCharBoundary-start, IsCharBoundary-after_ascii}
 use Rattle.std.proofs.lemmas.Str.Ascii.{IsAscii-nil}
 use Rattle.tok_lexical.specs.Pieces.{Skips, Stops}
-use Rattle.tok_lexical.specs.Scans.{IsRun}
+use Rattle.tok_lexical.specs.Private.Scans.{IsRun}
 
 -- a test that only ASCII characters pass
 module _ (pass : ℕ → Bool) (low : (x : ℕ) → pass x ≡ true → x < 128) where

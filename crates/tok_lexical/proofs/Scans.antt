@@ -14,7 +14,7 @@ use Rattle.std.proofs.lemmas.Str.{length-encode, len_utf8_bounds, encodes-chars,
 use Rattle.std.proofs.lemmas.Str.{chars-append, IsUtf8-take, IsUtf8-drop}
 use Rattle.std.proofs.lemmas.Str.{IsCharBoundary-before_ascii, IsCharBoundary-end}
 use Rattle.tok_lexical.specs.Pieces.{Skips, Stops}
-use Rattle.tok_lexical.specs.Scans.{IsRun}
+use Rattle.tok_lexical.specs.Private.Scans.{IsRun}
 
 -- a test that only ASCII characters pass
 module _ (stop : ℕ → Bool) (low : (x : ℕ) → stop x ≡ true → x < 128) where

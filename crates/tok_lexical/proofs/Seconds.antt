@@ -8,10 +8,12 @@ use Rattle.unicode_ident.specs.Ident.{is_xid_continue}
 use Rattle.unicode_ident.proofs.IdentLemmas.{is_xid_start-ascii}
 use Rattle.tok_lexical.specs.Fits.{IsFirstFit, here, later}
 use Rattle.tok_lexical.specs.Pieces.{After, HasPrefix, IsLongestPrefix, IsOne, Skips}
-use Rattle.tok_lexical.specs.Rules.{among, based_rules, beginning, decimal_rules, last_rules}
+use Rattle.tok_lexical.specs.Rules.{among, based_rules, decimal_rules, last_rules}
+use Rattle.tok_lexical.specs.Private.Starts.{beginning}
 use Rattle.tok_lexical.specs.Rules.{has_raw_lifetimes, literal_rules, rules_of, Spells}
 use Rattle.tok_lexical.specs.Strings.{IsEscapedChar, IsPrefixed, IsQuoted, is_char}
-use Rattle.tok_lexical.specs.Starts.{start_of, is_prefix, names_base, opens_string, opens_literal}
+use Rattle.tok_lexical.specs.Private.Starts.{start_of, names_base, opens_string, opens_literal}
+use Rattle.tok_lexical.specs.Starts.{is_prefix}
 use Rattle.tok_lexical.specs.Words.{is_identifier_start, IsIdentifier, IsName, IsRawIdentifier}
 use Rattle.tok_lexical.specs.declared.contents.Contents.TheVariants.{Text, Bytes, C}
 use Rattle.tok_lexical.specs.declared.numbers.Base.TheVariants.{Hexadecimal, Octal, Binary}

@@ -10,7 +10,7 @@ use Rattle.tok_lexical.specs.Pieces.{HasPrefix, IsLongestPrefix, Skips}
 use Rattle.tok_lexical.specs.Fits.{IsFirstFit, here, later}
 use Rattle.tok_lexical.specs.Rules.{Spells, rules_of}
 use Rattle.tok_lexical.specs.Words.{IsIdentifier}
-use Rattle.tok_lexical.specs.Starts.{start_of}
+use Rattle.tok_lexical.specs.Private.Starts.{start_of}
 use Rattle.tok_lexical.specs.declared.rule.Mode.{Mode}
 use Rattle.tok_lexical.specs.declared.rule.Rule.TheVariants.{LineComment, BlockComment}
 use Rattle.tok_lexical.specs.declared.rule.Rule.TheVariants.{OpenComment, Punct}

@@ -10,7 +10,8 @@ use Rattle.std.specs.Char.{is_digit, is_ascii_alphabetic}
 use Rattle.tok_lexical.proofs.Tables.{in_table}
 use Rattle.unicode_ident.proofs.IdentLemmas.{is_xid_start-ascii}
 use Rattle.tok_lexical.specs.Characters.{is_whitespace, is_punct}
-use Rattle.tok_lexical.specs.Starts.{start_of, is_mark, is_prefix, begins_letter, begins_punct}
+use Rattle.tok_lexical.specs.Private.Starts.{start_of, is_mark}
+use Rattle.tok_lexical.specs.Starts.{is_prefix, begins_letter, begins_punct}
 use Rattle.tok_lexical.specs.declared.delimiter.Delimiter.TheVariants.{Parenthesis, Brace, Bracket}
 use Rattle.tok_lexical.specs.declared.start.Start.{Start}
 use Rattle.tok_lexical.specs.declared.start.Start.TheVariants.{Whitespace, Zero, Digit, Prefix}

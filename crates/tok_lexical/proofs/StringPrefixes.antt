@@ -6,7 +6,8 @@ use Rattle.std.specs.List.{list_all}
 use Rattle.std.specs.Str.{chars}
 use Rattle.std.specs.Borrow.{Bor}
 use Rattle.std.proofs.lemmas.Bool.{ne_eqb}
-use Rattle.tok_lexical.specs.Pieces.{ReadsPrefix, Skips, Stops, After}
+use Rattle.tok_lexical.specs.Private.Finds.{ReadsPrefix}
+use Rattle.tok_lexical.specs.Pieces.{Skips, Stops, After}
 use Rattle.tok_lexical.specs.Strings.{IsHashes, IsPrefixed, IsPrefixOf, IsStringPrefix}
 use Rattle.tok_lexical.specs.declared.contents.Contents.{Contents}
 use Rattle.tok_lexical.specs.declared.contents.Contents.TheVariants.{Text, Bytes, C}

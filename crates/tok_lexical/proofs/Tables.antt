@@ -7,7 +7,7 @@ use Rattle.std.proofs.lemmas.List.{get_or-map}
 use Rattle.std.proofs.lemmas.List.FromFn.{get_or-map-range_with_len}
 use Rattle.unicode_ident.specs.Ident.{is_xid_continue}
 use Rattle.unicode_ident.proofs.IdentLemmas.{is_xid_continue-ascii}
-use Rattle.tok_lexical.specs.Words.{is_ascii_continue}
+use Rattle.tok_lexical.specs.Private.Fronts.{is_ascii_continue}
 use Rattle.tok_lexical.specs.declared.words.TheConstants.{CONTINUES}
 
 pub in_table : {X : Type 0} (meant defined : ℕ → X) (table : List ℕ) (d : X) (c : ℕ) →

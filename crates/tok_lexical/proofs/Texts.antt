@@ -7,7 +7,7 @@ use Rattle.std.specs.Char.{is_ascii_graphic}
 use Rattle.std.specs.Prelude.{Bool, encode_utf8, encode_utf8_all, true, false, nat_lt, nat_le}
 use Rattle.std.proofs.Common.{refl}
 use Rattle.std.proofs.lemmas.Bool.{ltb-true, ltb-false, lt-leb, le-leb, false_from_ne_true}
-use Rattle.tok_lexical.specs.Characters.{begins_visibly, begins_beyond_ascii}
+use Rattle.tok_lexical.specs.Private.Fronts.{begins_visibly, begins_beyond_ascii}
 use Rattle.tok_lexical.specs.Widths.{width, is_group_mark}
 use Rattle.tok_lexical.specs.declared.rule.Rule.{Rule}
 use Rattle.std.proofs.lemmas.Str.{encodes-append, encodes-chars, chars-nil, chars-append}

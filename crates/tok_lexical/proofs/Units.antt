@@ -6,8 +6,9 @@ use Rattle.std.specs.Borrow.{Bor}
 use Rattle.std.specs.Str.{chars}
 use Rattle.std.proofs.lemmas.List.{append-nil, append_cancel_left}
 use Rattle.std.specs.List.{list_all}
-use Rattle.tok_lexical.specs.Strings.{FindsUnits}
-use Rattle.tok_lexical.specs.Pieces.{IsLongestPrefix, ReadsLongest, HasPrefix, ReadsPrefix}
+use Rattle.tok_lexical.specs.Private.Finds.{FindsUnits}
+use Rattle.tok_lexical.specs.Pieces.{IsLongestPrefix, ReadsLongest, HasPrefix}
+use Rattle.tok_lexical.specs.Private.Finds.{ReadsPrefix}
 use Rattle.tok_lexical.specs.Pieces.{After, Skips, is_neither}
 use Rattle.tok_lexical.proofs.NestedComments.{neither_first}
 use Rattle.tok_lexical.specs.Words.{IsIdentifier, IsSuffix}

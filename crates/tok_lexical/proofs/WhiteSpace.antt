@@ -4,7 +4,8 @@ use Rattle.std.proofs.Common.{append_assoc, ◌&&◌, arith, rules, tests}
 use Rattle.std.specs.List.{list_all}
 use Rattle.std.proofs.lemmas.Bool.{leb-false, leb-true}
 use Rattle.std.proofs.lemmas.List.Folds.{list_all-append}
-use Rattle.tok_lexical.specs.Characters.{begins_beyond_ascii, is_ascii_whitespace, is_whitespace}
+use Rattle.tok_lexical.specs.Private.Fronts.{begins_beyond_ascii, is_ascii_whitespace}
+use Rattle.tok_lexical.specs.Characters.{is_whitespace}
 use Rattle.tok_lexical.specs.Pieces.{Skips, Stops}
 use Rattle.tok_lexical.proofs.Digits.{head_passes, tail_passes}
 

@@ -1,7 +1,6 @@
 -- White space, punctuation characters and delimiters (Rust Reference: Whitespace; Tokens,
 -- Punctuation and Delimiters).
-use Rattle.std.specs.Prelude.{ℕ, List, [], ◌∷◌, Bool, false, ◌||◌, ◌&&◌, ◌==◌, nat_le}
-use Rattle.std.specs.Char.{is_ascii_graphic}
+use Rattle.std.specs.Prelude.{ℕ, Bool, ◌||◌, ◌&&◌, ◌==◌, nat_le}
 use Rattle.tok_lexical.specs.Ascii.{apostrophe, close_brace, close_bracket, close_mark}
 use Rattle.tok_lexical.specs.Ascii.{close_parenthesis, exclamation_mark, open_brace, open_bracket}
 use Rattle.tok_lexical.specs.Ascii.{open_mark, open_parenthesis, space}
@@ -14,20 +13,6 @@ abbrev pub is_whitespace : ℕ → Bool
 is_whitespace c =
     (nat_le 9 c && nat_le c 13) || (c == space) || (c == 0x85) || (c == 0x200E) || (c == 0x200F)
     || (c == 0x2028) || (c == 0x2029)
-
--- white space that is ASCII
-abbrev pub is_ascii_whitespace : ℕ → Bool
-is_ascii_whitespace c = (nat_le 9 c && nat_le c 13) || (c == space)
-
--- the text begins with a character beyond ASCII
-abbrev pub begins_beyond_ascii : List ℕ → Bool
-begins_beyond_ascii [] = false
-begins_beyond_ascii (c ∷ text) = nat_le 128 c
-
--- the text begins with a visible ASCII character
-abbrev pub begins_visibly : List ℕ → Bool
-begins_visibly [] = false
-begins_visibly (c ∷ text) = is_ascii_graphic c
 
 -- one of ! # $ % & * + , - . / : ; < = > ? @ ^ | ~
 abbrev pub is_punct : ℕ → Bool

@@ -1,4 +1,4 @@
--- What doc comments say (Rust Reference: Comments, Doc comments), and which are refused.
+-- The contents of doc comments (Rust Reference: Comments, Doc comments), and which are rejected.
 use Rattle.std.specs.Prelude.{ℕ, List, [], ◌∷◌, ◌-◌, Bool, true, false, not, length, take}
 use Rattle.tok_lexical.specs.Ascii.{carriage_return, exclamation_mark, line_feed}
 use Rattle.tok_lexical.specs.Pieces.{after_first, begins_with, up_to, from_first}
@@ -10,7 +10,7 @@ after_mark piece = after_first (after_first (after_first piece))
 abbrev pub is_inner_doc : List ℕ → Bool
 is_inner_doc piece = begins_with exclamation_mark (after_first (after_first piece))
 
--- What a line comment says. One that isn't refused has a U+000D at its end alone.
+-- The contents of a line comment. One that is not rejected has a U+000D at its end alone.
 abbrev pub line_doc_text : List ℕ → List ℕ
 line_doc_text piece = up_to carriage_return (after_mark piece)
 

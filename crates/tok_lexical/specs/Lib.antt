@@ -9,13 +9,14 @@ pub mod Errors
 pub mod Fits
 pub mod Floats
 pub mod Following
+pub mod Laws
 pub mod Numbers
 pub mod Pieces
 pub mod Raw
 pub mod Rules
-pub mod Scans
 pub mod Sources
 pub mod Starts
 pub mod Strings
 pub mod Widths
 pub mod Words
+pub mod Private

@@ -36,13 +36,6 @@ ReadsLongest Spelled text answer =
     MatchOption answer (HasPrefix Spelled text → ⊥)
     (λ rest. (piece : List ℕ) × IsLongestPrefix Spelled text piece (chars rest.now))
 
--- What a function that looks for a spelling returns: what follows it, or None where no front is
--- spelled so. It is meant for spellings of which none begins another.
-abbrev pub ReadsPrefix : (List ℕ → Type 0) → List ℕ → Option (Bor (List ℕ)) → Type 0
-ReadsPrefix Spelled text answer =
-    MatchOption answer (HasPrefix Spelled text → ⊥)
-    (λ rest. (piece : List ℕ) × (text ≡ piece ++ chars rest.now) × Spelled piece)
-
 -- neither of two characters
 abbrev pub is_neither : ℕ → ℕ → ℕ → Bool
 is_neither a b c = not ((c == a) || (c == b))

@@ -32,8 +32,6 @@ use Rattle.tok_lexical.specs.declared.rule.Rule.TheVariants.{PointedDecimal, Dec
 use Rattle.tok_lexical.specs.declared.rule.Rule.TheVariants.{RawIdentifier, Identifier}
 use Rattle.tok_lexical.specs.declared.rule.Rule.TheVariants.{Punct, Other}
 use Rattle.tok_lexical.specs.declared.contents.Contents.TheVariants.{Text, Bytes, C}
-use Rattle.tok_lexical.specs.declared.start.Start.{Start}
-use Rattle.tok_lexical.specs.declared.start.Start.TheVariants as start
 
 -- The whole piece is spelled by the rule. After a rule comes one that takes what begins so and
 -- isn't spelled to its end.
@@ -147,19 +145,3 @@ among mode rules = filter (is_in mode) rules
 -- the rules of a mode, in their order
 abbrev pub rules_of : Mode → List Rule
 rules_of mode = among mode all_rules
-
--- the rules that may take a text that begins so, in their order
-abbrev pub beginning : Start → List Rule
-beginning start.Rest =
-    ByteOrderMark ∷ Whitespace ∷ Opening None ∷ Closing None ∷ last_rules
-beginning start.Whitespace = Whitespace ∷ last_rules
-beginning start.Zero = based_rules ++ (decimal_rules ++ last_rules)
-beginning start.Digit = decimal_rules ++ last_rules
-beginning start.Prefix = literal_rules ++ RawIdentifier ∷ last_rules
-beginning start.Letter = last_rules
-beginning start.Slash = LineComment ∷ BlockComment ∷ OpenComment ∷ last_rules
-beginning start.Quote = QuotedString Text ∷ BadString ∷ last_rules
-beginning start.Apostrophe = apostrophe_rules ++ last_rules
-beginning (start.Opening delimiter) = Opening delimiter ∷ last_rules
-beginning (start.Closing delimiter) = Closing delimiter ∷ last_rules
-beginning start.Punct = Punct ∷ Other ∷ []

@@ -3,13 +3,10 @@
 use Rattle.std.specs.Prelude.{◌≡◌, ◌≢◌, ℕ, ◌+◌, ◌*◌, ◌≤◌, ◌⊎◌, List, [], ◌∷◌, ◌++◌, Bool, true}
 use Rattle.std.specs.Prelude.{false, ◌==◌, ◌||◌, ◌&&◌, not, nat_lt, if◌then◌else◌, fold, count_by}
 use Rattle.std.specs.Char.{is_digit, digit_value, IsScalar}
-use Rattle.std.specs.Prelude.{Option, MatchOption}
-use Rattle.std.specs.Borrow.{Bor}
-use Rattle.std.specs.Str.{chars}
 use Rattle.tok_lexical.specs.Ascii.{apostrophe, backslash, carriage_return, close_brace, digit_zero}
 use Rattle.tok_lexical.specs.Ascii.{line_feed, lower_b, lower_c, lower_n, lower_r, lower_t, lower_u}
 use Rattle.tok_lexical.specs.Ascii.{lower_x, number_sign, open_brace, quote, tab, underscore}
-use Rattle.tok_lexical.specs.Pieces.{HasPrefix, IsOne, After, IsAll}
+use Rattle.tok_lexical.specs.Pieces.{IsOne, After, IsAll}
 use Rattle.tok_lexical.specs.Words.{IsSuffix}
 use Rattle.tok_lexical.specs.declared.contents.Contents.{Contents}
 use Rattle.tok_lexical.specs.declared.contents.Contents.TheVariants.{Text, Bytes, C}
@@ -126,10 +123,3 @@ IsPrefixOf C = After lower_c IsPrefixed
 -- any of these
 abbrev pub IsStringPrefix : List ℕ → Type 0
 IsStringPrefix piece = IsPrefixOf Text piece ⊎ (IsPrefixOf Bytes piece ⊎ IsPrefixOf C piece)
-
--- what a function that looks for units of a string answers: what follows some of them, or None
--- where there are none
-abbrev pub FindsUnits : Contents → List ℕ → Option (Bor (List ℕ)) → Type 0
-FindsUnits contents text answer =
-    MatchOption answer (HasPrefix (IsUnit contents) text → ⊥)
-    (λ rest. (units : List ℕ) × (text ≡ units ++ chars rest.now) × AreUnits contents units)

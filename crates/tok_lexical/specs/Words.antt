@@ -1,7 +1,6 @@
 -- The spellings of identifiers (Rust Reference: Identifiers; Tokens, Suffixes and Lifetimes).
 use Rattle.std.specs.Prelude.{◌≡◌, ℕ, List, [], ◌∷◌, ◌⊎◌, Bool, true, false, not, ◌||◌, ◌&&◌, ◌==◌}
 use Rattle.std.specs.Prelude.{codes}
-use Rattle.std.specs.Char.{is_ascii_alphanumeric}
 use Rattle.std.specs.List.{list_all}
 use Rattle.std.specs.Str.{bytes_eq}
 use Rattle.unicode_ident.specs.Ident.{is_xid_start, is_xid_continue}
@@ -10,15 +9,6 @@ use Rattle.tok_lexical.specs.Pieces.{After}
 
 abbrev pub is_identifier_start : ℕ → Bool
 is_identifier_start c = is_xid_start c || (c == underscore)
-
--- an ASCII character that may go on in an identifier
-abbrev pub is_ascii_continue : ℕ → Bool
-is_ascii_continue c = is_ascii_alphanumeric c || (c == underscore)
-
--- the text begins with such a character
-abbrev pub begins_continue : List ℕ → Bool
-begins_continue [] = false
-begins_continue (c ∷ text) = is_ascii_continue c
 
 -- a plain identifier
 abbrev pub IsIdentifier : List ℕ → Type 0
@@ -54,7 +44,7 @@ is_missing [] = false
 is_missing (c ∷ []) = false
 is_missing (c ∷ d ∷ word) = (c == lower_r) && ((d == number_sign) && has_no_raw word)
 
--- not `r#` in front
+-- a text that does not begin with `r#`
 abbrev pub is_plain : List ℕ → Bool
 is_plain [] = true
 is_plain (c ∷ []) = true

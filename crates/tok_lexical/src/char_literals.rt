@@ -1,7 +1,8 @@
 //! Characters and byte characters.
 ghost use Rattle.std.specs.Prelude.{◌≡◌, IfSome};
 ghost use Rattle.std.specs.Str.{chars, IsUtf8};
-ghost use Rattle.tok_lexical.specs.Pieces.{IsOne, After, ReadsLongest, ReadsPrefix};
+ghost use Rattle.tok_lexical.specs.Pieces.{IsOne, After, ReadsLongest};
+ghost use Rattle.tok_lexical.specs.Private.Finds.{ReadsPrefix};
 ghost use Rattle.tok_lexical.specs.Words.{IsSuffix};
 ghost use Rattle.tok_lexical.specs.Strings.{is_char, is_byte, IsEscapedChar, IsByte, IsQuoted};
 
@@ -32,7 +33,7 @@ fn past_end(text: &str) -> Option<&str>
     Some(past_suffix(rest))
 }
 
-/// Returns the text after one character that may stand between apostrophes as it is.
+/// Returns the text after one character that may stand between apostrophes without an escape.
 fn past_plain(text: &str) -> Option<&str>
     ensures finds { ReadsPrefix (IsOne is_char) (chars text.now) result }
     ensures utf8 { IfSome result (λ rest. IsUtf8 rest.now) }
@@ -65,7 +66,7 @@ fn past_byte(text: &str) -> Option<&str>
     }
 }
 
-/// Returns the text after a character with no escape, and its suffix.
+/// Skips a character literal without an escape, with its suffix, and returns the rest.
 #[inline(always)]
 pub fn past_plain_char(text: &str) -> Option<&str>
     ensures tries { ReadsLongest (IsQuoted (IsOne is_char)) (chars text.now) result }
@@ -76,7 +77,7 @@ pub fn past_plain_char(text: &str) -> Option<&str>
     past_end(end)
 }
 
-/// Returns the text after a character with an escape, and its suffix.
+/// Skips a character literal that contains an escape, with its suffix, and returns the rest.
 #[inline(always)]
 pub fn past_escaped_char(text: &str) -> Option<&str>
     ensures tries { ReadsLongest (IsQuoted IsEscapedChar) (chars text.now) result }

@@ -1,7 +1,8 @@
 //! White space, punctuation characters, and the marks of groups.
 ghost use Rattle.std.specs.Prelude.{◌≡◌, ◌≤◌, ℕ, List, length};
 ghost use Rattle.std.specs.Str.{chars};
-ghost use Rattle.tok_lexical.specs.Characters.{is_ascii_whitespace, is_whitespace, begins_visibly, is_punct, is_punct_or_apostrophe, opening_mark, closing_mark};
+ghost use Rattle.tok_lexical.specs.Private.Fronts.{is_ascii_whitespace, begins_visibly};
+ghost use Rattle.tok_lexical.specs.Characters.{is_whitespace, is_punct, is_punct_or_apostrophe, opening_mark, closing_mark};
 ghost use Rattle.tok_lexical.specs.Delimiters.{is_invisible};
 ghost use Rattle.tok_lexical.specs.Pieces.{Skips};
 

@@ -119,13 +119,12 @@ pub fn line_doc_text(piece: &str) -> &str
 
 /// Returns the contents of a `///` or `//!` comment, as `line_doc_text` does.
 ///
-/// # Requires
-///
-/// If the piece has a U+000D, `returns` must be `true`. If it isn't, none is searched for.
+/// `returns` is `true` if the piece has a U+000D, and may be if it has none. If it isn't, none is
+/// searched for.
 #[inline(always)]
 pub fn line_doc_contents(piece: &str, returns: bool) -> &str
-    requires { has_return (chars piece.now) ≡ true → returns ≡ true }
-    ensures { chars result.now ≡ line_doc_text (chars piece.now) }
+    ensures { (has_return (chars piece.now) ≡ true → returns ≡ true)
+        → chars result.now ≡ line_doc_text (chars piece.now) }
 {
     if returns {
         line_doc_text(piece)
@@ -136,13 +135,12 @@ pub fn line_doc_contents(piece: &str, returns: bool) -> &str
 
 /// Returns `true` if a line comment has a U+000D that isn't part of its line's end.
 ///
-/// # Requires
-///
-/// If the piece has a U+000D, `returns` must be `true`. If it isn't, none is searched for.
+/// `returns` is `true` if the piece has a U+000D, and may be if it has none. If it isn't, none is
+/// searched for.
 #[inline(always)]
 pub(crate) fn has_broken_line(piece: &str, after: &str, returns: bool) -> bool
-    requires { has_return (chars piece.now) ≡ true → returns ≡ true }
-    ensures { result ≡ breaks_line (chars piece.now) (chars after.now) }
+    ensures { (has_return (chars piece.now) ≡ true → returns ≡ true)
+        → result ≡ breaks_line (chars piece.now) (chars after.now) }
 {
     returns && breaks_line(piece, after)
 }

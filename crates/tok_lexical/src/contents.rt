@@ -70,13 +70,12 @@ pub fn has_return(text: &str) -> bool
 
 /// Returns `true` if the text has a U+000D that no line feed follows.
 ///
-/// # Requires
-///
-/// If the text has a U+000D, `returns` must be `true`. If it isn't, nothing is searched.
+/// `returns` is `true` if the text has a U+000D at all, and may be if it has none. If it isn't,
+/// nothing is searched.
 #[inline(always)]
 pub fn has_bare_return(text: &str, returns: bool) -> bool
-    requires { has_return (chars text.now) ≡ true → returns ≡ true }
-    ensures { result ≡ has_bare_return (chars text.now) }
+    ensures { (has_return (chars text.now) ≡ true → returns ≡ true)
+        → result ≡ has_bare_return (chars text.now) }
 {
     returns && finds_bare_return(text)
 }
@@ -97,14 +96,12 @@ fn finds_bare_return(text: &str) -> bool
 
 /// Returns `true` if a string literal contains what one of this kind may not.
 ///
-/// # Requires
-///
-/// If the piece has a U+000D, `returns` must be `true`.
+/// `returns` is `true` if the piece has a U+000D, and may be if it has none.
 // Inlined, but for the searches: each string of a source asks this, and its kind is known.
 #[inline(always)]
 pub fn is_unfit(contents: Contents, piece: &str, returns: bool) -> bool
-    requires { has_return (chars piece.now) ≡ true → returns ≡ true }
-    ensures { result ≡ is_unfit contents (chars piece.now) }
+    ensures { (has_return (chars piece.now) ≡ true → returns ≡ true)
+        → result ≡ is_unfit contents (chars piece.now) }
 {
     match contents {
         Contents::Text => has_bare_return(piece, returns),
@@ -129,7 +126,7 @@ fn only_zeros(text: &str) -> bool
     false
 }
 
-/// Returns `true` if an escape that goes on so names U+0000.
+/// Returns `true` if the escape that continues with this text names U+0000.
 fn names_zero(text: &str) -> bool
     ensures { result ≡ names_zero (chars text.now) }
 {
@@ -164,14 +161,12 @@ fn has_zero(piece: &str) -> bool
 
 /// Returns `true` if a string that isn't raw contains what one of this kind may not.
 ///
-/// # Requires
-///
-/// If the piece has a U+000D, `returns` must be `true`.
+/// `returns` is `true` if the piece has a U+000D, and may be if it has none.
 // Inlined for the same reason.
 #[inline(always)]
 pub fn is_wrong(contents: Contents, piece: &str, returns: bool) -> bool
-    requires { has_return (chars piece.now) ≡ true → returns ≡ true }
-    ensures { result ≡ is_wrong contents (chars piece.now) }
+    ensures { (has_return (chars piece.now) ≡ true → returns ≡ true)
+        → result ≡ is_wrong contents (chars piece.now) }
 {
     match contents {
         Contents::C => is_unfit(contents, piece, returns) || has_zero(piece),

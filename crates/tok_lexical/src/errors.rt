@@ -65,9 +65,8 @@ fn lifetime_error(mode: Mode, name: &str, after: &str) -> Option<LexErrorKind>
 
 /// Returns the kind of error if the piece that a rule took at this byte is rejected.
 ///
-/// # Requires
-///
-/// If the piece has a U+000D, `returns` must be `true`. If it isn't, none is searched for.
+/// `returns` is `true` if the piece has a U+000D, and may be if it has none. If it isn't, none is
+/// searched for.
 // Inlined: the loop over pieces exists twice, for trees and for entries, and a call in each would
 // cost every piece.
 #[inline(always)]
@@ -79,8 +78,8 @@ pub fn error_kind(
     after: &str,
     returns: bool,
 ) -> Option<LexErrorKind>
-    requires { has_return (chars piece.now) ≡ true → returns ≡ true }
-    ensures { result ≡ error_kind rule mode at (chars piece.now) (chars after.now) }
+    ensures { (has_return (chars piece.now) ≡ true → returns ≡ true)
+        → result ≡ error_kind rule mode at (chars piece.now) (chars after.now) }
 {
     match rule {
         Rule::ByteOrderMark => refused_if(at != 0, LexErrorKind::UnknownCharacter),

@@ -1,7 +1,7 @@
 //! Escapes.
 ghost use Rattle.std.specs.Prelude.{◌≡◌, ◌≤◌, IfSome, length, ◌<◌, false, if◌then◌else◌, MatchBool};
 ghost use Rattle.std.specs.Str.{chars, IsUtf8};
-ghost use Rattle.tok_lexical.specs.Pieces.{ReadsPrefix};
+ghost use Rattle.tok_lexical.specs.Private.Finds.{ReadsPrefix};
 ghost use Rattle.tok_lexical.specs.Strings.{is_simple_escape, IsHex, NamesChar, IsCode, IsLineEnd, IsEscape, IsCEscape};
 
 use crate::numbers::past_digits;

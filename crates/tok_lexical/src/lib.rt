@@ -14,6 +14,7 @@ mod errors;
 mod escapes;
 mod floats;
 pub mod joint;
+pub mod laws;
 mod lex_error_kind;
 mod numbers;
 mod prefixes;

@@ -1,7 +1,8 @@
 //! The starts of raw, byte and C strings.
 ghost use Rattle.std.specs.Prelude.{◌==◌, ◌<◌, ℕ, List, IfSome};
 ghost use Rattle.std.specs.Str.{chars, IsUtf8};
-ghost use Rattle.tok_lexical.specs.Pieces.{After, ReadsLongest, ReadsPrefix, Skips};
+ghost use Rattle.tok_lexical.specs.Pieces.{After, ReadsLongest, Skips};
+ghost use Rattle.tok_lexical.specs.Private.Finds.{ReadsPrefix};
 ghost use Rattle.tok_lexical.specs.Strings.{IsHashes, IsPrefixed, IsPrefixOf, IsStringPrefix};
 
 use crate::contents::Contents;

@@ -1,7 +1,8 @@
 //! Raw strings.
 ghost use Rattle.std.specs.Prelude.{◌≡◌, ℕ, ◌∷◌, ◌++◌, List, MatchOption, IfSome};
 ghost use Rattle.std.specs.Str.{chars, IsUtf8};
-ghost use Rattle.tok_lexical.specs.Pieces.{After, ReadsLongest, ReadsPrefix};
+ghost use Rattle.tok_lexical.specs.Pieces.{After, ReadsLongest};
+ghost use Rattle.tok_lexical.specs.Private.Finds.{ReadsPrefix};
 ghost use Rattle.tok_lexical.specs.Raw.{EndsAt, IsRaw, IsRawString};
 
 use crate::contents::Contents;

@@ -5,9 +5,11 @@ ghost use Rattle.tok_lexical.specs.Fits.{IsFirstFit, ReadsByRules};
 ghost use Rattle.tok_lexical.specs.Widths.{is_group_mark, width};
 ghost use Rattle.tok_lexical.specs.Pieces.{ReadsLongest, Skips};
 ghost use Rattle.tok_lexical.specs.Numbers.{is_digit_or_underscore, starts_digit};
-ghost use Rattle.tok_lexical.specs.Rules.{among, beginning, decimal_rules, has_raw_lifetimes, last_rules, rules_of, Spells};
+ghost use Rattle.tok_lexical.specs.Rules.{among, decimal_rules, has_raw_lifetimes, last_rules, rules_of, Spells};
+ghost use Rattle.tok_lexical.specs.Private.Starts.{beginning};
 ghost use Rattle.tok_lexical.specs.declared.start.Start.TheVariants.{Prefix};
-ghost use Rattle.tok_lexical.specs.Starts.{tells, start_of, names_base, opens_string, opens_literal, begins_letter, begins_punct};
+ghost use Rattle.tok_lexical.specs.Private.Starts.{tells, start_of, names_base, opens_string, opens_literal};
+ghost use Rattle.tok_lexical.specs.Starts.{begins_letter, begins_punct};
 ghost use Rattle.tok_lexical.specs.declared.rule.Mode.{Mode};
 ghost use Rattle.tok_lexical.specs.declared.rule.Rule.TheVariants.{Identifier, Punct};
 

@@ -1,9 +1,9 @@
 //! How many bytes at the front of a text pass a test, many of them at a time.
 ghost use Rattle.std.specs.Prelude.{◌≡◌, ℕ, ◌+◌, ◌≤◌, Bool, length};
-ghost use Rattle.tok_lexical.specs.Characters.{is_ascii_whitespace};
+ghost use Rattle.tok_lexical.specs.Private.Fronts.{is_ascii_whitespace};
 ghost use Rattle.tok_lexical.specs.Pieces.{is_neither};
-ghost use Rattle.tok_lexical.specs.Scans.{AllPass, IsRun, first_set};
-ghost use Rattle.tok_lexical.specs.Words.{is_ascii_continue};
+ghost use Rattle.tok_lexical.specs.Private.Scans.{AllPass, IsRun, first_set};
+ghost use Rattle.tok_lexical.specs.Private.Fronts.{is_ascii_continue};
 
 use std::simd::prelude::*;
 
@@ -120,7 +120,7 @@ pub fn front_run<S: ByteTest>(test: &S, bytes: &[u8]) -> usize
     run_from(test, bytes, 0)
 }
 
-/// Returns how many bytes at the front pass the test, where those before `from` do.
+/// Returns how many bytes at the front pass the test, given that those before `from` do.
 #[inline(never)]
 fn run_from<S: ByteTest>(test: &S, bytes: &[u8], from: usize) -> usize
     requires within { from ≤ length bytes.now }

@@ -1,7 +1,8 @@
 //! What the first character of a text decides.
 ghost use Rattle.std.specs.Prelude.{◌≡◌, ◌≤◌};
 ghost use Rattle.std.specs.Str.{chars};
-ghost use Rattle.tok_lexical.specs.Starts.{start_of, is_mark, begins_letter, begins_punct};
+ghost use Rattle.tok_lexical.specs.Private.Starts.{start_of, is_mark};
+ghost use Rattle.tok_lexical.specs.Starts.{begins_letter, begins_punct};
 
 use crate::classes::is_whitespace;
 use crate::delimiter::Delimiter;

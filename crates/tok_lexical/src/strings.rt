@@ -1,8 +1,9 @@
 //! Strings.
 ghost use Rattle.std.specs.Prelude.{IfSome, length, ◌<◌};
 ghost use Rattle.std.specs.Str.{chars, IsUtf8};
-ghost use Rattle.tok_lexical.specs.Pieces.{After, ReadsLongest, ReadsPrefix};
-ghost use Rattle.tok_lexical.specs.Strings.{EscapeOf, IsString, FindsUnits};
+ghost use Rattle.tok_lexical.specs.Pieces.{After, ReadsLongest};
+ghost use Rattle.tok_lexical.specs.Private.Finds.{FindsUnits, ReadsPrefix};
+ghost use Rattle.tok_lexical.specs.Strings.{EscapeOf, IsString};
 ghost use Rattle.tok_lexical.specs.declared.contents.Contents.TheVariants.{Text, Bytes, C};
 
 use crate::contents::Contents;

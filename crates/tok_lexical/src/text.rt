@@ -1,7 +1,7 @@
 //! Texts, read from their front.
 ghost use Rattle.std.specs.Prelude.{◌≡◌, ℕ, ◌<◌, ◌≤◌, ◌+◌, ◌++◌, ◌∷◌, [], length, List, MatchOption, IfSome, encode_utf8, encode_utf8_all, true};
 ghost use Rattle.std.specs.Str.{chars, IsUtf8};
-ghost use Rattle.tok_lexical.specs.Characters.{begins_beyond_ascii};
+ghost use Rattle.tok_lexical.specs.Private.Fronts.{begins_beyond_ascii};
 ghost use Rattle.tok_lexical.specs.Pieces.{after_first, Skips, begins_with, is_neither, up_to};
 
 use crate::scan::{ByteTest, Others, front_run};
@@ -71,11 +71,11 @@ pub fn begins_with(text: &str, ch: char) -> bool
     past_char(text, ch).is_some()
 }
 
-/// Returns the front of the text, up to `rest`.
+/// Returns `text` without its suffix `rest`.
 ///
 /// # Requires
 ///
-/// `rest` must be an end of the text.
+/// `text` must end with `rest`.
 pub fn front_of<'a>(text: &'a str, rest: &str) -> &'a str
     requires { (front : List ℕ) × (chars text.now ≡ front ++ chars rest.now) }
     ensures chars { chars text.now ≡ chars result.now ++ chars rest.now }

@@ -4,7 +4,8 @@ ghost use Rattle.std.specs.Str.{chars, IsUtf8};
 ghost use Rattle.unicode_ident.specs.Ident.{is_xid_continue};
 ghost use Rattle.tok_lexical.specs.Following.{starts_name};
 ghost use Rattle.tok_lexical.specs.Pieces.{After, IsLongestPrefix, ReadsLongest, Skips};
-ghost use Rattle.tok_lexical.specs.Words.{IsIdentifier, IsRawIdentifier, IsName, IsSuffix, begins_continue, is_ascii_continue, is_identifier_start, has_no_raw, is_missing, is_plain, is_raw_prefix};
+ghost use Rattle.tok_lexical.specs.Words.{IsIdentifier, IsRawIdentifier, IsName, IsSuffix, is_identifier_start, has_no_raw, is_missing, is_plain, is_raw_prefix};
+ghost use Rattle.tok_lexical.specs.Private.Fronts.{begins_continue, is_ascii_continue};
 
 use crate::scan::Continues;
 use crate::text::{begins_beyond_ascii, next_char, past_char, past_pair, past_run};

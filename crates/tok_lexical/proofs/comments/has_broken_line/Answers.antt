@@ -4,6 +4,6 @@ use Rattle.tok_lexical.proofs.Docs.{never_breaks, no_return}
 use Rattle.tok_lexical.proofs.comments.has_broken_line.Goals as goal
 
 pub returns-else-returns : goal.returns-else-returns
-returns-else-returns c = c.if-returns.false
+returns-else-returns c = λ h. c.if-returns.false
     ∙ sym (never_breaks (chars c.args.piece.now) (chars c.args.after.now)
-    (no_return c.args.returns (chars c.args.piece.now) c.requires c.if-returns.false))
+    (no_return c.args.returns (chars c.args.piece.now) h c.if-returns.false))

@@ -1,6 +1,6 @@
 use Rattle.std.proofs.Common.{◌∙◌, ◌∷◌, sym, subst}
 use Rattle.std.specs.Str.{chars}
-use Rattle.tok_lexical.specs.Pieces.{ReadsPrefix}
+use Rattle.tok_lexical.specs.Private.Finds.{ReadsPrefix}
 use Rattle.tok_lexical.specs.Strings.{IsCode, NamesChar}
 use Rattle.tok_lexical.proofs.Codes.{code_open, code_found, code_unnamed, code_front}
 use Rattle.tok_lexical.proofs.escapes.past_code.Goals as goal

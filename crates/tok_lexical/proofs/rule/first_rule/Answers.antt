@@ -7,7 +7,7 @@ use Rattle.tok_lexical.proofs.First.{decides_line, decides_quote, decides_string
 use Rattle.tok_lexical.proofs.First.{fits_behind, last_identifier, last_punct, last_other}
 use Rattle.tok_lexical.proofs.Slashes.{decides_alone}
 use Rattle.tok_lexical.specs.Fits.{ReadsByRules}
-use Rattle.tok_lexical.specs.Starts.{tells}
+use Rattle.tok_lexical.specs.Private.Starts.{tells}
 use Rattle.tok_lexical.specs.Rules.{last_rules}
 use Rattle.tok_lexical.specs.declared.rule.Rule.TheVariants.{ByteOrderMark}
 use Rattle.tok_lexical.specs.declared.start.Start.TheVariants as start

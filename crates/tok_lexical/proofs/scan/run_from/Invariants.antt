@@ -1,5 +1,5 @@
 use Rattle.std.proofs.Common.{◌≤◌, ◌-◌, length}
-use Rattle.tok_lexical.specs.Scans.{AllPass}
+use Rattle.tok_lexical.specs.Private.Scans.{AllPass}
 use Rattle.tok_lexical.proofs.scan.run_from.Given as goal
 
 abbrev pub invariant-loop-end : goal.invariant-loop-end

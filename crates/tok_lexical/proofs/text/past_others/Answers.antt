@@ -1,6 +1,6 @@
 use Rattle.std.proofs.Common.{ℕ, length, subst}
 use Rattle.tok_lexical.specs.Pieces.{is_neither}
-use Rattle.tok_lexical.specs.Scans.{IsRun}
+use Rattle.tok_lexical.specs.Private.Scans.{IsRun}
 use Rattle.tok_lexical.proofs.Scans.{run_ends, skips_to, either_low, is_either}
 use Rattle.tok_lexical.proofs.text.past_others.Goals as goal
 

@@ -1,5 +1,5 @@
 use Rattle.std.proofs.Common.{length, subst}
-use Rattle.tok_lexical.specs.Scans.{IsRun}
+use Rattle.tok_lexical.specs.Private.Scans.{IsRun}
 use Rattle.tok_lexical.proofs.Runs.{run_boundary, skips_run}
 use Rattle.tok_lexical.proofs.text.past_run.Goals as goal
 

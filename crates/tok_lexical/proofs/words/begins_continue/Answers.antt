@@ -1,6 +1,6 @@
 use Rattle.std.proofs.Common.{◌≡◌, ◌<◌, ◌∙◌, sym, ap, length, get_or, arith, rules}
 use Rattle.std.proofs.lemmas.Bool.{le-ltb}
-use Rattle.tok_lexical.specs.Words.{begins_continue}
+use Rattle.tok_lexical.specs.Private.Fronts.{begins_continue}
 use Rattle.tok_lexical.proofs.Identifiers.{begins_continue_by, no_continue_beyond}
 use Rattle.tok_lexical.proofs.Tables.{continues_ascii}
 use Rattle.tok_lexical.proofs.Texts.{nothing_begins}

@@ -1,7 +1,7 @@
 use Rattle.std.proofs.Common.{refl, leb, cond}
 use Rattle.std.proofs.lemmas.Simd.{length-chunk}
 use lib.Lanes.{chunk}
-use Rattle.tok_lexical.specs.Words.{is_ascii_continue}
+use Rattle.tok_lexical.specs.Private.Fronts.{is_ascii_continue}
 use Rattle.tok_lexical.proofs.Lanes.{lanewise, run_of_table, splat, with_splat}
 use Rattle.tok_lexical.proofs.scan.ContinuesByteTest.run.Goals as goal
 
