@@ -1,42 +1,12 @@
 -- By what values of a type are compared, ordered and hashed.
-use Rattle.std.specs.Prelude.{◌≡◌, ◌↔◌, ℕ, Bool, true, List, Option, Some}
+use Rattle.std.specs.Prelude.{ℕ, Bool, List, Option}
 use Rattle.std.specs.Cmp.Lexicographic.{slice_cmp}
 use Rattle.std.specs.Ordering.{nat_cmp}
 use Rattle.std.specs.Hash as fed
 use Rattle.std.specs.declared.cmp.Ordering.{Ordering}
-use Rattle.std.specs.declared.cmp.Ordering.TheVariants.{Equal}
+use Rattle.tok_lexical.specs.Laws.{EqualBy, HashedBy, OrderAgrees, OrderedBy}
 use Rattle.tok_leaves.specs.declared.ident.Ident.{Ident}
 use Rattle.tok_leaves.specs.Leaves.{ident_of, leaf_text}
-
--- what a value shows, as its text
-module _ {A B : Type 0} (shown : A → B) where
-  -- two values are equal exactly where they show the same
-  abbrev pub EqualBy : (A → A → Bool) → Type 0
-  EqualBy equal = (left right : A) → (equal left right ≡ true) ↔ (shown left ≡ shown right)
-
-  -- they are in the order of what they show
-  abbrev pub OrderedBy : (B → B → Ordering) → (A → A → Ordering) → Type 0
-  OrderedBy order compare =
-      (left right : A) → compare left right ≡ order (shown left) (shown right)
-
-  -- a value feeds a hasher what it shows, and nothing else; so equal values feed it alike
-  abbrev pub HashedBy : (B → List (List ℕ)) → (A → List (List ℕ)) → Type 0
-  HashedBy input feeds = (value : A) → feeds value ≡ input (shown value)
-
--- two values are equal exactly where they are the same
-abbrev pub EqualAsValues : {A : Type 0} → (A → A → Bool) → Type 0
-EqualAsValues {A} equal = (left right : A) → (equal left right ≡ true) ↔ (left ≡ right)
-
--- a clone is the value that was cloned
-abbrev pub ClonesKeep : {A : Type 0} → (A → A → Type 0) → Type 0
-ClonesKeep {A} is_clone = (value clone : A) → is_clone value clone → clone ≡ value
-
--- two values are equal exactly where neither comes first, and any two are in order
-abbrev pub OrderAgrees : {A : Type 0} → (A → A → Bool) → (A → A → Ordering) →
-    (A → A → Option Ordering) → Type 0
-OrderAgrees {A} equal compare partial =
-    (left right : A) → ((equal left right ≡ true) ↔ (compare left right ≡ Equal))
-    × (partial left right ≡ Some (compare left right))
 
 -- the order of texts: that of the first bytes that differ, and a front of a text before the text
 abbrev pub text_order : List ℕ → List ℕ → Ordering

@@ -35,7 +35,7 @@ leaf_span (ident text span) = span
 leaf_span (punct c spacing span) = span
 leaf_span (literal text span) = span
 
--- the character and the spacing of a punct, with a default where it is none
+-- the character and the spacing of a punct, with a default for other leaves
 abbrev pub leaf_char : Leaf → ℕ
 leaf_char (punct c spacing span) = c
 leaf_char l = 0

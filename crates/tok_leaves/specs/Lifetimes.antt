@@ -32,7 +32,7 @@ abbrev pub raw_word : List ℕ → Option (List ℕ)
 raw_word (c ∷ (d ∷ word)) = cond (c == 114 && d == 35) (Some word) None
 raw_word cs = None
 
--- why these characters name no lifetime, plain or raw; None where they do
+-- why these characters name no lifetime, plain or raw; `None` if they do
 abbrev pub plain_error : List ℕ → Option LifetimeFault
 plain_error [] = Some Empty
 plain_error (c ∷ cs) = cond (is_identifier (c ∷ cs)) None (Some NotIdentifier)
@@ -43,12 +43,12 @@ raw_error word = cond (has_no_raw word) (Some NoRaw) (plain_error word)
 abbrev pub name_error : List ℕ → Option LifetimeFault
 name_error cs = elim (raw_word cs) [ Some word ↦ raw_error word | None ↦ plain_error cs ]
 
--- why these characters make no lifetime; None where they do
+-- why these characters make no lifetime; `None` if they do
 abbrev pub lifetime_error : List ℕ → Option LifetimeFault
 lifetime_error [] = Some NoApostrophe
 lifetime_error (c ∷ cs) = cond (c == apostrophe) (name_error cs) (Some NoApostrophe)
 
--- an allocation failure refuses no text
+-- an allocation failure says nothing of the text
 abbrev pub error_in : LifetimeFault → Option LifetimeFault
 error_in Memory = None
 error_in fault = Some fault

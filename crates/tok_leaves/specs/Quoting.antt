@@ -41,7 +41,7 @@ shown c = if is_unseen c then encode_utf8_all (escape_unicode c) else escaped c
 abbrev pub shown_in_quotes : List ℕ → List ℕ
 shown_in_quotes text = codes "\"" ++ (flat_map shown text ++ codes "\"")
 
--- a character between apostrophes, where the quote needs no escape and the apostrophe does
+-- a character between apostrophes: the quote needs no escape, and the apostrophe does
 abbrev pub in_apostrophes : ℕ → List ℕ
 in_apostrophes c =
     if c == 39 then codes "'\\''" else

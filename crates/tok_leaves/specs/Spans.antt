@@ -48,7 +48,7 @@ joined_origins p q = None
 abbrev pub join : Span → Span → Option Span
 join left right = joined_origins left.origin right.origin
 
--- the same, or the first where none covers both
+-- the span that covers both, or the first if no span does
 abbrev pub covering : Span → Span → Span
 covering start end = unwrap_or (join start end) start
 

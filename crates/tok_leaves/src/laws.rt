@@ -4,18 +4,18 @@ ghost use Rattle.std.specs.Prelude.{◌≡◌, ◌↔◌, ℕ, List, true, bytes
 ghost use Rattle.std.specs.Ordering.{nat_cmp};
 ghost use Rattle.std.specs.Cmp.Lexicographic.{slice_cmp};
 ghost use Rattle.std.specs.declared.cmp.Ordering.TheVariants.{Equal};
-ghost use Rattle.tok_leaves.specs.Laws.{ClonesKeep, EqualAsValues, IsByText, text_of};
+ghost use Rattle.tok_lexical.specs.Laws.{ClonesKeep, EqualAsValues};
+ghost use Rattle.tok_leaves.specs.Laws.{IsByText, text_of};
 ghost use Rattle.tok_leaves.specs.Lifetimes.{name_of};
 
 use crate::ident::{Ident, MakeFault};
 use crate::lifetime::{Lifetime, LifetimeFault};
 use crate::literal::Literal;
 use crate::punct::{Punct, Spacing};
-use crate::span::{DelimSpan, Span};
+use crate::span::{Bounds, DelimSpan, Span};
 use crate::text::Text;
 use std::cmp::Ordering;
 use std::hash::Hash;
-use tok_lexical::Delimiter;
 
 /// Identifiers are compared, ordered and hashed by their texts, and their order agrees with
 /// equality.
@@ -40,17 +40,16 @@ pub fn lifetimes_by_name()
         ⟦<Lifetime as PartialOrd>⟧.partial_cmp ⟦<Lifetime as Hash>⟧.hash_input }
 {}
 
-/// Spans, delimiters, spacings and faults are equal if and only if they are the same.
+/// Spans, spacings and faults are equal if and only if they are the same.
 pub fn spans_are_compared_whole()
     ensures spans { EqualAsValues ⟦<Span as PartialEq>⟧.eq }
     ensures group_spans { EqualAsValues ⟦<DelimSpan as PartialEq>⟧.eq }
-    ensures delimiters { EqualAsValues ⟦<Delimiter as PartialEq>⟧.eq }
     ensures spacings { EqualAsValues ⟦<Spacing as PartialEq>⟧.eq }
     ensures faults { EqualAsValues ⟦<MakeFault as PartialEq>⟧.eq }
     ensures lifetime_faults { EqualAsValues ⟦<LifetimeFault as PartialEq>⟧.eq }
 {}
 
-/// A clone is the leaf, lifetime, text or span that was cloned, with its spans.
+/// A clone of a leaf, a lifetime, a text, a span or a fault equals the original, spans included.
 pub fn clones_keep_all()
     ensures idents { ClonesKeep ⟦<Ident as Clone>⟧.is_clone }
     ensures puncts { ClonesKeep ⟦<Punct as Clone>⟧.is_clone }
@@ -59,6 +58,8 @@ pub fn clones_keep_all()
     ensures texts { ClonesKeep ⟦<Text as Clone>⟧.is_clone }
     ensures spans { ClonesKeep ⟦<Span as Clone>⟧.is_clone }
     ensures group_spans { ClonesKeep ⟦<DelimSpan as Clone>⟧.is_clone }
-    ensures delimiters { ClonesKeep ⟦<Delimiter as Clone>⟧.is_clone }
+    ensures bounds { ClonesKeep ⟦<Bounds as Clone>⟧.is_clone }
     ensures spacings { ClonesKeep ⟦<Spacing as Clone>⟧.is_clone }
+    ensures faults { ClonesKeep ⟦<MakeFault as Clone>⟧.is_clone }
+    ensures lifetime_faults { ClonesKeep ⟦<LifetimeFault as Clone>⟧.is_clone }
 {}

@@ -275,7 +275,7 @@ impl Literal {
         Ok(Literal::unchecked(text, Span::call_site()))
     }
 
-    /// Makes a character literal at the call site.
+    /// Creates a character literal at the call site.
     ///
     /// It is in apostrophes. The characters `'`, `\`, line feed, carriage return, tab and U+0000 are
     /// written as `\'`, `\\`, `\n`, `\r`, `\t` and `\0`. Returns an error if an allocation fails.
@@ -294,7 +294,7 @@ impl Literal {
         Ok(Literal::unchecked(text, Span::call_site()))
     }
 
-    /// Makes a byte literal at the call site.
+    /// Creates a byte literal at the call site.
     ///
     /// Between `b'` and `'` stands the byte, as `u8::escape_ascii` writes it. Returns an error if an
     /// allocation fails.
@@ -305,7 +305,7 @@ impl Literal {
         bytes_between(alloc, "b'", &[byte], "'")
     }
 
-    /// Makes a byte string literal at the call site.
+    /// Creates a byte string literal at the call site.
     ///
     /// Between `b"` and `"` stand the bytes, as `u8::escape_ascii` writes each. Returns an error if
     /// an allocation fails.
@@ -316,7 +316,7 @@ impl Literal {
         bytes_between(alloc, "b\"", bytes, "\"")
     }
 
-    /// Makes a C string literal at the call site.
+    /// Creates a C string literal at the call site.
     ///
     /// Between `c"` and `"` stand the bytes without the last, which is zero, as `u8::escape_ascii`
     /// writes each. Returns an error if an allocation fails.

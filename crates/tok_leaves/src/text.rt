@@ -1,4 +1,5 @@
 //! Texts that contracts see as their bytes, so that a copy equals its source.
+ghost use Rattle.std.specs.Fmt.{debug_str};
 ghost use Rattle.std.specs.Prelude.{◌≡◌, ◌<◌, ◌≤◌, ◌++◌, ℕ, List, length, nat_eq, take, string_bytes, IfOk, SomeIff, Some};
 ghost use Rattle.std.specs.Str.{chars};
 ghost use Rattle.std.specs.Cmp as compared;
@@ -242,6 +243,8 @@ impl Display for Text {
 
 /// Writes the text in quotes.
 impl Debug for Text {
+    ghost debug_output = { λ t. debug_str t };
+
     fn fmt<W: Write>(&self, f: &mut Formatter<W>) -> fmt::Result {
         write!(f, "{:?}", self.as_str())
     }

@@ -10,7 +10,7 @@ use Rattle.std.proofs.lemmas.Grind.{fold-append}
 use Rattle.std.proofs.lemmas.List.{append-nil}
 use Rattle.std.proofs.lemmas.Str.{encode_ascii, encodes-chars, inside_one}
 use Rattle.tok_lexical.specs.Numbers.{is_digit_or_underscore, starts_digit}
-use Rattle.tok_lexical.specs.Scans.{AllPass}
+use Rattle.tok_lexical.specs.Private.Scans.{AllPass}
 use Rattle.tok_lexical.proofs.Texts.{begins_by}
 use Rattle.tok_values.specs.Numbers.{number}
 use Rattle.tok_values.proofs.Digits.{step}

@@ -11,7 +11,7 @@ use Rattle.std.proofs.lemmas.Str.{chars-IsAscii, encodes-append, encodes-chars, 
 use Rattle.std.proofs.lemmas.Str.Ascii.{IsAscii-nil, IsAscii-cons}
 use Rattle.std.proofs.Common.{append_assoc}
 use Rattle.tok_lexical.specs.Pieces.{Skips}
-use Rattle.tok_lexical.specs.Scans.{IsRun}
+use Rattle.tok_lexical.specs.Private.Scans.{IsRun}
 use Rattle.tok_lexical.proofs.Runs.{run_boundary, skips_run}
 use Rattle.tok_lexical.proofs.Scans.{run_ends, skips_to}
 use Rattle.tok_values.specs.Private.Plain.{is_plain}

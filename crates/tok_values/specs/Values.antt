@@ -79,7 +79,7 @@ abbrev pub StringsHaveOneValue : Type 0
 StringsHaveOneValue =
     (text value : List ℕ) → IsStringValue text value ↔ (string_value text ≡ Some value)
 
--- the same of integer literals, their values and suffixes
+-- the values and suffixes of integer literals
 abbrev pub IntegersHaveOneValue : Type 0
 IntegersHaveOneValue =
     (text : List ℕ) (value : ℕ) (suffix : List ℕ)

@@ -3,7 +3,7 @@ ghost use Rattle.std.specs.Prelude.{◌≡◌, ◌<◌, ◌≤◌, ◌+◌, ◌*
 ghost use Rattle.std.specs.Str.{chars};
 ghost use Rattle.tok_lexical.specs.Numbers.{IsNumberSuffix, has_digit, is_digit_or_underscore, starts_digit};
 ghost use Rattle.tok_lexical.specs.Pieces.{Skips};
-ghost use Rattle.tok_lexical.specs.Scans.{IsRun};
+ghost use Rattle.tok_lexical.specs.Private.Scans.{IsRun};
 ghost use Rattle.tok_values.specs.Integers.{ReadsInteger, base_of, integer_fault_words};
 ghost use Rattle.tok_values.specs.Numbers.{is_digits, number};
 

@@ -1,6 +1,9 @@
 //! Laws of values. Each is the contract of a function that does nothing.
+ghost use Rattle.tok_lexical.specs.Laws.{ClonesKeep, EqualAsValues};
 ghost use Rattle.tok_values.specs.Laws.{ByteStringsAreRead, CharactersAreRead, StringsAreRead, StringsKeepText};
 ghost use Rattle.tok_values.specs.Values.{IntegersHaveOneValue, StringsHaveOneValue};
+
+use crate::integers::{Integer, IntegerFault};
 
 /// The value of the string literal that `Literal::string` makes of a text is that text.
 pub fn strings_keep_text()
@@ -29,4 +32,15 @@ pub fn byte_strings_are_read()
 pub fn values_are_functions()
     ensures strings { StringsHaveOneValue }
     ensures integers { IntegersHaveOneValue }
+{}
+
+/// The reasons why a literal has no integer value are equal if and only if they are the same.
+pub fn integer_faults_are_compared_whole()
+    ensures { EqualAsValues ⟦<IntegerFault as PartialEq>⟧.eq }
+{}
+
+/// A clone is the integer, with its suffix, or the reason that was cloned.
+pub fn clones_keep_integers<'a>()
+    ensures integers { ClonesKeep ⟦<Integer<'a> as Clone>⟧.is_clone }
+    ensures faults { ClonesKeep ⟦<IntegerFault as Clone>⟧.is_clone }
 {}

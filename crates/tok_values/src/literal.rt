@@ -14,7 +14,7 @@ use std::alloc::{AllocError, Global};
 use tok_leaves::{Ident, Literal};
 use tok_lexical::text::past_char;
 
-/// The values of a literal. It has one by its kind alone, and none by the others.
+/// The value of a literal. Each call returns a value for one kind of literal, and none for others.
 ///
 /// # Examples
 ///
@@ -24,9 +24,9 @@ use tok_lexical::text::past_char;
 pub trait LiteralExt {
     /// Returns the text of a string literal without a suffix, or `None`.
     ///
-    /// Escapes are replaced by what they name. A backslash before the end of a line drops it and
-    /// all white space after it, and CRLF means a line feed. Returns an error if an allocation
-    /// fails.
+    /// Escapes are replaced by the characters that they name. A backslash before the end of a line
+    /// drops this end and the spaces, tabs, line feeds and carriage returns after it. CRLF means a
+    /// line feed. Returns an error if an allocation fails.
     fn string_value(&self, alloc: Global) -> Result<Option<String>, AllocError>;
 
     /// Returns the bytes of a byte string literal without a suffix, or `None`.

@@ -2,7 +2,7 @@
 ghost use Rattle.std.specs.Prelude.{◌≡◌, ℕ, ◌+◌, ◌≤◌, List, length};
 ghost use Rattle.std.specs.Str.{chars};
 ghost use Rattle.tok_lexical.specs.Pieces.{Skips};
-ghost use Rattle.tok_lexical.specs.Scans.{IsRun, first_set};
+ghost use Rattle.tok_lexical.specs.Private.Scans.{IsRun, first_set};
 ghost use Rattle.tok_values.specs.Private.Plain.{is_plain};
 
 use std::simd::prelude::*;

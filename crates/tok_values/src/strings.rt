@@ -146,7 +146,7 @@ fn push_plain_bytes<'a>(to: &mut Vec<u8>, text: &'a str) -> Result<&'a str, Allo
     Ok(rest)
 }
 
-/// Appends what the units at the front of a text mean, and returns the text after them.
+/// Appends the characters of the leading units of `text`, and returns the rest.
 ///
 /// A run of characters that mean themselves is appended whole: most texts are one.
 pub fn push_text<'a>(to: &mut String, text: &'a str) -> Result<&'a str, AllocError>
@@ -165,7 +165,7 @@ pub fn push_text<'a>(to: &mut String, text: &'a str) -> Result<&'a str, AllocErr
     Ok(rest)
 }
 
-/// Does the same in bytes.
+/// Appends the bytes of the leading units of `text`, and returns the rest.
 pub fn push_bytes<'a>(to: &mut Vec<u8>, text: &'a str) -> Result<&'a str, AllocError>
     ensures { IfOk result (λ rest. (bytes : List ℕ)
         × Means true (chars text.now) (chars rest.now) bytes

@@ -1,6 +1,6 @@
 use Rattle.std.proofs.Common.{◌≤◌, ◌-◌, length}
 use Rattle.tok_lexical.specs.Numbers.{is_digit_or_underscore}
-use Rattle.tok_lexical.specs.Scans.{AllPass}
+use Rattle.tok_lexical.specs.Private.Scans.{AllPass}
 use Rattle.tok_values.proofs.integers.digits_len.Given as goal
 
 abbrev pub invariant-loop-end : goal.invariant-loop-end

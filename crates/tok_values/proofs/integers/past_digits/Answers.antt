@@ -1,6 +1,6 @@
 use Rattle.std.proofs.Common.{ℕ, length, subst}
 use Rattle.tok_lexical.specs.Numbers.{is_digit_or_underscore}
-use Rattle.tok_lexical.specs.Scans.{IsRun}
+use Rattle.tok_lexical.specs.Private.Scans.{IsRun}
 use Rattle.tok_lexical.proofs.Runs.{run_boundary, skips_run}
 use Rattle.tok_values.proofs.Numerals.{passes_low}
 use Rattle.tok_values.proofs.integers.past_digits.Goals as goal

@@ -1,5 +1,5 @@
 use Rattle.std.proofs.Common.{length, subst}
-use Rattle.tok_lexical.specs.Scans.{IsRun}
+use Rattle.tok_lexical.specs.Private.Scans.{IsRun}
 use Rattle.tok_values.specs.Private.Plain.{is_plain}
 use Rattle.tok_values.proofs.Runs.{plain_boundary, plain_skips}
 use Rattle.tok_values.proofs.plain.past_plain.Goals as goal

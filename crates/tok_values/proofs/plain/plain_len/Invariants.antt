@@ -1,5 +1,5 @@
 use Rattle.std.proofs.Common.{◌≤◌, ◌-◌, length}
-use Rattle.tok_lexical.specs.Scans.{AllPass}
+use Rattle.tok_lexical.specs.Private.Scans.{AllPass}
 use Rattle.tok_values.specs.Private.Plain.{is_plain}
 use Rattle.tok_values.proofs.plain.plain_len.Given as goal
 

@@ -1,7 +1,7 @@
 use Rattle.std.proofs.Common.{◌∙◌, ℕ, ap, refl, sym, subst, true, false, replicate}
 use Rattle.std.proofs.lemmas.Simd.{length-chunk, zip2_splat_left}
 use lib.Lanes.{chunk, zip2}
-use Rattle.tok_lexical.specs.Scans.{IsRun}
+use Rattle.tok_lexical.specs.Private.Scans.{IsRun}
 use Rattle.tok_leaves.proofs.Lanes.{below}
 use Rattle.tok_lexical.proofs.Lanes.{lanewise, run_of_table, with_splat}
 use Rattle.tok_values.specs.Private.Plain.{is_plain}
