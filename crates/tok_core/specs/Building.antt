@@ -36,3 +36,17 @@ abbrev pub Closes : Delimiter → Span → Levels → Levels → Type 0
 Closes delimiter span old new =
     (f : Forest) × (old.outer ≡ new.outer ++ f ∷ [])
     × (new.inner ≡ concat f (tree (group delimiter old.inner span) no_trees))
+
+-- each of these forests but the last, and the last one
+abbrev pub but_last : Forest → List Forest → List Forest
+but_last f [] = []
+but_last f (g ∷ s) = f ∷ but_last g s
+
+abbrev pub last_of : Forest → List Forest → Forest
+last_of f [] = f
+last_of f (g ∷ s) = last_of g s
+
+-- the levels of these forests, outermost first
+abbrev pub levels_of : List Forest → Levels
+levels_of [] = nothing
+levels_of (f ∷ s) = record { outer = but_last f s; inner = last_of f s }

@@ -24,13 +24,13 @@ abbrev pub concat : Forest → Forest → Forest
 concat no_trees g = g
 concat (tree t f) g = tree t (concat f g)
 
--- the trees of one forest that come before one that was refused follow another's
+-- some first trees of one forest come after those of another: the rest was not appended
 abbrev pub AppendsFront : (old added new : Forest) → Type 0
 AppendsFront old added new =
     (front : Forest) × (refused : Tree) × (rest : Forest)
     × (added ≡ concat front (tree refused rest)) × (new ≡ concat old front)
 
--- parts of a group, with a default where a tree is none
+-- parts of a group, with a default if the tree is a leaf
 abbrev pub tree_delimiter : Tree → Delimiter
 tree_delimiter (group delimiter inside span) = delimiter
 tree_delimiter (leaf l) = None

@@ -1,4 +1,4 @@
--- The lexical grammar: which texts read as which forest, and which are refused, where and why.
+-- The lexical grammar: the forest that a text reads as, or the place and kind of its error.
 pub mod Errors
 pub mod Items
 pub mod Meaning

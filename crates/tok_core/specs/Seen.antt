@@ -19,7 +19,7 @@ tree_of (made.Ident i) = leaf (ident_of i)
 tree_of (made.Punct p) = leaf (punct_of p)
 tree_of (made.Literal l) = leaf (literal_of l)
 
--- the same of several trees
+-- the forest that several trees are
 abbrev pub trees_of : List TokenTree → Forest
 trees_of [] = no_trees
 trees_of (t ∷ ts) = tree (tree_of t) (trees_of ts)

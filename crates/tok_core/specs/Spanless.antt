@@ -1,4 +1,4 @@
--- Forests where spans don't matter.
+-- Forests compared without their spans.
 use Rattle.std.specs.Prelude.{ℕ, ◌==◌, ◌&&◌, bytes_eq, Bool, true, false, List, [], ◌++◌}
 use Rattle.std.specs.Hash as fed
 use Rattle.tok_lexical.specs.declared.delimiter.Delimiter.{Delimiter}

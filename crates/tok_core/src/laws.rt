@@ -1,6 +1,6 @@
 //! Laws of the definitions that contracts cite, and of comparing and hashing. Each is the contract
 //! of a function that does nothing.
-ghost use Rattle.tok_leaves.specs.Laws.{ClonesKeep, EqualAsValues, EqualBy, HashedBy};
+ghost use Rattle.tok_lexical.specs.Laws.{ClonesKeep, EqualAsValues, EqualBy, HashedBy};
 ghost use Rattle.tok_core.specs.Laws.{AreWrittenInTurn, stream_shown, tree_shown};
 ghost use Rattle.tok_core.specs.Lexical.Laws.{IsReadOnce, IsReadVisibly, IsRefusedOnce, IsNeverBoth, IsBegunOnce};
 ghost use Rattle.tok_core.specs.Spanless.{forest_input, tree_input};
@@ -11,6 +11,7 @@ use crate::stream::{TokenStream, TokenTree};
 use crate::tt::{TokenStreamHelper, TokenTreeHelper};
 use std::hash::Hash;
 pub use tok_leaves::laws::{clones_keep_all, idents_by_text, spans_are_compared_whole};
+pub use tok_lexical::laws::{clones_keep_rules, editions_by_year, kinds_are_compared_whole};
 
 /// A text reads as at most one forest.
 pub fn forest_once()
@@ -56,13 +57,15 @@ pub fn errors_are_compared_whole()
     ensures faults { EqualAsValues ⟦<LexFault as PartialEq>⟧.eq }
 {}
 
-/// A clone is the stream, tree, group or error that was cloned, spans included.
-pub fn clones_keep_trees()
+/// A clone of a stream, a tree, a group, an error or a helper equals the original, spans included.
+pub fn clones_keep_trees<'a>()
     ensures streams { ClonesKeep ⟦<TokenStream as Clone>⟧.is_clone }
     ensures trees { ClonesKeep ⟦<TokenTree as Clone>⟧.is_clone }
     ensures groups { ClonesKeep ⟦<Group as Clone>⟧.is_clone }
     ensures errors { ClonesKeep ⟦<LexError as Clone>⟧.is_clone }
     ensures faults { ClonesKeep ⟦<LexFault as Clone>⟧.is_clone }
+    ensures tree_helpers { ClonesKeep ⟦<TokenTreeHelper<'a> as Clone>⟧.is_clone }
+    ensures stream_helpers { ClonesKeep ⟦<TokenStreamHelper<'a> as Clone>⟧.is_clone }
 {}
 
 /// Values that are written in turn are written as the trees of the first, and then those of the

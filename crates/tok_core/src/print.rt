@@ -1,5 +1,5 @@
 //! The text of a stream.
-ghost use Rattle.std.specs.Prelude.{◌≡◌, encode_utf8, Some};
+ghost use Rattle.std.specs.Prelude.{◌≡◌, ◌++◌, codes, encode_utf8, Some};
 ghost use Rattle.std.specs.Fmt.{WritesOnOk};
 ghost use Rattle.tok_core.specs.Seen.{group_of, tree_of};
 ghost use Rattle.tok_core.specs.Text as spec;
@@ -38,6 +38,8 @@ impl fmt::Display for Group {
 
 /// Writes the text, as `TokenStream(a b)`.
 impl Debug for TokenStream {
+    ghost debug_output = { λ s. Some (codes "TokenStream(" ++ spec.text s ++ codes ")") };
+
     fn fmt<W: Write>(&self, f: &mut Formatter<W>) -> fmt::Result {
         write!(f, "TokenStream({self})")
     }

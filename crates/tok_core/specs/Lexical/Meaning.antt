@@ -116,7 +116,7 @@ abbrev pub a_block_comment : ℕ → Meaning
 a_block_comment number at piece =
     a_comment number (is_block_doc piece) (block_doc_text piece) at piece
 
--- what a piece of a rule means that isn't refused, in the source of this number
+-- the items of a piece of a rule that is not rejected, in the source of this number
 abbrev pub items : ℕ → Rule → Mode → Meaning
 items number LineComment mode = a_line_comment number
 items number BlockComment mode = a_block_comment number

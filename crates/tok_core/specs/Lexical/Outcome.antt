@@ -22,7 +22,7 @@ pub record FollowsFrom (begin : ℕ) (mode : Mode) (number : ℕ) (text : List �
       MatchResult result (λ read. read ≡ forest) (λ fault. fault ≡ Memory)
   -- An error is the grammar's.
   pub refuses : IfErr result (λ fault. OnRefused fault (IsRefusedFrom begin mode number text))
-  -- What the grammar refuses is refused so, unless an allocation fails.
+  -- A text that the grammar rejects is rejected with its error, unless an allocation fails.
   pub only_refused : (error : LexError) → IsRefusedFrom begin mode number text error →
       MatchResult result (λ _. ⊥) (λ fault. OnRefused fault (λ other. other ≡ error))
 

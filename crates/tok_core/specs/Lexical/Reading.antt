@@ -1,4 +1,4 @@
--- Which texts read as which forest, and which are refused.
+-- The forest that a text reads as, and the error of a text that is rejected.
 use Rattle.std.specs.Prelude.{◌≡◌, ℕ, ◌+◌, ◌≤◌, List, [], ◌∷◌, ◌++◌, length, Some, None, true}
 use Rattle.tok_lexical.specs.Fits.{IsFirstFit}
 use Rattle.tok_core.specs.Forest.{Forest}

@@ -138,7 +138,7 @@ mutual
   tree_alike_refl (leaf l) = leaf_alike_refl l
   tree_alike_refl (group d f s) = ap (λ b. b && alike f f) (same_delimiter_refl d) ∙ alike_refl f
 
--- two forests are alike exactly where they are equal without their spans
+-- two forests are alike if and only if they are equal without their spans
 pub alike_decides : (f g : Forest) → Decides (alike f g) (spanless f ≡ spanless g)
 alike_decides f g = (
   alike_is f g,

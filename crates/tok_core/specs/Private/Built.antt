@@ -65,7 +65,7 @@ pub record Grows (at : ℕ) (old new : State) (more : List Item) : Type 0 where
   pub holds : (all : List Item) → HoldsAll old.source old all →
       HoldsAll old.source new (all ++ more)
 
--- why this piece is refused, with these groups open
+-- why this piece is rejected, with these groups open
 pub data Halts (levels : List (Delimiter × ℕ)) (rule : Rule) (mode : Mode) (at : ℕ)
     (piece after : List ℕ) : LexErrorKind → Type 0 where
   by_meaning : {why : LexErrorKind} → error_kind rule mode at piece after ≡ Some why →

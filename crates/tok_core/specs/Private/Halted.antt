@@ -1,4 +1,4 @@
--- Why a piece isn't taken in, before it is said where.
+-- Why a piece is not taken in, without its place.
 use Rattle.std.specs.Prelude.{ℕ}
 use Rattle.tok_lexical.specs.declared.lex_error_kind.LexErrorKind.{LexErrorKind}
 use Rattle.tok_core.specs.declared.lexer.error.Halt.{Halt}

@@ -1,0 +1,43 @@
+-- Levels, and the forests of which they are made.
+use Rattle.std.proofs.Common.{◌≡◌, List, [], ◌∷◌, ◌++◌, length, refl, ap, arith}
+use Rattle.tok_core.specs.Building.{Levels, but_last, last_of, levels_of}
+use Rattle.tok_core.specs.Forest.{Forest}
+
+but_last-put : (f : Forest) (s : List Forest) (g : Forest) → but_last f (s ++ g ∷ []) ≡ f ∷ s
+but_last-put f [] g = refl
+but_last-put f (h ∷ s) g = ap (λ w. f ∷ w) (but_last-put h s g)
+
+last_of-put : (f : Forest) (s : List Forest) (g : Forest) → last_of f (s ++ g ∷ []) ≡ g
+last_of-put f [] g = refl
+last_of-put f (h ∷ s) g = last_of-put h s g
+
+pub levels_of-put : (s : List Forest) (f : Forest) → levels_of (s ++ f ∷ [])
+    ≡ record { outer = s; inner = f }
+levels_of-put [] f = refl
+levels_of-put (g ∷ s) f = λ i. record { outer = but_last-put g s f i; inner = last_of-put g s f i }
+
+-- the last of a list, and what is before it
+pub ends_in_last : (f : Forest) (s : List Forest) → f ∷ s ≡ but_last f s ++ last_of f s ∷ []
+ends_in_last f [] = refl
+ends_in_last f (g ∷ s) = ap (λ w. f ∷ w) (ends_in_last g s)
+
+pub one_end : {A : Type 0} (xs ys : List A) (x y : A) → xs ++ x ∷ [] ≡ ys ++ y ∷ [] → (xs ≡ ys)
+    × (x ≡ y)
+one_end [] [] x y e = (refl, cc)
+one_end {A = A} [] (w ∷ ys) x y e = absurd (longer ys y (ap length e))
+  where
+    longer : (ys : List A) (y : A) → 1 ≡ length (w ∷ (ys ++ y ∷ [])) → ⊥
+    longer [] y e = omega (arith, e)
+    longer (v ∷ ys) y e = omega (arith, e)
+one_end {A = A} (w ∷ xs) [] x y e = absurd (longer xs x (ap length e))
+  where
+    longer : (xs : List A) (x : A) → length (w ∷ (xs ++ x ∷ [])) ≡ 1 → ⊥
+    longer [] x e = omega (arith, e)
+    longer (v ∷ xs) x e = omega (arith, e)
+one_end (w ∷ xs) (v ∷ ys) x y e =
+    let h : (w ≡ v) × (xs ++ x ∷ [] ≡ ys ++ y ∷ []) = (cc, cc) in
+    let r = one_end xs ys x y h.1 in (λ i. h.0 i ∷ r.0 i, r.1)
+
+pub same_levels : (s : Levels) (outer : List Forest) (inner : Forest) → s.outer ≡ outer →
+    s.inner ≡ inner → s ≡ record { outer = outer; inner = inner }
+same_levels s outer inner p q = λ i. record { outer = p i; inner = q i }
