@@ -4,33 +4,21 @@ use Rattle.std.proofs.Common.{ap, sym, ◌∙◌, subst, arith, append_assoc, le
 use Rattle.tok_leaves.specs.declared.span.Span.{Span}
 use Rattle.tok_leaves.specs.Leaves.{Leaf}
 use Rattle.tok_lexical.specs.declared.delimiter.Delimiter.{Delimiter}
-use Rattle.tok_core.specs.Building.{Levels, add_leaf, opened, Closes}
+use Rattle.tok_core.specs.Building.{Levels, add_leaf, opened, Closes, but_last, last_of, levels_of}
 use Rattle.std.specs.Prelude.{true, ◌≤◌, Option, None, Some}
 use Rattle.std.specs.Option.{option_to_list}
 use Rattle.tok_core.specs.Filled.{has_trees}
 use Rattle.tok_core.specs.Forest.{leaf, group, Forest, no_trees, tree, concat}
 use Rattle.tok_core.specs.Weight.{weight}
 use Rattle.tok_core.proofs.Facts.{concat-none}
+use Rattle.tok_core.proofs.Levels.{ends_in_last, levels_of-put, one_end, same_levels}
 use Rattle.tok_buffer.specs.declared.entry.Entry.{Entry}
 use Rattle.tok_buffer.specs.declared.entry.Entry.TheVariants.{Group, End}
 use Rattle.tok_buffer.specs.Private.Layout.{leaf_entry, layout, entries_of, laid, places}
-use Rattle.tok_buffer.specs.Private.Layout.{but_last, last_of, levels_of, levels_in}
+use Rattle.tok_buffer.specs.Private.Layout.{levels_in}
 use Rattle.tok_buffer.specs.Private.Layout.{stack_entries}
 use Rattle.tok_buffer.proofs.Layouts.{length-layout, layout-concat, stack_entries-append}
 use Rattle.tok_buffer.proofs.Layouts.{stack_entries-layout, fill_lays}
-
-but_last-put : (f : Forest) (s : List Forest) (g : Forest) → but_last f (s ++ g ∷ []) ≡ f ∷ s
-but_last-put f [] g = refl
-but_last-put f (h ∷ s) g = ap (λ w. f ∷ w) (but_last-put h s g)
-
-last_of-put : (f : Forest) (s : List Forest) (g : Forest) → last_of f (s ++ g ∷ []) ≡ g
-last_of-put f [] g = refl
-last_of-put f (h ∷ s) g = last_of-put h s g
-
-levels_of-put : (s : List Forest) (f : Forest) → levels_of (s ++ f ∷ [])
-    ≡ record { outer = s; inner = f }
-levels_of-put [] f = refl
-levels_of-put (g ∷ s) f = λ i. record { outer = but_last-put g s f i; inner = last_of-put g s f i }
 
 stack-laid : (s : List Forest) (f : Forest) → stack_entries (laid s ++ layout f) (no_trees ∷ [])
     ≡ s ++ f ∷ []
@@ -126,35 +114,9 @@ module _ (xs ys : List Entry) (ps qs : List ℕ) (h : IsBuilt xs ps (levels_in x
   open_shown old e = levels_are ys (opened (levels_in xs)).outer no_trees
       (built_open xs ys ps qs (levels_in xs) h y q).0 ∙ ap opened e
 
--- the last of a list, and what is before it
-ends_in_last : (f : Forest) (s : List Forest) → f ∷ s ≡ but_last f s ++ last_of f s ∷ []
-ends_in_last f [] = refl
-ends_in_last f (g ∷ s) = ap (λ w. f ∷ w) (ends_in_last g s)
-
-one_end : {A : Type 0} (xs ys : List A) (x y : A) → xs ++ x ∷ [] ≡ ys ++ y ∷ [] → (xs ≡ ys)
-    × (x ≡ y)
-one_end [] [] x y e = (refl, cc)
-one_end {A = A} [] (w ∷ ys) x y e = absurd (longer ys y (ap length e))
-  where
-    longer : (ys : List A) (y : A) → 1 ≡ length (w ∷ (ys ++ y ∷ [])) → ⊥
-    longer [] y e = omega (arith, e)
-    longer (v ∷ ys) y e = omega (arith, e)
-one_end {A = A} (w ∷ xs) [] x y e = absurd (longer xs x (ap length e))
-  where
-    longer : (xs : List A) (x : A) → length (w ∷ (xs ++ x ∷ [])) ≡ 1 → ⊥
-    longer [] x e = omega (arith, e)
-    longer (v ∷ xs) x e = omega (arith, e)
-one_end (w ∷ xs) (v ∷ ys) x y e =
-    let h : (w ≡ v) × (xs ++ x ∷ [] ≡ ys ++ y ∷ []) = (cc, cc) in
-    let r = one_end xs ys x y h.1 in (λ i. h.0 i ∷ r.0 i, r.1)
-
 append_nothing : (zs : List Entry) → zs ++ [] ≡ zs
 append_nothing [] = refl
 append_nothing (z ∷ zs) = ap (λ w. z ∷ w) (append_nothing zs)
-
-same_levels : (s : Levels) (outer : List Forest) (inner : Forest) → s.outer ≡ outer →
-    s.inner ≡ inner → s ≡ record { outer = outer; inner = inner }
-same_levels s outer inner p q = λ i. record { outer = p i; inner = q i }
 
 -- Where a level is left, its group's place is the last one, and it is in the entries.
 pub record Left (xs : List Entry) (ps : List ℕ) (n : ℕ) (s : Levels) : Type 0 where

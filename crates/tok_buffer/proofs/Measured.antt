@@ -4,11 +4,11 @@ use Rattle.std.proofs.Common.{sym, ◌∙◌, ap, eq-eqb, arith, eqb-true, Optio
 use Rattle.std.proofs.lemmas.Bool.{or_cases, cond_both, false≢true}
 use Rattle.std.specs.Prelude.{◌==◌, ◌&&◌, ⊤}
 use Rattle.tok_core.specs.Weight.{weight}
-use Rattle.tok_buffer.specs.Cursors.{spot_place, place_of, CursorsLoseNone}
+use Rattle.tok_buffer.specs.Cursors.{spot_place, place_of, CursorsLoseNone, CursorsReachScope}
 use Rattle.tok_buffer.specs.Moves.{frames_at, frames_in_scope, is_scope_end, end_of}
 use Rattle.tok_buffer.specs.Order.{equal}
 use Rattle.tok_buffer.specs.Place.{Frame, frame, Place, empty_place, at}
-use Rattle.tok_buffer.specs.Progress.{remaining, remaining_around, LosesNone}
+use Rattle.tok_buffer.specs.Progress.{remaining, remaining_around, LosesNone, ReachesScope}
 use Rattle.tok_buffer.specs.declared.cursor.Cursor.{Cursor}
 use Rattle.tok_buffer.specs.declared.spot.Spot.{Spot}
 use Rattle.tok_buffer.proofs.Onwards.{along}
@@ -66,3 +66,10 @@ none_lost (at n s c (frame o p f) ls) (at m t d (frame a b g) ks) u v h =
 pub cursors_lose_none : CursorsLoseNone
 cursors_lose_none from to =
     none_lost (place_of from) (place_of to) (cursor_measured from) (cursor_measured to)
+
+reaches : (p : Place) → IsCounted p → ReachesScope p
+reaches empty_place h = tt
+reaches (at n s c (frame o p a) ls) h = omega (arith, h)
+
+pub cursors_reach_scope : CursorsReachScope
+cursors_reach_scope c = reaches (place_of c) (cursor_measured c)

@@ -7,7 +7,7 @@ use Rattle.tok_core.specs.Forest.{Tree, leaf, group, Forest, no_trees, tree, tre
 use Rattle.tok_buffer.specs.Place.{Frame, frame, Place, empty_place, at}
 use Rattle.tok_buffer.specs.Rest.{scope_delimiter}
 
--- a visible tree, with a mark where it is in an invisible group that has not been entered
+-- a visible tree, marked if it is in an invisible group that has not been entered
 abbrev pub visible : Bool → Forest → List (Bool × Tree)
 visible mark no_trees = []
 visible mark (tree (leaf l) f) = (mark, leaf l) ∷ visible mark f

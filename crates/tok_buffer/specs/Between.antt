@@ -24,7 +24,7 @@ abbrev mutual
   first_inside n (leaf l) = no_trees
   first_inside n (group d inside span) = first_trees (n - 1) inside
 
--- the same of frames, from the innermost out; the end of each counts as one
+-- trees of frames, from the innermost out; the end of each counts as one
 abbrev pub first_in : ℕ → List Frame → Forest
 first_in n [] = no_trees
 first_in n (frame o p a ∷ ls) = concat (first_trees n a) (first_in (n - (weight a + 1)) ls)

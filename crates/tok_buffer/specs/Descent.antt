@@ -1,4 +1,4 @@
--- Into the invisible groups in front, and past those that hold nothing visible.
+-- Descents: into the invisible groups that are next, and past those without a visible tree.
 use Rattle.std.specs.Prelude.{◌≡◌, ℕ, ◌+◌, Bool, true, false, List, [], ◌∷◌, Option, Some, None}
 use Rattle.std.specs.Prelude.{unwrap_or}
 use Rattle.std.specs.Option.{option_or}
@@ -35,12 +35,12 @@ descend_from number scope count (frame enclosing passed ahead) (l ∷ ls) =
     (descend_from number scope (count + weight ahead + 1)
     (leave_group enclosing (reverse_onto ahead passed) l) ls)
 
--- out of each frame that is left, and into the invisible groups in front
+-- out of each finished frame, and into the invisible groups that are next
 abbrev pub descend : Place → Place
 descend empty_place = empty_place
 descend (at number scope count l ls) = descend_from number scope count l ls
 
--- an invisible group is in front
+-- an invisible group is next
 abbrev pub is_before_invisible : Place → Bool
 is_before_invisible
     (at number scope count (frame enclosing passed (tree (group delimiter.None inside span) f))
@@ -48,7 +48,7 @@ is_before_invisible
     true
 is_before_invisible p = false
 
--- into the invisible group in front, and out of it again where it holds nothing
+-- into the next invisible group, and out of it again if it is empty
 abbrev pub inwards : Place → Place
 inwards (at number scope count
     (frame enclosing passed (tree (group delimiter.None inside span) f)) ls) =
@@ -56,12 +56,12 @@ inwards (at number scope count
     (frame enclosing passed f ∷ ls)
 inwards p = p
 
--- entering, again and again, until no invisible group is in front
+-- entering, again and again, until no invisible group is next
 pub data Descends : Place → Place → Type 0 where
   stop : (p : Place) → is_before_invisible p ≡ false → Descends p p
   enters : (p q : Place) → is_before_invisible p ≡ true → Descends (inwards p) q → Descends p q
 
--- each descent ends so, with no invisible group in front
+-- each descent ends in this way, with no invisible group next
 abbrev pub DescentsEnter : Type 0
 DescentsEnter =
     (p : Place) → Descends (settled p) (descend p) × (is_before_invisible (descend p) ≡ false)

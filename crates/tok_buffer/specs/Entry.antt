@@ -37,7 +37,7 @@ entered_with known e =
       after = known e.after;
     }
 
--- the group in front, of whatever delimiter
+-- the next tree if it is a group, whatever its delimiter
 abbrev pub enter_any : Place → Option Entered
 enter_any (at n s c (frame o p (tree (group d inside span) f)) ls) =
     Some (record {
@@ -54,7 +54,7 @@ abbrev pub entered_of : Delimiter → Option Entered → Option Entered
 entered_of d None = None
 entered_of d (Some e) = cond (same_delimiter d e.delimiter) (Some e) None
 
--- a visible group is looked for after the invisible edges in front, an invisible one is not
+-- a visible group is found through invisible groups, an invisible one is not
 abbrev pub enter : Delimiter → Place → Option Entered
 enter delimiter.None p = entered_of delimiter.None (enter_any p)
 enter d p = entered_of d (enter_any (descend p))

@@ -1,4 +1,4 @@
--- What single calls return at a place, by the trees ahead of it without invisible groups.
+-- What single calls return at a place, by the visible trees ahead of it.
 use Rattle.std.specs.Prelude.{◌≡◌, ℕ, true, cond, not, List}
 use Rattle.std.specs.Prelude.{Option, Some, None, option_map}
 use Rattle.tok_lexical.specs.declared.delimiter.Delimiter.{Delimiter}
@@ -18,7 +18,7 @@ use Rattle.tok_buffer.specs.View.{erased_ahead, IsVisibleDelimiter}
 abbrev pub with_ahead : Option (List Tree × Place) → Option (List Tree × Forest)
 with_ahead r = option_map (λ q. (q.0, erased_ahead q.1)) r
 
--- a group that is entered, with the erased trees ahead of its content and of the place after it
+-- a group that is entered, with the visible trees ahead in its contents and after it
 abbrev pub entered_ahead : Entered → EnteredWith Forest
 entered_ahead = entered_with erased_ahead
 
@@ -34,7 +34,8 @@ abbrev pub first_tree_span : Forest → Option Span
 first_tree_span no_trees = None
 first_tree_span (tree t f) = Some (tree_span t)
 
--- each call at a place depends on the erased trees ahead alone
+-- reads of leaves and tokens, entries of visible groups and leftover spans depend on the visible
+-- trees ahead alone
 pub record AheadTells (p : Place) : Type 0 where
   pub leaves : EachRead (λ read first. with_ahead (read p) ≡ first (erased_ahead p))
   pub enters : (d : Delimiter) → IsVisibleDelimiter d
@@ -44,7 +45,7 @@ pub record AheadTells (p : Place) : Type 0 where
 abbrev pub AheadTellsAll : Type 0
 AheadTellsAll = (p : Place) → AheadTells p
 
--- so does the end of a scope, at the places of a filled forest
+-- in a filled forest, a place is at the end of its scope if and only if no visible tree is ahead
 abbrev pub AheadTellsEnds : Type 0
 AheadTellsEnds = (b : Laid) → filled b.forest ≡ true
     → (p : Place) → Reached b p

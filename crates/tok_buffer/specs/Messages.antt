@@ -52,7 +52,7 @@ plain p scope words = message_at (stream_span p scope) words
 abbrev pub spans_of : List Message → List (Span × Span)
 spans_of e = map (λ m. (m.start, m.end)) e
 
--- one message over these two spans, and of this text where it is known what is written
+-- one message over these two spans, with this text if its type states the text
 abbrev pub HasMessage : Span × Span → Option (List ℕ) → List Message → Type 0
 HasMessage spans written e =
     (spans_of e ≡ spans ∷ []) × IfSome written (λ text. e ≡ error_of spans.0 spans.1 text)
@@ -93,7 +93,7 @@ ExtendsWithErrors {U} {T} becomes gives errors old new result =
     (λ _. (missing : List Message) × (after : T)
     × YieldsThen gives iterator added (Some missing) after)
 
--- a list of errors gives its first, unless memory for a copy was refused
+-- a list of errors yields its first, unless the allocation of a copy fails
 abbrev pub GivesFirst : List (List Message) → Option (Result (List Message) AllocError) →
     List (List Message) → Type 0
 GivesFirst errors answer left =

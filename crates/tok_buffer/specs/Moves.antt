@@ -72,7 +72,7 @@ invisible_front (tree (group d inside span) f) = same_delimiter d delimiter.None
 abbrev pub in_scope : Forest → ℕ → ℕ → Bool
 in_scope g n s = is_scope_end (end_of n (frames_at g n).0) s (frames_at g n).1
 
--- no group ends at count n, but that of the scope
+-- no group ends at count n, except that of the scope
 abbrev pub settled_at : Forest → ℕ → ℕ → Bool
 settled_at g n s =
     is_settled (frames_at g n).0 (frames_in_scope (end_of n (frames_at g n).0) s (frames_at g n).1)

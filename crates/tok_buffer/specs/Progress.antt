@@ -1,6 +1,6 @@
 -- What moves of a cursor keep, and a measure that they lower.
 use Rattle.std.specs.Prelude.{◌≡◌, ◌⊎◌, ℕ, ◌+◌, ◌<◌, ◌≤◌, true, false, Bool, List, [], ◌∷◌}
-use Rattle.std.specs.Prelude.{Option, Some}
+use Rattle.std.specs.Prelude.{Option, Some, ⊤}
 use Rattle.std.specs.Ordering.{partial_le}
 use Rattle.std.specs.declared.cmp.Ordering.TheVariants.{Less}
 use Rattle.tok_lexical.specs.declared.delimiter.Delimiter.{Delimiter}
@@ -29,6 +29,12 @@ abbrev pub remaining : Place → ℕ
 remaining empty_place = 0
 remaining (at number scope count (frame o p f) ls) = weight f + remaining_around ls + 1
 
+-- the count before a place and what remains there are the count at the scope's end
+abbrev pub ReachesScope : Place → Type 0
+ReachesScope empty_place = ⊤
+ReachesScope (at number scope count l ls) =
+    count + remaining (at number scope count l ls) ≡ scope + 1
+
 -- wherever it reads, it stays in the scope and takes something away from what remains
 pub record ReadsOn (read : Read) : Type 0 where
   pub stays : (p : Place) (ts : List Tree) (q : Place) → read p ≡ Some (ts, q) → StaysIn p q
@@ -41,12 +47,12 @@ pub record ReadsGoOn : Type 0 where
   pub trees : ReadsOn read_tree
   pub taken : (wanted : Tree → Bool) → ReadsOn (read_if wanted)
 
--- the same of a skip
+-- a skip stays in the scope and lowers `remaining`
 pub record SkipsGoOn : Type 0 where
   pub stays : (p q : Place) → skip p ≡ Some q → StaysIn p q
   pub lowers : (p q : Place) → skip p ≡ Some q → remaining q < remaining p
 
--- the same of the place after a group that is entered; and less remains in its content, too
+-- the place after an entered group stays in the scope and lowers `remaining`; less is in it too
 pub record EntersOn (entry : Place → Option Entered) : Type 0 where
   pub stays : (p : Place) (e : Entered) → entry p ≡ Some e → StaysIn p e.after
   pub lowers : (p : Place) (e : Entered) → entry p ≡ Some e → remaining e.after < remaining p

@@ -76,7 +76,7 @@ read_keyword (c ∷ cs) p = read_word (bytes_eq (c ∷ cs)) p
 abbrev pub read_lifetime : (List ℕ → Bool) → Place → Option (List Tree × Place)
 read_lifetime wanted p = and_then (read_if is_joint_apostrophe (descend p)) (read_word wanted)
 
--- the punct of a character, joint where more follow
+-- the punct of a character, joint if more characters follow
 abbrev pub is_next_of : ℕ → List ℕ → Tree → Bool
 is_next_of c [] = is_punct_of c
 is_next_of c (d ∷ cs) = is_joint_of c
@@ -91,7 +91,7 @@ read_punctuation (c ∷ []) p = read_if (is_punct_of c) (descend p)
 read_punctuation (c ∷ (d ∷ cs)) p =
     and_then (read_if (is_joint_of c) (descend p)) (read_punctuation (d ∷ cs))
 
--- these characters where there are so many of them, and else none
+-- these characters if there are so many of them, else none
 abbrev pub sized : ℕ → List ℕ → List ℕ
 sized n cs = cond (length cs == n) cs []
 

@@ -39,7 +39,8 @@ EntriesAgree f g d p q =
 abbrev pub leftover_span : Place → Option Span
 leftover_span p = option_map (λ l. l.span) (leftover p)
 
--- each call returns the same at both places, and the places after it have equal views again
+-- reads of leaves, skips, ends, entries of visible groups and leftover spans are equal at both
+-- places, and the places after them have equal views
 pub record CallsAgree (f g : Forest) (p q : Place) : Type 0 where
   pub leaves : EachRead (λ read first. ReadsAgree f g read p q)
   pub skips : SkipsAgree f g p q
@@ -47,15 +48,15 @@ pub record CallsAgree (f g : Forest) (p q : Place) : Type 0 where
   pub enters : (d : Delimiter) → IsVisibleDelimiter d → EntriesAgree f g d p q
   pub leftovers : leftover_span p ≡ leftover_span q
 
--- what a call returns depends on the place's view alone
+-- what such a call returns depends on the view of the place alone
 abbrev pub ViewsDecide : Type 0
 ViewsDecide = (b c : Laid) (p q : Place) → SameView b c p q → CallsAgree b.forest c.forest p q
 
--- a read leads to a place that has a view, too
+-- the place after a read has a view
 abbrev pub ReadLeadsOn : Laid → Read → Place → Type 0
 ReadLeadsOn b read p = IfSome (read p) (λ (r : List Tree × Place). Reached b r.1)
 
--- so does each call
+-- the places after reads of leaves, skips and entries of visible groups have views
 pub record LeadsOn (b : Laid) (p : Place) : Type 0 where
   pub leaves : EachRead (λ read first. ReadLeadsOn b read p)
   pub skips : IfSome (skip p) (Reached b)

@@ -26,7 +26,7 @@ pub data PassesTrees (p : Place) : Place → Type 0 where
   further : (q r : Place) (ts : List Tree) → PassesTrees p q → read_tree q ≡ Some (ts, r)
       → PassesTrees p r
 
--- after all trees of the scope, where no visible one is ahead
+-- after all trees of the scope: no visible one is ahead
 pub record EndsScope (p q : Place) : Type 0 where
   pub passes : PassesTrees p q
   pub at_end : is_at_end q ≡ true

@@ -9,7 +9,7 @@ use Rattle.tok_buffer.specs.Entry.{Entered, entered_with, EnteredWith}
 use Rattle.tok_buffer.specs.Place.{Frame, frame, Place, empty_place, at}
 use Rattle.tok_buffer.specs.Rest.{frames_delimiter}
 
--- for each opening, leaf and closing in reading order: 0 where it is an invisible group's, else 1
+-- for each opening, leaf and closing in order: 0 if it is an invisible group's, else 1
 abbrev pub visible_marks : Forest → List ℕ
 visible_marks no_trees = []
 visible_marks (tree (leaf l) f) = 1 ∷ visible_marks f

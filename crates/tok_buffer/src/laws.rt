@@ -7,13 +7,13 @@ ghost use Rattle.tok_buffer.specs.Buffer.{forest_of, KeepsReading, SameReading};
 ghost use Rattle.std.specs.declared.cmp.Ordering.TheVariants.{Equal};
 ghost use Rattle.tok_core.specs.Forest.{Forest};
 ghost use Rattle.tok_buffer.specs.Between.{PassedJoin, ReadsFollow};
-ghost use Rattle.tok_buffer.specs.Cursors.{place_of, CursorsLoseNone};
+ghost use Rattle.tok_buffer.specs.Cursors.{place_of, CursorsLoseNone, CursorsReachScope};
 ghost use Rattle.tok_buffer.specs.Descent.{DescentsEnter};
 ghost use Rattle.tok_buffer.specs.InFront.{AheadTellsAll, AheadTellsEnds, AllAheadAtStart};
 ghost use Rattle.tok_buffer.specs.Order.{equal, order};
 ghost use Rattle.tok_buffer.specs.Place.{Place, start};
 ghost use Rattle.tok_buffer.specs.Progress.{EntriesGoOn, MovesStay, ReadsGoLater, ReadsGoOn, ReadsKeepScope, SkipsGoOn, StaysAlong};
-ghost use Rattle.tok_leaves.specs.Laws.{ClonesKeep};
+ghost use Rattle.tok_lexical.specs.Laws.{ClonesKeep};
 ghost use Rattle.tok_buffer.specs.Rest.{rest};
 ghost use Rattle.tok_buffer.specs.SameView.{CallsLeadOn, StartsAgree, ViewsDecide, ViewsTellDelimiters, ViewsTellScopes};
 
@@ -116,13 +116,13 @@ pub fn equal_in_order(left: Cursor<'_>, right: Cursor<'_>) -> (bool, Option<Orde
     (left == right, left.partial_cmp(&right))
 }
 
-/// Each read stays in the buffer and the scope of its cursor and lowers what remains, so a loop of
+/// Each read stays in the buffer and the scope of its cursor and lowers `remaining`, so a loop of
 /// reads ends.
 pub fn reads_go_on()
     ensures { ReadsGoOn }
 {}
 
-/// Each skip stays and lowers what remains, as reads do.
+/// Each skip stays in the scope and lowers `remaining`, as reads do.
 pub fn skips_go_on()
     ensures { SkipsGoOn }
 {}
@@ -172,6 +172,12 @@ pub fn staying_adds_nothing()
     ensures { CursorsLoseNone }
 {}
 
+/// The position of a cursor and what remains there add up to the position of its scope's end. So two
+/// cursors in one scope are as far apart as what remains at them differs.
+pub fn remaining_reaches_scope()
+    ensures { CursorsReachScope }
+{}
+
 /// A descent leaves no invisible group next, and amounts to entering the next one, again and again.
 pub fn descents_enter()
     ensures { DescentsEnter }
@@ -180,8 +186,9 @@ pub fn descents_enter()
 /// Invisible groups do not matter to a call: its result depends only on the view of its place.
 ///
 /// A view is how much is visible after the scope, the scope's delimiter, and the visible trees ahead.
-/// So at places of two filled forests with equal views, each read, skip, end, entry of a visible
-/// group and leftover's span is the same, and the places after it have equal views again.
+/// So at places of two filled forests with equal views, each read of a leaf, lifetime, keyword or
+/// punctuation is the same, and so is each skip, end, entry of a visible group and leftover's span.
+/// The places after them have equal views again. Reads of whole trees are no part of this.
 /// Views also decide whether two places are in one scope, and the scope's delimiter. The starts of
 /// two forests that differ only in invisible groups have equal views.
 pub fn views_decide()
@@ -197,8 +204,10 @@ pub fn calls_lead_on()
     ensures { CallsLeadOn }
 {}
 
-/// At every place, each read, entry of a visible group and leftover's span depends only on the
-/// visible trees ahead: the first decides, and the others are ahead of the place after it.
+/// At every place, a read of a leaf, lifetime, keyword or punctuation, the entry of a visible group
+/// and the leftover's span depend only on the visible trees ahead. They take the first of these,
+/// and the others are ahead of the place after it. Skips and reads of trees are no part
+/// of this.
 ///
 /// At the start the whole forest is ahead. In a filled forest, a place is at an end if and only if
 /// no visible tree is ahead.
@@ -208,7 +217,7 @@ pub fn ahead_tells()
     ensures start { AllAheadAtStart }
 {}
 
-/// A clone is the error, cursor or lifetime that was cloned.
+/// A clone of an error, a cursor or a lifetime equals the original.
 pub fn clones_keep_errors<'a>()
     ensures errors { ClonesKeep ⟦<Error as Clone>⟧.is_clone }
     ensures cursors { ClonesKeep ⟦<Cursor<'a> as Clone>⟧.is_clone }

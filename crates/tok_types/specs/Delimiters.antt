@@ -16,3 +16,10 @@ delimiter_display Parenthesis = codes "parentheses"
 delimiter_display Brace = codes "curly braces"
 delimiter_display Bracket = codes "square brackets"
 delimiter_display delimiter.None = codes "invisible group"
+
+-- the name of the type of these delimiters
+abbrev pub delimiter_name : Delimiter → List ℕ
+delimiter_name Parenthesis = codes "Paren"
+delimiter_name Brace = codes "Brace"
+delimiter_name Bracket = codes "Bracket"
+delimiter_name delimiter.None = codes "Group"

@@ -9,7 +9,8 @@ use Rattle.tok_buffer.specs.Reads.{any_text, is_ident, is_ident_of, is_literal, 
 use Rattle.tok_buffer.specs.View.{erased_ahead}
 use Rattle.tok_types.specs.Texts.{accept_as_ident, keyword_text, punctuation_word}
 
--- a peek is true exactly where the test of the visible trees ahead is; of no test nothing is said
+-- a peek is true if and only if the test of the visible trees ahead is; without a test nothing is
+-- said
 abbrev pub Sees : Option (Forest → Bool) → Place → Bool → Type 0
 Sees None p found = Unit {0}
 Sees (Some test) p found = found ≡ test (erased_ahead p)

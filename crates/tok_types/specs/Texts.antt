@@ -58,7 +58,7 @@ keyword_text k = get_or keywords k []
 abbrev pub punctuation_text : ℕ → List ℕ
 punctuation_text k = get_or punctuations k []
 
--- the same for a punctuation of n characters: the empty text where its own isn't of n
+-- the text of a punctuation of n characters, or the empty text if its own has another length
 abbrev pub punctuation_word : (k n : ℕ) → List ℕ
 punctuation_word k n = cond (length (punctuation_text k) == n) (punctuation_text k) []
 
@@ -103,3 +103,7 @@ accept_as_ident s = not (is_among reserved s)
 -- a text in backquotes
 abbrev pub in_backquotes : List ℕ → List ℕ
 in_backquotes s = codes "`" ++ s ++ codes "`"
+
+-- a token of this text as `Debug` writes it
+abbrev pub in_token : List ℕ → List ℕ
+in_token s = codes "Token![" ++ s ++ codes "]"

@@ -5,7 +5,7 @@ ghost use Rattle.tok_buffer.specs.Entry.{enter};
 ghost use Rattle.tok_core.specs.Forest.{no_trees};
 ghost use Rattle.tok_leaves.specs.Spans.{call_site, whole_span};
 ghost use Rattle.tok_lexical.specs.declared.delimiter.Delimiter.TheVariants as delimiter;
-ghost use Rattle.tok_types.specs.Delimiters.{delimiter_at, delimiter_display};
+ghost use Rattle.tok_types.specs.Delimiters.{delimiter_at, delimiter_display, delimiter_name};
 ghost use Rattle.tok_types.specs.Looks.{Finds, IsText};
 ghost use Rattle.tok_types.specs.Printed.{Surrounds};
 ghost use Rattle.tok_types.specs.Sees.{group_first};
@@ -25,6 +25,18 @@ fn delimiter_display(delimiter: Delimiter) -> &'static str
         Delimiter::Brace => "curly braces",
         Delimiter::Bracket => "square brackets",
         Delimiter::None => "invisible group",
+    }
+}
+
+// Returns the name of the type of a delimiter.
+fn delimiter_name(delimiter: Delimiter) -> &'static str
+    ensures { result.now ≡ delimiter_name delimiter }
+{
+    match delimiter {
+        Delimiter::Parenthesis => "Paren",
+        Delimiter::Brace => "Brace",
+        Delimiter::Bracket => "Bracket",
+        Delimiter::None => "Group",
     }
 }
 
@@ -142,13 +154,10 @@ impl<const D: usize> Default for Visible<D> {
 
 /// Writes the name, as `Paren`.
 impl<const D: usize> Debug for Visible<D> {
+    ghost debug_output = { λ _. Some (delimiter_name (delimiter_at D)) };
+
     fn fmt<W: Write>(&self, f: &mut Formatter<W>) -> fmt::Result {
-        f.write_str(match Self::delimiter() {
-            Delimiter::Parenthesis => "Paren",
-            Delimiter::Brace => "Brace",
-            Delimiter::Bracket => "Bracket",
-            Delimiter::None => "Group",
-        })
+        f.write_str(delimiter_name(Self::delimiter()))
     }
 }
 
@@ -221,7 +230,9 @@ impl Default for Group {
 }
 
 impl Debug for Group {
+    ghost debug_output = { λ _. Some (delimiter_name delimiter.None) };
+
     fn fmt<W: Write>(&self, f: &mut Formatter<W>) -> fmt::Result {
-        f.write_str("Group")
+        f.write_str(delimiter_name(Delimiter::None))
     }
 }

@@ -4,7 +4,7 @@ ghost use Rattle.tok_leaves.specs.Spans.{call_site};
 ghost use Rattle.tok_buffer.specs.Reads.{read_keyword};
 ghost use Rattle.tok_types.specs.Looks.{Finds, IsText};
 ghost use Rattle.tok_types.specs.Printed.{word};
-ghost use Rattle.tok_types.specs.Texts.{keyword_text, in_backquotes};
+ghost use Rattle.tok_types.specs.Texts.{keyword_text, in_backquotes, in_token};
 ghost use Rattle.tok_types.specs.Sees.{keyword_first};
 
 use crate::look::{Token, append_word};
@@ -77,6 +77,8 @@ impl<const K: usize> Default for Keyword<K> {
 
 /// Writes `Token![fn]` for the keyword `fn`.
 impl<const K: usize> Debug for Keyword<K> {
+    ghost debug_output = { λ _. Some (in_token (keyword_text K)) };
+
     fn fmt<W: Write>(&self, f: &mut Formatter<W>) -> fmt::Result {
         write!(f, "Token![{}]", keyword_text(K))
     }

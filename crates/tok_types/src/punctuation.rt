@@ -4,7 +4,7 @@ ghost use Rattle.tok_leaves.specs.Spans.{call_site};
 ghost use Rattle.tok_buffer.specs.Reads.{read_punctuation};
 ghost use Rattle.tok_types.specs.Looks.{Finds, IsText};
 ghost use Rattle.tok_types.specs.Printed.{puncts};
-ghost use Rattle.tok_types.specs.Texts.{punctuation_word, in_backquotes};
+ghost use Rattle.tok_types.specs.Texts.{punctuation_word, in_backquotes, in_token};
 ghost use Rattle.tok_types.specs.Sees.{punctuation_first};
 
 use crate::look::Token;
@@ -108,6 +108,8 @@ impl<const K: usize, const N: usize> Default for Punctuation<K, N> {
 
 /// Writes `Token![::]` for the punctuation `::`.
 impl<const K: usize, const N: usize> Debug for Punctuation<K, N> {
+    ghost debug_output = { λ _. Some (in_token (punctuation_word K N)) };
+
     fn fmt<W: Write>(&self, f: &mut Formatter<W>) -> fmt::Result {
         write!(f, "Token![{}]", Self::text())
     }

@@ -5,6 +5,7 @@ ghost use Rattle.tok_buffer.specs.Reads.{read_keyword};
 ghost use Rattle.tok_types.specs.Looks.{Finds, IsText};
 ghost use Rattle.tok_types.specs.Printed.{first_span, word};
 ghost use Rattle.tok_types.specs.Sees.{underscore_first};
+ghost use Rattle.tok_types.specs.Texts.{in_token};
 
 use crate::look::{Token, append_word};
 use std::alloc::AllocError;
@@ -88,6 +89,8 @@ impl Default for Underscore {
 
 /// Writes `Token![_]`.
 impl Debug for Underscore {
+    ghost debug_output = { λ _. Some (in_token (codes "_")) };
+
     fn fmt<W: Write>(&self, f: &mut Formatter<W>) -> fmt::Result {
         f.write_str("Token![_]")
     }

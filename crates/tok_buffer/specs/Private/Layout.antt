@@ -2,7 +2,7 @@
 use Rattle.std.specs.Prelude.{◌≡◌, ℕ, ◌+◌, List, [], ◌∷◌, ◌++◌}
 use Rattle.tok_lexical.specs.declared.delimiter.Delimiter.{Delimiter}
 use Rattle.tok_leaves.specs.declared.span.Span.{Span}
-use Rattle.tok_core.specs.Building.{Levels}
+use Rattle.tok_core.specs.Building.{Levels, levels_of}
 use Rattle.tok_core.specs.Code.{top}
 use Rattle.tok_leaves.specs.Leaves.{Leaf, ident, punct, literal, ident_of, punct_of, literal_of}
 use Rattle.tok_core.specs.Forest.{Tree, leaf, group, Forest, no_trees, tree, reverse_onto}
@@ -44,7 +44,7 @@ layout (tree (group d c s) f) = group_entry d s c ∷ (layout c ++ End (weight c
 abbrev pub entries_of : Forest → List Entry
 entries_of f = layout f ++ End 0 ∷ []
 
--- a tree in front of the innermost level
+-- a tree before the innermost level
 abbrev pub stack_tree : Tree → List Forest → List Forest
 stack_tree t [] = []
 stack_tree t (f ∷ s) = tree t f ∷ s
@@ -95,19 +95,6 @@ laid (f ∷ s) = layout f ++ End 0 ∷ laid s
 abbrev pub places : ℕ → List Forest → List ℕ
 places n [] = []
 places n (f ∷ s) = (n + weight f) ∷ places (n + weight f + 1) s
-
--- each of these forests but the last, and the last one
-abbrev pub but_last : Forest → List Forest → List Forest
-but_last f [] = []
-but_last f (g ∷ s) = f ∷ but_last g s
-
-abbrev pub last_of : Forest → List Forest → Forest
-last_of f [] = f
-last_of f (g ∷ s) = last_of g s
-
-abbrev pub levels_of : List Forest → Levels
-levels_of [] = record { outer = []; inner = no_trees }
-levels_of (f ∷ s) = record { outer = but_last f s; inner = last_of f s }
 
 -- the levels that are in the entries
 abbrev pub levels_in : List Entry → Levels
