@@ -2,8 +2,8 @@
 use std::alloc::Global;
 use test_outcomes::memory::{Outcome, ended, made};
 use tok_buffer::TokenBuffer;
-use tok_core::lex_marked;
-use tok_entries::{Entry, EntryFault, Refusal, write_entries};
+use tok_core::{Edition, lex_marked};
+use tok_entries::{Entry, EntryFault, LexedEntries, Refusal, write_entries};
 
 /// Makes each call.
 pub fn calls(alloc: Global) -> Outcome {
@@ -15,6 +15,15 @@ pub fn calls(alloc: Global) -> Outcome {
     ended(TokenBuffer::from_entries(alloc, 0, entries.as_slice(), texts.as_str()))?;
     mostly_empty(alloc)?;
     made(EntryFault::Refused(Refusal::Depth, 256).to_string(alloc))?;
+    lexed(alloc)
+}
+
+// A text of each kind, read straight into entries.
+fn lexed(alloc: Global) -> Outcome {
+    let text = "a_name_of_more_than_twenty_two_bytes += ('b [{1}] \"c\") ; ; ; ;";
+    made(LexedEntries::from_text(alloc, text))?;
+    made(LexedEntries::from_marked(alloc, "«a» + « »"))?;
+    made(LexedEntries::from_source(alloc, Edition::default(), "/// a\nfn f() {}"))?;
     Ok(())
 }
 

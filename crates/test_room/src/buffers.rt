@@ -6,13 +6,21 @@ use std::alloc::Global;
 use test_outcomes::memory::{Outcome, Stop, made};
 use tok_buffer::{Error, TokenBuffer};
 use tok_core::{Span, lex_marked};
-use tok_entries::write_entries;
+use tok_entries::{LexedEntries, write_entries};
 
 /// Reads `count` names in a text of `bytes` into a buffer.
 pub fn read(alloc: Global, count: usize, bytes: usize) -> Outcome {
     let text = names(alloc, "", "", count, bytes)?;
     mark(alloc)?;
     let _buffer = made(TokenBuffer::from_text(alloc, 0, 0, text.as_str()))?;
+    mark(alloc)
+}
+
+/// Reads `count` names in a text of `bytes` into entries.
+pub fn lexed(alloc: Global, count: usize, bytes: usize) -> Outcome {
+    let text = names(alloc, "", "", count, bytes)?;
+    mark(alloc)?;
+    let _lexed = made(LexedEntries::from_text(alloc, text.as_str()))?;
     mark(alloc)
 }
 

@@ -70,6 +70,7 @@ fn run(alloc: Global, call: &str, count: usize, bytes: usize) -> Outcome {
         "lex" => trees::lexed(alloc, count, bytes),
         "lex_group" => trees::in_group(alloc, count, bytes),
         "from_text" => buffers::read(alloc, count, bytes),
+        "lexed" => buffers::lexed(alloc, count, bytes),
         "from_entries" => buffers::accepted(alloc, count, bytes),
         "stream" => buffers::flat(alloc, count),
         "deep" => buffers::deep(alloc, count),

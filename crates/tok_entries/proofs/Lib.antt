@@ -2,8 +2,13 @@ pub mod Closings
 pub mod Fillings
 pub mod Fronts
 pub mod Groups
+pub mod Laid
+pub mod Leading
 pub mod Leaves
+pub mod Lexed
 pub mod Once
+pub mod Reading
+pub mod Showing
 pub mod Splits
 pub mod Steps
 pub mod Words

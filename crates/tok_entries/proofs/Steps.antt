@@ -21,13 +21,14 @@ use Rattle.tok_entries.specs.Private.Steps.{GoesOn, LeadsTo}
 use Rattle.tok_entries.specs.Texts.{IsForestIn, IsLeafIn, IsTreeIn}
 use Rattle.tok_entries.proofs.Once.{head, tree_once, punct_is_small}
 
-texts_on : (f : Forest) (t : Tree) → texts (concat f (tree t no_trees)) ≡ texts f ++ tree_texts t
+pub texts_on : (f : Forest) (t : Tree)
+    → texts (concat f (tree t no_trees)) ≡ texts f ++ tree_texts t
 texts_on no_trees t = append-nil (tree_texts t)
 texts_on (tree u g) t =
     ap (λ ys. tree_texts u ++ ys) (texts_on g t)
     ∙ sym (append_assoc (tree_texts u) (texts g) (tree_texts t))
 
-entries_on : (at : ℕ) (f : Forest) (t : Tree)
+pub entries_on : (at : ℕ) (f : Forest) (t : Tree)
     → entries at (concat f (tree t no_trees)) ≡ entries at f ++ tree_entries
     (at + length (texts f)) t
 entries_on at no_trees t =

@@ -1,3 +1,4 @@
 -- Definitions that only contracts of private items cite.
+pub mod Laid
 pub mod Parts
 pub mod Steps

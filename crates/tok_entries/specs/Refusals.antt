@@ -1,4 +1,4 @@
--- Why entries are refused, in words, and what holds then.
+-- Why entries are rejected: the text, and what holds then.
 use Rattle.std.specs.Prelude.{◌≤◌, ◌+◌, List, ℕ, ◌++◌, codes}
 use Rattle.std.specs.Fmt.{decimal}
 use Rattle.tok_entries.specs.declared.intake.fault.EntryFault.{EntryFault}

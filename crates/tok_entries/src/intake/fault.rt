@@ -1,4 +1,4 @@
-//! Why entries are refused.
+//! Why entries are rejected.
 ghost use Rattle.std.specs.Prelude.{◌≡◌, Some};
 ghost use Rattle.tok_entries.specs.Refusals.{fault_words, refusal_words};
 
@@ -21,7 +21,7 @@ pub enum Refusal {
 /// Why entries are not read.
 #[derive(Clone, Copy, PartialEq, Eq, Debug)]
 pub enum EntryFault {
-    /// The entry with this number is refused.
+    /// The entry with this number is rejected.
     Refused(Refusal, usize),
     /// An allocation failed.
     Memory,
@@ -49,7 +49,7 @@ impl fmt::Display for Refusal {
     }
 }
 
-/// Writes the number of the entry, and why it is refused.
+/// Writes the number of the entry, and why it is rejected.
 impl fmt::Display for EntryFault {
     ghost output = { λ fault. Some (fault_words fault) };
 

@@ -1,4 +1,4 @@
-use Rattle.std.proofs.Common.{ℕ, List, ap, sym, ◌∙◌}
+use Rattle.std.proofs.Common.{ℕ, List, ap, refl, sym, ◌∙◌}
 use Rattle.std.proofs.lemmas.Str.{chars-nil}
 use Rattle.std.proofs.lemmas.Option.{none-some}
 use Rattle.std.specs.Str.{chars}
@@ -12,10 +12,10 @@ returns-in-Some c = λ e.
     none-some c.in-Some.field-0
     (sym e ∙ ap (λ (x : List ℕ). error_kind c.args.rule (Source Edition2024) 0
     (chars c.args.text.now) x)
-    (sym chars-nil) ∙ sym c.error_kind.ensures ∙ c.in-Some.is)
+    (sym chars-nil) ∙ sym (c.error_kind.ensures (λ h. refl)) ∙ c.in-Some.is)
 
 pub returns-in-None : goal.returns-in-None
 returns-in-None c =
     ap (λ (x : List ℕ). error_kind c.args.rule (Source Edition2024) 0 (chars c.args.text.now) x)
     (sym chars-nil)
-    ∙ sym c.error_kind.ensures ∙ c.in-None.is
+    ∙ sym (c.error_kind.ensures (λ h. refl)) ∙ c.in-None.is

@@ -1,0 +1,88 @@
+use Rattle.std.proofs.Common.{◌<◌, ap, arith, length, rules, string_bytes, subst, sym}
+use Rattle.tok_leaves.specs.Spans.{opening_span, closing_span}
+use Rattle.tok_entries.specs.Private.Laid.{levels_in}
+use Rattle.tok_entries.proofs.Laid.{close_kept, close_shown, left_before, leaves_level}
+use Rattle.tok_entries.proofs.Laid.{places_length}
+use Rattle.tok_entries.proofs.builder.EntryWriterBuild.close.Goals as goal
+
+pub unreachable-requires : goal.unreachable-requires
+unreachable-requires c =
+    let s = levels_in c.self.inside.entries.items (string_bytes c.self.inside.texts) in
+    omega (
+      arith,
+      c.in_default.ensures.cases.0,
+      c.self.inside.«open».ok.0,
+      ap length c.self.invariant.2,
+      places_length 0 s.outer,
+      ap (λ w. length w.outer)
+          c.self.view_is,
+      c.requires,
+    )
+
+pub overflow_sub-distance : goal.overflow_sub-distance
+overflow_sub-distance c =
+    let es = c.self.inside.entries.items in
+    let bs = string_bytes c.self.inside.texts in
+    let h = leaves_level es bs c.self.inside.«open».items c.pop.new.self.items c.in-Some.start
+    (levels_in es bs) c.self.invariant (subst (λ w. 0 < length w.outer) (sym c.self.view_is)
+    c.requires) c.in-Some.ensures.items in
+    let before = left_before es bs c.pop.new.self.items c.in-Some.start (levels_in es bs) h in
+    omega (
+      arith,
+      before,
+      c.len.ensures,
+      c.in_ok-reserve.ensures.len,
+      c.self.inside.entries.ok.0,
+    )
+
+pub index-requires : goal.index-requires
+index-requires c =
+    let es = c.self.inside.entries.items in
+    let bs = string_bytes c.self.inside.texts in
+    let h = leaves_level es bs c.self.inside.«open».items c.pop.new.self.items c.in-Some.start
+    (levels_in es bs) c.self.invariant (subst (λ w. 0 < length w.outer) (sym c.self.view_is)
+    c.requires) c.in-Some.ensures.items in
+    let before = left_before es bs c.pop.new.self.items c.in-Some.start (levels_in es bs) h in
+    omega (arith, before, c.in_ok-reserve.ensures.len, c.self.inside.entries.ok.0)
+
+pub index_mut-requires : goal.index_mut-requires
+index_mut-requires c =
+    let es = c.self.inside.entries.items in
+    let bs = string_bytes c.self.inside.texts in
+    let h = leaves_level es bs c.self.inside.«open».items c.pop.new.self.items c.in-Some.start
+    (levels_in es bs) c.self.invariant (subst (λ w. 0 < length w.outer) (sym c.self.view_is)
+    c.requires) c.in-Some.ensures.items in
+    let before = left_before es bs c.pop.new.self.items c.in-Some.start (levels_in es bs) h in
+    omega (
+      arith,
+      before,
+      c.push_reserved.ensures.len,
+      c.in_ok-reserve.ensures.len,
+      c.self.inside.entries.ok.0,
+    )
+
+pub invariant_of-self-2 : goal.invariant_of-self-2
+invariant_of-self-2 c =
+    let es = c.self.inside.entries.items in
+    let bs = string_bytes c.self.inside.texts in
+    let h = leaves_level es bs c.self.inside.«open».items c.pop.new.self.items c.in-Some.start
+    (levels_in es bs) c.self.invariant (subst (λ w. 0 < length w.outer) (sym c.self.view_is)
+    c.requires) c.in-Some.ensures.items in
+    close_kept es c.push_reserved.new.self.items bs c.pop.new.self.items c.in-Some.start
+    c.len.result c.index.result.now.text_start c.len-2.result (levels_in es bs) c.args.delimiter
+    c.args.span (opening_span c.args.span) (closing_span c.args.span) c.edge-2.result c.edge.result
+    c.index.result.now h (search rules) (search rules) (search rules) (search rules) (search rules)
+    (search rules) (search rules) (search rules) (search rules)
+
+pub returns-clause-ok : goal.returns-clause-ok
+returns-clause-ok c =
+    let es = c.self.inside.entries.items in
+    let bs = string_bytes c.self.inside.texts in
+    let h = leaves_level es bs c.self.inside.«open».items c.pop.new.self.items c.in-Some.start
+    (levels_in es bs) c.self.invariant (subst (λ w. 0 < length w.outer) (sym c.self.view_is)
+    c.requires) c.in-Some.ensures.items in
+    close_shown es c.push_reserved.new.self.items bs c.pop.new.self.items c.in-Some.start
+    c.len.result c.index.result.now.text_start c.len-2.result (levels_in es bs) c.args.delimiter
+    c.args.span (opening_span c.args.span) (closing_span c.args.span) c.edge-2.result c.edge.result
+    c.index.result.now h (search rules) (search rules) (search rules) (search rules) (search rules)
+    (search rules) (search rules) (search rules) (search rules) c.args.self.now c.self.view_is
