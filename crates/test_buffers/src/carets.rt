@@ -212,3 +212,42 @@ fn indexed_places(rt: HostRuntime) {
     );
     assert_eq!(rt; indexed(alloc, text, 9), None);
 }
+
+// The place of this number, of those that are written for some bytes of a text.
+fn placed(alloc: Global, text: &str, bytes: &[usize], number: usize) -> Option<(usize, usize)> {
+    let mut places = [LineColumn { line: 7, column: 7 }; 9];
+    if bytes.len() > 9 {
+        return None;
+    }
+    LineIndex::new(alloc, text)
+        .ok()?
+        .line_columns(bytes, &mut places);
+    let place = places.get(number)?;
+    Some((place.line, place.column))
+}
+
+// Bytes in any order, and the place of each. The last place is not written.
+const BYTES: [usize; 8] = [2, 4, 3, 0, 8, 6, 7, 1];
+
+const PLACES: [(usize, usize, usize); 9] = [
+    (0, 2, 1),
+    (1, 2, 2),
+    (2, 0, 0),
+    (3, 1, 1),
+    (4, 4, 3),
+    (5, 4, 1),
+    (6, 4, 2),
+    (7, 1, 2),
+    (8, 7, 7),
+];
+
+#[test]
+fn places_of_many_bytes(rt: HostRuntime) {
+    for (number, line, column) in &PLACES {
+        assert_eq!(rt;
+            placed(rt.alloc(), "a\né\n\nbc", &BYTES, *number),
+            Some((*line, *column)),
+            "{number}"
+        );
+    }
+}

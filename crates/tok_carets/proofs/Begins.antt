@@ -79,7 +79,7 @@ module _ (before front head : List ℕ) (u : IsUtf8 front) (e : front ++ head �
   )
 
 -- characters among which is no line feed
-no-feeds : (cs : List ℕ) → list_all (is_neither 10 10) cs ≡ true → line_feeds cs ≡ 0
+pub no-feeds : (cs : List ℕ) → list_all (is_neither 10 10) cs ≡ true → line_feeds cs ≡ 0
 no-feeds [] h = refl
 no-feeds (c ∷ cs) h =
     let p = and_parts (is_neither 10 10 c) (list_all (is_neither 10 10) cs) h in

@@ -2,3 +2,4 @@ mod Begins
 mod Feeds
 mod Lanes
 mod Lines
+mod Stretches

@@ -1,9 +1,10 @@
 -- Lines of a text, and how many columns a character takes. Texts are lists of characters.
 use Rattle.std.specs.Prelude.{◌≡◌, ℕ, ◌+◌, ◌-◌, ◌==◌, ◌⊎◌, List, [], ◌∷◌, ◌++◌, true, false}
-use Rattle.std.specs.Prelude.{◌<◌, if◌then◌else◌, unwrap_or, encode_utf8, get_or, length, take}
+use Rattle.std.specs.Prelude.{◌<◌, if◌then◌else◌, unwrap_or, drop, encode_utf8, get_or, length}
+use Rattle.std.specs.Prelude.{take}
 use Rattle.std.specs.List.{flat_map, list_all, repeat}
 use Rattle.std.specs.Char.{len_utf8}
-use Rattle.std.specs.Str.{chars}
+use Rattle.std.specs.Str.{chars, IsCharBoundary}
 use Rattle.tok_lexical.specs.Comments.{is_not_line_feed}
 use Rattle.tok_carets.specs.declared.line.LineColumn.{LineColumn}
 use Rattle.unicode_width.specs.Width.{char_width}
@@ -43,7 +44,7 @@ within bytes (c ∷ text) = if bytes == 0 then [] else c ∷ within (bytes - len
 abbrev pub columns : ℕ → ℕ
 columns c = if c == 9 then 4 else unwrap_or (char_width false c) 0
 
--- a character as it is shown
+-- the text that shows a character
 abbrev pub shown : ℕ → List ℕ
 shown c = if c == 9 then 32 ∷ 32 ∷ 32 ∷ 32 ∷ [] else encode_utf8 c
 
@@ -71,3 +72,27 @@ BeginLines text starts =
 -- a line begins at this byte, or it is the first byte and no line is before it
 abbrev pub BeginsAt : (text : List ℕ) → (lines at : ℕ) → Type 0
 BeginsAt text lines at = BeginsLine text lines at ⊎ ((lines ≡ 0) × (at ≡ 0))
+
+-- the place before a byte of a text, at which a character begins or the text ends
+abbrev pub IsKnown : (text : List ℕ) → (at : ℕ) → LineColumn → Type 0
+IsKnown text at place = IsCharBoundary text at × IsLineColumn (take at text) place
+
+abbrev pub nowhere : LineColumn
+nowhere = record { line = 0; column = 0 }
+
+-- the place before a byte of a text; nowhere if it is within a character or past the end
+abbrev pub IsPlaceAt : (text : List ℕ) → (at : ℕ) → LineColumn → Type 0
+IsPlaceAt text at place =
+    IsKnown text at place ⊎ (¬ (IsCharBoundary text at) × (place ≡ nowhere))
+
+-- the place before each of these bytes is written, in order, and the rest is as before
+pub record ArePlaces (text bytes : List ℕ) (old new : List LineColumn) : Type 0 where
+  pub count : length new ≡ length old
+  pub places : (k : ℕ) → k < length bytes →
+      IsPlaceAt text (get_or bytes k 0) (get_or new k nowhere)
+  pub rest : drop (length bytes) new ≡ drop (length bytes) old
+
+-- the text between two bytes, without a line feed
+abbrev pub IsStretch : (text : List ℕ) → (from at : ℕ) → List ℕ → Type 0
+IsStretch text from at between =
+    (take at text ≡ take from text ++ between) × (line_feeds (chars between) ≡ 0)

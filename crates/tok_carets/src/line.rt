@@ -11,6 +11,8 @@ use tok_lexical::text::{front_of, next_char, past_char, past_first, past_others}
 use unicode_width::UnicodeWidthChar;
 
 /// A place in a text: its line, and its column in characters. Both count from 1.
+// Laid out as C has it, so that a caller in C is lent places as they are.
+#[repr(C)]
 #[derive(Clone, Copy, PartialEq, Eq, Debug)]
 pub struct LineColumn {
     pub line: usize,
