@@ -34,6 +34,7 @@ is_float text = starts_digit text && not (is_integer text)
 abbrev pub is_bool : List ℕ → Bool
 is_bool text = is_some (bool_of text)
 
+-- `true` or `false`
 abbrev pub bool_text : Bool → List ℕ
 bool_text value = cond value (codes "true") (codes "false")
 
@@ -42,6 +43,7 @@ abbrev pub is_literal_of : (List ℕ → Bool) → Tree → Bool
 is_literal_of wanted (leaf (literal text span)) = wanted text
 is_literal_of wanted t = false
 
+-- the next literal, if the test of its text is true
 abbrev pub read_literal_of : (List ℕ → Bool) → Place → Option (List Tree × Place)
 read_literal_of wanted p = read_if (is_literal_of wanted) (descend p)
 
@@ -55,6 +57,7 @@ abbrev pub value_in : Option (List Tree × Place) → Option Bool
 value_in None = None
 value_in (Some r) = bool_of (name_in r.0)
 
+-- the value of `true` or `false`, if one of them is next
 abbrev pub read_bool : Place → Option Bool
 read_bool p = value_in (read_ident p)
 

@@ -51,7 +51,7 @@ float_first f = is_some (first_if (is_literal_of is_float) f)
 unfoldable pub bool_first : Forest → Bool
 bool_first f = is_some (first_if (is_ident_of is_bool) f)
 
--- what a peek sees
+-- tests of the first of the visible trees ahead
 abbrev pub sees_string : Ahead → Bool
 sees_string a = string_first a.trees
 

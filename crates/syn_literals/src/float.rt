@@ -20,7 +20,7 @@ use tok_core::{Literal, Span, ToTokens, TokenStream};
 use tok_types::token::Token;
 use tok_values::LiteralExt;
 
-/// A float literal, perhaps with a suffix: a number that is no integer. A minus sign is no part of
+/// A float literal, perhaps with a suffix: a number that is no integer. A minus sign is not part of
 /// it.
 ///
 /// Contracts see it as its literal.

@@ -19,7 +19,7 @@ use tok_core::{Literal, Span, ToTokens, TokenStream};
 use tok_types::token::Token;
 use tok_values::{Integer, IntegerFault, LiteralExt};
 
-/// An integer literal, perhaps with a suffix. A minus sign is no part of it.
+/// An integer literal, perhaps with a suffix. A minus sign is not part of it.
 ///
 /// Contracts see it as its literal.
 ///

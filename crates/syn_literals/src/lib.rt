@@ -8,6 +8,7 @@ mod boolean;
 mod float;
 mod integer;
 mod kind;
+pub mod laws;
 mod raw;
 mod string;
 

@@ -19,7 +19,7 @@ use tok_core::{Literal, Span, ToTokens, TokenStream};
 use tok_types::token::Token;
 use tok_values::LiteralExt;
 
-/// A string literal, raw or not. A byte string or a C string is none.
+/// A string literal, raw or not. Byte strings and C strings are other literals.
 ///
 /// Contracts see it as its literal.
 ///

@@ -1,4 +1,4 @@
--- A token and a value, where the token is next.
+-- A token and a value after it, if the token is next.
 use Rattle.std.specs.Prelude.{Bool, Option, None, Some, option_map}
 use Rattle.tok_core.specs.Forest.{Forest}
 use Rattle.syn_parse.specs.Lighter.{lightens_bind, lightens_gives, lightens_where}
@@ -6,7 +6,7 @@ use Rattle.syn_parse.specs.Takes.{Taking, ◌>>=◌, gives, where_ahead}
 use Rattle.syn_parse.specs.Takings.{Lightens, Takings, told, told_filled, unweighed, untold}
 use Rattle.syn_parse.specs.TreesAhead.{Ahead}
 
--- a token and then a value, where the test is true
+-- a token and then a value if the test is true, and else nothing
 unfoldable pub take_after : {A B : Type 0} → (Ahead → Bool) → Taking A → Taking B
     → Taking (Option (A × B))
 take_after test token take =
@@ -23,7 +23,7 @@ lightens_after test token take h k =
     (lightens_bind token _ h (λ p. lightens_bind take _ k (λ v. lightens_gives (Some (p, v)))))
     (lightens_gives None)
 
--- the same by what the types of both state
+-- a token and a value, by what the types of both state
 abbrev pub after : {P T : Type 0} → Option (Forest → Bool) → Takings P → Takings T
     → Takings (Option (P × T))
 after (Some sees) (told shape token w) (told form take x) =

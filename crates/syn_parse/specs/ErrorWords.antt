@@ -16,7 +16,7 @@ use Rattle.tok_types.specs.Delimiters.{delimiter_display}
 use Rattle.tok_types.specs.Texts.{in_backquotes}
 use Rattle.syn_parse.specs.State.{State}
 
--- an error at a stream, which names the end where the stream is at its end
+-- an error at a stream, which names the end if the stream is at its end
 abbrev pub refused_at : State → List ℕ → Message
 refused_at s words = at_stream s.place s.scope_span words
 
@@ -30,12 +30,12 @@ name_in [] = []
 name_in (leaf (ident text span) ∷ ts) = text
 name_in (t ∷ ts) = name_in ts
 
--- where an identifier is looked for: there is none, or one that is a keyword
+-- the text of the error at a missing identifier: there is none, or a keyword is next
 abbrev pub ident_words : Option (List Tree × Place) → List ℕ
 ident_words None = codes "expected identifier"
 ident_words (Some r) = codes "expected identifier, found keyword " ++ in_backquotes (name_in r.0)
 
--- where a lifetime is looked for: there is none, or one whose name is a keyword
+-- the text of the error at a missing lifetime: there is none, or its name is a keyword
 abbrev pub lifetime_words : Option (List Tree × Place) → List ℕ
 lifetime_words None = codes "expected lifetime"
 lifetime_words (Some r) = codes "unexpected keyword lifetime \"'" ++ (name_in r.0 ++ codes "\"")

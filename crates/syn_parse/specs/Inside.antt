@@ -20,6 +20,6 @@ inside_passes d test f = elim (first_group d f) [ Some e ↦ test e.content | No
 abbrev pub inside : Delimiter → Option (Forest → Bool) → Option (Forest → Bool)
 inside d sees = option_map (inside_passes d) sees
 
--- what a peek into a group sees
+-- a test of the first trees in the group that is next
 abbrev pub sees_inside : Delimiter → (Ahead → Bool) → Ahead → Bool
 sees_inside d sees a = inside_passes d (λ f. sees (record a { trees = f })) a.trees

@@ -22,13 +22,13 @@ use Rattle.syn_parse.specs.declared.fault.Fault.{Fault}
 use Rattle.syn_parse.specs.declared.fault.Fault.TheVariants.{Refused, Memory}
 use Rattle.syn_parse.specs.declared.group.Delimited.{Delimited}
 
--- a value where the peek was true, an error where it was false; memory aside
+-- a value if the peek was true, an error if it was false; or an allocation failure
 abbrev pub Tells : {T : Type 0} → Bool → Result T Fault → Type 0
 Tells found (Ok v) = found ≡ true
 Tells found (Err (Refused e)) = found ≡ false
 Tells found (Err (Memory e)) = Unit {0}
 
--- the peek is true exactly where the call returns a value
+-- the peek is true if and only if the call returns a value
 abbrev pub PeekTells : {T : Type 0} → (Place → Bool → Type 0) → Call T → Type 0
 PeekTells {T} peeks calls =
     (s : State) (found : Bool) (r : Result T Fault) (t : State) →
@@ -40,8 +40,8 @@ VisibleParses {D} s =
     let words = refused_at s (delimiter_words (delimiter_at D)) in
     Enters (λ p. AreParts p.token.span p.content) (enter (delimiter_at D) s.place) words s
 
--- A fork may run in its stream's place: to go where the fork went, after it has moved or closed a
--- content, is to do the same on the stream that goes there; and a new fork is where its stream is.
+-- A fork may run in place of its stream. Moving or closing on the fork, and then advancing to it,
+-- equals advancing to it and then moving or closing. A new fork is at the place of its stream.
 pub record ForksFollow : Type 0 where
   pub new : (s : State) → advanced (forked s) s ≡ s
   pub moving : (p : Place) (fork s : State) →

@@ -12,7 +12,7 @@ use Rattle.syn_parse.specs.Takings.{Lightens, Lowers, Takings, lighter, lower, t
 use Rattle.syn_parse.specs.Takings.{untold}
 use Rattle.syn_parse.specs.TreesAhead.{Ahead, is_spent}
 
--- where the test is true a value, and then more of them; else none
+-- if the test is true, a value and then more of them; else none
 abbrev pub many_step : {A : Type 0} → (Ahead → Bool) → Taking A → Taking (List A)
     → Taking (List A)
 many_step test take more =
@@ -64,7 +64,7 @@ many_of test takes = untold
 abbrev pub many : {T : Type 0} → Option (Forest → Bool) → Takings T → Takings (Vec T)
 many sees takes = many_of (option_map (λ test a. test a.trees) sees) takes
 
--- the same at places of filled forests alone
+-- loops at places of filled forests alone
 abbrev pub where_filled : {T : Type 0} → Takings T → Takings T
 where_filled untold = untold
 where_filled (told form take weighs) = told_filled form take weighs

@@ -13,7 +13,7 @@ use Rattle.syn_parse.specs.Takes.{after_inside, inside_first, refuses, take_grou
 use Rattle.syn_parse.specs.Takings.{Lightens, Lowers}
 use Rattle.syn_parse.specs.TreesAhead.{Ahead, only_trees}
 
--- two parsers take the same of all that weighs less than this
+-- two parsers take equal values of everything that weighs less than this
 abbrev pub SameBelow : {A : Type 0} → ℕ → (m n : Taking A) → Type 0
 SameBelow w m n = (b : Ahead) → weight b.trees < w → m b ≡ n b
 

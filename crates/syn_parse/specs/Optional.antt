@@ -1,4 +1,4 @@
--- What is taken where its peek is true, and else nothing.
+-- A value that is taken if its peek is true, and else nothing.
 use Rattle.std.specs.Prelude.{Bool, Option, None, Some, option_map}
 use Rattle.tok_core.specs.Forest.{Forest}
 use Rattle.syn_parse.specs.Lighter.{lightens_bind, lightens_gives, lightens_lower, lightens_where}
@@ -7,7 +7,7 @@ use Rattle.syn_parse.specs.Takings.{Lightens, Takings, Weighs, lighter, lower, t
 use Rattle.syn_parse.specs.Takings.{untold, unweighed}
 use Rattle.syn_parse.specs.TreesAhead.{Ahead}
 
--- a value where the test is true
+-- a value if the test is true, and else nothing
 unfoldable pub take_optional : {A : Type 0} → (Ahead → Bool) → Taking A → Taking (Option A)
 take_optional test take =
     where_ahead test (do
@@ -28,6 +28,7 @@ optional_weighs test take unweighed = unweighed
 optional_weighs test take (lighter h) = lighter (lightens_optional test take h)
 optional_weighs test take (lower h) = lighter (lightens_optional test take (lightens_lower take h))
 
+-- what an `Option` states, by what its type states
 abbrev pub optional : {T : Type 0} → Option (Forest → Bool) → Takings T → Takings (Option T)
 optional None takes = untold
 optional (Some test) untold = untold

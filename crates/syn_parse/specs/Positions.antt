@@ -17,7 +17,7 @@ pub data Position : Type 0 where
   over_tree : Forest → Position
   at_span : Span → Position
 
--- what is missing: where, and in which words an error says so
+-- what is missing: its position, and the text of the error
 pub record Missing : Type 0 where
   pub position : Position
   pub words : List ℕ
@@ -82,7 +82,7 @@ abbrev pub next_span : (Tree → Span) → Span → Forest → Span
 next_span part scope no_trees = scope
 next_span part scope (tree t f) = part t
 
--- the one span of a position, where no invisible group is
+-- the one span of a position in a scope without invisible groups
 abbrev pub only_span : Span → Position → Span
 only_span scope (at_trees ahead) = next_span tree_start scope ahead
 only_span scope (over_tree ahead) = next_span tree_span scope ahead

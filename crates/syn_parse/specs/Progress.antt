@@ -22,10 +22,12 @@ pub record ParsesOn {T : Type 0} (parses : Call T) : Type 0 where
 abbrev pub KeywordParses : (k : ℕ) → Call (Keyword k)
 KeywordParses k = WordParses (λ w. w.span) (keyword_text k)
 
+-- the parse of a punctuation by its type
 abbrev pub PunctuationTypeParses : (k n : ℕ) → Call (Punctuation k n)
 PunctuationTypeParses k n =
     PunctuationParses (λ p. p.spans) (punctuation_word k n) (punctuation_word k n)
 
+-- the parse of `_`
 abbrev pub UnderscoreParses : Call Underscore
 UnderscoreParses = WordParses (λ u. first_span u.spans) (codes "_")
 

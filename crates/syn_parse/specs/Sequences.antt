@@ -24,7 +24,7 @@ take_three first second third = do
   c ← third
   gives (a, b, c)
 
--- what comes after may take something in place of what comes first
+-- the later steps may take something, even if the first take nothing
 pub lowers_then : {A B : Type 0} (m : Taking A) (k : A → Taking B) → Lightens m
     → ((v : A) → Lowers (k v)) → Lowers (m >>= k)
 lowers_then {A} {B} m k h g = record { less = λ a b w e. go a b w (m a) refl e } where
@@ -134,12 +134,13 @@ both_filled (told_filled form first w) (told_filled shape second x) =
     (both_weighs first second w x)
 both_filled first second = untold
 
+-- two values by what their types state
 abbrev pub both : {T U : Type 0} → Takings T → Takings U → Takings (T × U)
 both (told form first w) (told shape second x) =
     told (λ p. (form p.0, shape p.1)) (take_both first second) (both_weighs first second w x)
 both first second = both_filled (where_filled first) (where_filled second)
 
--- the same of three values
+-- three values by what their types state, at places of filled forests
 abbrev pub three_filled : {T U V : Type 0} → Takings T → Takings U → Takings V
     → Takings (T × U × V)
 three_filled (told_filled form first w) (told_filled shape second x) (told_filled look third y) =
@@ -147,6 +148,7 @@ three_filled (told_filled form first w) (told_filled shape second x) (told_fille
     (three_weigh first second third w x y)
 three_filled first second third = untold
 
+-- three values by what their types state
 abbrev pub three : {T U V : Type 0} → Takings T → Takings U → Takings V → Takings (T × U × V)
 three (told form first w) (told shape second x) (told look third y) =
     told (λ p. (form p.0, shape p.1, look p.2)) (take_three first second third)

@@ -22,9 +22,10 @@ next_passes test f = elim (past_token f) [ Some g ↦ test g | None ↦ false ]
 abbrev pub second_sees : Option (Forest → Bool) → Option (Forest → Bool)
 second_sees sees = option_map next_passes sees
 
+-- a test of the trees after the next two tokens
 abbrev pub third_sees : Option (Forest → Bool) → Option (Forest → Bool)
 third_sees sees = second_sees (second_sees sees)
 
--- what a peek after the next token sees
+-- a test of the trees after the next token
 abbrev pub sees_next : (Ahead → Bool) → Ahead → Bool
 sees_next sees a = next_passes (λ f. sees (record a { trees = f })) a.trees

@@ -18,12 +18,12 @@ use Rattle.syn_parse.specs.State.{State}
 use Rattle.syn_parse.specs.Takings.{KeepsTextTo, KeepsWhole, Takings}
 use Rattle.syn_parse.specs.declared.fault.Fault.{Fault}
 
--- the empty span where a span ends; in place of the call site, the start of this source
+-- the empty span at the end of a span; for the call site, the start of this source
 abbrev pub end_of_span : ℕ → Span → Span
 end_of_span number span =
     elim span.origin [ CallSite ↦ source number 0 0 | Source n a b ↦ source n b b ]
 
--- where the tokens of a source end: behind the last one, or at the start where there is none
+-- the end of the tokens of a source: behind the last one, or at the start if there is none
 abbrev pub end_of_tokens : ℕ → Forest → Span
 end_of_tokens number f = end_of_span number (last_span call_site f)
 
@@ -36,8 +36,8 @@ abbrev pub OnTextOf : ℕ → (State → Type 0) → List ℕ → Type 0
 OnTextOf number holds text =
     (f : Forest) → grammar.Reads Plain number text f → holds (source_stream number f)
 
--- The text of a source reads as a forest, which is parsed; or it is refused as the grammar refuses
--- it; or an allocation fails.
+-- The text of a source reads as a forest, which is parsed; or the grammar rejects it, with this
+-- error; or an allocation fails.
 abbrev pub ParsesTextOf : {T : Type 0} → ℕ → Call T → List ℕ → Result T Fault → Type 0
 ParsesTextOf number parses text result =
     ((f : Forest) × grammar.Reads Plain number text f

@@ -10,7 +10,7 @@ use Rattle.tok_buffer.specs.Entry.{Entered}
 use Rattle.tok_buffer.specs.Place.{Place}
 use Rattle.tok_buffer.specs.Messages.{stream_span}
 
--- what contracts see of a stream
+-- a stream, as contracts see it
 pub record State : Type 0 where
   pub place : Place
   pub scope_span : Span
@@ -28,15 +28,15 @@ fresh p scope = record { place = p; scope_span = scope; noted = None }
 abbrev pub moved : Place → State → State
 moved p s = record s { place = p }
 
--- a note goes only where there is none
+-- records a leftover, unless one is recorded already
 abbrev pub noting : Option Leftover → State → State
 noting n s = record s { noted = option_or s.noted n }
 
--- what a stream hands up: its note, or else the leftover at its own place
+-- what a stream reports when it ends: its recorded leftover, or else the one at its own place
 abbrev pub handed : State → Option Leftover
 handed s = option_or s.noted (leftover s.place)
 
--- a content is closed into a stream
+-- a group's stream is closed into the stream around it
 abbrev pub closed : State → State → State
 closed content s = noting (handed content) s
 
@@ -44,7 +44,7 @@ closed content s = noting (handed content) s
 abbrev pub forked : State → State
 forked s = fresh s.place s.scope_span
 
--- a stream goes where its fork went
+-- a stream moves to the place of its fork, and takes over its leftover
 abbrev pub advanced : State → State → State
 advanced fork s = noting fork.noted (moved fork.place s)
 

@@ -29,14 +29,17 @@ pub data Outcome (A : Type 0) : Type 0 where
   found : A → Ahead → Outcome A
   missing : Missing → Outcome A
 
+-- what is taken of the trees ahead, or what is missing
 abbrev pub Taking : Type 0 → Type 0
 Taking A = Ahead → Outcome A
 
+-- an outcome, and what is taken after it if something was found
 abbrev pub and_then : {A B : Type 0} → Outcome A → (A → Ahead → Outcome B) → Outcome B
 and_then (found v a) k = k v a
 and_then (missing m) k = missing m
 
 infixl 10 ◌>>=◌
+-- one taking, and then another that may depend on its value
 abbrev pub ◌>>=◌ : {A B : Type 0} → Taking A → (A → Taking B) → Taking B
 m >>= k = λ a. and_then (m a) k
 
@@ -48,11 +51,11 @@ gives v = found v
 abbrev pub where_ahead : {A : Type 0} → (Ahead → Bool) → Taking A → Taking A → Taking A
 where_ahead test there other a = cond (test a) (there a) (other a)
 
--- words that name the end where nothing is left
+-- a text that names the end if nothing is left
 abbrev pub or_end : List ℕ → Forest → List ℕ
 or_end words f = cond (not (has_trees f)) (codes "unexpected end of input, " ++ words) words
 
--- missing where these trees are ahead, in these words; they name the end where none is ahead
+-- missing at the place with these trees ahead; the text names the end if none is ahead
 abbrev pub missing_next : List ℕ → Forest → Missing
 missing_next words f = record { position = at_trees f; words = or_end words f }
 
@@ -64,7 +67,7 @@ refuses words a = missing (missing_next words a.trees)
 abbrev pub refuses_at : {A : Type 0} → Span → List ℕ → Taking A
 refuses_at span words a = missing (record { position = at_span span; words = words })
 
--- what is taken on a fork, to whose place the stream then goes
+-- a value taken on a fork, to whose place the stream then moves
 abbrev pub on_fork : {A : Type 0} → Taking A → Taking A
 on_fork take a =
     and_then (take (only_trees a.trees)) (λ v fork. found v (after_fork fork a))
@@ -75,12 +78,13 @@ abbrev pub read_as : {T : Type 0} → (List Tree → T) → (Forest → Missing)
 read_as means lack a None = missing (lack a.trees)
 read_as means lack a (Some r) = found (means r.0) (record { trees = r.1; unread = a.unread })
 
+-- what a read of the trees finds, or what is missing if it finds nothing
 abbrev pub take_by : {T : Type 0} → (Forest → Option (List Tree × Forest)) → (List Tree → T)
     → (Forest → Missing) → Taking T
 take_by read means lack a = read_as means lack a (read a.trees)
 
--- A group: what is taken inside, and then what is after. A tree left unread inside is noted. What
--- is missing at the end inside is missing where the group closes.
+-- A group: a value is taken inside, and then the trees after it are ahead. A tree left unread
+-- inside is recorded. What is missing at the end inside is missing at the closing delimiter.
 abbrev pub after_inside : {T : Type 0} → Ahead → EnteredWith Forest → Outcome T
     → Outcome (DelimSpan × T)
 after_inside a e (missing m) = missing (missing_inside (closing_span e.span) m)
@@ -88,12 +92,14 @@ after_inside a e (found v b) =
     found (record { join = e.span }, v)
     (record { trees = e.after; unread = unread_after a b })
 
+-- a value taken inside the first group, if there is one
 abbrev pub inside_first : {T : Type 0} → Delimiter → Taking T → Ahead → Option (EnteredWith Forest)
     → Outcome (DelimSpan × T)
 inside_first d inner a None = refuses (delimiter_words d) a
 inside_first d inner a (Some e) =
     after_inside a e (inner (only_trees e.content))
 
+-- a group with this delimiter, and a value in it
 unfoldable pub take_group : {T : Type 0} → Delimiter → Taking T → Taking (DelimSpan × T)
 take_group d inner a = inside_first d inner a (first_group d a.trees)
 
@@ -102,7 +108,7 @@ abbrev pub IsMissing : {A : Type 0} → Outcome A → Type 0
 IsMissing (found v a) = ⊥
 IsMissing (missing m) = Unit {0}
 
--- an error of one message, where this holds, or an allocation failure
+-- an error of one message, and this holds; or an allocation failure
 abbrev pub MemoryOr : Fault → Type 0 → Type 0
 MemoryOr (Refused e) P = P × (length e ≡ 1)
 MemoryOr (Memory e) P = Unit {0}
@@ -114,12 +120,12 @@ Says trees scope m (Refused e) =
     (span : Span) × IsAt trees scope m.position span × (e ≡ one_message (message_at span m.words))
 Says trees scope m (Memory e) = Unit {0}
 
--- it says what is found missing; of a value that is found nothing is said
+-- an error says what is missing; if a value is found, nothing is said
 abbrev pub SaysFound : {A : Type 0} → Forest → Span → Outcome A → Fault → Type 0
 SaysFound trees scope (found v a) f = Unit {0}
 SaysFound trees scope (missing m) f = Says trees scope m f
 
--- it says at a stream that this is missing, in a forest that is filled
+-- an error says at a stream that this is missing, if the forest is filled
 abbrev pub SaysAt : State → Missing → Fault → Type 0
 SaysAt s m f = IsFilled s.place → Says (scope_trees s.place) s.scope_span m f
 
@@ -145,16 +151,16 @@ TakesAs form take s (Ok v) t =
     (take (ahead s) ≡ found (form v) (ahead t)) × Stays s t
 TakesAs form take s (Err f) t = FailsAt s (take (ahead s)) f
 
--- the same of the value itself
+-- a call returns the very value that is taken
 abbrev pub Takes : {T : Type 0} → Taking T → Call T
 Takes = TakesAs (λ v. v)
 
--- what is found is the form of this value, and this is ahead then
+-- the form of this value is found, and this is ahead then
 abbrev pub Finds : {T A : Type 0} → (T → A → Type 0) → T → Ahead → Outcome A → Type 0
 Finds Is v b (found x c) = Is v x × (c ≡ b)
 Finds Is v b (missing m) = ⊥
 
--- a call returns a value of which what is taken is the form, where the form is no function of it
+-- a call returns a value that has the form that is taken; the form need not be a function of it
 abbrev pub TakesBy : {T A : Type 0} → (T → A → Type 0) → Taking A → Call T
 TakesBy Is take s (Ok v) t =
     Finds Is v (ahead t) (take (ahead s)) × Stays s t
@@ -175,7 +181,7 @@ TakeWithinBy {T} start Is take calls =
 abbrev pub Within : {T A : Type 0} → (T → A → Type 0) → DelimSpan × T → DelimSpan × A → Type 0
 Within Is v x = (x.0 ≡ v.0) × Is v.1 x.1
 
--- what an error says of a group's contents it says outside of the group
+-- an error says of a group's contents what it says outside of the group
 abbrev pub SaysOutside : (content : State) → Span → State → Type 0
 SaysOutside content span s =
     IsFilled s.place → (m : Missing) (f : Fault)
@@ -229,7 +235,7 @@ SaysAll f scope (found v a) e =
     IfSome (option_or a.unread (first_tree_span a.trees)) (λ span. RefusesAt span e)
 SaysAll f scope (missing m) e = Says f scope m e
 
--- the value that all trees are, or an error where they are none
+-- the value that all trees are, or an error if they are none
 abbrev pub TakesAll : {T A : Type 0} → (T → A) → Taking A → Forest → Span → Result T Fault
     → Type 0
 TakesAll form take f scope (Ok v) = IsAll take f (form v)
@@ -244,8 +250,8 @@ Agree form (Ok v) (Err f) = IsMemory f
 Agree form (Err f) (Ok w) = IsMemory f
 Agree form (Err f) (Err g) = Unit {0}
 
--- two errors agree: in their words where something is missing, and in their spans where a tree is
--- left over
+-- two errors agree: in their texts if something is missing, and in their spans if a tree is left
+-- over
 abbrev pub ErrorsAgree : {T A : Type 0} → Outcome A → Result T Fault → Result T Fault → Type 0
 ErrorsAgree (missing m) (Err (Refused d)) (Err (Refused e)) = first_text d ≡ first_text e
 ErrorsAgree (found v a) (Err (Refused d)) (Err (Refused e)) = spans_of d ≡ spans_of e

@@ -26,7 +26,7 @@ pub record Lightens {A : Type 0} (take : Taking A) : Type 0 where
 pub record Lowers {A : Type 0} (take : Taking A) : Type 0 where
   pub less : (a b : Ahead) (v : A) → take a ≡ found v b → weight b.trees < weight a.trees
 
--- what is known of how much is taken
+-- how much is known to be taken
 pub data Weighs {A : Type 0} (take : Taking A) : Type 0 where
   unweighed : Weighs take
   lighter : Lightens take → Weighs take
@@ -39,7 +39,12 @@ pub data Takings (T : Type 0) : Type 1 where
   told : {A : Type 0} (form : T → A) (take : Taking A) → Weighs take → Takings T
   told_filled : {A : Type 0} (form : T → A) (take : Taking A) → Weighs take → Takings T
 
--- a value is taken as it is
+-- something is stated
+abbrev pub IsTold : {T : Type 0} → Takings T → Type 0
+IsTold untold = ⊥
+IsTold takes = Unit {0}
+
+-- the very value is taken
 abbrev pub taken : {T : Type 0} → Taking T → Takings T
 taken take = told (λ v. v) take unweighed
 
@@ -57,7 +62,7 @@ Keeps untold s r t = Unit {0}
 Keeps (told form take weighs) s r t = TakesAs form take s r t
 Keeps (told_filled form take weighs) s r t = IsFilled s.place → TakesAs form take s r t
 
--- the same of a box
+-- a box states what its value states
 abbrev pub boxed : {T : Type 0} → Takings T → Takings (Box T)
 boxed untold = untold
 boxed (told form take weighs) = told (λ b. form b.value) take weighs
@@ -78,7 +83,7 @@ KeepsBoth (told form take weighs) left right x y = erase left ≡ erase right �
 KeepsBoth (told_filled form take weighs) left right x y =
     erase left ≡ erase right → filled left ≡ true → filled right ≡ true → Agree form x y
 
--- in errors too, where each invisible group holds something
+-- two errors agree, if each invisible group holds a visible tree
 abbrev pub KeepsWords : {T : Type 0} → Takings T → (left right : Forest) → Result T Fault
     → Result T Fault → Type 0
 KeepsWords untold left right x y = Unit {0}
@@ -95,7 +100,7 @@ HasOneMessage untold r = Unit {0}
 HasOneMessage takes r = IfErr r (λ f. MemoryOr f (Unit {0}))
 
 -- The text of a source reads as a forest without invisible groups, which keeps what is stated, and
--- whose end is at a span of its own; or the grammar refuses it.
+-- whose end is at a span of its own; or the grammar rejects it.
 abbrev pub KeepsTextTo : {T : Type 0} → ℕ → (Forest → Span) → Takings T → List ℕ
     → Result T Fault → Type 0
 KeepsTextTo number end takes text r =
@@ -104,6 +109,6 @@ KeepsTextTo number end takes text r =
     ⊎ (((e : LexError) × grammar.IsRefused Plain number text e × IsRefused (lex_message e) r)
     ⊎ OnMemory r)
 
--- the same of source 0, whose end is at the call site
+-- a text as source 0, with its end at the call site
 abbrev pub KeepsText : {T : Type 0} → Takings T → List ℕ → Result T Fault → Type 0
 KeepsText = KeepsTextTo 0 (λ f. call_site)

@@ -29,15 +29,17 @@ abbrev pub ident_in : List Tree → Ident
 ident_in (leaf (ident text span) ∷ ts) = record { text = text; span = span }
 ident_in ts = record { text = []; span = call_site }
 
+-- the literal that trees begin with
 abbrev pub literal_in : List Tree → Literal
 literal_in (leaf (literal text span) ∷ ts) = record { text = text; span = span }
 literal_in ts = record { text = []; span = call_site }
 
+-- the punct that trees begin with
 abbrev pub punct_in : List Tree → Punct
 punct_in (leaf (punct c spacing span) ∷ ts) = record { ch = c; spacing = spacing; span = span }
 punct_in ts = record { ch = 0; spacing = Alone; span = call_site }
 
--- where an identifier is looked for: there is none, or one that is a keyword
+-- the text of the error at a missing identifier: there is none, or a keyword is next
 abbrev pub ident_missing : Option (List Tree × Forest) → List ℕ
 ident_missing None = codes "expected identifier"
 ident_missing (Some r) = codes "expected identifier, found keyword " ++ in_backquotes (name_in r.0)
@@ -47,13 +49,13 @@ abbrev pub lifetime_in : List Tree → Lifetime
 lifetime_in [] = record { apostrophe = call_site; ident = ident_in [] }
 lifetime_in (t ∷ ts) = record { apostrophe = tree_span t; ident = ident_in ts }
 
--- where a lifetime is looked for: there is none, or one whose name is a keyword
+-- the text of the error at a missing lifetime: there is none, or its name is a keyword
 abbrev pub lifetime_missing : Option (List Tree × Forest) → List ℕ
 lifetime_missing None = codes "expected lifetime"
 lifetime_missing (Some r) =
     codes "unexpected keyword lifetime \"'" ++ (name_in r.0 ++ codes "\"")
 
--- where a punctuation is missing: at the punct that is next, if one is, and else at what is next
+-- the position of a missing punctuation: the next punct if a punct is next, else the next token
 abbrev pub punct_position : Option (List Tree × Forest) → Forest → Position
 punct_position None f = at_trees f
 punct_position (Some r) f = at_span (span_in r.0)
@@ -74,6 +76,7 @@ take_ident =
     take_by (first_if (is_ident_of accept_as_ident)) ident_in
     (λ f. missing_next (ident_missing (first_if is_ident f)) f)
 
+-- takes a literal
 unfoldable pub take_literal : Taking Literal
 take_literal =
     take_by (first_if is_literal) literal_in (missing_next (codes "expected literal token"))
@@ -114,35 +117,44 @@ take_keyword k =
     take_by (first_keyword (keyword_text k)) (λ ts. record { span = span_in ts })
     (missing_next (expected (in_backquotes (keyword_text k))))
 
+-- takes the punctuation of this number
 unfoldable pub take_punctuation : (k n : ℕ) → Taking (Punctuation k n)
 take_punctuation k n =
     take_by (first_puncts (punctuation_word k n)) (λ ts. record { spans = map tree_span ts })
     (sign_missing (punctuation_word k n))
 
--- what a peek sees
+-- tests of the first of the visible trees ahead
 abbrev pub sees_ident : Ahead → Bool
 sees_ident a = ident_first a.trees
 
+-- an identifier of any text is first
 abbrev pub sees_any_ident : Ahead → Bool
 sees_any_ident a = any_ident_first a.trees
 
+-- a lifetime is first
 abbrev pub sees_lifetime : Ahead → Bool
 sees_lifetime a = lifetime_first a.trees
 
+-- a punct other than an apostrophe is first
 abbrev pub sees_punct : Ahead → Bool
 sees_punct a = punct_first a.trees
 
+-- `_` is first
 abbrev pub sees_underscore : Ahead → Bool
 sees_underscore a = underscore_first a.trees
 
+-- a literal is first
 abbrev pub sees_literal : Ahead → Bool
 sees_literal a = literal_first a.trees
 
+-- the keyword of this number is first
 abbrev pub sees_keyword : ℕ → Ahead → Bool
 sees_keyword k a = keyword_first k a.trees
 
+-- the punctuation of this number is first
 abbrev pub sees_punctuation : (k n : ℕ) → Ahead → Bool
 sees_punctuation k n a = punctuation_first k n a.trees
 
+-- a group with this delimiter is first
 abbrev pub sees_group : Delimiter → Ahead → Bool
 sees_group d a = group_first d a.trees

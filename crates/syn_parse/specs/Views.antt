@@ -8,7 +8,7 @@ use Rattle.syn_parse.specs.State.{State}
 use Rattle.syn_parse.specs.ErrorWords.{ident_words, lifetime_words, punctuation_message}
 use Rattle.syn_parse.specs.ErrorWords.{refused_at}
 
--- two streams refuse in the same words
+-- errors at two streams have equal texts
 pub record WordsAgree (s t : State) : Type 0 where
   pub refused : (words : List ℕ) → (refused_at s words).text ≡ (refused_at t words).text
   pub idents : ident_words (read_ident s.place) ≡ ident_words (read_ident t.place)
@@ -18,7 +18,7 @@ pub record WordsAgree (s t : State) : Type 0 where
   pub punctuations :
       (text : List ℕ) → (punctuation_message text s).text ≡ (punctuation_message text t).text
 
--- so do two streams at places with equal views
+-- errors at two streams have equal texts, if the views of their places are equal
 abbrev pub ViewsDecideWords : Type 0
 ViewsDecideWords =
     (b c : Laid) (s t : State) → SameView b c s.place t.place → WordsAgree s t

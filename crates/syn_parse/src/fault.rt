@@ -10,7 +10,7 @@ use std::fmt::{self, Display, Formatter, Write};
 use tok_buffer::Error;
 use tok_core::{Delimiter, Span};
 
-/// Why a call on a stream returns no value.
+/// The error of a call on a stream: the tokens are rejected, or an allocation failed.
 #[derive(Drop, Debug)]
 pub enum Fault {
     /// The tokens are rejected.

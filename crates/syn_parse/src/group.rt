@@ -26,16 +26,16 @@ pub struct Delimited<'a, T> {
     pub content: ParseBuffer<'a>,
 }
 
-/// Parentheses that have been entered.
+/// The token of parentheses, and the stream of their contents. `parse_parens` returns it.
 pub type Parens<'a> = Delimited<'a, token::Paren>;
 
-/// Braces that have been entered.
+/// The token of braces, and the stream of their contents. `parse_braces` returns it.
 pub type Braces<'a> = Delimited<'a, token::Brace>;
 
-/// Brackets that have been entered.
+/// The token of brackets, and the stream of their contents. `parse_brackets` returns it.
 pub type Brackets<'a> = Delimited<'a, token::Bracket>;
 
-/// An invisible group that has been entered.
+/// The token of an invisible group, and the stream of its contents. `parse_group` returns it.
 pub type Group<'a> = Delimited<'a, token::Group>;
 
 impl<'a, const D: usize> Delimited<'a, token::Visible<D>> {

@@ -1,20 +1,24 @@
-//! Laws of streams. Each is the contract of a function that does nothing.
+//! Laws of streams. Each is the contract of a function that does nothing, or makes one call.
 ghost use Rattle.syn_parse.specs.Laws.{ErrorsHaveOneSpan, ForksFollow, PeekTells, ScopesTell, VisibleParses};
 ghost use Rattle.syn_parse.specs.Progress.{ParsesGoOn};
 ghost use Rattle.syn_parse.specs.Reads.{Peeks2, Peeks3};
+ghost use Rattle.syn_parse.specs.Takes.{EntersAhead};
 ghost use Rattle.syn_parse.specs.Views.{ViewsDecideLookaheads, ViewsDecideWords};
-ghost use Rattle.tok_leaves.specs.Laws.{ClonesKeep};
+ghost use Rattle.tok_lexical.specs.Laws.{ClonesKeep};
+ghost use Rattle.tok_lexical.specs.declared.delimiter.Delimiter.TheVariants.{Brace, Bracket, Parenthesis};
 ghost use Rattle.tok_types.specs.Laws.{AreEqual, WriteNothing};
 ghost use Rattle.tok_types.specs.Views.{IgnoresInvisible};
 
+use crate::fault::Result;
 use crate::own::{Own, Word};
 use crate::parse::Parse;
 use crate::step::StepCursor;
-use crate::stream::Paused;
+use crate::stream::{ParseBuffer, ParseStream, Paused};
 use crate::tokens::Nothing;
 use std::hash::Hash;
 use tok_buffer::laws::reads_go_on;
 use tok_core::{Ident, Literal, Punct, TokenTree};
+use tok_types::token;
 use tok_types::token::{Keyword, Punctuation, Token, Underscore, Visible};
 
 /// Each parse of an identifier, lifetime, literal, punct, tree, group, keyword, punctuation or `_`
@@ -84,10 +88,11 @@ pub fn peeks_past_ignore_invisible<T: Token>()
     ensures third { IgnoresInvisible T.peeks → IgnoresInvisible (Peeks3 T.peeks) }
 {}
 
-/// All values of `Nothing` are equal, and write nothing to a hasher.
+/// All values of `Nothing` are equal, and write nothing to a hasher. A clone is one of them.
 pub fn nothings_are_equal()
     ensures equal { AreEqual ⟦<Nothing as PartialEq>⟧.eq }
     ensures hash { WriteNothing ⟦<Nothing as Hash>⟧.hash_input }
+    ensures clone { ClonesKeep ⟦<Nothing as Clone>⟧.is_clone }
 {}
 
 /// All keywords of one's own with one word are equal, and write nothing to a hasher.
@@ -101,9 +106,42 @@ pub fn clones_keep_own_keywords<W: Word>()
     ensures { ClonesKeep ⟦<Own<W> as Clone>⟧.is_clone }
 {}
 
-/// A clone of a paused stream, or of the argument of a step, is what was cloned: its place, its
-/// scope, and what it has recorded.
+/// A clone of a paused stream, or of the argument of a step, has the place, the scope and the
+/// leftover of the original.
 pub fn clones_keep_streams<'a>()
     ensures paused { ClonesKeep ⟦<Paused<'a> as Clone>⟧.is_clone }
     ensures cursors { ClonesKeep ⟦<StepCursor<'a> as Clone>⟧.is_clone }
 {}
+
+/// `parenthesized!` enters parentheses.
+pub fn parenthesized_enters_parentheses<'a>(
+    input: ParseStream<'_, 'a>,
+) -> Result<(token::Paren, ParseBuffer<'a>)>
+    ensures { EntersAhead (λ p. p.0.span) (λ p. p.1) Parenthesis input.old result input.new }
+{
+    let mut content;
+    let token = crate::parenthesized!(content in input);
+    Ok((token, content))
+}
+
+/// `braced!` enters braces.
+pub fn braced_enters_braces<'a>(
+    input: ParseStream<'_, 'a>,
+) -> Result<(token::Brace, ParseBuffer<'a>)>
+    ensures { EntersAhead (λ p. p.0.span) (λ p. p.1) Brace input.old result input.new }
+{
+    let mut content;
+    let token = crate::braced!(content in input);
+    Ok((token, content))
+}
+
+/// `bracketed!` enters brackets.
+pub fn bracketed_enters_brackets<'a>(
+    input: ParseStream<'_, 'a>,
+) -> Result<(token::Bracket, ParseBuffer<'a>)>
+    ensures { EntersAhead (λ p. p.0.span) (λ p. p.1) Bracket input.old result input.new }
+{
+    let mut content;
+    let token = crate::bracketed!(content in input);
+    Ok((token, content))
+}

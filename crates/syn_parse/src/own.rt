@@ -4,7 +4,7 @@ ghost use Rattle.tok_leaves.specs.Spans.{call_site};
 ghost use Rattle.tok_buffer.specs.Reads.{read_keyword};
 ghost use Rattle.tok_types.specs.Looks.{Finds, IsText};
 ghost use Rattle.tok_types.specs.Sees.{Sees};
-ghost use Rattle.tok_types.specs.Texts.{in_backquotes};
+ghost use Rattle.tok_types.specs.Texts.{in_backquotes, in_token};
 ghost use Rattle.syn_parse.specs.Owned.{own_first, own_word, take_own};
 ghost use Rattle.syn_parse.specs.Parses.{WordParses};
 ghost use Rattle.syn_parse.specs.Takes.{Takes};
@@ -104,7 +104,7 @@ impl<'a> ParseBuffer<'a> {
 
 /// The keyword with the text of `W`: an identifier of this text. All values of a type are equal.
 ///
-/// It is a token type as those of `token`: it can be parsed, looked for and written.
+/// It is a token type like those of `token`: it can be parsed, looked for and written.
 #[derive_where(Clone, Copy, PartialEq, Eq, Hash)]
 pub struct Own<W> {
     #[derive_where(skip(EqHashOrd))]
@@ -192,6 +192,8 @@ impl<W: Word> Display for Own<W> {
 
 /// Writes `Token![server]` for the text `server`.
 impl<W: Word> Debug for Own<W> {
+    ghost debug_output = { λ _. Some (in_token W.text) };
+
     fn fmt<F: Write>(&self, f: &mut Formatter<F>) -> fmt::Result {
         write!(f, "Token![{}]", W::text())
     }

@@ -13,7 +13,7 @@ use crate::stream::ParseBuffer;
 use tok_buffer::Cursor;
 use tok_core::TokenStream;
 
-/// What decides how far a run of visible trees goes: a state that each tree leads to the next one.
+/// A rule for how far a run of visible trees goes: a state, which each tree turns into the next.
 pub trait Run: Sized + Copy {
     // The state after the first of the visible trees ahead, or nothing if the run ends before it.
     ghost passes: { Self → Forest → Option Self };

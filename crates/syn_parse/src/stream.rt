@@ -393,6 +393,12 @@ impl Display for ParseBuffer<'_> {
 
 /// Writes the trees that are left, as `ParseBuffer(a b)`.
 impl Debug for ParseBuffer<'_> {
+    ghost use Rattle.std.specs.Prelude.{◌++◌, codes, Some};
+    ghost use Rattle.tok_buffer.specs.Rest.{rest};
+    ghost use Rattle.tok_core.specs.Text.{text};
+
+    ghost debug_output = { λ s. Some (codes "ParseBuffer(" ++ text (rest s.place) ++ codes ")") };
+
     fn fmt<W: Write>(&self, f: &mut Formatter<W>) -> fmt::Result {
         write!(f, "ParseBuffer({self})")
     }

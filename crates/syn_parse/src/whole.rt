@@ -3,7 +3,7 @@ ghost use Rattle.std.specs.Str.{chars};
 ghost use Rattle.tok_leaves.specs.Spans.{call_site};
 ghost use Rattle.syn_parse.specs.Parsers.{ParsesText, ParsesWhole, whole_stream};
 ghost use Rattle.syn_parse.specs.Sources.{KeepsSource, KeepsTextOf, ParsesSource, ParsesTextOf};
-ghost use Rattle.syn_parse.specs.Takings.{HasOneMessage, KeepsBoth, KeepsText, KeepsWhole, KeepsWords};
+ghost use Rattle.syn_parse.specs.Takings.{HasOneMessage, IsTold, KeepsBoth, KeepsText, KeepsWhole, KeepsWords};
 
 use crate::fault::Result;
 use crate::parse::Parse;
@@ -100,11 +100,16 @@ pub fn parse_source<T: Parse + Drop>(alloc: Global, edition: Edition, text: &str
 }
 
 /// Parses two streams. If they differ only in invisible groups, the results agree.
+///
+/// # Requires
+///
+/// The type must state what it takes. Of another, nothing could be said of both results.
 pub fn parse_both<T: Parse + Drop>(
     alloc: Global,
     left: TokenStream,
     right: TokenStream,
 ) -> (Result<T>, Result<T>)
+    requires { IsTold T.takes }
     ensures reads_left { ParsesWhole T.parses (whole_stream left call_site) result.0 }
     ensures reads_right { ParsesWhole T.parses (whole_stream right call_site) result.1 }
     ensures left { KeepsWhole T.takes left call_site result.0 }

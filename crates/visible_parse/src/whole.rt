@@ -1,6 +1,7 @@
 //! Whole streams, read by their visible tokens.
 ghost use Rattle.std.specs.Prelude.{◌≡◌};
 ghost use Rattle.syn_parse.specs.Parsers.{ParsesWhole, whole_stream};
+ghost use Rattle.syn_parse.specs.Takings.{IsTold};
 ghost use Rattle.tok_core.specs.Erase.{erase};
 ghost use Rattle.tok_leaves.specs.Spans.{call_site};
 ghost use Rattle.tok_pruned.specs.Pruned.{pruned};
@@ -60,6 +61,10 @@ pub fn parse_visible_with<P: Parser + Drop>(
 /// two errors, which have equal texts if a token is missing (`words`). This holds for every type
 /// that states what it takes, whatever invisible groups the streams have.
 ///
+/// # Requires
+///
+/// The type must state what it takes. Of another, nothing could be said of both results.
+///
 /// # Examples
 ///
 /// ```rust
@@ -72,6 +77,7 @@ pub fn parse_visible_both<T: Parse + Drop>(
     left: TokenStream,
     right: TokenStream,
 ) -> (Result<T>, Result<T>)
+    requires { IsTold T.takes }
     ensures reads_left { ParsesWhole T.parses (whole_stream (pruned left) call_site) result.0 }
     ensures reads_right { ParsesWhole T.parses (whole_stream (pruned right) call_site) result.1 }
     ensures left { KeepsVisible T.takes left result.0 }
