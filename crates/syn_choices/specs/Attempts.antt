@@ -64,7 +64,7 @@ attempt_weighs take unweighed = unweighed
 attempt_weighs take (lighter h) = lighter (lightens_attempt take h)
 attempt_weighs take (lower h) = lighter (lightens_attempt take (lightens_lower take h))
 
--- what an attempt of a type takes
+-- the value that an attempt of a type takes
 abbrev pub attempted : {T : Type 0} → Takings T → Takings (Option T)
 attempted untold = untold
 attempted (told form take weighs) =

@@ -15,7 +15,7 @@ use Rattle.syn_parse.specs.Takings.{told_filled, untold, unweighed}
 use Rattle.syn_parse.specs.TreesAhead.{Ahead}
 use Rattle.syn_punctuated.specs.Weighing.{weighing_lists}
 
--- the one is parsed where the peek is true, and the other where it is false
+-- the first is parsed if the peek is true, and the second if it is false
 abbrev pub EitherParses : {A B : Type 0} → (Place → Bool → Type 0) → Call A → Call B
     → Call (Either A B)
 EitherParses peeks there other s (Ok (Left v)) t = peeks s.place true × there s (Ok v) t
@@ -23,7 +23,7 @@ EitherParses peeks there other s (Ok (Right v)) t = peeks s.place false × other
 EitherParses peeks there other s (Err f) t =
     (peeks s.place true × there s (Err f) t) ⊎ (peeks s.place false × other s (Err f) t)
 
--- the one where the test is true, and else the other
+-- takes the first if the test is true, and the second if it is false
 unfoldable pub take_either : {A B : Type 0} → (Ahead → Bool) → Taking A → Taking B
     → Taking (Either A B)
 take_either test there other =

@@ -3,7 +3,7 @@ use Rattle.std.specs.Prelude.{◌⊎◌, Bool, true, false, ◌&&◌, ◌||◌, 
 use Rattle.tok_core.specs.Forest.{Forest}
 use Rattle.tok_buffer.specs.Place.{Place}
 
--- what a peek does at a place
+-- a peek: its result at a place
 abbrev pub Peeking : Type 1
 Peeking = Place → Bool → Type 0
 
@@ -17,7 +17,7 @@ abbrev pub EitherPeeks : Peeking → Peeking → Peeking
 EitherPeeks first second p true = first p true ⊎ (first p false × second p true)
 EitherPeeks first second p false = first p false × second p false
 
--- the peek is false where this one is true
+-- the peek is true if and only if this one is false
 abbrev pub NoPeek : Peeking → Peeking
 NoPeek peeks p found = peeks p (not found)
 

@@ -30,7 +30,7 @@ use tok_types::token::Token;
 pub trait ParseBufferExt {
     ghost state: { Self → State };
 
-    /// Parses a value if this token is next, which the value begins with, and else nothing.
+    /// Parses a value that begins with this token, or returns `None` if the token is not next.
     ///
     /// # Examples
     ///
@@ -42,7 +42,7 @@ pub trait ParseBufferExt {
             (state self.new) }
         ensures takes { Keeps (optional P.sees T.takes) (state self.old) result (state self.new) };
 
-    /// Parses an `A` if this token is next, with which the `A` begins, and else a `B`.
+    /// Parses an `A` that begins with this token, or a `B` if the token is not next.
     ///
     /// # Examples
     ///
@@ -55,7 +55,7 @@ pub trait ParseBufferExt {
         ensures takes { Keeps (either_of P.sees A.takes B.takes) (state self.old) result
             (state self.new) };
 
-    /// Parses a value if the next tokens are one, and else nothing.
+    /// Tries to parse a value, and returns `None` if its parser returns an error.
     ///
     /// The value is parsed on a fork. An error is lost, and the stream stays. An allocation failure
     /// is returned, and the stream stays. If the type's parser leaves the fork in another scope, as
@@ -140,9 +140,8 @@ pub trait ParseBufferExt {
             → Keeps (many_to_end (told (λ v. v) value (lower less))) (state self.old) result
             (state self.new) };
 
-    /// Parses a list in a group with this delimiter, as `parse_within` does by
-    /// `Punctuated::parse_terminated`. Returns the group's span and the list. The list is stated
-    /// after a call of the law `parses_go_on`.
+    /// Parses a group with this delimiter, and in it a list as `Punctuated::parse_terminated` does.
+    /// Returns the group's span and the list. To state the list, call the law `parses_go_on` first.
     ///
     /// # Requires
     ///

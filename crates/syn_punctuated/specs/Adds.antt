@@ -59,13 +59,13 @@ module _ {I A : Type 0} (steps : I → Option A → I → Type 0) where
   abbrev pub IsDone : I → Type 0
   IsDone it = (rest : I) × steps it None rest
 
--- what a call was handed becomes an iterator that gives an item
+-- the argument of a call becomes an iterator that yields an item
 abbrev pub GivesAny : {U I A : Type 0} → (U → I → Type 0) → (I → Option A → I → Type 0) → U → Type 0
 GivesAny {U} {I} {A} becomes steps items =
     (first : I) × (taken : List A) × (rest : I) × becomes items first
     × Yields steps first taken rest × GoesOn steps rest
 
--- what a call was handed becomes an iterator, of which steps are calls of `next`
+-- the argument of a call becomes an iterator, whose steps are calls of `next`
 module _ {U I X Y : Type 0} (becomes : U → I → Type 0) (steps : I → Option X → I → Type 0) where
   -- values that came of the iterator went after old, each as `push` adds it: all of them, or those
   -- before one that found no memory
@@ -88,7 +88,7 @@ module _ {U I X Y : Type 0} (becomes : U → I → Type 0) (steps : I → Option
 
 module _ {U I X Y : Type 0} (becomes : U → I → Type 0)
     (steps : I → Option (Pair X Y) → I → Type 0) where
-  -- the pairs taken are those before one at which a fault stopped: `AfterEnd` exactly where they
+  -- the pairs taken are those before one at which a fault stopped: `AfterEnd` if and only if they
   -- end bare
   abbrev pub StopsAt : List (Pair X Y) → I → PairsFault → Type 0
   StopsAt taken rest fault = GoesOn steps rest × ((fault ≡ AfterEnd) ↔ EndsBare taken)
@@ -105,8 +105,8 @@ module _ {U I X Y : Type 0} (becomes : U → I → Type 0)
     pub adds : AddsPairs old taken new
     pub ends : MatchResult result (λ _. IsDone steps rest) (StopsAt taken rest)
 
-  -- the same after old with a default separator after a bare last value; where that found no
-  -- memory, old stays
+  -- pairs are appended after old with a default separator after its bare last value; if the
+  -- allocation of that separator fails, old stays
   abbrev pub ExtendsAfterDefault : (Y → Type 0) → U → List' X Y → List' X Y →
       Result (Unit {0}) PairsFault → Type 0
   ExtendsAfterDefault IsDefault pairs old new result =

@@ -8,7 +8,7 @@ use Rattle.syn_punctuated.specs.declared.punctuated.Punctuated.{Punctuated}
 
 module _ {X Y : Type 0} (value : X → HashWrites) (separator : Y → HashWrites) where
   -- how many separators there are, and each with the value before it; and then the last value, if
-  -- it stands bare
+  -- the value is bare
   abbrev pub list_input : Punctuated X Y → HashWrites
   list_input list =
       fed.slice (λ p. value p.0 ++ separator p.1) (zip (values_of list) (separators_of list))

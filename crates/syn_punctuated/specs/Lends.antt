@@ -1,4 +1,4 @@
--- What a list ends as, where a `&mut` to one of its values is returned.
+-- What a list ends as, if a `&mut` to one of its values is returned.
 use Rattle.std.specs.Prelude.{◌≡◌, ℕ, Option, None, Some, OnSome, slice_get, slice_set, nat_lt}
 use Rattle.std.specs.Prelude.{if◌then◌else◌}
 use Rattle.std.specs.Global.{Vec, Box}
@@ -13,7 +13,7 @@ abbrev pub with_value_of : {X Y : Type 0} → Option (X × Y) → Vec (X × Y) �
 with_value_of None pairs index value = pairs
 with_value_of (Some pair) pairs index value = with_item pairs index (value, pair.1)
 
--- the same, where the pair is looked up
+-- the pairs with the value of the pair at index written over
 abbrev pub with_pair_value : {X Y : Type 0} → Vec (X × Y) → ℕ → X → Vec (X × Y)
 with_pair_value pairs index value = with_value_of (slice_get pairs.items index) pairs index value
 
@@ -42,7 +42,7 @@ module _ (T P : RattleType) (s : MutBor (Punctuated T.Denot P.Denot)) where
       Lends (the_row T P) T s r (λ w. record s.now { inner = with_pair_value s.now.inner index w })
 
   -- once the borrow r ends, the bare last value is the last one written through r; at `None` the
-  -- list stays as it is
+  -- list stays unchanged
   abbrev pub lends_last_value : Option (MutBor T.Denot) → Fml
   lends_last_value r =
       LendsIf (the_row T P) T s r (λ w. record s.now { last = with_last_value s.now.last w }) s.now

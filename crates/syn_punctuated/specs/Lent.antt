@@ -14,6 +14,10 @@ module _ {X Y : Type 0} where
       map pair_of (iter_mut_rest it.inner)
       ++ map end_of (option_to_list (option_copied_mut it.last))
 
-  -- the values that an `IterMut` has left
+  -- the pairs whose values an `IterMut` has left
+  abbrev pub lent_by_values : IterMut X Y → List (Pair X Y)
+  lent_by_values it = lent_pairs it.pairs
+
+  -- these values
   abbrev pub lent_values : IterMut X Y → List X
   lent_values it = map value_of_pair (lent_pairs it.pairs)

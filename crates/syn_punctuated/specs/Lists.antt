@@ -22,7 +22,7 @@ module _ {X Y : Type 0} where
   abbrev pub IsUnchanged : Punctuated X Y → Punctuated X Y → Type 0
   IsUnchanged old new = (values_of new ≡ values_of old) × (separators_of new ≡ separators_of old)
 
-  -- a default separator was added where old ended in a bare value
+  -- a default separator was added if old ended in a bare value
   pub record AddsDefault (IsDefault : Y → Type 0) (old new : Punctuated X Y) : Type 0 where
     pub trailing : length (values_of old) ≡ length (separators_of old) →
         separators_of new ≡ separators_of old

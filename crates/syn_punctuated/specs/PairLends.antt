@@ -1,4 +1,4 @@
--- What a pair ends as, where a `&mut` to one of its parts is returned.
+-- What a pair ends as, if a `&mut` to one of its parts is returned.
 use Rattle.std.specs.Prelude.{Option}
 use Rattle.std.specs.Borrow.{Lends, LendsIf, Fml, RattleType, MutBor}
 use Rattle.syn_punctuated.specs.declared.pair.Pair.{Pair}
@@ -21,6 +21,6 @@ module _ (T P : RattleType) (s : MutBor (Pair T.Denot P.Denot)) where
   LendsPairValue r = Lends (the_row T P) T s r (pair_with_value s.now)
 
   -- once the borrow r ends, the pair has the last separator written through r; at `None` it stays
-  -- as it is
+  -- unchanged
   abbrev pub LendsPairSeparator : Option (MutBor P.Denot) → Fml
   LendsPairSeparator r = LendsIf (the_row T P) P s r (pair_with_separator s.now) s.now

@@ -21,15 +21,16 @@ module _ {X Y : Type 0} where
   abbrev pub pair_of : X × Y → Pair X Y
   pair_of both = Punctuated both.0 both.1
 
+  -- the pair of a bare last value
   abbrev pub end_of : X → Pair X Y
   end_of x = End x
 
-  -- what a pair of references points to
+  -- the pair that a pair of references points to
   abbrev pub deref_both : Pair (Bor X) (Bor Y) → Pair X Y
   deref_both (Punctuated x y) = Punctuated x.now y.now
   deref_both (End x) = End x.now
 
-  -- the same where the references may be written through
+  -- the pair that a pair of references for writing points to
   abbrev pub deref_both_mut : Pair (MutBor X) (MutBor Y) → Pair X Y
   deref_both_mut (Punctuated x y) = Punctuated x.now y.now
   deref_both_mut (End x) = End x.now
@@ -41,7 +42,14 @@ equal_pairs value separator (Punctuated x y) (Punctuated v w) = value x v && sep
 equal_pairs value separator (End x) (End v) = value x v
 equal_pairs value separator left right = false
 
--- what a pair feeds to a hasher: whether it has a separator, and its parts
+-- a clone of a pair has clones of its parts, and a separator if the pair has one
+abbrev pub clones_pair : {X Y : Type 0} → (X → X → Type 0) → (Y → Y → Type 0) → Pair X Y →
+    Pair X Y → Type 0
+clones_pair value separator (Punctuated x y) (Punctuated v w) = value x v × separator y w
+clones_pair value separator (End x) (End v) = value x v
+clones_pair value separator pair clone = ⊥
+
+-- the input of a hasher from a pair: whether it has a separator, and its parts
 abbrev pub pair_input : {X Y : Type 0} → (X → HashWrites) → (Y → HashWrites) → Pair X Y →
     HashWrites
 pair_input value separator (Punctuated x y) = fed.isize (pos 0) ++ value x ++ separator y

@@ -71,20 +71,20 @@ pub data InGroup {A : Type 0} (d : Delimiter) (Is : Part A)
 abbrev pub IsGroup : Delimiter → Part (DelimSpan × Forest)
 IsGroup d = InGroup d IsRest
 
--- such a part; or nothing, where what it begins with is not next
+-- such a part; or nothing, if its first part is not next
 pub data Optional {A B : Type 0} (First : Part B) (Is : Part A)
     : Forest → Option A → Forest → Type 0 where
   absent : {f : Forest} → No First f → Optional First Is f None f
   present : {f g : Forest} {v : A} → Is f v g → Optional First Is f (Some v) g
 
--- such parts, up to where what they begin with is not next
+-- such parts, until their first part is not next
 pub data Many {A B : Type 0} (First : Part B) (Is : Part A)
     : Forest → List A → Forest → Type 0 where
   no_more : {f : Forest} → No First f → Many First Is f [] f
   and_more : {f g h : Forest} {v : A} {vs : List A} → Is f v g → Many First Is g vs h
       → Many First Is f (v ∷ vs) h
 
--- such parts, one or more, with a separator between them, up to where no separator is next
+-- such parts, one or more, with a separator between them, until no separator is next
 pub data Separated {A P : Type 0} (Is : Part A) (Separates : Part P)
     : Forest → List A × List P → Forest → Type 0 where
   one : {f g : Forest} {v : A} → Is f v g → No Separates g

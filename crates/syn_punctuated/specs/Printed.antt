@@ -5,7 +5,7 @@ use Rattle.syn_punctuated.specs.declared.pair.Pair.{Pair}
 use Rattle.syn_punctuated.specs.declared.pair.Pair.TheVariants.{Punctuated, End}
 
 module _ {X Y : Type 0} (value : X → Forest) (separator : Y → Forest) where
-  -- values and separators by turns, a value first
+  -- values and separators in turn, a value first
   abbrev pub by_turns : List X → List Y → Forest
   by_turns [] ys = no_trees
   by_turns (x ∷ xs) [] = concat (value x) (by_turns xs [])

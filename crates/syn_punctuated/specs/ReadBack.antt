@@ -1,4 +1,4 @@
--- What is read where the trees of a value are in front.
+-- What is read if the trees of a value are next.
 use Rattle.std.specs.Prelude.{◌≡◌, ℕ, ◌<◌, true, false, List, [], ◌∷◌, length, Result, Ok, Err}
 use Rattle.std.specs.List.{All}
 use Rattle.tok_core.specs.Forest.{Forest, no_trees, concat}
@@ -27,7 +27,7 @@ module _ {T : Type 0} (parses : Call T) (printed : T → Forest) where
       × ((d : ℕ) × (q : Forest) × (c < d) × (to ≡ moved (flat o n s d q f) from))
   ReadsAs x o n s c f from (Err e) to = IsMemory e
 
-  -- Where the trees of x are in front, whatever follows them, x is read.
+  -- If the trees of x are next, whatever comes after them, x is read.
   pub record IsReadBack (x : T) : Type 0 where
     pub some : (o : Enclosing) (n s c : ℕ) (p f : Forest)
         → is_at_end (flat o n s c p (concat (printed x) f)) ≡ false

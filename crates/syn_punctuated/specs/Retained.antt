@@ -24,7 +24,7 @@ module _ {S X : Type 0} (R : S → X → Bool → S → X → Type 0) where
 abbrev pub TakesAtMut : {S X A : Type 0} → Mut S (MutBor X × Unit {0}) A → S → X → Type 0
 TakesAtMut {S} {X} calls f x = (lent : MutBor X) → lent.now ≡ x → calls.pre f (lent, tt)
 
--- what the run left of the values at which it returned true
+-- the values at which the run returned true, as it left them
 abbrev pub kept_values : {X : Type 0} → List (Bool × X) → List X
 kept_values [] = []
 kept_values (z ∷ zs) = cond z.0 (z.1 ∷ kept_values zs) (kept_values zs)
@@ -48,9 +48,9 @@ module _ {S X Y : Type 0} (R : S → X → Bool → S → X → Type 0) where
   RetainsPairs s old new t =
       (run : List (Bool × X)) × RunsOver R s (map (λ p. p.0) old) run t × (new ≡ kept_pairs run old)
 
-  -- new is what a run from s kept of old: the values kept, each with the separator after it; where
-  -- old ended in a bare value the last value kept is bare too, so the separators are one fewer
-  -- than the values
+  -- new has the values of old that a run from s kept, each with the separator after it. If old
+  -- ended in a bare value, the last value kept is bare too, so the separators are one fewer than
+  -- the values.
   pub record Retains (s : S) (old new : Punctuated X Y) : Type 0 where
     pub run : List (Bool × X)
     pub ends : S

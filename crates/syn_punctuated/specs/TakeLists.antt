@@ -14,8 +14,8 @@ use Rattle.syn_punctuated.specs.Lists.{values_of, separators_of}
 use Rattle.syn_punctuated.specs.Turns.{ValueCall}
 use Rattle.syn_punctuated.specs.declared.punctuated.Punctuated.{Punctuated}
 
--- Values and separators in turn, at most so many: another turn begins where the first test is true,
--- and a separator follows a value where the second is.
+-- Values and separators in turn, at most so many: another turn begins if the first test is true,
+-- and a separator follows a value if the second is.
 abbrev pub take_turns : {A P : Type 0} → ℕ → (begins goes_on : Ahead → Bool) → Taking A → Taking P
     → Taking (List A × List P)
 take_turns zero begins goes_on value sign = refuses []
@@ -37,6 +37,7 @@ take_list begins goes_on value sign a =
 abbrev pub is_left : Ahead → Bool
 is_left a = not (is_spent a)
 
+-- a test that is always true
 abbrev pub always : Ahead → Bool
 always a = true
 
@@ -53,7 +54,7 @@ take_separated sees value sign = take_list always sees value sign
 abbrev pub list_form : {T P A S : Type 0} → (T → A) → (P → S) → Punctuated T P → List A × List S
 list_form value sign list = (map value (values_of list), map sign (separators_of list))
 
--- what a separator's parse does, and what it takes
+-- the parse of a separator, and what it takes
 abbrev pub Separates : {P : Type 0} → Call P → Takings P → Call P
 Separates parses takes s r t = parses s r t × Keeps takes s r t
 
@@ -75,7 +76,7 @@ terminated_list (told_filled form value (lower h)) (told shape sign (lower k)) =
     told_filled (list_form form shape) (take_terminated value sign) unweighed
 terminated_list values signs = untold
 
--- the same of a list that ends where no separator is next
+-- what a separated list takes, which ends if no separator is next
 abbrev pub separated_list : {T P : Type 0} → Option (Forest → Bool) → Takings T → Takings P
     → Takings (Punctuated T P)
 separated_list (Some sees) (told form value (lighter h)) (told shape sign (lower k)) =

@@ -37,7 +37,7 @@ StatesTrees {T = T} parses sources =
     → (ts : List Tree) × IsOneOf (sources v) ts × Passes ts s t
 
 module _ {T P : Type 0} (values : T → List (List Tree)) (separators : P → List (List Tree)) where
-  -- the trees are those of the values and the separators by turns, a value first
+  -- the trees are those of the values and the separators in turn, a value first
   abbrev pub AreTreesOf : List T → List P → List Tree → Type 0
   AreTreesOf [] ys ts = (ys ≡ []) × (ts ≡ [])
   AreTreesOf (x ∷ xs) [] ts = (xs ≡ []) × IsOneOf (values x) ts
@@ -50,8 +50,8 @@ module _ {T P : Type 0} (values : T → List (List Tree)) (separators : P → Li
   PassesList list from to =
       (ts : List Tree) × AreTreesOf (values_of list) (separators_of list) ts × Passes ts from to
 
-  -- A list that is returned has the values and the separators of the trees that were passed, where
-  -- both parsers state what they read; and a terminated list leaves nothing.
+  -- A list that is returned has the values and the separators of the trees that were passed, if
+  -- both parsers state what they read. A terminated list leaves nothing.
   abbrev pub ListsHaveTheirTrees :
       (value_parses : Call T) (separator_parses : Call P) (peeks : Place → Bool → Type 0) → Type 0
   ListsHaveTheirTrees value_parses separator_parses peeks =

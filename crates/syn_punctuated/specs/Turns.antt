@@ -1,4 +1,4 @@
--- What a run of a list parser is: turns, each from where the one before ended, and an ending.
+-- A run of a list parser: turns, each of which starts where the last one ended, and an ending.
 use Rattle.std.specs.Prelude.{◌≡◌, Bool, true, false, List, [], ◌∷◌, ◌++◌, map, Result, Ok, Err}
 use Rattle.std.specs.Prelude.{codes}
 use Rattle.tok_buffer.specs.Place.{Place, is_at_end}
@@ -17,8 +17,8 @@ use Rattle.syn_punctuated.specs.declared.punctuated.Punctuated.{Punctuated}
 abbrev pub ValueCall : Type 0 → Type 0 → Type 1
 ValueCall F T = F → State → Result T Fault → F → State → Type 0
 
--- where a turn begins, and where the list ends without another one; where a separator follows a
--- value, and where the list ends with the value
+-- the places at which a turn begins, or the list ends without another one; and those at which a
+-- separator follows a value, or the list ends with the value
 pub record Rule : Type 1 where
   pub begins : Place → Type 0
   pub ends : Place → Type 0
@@ -34,7 +34,7 @@ terminated = record {
   stops = λ p. is_at_end p ≡ true;
 }
 
--- always a value, and a separator after it where the separator's peek is true
+-- always a value, and a separator after it if the separator's peek is true
 abbrev pub separated : (peeks : Place → Bool → Type 0) → Rule
 separated peeks = record {
   begins = λ _. Unit {0};
@@ -52,9 +52,11 @@ pub record Turn (T P F : Type 0) : Type 0 where
   pub separator : P
   pub after : State
 
+-- the value of a turn
 abbrev pub turn_value : {T P F : Type 0} → Turn T P F → T
 turn_value turn = turn.value
 
+-- the separator of a turn
 abbrev pub turn_separator : {T P F : Type 0} → Turn T P F → P
 turn_separator turn = turn.separator
 
@@ -112,11 +114,11 @@ module _ {T P F : Type 0} (rule : Rule) (reads : ValueCall F T) (separates : Cal
     separator_refused :
         (v : T) (g : F) (m : State) (e : Fault) → Begins f s (Ok v) g m → rule.goes_on m.place
         → separates m (Err e) t → result ≡ Err e → Ending f s turns result t
-    -- with an allocation failure, where a value that no separator follows is kept
+    -- with an allocation failure for a value that no separator follows
     value_lost :
         (v : T) (g : F) (e : Fault) → Begins f s (Ok v) g t → rule.stops t.place → IsMemory e
         → result ≡ Err e → Ending f s turns result t
-    -- with an allocation failure, where a full turn is kept
+    -- with an allocation failure for a full turn
     turn_lost :
         (turn : Turn T P F) (e : Fault) → IsTurn f s turn → t ≡ turn.after → IsMemory e
         → result ≡ Err e → Ending f s turns result t

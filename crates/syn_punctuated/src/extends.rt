@@ -12,7 +12,7 @@ use crate::punctuated::Punctuated;
 use std::alloc::{AllocError, Global};
 use std::fmt;
 
-/// Why not all pairs were added.
+/// The error of a call that adds pairs, and could not add all.
 #[derive(Clone, Copy, Debug, PartialEq, Eq)]
 pub enum PairsFault {
     /// P1: a pair follows one without a separator.

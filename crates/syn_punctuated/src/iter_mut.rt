@@ -2,7 +2,7 @@
 ghost use Rattle.std.specs.Prelude.{◌≡◌, length, IfSome};
 ghost use Rattle.std.specs.Iterator.{UpTo};
 ghost use Rattle.std.specs.Iterator.SizeHint.{IsWithinCount};
-ghost use Rattle.syn_punctuated.specs.Lists.{values_of};
+ghost use Rattle.syn_punctuated.specs.Lists.{values_of, separators_of};
 
 use crate::pair::Pair;
 use crate::pairs_mut::PairsMut;
@@ -10,11 +10,14 @@ use crate::punctuated::Punctuated;
 use std::iter::FusedIterator;
 
 impl<T, P> Punctuated<T, P> {
-    ghost use Rattle.syn_punctuated.specs.Lent.{lent_values};
+    ghost use Rattle.syn_punctuated.specs.Lent.{lent_by_values, lent_values};
+    ghost use Rattle.syn_punctuated.specs.Paired.{paired};
 
     /// Returns an iterator over the values in order, for writing.
     pub fn iter_mut(&mut self) -> IterMut<'_, T, P>
-        ensures { lent_values result ≡ values_of self.old }
+        ensures values { lent_values result ≡ values_of self.old }
+        ensures pairs { lent_by_values result
+            ≡ paired (values_of self.old) (separators_of self.old) }
     {
         IterMut {
             pairs: self.pairs_mut(),

@@ -5,18 +5,20 @@ ghost use Rattle.std.specs.Cmp.Lexicographic.{pointwise};
 ghost use Rattle.std.specs.Fn.{CalledAtMut};
 ghost use Rattle.std.specs.List.{All};
 ghost use Rattle.tok_core.specs.Forest.{Tree};
+ghost use Rattle.tok_lexical.specs.Laws.{ClonesKeep, EqualAsValues};
 ghost use Rattle.tok_leaves.specs.declared.ident.Ident.{Ident};
 ghost use Rattle.tok_types.specs.declared.punctuation.Punctuation.{Punctuation};
 ghost use Rattle.syn_punctuated.specs.Hashed.{list_input};
 ghost use Rattle.syn_punctuated.specs.Lends.{with_value, WritesValue};
 ghost use Rattle.syn_punctuated.specs.Lists.{values_of, separators_of, is_trailing};
-ghost use Rattle.syn_punctuated.specs.Pairs.{equal_pairs, pair_input};
+ghost use Rattle.syn_punctuated.specs.Pairs.{clones_pair, equal_pairs, pair_input};
 ghost use Rattle.syn_punctuated.specs.declared.pair.Pair.{Pair};
 ghost use Rattle.syn_punctuated.specs.ReadBack.{IsAccepted, IsInTable, IsReadBack, ListsAreReadBack, ReadsAgain};
 ghost use Rattle.syn_punctuated.specs.Retained.{Retains};
 ghost use Rattle.syn_punctuated.specs.Trees.{ListsHaveTheirTrees, StatesTrees, ident_sources, punctuation_sources};
 ghost use Rattle.syn_punctuated.specs.declared.punctuated.Punctuated.{Punctuated};
 
+use crate::extends::PairsFault;
 use crate::pair::Pair;
 use crate::punctuated::Punctuated;
 use std::alloc::Global;
@@ -55,6 +57,20 @@ pub fn pairs_are_compared_by_parts<T: Hash + PartialEq, P: Hash + PartialEq>()
         ≡ equal_pairs T.PartialEq.eq P.PartialEq.eq left right }
     ensures hash { (pair : Pair T P) → ⟦<Pair<T, P> as Hash>⟧.hash_input pair
         ≡ pair_input T.hash_input P.hash_input pair }
+{}
+
+/// A clone of a pair has clones of its parts, and a separator if and only if the pair has one.
+pub fn clones_keep_pairs<T: Clone, P: Clone>()
+    ensures { (pair : Pair T P) (clone : Pair T P)
+        → ⟦<Pair<T, P> as Clone>⟧.is_clone pair clone
+        → clones_pair T.is_clone P.is_clone pair clone }
+{}
+
+/// The reasons why pairs are not added are equal if and only if they are the same, and a clone is
+/// the reason that was cloned.
+pub fn pair_faults_are_compared_whole()
+    ensures equal { EqualAsValues ⟦<PairsFault as PartialEq>⟧.eq }
+    ensures clones { ClonesKeep ⟦<PairsFault as Clone>⟧.is_clone }
 {}
 
 /// After `retain`, a list that isn't empty ends in a separator if and only if it did before.

@@ -16,7 +16,7 @@ use syn_parse::{Fault, Parse, ParseBuffer, ParseStream, Result};
 use tok_buffer::laws::staying_adds_nothing;
 use tok_buffer::{Cursor, Error};
 
-/// When a list with separators of type `P` goes on.
+/// A rule that says when a list with separators of type `P` goes on.
 pub(crate) trait ListRule<P> {
     ghost rule: { Rule };
 
@@ -68,7 +68,7 @@ where
     }
 }
 
-/// What one turn yields.
+/// The result of one turn.
 #[derive(Drop)]
 enum Piece<T, P> {
     /// The list ends without another value.

@@ -77,7 +77,8 @@ impl<T: Drop, P: Parse + Token + Drop> Punctuated<T, P> {
 impl<T: Parse + Drop, P: Parse + Token + Drop> Punctuated<T, P> {
     /// Parses a value, and another after each separator, while a separator is next.
     ///
-    /// It ends and fails as `parse_separated_nonempty_with` does.
+    /// It ends and fails as `parse_separated_nonempty_with` does. It states what it takes only if the
+    /// values' type states that no more is ahead after a value (`lighter` or `lower`).
     ///
     /// # Examples
     ///

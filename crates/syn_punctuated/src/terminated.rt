@@ -75,7 +75,8 @@ impl<T: Parse + Drop, P: Parse + Drop> Punctuated<T, P> {
     /// Parses values, each followed by a separator, to the end of the stream. The last separator
     /// may be missing.
     ///
-    /// It ends and fails as `parse_terminated_with` does.
+    /// It ends and fails as `parse_terminated_with` does. It states what it takes only if the values'
+    /// type states that no more is ahead after a value (`lighter` or `lower`).
     ///
     /// # Examples
     ///

@@ -18,8 +18,8 @@ Keeps pairs v (Ok list) =
 Keeps pairs v (Err e) = IsMemory e
 
 module _ {T P F : Type 0} (rule : Rule) (reads : ValueCall F T) (separates : Call P) where
-  -- nothing where the list ends; a value that no separator follows; a full turn; or the error of
-  -- a value or a separator
+  -- nothing if the list ends; a value that no separator follows; a full turn; or the error of a
+  -- value or a separator
   abbrev pub IsPiece : ValueCall F (Piece T P)
   IsPiece f s (Ok End) g t = rule.ends s.place × (g ≡ f) × (t ≡ s)
   IsPiece f s (Ok (Bare v)) g t =

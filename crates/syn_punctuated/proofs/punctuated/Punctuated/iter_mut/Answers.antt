@@ -7,4 +7,4 @@ pub returns : goal.returns
 returns g c =
     let list = c.args.self.now in
     let values = paired-values (values_of list) (separators_of list) in
-    search (rules, values)
+    record { values = search (rules, values); pairs = search rules }
