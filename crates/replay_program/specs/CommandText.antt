@@ -20,11 +20,12 @@ use Rattle.syn_replay.specs.Kinds.{Kind, ident, ident_any, lifetime, lifetime_an
 use Rattle.syn_replay.specs.Kinds.{underscore, keyword, punctuation, Look, paren, brace, bracket}
 use Rattle.syn_replay.specs.Kinds.{the_end, invisible_group, group_tree, any_tree}
 
+-- the list is empty
 abbrev pub is_empty : {A : Type 0} → List A → Bool
 is_empty [] = true
 is_empty (x ∷ xs) = false
 
--- what spaces part
+-- the parts between spaces
 abbrev pub words : List ℕ → List (List ℕ)
 words line = filter (λ word. not (is_empty word)) (slice_split (λ b. b == 32) line)
 
@@ -32,6 +33,7 @@ words line = filter (λ word. not (is_empty word)) (slice_split (λ b. b == 32) 
 abbrev pub is_number : List ℕ → Bool
 is_number word = not (is_empty word) && (nat_le (length word) 9 && all_ascii_digits word)
 
+-- the number that a word is
 abbrev pub number : List ℕ → Option ℕ
 number word = cond (is_number word) (Some (digits_value 10 word)) None
 
@@ -43,7 +45,7 @@ token word =
       | None ↦ option_map punctuation (number_in punctuations word)
     ]
 
--- what a table has for a name, or else another value
+-- the value of a name in a table, or else another value
 abbrev pub by_name : {A : Type 0} → List (List ℕ × A) → (otherwise : A) → List ℕ → A
 by_name [] otherwise word = otherwise
 by_name (row ∷ rows) otherwise word =
@@ -57,6 +59,7 @@ kind_names =
     ∷ (codes "Literal", Some literal) ∷ (codes "Punct", Some punct)
     ∷ (codes "_", Some underscore) ∷ []
 
+-- the kind that a word names
 abbrev pub kind : List ℕ → Option Kind
 kind word = by_name kind_names (token word) word
 
@@ -67,6 +70,7 @@ look_names =
     ∷ (codes "End", Some the_end) ∷ (codes "Group", Some invisible_group)
     ∷ (codes "GroupTree", Some group_tree) ∷ (codes "Tree", Some any_tree) ∷ []
 
+-- the look that a word names
 abbrev pub look : List ℕ → Option Look
 look word = by_name look_names (option_map looks.kind (kind word)) word
 
@@ -76,6 +80,7 @@ all_looks [] = Some []
 all_looks (word ∷ rest) =
     option_and_then (λ l. option_map (λ ls. l ∷ ls) (all_looks rest)) (look word)
 
+-- the delimiter that a word is
 abbrev pub delimiter : List ℕ → Option Delimiter
 delimiter =
     by_name

@@ -59,7 +59,7 @@ comparison_text c =
     report_text c.left
     ++ (ended (codes "---") ++ (report_text c.right ++ (ended (codes "---") ++ facts_text c.facts)))
 
--- 0 where a verdict accepts, 1 where it refuses; of two, 1 where one refuses
+-- 0 if a verdict accepts, 1 if it rejects; of two, 1 if one rejects
 abbrev pub verdict_status : Verdict → ℕ
 verdict_status accepted = 0
 verdict_status (left_over r) = 1
@@ -68,7 +68,7 @@ abbrev pub both_status : Verdict → Verdict → ℕ
 both_status accepted v = verdict_status v
 both_status (left_over r) v = 1
 
--- what the program prints: one report, or two that are compared
+-- the output of the program: one report, or two that are compared
 pub data Outcome : Type 0 where
   reported : Report → Outcome
   compared : Comparison → Outcome

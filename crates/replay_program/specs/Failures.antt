@@ -1,5 +1,5 @@
 -- Reads and writes: those that go on, those that end, and those that fail.
-use Rattle.std.specs.Prelude.{◌≡◌, ◌≢◌, ◌<◌, ◌⊎◌, ℕ, zero, suc, Result, Ok, Err}
+use Rattle.std.specs.Prelude.{◌≡◌, ◌≢◌, ◌<◌, ◌≤◌, ◌⊎◌, ℕ, zero, suc, Result, Ok, Err}
 use Rattle.std.specs.IoError.{error_kind}
 use Rattle.std.specs.declared.io.Error.{Error}
 use Rattle.std.specs.declared.io.ErrorKind.TheVariants.{Interrupted}
@@ -25,16 +25,20 @@ pub record Reading : Type 1 where
   pub part : Type 0
   pub failed : Type 0
 
--- after some reads that went on, one found the end, or none came, or one failed; or 4,294,967,295
--- of them came to no end
+-- the most reads of a source
+abbrev pub most_reads : ℕ
+most_reads = 4294967295
+
+-- After some reads that went on, one found the end, or none came, or one failed; or the most reads
+-- came to no end. There were no more than these.
 abbrev pub reading : {S : Type 0} → (S → Result ℕ Error → S → Type 0) → S → S → Reading
 reading {S} reads s t =
     record {
-      whole = (n : ℕ) × (mid : S) × Calls reads n s mid × reads mid (Ok 0) t;
-      part = (n : ℕ) × Calls reads n s t;
+      whole = (n : ℕ) × (mid : S) × (n < most_reads) × Calls reads n s mid × reads mid (Ok 0) t;
+      part = (n : ℕ) × (n ≤ most_reads) × Calls reads n s t;
       failed =
           (n : ℕ) × (mid : S) × Calls reads n s mid
-          × (HasFailed reads mid t ⊎ ((n ≡ 4294967295) × (mid ≡ t)));
+          × (((n < most_reads) × HasFailed reads mid t) ⊎ ((n ≡ most_reads) × (mid ≡ t)));
     }
 
 -- all was read before

@@ -25,12 +25,12 @@ unreadable_text (Right error) =
     ++ (decimal (error_number error) ++ (codes " at " ++ decimal (error_byte error)))
 unreadable_text (Command n) = codes "unreadable: command " ++ decimal n
 
--- what the fault of a text is for the program
+-- the program's fault for that of a text
 abbrev pub fault_of : LexFault → Fault
 fault_of (lexical.Refused error) = faults.Unreadable (Text error)
 fault_of lexical.Memory = faults.Memory
 
--- what the fault of the second of two texts is
+-- the program's fault for that of the second of two texts
 abbrev pub right_fault_of : LexFault → Fault
 right_fault_of (lexical.Refused error) = faults.Unreadable (Right error)
 right_fault_of lexical.Memory = faults.Memory

@@ -5,7 +5,7 @@ use Rattle.std.specs.List.{slice_split, flat_map}
 use denote.Ref.{Bor}
 use Rattle.syn_replay.specs.ReportText.{ended}
 
--- what is between the line feeds
+-- the parts between line feeds
 abbrev pub lines : List ℕ → List (List ℕ)
 lines bytes = slice_split (λ b. b == 10) bytes
 
@@ -27,7 +27,7 @@ texts_in parts = None
 abbrev pub parts_of : List ℕ → Option (List ℕ × Option (List ℕ) × List (List ℕ))
 parts_of bytes = texts_in (slice_split is_cut (lines bytes))
 
--- the lines of what is left of a text, where something is
+-- the lines of the rest of a text, if there is a rest
 abbrev pub lines_left : Option (Bor (List ℕ)) → List (List ℕ)
 lines_left None = []
 lines_left (Some rest) = lines rest.now

@@ -28,6 +28,7 @@ HasParts bytes text other lines = IsUtf8 bytes × (parts_of bytes ≡ Some (text
 abbrev pub IsForest : List ℕ → Forest → Type 0
 IsForest text forest = Reads Marked 0 (chars text) forest
 
+-- the second text reads as this forest, or there is none
 abbrev pub IsOther : Option (List ℕ) → Option Forest → Type 0
 IsOther None None = ⊤
 IsOther (Some text) (Some forest) = IsForest text forest
@@ -39,7 +40,7 @@ HasForests bytes forest more lines =
     (text : List ℕ) × (other : Option (List ℕ)) × HasParts bytes text other lines
     × IsForest text forest × IsOther other more
 
--- the second text is refused
+-- the second text is rejected
 abbrev pub IsUnreadableOther : Option (List ℕ) → Unreadable → Type 0
 IsUnreadableOther (Some text) (Right error) = IsRefused Marked 0 (chars text) error
 IsUnreadableOther text why = ⊥
@@ -59,7 +60,7 @@ IsUnreadable bytes (unreadable.Command n) =
     (forest : Forest) × (more : Option Forest) × (lines : List (List ℕ))
     × HasForests bytes forest more lines × (unreadable_line lines ≡ Some n)
 
--- what comes of one forest, or of two, under these commands
+-- the outcome of one forest, or of two, under these commands
 abbrev pub IsOutcome : Forest → Option Forest → List Command → Outcome → Type 0
 IsOutcome forest None commands (reported r) = r ≡ walk forest commands
 IsOutcome left (Some right) commands (compared c) = Compares left right commands c
@@ -72,7 +73,7 @@ HasOutcome bytes o =
     × HasForests bytes forest more lines × (unreadable_line lines ≡ None)
     × IsOutcome forest more (commands_in lines) o
 
--- what comes of the input, with 0 or 1, or one line with 2
+-- the outcome of the input, with status 0 or 1, or one line with 2
 abbrev pub Prints : List ℕ → List ℕ → ℕ → Type 0
 Prints bytes printed status =
     ((o : Outcome) × HasOutcome bytes o × (printed ≡ outcome_text o) × (status ≡ outcome_status o))
@@ -98,7 +99,7 @@ IsUnreadableFor bytes (unreadable.Command n) =
     IsUtf8 bytes × (unreadable_line (lines bytes) ≡ Some n)
 IsUnreadableFor bytes why = ⊥
 
--- what comes of a forest under lines of commands, with 0 or 1, or one line with 2
+-- the outcome of a forest under lines of commands, with status 0 or 1, or one line with 2
 abbrev pub PrintsFor : Forest → List ℕ → List ℕ → ℕ → Type 0
 PrintsFor forest bytes printed status =
     ((o : Outcome) × HasOutcomeFor forest bytes o × (printed ≡ outcome_text o)
@@ -109,7 +110,7 @@ PrintsFor forest bytes printed status =
 
 -- of how the source was read, and how the sink was written to
 module _ (read : Reading) (written : Writing) where
-  -- memory was refused, and one line says so with 3; or a read failed, and nothing went out
+  -- an allocation failed, and one line says so with 3; or a read failed, and nothing went out
   abbrev pub Fails : ℕ → Option (List ℕ) → Option (List ℕ) → Type 0
   Fails status old new =
       ((read.whole ⊎ read.part) × GoesOut written (ended (codes "memory")) 3 status old new)

@@ -12,7 +12,8 @@ use std::fmt::{Formatter, Write};
 use syn_replay::{BothTexts, Command, Verdict, is_transparent, replay_both_texts};
 use tok_core::{TokenStream, is_clear, is_filled, same_visible};
 
-/// What holds of two texts and the commands. Each fact is about both texts, or about all commands.
+/// Five facts about two texts and a list of commands. Each is about both texts, or about all
+/// commands.
 #[derive(Clone, Copy)]
 pub struct Facts {
     /// Both texts are equal once their invisible groups are erased.
@@ -23,11 +24,11 @@ pub struct Facts {
     pub clear: bool,
     /// Every command is transparent.
     pub transparent: bool,
-    /// The reports agree.
+    /// Whether the reports agree.
     pub agree: bool,
 }
 
-/// The texts of the reports on two texts, their verdicts, and what holds of both.
+/// The reports on two texts as they are printed, their verdicts, and five facts about them.
 #[derive(Drop)]
 pub struct Comparison {
     /// The text of the report on the first text.
@@ -38,7 +39,7 @@ pub struct Comparison {
     pub left_verdict: Verdict,
     /// The verdict on the second text.
     pub right_verdict: Verdict,
-    /// What holds of both.
+    /// The facts about both texts and the commands.
     pub facts: Facts,
 }
 

@@ -7,7 +7,7 @@ use std::fmt;
 use std::fmt::{Formatter, Write};
 use tok_core::{LexError, LexFault};
 
-/// Why an input can't be read.
+/// The reason that an input can't be read.
 #[derive(Clone, Copy)]
 pub enum Unreadable {
     /// The input is not UTF-8.
@@ -40,7 +40,7 @@ impl fmt::Display for Unreadable {
     }
 }
 
-/// Why there is no report.
+/// The reason that there is no report.
 #[derive(Clone, Copy)]
 pub enum Fault {
     /// The input can't be read.

@@ -4,7 +4,7 @@ use Rattle.std.specs.Prelude.{◌≡◌, List, ⊤}
 use Rattle.std.specs.List.{AllZip}
 use Rattle.syn_replay.specs.Reports.{Answer, refused, Line, Verdict, accepted, left_over, Report}
 
--- errors agree where their words are equal, other answers where they are equal
+-- errors agree if their texts are equal, other answers if they are equal
 abbrev pub AnswersAgree : Answer → Answer → Type 0
 AnswersAgree (refused r) (refused q) = r.text ≡ q.text
 AnswersAgree a b = a ≡ b
@@ -13,12 +13,13 @@ AnswersAgree a b = a ≡ b
 abbrev pub LinesAgree : List Line → List Line → Type 0
 LinesAgree left right = AllZip (λ l k. AnswersAgree l.answer k.answer) left right
 
--- verdicts that both accept, or both refuse at equal spans
+-- verdicts that both accept, or both reject at equal spans
 abbrev pub VerdictsAgree : Verdict → Verdict → Type 0
 VerdictsAgree accepted accepted = ⊤
 VerdictsAgree (left_over r) (left_over q) = message_span r ≡ message_span q
 VerdictsAgree v w = ⊥
 
+-- two reports agree: line by line, and in their verdicts
 pub record ReportsAgree (left right : Report) : Type 0 where
   pub lines : LinesAgree left.lines right.lines
   pub verdicts : VerdictsAgree left.verdict right.verdict

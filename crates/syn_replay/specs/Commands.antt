@@ -24,7 +24,7 @@ use Rattle.syn_replay.specs.Turns.{terminated, separated}
 use Rattle.syn_replay.specs.declared.command.Command as program
 use Rattle.syn_replay.specs.declared.command.Command.TheVariants as command
 
--- what concerns one stream alone
+-- an action on one stream alone
 pub data Read : Type 0 where
   peek : Look → Read
   peek2 : Look → Read
@@ -41,7 +41,7 @@ pub data Read : Type 0 where
   rest : Read
   next_group : Read
 
--- what is done on a stream: a read, or what concerns other streams too
+-- an action on a stream: a read, or one that concerns other streams too
 pub data Action : Type 0 where
   read : Read → Action
   enter : (wanted : Option Delimiter) → Action
@@ -50,10 +50,12 @@ pub data Action : Type 0 where
   discard : Action
   close : Action
 
+-- a command: the number of a stream, and an action
 pub record Command : Type 0 where
   pub stream : ℕ
   pub action : Action
 
+-- the command with this action on stream n
 abbrev pub on : ℕ → Action → Command
 on n a = record { stream = n; action = a }
 
@@ -63,6 +65,7 @@ abbrev pub taken : (List Tree → Answer) → Message → Place → Option (List
 taken answers words p None = (refused words, p)
 taken answers words p (Some r) = (answers r.0, r.1)
 
+-- the answer to a parse of this kind, and the place after it
 abbrev pub parsed : Kind → Place → Span → Answer × Place
 parsed kind p scope =
     taken (λ ts. pieces (pieces_of ts)) (kind_message kind (fresh p scope)) p (kinds.read kind p)
@@ -71,6 +74,7 @@ parsed kind p scope =
 abbrev pub trees_taken : List ℕ → Place → Span → Option (List Tree × Place) → Answer × Place
 trees_taken words p scope r = taken (λ ts. trees (forest ts)) (at_stream p scope words) p r
 
+-- the answer to a list command, and the place after it
 abbrev pub listed_to : Outcome → Answer × Place
 listed_to (read_all parts p) = (listed parts, p)
 listed_to (refused_at r p) = (refused r, p)
@@ -82,7 +86,7 @@ looked n [] noted p scope =
 looked n (l ∷ ls) noted p scope =
     cond (kinds.peek l p) (found n) (looked (n + 1) ls (noted ++ kinds.display l ∷ []) p scope)
 
--- what a read answers at a place of a scope with this span, and the place after it
+-- the answer to a read at a place of a scope with this span, and the place after it
 abbrev pub read_answer : Read → Place → Span → Answer × Place
 read_answer (peek l) p scope = (truth (kinds.peek l p), p)
 read_answer (peek2 l) p scope = (truth (kinds.peek2 l p), p)
@@ -102,6 +106,7 @@ read_answer rest p scope = (trees (rests.rest p), empty_place)
 read_answer next_group p scope =
     trees_taken (codes "expected group token") p scope (read_group p)
 
+-- none of these looks can find an invisible group
 abbrev pub all_ignore_invisible : List Look → Bool
 all_ignore_invisible looks = list_all ignores_invisible looks
 
@@ -117,7 +122,7 @@ is_transparent_read empty = true
 is_transparent_read (list rule kind separator) = true
 is_transparent_read r = false
 
--- what a command of the program stands for
+-- the command that a value of the program is
 abbrev pub command_of : program.Command → Command
 command_of (command.Peek n l) = on n (read (peek (look_of l)))
 command_of (command.Peek2 n l) = on n (read (peek2 (look_of l)))

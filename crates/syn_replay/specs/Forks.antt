@@ -18,7 +18,7 @@ module _ (stream made : ℕ) where
   abbrev pub is_own : ℕ → Bool
   is_own n = (n == stream) || nat_le made n
 
-  -- what neither ends the stream, this one or another, nor goes to a fork
+  -- an action that neither ends the stream, nor discards, nor moves to a fork
   abbrev pub is_own_action : ℕ → Action → Bool
   is_own_action n (advance f) = false
   is_own_action n discard = false
@@ -29,6 +29,7 @@ module _ (stream made : ℕ) where
   abbrev pub is_own_command : Command → Bool
   is_own_command c = is_own_action c.stream c.action && is_own c.stream
 
+  -- every command is such a command
   abbrev pub is_self_contained : List Command → Bool
   is_self_contained commands = list_all is_own_command commands
 
@@ -37,19 +38,22 @@ module _ (stream made : ℕ) where
   abbrev pub on_fork : ℕ → ℕ
   on_fork n = cond (n == stream) made (n + 1)
 
+  -- the action, with the number of each stream that it names shifted by the fork
   abbrev pub action_on_fork : Action → Action
   action_on_fork (advance f) = advance (on_fork f)
   action_on_fork a = a
 
+  -- the command, with the numbers of its streams shifted by the fork
   abbrev pub command_on_fork : Command → Command
   command_on_fork c = on (on_fork c.stream) (action_on_fork c.action)
 
--- the same answer, but for the number of a stream that is made
+-- an answer in which the number of a new stream is one more
 abbrev pub answer_on_fork : Answer → Answer
 answer_on_fork (entered n d s) = entered (n + 1) d s
 answer_on_fork (forked n) = forked (n + 1)
 answer_on_fork a = a
 
+-- the line, with the number in its answer shifted by the fork
 abbrev pub line_on_fork : Line → Line
 line_on_fork l = record l { answer = answer_on_fork l.answer }
 
@@ -99,6 +103,7 @@ module _ (st : State) (stream : ℕ) (commands : List Command) where
     pub stream_after : InScope → slice_get taken.state stream ≡ closed
     pub if_closed : ClosesAll → closed ≡ slice_get direct stream
 
+-- self-contained commands on a fork, and then `advance`, equal the commands on the stream
 abbrev pub ForksFollowCommands : Type 0
 ForksFollowCommands =
     (f : Forest) (before commands : List Command) (stream : ℕ)

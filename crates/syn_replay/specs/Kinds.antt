@@ -1,4 +1,4 @@
--- The kinds of token that commands name: how each is read, looked for, shown and refused.
+-- The kinds of token that commands name: how each is read, looked for and shown, and its error.
 use Rattle.std.specs.Prelude.{ℕ, Bool, true, false, List, Option, Some, None, is_some, codes}
 use Rattle.tok_lexical.specs.declared.delimiter.Delimiter.TheVariants.{Parenthesis, Brace, Bracket}
 use Rattle.tok_lexical.specs.declared.delimiter.Delimiter.TheVariants as delimiter
@@ -14,6 +14,7 @@ use Rattle.syn_parse.specs.State as parse
 use Rattle.syn_parse.specs.ErrorWords.{expected, ident_words, lifetime_words, punctuation_message}
 use Rattle.syn_parse.specs.ErrorWords.{refused_at}
 
+-- a kind of token that a command parses
 pub data Kind : Type 0 where
   ident : Kind
   ident_any : Kind
@@ -25,6 +26,7 @@ pub data Kind : Type 0 where
   keyword : ℕ → Kind
   punctuation : ℕ → Kind
 
+-- a thing that a peek looks for
 pub data Look : Type 0 where
   kind : Kind → Look
   paren : Look
@@ -35,7 +37,7 @@ pub data Look : Type 0 where
   group_tree : Look
   any_tree : Look
 
--- where a kind is parsed, the trees read and the place after them
+-- the trees that are read for a kind, and the place after them
 abbrev pub read : Kind → Place → Option (List Tree × Place)
 read ident p = reads.read_word accept_as_ident p
 read ident_any p = reads.read_ident p
@@ -52,6 +54,7 @@ abbrev pub peek_kind : Kind → Place → Bool
 peek_kind lifetime p = is_some (reads.read_lifetime reads.any_text p)
 peek_kind k p = is_some (read k p)
 
+-- a look is next at a place
 abbrev pub peek : Look → Place → Bool
 peek (kind k) p = peek_kind k p
 peek paren p = is_some (enter Parenthesis p)
@@ -74,9 +77,11 @@ abbrev pub peek_past : (Place → Bool) → Option Place → Bool
 peek_past q None = false
 peek_past q (Some p) = q p
 
+-- a look comes after the next token
 abbrev pub peek2 : Look → Place → Bool
 peek2 l p = peek_past (peek l) (reads.skip p)
 
+-- a look comes after the next two tokens
 abbrev pub peek3 : Look → Place → Bool
 peek3 l p = peek_past (peek2 l) (reads.skip p)
 
@@ -93,6 +98,7 @@ display_kind underscore = codes "`_`"
 display_kind (keyword k) = in_backquotes (keyword_text k)
 display_kind (punctuation k) = in_backquotes (punctuation_text k)
 
+-- the name of a look in the error of a lookahead
 abbrev pub display : Look → List ℕ
 display (kind k) = display_kind k
 display paren = codes "parentheses"
@@ -103,7 +109,7 @@ display invisible_group = codes "invisible group"
 display group_tree = codes "group token"
 display any_tree = codes "token"
 
--- the words where a kind is not read
+-- the text of the error if a kind is not read
 abbrev pub refused_words : Kind → Place → List ℕ
 refused_words ident p = ident_words (reads.read_ident p)
 refused_words ident_any p = codes "expected ident"

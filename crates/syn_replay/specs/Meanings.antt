@@ -27,6 +27,7 @@ use Rattle.syn_replay.specs.declared.report.Report as reports
 abbrev pub IsOneMessage : List Message → Type 0
 IsOneMessage e = e ≡ messages.one_message (first_message e)
 
+-- the kind that a value of the program is
 abbrev pub kind_of : Kind → kinds.Kind
 kind_of kind.Ident = kinds.ident
 kind_of kind.IdentAny = kinds.ident_any
@@ -38,6 +39,7 @@ kind_of kind.Underscore = kinds.underscore
 kind_of (kind.Keyword k) = kinds.keyword k
 kind_of (kind.Punctuation k) = kinds.punctuation k
 
+-- the look that a value of the program is
 abbrev pub look_of : Look → kinds.Look
 look_of (look.Kind k) = kinds.kind (kind_of k)
 look_of look.Paren = kinds.paren
@@ -55,12 +57,15 @@ separator_of separator.Semi = codes ";"
 separator_of separator.Plus = codes "+"
 separator_of separator.PathSep = codes "::"
 
+-- the piece that a value of the program is
 abbrev pub piece_of : pieces.Piece → spec.Piece
 piece_of p = record { text = p.text; span = p.span }
 
+-- the pieces of a vector
 abbrev pub pieces_in : Vec pieces.Piece → List spec.Piece
 pieces_in ps = map piece_of ps.items
 
+-- the answer that a value of the program is
 abbrev pub answer_of : answers.Answer → spec.Answer
 answer_of (answer.Truth b) = spec.truth b
 answer_of (answer.Read ps) = spec.pieces (map piece_of ps.items)
@@ -84,17 +89,21 @@ IsPlain a = Unit {0}
 abbrev pub IsAnswer : answers.Answer → spec.Answer → Type 0
 IsAnswer a x = (answer_of a ≡ x) × IsPlain a
 
+-- the position that a value of the program is
 abbrev pub position_of : positions.Position → spec.Position
 position_of (position.At n) = spec.stands_at n
 position_of position.Empty = spec.at_empty
 position_of position.Missing = spec.missing
 
+-- the line that a value of the program is
 abbrev pub line_of : lines.Line → spec.Line
 line_of l = record { answer = answer_of l.answer; position = position_of l.position }
 
+-- the verdict that a value of the program is
 abbrev pub verdict_of : verdicts.Verdict → spec.Verdict
 verdict_of verdict.Accepted = spec.accepted
 verdict_of (verdict.Refused e) = spec.left_over (first_message e)
 
+-- the report that a value of the program is
 abbrev pub report_of : reports.Report → spec.Report
 report_of r = record { lines = map line_of r.lines.items; verdict = verdict_of r.verdict }

@@ -18,7 +18,7 @@ EndsWithin st c k =
     (step c st).answer ≡ done → (n : ℕ)
     → is_open_at (step c st).state n ≡ (is_open_at st n && not (is_or_inside st k n))
 
--- what is inside a stream, and what ends with it
+-- the streams inside a stream, and those that end with it
 pub record InnerStreamsEnd (st : State) : Type 0 where
   -- a stream is inside another exactly if its parent is that stream or inside it
   pub inside : (outer n : ℕ) →
@@ -28,7 +28,7 @@ pub record InnerStreamsEnd (st : State) : Type 0 where
   -- the parent of an open content is open
   pub parent_open : (n p : ℕ) →
       is_open_at st n ≡ true → kind_at st n ≡ content_of p → is_open_at st p ≡ true
-  -- a discard spends the fork and the streams inside it, and changes nothing else
+  -- a discard ends the fork and the streams inside it, and changes nothing else
   pub discarded : (k : ℕ) → (step (on k discard) st).answer ≡ done → (n : ℕ) →
       slice_get (step (on k discard) st).state n
       ≡ option_map (spent_if (is_or_inside st k n)) (slice_get st n)
@@ -39,7 +39,7 @@ pub record InnerStreamsEnd (st : State) : Type 0 where
   pub closed : (k : ℕ) → EndsWithin st (on k close) k
   pub advanced : (k f : ℕ) → EndsWithin st (on k (advance f)) f
 
--- that holds in each state of a walk
+-- streams end with those around them in each state of a walk
 abbrev pub InnerStreamsEndToo : Type 0
 InnerStreamsEndToo =
     (f : Forest) (commands : List Command) → InnerStreamsEnd (last_state (first_state f) commands)

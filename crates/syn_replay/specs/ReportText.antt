@@ -59,6 +59,7 @@ misuse_number NoFork = 3
 misuse_number NoContent = 4
 misuse_number OutOfScope = 5
 
+-- the text of an answer
 abbrev pub answer_text : Answer → List ℕ
 answer_text (truth true) = codes "true"
 answer_text (truth false) = codes "false"
@@ -76,6 +77,7 @@ answer_text (shown span) = codes "span " ++ span_text span
 answer_text (refused r) = message_text r
 answer_text (misused m) = codes "refused C" ++ decimal (misuse_number m)
 
+-- the text of a position
 abbrev pub position_text : Position → List ℕ
 position_text (stands_at n) = codes "@" ++ decimal n
 position_text at_empty = codes "@empty"
@@ -85,6 +87,7 @@ position_text missing = codes "@-"
 abbrev pub line_text : Line → List ℕ
 line_text l = answer_text l.answer ++ (codes " " ++ position_text l.position)
 
+-- the text of a verdict
 abbrev pub verdict_text : Verdict → List ℕ
 verdict_text accepted = codes "accepted"
 verdict_text (left_over r) = message_text r
@@ -93,5 +96,6 @@ verdict_text (left_over r) = message_text r
 abbrev pub lines_text : List Line → List ℕ
 lines_text = flat_map (λ l. ended (line_text l))
 
+-- the text of a report: each line, and then the verdict
 abbrev pub report_text : Report → List ℕ
 report_text r = flat_map (λ l. ended (line_text l)) r.lines ++ ended (verdict_text r.verdict)

@@ -11,6 +11,7 @@ pub record Piece : Type 0 where
   pub text : List ℕ
   pub span : Span
 
+-- the answer to a command
 pub data Answer : Type 0 where
   truth : Bool → Answer
   pieces : List Piece → Answer
@@ -25,19 +26,23 @@ pub data Answer : Type 0 where
   refused : Message → Answer
   misused : Misuse → Answer
 
+-- the position of a stream: a count, the empty place, or none if the stream does not exist
 pub data Position : Type 0 where
   stands_at : ℕ → Position
   at_empty : Position
   missing : Position
 
+-- an answer, and the position of the command's stream after it
 pub record Line : Type 0 where
   pub answer : Answer
   pub position : Position
 
+-- whether everything was read, or the error of the first leftover
 pub data Verdict : Type 0 where
   accepted : Verdict
   left_over : Message → Verdict
 
+-- a line for each command, and the verdict
 pub record Report : Type 0 where
   pub lines : List Line
   pub verdict : Verdict

@@ -16,9 +16,11 @@ is_transparent_action (enter None) = false
 is_transparent_action (enter (Some delimiter.None)) = false
 is_transparent_action a = true
 
+-- the action of the command is transparent
 abbrev pub is_transparent : Command → Bool
 is_transparent c = is_transparent_action c.action
 
+-- every command is transparent
 abbrev pub all_transparent : List Command → Bool
 all_transparent commands = list_all is_transparent commands
 

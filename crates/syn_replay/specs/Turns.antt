@@ -26,11 +26,12 @@ pub data Outcome : Type 0 where
   read_all : List (List Piece) → Place → Outcome
   refused_at : Message → Place → Outcome
 
+-- an outcome with these parts before its own
 abbrev pub with_parts : List (List Piece) → Outcome → Outcome
 with_parts parts (read_all more p) = read_all (parts ++ more) p
 with_parts parts (refused_at r p) = refused_at r p
 
--- what follows a read, or the outcome where nothing is read
+-- what comes after a read, or the outcome if nothing is read
 abbrev pub after : Outcome → (List Piece → Place → Outcome) → Option (List Tree × Place) → Outcome
 after none some None = none
 after none some (Some r) = some (pieces_of r.0) r.1
@@ -41,10 +42,11 @@ is_later (at n s c l ls) (at m t d k ks) = same_scope (at n s c l ls) (at m t d 
 is_later (at n s c l ls) empty_place = true
 is_later empty_place q = false
 
+-- the error of a turn that made no progress
 abbrev pub no_progress : Place → Span → Message
 no_progress p scope = plain p scope (codes "parser made no progress")
 
--- when a list ends: at the end of the scope, where the last separator may be missing, or with a
+-- when a list ends: at the end of the scope, and the last separator may be missing; or with a
 -- value that no separator follows
 pub data Rule : Type 0 where
   terminated : Rule
@@ -56,10 +58,11 @@ is_over terminated p = is_at_end p
 is_over separated p = false
 
 module _ (kind : Kind) (separator : List ℕ) (scope : Span) where
+  -- the error at a missing separator
   abbrev pub separator_message : Place → Message
   separator_message p = punctuation_message separator (fresh p scope)
 
-  -- what follows a separator: another turn, unless nothing was passed
+  -- after a separator comes another turn, unless nothing was passed
   abbrev pub next_turn : Place → Place → (Place → Outcome) → Outcome
   next_turn before after go =
       cond (is_later before after) (go after) (refused_at (no_progress after scope) after)

@@ -1,11 +1,12 @@
 //! Laws of replays. Each is the contract of a function that does nothing.
 ghost use Rattle.syn_replay.specs.Forks.{ForksFollowCommands};
-ghost use Rattle.tok_leaves.specs.Laws.{EqualAsValues};
+ghost use Rattle.tok_lexical.specs.Laws.{ClonesKeep, EqualAsValues};
 ghost use Rattle.syn_replay.specs.Nesting.{InnerStreamsEndToo};
 ghost use Rattle.syn_replay.specs.Transparent.{InvisibleGroupsDoNotMatter};
 ghost use Rattle.syn_replay.specs.Turns.{MoreTurnsChangeNothing};
 
-use crate::report::Position;
+use crate::command::{Kind, Look, Separator};
+use crate::report::{Misuse, Position};
 
 /// If two streams differ only in invisible groups, and each of these contains a visible token,
 /// every list of transparent commands has equal answers and errors with equal texts on both. The
@@ -30,15 +31,32 @@ pub fn forks_follow_commands()
     ensures { ForksFollowCommands }
 {}
 
-/// A stream that is closed, discarded or advanced to ends with the streams inside it, and with no
-/// other. A discard changes nothing else.
+/// Closing or discarding a stream, or advancing to it, ends that stream and every stream inside it.
+/// No other stream ends. A discard changes nothing else.
 ///
-/// A stream is inside another if its parent is that stream, or is inside it.
+/// A stream is inside another if its parent is the other stream, or is inside that one.
 pub fn inner_streams_end_too()
     ensures { InnerStreamsEndToo }
 {}
 
-/// Positions are equal if and only if they are the same.
+/// Positions, and the reasons why a command doesn't fit, are equal if and only if they are the same.
 pub fn positions_are_compared_whole()
-    ensures { EqualAsValues ⟦<Position as PartialEq>⟧.eq }
+    ensures positions { EqualAsValues ⟦<Position as PartialEq>⟧.eq }
+    ensures misuses { EqualAsValues ⟦<Misuse as PartialEq>⟧.eq }
+{}
+
+/// Kinds, looks and separators are equal if and only if they are the same.
+pub fn looks_are_compared_whole()
+    ensures kinds { EqualAsValues ⟦<Kind as PartialEq>⟧.eq }
+    ensures looks { EqualAsValues ⟦<Look as PartialEq>⟧.eq }
+    ensures separators { EqualAsValues ⟦<Separator as PartialEq>⟧.eq }
+{}
+
+/// A clone is the kind, look, separator, position or reason that was cloned.
+pub fn clones_keep_commands()
+    ensures kinds { ClonesKeep ⟦<Kind as Clone>⟧.is_clone }
+    ensures looks { ClonesKeep ⟦<Look as Clone>⟧.is_clone }
+    ensures separators { ClonesKeep ⟦<Separator as Clone>⟧.is_clone }
+    ensures positions { ClonesKeep ⟦<Position as Clone>⟧.is_clone }
+    ensures misuses { ClonesKeep ⟦<Misuse as Clone>⟧.is_clone }
 {}

@@ -1,4 +1,4 @@
--- A walk accepts where nothing is left over in the streams that count.
+-- A walk accepts if and only if nothing is left over in the streams that count.
 use Rattle.std.specs.Prelude.{◌≡◌, ℕ, Bool, true, false, List, ◌∷◌, Some, None}
 use Rattle.tok_core.specs.Forest.{Forest}
 use Rattle.tok_buffer.specs.Ahead.{leftover}
@@ -11,7 +11,7 @@ use Rattle.syn_replay.specs.Session.State.{closed_inside}
 use Rattle.syn_replay.specs.Session.Step.{is_spent, step}
 use Rattle.syn_replay.specs.Session.Walk.{last_state}
 
--- a content of this parent was open, at this place, and is spent afterwards
+-- a stream of this parent's contents was open, at this place, and has ended afterwards
 pub record IsShut (before after : State) (content parent : ℕ) (p : Place) : Type 0 where
   pub stream : Stream
   pub here : slice_get before content ≡ Some stream
@@ -20,6 +20,7 @@ pub record IsShut (before after : State) (content parent : ℕ) (p : Place) : Ty
   pub at_place : stream.place ≡ p
   pub is_shut : is_spent after content ≡ true
 
+-- the action discards its stream
 abbrev pub is_discard : Action → Bool
 is_discard discard = true
 is_discard a = false
@@ -36,8 +37,8 @@ module _ (f : Forest) (cs : List Command) where
   abbrev pub all_run : State
   all_run = last_state (first_state f) cs
 
-  -- a content is closed into its parent, at this place: by a command other than a discard, or at
-  -- the end
+  -- a group's stream is closed into its parent, at this place: by a command other than a discard,
+  -- or at the end
   pub data Closes (content parent : ℕ) (p : Place) : Type 0 where
     by_command : (st : State) (c : Command) (rest : List Command) →
         Comes st (c ∷ rest) → is_discard c.action ≡ false →
@@ -51,21 +52,21 @@ module _ (f : Forest) (cs : List Command) where
     pub comes : Comes before (on stream (advance fork) ∷ rest)
     pub advances : (step (on stream (advance fork)) before).answer ≡ done
 
-  -- stream 0 counts, a content that is closed into a stream that counts, and a fork to which one
-  -- advances
+  -- Stream 0 counts, a group's stream that is closed into a stream that counts, and a fork to which
+  -- a stream that counts advances.
   pub data Counts : ℕ → Type 0 where
     whole : Counts 0
     content : (k parent : ℕ) (p : Place) → Closes k parent p → Counts parent → Counts k
     fork : (stream k : ℕ) → Advances stream k → Counts stream → Counts k
 
-  -- nothing is left at the end of stream 0, nor in a content that is closed into a stream that
-  -- counts
+  -- nothing is left at the end of stream 0, nor in a group's stream that is closed into a stream
+  -- that counts
   pub record NothingLeft : Type 0 where
     pub whole_read : (s : Stream) → slice_get all_run 0 ≡ Some s → leftover s.place ≡ None
     pub contents_read : (k parent : ℕ) (p : Place) →
         Closes k parent p → Counts parent → leftover p ≡ None
 
-  -- the verdict accepts exactly there
+  -- the verdict accepts if and only if nothing is left
   pub record IsExact (v : Verdict) : Type 0 where
     pub only : v ≡ accepted → NothingLeft
     pub wherever : NothingLeft → v ≡ accepted

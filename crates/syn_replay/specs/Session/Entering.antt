@@ -1,4 +1,4 @@
--- Which group is entered, and the words where none is.
+-- The group that is entered, and the text of the error if there is none.
 use Rattle.std.specs.Prelude.{ℕ, List, Option, Some, None, codes}
 use Rattle.tok_lexical.specs.declared.delimiter.Delimiter.{Delimiter}
 use Rattle.tok_buffer.specs.Entry.{Entered, enter, enter_any}
@@ -10,6 +10,7 @@ abbrev pub entered_by : Option Delimiter → Place → Option Entered
 entered_by None p = enter_any p
 entered_by (Some d) p = enter d p
 
+-- the text of the error if no such group is next
 abbrev pub entering_words : Option Delimiter → List ℕ
 entering_words None = codes "expected any delimiter"
 entering_words (Some d) = delimiter_words d

@@ -21,5 +21,6 @@ pub record IsListed (ss : List Stream) (k : ℕ) (s : Stream) : Type 0 where
   pub parent : (p : ℕ) → s.parent ≡ Some p → p < k
   pub listed : s.contents.items ≡ contents k (k + 1) (state_of_list ss)
 
+-- each stream lists the streams of its groups
 abbrev pub AreListed : List Stream → Type 0
 AreListed ss = (k : ℕ) (s : Stream) → slice_get ss k ≡ Some s → IsListed ss k s

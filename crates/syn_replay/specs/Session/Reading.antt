@@ -47,8 +47,8 @@ abbrev pub AfterPieces : Option (List Tree × Place) → parse.State → Vec Pie
 AfterPieces x s ps t =
     (r : List Tree × Place) × (x ≡ Some r) × ArePieces r.0 ps × (t ≡ moved r.1 s)
 
--- Where trees are read, their pieces are answered and the stream is after them; where none
--- are, the call refuses and the stream stays. An allocation failure may come instead of both.
+-- If trees are read, their pieces are the answer and the stream is after them. If none are, the
+-- call returns an error and the stream stays. An allocation failure may come instead of both.
 abbrev pub ReadsPieces : Option (List Tree × Place) → Message → parse.State →
     Result (Vec Piece) Fault → parse.State → Type 0
 ReadsPieces x words s (Ok ps) t = AfterPieces x s ps t
@@ -66,7 +66,7 @@ GivesAnswer x (Ok a) = IsAnswer a x
 GivesAnswer x (Err (Refused e)) = IsErrorAnswer e x
 GivesAnswer x (Err (Memory e)) = Unit {0}
 
--- where the stream is then; nothing is said of an allocation failure
+-- the stream is then in this state; nothing is said of an allocation failure
 abbrev pub LeavesAt : Result Answer Fault → parse.State → parse.State → Type 0
 LeavesAt (Ok a) t wanted = t ≡ wanted
 LeavesAt (Err (Refused e)) t wanted = t ≡ wanted

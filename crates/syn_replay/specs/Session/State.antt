@@ -18,7 +18,7 @@ pub data StreamKind : Type 0 where
   content_of : ℕ → StreamKind
   a_fork : StreamKind
 
--- a stream is open or spent, and keeps at most one leftover, which the contents inside it hand up
+-- a stream is open or ended, and records at most one leftover, reported by the streams inside it
 pub record Stream : Type 0 where
   pub place : Place
   pub scope_span : Span
@@ -41,7 +41,7 @@ standing t kind is_open =
 abbrev pub put : parse.State → Stream → Stream
 put t s = standing t s.kind s.is_open
 
--- what the layer below sees of a stream
+-- a stream, as the layer below sees it
 abbrev pub at_rest : Stream → parse.State
 at_rest s = record { place = s.place; scope_span = s.scope_span; noted = s.note }
 
@@ -49,6 +49,7 @@ at_rest s = record { place = s.place; scope_span = s.scope_span; noted = s.note 
 abbrev pub State : Type 0
 State = List Stream
 
+-- the state before the first command: stream 0 at the start of the forest
 abbrev pub first_state : Forest → State
 first_state f =
     record {
@@ -73,21 +74,25 @@ with_stream [] k f = []
 with_stream (s ∷ st) zero f = f s ∷ st
 with_stream (s ∷ st) (suc k) f = s ∷ with_stream st k f
 
+-- a stream at another place
 abbrev pub moved_to : Place → Stream → Stream
 moved_to p s = record s { place = p }
 
+-- a stream that has ended
 abbrev pub spent : Stream → Stream
 spent s = record s { is_open = false }
 
--- a note goes only where there is none
+-- records a leftover, unless one is recorded already
 abbrev pub with_note : Option Leftover → Stream → Stream
 with_note n s = record s { note = option_or s.note n }
 
+-- the stream was entered from this parent
 abbrev pub is_content_of : ℕ → StreamKind → Bool
 is_content_of parent outermost = false
 is_content_of parent (content_of p) = p == parent
 is_content_of parent a_fork = false
 
+-- the kind of stream k; a stream that does not exist counts as outermost
 abbrev pub kind_at : State → ℕ → StreamKind
 kind_at st k = elim (slice_get st k) [ None ↦ outermost | Some s ↦ s.kind ]
 
@@ -96,7 +101,7 @@ abbrev pub is_entered_from : (ℕ → Bool) → StreamKind → Bool
 is_entered_from test (content_of p) = test p
 is_entered_from test kind = false
 
--- a stream is spent if the test is true, and stays as it was otherwise
+-- a stream ends if the test is true, and else stays unchanged
 abbrev pub spent_if : Bool → Stream → Stream
 spent_if b s = cond b (spent s) s
 
@@ -117,8 +122,8 @@ abbrev pub closed_inside : ℕ → State → State
 closed_inside k st = ended_from (λ n. is_content_of k (kind_at st n)) 0 st
 
 -- What is left in the open contents of a stream, among the streams from this number on: the first,
--- by number, of what each hands up. That is its note, or what is left inside it, or the leftover at
--- its place.
+-- by number, that one of them reports. A stream reports its recorded leftover, or what is left
+-- inside it, or the leftover at its place.
 abbrev pub left_from : (stream next : ℕ) → State → Option Leftover
 left_from stream next [] = None
 left_from stream next (s ∷ later) =
@@ -131,20 +136,21 @@ left_from stream next (s ∷ later) =
 abbrev pub left_inside : State → ℕ → Option Leftover
 left_inside st k = left_from k 0 st
 
--- a stream that notes what is left inside it
+-- a stream that records what is left inside it
 abbrev pub gathered : State → ℕ → Stream → Stream
 gathered st k s = with_note (left_inside st k) s
 
--- what a stream hands up
+-- the leftover that a stream reports when it ends
 abbrev pub handed_note : State → ℕ → Stream → Option Leftover
 handed_note st k s = option_or (gathered st k s).note (leftover s.place)
 
+-- a leftover is recorded on the parent of a group's stream
 abbrev pub with_note_on_parent : StreamKind → Option Leftover → State → State
 with_note_on_parent outermost n st = st
 with_note_on_parent (content_of p) n st = with_stream st p (with_note n)
 with_note_on_parent a_fork n st = st
 
--- a content notes on its parent what it hands up, and ends
+-- a group's stream records on its parent the leftover that it reports, and ends
 abbrev pub closed : ℕ → State → State
 closed k st =
     elim (slice_get st k) [
@@ -173,9 +179,11 @@ is_within depth st outer kind = false
 abbrev pub is_inside : State → (outer inner : ℕ) → Bool
 is_inside st outer inner = is_within (length st) st outer (kind_at st inner)
 
+-- stream n is the outer one, or inside it
 abbrev pub is_or_inside : State → (outer n : ℕ) → Bool
 is_or_inside st outer n = n == outer || is_inside st outer n
 
+-- the position that a place is printed as
 abbrev pub position_of : Place → Position
 position_of empty_place = at_empty
 position_of (at n s c l ls) = stands_at c

@@ -25,6 +25,7 @@ pub record Stepped : Type 0 where
   pub answer : Answer
   pub state : State
 
+-- an answer, and the state unchanged
 abbrev pub stays : State → Answer → Stepped
 stays st a = record { answer = a; state = st }
 
@@ -32,10 +33,12 @@ stays st a = record { answer = a; state = st }
 abbrev pub moves : State → ℕ → Answer × Place → Stepped
 moves st k x = record { answer = x.0; state = with_stream st k (moved_to x.1) }
 
+-- an open stream at this place, with no leftover
 abbrev pub new_stream : Place → Span → StreamKind → Stream
 new_stream p scope kind =
     record { place = p; scope_span = scope; kind = kind; is_open = true; note = None }
 
+-- a group is entered as a new stream, or the answer is an error
 abbrev pub into_group : State → ℕ → Stream → List ℕ → Option Entered → Stepped
 into_group st k s words None = stays st (refused (at_stream s.place s.scope_span words))
 into_group st k s words (Some e) = record {
@@ -44,11 +47,12 @@ into_group st k s words (Some e) = record {
       ++ new_stream e.content (closing_span e.span) (content_of k) ∷ [];
 }
 
+-- the place of a stream, or the empty place if it does not exist
 abbrev pub place_of : Option Stream → Place
 place_of None = empty_place
 place_of (Some s) = s.place
 
--- what is done on an open stream
+-- the answer to an action on an open stream, and the state after it
 abbrev pub on_stream : Action → State → ℕ → Stream → Stepped
 on_stream (read r) st k s = moves st k (read_answer r s.place s.scope_span)
 on_stream (enter wanted) st k s =
@@ -83,28 +87,34 @@ abbrev pub tested : (without : Bool) → (Stream → Bool) → Option Stream →
 tested without test None = without
 tested without test (Some s) = test s
 
+-- stream k does not exist
 abbrev pub is_missing : State → ℕ → Bool
 is_missing st k = tested true (λ s. false) (slice_get st k)
 
+-- stream k has ended
 abbrev pub is_spent : State → ℕ → Bool
 is_spent st k = tested false (λ s. not s.is_open) (slice_get st k)
 
+-- the test is true for one of these numbers
 abbrev pub any_of : (ℕ → Bool) → List ℕ → Bool
 any_of test [] = false
 any_of test (n ∷ ns) = test n || any_of test ns
 
+-- the stream is a fork
 abbrev pub is_fork : StreamKind → Bool
 is_fork a_fork = true
 is_fork k = false
 
+-- the stream is that of a group
 abbrev pub is_content : StreamKind → Bool
 is_content (content_of p) = true
 is_content k = false
 
+-- the kind of stream k passes the test
 abbrev pub of_kind : (StreamKind → Bool) → State → ℕ → Bool
 of_kind test st k = tested false (λ s. test s.kind) (slice_get st k)
 
--- what a command asks of the kinds of its streams: nothing, or what it misses
+-- the kinds of streams that a command needs: how it is misused if they are others
 abbrev pub kind_misuse : Action → State → ℕ → Option Misuse
 kind_misuse (advance f) st k = cond (of_kind is_fork st f) None (Some NoFork)
 kind_misuse discard st k = cond (of_kind is_fork st k) None (Some NoFork)
@@ -117,10 +127,12 @@ misuse c st =
     cond (any_of (is_missing st) (named c)) (Some NoStream)
     (cond (any_of (is_spent st) (named c)) (Some Spent) (kind_misuse c.action st c.stream))
 
+-- the answer to an action on a stream, and the state after it
 abbrev pub step_on : Action → State → ℕ → Option Stream → Stepped
 step_on a st k None = stays st (misused NoStream)
 step_on a st k (Some s) = on_stream a st k s
 
+-- the answer to a command, and the state after it; a misused command changes nothing
 abbrev pub step : Command → State → Stepped
 step c st =
     elim (misuse c st) [
@@ -128,7 +140,7 @@ step c st =
       | None ↦ step_on c.action st c.stream (slice_get st c.stream)
     ]
 
--- where the stream of a command is after it; if one that it names is missing, nowhere
+-- the position of a command's stream after it, or none if a stream that it names is missing
 abbrev pub position_in : Command → State → State → Position
 position_in c st after =
     cond (any_of (is_missing st) (named c)) missing

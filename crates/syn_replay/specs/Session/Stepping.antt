@@ -22,9 +22,11 @@ use Rattle.syn_replay.specs.declared.report.Line.{Line}
 use Rattle.syn_replay.specs.declared.report.Verdict.{Verdict}
 use Rattle.syn_replay.specs.declared.report.Verdict.TheVariants as verdict
 
+-- the answer and the state are those of a step
 abbrev pub IsStepped : Answer → State → Stepped → Type 0
 IsStepped a st s = IsAnswer a s.answer × (st ≡ s.state)
 
+-- the line and the new state are those of a command
 abbrev pub IsLine : Line → State → State → Command → Type 0
 IsLine l new old c =
     (line_of l ≡ line (command_of c) old) × IsPlain l.answer
@@ -34,6 +36,7 @@ IsLine l new old c =
 abbrev pub ArePlain : List Line → Type 0
 ArePlain ls = All (λ l. IsPlain l.answer) ls
 
+-- the lines and the new state are those of commands in order
 abbrev pub HasRun : List Line → State → State → List Command → Type 0
 HasRun ls new old cs =
     (map line_of ls ≡ lines_from old (map command_of cs)) × ArePlain ls
@@ -47,14 +50,15 @@ Answers (Refused e) (Err m) = ⊥
 Answers (Memory e) (Ok a) = ⊥
 Answers (Memory e) (Err m) = Unit {0}
 
+-- an error of a verdict is one message
 abbrev pub IsPlainVerdict : Verdict → Type 0
 IsPlainVerdict verdict.Accepted = Unit {0}
 IsPlainVerdict (verdict.Refused e) = IsOneMessage e
 
--- where a stream is
+-- the position of a stream
 abbrev pub stands : State → ℕ → Position
 stands st n = elim (slice_get st n) [ None ↦ missing | Some s ↦ position_of s.place ]
 
--- a stream as it is once its contents are closed
+-- a stream once its contents are closed
 abbrev pub gathered_at : State → ℕ → Option parse.State
 gathered_at st n = option_map (λ s. at_rest (gathered st n s)) (slice_get st n)

@@ -1,4 +1,4 @@
--- A list of commands, one after the other, and the verdict.
+-- A list of commands in order, and the verdict.
 use Rattle.std.specs.Prelude.{List, [], ◌∷◌, Option, Some, None}
 use Rattle.tok_core.specs.Forest.{Forest}
 use Rattle.tok_buffer.specs.Ahead.{Leftover}
@@ -10,22 +10,26 @@ use Rattle.std.specs.List.{slice_get}
 use Rattle.syn_replay.specs.Session.State.{handed_note}
 use Rattle.syn_replay.specs.Session.Step.{step, line}
 
+-- the lines of commands in order, from this state
 abbrev pub lines_from : State → List Command → List Line
 lines_from st [] = []
 lines_from st (c ∷ cs) = line c st ∷ lines_from (step c st).state cs
 
+-- the state after commands in order
 abbrev pub last_state : State → List Command → State
 last_state st [] = st
 last_state st (c ∷ cs) = last_state (step c st).state cs
 
--- what the outermost stream hands up decides
+-- the leftover that the outermost stream reports decides
 abbrev pub verdict_on : Option Leftover → Verdict
 verdict_on left = elim left [ None ↦ accepted | Some l ↦ left_over (leftover_message l) ]
 
+-- the verdict in this state: by the leftover that stream 0 reports
 abbrev pub verdict : State → Verdict
 verdict st =
     elim (slice_get st 0) [ None ↦ accepted | Some s ↦ verdict_on (handed_note st 0 s) ]
 
+-- the report on a forest and commands: a line for each command, and the verdict
 abbrev pub walk : Forest → List Command → Report
 walk f cs =
     record {

@@ -32,7 +32,7 @@ pub struct BothTexts {
     pub left_verdict: Verdict,
     /// The verdict of the second report.
     pub right_verdict: Verdict,
-    /// The reports agree.
+    /// Whether the reports agree.
     pub agree: bool,
 }
 

@@ -16,7 +16,7 @@ use syn_parse::{ParseStream, Result};
 use syn_punctuated::Punctuated;
 use tok_types::token::{self, Punctuation};
 
-/// When a list ends.
+/// A rule that says when a list ends.
 #[derive(Clone, Copy)]
 pub enum Form {
     /// At the stream's end. The last separator may be missing.

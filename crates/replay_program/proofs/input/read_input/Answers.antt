@@ -1,4 +1,4 @@
-use Rattle.std.proofs.Common.{◌≡◌, ◌++◌, ◌∙◌, true, not, List, ℕ, ap, sym, subst, suc, take, rules}
+use Rattle.std.proofs.Common.{◌≡◌, arith, ◌++◌, ◌∙◌, true, not, List, ℕ, ap, sym, subst, suc, take, rules}
 use Rattle.std.proofs.KnownBytes.{Consumes-kept, Consumes-trans}
 use Rattle.std.specs.Bool.{if◌then◌else◌}
 use Rattle.std.specs.Result.{is_ok}
@@ -44,6 +44,9 @@ loop-i-preserved g c =
 pub returns-then-is_err-clause-part : goal.returns-then-is_err-clause-part
 returns-then-is_err-clause-part g c =
     λ _.
-    let (n, _, calls) = c.loop-i.invariant.1 in
-    let goes : GoesOn c.read_some.result = search rules in
-    (suc n, (c.loop-i.input, c.read_some.result, calls, c.read_some.ensures.call, goes))
+    let (n, is, calls) = c.loop-i.invariant.1 in
+    let goes : GoesOn c.read_some.result = search rules in (
+      suc n,
+      omega (arith, is, c.loop-i-test.true),
+      (c.loop-i.input, c.read_some.result, calls, c.read_some.ensures.call, goes),
+    )
