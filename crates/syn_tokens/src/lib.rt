@@ -3,6 +3,8 @@
 //! their names.
 #![tactic(auto)]
 
+pub mod laws;
+
 pub use syn_literals::{LitBool, LitFloat, LitInt, LitStr};
 pub use syn_parse::{
     Fault, Own, Result, Word, parse_both, parse_source, parse_str, parse_text, parse2, parsing,
@@ -24,51 +26,6 @@ pub use tok_types::{accept_as_ident, token};
 pub use visible_parse::{parse_visible, parse_visible_both, parse_visible_with};
 pub use visible_replay::{visible_replay, visible_replay_both};
 
-/// Laws. Each is the contract of a function that does nothing, or nearly nothing: a proof that calls
-/// it may use the law.
-pub mod laws {
-    pub use syn_parse::laws::{
-        clones_keep_own_keywords, clones_keep_streams, forks_follow, nothings_are_equal,
-        own_keywords_are_equal, parses_go_on, peeks_past_ignore_invisible, peeks_tell_groups,
-        peeks_tell_parses, peeks_tell_tokens, scopes_tell, views_decide_words,
-    };
-    pub use syn_punctuated::laws::{
-        equality_is_pointwise, indexing_writes_one_value, lists_are_read_back, lists_hash_all,
-        lists_have_their_trees, names_and_punctuations_are_read_back, pairs_are_compared_by_parts,
-        read_again, retain_keeps_trailing, separators_follow_values, tokens_state_trees,
-    };
-    pub use syn_replay::laws::{
-        forks_follow_commands, inner_streams_end_too, invisible_groups_do_not_matter,
-        more_turns_change_nothing, positions_are_compared_whole,
-    };
-    pub use tok_buffer::laws::{
-        ahead_tells, calls_lead_on, clones_keep_errors, descents_enter, entries_go_on,
-        equal_in_order, lifetimes_by_name, lifetimes_in_order, marked_as_stream, moves_stay,
-        reads_go_later, reads_go_on, reads_keep_scope, same_stream, skips_go_on, source_as_stream,
-        staying_adds_nothing, stays_along, text_as_stream, views_decide,
-    };
-    pub use tok_core::laws::{
-        begins_once, clones_keep_all, clones_keep_trees, errors_are_compared_whole, forest_once,
-        idents_by_text, never_both, read_visibly, refused_once, spans_are_compared_whole,
-        streams_without_spans, trees_without_spans, writes_follow_writes,
-    };
-    pub use tok_entries::laws::denoted_once;
-    pub use tok_pruned::laws::{
-        filled_forests_stay, pruning_again_changes_nothing, pruning_fills, pruning_goes_by_parts,
-    };
-    pub use tok_types::laws::{
-        clones_keep_tokens, delimiters_are_equal, delimiters_ignore_invisible, groups_are_equal,
-        keyword_past_the_table, keywords_are_equal, peeks_ignore_invisible,
-        punctuation_past_the_table, punctuations_are_equal, tokens_ignore_invisible,
-        underscores_are_equal,
-    };
-    pub use tok_values::laws::{
-        byte_strings_are_read, characters_are_read, strings_are_read, strings_keep_text,
-        values_are_functions,
-    };
-    pub use visible_replay::laws::visible_tokens_decide;
-}
-
 /// Token buffers and cursors.
 pub mod buffer {
     pub use tok_buffer::{Cursor, LifetimeRef, TokenBuffer};
@@ -76,7 +33,7 @@ pub mod buffer {
 
 /// Streams as arrays of plain structs, as C and a compiler's macros see them.
 pub mod entries {
-    pub use tok_entries::{Entry, EntryFault, Refusal, write_entries};
+    pub use tok_entries::{Entry, EntryFault, LexedEntries, Refusal, write_entries};
 }
 
 /// Identifiers and lifetimes of any text.

@@ -3,7 +3,7 @@ use std::alloc::{AllocError, AllocGlobal, Global};
 use std::process::Abort;
 use tok_buffer::{Error, TokenBuffer};
 use tok_core::{LexFault, Span, TokenTree, lex, lex_marked};
-use tok_entries::{EntryFault, write_entries};
+use tok_entries::{EntryFault, LexedEntries, write_entries};
 
 fn buffer(rt: &(impl Abort + AllocGlobal), alloc: Global) -> Result<(), LexFault> {
     let buffer = TokenBuffer::from_text(alloc, 0, 0, "a(b)")?;
@@ -67,6 +67,12 @@ fn entries(rt: &(impl Abort + AllocGlobal), alloc: Global) -> Result<(), Failed>
     Ok(())
 }
 
+fn lexed(rt: &(impl Abort + AllocGlobal), alloc: Global) -> Result<(), Failed> {
+    let lexed = LexedEntries::from_text(alloc, "a(b)")?;
+    assert_eq!(rt; (lexed.entries.len(), lexed.texts.as_str()), (4, "ab"));
+    Ok(())
+}
+
 fn pruned(rt: &(impl Abort + AllocGlobal), alloc: Global) -> Result<(), Failed> {
     let mut entries = Vec::new(alloc);
     let mut texts = String::new(alloc);
@@ -81,6 +87,7 @@ fn pruned(rt: &(impl Abort + AllocGlobal), alloc: Global) -> Result<(), Failed> 
 #[test]
 fn buffers(rt: HostRuntime) {
     assert!(rt; entries(&rt, rt.alloc()).is_ok());
+    assert!(rt; lexed(&rt, rt.alloc()).is_ok());
     assert!(rt; pruned(&rt, rt.alloc()).is_ok());
     assert!(rt; buffer(&rt, rt.alloc()).is_ok());
     assert!(rt; cursor(&rt, rt.alloc()).is_ok());
