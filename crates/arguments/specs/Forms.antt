@@ -23,6 +23,7 @@ mutual
     none : Forms
     one_more : Form → Forms → Forms
 
+-- a list of forms as its own type
 abbrev pub forms : List Form → Forms
 forms [] = none
 forms (f ∷ fs) = one_more f (forms fs)
@@ -45,6 +46,7 @@ argument_level argument = argument.value argument.name
 abbrev pub value_form : Value → Ident → Form
 value_form = fold-Value (Ident → Form) Form value_level argument_level
 
+-- an argument as contracts see it
 abbrev pub argument_form : Argument → Form
 argument_form = fold-Argument (Ident → Form) Form value_level argument_level
 
@@ -52,5 +54,6 @@ argument_form = fold-Argument (Ident → Form) Form value_level argument_level
 abbrev pub ListForm : Type 0
 ListForm = List Form × List Comma
 
+-- arguments as contracts see them
 abbrev pub list_form : Arguments → ListForm
 list_form = lists.list_form argument_form (λ comma. comma)

@@ -14,6 +14,7 @@ use Rattle.arguments.specs.Values.{Arguments, Comma, IsName, sign_at}
 abbrev pub equals_sign : ℕ
 equals_sign = 61
 
+-- the character `,`
 abbrev pub comma : ℕ
 comma = 44
 

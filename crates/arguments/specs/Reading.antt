@@ -34,9 +34,11 @@ argument_step argument = do
   name ← take_ident
   take_value (take_terminated argument take_comma) name
 
+-- each level takes less than the one around it
 pub argument_descends : Descends 0 argument_step
 argument_descends = search descending_lists depth 40
 
+-- takes an argument
 abbrev pub take_argument : Taking Form
 take_argument = take_nested argument_step
 
@@ -52,11 +54,13 @@ take_arguments = take_terminated take_argument take_comma
 abbrev pub value_after : Ident → Takings Value
 value_after name = taken_filled (λ value. value_form value name) (take_value take_arguments name)
 
+-- what is stated of one argument
 abbrev pub argument : Takings Argument
 argument =
     told_filled argument_form take_argument
     (lighter (lightens_nested argument_step argument_descends))
 
+-- what is stated of arguments up to the end
 abbrev pub arguments : Takings Arguments
 arguments = taken_filled list_form take_arguments
 

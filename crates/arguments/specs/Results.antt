@@ -15,17 +15,17 @@ use Rattle.arguments.specs.Reading.{FindsMissing}
 use Rattle.arguments.specs.Same.{SameArguments}
 use Rattle.arguments.specs.Values.{Arguments}
 
--- the arguments that these trees are, or an error where they are none; or an allocation failure
+-- the arguments that these trees are, or an error if they are none; or an allocation failure
 abbrev pub Parses : Forest → Result Arguments Fault → Type 0
 Parses trees (Ok arguments) = AreArguments trees arguments
 Parses trees (Err f) = IsMemory f ⊎ AreNoArguments trees
 
--- an error is one message, which says what reading these tokens in order finds missing, and where
+-- an error is one message: its text and span are those of the first part that is missing, in order
 abbrev pub IsWhy : Forest → List Message → Type 0
 IsWhy tokens error =
     (m : Missing) × FindsMissing (erase tokens) m × Says tokens call_site m (fault.Refused error)
 
--- so is an error
+-- an error of a parse is one message
 abbrev pub SaysWhy : Forest → Result Arguments Fault → Type 0
 SaysWhy tokens (Err (fault.Refused error)) = IsWhy tokens error
 SaysWhy tokens result = Unit {0}
@@ -35,7 +35,7 @@ abbrev pub ParsesTo : Forest → Result Arguments (List Message) → Type 0
 ParsesTo tokens (Ok arguments) = AreArguments (erase tokens) arguments
 ParsesTo tokens (Err error) = AreNoArguments (erase tokens) × IsWhy tokens error
 
--- the same arguments, spans included, or errors with equal words
+-- equal arguments, spans included, or errors with equal texts
 abbrev pub Agree : Result Arguments (List Message) → Result Arguments (List Message) → Type 0
 Agree (Ok left) (Ok right) = SameArguments left right
 Agree (Err left) (Err right) = first_text left ≡ first_text right

@@ -11,6 +11,7 @@ use Rattle.arguments.specs.declared.argument.Argument.{Argument}
 abbrev pub Equals : Type 0
 Equals = Punctuation 13 1
 
+-- the type of `,`
 abbrev pub Comma : Type 0
 Comma = Punctuation 7 1
 

@@ -31,11 +31,11 @@ abbrev pub IsField : Field → List Tree → Type 0
 IsField field ts =
     (colon : Tree) × (ts ≡ leaf (ident_of field.name) ∷ colon ∷ leaf (ident_of field.kind) ∷ [])
 
--- where no name is
+-- the error if no name is next
 abbrev pub name_message : State → Message
 name_message s = refused_at s (ident_words (read_ident s.place))
 
--- where no field is: the error of the first of its three parts that is missing
+-- the error if no field is next: that of the first of its three parts that is missing
 abbrev pub field_message : State → Message
 field_message s =
     elim (read_name s.place) [
@@ -46,7 +46,7 @@ field_message s =
       ]
     ]
 
--- a field; where an error leaves the stream isn't said
+-- a field; the stream's place after an error is not stated
 abbrev pub FieldParses : Call Field
 FieldParses s (Ok field) t = Reads IsField (read_field s.place) (field_message s) s (Ok field) t
 FieldParses s (Err f) t = Reads IsField (read_field s.place) (field_message s) s (Err f) s

@@ -12,8 +12,8 @@ use Rattle.example_callers.specs.declared.lists.Item.{Item}
 use Rattle.example_callers.specs.declared.lists.Item.TheVariants as item
 use Rattle.example_callers.specs.declared.lists.Items.{Items}
 
--- An item, and the stream after it: a name where no parentheses are in front; else a list with
--- their span, whose content is closed after all that is inside.
+-- An item, and the stream after it: a name if no parentheses are next; else a list with their
+-- span, whose stream is closed after all that is inside.
 pub data IsItem : State → Item → State → Type 0 where
   name :
       (s t : State) (name : Ident) → enter Parenthesis s.place ≡ None →

@@ -33,7 +33,7 @@ mutual
         AreEntries t m end → AreEntries s (n + m) end
 
 mutual
-  -- the error where neither a name nor a list is next, or that of the entries of a list
+  -- the error if neither a name nor a list is next, or that of the entries of a list
   pub data EntryRefused : State → Message → Type 0 where
     neither :
         (s : State) → read_name s.place ≡ None → enter Parenthesis s.place ≡ None →
@@ -43,7 +43,7 @@ mutual
         enter Parenthesis s.place ≡ Some e → EntriesRefused (content_of e) words →
         EntryRefused s words
 
-  -- the error of the first entry that is refused
+  -- the error of the first entry that is rejected
   pub data EntriesRefused : State → Message → Type 0 where
     here :
         (s : State) (words : Message) → is_at_end s.place ≡ false → EntryRefused s words →
@@ -56,16 +56,16 @@ mutual
 abbrev pub IsFault : (Message → Type 0) → Fault → Type 0
 IsFault Refused f = IsMemory f ⊎ ((words : Message) × Refused words × Refuses words f)
 
--- what a `u64` holds of a count
+-- a count, or the largest `u64` if it is above that
 abbrev pub capped : ℕ → ℕ
 capped n = min n (2 ^ 64 - 1)
 
--- the names of one entry are counted; where an error leaves the stream isn't said
+-- the names of one entry are counted; the stream's place after an error is not stated
 abbrev pub CountsEntry : Call ℕ
 CountsEntry s (Ok count) t = (n : ℕ) × IsEntry s n t × (count ≡ capped n)
 CountsEntry s (Err f) t = IsFault (EntryRefused s) f
 
--- the same of all entries up to the end
+-- the names of all entries up to the end are counted
 abbrev pub CountsEntries : Call ℕ
 CountsEntries s (Ok count) t = (n : ℕ) × AreEntries s n t × (count ≡ capped n)
 CountsEntries s (Err f) t = IsFault (EntriesRefused s) f

@@ -21,7 +21,7 @@ IsChosen false true s (Err f) = IsMemory f
 IsChosen false false s (Ok kind) = ⊥
 IsChosen false false s (Err f) = Refuses (refused_at s (codes "expected `fn` or `struct`")) f
 
--- the stream stays where it is
+-- the stream stays
 abbrev pub ChoosesKind : Call Kind
 ChoosesKind s result t =
     let is_fn = is_some (read_keyword (codes "fn") s.place) in

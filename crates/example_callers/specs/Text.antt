@@ -2,7 +2,7 @@
 use Rattle.std.specs.Prelude.{ℕ, List, [], ◌∷◌, ◌++◌, encode_utf8}
 use Rattle.std.specs.Fmt.{decimal}
 
--- numbers in decimal and separators by turns, a number first
+-- numbers in decimal and separators in turn, a number first
 abbrev pub text_of : List ℕ → List ℕ → List ℕ
 text_of [] ys = []
 text_of (x ∷ xs) [] = decimal x ++ text_of xs []

@@ -21,7 +21,7 @@ use Rattle.example_callers.specs.declared.value.Value.TheFolds.{fold-Value}
 use Rattle.example_callers.specs.declared.value.Value.TheOpen.{Value-F}
 
 mutual
-  -- what a value is, but for how a list of values is stored
+  -- a value, without the storage of its lists
   pub data Form : Type 0 where
     name : Ident → Form
     text : Literal → Form

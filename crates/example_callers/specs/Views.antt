@@ -5,11 +5,11 @@ use Rattle.tok_buffer.specs.Place.{Place}
 use Rattle.tok_buffer.specs.Reads.{read_ident, skip}
 use Rattle.tok_buffer.specs.SameView.{SameView}
 
--- one answer, where the views of the places are equal
+-- one answer, if the views of the places are equal
 abbrev pub IsSame : Place → Place → Bool → Bool → Type 0
 IsSame p q left right = (b c : Laid) → SameView b c p q → left ≡ right
 
--- a name is in front, where there is a place
+-- there is a place, and a name is next
 abbrev pub is_name : Option Place → Bool
 is_name None = false
 is_name (Some p) = is_some (read_ident p)

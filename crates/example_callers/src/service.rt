@@ -1,4 +1,5 @@
-//! A service `service api (owner: Team) as web { options } -> target;`, read in thirteen steps.
+//! A service `service api (owner: Team) as web { options } -> target;`, with two groups in the
+//! middle.
 ghost use Rattle.std.specs.Prelude.{codes};
 ghost use Rattle.syn_parse.specs.Takings.{taken, taken_filled};
 ghost use Rattle.example_callers.specs.Services.{take_owner, take_service};

@@ -102,7 +102,7 @@ AreForms trees form = AreSettings trees form.0 form.1
 abbrev pub AreConfig : Forest → Punctuated Setting Comma → Type 0
 AreConfig trees config = AreForms trees (list_form setting_form (λ p. p) config)
 
--- the settings that these trees are, or an error where they are none; or an allocation failure
+-- the settings that these trees are, or an error if they are none; or an allocation failure
 abbrev pub Parses : Forest → Result (Punctuated Setting Comma) Fault → Type 0
 Parses trees (Ok config) = AreConfig trees config
 Parses trees (Err f) = IsMemory f ⊎ ((form : ListForm) → AreForms trees form → ⊥)

@@ -50,7 +50,7 @@ abbrev pub in_text : Literal → Option (List ℕ) → Taking Form
 in_text literal (Some t) = gives (text literal.span t)
 in_text literal None = in_integer literal.span (integer_value (chars literal.text))
 
--- what a literal means
+-- the meaning of a literal
 unfoldable pub meaning : Literal → Taking Form
 meaning literal = in_text literal (string_value (chars literal.text))
 
@@ -71,7 +71,7 @@ take_meaning = do
   literal ← take_literal
   meaning literal
 
--- the same, if a literal is next
+-- a literal and its meaning, if a literal is next
 unfoldable pub take_literal_value : Taking Form
 take_literal_value =
     where_ahead sees_literal take_meaning
@@ -144,8 +144,8 @@ values = taken_filled (list_form value_form (λ p. p)) (take_terminated take_val
 abbrev pub settings : Takings (Punctuated Setting Comma)
 settings = taken_filled (list_form setting_form (λ p. p)) take_settings
 
--- The text of a source is tokens, which are the settings that are returned; or which are none, and
--- the error says what is missing first, and where. Or the grammar of tokens refuses it.
+-- The text of a source is tokens. They are the settings that are returned; or they are none, and
+-- the error says what is missing first, at its position. Or the grammar of tokens rejects it.
 abbrev pub ReadsText : (source : ℕ) → List ℕ → Result (Punctuated Setting Comma) Fault → Type 0
 ReadsText source cs r =
     ((f : Forest) × grammar.Reads Plain source cs f

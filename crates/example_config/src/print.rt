@@ -1,4 +1,4 @@
-//! Settings as text that reads the same.
+//! Settings as text. No contract says what is written: `test_examples` reads it back.
 use crate::value::{Config, Setting, Value};
 use std::fmt;
 use std::fmt::{Display, Formatter, Write};

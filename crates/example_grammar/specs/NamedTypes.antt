@@ -27,7 +27,7 @@ abbrev pub Gt : Type 0
 Gt = Punctuation 17 1
 
 mutual
-  -- what a type is, but for how a list of types is stored
+  -- a type, without the storage of its lists
   pub data Form : Type 0 where
     plain : Ident → Form
     generic : Ident → Lt → Forms → List Comma → Gt → Form
@@ -95,7 +95,7 @@ types = told type_form take_type (lighter lightens_type)
 abbrev pub lists : Takings (Punctuated NamedType Comma)
 lists = taken_as (list_form type_form (λ p. p)) (take_separated sees_comma take_type take_comma)
 
--- the same between `<` and `>`
+-- types with commas between them, between `<` and `>`
 abbrev pub arguments : Takings (Lt × Punctuated NamedType Comma × Gt)
 arguments =
     taken_as (λ a. (a.0, list_form type_form (λ p. p) a.1, a.2)) (take_arguments take_type)

@@ -39,7 +39,7 @@ impl Parse for Pointers {
     }
 }
 
-/// All that is left.
+/// All trees that are left.
 #[derive(Drop)]
 pub struct Body {
     pub tokens: TokenStream,

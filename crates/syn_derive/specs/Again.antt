@@ -26,7 +26,7 @@ abbrev pub ParsedAnywhere : {V A : Type 0} → Part A → (form again : V → A)
 ParsedAnywhere {V} Is form again trees =
     (f g h : Forest) (v : V) → Is f (form v) g → Is (concat (erase (trees v)) h) (again v) h
 
--- a punctuation of one character, or that at the call site, as it is written
+-- the trees of a punctuation of one character, or of the one at the call site
 abbrev pub given : {k : ℕ} → Option (Punctuation k 1) → Punctuation k 1
 given (Some sign) = sign
 given None = record { spans = call_site ∷ [] }

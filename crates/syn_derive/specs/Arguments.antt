@@ -1,4 +1,4 @@
--- The arguments of attributes: what is taken of them, and the errors where there are none.
+-- The arguments of attributes: what is taken of them, and the errors if there are none.
 use Rattle.std.specs.Prelude.{ℕ, Bool, true, if◌then◌else◌, List, [], ◌∷◌, ◌++◌}
 use Rattle.std.specs.Prelude.{Option, None, Some, is_some, Result, codes}
 use Rattle.tok_leaves.specs.Spans.{call_site, closing_span, opening_span, whole_span}

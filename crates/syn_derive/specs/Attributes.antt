@@ -19,6 +19,7 @@ use Rattle.syn_derive.specs.declared.attribute.Attribute.{Attribute}
 abbrev pub AttributeForm : Type 0
 AttributeForm = Punctuation 33 1 × DelimSpan × MetaForm
 
+-- an attribute as contracts see it: its `#`, its brackets' span and its meta
 abbrev pub attribute_form : Attribute → AttributeForm
 attribute_form a = (a.pound_token, a.bracket_token.span, meta_form a.meta)
 
@@ -37,14 +38,16 @@ lowers_attribute = search weighing depth 20
 abbrev pub take_attributes : Taking (List AttributeForm)
 take_attributes = take_many sees_pound take_attribute
 
+-- attributes as contracts see them
 abbrev pub attributes_form : Vec Attribute → List AttributeForm
 attributes_form attributes = vec_form attribute_form attributes
 
--- what an attribute is written as, and attributes in turn
+-- the trees that an attribute is written as, and attributes in turn
 abbrev pub attribute_trees : Attribute → Forest
 attribute_trees a =
     followed_by (sign_trees a.pound_token)
     (group_trees Bracket a.bracket_token.span (meta_trees a.meta))
 
+-- the trees that attributes are written as
 abbrev pub attributes_trees : Vec Attribute → Forest
 attributes_trees attributes = all_trees attribute_trees attributes.items

@@ -19,6 +19,7 @@ use Rattle.syn_derive.specs.declared.run.Until.TheVariants.{Params, Predicates}
 abbrev pub ParamsForm : Type 0
 ParamsForm = Option (Punctuation 20 1) × Forest × Option (Punctuation 17 1)
 
+-- parameters as contracts see them
 abbrev pub params_form : Generics → ParamsForm
 params_form g = (g.lt_token, erase g.params, g.gt_token)
 
@@ -27,6 +28,7 @@ abbrev pub HaveNoClause : Call Generics
 HaveNoClause s (Ok g) t = g.where_clause ≡ None
 HaveNoClause s (Err f) t = Unit {0}
 
+-- takes parameters between `<` and `>`, or nothing
 unfoldable pub take_params : Taking ParamsForm
 take_params =
     where_ahead sees_lt (do
@@ -43,9 +45,11 @@ lightens_generics = search (weighing, lightens_until) depth 40
 abbrev pub WhereForm : Type 0
 WhereForm = Keyword 51 × Forest
 
+-- a `where` clause as contracts see it
 abbrev pub where_form : WhereClause → WhereForm
 where_form w = (w.where_token, erase w.predicates)
 
+-- takes a `where` clause
 unfoldable pub take_where_clause : Taking WhereForm
 take_where_clause = do
   word ← take_where

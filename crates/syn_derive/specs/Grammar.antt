@@ -1,8 +1,7 @@
 -- The grammar of what a derive is given, by the productions of the Rust Reference. Where syn reads
 -- more than these have, the comment says so. Each constructor is a production, or an alternative
 -- of one. `IsStruct f item g` says that the trees of f begin with a struct of the form `item`,
--- after which come those of g. A part that may be missing is so only where its first token is not
--- next.
+-- after which come those of g. An optional part is missing only if its first token is not next.
 use Rattle.std.specs.Prelude.{ℕ, Err, List, None, Ok, Option, Result, Some, codes}
 use Rattle.tok_lexical.specs.declared.delimiter.Delimiter.TheVariants.{Brace, Bracket, Parenthesis}
 use Rattle.tok_leaves.specs.Leaves.{ident}
@@ -116,7 +115,7 @@ pub data IsVisibilityWord : List ℕ → Type 0 where
   in_self : IsVisibilityWord (codes "self")
   in_super : IsVisibilityWord (codes "super")
 
--- what the parentheses of a visibility hold: one of these words alone, or `in` SimplePath
+-- the contents of a visibility's parentheses: one of these words alone, or `in` SimplePath
 pub data IsRestriction : Forest → Option (Keyword 22) × PathForm → Forest → Type 0 where
   word_alone : {text : List ℕ} {span : Span} → IsVisibilityWord text
       → IsRestriction (tree (leaf (ident text span)) no_trees)

@@ -34,6 +34,7 @@ take_clause = take_optional sees_where take_where_clause
 abbrev pub BodyForm : Type 0
 BodyForm = Option WhereForm × FieldsForm × Option (Punctuation 36 1)
 
+-- what comes after a struct's parameters, as contracts see it
 abbrev pub body_form : Body → BodyForm
 body_form b = (option_map where_form b.where_clause, fields_form b.fields, b.semi_token)
 
@@ -55,6 +56,7 @@ take_other_body = do
       semi ← take_semi
       gives (clause, unit, Some semi))
 
+-- takes what comes after a struct's parameters
 unfoldable pub take_body : Taking BodyForm
 take_body = where_ahead (sees_group Parenthesis) take_tuple_body take_other_body
 
@@ -64,6 +66,7 @@ pub data DataForm : Type 0 where
   of_enum : Keyword 15 → DelimSpan → List VariantForm × List (Punctuation 7 1) → DataForm
   of_union : Keyword 46 → DelimSpan × FieldList → DataForm
 
+-- a struct's fields, an enum's variants or a union's fields, as contracts see them
 abbrev pub data_form : Data → DataForm
 data_form (kind.Struct d) = of_struct d.struct_token (fields_form d.fields) d.semi_token
 data_form (kind.Enum d) =
@@ -74,13 +77,16 @@ data_form (kind.Union d) = of_union d.union_token (named_fields_form d.fields)
 abbrev pub ItemForm : Type 0
 ItemForm = Ident × ParamsForm × Option WhereForm × DataForm
 
+-- the form of an item with these parts
 abbrev pub form_of_parts : Ident → Generics → Data → ItemForm
 form_of_parts ident generics body =
     (ident, params_form generics, option_map where_form generics.where_clause, data_form body)
 
+-- an item as contracts see it
 abbrev pub item_form : Item → ItemForm
 item_form i = form_of_parts i.ident i.generics i.data
 
+-- takes `struct` and what comes after it
 unfoldable pub take_struct_item : Taking ItemForm
 take_struct_item = do
   word ← take_struct
@@ -89,6 +95,7 @@ take_struct_item = do
   body ← take_body
   gives (ident, params, body.0, of_struct word body.1 body.2)
 
+-- takes `enum` and what comes after it
 unfoldable pub take_enum_item : Taking ItemForm
 take_enum_item = do
   word ← take_enum
@@ -98,6 +105,7 @@ take_enum_item = do
   variants ← take_group Brace (take_terminated take_variant take_comma)
   gives (ident, params, clause, of_enum word variants.0 variants.1)
 
+-- takes `union` and what comes after it
 unfoldable pub take_union_item : Taking ItemForm
 take_union_item = do
   word ← take_union
@@ -107,6 +115,7 @@ take_union_item = do
   fields ← take_named_fields
   gives (ident, params, clause, of_union word fields)
 
+-- takes a struct, an enum or a union
 unfoldable pub take_item : Taking ItemForm
 take_item =
     where_ahead sees_struct take_struct_item (where_ahead sees_enum take_enum_item
@@ -117,10 +126,12 @@ take_item =
 abbrev pub InputForm : Type 0
 InputForm = List AttributeForm × VisibilityForm × ItemForm
 
+-- a derive input as contracts see it
 abbrev pub input_form : DeriveInput → InputForm
 input_form i =
     (attributes_form i.attrs, visibility_form i.vis, form_of_parts i.ident i.generics i.data)
 
+-- takes attributes, a visibility and an item
 abbrev pub take_input : Taking InputForm
 take_input = do
   attrs ← take_attributes

@@ -42,11 +42,13 @@ delimited_by (by.Bracket t) f = delimited Bracket t.span f
 abbrev pub MetaForm : Type 0
 MetaForm = PathForm × MetaInput
 
+-- a meta as contracts see it: its path, and what comes after it
 abbrev pub meta_form : Meta → MetaForm
 meta_form (meta.Path p) = (path_form p, no_input)
 meta_form (meta.List l) = (path_form l.path, delimited_by l.delimiter (erase l.tokens))
 meta_form (meta.NameValue v) = (path_form v.path, assigned v.eq_token (erase v.value.tokens))
 
+-- the path of a meta
 abbrev pub meta_path : Meta → Path
 meta_path (meta.Path p) = p
 meta_path (meta.List l) = l.path
@@ -81,6 +83,7 @@ take_meta_input =
     (where_ahead (sees_group Brace) (take_delimited Brace)
     (gives no_input))))
 
+-- takes what comes after the path of a meta
 unfoldable pub take_meta_after : PathForm → Taking MetaForm
 take_meta_after path = do
   input ← take_meta_input
@@ -110,25 +113,30 @@ pub lightens_nested_meta : Lightens take_nested_meta
 unfolding take_nested_meta
 lightens_nested_meta = search (weighing, lightens_nested_path, lightens_meta_after) depth 40
 
+-- a meta in the arguments of an attribute
 abbrev pub nested_meta : Takings Meta
 nested_meta = told meta_form take_nested_meta (lighter lightens_nested_meta)
 
--- what each is written as
+-- the trees that each is written as
 abbrev pub delimited_trees : MacroDelimiter → Forest → Forest
 delimited_trees (by.Paren t) f = group_trees Parenthesis t.span f
 delimited_trees (by.Brace t) f = group_trees Brace t.span f
 delimited_trees (by.Bracket t) f = group_trees Bracket t.span f
 
+-- the trees that a path and tokens in delimiters are written as
 abbrev pub meta_list_trees : MetaList → Forest
 meta_list_trees l =
     followed_by (path_trees l.path) (delimited_trees l.delimiter l.tokens)
 
+-- the trees that `=` and a value are written as
 abbrev pub value_trees : Punctuation 13 1 → Forest → Forest
 value_trees eq value = followed_by (sign_trees eq) value
 
+-- the trees that a path, `=` and a value are written as
 abbrev pub name_value_trees : MetaNameValue → Forest
 name_value_trees v = followed_by (path_trees v.path) (value_trees v.eq_token v.value.tokens)
 
+-- the trees that a meta is written as
 abbrev pub meta_trees : Meta → Forest
 meta_trees (meta.Path p) = path_trees p
 meta_trees (meta.List l) = meta_list_trees l

@@ -45,6 +45,7 @@ lightens_segment = lightens_lower take_segment lowers_segment
 abbrev pub PathForm : Type 0
 PathForm = Option (Punctuation 28 2) × (List PathSegment × List (Punctuation 28 2))
 
+-- a path as contracts see it: its first `::` and its segments
 abbrev pub path_form : Path → PathForm
 path_form p = (p.leading_colon, list_form (λ v. v) (λ p. p) p.segments)
 
@@ -72,7 +73,7 @@ lowers_any_segment = search weighing depth 20
 pub lightens_any_segment : Lightens take_any_segment
 lightens_any_segment = lightens_lower take_any_segment lowers_any_segment
 
--- segments of any text with `::` between them; where none is, an error says what is next
+-- segments of any text with `::` between them; if there is none, an error says what is next
 unfoldable pub take_any_segments : Taking (List PathSegment × List (Punctuation 28 2))
 take_any_segments = take_separated sees_path_sep take_any_segment take_path_sep
 
@@ -116,14 +117,16 @@ only_ident p = None
 abbrev pub is_only : List ℕ → PathForm → Bool
 is_only text p = elim (only_ident p) [ Some i ↦ bytes_eq i.text text | None ↦ false ]
 
--- what a segment, all segments, and a path are written as
+-- the trees that a segment, all segments, and a path are written as
 abbrev pub segment_trees : PathSegment → Forest
 segment_trees s = tree (leaf (ident_of s.ident)) no_trees
 
+-- the trees that segments are written as
 abbrev pub segments_trees : Path → Forest
 segments_trees p =
     by_turns segment_trees sign_trees (values_of p.segments) (separators_of p.segments)
 
+-- the trees that a path is written as
 abbrev pub path_trees : Path → Forest
 path_trees p =
     followed_by (optional_trees sign_trees p.leading_colon) (segments_trees p)

@@ -1,4 +1,4 @@
--- Which trees are the tokens of a type, an expression, parameters or predicates, where these trees
+-- Which trees are the tokens of a type, an expression, parameters or predicates, if these trees
 -- come after them: "Types", "Expressions", "Generic parameters" and "Where clauses" of the Rust
 -- Reference by their `<` and `>` alone. Each `<` that opens has its `>`. In an expression it opens
 -- where a value is expected and after `::`, but not in the types of a closure or after `as`.

@@ -26,14 +26,17 @@ use Rattle.syn_derive.specs.declared.visibility.Visibility.TheVariants.{Inherite
 abbrev pub RestrictedForm : Type 0
 RestrictedForm = Keyword 32 × DelimSpan × Option (Keyword 22) × PathForm
 
+-- a restricted visibility as contracts see it
 abbrev pub restricted_form : VisRestricted → RestrictedForm
 restricted_form v = (v.pub_token, v.paren_token.span, v.in_token, path_form v.path)
 
+-- a visibility as contracts see it
 pub data VisibilityForm : Type 0 where
   public : Keyword 32 → VisibilityForm
   restricted : RestrictedForm → VisibilityForm
   inherited : VisibilityForm
 
+-- the form of a visibility
 abbrev pub visibility_form : Visibility → VisibilityForm
 visibility_form (Public word) = public word
 visibility_form (Restricted v) = restricted (restricted_form v)
@@ -51,7 +54,7 @@ is_word_alone inside =
       | None ↦ false
     ]
 
--- what parentheses after `pub` hold if they belong to it
+-- the contents of parentheses after `pub` that belong to it
 unfoldable pub is_restriction : Forest → Bool
 is_restriction inside = in_first inside || is_word_alone inside
 
@@ -68,15 +71,17 @@ pub lightens_visibility : Lightens take_visibility
 unfolding take_visibility
 lightens_visibility = search (weighing, lightens_path) depth 40
 
--- what the parentheses, and a visibility, are written as
+-- the trees that the parentheses, and a visibility, are written as
 abbrev pub parens_trees : VisRestricted → Forest
 parens_trees v =
     group_trees Parenthesis v.paren_token.span
     (followed_by (optional_trees keyword_trees v.in_token) (path_trees v.path))
 
+-- the trees that a restricted visibility is written as
 abbrev pub restricted_trees : VisRestricted → Forest
 restricted_trees v = followed_by (keyword_trees v.pub_token) (parens_trees v)
 
+-- the trees that a visibility is written as
 abbrev pub visibility_trees : Visibility → Forest
 visibility_trees (Public word) = keyword_trees word
 visibility_trees (Restricted v) = restricted_trees v

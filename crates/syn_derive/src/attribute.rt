@@ -17,7 +17,7 @@ use tok_types::token;
 
 /// An outer attribute, as `#[doc = "text"]`.
 ///
-/// A doc comment is one too: the lexer writes it so.
+/// A doc comment is one too: the lexer reads it as such an attribute.
 #[derive(Drop)]
 pub struct Attribute {
     pub pound_token: token::Pound,

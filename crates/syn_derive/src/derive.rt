@@ -44,7 +44,7 @@ pub struct DeriveInput {
     pub data: Data,
 }
 
-/// What a struct, an enum or a union consists of.
+/// The fields of a struct or a union, or the variants of an enum.
 #[derive(Drop)]
 pub enum Data {
     Struct(DataStruct),

@@ -1,5 +1,6 @@
 //! Laws of derive inputs. Each is the contract of a function that does nothing.
 ghost use Rattle.std.specs.Prelude.{◌≡◌, MatchResult, Result, true};
+ghost use Rattle.tok_lexical.specs.Laws.{ClonesKeep};
 ghost use Rattle.tok_leaves.specs.declared.span.Span.{Span};
 ghost use Rattle.tok_core.specs.Erase.{erase};
 ghost use Rattle.tok_core.specs.Filled.{filled};
@@ -28,6 +29,7 @@ ghost use Rattle.syn_derive.specs.declared.derive.DeriveInput.{DeriveInput};
 ghost use Rattle.syn_derive.specs.declared.run.Until.TheVariants.{Params, Predicates};
 
 use crate::derive::DeriveInput;
+use crate::meta::MacroDelimiter;
 use syn_parse::Parse;
 
 /// The tokens of a type, an expression, parameters and predicates are those that a grammar has, in
@@ -60,8 +62,8 @@ pub fn grammar_is_parsed()
     ensures inputs { HasGrammar take_input IsDeriveInput }
 {}
 
-/// What a whole stream is parsed as, for example by `parse2`, is the derive input that the grammar
-/// has for its visible trees. If an error is returned, the grammar has none.
+/// A whole stream is parsed, for example by `parse2`, as the derive input that the grammar has for
+/// its visible trees. An error means that the grammar has none.
 pub fn inputs_follow_grammar()
     ensures { (tokens : Forest) (scope : Span) (result : Result DeriveInput Fault)
         → filled tokens ≡ true → KeepsWhole ⟦<DeriveInput as Parse>⟧.takes tokens scope result
@@ -74,10 +76,11 @@ pub fn inputs_once()
         → IsDeriveInput trees right no_trees → left ≡ right }
 {}
 
-/// If the grammar has a value in some trees, what it is written as is parsed again as that value,
-/// spans included, before the trees that came after it. Of attributes and derive inputs this holds
-/// before any trees. A derive input loses a `<>` and a `where` that have nothing in them. Parameters
-/// and `where` clauses have no clause of their own: what may come after nothing is not stated.
+/// A value that the grammar has in some trees is written as tokens that are parsed as the value
+/// again, spans included, before the trees that came after it. For attributes and derive inputs
+/// this holds before any trees. A derive input loses a `<>` and a `where` that have nothing in
+/// them. Parameters and `where` clauses have no clause of their own: they may be empty, and no
+/// clause says which trees may come after an empty one.
 pub fn printed_values_are_parsed()
     ensures types { ParsedAgain (IsRun IsType) erase (λ f. f) }
     ensures expressions { ParsedAgain (IsRun IsExpr) erase (λ f. f) }
@@ -93,14 +96,19 @@ pub fn printed_values_are_parsed()
     ensures inputs { ParsedAnywhere IsDeriveInput input_form again_form input_trees }
 {}
 
-/// What a derive input of the grammar is written as is parsed as a whole stream, for example by
-/// `parse2`, to that input. A `<>` and a `where` that have nothing in them are gone. The only error
-/// is an allocation failure. Each invisible group of the stream must hold a visible tree, as `prune`
-/// leaves it.
+/// A derive input of the grammar is written as tokens that a parse of the whole stream, for example
+/// by `parse2`, returns as that input. A `<>` and a `where` that have nothing in them are gone. The
+/// only error is an allocation failure. Each invisible group of the stream must hold a visible
+/// tree, as `prune` leaves it.
 pub fn printed_inputs_are_parsed()
     ensures { (f g trees : Forest) (input : DeriveInput) (scope : Span)
         (result : Result DeriveInput Fault) → IsDeriveInput f (input_form input) g
         → erase trees ≡ erase (input_trees input) → filled trees ≡ true
         → KeepsWhole ⟦<DeriveInput as Parse>⟧.takes trees scope result
         → MatchResult result (λ second. input_form second ≡ again_form input) IsMemory }
+{}
+
+/// A clone of the delimiters of a macro has their spans.
+pub fn clones_keep_delimiters()
+    ensures { ClonesKeep ⟦<MacroDelimiter as Clone>⟧.is_clone }
 {}

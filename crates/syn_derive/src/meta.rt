@@ -18,7 +18,8 @@ use tok_core::laws::writes_follow_writes;
 use tok_core::{DelimSpan, Delimiter, Ident, ToTokens, TokenStream};
 use tok_types::token;
 
-/// What an attribute holds: a path, and maybe tokens in delimiters or an expression after `=`.
+/// The contents of an attribute: a path, and perhaps tokens in delimiters or an expression after
+/// `=`.
 ///
 /// The word `unsafe` alone may be the path, as in `unsafe(no_mangle)`.
 #[derive(Drop)]

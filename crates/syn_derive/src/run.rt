@@ -13,7 +13,7 @@ use tok_core::{Ident, Punct, TokenStream};
 use tok_types::token::Token;
 use tok_types::{IdentAny, token};
 
-/// What a run of tokens is, which says where it ends if not at the end of its stream.
+/// The kind of a run of tokens, which says where it ends before the end of its stream.
 #[derive(Clone, Copy, PartialEq, Eq)]
 pub(crate) enum Until {
     // A type ends at `,`, `;`, `=`, `>`, a `:` that is alone, or braces after a value.
@@ -37,7 +37,7 @@ pub(crate) enum Last {
     Operand,
 }
 
-/// What a run has passed: how many `<` are open, and the last token.
+/// The state of a run: how many `<` are open, and the last token.
 #[derive(Clone, Copy)]
 pub(crate) struct Passed {
     pub(crate) until: Until,
