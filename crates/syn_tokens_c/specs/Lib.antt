@@ -1,6 +1,11 @@
+pub mod Cursors
 pub mod Flats
+pub mod Handed
 pub mod Judged
+pub mod Opened
 pub mod Outcomes
+pub mod Places
 pub mod Replayed
+pub mod Rules
 pub mod Samples
 pub mod Values

@@ -13,6 +13,7 @@ use Rattle.tok_lexical.specs.declared.edition.Edition.TheVariants.{Edition2021, 
 use Rattle.replay_program.specs.Program.{Prints, PrintsOnly}
 use Rattle.tok_entries.specs.Entries.{entries, texts}
 use Rattle.tok_entries.specs.declared.entry.Entry.{Entry}
+use Rattle.tok_entries.specs.declared.lexing.LexedEntries.{LexedEntries}
 use Rattle.syn_tokens_c.specs.declared.read.Answer.{Answer as Made}
 use Rattle.syn_tokens_c.specs.declared.read.Reading.{Reading}
 
@@ -39,10 +40,13 @@ answered a =
 abbrev pub bare : ℕ → Answer
 bare status = record { status = status; rule = 0; at = 0; entries = []; bytes = [] }
 
--- a forest is written as entries and texts, and an error as words
-abbrev pub answer_of : Result Forest LexFault → Answer
-answer_of (Ok f) = record { status = 0; rule = 0; at = 0; entries = entries 0 f; bytes = texts f }
-answer_of (Err (Refused e)) =
+-- these entries and texts
+abbrev pub all_of : List Entry → List ℕ → Answer
+all_of es bs = record { status = 0; rule = 0; at = 0; entries = es; bytes = bs }
+
+-- an error as its words
+abbrev pub refused : LexFault → Answer
+refused (Refused e) =
     record {
       status = 1;
       rule = error_number e;
@@ -50,7 +54,20 @@ answer_of (Err (Refused e)) =
       entries = [];
       bytes = error_words e;
     }
-answer_of (Err Memory) = bare 3
+refused Memory = bare 3
+
+-- the entries and texts of a forest
+abbrev pub forest_answer : Forest → Answer
+forest_answer f = all_of (entries 0 f) (texts f)
+
+-- entries and texts that are there
+abbrev pub lexed_answer : LexedEntries → Answer
+lexed_answer lexed = all_of lexed.entries.items (string_bytes lexed.texts)
+
+-- what was read has this answer, and an error its words
+abbrev pub answer_of : {A : Type 0} → (A → Answer) → Result A LexFault → Answer
+answer_of answer (Ok read) = answer read
+answer_of answer (Err fault) = refused fault
 
 -- these come first, and the rest is as before
 abbrev pub Fronts : {A : Type 0} → List A → (old new : List A) → Type 0
@@ -69,18 +86,17 @@ pub record Returns (a : Answer) (r : Reading) (old new : List Entry) (before aft
   pub no_room : (length a.entries ≤ length old → length a.bytes ≤ length before → ⊥) →
       (r.status ≡ 4) × (r.rule ≡ 0) × (r.at ≡ 0) × (new ≡ old) × (after ≡ before)
 
--- what came of the text is returned, or an allocation failed
-abbrev pub Tells : Result Forest LexFault → Reading → (old new : List Entry) →
-    (before after : List ℕ) → Type 0
-Tells outcome r old new before after =
-    Returns (answer_of outcome) r old new before after ⊎ Returns (bare 3) r old new before after
+-- an answer is returned, or an allocation failed
+abbrev pub Tells : Answer → Reading → (old new : List Entry) → (before after : List ℕ) → Type 0
+Tells a r old new before after =
+    Returns a r old new before after ⊎ Returns (bare 3) r old new before after
 
 -- what came of a text that is UTF-8 follows the grammar
 abbrev pub Lexes : (List ℕ → Result Forest LexFault → Type 0) → List ℕ → Reading →
     (old new : List Entry) → (before after : List ℕ) → Type 0
 Lexes Follows text r old new before after =
     (IsUtf8 text × ((outcome : Result Forest LexFault) × Follows (chars text) outcome
-    × Tells outcome r old new before after))
+    × Tells (answer_of forest_answer outcome) r old new before after))
     ⊎ (¬ (IsUtf8 text) × Returns (bare 2) r old new before after)
 
 -- the edition of a year

@@ -1,10 +1,14 @@
 -- Structs in which each field has a value of its own.
 use Rattle.std.specs.Prelude.{◌≡◌}
+use denote.RawPtr.{null_ptr}
+use Rattle.tok_carets.specs.declared.line.LineColumn.{LineColumn}
+use Rattle.tok_entries.specs.declared.cursor.Step.{Step}
 use Rattle.tok_entries.specs.declared.entry.Entry.{Entry}
 use Rattle.entry_outcomes.specs.declared.outcome.Message.{Message}
 use Rattle.entry_outcomes.specs.declared.outcome.Outcome.{Outcome}
 use Rattle.syn_tokens_c.specs.declared.flat.FlatArgument.{FlatArgument}
 use Rattle.syn_tokens_c.specs.declared.value.LiteralValue.{LiteralValue}
+use Rattle.syn_tokens_c.specs.declared.open.Opened.{Opened}
 use Rattle.syn_tokens_c.specs.declared.read.Reading.{Reading}
 
 abbrev pub entry_sample : Entry
@@ -22,6 +26,9 @@ entry_sample =
 
 abbrev pub reading_sample : Reading
 reading_sample = record { status = 9; rule = 10; at = 11; entries = 12; bytes = 13 }
+
+abbrev pub opened_sample : Opened
+opened_sample = record { reading = reading_sample; entries = null_ptr; bytes = null_ptr }
 
 abbrev pub outcome_sample : Outcome
 outcome_sample =
@@ -45,3 +52,9 @@ argument_sample =
 abbrev pub IsValueSample : LiteralValue → Type 0
 IsValueSample v =
     (v.status ≡ 30) × (v.kind ≡ 31) × (v.number ≡ 32) × (v.suffix ≡ 33) × (v.bytes ≡ 34)
+
+abbrev pub step_sample : Step
+step_sample = record { at = 35; last = 36; next = 37 }
+
+abbrev pub place_sample : LineColumn
+place_sample = record { line = 38; column = 39 }

@@ -3,12 +3,12 @@ ghost use Rattle.std.specs.Prelude.{◌≡◌, IfOk};
 ghost use Rattle.tok_core.specs.Lexical.Outcome.{FollowsGrammar};
 ghost use Rattle.tok_core.specs.declared.lexer.error.LexFault.TheVariants.{Refused};
 ghost use Rattle.tok_lexical.specs.declared.rule.Mode.TheVariants.{Plain, Marked};
-ghost use Rattle.syn_tokens_c.specs.Outcomes.{Lexes, LexesSource, Returns, Tells, answer_of, answered, bare, edition_of};
+ghost use Rattle.syn_tokens_c.specs.Outcomes.{Lexes, LexesSource, Returns, Tells, answer_of, answered, bare, edition_of, lexed_answer, refused};
 
+use simdutf8::basic::from_utf8;
 use std::alloc::{AllocError, Global};
-use std::str::from_utf8;
-use tok_core::{Edition, LexError, LexFault, TokenStream, lex, lex_marked, lex_source};
-use tok_entries::{Entry, write_entries};
+use tok_core::{Edition, LexError, LexFault};
+use tok_entries::{Entry, LexedEntries};
 
 const READ: u32 = 0;
 
@@ -41,12 +41,12 @@ pub struct Reading {
 
 // All that there is to write of a text, in memory of its own.
 #[derive(Drop)]
-struct Answer {
-    status: u32,
-    rule: u32,
-    at: usize,
-    entries: Vec<Entry>,
-    bytes: String,
+pub(crate) struct Answer {
+    pub(crate) status: u32,
+    pub(crate) rule: u32,
+    pub(crate) at: usize,
+    pub(crate) entries: Vec<Entry>,
+    pub(crate) bytes: String,
 }
 
 impl Answer {
@@ -63,33 +63,31 @@ impl Answer {
         }
     }
 
-    fn of(alloc: Global, outcome: Result<TokenStream, LexFault>) -> Result<Answer, AllocError>
-        ensures { IfOk result (λ a. answered a ≡ answer_of outcome) }
+    fn of(alloc: Global, lexed: Result<LexedEntries, LexFault>) -> Result<Answer, AllocError>
+        ensures { IfOk result (λ a. answered a ≡ answer_of lexed_answer lexed) }
     {
-        match outcome {
-            Ok(stream) => Answer::read(alloc, &stream),
+        match lexed {
+            Ok(lexed) => Ok(Answer::lexed(lexed)),
             Err(LexFault::Refused(error)) => Answer::rejected(alloc, error),
             Err(LexFault::Memory) => Ok(Answer::bare(alloc, NO_MEMORY)),
         }
     }
 
-    fn read(alloc: Global, stream: &TokenStream) -> Result<Answer, AllocError>
-        ensures { IfOk result (λ a. answered a ≡ answer_of (Ok stream.now)) }
+    pub(crate) fn lexed(lexed: LexedEntries) -> Answer
+        ensures { answered result ≡ lexed_answer lexed }
     {
-        let mut entries = Vec::with_capacity(alloc, stream.weight())?;
-        let mut bytes = String::new(alloc);
-        write_entries(&mut entries, &mut bytes, stream)?;
-        Ok(Answer {
+        let LexedEntries { entries, texts } = lexed;
+        Answer {
             status: READ,
             rule: 0,
             at: 0,
             entries,
-            bytes,
-        })
+            bytes: texts,
+        }
     }
 
-    fn rejected(alloc: Global, error: LexError) -> Result<Answer, AllocError>
-        ensures { IfOk result (λ a. answered a ≡ answer_of (Err (Refused error))) }
+    pub(crate) fn rejected(alloc: Global, error: LexError) -> Result<Answer, AllocError>
+        ensures { IfOk result (λ a. answered a ≡ refused (Refused error)) }
     {
         Ok(Answer {
             status: REJECTED,
@@ -130,19 +128,20 @@ impl Answer {
 // Writes what came of a text.
 fn tell(
     alloc: Global,
-    outcome: Result<TokenStream, LexFault>,
+    lexed: Result<LexedEntries, LexFault>,
     entries: &mut [Entry],
     bytes: &mut [u8],
 ) -> Reading
-    ensures { Tells outcome result entries.old entries.new bytes.old bytes.new }
+    ensures { Tells (answer_of lexed_answer lexed) result
+        entries.old entries.new bytes.old bytes.new }
 {
-    match Answer::of(alloc, outcome) {
+    match Answer::of(alloc, lexed) {
         Ok(answer) => answer.write(entries, bytes),
         Err(AllocError) => Answer::bare(alloc, NO_MEMORY).write(entries, bytes),
     }
 }
 
-fn edition_of(year: u32) -> Option<Edition>
+pub(crate) fn edition_of(year: u32) -> Option<Edition>
     ensures { result ≡ edition_of year }
 {
     match year {
@@ -170,7 +169,7 @@ pub extern "C" fn syn_tokens_lex(
         entries.old entries.new bytes.old bytes.new }
 {
     *reading = match from_utf8(text) {
-        Ok(text) => tell(alloc, lex(alloc, 0, text), entries, bytes),
+        Ok(text) => tell(alloc, LexedEntries::from_text(alloc, text), entries, bytes),
         Err(_) => Answer::bare(alloc, NOT_UTF8).write(entries, bytes),
     };
 }
@@ -189,7 +188,12 @@ pub extern "C" fn syn_tokens_lex_marked(
         entries.old entries.new bytes.old bytes.new }
 {
     *reading = match from_utf8(text) {
-        Ok(text) => tell(alloc, lex_marked(alloc, 0, text), entries, bytes),
+        Ok(text) => tell(
+            alloc,
+            LexedEntries::from_marked(alloc, text),
+            entries,
+            bytes,
+        ),
         Err(_) => Answer::bare(alloc, NOT_UTF8).write(entries, bytes),
     };
 }
@@ -213,7 +217,12 @@ pub extern "C" fn syn_tokens_lex_source(
         return;
     };
     *reading = match from_utf8(text) {
-        Ok(text) => tell(alloc, lex_source(alloc, edition, 0, text), entries, bytes),
+        Ok(text) => tell(
+            alloc,
+            LexedEntries::from_source(alloc, edition, text),
+            entries,
+            bytes,
+        ),
         Err(_) => Answer::bare(alloc, NOT_UTF8).write(entries, bytes),
     };
 }

@@ -1,12 +1,28 @@
 //! How the structs are laid out.
 ghost use Rattle.std.specs.Prelude.{◌≡◌, length, replicate};
-ghost use Rattle.syn_tokens_c.specs.Samples.{argument_sample, entry_sample, message_sample, outcome_sample, reading_sample, IsValueSample};
+ghost use Rattle.syn_tokens_c.specs.Samples.{argument_sample, entry_sample, message_sample, opened_sample, outcome_sample, place_sample, reading_sample, step_sample, IsValueSample};
 
 use crate::flat::FlatArgument;
+use crate::open::Opened;
 use crate::read::Reading;
 use crate::value::LiteralValue;
 use entry_outcomes::{Message, Outcome};
+use std::ptr::null;
+use tok_carets::LineColumn;
 use tok_entries::Entry;
+use tok_entries::cursor::Step;
+
+fn reading_sample() -> Reading
+    ensures { result ≡ reading_sample }
+{
+    Reading {
+        status: 9,
+        rule: 10,
+        at: 11,
+        entries: 12,
+        bytes: 13,
+    }
+}
 
 /// Writes structs in which each field has a value of its own, so that a caller can see whether its
 /// structs are laid out as these: the fields of an entry are 1 to 8 in the order of their
@@ -26,13 +42,7 @@ pub extern "C" fn syn_tokens_sample(entries: &mut [Entry], reading: &mut Reading
         text_end: 7,
         distance: 8,
     });
-    *reading = Reading {
-        status: 9,
-        rule: 10,
-        at: 11,
-        entries: 12,
-        bytes: 13,
-    };
+    *reading = reading_sample();
 }
 
 /// Writes structs of the calls that take entries, as `syn_tokens_sample` does: the fields of an
@@ -82,4 +92,37 @@ pub extern "C" fn syn_tokens_sample_answers(
         suffix: 33,
         bytes: 34,
     };
+}
+
+/// Writes structs of the calls of a cursor and of lines, as `syn_tokens_sample` does: the fields of
+/// a step are 35 to 37, and those of a place 38 and 39.
+///
+/// This is a call of its own, so that older callers lend what they did.
+#[unsafe(no_mangle)]
+pub extern "C" fn syn_tokens_sample_places(step: &mut Step, places: &mut [LineColumn])
+    ensures step { step.new ≡ step_sample }
+    ensures places { places.new ≡ replicate (length places.old) place_sample }
+{
+    *step = Step {
+        at: 35,
+        last: 36,
+        next: 37,
+    };
+    places.fill(LineColumn {
+        line: 38,
+        column: 39,
+    });
+}
+
+/// Writes structs of the call that opens a text: the readings are as `syn_tokens_sample` writes one,
+/// and the pointers are null. How far apart two of them are shows their size.
+#[unsafe(no_mangle)]
+pub extern "C" fn syn_tokens_sample_opened(opened: &mut [Opened])
+    ensures { opened.new ≡ replicate (length opened.old) opened_sample }
+{
+    opened.fill(Opened {
+        reading: reading_sample(),
+        entries: null(),
+        bytes: null(),
+    });
 }
