@@ -57,6 +57,53 @@ static void show_arguments(const char *text) {
     syn_tokens_free(&tokens);
 }
 
+/* Reads a text, and its tokens one at a time: where each is, and what. */
+static void show_steps(const char *text) {
+    struct syn_tokens tokens;
+    printf("%s\n", text);
+    int status = syn_tokens_read(&tokens, SYN_TOKENS_PLAIN, text, strlen(text));
+    const struct syn_tokens_entry *next = tokens.entries;
+    const uint8_t *texts = (const uint8_t *)tokens.texts;
+    size_t left = tokens.reading.entries, size = tokens.reading.bytes;
+    struct syn_tokens_step step;
+    enum { MOST = 32 };
+    const char *kinds[MOST];
+    size_t starts[MOST], sizes[MOST], count = 0;
+    while (status == SYN_TOKENS_OK && count < MOST &&
+           syn_tokens_skip(next, left, texts, size, &step)) {
+        kinds[count] = syn_tokens_lifetime(next, left, texts, size, &step) ? "lifetime"
+                       : syn_tokens_ident(next, left, &step)               ? "identifier"
+                       : syn_tokens_literal(next, left, &step)             ? "literal"
+                       : syn_tokens_punct(next, left, texts, size, &step)  ? "punct"
+                                                                           : "group";
+        starts[count] = next[step.at].start;
+        sizes[count++] = step.last - step.at + 1;
+        next += step.next, left -= step.next;
+    }
+    /* One call for all places, since each reads the text. */
+    struct syn_tokens_place places[MOST];
+    if (syn_tokens_lines((const uint8_t *)text, strlen(text), starts, count, places, MOST) == 0)
+        for (size_t i = 0; i < count; i++)
+            printf("    %zu:%zu %s of %zu entries\n", places[i].line, places[i].column, kinds[i],
+                   sizes[i]);
+    syn_tokens_free(&tokens);
+}
+
+/* Reads a marked text, and looks through invisible groups. */
+static void show_inside(const char *text) {
+    struct syn_tokens tokens;
+    struct syn_tokens_step step;
+    printf("%s\n", text);
+    if (syn_tokens_read(&tokens, SYN_TOKENS_MARKED, text, strlen(text)) == SYN_TOKENS_OK) {
+        size_t count = tokens.reading.entries;
+        for (uint32_t i = SYN_TOKENS_PARENTHESIS; i <= SYN_TOKENS_INVISIBLE; i++)
+            if (syn_tokens_group(tokens.entries, count, i, &step))
+                printf("    %s from %zu to %zu, then %zu\n", DELIMITERS[i], step.at, step.last,
+                       step.next);
+    }
+    syn_tokens_free(&tokens);
+}
+
 int main(void) {
     if (!syn_tokens_matches()) {
         fprintf(stderr, "demo: syn_tokens.h is not of this library\n");
@@ -74,6 +121,9 @@ int main(void) {
 
     show_arguments("a = «1», b(c, «d»), «»");
     show_arguments("a = 1 2");
+
+    show_steps("fn f<'a>(b: c) {\n    b + 1\n}");
+    show_inside("« [b, «c»] » d");
 
     struct syn_tokens none;
     printf("null: status %d\n", syn_tokens_read(&none, SYN_TOKENS_PLAIN, NULL, 1));

@@ -8,7 +8,7 @@
 #include <stdlib.h>
 #include <string.h>
 
-enum { ENTRIES = 64, BYTES = 512, VALUES = 8, MESSAGES = 2 };
+enum { ENTRIES = 64, BYTES = 512, VALUES = 8, MESSAGES = 2, PLACES = 3 };
 
 /* What the caller lends, and what is returned. */
 struct lent {
@@ -19,6 +19,7 @@ struct lent {
     struct syn_tokens_reading reading;
     struct syn_tokens_outcome outcome;
     struct syn_tokens_literal value;
+    struct syn_tokens_place places[PLACES];
     size_t size;
     uint8_t status;
 };
@@ -47,9 +48,36 @@ static void take(const char *text) {
                           BYTES, &taken.reading);
 }
 
+/* Opens a text with a handle that holds another one, copies what it then holds, and closes it. The
+ * status is that of no call if the handle and the pointers are not what they must be. */
+static void open_text(uint32_t rules, const uint8_t *text, size_t length, struct lent *it) {
+    enum { WRONG = 99 };
+    void *handle = NULL;
+    struct syn_tokens_opened opened;
+    size_t number = failing;
+    failing = 0;
+    syn_tokens_open(SYN_TOKENS_PLAIN, (const uint8_t *)"x", 1, &handle, &opened);
+    failing = number;
+    made = 0;
+    syn_tokens_open(rules, text, length, &handle, &opened);
+    it->reading = opened.reading;
+    if (handle == NULL) {
+        if (opened.entries != NULL || opened.texts != NULL)
+            it->reading.status = WRONG;
+        return;
+    }
+    memcpy(it->entries, opened.entries, opened.reading.entries * sizeof *it->entries);
+    memcpy(it->bytes, opened.texts, opened.reading.bytes + 1);
+    if (it->bytes[opened.reading.bytes] != 0)
+        it->reading.status = WRONG;
+    syn_tokens_close(&handle);
+    if (handle != NULL)
+        it->reading.status = WRONG;
+}
+
 static void call(int which, struct lent *it) {
-    const char *const texts[] = {LONG_NAMES, MARKED, SOURCE, REJECTED, INPUT,
-                                 ARGUMENTS, NO_ARGUMENTS, COMMANDS, STRING};
+    const char *const texts[] = {LONG_NAMES,   MARKED,   SOURCE, REJECTED, INPUT,    ARGUMENTS,
+                                 NO_ARGUMENTS, COMMANDS, STRING, SOURCE,   REJECTED, INPUT};
     const uint8_t *text = (const uint8_t *)texts[which];
     size_t length = strlen(texts[which]);
     switch (which) {
@@ -81,6 +109,17 @@ static void call(int which, struct lent *it) {
         syn_tokens_value(text, length, it->bytes, BYTES, &it->value);
         it->reading.status = it->value.status;
         break;
+    case 9:
+        open_text(2021, text, length, it);
+        break;
+    case 10:
+        open_text(SYN_TOKENS_MARKED, text, length, it);
+        break;
+    case 11:
+        it->reading.status =
+            syn_tokens_lines(text, length, (const size_t[PLACES]){0, 40, 7}, PLACES, it->places,
+                             PLACES);
+        break;
     default:
         syn_tokens_lex(text, length, it->entries, ENTRIES, it->bytes, BYTES, &it->reading);
     }
@@ -108,6 +147,7 @@ static size_t try_all(int which) {
         if (memcmp(got.entries, before.entries, sizeof got.entries) != 0 ||
             memcmp(got.arguments, before.arguments, sizeof got.arguments) != 0 ||
             memcmp(got.messages, before.messages, sizeof got.messages) != 0 ||
+            memcmp(got.places, before.places, sizeof got.places) != 0 ||
             memcmp(got.bytes, before.bytes, sizeof got.bytes) != 0)
             return 0;
     }
@@ -118,8 +158,9 @@ int main(void) {
                                         "syn_tokens_lex_source", "a rejected text",
                                         "syn_tokens_respond", "syn_tokens_arguments",
                                         "rejected arguments", "syn_tokens_replay",
-                                        "syn_tokens_value"};
-    for (int which = 0; which < 9; which++) {
+                                        "syn_tokens_value", "syn_tokens_open",
+                                        "a rejected text that is opened", "syn_tokens_lines"};
+    for (int which = 0; which < 12; which++) {
         size_t count = try_all(which);
         if (count == 0) {
             fprintf(stderr, "memory: %s\n", CALLS[which]);

@@ -31,8 +31,9 @@ static size_t below(size_t end) {
 
 static size_t calls;
 
-/* How many texts were read, and how many lists of arguments and reports were answered. */
-static size_t texts_read, answered;
+/* How many texts were read, how many lists of arguments and reports were answered, and how many
+ * tokens were found. */
+static size_t texts_read, answered, steps_found;
 
 /* Memory that ends at a page that cannot be touched. */
 static unsigned char *lend(void) {
@@ -86,7 +87,7 @@ static void make_text(void) {
     if (kind == 4)
         for (size_t left = below(300); left > 0; left--)
             append("//!\n");
-    /* Many tokens, and none where a read looks for them. */
+    /* Many tokens. */
     if (kind == 5)
         for (length = 0; length < 1500; length++)
             text[length] = length % 251 < 16 ? ' ' : '+';
@@ -160,14 +161,17 @@ static void read(void) {
     if (status != (int)wanted->status || status == SYN_TOKENS_NO_ROOM ||
         status == SYN_TOKENS_BAD_CALL || status == SYN_TOKENS_NO_MEMORY)
         FAIL("a status");
-    look(tokens.entries, tokens.texts, wanted);
+    if (tokens.texts != NULL)
+        look(tokens.entries, tokens.texts, wanted);
+    else if (tokens.entries != NULL || count + bytes != 0)
+        FAIL("sizes without memory");
     texts_read += status == SYN_TOKENS_OK;
     struct syn_tokens_reading reading;
     call_proved(rules, count, bytes, &reading);
     if (memcmp(&reading, wanted, sizeof reading) != 0 ||
-        memcmp(entries_end - count * sizeof *tokens.entries, tokens.entries,
-               count * sizeof *tokens.entries) != 0 ||
-        memcmp(texts_end - bytes, tokens.texts, bytes) != 0)
+        (count > 0 && memcmp(entries_end - count * sizeof *tokens.entries, tokens.entries,
+                             count * sizeof *tokens.entries) != 0) ||
+        (bytes > 0 && memcmp(texts_end - bytes, tokens.texts, bytes) != 0))
         FAIL("the proved call returns something else");
     if (count + bytes > 0) {
         size_t room = count > 0 ? below(count) : 0, texts_room = bytes > 0 ? below(bytes) : 0;
@@ -210,8 +214,8 @@ static void run(bool may_fail) {
     syn_tokens_free_report(&report);
 }
 
-/* Passes entries in, of which fields may be changed. */
-static void pass(void) {
+/* Reads a text into entries that are lent, changes fields of some, and returns whether it did. */
+static bool take(size_t *taken, size_t *bytes) {
     struct syn_tokens tokens;
     int status = syn_tokens_read(&tokens, SYN_TOKENS_MARKED, text, length);
     size_t count = status == SYN_TOKENS_OK ? tokens.reading.entries : 0;
@@ -228,6 +232,16 @@ static void pass(void) {
         ((unsigned char *)entries)[below(count * sizeof *entries)] = (unsigned char)below(256);
     if (is_changed && size > 0 && below(4) == 0)
         texts[below(size)] = (unsigned char)below(256);
+    *taken = count, *bytes = size;
+    return is_changed;
+}
+
+/* Passes entries in, of which fields may be changed. */
+static void pass(void) {
+    size_t count, size;
+    bool is_changed = take(&count, &size);
+    struct syn_tokens_entry *entries = (struct syn_tokens_entry *)entries_end - count;
+    unsigned char *texts = texts_end - size;
     struct syn_tokens_outcome outcome;
     if (below(2) == 0) {
         size_t rooms[3] = {below(40), below(3), below(100)};
@@ -252,6 +266,86 @@ static void pass(void) {
     if (outcome.status > SYN_TOKENS_MALFORMED || outcome.status == SYN_TOKENS_NO_MEMORY ||
         (is_malformed && (!is_changed || outcome.entry > count)))
         FAIL("an outcome");
+}
+
+/* Looks for a token among the last so many entries, of which fields may be changed. */
+static void step(void) {
+    size_t count, size;
+    take(&count, &size);
+    count -= below(count + 1);
+    const struct syn_tokens_entry *entries = (struct syn_tokens_entry *)entries_end - count;
+    const uint8_t *texts = texts_end - size;
+    struct syn_tokens_step step, before;
+    memset(&before, 0xa5, sizeof before);
+    step = before;
+    enum { IDENT, PUNCT, LITERAL, LIFETIME, GROUP, ANY_TOKEN, CALLS };
+    size_t which = below(CALLS);
+    static const uint32_t DELIMITERS[] = {0, 1, 2, 3, 3, 4, UINT32_MAX};
+    uint32_t delimiter = ANY(DELIMITERS);
+    bool is_found = which == IDENT      ? syn_tokens_ident(entries, count, &step)
+                    : which == PUNCT    ? syn_tokens_punct(entries, count, texts, size, &step)
+                    : which == LITERAL  ? syn_tokens_literal(entries, count, &step)
+                    : which == LIFETIME ? syn_tokens_lifetime(entries, count, texts, size, &step)
+                    : which == GROUP    ? syn_tokens_group(entries, count, delimiter, &step)
+                                        : syn_tokens_skip(entries, count, texts, size, &step);
+    if (!is_found) {
+        if (memcmp(&step, &before, sizeof step) != 0)
+            FAIL("a step that is not there");
+        return;
+    }
+    steps_found++;
+    if (step.at > step.last || step.last >= step.next || step.next > count)
+        FAIL("a step");
+    for (size_t i = 0; i < step.next; i++) {
+        const struct syn_tokens_entry *it = &entries[i];
+        bool is_closing = it->kind == SYN_TOKENS_CLOSING;
+        bool is_edge = (it->kind == SYN_TOKENS_OPENING || is_closing) &&
+                       it->delimiter == SYN_TOKENS_INVISIBLE;
+        if ((i < step.at && !is_edge) || (i > step.last && !(is_edge && is_closing)))
+            FAIL("a step over a token");
+    }
+    const struct syn_tokens_entry *first = &entries[step.at], *last = &entries[step.last];
+    if ((which == IDENT && first->kind != SYN_TOKENS_IDENT) ||
+        (which == PUNCT && first->kind != SYN_TOKENS_PUNCT) ||
+        (which == LITERAL && first->kind != SYN_TOKENS_LITERAL) ||
+        (which == LIFETIME && (first->kind != SYN_TOKENS_PUNCT || first->spacing != 1 ||
+                               last->kind != SYN_TOKENS_IDENT)) ||
+        (which == GROUP && (first->kind != SYN_TOKENS_OPENING || first->delimiter != delimiter ||
+                            step.last - step.at != first->distance)))
+        FAIL("a token of another kind");
+}
+
+/* Asks for lines and columns, and counts them again. */
+static void lines(void) {
+    size_t count = below(20), room = below(4) == 0 ? below(20) : count;
+    size_t *bytes = (size_t *)entries_end - count;
+    struct syn_tokens_place *places = (struct syn_tokens_place *)values_end - room;
+    for (size_t i = 0; i < count; i++)
+        bytes[i] = below(20) == 0 ? SIZE_MAX - below(2) : below(length + 2);
+    memcpy(input_end - length, text, length);
+    memset(places, 0xa5, room * sizeof *places);
+    failing = below(8) == 0 ? 1 + below(2) : 0;
+    bool may_fail = failing != 0;
+    uint8_t status = syn_tokens_lines(input_end - length, length, bytes, count, places, room);
+    failing = 0;
+    if ((status == SYN_TOKENS_NO_ROOM) != (room < count) ||
+        (status == SYN_TOKENS_NO_MEMORY && !may_fail) || status == SYN_TOKENS_REJECTED ||
+        status > SYN_TOKENS_NO_ROOM)
+        FAIL("a status of lines");
+    size_t written = status == SYN_TOKENS_OK ? count : 0;
+    if (!is_untouched(values_end, (room - written) * sizeof *places))
+        FAIL("places that are not asked for");
+    for (size_t i = 0; i < written; i++) {
+        size_t line = 1, column = 1, at = bytes[i];
+        bool is_known = at <= length && (at == length || (text[at] & 0xc0) != 0x80);
+        for (size_t j = 0; is_known && j < at; j++) {
+            column += (text[j] & 0xc0) != 0x80;
+            if (text[j] == '\n')
+                line++, column = 1;
+        }
+        if (places[i].line != (is_known ? line : 0) || places[i].column != (is_known ? column : 0))
+            FAIL("a place");
+    }
 }
 
 /* Reads a text as a literal. */
@@ -281,7 +375,7 @@ int main(int count, char **words) {
     for (calls = 0; calls < all; calls++) {
         make_text();
         made = held = 0;
-        switch (below(8)) {
+        switch (below(11)) {
         case 0:
             read_failing();
             break;
@@ -298,12 +392,20 @@ int main(int count, char **words) {
         case 5:
             value();
             break;
+        case 6:
+        case 7:
+            step();
+            break;
+        case 8:
+            lines();
+            break;
         default:
             read();
         }
         if (held != 0)
             FAIL("memory that is not freed");
     }
-    printf("random: %zu texts read, %zu lists of entries answered\n", texts_read, answered);
-    return all > 1000 && (texts_read < all / 20 || answered < all / 20);
+    printf("random: %zu texts read, %zu lists of entries answered, %zu tokens found\n", texts_read,
+           answered, steps_found);
+    return all > 1000 && (texts_read < all / 20 || answered < all / 40 || steps_found < all / 100);
 }

@@ -8,8 +8,7 @@
 #include <stdlib.h>
 #include <string.h>
 
-/* More entries than the first turn has room for, so that a second turn takes memory: there are none
- * where that looks. */
+/* Enough entries that their room grows. */
 static char many[20 * 251];
 /* More lines than the first turn has room for. */
 static char input[20000];

@@ -85,9 +85,47 @@ static bool answers_match(void) {
            outcome->values == 17 && outcome->messages == 18 && outcome->bytes == 19;
 }
 
+/* Whether the struct of an opened text is laid out as the library's, by the distance of two. */
+static bool opened_match(void) {
+    union {
+        struct syn_tokens_opened opened[2];
+        unsigned char room[SAMPLE_ROOM];
+    } first;
+    memset(&first, 0xff, sizeof first);
+    syn_tokens_sample_opened(first.opened, 2);
+    for (size_t i = 0; i < 2; i++) {
+        const struct syn_tokens_opened *it = &first.opened[i];
+        if (it->reading.status != 9 || it->reading.rule != 10 || it->reading.at != 11 ||
+            it->reading.entries != 12 || it->reading.bytes != 13 || it->entries != NULL ||
+            it->texts != NULL)
+            return false;
+    }
+    return true;
+}
+
+/* Whether the structs of the calls of a cursor and of lines are laid out as the library's. */
+static bool places_match(void) {
+    union {
+        struct syn_tokens_step step;
+        unsigned char room[SAMPLE_ROOM];
+    } first;
+    union {
+        struct syn_tokens_place places[2];
+        unsigned char room[SAMPLE_ROOM];
+    } second;
+    memset(&first, 0, sizeof first);
+    memset(&second, 0, sizeof second);
+    syn_tokens_sample_places(&first.step, second.places, 2);
+    for (size_t i = 0; i < 2; i++)
+        if (second.places[i].line != 38 || second.places[i].column != 39)
+            return false;
+    return first.step.at == 35 && first.step.last == 36 && first.step.next == 37;
+}
+
 const char *syn_tokens_version(void) { return SYN_TOKENS_VERSION_TEXT; }
 
-bool syn_tokens_matches(void) {
+/* Whether the structs of the calls that read texts are laid out as the library's. */
+static bool readings_match(void) {
     union {
         struct syn_tokens_entry entries[2];
         unsigned char room[SAMPLE_ROOM];
@@ -107,63 +145,15 @@ bool syn_tokens_matches(void) {
     }
     const struct syn_tokens_reading *reading = &second.reading;
     return reading->status == 9 && reading->rule == 10 && reading->at == 11 &&
-           reading->entries == 12 && reading->bytes == 13 && answers_match();
+           reading->entries == 12 && reading->bytes == 13;
 }
 
-/* Nothing was read: the sizes say so, whatever an earlier turn has written into them. */
-static int ended(struct syn_tokens *tokens, uint32_t status) {
-    memset(&tokens->reading, 0, sizeof tokens->reading);
-    tokens->reading.status = status;
-    if (tokens->texts != NULL)
-        tokens->texts[0] = 0;
-    return (int)status;
-}
-
-/* Takes memory for so many entries and bytes, and a zero byte. Returns whether it is there. */
-static bool take(struct syn_tokens *tokens, size_t entries_room, size_t texts_room) {
-    if (entries_room > SIZE_MAX / sizeof *tokens->entries || texts_room == SIZE_MAX)
-        return false;
-    void *entries = realloc(tokens->entries, entries_room * sizeof *tokens->entries);
-    if (entries == NULL)
-        return false;
-    tokens->entries = entries;
-    char *texts = realloc(tokens->texts, texts_room + 1);
-    if (texts == NULL)
-        return false;
-    tokens->texts = texts;
-    return true;
-}
-
-/* Whether a byte may be of an identifier or a number. */
-static bool is_of_word(uint8_t c) {
-    return (uint8_t)((c | 0x20) - 'a') < 26 || (uint8_t)(c - '0') < 10 || c == '_' || c >= 0x80;
-}
-
-/* Returns about how many entries a text has, and rather too many: each word is one, and each other
- * visible character. Of a long text it looks at 16 bytes of each 251, a prime, so that the lines of
- * a table do not go in step. */
-static size_t about(const uint8_t *text, size_t length, bool is_source) {
-    enum { SHORT = 1024, STEP = 251, SAMPLE = 16, TIMES = 18 };
-    if (length <= SHORT)
-        return is_source ? 2 * length : length;
-    size_t found = 0;
-    for (size_t rest = length; rest >= STEP; rest -= STEP) {
-        const uint8_t *from = text + (length - rest);
-        bool in_word = false;
-        for (const uint8_t *at = from; at < from + SAMPLE; at++) {
-            bool is_word = is_of_word(*at);
-            /* This byte begins a mark, after which a word may begin. */
-            if (*at == 0xc2)
-                found += 2;
-            else if (is_word)
-                found += !in_word;
-            else if (*at > ' ')
-                /* So few characters make a doc comment, an attribute of six or seven entries. */
-                found += !is_source ? 1 : *at == '/' ? 2 : *at == '!' ? 3 : 1;
-            in_word = is_word;
-        }
-    }
-    return found < SIZE_MAX / 64 ? found * TIMES : SIZE_MAX / 2;
+/* Each is looked at, also after another one that differs: so a test sees all of them. */
+bool syn_tokens_matches(void) {
+    bool match = readings_match();
+    match = answers_match() && match;
+    match = places_match() && match;
+    return opened_match() && match;
 }
 
 /* Gives back the room of a block from this size on, if that is much: to do so takes as long as to
@@ -179,57 +169,22 @@ int syn_tokens_read(struct syn_tokens *tokens, uint32_t rules, const char *text,
         return SYN_TOKENS_BAD_CALL;
     memset(tokens, 0, sizeof *tokens);
     if ((text == NULL && length > 0) || !syn_tokens_matches())
-        return ended(tokens, SYN_TOKENS_BAD_CALL);
-    const uint8_t *bytes = (const uint8_t *)(length > 0 ? text : "");
-    /* Enough for almost each text. If that much memory is not there, the first turn says how much
-     * is needed: a rejected text needs almost none. The second turn has as much as the first one
-     * asked for. */
-    bool is_source = rules != SYN_TOKENS_PLAIN && rules != SYN_TOKENS_MARKED;
-    size_t entries_room = about(bytes, length, is_source);
-    if (entries_room < length / 3)
-        entries_room = length / 3;
-    entries_room += 16;
-    /* The texts of a doc comment's attribute take more bytes than the comment. */
-    size_t texts_room = length + 128 + (is_source ? entries_room : 0);
-    if (!take(tokens, entries_room, texts_room)) {
-        entries_room = 1;
-        texts_room = 128;
-        if (!take(tokens, entries_room, texts_room))
-            return ended(tokens, SYN_TOKENS_NO_MEMORY);
-    }
-    for (;;) {
-        struct syn_tokens_entry *entries = tokens->entries;
-        char *texts = tokens->texts;
-        struct syn_tokens_reading *reading = &tokens->reading;
-        uint8_t *written = (uint8_t *)texts;
-        if (rules == SYN_TOKENS_PLAIN)
-            syn_tokens_lex(bytes, length, entries, entries_room, written, texts_room, reading);
-        else if (rules == SYN_TOKENS_MARKED)
-            syn_tokens_lex_marked(bytes, length, entries, entries_room, written, texts_room,
-                                  reading);
-        else
-            syn_tokens_lex_source(rules, bytes, length, entries, entries_room, written, texts_room,
-                                  reading);
-        if (reading->status != SYN_TOKENS_NO_ROOM) {
-            texts[reading->bytes] = 0;
-            size_t count = reading->entries > 0 ? reading->entries : 1;
-            tokens->entries =
-                shrunk(entries, entries_room * sizeof *entries, count * sizeof *entries);
-            tokens->texts = shrunk(texts, texts_room + 1, reading->bytes + 1);
-            return (int)reading->status;
-        }
-        entries_room = reading->entries + 1;
-        texts_room = reading->bytes;
-        if (!take(tokens, entries_room, texts_room))
-            return ended(tokens, SYN_TOKENS_NO_MEMORY);
-    }
+        return (int)(tokens->reading.status = SYN_TOKENS_BAD_CALL);
+    struct syn_tokens_opened opened;
+    syn_tokens_open(rules, (const uint8_t *)(length > 0 ? text : ""), length, &tokens->handle,
+                    &opened);
+    tokens->reading = opened.reading;
+    tokens->entries = opened.entries;
+    tokens->texts = (const char *)opened.texts;
+    return (int)tokens->reading.status;
 }
 
 void syn_tokens_free(struct syn_tokens *tokens) {
     if (tokens == NULL)
         return;
-    free(tokens->entries);
-    free(tokens->texts);
+    /* There is no handle of a library of another version. */
+    if (tokens->handle != NULL)
+        syn_tokens_close(&tokens->handle);
     memset(tokens, 0, sizeof *tokens);
 }
 

@@ -2,7 +2,7 @@
  *
  * The checked calls, syn_tokens_read and syn_tokens_run, check what they are given and take the
  * memory. Each has one call that frees it. They stand in syn_tokens.c, over the proved calls of
- * libsyn_tokens_c.a, which write into memory that the caller lends.
+ * libsyn_tokens_c.a. Those write into memory that the caller lends, but for `syn_tokens_open`.
  *
  * Link libsyn_tokens.a of a release, or syn_tokens.c and libsyn_tokens_c.a. The library takes
  * memory by `malloc` and `realloc`, which must align a block to each power of two up to 16 that
@@ -21,8 +21,8 @@ extern "C" {
 /* The version of this header, as a text and as 1000000 * major + 1000 * minor + patch. The version
  * of the checked calls that are linked is that of `syn_tokens_version`, and `syn_tokens_matches`
  * says whether the library's structs are those of this header. */
-#define SYN_TOKENS_VERSION_TEXT "0.1.0"
-#define SYN_TOKENS_VERSION 1000
+#define SYN_TOKENS_VERSION_TEXT "0.2.0"
+#define SYN_TOKENS_VERSION 2000
 
 enum syn_tokens_kind {
     SYN_TOKENS_IDENT = 0,
@@ -95,6 +95,14 @@ struct syn_tokens_reading {
     size_t entries, bytes;
 };
 
+/* What came of a text, and where it lies until the handle is closed. A zero byte follows the texts.
+ * If the handle is null, so are both pointers. */
+struct syn_tokens_opened {
+    struct syn_tokens_reading reading;
+    const struct syn_tokens_entry *entries;
+    const uint8_t *texts;
+};
+
 /* What comes of entries that a caller passes in. */
 struct syn_tokens_outcome {
     uint32_t status;  /* as above, or SYN_TOKENS_MALFORMED */
@@ -127,14 +135,28 @@ struct syn_tokens_literal {
     size_t bytes;    /* of a string or bytes: how many bytes the value has */
 };
 
+/* Where a token is among the entries that are left, and the entry to go on with: past the token and
+ * the invisible groups that end there. */
+struct syn_tokens_step {
+    size_t at;   /* its first entry: a leaf, the apostrophe of a lifetime, an opening */
+    size_t last; /* its last entry: the leaf, the name of a lifetime, the closing */
+    size_t next;
+};
+
+/* A place in a text. Both count from 1, columns in characters. */
+struct syn_tokens_place {
+    size_t line, column;
+};
+
 /* ---- Checked calls ---- */
 
 /* What was read: as many entries and bytes as `reading` says, and none of both unless its status is
  * SYN_TOKENS_OK or SYN_TOKENS_REJECTED. A zero byte follows the texts, if `texts` is not null. */
 struct syn_tokens {
     struct syn_tokens_reading reading;
-    struct syn_tokens_entry *entries;
-    char *texts;
+    const struct syn_tokens_entry *entries;
+    const char *texts;
+    void *handle; /* of the library */
 };
 
 /* What the program prints, followed by a zero byte, and its status. After a failed allocation the
@@ -145,8 +167,8 @@ struct syn_tokens_report {
     char *text;
 };
 
-/* Reads a text by these rules, and returns the status. More than 4 KiB of room that it does not
- * take are given back. Whatever the status is, `syn_tokens_free` frees what was given. */
+/* Reads a text by these rules, and returns the status. Whatever it is, `syn_tokens_free` frees what
+ * was given. */
 int syn_tokens_read(struct syn_tokens *tokens, uint32_t rules, const char *text, size_t length);
 void syn_tokens_free(struct syn_tokens *tokens);
 
@@ -163,6 +185,13 @@ const char *syn_tokens_version(void);
 bool syn_tokens_matches(void);
 
 /* ---- Proved calls. No pointer may be null, and no two may share memory. ---- */
+
+/* Reads a text by these rules into memory that the handle then holds: null if nothing. What it held
+ * before is freed, so a new handle must be null. Nobody writes to what it holds. */
+void syn_tokens_open(uint32_t rules, const uint8_t *text, size_t length, void **handle,
+                     struct syn_tokens_opened *opened);
+/* Frees what the handle holds, and makes it null. */
+void syn_tokens_close(void **handle);
 
 void syn_tokens_lex(const uint8_t *text, size_t length, struct syn_tokens_entry *entries,
                     size_t entries_room, uint8_t *texts, size_t texts_room,
@@ -198,6 +227,38 @@ void syn_tokens_sample_answers(struct syn_tokens_outcome *outcome,
 /* Reads the text of a literal. The value of a string is written to `bytes`. */
 void syn_tokens_value(const uint8_t *text, size_t length, uint8_t *bytes, size_t room,
                       struct syn_tokens_literal *value);
+
+/* Write where the next token is, if it is of this kind; if it is not, they return false, and write
+ * nothing. They allocate nothing, and look through the edges of invisible groups.
+ *
+ * `entries` are those that are left: of a text, of what is between the opening and the closing of a
+ * group, or from `next` on. `texts` are the texts of all entries. No field is trusted. */
+bool syn_tokens_ident(const struct syn_tokens_entry *entries, size_t count,
+                      struct syn_tokens_step *step);
+/* A punct other than an apostrophe. */
+bool syn_tokens_punct(const struct syn_tokens_entry *entries, size_t count, const uint8_t *texts,
+                      size_t size, struct syn_tokens_step *step);
+bool syn_tokens_literal(const struct syn_tokens_entry *entries, size_t count,
+                        struct syn_tokens_step *step);
+/* A joint apostrophe, and an identifier. */
+bool syn_tokens_lifetime(const struct syn_tokens_entry *entries, size_t count,
+                         const uint8_t *texts, size_t size, struct syn_tokens_step *step);
+/* A group of this enum syn_tokens_delimiter. An invisible one is not looked through: it is found if
+ * it is the first entry. */
+bool syn_tokens_group(const struct syn_tokens_entry *entries, size_t count, uint32_t delimiter,
+                      struct syn_tokens_step *step);
+/* A lifetime, a leaf or a visible group. */
+bool syn_tokens_skip(const struct syn_tokens_entry *entries, size_t count, const uint8_t *texts,
+                     size_t size, struct syn_tokens_step *step);
+
+/* Writes the line and the column before each of these bytes of a text. Both are 0 for a byte within
+ * a character or after the end. Returns an enum syn_tokens_status: unless it is SYN_TOKENS_OK,
+ * nothing is written. SYN_TOKENS_NO_ROOM says that there are fewer places than bytes. */
+uint8_t syn_tokens_lines(const uint8_t *text, size_t length, const size_t *bytes, size_t count,
+                         struct syn_tokens_place *places, size_t room);
+void syn_tokens_sample_opened(struct syn_tokens_opened *opened, size_t count);
+void syn_tokens_sample_places(struct syn_tokens_step *step, struct syn_tokens_place *places,
+                              size_t count);
 
 #ifdef __cplusplus
 }

@@ -1,4 +1,5 @@
 //! Buffers of tokens, and cursors in them.
+use alloc::collections::TryReserveError;
 use alloc::string::String;
 use alloc::vec::Vec;
 use core::fmt;
@@ -8,7 +9,7 @@ use core::ops::Range;
 use core::str::FromStr;
 
 use crate::error::Error;
-use crate::ffi::{self, Entry, Rules};
+use crate::ffi::{self, Entry, Held, Rules, Step, Wanted};
 
 /// An edition of Rust. The default is the newest one.
 #[derive(Clone, Copy, Debug, Default, PartialEq, Eq, PartialOrd, Ord, Hash)]
@@ -90,9 +91,13 @@ impl From<Span> for Range<usize> {
 /// assert_eq!(tokens.len(), 2);
 /// # Ok::<(), syn_tokens::Error>(())
 /// ```
-#[derive(Clone, Default, PartialEq, Eq, Hash)]
+#[derive(Default)]
 pub struct Buffer {
+    // The tokens of a text, as the library holds them.
+    held: Option<Held>,
+    // Entries in place of those that are held, if there are any.
     pub(crate) entries: Vec<Entry>,
+    // Texts, if none are held.
     pub(crate) texts: String,
 }
 
@@ -142,20 +147,34 @@ impl Buffer {
     }
 
     fn read(rules: Rules, text: &str) -> Result<Self, Error> {
-        let (reading, mut entries, texts) = ffi::lex(rules, text)?;
+        let (reading, held) = ffi::lex(rules, text)?;
         if reading.status != ffi::READ {
-            return Err(Error::new(reading, texts));
+            return Err(Error::new(reading, held.texts()));
         }
-        if matches!(rules, Rules::Source { .. }) && !text.is_ascii() {
-            start_closings_at_characters(&mut entries, text);
+        let entries = match rules {
+            Rules::Source { .. } if !text.is_ascii() => {
+                with_closings_at_characters(held.entries(), text)?
+            }
+            _ => Vec::new(),
+        };
+        Ok(Buffer { held: Some(held), entries, texts: String::new() })
+    }
+
+    fn entries(&self) -> &[Entry] {
+        match &self.held {
+            Some(held) if self.entries.is_empty() => held.entries(),
+            _ => &self.entries,
         }
-        Ok(Buffer { entries, texts })
+    }
+
+    fn texts(&self) -> &str {
+        self.held.as_ref().map_or(&self.texts, Held::texts)
     }
 
     /// Returns a cursor at the first token.
     #[must_use]
     pub fn tokens(&self) -> Cursor<'_> {
-        Cursor { entries: &self.entries, texts: &self.texts }
+        Cursor { entries: self.entries(), texts: self.texts() }
     }
 
     /// Returns an iterator over the tokens: the same cursor.
@@ -167,13 +186,34 @@ impl Buffer {
     /// Returns how many leaves, openings and closings there are.
     #[must_use]
     pub fn len(&self) -> usize {
-        self.entries.len()
+        self.entries().len()
     }
 
     /// Returns `true` if there is no token.
     #[must_use]
     pub fn is_empty(&self) -> bool {
-        self.entries.is_empty()
+        self.entries().is_empty()
+    }
+}
+
+impl Clone for Buffer {
+    fn clone(&self) -> Self {
+        Buffer { held: None, entries: self.entries().to_vec(), texts: self.texts().into() }
+    }
+}
+
+impl PartialEq for Buffer {
+    fn eq(&self, other: &Self) -> bool {
+        self.entries() == other.entries() && self.texts() == other.texts()
+    }
+}
+
+impl Eq for Buffer {}
+
+impl Hash for Buffer {
+    fn hash<H: Hasher>(&self, state: &mut H) {
+        self.entries().hash(state);
+        self.texts().hash(state);
     }
 }
 
@@ -246,6 +286,24 @@ impl Group<'_> {
     }
 }
 
+/// A lifetime: an apostrophe and a name.
+#[derive(Clone, Copy, Debug, PartialEq, Eq, Hash)]
+#[non_exhaustive]
+pub struct Lifetime<'b> {
+    /// The span of the apostrophe.
+    pub apostrophe: Span,
+    /// The name after it.
+    pub ident: Leaf<'b>,
+}
+
+impl Lifetime<'_> {
+    /// Returns the span from the apostrophe to the end of the name.
+    #[must_use]
+    pub fn span(&self) -> Span {
+        self.apostrophe.join(self.ident.span)
+    }
+}
+
 /// A leaf or a group.
 #[derive(Clone, Debug, PartialEq, Eq, Hash)]
 pub enum Token<'b> {
@@ -298,6 +356,101 @@ impl<'b> Cursor<'b> {
     #[must_use]
     pub fn peek(&self) -> Option<Token<'b>> {
         self.clone().next()
+    }
+
+    /// Returns the next token and the cursor after it, if it is an identifier, keywords and `_`
+    /// included.
+    ///
+    /// This call and those below look through the edges of invisible groups, as syn's cursor does.
+    /// They allocate nothing. An iterator yields such a group as a token.
+    ///
+    /// ```
+    /// use syn_tokens::{Buffer, Delimiter};
+    ///
+    /// let buffer = Buffer::lex_marked("« 'a » : « f » (1)")?;
+    /// let (lifetime, rest) = buffer.tokens().lifetime().unwrap();
+    /// let (colon, rest) = rest.punct().unwrap();
+    /// let (name, rest) = rest.ident().unwrap();
+    /// let (group, rest) = rest.group(Delimiter::Parenthesis).unwrap();
+    /// let (one, end) = group.tokens.literal().unwrap();
+    /// assert_eq!((lifetime.ident.text, colon.ch, name.text, one.text), ("a", ':', "f", "1"));
+    /// assert!(end.eof() && rest.eof());
+    /// # Ok::<(), syn_tokens::Error>(())
+    /// ```
+    #[must_use]
+    pub fn ident(&self) -> Option<(Leaf<'b>, Cursor<'b>)> {
+        self.leaf_at(self.step(Wanted::Ident)?)
+    }
+
+    /// Returns the next token and the cursor after it, if it is a punct other than an apostrophe.
+    #[must_use]
+    pub fn punct(&self) -> Option<(Punct, Cursor<'b>)> {
+        let step = self.step(Wanted::Punct)?;
+        Some((self.punct_of(self.entries.get(step.at)?)?, self.after(step)?))
+    }
+
+    /// Returns the next token and the cursor after it, if it is a literal.
+    #[must_use]
+    pub fn literal(&self) -> Option<(Leaf<'b>, Cursor<'b>)> {
+        self.leaf_at(self.step(Wanted::Literal)?)
+    }
+
+    /// Returns the next lifetime and the cursor after it.
+    #[must_use]
+    pub fn lifetime(&self) -> Option<(Lifetime<'b>, Cursor<'b>)> {
+        let step = self.step(Wanted::Lifetime)?;
+        let apostrophe = span(self.entries.get(step.at)?);
+        let ident = self.leaf(self.entries.get(step.last)?);
+        Some((Lifetime { apostrophe, ident }, self.after(step)?))
+    }
+
+    /// Returns the next group and the cursor after it, if it has this delimiter.
+    ///
+    /// [`Delimiter::None`] is not looked through: such a group is found if it is the next token.
+    #[must_use]
+    pub fn group(&self, delimiter: Delimiter) -> Option<(Group<'b>, Cursor<'b>)> {
+        let number = match delimiter {
+            Delimiter::Parenthesis => 0,
+            Delimiter::Brace => 1,
+            Delimiter::Bracket => 2,
+            Delimiter::None => 3,
+        };
+        let step = self.step(Wanted::Group(number))?;
+        let inside = self.entries.get(step.at + 1..step.last)?;
+        let group = Group {
+            delimiter,
+            tokens: Cursor { entries: inside, texts: self.texts },
+            open: span(self.entries.get(step.at)?),
+            close: span(self.entries.get(step.last)?),
+        };
+        Some((group, self.after(step)?))
+    }
+
+    /// Returns the cursor after the next token: a lifetime, or else a leaf or a visible group.
+    /// Returns `None` if no such token is left.
+    #[must_use]
+    pub fn skip_token(&self) -> Option<Cursor<'b>> {
+        self.after(self.step(Wanted::Any)?)
+    }
+
+    fn step(&self, wanted: Wanted) -> Option<Step> {
+        ffi::step(wanted, self.entries, self.texts)
+    }
+
+    fn after(&self, step: Step) -> Option<Cursor<'b>> {
+        Some(Cursor { entries: self.entries.get(step.next..)?, texts: self.texts })
+    }
+
+    fn leaf_at(&self, step: Step) -> Option<(Leaf<'b>, Cursor<'b>)> {
+        Some((self.leaf(self.entries.get(step.at)?), self.after(step)?))
+    }
+
+    fn punct_of(&self, entry: &Entry) -> Option<Punct> {
+        Some(Punct {
+            ch: self.texts.get(entry.text_start..)?.chars().next()?,
+            spacing: spacing(entry),
+            span: span(entry),
+        })
     }
 
     /// Returns an iterator over the groups among the tokens, without those inside them.
@@ -374,11 +527,7 @@ impl<'b> Iterator for Cursor<'b> {
         let token = match entry.kind {
             ffi::IDENT => Token::Ident(self.leaf(entry)),
             ffi::LITERAL => Token::Literal(self.leaf(entry)),
-            ffi::PUNCT => Token::Punct(Punct {
-                ch: self.texts.get(entry.text_start..)?.chars().next()?,
-                spacing: spacing(entry),
-                span: span(entry),
-            }),
+            ffi::PUNCT => Token::Punct(self.punct_of(entry)?),
             // A cursor is never before a closing, so this is an opening.
             _ => {
                 let size = entry.distance.checked_sub(1)?;
@@ -390,11 +539,11 @@ impl<'b> Iterator for Cursor<'b> {
                     open: span(entry),
                     close: span(closing),
                 };
-                self.entries = after;
+                self.entries = left_after(after);
                 return Some(Token::Group(group));
             }
         };
-        self.entries = rest;
+        self.entries = left_after(rest);
         Some(token)
     }
 }
@@ -420,14 +569,37 @@ impl<'b> Iterator for Groups<'b> {
 
 impl FusedIterator for Groups<'_> {}
 
-// The closing bracket of a doc comment's attribute is at the last byte of the comment, which may be
-// inside a character.
-fn start_closings_at_characters(entries: &mut [Entry], text: &str) {
-    for closing in entries.iter_mut().filter(|it| it.kind == ffi::CLOSING) {
+// What is left after a token, past the invisible groups that end there. A cursor may be inside one
+// that it has looked into.
+fn left_after(mut entries: &[Entry]) -> &[Entry] {
+    while let Some((closing, rest)) = entries.split_first() {
+        if closing.kind != ffi::CLOSING {
+            break;
+        }
+        entries = rest;
+    }
+    entries
+}
+
+// Returns the entries with each closing at the beginning of a character, or none if each is there:
+// the closing bracket of a doc comment's attribute is at the last byte of the comment.
+fn with_closings_at_characters(
+    entries: &[Entry],
+    text: &str,
+) -> Result<Vec<Entry>, TryReserveError> {
+    let is_inside = |it: &Entry| it.kind == ffi::CLOSING && !text.is_char_boundary(it.start);
+    if !entries.iter().any(is_inside) {
+        return Ok(Vec::new());
+    }
+    let mut changed = Vec::new();
+    changed.try_reserve_exact(entries.len())?;
+    changed.extend_from_slice(entries);
+    for closing in changed.iter_mut().filter(|it| is_inside(it)) {
         while !text.is_char_boundary(closing.start) {
             closing.start -= 1;
         }
     }
+    Ok(changed)
 }
 
 fn span(entry: &Entry) -> Span {

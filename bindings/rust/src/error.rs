@@ -26,11 +26,13 @@ pub enum Error {
 }
 
 impl Error {
-    pub(crate) fn new(reading: Reading, words: String) -> Self {
-        match reading.status {
-            REJECTED => Error::Rejected { rule: reading.rule, at: reading.at, words },
-            _ => Error::Memory,
+    pub(crate) fn new(reading: Reading, words: &str) -> Self {
+        let mut copy = String::new();
+        if reading.status != REJECTED || copy.try_reserve_exact(words.len()).is_err() {
+            return Error::Memory;
         }
+        copy.push_str(words);
+        Error::Rejected { rule: reading.rule, at: reading.at, words: copy }
     }
 }
 

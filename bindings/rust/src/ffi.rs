@@ -6,6 +6,7 @@ use alloc::collections::TryReserveError;
 use alloc::string::String;
 use alloc::vec::Vec;
 use core::sync::atomic::{AtomicBool, Ordering};
+use core::{ptr, slice, str};
 
 use crate::error::Error;
 use crate::memory::shrunk;
@@ -42,6 +43,14 @@ pub struct Reading {
     pub at: usize,
     pub entries: usize,
     pub bytes: usize,
+}
+
+/// What came of a text, and where its entries and texts lie until the handle is closed.
+#[repr(C)]
+struct Opened {
+    reading: Reading,
+    entries: *const Entry,
+    texts: *const u8,
 }
 
 pub const READ: u32 = 0;
@@ -100,6 +109,34 @@ pub struct Value {
     pub bytes: usize,
 }
 
+/// Where a token is among the entries that are left, and the entry to go on with.
+#[repr(C)]
+#[derive(Clone, Copy, Debug, Default, PartialEq, Eq)]
+pub struct Step {
+    pub at: usize,
+    pub last: usize,
+    pub next: usize,
+}
+
+/// A place in a text; 0 and 0 where there is none.
+#[repr(C)]
+#[derive(Clone, Copy, Debug, Default, PartialEq, Eq)]
+pub struct Place {
+    pub line: usize,
+    pub column: usize,
+}
+
+/// What a cursor looks for.
+#[derive(Clone, Copy)]
+pub enum Wanted {
+    Ident,
+    Punct,
+    Literal,
+    Lifetime,
+    Group(u32),
+    Any,
+}
+
 /// By which rules a text is read.
 #[derive(Clone, Copy)]
 pub enum Rules {
@@ -109,34 +146,14 @@ pub enum Rules {
 }
 
 extern "C" {
-    fn syn_tokens_lex(
+    fn syn_tokens_open(
+        rules: u32,
         text: *const u8,
         length: usize,
-        entries: *mut Entry,
-        entries_room: usize,
-        texts: *mut u8,
-        texts_room: usize,
-        reading: *mut Reading,
+        handle: *mut *mut u8,
+        opened: *mut Opened,
     );
-    fn syn_tokens_lex_marked(
-        text: *const u8,
-        length: usize,
-        entries: *mut Entry,
-        entries_room: usize,
-        texts: *mut u8,
-        texts_room: usize,
-        reading: *mut Reading,
-    );
-    fn syn_tokens_lex_source(
-        year: u32,
-        text: *const u8,
-        length: usize,
-        entries: *mut Entry,
-        entries_room: usize,
-        texts: *mut u8,
-        texts_room: usize,
-        reading: *mut Reading,
-    );
+    fn syn_tokens_close(handle: *mut *mut u8);
     fn syn_tokens_respond(
         input: *const u8,
         length: usize,
@@ -151,6 +168,45 @@ extern "C" {
         room: usize,
         value: *mut Value,
     );
+    fn syn_tokens_ident(entries: *const Entry, count: usize, step: *mut Step) -> bool;
+    fn syn_tokens_punct(
+        entries: *const Entry,
+        count: usize,
+        texts: *const u8,
+        size: usize,
+        step: *mut Step,
+    ) -> bool;
+    fn syn_tokens_literal(entries: *const Entry, count: usize, step: *mut Step) -> bool;
+    fn syn_tokens_lifetime(
+        entries: *const Entry,
+        count: usize,
+        texts: *const u8,
+        size: usize,
+        step: *mut Step,
+    ) -> bool;
+    fn syn_tokens_group(
+        entries: *const Entry,
+        count: usize,
+        delimiter: u32,
+        step: *mut Step,
+    ) -> bool;
+    fn syn_tokens_skip(
+        entries: *const Entry,
+        count: usize,
+        texts: *const u8,
+        size: usize,
+        step: *mut Step,
+    ) -> bool;
+    fn syn_tokens_lines(
+        text: *const u8,
+        length: usize,
+        bytes: *const usize,
+        count: usize,
+        places: *mut Place,
+        room: usize,
+    ) -> u8;
+    fn syn_tokens_sample_opened(opened: *mut Opened, count: usize);
+    fn syn_tokens_sample_places(step: *mut Step, places: *mut Place, count: usize);
     fn syn_tokens_sample(entries: *mut Entry, count: usize, reading: *mut Reading);
     fn syn_tokens_sample_answers(
         outcome: *mut Outcome,
@@ -189,7 +245,9 @@ fn is_of_this_version() -> bool {
         distance: 8,
     };
     let wanted = Reading { status: 9, rule: 10, at: 11, entries: 12, bytes: 13 };
-    let is_same = entries == [entry; 2] && reading == wanted && answers_match();
+    let readings_match = entries == [entry; 2] && reading == wanted;
+    // Each is looked at, also after another one that differs: so a test sees all of them.
+    let is_same = readings_match & answers_match() & places_match() & opened_match();
     IS_CHECKED.store(is_same, Ordering::Relaxed);
     is_same
 }
@@ -231,95 +289,108 @@ fn answers_match() -> bool {
     outcome == wanted && messages == [message; 2] && arguments == [argument; 2] && value == number
 }
 
+/// Whether the structs of the calls of a cursor and of lines are laid out as those of the library.
+fn places_match() -> bool {
+    let (mut step, mut places) = ([0u64; 128], [0u64; 128]);
+    // SAFETY: The pointers are to live, initialized and aligned memory that is not shared, and that
+    // is larger than what the library writes. Any bytes are values of these structs.
+    let (step, places) = unsafe {
+        syn_tokens_sample_places(step.as_mut_ptr().cast(), places.as_mut_ptr().cast(), 2);
+        (step.as_ptr().cast::<Step>().read(), places.as_ptr().cast::<[Place; 2]>().read())
+    };
+    step == Step { at: 35, last: 36, next: 37 } && places == [Place { line: 38, column: 39 }; 2]
+}
+
+/// Whether the struct of an opened text is laid out as the library's, by the distance of two.
+fn opened_match() -> bool {
+    let mut opened = [u64::MAX; 128];
+    // SAFETY: The pointer is to live, initialized and aligned memory that is not shared, and that is
+    // larger than what the library writes. Any bytes are an `Opened`, whose pointers are not read.
+    let opened = unsafe {
+        syn_tokens_sample_opened(opened.as_mut_ptr().cast(), 2);
+        opened.as_ptr().cast::<[Opened; 2]>().read()
+    };
+    let wanted = Reading { status: 9, rule: 10, at: 11, entries: 12, bytes: 13 };
+    opened.iter().all(|it| it.reading == wanted && it.entries.is_null() && it.texts.is_null())
+}
+
 /// Returns what the library has written as a text. It writes nothing but texts.
 pub fn text_of(bytes: Vec<u8>) -> String {
     String::from_utf8(bytes)
         .unwrap_or_else(|error| String::from_utf8_lossy(error.as_bytes()).into_owned())
 }
 
-/// Returns about how many entries a text has, and rather too many: each word is one, and each
-/// other visible character. Of a long text it looks at 16 bytes of each 251, a prime, so that the
-/// lines of a table do not go in step.
-fn about(text: &[u8], is_source: bool) -> usize {
-    const SHORT: usize = 1024;
-    const STEP: usize = 251;
-    const SAMPLE: usize = 16;
-    const TIMES: usize = 18;
-    if text.len() <= SHORT {
-        return if is_source { 2 * text.len() } else { text.len() };
-    }
-    let mut found: usize = 0;
-    for step in text.chunks_exact(STEP) {
-        let mut before = false;
-        for &c in step.iter().take(SAMPLE) {
-            let is_word = c.is_ascii_alphanumeric() || c == b'_' || !c.is_ascii();
-            found += match c {
-                // This byte begins a mark, after which a word may begin.
-                0xc2 => 2,
-                _ if is_word => usize::from(!before),
-                // So few characters make a doc comment, an attribute of six or seven entries.
-                b'/' if is_source => 2,
-                b'!' if is_source => 3,
-                _ => usize::from(c > b' '),
-            };
-            before = is_word;
-        }
-    }
-    found.saturating_mul(TIMES)
+/// Entries and bytes that the library holds until this is dropped.
+pub struct Held {
+    // Null if nothing is held. Then there are no entries and no bytes.
+    handle: *mut u8,
+    opened: Opened,
 }
 
-/// Reads a text, and returns what came of it, its entries and the texts of its leaves or the words
-/// of its error.
-pub fn lex(rules: Rules, text: &str) -> Result<(Reading, Vec<Entry>, String), Error> {
+impl Held {
+    /// Returns the entries.
+    pub fn entries(&self) -> &[Entry] {
+        match self.opened.reading.entries {
+            0 => &[],
+            // SAFETY: The pointer leads to so many entries until the handle is closed, where this is
+            // dropped, and nobody writes to them.
+            count => unsafe { slice::from_raw_parts(self.opened.entries, count) },
+        }
+    }
+
+    /// Returns the texts of the leaves, or the words of the error.
+    pub fn texts(&self) -> &str {
+        // SAFETY: `lex` has tested the bytes, and nobody writes to them.
+        unsafe { str::from_utf8_unchecked(self.bytes()) }
+    }
+
+    fn bytes(&self) -> &[u8] {
+        match self.opened.reading.bytes {
+            0 => &[],
+            // SAFETY: As of the entries.
+            size => unsafe { slice::from_raw_parts(self.opened.texts, size) },
+        }
+    }
+}
+
+impl Drop for Held {
+    fn drop(&mut self) {
+        // SAFETY: The library has written the handle, or it is null.
+        unsafe { syn_tokens_close(&mut self.handle) };
+    }
+}
+
+// SAFETY: What is held is reached through this alone. The library proves that a handle may go to
+// another thread, and shared references only read.
+unsafe impl Send for Held {}
+// SAFETY: As above.
+unsafe impl Sync for Held {}
+
+/// Reads a text, and returns what came of it, and what holds its entries and the texts of its
+/// leaves or the words of its error.
+pub fn lex(rules: Rules, text: &str) -> Result<(Reading, Held), Error> {
     if !is_of_this_version() {
         return Err(Error::Version);
     }
-    let mut entries: Vec<Entry> = Vec::new();
-    let mut bytes: Vec<u8> = Vec::new();
-    // Enough for almost each text. If that much memory is not there, the first turn says how much
-    // is needed: a rejected text needs almost none. The second turn has as much as the first one
-    // asked for.
-    let is_source = matches!(rules, Rules::Source { .. });
-    let room = about(text.as_bytes(), is_source).max(text.len() / 3).saturating_add(16);
-    // The texts of a doc comment's attribute take more bytes than the comment.
-    let texts_room = (text.len() + 128).saturating_add(if is_source { room } else { 0 });
-    if entries.try_reserve_exact(room).is_err() {
-        entries.try_reserve_exact(1)?;
+    let rules = match rules {
+        Rules::Plain => 0,
+        Rules::Marked => 1,
+        Rules::Source { year } => year,
+    };
+    let mut held = Held {
+        handle: ptr::null_mut(),
+        opened: Opened { reading: Reading::default(), entries: ptr::null(), texts: ptr::null() },
+    };
+    let (from, length) = (text.as_ptr(), text.len());
+    // SAFETY: The pointers are to live memory, which is not shared. The library reads the text
+    // alone, and the handle is null, so it holds nothing.
+    unsafe { syn_tokens_open(rules, from, length, &mut held.handle, &mut held.opened) };
+    let reading = held.opened.reading;
+    // The library writes nothing but texts.
+    if str::from_utf8(held.bytes()).is_err() {
+        return Err(Error::Version);
     }
-    if bytes.try_reserve_exact(texts_room).is_err() {
-        bytes.try_reserve_exact(128)?;
-    }
-    loop {
-        let mut reading = Reading::default();
-        let (from, length) = (text.as_ptr(), text.len());
-        let (to, room) = (entries.as_mut_ptr(), entries.capacity());
-        let (texts, texts_room) = (bytes.as_mut_ptr(), bytes.capacity());
-        let told = &mut reading;
-        // SAFETY: The pointers are to live memory of these lengths, which is not shared. The library
-        // reads the text alone, and only writes to the rest.
-        unsafe {
-            match rules {
-                Rules::Plain => syn_tokens_lex(from, length, to, room, texts, texts_room, told),
-                Rules::Marked => {
-                    syn_tokens_lex_marked(from, length, to, room, texts, texts_room, told);
-                }
-                Rules::Source { year } => {
-                    syn_tokens_lex_source(year, from, length, to, room, texts, texts_room, told);
-                }
-            }
-        }
-        if reading.status != NO_ROOM {
-            debug_assert!(reading.entries <= room && reading.bytes <= texts_room);
-            // SAFETY: The library has written so many, since there was room.
-            unsafe {
-                entries.set_len(reading.entries);
-                bytes.set_len(reading.bytes);
-            }
-            return Ok((reading, shrunk(entries), text_of(shrunk(bytes))));
-        }
-        entries.try_reserve_exact(reading.entries)?;
-        bytes.try_reserve_exact(reading.bytes)?;
-    }
+    Ok((reading, held))
 }
 
 /// Answers an input as the program does, and returns its status and what it prints.
@@ -342,27 +413,85 @@ pub fn respond(input: &[u8]) -> Result<(u8, String), TryReserveError> {
     }
 }
 
-/// Reads the text of a literal, and returns what came of it, and the bytes of a string.
+/// Returns where the next token is, if it is what is wanted. `texts` are the texts of all entries.
+pub fn step(wanted: Wanted, entries: &[Entry], texts: &str) -> Option<Step> {
+    if !is_of_this_version() {
+        return None;
+    }
+    let mut step = Step::default();
+    let (from, count) = (entries.as_ptr(), entries.len());
+    let (bytes, size) = (texts.as_ptr(), texts.len());
+    let told = &mut step;
+    // SAFETY: The pointers are to live memory of these lengths, and the step is not shared. The
+    // library reads the entries and texts alone, and only writes the step.
+    let is_found = unsafe {
+        match wanted {
+            Wanted::Ident => syn_tokens_ident(from, count, told),
+            Wanted::Punct => syn_tokens_punct(from, count, bytes, size, told),
+            Wanted::Literal => syn_tokens_literal(from, count, told),
+            Wanted::Lifetime => syn_tokens_lifetime(from, count, bytes, size, told),
+            Wanted::Group(delimiter) => syn_tokens_group(from, count, delimiter, told),
+            Wanted::Any => syn_tokens_skip(from, count, bytes, size, told),
+        }
+    };
+    if is_found {
+        Some(step)
+    } else {
+        None
+    }
+}
+
+/// Returns the place before each of these bytes of a text.
+pub fn lines(text: &str, bytes: &[usize]) -> Result<Vec<Place>, Error> {
+    if !is_of_this_version() {
+        return Err(Error::Version);
+    }
+    let mut places: Vec<Place> = Vec::new();
+    places.try_reserve_exact(bytes.len())?;
+    // SAFETY: The pointers are to live memory of these lengths, and that of the places is not
+    // shared. The library reads the text and the bytes alone, and only writes the places.
+    let status = unsafe {
+        let (to, room) = (places.as_mut_ptr(), places.capacity());
+        syn_tokens_lines(text.as_ptr(), text.len(), bytes.as_ptr(), bytes.len(), to, room)
+    };
+    if u32::from(status) != READ {
+        return Err(Error::Memory);
+    }
+    // SAFETY: The library has written so many, since there was room.
+    unsafe { places.set_len(bytes.len()) };
+    Ok(places)
+}
+
+/// Reads the text of a literal, and returns what came of it, and the bytes of a string. No memory is
+/// kept but these bytes.
 pub fn value(text: &str) -> Result<(Value, Vec<u8>), Error> {
     if !is_of_this_version() {
         return Err(Error::Version);
     }
-    let mut bytes: Vec<u8> = Vec::new();
-    // No value is longer than its literal.
-    bytes.try_reserve_exact(text.len().max(1))?;
+    // Most strings are shorter, and no other value has bytes.
+    let mut room = [0u8; 128];
     let mut value = Value::default();
+    let (from, length) = (text.as_ptr(), text.len());
     // SAFETY: The pointers are to live memory of these lengths, which is not shared. The library
     // reads the text alone, and only writes to the rest.
-    unsafe {
-        let (from, length) = (text.as_ptr(), text.len());
-        syn_tokens_value(from, length, bytes.as_mut_ptr(), bytes.capacity(), &mut value);
-    }
-    match value.status {
-        READ => {
+    unsafe { syn_tokens_value(from, length, room.as_mut_ptr(), room.len(), &mut value) };
+    let mut bytes: Vec<u8> = Vec::new();
+    if value.status == NO_ROOM {
+        bytes.try_reserve_exact(value.bytes)?;
+        // SAFETY: As above.
+        unsafe {
+            syn_tokens_value(from, length, bytes.as_mut_ptr(), bytes.capacity(), &mut value);
+        }
+        if value.status == READ {
             // SAFETY: The library has written so many bytes, since there was room.
             unsafe { bytes.set_len(value.bytes.min(bytes.capacity())) };
-            Ok((value, shrunk(bytes)))
         }
+    } else {
+        bytes.try_reserve_exact(value.bytes)?;
+        bytes.extend_from_slice(room.get(..value.bytes).unwrap_or_default());
+    }
+    match value.status {
+        READ => Ok((value, bytes)),
         _ => Err(Error::Memory),
     }
 }

@@ -40,6 +40,7 @@ mod buffer;
 pub mod compiler;
 mod error;
 mod ffi;
+mod lines;
 mod memory;
 mod print;
 #[cfg(feature = "proc-macro2")]
@@ -52,8 +53,9 @@ mod values;
 #[cfg(feature = "proc-macro2")]
 pub use self::proc_macro2::UnknownToken;
 pub use buffer::{
-    Buffer, Cursor, Delimiter, Edition, Group, Groups, Leaf, Punct, Spacing, Span, Token,
+    Buffer, Cursor, Delimiter, Edition, Group, Groups, Leaf, Lifetime, Punct, Spacing, Span, Token,
 };
 pub use error::Error;
+pub use lines::{line_columns, LineColumn};
 pub use respond::{respond, Response};
 pub use values::LiteralValue;

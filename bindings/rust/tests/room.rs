@@ -1,5 +1,5 @@
-//! What memory a read asks for, counted by an allocator: a text is read in one turn, dense or not,
-//! and room that is not needed is given back.
+//! What memory calls ask for, counted by an allocator: room that is not needed is given back, and
+//! each allocation may fail.
 #![deny(unsafe_op_in_unsafe_fn)]
 // Clippy of 1.63 finds it in what `thread_local` makes.
 #![allow(clippy::declare_interior_mutable_const)]
@@ -7,13 +7,12 @@ use std::alloc::{GlobalAlloc, Layout, System};
 use std::cell::Cell;
 use std::ptr;
 
-use syn_tokens::{Buffer, Edition, Error};
+use syn_tokens::{line_columns, respond, Buffer, Edition, Error};
 
 // Each thread has counts of its own, since tests run side by side.
 thread_local! {
-    /// How often room for entries was taken or made larger. The library's own blocks are aligned
-    /// to 16, and texts to 1.
-    static TURNS: Cell<usize> = const { Cell::new(0) };
+    /// How many requests are granted before one fails; none fails if it is `usize::MAX`.
+    static GRANTED: Cell<usize> = const { Cell::new(usize::MAX) };
     /// How many bytes are held.
     static HELD: Cell<usize> = const { Cell::new(0) };
     /// Whether no block can be made smaller.
@@ -23,26 +22,37 @@ thread_local! {
 struct Counting;
 
 impl Counting {
-    /// Counts that a block of one layout becomes one of another size.
-    fn count(layout: Layout, from: usize, to: usize) {
+    /// Counts that a block of one size becomes one of another.
+    fn count(from: usize, to: usize) {
         // At a thread's end there is nothing to count.
         let _ = HELD.try_with(|it| it.set(it.get().wrapping_add(to).wrapping_sub(from)));
-        if layout.align() == 8 && to > from {
-            let _ = TURNS.try_with(|it| it.set(it.get() + 1));
-        }
+    }
+
+    /// Returns whether a request is the one that fails.
+    fn fails() -> bool {
+        GRANTED
+            .try_with(|it| {
+                let left = it.get();
+                it.set(if left == usize::MAX { left } else { left.wrapping_sub(1) });
+                left == 0
+            })
+            .unwrap_or_default()
     }
 }
 
 // SAFETY: The calls are those of the system's allocator.
 unsafe impl GlobalAlloc for Counting {
     unsafe fn alloc(&self, layout: Layout) -> *mut u8 {
-        Counting::count(layout, 0, layout.size());
+        if Counting::fails() {
+            return ptr::null_mut();
+        }
+        Counting::count(0, layout.size());
         // SAFETY: The caller keeps to what is asked.
         unsafe { System.alloc(layout) }
     }
 
     unsafe fn dealloc(&self, block: *mut u8, layout: Layout) {
-        Counting::count(layout, layout.size(), 0);
+        Counting::count(layout.size(), 0);
         // SAFETY: The caller keeps to what is asked.
         unsafe { System.dealloc(block, layout) }
     }
@@ -51,7 +61,10 @@ unsafe impl GlobalAlloc for Counting {
         if size < layout.size() && IS_STUBBORN.try_with(Cell::get).unwrap_or_default() {
             return ptr::null_mut();
         }
-        Counting::count(layout, layout.size(), size);
+        if size > layout.size() && Counting::fails() {
+            return ptr::null_mut();
+        }
+        Counting::count(layout.size(), size);
         // SAFETY: The caller keeps to what is asked.
         unsafe { System.realloc(block, layout, size) }
     }
@@ -59,30 +72,6 @@ unsafe impl GlobalAlloc for Counting {
 
 #[global_allocator]
 static COUNTING: Counting = Counting;
-
-#[test]
-fn texts_are_read_in_one_turn() -> Result<(), Error> {
-    for (is_source, piece) in [
-        (false, "a, b, c, "),
-        (false, "+"),
-        (false, "a_long_name_of_an_item "),
-        (true, "/// A doc comment of some words.\n"),
-        (true, "//!\n"),
-        (true, "fn name(a: u8) -> u8 {\n    // Adds.\n    a + 1\n}\n"),
-    ] {
-        for length in [100, 1_000, 2_000, 100_000] {
-            let text = piece.repeat(length / piece.len());
-            let before = TURNS.with(Cell::get);
-            if is_source {
-                Buffer::lex_source(Edition::Edition2021, &text)?;
-            } else {
-                Buffer::lex(&text)?;
-            }
-            assert_eq!(TURNS.with(Cell::get) - before, 1, "{length} bytes of {piece}");
-        }
-    }
-    Ok(())
-}
 
 /// More room than this is given back, of the entries and of the texts.
 const WASTE: usize = 4096;
@@ -114,4 +103,42 @@ fn room_that_cannot_be_given_back_is_kept() -> Result<(), Error> {
     assert_eq!(read?.len(), 10_000);
     assert_eq!(HELD.with(Cell::get), before);
     Ok(())
+}
+
+/// Makes each allocation of a call fail in turn, and returns how many there are.
+fn fail_each<T>(call: impl Fn() -> Result<T, Error>) -> usize {
+    for number in 0.. {
+        GRANTED.with(|it| it.set(number));
+        let ended = call();
+        let left = GRANTED.with(|it| it.replace(usize::MAX));
+        // The one that fails leaves `usize::MAX`, as if none were to fail.
+        let has_failed = left > number;
+        match ended {
+            Ok(_) if !has_failed => return number,
+            Ok(_) => {}
+            Err(error) => assert!(has_failed && matches!(error, Error::Memory), "{number}"),
+        }
+    }
+    unreachable!()
+}
+
+#[test]
+fn each_allocation_may_fail() {
+    let text = "/// Words.\nfn a_name_of_more_than_fourteen() -> u8 { 'b'; \"c\" }\n";
+    // The layouts are looked at before the first call.
+    assert!(Buffer::lex("").is_ok());
+    let before = HELD.with(Cell::get);
+    assert!(fail_each(|| Buffer::lex_source(Edition::Edition2021, text)) > 2);
+    assert!(fail_each(|| Buffer::lex("( ").map(|_| ()).or_else(ended)) > 0);
+    assert!(fail_each(|| line_columns(text, &[0, 11, 14])) > 0);
+    assert!(fail_each(|| respond(b"a b\n---\nparse 0 Ident\n")) > 2);
+    assert_eq!(HELD.with(Cell::get), before);
+}
+
+/// A rejected text is no failure of memory.
+fn ended(error: Error) -> Result<(), Error> {
+    match error {
+        Error::Rejected { .. } => Ok(()),
+        error => Err(error),
+    }
 }

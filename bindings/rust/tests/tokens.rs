@@ -2,7 +2,8 @@
 use std::ops::Range;
 
 use syn_tokens::{
-    respond, Buffer, Delimiter, Edition, Error, LiteralValue, Response, Spacing, Token,
+    line_columns, respond, Buffer, Cursor, Delimiter, Edition, Error, LineColumn, LiteralValue,
+    Response, Spacing, Token,
 };
 
 /// Lists the tokens in order, a group as its edges.
@@ -153,5 +154,118 @@ fn values() -> Result<(), Error> {
             other => panic!("{text}: {other:?}"),
         }
     }
+    Ok(())
+}
+
+/// Lists the tokens that a cursor finds in order, a group as its edges.
+fn found(tokens: &Cursor<'_>, out: &mut Vec<String>) {
+    let visible = [
+        (Delimiter::Parenthesis, ["(", ")"]),
+        (Delimiter::Brace, ["{", "}"]),
+        (Delimiter::Bracket, ["[", "]"]),
+    ];
+    let mut left = tokens.clone();
+    while let Some(after) = left.skip_token() {
+        let rest = if let Some((it, rest)) = left.lifetime() {
+            out.push(format!("'{}", it.ident.text));
+            assert_eq!(it.span(), it.apostrophe.join(it.ident.span));
+            rest
+        } else if let Some((it, rest)) = left.ident().or_else(|| left.literal()) {
+            out.push(it.text.to_string());
+            rest
+        } else if let Some((it, rest)) = left.punct() {
+            out.push(it.ch.to_string());
+            rest
+        } else {
+            let groups = visible.iter().filter_map(|it| Some((left.group(it.0)?, it.1)));
+            let groups: Vec<_> = groups.collect();
+            assert_eq!(groups.len(), 1, "{left}");
+            let ((group, rest), [open, close]) = groups[0].clone();
+            out.push(open.to_string());
+            found(&group.tokens, out);
+            out.push(close.to_string());
+            rest
+        };
+        assert_eq!(rest, after);
+        left = rest;
+    }
+}
+
+#[test]
+fn cursors_look_through_invisible_groups() -> Result<(), Error> {
+    for (text, wanted) in [
+        ("", ""),
+        ("« «» »", ""),
+        ("a «b» 'c' += «'d»", "a b 'c' + = 'd"),
+        ("« «» » (« [«»] » {a})", "( [ ] { a } )"),
+        ("«« 'a »: «b» «» c» «1 2» 3", "'a : b c 1 2 3"),
+        ("f(«x» => «{ «y» }»)", "f ( x = > { y } )"),
+    ] {
+        let buffer = Buffer::lex_marked(text)?;
+        let mut tokens = Vec::new();
+        found(&buffer.tokens(), &mut tokens);
+        assert_eq!(tokens.join(" "), wanted, "{text}");
+    }
+    Ok(())
+}
+
+/// A cursor that has looked into an invisible group goes on after it.
+#[test]
+fn cursors_leave_invisible_groups() -> Result<(), Error> {
+    let buffer = Buffer::lex_marked("«« a b » c» d")?;
+    let (_, left) = buffer.tokens().ident().unwrap();
+    let texts: Vec<String> = left.clone().map(|it| it.to_string()).collect();
+    assert_eq!(texts, ["b", "c", "d"]);
+    assert_eq!(left.to_string(), "b c d");
+    let end = left.skip_token().and_then(|it| it.skip_token()?.skip_token());
+    assert_eq!(end.map(|it| (it.eof(), it.skip_token())), Some((true, None)));
+    Ok(())
+}
+
+#[test]
+fn invisible_groups_are_found_first_alone() -> Result<(), Error> {
+    let buffer = Buffer::lex_marked("« «a» » «b»")?;
+    let (outer, left) = buffer.tokens().group(Delimiter::None).unwrap();
+    let (inner, end) = outer.tokens.group(Delimiter::None).unwrap();
+    assert_eq!((inner.tokens.to_string(), end.eof()), ("a".to_string(), true));
+    assert_eq!(left.group(Delimiter::None).map(|it| it.1.eof()), Some(true));
+    let buffer = Buffer::lex_marked("a «b»")?;
+    assert_eq!(buffer.tokens().group(Delimiter::None), None);
+    Ok(())
+}
+
+/// The value of a long string is written in a second call.
+#[test]
+fn long_strings_have_values() -> Result<(), Error> {
+    for length in [0, 1, 127, 128, 129, 1000] {
+        let text = "é".repeat(length / 2) + &"a".repeat(length % 2);
+        let buffer: Buffer = format!("\"{text}\"").parse()?;
+        let (literal, _) = buffer.tokens().literal().unwrap();
+        assert_eq!(literal.value()?, Some(LiteralValue::Str(text)));
+    }
+    Ok(())
+}
+
+#[test]
+fn lines_and_columns_count_from_1() -> Result<(), Error> {
+    let text = "a\n é\r\n\nb";
+    let places = line_columns(text, &[9, 0, 1, 2, 3, 4, 5, 6, 7, 8, 10, usize::MAX])?;
+    let numbers: Vec<_> = places.iter().map(|it| it.map(|it| (it.line, it.column))).collect();
+    let wanted = [
+        Some((4, 2)),
+        Some((1, 1)),
+        Some((1, 2)),
+        Some((2, 1)),
+        Some((2, 2)),
+        None,
+        Some((2, 3)),
+        Some((2, 4)),
+        Some((3, 1)),
+        Some((4, 1)),
+        None,
+        None,
+    ];
+    assert_eq!(numbers, wanted);
+    assert_eq!(line_columns("", &[])?, [] as [Option<LineColumn>; 0]);
     Ok(())
 }

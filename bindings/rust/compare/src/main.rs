@@ -1,6 +1,10 @@
-//! Compares ours with proc-macro2 and syn in one process.
+//! Compares ours with proc-macro2 and syn in one process, and values of floats with Rust's own.
 //!
 //!     compare [--seed N] [--turn-spacing] TEXTS RUNS
+//!
+//! There is a float for each ten texts.
+mod cursors;
+mod floats;
 mod random;
 mod runs;
 mod spans;
@@ -37,6 +41,7 @@ fn main() -> ExitCode {
     let begun = Instant::now();
     runs::run(&mut random, numbers[1], &spans, &mut tally);
     texts::run(&mut random, numbers[0], turned, &mut tally);
+    floats::run(&mut random, numbers[0] / 10, &mut tally);
     println!(
         "{} texts and {} runs of seed {seed} in {:.0?}",
         numbers[0],

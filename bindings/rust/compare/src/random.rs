@@ -529,3 +529,28 @@ pub fn input(random: &mut Random) -> (String, String) {
     commands(random, &all, &words, count, &mut lines);
     (text, lines)
 }
+
+/// Digits with underscores, a digit first.
+fn digits(random: &mut Random, most: usize) -> String {
+    let mut out = String::new();
+    for place in 0..=random.below(most) {
+        let is_underscore = place > 0 && random.chance(10);
+        out.push(if is_underscore { '_' } else { char::from(b'0' + random.below(10) as u8) });
+    }
+    out
+}
+
+/// A float without its suffix, and the suffix. Exponents reach past the least and the greatest.
+pub fn float(random: &mut Random) -> (String, &'static str) {
+    let mut out = digits(random, 24);
+    let has_point = random.chance(70);
+    if has_point {
+        out.push('.');
+        out += &digits(random, 24);
+    }
+    if !has_point || random.chance(50) {
+        out += random.pick(&["e", "E", "e+", "e-", "E-", "e_"]);
+        out += &digits(random, 4);
+    }
+    (out, random.pick(&["", "", "f32", "f64"]))
+}

@@ -11,6 +11,7 @@ use syn::punctuated::Punctuated;
 use syn::{braced, bracketed, parenthesized, token, Ident, Lifetime, Token};
 use syn_tokens::{self as ours, Buffer, Cursor};
 
+use crate::cursors;
 use crate::random::{self, Random};
 use crate::spans::Spans;
 use crate::tally::Tally;
@@ -350,6 +351,7 @@ pub fn run(random: &mut Random, count: usize, spans: &Spans, tally: &mut Tally) 
             Err(_) => continue,
         };
         done += 1;
+        cursors::run(done, &text, &buffer, stream(buffer.tokens(), spans), tally);
         let input = format!("{text}\n---\n{commands}");
         let report = match ours::respond(input.as_bytes()) {
             Ok(response) => response.text,

@@ -168,7 +168,7 @@ fn class_of_read(rules: &str, text: &str) -> &'static str {
     } else if has_quoted(text) {
         QUOTED
     } else if ["r#", "br#", "cr#"].iter().any(|it| text.contains(it)) {
-        "`r#`, `br#` or `cr#` before no name"
+        "`r#` before no name, `br#` or `cr#` before no quote"
     } else if rules == "lex" && text.contains('\r') {
         "a bare carriage return in a string"
     } else if quotes > 1 {
@@ -187,14 +187,27 @@ fn class_of_rejected(rule: u32, text: &str, at: usize) -> &'static str {
         5 | 7 | 8 => "left out of `lex`: a doc comment, a raw, byte or C string, a float",
         6 | 10 if has_quoted(text) => QUOTED,
         6 if here.starts_with("br") => "a raw byte string with a character beyond ASCII",
+        6 if here.starts_with("b\"") && goes_on(here) => {
+            "a byte string with a character beyond ASCII after a line that goes on"
+        }
         6 | 11 if is_quote => "three apostrophes, or a tab or line end between apostrophes",
         9 => "a malformed number",
         1 if text[..at].ends_with(|it: char| it.is_ascii_alphanumeric() || it == '_') => {
             "a number before a character that goes on in identifiers"
         }
+        12 => "more than 256 groups within one another",
         13 => "a reserved prefix",
         _ => "UNLISTED: rejected here alone",
     }
+}
+
+/// Whether a line of a string goes on in the next, before white space beyond ASCII.
+fn goes_on(text: &str) -> bool {
+    text.split('\\').any(|after| {
+        let next = after.strip_prefix('\r').unwrap_or(after);
+        let blank = next.trim_start_matches(|it: char| it.is_ascii_whitespace());
+        next.starts_with('\n') && blank.starts_with(char::is_whitespace)
+    })
 }
 
 /// Whether proc-macro2's stream of a buffer has these tokens, at whatever spans.
