@@ -13,6 +13,7 @@ pub mod Identifiers
 pub mod Lanes
 pub mod Longest
 pub mod NestedComments
+pub mod RawQuotes
 pub mod RawStrings
 pub mod Runs
 pub mod Scans

@@ -39,7 +39,7 @@ closed_first closing c text x y misses m e =
           omega arith
     ]
 
-free_ends : (closing : List ℕ) → IsFree (EndsAt closing)
+pub free_ends : (closing : List ℕ) → IsFree (EndsAt closing)
 free_ends closing a b s t x y e = go s t x y e
   where
     go : {a b : List ℕ} → EndsAt closing a → EndsAt closing b → (x y : List ℕ) →

@@ -1,6 +1,7 @@
 -- The characters that the grammar names.
 use Rattle.std.specs.Prelude.{ℕ}
 
+-- the code points, in ascending order
 abbrev pub tab : ℕ
 tab = 9
 
@@ -97,11 +98,13 @@ open_brace = 123
 abbrev pub close_brace : ℕ
 close_brace = 125
 
+-- « and », which stand around an invisible group in marked text
 abbrev pub open_mark : ℕ
 open_mark = 171
 
 abbrev pub close_mark : ℕ
 close_mark = 187
 
+-- U+FEFF, which a text may have at its byte 0 alone
 abbrev pub byte_order_mark : ℕ
 byte_order_mark = 0xFEFF

@@ -8,13 +8,14 @@ use Rattle.tok_lexical.specs.Pieces.{after_first, begins_with}
 use Rattle.tok_lexical.specs.declared.contents.Contents.{Contents}
 use Rattle.tok_lexical.specs.declared.contents.Contents.TheVariants.{Text, Bytes, C}
 
--- a character that no literal of this kind may hold as it is: in bytes one beyond ASCII, in a C
+-- a character that no literal of this kind may hold unescaped: in bytes one beyond ASCII, in a C
 -- string U+0000
 abbrev pub is_misfit : Contents → ℕ → Bool
 is_misfit Text c = false
 is_misfit Bytes c = nat_le 128 c
 is_misfit C c = c == 0
 
+-- a `"` is among the characters
 abbrev pub has_quote : List ℕ → Bool
 has_quote [] = false
 has_quote (c ∷ rest) = (c == quote) || has_quote rest
@@ -35,6 +36,7 @@ has_bare_return [] = false
 has_bare_return (c ∷ rest) =
     ((c == carriage_return) && not (begins_with line_feed rest)) || has_bare_return rest
 
+-- the piece holds a bare U+000D, or a character that no literal of this kind may hold
 abbrev pub is_unfit : Contents → List ℕ → Bool
 is_unfit contents piece = has_bare_return piece || has_misfit contents piece
 
@@ -59,6 +61,7 @@ has_zero escaped [] = false
 has_zero escaped (c ∷ rest) =
     (escaped && names_zero (c ∷ rest)) || has_zero (not escaped && (c == backslash)) rest
 
+-- a string with escapes is malformed: it is unfit, or in a C string an escape names U+0000
 abbrev pub is_wrong : Contents → List ℕ → Bool
 is_wrong C piece = is_unfit C piece || has_zero false piece
 is_wrong contents piece = is_unfit contents piece

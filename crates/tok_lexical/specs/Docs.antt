@@ -7,6 +7,7 @@ use Rattle.tok_lexical.specs.Pieces.{after_first, begins_with, up_to, from_first
 abbrev pub after_mark : List ℕ → List ℕ
 after_mark piece = after_first (after_first (after_first piece))
 
+-- a `!` is the third character: the comment documents the item that contains it
 abbrev pub is_inner_doc : List ℕ → Bool
 is_inner_doc piece = begins_with exclamation_mark (after_first (after_first piece))
 
@@ -20,6 +21,7 @@ is_bare [] after = false
 is_bare (c ∷ []) after = not (begins_with line_feed after)
 is_bare (c ∷ d ∷ rest) after = true
 
+-- the line comment holds a U+000D that is not part of the line ending after it
 abbrev pub breaks_line : List ℕ → List ℕ → Bool
 breaks_line piece after = is_bare (from_first carriage_return piece) after
 

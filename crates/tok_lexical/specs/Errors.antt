@@ -7,7 +7,7 @@ use Rattle.tok_lexical.specs.Contents.{has_bare_return, is_unfit, is_wrong}
 use Rattle.tok_lexical.specs.Docs.{breaks_line}
 use Rattle.tok_lexical.specs.Editions.{reserves_prefixes, reserves_guards}
 use Rattle.tok_lexical.specs.Pieces.{after_first, begins_with}
-use Rattle.tok_lexical.specs.Words.{is_missing, is_plain, is_raw_prefix}
+use Rattle.tok_lexical.specs.Words.{is_missing_raw, is_plain, is_raw_prefix}
 use Rattle.tok_lexical.specs.declared.edition.Edition.{Edition}
 use Rattle.tok_lexical.specs.declared.lex_error_kind.LexErrorKind.{LexErrorKind}
 use Rattle.tok_lexical.specs.declared.lex_error_kind.LexErrorKind.TheVariants.{UnknownCharacter, UnclosedGroup}
@@ -30,6 +30,7 @@ use Rattle.tok_lexical.specs.declared.rule.Rule.TheVariants.{Apostrophe, Based, 
 use Rattle.tok_lexical.specs.declared.rule.Rule.TheVariants.{Decimal, RawIdentifier, Identifier}
 use Rattle.tok_lexical.specs.declared.rule.Rule.TheVariants.{Punct, Other}
 
+-- a number for each kind of error, from 1 to 15
 abbrev pub kind_number : LexErrorKind → ℕ
 kind_number UnknownCharacter = 1
 kind_number UnclosedGroup = 2
@@ -47,6 +48,7 @@ kind_number ReservedPrefix = 13
 kind_number BareReturn = 14
 kind_number ReservedGuard = 15
 
+-- the message of each kind of error
 abbrev pub kind_words : LexErrorKind → List ℕ
 kind_words UnknownCharacter = codes "unknown character"
 kind_words UnclosedGroup = codes "unclosed group"
@@ -64,11 +66,13 @@ kind_words ReservedPrefix = codes "reserved prefix"
 kind_words BareReturn = codes "bare carriage return in a doc comment"
 kind_words ReservedGuard = codes "reserved guard"
 
+-- this kind of error if the condition holds, else no error
 abbrev refused_if : Bool → LexErrorKind → Option LexErrorKind
 refused_if b kind = if b then Some kind else None
 
 -- what follows an identifier makes it a reserved prefix (Rust Reference: Tokens, Reserved
--- prefixes); in 2015 and 2018 only `r` and `br` before `#` are, since that begins no raw string
+-- prefixes); in 2015 and 2018 only `r` and `br` before `#` are, if that begins no raw string: the
+-- rules of raw strings come before
 abbrev pub is_reserved : Edition → List ℕ → List ℕ → Bool
 is_reserved edition name after =
     if reserves_prefixes edition
@@ -84,11 +88,11 @@ is_guard edition piece after =
 -- Of a lifetime of a source, `'ab'` is no character, and an identifier before `#` is reserved.
 abbrev pub lifetime_error : Mode → List ℕ → List ℕ → Option LexErrorKind
 lifetime_error (Source edition) name after =
-    if is_missing name then Some MissingRawIdentifier
+    if is_missing_raw name then Some MissingRawIdentifier
     else if begins_with apostrophe after then Some MalformedQuoted
     else refused_if (reserves_prefixes edition && (is_plain name && begins_with number_sign after))
     ReservedPrefix
-lifetime_error mode name after = refused_if (is_missing name) MissingRawIdentifier
+lifetime_error mode name after = refused_if (is_missing_raw name) MissingRawIdentifier
 
 -- why the piece is rejected, if it is; the byte matters to the byte order mark alone
 abbrev pub error_kind : Rule → Mode → ℕ → List ℕ → List ℕ → Option LexErrorKind
@@ -119,7 +123,8 @@ error_kind (BadBased base) mode at piece after = Some MalformedNumber
 error_kind Float mode at piece after = refused_if (is_exponent after) MalformedNumber
 error_kind Decimal (Source edition) at piece after = refused_if (is_exponent after) MalformedNumber
 error_kind Decimal mode at piece after = refused_if (is_float piece after) FloatLiteral
-error_kind RawIdentifier mode at piece after = refused_if (is_missing piece) MissingRawIdentifier
+error_kind RawIdentifier mode at piece after = refused_if
+    (is_missing_raw piece) MissingRawIdentifier
 error_kind Identifier (Source edition) at piece after =
     refused_if (is_reserved edition piece after) ReservedPrefix
 error_kind Punct (Source edition) at piece after =

@@ -15,6 +15,7 @@ IsExponentSuffix (c ∷ rest) = (is_digit_or_underscore 10 c ≡ false) × IsIde
 abbrev pub IsExponentDigits : List ℕ → Type 0
 IsExponentDigits = IsRun 10 (has_digit 10) IsExponentSuffix
 
+-- the part of an exponent after its letter: a sign or none, digits and a suffix
 abbrev pub IsSigned : List ℕ → Type 0
 IsSigned piece = After plus IsExponentDigits piece
     ⊎ (After minus IsExponentDigits piece ⊎ IsExponentDigits piece)
@@ -32,6 +33,7 @@ IsScaled = IsRun 10 starts_digit IsExponent
 abbrev pub IsFraction : List ℕ → Type 0
 IsFraction piece = IsScaled piece ⊎ IsDecimal piece
 
+-- the part of a float after its first digits: a dot and a fraction, or an exponent
 abbrev pub IsFloatTail : List ℕ → Type 0
 IsFloatTail piece = After dot IsFraction piece ⊎ IsExponent piece
 

@@ -20,6 +20,7 @@ starts_punct (c ∷ rest) = is_punct_or_apostrophe c
 abbrev pub makes_joint : List ℕ → Bool
 makes_joint text = starts_punct text && not (begins_comment text)
 
+-- the text begins with a character that may begin an identifier
 abbrev pub starts_name : List ℕ → Bool
 starts_name [] = false
 starts_name (c ∷ rest) = is_identifier_start c

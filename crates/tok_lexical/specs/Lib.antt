@@ -13,6 +13,7 @@ pub mod Laws
 pub mod Numbers
 pub mod Pieces
 pub mod Raw
+pub mod RawQuotes
 pub mod Rules
 pub mod Sources
 pub mod Starts

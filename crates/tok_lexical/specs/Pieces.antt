@@ -29,8 +29,8 @@ After c Spelled piece = (more : List ℕ) × (piece ≡ c ∷ more) × Spelled m
 abbrev pub IsAll : (ℕ → Bool) → List ℕ → Type 0
 IsAll p piece = list_all p piece ≡ true
 
--- what a function that tries a spelling returns: what follows the piece, or None where no front is
--- spelled so
+-- the result of a function that tries a spelling: the text after the piece, or `None` if no front
+-- is spelled so
 abbrev pub ReadsLongest : (List ℕ → Type 0) → List ℕ → Option (Bor (List ℕ)) → Type 0
 ReadsLongest Spelled text answer =
     MatchOption answer (HasPrefix Spelled text → ⊥)

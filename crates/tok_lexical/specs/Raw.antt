@@ -21,6 +21,7 @@ IsRaw piece =
     × (piece ≡ hashes ++ quote ∷ (body ++ suffix)) × IsAll (λ c. c == number_sign) hashes
     × (length hashes ≤ 255) × EndsAt (quote ∷ hashes) body × IsSuffix suffix
 
+-- a raw string with its prefix, which tells the kind: `r`, `br` or `cr`
 abbrev pub IsRawString : Contents → List ℕ → Type 0
 IsRawString Text = After lower_r IsRaw
 IsRawString Bytes = After lower_b (After lower_r IsRaw)

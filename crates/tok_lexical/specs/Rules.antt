@@ -102,10 +102,12 @@ all_rules =
     ∷ QuotedString Text ∷ BadString ∷ (literal_rules ++ (apostrophe_rules ++ (based_rules
     ++ (decimal_rules ++ RawIdentifier ∷ last_rules))))
 
+-- the mode of texts in which « and » mark invisible groups
 abbrev pub is_marked : Mode → Bool
 is_marked Marked = true
 is_marked mode = false
 
+-- the mode of whole sources, of any edition
 abbrev pub is_source : Mode → Bool
 is_source (Source edition) = true
 is_source mode = false

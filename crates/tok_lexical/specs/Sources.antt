@@ -30,6 +30,7 @@ pub data Blanks : List ℕ → List ℕ → Type 0 where
 abbrev pub OpensAttribute : List ℕ → Type 0
 OpensAttribute text = (after : List ℕ) × Blanks text (open_bracket ∷ after)
 
+-- the text begins with `#!`, which opens no attribute
 abbrev pub IsShebang : List ℕ → Type 0
 IsShebang text =
     (rest : List ℕ) × (text ≡ number_sign ∷ exclamation_mark ∷ rest) × (OpensAttribute rest → ⊥)

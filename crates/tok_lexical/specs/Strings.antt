@@ -17,9 +17,11 @@ is_simple_escape c =
     (c == lower_n) || (c == lower_r) || (c == lower_t) || (c == backslash) || (c == digit_zero)
     || (c == apostrophe) || (c == quote)
 
+-- a hexadecimal digit, of either case
 abbrev pub is_hex : ℕ → Bool
 is_hex c = is_digit c 16
 
+-- a character that may follow the first digit in the braces of `\u{}`
 abbrev pub is_hex_or_underscore : ℕ → Bool
 is_hex_or_underscore c = is_hex c || (c == underscore)
 
@@ -44,6 +46,7 @@ IsCode piece =
     (first : ℕ) × (digits : List ℕ) × (piece ≡ open_brace ∷ first ∷ (digits ++ close_brace ∷ []))
     × (is_hex first ≡ true) × IsAll is_hex_or_underscore digits × NamesChar (first ∷ digits)
 
+-- a line feed, perhaps with a carriage return before it
 abbrev pub IsLineEnd : List ℕ → Type 0
 IsLineEnd piece = (piece ≡ line_feed ∷ []) ⊎ (piece ≡ carriage_return ∷ line_feed ∷ [])
 
@@ -89,12 +92,15 @@ is_char c =
     not ((c == apostrophe) || (c == backslash) || (c == tab) || (c == line_feed)
     || (c == carriage_return))
 
+-- an ASCII character that a byte literal may hold without an escape
 abbrev pub is_byte : ℕ → Bool
 is_byte c = is_char c && nat_lt c 128
 
+-- a backslash and an escape that names one character
 abbrev pub IsEscapedChar : List ℕ → Type 0
 IsEscapedChar = After backslash (IsEscape false false)
 
+-- the inside of a byte literal: an ASCII character or an escape, `\x` up to FF and no `\u`
 abbrev pub IsByte : List ℕ → Type 0
 IsByte inner = IsOne is_byte inner ⊎ After backslash (IsEscape false true) inner
 

@@ -7,6 +7,7 @@ use Rattle.unicode_ident.specs.Ident.{is_xid_start, is_xid_continue}
 use Rattle.tok_lexical.specs.Ascii.{lower_r, number_sign, underscore}
 use Rattle.tok_lexical.specs.Pieces.{After}
 
+-- a character with the property XID_Start, or `_`
 abbrev pub is_identifier_start : ℕ → Bool
 is_identifier_start c = is_xid_start c || (c == underscore)
 
@@ -23,6 +24,7 @@ IsSuffix suffix = (suffix ≡ []) ⊎ IsIdentifier suffix
 abbrev pub IsRawIdentifier : List ℕ → Type 0
 IsRawIdentifier = After lower_r (After number_sign IsIdentifier)
 
+-- an identifier, plain or raw
 abbrev pub IsName : List ℕ → Type 0
 IsName name = IsIdentifier name ⊎ IsRawIdentifier name
 
@@ -39,10 +41,10 @@ has_no_raw word =
     || (bytes_eq word (codes "super") || bytes_eq word (codes "crate"))))
 
 -- a raw identifier that does not exist
-abbrev pub is_missing : List ℕ → Bool
-is_missing [] = false
-is_missing (c ∷ []) = false
-is_missing (c ∷ d ∷ word) = (c == lower_r) && ((d == number_sign) && has_no_raw word)
+abbrev pub is_missing_raw : List ℕ → Bool
+is_missing_raw [] = false
+is_missing_raw (c ∷ []) = false
+is_missing_raw (c ∷ d ∷ word) = (c == lower_r) && ((d == number_sign) && has_no_raw word)
 
 -- a text that does not begin with `r#`
 abbrev pub is_plain : List ℕ → Bool

@@ -33,7 +33,7 @@ fn past_same<'a>(text: &'a str, front: &str) -> Option<&'a str>
 }
 
 /// Returns the text after the first quote that these `#` follow, and after them.
-fn past_raw_body<'a>(text: &'a str, hashes: &str) -> Option<&'a str>
+pub(crate) fn past_raw_body<'a>(text: &'a str, hashes: &str) -> Option<&'a str>
     ensures finds { ReadsPrefix (EndsAt (34 ∷ chars hashes.now)) (chars text.now) result }
     ensures utf8 { IfSome result (λ rest. IsUtf8 rest.now) }
 {

@@ -4,7 +4,7 @@ ghost use Rattle.std.specs.Str.{chars, IsUtf8};
 ghost use Rattle.unicode_ident.specs.Ident.{is_xid_continue};
 ghost use Rattle.tok_lexical.specs.Following.{starts_name};
 ghost use Rattle.tok_lexical.specs.Pieces.{After, IsLongestPrefix, ReadsLongest, Skips};
-ghost use Rattle.tok_lexical.specs.Words.{IsIdentifier, IsRawIdentifier, IsName, IsSuffix, is_identifier_start, has_no_raw, is_missing, is_plain, is_raw_prefix};
+ghost use Rattle.tok_lexical.specs.Words.{IsIdentifier, IsRawIdentifier, IsName, IsSuffix, is_identifier_start, has_no_raw, is_missing_raw, is_plain, is_raw_prefix};
 ghost use Rattle.tok_lexical.specs.Private.Fronts.{begins_continue, is_ascii_continue};
 
 use crate::scan::Continues;
@@ -192,7 +192,7 @@ pub fn has_no_raw(word: &str) -> bool
 
 /// Returns `true` if this is a raw identifier that does not exist.
 pub fn is_missing(name: &str) -> bool
-    ensures { result ≡ is_missing (chars name.now) }
+    ensures { result ≡ is_missing_raw (chars name.now) }
 {
     match past_pair(name, 'r', '#') {
         Some(word) => has_no_raw(word),

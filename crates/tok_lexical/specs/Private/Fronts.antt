@@ -1,4 +1,4 @@
--- What begins a text, as far as ASCII decides it.
+-- What begins a text, if ASCII decides it.
 use Rattle.std.specs.Prelude.{◌==◌, ◌&&◌, ◌||◌, ℕ, List, [], ◌∷◌, Bool, false, nat_le}
 use Rattle.std.specs.Char.{is_ascii_alphanumeric, is_ascii_graphic}
 use Rattle.tok_lexical.specs.Ascii.{space, underscore}
