@@ -1,6 +1,8 @@
 pub mod ByText
+pub mod IdentFaults
 pub mod Kept
 pub mod Lanes
+pub mod Literals
 pub mod Names
 pub mod Plain
 pub mod Quoting

@@ -60,7 +60,7 @@ not_told cs true e never = absurd (never (tells cs e))
 not_told cs false e never = e
 
 -- some text has some characters
-some_chars : (bs : List ℕ) → IsUtf8 bs → (length bs == 0) ≡ false → chars bs ≡ [] → ⊥
+pub some_chars : (bs : List ℕ) → IsUtf8 bs → (length bs == 0) ≡ false → chars bs ≡ [] → ⊥
 some_chars bs u h e =
     false≢true (sym h
     ∙ ap (λ n. n == 0) (ap length (sym (encodes-chars bs u) ∙ ap encode_utf8_all e)))

@@ -15,21 +15,25 @@ pub data Leaf : Type 0 where
   punct : ℕ → Spacing → Span → Leaf
   literal : List ℕ → Span → Leaf
 
--- what the leaves of the program stand for
+-- the leaf that an `Ident` stands for
 abbrev pub ident_of : Ident → Leaf
 ident_of i = ident i.text i.span
 
+-- the leaf that a `Punct` stands for
 abbrev pub punct_of : Punct → Leaf
 punct_of p = punct p.ch p.spacing p.span
 
+-- the leaf that a `Literal` stands for
 abbrev pub literal_of : Literal → Leaf
 literal_of l = literal l.text l.span
 
+-- the bytes that a leaf prints; a punct prints its character in UTF-8
 abbrev pub leaf_text : Leaf → List ℕ
 leaf_text (ident text span) = text
 leaf_text (punct c spacing span) = encode_utf8 c
 leaf_text (literal text span) = text
 
+-- the range of a leaf in a source, or the call site
 abbrev pub leaf_span : Leaf → Span
 leaf_span (ident text span) = span
 leaf_span (punct c spacing span) = span
@@ -40,6 +44,7 @@ abbrev pub leaf_char : Leaf → ℕ
 leaf_char (punct c spacing span) = c
 leaf_char l = 0
 
+-- whether a punct is joint; `Alone` for other leaves
 abbrev pub leaf_spacing : Leaf → Spacing
 leaf_spacing (punct c spacing span) = spacing
 leaf_spacing l = Alone
@@ -51,8 +56,9 @@ unraw text = text
 
 -- why no identifier was made, in words
 abbrev pub make_fault_words : MakeFault → List ℕ
-make_fault_words Refused = codes "not an identifier"
+make_fault_words Refused = codes "not an identifier, or one without a raw form"
 make_fault_words Memory = codes "out of memory"
 
+-- the code point of `'`, with which a lifetime begins
 abbrev pub apostrophe : ℕ
 apostrophe = 39

@@ -1,6 +1,8 @@
+pub mod IdentFaults
 pub mod Laws
 pub mod Leaves
 pub mod Lifetimes
+pub mod Literals
 pub mod Quoting
 pub mod Spans
 pub mod Private

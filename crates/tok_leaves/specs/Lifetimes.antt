@@ -32,21 +32,23 @@ abbrev pub raw_word : List ℕ → Option (List ℕ)
 raw_word (c ∷ (d ∷ word)) = cond (c == 114 && d == 35) (Some word) None
 raw_word cs = None
 
--- why these characters name no lifetime, plain or raw; `None` if they do
+-- why these characters are no plain identifier; `None` if they are one
 abbrev pub plain_error : List ℕ → Option LifetimeFault
 plain_error [] = Some Empty
 plain_error (c ∷ cs) = cond (is_identifier (c ∷ cs)) None (Some NotIdentifier)
 
+-- why the characters after `r#` are no name; `None` if they are one
 abbrev pub raw_error : List ℕ → Option LifetimeFault
 raw_error word = cond (has_no_raw word) (Some NoRaw) (plain_error word)
 
+-- why the characters after an apostrophe are no name, plain or raw; `None` if they are one
 abbrev pub name_error : List ℕ → Option LifetimeFault
 name_error cs = elim (raw_word cs) [ Some word ↦ raw_error word | None ↦ plain_error cs ]
 
 -- why these characters make no lifetime; `None` if they do
-abbrev pub lifetime_error : List ℕ → Option LifetimeFault
-lifetime_error [] = Some NoApostrophe
-lifetime_error (c ∷ cs) = cond (c == apostrophe) (name_error cs) (Some NoApostrophe)
+abbrev pub lifetime_fault : List ℕ → Option LifetimeFault
+lifetime_fault [] = Some NoApostrophe
+lifetime_fault (c ∷ cs) = cond (c == apostrophe) (name_error cs) (Some NoApostrophe)
 
 -- an allocation failure says nothing of the text
 abbrev pub error_in : LifetimeFault → Option LifetimeFault
@@ -58,9 +60,10 @@ abbrev pub name_fault : MakeFault → LifetimeFault
 name_fault Refused = NotIdentifier
 name_fault made.Memory = Memory
 
-abbrev pub fault_words : LifetimeFault → List ℕ
-fault_words NoApostrophe = codes "lifetime without an apostrophe"
-fault_words Empty = codes "lifetime without a name"
-fault_words NotIdentifier = codes "lifetime whose name is no identifier"
-fault_words NoRaw = codes "lifetime whose raw name does not exist"
-fault_words Memory = codes "out of memory"
+-- the message of each fault
+abbrev pub lifetime_fault_words : LifetimeFault → List ℕ
+lifetime_fault_words NoApostrophe = codes "lifetime without an apostrophe"
+lifetime_fault_words Empty = codes "lifetime without a name"
+lifetime_fault_words NotIdentifier = codes "lifetime whose name is no identifier"
+lifetime_fault_words NoRaw = codes "lifetime whose raw name does not exist"
+lifetime_fault_words Memory = codes "out of memory"

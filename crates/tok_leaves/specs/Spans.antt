@@ -9,22 +9,25 @@ use Rattle.tok_leaves.specs.declared.span.Bounds.TheVariants as bounds
 use Rattle.tok_leaves.specs.declared.span.DelimSpan.{DelimSpan}
 use Rattle.tok_lexical.specs.declared.delimiter.Delimiter.{Delimiter}
 
+-- the span of a token that was not read from a source
 abbrev pub call_site : Span
 call_site = record { origin = CallSite }
 
+-- the bytes from `start` up to `end`, without that one, of the source of this number
 abbrev pub source : ℕ → ℕ → ℕ → Span
 source number start end = record { origin = Source number start end }
 
--- a delimiter and a span, kept in one
+-- the delimiter of a group, in its bounds
 abbrev pub bounds_delimiter : Bounds → Delimiter
 bounds_delimiter (bounds.CallSite delimiter) = delimiter
 bounds_delimiter (bounds.Source delimiter number start end) = delimiter
 
+-- the span of a whole group, in its bounds
 abbrev pub bounds_span : Bounds → Span
 bounds_span (bounds.CallSite delimiter) = call_site
 bounds_span (bounds.Source delimiter number start end) = source number start end
 
--- the first byte, the last byte; an empty range and the call site are themselves
+-- the first byte of a span; an empty range and the call site are themselves
 abbrev pub opening_span : Span → Span
 opening_span span =
     elim span.origin [
@@ -32,6 +35,7 @@ opening_span span =
       | Source n a b ↦ cond (nat_lt a b) (source n a (a + 1)) span
     ]
 
+-- the last byte of a span; an empty range and the call site are themselves
 abbrev pub closing_span : Span → Span
 closing_span span =
     elim span.origin [
@@ -45,6 +49,7 @@ joined_origins (Source n a b) (Source m c d) =
     cond (n == m) (Some (source n (min a c) (max b d))) None
 joined_origins p q = None
 
+-- the span that covers both; `None` for two sources, and for the call site
 abbrev pub join : Span → Span → Option Span
 join left right = joined_origins left.origin right.origin
 
@@ -56,5 +61,6 @@ covering start end = unwrap_or (join start end) start
 abbrev pub range : Span → Option (ℕ × ℕ × ℕ)
 range span = elim span.origin [ CallSite ↦ None | Source n a b ↦ Some (n, a, b) ]
 
+-- the span of a group from its opening to its closing
 abbrev pub whole_span : DelimSpan → Span
 whole_span s = s.join

@@ -54,7 +54,7 @@ impl MakeFault {
         ensures { result.now ≡ make_fault_words self }
     {
         match self {
-            MakeFault::Refused => "not an identifier",
+            MakeFault::Refused => "not an identifier, or one without a raw form",
             MakeFault::Memory => "out of memory",
         }
     }
@@ -81,7 +81,7 @@ impl Ident {
     /// Creates an identifier or a keyword.
     ///
     /// Returns `Refused` unless `text` is an XID_Start character or `_`, followed by XID_Continue
-    /// characters. Returns `Memory` if the allocation fails.
+    /// characters; `IdentFault::of` says why. Returns `Memory` if the allocation fails.
     pub fn new(alloc: Global, text: &str, span: Span) -> Result<Ident, MakeFault>
         ensures made { IfOk result (λ i. ident_of i ≡ ident text.now span) }
         ensures takes { IsIdentifier (chars text.now)
@@ -98,7 +98,8 @@ impl Ident {
     /// Creates a raw identifier: its text is `r#` followed by `text`.
     ///
     /// Returns `Refused` unless `text` is an identifier, and for `_`, `self`, `Self`, `super` and
-    /// `crate`, which have no raw form. Returns `Memory` if an allocation fails.
+    /// `crate`, which have no raw form; `IdentFault::of_raw` says why. Returns `Memory` if an
+    /// allocation fails.
     pub fn new_raw(alloc: Global, text: &str, span: Span) -> Result<Ident, MakeFault>
         ensures made { IfOk result (λ i. ident_of i ≡ ident (codes "r#" ++ text.now) span) }
         ensures takes { HasRaw (chars text.now) → IfErr result (λ fault. fault ≡ MakeFault.Memory) }

@@ -5,12 +5,15 @@ ghost use Rattle.std.specs.Ordering.{nat_cmp};
 ghost use Rattle.std.specs.Cmp.Lexicographic.{slice_cmp};
 ghost use Rattle.std.specs.declared.cmp.Ordering.TheVariants.{Equal};
 ghost use Rattle.tok_lexical.specs.Laws.{ClonesKeep, EqualAsValues};
+ghost use Rattle.tok_leaves.specs.IdentFaults.{FaultsTellCharacters, FaultsTellIdentifiers, FaultsTellRawForms};
 ghost use Rattle.tok_leaves.specs.Laws.{IsByText, text_of};
 ghost use Rattle.tok_leaves.specs.Lifetimes.{name_of};
 
 use crate::ident::{Ident, MakeFault};
+use crate::ident_fault::IdentFault;
 use crate::lifetime::{Lifetime, LifetimeFault};
 use crate::literal::Literal;
+use crate::literal_fault::LiteralFault;
 use crate::punct::{Punct, Spacing};
 use crate::span::{Bounds, DelimSpan, Span};
 use crate::text::Text;
@@ -40,6 +43,14 @@ pub fn lifetimes_by_name()
         ⟦<Lifetime as PartialOrd>⟧.partial_cmp ⟦<Lifetime as Hash>⟧.hash_input }
 {}
 
+/// `IdentFault::of` is `None` if and only if a text is an identifier, and `IdentFault::of_raw` if and
+/// only if it has a raw form. A character that is named is the first that no identifier has there.
+pub fn ident_faults_tell()
+    ensures identifiers { FaultsTellIdentifiers }
+    ensures raw_forms { FaultsTellRawForms }
+    ensures characters { FaultsTellCharacters }
+{}
+
 /// Spans, spacings and faults are equal if and only if they are the same.
 pub fn spans_are_compared_whole()
     ensures spans { EqualAsValues ⟦<Span as PartialEq>⟧.eq }
@@ -47,6 +58,8 @@ pub fn spans_are_compared_whole()
     ensures spacings { EqualAsValues ⟦<Spacing as PartialEq>⟧.eq }
     ensures faults { EqualAsValues ⟦<MakeFault as PartialEq>⟧.eq }
     ensures lifetime_faults { EqualAsValues ⟦<LifetimeFault as PartialEq>⟧.eq }
+    ensures ident_faults { EqualAsValues ⟦<IdentFault as PartialEq>⟧.eq }
+    ensures literal_faults { EqualAsValues ⟦<LiteralFault as PartialEq>⟧.eq }
 {}
 
 /// A clone of a leaf, a lifetime, a text, a span or a fault equals the original, spans included.
@@ -62,4 +75,6 @@ pub fn clones_keep_all()
     ensures spacings { ClonesKeep ⟦<Spacing as Clone>⟧.is_clone }
     ensures faults { ClonesKeep ⟦<MakeFault as Clone>⟧.is_clone }
     ensures lifetime_faults { ClonesKeep ⟦<LifetimeFault as Clone>⟧.is_clone }
+    ensures ident_faults { ClonesKeep ⟦<IdentFault as Clone>⟧.is_clone }
+    ensures literal_faults { ClonesKeep ⟦<LiteralFault as Clone>⟧.is_clone }
 {}

@@ -5,18 +5,22 @@
 #![tactic(auto)]
 
 mod ident;
+mod ident_fault;
 pub mod known;
 pub mod laws;
 mod lifetime;
 mod literal;
+mod literal_fault;
 mod punct;
 pub mod same;
 mod span;
 mod text;
 
 pub use ident::{Ident, MakeFault};
+pub use ident_fault::IdentFault;
 pub use lifetime::{Lifetime, LifetimeFault};
 pub use literal::Literal;
+pub use literal_fault::LiteralFault;
 pub use punct::{Punct, Spacing};
 pub use span::{Bounds, DelimSpan, Span};
 pub use text::Text;

@@ -3,7 +3,7 @@ ghost use Rattle.std.specs.Prelude.{◌≡◌, ◌++◌, ◌∷◌, codes, None,
 ghost use Rattle.std.specs.Str.{chars, IsUtf8};
 ghost use Rattle.tok_leaves.specs.Leaves.{ident, ident_of, leaf_span, leaf_text, apostrophe};
 ghost use Rattle.tok_lexical.specs.Words.{has_no_raw};
-ghost use Rattle.tok_leaves.specs.Lifetimes.{fault_words, lifetime_error, lifetime_text, name_fault, name_error, plain_error, raw_error, error_in};
+ghost use Rattle.tok_leaves.specs.Lifetimes.{lifetime_fault_words, lifetime_fault, lifetime_text, name_fault, name_error, plain_error, raw_error, error_in};
 ghost use Rattle.tok_leaves.specs.Spans.{covering};
 
 use crate::ident::{Ident, MakeFault};
@@ -49,7 +49,7 @@ pub enum LifetimeFault {
 
 impl LifetimeFault {
     fn words(self) -> &'static str
-        ensures { result.now ≡ fault_words self }
+        ensures { result.now ≡ lifetime_fault_words self }
     {
         match self {
             LifetimeFault::NoApostrophe => "lifetime without an apostrophe",
@@ -62,7 +62,7 @@ impl LifetimeFault {
 }
 
 impl Display for LifetimeFault {
-    ghost output = { λ fault. Some (fault_words fault) };
+    ghost output = { λ fault. Some (lifetime_fault_words fault) };
 
     fn fmt<W: Write>(&self, f: &mut Formatter<W>) -> fmt::Result {
         f.write_str(self.words())
@@ -77,12 +77,12 @@ impl Lifetime {
     /// Returns the first error that applies, in the order of `LifetimeFault`, or `Memory` if the
     /// allocation fails.
     pub fn new(alloc: Global, symbol: &str, span: Span) -> Result<Lifetime, LifetimeFault>
-        ensures made { IfOk result (λ l. lifetime_error (chars symbol.now) ≡ None) }
+        ensures made { IfOk result (λ l. lifetime_fault (chars symbol.now) ≡ None) }
         ensures text { IfOk result (λ l. lifetime_text l ≡ symbol.now) }
         ensures spans { IfOk result
             (λ l. (l.apostrophe ≡ span) × (leaf_span (ident_of l.ident) ≡ span)) }
         ensures refused { IfErr result
-            (λ fault. lifetime_error (chars symbol.now) ≡ error_in fault) }
+            (λ fault. lifetime_fault (chars symbol.now) ≡ error_in fault) }
     {
         let Some(name) = past_apostrophe(symbol) else {
             return Err(LifetimeFault::NoApostrophe);
@@ -141,8 +141,8 @@ impl Display for Lifetime {
 // Removes a leading apostrophe.
 fn past_apostrophe(symbol: &str) -> Option<&str>
     ensures chars { MatchOption result
-        (lifetime_error (chars symbol.now) ≡ Some LifetimeFault.NoApostrophe)
-        (λ name. lifetime_error (chars symbol.now) ≡ name_error (chars name.now)) }
+        (lifetime_fault (chars symbol.now) ≡ Some LifetimeFault.NoApostrophe)
+        (λ name. lifetime_fault (chars symbol.now) ≡ name_error (chars name.now)) }
     ensures bytes { IfSome result (λ name. symbol.now ≡ apostrophe ∷ name.now) }
     ensures utf8 { IfSome result (λ name. IsUtf8 name.now) }
 {

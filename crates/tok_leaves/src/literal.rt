@@ -1,14 +1,16 @@
 //! Literals.
-ghost use Rattle.std.specs.Prelude.{◌≡◌, ◌<◌, ◌≤◌, ◌+◌, ◌^◌, ℕ, List, ◌++◌, [], ◌∷◌, length, map, take, count_by, slice_index, true, false, codes, string_bytes, IfOk, SomeIff, OnOk, Some};
+ghost use Rattle.std.specs.Prelude.{◌≡◌, ◌<◌, ◌≤◌, ◌+◌, ◌^◌, ℕ, List, ◌++◌, [], ◌∷◌, length, map, take, count_by, slice_index, true, false, codes, string_bytes, IfOk, IfErr, SomeIff, OnOk, Some, Err};
 ghost use Rattle.std.specs.Str.{chars, IsUtf8};
 ghost use Rattle.std.specs.CStr.{c_str_bytes};
 ghost use Rattle.tok_leaves.specs.Leaves.{literal, literal_of, leaf_span, leaf_text};
+ghost use Rattle.tok_leaves.specs.Literals.{IsOneLiteral, literal_fault};
 ghost use Rattle.tok_leaves.specs.Quoting.{escaped, in_quotes, in_apostrophes, is_unseen, shown, shown_in_quotes, escaped_byte, bytes_between};
 ghost use Rattle.tok_leaves.specs.Private.Plain.{has_escape, is_loose, is_plain};
 ghost use Rattle.tok_leaves.specs.Spans.{call_site};
 ghost use Rattle.tok_lexical.specs.Pieces.{Skips};
 ghost use lib.Lanes.{chunk, mask_l};
 
+use crate::literal_fault::{LiteralFault, is_literal, literal_fault};
 use crate::span::Span;
 use crate::text::Text;
 use std::alloc::{AllocError, Global};
@@ -174,7 +176,10 @@ fn is_unseen(c: char) -> bool
             | '\u{7F}'..='\u{A0}'
             | '\u{AD}'
             | '\u{300}'..='\u{36F}'
+            | '\u{61C}'
             | '\u{1680}'
+            | '\u{17B4}'..='\u{17B5}'
+            | '\u{180B}'..='\u{180F}'
             | '\u{1AB0}'..='\u{1AFF}'
             | '\u{1DC0}'..='\u{1DFF}'
             | '\u{2000}'..='\u{200F}'
@@ -187,6 +192,8 @@ fn is_unseen(c: char) -> bool
             | '\u{FE20}'..='\u{FE2F}'
             | '\u{FEFF}'
             | '\u{FFF0}'..='\u{FFFB}'
+            | '\u{1BCA0}'..='\u{1BCA3}'
+            | '\u{1D173}'..='\u{1D17A}'
             | '\u{E0000}'..='\u{10FFFF}'
     )
 }
@@ -234,6 +241,34 @@ fn bytes_between(
 }
 
 impl Literal {
+    /// Creates a literal from its text.
+    ///
+    /// `text` must be exactly one literal, by the rules of a source of the latest edition. Returns
+    /// `Sign` if it begins with `-` or `+`, and `NotLiteral` for any other text that is none, or has
+    /// a blank, a comment or another token around it. Returns `Memory` if the allocation fails.
+    ///
+    /// # Examples
+    ///
+    /// ```rust
+    /// let number = Literal::new(alloc, "5i32", Span::call_site())?;
+    /// assert_eq!(rt; number.as_str(), "5i32");
+    /// let fault = Literal::new(alloc, "-5", Span::call_site()).err();
+    /// assert_eq!(rt; fault, Some(LiteralFault::Sign));
+    /// ```
+    pub fn new(alloc: Global, text: &str, span: Span) -> Result<Literal, LiteralFault>
+        ensures made { IfOk result (λ l. literal_of l ≡ literal text.now span) }
+        ensures takes { IsOneLiteral (chars text.now)
+            → IfErr result (λ fault. fault ≡ LiteralFault.Memory) }
+        ensures refuses { (IsOneLiteral (chars text.now) → ⊥)
+            → result ≡ Err (literal_fault (chars text.now)) }
+    {
+        if !is_literal(text) {
+            return Err(literal_fault(text));
+        }
+        let text = Text::from_str(alloc, text)?;
+        Ok(Literal::unchecked(text, span))
+    }
+
     /// Creates a string literal of `text`, at the call site. Every text has one.
     ///
     /// It is in double quotes. The characters `"`, `\`, line feed, carriage return, tab and U+0000
@@ -257,8 +292,9 @@ impl Literal {
     /// Creates the string literal of a doc comment's text, at the call site.
     ///
     /// It is written as by [`Literal::string`], but a character that shows nothing by itself is
-    /// written as `\u{..}`: controls, spaces but U+0020, separators, formats, marks that combine
-    /// with letters of any script, and private use. Returns an error if an allocation fails.
+    /// written as `\u{..}`: controls, spaces but U+0020, separators, formats that are ignored where
+    /// they are not supported, marks that combine with letters of any script, and private use.
+    /// Returns an error if an allocation fails.
     pub fn doc_comment(alloc: Global, text: &str) -> Result<Literal, AllocError>
         ensures { IfOk result (λ l. literal_of l
             ≡ literal (shown_in_quotes (chars text.now)) call_site) }

@@ -5,6 +5,7 @@ use Rattle.std.specs.Prelude.{ℕ, Bool, ◌==◌, ◌||◌, not, nat_lt}
 abbrev pub is_loose : ℕ → Bool
 is_loose b = nat_lt b 0x20 || nat_lt 0x7E b || (b == 0x22) || (b == 0x5C)
 
+-- a byte of printable ASCII other than a quote and a backslash
 abbrev pub is_plain : ℕ → Bool
 is_plain b = not (is_loose b)
 

@@ -1,0 +1,48 @@
+-- Which texts are one literal (Rust Reference: Tokens, Literals), and why a text is none.
+use Rattle.std.specs.Prelude.{◌≡◌, ℕ, List, [], ◌||◌, Bool, true, false, None, codes, if◌then◌else◌}
+use Rattle.tok_lexical.specs.Ascii.{minus, plus}
+use Rattle.tok_lexical.specs.Errors.{error_kind}
+use Rattle.tok_lexical.specs.Fits.{IsFirstFit}
+use Rattle.tok_lexical.specs.Pieces.{begins_with}
+use Rattle.tok_lexical.specs.Rules.{rules_of}
+use Rattle.tok_lexical.specs.declared.edition.Edition.TheVariants.{Edition2024}
+use Rattle.tok_lexical.specs.declared.rule.Mode.TheVariants.{Source}
+use Rattle.tok_lexical.specs.declared.rule.Rule.{Rule}
+use Rattle.tok_lexical.specs.declared.rule.Rule.TheVariants.{QuotedString, RawString, ByteChar}
+use Rattle.tok_lexical.specs.declared.rule.Rule.TheVariants.{EscapedChar, PlainChar, Based, Float}
+use Rattle.tok_lexical.specs.declared.rule.Rule.TheVariants.{PointedDecimal, Decimal}
+use Rattle.tok_leaves.specs.declared.literal_fault.LiteralFault.{LiteralFault}
+use Rattle.tok_leaves.specs.declared.literal_fault.LiteralFault.TheVariants.{Sign, NotLiteral}
+use Rattle.tok_leaves.specs.declared.literal_fault.LiteralFault.TheVariants.{Memory}
+
+-- the rules that take literals
+abbrev pub is_literal_rule : Rule → Bool
+is_literal_rule (QuotedString contents) = true
+is_literal_rule (RawString contents) = true
+is_literal_rule ByteChar = true
+is_literal_rule EscapedChar = true
+is_literal_rule PlainChar = true
+is_literal_rule (Based base) = true
+is_literal_rule Float = true
+is_literal_rule PointedDecimal = true
+is_literal_rule Decimal = true
+is_literal_rule rule = false
+
+-- one of these rules takes all of the text, as in a source of the latest edition, and does not
+-- reject it
+abbrev pub IsOneLiteral : List ℕ → Type 0
+IsOneLiteral text =
+    (rule : Rule) × (is_literal_rule rule ≡ true)
+    × IsFirstFit text (rules_of (Source Edition2024)) rule text []
+    × (error_kind rule (Source Edition2024) 0 text [] ≡ None)
+
+-- why a text is not one literal: it begins with a sign, or it has any other form
+abbrev pub literal_fault : List ℕ → LiteralFault
+literal_fault text =
+    if begins_with minus text || begins_with plus text then Sign else NotLiteral
+
+-- the words of each reason
+abbrev pub literal_fault_words : LiteralFault → List ℕ
+literal_fault_words Sign = codes "begins with a sign, which is a punct of its own"
+literal_fault_words NotLiteral = codes "not exactly one literal"
+literal_fault_words Memory = codes "out of memory"

@@ -1,0 +1,114 @@
+//! Which texts are one literal, and why a text is none.
+ghost use Rattle.std.specs.Prelude.{◌≡◌, [], MatchBool, None, Some};
+ghost use Rattle.std.specs.Str.{chars};
+ghost use Rattle.tok_lexical.specs.Errors as errors;
+ghost use Rattle.tok_lexical.specs.declared.edition.Edition.TheVariants.{Edition2024};
+ghost use Rattle.tok_lexical.specs.declared.rule.Mode.TheVariants.{Source};
+ghost use Rattle.tok_leaves.specs.Literals.{IsOneLiteral, is_literal_rule, literal_fault, literal_fault_words};
+
+use std::alloc::AllocError;
+use std::fmt::{self, Display, Formatter, Write};
+use tok_lexical::text::begins_with;
+use tok_lexical::{Edition, Mode, Rule, error_kind, first_rule};
+
+/// Why no literal was made of a text.
+#[derive(Clone, Copy, PartialEq, Eq, Debug)]
+pub enum LiteralFault {
+    /// The text begins with `-` or `+`. A sign is a punct of its own.
+    Sign,
+    /// The text is no literal, or there is something before or after it.
+    NotLiteral,
+    /// An allocation failed.
+    Memory,
+}
+
+impl From<AllocError> for LiteralFault {
+    ghost use Rattle.tok_leaves.specs.declared.literal_fault.LiteralFault.TheVariants.{Memory};
+
+    ghost from_gives = { λ _ fault. fault ≡ Memory };
+
+    fn from(_: AllocError) -> Self {
+        LiteralFault::Memory
+    }
+}
+
+impl LiteralFault {
+    fn words(self) -> &'static str
+        ensures { result.now ≡ literal_fault_words self }
+    {
+        match self {
+            LiteralFault::Sign => "begins with a sign, which is a punct of its own",
+            LiteralFault::NotLiteral => "not exactly one literal",
+            LiteralFault::Memory => "out of memory",
+        }
+    }
+}
+
+impl Display for LiteralFault {
+    ghost output = { λ fault. Some (literal_fault_words fault) };
+
+    fn fmt<W: Write>(&self, f: &mut Formatter<W>) -> fmt::Result {
+        f.write_str(self.words())
+    }
+}
+
+impl std::error::Error for LiteralFault {}
+
+// How literals are read: as those of a source of the latest edition.
+const SOURCE: Mode = Mode::Source(Edition::Edition2024);
+
+// Returns `true` if the rules of a source read all of this text as one literal.
+pub fn is_literal(text: &str) -> bool
+    ensures { MatchBool result (IsOneLiteral (chars text.now)) (IsOneLiteral (chars text.now) → ⊥) }
+{
+    let Some((rule, after)) = first_rule(SOURCE, text) else {
+        return false;
+    };
+    if !after.is_empty() {
+        return false;
+    }
+    if !is_literal_rule(rule) {
+        return false;
+    }
+    is_read(rule, text)
+}
+
+// Returns `true` if a rule that takes all of this text does not reject it.
+fn is_read(rule: Rule, text: &str) -> bool
+    ensures { MatchBool result
+        (errors.error_kind rule (Source Edition2024) 0 (chars text.now) [] ≡ None)
+        (errors.error_kind rule (Source Edition2024) 0 (chars text.now) [] ≡ None → ⊥) }
+{
+    match error_kind(rule, SOURCE, 0, text, "", true) {
+        Some(_) => false,
+        None => true,
+    }
+}
+
+fn is_literal_rule(rule: Rule) -> bool
+    ensures { result ≡ is_literal_rule rule }
+{
+    matches!(
+        rule,
+        Rule::QuotedString(_)
+            | Rule::RawString(_)
+            | Rule::ByteChar
+            | Rule::EscapedChar
+            | Rule::PlainChar
+            | Rule::Based(_)
+            | Rule::Float
+            | Rule::PointedDecimal
+            | Rule::Decimal
+    )
+}
+
+// Returns why a text is not one literal.
+pub fn literal_fault(text: &str) -> LiteralFault
+    ensures { result ≡ literal_fault (chars text.now) }
+{
+    if begins_with(text, '-') || begins_with(text, '+') {
+        LiteralFault::Sign
+    } else {
+        LiteralFault::NotLiteral
+    }
+}
