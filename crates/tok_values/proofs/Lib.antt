@@ -2,8 +2,12 @@ mod Bytes
 mod Chars
 mod Codes
 mod Digits
+mod Endings
+mod FloatEndings
+mod Fronts
 mod Numerals
 mod Quoted
+mod RawStrings
 mod Read
 mod Runs
 mod Units

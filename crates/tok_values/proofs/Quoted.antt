@@ -89,7 +89,7 @@ choose false x y rest c f g = g refl
 plain : (c : ℕ) (rest : List ℕ) → (c == 34) ≡ false → (c == 92) ≡ false → (c == 13) ≡ false
     → unit false (c ∷ rest) ≡ Some (c ∷ [], rest)
 plain c rest quote slash return =
-    ap (λ b. if b then strings.escaped false rest else
+    ap (λ b. if b then strings.past_escape false rest else
     if c == 34 then None else
     if c == 13 then line_feed rest else Some (c ∷ [], rest)) slash
     ∙ ap (λ b. if b then None else if c == 13 then line_feed rest else Some (c ∷ [], rest)) quote

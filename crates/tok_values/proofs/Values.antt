@@ -14,7 +14,7 @@ use Rattle.tok_lexical.specs.Pieces.{Skips, after_first, begins_with, from_first
 use Rattle.tok_values.specs.Escapes.{and_rest, code, escape, hex, named_char, simple}
 use Rattle.tok_values.specs.Integers.{IsDigits, IsInteger, ReadsInteger, base_of}
 use Rattle.tok_values.specs.Numbers.{number}
-use Rattle.tok_values.specs.Strings.{InQuotes, IsStringValue, Means, alone, ends_line, escaped}
+use Rattle.tok_values.specs.Strings.{InQuotes, IsStringValue, Means, alone, ends_line, past_escape}
 use Rattle.tok_values.specs.Strings.{is_blank, line_feed, more, nothing, unit, without_blanks}
 use Rattle.tok_values.specs.Values.{HasValue, IntegersHaveOneValue, StringsHaveOneValue}
 use Rattle.tok_values.specs.Values.{and_rest_of, characters_in_quotes, digits_value, integer_value}
@@ -95,7 +95,7 @@ alone_leaves : (n : ℕ) (o : Option (ℕ × List ℕ)) → Leaves n o → Leave
 alone_leaves n None h = nothing_found n
 alone_leaves n (Some p) h = one_found n _ p.1 (h.less p refl)
 
-escaped_leaves : (wide : Bool) (text : List ℕ) → Leaves (length text) (escaped wide text)
+escaped_leaves : (wide : Bool) (text : List ℕ) → Leaves (length text) (past_escape wide text)
 escaped_leaves wide text =
     either (length text) (ends_line text) _ _ (one_found (length text) _ _ (blanks text))
     (alone_leaves (length text) _ (escape_leaves wide text))

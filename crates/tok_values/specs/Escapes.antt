@@ -59,6 +59,6 @@ escape wide (c ∷ rest) =
     and_rest (simple c) rest
 
 -- what a function that looks for a character returns
-abbrev pub Finds : Option (ℕ × List ℕ) → Option (ℕ × Bor (List ℕ)) → Type 0
-Finds wanted answer =
+abbrev pub FindsCharacter : Option (ℕ × List ℕ) → Option (ℕ × Bor (List ℕ)) → Type 0
+FindsCharacter wanted answer =
     MatchOption answer (wanted ≡ None) (λ r. wanted ≡ Some (r.0, chars r.1.now))

@@ -12,6 +12,7 @@ without_type text =
     let last = drop n text in
     if bytes_eq last (codes "f32") || bytes_eq last (codes "f64") then take n text else text
 
+-- any byte but `_`
 abbrev pub is_no_underscore : ℕ → Bool
 is_no_underscore byte = not (byte == 95)
 

@@ -42,6 +42,7 @@ CharactersAreRead =
     (mode : Mode) → (c : ℕ) → IsScalar c →
     IsOneChar mode (chars (in_apostrophes c)) × IsCharValue (chars (in_apostrophes c)) c
 
+-- each number is below 256
 abbrev pub AreBytes : List ℕ → Type 0
 AreBytes [] = Unit {0}
 AreBytes (b ∷ bytes) = (b < 256) × AreBytes bytes

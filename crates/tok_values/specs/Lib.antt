@@ -4,7 +4,9 @@ pub mod Integers
 pub mod Laws
 pub mod Numbers
 pub mod Private
+pub mod RawStrings
 pub mod Strings
+pub mod Suffixes
 pub mod Values
 pub use Rattle.tok_leaves.specs.Leaves
 pub use Rattle.tok_leaves.specs.Quoting

@@ -13,6 +13,7 @@ use Rattle.tok_values.specs.Escapes.{escape}
 abbrev pub is_blank : ℕ → Bool
 is_blank c = (c == 32) || ((c == 9) || ((c == 10) || (c == 13)))
 
+-- the text after the blanks at its front
 abbrev pub without_blanks : List ℕ → List ℕ
 without_blanks [] = []
 without_blanks (c ∷ rest) = if is_blank c then without_blanks rest else c ∷ rest
@@ -27,8 +28,8 @@ alone None = None
 alone (Some (c, rest)) = Some (c ∷ [], rest)
 
 -- after a `\`: an escape, or the end of a line, which means nothing, nor do the blanks after it
-abbrev pub escaped : (wide : Bool) → List ℕ → Option (List ℕ × List ℕ)
-escaped wide text =
+abbrev pub past_escape : (wide : Bool) → List ℕ → Option (List ℕ × List ℕ)
+past_escape wide text =
     if ends_line text then Some ([], without_blanks text) else alone (escape wide text)
 
 -- after a carriage return: the line feed that both mean
@@ -40,7 +41,7 @@ line_feed text = if begins_with 10 text then Some (10 ∷ [], after_first text) 
 abbrev pub unit : (wide : Bool) → List ℕ → Option (List ℕ × List ℕ)
 unit wide [] = None
 unit wide (c ∷ rest) =
-    if c == 92 then escaped wide rest else
+    if c == 92 then past_escape wide rest else
     if c == 34 then None else
     if c == 13 then line_feed rest else
     if wide && nat_le 128 c then None else Some (c ∷ [], rest)

@@ -47,6 +47,7 @@ abbrev pub split : (ℕ → Bool) → List ℕ → List ℕ × List ℕ
 split p [] = ([], [])
 split p (c ∷ text) = if p c then (c ∷ (split p text).0, (split p text).1) else ([], c ∷ text)
 
+-- nothing, or an identifier that begins with none of the digits of the base, `_`, `e` and `E`
 abbrev pub is_number_suffix : (radix : ℕ) → List ℕ → Bool
 is_number_suffix radix [] = true
 is_number_suffix radix (c ∷ text) =
@@ -59,6 +60,7 @@ digits_value radix digits suffix =
     then Some (number radix digits, suffix)
     else None
 
+-- the number that the digits at the front write, and the suffix; `None` for any other text
 abbrev pub value_in_base : (radix : ℕ) → List ℕ → Option (ℕ × List ℕ)
 value_in_base radix text =
     let parts = split (is_digit_or_underscore radix) text in digits_value radix parts.0 parts.1

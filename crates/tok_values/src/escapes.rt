@@ -1,7 +1,7 @@
 //! What escapes name.
 ghost use Rattle.std.specs.Prelude.{◌≡◌, ◌<◌, ◌≤◌, IfSome, length, true};
 ghost use Rattle.std.specs.Str.{chars, IsUtf8};
-ghost use Rattle.tok_values.specs.Escapes.{Finds, char_of, code, escape, hex, named_char, simple};
+ghost use Rattle.tok_values.specs.Escapes.{FindsCharacter, char_of, code, escape, hex, named_char, simple};
 
 use crate::integers::{is_digits, number};
 use tok_lexical::text::{front_of, next_char, past_char, past_others};
@@ -25,7 +25,7 @@ fn simple(kind: char) -> Option<char>
 fn hex(text: &str, top: u32) -> Option<(char, &str)>
     requires low { 2 ≤ top }
     requires high { top ≤ 16 }
-    ensures finds { Finds (hex top (chars text.now)) result }
+    ensures finds { FindsCharacter (hex top (chars text.now)) result }
     ensures utf8 { IfSome result (λ r. IsUtf8 r.1.now) }
     ensures shorter { IfSome result (λ r. length r.1.now < length text.now) }
 {
@@ -60,7 +60,7 @@ fn named_char(digits: &str) -> Option<char>
 
 // Returns the character whose code is in braces, and the text after them.
 fn code(text: &str) -> Option<(char, &str)>
-    ensures finds { Finds (code (chars text.now)) result }
+    ensures finds { FindsCharacter (code (chars text.now)) result }
     ensures utf8 { IfSome result (λ r. IsUtf8 r.1.now) }
     ensures shorter { IfSome result (λ r. length r.1.now < length text.now) }
 {
@@ -74,7 +74,7 @@ fn code(text: &str) -> Option<(char, &str)>
 /// Returns the character that an escape names, and the text after it. `text` begins after its
 /// backslash. The escapes of bytes are `wide`.
 pub fn escape(text: &str, wide: bool) -> Option<(char, &str)>
-    ensures finds { Finds (escape wide (chars text.now)) result }
+    ensures finds { FindsCharacter (escape wide (chars text.now)) result }
     ensures utf8 { IfSome result (λ r. IsUtf8 r.1.now) }
     ensures shorter { IfSome result (λ r. length r.1.now < length text.now) }
     ensures narrow { wide ≡ true → IfSome result (λ r. r.0 < 256) }

@@ -91,7 +91,7 @@ fn digits_len(bytes: &[u8], radix: u32) -> usize
 }
 
 // Returns the text after the digits and underscores at the front.
-fn past_digits(text: &str, radix: u32) -> &str
+pub(crate) fn past_digits(text: &str, radix: u32) -> &str
     requires low { 2 ≤ radix }
     requires high { radix ≤ 16 }
     ensures { (digits : List ℕ)
@@ -133,7 +133,7 @@ pub fn is_digits(text: &str, radix: u32) -> bool
 }
 
 // Returns the base that a number names, and the text after its name.
-fn base_of(text: &str) -> (u32, &str)
+pub(crate) fn base_of(text: &str) -> (u32, &str)
     ensures base { result.0 ≡ (base_of (chars text.now)).0 }
     ensures rest { chars result.1.now ≡ (base_of (chars text.now)).1 }
     ensures low { 2 ≤ result.0 }
@@ -171,7 +171,7 @@ fn is_number_suffix(text: &str, radix: u32) -> bool
     is_identifier(text)
 }
 
-fn starts_digit(text: &str) -> bool
+pub(crate) fn starts_digit(text: &str) -> bool
     ensures { result ≡ starts_digit (chars text.now) }
 {
     match text.as_bytes().first() {

@@ -1,6 +1,7 @@
 //! Laws of values. Each is the contract of a function that does nothing.
 ghost use Rattle.tok_lexical.specs.Laws.{ClonesKeep, EqualAsValues};
 ghost use Rattle.tok_values.specs.Laws.{ByteStringsAreRead, CharactersAreRead, StringsAreRead, StringsKeepText};
+ghost use Rattle.tok_values.specs.Suffixes.{FloatsHaveTheirSuffix, IntegersHaveTheirSuffix, PointedHaveNoSuffix, QuotedHaveTheirSuffix};
 ghost use Rattle.tok_values.specs.Values.{IntegersHaveOneValue, StringsHaveOneValue};
 
 use crate::integers::{Integer, IntegerFault};
@@ -32,6 +33,16 @@ pub fn byte_strings_are_read()
 pub fn values_are_functions()
     ensures strings { StringsHaveOneValue }
     ensures integers { IntegersHaveOneValue }
+{}
+
+/// The suffix of a number is the one that its grammar names: of an integer, of a float and of digits
+/// with a dot, which have none. A minus sign before it changes nothing. That of any other literal is
+/// the text after its last quote, apostrophe or number sign.
+pub fn suffixes_follow_the_grammar()
+    ensures quoted { QuotedHaveTheirSuffix }
+    ensures integers { IntegersHaveTheirSuffix }
+    ensures floats { FloatsHaveTheirSuffix }
+    ensures pointed { PointedHaveNoSuffix }
 {}
 
 /// The reasons why a literal has no integer value are equal if and only if they are the same.

@@ -3,8 +3,8 @@ ghost use Rattle.std.specs.Prelude.{◌≡◌, ◌<◌, ◌≤◌, ◌+◌, ◌*
 ghost use Rattle.std.specs.Str.{chars, IsUtf8};
 ghost use Rattle.tok_lexical.specs.Pieces.{Skips};
 ghost use Rattle.tok_values.specs.Private.Plain.{is_plain};
-ghost use Rattle.tok_values.specs.Strings.{Means, one_char, unit, without_blanks, is_blank, ends_line, escaped, FindsUnit};
-ghost use Rattle.tok_values.specs.Escapes.{Finds};
+ghost use Rattle.tok_values.specs.Strings.{Means, one_char, unit, without_blanks, is_blank, ends_line, past_escape, FindsUnit};
+ghost use Rattle.tok_values.specs.Escapes.{FindsCharacter};
 
 use crate::escapes::escape;
 use crate::plain::past_plain;
@@ -39,7 +39,7 @@ fn ends_line(text: &str) -> bool
 
 // Returns the character that a `\` and the text after it mean, if any, and the text after both.
 fn escaped(text: &str, wide: bool) -> Option<(Option<char>, &str)>
-    ensures finds { FindsUnit (escaped wide (chars text.now)) result }
+    ensures finds { FindsUnit (past_escape wide (chars text.now)) result }
     ensures utf8 { IfSome result (λ r. IsUtf8 r.1.now) }
     ensures shorter { IfSome result (λ r. length r.1.now ≤ length text.now) }
     ensures narrow { wide ≡ true → IfSome result (λ r. IfSome r.0 (λ c. c < 256)) }
@@ -184,7 +184,7 @@ pub fn push_bytes<'a>(to: &mut Vec<u8>, text: &'a str) -> Result<&'a str, AllocE
 
 /// Returns one character or one escape, and the text after it.
 pub fn one_char(text: &str, wide: bool) -> Option<(char, &str)>
-    ensures finds { Finds (one_char wide (chars text.now)) result }
+    ensures finds { FindsCharacter (one_char wide (chars text.now)) result }
     ensures utf8 { IfSome result (λ r. IsUtf8 r.1.now) }
     ensures narrow { wide ≡ true → IfSome result (λ r. r.0 < 256) }
 {
