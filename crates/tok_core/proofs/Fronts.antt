@@ -15,7 +15,7 @@ pub none_appended : {T E : Type 0} (r : Result T E) (old : Forest) (t : Tree) (r
 none_appended (Ok x) old t rest new e = e
 none_appended (Err x) old t rest new e = (no_trees, t, rest, refl, e ∙ sym (concat-none old))
 
-trees_of_append : (ts us : List TokenTree) → trees_of (ts ++ us) ≡ concat (trees_of ts)
+pub trees_of_append : (ts us : List TokenTree) → trees_of (ts ++ us) ≡ concat (trees_of ts)
     (trees_of us)
 trees_of_append [] us = refl
 trees_of_append (t ∷ ts) us = ap (tree (tree_of t)) (trees_of_append ts us)

@@ -8,15 +8,18 @@ use Rattle.tok_leaves.specs.Leaves.{Leaf}
 use Rattle.tok_core.specs.Code.{forest_code}
 use Rattle.tok_core.specs.Forest.{leaf, group, Forest, no_trees, tree, concat}
 
+-- the trees of each open level; without an open group, `outer` is empty
 pub record Levels : Type 0 where
   pub outer : List Forest
   pub inner : Forest
 
+-- levels, as a model holds them
 abbrev pub levels_code : Coded Levels
 levels_code =
     code_by (List Forest × Forest) (coded× (coded_list forest_code) forest_code)
     (λ s. (s.outer, s.inner)) (λ p. record { outer = p.0; inner = p.1 }) (λ _. refl)
 
+-- no trees, and no open group
 abbrev pub nothing : Levels
 nothing = record { outer = []; inner = no_trees }
 
@@ -24,6 +27,7 @@ nothing = record { outer = []; inner = no_trees }
 abbrev pub add_forest : Forest → Levels → Levels
 add_forest f s = record { outer = s.outer; inner = concat s.inner f }
 
+-- this leaf is put at the end of the innermost level
 abbrev pub add_leaf : Leaf → Levels → Levels
 add_leaf l s = add_forest (tree (leaf l) no_trees) s
 
@@ -42,6 +46,7 @@ abbrev pub but_last : Forest → List Forest → List Forest
 but_last f [] = []
 but_last f (g ∷ s) = f ∷ but_last g s
 
+-- the last of a list of forests that isn't empty: a first one, and the others
 abbrev pub last_of : Forest → List Forest → Forest
 last_of f [] = f
 last_of f (g ∷ s) = last_of g s

@@ -1,4 +1,4 @@
--- How a forest is stored: a postfix list.
+-- How a model holds a forest: as a list of its items, which is read from the last to the first.
 use Rattle.std.specs.Prelude.{◌≡◌, ℕ, Bool, true, false, List, [], ◌∷◌, ◌++◌, ◌⊎◌, Option, Some}
 use Rattle.std.specs.Prelude.{None, refl}
 use Rattle.std.proofs.Common.{zero, suc, inl, inr, ap, ◌∙◌}
@@ -15,15 +15,20 @@ use Rattle.tok_leaves.specs.declared.punct.Spacing.TheVariants.{Alone, Joint}
 use Rattle.tok_leaves.specs.Leaves.{Leaf, ident, punct, literal}
 use Rattle.tok_core.specs.Forest.{leaf, group, Forest, no_trees, tree}
 
+-- a source's number and a range in it, or nothing for the call site
 abbrev pub SpanCode : Type 0
 SpanCode = Option (ℕ × (ℕ × ℕ))
 
+-- an identifier, a punct or a literal: the text, or the character and the spacing, and the span
 abbrev pub LeafCode : Type 0
 LeafCode = (List ℕ × SpanCode) ⊎ ((ℕ × (Bool × SpanCode)) ⊎ (List ℕ × SpanCode))
 
+-- the end of a forest, a leaf, or a group's delimiter and span
 abbrev pub ItemCode : Type 0
 ItemCode = Unit {0} ⊎ (LeafCode ⊎ (ℕ × SpanCode))
 
+-- the code of each part of a tree, the part that a code stands for, and the proof that the
+-- second of these undoes the first
 abbrev pub origin_code : Origin → SpanCode
 origin_code CallSite = None
 origin_code (Source n a b) = Some (n, (a, b))
@@ -92,12 +97,14 @@ leaf_back (punct c spacing span) =
     ∙ ap (punct c spacing) (span_back span)
 leaf_back (literal text span) = ap (literal text) (span_back span)
 
+-- the items of a forest: a group is before its contents, and an end after the last tree of a level
 abbrev pub encode : Forest → List ItemCode
 encode no_trees = inl tt ∷ []
 encode (tree (leaf l) f) = inr (inl (leaf_code l)) ∷ encode f
 encode (tree (group d inside span) f) =
     inr (inr (delimiter_code d, span_code span)) ∷ (encode inside ++ encode f)
 
+-- the stack of forests after one more item; an item that lacks its forests empties the stack
 abbrev pub stack_item : ItemCode → List Forest → List Forest
 stack_item (inl u) s = no_trees ∷ s
 stack_item (inr (inl l)) [] = []
@@ -106,22 +113,27 @@ stack_item (inr (inr g)) [] = []
 stack_item (inr (inr g)) (c ∷ []) = []
 stack_item (inr (inr g)) (c ∷ f ∷ s) = tree (group (delimiter_of g.0) c (span_of g.1)) f ∷ s
 
+-- the stack after all items, read from the last to the first
 abbrev pub stack_items : List ItemCode → List Forest → List Forest
 stack_items [] s = s
 stack_items (x ∷ xs) s = stack_item x (stack_items xs s)
 
+-- the first forest of the stack, or no trees if it is empty
 abbrev pub top : List Forest → Forest
 top [] = no_trees
 top (f ∷ s) = f
 
+-- the forest that these items stand for
 abbrev pub decode : List ItemCode → Forest
 decode xs = top (stack_items xs [])
 
+-- of two lists of items, the second is read first
 pub stack_items_append : (xs ys : List ItemCode) (s : List Forest) →
     stack_items (xs ++ ys) s ≡ stack_items xs (stack_items ys s)
 stack_items_append [] ys s = refl
 stack_items_append (x ∷ xs) ys s = ap (stack_item x) (stack_items_append xs ys s)
 
+-- the items of a forest put it on the stack
 pub stack_items_encode : (f : Forest) (s : List Forest) → stack_items (encode f) s ≡ f ∷ s
 stack_items_encode no_trees s = refl
 stack_items_encode (tree (leaf l) f) s =
@@ -135,12 +147,15 @@ stack_items_encode (tree (group d c p) f) s =
     ∙ ap (λ e. tree (group e c (span_of (span_code p))) f ∷ s) (delimiter_back d)
     ∙ ap (λ q. tree (group d c q) f ∷ s) (span_back p)
 
+-- the items of a forest stand for this forest
 pub decode_encode : (f : Forest) → decode (encode f) ≡ f
 decode_encode f = ap top (stack_items_encode f [])
 
+-- codes of spans, as a model holds them
 abbrev pub coded_span : Coded SpanCode
 coded_span = coded_option (coded× coded_ℕ (coded× coded_ℕ coded_ℕ))
 
+-- forests, as a model holds them: as their items
 abbrev pub forest_code : Coded Forest
 forest_code =
     code_by (List ItemCode)

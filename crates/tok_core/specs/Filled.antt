@@ -4,10 +4,12 @@ use Rattle.tok_lexical.specs.declared.delimiter.Delimiter.TheVariants.{None}
 use Rattle.tok_core.specs.Erase.{erase}
 use Rattle.tok_core.specs.Forest.{leaf, group, Forest, no_trees, tree}
 
+-- the forest isn't empty
 abbrev pub has_trees : Forest → Bool
 has_trees no_trees = false
 has_trees (tree t f) = true
 
+-- each invisible group, at any depth, holds a visible tree
 abbrev pub filled : Forest → Bool
 filled no_trees = true
 filled (tree (leaf l) f) = filled f

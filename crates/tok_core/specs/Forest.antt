@@ -11,10 +11,12 @@ mutual
     leaf : Leaf → Tree
     group : Delimiter → Forest → Span → Tree
 
+  -- no trees, or a first tree and the others
   pub data Forest : Type 0 where
     no_trees : Forest
     tree : Tree → Forest → Forest
 
+-- the forest of a list of trees
 abbrev pub forest : List Tree → Forest
 forest [] = no_trees
 forest (t ∷ ts) = tree t (forest ts)
@@ -35,10 +37,12 @@ abbrev pub tree_delimiter : Tree → Delimiter
 tree_delimiter (group delimiter inside span) = delimiter
 tree_delimiter (leaf l) = None
 
+-- the contents of a group; a leaf has none
 abbrev pub tree_inside : Tree → Forest
 tree_inside (group delimiter inside span) = inside
 tree_inside (leaf l) = no_trees
 
+-- the span of a leaf, or of a whole group
 abbrev pub tree_span : Tree → Span
 tree_span (leaf l) = leaf_span l
 tree_span (group delimiter inside span) = span

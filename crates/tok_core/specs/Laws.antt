@@ -12,6 +12,7 @@ use Rattle.tok_core.specs.Spanless.{spanless, tree_spanless}
 abbrev pub stream_shown : TokenStreamHelper → Forest
 stream_shown helper = spanless helper.0.now
 
+-- the tree that a helper borrows, with the call site for each span
 abbrev pub tree_shown : TokenTreeHelper → Tree
 tree_shown helper = tree_spanless (tree_of helper.0.now)
 

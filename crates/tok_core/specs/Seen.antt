@@ -10,9 +10,11 @@ use Rattle.tok_leaves.specs.declared.span.Span.{Span}
 use Rattle.tok_leaves.specs.Leaves.{Leaf, punct, ident_of, punct_of, literal_of, apostrophe}
 use Rattle.tok_leaves.specs.Spans.{bounds_delimiter, bounds_span}
 
+-- the tree that a `Group` stands for
 abbrev pub group_of : Group → Tree
 group_of g = group (bounds_delimiter g.bounds) g.stream (bounds_span g.bounds)
 
+-- the tree that a `TokenTree` stands for
 abbrev pub tree_of : TokenTree → Tree
 tree_of (made.Group g) = group_of g
 tree_of (made.Ident i) = leaf (ident_of i)
@@ -28,6 +30,6 @@ trees_of (t ∷ ts) = tree (tree_of t) (trees_of ts)
 abbrev pub lifetime_trees : Span → Leaf → List Tree
 lifetime_trees span name = leaf (punct apostrophe Joint span) ∷ leaf name ∷ []
 
--- the same in a forest of their own
+-- the two trees of a lifetime, in a forest of their own
 abbrev pub lifetime_forest : Lifetime → Forest
 lifetime_forest l = forest (lifetime_trees l.apostrophe (ident_of l.ident))

@@ -2,7 +2,7 @@
 ghost use Rattle.std.specs.Prelude.{◌≡◌};
 ghost use Rattle.tok_core.specs.Forest.{tree_delimiter, tree_inside, group, tree_span};
 ghost use Rattle.tok_core.specs.Seen.{group_of};
-ghost use Rattle.tok_leaves.specs.Spans.{opening_span, closing_span, whole_span};
+ghost use Rattle.tok_leaves.specs.Spans.{call_site, closing_span, opening_span, whole_span};
 
 use crate::stream::TokenStream;
 use std::alloc::AllocError;
@@ -23,6 +23,13 @@ impl Group {
     {
         let bounds = Bounds::new(delimiter, span);
         Group { bounds, stream }
+    }
+
+    /// Creates a group at the call site.
+    pub fn at_call_site(delimiter: Delimiter, stream: TokenStream) -> Group
+        ensures { group_of result ≡ group delimiter stream call_site }
+    {
+        Group::new(delimiter, stream, Span::call_site())
     }
 
     /// Returns the delimiter.

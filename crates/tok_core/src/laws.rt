@@ -10,7 +10,9 @@ use crate::lexer::{LexError, LexFault};
 use crate::stream::{TokenStream, TokenTree};
 use crate::tt::{TokenStreamHelper, TokenTreeHelper};
 use std::hash::Hash;
-pub use tok_leaves::laws::{clones_keep_all, idents_by_text, spans_are_compared_whole};
+pub use tok_leaves::laws::{
+    clones_keep_all, ident_faults_tell, idents_by_text, spans_are_compared_whole,
+};
 pub use tok_lexical::laws::{clones_keep_rules, editions_by_year, kinds_are_compared_whole};
 
 /// A text reads as at most one forest.

@@ -137,7 +137,8 @@ pub fn lex(alloc: Global, source: u32, text: &str) -> Result<TokenStream, LexFau
 /// Lexes `text`, in which the marks `«` and `»` open and close invisible groups, as macros leave
 /// them.
 ///
-/// Spans count bytes as if the marks were absent. Returns the errors of `lex`.
+/// Spans count bytes as if the marks were absent. Returns `Refused` with a rule's number and a byte
+/// if the text is not in the grammar of marked texts, and `Memory` if an allocation fails.
 ///
 /// # Examples
 ///
@@ -156,7 +157,8 @@ pub fn lex_marked(alloc: Global, source: u32, text: &str) -> Result<TokenStream,
 /// Lexes a whole Rust source of an edition.
 ///
 /// A doc comment becomes an attribute. A byte order mark and a shebang line at the start are
-/// skipped, and spans count their bytes. Returns the errors of `lex`.
+/// skipped, and spans count their bytes. Returns `Refused` with a rule's number and a byte if the
+/// text is not in the grammar of that edition, and `Memory` if an allocation fails.
 ///
 /// # Examples
 ///

@@ -19,8 +19,8 @@ pub use lexer::{Build, LexError, LexFault, lex, lex_marked, lex_source, read};
 pub use stream::{TokenStream, TokenTree};
 pub use to_tokens::ToTokens;
 pub use tok_leaves::{
-    DelimSpan, Delimiter, Ident, Lifetime, LifetimeFault, Literal, MakeFault, Punct, Spacing, Span,
-    Text, same,
+    DelimSpan, Delimiter, Ident, IdentFault, Lifetime, LifetimeFault, Literal, LiteralFault,
+    MakeFault, Punct, Spacing, Span, Text, same,
 };
 pub use tok_lexical::Edition;
 pub use tt::{TokenStreamHelper, TokenTreeHelper};

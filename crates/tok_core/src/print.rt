@@ -98,7 +98,7 @@ fn write_mark<W: Write>(f: &mut Formatter<W>, mark: char) -> fmt::Result
 }
 
 fn is_joint(next: &TokenTree) -> bool
-    ensures { result ≡ spec.is_joint (tree_of next.now) }
+    ensures { result ≡ spec.is_joint_tree (tree_of next.now) }
 {
     match next {
         TokenTree::Punct(punct) => match punct.spacing() {

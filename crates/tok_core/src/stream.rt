@@ -86,6 +86,28 @@ impl TokenStream {
         Ok(TokenStream { trees, alloc })
     }
 
+    /// Creates a stream of these trees, in order.
+    ///
+    /// Returns an error if the allocation fails. The trees are then dropped.
+    ///
+    /// # Examples
+    ///
+    /// ```rust
+    /// let name = Ident::new(alloc, "a", Span::call_site())?;
+    /// let copy = name.clone()?;
+    /// let stream = TokenStream::from_trees(alloc, [name.into(), copy.into()])?;
+    /// assert_eq!(rt; stream.trees().len(), 2);
+    /// ```
+    pub fn from_trees<const N: usize>(
+        alloc: Global,
+        trees: [TokenTree; N],
+    ) -> Result<TokenStream, AllocError>
+        ensures { IfOk result (λ s. s ≡ trees_of trees.entry) }
+    {
+        let trees = Vec::from_array(alloc, trees)?;
+        Ok(TokenStream::of_trees(alloc, trees))
+    }
+
     /// Returns the allocator of the trees. A program has one `Global`, so all streams share it.
     pub fn allocator(&self) -> Global
         ensures { IsTheOnly result }
@@ -103,9 +125,20 @@ impl TokenStream {
         Ok(())
     }
 
+    /// Appends the trees of another stream, in order.
+    ///
+    /// If the allocation fails, the stream is unchanged and the trees are dropped.
+    pub fn extend(&mut self, other: TokenStream) -> Result<(), AllocError>
+        ensures ok { OnOk result (self.new ≡ concat self.old other) }
+        ensures err { OnErr result (self.new ≡ self.old) }
+    {
+        let mut trees = other.into_trees();
+        self.trees.append(&mut trees)
+    }
+
     // Makes a stream of these trees.
     #[inline(always)]
-    pub(crate) fn from_trees(alloc: Global, trees: Vec<TokenTree>) -> TokenStream
+    pub(crate) fn of_trees(alloc: Global, trees: Vec<TokenTree>) -> TokenStream
         ensures { result ≡ trees_of trees.items }
     {
         TokenStream { trees, alloc }

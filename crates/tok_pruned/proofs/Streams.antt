@@ -11,7 +11,7 @@ use Rattle.tok_core.specs.Filled.{has_trees}
 use Rattle.tok_core.specs.Seen.{trees_of}
 use Rattle.tok_core.specs.declared.stream.TokenTree.{TokenTree}
 use Rattle.tok_core.specs.Forest.{Tree, leaf, group, Forest, no_trees, tree, concat}
-use Rattle.tok_pruned.specs.Pruned.{pruned, stays}
+use Rattle.tok_pruned.specs.Pruned.{pruned, is_kept}
 
 -- something is left where something is visible
 has_group : (b : Bool) (inside kept f : Forest) (s : Span) → has_trees (erase inside) ≡ b
@@ -33,7 +33,7 @@ has_pruned (tree (group Parenthesis inside s) f) = refl
 has_pruned (tree (group Brace inside s) f) = refl
 has_pruned (tree (group Bracket inside s) f) = refl
 
-pub pruned_stays : (d : Delimiter) (inside : Forest) (s : Span) → stays d (pruned inside) ≡ true
+pub pruned_stays : (d : Delimiter) (inside : Forest) (s : Span) → is_kept d (pruned inside) ≡ true
     → pruned (tree (group d inside s) no_trees) ≡ tree (group d (pruned inside) s) no_trees
 pruned_stays None inside s h =
     ap (λ b. cond b (tree (group None (pruned inside) s) no_trees) no_trees)
@@ -42,7 +42,7 @@ pruned_stays Parenthesis inside s h = refl
 pruned_stays Brace inside s h = refl
 pruned_stays Bracket inside s h = refl
 
-pub pruned_goes : (d : Delimiter) (inside : Forest) (s : Span) → stays d (pruned inside) ≡ false
+pub pruned_goes : (d : Delimiter) (inside : Forest) (s : Span) → is_kept d (pruned inside) ≡ false
     → pruned (tree (group d inside s) no_trees) ≡ no_trees
 pruned_goes None inside s h =
     ap (λ b. cond b (tree (group None (pruned inside) s) no_trees) no_trees)
@@ -95,17 +95,17 @@ all_pruned kept left whole e h =
 -- a group that stays is appended
 pub stays_on : (kept new inside f : Forest) (t u : Tree) (d : Delimiter) (s : Span)
     → new ≡ concat kept (tree u no_trees) → u ≡ group d inside s → inside ≡ pruned f
-    → t ≡ group d f s → stays d inside ≡ true → new ≡ concat kept (pruned (tree t no_trees))
+    → t ≡ group d f s → is_kept d inside ≡ true → new ≡ concat kept (pruned (tree t no_trees))
 stays_on kept new inside f t u d s n hu hi ht h =
     n ∙ ap (λ x. concat kept (tree x no_trees)) (hu ∙ ap (λ x. group d x s) hi)
-    ∙ ap (λ x. concat kept x) (sym (pruned_stays d f s (ap (λ x. stays d x) (sym hi) ∙ h)))
+    ∙ ap (λ x. concat kept x) (sym (pruned_stays d f s (ap (λ x. is_kept d x) (sym hi) ∙ h)))
     ∙ ap (λ x. concat kept (pruned (tree x no_trees))) (sym ht)
 
 -- one that goes is not
 pub goes_off : (kept inside f : Forest) (t : Tree) (d : Delimiter) (s : Span)
-    → inside ≡ pruned f → t ≡ group d f s → stays d inside ≡ false
+    → inside ≡ pruned f → t ≡ group d f s → is_kept d inside ≡ false
     → kept ≡ concat kept (pruned (tree t no_trees))
 goes_off kept inside f t d s hi ht h =
     sym (concat-none kept)
-    ∙ ap (λ x. concat kept x) (sym (pruned_goes d f s (ap (λ x. stays d x) (sym hi) ∙ h)))
+    ∙ ap (λ x. concat kept x) (sym (pruned_goes d f s (ap (λ x. is_kept d x) (sym hi) ∙ h)))
     ∙ ap (λ x. concat kept (pruned (tree x no_trees))) (sym ht)

@@ -6,6 +6,7 @@ use Rattle.tok_core.specs.Erase.{erase}
 use Rattle.tok_core.specs.Filled.{has_trees}
 use Rattle.tok_core.specs.Forest.{leaf, group, Forest, no_trees, tree}
 
+-- the forest in which an invisible group, at any depth, stays only if it holds a visible tree
 abbrev pub pruned : Forest → Forest
 pruned no_trees = no_trees
 pruned (tree (leaf l) f) = tree (leaf l) (pruned f)
@@ -15,6 +16,6 @@ pruned (tree (group delimiter inside span) f) =
     tree (group delimiter (pruned inside) span) (pruned f)
 
 -- a group with these pruned contents stays
-abbrev pub stays : Delimiter → Forest → Bool
-stays None inside = has_trees inside
-stays delimiter inside = true
+abbrev pub is_kept : Delimiter → Forest → Bool
+is_kept None inside = has_trees inside
+is_kept delimiter inside = true

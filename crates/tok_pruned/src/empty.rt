@@ -3,7 +3,7 @@ ghost use Rattle.std.specs.Prelude.{◌≡◌, IfOk, IsOk, OnOk, true};
 ghost use Rattle.tok_core.specs.Filled.{filled};
 ghost use Rattle.tok_core.specs.Forest.{concat, no_trees, tree};
 ghost use Rattle.tok_core.specs.Seen.{tree_of};
-ghost use Rattle.tok_pruned.specs.Pruned.{pruned, stays};
+ghost use Rattle.tok_pruned.specs.Pruned.{pruned, is_kept};
 
 use std::alloc::{AllocError, Global};
 use tok_core::{Delimiter, Group, TokenStream, TokenTree, is_filled};
@@ -66,7 +66,7 @@ fn prune_tree(alloc: Global, kept: &mut TokenStream, next: TokenTree) -> Result<
 
 // Returns `true` if a group with these pruned contents stays.
 fn stays(delimiter: Delimiter, inside: &TokenStream) -> bool
-    ensures { result ≡ stays delimiter inside.now }
+    ensures { result ≡ is_kept delimiter inside.now }
 {
     match delimiter {
         Delimiter::None => !inside.is_empty(),

@@ -23,7 +23,7 @@ use Rattle.tok_core.specs.Lexical.Meaning.{items}
 use Rattle.tok_lexical.specs.Widths.{width, is_group_mark}
 use Rattle.tok_lexical.specs.Pieces.{HasPrefix}
 use Rattle.tok_lexical.specs.Fits.{IsFirstFit}
-use Rattle.tok_core.specs.Lexical.Reading.{Cut, stop, piece, ReadsFrom, Refuses, unclosed}
+use Rattle.tok_core.specs.Lexical.Reading.{Cut, stop, piece, ReadsFrom, RejectsAt, unclosed}
 use Rattle.tok_core.specs.Lexical.Reading.{IsRefusedFrom}
 use Rattle.tok_lexical.specs.Rules.{Spells, all_rules, rules_of}
 use Rattle.tok_core.specs.declared.lexer.error.LexError.{LexError}
@@ -175,7 +175,7 @@ module _ (begin : ℕ) (mode : Mode) (number : ℕ) (text rest : List ℕ) (at :
       nest.levels.inner o s.holds
 
   refuses_here : (error : LexError) → error.source ≡ nest.source →
-      Refuses mode nest.groups at (chars rest) error.kind error.at →
+      RejectsAt mode nest.groups at (chars rest) error.kind error.at →
       IsRefusedFrom begin mode number (chars text) error
   refuses_here error e r =
       (e ∙ s.same_source, (s.all, at, chars rest, nest.groups, s.cut, opens_of s.holds, r))
@@ -186,7 +186,7 @@ module _ (begin : ℕ) (mode : Mode) (number : ℕ) (text rest : List ℕ) (at :
       IsRefusedFrom begin mode number (chars text) error
   refused_unclosed fewer group error e o is =
       refuses_here error (ap (λ w. w.source) is ∙ sym s.same_source)
-      (subst (λ w. Refuses mode nest.groups at (chars rest) w.kind w.at) (sym is)
+      (subst (λ w. RejectsAt mode nest.groups at (chars rest) w.kind w.at) (sym is)
       (unclosed group.0 fewer e o))
 
   -- a fault at the next piece

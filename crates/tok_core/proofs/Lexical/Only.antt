@@ -12,7 +12,7 @@ use Rattle.std.specs.Prelude.{Bool, true, false, if◌then◌else◌}
 use Rattle.std.proofs.lemmas.Bool.{false≢true}
 use Rattle.tok_lexical.specs.declared.delimiter.Delimiter.TheVariants.{Bracket}
 use Rattle.tok_lexical.specs.Fits.{IsFirstFit}
-use Rattle.tok_core.specs.Lexical.Reading.{Cut, stop, piece, Refuses, by_rule, unclosed}
+use Rattle.tok_core.specs.Lexical.Reading.{Cut, stop, piece, RejectsAt, by_rule, unclosed}
 use Rattle.tok_core.specs.Lexical.Reading.{unopened, too_deep}
 use Rattle.tok_lexical.specs.declared.delimiter.Delimiter.{Delimiter}
 use Rattle.tok_lexical.specs.declared.lex_error_kind.LexErrorKind.{LexErrorKind}
@@ -88,7 +88,7 @@ closes_none rule delimiter taken e is = false≢true (ap (λ r. opens_group r ta
 -- where a text is refused, no piece follows that would nest
 no_piece : {mode : Mode} {levels : List (Delimiter × ℕ)} {at byte : ℕ} {why : LexErrorKind}
     {rest p r : List ℕ} {rule : Rule} (number : ℕ) (others : List (Delimiter × ℕ))
-    (more : List Item) → Refuses mode levels at rest why byte →
+    (more : List Item) → RejectsAt mode levels at rest why byte →
     IsFirstFit rest (rules_of mode) rule p r →
     error_kind rule mode at p r ≡ None →
     Run (reverse levels) (items number rule mode at p r ++ more)
@@ -113,7 +113,7 @@ no_piece {mode = mode} {levels = levels} {at = at} number others more
 
 no_further : {mode : Mode} {levels others : List (Delimiter × ℕ)} {number at end byte : ℕ}
     {why : LexErrorKind} {rest after : List ℕ} {some more : List Item} →
-    Refuses mode levels at rest why byte → Opens number 256 levels some →
+    RejectsAt mode levels at rest why byte → Opens number 256 levels some →
     Cut mode number at rest more end after → Opens number 256 others (some ++ more) →
     (more ≡ []) × (rest ≡ after) × (at ≡ end)
 no_further f o stop p = (refl, refl, refl)
@@ -130,7 +130,7 @@ some_same : {A : Type 0} (x y : A) (r s : Option A) → r ≡ s → r ≡ Some x
 some_same x y r s e a b = cc
 
 one_error : {mode : Mode} {levels : List (Delimiter × ℕ)} {at b c : ℕ} {n m : LexErrorKind}
-    {rest : List ℕ} → Refuses mode levels at rest n b → Refuses mode levels at rest m c →
+    {rest : List ℕ} → RejectsAt mode levels at rest n b → RejectsAt mode levels at rest m c →
     (n ≡ m) × (b ≡ c)
 one_error {mode = mode} {at = at} (by_rule d f) (by_rule e g) =
     (some_same _ _ _ _ (same_kind mode at d e) f g, refl)
@@ -169,7 +169,7 @@ one_error (too_deep {rule = rule} q' s' d' n is l) (unopened delimiter' q s d mi
     absurd (closes_none rule delimiter' q' (sym (decides_unique d' d).0) is)
 one_error (too_deep q s d n is l) (too_deep q' s' d' n' is' l') = (refl, refl)
 
-at_end : {mode : Mode} {at b : ℕ} {n : LexErrorKind} → Refuses mode [] at [] n b → ⊥
+at_end : {mode : Mode} {at b : ℕ} {n : LexErrorKind} → RejectsAt mode [] at [] n b → ⊥
 at_end (by_rule d f) = decides_nothing d
 at_end (unclosed delimiter [] e l) = cc
 at_end (unclosed delimiter (p ∷ outer) e l) = cc
@@ -188,7 +188,7 @@ one_cut {all = all} {others = others} c d =
 -- two fronts where the text is refused are one
 same_place : {mode : Mode} {number at b c end : ℕ} {n m : LexErrorKind} {rest after : List ℕ}
     {levels others : List (Delimiter × ℕ)} {some all more : List Item}
-    → Refuses mode levels at rest n b → Refuses mode others end after m c →
+    → RejectsAt mode levels at rest n b → RejectsAt mode others end after m c →
     Opens number 256 levels some → Opens number 256 others all → all ≡ some ++ more →
     Cut mode number at rest more end after → (n ≡ m) × (b ≡ c)
 same_place {mode} {number} {at} {b} {c} {end} {n} {m} {rest} {after} {levels} {others} {some}
@@ -196,9 +196,9 @@ same_place {mode} {number} {at} {b} {c} {end} {n} {m} {rest} {after} {levels} {o
     let none = no_further f o k (subst (λ w. Opens number 256 others w) same p) in
     let here : all ≡ some = same ∙ ap (λ w. some ++ w) none.0 ∙ append-nil some in
     let level : others ≡ levels = one_left_open (subst (λ w. Opens number 256 others w) here p) o in
-    let moved : Refuses mode levels at rest m c = subst (λ w. Refuses mode levels w rest m c)
-    (sym none.2) (subst (λ w. Refuses mode levels end w m c) (sym none.1)
-    (subst (λ w. Refuses mode w end after m c) level g)) in
+    let moved : RejectsAt mode levels at rest m c = subst (λ w. RejectsAt mode levels w rest m c)
+    (sym none.2) (subst (λ w. RejectsAt mode levels end w m c) (sym none.1)
+    (subst (λ w. RejectsAt mode w end after m c) level g)) in
     one_error f moved
 
 -- a front of the text is cut, with these groups open, and the rest is refused there
@@ -206,7 +206,7 @@ abbrev IsRefusedAs : ℕ → Mode → ℕ → List ℕ → LexErrorKind → ℕ 
 IsRefusedAs begin mode number text why byte = (all : List Item) × (end : ℕ) × (rest : List ℕ)
     × (levels : List (Delimiter × ℕ))
     × Cut mode number begin text all end rest × Opens number 256 levels all
-    × Refuses mode levels end rest why byte
+    × RejectsAt mode levels end rest why byte
 
 pub one_way : (begin : ℕ) (mode : Mode) (number : ℕ) (text : List ℕ) (n m : LexErrorKind)
     (b c : ℕ) → IsRefusedAs begin mode number text n b → IsRefusedAs begin mode number text m
@@ -228,14 +228,14 @@ not_both {mode} {number} {byte = b} {some = some} {why = n} f c (all, to, after,
           let here : all ≡ some = same ∙ ap (λ w. some ++ w) none.0 ∙ append-nil some in
           let level : others ≡ [] = one_left_open (subst (λ w. Opens number 256 others w) here p)
           (inside f) in
-          at_end (subst (λ w. Refuses mode [] to w n b) none.1
-          (subst (λ w. Refuses mode w to after n b) level g))
+          at_end (subst (λ w. RejectsAt mode [] to w n b) none.1
+          (subst (λ w. RejectsAt mode w to after n b) level g))
       | inr (more, same, j) ↦
           let none = no_further g p j (subst (λ w. Opens number 256 [] w) same (inside f)) in
           let here : some ≡ all = same ∙ ap (λ w. all ++ w) none.0 ∙ append-nil all in
           let level : others ≡ [] =
           one_left_open (subst (λ w. Opens number 256 others w) (sym here) p) (inside f)
           in
-          at_end (subst (λ w. Refuses mode [] to w n b) none.1
-          (subst (λ w. Refuses mode w to after n b) level g))
+          at_end (subst (λ w. RejectsAt mode [] to w n b) none.1
+          (subst (λ w. RejectsAt mode w to after n b) level g))
     ]

@@ -7,7 +7,7 @@ use Rattle.tok_core.specs.Private.Halted.{OnHalted}
 use Rattle.tok_lexical.specs.Errors.{error_kind}
 use Rattle.tok_core.specs.Lexical.Meaning.{opens_group}
 use Rattle.tok_lexical.specs.Fits.{IsFirstFit}
-use Rattle.tok_core.specs.Lexical.Reading.{Refuses, by_rule, unopened, too_deep}
+use Rattle.tok_core.specs.Lexical.Reading.{RejectsAt, by_rule, unopened, too_deep}
 use Rattle.tok_lexical.specs.declared.delimiter.Delimiter.{Delimiter}
 use Rattle.tok_core.specs.declared.lexer.error.Halt.{Halt}
 use Rattle.tok_core.specs.declared.lexer.error.Halt.TheVariants.{Refused, Memory}
@@ -43,7 +43,7 @@ module _ (nest : State) (rule : Rule) (mode : Mode) (at : ℕ) (piece after : Li
 pub refuses : (mode : Mode) (levels : List (Delimiter × ℕ)) (rule : Rule) (at : ℕ)
     (why : LexErrorKind) (rest piece after : List ℕ) →
     IsFirstFit rest (rules_of mode) rule piece after →
-    Halts levels rule mode at piece after why → Refuses mode levels at rest why at
+    Halts levels rule mode at piece after why → RejectsAt mode levels at rest why at
 refuses mode levels rule at why rest piece after d (by_meaning m) = by_rule d m
 refuses mode levels rule at why rest piece after d (unfit delimiter r misfit) =
     unopened delimiter piece after

@@ -11,6 +11,7 @@ use Rattle.tok_core.specs.declared.lexer.error.LexFault.TheVariants.{Refused, Me
 abbrev pub error_number : LexError → ℕ
 error_number error = kind_number error.kind
 
+-- the message of an error, which tells its kind and not its byte
 abbrev pub error_words : LexError → List ℕ
 error_words error = kind_words error.kind
 
@@ -22,9 +23,10 @@ error_byte error = error.at
 abbrev pub error_span : LexError → Span
 error_span error = source error.source error.at error.at
 
-abbrev pub fault_words : LexFault → List ℕ
-fault_words (Refused error) = error_words error
-fault_words Memory = codes "out of memory"
+-- the message of an error or of an allocation failure
+abbrev pub lex_fault_words : LexFault → List ℕ
+lex_fault_words (Refused error) = error_words error
+lex_fault_words Memory = codes "out of memory"
 
 -- a fault that isn't an allocation failure has an error of which this holds
 abbrev pub OnRefused : LexFault → (LexError → Type 0) → Type 0

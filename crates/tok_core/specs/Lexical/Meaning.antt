@@ -24,21 +24,23 @@ use Rattle.tok_lexical.specs.declared.rule.Rule.TheVariants.{Lifetime, PlainLife
 use Rattle.tok_lexical.specs.declared.rule.Rule.TheVariants.{Based, Float, PointedDecimal, Decimal}
 use Rattle.tok_lexical.specs.declared.rule.Rule.TheVariants.{RawIdentifier, Identifier, Punct}
 
+-- an identifier with this text, from the byte `start` up to `end` in the source of this number
 abbrev pub ident_item : ℕ → ℕ → ℕ → List ℕ → Item
 ident_item number start end text =
     leaf_item (ident (encode_utf8_all text) (source number start end))
 
+-- a literal with this text, from the byte `start` up to `end` in the source of this number
 abbrev pub literal_item : ℕ → ℕ → ℕ → List ℕ → Item
 literal_item number start end text =
     leaf_item (literal (encode_utf8_all text) (source number start end))
 
--- one byte long
+-- a punct of one byte, at this byte of the source of this number
 abbrev pub punct_item : ℕ → ℕ → ℕ → Bool → Item
 punct_item number at c joint =
     leaf_item (punct c (if joint then Joint else Alone) (source number at (at + 1)))
 
--- A decimal and a dot: a float; or where another dot or an identifier follows, an integer and a
--- punct, which is the last byte.
+-- A decimal and a dot: a float; or if another dot or an identifier follows, an integer and a punct,
+-- which is the last byte.
 abbrev pub pointed_items : ℕ → ℕ → List ℕ → List ℕ → List Item
 pointed_items number at piece after =
     if takes_point after then literal_item number at (at + bytes piece) piece ∷ []
@@ -72,15 +74,19 @@ opens_group rule piece = false
 abbrev pub Meaning : Type 0
 Meaning = ℕ → List ℕ → List ℕ → List Item
 
+-- the opening of a group, at the byte where the piece begins
 abbrev pub an_opening : Delimiter → Meaning
 an_opening d at piece after = opening d at ∷ []
 
+-- the end of a group, at the byte where the piece ends; the » of an invisible one has no width
 abbrev pub a_closing : Delimiter → Meaning
 a_closing d at piece after = closing d (at + width (Closing d) piece) ∷ []
 
+-- a literal whose text is the whole piece
 abbrev pub a_literal : ℕ → Meaning
 a_literal number at piece after = literal_item number at (at + bytes piece) piece ∷ []
 
+-- an identifier whose text is the whole piece, `r#` included
 abbrev pub an_identifier : ℕ → Meaning
 an_identifier number at piece after = ident_item number at (at + bytes piece) piece ∷ []
 
@@ -100,6 +106,7 @@ abbrev pub is_joint : Mode → List ℕ → Bool
 is_joint Marked after = makes_joint (past_marks after)
 is_joint mode after = makes_joint after
 
+-- a punct whose character is the piece
 abbrev pub a_punct : ℕ → Mode → Meaning
 a_punct number mode at piece after =
     map (λ c. punct_item number at c (is_joint mode after)) piece
@@ -109,9 +116,11 @@ abbrev pub a_comment : ℕ → Bool → List ℕ → Meaning
 a_comment number is_doc text at piece after =
     if is_doc then doc_items number at (at + bytes piece) (is_inner_doc piece) text else []
 
+-- the attribute of a line doc comment; no items for another line comment
 abbrev pub a_line_comment : ℕ → Meaning
 a_line_comment number at piece = a_comment number (is_line_doc piece) (line_doc_text piece) at piece
 
+-- the attribute of a block doc comment; no items for another block comment
 abbrev pub a_block_comment : ℕ → Meaning
 a_block_comment number at piece =
     a_comment number (is_block_doc piece) (block_doc_text piece) at piece

@@ -33,36 +33,38 @@ ReadsFrom begin mode number text f =
     (depth f ≤ 256)
     × ((all : List Item) × Flat number f all × ((end : ℕ) × Cut mode number begin text all end []))
 
-abbrev pub Reads : Mode → ℕ → List ℕ → Forest → Type 0
-Reads mode number text f = ReadsFrom 0 mode number text f
+-- the whole text reads as this forest, from its byte 0 on
+abbrev pub ReadsForest : Mode → ℕ → List ℕ → Forest → Type 0
+ReadsForest mode number text f = ReadsFrom 0 mode number text f
 
--- why the text is refused at `rest`, which begins at the byte `at`, with these groups open; and the
--- byte
-pub data Refuses (mode : Mode) (levels : List (Delimiter × ℕ)) (at : ℕ)
+-- why the text is rejected at `rest`, which begins at the byte `at`, with these groups open; and
+-- the byte
+pub data RejectsAt (mode : Mode) (levels : List (Delimiter × ℕ)) (at : ℕ)
     (rest : List ℕ) : LexErrorKind → ℕ → Type 0 where
   by_rule : {rule : Rule} {taken after : List ℕ} {why : LexErrorKind} →
       IsFirstFit rest (rules_of mode) rule taken after →
       error_kind rule mode at taken after ≡ Some why →
-      Refuses mode levels at rest why at
+      RejectsAt mode levels at rest why at
   unclosed : {start : ℕ} (delimiter : Delimiter) (outer : List (Delimiter × ℕ)) → rest ≡ [] →
-      levels ≡ outer ++ (delimiter, start) ∷ [] → Refuses mode levels at rest UnclosedGroup start
+      levels ≡ outer ++ (delimiter, start) ∷ [] → RejectsAt mode levels at rest UnclosedGroup start
   unopened : (delimiter : Delimiter) (taken after : List ℕ) →
       IsFirstFit rest (rules_of mode) (Closing delimiter) taken after →
       (IsOpenBy levels delimiter → ⊥) →
-      Refuses mode levels at rest UnexpectedClosing at
+      RejectsAt mode levels at rest UnexpectedClosing at
   too_deep : {rule : Rule} (taken after : List ℕ) →
       IsFirstFit rest (rules_of mode) rule taken after →
       error_kind rule mode at taken after ≡ None → opens_group rule taken ≡ true →
       length levels ≡ 256 →
-      Refuses mode levels at rest DeepGroup at
+      RejectsAt mode levels at rest DeepGroup at
 
--- A front of the text is cut, with these groups open, and the rest is refused there with this
+-- A front of the text is cut, with these groups open, and the rest is rejected there with this
 -- error.
 abbrev pub IsRefusedFrom : ℕ → Mode → ℕ → List ℕ → LexError → Type 0
 IsRefusedFrom begin mode number text error = (error.source ≡ number)
     × ((all : List Item) × (end : ℕ) × (rest : List ℕ) × (levels : List (Delimiter × ℕ))
     × Cut mode number begin text all end rest × Opens number 256 levels all
-    × Refuses mode levels end rest error.kind error.at)
+    × RejectsAt mode levels end rest error.kind error.at)
 
-abbrev pub IsRefused : Mode → ℕ → List ℕ → LexError → Type 0
-IsRefused mode number text error = IsRefusedFrom 0 mode number text error
+-- the whole text, read from its byte 0 on, is rejected with this error
+abbrev pub IsRejected : Mode → ℕ → List ℕ → LexError → Type 0
+IsRejected mode number text error = IsRefusedFrom 0 mode number text error

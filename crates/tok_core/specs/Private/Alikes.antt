@@ -18,10 +18,12 @@ use Rattle.tok_core.specs.Spanless.{leaf_spanless, spanless, tree_spanless, same
 use Rattle.tok_core.specs.Spanless.{same_spacing, leaf_alike, alike, tree_alike, tree_input}
 use Rattle.tok_core.specs.Spanless.{forest_input}
 
+-- both parts of a true conjunction are true
 both : (a b : Bool) → (a && b) ≡ true → (a ≡ true) × (b ≡ true)
 both true b e = (refl, e)
 both false b e = (e, cc)
 
+-- the tests of delimiters, spacings and numbers: each is true exactly of equal ones
 same_delimiter_is : (d e : Delimiter) → same_delimiter d e ≡ true → d ≡ e
 same_delimiter_is Parenthesis Parenthesis e = refl
 same_delimiter_is Brace Brace e = refl
@@ -62,6 +64,7 @@ same_number c d e = grind arith
 number_refl : (c : ℕ) → (c == c) ≡ true
 number_refl c = grind arith
 
+-- leaves that are alike are equal without their spans
 leaf_alike_is : (l k : Leaf) → leaf_alike l k ≡ true → leaf_spanless l ≡ leaf_spanless k
 leaf_alike_is (ident s a) (ident t b) e = ap (λ x. ident x call_site) ((bytes_eq-Decides s t).0 e)
 leaf_alike_is (literal s a) (literal t b) e =
@@ -78,6 +81,7 @@ leaf_alike_is (punct c j a) (ident t b) e = cc
 leaf_alike_is (punct c j a) (literal t b) e = cc
 
 mutual
+  -- forests that are alike are equal without their spans
   alike_is : (f g : Forest) → alike f g ≡ true → spanless f ≡ spanless g
   alike_is no_trees no_trees e = refl
   alike_is no_trees (tree u g) e = cc
@@ -87,6 +91,7 @@ mutual
       ap (λ x. tree x (spanless f)) (tree_alike_is t u p.0)
       ∙ ap (tree (tree_spanless u)) (alike_is f g p.1)
 
+  -- trees that are alike are equal without their spans
   tree_alike_is : (t u : Tree) → tree_alike t u ≡ true → tree_spanless t ≡ tree_spanless u
   tree_alike_is (leaf l) (leaf k) e = ap leaf (leaf_alike_is l k e)
   tree_alike_is (leaf l) (group d f s) e = cc
@@ -109,12 +114,14 @@ leaf_alike_spanless (punct c j a) (punct d k b) = refl
 leaf_alike_spanless (punct c j a) (literal t b) = refl
 
 mutual
+  -- spans don't count for forests
   alike_spanless : (f g : Forest) → alike f g ≡ alike (spanless f) (spanless g)
   alike_spanless no_trees no_trees = refl
   alike_spanless no_trees (tree u g) = refl
   alike_spanless (tree t f) no_trees = refl
   alike_spanless (tree t f) (tree u g) = λ i. tree_alike_spanless t u i && alike_spanless f g i
 
+  -- spans don't count for trees
   tree_alike_spanless : (t u : Tree) →
       tree_alike t u ≡ tree_alike (tree_spanless t) (tree_spanless u)
   tree_alike_spanless (leaf l) (leaf k) = leaf_alike_spanless l k
@@ -123,6 +130,7 @@ mutual
   tree_alike_spanless (group d f s) (group e g r) =
       ap (λ b. same_delimiter d e && b) (alike_spanless f g)
 
+-- each leaf is alike to itself
 leaf_alike_refl : (l : Leaf) → leaf_alike l l ≡ true
 leaf_alike_refl (ident s a) = (bytes_eq-Decides s s).1 refl
 leaf_alike_refl (literal s a) = (bytes_eq-Decides s s).1 refl
@@ -130,10 +138,12 @@ leaf_alike_refl (punct c j a) =
     ap (λ b. b && same_spacing j j) (number_refl c) ∙ same_spacing_refl j
 
 mutual
+  -- each forest is alike to itself
   alike_refl : (f : Forest) → alike f f ≡ true
   alike_refl no_trees = refl
   alike_refl (tree t f) = ap (λ b. b && alike f f) (tree_alike_refl t) ∙ alike_refl f
 
+  -- each tree is alike to itself
   tree_alike_refl : (t : Tree) → tree_alike t t ≡ true
   tree_alike_refl (leaf l) = leaf_alike_refl l
   tree_alike_refl (group d f s) = ap (λ b. b && alike f f) (same_delimiter_refl d) ∙ alike_refl f
@@ -146,6 +156,7 @@ alike_decides f g = (
       ∙ alike_refl (spanless f),
 )
 
+-- two trees are alike if and only if they are equal without their spans
 pub tree_alike_decides : (t u : Tree) → Decides (tree_alike t u) (tree_spanless t ≡ tree_spanless u)
 tree_alike_decides t u = (
   tree_alike_is t u,
@@ -167,9 +178,11 @@ by_image E image d =
       one false true f g = g refl
       one false false f g = refl
 
+-- to be alike is an equivalence of forests
 pub alike_equivalence : IsEquivalence alike
 alike_equivalence = by_image alike spanless alike_decides
 
+-- to be alike is an equivalence of trees
 pub tree_alike_equivalence : IsEquivalence tree_alike
 tree_alike_equivalence = by_image tree_alike tree_spanless tree_alike_decides
 
@@ -179,6 +192,7 @@ mutual
   forest_input_spanless no_trees = refl
   forest_input_spanless (tree t f) = λ i. tree_input_spanless t i ++ forest_input_spanless f i
 
+  -- a tree feeds a hasher no span
   pub tree_input_spanless : (t : Tree) → tree_input t ≡ tree_input (tree_spanless t)
   tree_input_spanless (leaf (ident s a)) = refl
   tree_input_spanless (leaf (punct c j a)) = refl
@@ -186,10 +200,12 @@ mutual
   tree_input_spanless (group d f s) =
       ap (λ x. fed.u8 0 ++ fed.u8 (delimiter_code d) ++ x ++ fed.u8 255) (forest_input_spanless f)
 
+-- forests that are alike feed a hasher alike
 pub forest_input_alike : (f g : Forest) → alike f g ≡ true → forest_input f ≡ forest_input g
 forest_input_alike f g e =
     forest_input_spanless f ∙ ap forest_input (alike_is f g e) ∙ sym (forest_input_spanless g)
 
+-- trees that are alike feed a hasher alike
 pub tree_input_alike : (t u : Tree) → tree_alike t u ≡ true → tree_input t ≡ tree_input u
 tree_input_alike t u e =
     tree_input_spanless t ∙ ap tree_input (tree_alike_is t u e) ∙ sym (tree_input_spanless u)

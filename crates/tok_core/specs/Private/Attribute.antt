@@ -13,6 +13,7 @@ doc_group span text =
     group Bracket (tree (leaf (ident (codes "doc") span)) (tree (leaf (punct 61 Alone span))
     (tree (leaf (literal (shown_in_quotes text) span)) no_trees))) span
 
+-- `!` if the comment is an inner one, else no trees
 abbrev pub bang : Span → Bool → Forest
 bang span true = tree (leaf (punct 33 Alone span)) no_trees
 bang span false = no_trees

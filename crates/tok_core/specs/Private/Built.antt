@@ -31,6 +31,7 @@ pub record State : Type 0 where
   pub groups : List (Delimiter × ℕ)
   pub levels : Levels
 
+-- the source, the open groups and the levels that a nest stands for
 abbrev pub state : {B : Type 0} → (B → Levels) → Nest B → State
 state levels nest =
     record { source = nest.source; groups = nest.«open».items; levels = levels nest.built }
@@ -50,6 +51,7 @@ pub data Holds (number : ℕ) :
       Holds number (suc n) ((delimiter, start) ∷ groups) (earlier ∷ levels) f
       (before ++ opening delimiter start ∷ all)
 
+-- these are the items of all trees so far, which have at most 256 levels
 abbrev pub HoldsAll : ℕ → State → List Item → Type 0
 HoldsAll number s all = Holds number 256 s.groups s.levels.outer s.levels.inner all
 
@@ -75,8 +77,10 @@ pub data Halts (levels : List (Delimiter × ℕ)) (rule : Rule) (mode : Mode) (a
   deep : error_kind rule mode at piece after ≡ None → opens_group rule piece ≡ true →
       length levels ≡ 256 → Halts levels rule mode at piece after DeepGroup
 
+-- this is the error of an opening: 256 groups are open already
 abbrev pub IsTooDeep : State → LexErrorKind → Type 0
 IsTooDeep s why = (why ≡ DeepGroup) × (length s.groups ≡ 256)
 
+-- this is the error of a closing: the innermost open group, if any, has another delimiter
 abbrev pub IsUnfit : State → Delimiter → LexErrorKind → Type 0
 IsUnfit s delimiter why = (why ≡ UnexpectedClosing) × (IsOpenBy s.groups delimiter → ⊥)

@@ -5,6 +5,7 @@ use Rattle.tok_core.specs.declared.stream.TokenTree.{TokenTree}
 use Rattle.tok_core.specs.Building.{Levels}
 use Rattle.tok_core.specs.Seen.{trees_of}
 
+-- the levels of a list of trees in which they begin at these places, the last one first
 abbrev pub levels_in : List ℕ → List TokenTree → Levels
 levels_in [] trees = record { outer = []; inner = trees_of trees }
 levels_in (start ∷ starts) trees =

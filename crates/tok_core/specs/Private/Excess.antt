@@ -3,6 +3,7 @@ use Rattle.std.specs.Prelude.{ℕ, ◌+◌}
 use Rattle.tok_core.specs.Forest.{leaf, group, Forest, no_trees, tree}
 use Rattle.tok_core.specs.Weight.{weight}
 
+-- the weight of a forest, less one for each tree that isn't in a group
 abbrev pub excess : Forest → ℕ
 excess no_trees = 0
 excess (tree (leaf l) f) = excess f

@@ -19,14 +19,17 @@ pending (ts ∷ more) = concat (pending more) (erase (trees_of ts.now))
 abbrev pub all_of : VisibleTrees → List (Bor (List TokenTree))
 all_of v = v.outer.items ++ v.trees ∷ []
 
+-- the weight of all trees that are still to be compared
 abbrev pub pending_weight : List (Bor (List TokenTree)) → ℕ
 pending_weight [] = 0
 pending_weight (ts ∷ more) = pending_weight more + weight (trees_of ts.now)
 
+-- any tree but an invisible group
 abbrev pub IsVisible : Tree → Type 0
 IsVisible (leaf l) = ⊤
 IsVisible (group None inside span) = ⊥
 IsVisible (group delimiter inside span) = ⊤
 
+-- the invisible group of these trees
 abbrev pub invisible : Forest → Span → Tree
 invisible inside span = group None inside span

@@ -8,6 +8,7 @@ use Rattle.tok_core.specs.declared.stream.TokenTree.{TokenTree}
 use Rattle.tok_core.specs.declared.stream.TokenTree.TheVariants.{Ident, Punct, Literal, Group}
 use Rattle.tok_core.specs.declared.stream.TokenStream.TheDeep.{deep-TokenTree}
 
+-- the measure of the deepest tree is at most the weight of all trees
 pub most_le_weight : (ts : List TokenTree) → most deep-TokenTree ts ≤ weight (trees_of ts)
 most_le_weight [] = omega arith
 most_le_weight (Ident i ∷ ts) = omega (arith, most_le_weight ts)

@@ -154,7 +154,7 @@ impl TreeBuilder {
         if room > 4 && room / 2 > trees.len() {
             trees = trees.split_off(0)?;
         }
-        Ok(TokenStream::from_trees(alloc, trees))
+        Ok(TokenStream::of_trees(alloc, trees))
     }
 }
 
@@ -193,7 +193,7 @@ impl Build for TreeBuilder {
         };
         match take_level(self.alloc, &mut self.trees, start) {
             Ok(inside) => {
-                let inside = TokenStream::from_trees(self.alloc, inside);
+                let inside = TokenStream::of_trees(self.alloc, inside);
                 let group = Group::new(delimiter, inside, span);
                 self.trees.push_reserved(TokenTree::Group(group));
                 Ok(())

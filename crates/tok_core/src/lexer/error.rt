@@ -1,6 +1,6 @@
 //! Why the lexer rejects a text.
 ghost use Rattle.std.specs.Prelude.{◌≡◌, Some};
-ghost use Rattle.tok_core.specs.Lexical.Errors.{error_number, error_byte, error_span, error_words, fault_words};
+ghost use Rattle.tok_core.specs.Lexical.Errors.{error_number, error_byte, error_span, error_words, lex_fault_words};
 ghost use Rattle.tok_core.specs.Private.Halted.{fault_of};
 
 use std::alloc::AllocError;
@@ -95,7 +95,7 @@ impl From<LexError> for LexFault {
 
 /// Writes the text of the error.
 impl fmt::Display for LexFault {
-    ghost output = { λ fault. Some (fault_words fault) };
+    ghost output = { λ fault. Some (lex_fault_words fault) };
 
     fn fmt<W: Write>(&self, f: &mut Formatter<W>) -> fmt::Result {
         match self {

@@ -14,7 +14,7 @@ returns c =
       | else-room-gt4 w ↦ search rules
     ] in
     let none : c.args.self.outer ≡ [] = c.requires in
-    c.from_trees.ensures ∙ ap trees_of same
+    c.of_trees.ensures ∙ ap trees_of same
     ∙ none_open (reverse c.self.inside.starts.items) old
     (ap (λ (s : Levels). s.outer) c.self.view_is ∙ none)
     ∙ ap (λ (s : Levels). s.inner) c.self.view_is

@@ -12,8 +12,8 @@ invariant_of-self c = close_order c.self.inside.starts.items c.pop.new.self.item
 pub returns-in-Ok-clause-ok : goal.returns-in-Ok-clause-ok
 returns-in-Ok-clause-ok c = close_one c.self.inside.starts.items c.pop.new.self.items
     c.self.inside.trees.items c.take_level.new.trees.items c.push_reserved.new.self.items
-    c.in-Some.start _ c.args.delimiter c.from_trees-inside.result c.args.span c.args.self.now
+    c.in-Some.start _ c.args.delimiter c.of_trees-inside.result c.args.span c.args.self.now
     c.in-Some.ensures.items c.self.invariant
     c.in-Ok.ensures.kept c.push_reserved.ensures.items
-    c.self.view_is (c.from_trees-inside.ensures ∙ ap trees_of c.in-Ok.ensures.taken)
+    c.self.view_is (c.of_trees-inside.ensures ∙ ap trees_of c.in-Ok.ensures.taken)
     c.new-group.ensures
