@@ -8,7 +8,7 @@ use Rattle.tok_leaves.specs.declared.span.Span.{Span}
 use Rattle.tok_entries.specs.declared.entry.Entry.{Entry}
 use Rattle.tok_entries.specs.Entries.{leaf_entry, leaf_kind}
 use Rattle.tok_entries.specs.Private.Parts.{AreLeafParts, HasNoLeaf}
-use Rattle.tok_entries.specs.Texts.{IsLiteral, IsWord}
+use Rattle.tok_entries.specs.Texts.{IsLiteralText, IsWord}
 use Rattle.tok_entries.proofs.Once.{fronts}
 
 -- an entry with these parts, and a leaf that has it
@@ -33,9 +33,9 @@ module _ (at : ℕ) (e : Entry) (bs text after : List ℕ) (spacing : Spacing) (
   no_ident k none (literal t s) behind hl hu he hb =
       absurd (omega (arith, k, kind_is (literal t s) he))
 
-  pub no_literal : e.kind ≡ 2 → (IsLiteral text → ⊥) → HasNoLeaf at e bs
+  pub no_literal : e.kind ≡ 2 → (IsLiteralText text → ⊥) → HasNoLeaf at e bs
   no_literal k none (literal t s) behind ((u, w), i) hu he hb =
-      none (subst IsLiteral (sym (text_is (literal t s) behind he hb)) w)
+      none (subst IsLiteralText (sym (text_is (literal t s) behind he hb)) w)
   no_literal k none (punct c p s) behind hl hu he hb =
       absurd (omega (arith, k, kind_is (punct c p s) he))
   no_literal k none (ident t s) behind hl hu he hb =

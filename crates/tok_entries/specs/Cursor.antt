@@ -8,9 +8,11 @@ use Rattle.tok_entries.specs.Entries.{delimiter_number}
 use Rattle.tok_entries.specs.declared.entry.Entry.{Entry}
 use Rattle.tok_entries.specs.declared.cursor.Step.{Step}
 
+-- the opening or the closing of an invisible group
 abbrev pub is_invisible_edge : Entry → Bool
 is_invisible_edge e = (e.kind == 3 || e.kind == 4) && e.delimiter == 3
 
+-- the closing of an invisible group
 abbrev pub is_invisible_closing : Entry → Bool
 is_invisible_closing e = e.kind == 4 && e.delimiter == 3
 
@@ -18,6 +20,7 @@ is_invisible_closing e = e.kind == 4 && e.delimiter == 3
 abbrev pub has_apostrophe : List ℕ → Entry → Bool
 has_apostrophe bs e = get_or bs e.text_start 0 == 39
 
+-- a joint punct whose text is an apostrophe
 abbrev pub is_joint_apostrophe : List ℕ → Entry → Bool
 is_joint_apostrophe bs e = e.kind == 1 && (e.spacing == 1 && has_apostrophe bs e)
 
@@ -46,9 +49,11 @@ read_leaf wanted es =
       | None ↦ None
     ]
 
+-- the front entry, if it is an identifier
 abbrev pub read_ident : List Entry → Option Step
 read_ident es = read_leaf (λ e. e.kind == 0) es
 
+-- the front entry, if it is a literal
 abbrev pub read_literal : List Entry → Option Step
 read_literal es = read_leaf (λ e. e.kind == 2) es
 

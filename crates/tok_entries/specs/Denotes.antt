@@ -17,8 +17,10 @@ DenotesFrom at levels es bs f =
 abbrev pub most_levels : ℕ
 most_levels = 256
 
+-- these are all entries and texts of the forest, and no more than 256 groups are nested
 abbrev pub Denotes : List Entry → List ℕ → Forest → Type 0
 Denotes es bs f = DenotesFrom 0 most_levels es bs f
 
+-- no forest has these entries and texts
 abbrev pub DenotesNone : List Entry → List ℕ → Type 0
 DenotesNone es bs = (f : Forest) → Denotes es bs f → ⊥

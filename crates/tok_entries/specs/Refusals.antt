@@ -6,15 +6,17 @@ use Rattle.tok_entries.specs.declared.intake.fault.EntryFault.TheVariants.{Refus
 use Rattle.tok_entries.specs.declared.intake.fault.Refusal.{Refusal}
 use Rattle.tok_entries.specs.declared.intake.fault.Refusal.TheVariants.{Shape, Text, Depth}
 
+-- the message of each reason to reject an entry
 abbrev pub refusal_words : Refusal → List ℕ
 refusal_words Shape = codes "a field does not fit"
 refusal_words Text = codes "not a token of this kind"
 refusal_words Depth = codes "groups nested too deep"
 
-abbrev pub fault_words : EntryFault → List ℕ
-fault_words (Refused refusal number) =
+-- the number of the rejected entry and the reason, or the message of an allocation failure
+abbrev pub entry_fault_words : EntryFault → List ℕ
+entry_fault_words (Refused refusal number) =
     codes "entry " ++ (decimal number ++ (codes ": " ++ refusal_words refusal))
-fault_words Memory = codes "out of memory"
+entry_fault_words Memory = codes "out of memory"
 
 -- this, unless an allocation failed
 abbrev pub OnDenied : EntryFault → Type 0 → Type 0

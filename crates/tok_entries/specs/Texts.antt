@@ -23,6 +23,7 @@ IsRawWord text = (name : List ℕ) × (text ≡ codes "r#" ++ name) × IsUtf8 na
 abbrev pub IsWord : List ℕ → Type 0
 IsWord text = IsIdentifier (chars text) ⊎ IsRawWord text ⊎ (text ≡ codes "$crate")
 
+-- a rule that takes an integer or a float
 abbrev pub is_number_rule : Rule → Bool
 is_number_rule (rule.Based b) = true
 is_number_rule rule.Float = true
@@ -30,6 +31,7 @@ is_number_rule rule.PointedDecimal = true
 is_number_rule rule.Decimal = true
 is_number_rule r = false
 
+-- a rule that takes a string, a character or a byte literal
 abbrev pub is_quoted_rule : Rule → Bool
 is_quoted_rule (rule.QuotedString c) = true
 is_quoted_rule (rule.RawString c) = true
@@ -55,22 +57,26 @@ IsNegative text =
     (number : List ℕ) × (text ≡ codes "-" ++ number) × IsUtf8 number
     × ((r : Rule) × (is_number_rule r ≡ true) × IsPiece r number)
 
-abbrev pub IsLiteral : List ℕ → Type 0
-IsLiteral text = IsUnsigned text ⊎ IsNegative text
+-- a literal of a source, or a number with a `-`
+abbrev pub IsLiteralText : List ℕ → Type 0
+IsLiteralText text = IsUnsigned text ⊎ IsNegative text
 
+-- the leaf's text, or its character, is one of its kind
 abbrev pub IsLeafText : Leaf → Type 0
 IsLeafText (ident text span) = IsUtf8 text × IsWord text
 IsLeafText (punct c spacing span) = is_punct_or_apostrophe c ≡ true
-IsLeafText (literal text span) = IsUtf8 text × IsLiteral text
+IsLeafText (literal text span) = IsUtf8 text × IsLiteralText text
 
 -- a range of source 0
 abbrev pub IsInSource : Span → Type 0
 IsInSource span = (from : ℕ) × (to : ℕ) × (from ≤ to) × (span ≡ source 0 from to)
 
+-- a leaf with a text of its kind, at a range of source 0
 abbrev pub IsLeafIn : Leaf → Type 0
 IsLeafIn l = IsLeafText l × IsInSource (leaf_span l)
 
 abbrev mutual
+  -- such a leaf, or a group at a range of source 0 with such trees inside
   pub IsTreeIn : Tree → Type 0
   IsTreeIn (leaf l) = IsLeafIn l
   IsTreeIn (group d f span) = IsForestIn f × IsInSource span

@@ -16,6 +16,7 @@ use Rattle.tok_entries.specs.Cursor.{read_punct, skip}
 use Rattle.tok_entries.specs.declared.cursor.Step.{Step}
 use Rattle.tok_entries.specs.declared.entry.Entry.{Entry}
 
+-- any delimiter but `None`
 abbrev pub IsVisible : Delimiter → Type 0
 IsVisible d = d ≡ delimiter.None → ⊥
 
@@ -38,6 +39,7 @@ pub data Shows : (at : ℕ) → List Entry → Forest → Type 0 where
 abbrev pub IsLeft : (at : ℕ) → (bs : List ℕ) → List Entry → Forest → Type 0
 IsLeft at bs es f = Shows at es f × BeginsWith (drop at bs) (texts f)
 
+-- an identifier, raw or not, keywords among them
 abbrev pub is_ident : Tree → Bool
 is_ident (leaf (ident text span)) = true
 is_ident t = false
@@ -47,14 +49,17 @@ abbrev pub is_punct : Tree → Bool
 is_punct (leaf (punct c spacing span)) = not (c == apostrophe)
 is_punct t = false
 
+-- a literal of any kind
 abbrev pub is_literal : Tree → Bool
 is_literal (leaf (literal text span)) = true
 is_literal t = false
 
+-- a group of this delimiter
 abbrev pub is_group_of : Delimiter → Tree → Bool
 is_group_of d (group e inside span) = delimiter_number e == delimiter_number d
 is_group_of d t = false
 
+-- a test that every tree passes
 abbrev pub any_tree : Tree → Bool
 any_tree t = true
 
@@ -63,8 +68,8 @@ abbrev pub between : Step → List Entry → List Entry
 between s es = take (s.last + 1 - s.at) (drop s.at es)
 
 -- the entries of a tree that is this one without invisible groups
-abbrev pub AreOf : (at : ℕ) → Tree → List Entry → Type 0
-AreOf at t es =
+abbrev pub AreEntriesOf : (at : ℕ) → Tree → List Entry → Type 0
+AreEntriesOf at t es =
     (whole : Tree) × (erase (tree whole no_trees) ≡ tree t no_trees) × (es ≡ tree_entries at whole)
 
 -- the first visible tree is wanted, and is the token; the trees after it are left
@@ -72,12 +77,14 @@ abbrev pub FindsTree : (Tree → Bool) → (at : ℕ) → (bs : List ℕ) → Li
     → Type 0
 FindsTree wanted at bs es f s =
     (t : Tree) × (rest : Forest) × (f ≡ tree t rest) × (wanted t ≡ true)
-    × AreOf at t (between s es) × IsLeft (at + length (tree_texts t)) bs (drop s.next es) rest
+    × AreEntriesOf at t (between s es)
+    × IsLeft (at + length (tree_texts t)) bs (drop s.next es) rest
 
 -- the first visible tree, if any, is not wanted
 abbrev pub HasNoTree : (Tree → Bool) → Forest → Type 0
 HasNoTree wanted f = (t : Tree) (rest : Forest) → f ≡ tree t rest → wanted t ≡ true → ⊥
 
+-- the step over the first visible tree if that is wanted, else none
 abbrev pub Reads : (Tree → Bool) → (at : ℕ) → (bs : List ℕ) → List Entry → Forest → Option Step
     → Type 0
 Reads wanted at bs es f r = MatchOption r (HasNoTree wanted f) (FindsTree wanted at bs es f)
@@ -87,6 +94,7 @@ abbrev pub BeginsLifetime : Forest → Span → (name : List ℕ) → Span → (
 BeginsLifetime f quote name span rest =
     f ≡ tree (leaf (punct apostrophe Joint quote)) (tree (leaf (ident name span)) rest)
 
+-- the first two visible trees are a lifetime and the token; the trees after them are left
 abbrev pub FindsLifetime : (at : ℕ) → (bs : List ℕ) → List Entry → Forest → Step → Type 0
 FindsLifetime at bs es f s =
     (quote : Span) × (name : List ℕ) × (span : Span) × (rest : Forest)
@@ -95,6 +103,7 @@ FindsLifetime at bs es f s =
     × (slice_get es s.last ≡ Some (leaf_entry (at + 1) (ident name span)))
     × IsLeft (at + 1 + length name) bs (drop s.next es) rest
 
+-- the first visible trees, if any, are no lifetime
 abbrev pub HasNoLifetime : Forest → Type 0
 HasNoLifetime f =
     (quote : Span) (name : List ℕ) (span : Span) (rest : Forest)

@@ -54,7 +54,8 @@ fn lex_entries(
 }
 
 impl LexedEntries {
-    /// Lexes `text` straight into entries, as `lex` followed by `write_entries` would.
+    /// Lexes `text` straight into entries. They are those that `write_entries` makes of the stream
+    /// that `lex` returns.
     ///
     /// Spans are of source 0. Returns the errors of `lex`.
     pub fn from_text(alloc: Global, text: &str) -> Result<LexedEntries, LexFault>
@@ -66,7 +67,7 @@ impl LexedEntries {
     /// Lexes a text with the marks `«` and `»` straight into entries, by the rules of
     /// `lex_marked`.
     ///
-    /// Spans are of source 0. Returns the errors of `lex`.
+    /// Spans are of source 0. Returns the errors of `lex_marked`.
     pub fn from_marked(alloc: Global, text: &str) -> Result<LexedEntries, LexFault>
         ensures { Writes (FollowsGrammar Marked 0 (chars text.now)) result }
     {
@@ -76,7 +77,7 @@ impl LexedEntries {
     /// Lexes a whole Rust source of an edition straight into entries, by the rules of
     /// `lex_source`.
     ///
-    /// Spans are of source 0. Returns the errors of `lex`.
+    /// Spans are of source 0. Returns the errors of `lex_source`.
     pub fn from_source(
         alloc: Global,
         edition: Edition,

@@ -5,7 +5,7 @@ ghost use Rattle.tok_lexical.specs.Errors as errors;
 ghost use Rattle.tok_lexical.specs.declared.edition.Edition.TheVariants.{Edition2024};
 ghost use Rattle.tok_lexical.specs.declared.rule.Mode.TheVariants.{Source};
 ghost use Rattle.tok_lexical.specs.declared.rule.Rule.{Rule};
-ghost use Rattle.tok_entries.specs.Texts.{IsLiteral, IsNegative, IsPiece, IsRawWord, IsUnsigned, IsWord, is_number_rule, is_quoted_rule};
+ghost use Rattle.tok_entries.specs.Texts.{IsLiteralText, IsNegative, IsPiece, IsRawWord, IsUnsigned, IsWord, is_number_rule, is_quoted_rule};
 
 use tok_lexical::words::{has_no_raw, is_identifier};
 use tok_lexical::{Edition, Mode, Rule, error_kind, first_rule};
@@ -33,7 +33,7 @@ fn is_raw_word(text: &str) -> bool
 // Returns `true` if the rules of a source read all of this text as one literal, or the text after a
 // minus sign as one number.
 pub fn is_literal(text: &str) -> bool
-    ensures { MatchBool result (IsLiteral text.now) (IsLiteral text.now → ⊥) }
+    ensures { MatchBool result (IsLiteralText text.now) (IsLiteralText text.now → ⊥) }
 {
     is_unsigned(text) || is_negative(text)
 }

@@ -9,7 +9,7 @@ use Rattle.tok_buffer.specs.View.{entered_view, IsVisibleDelimiter}
 use Rattle.tok_buffer.proofs.View.Laws.{read-same, views_decide}
 use Rattle.tok_buffer.proofs.View.Readings.{Reading}
 use Rattle.tok_types.specs.Views.{IgnoresInvisible}
-use Rattle.tok_types.specs.Looks.{Finds}
+use Rattle.tok_types.specs.Looks.{PeeksFor}
 
 found-view : {A : Type 0} {B : Type 0} (f : A → B) (r : Option A)
     → is_some (option_map f r) ≡ is_some r
@@ -21,11 +21,11 @@ found-both : {A : Type 0} {B : Type 0} (f g : A → B) (r q : Option A)
 found-both f g r q e = sym (found-view f r) ∙ ap is_some e ∙ found-view g q
 
 -- a read finds something at both places, or at neither
-pub finds : {read : Read} {first : First} → Reading read first → IgnoresInvisible (Finds read)
+pub finds : {read : Read} {first : First} → Reading read first → IgnoresInvisible (PeeksFor read)
 finds {read} r b c p q s x y h k =
     h ∙ found-both _ _ (read p) (read q) (read-same r b.forest c.forest p q s.same) ∙ sym k
 
-pub finds-group : (d : Delimiter) → IsVisibleDelimiter d → IgnoresInvisible (Finds (enter d))
+pub finds-group : (d : Delimiter) → IsVisibleDelimiter d → IgnoresInvisible (PeeksFor (enter d))
 finds-group d v =
     λ b c p q s x y h k. h
     ∙ found-both (entered_view b.forest) (entered_view c.forest) (enter d p) (enter d q)

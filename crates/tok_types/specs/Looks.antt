@@ -3,8 +3,8 @@ use Rattle.std.specs.Prelude.{◌≡◌, ℕ, Bool, List, Option, is_some}
 use Rattle.tok_buffer.specs.Place.{Place}
 
 -- a peek is true if and only if something is read
-abbrev pub Finds : {A : Type 0} → (Place → Option A) → Place → Bool → Type 0
-Finds read p found = found ≡ is_some (read p)
+abbrev pub PeeksFor : {A : Type 0} → (Place → Option A) → Place → Bool → Type 0
+PeeksFor read p found = found ≡ is_some (read p)
 
 -- this is the text
 abbrev pub IsText : List ℕ → List ℕ → Type 0

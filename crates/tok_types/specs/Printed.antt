@@ -30,7 +30,8 @@ joint_puncts (c ∷ []) (s ∷ ss) = leaf (punct c (spacing true) s) ∷ []
 joint_puncts (c ∷ (d ∷ cs)) (s ∷ ss) = leaf (punct c (spacing false) s) ∷ joint_puncts (d ∷ cs) ss
 joint_puncts cs ss = []
 
--- and nothing where there aren't as many spans as characters, or one of them is no punct's
+-- these puncts; nothing if there aren't as many spans as characters, or if a character is no
+-- punct's
 abbrev pub puncts : List ℕ → List Span → Forest
 puncts text spans =
     cond (length text == length spans && list_all is_punct_or_apostrophe text)

@@ -51,10 +51,11 @@ reserved =
     codes "unsized" ∷ codes "use" ∷ codes "virtual" ∷ codes "where" ∷ codes "while" ∷ codes "yield"
     ∷ []
 
--- the text of a number, and the empty text past the table
+-- the text of keyword `k`, and the empty text past the table
 abbrev pub keyword_text : ℕ → List ℕ
 keyword_text k = get_or keywords k []
 
+-- the text of punctuation `k`, and the empty text past the table
 abbrev pub punctuation_text : ℕ → List ℕ
 punctuation_text k = get_or punctuations k []
 
@@ -71,22 +72,24 @@ is_among (t ∷ ts) s = bytes_eq t s || is_among ts s
 abbrev pub texts_of : List (Bor (List ℕ)) → List (List ℕ)
 texts_of = map (λ (t : Bor (List ℕ)). t.now)
 
--- the text in a row of a table, and the same in backquotes
+-- the text in a row of a table
 abbrev pub text_in : Bor (List ℕ) × Bor (List ℕ) → List ℕ
 text_in row = row.0.now
 
+-- the text in a row of a table, in backquotes
 abbrev pub display_in : Bor (List ℕ) × Bor (List ℕ) → List ℕ
 display_in row = row.1.now
 
--- the texts that begin with this byte
+-- the text begins with this byte; the empty text begins with none
 abbrev pub begins_with : ℕ → List ℕ → Bool
 begins_with b [] = false
 begins_with b (c ∷ s) = c == b
 
+-- the texts that begin with this byte, in order
 abbrev pub beginning : ℕ → List (List ℕ) → List (List ℕ)
 beginning b = filter (begins_with b)
 
--- the numbers of the texts that begin with this byte, where the first text has number `k`
+-- the numbers of the texts that begin with this byte, if the first text has number `k`
 abbrev pub numbers_beginning : (b k : ℕ) → List (List ℕ) → List ℕ
 numbers_beginning b k [] = []
 numbers_beginning b k (text ∷ texts) =
@@ -97,6 +100,7 @@ numbers_beginning b k (text ∷ texts) =
 abbrev pub number_in : List (List ℕ) → List ℕ → Option ℕ
 number_in texts word = position (λ text. bytes_eq text word) texts
 
+-- a text that isn't reserved
 abbrev pub accept_as_ident : List ℕ → Bool
 accept_as_ident s = not (is_among reserved s)
 

@@ -6,7 +6,7 @@ ghost use Rattle.tok_core.specs.Forest.{no_trees};
 ghost use Rattle.tok_leaves.specs.Spans.{call_site, whole_span};
 ghost use Rattle.tok_lexical.specs.declared.delimiter.Delimiter.TheVariants as delimiter;
 ghost use Rattle.tok_types.specs.Delimiters.{delimiter_at, delimiter_display, delimiter_name};
-ghost use Rattle.tok_types.specs.Looks.{Finds, IsText};
+ghost use Rattle.tok_types.specs.Looks.{PeeksFor, IsText};
 ghost use Rattle.tok_types.specs.Printed.{Surrounds};
 ghost use Rattle.tok_types.specs.Sees.{group_first};
 
@@ -128,7 +128,7 @@ impl<const D: usize> Visible<D> {
 }
 
 impl<const D: usize> Token for Visible<D> {
-    ghost peeks = { Finds (enter (delimiter_at D)) };
+    ghost peeks = { PeeksFor (enter (delimiter_at D)) };
 
     ghost sees = { Some (group_first (delimiter_at D)) };
 
@@ -207,7 +207,7 @@ impl Group {
 }
 
 impl Token for Group {
-    ghost peeks = { Finds (enter delimiter.None) };
+    ghost peeks = { PeeksFor (enter delimiter.None) };
 
     ghost shown = { IsText (delimiter_display delimiter.None) };
 

@@ -2,7 +2,7 @@
 ghost use Rattle.std.specs.Prelude.{◌≡◌, Some};
 ghost use Rattle.tok_leaves.specs.Spans.{call_site};
 ghost use Rattle.tok_buffer.specs.Reads.{read_keyword};
-ghost use Rattle.tok_types.specs.Looks.{Finds, IsText};
+ghost use Rattle.tok_types.specs.Looks.{PeeksFor, IsText};
 ghost use Rattle.tok_types.specs.Printed.{word};
 ghost use Rattle.tok_types.specs.Texts.{keyword_text, in_backquotes, in_token};
 ghost use Rattle.tok_types.specs.Sees.{keyword_first};
@@ -42,7 +42,7 @@ impl<const K: usize> Keyword<K> {
 }
 
 impl<const K: usize> Token for Keyword<K> {
-    ghost peeks = { Finds (read_keyword (keyword_text K)) };
+    ghost peeks = { PeeksFor (read_keyword (keyword_text K)) };
 
     ghost sees = { Some (keyword_first K) };
 

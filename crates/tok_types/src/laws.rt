@@ -3,6 +3,7 @@ ghost use Rattle.std.specs.Prelude.{◌≡◌, ◌≤◌, codes, length};
 ghost use Rattle.tok_buffer.specs.Entry.{enter};
 ghost use Rattle.tok_lexical.specs.declared.delimiter.Delimiter.TheVariants.{Brace, Bracket, Parenthesis};
 ghost use Rattle.tok_lexical.specs.Laws.{ClonesKeep};
+ghost use Rattle.tok_types.specs.declared.tree_tokens.End.{End};
 ghost use Rattle.tok_types.specs.Laws.{AreEqual, HasText, IsFound, IsNeverFound, WriteNothing};
 ghost use Rattle.tok_types.specs.Texts.{keywords, punctuation_text};
 ghost use Rattle.tok_types.specs.Views.{IgnoresInvisible};
@@ -60,9 +61,10 @@ pub fn groups_are_equal()
     ensures hash { WriteNothing ⟦<Group as Hash>⟧.hash_input }
 {}
 
-/// All values of `End` are equal, and write nothing to a hasher.
+/// All values of `End` are equal, that of `End::default` too, and write nothing to a hasher.
 pub fn ends_are_equal()
     ensures equal { AreEqual ⟦<End as PartialEq>⟧.eq }
+    ensures default { (end other : End) → ⟦<End as Default>⟧.is_default end → end ≡ other }
     ensures hash { WriteNothing ⟦<End as Hash>⟧.hash_input }
 {}
 

@@ -2,7 +2,7 @@
 ghost use Rattle.std.specs.Prelude.{◌≡◌, [], ◌∷◌, replicate, Some};
 ghost use Rattle.tok_leaves.specs.Spans.{call_site};
 ghost use Rattle.tok_buffer.specs.Reads.{read_punctuation};
-ghost use Rattle.tok_types.specs.Looks.{Finds, IsText};
+ghost use Rattle.tok_types.specs.Looks.{PeeksFor, IsText};
 ghost use Rattle.tok_types.specs.Printed.{puncts};
 ghost use Rattle.tok_types.specs.Texts.{punctuation_word, in_backquotes, in_token};
 ghost use Rattle.tok_types.specs.Sees.{punctuation_first};
@@ -69,7 +69,7 @@ impl<const K: usize> Punctuation<K, 1> {
 }
 
 impl<const K: usize, const N: usize> Token for Punctuation<K, N> {
-    ghost peeks = { Finds (read_punctuation (punctuation_word K N)) };
+    ghost peeks = { PeeksFor (read_punctuation (punctuation_word K N)) };
 
     ghost sees = { Some (punctuation_first K N) };
 

@@ -2,7 +2,7 @@
 ghost use Rattle.std.specs.Prelude.{◌≡◌, codes, Some};
 ghost use Rattle.tok_buffer.specs.Place.{is_at_end};
 ghost use Rattle.tok_buffer.specs.Reads.{any_text, is_group, read_ident, read_lifetime, read_literal, read_punct, read_tree, read_word, read_if};
-ghost use Rattle.tok_types.specs.Looks.{Finds, IsText};
+ghost use Rattle.tok_types.specs.Looks.{PeeksFor, IsText};
 ghost use Rattle.tok_types.specs.Texts.{accept_as_ident};
 ghost use Rattle.tok_types.specs.Sees.{any_ident_first, ident_first, lifetime_first, literal_first, punct_first};
 
@@ -20,7 +20,7 @@ pub struct IdentAny;
 
 /// Finds an identifier that is no reserved word.
 impl Token for Ident {
-    ghost peeks = { Finds (read_word accept_as_ident) };
+    ghost peeks = { PeeksFor (read_word accept_as_ident) };
 
     ghost sees = { Some ident_first };
 
@@ -39,7 +39,7 @@ impl Token for Ident {
 }
 
 impl Token for IdentAny {
-    ghost peeks = { Finds read_ident };
+    ghost peeks = { PeeksFor read_ident };
 
     ghost sees = { Some any_ident_first };
 
@@ -56,7 +56,7 @@ impl Token for IdentAny {
 
 /// Finds a lifetime of any name.
 impl Token for Lifetime {
-    ghost peeks = { Finds (read_lifetime any_text) };
+    ghost peeks = { PeeksFor (read_lifetime any_text) };
 
     ghost sees = { Some lifetime_first };
 
@@ -72,7 +72,7 @@ impl Token for Lifetime {
 }
 
 impl Token for Literal {
-    ghost peeks = { Finds read_literal };
+    ghost peeks = { PeeksFor read_literal };
 
     ghost sees = { Some literal_first };
 
@@ -89,7 +89,7 @@ impl Token for Literal {
 
 /// Finds a punct other than an apostrophe.
 impl Token for Punct {
-    ghost peeks = { Finds read_punct };
+    ghost peeks = { PeeksFor read_punct };
 
     ghost sees = { Some punct_first };
 
@@ -106,7 +106,7 @@ impl Token for Punct {
 
 /// Finds a group, visible or not, if it is the very next tree. No invisible group is entered.
 impl Token for Group {
-    ghost peeks = { Finds (read_if is_group) };
+    ghost peeks = { PeeksFor (read_if is_group) };
 
     ghost shown = { IsText (codes "group token") };
 
@@ -121,7 +121,7 @@ impl Token for Group {
 
 /// Finds any tree, an invisible group included.
 impl Token for TokenTree {
-    ghost peeks = { Finds read_tree };
+    ghost peeks = { PeeksFor read_tree };
 
     ghost shown = { IsText (codes "token") };
 

@@ -2,7 +2,7 @@
 ghost use Rattle.std.specs.Prelude.{◌≡◌, [], ◌∷◌, codes, Some};
 ghost use Rattle.tok_leaves.specs.Spans.{call_site};
 ghost use Rattle.tok_buffer.specs.Reads.{read_keyword};
-ghost use Rattle.tok_types.specs.Looks.{Finds, IsText};
+ghost use Rattle.tok_types.specs.Looks.{PeeksFor, IsText};
 ghost use Rattle.tok_types.specs.Printed.{first_span, word};
 ghost use Rattle.tok_types.specs.Sees.{underscore_first};
 ghost use Rattle.tok_types.specs.Texts.{in_token};
@@ -54,7 +54,7 @@ impl Underscore {
 }
 
 impl Token for Underscore {
-    ghost peeks = { Finds (read_keyword (codes "_")) };
+    ghost peeks = { PeeksFor (read_keyword (codes "_")) };
 
     ghost sees = { Some underscore_first };
 

@@ -54,30 +54,35 @@ is_small (ident text span) = true
 is_small (punct c spacing span) = nat_lt c 128
 is_small (literal text span) = true
 
--- an entry has all that these leaves and groups are
+-- nothing of a leaf is lost in its entry: it is in source 0, and a punct is ASCII
 abbrev pub fits_leaf : Leaf → Bool
 fits_leaf l = is_in_source (leaf_span l) && is_small l
 
 abbrev mutual
+  -- nothing of a tree is lost in its entries
   pub fits_tree : Tree → Bool
   fits_tree (leaf l) = fits_leaf l
   fits_tree (group delimiter inside span) = fits inside && is_in_source span
 
+  -- nothing of these trees is lost in their entries
   pub fits : Forest → Bool
   fits no_trees = true
   fits (tree t f) = fits_tree t && fits f
 
+-- nothing of any of these levels is lost in its entries
 abbrev pub all_fit : List Forest → Bool
 all_fit [] = true
 all_fit (f ∷ s) = fits f && all_fit s
 
--- the text, the spacing and the span of an entry
+-- the text of an entry, among all texts
 abbrev pub text_of : List ℕ → Entry → List ℕ
 text_of bs e = take (e.text_end - e.text_start) (drop e.text_start bs)
 
+-- the spacing of a number in an entry; any but 0 is `Joint`
 abbrev pub spacing_of : ℕ → Spacing
 spacing_of n = cond (n == 0) Alone Joint
 
+-- the range of an entry, in source 0
 abbrev pub span_of : Entry → Span
 span_of e = source 0 e.start e.end
 
@@ -93,12 +98,12 @@ leaf_of bs e =
 abbrev Level : Type 0
 Level = Forest × ℕ
 
--- a tree in front of the first level
+-- the first level with this tree put before its trees
 abbrev pub stack_tree : Tree → List Level → List Level
 stack_tree t [] = []
 stack_tree t (f ∷ s) = (tree t f.0, f.1) ∷ s
 
--- the first level becomes a group in front of the next one
+-- the first level, made a group and put before the trees of the next level
 abbrev pub stack_group : Entry → List Level → List Level
 stack_group e [] = []
 stack_group e (f ∷ s) =
@@ -111,6 +116,7 @@ stack_entry bs e s =
     (cond (e.kind == 4) ((no_trees, e.end) ∷ s)
     (cond (e.kind == 3) (stack_group e s) (stack_tree (leaf (leaf_of bs e)) s)))
 
+-- the levels ahead after all entries, read from the last to the first
 abbrev pub stack_entries : List ℕ → List Entry → List Level → List Level
 stack_entries bs [] s = s
 stack_entries bs (e ∷ es) s = stack_entry bs e (stack_entries bs es s)

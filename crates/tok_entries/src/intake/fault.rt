@@ -1,6 +1,6 @@
 //! Why entries are rejected.
 ghost use Rattle.std.specs.Prelude.{◌≡◌, Some};
-ghost use Rattle.tok_entries.specs.Refusals.{fault_words, refusal_words};
+ghost use Rattle.tok_entries.specs.Refusals.{entry_fault_words, refusal_words};
 
 use std::alloc::AllocError;
 use std::fmt;
@@ -51,7 +51,7 @@ impl fmt::Display for Refusal {
 
 /// Writes the number of the entry, and why it is rejected.
 impl fmt::Display for EntryFault {
-    ghost output = { λ fault. Some (fault_words fault) };
+    ghost output = { λ fault. Some (entry_fault_words fault) };
 
     fn fmt<W: Write>(&self, f: &mut Formatter<W>) -> fmt::Result {
         match self {

@@ -8,7 +8,7 @@ ghost use Rattle.std.specs.Prelude.{ℕ, List, encode_utf8};
 ghost use Rattle.tok_entries.specs.Entries as spec;
 ghost use Rattle.tok_entries.specs.Refusals.{IsAmong, OnDenied};
 ghost use Rattle.tok_entries.specs.Private.Parts.{AreLeafParts, HasNoLeaf};
-ghost use Rattle.tok_entries.specs.Texts.{IsLeafIn, IsLiteral, IsWord};
+ghost use Rattle.tok_entries.specs.Texts.{IsLeafIn, IsLiteralText, IsWord};
 
 use crate::entry::{Entry, IDENT, LITERAL, PUNCT, leaf, spacing_number};
 use crate::intake::fault::{EntryFault, Refusal};
@@ -118,9 +118,9 @@ fn add_literal<B: Build>(
 ) -> Result<bool, AllocError>
     requires { (behind : List ℕ) × (rest.now ≡ text.now ++ behind) }
     ensures { IfOk result (λ added. MatchBool added
-        (IsLiteral text.now
+        (IsLiteralText text.now
         × (B.levels builder.new ≡ add_leaf (literal text.now span) (B.levels builder.old)))
-        (IsLiteral text.now → ⊥)) }
+        (IsLiteralText text.now → ⊥)) }
 {
     if !is_literal(text) {
         return Ok(false);
