@@ -3,7 +3,7 @@ use Rattle.std.proofs.Common.{◌≡◌, ℕ, zero, suc, ◌+◌, ◌≤◌, Boo
 use Rattle.std.proofs.Common.{refl, sym, subst, arith}
 use Rattle.tok_lexical.specs.declared.delimiter.Delimiter.TheVariants as delimiter
 use Rattle.tok_core.specs.Forest.{leaf, group, no_trees, tree}
-use Rattle.tok_buffer.specs.Descent.{descend, is_before_invisible, inwards, Descends, stop}
+use Rattle.tok_buffer.specs.Descent.{descend, is_before_invisible, inwards, EntersAll, stop}
 use Rattle.tok_buffer.specs.Descent.{enters, DescentsEnter}
 use Rattle.tok_buffer.specs.Moves.{is_settled}
 use Rattle.tok_buffer.specs.Place.{in_group, Frame, frame, Place, empty_place, at, leave_group}
@@ -26,7 +26,7 @@ leave_finished_rests n s c (frame o p no_trees) (u ∷ us) = leave_finished_rest
 leave_finished_rests n s c (frame o p (tree t f)) (u ∷ us) = refl
 
 abbrev Enters : Place → Place → Type 0
-Enters p q = Descends p q × (is_before_invisible q ≡ false)
+Enters p q = EntersAll p q × (is_before_invisible q ≡ false)
 
 enters_at_once : (p q : Place) → q ≡ p → is_before_invisible p ≡ false → Enters p q
 enters_at_once p q e h = subst (Enters p) (sym e) (stop p h, h)

@@ -14,7 +14,7 @@ use Rattle.tok_core.proofs.Facts.{concat-none}
 use Rattle.tok_buffer.specs.Entry.{Entered, enter_any}
 use Rattle.tok_buffer.specs.Place.{frame, Place, empty_place, at, pass}
 use Rattle.tok_buffer.specs.Descent.{descend}
-use Rattle.tok_buffer.specs.Reads.{and_then, place_after, read_if, is_group, is_joint_of}
+use Rattle.tok_buffer.specs.Reads.{read_then, place_after, read_if, is_group, is_joint_of}
 use Rattle.tok_buffer.specs.Reads.{is_next_of, is_punct_of, read_keyword, read_punctuation}
 use Rattle.tok_buffer.specs.Reads.{read_word}
 use Rattle.tok_buffer.specs.Rest.{rest}
@@ -73,7 +73,7 @@ module _ (c : ℕ) where
 
 -- where the first punct of a punctuation is joint, the others decide
 then_is_some : (r : List Tree × Place) (g : Place → Option (List Tree × Place)) →
-    is_some (and_then (Some r) g) ≡ is_some (g r.1)
+    is_some (read_then (Some r) g) ≡ is_some (g r.1)
 then_is_some r g = go (g r.1) where
   go : (x : Option (List Tree × Place)) →
       is_some {T = List Tree × Place} (elim x [ Some y ↦ Some (r.0 ++ y.0, y.1) | None ↦ None ])
@@ -82,7 +82,7 @@ then_is_some r g = go (g r.1) where
   go (Some y) = refl
 
 after_then : (r : Option (List Tree × Place)) (q : Place)
-    (g : Place → Option (List Tree × Place)) → place_after r ≡ Some q → is_some (and_then r g)
+    (g : Place → Option (List Tree × Place)) → place_after r ≡ Some q → is_some (read_then r g)
     ≡ is_some (g q)
 after_then None q g e = cc
 after_then (Some r) q g e =

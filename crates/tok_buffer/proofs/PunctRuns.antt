@@ -8,7 +8,7 @@ use Rattle.tok_buffer.specs.declared.cursor.Cursor.{Cursor}
 use Rattle.tok_buffer.specs.declared.spot.Spot.{Spot}
 use Rattle.tok_buffer.specs.Cursors.{place_of, spot_place}
 use Rattle.tok_buffer.specs.Place.{Place, empty_place}
-use Rattle.tok_buffer.specs.Reads.{and_then, read_next, read_punctuation}
+use Rattle.tok_buffer.specs.Reads.{read_then, read_next, read_punctuation}
 
 abbrev Read : Type 0
 Read = Option (List Tree × Place)
@@ -52,7 +52,7 @@ after-after done t (Some r) = ap (λ ts. Some (ts, r.1)) (sym (append_assoc done
 one_more : (c : ℕ) (cs : List ℕ) (p q : Place) (t : Tree) → read_next c cs p ≡ Some (t ∷ [], q) →
     read_all (c ∷ cs) p ≡ after (t ∷ []) (read_all cs q)
 one_more c [] p q t e = e
-one_more c (d ∷ cs) p q t e = ap (λ x. and_then x (read_punctuation (d ∷ cs))) e
+one_more c (d ∷ cs) p q t e = ap (λ x. read_then x (read_punctuation (d ∷ cs))) e
 
 module _ (text : List ℕ) (start : Place) (i : ℕ) (spans : List Span) (left : List ℕ)
     (here : Place) (so : SoFar text start i spans left here) where

@@ -8,7 +8,7 @@ use Rattle.tok_lexical.specs.declared.delimiter.Delimiter.{Delimiter}
 use Rattle.tok_lexical.specs.declared.delimiter.Delimiter.TheVariants as delimiter
 use Rattle.tok_leaves.specs.Leaves.{Leaf, leaf_span}
 use Rattle.tok_core.specs.Forest.{Tree, leaf, group, Forest, no_trees, tree}
-use Rattle.tok_buffer.specs.Ahead.{visible, ahead_in, ahead}
+use Rattle.tok_buffer.specs.Ahead.{visible, ahead_in, marked_ahead}
 use Rattle.tok_buffer.specs.Entry.{same_delimiter}
 use Rattle.tok_buffer.specs.Ahead.{first_of}
 use Rattle.tok_buffer.specs.Place.{Enclosing, whole, Frame, frame, Place, empty_place, at}
@@ -27,7 +27,8 @@ shown_at zero l us = visible false (frame_ahead l) ++ ahead_in us
 shown_at (suc d) l [] = visible true (frame_ahead l)
 shown_at (suc d) l (u ∷ us) = visible true (frame_ahead l) ++ shown_at d u us
 
-pub shown_is : (k s n : ℕ) (l : Frame) (us : List Frame) → ahead (at k s n l us) ≡ shown_at 0 l us
+pub shown_is : (k s n : ℕ) (l : Frame) (us : List Frame) → marked_ahead (at k s n l us)
+    ≡ shown_at 0 l us
 shown_is k s n (frame o p f) us = refl
 
 abbrev pub marked : ℕ → Bool

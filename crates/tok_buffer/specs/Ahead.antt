@@ -19,21 +19,25 @@ abbrev pub ahead_in : List Frame → List (Bool × Tree)
 ahead_in [] = []
 ahead_in (frame o p a ∷ ls) = visible false a ++ ahead_in ls
 
-abbrev pub ahead : Place → List (Bool × Tree)
-ahead empty_place = []
-ahead (at n s c l ls) = ahead_in (l ∷ ls)
+-- the visible trees up to the scope's end, each with its mark; none at the empty place
+abbrev pub marked_ahead : Place → List (Bool × Tree)
+marked_ahead empty_place = []
+marked_ahead (at n s c l ls) = ahead_in (l ∷ ls)
 
+-- an unread tree: its span, and the delimiter of the group or scope that it is in
 pub record Leftover : Type 0 where
   pub span : Span
   pub delimiter : Delimiter
 
+-- the first of these trees as a leftover; its delimiter is `None` in an invisible group
 abbrev pub first_left : Delimiter → List (Bool × Tree) → Option Leftover
 first_left scope [] = None
 first_left scope (t ∷ ts) =
     Some (record { span = tree_span t.1; delimiter = cond t.0 delimiter.None scope })
 
+-- the first visible tree that is left in the scope; `None` at its end
 abbrev pub leftover : Place → Option Leftover
-leftover p = first_left (scope_delimiter p) (ahead p)
+leftover p = first_left (scope_delimiter p) (marked_ahead p)
 
 -- the first of them: its mark and its span
 abbrev pub first_of : List (Bool × Tree) → Option (Bool × Span)

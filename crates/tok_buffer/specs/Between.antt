@@ -20,6 +20,7 @@ abbrev mutual
       if nat_le (tree_weight t) n then tree t (first_trees (n - tree_weight t) f)
       else first_inside n t
 
+  -- the first trees inside a group, whose opening counts as one; a leaf has none
   pub first_inside : ℕ → Tree → Forest
   first_inside n (leaf l) = no_trees
   first_inside n (group d inside span) = first_trees (n - 1) inside
@@ -47,8 +48,8 @@ pub data Follows (p : Place) : Place → Type 0 where
   after_tree : (q : Place) → Follows p q → Follows p (pass q)
 
 -- no visible tree is lost: these trees, and those ahead of a place that follows, are all ahead
-abbrev pub LosesNone : Place → Place → Forest → Type 0
-LosesNone p q f = Follows p q → concat (erase f) (erased_ahead q) ≡ erased_ahead p
+abbrev pub LosesNoTree : Place → Place → Forest → Type 0
+LosesNoTree p q f = Follows p q → concat (erase f) (erased_ahead q) ≡ erased_ahead p
 
 -- trees that are passed whole, and then the rest, are the rest before them
 abbrev pub PassedJoin : Type 0

@@ -9,9 +9,12 @@ use Rattle.tok_leaves.specs.declared.span.Span.{Span}
 use Rattle.tok_buffer.specs.Ahead.{Leftover}
 use Rattle.tok_buffer.specs.Place.{Enclosing, whole, in_group, Frame, frame, Place, empty_place, at}
 
+-- spans, as a model holds them
 abbrev pub coded_spans : Coded Span
 coded_spans = code_by SpanCode coded_span span_code span_of span_back
 
+-- For each type: its code, the encoding, the decoding, the proof that decoding undoes encoding, and
+-- the form in which a model holds it. The code of a whole forest as an enclosure is `None`.
 abbrev pub EnclosingCode : Type 0
 EnclosingCode = Option (ℕ × SpanCode)
 
@@ -34,6 +37,7 @@ coded_enclosing =
     code_by EnclosingCode (coded_option (coded× coded_ℕ coded_span)) enclosing_code enclosing_of
     enclosing-back
 
+-- a frame: its enclosure, the trees passed, and the trees ahead
 abbrev pub FrameCode : Type 0
 FrameCode = Enclosing × (Forest × Forest)
 
@@ -51,6 +55,7 @@ coded_frame =
     code_by FrameCode
     (coded× coded_enclosing (coded× forest_code forest_code)) frame_code frame_of frame-back
 
+-- a place: `None` if it is empty, else its three numbers, and its frames from the innermost out
 abbrev pub PlaceCode : Type 0
 PlaceCode = Option (ℕ × (ℕ × (ℕ × (Frame × List Frame))))
 
@@ -74,6 +79,7 @@ coded_place =
     (coded× coded_ℕ
     (coded× coded_ℕ (coded× coded_ℕ frames)))) place_code place_from place-back
 
+-- a leftover: the span, and the delimiter as a number
 abbrev pub LeftoverCode : Type 0
 LeftoverCode = SpanCode × ℕ
 

@@ -10,9 +10,11 @@ use Rattle.tok_core.specs.Forest.{leaf, group, Forest, no_trees, tree, forest, c
 use Rattle.tok_leaves.specs.Quoting.{in_quotes}
 use Rattle.tok_buffer.specs.declared.error.Message.{Message}
 
+-- the code point of `:`
 abbrev pub colon : ℕ
 colon = 58
 
+-- the code point of `!`
 abbrev pub bang : ℕ
 bang = 33
 
@@ -34,6 +36,7 @@ compile_error m =
     concat (segment (codes "core") m.start)
     (concat (segment (codes "compile_error") m.start) (invocation m.start m.end m.text))
 
+-- the tokens of all messages, in order
 abbrev pub compile_errors : List Message → Forest
 compile_errors [] = no_trees
 compile_errors (m ∷ ms) = concat (compile_error m) (compile_errors ms)

@@ -8,8 +8,8 @@ use Rattle.tok_core.specs.Weight.{weight}
 use Rattle.tok_buffer.specs.Place.{Enclosing, in_group, Frame, frame, Place, empty_place, at}
 use Rattle.tok_buffer.specs.Place.{leave_group, leave_finished, settled}
 
--- the place at the first visible tree of these trees, which stand ahead in a frame; none where they
--- hold none
+-- the place at the first visible tree of these trees, which are ahead in a frame; none if they hold
+-- none
 abbrev pub into_front : Forest → (number scope count : ℕ) → Enclosing → Forest → List Frame →
     Option Place
 into_front no_trees number scope count enclosing passed ls = None
@@ -57,11 +57,11 @@ inwards (at number scope count
 inwards p = p
 
 -- entering, again and again, until no invisible group is next
-pub data Descends : Place → Place → Type 0 where
-  stop : (p : Place) → is_before_invisible p ≡ false → Descends p p
-  enters : (p q : Place) → is_before_invisible p ≡ true → Descends (inwards p) q → Descends p q
+pub data EntersAll : Place → Place → Type 0 where
+  stop : (p : Place) → is_before_invisible p ≡ false → EntersAll p p
+  enters : (p q : Place) → is_before_invisible p ≡ true → EntersAll (inwards p) q → EntersAll p q
 
 -- each descent ends in this way, with no invisible group next
 abbrev pub DescentsEnter : Type 0
 DescentsEnter =
-    (p : Place) → Descends (settled p) (descend p) × (is_before_invisible (descend p) ≡ false)
+    (p : Place) → EntersAll (settled p) (descend p) × (is_before_invisible (descend p) ≡ false)

@@ -1,20 +1,13 @@
 -- Entering a group: the place of its content, and the place after it.
-use Rattle.std.specs.Prelude.{◌+◌, Bool, true, false, cond, [], Option, Some, None}
+use Rattle.std.specs.Prelude.{◌+◌, cond, [], Option, Some, None}
 use Rattle.tok_lexical.specs.declared.delimiter.Delimiter.{Delimiter}
-use Rattle.tok_lexical.specs.declared.delimiter.Delimiter.TheVariants.{Parenthesis, Brace, Bracket}
 use Rattle.tok_lexical.specs.declared.delimiter.Delimiter.TheVariants as delimiter
 use Rattle.tok_leaves.specs.declared.span.Span.{Span}
 use Rattle.tok_core.specs.Forest.{group, no_trees, tree}
 use Rattle.tok_core.specs.Weight.{weight}
 use Rattle.tok_buffer.specs.Descent.{descend}
 use Rattle.tok_buffer.specs.Place.{in_group, frame, Place, at, pass}
-
-abbrev pub same_delimiter : Delimiter → Delimiter → Bool
-same_delimiter Parenthesis Parenthesis = true
-same_delimiter Brace Brace = true
-same_delimiter Bracket Bracket = true
-same_delimiter delimiter.None delimiter.None = true
-same_delimiter d e = false
+pub use Rattle.tok_core.specs.Spanless.{same_delimiter}
 
 -- a group that is entered, with what is known of its content and of what is after it
 pub record EnteredWith (A : Type 0) : Type 0 where
@@ -50,6 +43,7 @@ enter_any (at n s c (frame o p (tree (group d inside span) f)) ls) =
     })
 enter_any p = None
 
+-- the group that is entered, if it has this delimiter
 abbrev pub entered_of : Delimiter → Option Entered → Option Entered
 entered_of d None = None
 entered_of d (Some e) = cond (same_delimiter d e.delimiter) (Some e) None

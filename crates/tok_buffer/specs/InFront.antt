@@ -30,6 +30,7 @@ first_group d (tree (group e inside span) f) =
     cond (same_delimiter d e)
     (Some (record { delimiter = e; span = span; content = inside; after = f })) None
 
+-- the span of the first tree, if there is one
 abbrev pub first_tree_span : Forest → Option Span
 first_tree_span no_trees = None
 first_tree_span (tree t f) = Some (tree_span t)
@@ -42,6 +43,7 @@ pub record AheadTells (p : Place) : Type 0 where
       → option_map entered_ahead (enter d p) ≡ first_group d (erased_ahead p)
   pub leftovers : leftover_span p ≡ first_tree_span (erased_ahead p)
 
+-- the visible trees ahead decide such calls at every place
 abbrev pub AheadTellsAll : Type 0
 AheadTellsAll = (p : Place) → AheadTells p
 

@@ -66,10 +66,11 @@ abbrev pub first_message : List Message → Message
 first_message [] = message_at call_site []
 first_message (m ∷ ms) = m
 
--- what an error shows: its first message
+-- the span of an error's first message, at which the error is shown
 abbrev pub first_message_span : List Message → Span
 first_message_span e = message_span (first_message e)
 
+-- the text of an error's first message
 abbrev pub first_text : List Message → List ℕ
 first_text e = (first_message e).text
 
@@ -100,21 +101,25 @@ GivesFirst errors answer left =
     MatchOption answer ((errors ≡ []) × (left ≡ []))
     (λ made. (first : List Message) × ((errors ≡ first ∷ left) × IfOk made (λ e. e ≡ first)))
 
--- how an error is stored
+-- the code of a message: its spans, and its text
 abbrev pub MessageCode : Type 0
 MessageCode = SpanCode × (SpanCode × List ℕ)
 
+-- a message as its code
 abbrev pub message_code : Message → MessageCode
 message_code m = (span_code m.start, (span_code m.end, m.text))
 
+-- the message that a code stands for
 abbrev pub message_of : MessageCode → Message
 message_of c = message (span_of c.0) (span_of c.1.0) c.1.1
 
+-- a message is had back from its code
 pub message-back : (m : Message) → message_of (message_code m) ≡ m
 message-back m =
     ap (λ s. message s (span_of (span_code m.end)) m.text) (span_back m.start)
     ∙ ap (λ s. message m.start s m.text) (span_back m.end)
 
+-- an error, as a model holds it
 abbrev pub messages_code : Coded (List Message)
 messages_code =
     coded_list
@@ -122,5 +127,6 @@ messages_code =
     (coded× coded_span
     (coded× coded_span (coded_list coded_ℕ))) message_code message_of message-back)
 
+-- several errors, as a model holds them
 abbrev pub errors_code : Coded (List (List Message))
 errors_code = coded_list messages_code

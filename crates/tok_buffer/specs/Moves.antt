@@ -7,12 +7,15 @@ use Rattle.tok_buffer.specs.Entry.{same_delimiter}
 use Rattle.tok_buffer.specs.Place.{Enclosing, whole, in_group, Frame, frame, Place, empty_place, at}
 use Rattle.tok_buffer.specs.Place.{leave_group}
 
+-- the trees that are still ahead in a frame
 abbrev pub frame_ahead : Frame → Forest
 frame_ahead (frame o p f) = f
 
+-- the trees of a frame that have been passed, the last one first
 abbrev pub frame_passed : Frame → Forest
 frame_passed (frame o p f) = p
 
+-- the group around the trees of a frame, or the whole forest
 abbrev pub frame_enclosing : Frame → Enclosing
 frame_enclosing (frame o p f) = o
 
@@ -29,7 +32,7 @@ unfoldable pub frames_at : Forest → ℕ → Frame × List Frame
 frames_at g zero = (frame whole no_trees g, [])
 frames_at g (suc n) = move (frames_at g n).0 (frames_at g n).1
 
--- the outer frames up to the one that ends at count s, where the innermost ends at count e
+-- the outer frames up to the one that ends at count s, if the innermost ends at count e
 abbrev pub frames_in_scope : ℕ → ℕ → List Frame → List Frame
 frames_in_scope e s [] = []
 frames_in_scope e s (u ∷ us) = cond (e == s) []
@@ -40,6 +43,7 @@ abbrev pub is_scope_end : ℕ → ℕ → List Frame → Bool
 is_scope_end e s [] = e == s
 is_scope_end e s (u ∷ us) = (e == s) || is_scope_end (e + 1 + weight (frame_ahead u)) s us
 
+-- the count at the end of a frame, if a place in it has count n
 abbrev pub end_of : ℕ → Frame → ℕ
 end_of n l = n + weight (frame_ahead l)
 
@@ -54,6 +58,7 @@ is_settled (frame o p no_trees) [] = true
 is_settled (frame o p no_trees) (u ∷ us) = false
 is_settled (frame o p (tree t f)) us = true
 
+-- no tree is ahead
 abbrev pub at_end : Forest → Bool
 at_end no_trees = true
 at_end (tree t f) = false
@@ -63,6 +68,7 @@ abbrev pub advance : Place → Place
 advance empty_place = empty_place
 advance (at k s n l us) = at k s (n + 1) (move l us).0 (move l us).1
 
+-- the first tree is an invisible group
 abbrev pub invisible_front : Forest → Bool
 invisible_front no_trees = false
 invisible_front (tree (leaf l) f) = false

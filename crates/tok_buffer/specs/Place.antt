@@ -43,16 +43,18 @@ abbrev pub settled : Place → Place
 settled empty_place = empty_place
 settled (at number scope count l ls) = leave_finished number scope count l ls
 
--- the front tree, and the place after it
+-- the front tree; at an end there is none
 abbrev pub front : Place → Option Tree
 front (at number scope count (frame enclosing passed (tree t f)) ls) = Some t
 front p = None
 
+-- past the front tree, and out of each frame that ends with it; at an end nothing moves
 abbrev pub pass : Place → Place
 pass (at number scope count (frame enclosing passed (tree t f)) ls) =
     leave_finished number scope (count + tree_weight t) (frame enclosing (tree t passed) f) ls
 pass p = p
 
+-- no tree is ahead in the innermost frame; the empty place is at an end too
 abbrev pub is_at_end : Place → Bool
 is_at_end (at number scope count (frame enclosing passed (tree t f)) ls) = false
 is_at_end p = true

@@ -41,7 +41,7 @@ pub record ReadsOn (read : Read) : Type 0 where
   pub lowers : (p : Place) (ts : List Tree) (q : Place) → read p ≡ Some (ts, q) →
       remaining q < remaining p
 
--- each read of leaves does, and each of any tree, or of a wanted one
+-- each read of leaves makes such progress, and each of any tree, or of a wanted one
 pub record ReadsGoOn : Type 0 where
   pub leaves : EachRead (λ read first. ReadsOn read)
   pub trees : ReadsOn read_tree
@@ -58,6 +58,7 @@ pub record EntersOn (entry : Place → Option Entered) : Type 0 where
   pub lowers : (p : Place) (e : Entered) → entry p ≡ Some e → remaining e.after < remaining p
   pub inwards : (p : Place) (e : Entered) → entry p ≡ Some e → remaining e.content < remaining p
 
+-- entering a group makes such progress, whether its delimiter is given or not
 pub record EntriesGoOn : Type 0 where
   pub groups : (d : Delimiter) → EntersOn (enter d)
   pub any_groups : EntersOn enter_any
@@ -91,6 +92,7 @@ pub record MovesOn (move : Place → Place) : Type 0 where
   pub stays : (p : Place) → StaysIn p (move p)
   pub adds_nothing : (p : Place) → remaining (move p) ≤ remaining p
 
+-- descending and passing a tree stay in the scope, and add nothing
 pub record MovesStay : Type 0 where
   pub descents : MovesOn descend
   pub passes : MovesOn pass

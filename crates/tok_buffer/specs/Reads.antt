@@ -18,19 +18,22 @@ read_if wanted p =
     ]
 
 -- one read, and then another
-abbrev pub and_then : Option (List Tree × Place) → (Place → Option (List Tree × Place)) →
+abbrev pub read_then : Option (List Tree × Place) → (Place → Option (List Tree × Place)) →
     Option (List Tree × Place)
-and_then None g = None
-and_then (Some r) g = elim (g r.1) [ Some q ↦ Some (r.0 ++ q.0, q.1) | None ↦ None ]
+read_then None g = None
+read_then (Some r) g = elim (g r.1) [ Some q ↦ Some (r.0 ++ q.0, q.1) | None ↦ None ]
 
+-- an identifier, raw or not, keywords among them
 abbrev pub is_ident : Tree → Bool
 is_ident (leaf (ident text span)) = true
 is_ident t = false
 
+-- an identifier whose text, `r#` included, passes the test
 abbrev pub is_ident_of : (List ℕ → Bool) → Tree → Bool
 is_ident_of wanted (leaf (ident text span)) = wanted text
 is_ident_of wanted t = false
 
+-- a literal of any kind
 abbrev pub is_literal : Tree → Bool
 is_literal (leaf (literal text span)) = true
 is_literal t = false
@@ -40,27 +43,34 @@ abbrev pub is_punct : Tree → Bool
 is_punct (leaf (punct c spacing span)) = not (c == apostrophe)
 is_punct t = false
 
+-- a punct of this character, joint or not; no apostrophe is one
 abbrev pub is_punct_of : ℕ → Tree → Bool
 is_punct_of wanted (leaf (punct c spacing span)) = c == wanted && not (c == apostrophe)
 is_punct_of wanted t = false
 
+-- a joint punct of this character; no apostrophe is one
 abbrev pub is_joint_of : ℕ → Tree → Bool
 is_joint_of wanted (leaf (punct c Joint span)) = c == wanted && not (c == apostrophe)
 is_joint_of wanted t = false
 
+-- a group of any delimiter
 abbrev pub is_group : Tree → Bool
 is_group (group d inside span) = true
 is_group t = false
 
+-- a test that every tree passes
 abbrev pub any_tree : Tree → Bool
 any_tree t = true
 
+-- the next visible tree if it is an identifier, and the place after it
 abbrev pub read_ident : Place → Option (List Tree × Place)
 read_ident p = read_if is_ident (descend p)
 
+-- the next visible tree if it is a literal, and the place after it
 abbrev pub read_literal : Place → Option (List Tree × Place)
 read_literal p = read_if is_literal (descend p)
 
+-- the next visible tree if it is a punct but no apostrophe, and the place after it
 abbrev pub read_punct : Place → Option (List Tree × Place)
 read_punct p = read_if is_punct (descend p)
 
@@ -73,14 +83,16 @@ abbrev pub read_keyword : List ℕ → Place → Option (List Tree × Place)
 read_keyword [] p = None
 read_keyword (c ∷ cs) p = read_word (bytes_eq (c ∷ cs)) p
 
+-- a joint apostrophe, and then an identifier of which a test of its text is true
 abbrev pub read_lifetime : (List ℕ → Bool) → Place → Option (List Tree × Place)
-read_lifetime wanted p = and_then (read_if is_joint_apostrophe (descend p)) (read_word wanted)
+read_lifetime wanted p = read_then (read_if is_joint_apostrophe (descend p)) (read_word wanted)
 
 -- the punct of a character, joint if more characters follow
 abbrev pub is_next_of : ℕ → List ℕ → Tree → Bool
 is_next_of c [] = is_punct_of c
 is_next_of c (d ∷ cs) = is_joint_of c
 
+-- the punct of this character, joint if more characters follow, and the place after it
 abbrev pub read_next : ℕ → List ℕ → Place → Option (List Tree × Place)
 read_next c cs p = read_if (is_next_of c cs) (descend p)
 
@@ -89,7 +101,7 @@ abbrev pub read_punctuation : List ℕ → Place → Option (List Tree × Place)
 read_punctuation [] p = None
 read_punctuation (c ∷ []) p = read_if (is_punct_of c) (descend p)
 read_punctuation (c ∷ (d ∷ cs)) p =
-    and_then (read_if (is_joint_of c) (descend p)) (read_punctuation (d ∷ cs))
+    read_then (read_if (is_joint_of c) (descend p)) (read_punctuation (d ∷ cs))
 
 -- these characters if there are so many of them, else none
 abbrev pub sized : ℕ → List ℕ → List ℕ
@@ -103,9 +115,11 @@ read_spans = option_map (λ r. (map tree_span r.0, r.1))
 abbrev pub read_tree : Place → Option (List Tree × Place)
 read_tree = read_if any_tree
 
+-- a test that every text passes
 abbrev pub any_text : List ℕ → Bool
 any_text s = true
 
+-- the place after a read; `None` if nothing was read
 abbrev pub place_after : Option (List Tree × Place) → Option Place
 place_after None = None
 place_after (Some r) = Some r.1

@@ -29,13 +29,16 @@ pub record SameView (b c : Laid) (p q : Place) : Type 0 where
 abbrev pub ReadsAgree : Forest → Forest → Read → Place → Place → Type 0
 ReadsAgree f g read p q = with_view f (read p) ≡ with_view g (read q)
 
+-- a skip leads from both places to equal views, or from neither
 abbrev pub SkipsAgree : Forest → Forest → Place → Place → Type 0
 SkipsAgree f g p q = option_map (view f) (skip p) ≡ option_map (view g) (skip q)
 
+-- a group of this delimiter is entered at both places, with equal views, or at neither
 abbrev pub EntriesAgree : Forest → Forest → Delimiter → Place → Place → Type 0
 EntriesAgree f g d p q =
     option_map (entered_view f) (enter d p) ≡ option_map (entered_view g) (enter d q)
 
+-- the span of the first visible tree that is left
 abbrev pub leftover_span : Place → Option Span
 leftover_span p = option_map (λ l. l.span) (leftover p)
 
@@ -63,6 +66,7 @@ pub record LeadsOn (b : Laid) (p : Place) : Type 0 where
   pub enters : (d : Delimiter) → IsVisibleDelimiter d
       → IfSome (enter d p) (λ e. Reached b e.content × Reached b e.after)
 
+-- each call at a place that has a view leads to places that have one
 abbrev pub CallsLeadOn : Type 0
 CallsLeadOn = (b : Laid) (p : Place) → Reached b p → LeadsOn b p
 

@@ -26,6 +26,7 @@ abbrev pub erased_in : List Frame → Forest
 erased_in [] = no_trees
 erased_in (frame o p a ∷ ls) = concat (erase a) (erased_in ls)
 
+-- the visible trees ahead of a place, up to its scope's end
 abbrev pub erased_ahead : Place → Forest
 erased_ahead empty_place = no_trees
 erased_ahead (at n s c l ls) = erased_in (l ∷ ls)
@@ -36,6 +37,7 @@ pub data View : Type 0 where
   empty_view : View
   seen : (after : ℕ) → Delimiter → Forest → View
 
+-- a place of a forest, seen without its invisible groups
 abbrev pub view : Forest → Place → View
 view f empty_place = empty_view
 view f (at n s c l ls) = seen (visible_after f s) (frames_delimiter l ls) (erased_in (l ∷ ls))
@@ -59,6 +61,7 @@ with_view f r = option_map (λ q. (q.0, view f q.1)) r
 abbrev pub entered_view : Forest → Entered → EnteredWith View
 entered_view f = entered_with (view f)
 
+-- any delimiter but `None`
 abbrev pub IsVisibleDelimiter : Delimiter → Type 0
 IsVisibleDelimiter delimiter.None = ⊥
 IsVisibleDelimiter d = ⊤

@@ -183,7 +183,8 @@ pub fn descents_enter()
     ensures { DescentsEnter }
 {}
 
-/// Invisible groups do not matter to a call: its result depends only on the view of its place.
+/// At places of filled forests with equal views, each call but a read of whole trees has the same
+/// result.
 ///
 /// A view is how much is visible after the scope, the scope's delimiter, and the visible trees ahead.
 /// So at places of two filled forests with equal views, each read of a leaf, lifetime, keyword or

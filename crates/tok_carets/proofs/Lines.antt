@@ -13,7 +13,7 @@ use Rattle.std.proofs.lemmas.List.{append-nil, get_or-append_right}
 use Rattle.std.proofs.lemmas.Str.{chars-append, encodes-chars}
 use Rattle.std.proofs.lemmas.Str.{IsCharBoundary-before_ascii, IsUtf8-take}
 use Rattle.tok_lexical.specs.Pieces.{Skips, Stops, is_neither}
-use Rattle.tok_carets.specs.Lines.{shown, within, without_return}
+use Rattle.tok_carets.specs.Lines.{shown_character, within, without_return}
 
 abbrev Longer : (text after whole : List ℕ) → (rest : List ℕ) → Type 0
 Longer text after whole rest = (front : List ℕ) × (text ≡ front ++ after) × (whole ≡ front ++ rest)
@@ -82,24 +82,24 @@ unstripped line u other =
 
 -- what has no tab is shown as it is
 as_it_is : (front : List ℕ) → list_all (is_neither 9 9) front ≡ true
-    → flat_map shown front ≡ encode_utf8_all front
+    → flat_map shown_character front ≡ encode_utf8_all front
 as_it_is [] h = refl
 as_it_is (c ∷ front) h =
     let p = and_parts (is_neither 9 9 c) (list_all (is_neither 9 9) front) h in
     head (c == 9) p.0 (as_it_is front p.1)
   where
-    head : (b : Bool) → not (b || b) ≡ true → flat_map shown front ≡ encode_utf8_all front
-        → (if b then 32 ∷ 32 ∷ 32 ∷ 32 ∷ [] else encode_utf8 c) ++ flat_map shown front
+    head : (b : Bool) → not (b || b) ≡ true → flat_map shown_character front ≡ encode_utf8_all front
+        → (if b then 32 ∷ 32 ∷ 32 ∷ 32 ∷ [] else encode_utf8 c) ++ flat_map shown_character front
         ≡ encode_utf8 c ++ encode_utf8_all front
     head true pass more = absurd (false≢true pass)
     head false pass more = ap (λ x. encode_utf8 c ++ x) more
 
 pub run_shown : (text front after : List ℕ) → Skips (is_neither 9 9) text front after
-    → flat_map shown text ≡ encode_utf8_all front ++ flat_map shown after
+    → flat_map shown_character text ≡ encode_utf8_all front ++ flat_map shown_character after
 run_shown text front after skips =
-    ap (flat_map shown) skips.cut
-    ∙ flat_map-append shown front after
-    ∙ ap (λ x. x ++ flat_map shown after) (as_it_is front skips.pass)
+    ap (flat_map shown_character) skips.cut
+    ∙ flat_map-append shown_character front after
+    ∙ ap (λ x. x ++ flat_map shown_character after) (as_it_is front skips.pass)
 
 -- a text that stops there and doesn't go on with a tab is at its end
 pub ends_there : (after : List ℕ) → Stops (is_neither 9 9) after

@@ -21,6 +21,7 @@ IsFirstLine text line =
     (list_all is_not_line_feed line ≡ true)
     × ((text ≡ line) ⊎ ((rest : List ℕ) × (text ≡ line ++ 10 ∷ rest)))
 
+-- how many line feeds a text has
 abbrev pub line_feeds : List ℕ → ℕ
 line_feeds [] = 0
 line_feeds (c ∷ text) = if c == 10 then 1 + line_feeds text else line_feeds text
@@ -45,8 +46,8 @@ abbrev pub columns : ℕ → ℕ
 columns c = if c == 9 then 4 else unwrap_or (char_width false c) 0
 
 -- the text that shows a character
-abbrev pub shown : ℕ → List ℕ
-shown c = if c == 9 then 32 ∷ 32 ∷ 32 ∷ 32 ∷ [] else encode_utf8 c
+abbrev pub shown_character : ℕ → List ℕ
+shown_character c = if c == 9 then 32 ∷ 32 ∷ 32 ∷ 32 ∷ [] else encode_utf8 c
 
 -- this mark in each column of a text
 abbrev pub marks : (mark : ℕ) → List ℕ → List ℕ
@@ -77,6 +78,7 @@ BeginsAt text lines at = BeginsLine text lines at ⊎ ((lines ≡ 0) × (at ≡ 
 abbrev pub IsKnown : (text : List ℕ) → (at : ℕ) → LineColumn → Type 0
 IsKnown text at place = IsCharBoundary text at × IsLineColumn (take at text) place
 
+-- line 0 and column 0, which no place of a text has
 abbrev pub nowhere : LineColumn
 nowhere = record { line = 0; column = 0 }
 

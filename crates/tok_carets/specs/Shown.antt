@@ -1,4 +1,4 @@
--- An error or a note as it is shown: its words, its place, the line that it is about, and carets.
+-- What is shown of an error or a note: its words, its place, the line that it is about, and carets.
 use Rattle.std.specs.Prelude.{◌≡◌, ℕ, ◌+◌, ◌-◌, List, [], ◌∷◌, ◌++◌, Option, Some, None, take, drop}
 use Rattle.std.specs.Prelude.{codes, length}
 use Rattle.std.specs.Fmt.{decimal}
@@ -7,7 +7,7 @@ use Rattle.std.specs.Str.{chars, IsCharBoundary}
 use Rattle.tok_leaves.specs.Spans.{range}
 use Rattle.tok_buffer.specs.Messages.{first_message_span, first_text}
 use Rattle.tok_buffer.specs.declared.error.Message.{Message}
-use Rattle.tok_carets.specs.Lines.{IsFirstLine, IsLastLine, line_number, marks, shown, within}
+use Rattle.tok_carets.specs.Lines.{IsFirstLine, IsLastLine, line_number, marks, shown_character, within}
 use Rattle.tok_carets.specs.Lines.{without_return}
 use Rattle.tok_carets.specs.declared.source.Source.{Source}
 
@@ -44,7 +44,7 @@ abbrev pub drawn : (level words name : List ℕ) → (line : ℕ) → (head tail
 drawn level words name line head tail marked =
     heading level words (gutter line) name
     ++ (place line (length head + 1) (gutter line)
-    ++ (row line (flat_map shown head) (flat_map shown tail) (gutter line)
+    ++ (row line (flat_map shown_character head) (flat_map shown_character tail) (gutter line)
     ++ (marks 32 head ++ (carets (marks 94 marked) ++ codes "\n"))))
 
 -- the words and the line between these two parts of a text, with carets under so many bytes after

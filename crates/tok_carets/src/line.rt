@@ -2,7 +2,7 @@
 ghost use Rattle.std.specs.Prelude.{◌≡◌, ◌<◌, ◌≤◌, ◌+◌, ◌++◌, ◌∷◌, [], ℕ, List, OnOk, length, string_bytes};
 ghost use Rattle.std.specs.List.{flat_map, repeat};
 ghost use Rattle.std.specs.Str.{chars};
-ghost use Rattle.tok_carets.specs.Lines.{IsFirstLine, IsLastLine, columns, line_number, marks, shown, within, without_return};
+ghost use Rattle.tok_carets.specs.Lines.{IsFirstLine, IsLastLine, columns, line_number, marks, shown_character, within, without_return};
 
 use crate::counts::line_feeds;
 use memchr::memrchr;
@@ -109,7 +109,7 @@ fn columns(c: char) -> usize
 /// Appends a line as it is shown: with four spaces for a tab.
 pub fn push_shown(to: &mut String, line: &str) -> Result<(), AllocError>
     ensures { OnOk result
-        (string_bytes to.new ≡ string_bytes to.old ++ flat_map shown (chars line.now)) }
+        (string_bytes to.new ≡ string_bytes to.old ++ flat_map shown_character (chars line.now)) }
 {
     let mut rest = line;
     loop {

@@ -6,7 +6,7 @@ ghost use Rattle.std.specs.Str.{chars};
 ghost use Rattle.tok_core.specs.Lexical.Errors.{error_span, error_words};
 ghost use Rattle.tok_buffer.specs.Messages.{each_message};
 ghost use Rattle.tok_carets.specs.Shown.{IsPlaced, Shows, ShowsEach, carets, drawn, gutter, heading, place, row, words_alone};
-ghost use Rattle.tok_carets.specs.Lines.{marks, shown};
+ghost use Rattle.tok_carets.specs.Lines.{marks, shown_character};
 
 use crate::line::{
     chars_in, first_line, last_line, push_marks, push_shown, push_times, within, without_return,
@@ -185,8 +185,8 @@ fn push_place(to: &mut String, line: &str, column: usize) -> Result<(), AllocErr
 // Appends two parts of the line whose number is written so.
 fn push_row(to: &mut String, line: &str, head: &str, tail: &str) -> Result<(), AllocError>
     ensures { OnOk result ((number : ℕ) → line.now ≡ decimal number → string_bytes to.new
-        ≡ string_bytes to.old ++ row number (flat_map shown (chars head.now))
-        (flat_map shown (chars tail.now)) (gutter number)) }
+        ≡ string_bytes to.old ++ row number (flat_map shown_character (chars head.now))
+        (flat_map shown_character (chars tail.now)) (gutter number)) }
 {
     to.push_str(line)?;
     to.push_str(" | ")?;

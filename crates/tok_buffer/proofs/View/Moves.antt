@@ -7,7 +7,7 @@ use Rattle.tok_core.specs.Weight.{tree_weight}
 use Rattle.tok_buffer.specs.Descent.{descend}
 use Rattle.tok_buffer.specs.EachRead.{Read, First}
 use Rattle.tok_buffer.specs.Place.{Enclosing, Frame, frame, Place, empty_place, at, front, pass}
-use Rattle.tok_buffer.specs.Reads.{read_if, and_then, place_after, read_tree, read_lifetime}
+use Rattle.tok_buffer.specs.Reads.{read_if, read_then, place_after, read_tree, read_lifetime}
 use Rattle.tok_buffer.specs.Reads.{any_text, any_tree, skip}
 use Rattle.tok_buffer.proofs.View.Keeps.{IsKept, kept-leave_finished}
 use Rattle.tok_buffer.proofs.View.Readings.{Reading, one, more, never, of_lifetime}
@@ -60,7 +60,7 @@ module _ (P Q : Place → Type 0) (m : Leads P Q) where
   leads-more ts (Some r) h = h
 
   leads-then : (r : Option (List Tree × Place)) (g : Place → Option (List Tree × Place))
-      → LeadsTo Q r → ((p : Place) → P p → LeadsTo Q (g p)) → LeadsTo Q (and_then r g)
+      → LeadsTo Q r → ((p : Place) → P p → LeadsTo Q (g p)) → LeadsTo Q (read_then r g)
   leads-then None g h k = tt
   leads-then (Some r) g h k = leads-more r.0 (g r.1) (k r.1 (m.weaker r.1 h))
 

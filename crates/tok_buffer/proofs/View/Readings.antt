@@ -7,7 +7,7 @@ use Rattle.tok_core.specs.Forest.{Tree, group, Forest}
 use Rattle.tok_buffer.specs.Descent.{descend}
 use Rattle.tok_buffer.specs.EachRead.{EachRead, First, Read, and_first, first_if, first_keyword}
 use Rattle.tok_buffer.specs.EachRead.{first_lifetime, first_puncts}
-use Rattle.tok_buffer.specs.Reads.{read_if, and_then, is_ident, is_ident_of, is_literal, is_punct}
+use Rattle.tok_buffer.specs.Reads.{read_if, read_then, is_ident, is_ident_of, is_literal, is_punct}
 use Rattle.tok_buffer.specs.Reads.{is_punct_of, is_joint_of, read_ident, read_word, read_keyword}
 use Rattle.tok_buffer.specs.Reads.{read_lifetime, read_literal, read_punct, read_punctuation}
 
@@ -22,7 +22,7 @@ pub data Reading : Read → First → Type 0 where
   one : (wanted : Tree → Bool) → IsOfLeaves wanted
       → Reading (λ p. read_if wanted (descend p)) (λ f. first_if wanted f)
   more : (wanted : Tree → Bool) → IsOfLeaves wanted → (g : Read) (h : First) → Reading g h
-      → Reading (λ p. and_then (read_if wanted (descend p)) g)
+      → Reading (λ p. read_then (read_if wanted (descend p)) g)
       (λ f. and_first (first_if wanted f) h)
 
 pub of_ident : Reading read_ident (first_if is_ident)

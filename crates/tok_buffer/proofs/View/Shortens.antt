@@ -3,7 +3,7 @@ use Rattle.std.proofs.Common.{◌≡◌, sym, subst, ◌+◌, ◌≤◌, Bool, t
 use Rattle.std.proofs.Common.{◌++◌, length, Option, Some, None, arith}
 use Rattle.std.specs.Prelude.{IfSome}
 use Rattle.tok_core.specs.Forest.{Tree, Forest, no_trees, tree}
-use Rattle.tok_buffer.specs.Ahead.{ahead}
+use Rattle.tok_buffer.specs.Ahead.{marked_ahead}
 use Rattle.tok_buffer.specs.EachRead.{Read, First, and_first, first_if}
 use Rattle.tok_buffer.specs.InFront.{with_ahead}
 use Rattle.tok_buffer.specs.Place.{Place}
@@ -38,7 +38,7 @@ shortens (more wanted leaves g h r) f =
     shortens-then f (first_if wanted f) h (shortens-if wanted f) (shortens r)
 
 abbrev pub LeavesFewer : Place → Option (List Tree × Place) → Type 0
-LeavesFewer p r = IfSome r (λ x. length (ahead x.1) + 1 ≤ length (ahead p))
+LeavesFewer p r = IfSome r (λ x. length (marked_ahead x.1) + 1 ≤ length (marked_ahead p))
 
 pub fewer : {read : Read} {first : First} → Reading read first → (p : Place)
     → LeavesFewer p (read p)

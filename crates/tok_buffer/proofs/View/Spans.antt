@@ -8,7 +8,7 @@ use Rattle.tok_lexical.specs.declared.delimiter.Delimiter.{Delimiter}
 use Rattle.tok_lexical.specs.declared.delimiter.Delimiter.TheVariants as delimiter
 use Rattle.tok_core.specs.Erase.{erase}
 use Rattle.tok_core.specs.Forest.{Tree, leaf, group, Forest, no_trees, tree, concat, tree_span}
-use Rattle.tok_buffer.specs.Ahead.{first_left, visible, ahead, ahead_in}
+use Rattle.tok_buffer.specs.Ahead.{first_left, visible, marked_ahead, ahead_in}
 use Rattle.tok_buffer.specs.InFront.{first_tree_span}
 use Rattle.tok_buffer.specs.Place.{Frame, frame, Place, empty_place, at}
 use Rattle.tok_buffer.specs.Rest.{scope_delimiter}
@@ -43,18 +43,18 @@ spans-frames (frame o p a ∷ ls) =
     ∙ ap₂ (λ x y. x ++ y) (spans-visible false a) (spans-frames ls)
     ∙ sym (spans-concat (erase a) (erased_in ls))
 
-spans-ahead : (p : Place) → span_list (ahead p) ≡ spans_of (erased_ahead p)
+spans-ahead : (p : Place) → span_list (marked_ahead p) ≡ spans_of (erased_ahead p)
 spans-ahead empty_place = refl
 spans-ahead (at n s c l ls) = spans-frames (l ∷ ls)
 
 abbrev pub tree_count : Forest → ℕ
 tree_count f = length (spans_of f)
 
-pub length_ahead : (p : Place) → length (ahead p) ≡ tree_count (erased_ahead p)
-length_ahead p = sym (length-map (ahead p) (λ t. tree_span t.1)) ∙ ap length (spans-ahead p)
+pub length_ahead : (p : Place) → length (marked_ahead p) ≡ tree_count (erased_ahead p)
+length_ahead p = sym (length-map (marked_ahead p) (λ t. tree_span t.1)) ∙ ap length (spans-ahead p)
 
 pub same_length : (f g : Forest) (p q : Place) → view f p ≡ view g q
-    → length (ahead p) ≡ length (ahead q)
+    → length (marked_ahead p) ≡ length (marked_ahead q)
 same_length f g p q e =
     length_ahead p ∙ ap tree_count (same_trees f g p q e) ∙ sym (length_ahead q)
 
@@ -73,5 +73,5 @@ first-span (tree t f) = refl
 
 pub leftover_tells : (p : Place) → leftover_span p ≡ first_tree_span (erased_ahead p)
 leftover_tells p =
-    left-span (scope_delimiter p) (ahead p) ∙ ap first_span (spans-ahead p)
+    left-span (scope_delimiter p) (marked_ahead p) ∙ ap first_span (spans-ahead p)
     ∙ first-span (erased_ahead p)

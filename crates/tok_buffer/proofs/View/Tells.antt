@@ -11,7 +11,7 @@ use Rattle.tok_buffer.specs.Descent.{descend}
 use Rattle.tok_buffer.specs.EachRead.{Read, First, first_if, and_first}
 use Rattle.tok_buffer.specs.InFront.{with_ahead}
 use Rattle.tok_buffer.specs.Place.{frame, Place, empty_place, at, pass}
-use Rattle.tok_buffer.specs.Reads.{read_if, and_then, any_text, is_ident_of, place_after, read_tree}
+use Rattle.tok_buffer.specs.Reads.{read_if, read_then, any_text, is_ident_of, place_after, read_tree}
 use Rattle.tok_buffer.specs.Reads.{read_lifetime, skip}
 use Rattle.tok_buffer.specs.View.{erased_ahead, View, empty_view, seen, view}
 use Rattle.tok_buffer.proofs.View.Erased.{erased-descend, erased-leave_finished}
@@ -71,7 +71,7 @@ tells-more ts (Some r) v e = ap (λ w. elim w [ Some q ↦ Some (ts ++ q.0, q.1)
 
 tells-then : (r : Option (List Tree × Place)) (g : Read) (h : First)
     → ((p : Place) → with_ahead (g p) ≡ h (erased_ahead p))
-    → with_ahead (and_then r g) ≡ and_first (with_ahead r) h
+    → with_ahead (read_then r g) ≡ and_first (with_ahead r) h
 tells-then None g h e = refl
 tells-then (Some r) g h e = tells-more r.0 (g r.1) (h (erased_ahead r.1)) (e r.1)
 

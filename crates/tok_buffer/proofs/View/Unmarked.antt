@@ -4,7 +4,7 @@ use Rattle.std.proofs.Common.{◌∷◌, ◌++◌, map}
 use Rattle.tok_lexical.specs.declared.delimiter.Delimiter.TheVariants as delimiter
 use Rattle.tok_core.specs.Forest.{Tree, leaf, group, Forest, no_trees, tree, forest, concat}
 use Rattle.tok_core.proofs.Facts.{joined_assoc}
-use Rattle.tok_buffer.specs.Ahead.{visible, ahead, ahead_in}
+use Rattle.tok_buffer.specs.Ahead.{visible, marked_ahead, ahead_in}
 use Rattle.tok_buffer.specs.Descent.{descend}
 use Rattle.tok_buffer.specs.Place.{Enclosing, whole, in_group, Frame, frame, Place, empty_place, at}
 use Rattle.tok_buffer.specs.Place.{leave_group, leave_finished}
@@ -31,9 +31,9 @@ unmarked_in-leave_group whole p l ls = refl
 unmarked_in-leave_group (in_group d span) p (frame o q a) ls = refl
 
 -- neither settling nor a descent changes the trees ahead
-module _ (ahead : Forest) where
+module _ (marked_ahead : Forest) where
   abbrev HasAhead : Place → Type 0
-  HasAhead p = trees_ahead p ≡ ahead
+  HasAhead p = trees_ahead p ≡ marked_ahead
 
   kept-ahead : IsKept HasAhead
   kept-ahead = record {
@@ -77,6 +77,6 @@ plain-ahead_in (frame o p a ∷ ls) =
     ∙ ap (λ g. concat g (plain (ahead_in ls))) (plain-visible false a)
     ∙ ap (concat (unmarked a)) (plain-ahead_in ls)
 
-pub plain-ahead : (p : Place) → plain (ahead p) ≡ trees_ahead p
+pub plain-ahead : (p : Place) → plain (marked_ahead p) ≡ trees_ahead p
 plain-ahead empty_place = refl
 plain-ahead (at n s c l ls) = plain-ahead_in (l ∷ ls)

@@ -16,6 +16,7 @@ use Rattle.tok_buffer.specs.declared.entry.Held.TheVariants as held
 use Rattle.tok_buffer.specs.declared.entry.Leaf.{Leaf as Lent}
 use Rattle.tok_buffer.specs.declared.entry.Leaf.TheVariants as lent
 
+-- the entry of a leaf, with the same parts
 abbrev pub leaf_entry : Leaf → Entry
 leaf_entry (ident text span) = Ident (record { text = text; span = span })
 leaf_entry (punct c spacing span) = Punct (record { ch = c; spacing = spacing; span = span })
@@ -33,14 +34,17 @@ entry_of (held.Leaf l) = leaf_entry (leaf_in l)
 entry_of (held.Group g k) = Group g.now k
 entry_of (held.End k) = End k
 
+-- the entry of a group's opening: its delimiter and span, and how far on the group's end is
 abbrev pub group_entry : Delimiter → Span → Forest → Entry
 group_entry d s c = Group (record { delimiter = d; span = s }) (weight c + 1)
 
+-- the entries of trees in order: of a group an opening, those of its contents, and an end
 abbrev pub layout : Forest → List Entry
 layout no_trees = []
 layout (tree (leaf l) f) = leaf_entry l ∷ layout f
 layout (tree (group d c s) f) = group_entry d s c ∷ (layout c ++ End (weight c + 1) ∷ layout f)
 
+-- the entries of a whole forest, and an end after them that reaches back to no opening
 abbrev pub entries_of : Forest → List Entry
 entries_of f = layout f ++ End 0 ∷ []
 
@@ -58,6 +62,7 @@ stack_entry (Group g k) [] = []
 stack_entry (Group g k) (c ∷ s) = stack_tree (group g.delimiter c g.span) s
 stack_entry (End k) s = no_trees ∷ s
 
+-- the levels ahead after all entries, read from the last to the first
 abbrev pub stack_entries : List Entry → List Forest → List Forest
 stack_entries [] s = s
 stack_entries (x ∷ xs) s = stack_entry x (stack_entries xs s)
@@ -71,6 +76,7 @@ abbrev pub back : Frame → ℕ
 back (frame whole p f) = 0
 back (frame (in_group d s) p f) = weight (reverse_onto p f) + 1
 
+-- the entry at the place in a frame: that of the next tree, or the end of the frame
 abbrev pub entry_here : Frame → Entry
 entry_here (frame o p no_trees) = End (back (frame o p no_trees))
 entry_here (frame o p (tree (leaf l) f)) = leaf_entry l
@@ -80,7 +86,7 @@ entry_here (frame o p (tree (group d c s) f)) = group_entry d s c
 abbrev pub OpensGroup : Frame → Type 0
 OpensGroup l = (g : Opening) × (k : ℕ) × (entry_here l ≡ Group g k)
 
--- whose end reaches back to an entry
+-- the enclosure of a frame whose end reaches back to this entry
 abbrev pub entry_enclosing : Entry → Enclosing
 entry_enclosing (Group g k) = in_group g.delimiter g.span
 entry_enclosing e = whole

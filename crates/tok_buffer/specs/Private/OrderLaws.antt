@@ -1,4 +1,4 @@
--- Equality of places is an equivalence, and their order a partial order that is `Equal` where
+-- Equality of places is an equivalence, and their order a partial order that is `Equal` if
 -- they are equal.
 use Rattle.std.specs.Prelude.{◌≡◌, Bool, true, false, cond, ◌==◌, ◌&&◌, Option, Some, None, refl}
 use Rattle.std.specs.Prelude.{unwrap_or, is_some}
@@ -14,9 +14,11 @@ use Rattle.std.specs.Option.{option_map}
 use Rattle.tok_buffer.specs.Order.{equal, order}
 use Rattle.tok_buffer.specs.Place.{Place, empty_place, at}
 
+-- a conjunction is true if both parts are
 both : (a b : Bool) → a ≡ true → b ≡ true → (a && b) ≡ true
 both a b p q = ap (λ x. x && b) p ∙ q
 
+-- both parts of a true conjunction are true
 parts : (a b : Bool) → (a && b) ≡ true → (a ≡ true) × (b ≡ true)
 parts true b h = (refl, h)
 parts false b h = absurd (false≢true h)
@@ -25,26 +27,32 @@ parts false b h = absurd (false≢true h)
 abbrev within : Bool → Ordering → Option Ordering
 within b r = cond b (Some r) None
 
+-- two orders are equal if they are equal under `Some`
 inside : (r s : Ordering) → Some r ≡ Some s → r ≡ s
 inside r s e = ap (λ o. unwrap_or o Equal) e
 
+-- `None` is no order, so anything follows
 nothing : {A : Type 0} (r : Ordering) → None ≡ Some r → A
 nothing r e = absurd (false≢true (ap is_some e))
 
+-- the reverse of an order within a buffer is the reverse order within it
 reversed : (b : Bool) (r s : Ordering) → r ≡ ordering_reverse s →
     within b r ≡ option_map ordering_reverse (within b s)
 reversed true r s e = ap Some e
 reversed false r s e = refl
 
+-- a place that is less is in the same buffer, and less there
 less : (b : Bool) (r : Ordering) → within b r ≡ Some Less → (b ≡ true) × (r ≡ Less)
 less true r e = (refl, inside r Less e)
 less false r e = nothing Less e
 
+-- two places of one buffer are equal if and only if their order is `Equal`
 tied : (b e : Bool) (r : Ordering) → e ≡ is_eq r → Decides (b && e) (within b r ≡ Some Equal)
 tied true e r q =
     (λ h. ap Some ((Equal-is r).0 (sym q ∙ h)), λ h. q ∙ (Equal-is r).1 (inside r Equal h))
 tied false e r q = (λ h. absurd (false≢true h), λ h. nothing Equal h)
 
+-- equality of places is an equivalence
 pub equal_equiv : IsEquivalence equal
 equal_equiv = record { refl = itself; symm = turned; congr = alike } where
   itself : (x : Place) → equal x x ≡ true
@@ -69,6 +77,7 @@ equal_equiv = record { refl = itself; symm = turned; congr = alike } where
       ap (λ b. b && (c == e)) (nat_eq_equiv.congr n m o p.0)
       ∙ ap (λ b. (m == o) && b) (nat_eq_equiv.congr c d e p.1)
 
+-- the order of places is a partial one, and agrees with equality
 pub order_partial : IsPartialOrder equal order
 order_partial = record { antisymm = turned; trans = chain; matches_eq = ties; congr = alike } where
   turned : (x y : Place) → order x y ≡ option_map ordering_reverse (order y x)

@@ -11,7 +11,7 @@ ghost use Rattle.tok_buffer.specs.Cursors.{place_of, spot_place};
 ghost use Rattle.tok_buffer.specs.Descent.{descend};
 ghost use Rattle.tok_buffer.specs.Entry.{enter_any, entered_of, enter};
 ghost use Rattle.tok_buffer.specs.Gives.{Gives};
-ghost use Rattle.tok_buffer.specs.Reads.{and_then, any_text, place_after, skip, read_if, read_ident, read_keyword, read_punct, read_literal, read_lifetime, read_tree, read_word};
+ghost use Rattle.tok_buffer.specs.Reads.{read_then, any_text, place_after, skip, read_if, read_ident, read_keyword, read_punct, read_literal, read_lifetime, read_tree, read_word};
 ghost use Rattle.tok_buffer.specs.Reads.{is_punct_of, read_next, read_punctuation, read_spans, sized};
 ghost use Rattle.tok_buffer.specs.Reads as spec;
 ghost use Rattle.tok_buffer.specs.Trees.{EndsScope, read_visible};
@@ -80,7 +80,7 @@ impl<'a> Cursor<'a> {
     // Returns the lifetime whose apostrophe is the next entry.
     fn front_lifetime(self) -> Option<(LifetimeRef<'a>, Cursor<'a>)>
         ensures { Gives result
-            (and_then (read_if is_joint_apostrophe (place_of self.entry)) (read_word any_text))
+            (read_then (read_if is_joint_apostrophe (place_of self.entry)) (read_word any_text))
             (λ r. (lifetime_trees r.0.apostrophe (ident_of r.0.ident.now), place_of r.1)) }
     {
         let (apostrophe, name) = self.apostrophe()?;

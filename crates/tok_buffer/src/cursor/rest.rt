@@ -10,7 +10,7 @@ ghost use Rattle.tok_core.specs.Text.{text};
 ghost use Rattle.tok_core.specs.Weight.{weight};
 ghost use Rattle.tok_buffer.specs.Private.Counts.{tree_count};
 ghost use Rattle.tok_buffer.specs.Private.Layout.{OpensGroup, leaf_in};
-ghost use Rattle.tok_buffer.specs.Between.{LosesNone, between, trees_to};
+ghost use Rattle.tok_buffer.specs.Between.{LosesNoTree, between, trees_to};
 ghost use Rattle.tok_buffer.specs.Cursors.{place_of, spot_place};
 ghost use Rattle.tok_buffer.specs.Gives.{Gives};
 ghost use Rattle.tok_buffer.specs.Moves.{frames_at, in_scope, place_at};
@@ -112,7 +112,7 @@ impl<'a> Cursor<'a> {
     pub fn tokens_up_to(self, alloc: Global, end: Cursor<'_>) -> Result<TokenStream, AllocError>
         ensures trees { IfOk result
             (λ s. s ≡ between (place_of self.entry) (place_of end.entry)) }
-        ensures visible { IfOk result (LosesNone (place_of self.entry) (place_of end.entry)) }
+        ensures visible { IfOk result (LosesNoTree (place_of self.entry) (place_of end.entry)) }
     {
         if let (Some(from), Some(to)) = (self.spot, end.spot) {
             if self.same_scope(end) {
@@ -350,7 +350,7 @@ fn write_from<W: Write>(
 impl<'a> Leaf<'a> {
     // Returns `true` for a joint punct.
     fn is_joint(self) -> bool
-        ensures { result ≡ spec.is_joint (leaf (leaf_in self.entry)) }
+        ensures { result ≡ spec.is_joint_tree (leaf (leaf_in self.entry)) }
     {
         match self {
             Leaf::Punct(punct) => match punct.spacing() {

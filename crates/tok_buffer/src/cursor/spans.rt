@@ -4,7 +4,7 @@ ghost use Rattle.std.specs.Cmp.{on_per, partial_equiv_from_equiv, on_equiv, on_p
 ghost use Rattle.std.specs.Ordering.{on};
 ghost use Rattle.std.specs.declared.cmp.Ordering.TheVariants.{Equal};
 ghost use Rattle.tok_core.specs.Weight.{weight};
-ghost use Rattle.tok_buffer.specs.Ahead.{ahead, first_of, left_of, leftover};
+ghost use Rattle.tok_buffer.specs.Ahead.{marked_ahead, first_of, left_of, leftover};
 ghost use Rattle.tok_buffer.specs.Cursors.{place_of};
 ghost use Rattle.tok_buffer.specs.Moves.{in_scope, place_at, frames_at, frame_ahead, frame_enclosing, at_end};
 ghost use Rattle.tok_buffer.specs.Order.{same_buffer, same_scope, equal, order};
@@ -213,7 +213,7 @@ fn scan(buffer: &TokenBuffer, from: usize, scope: usize) -> Option<(bool, Span)>
     requires in_buffer { scope ≤ weight buffer.now.forest }
     requires within { in_scope buffer.now.forest from scope ≡ true }
     ensures { result
-        ≡ first_of (ahead (place_at buffer.now.number buffer.now.forest from scope)) }
+        ≡ first_of (marked_ahead (place_at buffer.now.number buffer.now.forest from scope)) }
 {
     let mut depth: usize = 0;
     let mut position = from;
