@@ -16,7 +16,7 @@ use Rattle.tok_buffer.specs.Ahead.{Leftover, leftover}
 use Rattle.tok_buffer.specs.declared.error.Message.{Message}
 use Rattle.tok_buffer.specs.View.{erased_ahead}
 use Rattle.tok_buffer.proofs.View.InFront.{ahead_tells, all_ahead_at_start}
-use Rattle.syn_parse.specs.Faults.{IsMemory, IsRefused, Refuses, RefusesAt}
+use Rattle.syn_parse.specs.Faults.{IsMemory, FailsWith, Refuses, RefusesAt}
 use Rattle.syn_parse.specs.Parsers.{Finishes, OnMemory, whole_stream}
 use Rattle.syn_parse.specs.ErrorWords.{leftover_message, leftover_words}
 use Rattle.syn_parse.specs.State.{State, handed}
@@ -123,7 +123,7 @@ module _ {T A : Type 0} (form : T → A) (take : Taking A) (f : Forest) (scope :
 
   value_takes_all : (v : T) (left : State) (result : Result T Fault) (o : Option Leftover)
       → handed left ≡ o → take (whole f) ≡ found (form v) (ahead left)
-      → MatchOption o (result ≡ Ok v) (λ l. IsRefused (leftover_message l) result)
+      → MatchOption o (result ≡ Ok v) (λ l. FailsWith (leftover_message l) result)
       → TakesAll form take f scope result
   value_takes_all v left result None h k m =
       subst (TakesAll form take f scope) (sym m)

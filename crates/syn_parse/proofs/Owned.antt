@@ -20,7 +20,7 @@ use Rattle.tok_leaves.specs.Leaves.{ident}
 use Rattle.tok_buffer.specs.Place.{Place}
 use Rattle.tok_buffer.specs.Reads.{read_keyword}
 use Rattle.tok_buffer.specs.View.{erased_ahead}
-use Rattle.tok_types.specs.Looks.{Finds}
+use Rattle.tok_types.specs.Looks.{PeeksFor}
 use Rattle.tok_types.specs.Texts.{in_backquotes}
 use Rattle.tok_buffer.proofs.View.Readings.{of_keyword}
 use Rattle.tok_buffer.proofs.View.Tells.{tells}
@@ -33,7 +33,7 @@ use Rattle.syn_parse.specs.Takes.{TakesAs}
 use Rattle.syn_parse.specs.declared.fault.Fault.{Fault}
 use Rattle.syn_parse.proofs.Told.{word_told}
 
-pub own_seen : (text : List ℕ) (p : Place) (b : Bool) → Finds (read_keyword text) p b
+pub own_seen : (text : List ℕ) (p : Place) (b : Bool) → PeeksFor (read_keyword text) p b
     → b ≡ own_first text (erased_ahead p)
 unfolding own_first
 own_seen text p b h = h ∙ found_as _ _ _ (tells (of_keyword text) p)

@@ -11,33 +11,33 @@ use Rattle.tok_types.specs.Texts.{in_backquotes}
 use Rattle.syn_parse.specs.Parses.{IsSpanOf, WordParses}
 use Rattle.syn_parse.specs.ErrorWords.{expected, refused_at}
 use Rattle.syn_parse.specs.Progress.{ParsesOn}
-use Rattle.syn_parse.specs.Reads.{Read, Reads, ReadsAtOnce}
+use Rattle.syn_parse.specs.Reads.{TreesRead, Reads, ReadsAtOnce}
 use Rattle.syn_parse.specs.State.{State}
 use Rattle.syn_parse.specs.declared.fault.Fault.{Fault}
 
 -- a value comes of a read, and the stream is at the place after it
-pub record CameOf (x : Read) (t : State) : Type 0 where
+pub record CameOf (x : TreesRead) (t : State) : Type 0 where
   pub trees : List Tree
   pub after : Place
   pub read : x ≡ Some (trees, after)
   pub is_at : t.place ≡ after
 
 module _ {T : Type 0} (Means : T → List Tree → Type 0) (s : State) where
-  came_of : (x : Read) (words : Message) (v : T) (t : State) → Reads Means x words s (Ok v) t
+  came_of : (x : TreesRead) (words : Message) (v : T) (t : State) → Reads Means x words s (Ok v) t
       → CameOf x t
   came_of None words v t h = absurd h
   came_of (Some r) words v t h =
       record { trees = r.0; after = r.1; read = refl; is_at = ap (λ u. u.place) h.1 }
 
   -- a read that takes no memory is a read
-  pub at_once : (x : Read) (words : Message) (r : Result T Fault) (t : State)
+  pub at_once : (x : TreesRead) (words : Message) (r : Result T Fault) (t : State)
       → ReadsAtOnce Means x words s r t → Reads Means x words s r t
   at_once None words (Ok v) t h = absurd h
   at_once (Some q) words (Ok v) t h = h
   at_once None words (Err f) t h = h
   at_once (Some q) words (Err f) t h = absurd h
 
-module _ {T : Type 0} (Means : T → List Tree → Type 0) (read : Place → Read) (words : State
+module _ {T : Type 0} (Means : T → List Tree → Type 0) (read : Place → TreesRead) (words : State
     → Message) (on : ReadsOn read) where
   pub parses_on : ParsesOn {T = T} (λ s. Reads Means (read s.place) (words s) s)
   parses_on =

@@ -43,7 +43,7 @@ use Rattle.syn_parse.specs.Parses.{IsLifetime, IsLiteral, IsPunct, IsSpanOf, Lif
 use Rattle.syn_parse.specs.Parses.{LiteralParses, PunctParses, WordParses, accept_as_lifetime}
 use Rattle.syn_parse.specs.Progress.{KeywordParses, PunctuationTypeParses, UnderscoreParses}
 use Rattle.syn_parse.specs.Faults.{IsMemory, Refuses}
-use Rattle.syn_parse.specs.Reads.{Read, Reads, ReadsAtOnce}
+use Rattle.syn_parse.specs.Reads.{TreesRead, Reads, ReadsAtOnce}
 use Rattle.syn_parse.specs.ErrorWords.{ident_words, expected, lifetime_words, punctuation_message}
 use Rattle.syn_parse.specs.ErrorWords.{punct_span, punctuation_span, refused_at, span_in}
 use Rattle.syn_parse.specs.Positions.{IsAt, Missing, scope_trees}
@@ -51,7 +51,7 @@ use Rattle.syn_parse.specs.State.{State, fresh, moved, state_span}
 use Rattle.syn_parse.specs.declared.fault.Fault.{Fault}
 use Rattle.syn_parse.specs.declared.fault.Fault.TheVariants.{Refused, Memory}
 use Rattle.syn_parse.specs.TreesAhead.{Ahead, IsFilled, ahead, scope_of}
-use Rattle.syn_parse.specs.Lookahead.{Look, at_look, closing_word, list_words, look_message}
+use Rattle.syn_parse.specs.Lookahead.{LookaheadView, at_look, closing_word, list_words, look_message}
 use Rattle.syn_parse.specs.Lookahead.{look_missing, missing_names, named_ends, names_message}
 use Rattle.syn_parse.specs.Takes.{IsMissing, Outcome, SaysAt, SaysFound, Takes, TakesAs, found}
 use Rattle.syn_parse.specs.Takes.{missing_next, or_end, read_as, take_by}
@@ -116,7 +116,7 @@ names-told [] p scope (Refused e) h i = (
 names-told [] p scope (Memory e) h i = tt
 names-told (d ∷ ds) p scope f h i = here_told (list_words (d ∷ ds)) (fresh p scope) f h i
 
-pub look_told : (l : Look) (f : Fault) → Refuses (look_message l) f
+pub look_told : (l : LookaheadView) (f : Fault) → Refuses (look_message l) f
     → SaysAt (at_look l) (look_missing l) f
 look_told l f h =
     names-told (named_ends (closing_word (scope_delimiter l.place)) l.missed) l.place l.scope_span f
@@ -169,7 +169,7 @@ module _ {T A : Type 0} (form : T → A) (Means : T → List Tree → Type 0) (m
   memory (Refused e) m = absurd m
   memory (Memory e) m = (tt, λ i. says_memory (scope_trees s.place) s.scope_span (take (ahead s)) e)
 
-  pub told-by : (x : Read) (r : Result T Fault) → with_ahead x ≡ first (erased_ahead s.place)
+  pub told-by : (x : TreesRead) (r : Result T Fault) → with_ahead x ≡ first (erased_ahead s.place)
       → ((b : Laid) → Reached b s.place → LeadsTo (Reached b) x)
       → LeadsTo (GoesOn s.place) x → LeadsTo (InScope (scope_trees s.place)) x
       → Reads Means x message s r t → TakesAs form take s r t
@@ -178,7 +178,7 @@ module _ {T A : Type 0} (form : T → A) (Means : T → List Tree → Type 0) (m
   told-by None (Err f) e leads goes same h = none f e h.0
   told-by (Some q) (Err f) e leads goes same h = memory f h.0
 
-  module _ {read : Place → Read} (reading : Reading read first) where
+  module _ {read : Place → TreesRead} (reading : Reading read first) where
     pub read_told : (r : Result T Fault) → Reads Means (read s.place) message s r t
         → TakesAs form take s r t
     read_told r h =
@@ -190,11 +190,11 @@ module _ {T A : Type 0} (form : T → A) (Means : T → List Tree → Type 0) (m
         → TakesAs form take s r t
     told-at-once r h = read_told r (at_once Means s (read s.place) message r t h)
 
-ident-words : (x : Read) → ident_words x ≡ ident_missing (with_ahead x)
+ident-words : (x : TreesRead) → ident_words x ≡ ident_missing (with_ahead x)
 ident-words None = refl
 ident-words (Some r) = refl
 
-lifetime-words : (x : Read) → lifetime_words x ≡ lifetime_missing (with_ahead x)
+lifetime-words : (x : TreesRead) → lifetime_words x ≡ lifetime_missing (with_ahead x)
 lifetime-words None = refl
 lifetime-words (Some r) = refl
 
@@ -297,7 +297,7 @@ underscore_told s r t h =
     (λ v ts m. sym (ap span_in m)) s r t h
 
 -- a punctuation's error is at the punct that is next, if one is
-sign-at : (s : State) → IsFilled s.place → (x : Read)
+sign-at : (s : State) → IsFilled s.place → (x : TreesRead)
     → IsAt (scope_trees s.place) s.scope_span
     (punct_position (with_ahead x) (erased_ahead s.place)) (punct_span x (state_span s))
 sign-at s i None = start_told s.place s.scope_span i

@@ -21,11 +21,11 @@ use Rattle.tok_buffer.proofs.ScopeEnds.{passes-keep, rest_erased, visible_tells}
 use Rattle.tok_buffer.proofs.View.Laws.{reached_leads_on}
 use Rattle.tok_buffer.proofs.View.Moves.{LeadsTo, leads-take}
 use Rattle.syn_parse.specs.Parses.{IsTree}
-use Rattle.syn_parse.specs.Reads.{Read, Reads}
+use Rattle.syn_parse.specs.Reads.{TreesRead, Reads}
 use Rattle.syn_parse.specs.ErrorWords.{refused_at}
 use Rattle.syn_parse.specs.State.{State, moved}
 use Rattle.syn_parse.specs.Takes.{TakesAs, found, missing_next}
-use Rattle.syn_parse.specs.TreeTakes.{VisibleParses, take_rest, take_tree, tree_in}
+use Rattle.syn_parse.specs.TreeTakes.{VisibleTreeParses, take_rest, take_tree, tree_in}
 use Rattle.syn_parse.specs.TreesAhead.{ahead}
 use Rattle.syn_parse.specs.declared.fault.Fault.{Fault}
 use Rattle.syn_parse.proofs.Positions.{passes_kept, visible_kept}
@@ -33,28 +33,29 @@ use Rattle.syn_parse.proofs.Scopes.{in_one_scope, one_scope}
 use Rattle.syn_parse.proofs.Told.{here_told, told-by}
 
 -- a read, with the trees that are read without invisible groups
-abbrev erased : Read → Read
+abbrev erased : TreesRead → TreesRead
 erased x = option_map (λ q. (map erased_tree q.0, q.1)) x
 
-erased-ahead : (x : Read) → with_ahead (erased x) ≡ erased_read x
+erased-ahead : (x : TreesRead) → with_ahead (erased x) ≡ erased_read x
 erased-ahead None = refl
 erased-ahead (Some q) = refl
 
 abbrev IsErased : TokenTree → List Tree → Type 0
 IsErased v ts = ts ≡ erased_tree (tree_of v) ∷ []
 
-reads-erased : (x : Read) (words : Message) (s : State) (r : Result TokenTree Fault) (t : State)
+reads-erased : (x : TreesRead) (words : Message) (s : State) (r : Result TokenTree Fault)
+    (t : State)
     → Reads IsTree x words s r t → Reads IsErased (erased x) words s r t
 reads-erased (Some q) words s (Ok v) t h = (ap (map erased_tree) h.0, h.1)
 reads-erased None words s (Ok v) t h = h
 reads-erased (Some q) words s (Err f) t h = h
 reads-erased None words s (Err f) t h = h
 
-leads-erased : (P : Place → Type 0) (x : Read) → LeadsTo P x → LeadsTo P (erased x)
+leads-erased : (P : Place → Type 0) (x : TreesRead) → LeadsTo P x → LeadsTo P (erased x)
 leads-erased P None h = h
 leads-erased P (Some q) h = h
 
-pub tree_told : (s : State) (r : Result TokenTree Fault) (t : State) → VisibleParses s r t
+pub tree_told : (s : State) (r : Result TokenTree Fault) (t : State) → VisibleTreeParses s r t
     → TakesAs (λ v. erased_tree (tree_of v)) take_tree s r t
 unfolding take_tree
 tree_told s r t h =

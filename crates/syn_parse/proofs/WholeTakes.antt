@@ -14,7 +14,7 @@ use Rattle.tok_leaves.specs.Spans.{call_site}
 use Rattle.tok_leaves.specs.declared.span.Span.{Span}
 use Rattle.syn_parse.proofs.Finished.{finish_takes_all, memory-fails, results_agree}
 use Rattle.syn_parse.proofs.Finished.{start-filled, words_agree}
-use Rattle.syn_parse.specs.Faults.{IsRefused}
+use Rattle.syn_parse.specs.Faults.{FailsWith}
 use Rattle.syn_parse.specs.Parsers.{Finishes, IsUnread, OnMemory, ParsesWhole, lex_message}
 use Rattle.syn_parse.specs.Parsers.{whole_stream}
 use Rattle.syn_parse.specs.Reads.{Call}
@@ -83,7 +83,7 @@ module _ {T A : Type 0} (form : T → A) (take : Taking A) where
   all-once f scope (Err (Refused e)) h = (tt, h.0.1)
   all-once f scope (Err (Memory e)) h = tt
 
-  refused-once : (m : Message) (r : Result T Fault) → IsRefused m r → ErrsOnce r
+  refused-once : (m : Message) (r : Result T Fault) → FailsWith m r → ErrsOnce r
   refused-once m (Ok v) h = absurd h
   refused-once m (Err (Refused e)) h = (tt, ap length h)
   refused-once m (Err (Memory e)) h = tt

@@ -15,6 +15,7 @@ take_after test token take =
       v ← take
       gives (Some (p, v))) (gives None)
 
+-- a token and a value add nothing if neither of them does
 pub lightens_after : {A B : Type 0} (test : Ahead → Bool) (token : Taking A) (take : Taking B)
     → Lightens token → Lightens take → Lightens (take_after test token take)
 unfolding take_after

@@ -35,8 +35,8 @@ PeekTells {T} peeks calls =
     peeks s.place found → calls s r t → Tells found r
 
 -- how the readers of visible groups enter
-abbrev pub VisibleParses : {D : ℕ} → Call (Delimited (Visible D))
-VisibleParses {D} s =
+abbrev pub VisibleGroupParses : {D : ℕ} → Call (Delimited (Visible D))
+VisibleGroupParses {D} s =
     let words = refused_at s (delimiter_words (delimiter_at D)) in
     Enters (λ p. AreParts p.token.span p.content) (enter (delimiter_at D) s.place) words s
 

@@ -26,19 +26,24 @@ use Rattle.syn_parse.specs.Tokens.{take_underscore}
 use Rattle.syn_parse.specs.ErrorWords.{expected, span_in}
 use Rattle.tok_types.specs.Texts.{in_backquotes}
 
+-- a parser that takes something adds nothing to what is ahead
 pub lightens_lower : {A : Type 0} (take : Taking A) → Lowers take → Lightens take
 lightens_lower take h = record { less = λ a b v e. omega (arith, h.less a b v e) }
 
+-- a value that takes no tree adds nothing to what is ahead
 pub lightens_gives : {A : Type 0} (v : A) → Lightens (gives v)
 lightens_gives v = record { less = λ a b w e. let k : a ≡ b = cc in rw k (omega arith) }
 
+-- a parser that always fails at the next token adds nothing to what is ahead
 pub lightens_refuses : {A : Type 0} (words : List ℕ) → Lightens {A = A} (refuses words)
 lightens_refuses words = record { less = λ a b w e. absurd (cc) }
 
+-- a parser that always fails at a given span adds nothing to what is ahead
 pub lightens_refuses_at : {A : Type 0} (span : Span) (words : List ℕ)
     → Lightens {A = A} (refuses_at span words)
 lightens_refuses_at span words = record { less = λ a b w e. absurd (cc) }
 
+-- two parsers in turn add nothing if neither does
 pub lightens_bind : {A B : Type 0} (m : Taking A) (k : A → Taking B) → Lightens m
     → ((v : A) → Lightens (k v)) → Lightens (m >>= k)
 lightens_bind {A} {B} m k h g = record { less = λ a b w e. go a b w (m a) refl e } where
@@ -47,6 +52,7 @@ lightens_bind {A} {B} m k h g = record { less = λ a b w e. go a b w (m a) refl 
   go a b w (missing m) e f = absurd (cc)
   go a b w (found v c) e f = omega (arith, h.less a c v e, (g v).less c b w f)
 
+-- a choice adds nothing if neither branch does
 pub lightens_where : {A : Type 0} (test : Ahead → Bool) (m n : Taking A) → Lightens m → Lightens n
     → Lightens (where_ahead test m n)
 lightens_where {A} test m n h g = record { less = λ a b w e. go a b w (test a) e } where
@@ -55,6 +61,7 @@ lightens_where {A} test m n h g = record { less = λ a b w e. go a b w (test a) 
   go a b w true e = h.less a b w e
   go a b w false e = g.less a b w e
 
+-- two parsers in turn take something if the first does, and the second adds nothing
 pub lowers_bind : {A B : Type 0} (m : Taking A) (k : A → Taking B) → Lowers m
     → ((v : A) → Lightens (k v)) → Lowers (m >>= k)
 lowers_bind {A} {B} m k h g = record { less = λ a b w e. go a b w (m a) refl e } where
@@ -63,6 +70,7 @@ lowers_bind {A} {B} m k h g = record { less = λ a b w e. go a b w (m a) refl e 
   go a b w (missing m) e f = absurd (cc)
   go a b w (found v c) e f = omega (arith, h.less a c v e, (g v).less c b w f)
 
+-- a choice takes something if both branches do
 pub lowers_where : {A : Type 0} (test : Ahead → Bool) (m n : Taking A) → Lowers m → Lowers n
     → Lowers (where_ahead test m n)
 lowers_where {A} test m n h g = record { less = λ a b w e. go a b w (test a) e } where
@@ -75,16 +83,20 @@ lowers_where {A} test m n h g = record { less = λ a b w e. go a b w (test a) e 
 abbrev Reading : Type 0
 Reading = Forest → Option (List Tree × Forest)
 
+-- less is left after each read
 abbrev Shorter : Reading → Type 0
 Shorter read = (f : Forest) (r : List Tree × Forest) → read f ≡ Some r → weight r.1 < weight f
 
+-- each tree weighs something
 tree-counts : (t : Tree) → 0 < tree_weight t
 tree-counts (leaf l) = omega arith
 tree-counts (group d inside span) = omega arith
 
+-- equal reads leave equal trees
 some-rest : {A B : Type 0} {x y : A × B} → Some x ≡ Some y → x.1 ≡ y.1
 some-rest {A} {B} {x} {y} e = let k : x ≡ y = cc in ap (λ p. p.1) k
 
+-- less is left after the first tree
 pub if-shorter : (wanted : Tree → Bool) → Shorter (first_if wanted)
 if-shorter wanted no_trees r e = absurd (cc)
 if-shorter wanted (tree t f) r e = go (wanted t) e where
@@ -92,10 +104,12 @@ if-shorter wanted (tree t f) r e = go (wanted t) e where
   go true e = subst (λ g. weight g < weight (tree t f)) (some-rest e) (omega (arith, tree-counts t))
   go false e = absurd (cc)
 
+-- less is left after a keyword
 word-shorter : (text : List ℕ) → Shorter (first_keyword text)
 word-shorter [] f r e = absurd (cc)
 word-shorter (c ∷ cs) f r e = if-shorter (is_ident_of (bytes_eq (c ∷ cs))) f r e
 
+-- less is left after two reads
 and-shorter : (f : Forest) (g : Reading) → Shorter g → (x : Option (List Tree × Forest))
     → ((q : List Tree × Forest) → x ≡ Some q → weight q.1 < weight f) → (r : List Tree × Forest)
     → and_first x g ≡ Some r → weight r.1 < weight f
@@ -107,6 +121,7 @@ and-shorter f g h (Some q) k r e = go (g q.1) refl e where
   go (Some p) m e =
       subst (λ z. weight z < weight f) (some-rest e) (omega (arith, h q.1 p m, k q refl))
 
+-- less is left after a punctuation
 puncts-shorter : (text : List ℕ) → Shorter (first_puncts text)
 puncts-shorter [] f r e = absurd (cc)
 puncts-shorter (c ∷ []) f r e = if-shorter (is_punct_of c) f r e
@@ -114,11 +129,13 @@ puncts-shorter (c ∷ (d ∷ cs)) f r e =
     and-shorter f (first_puncts (d ∷ cs)) (puncts-shorter (d ∷ cs)) (first_if (is_joint_of c) f)
     (λ q k. if-shorter (is_joint_of c) f q k) r e
 
+-- less is left after a lifetime
 lifetime-shorter : (wanted : List ℕ → Bool) → Shorter (first_lifetime wanted)
 lifetime-shorter wanted f r e =
     and-shorter f (first_if (is_ident_of wanted)) (if-shorter _) (first_if is_joint_apostrophe f)
     (λ q k. if-shorter is_joint_apostrophe f q k) r e
 
+-- a parser of a read takes something if less is left after the read
 pub by-lowers : {T : Type 0} (read : Reading) (means : List Tree → T) (lack : Forest → Missing)
     → Shorter read → Lowers (take_by read means lack)
 by-lowers {T} read means lack h = record { less = λ a b v e. go a b v (read a.trees) refl e } where
@@ -129,6 +146,7 @@ by-lowers {T} read means lack h = record { less = λ a b v e. go a b v (read a.t
       let m : record { trees = r.1; unread = a.unread } ≡ b = cc in
       subst (λ (c : Ahead). weight c.trees < weight a.trees) m (h a.trees r k)
 
+-- each parser of a token takes something
 pub lowers_ident : Lowers take_ident
 unfolding take_ident
 lowers_ident = by-lowers _ _ _ (if-shorter _)
@@ -192,6 +210,7 @@ group_weighs d (tree (group c inside span) f) e h = go (same_delimiter d c) h wh
       < weight (tree (group c inside span) f)) m (omega arith)
   go false k = absurd (cc)
 
+-- a parser of a group takes something, even if the group is empty
 pub lowers_group : {A : Type 0} (d : Delimiter) (inner : Taking A) → Lowers (take_group d inner)
 unfolding take_group
 lowers_group {A} d inner =
@@ -211,6 +230,7 @@ lowers_group {A} d inner =
           subst (λ f. weight f < weight a.trees) (inside a b v x _ e)
           (omega (arith, group_weighs d a.trees x k))
 
+-- no parser of a token or a group adds anything to what is ahead
 pub lightens_ident : Lightens take_ident
 lightens_ident = lightens_lower take_ident lowers_ident
 

@@ -24,15 +24,18 @@ pub record Descends (slack : ℕ) {A B : Type 0} (step : Taking A → Taking B) 
   pub same : (m n : Taking A) → Lightens m → Lightens n → (a : Ahead)
       → SameBelow (weight a.trees + slack) m n → step m a ≡ step n a
 
+-- the other parser by itself needs a slack of 1
 pub descends_self : {A : Type 0} → Descends 1 {A = A} (λ m. m)
 descends_self = record { light = λ m l. l; same = λ m n k l a h. h a (omega arith) }
 
+-- a parser that needs no slack may have it
 pub descends_less : {A B : Type 0} (step : Taking A → Taking B) → Descends 0 step → Descends 1 step
 descends_less step i = record {
   light = i.light;
   same = λ m n k l a h. i.same m n k l a (λ b w. h b (omega (arith, w)));
 }
 
+-- a parser that isn't made of the other one may have any slack
 pub descends_same : (slack : ℕ) {A B : Type 0} (take : Taking B) → Lightens take
     → Descends slack {A = A} (λ m. take)
 descends_same slack take l = record { light = λ m k. l; same = λ m n k l a h. refl }
@@ -43,6 +46,7 @@ on_found : {B C : Type 0} (o : Outcome B) (f g : B → Ahead → Outcome C)
 on_found (found v b) f g h = h v b refl
 on_found (missing m) f g h = refl
 
+-- two parsers in turn need no more slack than each of them
 pub descends_bind : (slack : ℕ) {A B C : Type 0} (step : Taking A → Taking B)
     (k : Taking A → B → Taking C) → Descends slack step
     → ((v : B) → Descends slack (λ m. k m v)) → Descends slack (λ m. step m >>= k m)
@@ -64,6 +68,7 @@ descends_after token k h g = record {
       (λ c w. e c (omega (arith, w, h.less a b v f))));
 }
 
+-- a choice needs no more slack than each of its branches
 pub descends_where : (slack : ℕ) {A B : Type 0} (test : Ahead → Bool) (f g : Taking A → Taking B)
     → Descends slack f → Descends slack g → Descends slack (λ m. where_ahead test (f m) (g m))
 descends_where slack test f g h k = record {

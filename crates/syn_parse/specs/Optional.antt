@@ -14,6 +14,7 @@ take_optional test take =
       v ← take
       gives (Some v)) (gives None)
 
+-- an option adds nothing if its value doesn't
 pub lightens_optional : {A : Type 0} (test : Ahead → Bool) (take : Taking A) → Lightens take
     → Lightens (take_optional test take)
 unfolding take_optional
@@ -22,6 +23,7 @@ lightens_optional test take h =
     (lightens_bind take _ h (λ v. lightens_gives (Some v)))
     (lightens_gives None)
 
+-- an option adds nothing if its value doesn't; it may take nothing even if its value never does
 abbrev pub optional_weighs : {A : Type 0} (test : Ahead → Bool) (take : Taking A) → Weighs take
     → Weighs (take_optional test take)
 optional_weighs test take unweighed = unweighed

@@ -53,6 +53,7 @@ passing-lightens {S} step s (tree t f) =
       go rest h None = omega arith
       go rest h (Some r) = omega (arith, h r)
 
+-- a parser of a run and its state adds nothing to what is ahead
 pub lightens_run_with_state : {S : Type 0} (step : S → Forest → Option S) (s : S)
     → Lightens (take_run_with_state step s)
 unfolding take_run_with_state
@@ -66,6 +67,7 @@ lightens_run_with_state {S} step s = record { less = λ a b v e. go a b v e } wh
       let k : record a { trees = (passing step s a.trees).1 } ≡ b = cc in
       rw (← k) (passing-lightens step s a.trees)
 
+-- a parser of a run adds nothing to what is ahead
 pub lightens_run : {S : Type 0} (step : S → Forest → Option S) (s : S)
     → Lightens (take_run step s)
 unfolding take_run

@@ -18,7 +18,7 @@ past_token f = elim (first_lifetime any_text f) [ Some r ↦ Some r.1 | None ↦
 abbrev pub next_passes : (Forest → Bool) → Forest → Bool
 next_passes test f = elim (past_token f) [ Some g ↦ test g | None ↦ false ]
 
--- the tests of a `peek2` and of a `peek3`
+-- a test of the trees after the next token
 abbrev pub second_sees : Option (Forest → Bool) → Option (Forest → Bool)
 second_sees sees = option_map next_passes sees
 

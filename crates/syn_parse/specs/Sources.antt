@@ -11,7 +11,7 @@ use Rattle.tok_leaves.specs.declared.span.Origin.TheVariants.{CallSite, Source}
 use Rattle.tok_leaves.specs.declared.span.Span.{Span}
 use Rattle.tok_lexical.specs.declared.edition.Edition.{Edition}
 use Rattle.tok_lexical.specs.declared.rule.Mode.TheVariants.{Plain}
-use Rattle.syn_parse.specs.Faults.{IsRefused}
+use Rattle.syn_parse.specs.Faults.{FailsWith}
 use Rattle.syn_parse.specs.Parsers.{IsUnread, OnMemory, ParsesWhole, lex_message, whole_stream}
 use Rattle.syn_parse.specs.Reads.{Call}
 use Rattle.syn_parse.specs.State.{State}
@@ -34,16 +34,16 @@ source_stream number f = whole_stream f (end_of_tokens number f)
 -- what holds of the stream of the tokens of a source's text, if the text has any
 abbrev pub OnTextOf : ℕ → (State → Type 0) → List ℕ → Type 0
 OnTextOf number holds text =
-    (f : Forest) → grammar.Reads Plain number text f → holds (source_stream number f)
+    (f : Forest) → grammar.ReadsForest Plain number text f → holds (source_stream number f)
 
 -- The text of a source reads as a forest, which is parsed; or the grammar rejects it, with this
 -- error; or an allocation fails.
 abbrev pub ParsesTextOf : {T : Type 0} → ℕ → Call T → List ℕ → Result T Fault → Type 0
 ParsesTextOf number parses text result =
-    ((f : Forest) × grammar.Reads Plain number text f
+    ((f : Forest) × grammar.ReadsForest Plain number text f
     × ParsesWhole parses (source_stream number f) result)
-    ⊎ (((e : LexError) × grammar.IsRefused Plain number text e
-    × IsRefused (lex_message e) result)
+    ⊎ (((e : LexError) × grammar.IsRejected Plain number text e
+    × FailsWith (lex_message e) result)
     ⊎ OnMemory result)
 
 -- the text of a source keeps what is stated up to the end of its tokens

@@ -172,6 +172,7 @@ IsWithin inner outer =
     (weight (ahead inner).trees < weight (ahead outer).trees)
     × (IsFilled outer.place → IsFilled inner.place)
 
+-- each call on a stream within this one returns a value that has the form that is taken
 abbrev pub TakeWithinBy : {T A : Type 0} → State → (T → A → Type 0) → Taking A → Call T → Type 0
 TakeWithinBy {T} start Is take calls =
     (s : State) (r : Result T Fault) (t : State) → IsWithin s start → calls s r t
@@ -208,12 +209,12 @@ EntersAhead span_of content_of d s (Err f) t =
     MemoryOr f (first_group d (ahead s).trees ≡ None)
     × SaysAt s (missing_next (delimiter_words d) (ahead s).trees) f
 
--- each call of a function does
+-- each call of a function does as `TakesAs` says
 abbrev pub TakeEach : {T A : Type 0} → (T → A) → Taking A → Call T → Type 0
 TakeEach {T} form take calls =
     (s : State) (r : Result T Fault) (t : State) → calls s r t → TakesAs form take s r t
 
--- each call does, on a stream within this one
+-- each call on a stream within this one does as `TakesAs` says
 abbrev pub TakeWithin : {T A : Type 0} → State → (T → A) → Taking A → Call T → Type 0
 TakeWithin {T} start form take calls =
     (s : State) (r : Result T Fault) (t : State) → IsWithin s start → calls s r t

@@ -11,7 +11,7 @@ use Rattle.tok_core.specs.Lexical.Laws.{IsAllVisible}
 use Rattle.tok_core.specs.Lexical.Reading as grammar
 use Rattle.tok_core.specs.Weight.{weight}
 use Rattle.tok_core.specs.declared.lexer.error.LexError.{LexError}
-use Rattle.syn_parse.specs.Faults.{IsRefused}
+use Rattle.syn_parse.specs.Faults.{FailsWith}
 use Rattle.syn_parse.specs.Parsers.{OnMemory, lex_message}
 use Rattle.syn_parse.specs.Reads.{Call}
 use Rattle.syn_parse.specs.Takes.{Agree, ErrorsAgree, MemoryOr, Taking, TakesAll, TakesAs, found}
@@ -104,9 +104,9 @@ HasOneMessage takes r = IfErr r (λ f. MemoryOr f (Unit {0}))
 abbrev pub KeepsTextTo : {T : Type 0} → ℕ → (Forest → Span) → Takings T → List ℕ
     → Result T Fault → Type 0
 KeepsTextTo number end takes text r =
-    ((f : Forest) × grammar.Reads Plain number text f × IsAllVisible f
+    ((f : Forest) × grammar.ReadsForest Plain number text f × IsAllVisible f
     × KeepsWhole takes f (end f) r)
-    ⊎ (((e : LexError) × grammar.IsRefused Plain number text e × IsRefused (lex_message e) r)
+    ⊎ (((e : LexError) × grammar.IsRejected Plain number text e × FailsWith (lex_message e) r)
     ⊎ OnMemory r)
 
 -- a text as source 0, with its end at the call site

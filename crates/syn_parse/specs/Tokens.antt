@@ -24,7 +24,7 @@ use Rattle.syn_parse.specs.Positions.{Missing, Position, at_span, at_trees}
 use Rattle.syn_parse.specs.TreesAhead.{Ahead}
 use Rattle.syn_parse.specs.Takes.{Taking, gives, missing_next, take_by}
 
--- the identifier, and the literal, that one tree is
+-- the identifier that trees begin with
 abbrev pub ident_in : List Tree → Ident
 ident_in (leaf (ident text span) ∷ ts) = record { text = text; span = span }
 ident_in ts = record { text = []; span = call_site }
@@ -111,7 +111,7 @@ take_underscore =
 abbrev pub take_nothing : Taking (Unit {0})
 take_nothing = gives tt
 
--- a keyword, and a punctuation, by its number
+-- takes the keyword of this number
 unfoldable pub take_keyword : (k : ℕ) → Taking (Keyword k)
 take_keyword k =
     take_by (first_keyword (keyword_text k)) (λ ts. record { span = span_in ts })
@@ -123,7 +123,7 @@ take_punctuation k n =
     take_by (first_puncts (punctuation_word k n)) (λ ts. record { spans = map tree_span ts })
     (sign_missing (punctuation_word k n))
 
--- tests of the first of the visible trees ahead
+-- an identifier that is no reserved word is first
 abbrev pub sees_ident : Ahead → Bool
 sees_ident a = ident_first a.trees
 

@@ -16,8 +16,8 @@ use Rattle.syn_parse.specs.Takes.{Taking, found, missing_next, take_by}
 use Rattle.syn_parse.specs.Takings.{Lightens, Lowers}
 
 -- the next visible tree
-abbrev pub VisibleParses : Call TokenTree
-VisibleParses s =
+abbrev pub VisibleTreeParses : Call TokenTree
+VisibleTreeParses s =
     Reads IsTree (read_visible s.place) (refused_at s (codes "expected token tree")) s
 
 -- the one tree that is read
@@ -33,15 +33,18 @@ take_tree = take_by (first_if any_tree) tree_in (missing_next (codes "expected t
 abbrev pub take_rest : Taking Forest
 take_rest a = found a.trees (record a { trees = no_trees })
 
+-- a parser of a tree takes something
 pub lowers_tree : Lowers take_tree
 unfolding take_tree
 lowers_tree =
     by-lowers (first_if any_tree) tree_in (missing_next (codes "expected token tree"))
     (if-shorter any_tree)
 
+-- a parser of a tree adds nothing to what is ahead
 pub lightens_tree : Lightens take_tree
 lightens_tree = lightens_lower take_tree lowers_tree
 
+-- a parser of all trees that are left adds nothing to what is ahead
 pub lightens_rest : Lightens take_rest
 lightens_rest =
     record {

@@ -3,7 +3,7 @@ use Rattle.std.specs.Prelude.{◌≡◌, ℕ, List}
 use Rattle.tok_buffer.specs.Buffer.{Laid}
 use Rattle.tok_buffer.specs.Reads.{any_text, read_ident, read_lifetime}
 use Rattle.tok_buffer.specs.SameView.{SameView}
-use Rattle.syn_parse.specs.Lookahead.{Look, look_message}
+use Rattle.syn_parse.specs.Lookahead.{LookaheadView, look_message}
 use Rattle.syn_parse.specs.State.{State}
 use Rattle.syn_parse.specs.ErrorWords.{ident_words, lifetime_words, punctuation_message}
 use Rattle.syn_parse.specs.ErrorWords.{refused_at}
@@ -26,5 +26,5 @@ ViewsDecideWords =
 -- and two lookaheads there that have noted the same displays
 abbrev pub ViewsDecideLookaheads : Type 0
 ViewsDecideLookaheads =
-    (b c : Laid) (l m : Look) → SameView b c l.place m.place → l.missed ≡ m.missed
+    (b c : Laid) (l m : LookaheadView) → SameView b c l.place m.place → l.missed ≡ m.missed
     → (look_message l).text ≡ (look_message m).text

@@ -1,6 +1,7 @@
 //! A value after a token that may be missing, and a peek into a group.
 ghost use Rattle.syn_parse.specs.After.{after};
 ghost use Rattle.syn_parse.specs.Inside.{PeeksInside, inside};
+ghost use Rattle.syn_parse.specs.Reads.{BothParse, Does, OptionParses};
 ghost use Rattle.syn_parse.specs.Takings.{Keeps};
 ghost use Rattle.tok_buffer.specs.View.{IsVisibleDelimiter};
 ghost use Rattle.tok_types.specs.Sees.{Sees};
@@ -19,9 +20,11 @@ impl<'a> ParseBuffer<'a> {
     /// ```rust
     /// let guard = input.parse_after::<token::Where, Ident>()?;
     /// ```
-    #[tactic(auto, unfolding(crate::specs::After::take_after))]
+    #[tactic(auto, unfolding(crate::specs::After::take_after, crate::specs::Reads::Does))]
     pub fn parse_after<P: Token + Parse + Drop, T: Parse>(&mut self) -> Result<Option<(P, T)>>
-        ensures { Keeps (after P.sees P.takes T.takes) self.old result self.new }
+        ensures reads { Does (OptionParses P.peeks (BothParse P.parses T.parses)) self.old result
+            self.new }
+        ensures takes { Keeps (after P.sees P.takes T.takes) self.old result self.new }
     {
         if self.peek::<P>() {
             let token = self.parse()?;

@@ -1,5 +1,5 @@
 //! Laws of streams. Each is the contract of a function that does nothing, or makes one call.
-ghost use Rattle.syn_parse.specs.Laws.{ErrorsHaveOneSpan, ForksFollow, PeekTells, ScopesTell, VisibleParses};
+ghost use Rattle.syn_parse.specs.Laws.{ErrorsHaveOneSpan, ForksFollow, PeekTells, ScopesTell, VisibleGroupParses};
 ghost use Rattle.syn_parse.specs.Progress.{ParsesGoOn};
 ghost use Rattle.syn_parse.specs.Reads.{Peeks2, Peeks3};
 ghost use Rattle.syn_parse.specs.Takes.{EntersAhead};
@@ -51,7 +51,7 @@ pub fn peeks_tell_tokens<const K: usize, const N: usize>()
 /// A peek of parentheses, braces or brackets is `true` if and only if `parse_parens` and its like
 /// enter a group, unless an allocation fails.
 pub fn peeks_tell_groups<const D: usize>()
-    ensures { PeekTells ⟦<Visible<D> as Token>⟧.peeks (VisibleParses {D = D}) }
+    ensures { PeekTells ⟦<Visible<D> as Token>⟧.peeks (VisibleGroupParses {D = D}) }
 {}
 
 /// Moves and closes on a fork, taken over by `advance_to`, equal the same moves and closes on the

@@ -42,9 +42,9 @@ pub struct Lookahead1<'a> {
 
 impl<'a> Model for Lookahead1<'a> {
     ghost use Rattle.tok_buffer.specs.Cursors.{place_of};
-    ghost use Rattle.syn_parse.specs.Lookahead.{Look, coded_look, texts_of};
+    ghost use Rattle.syn_parse.specs.Lookahead.{LookaheadView, coded_look, texts_of};
 
-    ghost Value = { Look };
+    ghost Value = { LookaheadView };
 
     ghost coded = { coded_look };
 

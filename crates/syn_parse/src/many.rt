@@ -1,7 +1,9 @@
 //! Parsers of values that follow one another.
 ghost use Rattle.std.specs.Prelude.{◌≡◌, ◌+◌, MatchResult};
+ghost use Rattle.syn_parse.specs.Faults.{Refuses};
+ghost use Rattle.syn_parse.specs.Loops.{LoopsToEnd, LoopsWhile, nothing_taken};
 ghost use Rattle.syn_parse.specs.Many.{many, many_to_end};
-ghost use Rattle.syn_parse.specs.Reads.{BothParse, ThreeParse};
+ghost use Rattle.syn_parse.specs.Reads.{BothParse, Does, ThreeParse};
 ghost use Rattle.syn_parse.specs.Sequences.{both, three};
 ghost use Rattle.syn_parse.specs.Takings.{Keeps};
 
@@ -13,9 +15,9 @@ use tok_types::token::Token;
 impl<'a> ParseBuffer<'a> {
     /// Parses values as long as this token is next.
     ///
-    /// It ends for every type. A value that takes no token is parsed again: once for each token
-    /// that is left, and then the error is "parser made no progress". An error leaves the stream
-    /// where the failing value left it.
+    /// It ends for every type. A value that takes nothing is parsed again, once for each leaf,
+    /// opening and closing that is left. Then the error is "parser made no progress". An error leaves
+    /// the stream where the failing value left it.
     ///
     /// # Examples
     ///
@@ -23,7 +25,8 @@ impl<'a> ParseBuffer<'a> {
     /// let stars = input.parse_while::<token::Star, token::Star>()?;
     /// ```
     pub fn parse_while<P: Token, T: Parse + Drop>(&mut self) -> Result<Vec<T>>
-        ensures { Keeps (many P.sees T.takes) self.old result self.new }
+        ensures calls { Does (LoopsWhile P.peeks T.parses) self.old result self.new }
+        ensures takes { Keeps (many P.sees T.takes) self.old result self.new }
     {
         let mut values = Vec::new(self.allocator());
         let mut turns = self.cursor().remaining();
@@ -44,7 +47,8 @@ impl<'a> ParseBuffer<'a> {
     /// let names = input.parse_until_end::<Ident>()?;
     /// ```
     pub fn parse_until_end<T: Parse + Drop>(&mut self) -> Result<Vec<T>>
-        ensures { Keeps (many_to_end T.takes) self.old result self.new }
+        ensures calls { Does (LoopsToEnd T.parses) self.old result self.new }
+        ensures takes { Keeps (many_to_end T.takes) self.old result self.new }
     {
         let mut values = Vec::new(self.allocator());
         let mut turns = self.cursor().remaining();
@@ -58,7 +62,8 @@ impl<'a> ParseBuffer<'a> {
     // Returns how many turns are left after one. A value that takes a token leaves fewer of them,
     // so there are no more turns than tokens.
     fn next_turn(&self, turns: usize) -> Result<usize>
-        ensures { MatchResult result (λ left. turns ≡ left + 1) (λ _. turns ≡ 0) }
+        ensures { MatchResult result (λ left. turns ≡ left + 1)
+            (λ f. (turns ≡ 0) × Refuses (nothing_taken self.now) f) }
     {
         match turns.checked_sub(1) {
             Some(left) => Ok(left),
@@ -79,8 +84,11 @@ impl<'a> ParseBuffer<'a> {
 /// let (_, names) = input.parse_within::<Vec<Ident>>(Delimiter::Brace)?;
 /// ```
 impl<T: Parse + Drop> Parse for Vec<T> {
+    ghost parses = { LoopsToEnd T.parses };
+
     ghost takes = { many_to_end T.takes };
 
+    #[tactic(auto, unfolding(crate::specs::Reads::Does))]
     fn parse(input: ParseStream<'_, '_>) -> Result<Self> {
         input.parse_until_end()
     }

@@ -2,7 +2,7 @@
 ghost use Rattle.std.specs.Prelude.{◌≡◌, ℕ, List, Some};
 ghost use Rattle.tok_leaves.specs.Spans.{call_site};
 ghost use Rattle.tok_buffer.specs.Reads.{read_keyword};
-ghost use Rattle.tok_types.specs.Looks.{Finds, IsText};
+ghost use Rattle.tok_types.specs.Looks.{PeeksFor, IsText};
 ghost use Rattle.tok_types.specs.Sees.{Sees};
 ghost use Rattle.tok_types.specs.Texts.{in_backquotes, in_token};
 ghost use Rattle.syn_parse.specs.Owned.{own_first, own_word, take_own};
@@ -95,7 +95,7 @@ impl<'a> ParseBuffer<'a> {
     /// ```
     #[inline(always)]
     pub fn peek_word(&self, text: &str) -> bool
-        ensures peeks { Finds (read_keyword text.now) self.now.place result }
+        ensures peeks { PeeksFor (read_keyword text.now) self.now.place result }
         ensures sees { Sees (Some (own_first text.now)) self.now.place result }
     {
         self.cursor().peek_keyword(text)
@@ -126,7 +126,7 @@ impl<W: Word> Own<W> {
 }
 
 impl<W: Word> Token for Own<W> {
-    ghost peeks = { Finds (read_keyword W.text) };
+    ghost peeks = { PeeksFor (read_keyword W.text) };
 
     ghost sees = { Some (own_first W.text) };
 

@@ -6,7 +6,7 @@ ghost use Rattle.tok_buffer.specs.Ahead.{left_of};
 ghost use Rattle.tok_buffer.specs.Cursors.{place_of};
 ghost use Rattle.tok_buffer.specs.Order.{same_scope};
 ghost use Rattle.tok_buffer.specs.Place.{start, is_at_end};
-ghost use Rattle.syn_parse.specs.Faults.{Refuses, RefusesAt, IsRefused};
+ghost use Rattle.syn_parse.specs.Faults.{Refuses, RefusesAt, FailsWith};
 ghost use Rattle.syn_parse.specs.State.{fresh, moved, handed, closed, forked, advanced, state_span};
 ghost use Rattle.syn_parse.specs.ErrorWords.{expected, refused_at, leftover_message};
 ghost use Rattle.syn_parse.specs.Takes.{SaysAt, missing_next};
@@ -286,7 +286,7 @@ impl<'a> ParseBuffer<'a> {
     /// Ends a stream. Returns an error if a leftover is recorded, or if a token is left unread.
     pub fn finish(self) -> Result<()>
         ensures { MatchOption (handed self.entry) (result ≡ Ok tt)
-            (λ left. IsRefused (leftover_message left) result) }
+            (λ left. FailsWith (leftover_message left) result) }
     {
         let alloc = self.alloc;
         let left = self.handed();

@@ -6,7 +6,7 @@ ghost use Rattle.tok_buffer.specs.Trees.{erased_tree};
 ghost use Rattle.tok_core.specs.Erase.{erase};
 ghost use Rattle.tok_core.specs.Seen.{tree_of};
 ghost use Rattle.syn_parse.specs.Takes.{TakesAs};
-ghost use Rattle.syn_parse.specs.TreeTakes.{VisibleParses, take_rest, take_tree};
+ghost use Rattle.syn_parse.specs.TreeTakes.{VisibleTreeParses, take_rest, take_tree};
 
 use crate::fault::Result;
 use crate::stream::ParseBuffer;
@@ -22,7 +22,7 @@ impl<'a> ParseBuffer<'a> {
     /// let value = input.visible_tree()?;
     /// ```
     pub fn visible_tree(&mut self) -> Result<TokenTree>
-        ensures reads { VisibleParses self.old result self.new }
+        ensures reads { VisibleTreeParses self.old result self.new }
         ensures takes { TakesAs (λ t. erased_tree (tree_of t)) take_tree self.old result self.new }
     {
         self.read_visible()
@@ -30,7 +30,7 @@ impl<'a> ParseBuffer<'a> {
 
     // Does what `visible_tree` does.
     fn read_visible(&mut self) -> Result<TokenTree>
-        ensures { VisibleParses self.old result self.new }
+        ensures { VisibleTreeParses self.old result self.new }
     {
         let alloc = self.allocator();
         let Some((tree, rest)) = self.cursor().visible_tree(alloc)? else {
