@@ -58,6 +58,7 @@ lightens_attempt {A} take h = record {
       rw (← n) (h.less (only_trees a.trees) c w e)
   go a b v (missing m) e k = let n : a ≡ b = cc in rw (← n) (omega arith)
 
+-- an attempt adds nothing if its value doesn't; it may take nothing
 abbrev pub attempt_weighs : {A : Type 0} (take : Taking A) → Weighs take
     → Weighs (take_attempt take)
 attempt_weighs take unweighed = unweighed

@@ -64,6 +64,7 @@ either_filled test (told_filled form there w) (told_filled shape other x) =
     (either_weighs test there other w x)
 either_filled test there other = untold
 
+-- one of two by what their types state, chosen by a test of what is ahead
 abbrev pub either_by : {T U : Type 0} → (Ahead → Bool) → Takings T → Takings U
     → Takings (Either T U)
 either_by test (told form there w) (told shape other x) =

@@ -23,7 +23,7 @@ use Rattle.tok_values.specs.Strings.{bool_of}
 use Rattle.tok_types.specs.Texts.{in_backquotes}
 use Rattle.syn_parse.specs.ErrorWords.{expected, refused_at}
 use Rattle.syn_parse.specs.Parses.{IsSpanOf, WordParses}
-use Rattle.syn_parse.specs.Reads.{Read, ReadsAtOnce}
+use Rattle.syn_parse.specs.Reads.{TreesRead, ReadsAtOnce}
 use Rattle.syn_parse.specs.State.{State}
 use Rattle.syn_parse.specs.declared.fault.Fault.{Fault}
 use Rattle.syn_literals.specs.Kinds.{BoolParses, IsBool, bool_text, is_bool, read_bool, value_in}
@@ -111,7 +111,7 @@ module _ (s t : State) (v : Bool) (is : read_bool s.place ≡ Some v) where
   some : is_some (read_word is_bool s.place) ≡ true
   some = (word_read (descend s.place) v is).1
 
-  made : (span : Span) (m n : Message) (x : Read)
+  made : (span : Span) (m n : Message) (x : TreesRead)
       → ReadsAtOnce (IsSpanOf (bool_text v)) x m s (Ok span) t
       → ReadsAtOnce IsBool x n s (Ok (record { value = v; span = span })) t
   made span m n None h = absurd h
@@ -125,7 +125,7 @@ module _ (s t : State) (v : Bool) (is : read_bool s.place ≡ Some v) where
       (λ x. ReadsAtOnce (IsSpanOf (bool_text v)) x
       (refused_at s (expected (in_backquotes (bool_text v)))) s (Ok span) t) (sym word-is) h)
 
-  never : (f : Fault) (m : Message) (x : Read) → is_some x ≡ true
+  never : (f : Fault) (m : Message) (x : TreesRead) → is_some x ≡ true
       → ReadsAtOnce (IsSpanOf (bool_text v)) x m s (Err f) t → ⊥
   never f m None e h = false≢true e
   never f m (Some r) e h = h

@@ -13,7 +13,7 @@ use Rattle.tok_buffer.specs.Reads.{is_literal, read_if, read_literal}
 use Rattle.tok_buffer.specs.declared.error.Message.{Message}
 use Rattle.syn_parse.specs.ErrorWords.{refused_at}
 use Rattle.syn_parse.specs.Parses.{IsLiteral, LiteralParses}
-use Rattle.syn_parse.specs.Reads.{Read, Reads}
+use Rattle.syn_parse.specs.Reads.{TreesRead, Reads}
 use Rattle.syn_parse.specs.State.{State}
 use Rattle.syn_parse.specs.declared.fault.Fault.{Fault}
 use Rattle.syn_literals.specs.Kinds.{KindParses, is_literal_of, read_literal_of}
@@ -98,7 +98,7 @@ module _ (w : List ℕ → Bool) where
 
   module _ (words : List ℕ) (s t : State) where
     -- the words of an error do not matter where something is read
-    other-words : (x : Read) (m n : Message) (r : Result Literal Fault) → is_some x ≡ true
+    other-words : (x : TreesRead) (m n : Message) (r : Result Literal Fault) → is_some x ≡ true
         → Reads IsLiteral x m s r t → Reads IsLiteral x n s r t
     other-words None m n r h k = absurd (false≢true h)
     other-words (Some y) m n (Ok v) h k = k
@@ -113,7 +113,7 @@ module _ (w : List ℕ → Bool) where
         (λ x. Reads IsLiteral x (refused_at s (codes "expected literal token")) s r t)
         (found (descend s.place) h) k)
 
-    of-kind : (x : Read) (v : Literal) → read_literal_of w s.place ≡ x
+    of-kind : (x : TreesRead) (v : Literal) → read_literal_of w s.place ≡ x
         → Reads IsLiteral x (refused_at s words) s (Ok v) t → w v.text ≡ true
     of-kind None v e h = absurd h
     of-kind (Some (ts, q)) v e h = accepted (descend s.place) ts q v e h.0

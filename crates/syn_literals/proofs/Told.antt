@@ -11,7 +11,7 @@ use Rattle.tok_buffer.specs.Reads.{is_ident_of, read_word}
 use Rattle.tok_buffer.specs.View.{erased_ahead}
 use Rattle.tok_buffer.proofs.View.Readings.{Reading, of_word, one}
 use Rattle.tok_buffer.proofs.View.Tells.{tells}
-use Rattle.tok_types.specs.Looks.{Finds}
+use Rattle.tok_types.specs.Looks.{PeeksFor}
 use Rattle.tok_types.proofs.Seen.{found_as}
 use Rattle.syn_parse.specs.ErrorWords.{refused_at}
 use Rattle.syn_parse.specs.Parses.{IsLiteral}
@@ -69,22 +69,22 @@ bool_told s r t h =
     (refused_at s words) s t (here_told words s) (of_word is_bool) r h
 
 -- what peeks see
-pub string_seen : (p : Place) (b : Bool) → Finds (read_literal_of is_string) p b
+pub string_seen : (p : Place) (b : Bool) → PeeksFor (read_literal_of is_string) p b
     → b ≡ string_first (erased_ahead p)
 unfolding string_first
 string_seen p b h = h ∙ found_as _ _ _ (tells (of_kind is_string) p)
 
-pub integer_seen : (p : Place) (b : Bool) → Finds (read_literal_of is_integer) p b
+pub integer_seen : (p : Place) (b : Bool) → PeeksFor (read_literal_of is_integer) p b
     → b ≡ integer_first (erased_ahead p)
 unfolding integer_first
 integer_seen p b h = h ∙ found_as _ _ _ (tells (of_kind is_integer) p)
 
-pub float_seen : (p : Place) (b : Bool) → Finds (read_literal_of is_float) p b
+pub float_seen : (p : Place) (b : Bool) → PeeksFor (read_literal_of is_float) p b
     → b ≡ float_first (erased_ahead p)
 unfolding float_first
 float_seen p b h = h ∙ found_as _ _ _ (tells (of_kind is_float) p)
 
-pub bool_seen : (p : Place) (b : Bool) → Finds (read_word is_bool) p b
+pub bool_seen : (p : Place) (b : Bool) → PeeksFor (read_word is_bool) p b
     → b ≡ bool_first (erased_ahead p)
 unfolding bool_first
 bool_seen p b h = h ∙ found_as _ _ _ (tells (of_word is_bool) p)

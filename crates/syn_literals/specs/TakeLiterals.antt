@@ -24,43 +24,53 @@ bool_in (leaf (ident text span) ∷ ts) =
     record { value = bytes_eq text (codes "true"); span = span }
 bool_in ts = record { value = false; span = call_site }
 
+-- a string literal, raw or not
 unfoldable pub take_string : Taking Literal
 take_string = take_kind is_string (codes "expected string literal")
 
+-- an integer literal, perhaps with a suffix
 unfoldable pub take_integer : Taking Literal
 take_integer = take_kind is_integer (codes "expected integer literal")
 
+-- a float literal, perhaps with a suffix
 unfoldable pub take_float : Taking Literal
 take_float = take_kind is_float (codes "expected floating point literal")
 
+-- `true` or `false`, with its span
 unfoldable pub take_bool : Taking LitBool
 take_bool =
     take_by (first_if (is_ident_of is_bool)) bool_in
     (missing_next (codes "expected boolean literal"))
 
--- a literal of a kind is first
+-- a string literal is first
 unfoldable pub string_first : Forest → Bool
 string_first f = is_some (first_if (is_literal_of is_string) f)
 
+-- an integer literal is first
 unfoldable pub integer_first : Forest → Bool
 integer_first f = is_some (first_if (is_literal_of is_integer) f)
 
+-- a float literal is first
 unfoldable pub float_first : Forest → Bool
 float_first f = is_some (first_if (is_literal_of is_float) f)
 
+-- `true` or `false` is first
 unfoldable pub bool_first : Forest → Bool
 bool_first f = is_some (first_if (is_ident_of is_bool) f)
 
--- tests of the first of the visible trees ahead
+-- a string literal is the first visible tree ahead
 abbrev pub sees_string : Ahead → Bool
 sees_string a = string_first a.trees
 
+-- an integer literal is the first visible tree ahead
 abbrev pub sees_integer : Ahead → Bool
 sees_integer a = integer_first a.trees
 
+-- a float literal is the first visible tree ahead
 abbrev pub sees_float : Ahead → Bool
 sees_float a = float_first a.trees
 
+-- `true` or `false` is the first visible tree ahead
 abbrev pub sees_bool : Ahead → Bool
 sees_bool a = bool_first a.trees
 
@@ -81,6 +91,7 @@ pub lowers_bool : Lowers take_bool
 unfolding take_bool
 lowers_bool = by-lowers _ _ _ (if-shorter _)
 
+-- no more is ahead after each
 pub lightens_string : Lightens take_string
 lightens_string = lightens_lower take_string lowers_string
 

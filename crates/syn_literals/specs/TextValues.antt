@@ -6,6 +6,7 @@ use Rattle.std.specs.Str.{chars}
 use Rattle.tok_lexical.specs.Ascii.{lower_r, quote}
 use Rattle.tok_values.specs.Values.{split, string_value}
 
+-- any character but `"`
 abbrev pub is_no_quote : ℕ → Bool
 is_no_quote c = not (c == quote)
 

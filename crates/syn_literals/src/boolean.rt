@@ -4,7 +4,7 @@ ghost use Rattle.tok_core.specs.Forest.{leaf, no_trees, tree};
 ghost use Rattle.tok_leaves.specs.Leaves.{ident};
 ghost use Rattle.tok_buffer.specs.Cursors.{place_of};
 ghost use Rattle.tok_buffer.specs.Reads.{read_word};
-ghost use Rattle.tok_types.specs.Looks.{Finds, IsText};
+ghost use Rattle.tok_types.specs.Looks.{PeeksFor, IsText};
 ghost use Rattle.syn_parse.specs.Takings.{lower, told};
 ghost use Rattle.syn_literals.specs.Kinds.{BoolParses, bool_text, is_bool, read_bool};
 ghost use Rattle.syn_literals.specs.TakeLiterals.{bool_first, lowers_bool, take_bool};
@@ -65,7 +65,7 @@ fn next_bool(cursor: Cursor<'_>) -> Option<bool>
 }
 
 impl Token for LitBool {
-    ghost peeks = { Finds (read_word is_bool) };
+    ghost peeks = { PeeksFor (read_word is_bool) };
 
     ghost sees = { Some bool_first };
 

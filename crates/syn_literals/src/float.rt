@@ -2,7 +2,7 @@
 ghost use Rattle.std.specs.Prelude.{◌≡◌, IfOk, Some, codes};
 ghost use Rattle.tok_core.specs.Forest.{leaf, no_trees, tree};
 ghost use Rattle.tok_leaves.specs.Leaves.{leaf_span, leaf_text, literal_of};
-ghost use Rattle.tok_types.specs.Looks.{Finds, IsText};
+ghost use Rattle.tok_types.specs.Looks.{PeeksFor, IsText};
 ghost use Rattle.tok_lexical.specs.Numbers.{starts_digit};
 ghost use Rattle.tok_values.specs.Floats.{float_value};
 ghost use Rattle.syn_parse.specs.Takings.{lower, told};
@@ -76,7 +76,7 @@ impl LitFloat {
         self.token.span()
     }
 
-    /// Returns the nearest double, or `None` if the suffix is neither `f32` nor `f64`.
+    /// Returns the nearest double, or `None` with a suffix other than `f32` and `f64`.
     ///
     /// Returns an error if an allocation fails.
     pub fn value(&self, alloc: Global) -> std::result::Result<Option<f64>, AllocError>
@@ -87,7 +87,7 @@ impl LitFloat {
 }
 
 impl Token for LitFloat {
-    ghost peeks = { Finds (read_literal_of is_float) };
+    ghost peeks = { PeeksFor (read_literal_of is_float) };
 
     ghost sees = { Some float_first };
 

@@ -3,7 +3,7 @@ ghost use Rattle.std.specs.Prelude.{◌≡◌, Some, codes};
 ghost use Rattle.tok_core.specs.Forest.{leaf, no_trees, tree};
 ghost use Rattle.std.specs.Str.{chars};
 ghost use Rattle.tok_leaves.specs.Leaves.{leaf_span, leaf_text, literal_of};
-ghost use Rattle.tok_types.specs.Looks.{Finds, IsText};
+ghost use Rattle.tok_types.specs.Looks.{PeeksFor, IsText};
 ghost use Rattle.tok_values.specs.Values.{HasValue, integer_value};
 ghost use Rattle.syn_parse.specs.Takings.{lower, told};
 ghost use Rattle.syn_literals.specs.Kinds.{KindParses, is_integer, read_literal_of};
@@ -95,7 +95,7 @@ impl LitInt {
 }
 
 impl Token for LitInt {
-    ghost peeks = { Finds (read_literal_of is_integer) };
+    ghost peeks = { PeeksFor (read_literal_of is_integer) };
 
     ghost sees = { Some integer_first };
 

@@ -2,7 +2,7 @@
 ghost use Rattle.std.specs.Prelude.{◌≡◌, ℕ, Bool, List};
 ghost use Rattle.tok_leaves.specs.Leaves.{leaf_text, literal_of};
 ghost use Rattle.tok_buffer.specs.Cursors.{place_of};
-ghost use Rattle.tok_types.specs.Looks.{Finds};
+ghost use Rattle.tok_types.specs.Looks.{PeeksFor};
 ghost use Rattle.syn_literals.specs.Kinds.{KindParses, read_literal_of};
 
 use syn_parse::{ParseStream, Result};
@@ -28,7 +28,7 @@ pub(crate) trait Kind {
 
 /// Returns `true` if a literal of this kind is next.
 pub(crate) fn peek_kind<K: Kind>(cursor: Cursor<'_>) -> bool
-    ensures { Finds (read_literal_of K.accepts) (place_of cursor.entry) result }
+    ensures { PeeksFor (read_literal_of K.accepts) (place_of cursor.entry) result }
 {
     match cursor.literal() {
         Some((literal, _)) => K::accepts(literal),

@@ -2,7 +2,7 @@
 ghost use Rattle.std.specs.Prelude.{◌≡◌, IfOk, Some, codes, option_map, string_bytes};
 ghost use Rattle.tok_core.specs.Forest.{leaf, no_trees, tree};
 ghost use Rattle.tok_leaves.specs.Leaves.{leaf_span, leaf_text, literal_of};
-ghost use Rattle.tok_types.specs.Looks.{Finds, IsText};
+ghost use Rattle.tok_types.specs.Looks.{PeeksFor, IsText};
 ghost use Rattle.syn_parse.specs.Takings.{lower, told};
 ghost use Rattle.syn_literals.specs.Kinds.{KindParses, is_string, read_literal_of};
 ghost use Rattle.syn_literals.specs.TakeLiterals.{lowers_string, string_first, take_string};
@@ -86,7 +86,7 @@ impl LitStr {
 }
 
 impl Token for LitStr {
-    ghost peeks = { Finds (read_literal_of is_string) };
+    ghost peeks = { PeeksFor (read_literal_of is_string) };
 
     ghost sees = { Some string_first };
 

@@ -4,7 +4,7 @@ use Rattle.std.specs.Prelude.{Result}
 use Rattle.tok_core.specs.Forest.{Forest}
 use Rattle.tok_buffer.specs.Place.{Place, is_at_end}
 use Rattle.tok_buffer.specs.Reads.{read_punctuation}
-use Rattle.tok_types.specs.Looks.{Finds}
+use Rattle.tok_types.specs.Looks.{PeeksFor}
 use Rattle.tok_types.specs.Sees.{Sees, punctuation_first}
 use Rattle.tok_types.specs.Texts.{punctuation_word}
 use Rattle.tok_types.specs.declared.punctuation.Punctuation.{Punctuation}
@@ -147,12 +147,12 @@ list_keeps values run go each = punctuated_keeps values go each run
 pub separated_list_keeps : {T F : Type 0} {k n : ℕ} (values : Takings T) {reads : ValueCall F T}
     {f : F} {s t : State} {r : Result (Punctuated T (Punctuation k n)) Fault}
     → IsRun (separated
-    (SeenBy (Finds (read_punctuation (punctuation_word k n))) (punctuation_first k n))) reads
+    (SeenBy (PeeksFor (read_punctuation (punctuation_word k n))) (punctuation_first k n))) reads
     (Separates (PunctuationTypeParses k n) (signs k n)) f s r t
     → ParsesGoOn
     → ((f g : F) (s t : State) (r : Result T Fault) → reads f s r g t → states.Keeps values s r t)
     → states.Keeps (separated_list (Some (punctuation_first k n)) values (signs k n)) s r t
 separated_list_keeps {k = k} {n = n} values {reads} {f} {s} {t} {r} run go each =
     separated_keeps reads (PunctuationTypeParses k n) (go.punctuations k n)
-    (Finds (read_punctuation (punctuation_word k n))) (Some (punctuation_first k n)) values
+    (PeeksFor (read_punctuation (punctuation_word k n))) (Some (punctuation_first k n)) values
     (signs k n) each f s t r run

@@ -15,7 +15,7 @@ use Rattle.tok_leaves.specs.Spans.{call_site}
 use Rattle.tok_buffer.specs.Ahead.{Leftover}
 use Rattle.tok_core.specs.Weight.{weight}
 use Rattle.tok_buffer.specs.Place.{Enclosing, whole, is_at_end}
-use Rattle.tok_buffer.specs.Reads.{and_then, read_word, read_punctuation, read_ident}
+use Rattle.tok_buffer.specs.Reads.{read_then, read_word, read_punctuation, read_ident}
 use Rattle.tok_buffer.specs.declared.error.Message.{Message}
 use Rattle.tok_types.specs.Printed.{joint_puncts, puncts}
 use Rattle.tok_types.specs.Texts.{accept_as_ident, punctuations, punctuation_text, punctuation_word}
@@ -144,7 +144,7 @@ read_puncts (x ∷ (y ∷ xs)) (t ∷ ts) o n s c p f some l h =
       more.0,
       more.1,
       omega (arith, more.2),
-      ap (λ found. and_then found (read_punctuation (y ∷ xs)))
+      ap (λ found. read_then found (read_punctuation (y ∷ xs)))
           (cond-true _ (Some (
             here ∷ [],
             flat o n s (c + 1) (tree here p)

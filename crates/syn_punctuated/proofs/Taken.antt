@@ -6,7 +6,7 @@ use Rattle.tok_core.specs.Forest.{Tree, leaf, group, Forest, no_trees, tree, for
 use Rattle.tok_buffer.specs.Descent.{descend}
 use Rattle.tok_buffer.specs.EachRead.{First, Read}
 use Rattle.tok_buffer.specs.Place.{frame, Place, empty_place, at}
-use Rattle.tok_buffer.specs.Reads.{and_then, read_if}
+use Rattle.tok_buffer.specs.Reads.{read_then, read_if}
 use Rattle.tok_buffer.proofs.View.Unmarked.{plain-ahead}
 use Rattle.tok_buffer.proofs.View.Readings.{Reading, never, one, more, IsOfLeaves}
 use Rattle.tok_buffer.proofs.View.Unmarked.{trees_ahead-descend, trees_ahead-leave_finished}
@@ -55,7 +55,7 @@ one_is wanted none p =
     (take_is wanted none (descend p))
 
 then_is : (ts : List Tree) (x : Option (List Tree × Place)) (g : Read)
-    → Takes ts x → ((q : Place) → Takes (shown_at q) (g q)) → Takes ts (and_then x g)
+    → Takes ts x → ((q : Place) → Takes (shown_at q) (g q)) → Takes ts (read_then x g)
 then_is ts None g h k = tt
 then_is ts (Some x) g h k = go (g x.1) (k x.1) where
   go : (y : Option (List Tree × Place)) → Takes (shown_at x.1) y

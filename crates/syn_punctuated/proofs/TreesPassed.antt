@@ -11,7 +11,7 @@ use Rattle.tok_leaves.specs.declared.punct.Spacing.TheVariants.{Alone, Joint}
 use Rattle.tok_leaves.specs.Leaves.{ident, punct, literal, apostrophe}
 use Rattle.tok_buffer.specs.Descent.{descend}
 use Rattle.tok_buffer.specs.Place.{Place, front, pass, is_at_end}
-use Rattle.tok_buffer.specs.Reads.{and_then, is_joint_of, is_punct_of, read_punctuation, read_word}
+use Rattle.tok_buffer.specs.Reads.{read_then, is_joint_of, is_punct_of, read_punctuation, read_word}
 use Rattle.tok_buffer.specs.Reads as reads
 use Rattle.tok_buffer.specs.declared.error.Message.{Message}
 use Rattle.tok_types.specs.Texts.{accept_as_ident, punctuation_word}
@@ -198,7 +198,7 @@ more_spelled c d cs t ts us whole j e h w =
 
 then_spelled : (c d : ℕ) (cs : List ℕ) (x : Option (List Tree × Place))
     (g : Place → Option (List Tree × Place)) → IsTaken (IsJointOf c) x
-    → ((q : Place) → Spells (d ∷ cs) (g q)) → Spells (c ∷ (d ∷ cs)) (and_then x g)
+    → ((q : Place) → Spells (d ∷ cs) (g q)) → Spells (c ∷ (d ∷ cs)) (read_then x g)
 then_spelled c d cs None g h k = tt
 then_spelled c d cs (Some x) g h k = go (g x.1) (k x.1) where
   go : (y : Option (List Tree × Place)) → Spells (d ∷ cs) y

@@ -6,7 +6,7 @@ use Rattle.tok_leaves.specs.declared.punct.Spacing.TheVariants.{Alone, Joint}
 use Rattle.tok_leaves.specs.declared.span.Span.{Span}
 use Rattle.tok_core.specs.Forest.{Tree, leaf}
 use Rattle.tok_leaves.specs.Leaves.{punct, ident_of}
-use Rattle.tok_buffer.specs.Ahead.{ahead}
+use Rattle.tok_buffer.specs.Ahead.{marked_ahead}
 use Rattle.tok_buffer.specs.Place.{Place, is_at_end}
 use Rattle.tok_types.specs.Texts.{punctuation_word}
 use Rattle.tok_types.specs.declared.punctuation.Punctuation.{Punctuation}
@@ -18,7 +18,7 @@ use Rattle.syn_punctuated.specs.declared.punctuated.Punctuated.{Punctuated}
 
 -- the visible trees from a place to its scope's end
 abbrev pub trees_ahead : Place → List Tree
-trees_ahead p = map (λ t. t.1) (ahead p)
+trees_ahead p = map (λ t. t.1) (marked_ahead p)
 
 -- these trees are passed: they are the first ahead, and the others are ahead after it
 abbrev pub Passes : List Tree → (from to : State) → Type 0

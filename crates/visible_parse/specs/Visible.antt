@@ -8,7 +8,7 @@ use Rattle.syn_parse.specs.Takings.{Takings, told, told_filled, untold}
 use Rattle.syn_parse.specs.TreesAhead.{whole}
 use Rattle.syn_parse.specs.declared.fault.Fault.{Fault}
 
--- The value that all visible trees are; or, where they are none, an error that says what is
+-- The value that all visible trees are; or, if they are none, an error that says what is
 -- missing, at its place in the pruned stream.
 abbrev pub TakesVisible : {T A : Type 0} → (T → A) → Taking A → Forest → Result T Fault → Type 0
 TakesVisible form take f (Ok v) = IsAll take f (form v)
@@ -27,8 +27,8 @@ AgreeAs untold left right = Unit {0}
 AgreeAs (told form take weighs) left right = Agree form left right
 AgreeAs (told_filled form take weighs) left right = Agree form left right
 
--- two errors have equal texts where a token is missing from these visible trees, and equal spans
--- where one is left over
+-- two errors have equal texts if a token is missing from these visible trees, and equal spans if
+-- one is left over
 abbrev pub SaySame : {T : Type 0} → Takings T → Forest → (left right : Result T Fault) → Type 0
 SaySame untold f left right = Unit {0}
 SaySame (told form take weighs) f left right = ErrorsAgree (take (whole f)) left right
