@@ -15,7 +15,7 @@ use Rattle.syn_replay.specs.Commands as spec
 use Rattle.replay_program.specs.CommandText.{words, command, is_unreadable, unreadable_line}
 use Rattle.replay_program.specs.CommandText.{commands_in}
 use Rattle.replay_program.specs.Input.{lines, lines_left}
-use Rattle.syn_replay.specs.ReportText.{ended}
+use Rattle.syn_replay.specs.ReportText.{as_line}
 use Rattle.syn_replay.specs.Commands.{command_of}
 use Rattle.syn_replay.specs.declared.command.Command.{Command}
 use Rattle.replay_program.proofs.Lines.{left_len, left_less}
@@ -50,7 +50,7 @@ map-option_to_list (Some c) = refl
 pub read_more : (first others : Option (Bor (List ℕ))) (rest : Bor (List ℕ)) (line : List ℕ)
     (commands more : List Command) (number : ℕ) (said : Option Command)
     → AreRead first (Some rest) commands number → lines rest.now ≡ line ∷ lines_left others
-    → IfSome others (λ b. rest.now ≡ ended line ++ b.now) → IfSome others (λ b. IsUtf8 b.now)
+    → IfSome others (λ b. rest.now ≡ as_line line ++ b.now) → IfSome others (λ b. IsUtf8 b.now)
     → is_unreadable line ≡ false → command (words line) ≡ option_map command_of said
     → more ≡ commands ++ option_to_list said → AreRead first others more (number + 1)
 read_more first others rest line commands more number said r e j u ok c m =

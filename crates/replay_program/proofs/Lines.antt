@@ -14,7 +14,7 @@ use Rattle.memchr.specs.Find.{IsFirstByte, is_byte}
 use Rattle.std.specs.List.{All, slice_split, after_first, position_or_len}
 use Rattle.std.specs.Str.{IsUtf8}
 use Rattle.replay_program.specs.Input.{lines, is_cut, text_of, texts_in, parts_of, lines_left}
-use Rattle.syn_replay.specs.ReportText.{ended}
+use Rattle.syn_replay.specs.ReportText.{as_line}
 
 -- the first such byte cuts off the first part
 pub cut_at : (c : ℕ) (bs front back : List ℕ) (k : ℕ) → IsFirstByte (is_byte c) bs (Some k)
@@ -46,9 +46,9 @@ pub record IsPast (input : List ℕ) (left : Option (Bor (List ℕ))) : Type 0 w
   pub all : lines input ≡ passed ++ lines_left left
   pub seam : IfSome left (λ rest. (input ≡ text_of passed ++ rest.now) × IsUtf8 rest.now)
 
-text_of-push : (ls : List (List ℕ)) (l : List ℕ) → text_of (ls ++ l ∷ []) ≡ text_of ls ++ ended l
+text_of-push : (ls : List (List ℕ)) (l : List ℕ) → text_of (ls ++ l ∷ []) ≡ text_of ls ++ as_line l
 text_of-push ls l =
-    flat_map-append ended ls (l ∷ []) ∙ ap (λ z. text_of ls ++ z) (append-nil (ended l))
+    flat_map-append as_line ls (l ∷ []) ∙ ap (λ z. text_of ls ++ z) (append-nil (as_line l))
 
 uncut_push : (ls : List (List ℕ)) (l : List ℕ) → All (λ line. is_cut line ≡ false) ls
     → is_cut l ≡ false → All (λ line. is_cut line ≡ false) (ls ++ l ∷ [])
@@ -59,7 +59,7 @@ uncut_push ls l h e =
 -- a line that is no cut is passed
 pub past_more : (input line : List ℕ) (rest : Bor (List ℕ)) (others : Option (Bor (List ℕ)))
     → IsPast input (Some rest) → lines rest.now ≡ line ∷ lines_left others
-    → IfSome others (λ b. rest.now ≡ ended line ++ b.now) → IfSome others (λ b. IsUtf8 b.now)
+    → IfSome others (λ b. rest.now ≡ as_line line ++ b.now) → IfSome others (λ b. IsUtf8 b.now)
     → is_cut line ≡ false → IsPast input others
 past_more input line rest others past e j u uncut = record {
   passed = past.passed ++ line ∷ [];
@@ -69,13 +69,13 @@ past_more input line rest others past e j u uncut = record {
       ∙ sym (append_assoc past.passed (line ∷ []) (lines_left others));
   seam = seam others j u;
 } where
-  seam : (b : Option (Bor (List ℕ))) → IfSome b (λ b. rest.now ≡ ended line ++ b.now)
+  seam : (b : Option (Bor (List ℕ))) → IfSome b (λ b. rest.now ≡ as_line line ++ b.now)
       → IfSome b (λ b. IsUtf8 b.now)
       → IfSome b (λ r. (input ≡ text_of (past.passed ++ line ∷ []) ++ r.now) × IsUtf8 r.now)
   seam None j u = tt
   seam (Some b) j u = (
     past.seam.0 ∙ ap (λ z. text_of past.passed ++ z) j
-        ∙ sym (append_assoc (text_of past.passed) (ended line) b.now)
+        ∙ sym (append_assoc (text_of past.passed) (as_line line) b.now)
         ∙ ap (λ z. z ++ b.now) (sym (text_of-push past.passed line)),
     u,
   )
@@ -112,10 +112,10 @@ left_len None = 0
 left_len (Some rest) = length rest.now + 1
 
 pub left_less : (line : List ℕ) (rest : Bor (List ℕ)) (others : Option (Bor (List ℕ)))
-    → IfSome others (λ b. rest.now ≡ ended line ++ b.now) → left_len others < left_len (Some rest)
+    → IfSome others (λ b. rest.now ≡ as_line line ++ b.now) → left_len others < left_len (Some rest)
 left_less line rest None j = omega arith
 left_less line rest (Some b) j =
-    omega (arith, ap length j, length-append (ended line) b.now, length-append line (10 ∷ []))
+    omega (arith, ap length j, length-append (as_line line) b.now, length-append line (10 ∷ []))
 
 long_parts : (text other commands : List (List ℕ)) (more : List (List (List ℕ))) → 0 < length more
     → texts_in (text ∷ (other ∷ (commands ∷ more))) ≡ None

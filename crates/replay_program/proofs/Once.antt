@@ -5,7 +5,7 @@ use Rattle.std.proofs.Common.{◌∙◌, refl, inl, inr}
 use Rattle.std.specs.Prelude.{◌↔◌}
 use Rattle.std.specs.Str.{chars}
 use Rattle.tok_core.specs.Forest.{Forest}
-use Rattle.tok_core.specs.Lexical.Reading.{IsRefused}
+use Rattle.tok_core.specs.Lexical.Reading.{IsRejected}
 use Rattle.tok_lexical.specs.declared.rule.Mode.TheVariants.{Marked}
 use Rattle.tok_core.specs.declared.lexer.error.LexError.{LexError}
 use Rattle.tok_core.proofs.Lexical.Laws.{forest_once, refused_once, never_both}
@@ -17,7 +17,7 @@ use Rattle.replay_program.specs.Comparison.{compared, outcome_text, outcome_stat
 use Rattle.replay_program.specs.Faults.{unreadable_text}
 use Rattle.replay_program.specs.Failures.{Reading, Writing, all_read}
 use Rattle.replay_program.specs.Output.{GoesOut}
-use Rattle.syn_replay.specs.ReportText.{ended}
+use Rattle.syn_replay.specs.ReportText.{as_line}
 use Rattle.replay_program.specs.Program.{HasParts, HasForests, IsForest, IsOther, IsUnreadable}
 use Rattle.replay_program.specs.Program.{IsOutcome}
 use Rattle.replay_program.specs.Program.{Fails, HasOutcome, Prints, PrintsOnly, Serves, ServesOnly}
@@ -33,20 +33,20 @@ forest_is : (text other : List ℕ) (forest : Forest) → text ≡ other → IsF
 forest_is text other forest e h = subst (λ z. IsForest z forest) e h
 
 refused_is : (text other : List ℕ) (error : LexError) → text ≡ other
-    → IsRefused Marked 0 (chars text) error → IsRefused Marked 0 (chars other) error
-refused_is text other error e h = subst (λ z. IsRefused Marked 0 (chars z) error) e h
+    → IsRejected Marked 0 (chars text) error → IsRejected Marked 0 (chars other) error
+refused_is text other error e h = subst (λ z. IsRejected Marked 0 (chars z) error) e h
 
 -- a text reads as one forest, is refused with one error, and never both
 one_forest : (text : List ℕ) (forest other : Forest) → IsForest text forest → IsForest text other
     → forest ≡ other
 one_forest text forest other h k = forest_once 0 Marked 0 (chars text) forest other h k
 
-one_error : (text : List ℕ) (error other : LexError) → IsRefused Marked 0 (chars text) error
-    → IsRefused Marked 0 (chars text) other → error ≡ other
+one_error : (text : List ℕ) (error other : LexError) → IsRejected Marked 0 (chars text) error
+    → IsRejected Marked 0 (chars text) other → error ≡ other
 one_error text error other h k = refused_once 0 Marked 0 (chars text) error other h k
 
 not_read : (text : List ℕ) (forest : Forest) (error : LexError) → IsForest text forest
-    → IsRefused Marked 0 (chars text) error → ⊥
+    → IsRejected Marked 0 (chars text) error → ⊥
 not_read text forest error h k = never_both 0 Marked 0 (chars text) forest error h k
 
 abbrev Parts : Type 0
@@ -115,7 +115,7 @@ module _ (bytes : List ℕ) where
   -- what can't be read is no forest
   no_text : (text : List ℕ) (other : Option (List ℕ)) (lines lines' : List (List ℕ))
       (error : LexError) (forest : Forest) (more : Option Forest)
-      → HasParts bytes text other lines → IsRefused Marked 0 (chars text) error
+      → HasParts bytes text other lines → IsRejected Marked 0 (chars text) error
       → HasForests bytes forest more lines' → ⊥
   no_text text other lines lines' error forest more h e (text', other', k, reads, also) =
       let same = parts_once text text' other other' lines lines' h k in
@@ -123,7 +123,7 @@ module _ (bytes : List ℕ) where
 
   not_other : (text : List ℕ) (other : Option (List ℕ)) (more : Option Forest) (error : LexError)
       → Some text ≡ other
-      → IsRefused Marked 0 (chars text) error → IsOther other more → ⊥
+      → IsRejected Marked 0 (chars text) error → IsOther other more → ⊥
   not_other text None more error e h k = absurd (cc)
   not_other text (Some other) None error e h k = k
   not_other text (Some other) (Some forest) error e h k =
@@ -132,7 +132,7 @@ module _ (bytes : List ℕ) where
 
   no_right : (text other : List ℕ) (lines lines' : List (List ℕ)) (error : LexError)
       (forest : Forest) (more : Option Forest)
-      → HasParts bytes text (Some other) lines → IsRefused Marked 0 (chars other) error
+      → HasParts bytes text (Some other) lines → IsRejected Marked 0 (chars other) error
       → HasForests bytes forest more lines' → ⊥
   no_right text other lines lines' error forest more h e (text', other', k, reads, also) =
       let same = parts_once text text' (Some other) other' lines lines' h k in
@@ -271,7 +271,7 @@ prints_once bytes printed other status code (inr (w, k, q, t)) (inl (o, h, p, s)
     absurd (not_both bytes o w h k)
 prints_once bytes printed other status code (inr (w, k, q, t)) (inr (w', k', q', t')) =
     let e = why_once bytes w w' k k' in
-    (q ∙ ap (λ w. ended (unreadable_text w)) e ∙ sym q', t ∙ sym t')
+    (q ∙ ap (λ w. as_line (unreadable_text w)) e ∙ sym q', t ∙ sym t')
 
 pub prints_only : (bytes printed : List ℕ) (status : ℕ) → Prints bytes printed status
     → PrintsOnly bytes printed status

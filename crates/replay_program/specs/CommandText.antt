@@ -10,11 +10,11 @@ use Rattle.tok_lexical.specs.declared.delimiter.Delimiter.TheVariants as delimit
 use Rattle.tok_lexical.specs.Delimiters.{opening}
 use Rattle.tok_types.specs.Texts.{keywords, number_in, punctuations}
 use Rattle.syn_replay.specs.Commands as commands
-use Rattle.syn_replay.specs.Commands.{Command, Read, on, read, peek, peek2, peek3, parse}
+use Rattle.syn_replay.specs.Commands.{Command, StreamRead, on, read, peek, peek2, peek3, parse}
 use Rattle.syn_replay.specs.Commands.{optional, empty, enter, lookahead, fork, advance, discard}
 use Rattle.syn_replay.specs.Commands.{close, stream_span, cursor_span, previous_span, next_tree}
 use Rattle.syn_replay.specs.Commands.{next_group}
-use Rattle.syn_replay.specs.Turns.{Rule, terminated, separated}
+use Rattle.syn_replay.specs.Turns.{ListRule, terminated, separated}
 use Rattle.syn_replay.specs.Kinds as looks
 use Rattle.syn_replay.specs.Kinds.{Kind, ident, ident_any, lifetime, lifetime_any, literal, punct}
 use Rattle.syn_replay.specs.Kinds.{underscore, keyword, punctuation, Look, paren, brace, bracket}
@@ -112,7 +112,7 @@ abbrev pub alone : Command → List (List ℕ) → Option Command
 alone command rest = cond (is_empty rest) (Some command) None
 
 -- a read of a stream
-abbrev pub reads : ℕ → Read → Command
+abbrev pub reads : ℕ → StreamRead → Command
 reads n r = on n (read r)
 
 -- a command that takes one word more, read so
@@ -121,7 +121,7 @@ abbrev pub with_word : {A : Type 0} → (List ℕ → Option A) → (A → Comma
 with_word reading command rest = option_map command (option_and_then reading (only_word rest))
 
 -- a list by this rule
-abbrev pub with_list : Rule → ℕ → List (List ℕ) → Option Command
+abbrev pub with_list : ListRule → ℕ → List (List ℕ) → Option Command
 with_list rule n rest = option_map (λ l. reads n (commands.list rule l.0 l.1)) (list rest)
 
 -- the command of this name on a stream, with the words that it takes

@@ -7,10 +7,11 @@ use Rattle.tok_core.specs.Forest.{Forest}
 use Rattle.syn_replay.specs.Agree.{ReportsAgree}
 use Rattle.syn_replay.specs.Commands.{Command}
 use Rattle.syn_replay.specs.Reports.{Verdict, accepted, left_over, Report}
-use Rattle.syn_replay.specs.ReportText.{ended, report_text}
+use Rattle.syn_replay.specs.ReportText.{as_line, report_text}
 use Rattle.syn_replay.specs.Transparent.{all_transparent}
 use Rattle.syn_replay.specs.Session.Walk.{walk}
 
+-- five facts about two forests and one list of commands
 pub record Facts : Type 0 where
   pub visible : Bool
   pub filled : Bool
@@ -26,6 +27,7 @@ pub record AreFacts (left right : Forest) (commands : List Command) (facts : Fac
   pub transparent : facts.transparent ≡ all_transparent commands
   pub agree : (facts.agree ≡ true) ↔ ReportsAgree (walk left commands) (walk right commands)
 
+-- the reports on two forests, and the facts about them
 pub record Comparison : Type 0 where
   pub left : Report
   pub right : Report
@@ -37,33 +39,38 @@ pub record Compares (f g : Forest) (commands : List Command) (c : Comparison) : 
   pub right : c.right ≡ walk g commands
   pub facts : AreFacts f g commands c.facts
 
--- The printed text.
+-- the word for whether a fact holds
 abbrev pub yes_or_no : Bool → List ℕ
 yes_or_no true = codes "yes"
 yes_or_no false = codes "no"
 
+-- the word for whether the visible trees are the same
 abbrev pub same_or_different : Bool → List ℕ
 same_or_different true = codes "same"
 same_or_different false = codes "different"
 
+-- each fact on a line of its own
 abbrev pub facts_text : Facts → List ℕ
 facts_text f =
-    ended (codes "visible " ++ same_or_different f.visible)
-    ++ (ended (codes "filled " ++ yes_or_no f.filled)
-    ++ (ended (codes "clear " ++ yes_or_no f.clear)
-    ++ (ended (codes "transparent " ++ yes_or_no f.transparent)
-    ++ ended (codes "agree " ++ yes_or_no f.agree))))
+    as_line (codes "visible " ++ same_or_different f.visible)
+    ++ (as_line (codes "filled " ++ yes_or_no f.filled)
+    ++ (as_line (codes "clear " ++ yes_or_no f.clear)
+    ++ (as_line (codes "transparent " ++ yes_or_no f.transparent)
+    ++ as_line (codes "agree " ++ yes_or_no f.agree))))
 
+-- both reports and the facts, with a line `---` after each report
 abbrev pub comparison_text : Comparison → List ℕ
 comparison_text c =
     report_text c.left
-    ++ (ended (codes "---") ++ (report_text c.right ++ (ended (codes "---") ++ facts_text c.facts)))
+    ++ (as_line (codes "---") ++ (report_text c.right ++ (as_line (codes "---")
+    ++ facts_text c.facts)))
 
--- 0 if a verdict accepts, 1 if it rejects; of two, 1 if one rejects
+-- 0 if a verdict accepts, 1 if it rejects
 abbrev pub verdict_status : Verdict → ℕ
 verdict_status accepted = 0
 verdict_status (left_over r) = 1
 
+-- 1 if one of two verdicts rejects, else 0
 abbrev pub both_status : Verdict → Verdict → ℕ
 both_status accepted v = verdict_status v
 both_status (left_over r) v = 1
@@ -73,10 +80,12 @@ pub data Outcome : Type 0 where
   reported : Report → Outcome
   compared : Comparison → Outcome
 
+-- the bytes that the program prints
 abbrev pub outcome_text : Outcome → List ℕ
 outcome_text (reported r) = report_text r
 outcome_text (compared c) = comparison_text c
 
+-- the exit status of the program, 0 or 1
 abbrev pub outcome_status : Outcome → ℕ
 outcome_status (reported r) = verdict_status r.verdict
 outcome_status (compared c) = both_status c.left.verdict c.right.verdict

@@ -3,7 +3,7 @@ use Rattle.std.specs.Prelude.{ℕ, ◌==◌, Bool, bytes_eq, List, [], ◌∷◌
 use Rattle.std.specs.Prelude.{option_map, codes}
 use Rattle.std.specs.List.{slice_split, flat_map}
 use denote.Ref.{Bor}
-use Rattle.syn_replay.specs.ReportText.{ended}
+use Rattle.syn_replay.specs.ReportText.{as_line}
 
 -- the parts between line feeds
 abbrev pub lines : List ℕ → List (List ℕ)
@@ -15,7 +15,7 @@ is_cut line = bytes_eq line (codes "---")
 
 -- lines as one text, each with its line feed
 abbrev pub text_of : List (List ℕ) → List ℕ
-text_of = flat_map ended
+text_of = flat_map as_line
 
 -- one text, or two, and the lines of the commands after the last cut
 abbrev pub texts_in : List (List (List ℕ)) → Option (List ℕ × Option (List ℕ) × List (List ℕ))

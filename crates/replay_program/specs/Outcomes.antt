@@ -6,11 +6,12 @@ use Rattle.replay_program.specs.Program.{HasOutcome, HasOutcomeFor}
 use Rattle.tok_core.specs.Forest.{Forest}
 use Rattle.syn_replay.specs.Commands.{Command}
 use Rattle.syn_replay.specs.Meanings.{verdict_of}
-use Rattle.syn_replay.specs.ReportText.{ended, report_text}
+use Rattle.syn_replay.specs.ReportText.{as_line, report_text}
 use Rattle.syn_replay.specs.Session.Walk.{walk}
 use Rattle.replay_program.specs.declared.compared.Comparison.{Comparison}
 use Rattle.replay_program.specs.declared.compared.Facts.{Facts}
 
+-- the facts that a value of the program stands for
 abbrev pub facts_of : Facts → spec.Facts
 facts_of f =
     record {
@@ -25,8 +26,8 @@ facts_of f =
 abbrev pub texts_of : Comparison → List ℕ
 texts_of c =
     string_bytes c.left
-    ++ (ended (codes "---")
-    ++ (string_bytes c.right ++ (ended (codes "---") ++ facts_text (facts_of c.facts))))
+    ++ (as_line (codes "---")
+    ++ (string_bytes c.right ++ (as_line (codes "---") ++ facts_text (facts_of c.facts))))
 
 -- the texts and the verdicts are those of the walks of two forests, and the facts are theirs
 pub record HasCompared (f g : Forest) (commands : List Command) (c : Comparison) : Type 0 where

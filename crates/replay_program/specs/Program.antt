@@ -3,7 +3,7 @@ use Rattle.std.specs.Prelude.{◌≡◌, ◌⊎◌, ⊤, ℕ, List, Option, Some
 use Rattle.std.specs.Io.KnownBytes.{Keeps}
 use Rattle.std.specs.Str.{IsUtf8, chars}
 use Rattle.tok_core.specs.Forest.{Forest}
-use Rattle.tok_core.specs.Lexical.Reading.{Reads, IsRefused}
+use Rattle.tok_core.specs.Lexical.Reading.{ReadsForest, IsRejected}
 use Rattle.tok_lexical.specs.declared.rule.Mode.TheVariants.{Marked}
 use Rattle.replay_program.specs.CommandText.{unreadable_line, commands_in}
 use Rattle.syn_replay.specs.Commands.{Command}
@@ -13,7 +13,7 @@ use Rattle.replay_program.specs.Faults.{unreadable_text}
 use Rattle.replay_program.specs.Input.{lines, parts_of}
 use Rattle.replay_program.specs.Failures.{Reading, Writing}
 use Rattle.replay_program.specs.Output.{GoesOut}
-use Rattle.syn_replay.specs.ReportText.{ended}
+use Rattle.syn_replay.specs.ReportText.{as_line}
 use Rattle.syn_replay.specs.Session.Walk.{walk}
 use Rattle.replay_program.specs.declared.fault.Unreadable.{Unreadable}
 use Rattle.replay_program.specs.declared.fault.Unreadable.TheVariants.{Utf8, Parts, Text, Right}
@@ -26,7 +26,7 @@ HasParts bytes text other lines = IsUtf8 bytes × (parts_of bytes ≡ Some (text
 
 -- a marked text, which is source 0, reads as this forest
 abbrev pub IsForest : List ℕ → Forest → Type 0
-IsForest text forest = Reads Marked 0 (chars text) forest
+IsForest text forest = ReadsForest Marked 0 (chars text) forest
 
 -- the second text reads as this forest, or there is none
 abbrev pub IsOther : Option (List ℕ) → Option Forest → Type 0
@@ -42,7 +42,7 @@ HasForests bytes forest more lines =
 
 -- the second text is rejected
 abbrev pub IsUnreadableOther : Option (List ℕ) → Unreadable → Type 0
-IsUnreadableOther (Some text) (Right error) = IsRefused Marked 0 (chars text) error
+IsUnreadableOther (Some text) (Right error) = IsRejected Marked 0 (chars text) error
 IsUnreadableOther text why = ⊥
 
 -- the first thing that can't be read: the bytes, the parts, the text, the second text, a command
@@ -51,11 +51,11 @@ IsUnreadable bytes Utf8 = ¬ (IsUtf8 bytes)
 IsUnreadable bytes Parts = IsUtf8 bytes × (parts_of bytes ≡ None)
 IsUnreadable bytes (Text error) =
     (text : List ℕ) × (other : Option (List ℕ)) × (lines : List (List ℕ))
-    × HasParts bytes text other lines × IsRefused Marked 0 (chars text) error
+    × HasParts bytes text other lines × IsRejected Marked 0 (chars text) error
 IsUnreadable bytes (Right error) =
     (text : List ℕ) × (other : List ℕ) × (lines : List (List ℕ)) × (forest : Forest)
     × HasParts bytes text (Some other) lines × IsForest text forest
-    × IsRefused Marked 0 (chars other) error
+    × IsRejected Marked 0 (chars other) error
 IsUnreadable bytes (unreadable.Command n) =
     (forest : Forest) × (more : Option Forest) × (lines : List (List ℕ))
     × HasForests bytes forest more lines × (unreadable_line lines ≡ Some n)
@@ -78,7 +78,7 @@ abbrev pub Prints : List ℕ → List ℕ → ℕ → Type 0
 Prints bytes printed status =
     ((o : Outcome) × HasOutcome bytes o × (printed ≡ outcome_text o) × (status ≡ outcome_status o))
     ⊎
-    ((why : Unreadable) × IsUnreadable bytes why × (printed ≡ ended (unreadable_text why))
+    ((why : Unreadable) × IsUnreadable bytes why × (printed ≡ as_line (unreadable_text why))
     × (status ≡ 2))
 
 -- nothing else comes of the input
@@ -105,7 +105,7 @@ PrintsFor forest bytes printed status =
     ((o : Outcome) × HasOutcomeFor forest bytes o × (printed ≡ outcome_text o)
     × (status ≡ outcome_status o))
     ⊎
-    ((why : Unreadable) × IsUnreadableFor bytes why × (printed ≡ ended (unreadable_text why))
+    ((why : Unreadable) × IsUnreadableFor bytes why × (printed ≡ as_line (unreadable_text why))
     × (status ≡ 2))
 
 -- of how the source was read, and how the sink was written to
@@ -113,7 +113,7 @@ module _ (read : Reading) (written : Writing) where
   -- an allocation failed, and one line says so with 3; or a read failed, and nothing went out
   abbrev pub Fails : ℕ → Option (List ℕ) → Option (List ℕ) → Type 0
   Fails status old new =
-      ((read.whole ⊎ read.part) × GoesOut written (ended (codes "memory")) 3 status old new)
+      ((read.whole ⊎ read.part) × GoesOut written (as_line (codes "memory")) 3 status old new)
       ⊎ ((status ≡ 2) × read.failed × Keeps old new)
 
   -- all was read, and what the program prints for these bytes went out; or it failed

@@ -4,7 +4,7 @@ ghost use Rattle.std.specs.List.{All, slice_split};
 ghost use Rattle.std.specs.Str.{IsUtf8};
 ghost use Rattle.replay_program.specs.Failures.{reading};
 ghost use Rattle.replay_program.specs.Input as spec;
-ghost use Rattle.syn_replay.specs.ReportText.{ended};
+ghost use Rattle.syn_replay.specs.ReportText.{as_line};
 
 use crate::channel::Source;
 use memchr::{memchr, memmem};
@@ -120,7 +120,7 @@ fn lacks_cuts(text: &str) -> bool
 /// Returns the first line, and the rest after its line feed.
 pub fn first_line(rest: &str) -> (&str, Option<&str>)
     ensures lines { spec.lines rest.now ≡ result.0.now ∷ spec.lines_left result.1 }
-    ensures concat { IfSome result.1 (λ after. rest.now ≡ ended result.0.now ++ after.now) }
+    ensures concat { IfSome result.1 (λ after. rest.now ≡ as_line result.0.now ++ after.now) }
     ensures utf8 { IsUtf8 result.0.now × IfSome result.1 (λ after. IsUtf8 after.now) }
 {
     match memchr(b'\n', rest.as_bytes()) {

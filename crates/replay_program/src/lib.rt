@@ -33,8 +33,8 @@ use tok_core::{TokenStream, lex_marked};
 /// Reads one input, writes the program's output for it, and returns the exit status.
 ///
 /// The input is one marked text or two, each followed by a line `---`, and then one command per
-/// line. For one text, the output is its report. For two, it is both reports, followed by five
-/// facts about the texts. All of it is in memory before anything is written. The status is
+/// line. The output for one text is its report. The output for two texts is both reports and then
+/// five facts about the texts. All of it is in memory before anything is written. The status is
 ///
 /// - 0 if each report accepts,
 /// - 1 if one rejects,

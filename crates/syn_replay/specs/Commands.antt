@@ -19,31 +19,31 @@ use Rattle.syn_replay.specs.Kinds.{Kind, Look, ignores_invisible, peek_kind, kin
 use Rattle.syn_replay.specs.Meanings.{kind_of, look_of, separator_of}
 use Rattle.syn_replay.specs.Reports.{Answer, truth, pieces, absent, listed, found, shown, trees}
 use Rattle.syn_replay.specs.Reports.{refused}
-use Rattle.syn_replay.specs.Turns.{Outcome, Rule, read_all, refused_at, pieces_of, turns, turns_left}
+use Rattle.syn_replay.specs.Turns.{ListOutcome, ListRule, read_all, refused_at, pieces_of, turns, turns_left}
 use Rattle.syn_replay.specs.Turns.{terminated, separated}
 use Rattle.syn_replay.specs.declared.command.Command as program
 use Rattle.syn_replay.specs.declared.command.Command.TheVariants as command
 
 -- an action on one stream alone
-pub data Read : Type 0 where
-  peek : Look → Read
-  peek2 : Look → Read
-  peek3 : Look → Read
-  parse : Kind → Read
-  optional : Kind → Read
-  empty : Read
-  list : Rule → Kind → (separator : List ℕ) → Read
-  lookahead : List Look → Read
-  stream_span : Read
-  cursor_span : Read
-  previous_span : Read
-  next_tree : Read
-  rest : Read
-  next_group : Read
+pub data StreamRead : Type 0 where
+  peek : Look → StreamRead
+  peek2 : Look → StreamRead
+  peek3 : Look → StreamRead
+  parse : Kind → StreamRead
+  optional : Kind → StreamRead
+  empty : StreamRead
+  list : ListRule → Kind → (separator : List ℕ) → StreamRead
+  lookahead : List Look → StreamRead
+  stream_span : StreamRead
+  cursor_span : StreamRead
+  previous_span : StreamRead
+  next_tree : StreamRead
+  rest : StreamRead
+  next_group : StreamRead
 
 -- an action on a stream: a read, or one that concerns other streams too
 pub data Action : Type 0 where
-  read : Read → Action
+  read : StreamRead → Action
   enter : (wanted : Option Delimiter) → Action
   fork : Action
   advance : (fork : ℕ) → Action
@@ -60,22 +60,23 @@ abbrev pub on : ℕ → Action → Command
 on n a = record { stream = n; action = a }
 
 -- the trees read, and the place after them; or an error, which leaves the place
-abbrev pub taken : (List Tree → Answer) → Message → Place → Option (List Tree × Place)
+abbrev pub answered_by : (List Tree → Answer) → Message → Place → Option (List Tree × Place)
     → Answer × Place
-taken answers words p None = (refused words, p)
-taken answers words p (Some r) = (answers r.0, r.1)
+answered_by answers words p None = (refused words, p)
+answered_by answers words p (Some r) = (answers r.0, r.1)
 
 -- the answer to a parse of this kind, and the place after it
 abbrev pub parsed : Kind → Place → Span → Answer × Place
 parsed kind p scope =
-    taken (λ ts. pieces (pieces_of ts)) (kind_message kind (fresh p scope)) p (kinds.read kind p)
+    answered_by (λ ts. pieces (pieces_of ts)) (kind_message kind (fresh p scope)) p
+    (kinds.read kind p)
 
 -- whole trees
 abbrev pub trees_taken : List ℕ → Place → Span → Option (List Tree × Place) → Answer × Place
-trees_taken words p scope r = taken (λ ts. trees (forest ts)) (at_stream p scope words) p r
+trees_taken words p scope r = answered_by (λ ts. trees (forest ts)) (at_stream p scope words) p r
 
 -- the answer to a list command, and the place after it
-abbrev pub listed_to : Outcome → Answer × Place
+abbrev pub listed_to : ListOutcome → Answer × Place
 listed_to (read_all parts p) = (listed parts, p)
 listed_to (refused_at r p) = (refused r, p)
 
@@ -87,7 +88,7 @@ looked n (l ∷ ls) noted p scope =
     cond (kinds.peek l p) (found n) (looked (n + 1) ls (noted ++ kinds.display l ∷ []) p scope)
 
 -- the answer to a read at a place of a scope with this span, and the place after it
-abbrev pub read_answer : Read → Place → Span → Answer × Place
+abbrev pub read_answer : StreamRead → Place → Span → Answer × Place
 read_answer (peek l) p scope = (truth (kinds.peek l p), p)
 read_answer (peek2 l) p scope = (truth (kinds.peek2 l p), p)
 read_answer (peek3 l) p scope = (truth (kinds.peek3 l p), p)
@@ -111,7 +112,7 @@ abbrev pub all_ignore_invisible : List Look → Bool
 all_ignore_invisible looks = list_all ignores_invisible looks
 
 -- a read that shows no span and no whole tree, and looks for no invisible group
-abbrev pub is_transparent_read : Read → Bool
+abbrev pub is_transparent_read : StreamRead → Bool
 is_transparent_read (peek l) = ignores_invisible l
 is_transparent_read (peek2 l) = ignores_invisible l
 is_transparent_read (peek3 l) = ignores_invisible l

@@ -7,9 +7,9 @@ use Rattle.tok_core.specs.Forest.{Forest}
 use Rattle.tok_buffer.specs.Order.{same_scope}
 use Rattle.syn_replay.specs.Commands.{Action, Command, on, fork, advance, discard, close}
 use Rattle.syn_replay.specs.Reports.{Answer, Line, done, entered, forked}
-use Rattle.syn_replay.specs.Session.State.{Stream, State, content_of, first_state, is_open_at}
+use Rattle.syn_replay.specs.Session.State.{Stream, AllStreams, content_of, first_state, is_open_at}
 use Rattle.syn_replay.specs.Session.State.{kind_at, left_from, with_note}
-use Rattle.syn_replay.specs.Session.Step.{Stepped, place_of, step}
+use Rattle.syn_replay.specs.Session.Step.{Stepped, stream_place, step}
 use Rattle.syn_replay.specs.Session.Walk.{last_state, lines_from}
 
 -- of a stream, and the number of the next stream that is made
@@ -58,21 +58,22 @@ abbrev pub line_on_fork : Line → Line
 line_on_fork l = record l { answer = answer_on_fork l.answer }
 
 -- commands that run on a fork of a stream, to which it then advances, and on the stream itself
-module _ (st : State) (stream : ℕ) (commands : List Command) where
+module _ (st : AllStreams) (stream : ℕ) (commands : List Command) where
   -- the streams after the commands on the fork
-  abbrev pub tried : State
+  abbrev pub tried : AllStreams
   tried =
       last_state (step (on stream fork) st).state
       (map (command_on_fork stream (length st)) commands)
 
   -- the streams after the commands on the stream
-  abbrev pub direct : State
+  abbrev pub direct : AllStreams
   direct = last_state st commands
 
   -- the fork is still in the stream's scope
   abbrev pub InScope : Type 0
   InScope =
-      same_scope (place_of (slice_get tried stream)) (place_of (slice_get tried (length st)))
+      same_scope (stream_place (slice_get tried stream)) (stream_place (slice_get tried
+      (length st)))
       ≡ true
 
   -- the stream advances to the fork

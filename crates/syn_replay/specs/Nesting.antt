@@ -4,7 +4,7 @@ use Rattle.std.specs.Option.{option_map}
 use Rattle.tok_core.specs.Forest.{Forest}
 use Rattle.syn_replay.specs.Commands.{Command, on, advance, discard, close}
 use Rattle.syn_replay.specs.Reports.{done}
-use Rattle.syn_replay.specs.Session.State.{content_of, State, first_state}
+use Rattle.syn_replay.specs.Session.State.{content_of, AllStreams, first_state}
 use Rattle.syn_replay.specs.Session.State.{is_entered_from, spent_if, kind_at, closed_inside}
 use Rattle.syn_replay.specs.Session.State.{is_inside}
 use Rattle.std.specs.List.{slice_get}
@@ -13,13 +13,13 @@ use Rattle.syn_replay.specs.Session.Step.{step}
 use Rattle.syn_replay.specs.Session.Walk.{last_state}
 
 -- after a command that is done, a stream is open if it was and is neither this one nor inside it
-abbrev pub EndsWithin : State → Command → ℕ → Type 0
+abbrev pub EndsWithin : AllStreams → Command → ℕ → Type 0
 EndsWithin st c k =
     (step c st).answer ≡ done → (n : ℕ)
     → is_open_at (step c st).state n ≡ (is_open_at st n && not (is_or_inside st k n))
 
 -- the streams inside a stream, and those that end with it
-pub record InnerStreamsEnd (st : State) : Type 0 where
+pub record InnerStreamsEnd (st : AllStreams) : Type 0 where
   -- a stream is inside another exactly if its parent is that stream or inside it
   pub inside : (outer n : ℕ) →
       is_inside st outer n ≡ is_entered_from (is_or_inside st outer) (kind_at st n)

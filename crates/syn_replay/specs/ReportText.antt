@@ -19,8 +19,8 @@ use Rattle.syn_replay.specs.declared.report.Misuse.TheVariants.{NoStream, Spent,
 use Rattle.syn_replay.specs.declared.report.Misuse.TheVariants.{OutOfScope}
 
 -- a line, with its line feed
-abbrev pub ended : List ℕ → List ℕ
-ended line = line ++ 10 ∷ []
+abbrev pub as_line : List ℕ → List ℕ
+as_line line = line ++ 10 ∷ []
 
 -- a part after others: a space parts it from them, and an empty part adds none
 abbrev pub spaced : List ℕ → List ℕ
@@ -94,8 +94,8 @@ verdict_text (left_over r) = message_text r
 
 -- lines, each with its line feed
 abbrev pub lines_text : List Line → List ℕ
-lines_text = flat_map (λ l. ended (line_text l))
+lines_text = flat_map (λ l. as_line (line_text l))
 
 -- the text of a report: each line, and then the verdict
 abbrev pub report_text : Report → List ℕ
-report_text r = flat_map (λ l. ended (line_text l)) r.lines ++ ended (verdict_text r.verdict)
+report_text r = flat_map (λ l. as_line (line_text l)) r.lines ++ as_line (verdict_text r.verdict)

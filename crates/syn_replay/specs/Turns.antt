@@ -4,7 +4,7 @@ use Rattle.std.specs.Prelude.{List, [], ◌∷◌, ◌++◌, length, Option, Som
 use Rattle.tok_leaves.specs.declared.span.Span.{Span}
 use Rattle.tok_core.specs.Forest.{Tree, leaf}
 use Rattle.tok_leaves.specs.Leaves.{leaf_span, leaf_text}
-use Rattle.tok_buffer.specs.Ahead.{ahead}
+use Rattle.tok_buffer.specs.Ahead.{marked_ahead}
 use Rattle.tok_buffer.specs.Order.{same_scope}
 use Rattle.tok_buffer.specs.Place.{Place, empty_place, at, is_at_end}
 use Rattle.tok_buffer.specs.Reads as reads
@@ -22,19 +22,20 @@ pieces_of (leaf l ∷ ts) = record { text = leaf_text l; span = leaf_span l } �
 pieces_of (t ∷ ts) = pieces_of ts
 
 -- a list read with the place after it, or the error and the place at which it came
-pub data Outcome : Type 0 where
-  read_all : List (List Piece) → Place → Outcome
-  refused_at : Message → Place → Outcome
+pub data ListOutcome : Type 0 where
+  read_all : List (List Piece) → Place → ListOutcome
+  refused_at : Message → Place → ListOutcome
 
 -- an outcome with these parts before its own
-abbrev pub with_parts : List (List Piece) → Outcome → Outcome
+abbrev pub with_parts : List (List Piece) → ListOutcome → ListOutcome
 with_parts parts (read_all more p) = read_all (parts ++ more) p
 with_parts parts (refused_at r p) = refused_at r p
 
 -- what comes after a read, or the outcome if nothing is read
-abbrev pub after : Outcome → (List Piece → Place → Outcome) → Option (List Tree × Place) → Outcome
-after none some None = none
-after none some (Some r) = some (pieces_of r.0) r.1
+abbrev pub after_read : ListOutcome → (List Piece → Place → ListOutcome) → Option (List Tree
+    × Place) → ListOutcome
+after_read none some None = none
+after_read none some (Some r) = some (pieces_of r.0) r.1
 
 -- the next turn begins later in the same scope, or newly at the empty place
 abbrev pub is_later : Place → Place → Bool
@@ -43,17 +44,17 @@ is_later (at n s c l ls) empty_place = true
 is_later empty_place q = false
 
 -- the error of a turn that made no progress
-abbrev pub no_progress : Place → Span → Message
-no_progress p scope = plain p scope (codes "parser made no progress")
+abbrev pub no_progress_at : Place → Span → Message
+no_progress_at p scope = plain p scope (codes "parser made no progress")
 
 -- when a list ends: at the end of the scope, and the last separator may be missing; or with a
 -- value that no separator follows
-pub data Rule : Type 0 where
-  terminated : Rule
-  separated : Rule
+pub data ListRule : Type 0 where
+  terminated : ListRule
+  separated : ListRule
 
 -- a list that is over here, before a value or after one
-abbrev pub is_over : Rule → Place → Bool
+abbrev pub is_over : ListRule → Place → Bool
 is_over terminated p = is_at_end p
 is_over separated p = false
 
@@ -63,27 +64,28 @@ module _ (kind : Kind) (separator : List ℕ) (scope : Span) where
   separator_message p = punctuation_message separator (fresh p scope)
 
   -- after a separator comes another turn, unless nothing was passed
-  abbrev pub next_turn : Place → Place → (Place → Outcome) → Outcome
-  next_turn before after go =
-      cond (is_later before after) (go after) (refused_at (no_progress after scope) after)
+  abbrev pub next_turn : Place → Place → (Place → ListOutcome) → ListOutcome
+  next_turn before now go =
+      cond (is_later before now) (go now) (refused_at (no_progress_at now scope) now)
 
   -- a separator, and then another turn
-  abbrev pub after_value : Place → List Piece → Outcome → (Place → Outcome) → Place → Outcome
+  abbrev pub after_value : Place → List Piece → ListOutcome → (Place → ListOutcome) → Place
+      → ListOutcome
   after_value before v bare go p =
-      after bare (λ s q. with_parts (v ∷ (s ∷ [])) (next_turn before q go))
+      after_read bare (λ s q. with_parts (v ∷ (s ∷ [])) (next_turn before q go))
       (reads.read_punctuation separator p)
 
   -- the outcome at a value that no separator follows
-  abbrev pub without_separator : Rule → List Piece → Place → Outcome
+  abbrev pub without_separator : ListRule → List Piece → Place → ListOutcome
   without_separator terminated v p = refused_at (separator_message p) p
   without_separator separated v p = read_all (v ∷ []) p
 
   -- the turns of a list, as many at most as are allowed
-  abbrev pub turns : Rule → ℕ → Place → Outcome
-  turns rule zero p = refused_at (no_progress p scope) p
+  abbrev pub turns : ListRule → ℕ → Place → ListOutcome
+  turns rule zero p = refused_at (no_progress_at p scope) p
   turns rule (suc n) p =
       cond (is_over rule p) (read_all [] p)
-      (after (refused_at (kind_message kind (fresh p scope)) p)
+      (after_read (refused_at (kind_message kind (fresh p scope)) p)
       (λ v q. cond (is_over rule q) (read_all (v ∷ []) q)
       (after_value p v (without_separator rule v q) (turns rule n) q))
       (read kind p))
@@ -91,11 +93,11 @@ module _ (kind : Kind) (separator : List ℕ) (scope : Span) where
 -- a turn that is followed by another reads a tree of the list ahead, so one more than are ahead is
 -- enough
 abbrev pub turns_left : Place → ℕ
-turns_left p = length (ahead p) + 1
+turns_left p = length (marked_ahead p) + 1
 
 -- more turns than are allowed change nothing
 abbrev pub MoreTurnsChangeNothing : Type 0
 MoreTurnsChangeNothing =
-    (kind : Kind) (separator : List ℕ) (scope : Span) (rule : Rule) (n : ℕ) (p : Place)
+    (kind : Kind) (separator : List ℕ) (scope : Span) (rule : ListRule) (n : ℕ) (p : Place)
     → turns_left p ≤ n
     → turns kind separator scope rule n p ≡ turns kind separator scope rule (turns_left p) p

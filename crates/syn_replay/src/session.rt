@@ -32,7 +32,7 @@ use tok_core::{Span, TokenStream};
 
 // Returns the position of a stream at this cursor.
 fn position_at(cursor: Cursor<'_>) -> Position
-    ensures { position_of result ≡ states.position_of (place_of cursor.entry) }
+    ensures { position_of result ≡ states.printed_position (place_of cursor.entry) }
 {
     match cursor.position() {
         None => Position::Empty,

@@ -6,7 +6,7 @@ use Rattle.std.specs.Result.{IsErrAnd, MatchResult}
 use Rattle.std.specs.Str.{chars}
 use Rattle.tok_core.specs.Forest.{Forest}
 use Rattle.tok_core.specs.Lexical.Errors.{OnRefused}
-use Rattle.tok_core.specs.Lexical.Reading.{IsRefused}
+use Rattle.tok_core.specs.Lexical.Reading.{IsRejected}
 use Rattle.tok_lexical.specs.declared.rule.Mode.TheVariants.{Marked}
 use Rattle.tok_core.specs.declared.lexer.error.LexFault.{LexFault}
 use Rattle.tok_core.specs.declared.lexer.error.LexFault.TheVariants.{Refused, Memory}
@@ -24,7 +24,7 @@ use Rattle.replay_program.proofs.outcome.Goals as goal
 
 module _ (bytes text : List ℕ) (other : Option (List ℕ)) (lines : List (List ℕ))
     (h : HasParts bytes text other lines) where
-  text_refused : (fault : LexFault) → OnRefused fault (IsRefused Marked 0 (chars text))
+  text_refused : (fault : LexFault) → OnRefused fault (IsRejected Marked 0 (chars text))
       → OnUnreadable (fault_of fault) (IsUnreadable bytes)
   text_refused (Refused error) k = (text, other, lines, h, k)
   text_refused Memory k = tt

@@ -3,7 +3,7 @@ use Rattle.std.proofs.Common.{◌≡◌, ap, refl, ℕ, zero, suc, ◌+◌, ◌�
 use Rattle.std.proofs.Common.{Option, Some, None, arith, le_refl}
 use Rattle.tok_leaves.specs.declared.span.Span.{Span}
 use Rattle.tok_core.specs.Forest.{Tree}
-use Rattle.tok_buffer.specs.Ahead.{ahead}
+use Rattle.tok_buffer.specs.Ahead.{marked_ahead}
 use Rattle.tok_buffer.specs.Place.{Place}
 use Rattle.tok_buffer.specs.Reads.{read_punctuation}
 use Rattle.tok_buffer.proofs.View.Readings.{of_punctuation}
@@ -12,38 +12,39 @@ use Rattle.syn_replay.specs.Kinds.{Kind, read, kind_message}
 use Rattle.syn_parse.specs.State.{fresh}
 use Rattle.syn_replay.proofs.Views.KindReads.{of_kind}
 use Rattle.syn_replay.specs.Reports.{Piece}
-use Rattle.syn_replay.specs.Turns.{Outcome, read_all, refused_at, with_parts, is_later, no_progress}
-use Rattle.syn_replay.specs.Turns.{after, after_value, pieces_of, Rule, is_over, without_separator}
+use Rattle.syn_replay.specs.Turns.{ListOutcome, read_all, refused_at, with_parts, is_later, no_progress_at}
+use Rattle.syn_replay.specs.Turns.{after_read, after_value, pieces_of, ListRule, is_over, without_separator}
 use Rattle.syn_replay.specs.Turns.{turns, turns_left, MoreTurnsChangeNothing}
 
 -- as many turns as there are visible trees ahead, and one more
 abbrev IsEnough : ℕ → Place → Type 0
-IsEnough n p = length (ahead p) + 1 ≤ n
+IsEnough n p = length (marked_ahead p) + 1 ≤ n
 
-after_fewer : (p : Place) (u : Outcome) (a b : List Piece → Place → Outcome)
+after_fewer : (p : Place) (u : ListOutcome) (a b : List Piece → Place → ListOutcome)
     (r : Option (List Tree × Place))
     → LeavesFewer p r
-    → ((x : List Piece) (q : Place) → length (ahead q) + 1 ≤ length (ahead p) → a x q ≡ b x q)
-    → after u a r ≡ after u b r
+    → ((x : List Piece) (q : Place) → length (marked_ahead q) + 1 ≤ length (marked_ahead p)
+    → a x q ≡ b x q)
+    → after_read u a r ≡ after_read u b r
 after_fewer p u a b None h e = refl
 after_fewer p u a b (Some r) h e = e (pieces_of r.0) r.1 h
 
 module _ (kind : Kind) (separator : List ℕ) (scope : Span) where
-  more_turns : (n m : ℕ) (a b : Place → Outcome)
+  more_turns : (n m : ℕ) (a b : Place → ListOutcome)
       → ((q : Place) → IsEnough n q → IsEnough m q → a q ≡ b q)
-      → (p q : Place) (x : List Piece) (u : Outcome)
-      → length (ahead q) ≤ n
-      → length (ahead q) ≤ m
+      → (p q : Place) (x : List Piece) (u : ListOutcome)
+      → length (marked_ahead q) ≤ n
+      → length (marked_ahead q) ≤ m
       → after_value kind separator scope p x u a q ≡ after_value kind separator scope p x u b q
   more_turns n m a b same p q x u h k =
       after_fewer q u _ _ (read_punctuation separator q) (fewer (of_punctuation separator) q)
       (λ s r f. ap
       (λ o. with_parts (x ∷ (s ∷ []))
-      (cond (is_later p r) o (refused_at (no_progress r scope) r)))
+      (cond (is_later p r) o (refused_at (no_progress_at r scope) r)))
       (same r (omega (arith, h, f)) (omega (arith, k, f))))
 
   -- for each rule
-  module _ (rule : Rule) where
+  module _ (rule : ListRule) where
     enough-turns : (n m : ℕ) (p : Place) → IsEnough n p → IsEnough m p
         → turns kind separator scope rule n p ≡ turns kind separator scope rule m p
     enough-turns zero m p h k = absurd (omega (arith, h))

@@ -19,9 +19,9 @@ use Rattle.syn_parse.specs.State.{fresh}
 use Rattle.syn_replay.proofs.Views.KindReads.{of_kind}
 use Rattle.syn_replay.proofs.Views.KindsAlike.{alike-kind, alike-kind_message}
 use Rattle.syn_replay.specs.Reports.{Piece}
-use Rattle.syn_replay.specs.Turns.{Outcome, read_all, refused_at, with_parts, is_later, no_progress}
-use Rattle.syn_replay.specs.Turns.{after, after_value, next_turn, pieces_of, without_separator}
-use Rattle.syn_replay.specs.Turns.{Rule, terminated, separated, is_over, turns, turns_left}
+use Rattle.syn_replay.specs.Turns.{ListOutcome, read_all, refused_at, with_parts, is_later, no_progress_at}
+use Rattle.syn_replay.specs.Turns.{after_read, after_value, next_turn, pieces_of, without_separator}
+use Rattle.syn_replay.specs.Turns.{ListRule, terminated, separated, is_over, turns, turns_left}
 use Rattle.syn_replay.proofs.Views.Choices.{either}
 
 -- each read leads to a later place of the same scope
@@ -43,12 +43,12 @@ is_later_there (at n s c l ls) (at m t d k ks) h =
     ∙ later_test c d (later_count n s c m t d l k ls ks h)
 
 module _ (f g : Laid) where
-  abbrev pub OutcomesAlike : Outcome → Outcome → Type 0
+  abbrev pub OutcomesAlike : ListOutcome → ListOutcome → Type 0
   OutcomesAlike (read_all a p) (read_all b q) = (a ≡ b) × Alike f g p q
   OutcomesAlike (refused_at r p) (refused_at s q) = (r.text ≡ s.text) × Alike f g p q
   OutcomesAlike x y = ⊥
 
-  with-parts : (a b : List (List Piece)) (x y : Outcome) → a ≡ b → OutcomesAlike x y
+  with-parts : (a b : List (List Piece)) (x y : ListOutcome) → a ≡ b → OutcomesAlike x y
       → OutcomesAlike (with_parts a x) (with_parts b y)
   with-parts a b (read_all m p) (read_all n q) e h = (cc h.0, h.1)
   with-parts a b (read_all m p) (refused_at r q) e h = absurd h
@@ -56,19 +56,19 @@ module _ (f g : Laid) where
   with-parts a b (refused_at r p) (refused_at s q) e h = h
 
   module _ (kind : Kind) (separator : List ℕ) (left right : Span) where
-    next-turn : (p q v w : Place) (a b : Place → Outcome) → GoesOn p v → GoesOn q w
+    next-turn : (p q v w : Place) (a b : Place → ListOutcome) → GoesOn p v → GoesOn q w
         → OutcomesAlike (a v) (b w)
         → OutcomesAlike (next_turn kind separator left p v a) (next_turn kind separator right q w b)
     next-turn p q v w a b h k i =
         go (is_later p v) (is_later q w) (is_later_there p v h) (is_later_there q w k) where
           go : (x y : Bool) → x ≡ true → y ≡ true
-              → OutcomesAlike (cond x (a v) (refused_at (no_progress v left) v))
-              (cond y (b w) (refused_at (no_progress w right) w))
+              → OutcomesAlike (cond x (a v) (refused_at (no_progress_at v left) v))
+              (cond y (b w) (refused_at (no_progress_at w right) w))
           go true true e j = i
           go true false e j = absurd (cc)
           go false y e j = absurd (cc)
 
-    after-read : (p q : Place) (u v : Outcome) (a b : List Piece → Place → Outcome)
+    after-read : (p q : Place) (u v : ListOutcome) (a b : List Piece → Place → ListOutcome)
         (r s : Option (List Tree × Place))
         → OutcomesAlike u v
         →
@@ -77,7 +77,7 @@ module _ (f g : Laid) where
         → ReadsAlike f g r s
         → LeadsTo (GoesOn p) r
         → LeadsTo (GoesOn q) s
-        → OutcomesAlike (after u a r) (after v b s)
+        → OutcomesAlike (after_read u a r) (after_read v b s)
     after-read p q u v a b None None e m h i j = e
     after-read p q u v a b None (Some s) e m h i j = absurd h
     after-read p q u v a b (Some r) None e m h i j = absurd h
@@ -85,7 +85,7 @@ module _ (f g : Laid) where
         subst (λ x. OutcomesAlike (a (pieces_of r.0) r.1) (b x s.1)) (ap pieces_of h.0)
         (m (pieces_of r.0) r.1 s.1 h.1 i j)
 
-    after-value : (p q : Place) (x : List Piece) (u v : Outcome) (a b : Place → Outcome)
+    after-value : (p q : Place) (x : List Piece) (u v : ListOutcome) (a b : Place → ListOutcome)
         (i j : Place)
         → OutcomesAlike u v
         → ((y z : Place) → Alike f g y z → OutcomesAlike (a y) (b z))
@@ -101,17 +101,17 @@ module _ (f g : Laid) where
         (alike-reading f g i j h (of_punctuation separator)) (later-separator separator p i k)
         (later-separator separator q j m)
 
-    alike-over : (rule : Rule) (p q : Place) → Alike f g p q → is_over rule p ≡ is_over rule q
+    alike-over : (rule : ListRule) (p q : Place) → Alike f g p q → is_over rule p ≡ is_over rule q
     alike-over terminated p q h = alike-end f g p q h
     alike-over separated p q h = refl
 
-    alike-without : (rule : Rule) (x : List Piece) (p q : Place) → Alike f g p q
+    alike-without : (rule : ListRule) (x : List Piece) (p q : Place) → Alike f g p q
         → OutcomesAlike (without_separator kind separator left rule x p)
         (without_separator kind separator right rule x q)
     alike-without terminated x p q h = (refl, h)
     alike-without separated x p q h = (refl, h)
 
-    pub alike-turns : (rule : Rule) (n : ℕ) (p q : Place) → Alike f g p q
+    pub alike-turns : (rule : ListRule) (n : ℕ) (p q : Place) → Alike f g p q
         → OutcomesAlike (turns kind separator left rule n p) (turns kind separator right rule n q)
     alike-turns rule zero p q h = (refl, h)
     alike-turns rule (suc n) p q h =

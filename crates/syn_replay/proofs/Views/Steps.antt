@@ -26,8 +26,8 @@ use Rattle.syn_replay.proofs.Views.KindsAlike.{alike-peek_kind, alike-kind_messa
 use Rattle.syn_replay.specs.Agree.{AnswersAgree}
 use Rattle.syn_replay.specs.Transparent.{is_transparent, is_transparent_action}
 use Rattle.syn_replay.specs.Commands as commands
-use Rattle.syn_replay.specs.Commands.{Command, Action, Read, enter, fork, advance, discard, close}
-use Rattle.syn_replay.specs.Commands.{taken, parsed, listed_to, looked, read_answer}
+use Rattle.syn_replay.specs.Commands.{Command, Action, StreamRead, enter, fork, advance, discard, close}
+use Rattle.syn_replay.specs.Commands.{answered_by, parsed, listed_to, looked, read_answer}
 use Rattle.syn_replay.specs.Commands.{all_ignore_invisible}
 use Rattle.syn_replay.specs.Commands.{is_transparent_read}
 use Rattle.syn_replay.specs.Reports.{Answer, truth, pieces, absent, entered, forked}
@@ -35,14 +35,14 @@ use Rattle.syn_replay.specs.Reports.{listed, found, misused}
 use Rattle.syn_replay.specs.declared.report.Misuse.{Misuse}
 use Rattle.syn_replay.specs.declared.report.Misuse.TheVariants.{NoStream, Spent, NoFork, NoContent}
 use Rattle.syn_replay.specs.declared.report.Misuse.TheVariants.{OutOfScope}
-use Rattle.syn_replay.specs.Session.State.{Stream, StreamKind, content_of, a_fork, State}
+use Rattle.syn_replay.specs.Session.State.{Stream, StreamKind, content_of, a_fork, AllStreams}
 use Rattle.std.specs.List.{slice_get}
 use Rattle.syn_replay.specs.Session.State.{with_stream, moved_to, is_inside}
-use Rattle.syn_replay.specs.Session.Step.{Stepped, stays, new_stream, into_group, place_of, tested}
-use Rattle.syn_replay.specs.Session.Step.{on_stream, named, is_missing, is_spent, step_on, step}
+use Rattle.syn_replay.specs.Session.Step.{Stepped, unmoved, new_stream, into_group, stream_place, tested}
+use Rattle.syn_replay.specs.Session.Step.{on_stream, named_by, is_unknown, has_ended, step_on, step}
 use Rattle.syn_replay.specs.Session.Step.{any_of, is_fork, is_content, of_kind, kind_misuse}
 use Rattle.syn_replay.specs.Session.Step.{misuse}
-use Rattle.syn_replay.specs.Turns.{Outcome, read_all, refused_at, pieces_of, turns, turns_left}
+use Rattle.syn_replay.specs.Turns.{ListOutcome, read_all, refused_at, pieces_of, turns, turns_left}
 use Rattle.syn_replay.proofs.Views.ListTurns.{OutcomesAlike, alike-turns, alike-turns_left}
 use Rattle.syn_replay.proofs.Views.Streams.{StreamsAlike, BothAlike, StatesAlike, alike-slice_get}
 use Rattle.syn_replay.proofs.Views.Streams.{alike-length, alike-append, alike-with_stream}
@@ -62,8 +62,9 @@ module _ (f g : Laid) where
 
   module _ (p q : Place) (left right : Span) (i : Alike f g p q) where
     alike-taken : (kind : Kind) (r u : Option (List Tree × Place)) → ReadsAlike f g r u
-        → AnsweredAlike (taken (λ ts. pieces (pieces_of ts)) (kind_message kind (fresh p left)) p r)
-        (taken (λ ts. pieces (pieces_of ts)) (kind_message kind (fresh q right)) q u)
+        → AnsweredAlike (answered_by (λ ts. pieces (pieces_of ts)) (kind_message kind
+        (fresh p left)) p r)
+        (answered_by (λ ts. pieces (pieces_of ts)) (kind_message kind (fresh q right)) q u)
     alike-taken kind None None j =
         (alike-kind_message f g kind (fresh p left) (fresh q right) i, i)
     alike-taken kind None (Some u) j = absurd j
@@ -73,7 +74,7 @@ module _ (f g : Laid) where
     alike-parsed : (kind : Kind) → AnsweredAlike (parsed kind p left) (parsed kind q right)
     alike-parsed kind = alike-taken kind (read kind p) (read kind q) (alike-kind f g kind p q i)
 
-    alike-listed : (a b : Outcome) → OutcomesAlike f g a b
+    alike-listed : (a b : ListOutcome) → OutcomesAlike f g a b
         → AnsweredAlike (listed_to a) (listed_to b)
     alike-listed (read_all x u) (read_all y v) j = (ap listed j.0, j.1)
     alike-listed (read_all x u) (refused_at r v) j = absurd j
@@ -90,7 +91,7 @@ module _ (f g : Laid) where
         (looked (n + 1) ls (noted ++ display l ∷ []) q right) (alike-peek f g l parts.0 p q i) refl
         (alike-looked (n + 1) ls (noted ++ display l ∷ []) parts.1)
 
-    alike-answer : (r : Read) → is_transparent_read r ≡ true
+    alike-answer : (r : StreamRead) → is_transparent_read r ≡ true
         → AnsweredAlike (read_answer r p left) (read_answer r q right)
     alike-answer (commands.peek l) e = (ap truth (alike-peek f g l e p q i), i)
     alike-answer (commands.peek2 l) e = (ap truth (alike-peek2 f g l e p q i), i)
@@ -112,7 +113,7 @@ module _ (f g : Laid) where
     alike-answer r e = absurd (cc)
 
   -- A command on an open stream.
-  module _ (st su : State) (h : StatesAlike f g st su) (k : ℕ) (s t : Stream)
+  module _ (st su : AllStreams) (h : StatesAlike f g st su) (k : ℕ) (s t : Stream)
       (i : StreamsAlike f g s t) where
     moves_alike : (p q : Place) → Alike f g p q
         → StatesAlike f g (with_stream st k (moved_to p)) (with_stream su k (moved_to q))
@@ -157,7 +158,7 @@ module _ (f g : Laid) where
         (alike-enter f g s.place t.place i.place d v)
 
     same-fork : (a b : Option Stream) → BothAlike f g a b
-        → same_scope s.place (place_of a) ≡ same_scope t.place (place_of b)
+        → same_scope s.place (stream_place a) ≡ same_scope t.place (stream_place b)
     same-fork None None j =
         alike-scope f g s.place t.place i.place empty_place empty_place
         (alike-empty f g s.place t.place i.place)
@@ -190,12 +191,12 @@ module _ (f g : Laid) where
     }
     alike-on_stream (advance m) e =
         either StepsAlike
-        (same_scope s.place (place_of (slice_get st m)) && not (k == m || is_inside st m k))
-        (same_scope t.place (place_of (slice_get su m)) && not (k == m || is_inside su m k))
+        (same_scope s.place (stream_place (slice_get st m)) && not (k == m || is_inside st m k))
+        (same_scope t.place (stream_place (slice_get su m)) && not (k == m || is_inside su m k))
         _
         _
-        (stays st (misused OutOfScope))
-        (stays su (misused OutOfScope))
+        (unmoved st (misused OutOfScope))
+        (unmoved su (misused OutOfScope))
         (ap₂ (λ x y. x && not (k == m || y))
         (same-fork (slice_get st m) (slice_get su m) (alike-slice_get f g st su m h))
         (same-inside f g st su m k h))
@@ -219,7 +220,7 @@ module _ (f g : Laid) where
   same-any_of a b e [] = refl
   same-any_of a b e (n ∷ ns) = ap₂ (λ x y. x || y) (e n) (same-any_of a b e ns)
 
-  module _ (st su : State) (h : StatesAlike f g st su) where
+  module _ (st su : AllStreams) (h : StatesAlike f g st su) where
     same-test : (without : Bool) (test : Stream → Bool)
         → ((s t : Stream) → StreamsAlike f g s t → test s ≡ test t) → (k : ℕ)
         → tested without test (slice_get st k) ≡ tested without test (slice_get su k)
@@ -238,17 +239,17 @@ module _ (f g : Laid) where
     same-misuse : (c : Command) → misuse c st ≡ misuse c su
     same-misuse c =
         let missing =
-        same-any_of (is_missing st) (is_missing su)
-        (same-test true (λ s. false) (λ s t i. refl)) (named c) in
+        same-any_of (is_unknown st) (is_unknown su)
+        (same-test true (λ s. false) (λ s t i. refl)) (named_by c) in
         let over =
-        same-any_of (is_spent st) (is_spent su)
-        (same-test false (λ s. not s.is_open) (λ s t i. ap not i.is_open)) (named c) in
+        same-any_of (has_ended st) (has_ended su)
+        (same-test false (λ s. not s.is_open) (λ s t i. ap not i.is_open)) (named_by c) in
         ap
         (λ b. cond b (Some NoStream)
-        (cond (any_of (is_spent st) (named c)) (Some Spent) (kind_misuse c.action st c.stream)))
+        (cond (any_of (has_ended st) (named_by c)) (Some Spent) (kind_misuse c.action st c.stream)))
         missing
         ∙ ap₂
-        (λ b r. cond (any_of (is_missing su) (named c)) (Some NoStream) (cond b (Some Spent) r))
+        (λ b r. cond (any_of (is_unknown su) (named_by c)) (Some NoStream) (cond b (Some Spent) r))
         over
         (same-kind_misuse c.action c.stream)
 
@@ -260,8 +261,8 @@ module _ (f g : Laid) where
     alike-step_on c e k (Some s) (Some t) i = alike-on_stream st su h k s t i c e
 
     either-misuse : (a b : Option Misuse) (x y : Stepped) → a ≡ b → StepsAlike x y
-        → StepsAlike (elim a [ Some n ↦ stays st (misused n) | None ↦ x ])
-        (elim b [ Some n ↦ stays su (misused n) | None ↦ y ])
+        → StepsAlike (elim a [ Some n ↦ unmoved st (misused n) | None ↦ x ])
+        (elim b [ Some n ↦ unmoved su (misused n) | None ↦ y ])
     either-misuse None None x y e i = i
     either-misuse None (Some n) x y e i = absurd (cc)
     either-misuse (Some m) None x y e i = absurd (cc)

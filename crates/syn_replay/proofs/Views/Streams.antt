@@ -14,12 +14,12 @@ use Rattle.tok_buffer.proofs.View.Alike.{Alike, alike-leftover}
 use Rattle.std.specs.List.{slice_get}
 use Rattle.std.specs.Prelude.{cond}
 use Rattle.syn_parse.specs.State as parse
-use Rattle.syn_replay.specs.Session.State.{Stream, StreamKind, outermost, content_of, a_fork, State}
+use Rattle.syn_replay.specs.Session.State.{Stream, StreamKind, outermost, content_of, a_fork, AllStreams}
 use Rattle.syn_replay.specs.Session.State.{with_stream, moved_to, spent, spent_if, with_note, put}
 use Rattle.syn_replay.specs.Session.State.{at_rest, with_note_on_parent, is_content_of, kind_at}
-use Rattle.syn_replay.specs.Session.State.{is_entered_from, is_within, is_inside, ended_from, ended}
-use Rattle.syn_replay.specs.Session.State.{left_from, left_inside, handed_note, gathered, closed}
-use Rattle.syn_replay.specs.Session.State.{advanced}
+use Rattle.syn_replay.specs.Session.State.{is_entered_from, is_entered_within, is_inside, ended_from, stream_ended}
+use Rattle.syn_replay.specs.Session.State.{left_from, left_inside, handed_note, gathered, content_closed}
+use Rattle.syn_replay.specs.Session.State.{moved_to_fork}
 
 -- a leftover is compared by its span alone
 abbrev pub span_of : Option Leftover → Option Span
@@ -38,12 +38,12 @@ module _ (f g : Laid) where
   BothAlike (Some s) (Some t) = StreamsAlike s t
   BothAlike a b = ⊥
 
-  abbrev pub StatesAlike : State → State → Type 0
+  abbrev pub StatesAlike : AllStreams → AllStreams → Type 0
   StatesAlike [] [] = ⊤
   StatesAlike (s ∷ st) (t ∷ su) = StreamsAlike s t × StatesAlike st su
   StatesAlike st su = ⊥
 
-  pub alike-slice_get : (st su : State) (k : ℕ) → StatesAlike st su
+  pub alike-slice_get : (st su : AllStreams) (k : ℕ) → StatesAlike st su
       → BothAlike (slice_get st k) (slice_get su k)
   alike-slice_get [] [] k h = tt
   alike-slice_get [] (t ∷ su) k h = absurd h
@@ -51,13 +51,13 @@ module _ (f g : Laid) where
   alike-slice_get (s ∷ st) (t ∷ su) zero h = h.0
   alike-slice_get (s ∷ st) (t ∷ su) (suc k) h = alike-slice_get st su k h.1
 
-  pub alike-length : (st su : State) → StatesAlike st su → length st ≡ length su
+  pub alike-length : (st su : AllStreams) → StatesAlike st su → length st ≡ length su
   alike-length [] [] h = refl
   alike-length [] (t ∷ su) h = absurd h
   alike-length (s ∷ st) [] h = absurd h
   alike-length (s ∷ st) (t ∷ su) h = ap suc (alike-length st su h.1)
 
-  pub alike-append : (st su : State) (s t : Stream) → StatesAlike st su → StreamsAlike s t
+  pub alike-append : (st su : AllStreams) (s t : Stream) → StatesAlike st su → StreamsAlike s t
       → StatesAlike (st ++ s ∷ []) (su ++ t ∷ [])
   alike-append [] [] s t h k = (k, tt)
   alike-append [] (y ∷ su) s t h k = absurd h
@@ -68,7 +68,7 @@ module _ (f g : Laid) where
   abbrev ChangesAlike : (Stream → Stream) → (Stream → Stream) → Type 0
   ChangesAlike a b = (s t : Stream) → StreamsAlike s t → StreamsAlike (a s) (b t)
 
-  pub alike-with_stream : (st su : State) (k : ℕ) (a b : Stream → Stream) → ChangesAlike a b
+  pub alike-with_stream : (st su : AllStreams) (k : ℕ) (a b : Stream → Stream) → ChangesAlike a b
       → StatesAlike st su → StatesAlike (with_stream st k a) (with_stream su k b)
   alike-with_stream [] [] k a b c h = tt
   alike-with_stream [] (t ∷ su) k a b c h = absurd h
@@ -115,14 +115,14 @@ module _ (f g : Laid) where
       }
 
   -- Closing.
-  noted-kind : (k : StreamKind) (n m : Option Leftover) (st su : State) → span_of n ≡ span_of m
+  noted-kind : (k : StreamKind) (n m : Option Leftover) (st su : AllStreams) → span_of n ≡ span_of m
       → StatesAlike st su → StatesAlike (with_note_on_parent k n st) (with_note_on_parent k m su)
   noted-kind outermost n m st su e h = h
   noted-kind (content_of p) n m st su e h =
       alike-with_stream st su p (with_note n) (with_note m) (alike-noted n m e) h
   noted-kind a_fork n m st su e h = h
 
-  noted-parent : (k j : StreamKind) (n m : Option Leftover) (st su : State) → k ≡ j
+  noted-parent : (k j : StreamKind) (n m : Option Leftover) (st su : AllStreams) → k ≡ j
       → span_of n ≡ span_of m → StatesAlike st su
       → StatesAlike (with_note_on_parent k n st) (with_note_on_parent j m su)
   noted-parent k j n m st su e i h =
@@ -137,7 +137,7 @@ module _ (f g : Laid) where
   alike-chosen false true x y e h = cc
   alike-chosen false false x y e h = refl
 
-  alike-left : (k n : ℕ) (st su : State) → StatesAlike st su
+  alike-left : (k n : ℕ) (st su : AllStreams) → StatesAlike st su
       → span_of (left_from k n st) ≡ span_of (left_from k n su)
   alike-left k n [] [] h = refl
   alike-left k n [] (t ∷ su) h = absurd h
@@ -153,7 +153,7 @@ module _ (f g : Laid) where
       (alike-leftover f g s.place t.place i.place)))
       (alike-left k (n + 1) st su h.1)
 
-  pub alike-handed : (st su : State) → StatesAlike st su → (k : ℕ) (s t : Stream)
+  pub alike-handed : (st su : AllStreams) → StatesAlike st su → (k : ℕ) (s t : Stream)
       → StreamsAlike s t → span_of (handed_note st k s) ≡ span_of (handed_note su k t)
   alike-handed st su h k s t i =
       note-or _ _ (leftover s.place) (leftover t.place)
@@ -166,7 +166,7 @@ module _ (f g : Laid) where
   alike-if true s t h = alike-spent s t h
   alike-if false s t h = h
 
-  alike-from : (ends : ℕ → Bool) (n : ℕ) (st su : State) → StatesAlike st su
+  alike-from : (ends : ℕ → Bool) (n : ℕ) (st su : AllStreams) → StatesAlike st su
       → StatesAlike (ended_from ends n st) (ended_from ends n su)
   alike-from ends n [] [] h = tt
   alike-from ends n [] (t ∷ su) h = absurd h
@@ -180,19 +180,19 @@ module _ (f g : Laid) where
       (spent_if c t ∷ ended_from (λ i. cond (i == n) c (ends i)) (n + 1) su)) same
       (alike-if b s t h.0, alike-from (λ i. cond (i == n) b (ends i)) (n + 1) st su h.1)
 
-  pub alike-ended : (k : ℕ) (st su : State) → StatesAlike st su
-      → StatesAlike (ended k st) (ended k su)
+  pub alike-ended : (k : ℕ) (st su : AllStreams) → StatesAlike st su
+      → StatesAlike (stream_ended k st) (stream_ended k su)
   alike-ended k st su h = alike-from (λ n. n == k) 0 st su h
 
-  abbrev closed_with : (k : ℕ) → State → Option Stream → State
+  abbrev closed_with : (k : ℕ) → AllStreams → Option Stream → AllStreams
   closed_with k st o =
       elim o [
         | None ↦ st
-        | Some s ↦ ended k (with_note_on_parent s.kind (handed_note st k s) st)
+        | Some s ↦ stream_ended k (with_note_on_parent s.kind (handed_note st k s) st)
       ]
 
-  pub alike-closed : (k : ℕ) (st su : State) → StatesAlike st su
-      → StatesAlike (closed k st) (closed k su)
+  pub alike-closed : (k : ℕ) (st su : AllStreams) → StatesAlike st su
+      → StatesAlike (content_closed k st) (content_closed k su)
   alike-closed k st su h =
       go (slice_get st k) (slice_get su k) (alike-slice_get st su k h)
     where
@@ -207,18 +207,18 @@ module _ (f g : Laid) where
           (alike-handed st su h k s t i) h)
 
   -- Advancing.
-  abbrev advanced_with : (k n : ℕ) → State → Option Stream → State
+  abbrev advanced_with : (k n : ℕ) → AllStreams → Option Stream → AllStreams
   advanced_with k n st o =
       elim o [
         | None ↦ st
         | Some x ↦
-            ended n
+            stream_ended n
             (with_stream st k
             (λ s. put (parse.advanced (at_rest (gathered st n x)) (at_rest s)) s))
       ]
 
-  pub alike-advanced : (k n : ℕ) (st su : State) → StatesAlike st su
-      → StatesAlike (advanced k n st) (advanced k n su)
+  pub alike-advanced : (k n : ℕ) (st su : AllStreams) → StatesAlike st su
+      → StatesAlike (moved_to_fork k n st) (moved_to_fork k n su)
   alike-advanced k n st su h =
       go (slice_get st n) (slice_get su n) (alike-slice_get st su n h)
     where
@@ -250,18 +250,18 @@ module _ (f g : Laid) where
   same-kind (Some s) None h = absurd h
   same-kind (Some s) (Some t) h = h.kind
 
-  same-within : (depth : ℕ) (st su : State) (outer : ℕ) (kind : StreamKind) → StatesAlike st su
-      → is_within depth st outer kind ≡ is_within depth su outer kind
+  same-within : (depth : ℕ) (st su : AllStreams) (outer : ℕ) (kind : StreamKind) → StatesAlike st su
+      → is_entered_within depth st outer kind ≡ is_entered_within depth su outer kind
   same-within zero st su outer kind h = refl
   same-within (suc depth) st su outer outermost h = refl
   same-within (suc depth) st su outer a_fork h = refl
   same-within (suc depth) st su outer (content_of p) h =
       ap (λ z. p == outer || z) (same-within depth st su outer (kind_at st p) h
-      ∙ ap (is_within depth su outer) (same-kind _ _ (alike-slice_get st su p h)))
+      ∙ ap (is_entered_within depth su outer) (same-kind _ _ (alike-slice_get st su p h)))
 
-  pub same-inside : (st su : State) (outer inner : ℕ) → StatesAlike st su
+  pub same-inside : (st su : AllStreams) (outer inner : ℕ) → StatesAlike st su
       → is_inside st outer inner ≡ is_inside su outer inner
   same-inside st su outer inner h =
       same-within (length st) st su outer (kind_at st inner) h
-      ∙ ap₂ (λ n k. is_within n su outer k) (alike-length st su h)
+      ∙ ap₂ (λ n k. is_entered_within n su outer k) (alike-length st su h)
       (same-kind _ _ (alike-slice_get st su inner h))

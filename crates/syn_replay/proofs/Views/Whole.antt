@@ -11,7 +11,7 @@ use Rattle.syn_replay.specs.Commands.{Command}
 use Rattle.syn_replay.specs.Reports.{Verdict, accepted}
 use Rattle.syn_replay.specs.Transparent.{is_transparent, all_transparent, DifferInInvisibleGroups}
 use Rattle.syn_replay.specs.Transparent.{InvisibleGroupsDoNotMatter}
-use Rattle.syn_replay.specs.Session.State.{Stream, State, first_state}
+use Rattle.syn_replay.specs.Session.State.{Stream, AllStreams, first_state}
 use Rattle.std.specs.List.{slice_get}
 use Rattle.syn_replay.specs.Session.State.{handed_note}
 use Rattle.syn_replay.specs.Session.Step.{step}
@@ -21,7 +21,7 @@ use Rattle.syn_replay.proofs.Views.Streams.{BothAlike, StatesAlike, span_of, ali
 use Rattle.syn_replay.proofs.Views.Streams.{alike-slice_get}
 
 module _ (f g : Laid) where
-  lines-agree : (cs : List Command) → all_transparent cs ≡ true → (st su : State)
+  lines-agree : (cs : List Command) → all_transparent cs ≡ true → (st su : AllStreams)
       → StatesAlike f g st su → LinesAgree (lines_from st cs) (lines_from su cs)
   lines-agree [] e st su h = tt
   lines-agree (c ∷ cs) e st su h =
@@ -29,7 +29,7 @@ module _ (f g : Laid) where
       let next = alike-step f g st su h c parts.0 in
       (next.answer, lines-agree cs parts.1 (step c st).state (step c su).state next.state)
 
-  alike-last : (cs : List Command) → all_transparent cs ≡ true → (st su : State)
+  alike-last : (cs : List Command) → all_transparent cs ≡ true → (st su : AllStreams)
       → StatesAlike f g st su → StatesAlike f g (last_state st cs) (last_state su cs)
   alike-last [] e st su h = h
   alike-last (c ∷ cs) e st su h =
@@ -45,11 +45,12 @@ module _ (f g : Laid) where
   left-agree (Some l) (Some k) e =
       let same : l.span ≡ k.span = cc in ap (λ s. covering s s) same
 
-  abbrev verdict_with : State → Option Stream → Verdict
+  abbrev verdict_with : AllStreams → Option Stream → Verdict
   verdict_with st o =
       elim o [ None ↦ accepted | Some s ↦ verdict_on (handed_note st 0 s) ]
 
-  verdicts-agree : (st su : State) → StatesAlike f g st su → VerdictsAgree (verdict st) (verdict su)
+  verdicts-agree : (st su : AllStreams) → StatesAlike f g st su
+      → VerdictsAgree (verdict st) (verdict su)
   verdicts-agree st su h =
       go (slice_get st 0) (slice_get su 0) (alike-slice_get f g st su 0 h)
     where

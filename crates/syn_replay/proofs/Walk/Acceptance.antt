@@ -15,7 +15,7 @@ use Rattle.syn_replay.specs.Session.Acceptance as acceptance
 use Rattle.syn_replay.specs.Commands as commands
 use Rattle.syn_replay.specs.Commands.{Command}
 use Rattle.syn_replay.specs.Reports.{Verdict, accepted}
-use Rattle.syn_replay.specs.Session.State.{Stream, State, outermost, first_state}
+use Rattle.syn_replay.specs.Session.State.{Stream, AllStreams, outermost, first_state}
 use Rattle.syn_replay.specs.Session.State.{is_entered_from, is_inside, is_or_inside, closed_inside}
 use Rattle.syn_replay.specs.Session.State.{handed_note, left_inside, is_content_of, kind_at, spent_if}
 use Rattle.syn_replay.specs.Session.Step.{step, tested}
@@ -35,7 +35,7 @@ spent_open : (o : Option Stream) → tested false (λ z. not z.is_open) o ≡ tr
 spent_open None h = refl
 spent_open (Some s) h = not-true s.is_open h
 
-to_shut : (st after : State) (k p : ℕ) (q : Place) → IsShut st after k p q → Shut st after k p
+to_shut : (st after : AllStreams) (k p : ℕ) (q : Place) → IsShut st after k p q → Shut st after k p
 to_shut st after k p q h =
     let same = ap or_nobody h.here in
     record {
@@ -44,7 +44,7 @@ to_shut st after k p q h =
       is_shut = spent_open (slice_get after k) h.is_shut;
     }
 
-from_shut : (st after : State) (k p : ℕ) → length st ≤ length after → Shut st after k p
+from_shut : (st after : AllStreams) (k p : ℕ) → length st ≤ length after → Shut st after k p
     → IsShut st after k p (look st k).place
 from_shut st after k p longer h =
     let within = open_within st k h.was_open in
@@ -60,7 +60,7 @@ from_shut st after k p longer h =
           ∙ ap not h.is_shut;
     }
 
-shut_place : (st after : State) (k p : ℕ) (q : Place) → IsShut st after k p q
+shut_place : (st after : AllStreams) (k p : ℕ) (q : Place) → IsShut st after k p q
     → (look st k).place ≡ q
 shut_place st after k p q h = ap (λ o. (or_nobody o).place) h.here ∙ h.at_place
 
@@ -88,18 +88,18 @@ split (c ∷ a) (d ∷ b) r q e =
       | inr x ↦ inr (x.0, ap (λ z. c ∷ z) x.1 ∙ ap (λ z. z ∷ (b ++ x.0)) same, x.2)
     ]
 
-run_append : (st : State) (xs ys : List Command)
+run_append : (st : AllStreams) (xs ys : List Command)
     → last_state st (xs ++ ys) ≡ last_state (last_state st xs) ys
 run_append st [] ys = refl
 run_append st (x ∷ xs) ys = run_append (step x st).state xs ys
 
 -- commands lead from one state to another
-record Runs (a : State) (r : List Command) (b : State) (q : List Command) : Type 0 where
+record Runs (a : AllStreams) (r : List Command) (b : AllStreams) (q : List Command) : Type 0 where
   taken : List Command
   left : r ≡ taken ++ q
   to : last_state a taken ≡ b
 
-run_whole : (st : State) (cs : List Command) → IsSound st → (look st 0).kind ≡ outermost
+run_whole : (st : AllStreams) (cs : List Command) → IsSound st → (look st 0).kind ≡ outermost
     → (look st 0).is_open ≡ true → (look (last_state st cs) 0).is_open ≡ true
 run_whole st [] sound e o = o
 run_whole st (c ∷ cs) sound e o =
@@ -108,16 +108,16 @@ run_whole st (c ∷ cs) sound e o =
     (s.whole e o)
 
 module _ (f : Forest) (cs : List Command) where
-  comes_sound : (st : State) (rest : List Command) → Comes f cs st rest → IsSound st
+  comes_sound : (st : AllStreams) (rest : List Command) → Comes f cs st rest → IsSound st
   comes_sound st rest begins = first_sound f
   comes_sound st rest (goes_on prior c more h) =
       (steps nothing c prior (comes_sound prior (c ∷ more) h)).sound
 
-  abbrev Done : State → List Command → Type 0
+  abbrev Done : AllStreams → List Command → Type 0
   Done st rest =
       (first : List Command) × (cs ≡ first ++ rest) × (last_state (first_state f) first ≡ st)
 
-  from_start : (st : State) (rest : List Command) → Comes f cs st rest → Done st rest
+  from_start : (st : AllStreams) (rest : List Command) → Comes f cs st rest → Done st rest
   from_start st rest begins = ([], refl, refl)
   from_start st rest (goes_on prior c more h) =
       let (first, e, l) = from_start prior (c ∷ more) h in (
@@ -127,13 +127,13 @@ module _ (f : Forest) (cs : List Command) where
       )
 
   -- the walk comes to its end
-  comes_on : (st : State) (rest : List Command) → Comes f cs st rest
+  comes_on : (st : AllStreams) (rest : List Command) → Comes f cs st rest
       → Comes f cs (last_state st rest) []
   comes_on st [] h = h
   comes_on st (c ∷ rest) h = comes_on (step c st).state rest (goes_on st c rest h)
 
   -- one of two points of the walk comes first
-  order : (a b : State) (r q : List Command) → Comes f cs a r → Comes f cs b q
+  order : (a b : AllStreams) (r q : List Command) → Comes f cs a r → Comes f cs b q
       → Runs a r b q ⊎ Runs b q a r
   order a b r q x y =
       let (m, e, l) = from_start a r x in
@@ -155,7 +155,7 @@ module _ (f : Forest) (cs : List Command) where
 
   -- A stream is open up to a point of the walk, where nothing is noted on it or left inside it.
   record Over (k : ℕ) : Type 0 where
-    st : State
+    st : AllStreams
     rest : List Command
     comes : Comes f cs st rest
     was_open : (look st k).is_open ≡ true
@@ -164,19 +164,19 @@ module _ (f : Forest) (cs : List Command) where
     is_gathered : IsGathered st k
 
   -- a stream that is open at a point is over there, or stays open and clean
-  data Stays (st : State) (rest : List Command) (p : ℕ) (over : Over p) : Type 0 where
+  data Stays (st : AllStreams) (rest : List Command) (p : ℕ) (over : Over p) : Type 0 where
     ends : over.st ≡ st → over.rest ≡ rest → Stays st rest p over
     goes : (c : Command) (more : List Command) → rest ≡ c ∷ more
         → (look (step c st).state p).is_open ≡ true → IsClean (step c st).state p
         → Stays st rest p over
 
-  older_by : (c : Command) (a b : State) (t : List Command) → IsSound a
+  older_by : (c : Command) (a b : AllStreams) (t : List Command) → IsSound a
       → last_state (step c a).state t ≡ b → Older (step c a).state b
   older_by c a b t sound e =
       subst (Older (step c a).state) e
       (run_older (step c a).state t (steps nothing c a sound).sound)
 
-  later_open : (c : Command) (a b : State) (t : List Command) (p : ℕ) → IsSound a
+  later_open : (c : Command) (a b : AllStreams) (t : List Command) (p : ℕ) → IsSound a
       → last_state (step c a).state t ≡ b → (look a p).is_open ≡ true → (look b p).is_open ≡ true
       → (look (step c a).state p).is_open ≡ true
   later_open c a b t p sound e was is =
@@ -185,7 +185,7 @@ module _ (f : Forest) (cs : List Command) where
       let longer = s.older.longer in
       ((older_by c a b t sound e).ages p (omega (arith, within, longer))).open_before is
 
-  stays : (st : State) (rest : List Command) → Comes f cs st rest → (p : ℕ)
+  stays : (st : AllStreams) (rest : List Command) → Comes f cs st rest → (p : ℕ)
       → (look st p).is_open ≡ true → (over : Over p) → Stays st rest p over
   stays st rest comes p o over =
       elim (order st over.st rest over.rest comes over.comes) [
@@ -211,7 +211,7 @@ module _ (f : Forest) (cs : List Command) where
           o))
 
   -- a content is over where it hands up nothing
-  is_over : (st : State) (rest : List Command) (k p : ℕ) (q : Place) (after : State)
+  is_over : (st : AllStreams) (rest : List Command) (k p : ℕ) (q : Place) (after : AllStreams)
       → Comes f cs st rest → IsShut st after k p q
       → ((c : Command) (more : List Command) → rest ≡ c ∷ more → after ≡ (step c st).state)
       → IsEmptied st k → Over k × (leftover q ≡ None)
@@ -229,7 +229,8 @@ module _ (f : Forest) (cs : List Command) where
         ap leftover (sym (shut_place st after k p q h)) ∙ none,
       )
 
-  gathered_there : (st us : State) (p : ℕ) → us ≡ st → IsGathered us p → left_inside st p ≡ None
+  gathered_there : (st us : AllStreams) (p : ℕ) → us ≡ st → IsGathered us p → left_inside st p
+      ≡ None
   gathered_there st us p e h = (none_of _ _ (subst (λ z. IsGathered z p) e h)).1
 
   closes_over : (k p : ℕ) (q : Place) → Closes f cs k p q → Over p
@@ -313,7 +314,7 @@ module _ (f : Forest) (cs : List Command) where
       (closes_over j p q h (counts_over e p c)).0
   counts_over e k (acceptance.fork s j a c) = fork_over s j a (counts_over e s c)
 
-  run_clean : NothingLeft f cs → (st : State) (rest : List Command) → Comes f cs st rest
+  run_clean : NothingLeft f cs → (st : AllStreams) (rest : List Command) → Comes f cs st rest
       → AllClean (Counts f cs) st
   run_clean n st rest begins = first_clean (Counts f cs) f
   run_clean n st rest (goes_on prior c more h) =
@@ -367,7 +368,7 @@ module _ (f : Forest) (cs : List Command) where
 
   accepts_exactly : IsExact f cs (walk f cs).verdict
   accepts_exactly = record { only = only; wherever = wherever } where
-    st : State
+    st : AllStreams
     st = all_run f cs
 
     is : (walk f cs).verdict ≡ verdict_on (handed_note st 0 (look st 0))

@@ -4,7 +4,7 @@ use Rattle.std.proofs.Common.{inr, Bool, true, false, List, [], ◌∷◌, lengt
 use Rattle.std.proofs.Common.{arith, subst}
 use Rattle.std.proofs.lemmas.Bool.{both_ways, cases_lt, eqb-true, eq-eqb}
 use Rattle.std.specs.Prelude.{cond}
-use Rattle.syn_replay.specs.Session.State.{State, StreamKind, outermost, content_of, a_fork}
+use Rattle.syn_replay.specs.Session.State.{AllStreams, StreamKind, outermost, content_of, a_fork}
 use Rattle.syn_replay.specs.Session.State.{is_content_of, kinds}
 use Rattle.syn_replay.specs.Session.Links.{contents, contents_by_kind}
 use Rattle.syn_replay.proofs.Walk.Changes.{look}
@@ -20,20 +20,20 @@ content_is (content_of r) p h = ap content_of (eqb-true r p h)
 content_is a_fork p h = cc
 
 -- what is left of the kinds from a number on
-from_there : (st : State) (n : ℕ) → n < length st
+from_there : (st : AllStreams) (n : ℕ) → n < length st
     → drop n (kinds st) ≡ (look st n).kind ∷ drop (suc n) (kinds st)
 from_there [] n h = absurd (omega arith)
 from_there (s ∷ st) zero h = refl
 from_there (s ∷ st) (suc n) h = from_there st n (omega arith)
 
-from_past : (st : State) (n : ℕ) → length st ≤ n → drop n (kinds st) ≡ []
+from_past : (st : AllStreams) (n : ℕ) → length st ≤ n → drop n (kinds st) ≡ []
 from_past [] zero h = refl
 from_past [] (suc n) h = refl
 from_past (s ∷ st) zero h = absurd (omega arith)
 from_past (s ∷ st) (suc n) h = from_past st n (omega arith)
 
 -- one stream more
-pub contents_at : (k n : ℕ) (st : State) → n < length st
+pub contents_at : (k n : ℕ) (st : AllStreams) → n < length st
     → contents k n st
     ≡ cond (is_content_of k (look st n).kind) (n ∷ contents k (n + 1) st) (contents k (n + 1) st)
 contents_at k n st h =
@@ -41,11 +41,11 @@ contents_at k n st h =
     ap (contents_by_kind k n) (from_there st n h)
     ∙ ap (λ z. contents_by_kind k n ((look st n).kind ∷ drop z (kinds st))) next
 
-pub contents_past : (k n : ℕ) (st : State) → length st ≤ n → contents k n st ≡ []
+pub contents_past : (k n : ℕ) (st : AllStreams) → length st ≤ n → contents k n st ≡ []
 contents_past k n st h = ap (contents_by_kind k n) (from_past st n h)
 
 -- a content is a later stream of that parent
-pub record IsContent (st : State) (k n i : ℕ) : Type 0 where
+pub record IsContent (st : AllStreams) (k n i : ℕ) : Type 0 where
   pub from : n ≤ i
   pub within : i < length st
   pub kind : (look st i).kind ≡ content_of k
@@ -53,7 +53,7 @@ pub record IsContent (st : State) (k n i : ℕ) : Type 0 where
 abbrev with_first : Bool → ℕ → List ℕ → List ℕ
 with_first b n rest = cond b (n ∷ rest) rest
 
-pub contents_are : (room k n : ℕ) (st : State) → length st ≤ n + room → (i : ℕ)
+pub contents_are : (room k n : ℕ) (st : AllStreams) → length st ≤ n + room → (i : ℕ)
     → Among i (contents k n st) → IsContent st k n i
 contents_are zero k n st h i a =
     let none : contents k n st ≡ [] = contents_past k n st (omega arith) in
@@ -81,7 +81,7 @@ contents_are (suc room) k n st h i a =
     first l past true e (inr b) = past b
     first l past false e b = past b
 
-pub contents_hold : (room k n : ℕ) (st : State) → length st ≤ n + room → (i : ℕ)
+pub contents_hold : (room k n : ℕ) (st : AllStreams) → length st ≤ n + room → (i : ℕ)
     → IsContent st k n i → Among i (contents k n st)
 contents_hold zero k n st h i c =
     let from = c.from in let within = c.within in absurd (omega (arith, from, within))

@@ -7,8 +7,8 @@ use Rattle.std.proofs.lemmas.Bool.{both_ways, cases_Bool, cond_both, or_cases, o
 use Rattle.std.proofs.lemmas.List.{drop_all}
 use Rattle.std.specs.List.{fold}
 use Rattle.std.specs.Prelude.{◌==◌, ◌&&◌, ◌||◌, not, cond}
-use Rattle.syn_replay.specs.Session.State.{Stream, State, StreamKind, outermost, content_of, a_fork}
-use Rattle.syn_replay.specs.Session.State.{is_content_of, is_entered_from, is_open_at, kinds, with_stream, spent, spent_if, ended_from, ended}
+use Rattle.syn_replay.specs.Session.State.{Stream, AllStreams, StreamKind, outermost, content_of, a_fork}
+use Rattle.syn_replay.specs.Session.State.{is_content_of, is_entered_from, is_open_at, kinds, with_stream, spent, spent_if, ended_from, stream_ended}
 use Rattle.syn_replay.specs.Session.Links.{contents, contents_by_kind}
 use Rattle.syn_replay.proofs.Walk.Contents.{Among, among_at, content_is, contents_are, contents_hold}
 use Rattle.syn_replay.proofs.Walk.Changes.{kept_by, kinds_changed, length_changed, look, look_changed, look_other, nobody, open_seen, open_within, same_length}
@@ -39,7 +39,7 @@ entered_either f g (content_of p) = refl
 entered_either f g a_fork = refl
 
 -- tests that are alike
-same_tests : (f g : Test) → ((i : ℕ) → f i ≡ g i) → (n : ℕ) (st : State)
+same_tests : (f g : Test) → ((i : ℕ) → f i ≡ g i) → (n : ℕ) (st : AllStreams)
     → ended_from f n st ≡ ended_from g n st
 same_tests f g e n [] = refl
 same_tests f g e n (s ∷ later) =
@@ -86,7 +86,7 @@ both_in : (c a b x y : Bool) → (cond c a x || cond c b y) ≡ cond c (a || b) 
 both_in true a b x y = refl
 both_in false a b x y = refl
 
-pub then_others : (f g : Test) (n : ℕ) (st : State)
+pub then_others : (f g : Test) (n : ℕ) (st : AllStreams)
     → ended_from g n (ended_from f n st) ≡ ended_from (either f g) n st
 then_others f g n [] = refl
 then_others f g n (s ∷ later) =
@@ -109,10 +109,10 @@ then_others f g n (s ∷ later) =
     (both_spent a b s ∙ ap (λ z. spent_if z s) (sym all))
 
 -- parents have lower numbers
-abbrev pub Above : ℕ → State → Type 0
+abbrev pub Above : ℕ → AllStreams → Type 0
 Above n st = (m p : ℕ) → (look st m).kind ≡ content_of p → p < n + m
 
-above_next : (n : ℕ) (s : Stream) (later : State) → Above n (s ∷ later) → Above (n + 1) later
+above_next : (n : ℕ) (s : Stream) (later : AllStreams) → Above n (s ∷ later) → Above (n + 1) later
 above_next n s later h m p e = let b = h (suc m) p e in omega arith
 
 not_yet : (f : Test) (n i : ℕ) (e : Bool) → i ≢ n → put_in f n e i ≡ f i
@@ -122,7 +122,7 @@ now_in : (f : Test) (n i : ℕ) (e : Bool) → i ≡ n → put_in f n e i ≡ e
 now_in f n i e q = ap (λ b. cond b e (f i)) (eq-eqb i n q)
 
 -- What ends is told by a test: what it says of a stream follows from the first test and its parent.
-pub record Tells (f : Test) (n : ℕ) (st : State) (F : Test) : Type 0 where
+pub record Tells (f : Test) (n : ℕ) (st : AllStreams) (F : Test) : Type 0 where
   pub before : (i : ℕ) → i < n → F i ≡ f i
   pub here : (m : ℕ) → m < length st
       → F (n + m) ≡ ((look st m).is_open && (f (n + m) || is_entered_from F (look st m).kind))
@@ -137,7 +137,7 @@ nobody_ends : (b : Bool) → nobody ≡ spent_if b nobody
 nobody_ends true = refl
 nobody_ends false = refl
 
-head_tells : (f : Test) (n : ℕ) (s : Stream) (later : State) (F : Test) → Above n (s ∷ later)
+head_tells : (f : Test) (n : ℕ) (s : Stream) (later : AllStreams) (F : Test) → Above n (s ∷ later)
     → Tells f n (s ∷ later) F → ends_at f n s ≡ F n
 head_tells f n s later F above t =
     let same : n + 0 ≡ n = omega arith in
@@ -147,7 +147,7 @@ head_tells f n s later F above t =
     (entered_before f F n s.kind t.before
     (λ p e. let b = above 0 p e in omega arith)))
 
-tail_tells : (f : Test) (n : ℕ) (s : Stream) (later : State) (F : Test) → Above n (s ∷ later)
+tail_tells : (f : Test) (n : ℕ) (s : Stream) (later : AllStreams) (F : Test) → Above n (s ∷ later)
     → Tells f n (s ∷ later) F → Tells (put_in f n (ends_at f n s)) (n + 1) later F
 tail_tells f n s later F above t = record {
   before = λ i l. elim (cases_eq i n) [
@@ -166,7 +166,7 @@ tail_tells f n s later F above t = record {
   below : (i : ℕ) → i < n + 1 → i ≢ n → i < n
   below i l d = elim (cases_lt i n) [ inl h ↦ h | inr h ↦ absurd (d (omega arith)) ]
 
-pub looks : (f : Test) (n : ℕ) (st : State) (F : Test) → Above n st → Tells f n st F → (m : ℕ)
+pub looks : (f : Test) (n : ℕ) (st : AllStreams) (F : Test) → Above n st → Tells f n st F → (m : ℕ)
     → look (ended_from f n st) m ≡ spent_if (F (n + m)) (look st m)
 looks f n [] F above t m = nobody_ends (F (n + m))
 looks f n (s ∷ later) F above t zero =
@@ -179,7 +179,7 @@ looks f n (s ∷ later) F above t (suc m) =
     ∙ ap (λ z. spent_if (F z) (look later m)) same
 
 -- there is such a test
-pub found : (f : Test) (n : ℕ) (st : State) → Above n st → (F : Test) × Tells f n st F
+pub found : (f : Test) (n : ℕ) (st : AllStreams) → Above n st → (F : Test) × Tells f n st F
 found f n [] above =
     (f, record { before = λ i l. refl; here = λ m l. absurd (omega arith) })
 found f n (s ∷ later) above =
@@ -214,7 +214,7 @@ found f n (s ∷ later) above =
           (not_yet f n (n + 1 + m) _ (λ q. omega arith)))
 
 -- where no open stream passes the test, nothing ends
-pub none_end : (f : Test) (n : ℕ) (st : State) → Above n st → ((i : ℕ) → i < n → f i ≡ false)
+pub none_end : (f : Test) (n : ℕ) (st : AllStreams) → Above n st → ((i : ℕ) → i < n → f i ≡ false)
     → ((m : ℕ) → f (n + m) ≡ true → (look st m).is_open ≡ false) → ended_from f n st ≡ st
 none_end f n [] above low out = refl
 none_end f n (s ∷ later) above low out =
@@ -257,17 +257,17 @@ or_assoc true b c = refl
 or_assoc false b c = refl
 
 -- streams that end in turn, if they are open
-abbrev pub each_ends : State → List ℕ → State
-each_ends st ks = fold (λ now k. cond (is_open_at now k) (ended k now) now) st ks
+abbrev pub each_ends : AllStreams → List ℕ → AllStreams
+each_ends st ks = fold (λ now k. cond (is_open_at now k) (stream_ended k now) now) st ks
 
 abbrev any : List ℕ → Test
 any [] = λ i. false
 any (k ∷ ks) = λ i. (i == k) || any ks i
 
-ends_or_not : (st : State) (k : ℕ) → Above 0 st
-    → cond (is_open_at st k) (ended k st) st ≡ ended k st
+ends_or_not : (st : AllStreams) (k : ℕ) → Above 0 st
+    → cond (is_open_at st k) (stream_ended k st) st ≡ stream_ended k st
 ends_or_not st k above = go (is_open_at st k) refl where
-  go : (b : Bool) → is_open_at st k ≡ b → cond b (ended k st) st ≡ ended k st
+  go : (b : Bool) → is_open_at st k ≡ b → cond b (stream_ended k st) st ≡ stream_ended k st
   go true e = refl
   go false e =
       sym (none_end (λ n. n == k) 0 st above (λ i l. absurd (omega arith))
@@ -276,14 +276,14 @@ ends_or_not st k above = go (is_open_at st k) refl where
       let is : m ≡ k = omega arith in
       ap (λ z. (look st z).is_open) is ∙ sym (open_seen st k) ∙ e))
 
-pub kinds_from : (f : Test) (n : ℕ) (st : State) → kinds (ended_from f n st) ≡ kinds st
+pub kinds_from : (f : Test) (n : ℕ) (st : AllStreams) → kinds (ended_from f n st) ≡ kinds st
 kinds_from f n [] = refl
 kinds_from f n (s ∷ later) =
     ap (λ k. k ∷ kinds (ended_from (put_in f n (ends_at f n s)) (n + 1) later))
     (kind_if (ends_at f n s) s)
     ∙ ap (λ z. s.kind ∷ z) (kinds_from (put_in f n (ends_at f n s)) (n + 1) later)
 
-pub same_kind : (st us : State) → kinds st ≡ kinds us → (m : ℕ)
+pub same_kind : (st us : AllStreams) → kinds st ≡ kinds us → (m : ℕ)
     → (look st m).kind ≡ (look us m).kind
 same_kind [] [] e m = refl
 same_kind [] (u ∷ us) e m = cc
@@ -291,11 +291,12 @@ same_kind (s ∷ st) [] e m = cc
 same_kind (s ∷ st) (u ∷ us) e zero = cc
 same_kind (s ∷ st) (u ∷ us) e (suc m) = same_kind st us (cc) m
 
-above_from : (f : Test) (st : State) → Above 0 st → Above 0 (ended_from f 0 st)
+above_from : (f : Test) (st : AllStreams) → Above 0 st → Above 0 (ended_from f 0 st)
 above_from f st h m p e = h m p (sym (same_kind _ st (kinds_from f 0 st) m) ∙ e)
 
 -- states whose streams are the same
-same_states : (st us : State) → length st ≡ length us → ((m : ℕ) → look st m ≡ look us m) → st ≡ us
+same_states : (st us : AllStreams) → length st ≡ length us → ((m : ℕ) → look st m ≡ look us m) → st
+    ≡ us
 same_states [] [] e h = refl
 same_states [] (u ∷ us) e h = cc
 same_states (s ∷ st) [] e h = cc
@@ -304,13 +305,13 @@ same_states (s ∷ st) (u ∷ us) e h =
 
 -- A stream that is spent and lists these numbers as its contents, which then end: it ends, and
 -- those inside it.
-module _ (st : State) (k : ℕ) (above : Above 0 st) (is_open : (look st k).is_open ≡ true)
+module _ (st : AllStreams) (k : ℕ) (above : Above 0 st) (is_open : (look st k).is_open ≡ true)
     (listed : Test) (lists : (m : ℕ) → m < length st → listed m ≡ is_content_of k (look st m).kind)
   where
     abbrev own : Test
     own = λ n. n == k
 
-    abbrev first_spent : State
+    abbrev first_spent : AllStreams
     first_spent = with_stream st k spent
 
     -- what ends but for the stream itself
@@ -384,13 +385,13 @@ module _ (st : State) (k : ℕ) (above : Above 0 st) (is_open : (look st k).is_o
     spent_again true s = refl
     spent_again false s = refl
 
-    pub unfolds : ended_from listed 0 first_spent ≡ ended k st
+    pub unfolds : ended_from listed 0 first_spent ≡ stream_ended k st
     unfolds =
         let (F, t) = found own 0 st above in
         let len =
         same_length (ended_from listed 0 first_spent) first_spent (kinds_from listed 0 first_spent)
         ∙ length_changed st k spent
-        ∙ sym (same_length (ended k st) st (kinds_from own 0 st)) in
+        ∙ sym (same_length (stream_ended k st) st (kinds_from own 0 st)) in
         same_states _ _ len
         (λ m.
         looks listed 0 first_spent (others F) above_spent (tells_others F t) m
@@ -410,7 +411,7 @@ module _ (st : State) (k : ℕ) (above : Above 0 st) (is_open : (look st k).is_o
             ap (λ s. spent_if (others F (0 + m)) s) (look_other st k m spent d)
             ∙ ap (λ b. spent_if b (look st m)) (others_same F m d)
 
-each_any : (ks : List ℕ) (r : Test) (st : State) → Above 0 st
+each_any : (ks : List ℕ) (r : Test) (st : AllStreams) → Above 0 st
     → each_ends (ended_from r 0 st) ks ≡ ended_from (either r (any ks)) 0 st
 each_any [] r st h = same_tests r (either r (any [])) (λ i. sym (or_false (r i))) 0 st
 each_any (k ∷ ks) r st h =
@@ -421,13 +422,13 @@ each_any (k ∷ ks) r st h =
     ∙ same_tests _ _ (λ i. or_assoc (r i) (i == k) (any ks i)) 0 st
 
 -- Stream k ends, and then its contents, one after the other: those from the index on are left.
-module _ (st : State) (k : ℕ) where
+module _ (st : AllStreams) (k : ℕ) where
   abbrev pub own_contents : List ℕ
   own_contents = contents k (k + 1) st
 
-  pub record EndsOn (now : State) (index : ℕ) : Type 0 where
+  pub record EndsOn (now : AllStreams) (index : ℕ) : Type 0 where
     pub same_kinds : kinds now ≡ kinds st
-    pub rest : each_ends now (drop index own_contents) ≡ ended k st
+    pub rest : each_ends now (drop index own_contents) ≡ stream_ended k st
 
   any_in : (ks : List ℕ) (m : ℕ) → Among m ks → any ks m ≡ true
   any_in [] m a = absurd a
@@ -477,14 +478,14 @@ module _ (st : State) (k : ℕ) where
             ∙ unfolds st k above is_open (any own_contents) (lists above);
       }
 
-  module _ (now : State) (index : ℕ) (e : EndsOn now index) where
+  module _ (now : AllStreams) (index : ℕ) (e : EndsOn now index) where
     pub ends_list : contents k (k + 1) now ≡ own_contents
     ends_list = ap (λ ks. contents_by_kind k (k + 1) (drop (k + 1) ks)) e.same_kinds
 
     pub ends_length : length now ≡ length st
     ends_length = same_length now st e.same_kinds
 
-    pub ends_last : length own_contents ≤ index → now ≡ ended k st
+    pub ends_last : length own_contents ≤ index → now ≡ stream_ended k st
     ends_last h = sym (ap (each_ends now) (drop_all index own_contents h)) ∙ e.rest
 
     module _ (i : ℕ) (h : index < length own_contents) (at : i ≡ get_or own_contents index i) where
@@ -497,14 +498,14 @@ module _ (st : State) (k : ℕ) where
           let within = c.within in
           (omega arith, omega (arith, within, ends_length))
 
-      pub ends_next : (then : State) → then ≡ cond (is_open_at now i) (ended i now) now
+      pub ends_next : (then : AllStreams) → then ≡ cond (is_open_at now i) (stream_ended i now) now
           → EndsOn then (index + 1)
       ends_next then is =
           let next : suc index ≡ index + 1 = omega arith in
           record {
             same_kinds =
                 ap kinds is
-                ∙ cond_both (is_open_at now i) (ended i now) now (λ z. kinds z ≡ kinds now)
+                ∙ cond_both (is_open_at now i) (stream_ended i now) now (λ z. kinds z ≡ kinds now)
                 (λ _. kinds_from (λ n. n == i) 0 now) (λ _. refl)
                 ∙ e.same_kinds;
             rest =

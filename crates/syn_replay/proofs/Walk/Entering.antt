@@ -16,7 +16,7 @@ use Rattle.syn_parse.specs.ErrorWords.{refused_at}
 use Rattle.syn_parse.specs.declared.fault.Fault.{Fault}
 use Rattle.syn_parse.specs.declared.fault.Fault.TheVariants.{Refused, Memory}
 use Rattle.syn_replay.specs.Reports as reports
-use Rattle.syn_replay.specs.Session.State.{State, at_rest, with_stream, content_of, put, standing}
+use Rattle.syn_replay.specs.Session.State.{AllStreams, at_rest, with_stream, content_of, put, standing}
 use Rattle.std.specs.List.{slice_get}
 use Rattle.syn_replay.specs.Session.State as states
 use Rattle.syn_replay.specs.Session.Step.{into_group}
@@ -37,7 +37,8 @@ answered-error r e a h q =
 abbrev pub AreEntered : (Delimiter × DelimSpan × parse.State) → Entered → Type 0
 AreEntered p e = (p.0 ≡ e.delimiter) × AreParts p.1 p.2 e
 
-module _ (st : State) (n : ℕ) (s : states.Stream) (here : slice_get st n ≡ Some s) (words : List ℕ)
+module _ (st : AllStreams) (n : ℕ) (s : states.Stream) (here : slice_get st n
+    ≡ Some s) (words : List ℕ)
   where
     pub entered-value : (x : Option Entered) (d : Delimiter) (span : DelimSpan)
         (content t : parse.State)

@@ -6,42 +6,43 @@ use Rattle.std.proofs.lemmas.Option.{slice_get_past}
 use Rattle.std.specs.List.{slice_get}
 use Rattle.std.specs.Option.{option_map}
 use Rattle.std.specs.Prelude.{◌==◌, ◌&&◌, ◌||◌}
-use Rattle.syn_replay.specs.Session.State.{Stream, State, StreamKind, outermost, content_of, a_fork}
+use Rattle.syn_replay.specs.Session.State.{Stream, AllStreams, StreamKind, outermost, content_of, a_fork}
 use Rattle.syn_replay.specs.Session.State.{is_content_of, is_entered_from, spent, spent_if, kind_at}
-use Rattle.syn_replay.specs.Session.State.{is_inside, is_or_inside, is_within, ended, closed_inside, kinds}
+use Rattle.syn_replay.specs.Session.State.{is_inside, is_or_inside, is_entered_within, stream_ended, closed_inside, kinds}
 use Rattle.syn_replay.specs.Session.Step.{is_content}
 use Rattle.syn_replay.proofs.Walk.Changes.{kind_seen, look, or_nobody, same_length, within_there}
 use Rattle.syn_replay.proofs.Walk.Ends.{Above, kinds_from, looks, same_kind}
 use Rattle.syn_replay.proofs.Walk.Inside.{within_parent}
 
 -- a content's parent has a lower number
-abbrev pub Nested : State → Type 0
+abbrev pub Nested : AllStreams → Type 0
 Nested st = (k p : ℕ) → (look st k).kind ≡ content_of p → p < k
 
 -- and is open if the content is
-pub record IsSound (st : State) : Type 0 where
+pub record IsSound (st : AllStreams) : Type 0 where
   pub nested : Nested st
   pub parent : (k p : ℕ) → (look st k).is_open ≡ true → (look st k).kind ≡ content_of p
       → (look st p).is_open ≡ true
 
-pub above_all : (st : State) → Nested st → Above 0 st
+pub above_all : (st : AllStreams) → Nested st → Above 0 st
 above_all st h m p e = let b = h m p e in omega arith
 
-pub none_past : (st : State) (k p : ℕ) → length st ≤ k → (look st k).kind ≡ content_of p → ⊥
+pub none_past : (st : AllStreams) (k p : ℕ) → length st ≤ k → (look st k).kind ≡ content_of p → ⊥
 none_past st k p l f =
     let none = ap (λ o. (or_nobody o).kind) (slice_get_past st k l) in absurd (cc)
 
-none_within : (depth : ℕ) (st : State) (outer : ℕ) (kind : StreamKind) → is_content kind ≡ false
-    → is_within depth st outer kind ≡ false
+none_within : (depth : ℕ) (st : AllStreams) (outer : ℕ) (kind : StreamKind) → is_content kind
+    ≡ false
+    → is_entered_within depth st outer kind ≡ false
 none_within zero st outer kind h = refl
 none_within (suc depth) st outer outermost h = refl
 none_within (suc depth) st outer a_fork h = refl
 none_within (suc depth) st outer (content_of p) h = cc
 
-module _ (st : State) (nested : Nested st) where
+module _ (st : AllStreams) (nested : Nested st) where
   -- a depth that reaches all lower numbers is enough
   same_depth : (d e outer n : ℕ) (kind : StreamKind) → (look st n).kind ≡ kind → n ≤ d → n ≤ e
-      → is_within d st outer kind ≡ is_within e st outer kind
+      → is_entered_within d st outer kind ≡ is_entered_within e st outer kind
   same_depth d e outer n outermost k g h =
       none_within d st outer outermost refl ∙ sym (none_within e st outer outermost refl)
   same_depth d e outer n a_fork k g h =
@@ -60,7 +61,7 @@ module _ (st : State) (nested : Nested st) where
       → is_inside st outer n ≡ is_entered_from (is_or_inside st outer) (kind_at st n)
   by_parent outer n = go (kind_at st n) (sym (kind_seen st n)) where
     go : (kind : StreamKind) → (look st n).kind ≡ kind
-        → is_within (length st) st outer kind ≡ is_entered_from (is_or_inside st outer) kind
+        → is_entered_within (length st) st outer kind ≡ is_entered_from (is_or_inside st outer) kind
     go outermost k = none_within (length st) st outer outermost refl
     go a_fork k = none_within (length st) st outer a_fork refl
     go (content_of p) k =
@@ -73,27 +74,27 @@ module _ (st : State) (nested : Nested st) where
         (omega (arith, b, within)) (omega (arith, b, within)))
 
 -- what is inside a stream is told by the kinds
-same_kind_at : (st us : State) (k : ℕ) → kinds st ≡ kinds us → kind_at st k ≡ kind_at us k
+same_kind_at : (st us : AllStreams) (k : ℕ) → kinds st ≡ kinds us → kind_at st k ≡ kind_at us k
 same_kind_at st us k e = kind_seen st k ∙ same_kind st us e k ∙ sym (kind_seen us k)
 
-same_within : (depth : ℕ) (st us : State) (outer : ℕ) (kind : StreamKind) → kinds st ≡ kinds us
-    → is_within depth st outer kind ≡ is_within depth us outer kind
+same_within : (depth : ℕ) (st us : AllStreams) (outer : ℕ) (kind : StreamKind) → kinds st ≡ kinds us
+    → is_entered_within depth st outer kind ≡ is_entered_within depth us outer kind
 same_within zero st us outer kind e = refl
 same_within (suc depth) st us outer outermost e = refl
 same_within (suc depth) st us outer a_fork e = refl
 same_within (suc depth) st us outer (content_of p) e =
     ap (λ b. p == outer || b) (same_within depth st us outer (kind_at st p) e
-    ∙ ap (is_within depth us outer) (same_kind_at st us p e))
+    ∙ ap (is_entered_within depth us outer) (same_kind_at st us p e))
 
-pub same_inside : (st us : State) (outer n : ℕ) → kinds st ≡ kinds us
+pub same_inside : (st us : AllStreams) (outer n : ℕ) → kinds st ≡ kinds us
     → is_inside st outer n ≡ is_inside us outer n
 same_inside st us outer n e =
     same_within (length st) st us outer (kind_at st n) e
-    ∙ ap (is_within (length st) us outer) (same_kind_at st us n e)
-    ∙ ap (λ d. is_within d us outer (kind_at us n)) (same_length st us e)
+    ∙ ap (is_entered_within (length st) us outer) (same_kind_at st us n e)
+    ∙ ap (λ d. is_entered_within d us outer (kind_at us n)) (same_length st us e)
 
 -- streams of the same kinds, of which the same are open
-pub sound_like : (st mid : State) → IsSound st → kinds mid ≡ kinds st
+pub sound_like : (st mid : AllStreams) → IsSound st → kinds mid ≡ kinds st
     → ((j : ℕ) → (look mid j).is_open ≡ (look st j).is_open) → IsSound mid
 sound_like st mid sound same opens = record {
   nested = λ j p f. sound.nested j p (sym (same_kind mid st same j) ∙ f);
@@ -102,7 +103,7 @@ sound_like st mid sound same opens = record {
 }
 
 -- what is inside a stream has a higher number
-entered_above : (st : State) → Nested st → (room outer n : ℕ) → n ≤ room → (kind : StreamKind)
+entered_above : (st : AllStreams) → Nested st → (room outer n : ℕ) → n ≤ room → (kind : StreamKind)
     → (look st n).kind ≡ kind → is_entered_from (is_or_inside st outer) kind ≡ true → outer < n
 entered_above st nested room outer n h outermost k e = cc
 entered_above st nested room outer n h a_fork k e = cc
@@ -120,7 +121,7 @@ entered_above st nested (suc room) outer n h (content_of p) k e =
           omega (arith, b, low)
     ]
 
-pub inside_above : (st : State) → Nested st → (outer n : ℕ) → is_inside st outer n ≡ true
+pub inside_above : (st : AllStreams) → Nested st → (outer n : ℕ) → is_inside st outer n ≡ true
     → outer < n
 inside_above st nested outer n e =
     entered_above st nested n outer n (omega arith) (look st n).kind refl
@@ -128,7 +129,7 @@ inside_above st nested outer n e =
     ∙ ap (is_entered_from (is_or_inside st outer)) (kind_seen st n)) ∙ e)
 
 -- so no stream with a lower number is
-pub not_inside : (st : State) → Nested st → (outer n : ℕ) → n < outer
+pub not_inside : (st : AllStreams) → Nested st → (outer n : ℕ) → n < outer
     → is_or_inside st outer n ≡ false
 not_inside st nested outer n l =
     or_from (n == outer) (is_inside st outer n) (ne_eqb n outer (λ q. omega arith))
@@ -149,7 +150,7 @@ open_or_not b s = go s.is_open refl b where
   go false e true = same_stream s (spent s) refl e
   go false e false = refl
 
-module _ (st : State) (sound : IsSound st) (k : ℕ) where
+module _ (st : AllStreams) (sound : IsSound st) (k : ℕ) where
   abbrev ends_own : ℕ → Bool
   ends_own i = (look st i).is_open && is_or_inside st k i
 
@@ -191,7 +192,7 @@ module _ (st : State) (sound : IsSound st) (k : ℕ) where
   if_open true x y h = h refl
   if_open false x y h = refl
 
-  pub ended_look : (m : ℕ) → look (ended k st) m ≡ spent_if (is_or_inside st k m) (look st m)
+  pub ended_look : (m : ℕ) → look (stream_ended k st) m ≡ spent_if (is_or_inside st k m) (look st m)
   ended_look m =
       let same : 0 + m ≡ m = omega arith in
       looks (λ n. n == k) 0 st ends_own (above_all st sound.nested)
@@ -225,17 +226,17 @@ module _ (st : State) (sound : IsSound st) (k : ℕ) where
       ∙ open_or_not (is_inside st k m) (look st m)
 
 -- a stream that is there ends, or stays
-pub all_ended : (st : State) → IsSound st → (k n : ℕ)
-    → slice_get (ended k st) n ≡ option_map (spent_if (is_or_inside st k n)) (slice_get st n)
+pub all_ended : (st : AllStreams) → IsSound st → (k n : ℕ)
+    → slice_get (stream_ended k st) n ≡ option_map (spent_if (is_or_inside st k n)) (slice_get st n)
 all_ended st sound k n =
     let b = is_or_inside st k n in
-    let same = same_length (ended k st) st (kinds_from (λ i. i == k) 0 st) in
+    let same = same_length (stream_ended k st) st (kinds_from (λ i. i == k) 0 st) in
     elim (cases_lt n (length st)) [
       | inl h ↦
-          within_there (ended k st) n (omega (arith, same))
+          within_there (stream_ended k st) n (omega (arith, same))
           ∙ ap (λ s. Some s) (ended_look st sound k n)
           ∙ sym (ap (option_map (spent_if b)) (within_there st n h))
       | inr h ↦
-          slice_get_past (ended k st) n (omega (arith, same))
+          slice_get_past (stream_ended k st) n (omega (arith, same))
           ∙ sym (ap (option_map (spent_if b)) (slice_get_past st n h))
     ]

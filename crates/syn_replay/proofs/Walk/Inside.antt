@@ -3,32 +3,33 @@ use Rattle.std.proofs.Common.{◌≡◌, ◌∙◌, sym, ap, refl, ℕ, zero, su
 use Rattle.std.proofs.Common.{false, List, get_or, length, Option, Some, None, arith}
 use Rattle.std.proofs.lemmas.Bool.{ne_eqb, eq-eqb, or_left}
 use Rattle.std.specs.Prelude.{◌==◌, ◌||◌}
-use Rattle.syn_replay.specs.Session.State.{State, content_of, kind_at}
-use Rattle.syn_replay.specs.Session.State.{is_within, is_inside}
+use Rattle.syn_replay.specs.Session.State.{AllStreams, content_of, kind_at}
+use Rattle.syn_replay.specs.Session.State.{is_entered_within, is_inside}
 use Rattle.syn_replay.specs.Session.Links.{AreListed}
-use Rattle.syn_replay.specs.Session.Stream.{kind_of, state_of_list}
+use Rattle.syn_replay.specs.Session.Stream.{stream_kind, state_of_list}
 use Rattle.syn_replay.specs.declared.session.stream.Stream.{Stream}
 use Rattle.syn_replay.proofs.Walk.Links.{parent_below}
 use Rattle.syn_replay.proofs.Walk.Tracks.{stream_there, length-state}
 use Rattle.syn_replay.proofs.Walk.Changes.{kind_seen, or_nobody}
 
 -- one parent up
-pub within_parent : (depth : ℕ) (st : State) (outer p : ℕ) → 0 < depth
-    → is_within depth st outer (content_of p)
-    ≡ ((p == outer) || is_within (depth - 1) st outer (kind_at st p))
+pub within_parent : (depth : ℕ) (st : AllStreams) (outer p : ℕ) → 0 < depth
+    → is_entered_within depth st outer (content_of p)
+    ≡ ((p == outer) || is_entered_within (depth - 1) st outer (kind_at st p))
 within_parent zero st outer p h = absurd (omega arith)
 within_parent (suc depth) st outer p h =
     let q : depth ≡ suc depth - 1 = omega arith in
-    ap (λ z. (p == outer) || is_within z st outer (kind_at st p)) q
+    ap (λ z. (p == outer) || is_entered_within z st outer (kind_at st p)) q
 
-pub within_itself : (depth : ℕ) (st : State) (outer p : ℕ) → 0 < depth → p ≡ outer
-    → is_within depth st outer (content_of p) ≡ true
+pub within_itself : (depth : ℕ) (st : AllStreams) (outer p : ℕ) → 0 < depth → p ≡ outer
+    → is_entered_within depth st outer (content_of p) ≡ true
 within_itself depth st outer p h e =
     within_parent depth st outer p h ∙ or_left (p == outer) _ (eq-eqb p outer e)
 
 -- a fork is inside none, nor is the outermost stream
-any_fork : (depth : ℕ) (st : State) (outer : ℕ) (f : Bool) (o : Option ℕ)
-    → is_within depth st outer (kind_of f o) ≡ is_within depth st outer (kind_of false o)
+any_fork : (depth : ℕ) (st : AllStreams) (outer : ℕ) (f : Bool) (o : Option ℕ)
+    → is_entered_within depth st outer (stream_kind f o)
+    ≡ is_entered_within depth st outer (stream_kind false o)
 any_fork zero st outer f o = refl
 any_fork (suc depth) st outer true None = refl
 any_fork (suc depth) st outer false None = refl
@@ -39,16 +40,16 @@ pub record LeftToLook (xs : List Stream) (outer : ℕ) (next : Option ℕ) (all 
   pub depth : ℕ
   pub enough : (p : ℕ) → next ≡ Some p → p < depth
   pub within : (p : ℕ) → next ≡ Some p → p < length xs
-  pub rest : is_within depth (state_of_list xs) outer (kind_of false next) ≡ all
+  pub rest : is_entered_within depth (state_of_list xs) outer (stream_kind false next) ≡ all
 
 module _ (xs : List Stream) (outer : ℕ) (linked : AreListed xs) where
   kind_there : (i : ℕ) (x : Stream) → x ≡ get_or xs i x → i < length xs → (depth : ℕ)
-      → is_within depth (state_of_list xs) outer (kind_of false x.parent)
-      ≡ is_within depth (state_of_list xs) outer (kind_at (state_of_list xs) i)
+      → is_entered_within depth (state_of_list xs) outer (stream_kind false x.parent)
+      ≡ is_entered_within depth (state_of_list xs) outer (kind_at (state_of_list xs) i)
   kind_there i x e h depth =
       let st = state_of_list xs in
       sym (any_fork depth st outer x.is_fork x.parent)
-      ∙ ap (is_within depth st outer)
+      ∙ ap (is_entered_within depth st outer)
       (sym (kind_seen st i ∙ ap (λ o. (or_nobody o).kind) (stream_there xs i x e h)))
 
   pub look_first : (i : ℕ) (x : Stream) → x ≡ get_or xs i x → i < length xs
@@ -77,10 +78,10 @@ module _ (xs : List Stream) (outer : ℕ) (linked : AreListed xs) where
           enough = λ q f. let a = below q f in omega (arith, a, b);
           within = λ q f. let a = below q f in omega (arith, a, h);
           rest = kind_there p x e h (left.depth - 1)
-              ∙ ap (λ z. z || is_within (left.depth - 1) st outer (kind_at st p))
+              ∙ ap (λ z. z || is_entered_within (left.depth - 1) st outer (kind_at st p))
               (sym (ne_eqb p outer other))
               ∙ sym (within_parent left.depth st outer p (omega (arith, b)))
-              ∙ ap (λ z. is_within left.depth st outer (kind_of false z)) (sym is)
+              ∙ ap (λ z. is_entered_within left.depth st outer (stream_kind false z)) (sym is)
               ∙ left.rest;
         }
 

@@ -9,7 +9,7 @@ use Rattle.std.specs.Option.{option_or}
 use Rattle.std.specs.Prelude.{◌&&◌, cond}
 use Rattle.tok_buffer.specs.Ahead.{Leftover, leftover}
 use Rattle.syn_replay.specs.Session.Links.{contents}
-use Rattle.syn_replay.specs.Session.State.{Stream, State, StreamKind, outermost, content_of, a_fork}
+use Rattle.syn_replay.specs.Session.State.{Stream, AllStreams, StreamKind, outermost, content_of, a_fork}
 use Rattle.syn_replay.specs.Session.State.{is_content_of, is_open_at, left_from, left_inside}
 use Rattle.syn_replay.specs.Session.State.{at_rest, gathered, handed_note}
 use Rattle.syn_parse.specs.State as parse
@@ -27,7 +27,7 @@ none_either (Some x) b e f = cc
 
 -- Nothing is left inside a stream of a set that holds the open contents of its streams, if none of
 -- these notes or leaves anything.
-pub left_none : (P : ℕ → Type 0) (k n : ℕ) (later : State)
+pub left_none : (P : ℕ → Type 0) (k n : ℕ) (later : AllStreams)
     → ((m p : ℕ) → (look later m).is_open ≡ true → (look later m).kind ≡ content_of p → P p
     → P (n + m) × ((look later m).note ≡ None) × (leftover (look later m).place ≡ None))
     → P k → left_from k n later ≡ None
@@ -58,7 +58,7 @@ is_content : (kind : StreamKind) (k : ℕ) → kind ≡ content_of k → is_cont
 is_content kind k e = ap (is_content_of k) e ∙ eq-eqb k k refl
 
 -- if nothing is left inside a stream, its open contents note and leave nothing
-left_holds : (p n : ℕ) (later : State) → left_from p n later ≡ None → (m : ℕ)
+left_holds : (p n : ℕ) (later : AllStreams) → left_from p n later ≡ None → (m : ℕ)
     → (look later m).is_open ≡ true → (look later m).kind ≡ content_of p
     → ((look later m).note ≡ None)
     × (left_from (n + m) (n + m + 1) (drop (suc m) later) ≡ None)
@@ -87,7 +87,7 @@ not_content outermost k d = refl
 not_content (content_of p) k d = ne_eqb p k (λ e. d (ap content_of e))
 not_content a_fork k d = refl
 
-pub left_skips : (k n b : ℕ) (st : State) → ((m : ℕ) → m < b → (look st m).kind ≢ content_of k)
+pub left_skips : (k n b : ℕ) (st : AllStreams) → ((m : ℕ) → m < b → (look st m).kind ≢ content_of k)
     → left_from k n st ≡ left_from k (n + b) (drop b st)
 left_skips k n zero st h =
     let same : n ≡ n + 0 = omega arith in ap (λ z. left_from k z st) same
@@ -101,7 +101,7 @@ left_skips k n (suc b) (s ∷ st) h =
     ∙ left_skips k (n + 1) b st (λ m l. h (suc m) (omega arith))
     ∙ ap (λ z. left_from k z (drop b st)) same
 
-module _ (st : State) (above : Above 0 st) where
+module _ (st : AllStreams) (above : Above 0 st) where
   none_below : (k m : ℕ) → m < k + 1 → (look st m).kind ≢ content_of k
   none_below k m l e = let b = above m k e in omega arith
 
@@ -127,7 +127,7 @@ module _ (st : State) (above : Above 0 st) where
   left_among (k ∷ ks) =
       option_or (cond (is_open_at st k) (handed_note st k (look st k)) None) (left_among ks)
 
-  drop_there : (us : State) (n : ℕ) → n < length us → drop n us ≡ look us n ∷ drop (suc n) us
+  drop_there : (us : AllStreams) (n : ℕ) → n < length us → drop n us ≡ look us n ∷ drop (suc n) us
   drop_there [] n l = absurd (omega arith)
   drop_there (u ∷ us) zero l = refl
   drop_there (u ∷ us) (suc n) l = drop_there us n (omega arith)
@@ -185,7 +185,7 @@ same_state t u a b c =
     ∙ ap (λ z. record u { noted = z }) c
 
 -- Stream n is gathered, one content after the other: those from the index on are left.
-module _ (st : State) (above : Above 0 st) (n : ℕ) (s : Stream) where
+module _ (st : AllStreams) (above : Above 0 st) (n : ℕ) (s : Stream) where
   abbrev pub listed : List ℕ
   listed = contents n (n + 1) st
 

@@ -13,7 +13,7 @@ use Rattle.std.specs.Prelude.{◌==◌, cond}
 use Rattle.syn_replay.specs.Session.Links.{IsListed, AreListed}
 use Rattle.syn_replay.specs.Session.State.{StreamKind, content_of, is_content_of, kinds}
 use Rattle.syn_replay.specs.Session.Links.{contents, contents_by_kind}
-use Rattle.syn_replay.specs.Session.Stream.{kind_of, state_of_list, stream_of}
+use Rattle.syn_replay.specs.Session.Stream.{stream_kind, state_of_list, stream_of}
 use Rattle.syn_replay.specs.declared.session.stream.Stream.{Stream}
 use Rattle.syn_replay.proofs.Walk.Contents.{contents_past}
 use Rattle.syn_replay.proofs.Walk.Tracks.{length-state}
@@ -135,14 +135,14 @@ new_listed xs y below none = record {
 }
 
 -- the kind of a stream with a parent, and of one without
-no_parent : (f : Bool) (o : Option ℕ) (k : ℕ) → o ≡ None → is_content_of k (kind_of f o) ≡ false
+no_parent : (f : Bool) (o : Option ℕ) (k : ℕ) → o ≡ None → is_content_of k (stream_kind f o) ≡ false
 no_parent true None k e = refl
 no_parent false None k e = refl
 no_parent f (Some p) k e = cc
 
 of_parent : (f : Bool) (o : Option ℕ) (k n : ℕ) → o ≡ Some n
-    → is_content_of k (kind_of f o) ≡ (n == k)
-of_parent f o k n e = ap (λ z. is_content_of k (kind_of f z)) e
+    → is_content_of k (stream_kind f o) ≡ (n == k)
+of_parent f o k n e = ap (λ z. is_content_of k (stream_kind f z)) e
 
 -- a fork
 pub fork_listed : (xs : List Stream) (y : Stream) → AreListed xs → y.parent ≡ None
@@ -217,7 +217,7 @@ content_listed xs n x z y h e l kind parent list of_n none k s there =
     ]
 
 -- parents have lower numbers
-parent_of : (f : Bool) (o : Option ℕ) (p : ℕ) → kind_of f o ≡ content_of p → o ≡ Some p
+parent_of : (f : Bool) (o : Option ℕ) (p : ℕ) → stream_kind f o ≡ content_of p → o ≡ Some p
 parent_of true None p e = cc
 parent_of false None p e = cc
 parent_of f (Some q) p e = cc

@@ -15,7 +15,7 @@ use Rattle.tok_buffer.specs.Messages as messages
 use Rattle.tok_buffer.specs.Place.{Place, empty_place, at}
 use Rattle.tok_buffer.specs.Reads.{read_punctuation}
 use Rattle.tok_buffer.specs.declared.error.Message.{Message}
-use Rattle.tok_types.specs.Looks.{Finds}
+use Rattle.tok_types.specs.Looks.{PeeksFor}
 use Rattle.tok_types.specs.Texts.{punctuation_word}
 use Rattle.tok_types.specs.declared.punctuation.Punctuation.{Punctuation}
 use Rattle.syn_parse.specs.Faults.{IsMemory, Refuses}
@@ -42,8 +42,8 @@ use Rattle.syn_replay.specs.Session.Reading.{LeavesAt}
 use Rattle.syn_replay.specs.Session.Reading.{pair_parts, punct_pieces}
 use Rattle.tok_buffer.specs.Messages.{first_message}
 use Rattle.syn_replay.specs.Meanings.{pieces_in}
-use Rattle.syn_replay.specs.Turns.{Outcome, read_all, refused_at, with_parts, is_later, no_progress}
-use Rattle.syn_replay.specs.Turns.{pieces_of, separator_message, Rule, terminated, separated}
+use Rattle.syn_replay.specs.Turns.{ListOutcome, read_all, refused_at, with_parts, is_later, no_progress_at}
+use Rattle.syn_replay.specs.Turns.{pieces_of, separator_message, ListRule, terminated, separated}
 use Rattle.syn_replay.specs.Turns.{is_over}
 use Rattle.syn_replay.specs.Turns.{turns, turns_left}
 use Rattle.syn_replay.specs.declared.report.Answer.{Answer}
@@ -93,7 +93,7 @@ module _ {F : Type 0} (k n : ℕ) (kind : Kind) (reads : ValueCall F (Vec Piece)
   separates = PunctuationParses (λ (p : Punctuation k n). p.spans) word word
 
   abbrev peeks : Place → Bool → Type 0
-  peeks = Finds (read_punctuation word)
+  peeks = PeeksFor (read_punctuation word)
 
   -- a separator that is read
   record IsSeparator (m t : State) (p : Punctuation k n) : Type 0 where
@@ -185,17 +185,17 @@ module _ {F : Type 0} (k n : ℕ) (kind : Kind) (reads : ValueCall F (Vec Piece)
   paired_parts (turn ∷ turns) more = ap (λ z. pieces_in turn.value
       ∷ (punct_pieces word turn.separator.spans ∷ z)) (paired_parts turns more)
 
-  two_more : (a b : List reports.Piece) (xs : List (List reports.Piece)) (o : Outcome)
+  two_more : (a b : List reports.Piece) (xs : List (List reports.Piece)) (o : ListOutcome)
       → with_parts (a ∷ (b ∷ [])) (with_parts xs o) ≡ with_parts (a ∷ (b ∷ xs)) o
   two_more a b xs (read_all more p) = refl
   two_more a b xs (refused_at r p) = refl
 
-  no_parts : (o : Outcome) → o ≡ with_parts [] o
+  no_parts : (o : ListOutcome) → o ≡ with_parts [] o
   no_parts (read_all more p) = refl
   no_parts (refused_at r p) = refl
 
   -- what an ending says of the outcome from where it begins
-  abbrev Concludes : State → Outcome → List T
+  abbrev Concludes : State → ListOutcome → List T
       → Result (Punctuated (Vec Piece) (Punctuation k n)) Fault → State → Type 0
   Concludes s o turns (Ok list) t =
       (more : List (Vec Piece)) × (values_of list ≡ map turn_value turns ++ more)
@@ -205,21 +205,21 @@ module _ {F : Type 0} (k n : ℕ) (kind : Kind) (reads : ValueCall F (Vec Piece)
       × (e ≡ messages.one_message w) × (t ≡ moved t.place s)
   Concludes s o turns (Err (Memory e)) t = Unit {0}
 
-  concludes_refused : (s : State) (o : Outcome) (turns : List T) (f : Fault)
+  concludes_refused : (s : State) (o : ListOutcome) (turns : List T) (f : Fault)
       (r : Result (Punctuated (Vec Piece) (Punctuation k n)) Fault) (t : State) (w : Message)
       → r ≡ Err f → Refuses w f → o ≡ refused_at w t.place → t ≡ moved t.place s
       → Concludes s o turns r t
   concludes_refused s o turns (Refused e) r t w q h i j = rw q (w, i, h, j)
   concludes_refused s o turns (Memory e) r t w q h i j = rw q tt
 
-  concludes_lost : (s : State) (o : Outcome) (turns : List T) (f : Fault)
+  concludes_lost : (s : State) (o : ListOutcome) (turns : List T) (f : Fault)
       (r : Result (Punctuated (Vec Piece) (Punctuation k n)) Fault) (t : State) → r ≡ Err f
       → IsMemory f → Concludes s o turns r t
   concludes_lost s o turns (Refused e) r t q h = absurd h
   concludes_lost s o turns (Memory e) r t q h = rw q tt
 
   -- a value that is refused
-  concludes_no_value : (s : State) (o : Outcome) (turns : List T) (f : Fault)
+  concludes_no_value : (s : State) (o : ListOutcome) (turns : List T) (f : Fault)
       (r : Result (Punctuated (Vec Piece) (Punctuation k n)) Fault) (t : State) (w : Message)
       → ReadsPieces (read kind s.place) (kind_message kind s) s (Err f) t → r ≡ Err f
       → kind_message kind s ≡ w
@@ -235,7 +235,7 @@ module _ {F : Type 0} (k n : ℕ) (kind : Kind) (reads : ValueCall F (Vec Piece)
   concludes_no_value s o turns (Memory e) r t w h q same i = rw q tt
 
   -- what a run says of the outcome from where it begins
-  abbrev pub Told : State → Outcome → Result (Punctuated (Vec Piece) (Punctuation k n)) Fault
+  abbrev pub Told : State → ListOutcome → Result (Punctuated (Vec Piece) (Punctuation k n)) Fault
       → State → Type 0
   Told s o (Ok list) t = (o ≡ read_all (flat_map (pair_parts word)
       (paired (values_of list) (separators_of list))) t.place) × (t ≡ moved t.place s)
@@ -243,7 +243,7 @@ module _ {F : Type 0} (k n : ℕ) (kind : Kind) (reads : ValueCall F (Vec Piece)
       × (e ≡ messages.one_message w) × (t ≡ moved t.place s)
   Told s o (Err (Memory e)) t = Unit {0}
 
-  run_told : (s m t : State) (whole rest : Outcome) (turns : List T)
+  run_told : (s m t : State) (whole rest : ListOutcome) (turns : List T)
       (r : Result (Punctuated (Vec Piece) (Punctuation k n)) Fault)
       → whole ≡ with_parts (parts_of turns) rest → m ≡ moved m.place s → Concludes m rest turns r t
       → Told s whole r t
@@ -262,7 +262,7 @@ module _ {F : Type 0} (k n : ℕ) (kind : Kind) (reads : ValueCall F (Vec Piece)
   run_told s m t whole rest turns (Err (Memory f)) e h c = tt
 
   -- the rule of the run that reads a list of this rule
-  abbrev run_rule : Rule → runs.Rule
+  abbrev run_rule : ListRule → runs.Rule
   run_rule terminated = runs.terminated
   run_rule separated = runs.separated peeks
 
@@ -270,24 +270,24 @@ module _ {F : Type 0} (k n : ℕ) (kind : Kind) (reads : ValueCall F (Vec Piece)
   nothing_there None e = refl
   nothing_there (Some a) e = absurd (false≢true e)
 
-  begins : (rule : Rule) (p : Place) → (run_rule rule).begins p → is_over rule p ≡ false
+  begins : (rule : ListRule) (p : Place) → (run_rule rule).begins p → is_over rule p ≡ false
   begins terminated p h = h
   begins separated p h = refl
 
-  ends : (rule : Rule) (p : Place) → (run_rule rule).ends p → is_over rule p ≡ true
+  ends : (rule : ListRule) (p : Place) → (run_rule rule).ends p → is_over rule p ≡ true
   ends terminated p h = h
   ends separated p h = absurd h
 
-  goes_on : (rule : Rule) (p : Place) → (run_rule rule).goes_on p → is_over rule p ≡ false
+  goes_on : (rule : ListRule) (p : Place) → (run_rule rule).goes_on p → is_over rule p ≡ false
   goes_on terminated p h = h
   goes_on separated p h = refl
 
   module _ (scope : Span) where
-    abbrev rounds : Rule → ℕ → Place → Outcome
+    abbrev rounds : ListRule → ℕ → Place → ListOutcome
     rounds rule m p = turns kind word scope rule m p
 
     -- the list ends with a value
-    last : (rule : Rule) (m : ℕ) (p q : Place) (ts : List Tree) → is_over rule p ≡ false
+    last : (rule : ListRule) (m : ℕ) (p q : Place) (ts : List Tree) → is_over rule p ≡ false
         → read kind p ≡ Some (ts, q) → (run_rule rule).stops q
         → rounds rule (suc m) p ≡ read_all (pieces_of ts ∷ []) q
     last terminated m p q ts a b c = rw (a, b, c) refl
@@ -295,13 +295,13 @@ module _ {F : Type 0} (k n : ℕ) (kind : Kind) (reads : ValueCall F (Vec Piece)
         let none = nothing_there (read_punctuation word q) c in rw (b, none) refl
 
     -- the separator of a value is refused
-    without : (rule : Rule) (m : ℕ) (p q : Place) (ts : List Tree) → is_over rule p ≡ false
+    without : (rule : ListRule) (m : ℕ) (p q : Place) (ts : List Tree) → is_over rule p ≡ false
         → read kind p ≡ Some (ts, q) → (run_rule rule).goes_on q → read_punctuation word q ≡ None
         → rounds rule (suc m) p ≡ refused_at (separator_message kind word scope q) q
     without terminated m p q ts a b c d = rw (a, b, c, d) refl
     without separated m p q ts a b c d = absurd (false≢true (ap is_some (sym d) ∙ sym c))
 
-  module _ (rule : Rule) (scope : Span) where
+  module _ (rule : ListRule) (scope : Span) where
     -- a full turn, and the outcomes where none is full
     full : (m : ℕ) (p q r : Place) (ts us : List Tree) → is_over rule p ≡ false
         → read kind p ≡ Some (ts, q) → is_over rule q ≡ false
@@ -313,7 +313,7 @@ module _ {F : Type 0} (k n : ℕ) (kind : Kind) (reads : ValueCall F (Vec Piece)
     stuck_refuses : (m : ℕ) (p q r : Place) (ts us : List Tree) → is_over rule p ≡ false
         → read kind p ≡ Some (ts, q) → is_over rule q ≡ false
         → read_punctuation word q ≡ Some (us, r) → is_later p r ≡ false
-        → rounds scope rule (suc m) p ≡ refused_at (no_progress r scope) r
+        → rounds scope rule (suc m) p ≡ refused_at (no_progress_at r scope) r
     stuck_refuses m p q r ts us a b c d e = rw (a, b, c, d, e) refl
 
     none : (m : ℕ) (p : Place) → is_over rule p ≡ false → read kind p ≡ None
@@ -422,10 +422,10 @@ module _ {F : Type 0} (k n : ℕ) (kind : Kind) (reads : ValueCall F (Vec Piece)
         (begins rule s.place i.opens.0) v.is (goes_on rule turn.between.place i.goes_on) p.is
         (sym (progress_is s.place turn.after.place)
         ∙ ap (progresses s.place) (sym place) ∙ u.0)
-        ∙ ap (λ z. refused_at (no_progress z scope) z) (sym place)
-        ∙ ap (λ z. refused_at (no_progress t.place z) t.place) (sym (in_scope s t to ∙ e))) to
+        ∙ ap (λ z. refused_at (no_progress_at z scope) z) (sym place)
+        ∙ ap (λ z. refused_at (no_progress_at t.place z) t.place) (sym (in_scope s t to ∙ e))) to
 
-  list-told : (rule : Rule) (f : F) (s t : State)
+  list-told : (rule : ListRule) (f : F) (s t : State)
       (r : Result (Punctuated (Vec Piece) (Punctuation k n)) Fault) → Fits f
       → IsRun (run_rule rule) reads separates f s r t
       → Told s (turns kind word s.scope_span rule (turns_left s.place) s.place) r t
@@ -440,7 +440,7 @@ module _ {F : Type 0} (k n : ℕ) (kind : Kind) (reads : ValueCall F (Vec Piece)
       (in_scope s run.last c.1) run.ending)
 
   -- what a run says of the command that reads a list
-  told-answer : (s t : State) (o : Outcome) (list : Punctuated (Vec Piece) (Punctuation k n))
+  told-answer : (s t : State) (o : ListOutcome) (list : Punctuated (Vec Piece) (Punctuation k n))
       (ps : Vec (Vec Piece)) → Told s o (Ok list) t
       → map pieces_in ps.items ≡ flat_map (pair_parts word)
       (paired (values_of list) (separators_of list))
@@ -451,7 +451,7 @@ module _ {F : Type 0} (k n : ℕ) (kind : Kind) (reads : ValueCall F (Vec Piece)
     h.1 ∙ ap (λ z. moved (listed_to z).1 s) (sym h.0),
   )
 
-  told-error : (s t : State) (o : Outcome) (f : Fault) → Told s o (Err f) t
+  told-error : (s t : State) (o : ListOutcome) (f : Fault) → Told s o (Err f) t
       → GivesAnswer (listed_to o).0 (Err f) × LeavesAt (Err f) t (moved (listed_to o).1 s)
   told-error s t o (Refused e) h =
       let same : first_message e ≡ h.0 = ap first_message h.2 ∙ first_message-one h.0 in (
@@ -463,7 +463,7 @@ module _ {F : Type 0} (k n : ℕ) (kind : Kind) (reads : ValueCall F (Vec Piece)
       )
   told-error s t o (Memory e) h = (tt, tt)
 
-  module _ (rule : Rule) (text : List ℕ) (is : text ≡ word) where
+  module _ (rule : ListRule) (text : List ℕ) (is : text ≡ word) where
     pub list-read : (f : F) (s t : State) (list : Punctuated (Vec Piece) (Punctuation k n))
         (ps : Vec (Vec Piece)) → Fits f → IsRun (run_rule rule) reads separates f s (Ok list) t
         → map pieces_in ps.items ≡ flat_map (pair_parts text)

@@ -21,7 +21,7 @@ use Rattle.tok_buffer.specs.Messages.{at_stream}
 use Rattle.tok_buffer.specs.declared.error.Message.{Message}
 use Rattle.syn_parse.specs.Parses.{read_group}
 use Rattle.syn_replay.specs.Commands as commands
-use Rattle.syn_replay.specs.Commands.{Action, Command, Read, listed_to, looked, parsed, read_answer}
+use Rattle.syn_replay.specs.Commands.{Action, Command, StreamRead, listed_to, looked, parsed, read_answer}
 use Rattle.syn_replay.specs.Forks.{is_own, is_own_action, is_own_command, is_self_contained}
 use Rattle.syn_replay.specs.Forks.{on_fork}
 use Rattle.syn_replay.specs.Forks.{command_on_fork, answer_on_fork, line_on_fork}
@@ -30,20 +30,20 @@ use Rattle.syn_replay.specs.Kinds.{Look, display, peek, peek_kind, read}
 use Rattle.syn_replay.specs.Reports as reports
 use Rattle.syn_replay.specs.Reports.{Answer, Position, absent, done, missing, misused}
 use Rattle.syn_replay.specs.Session.Entering.{entered_by, entering_words}
-use Rattle.syn_replay.specs.Session.State.{Stream, StreamKind, outermost, content_of, a_fork, State}
+use Rattle.syn_replay.specs.Session.State.{Stream, StreamKind, outermost, content_of, a_fork, AllStreams}
 use Rattle.syn_replay.specs.Session.State.{with_stream, moved_to, with_note, spent_if, put, at_rest}
 use Rattle.syn_replay.specs.Session.State.{with_note_on_parent, handed_note, gathered, left_inside}
-use Rattle.syn_replay.specs.Session.State.{left_from, ended, closed, advanced, is_content_of}
+use Rattle.syn_replay.specs.Session.State.{left_from, stream_ended, content_closed, moved_to_fork, is_content_of}
 use Rattle.syn_replay.specs.Session.State.{is_entered_from, is_inside, is_or_inside, is_open_at}
-use Rattle.syn_replay.specs.Session.State.{first_state, kind_at, position_of}
+use Rattle.syn_replay.specs.Session.State.{first_state, kind_at, printed_position}
 use Rattle.syn_parse.specs.State as parse
-use Rattle.syn_replay.specs.Session.Step.{Stepped, any_of, is_content, is_missing}
-use Rattle.syn_replay.specs.Session.Step.{kind_misuse, misuse, moves, named, other_named}
+use Rattle.syn_replay.specs.Session.Step.{Stepped, any_of, is_content, is_unknown}
+use Rattle.syn_replay.specs.Session.Step.{kind_misuse, misuse, moves, named_by, other_named}
 use Rattle.syn_replay.specs.Session.Step.{with_other}
-use Rattle.syn_replay.specs.Session.Step.{new_stream, into_group, on_stream, place_of, stays, step}
+use Rattle.syn_replay.specs.Session.Step.{new_stream, into_group, on_stream, stream_place, unmoved, step}
 use Rattle.syn_replay.specs.Session.Step.{step_on, tested, position_in, line}
 use Rattle.syn_replay.specs.Session.Walk.{last_state, lines_from}
-use Rattle.syn_replay.specs.Turns.{Outcome, read_all, refused_at, turns, turns_left}
+use Rattle.syn_replay.specs.Turns.{ListOutcome, read_all, refused_at, turns, turns_left}
 use Rattle.syn_replay.proofs.Walk.Changes.{at_front, before_end, changed_at, changed_not}
 use Rattle.syn_replay.proofs.Walk.Changes.{kept_by, kind_seen, kinds_changed, length_changed, look}
 use Rattle.syn_replay.proofs.Walk.Changes.{open_seen, or_nobody, past_end, same_length, within_there}
@@ -66,14 +66,15 @@ noted_on None b c = refl
 noted_on (Some l) b c = refl
 
 -- what a refused command leaves, and what any other makes
-abbrev misused_or : State → Option Misuse → Stepped → Stepped
-misused_or st o r = elim o [ Some m ↦ stays st (misused m) | None ↦ r ]
+abbrev misused_or : AllStreams → Option Misuse → Stepped → Stepped
+misused_or st o r = elim o [ Some m ↦ unmoved st (misused m) | None ↦ r ]
 
 -- a read makes no stream, so its answer names none
 taken_unchanged : (answers : List Tree → Answer)
     → ((ts : List Tree) → answer_on_fork (answers ts) ≡ answers ts)
     → (words : Message) (p : Place) (r : Option (List Tree × Place))
-    → answer_on_fork (commands.taken answers words p r).0 ≡ (commands.taken answers words p r).0
+    → answer_on_fork (commands.answered_by answers words p r).0
+    ≡ (commands.answered_by answers words p r).0
 taken_unchanged answers same words p None = refl
 taken_unchanged answers same words p (Some r) = same r.0
 
@@ -82,7 +83,7 @@ optional_unchanged : (b : Bool) (x : Answer × Place) (p : Place) → answer_on_
 optional_unchanged true x p e = e
 optional_unchanged false x p e = refl
 
-listed_unchanged : (o : Outcome) → answer_on_fork (listed_to o).0 ≡ (listed_to o).0
+listed_unchanged : (o : ListOutcome) → answer_on_fork (listed_to o).0 ≡ (listed_to o).0
 listed_unchanged (read_all parts p) = refl
 listed_unchanged (refused_at r p) = refl
 
@@ -98,7 +99,7 @@ looked_unchanged n (l ∷ ls) noted p scope =
     found_unchanged (peek l p) n (looked (n + 1) ls (noted ++ display l ∷ []) p scope)
     (looked_unchanged (n + 1) ls (noted ++ display l ∷ []) p scope)
 
-read_unchanged : (r : Read) (p : Place) (scope : Span)
+read_unchanged : (r : StreamRead) (p : Place) (scope : Span)
     → answer_on_fork (read_answer r p scope).0 ≡ (read_answer r p scope).0
 read_unchanged (commands.parse kind) p scope =
     taken_unchanged _ (λ ts. refl) _ p (read kind p)
@@ -113,7 +114,7 @@ read_unchanged commands.next_tree p scope =
 read_unchanged commands.next_group p scope = taken_unchanged _ (λ ts. refl) _ p (read_group p)
 read_unchanged r p scope = refl
 
-module _ (front : State) (k : ℕ) (s0 : Stream) (here : slice_get front k ≡ Some s0) where
+module _ (front : AllStreams) (k : ℕ) (s0 : Stream) (here : slice_get front k ≡ Some s0) where
   abbrev made : ℕ
   made = length front
 
@@ -149,7 +150,7 @@ module _ (front : State) (k : ℕ) (s0 : Stream) (here : slice_get front k ≡ S
   OwnKind kind = Unit {0}
 
   -- the streams of the run on the stream, and those of the run on the fork
-  record Beside (x y : State) : Type 0 where
+  record Beside (x y : AllStreams) : Type 0 where
     p : Place
     n : Option Leftover
     longer : length x + 1 ≡ length y
@@ -192,7 +193,7 @@ module _ (front : State) (k : ℕ) (s0 : Stream) (here : slice_get front k ≡ S
   pair_up None b e = none refl e
   pair_up (Some s) b e = both s (kind_on s.kind) s.note refl e
 
-  streams_pair : (x y : State) (j : ℕ) → Beside x y → Own j
+  streams_pair : (x y : AllStreams) (j : ℕ) → Beside x y → Own j
       → Pair (slice_get x j) (slice_get y (on j))
   streams_pair x y j b (stream e) =
       both (after_commands b.p b.n s0) a_fork b.n (ap (slice_get x) e ∙ b.mine)
@@ -201,12 +202,12 @@ module _ (front : State) (k : ℕ) (s0 : Stream) (here : slice_get front k ≡ S
       pair_up (slice_get x j) (slice_get y (on j))
       (ap (slice_get y) (on_later j h) ∙ b.later j h)
 
-  beside_eq : (x y u v : State) → x ≡ u → y ≡ v → Beside u v → Beside x y
+  beside_eq : (x y u v : AllStreams) → x ≡ u → y ≡ v → Beside u v → Beside x y
   beside_eq x y u v e f b =
       subst (λ z. Beside z y) (sym e) (subst (λ z. Beside u z) (sym f) b)
 
   -- the stream and the fork are changed
-  changed_own : (x y : State) (b : Beside x y) (f : Stream → Stream) (q : Place)
+  changed_own : (x y : AllStreams) (b : Beside x y) (f : Stream → Stream) (q : Place)
       (m : Option Leftover)
       → f (after_commands b.p b.n s0) ≡ after_commands q m s0 → f (fork_at b.p b.n) ≡ fork_at q m
       → Beside (with_stream x k f) (with_stream y made f)
@@ -229,7 +230,7 @@ module _ (front : State) (k : ℕ) (s0 : Stream) (here : slice_get front k ≡ S
       }
 
   -- a stream that was made is changed, but for its kind
-  changed_later : (x y : State) → Beside x y → (i : ℕ) → made ≤ i → (f : Stream → Stream)
+  changed_later : (x y : AllStreams) → Beside x y → (i : ℕ) → made ≤ i → (f : Stream → Stream)
       → ((s : Stream) → shift_kind (f s) ≡ f (shift_kind s)) → ((s : Stream) → (f s).kind ≡ s.kind)
       → Beside (with_stream x i f) (with_stream y (i + 1) f)
   changed_later x y b i le f shifts same =
@@ -277,7 +278,7 @@ module _ (front : State) (k : ℕ) (s0 : Stream) (here : slice_get front k ≡ S
             (sym (changed_at x i f) ∙ ap (slice_get (with_stream x i f)) (sym q) ∙ e)
         own j s h e (inr d) = b.own j s h (sym (changed_not x i j f d) ∙ e)
 
-  changed_beside : (x y : State) (b : Beside x y) (j : ℕ) → Own j → (f : Stream → Stream)
+  changed_beside : (x y : AllStreams) (b : Beside x y) (j : ℕ) → Own j → (f : Stream → Stream)
       (q : Place) (m : Option Leftover)
       → f (after_commands b.p b.n s0) ≡ after_commands q m s0 → f (fork_at b.p b.n) ≡ fork_at q m
       → ((s : Stream) → shift_kind (f s) ≡ f (shift_kind s)) → ((s : Stream) → (f s).kind ≡ s.kind)
@@ -290,12 +291,12 @@ module _ (front : State) (k : ℕ) (s0 : Stream) (here : slice_get front k ≡ S
       beside_eq _ _ _ _ refl (ap (λ z. with_stream y z f) (on_later j h))
       (changed_later x y b j h f shifts same)
 
-  moved_beside : (x y : State) (j : ℕ) (q : Place) → Beside x y → Own j
+  moved_beside : (x y : AllStreams) (j : ℕ) (q : Place) → Beside x y → Own j
       → Beside (with_stream x j (moved_to q)) (with_stream y (on j) (moved_to q))
   moved_beside x y j q b o =
       changed_beside x y b j o (moved_to q) q b.n refl refl (λ s. refl) (λ s. refl)
 
-  noted_beside : (x y : State) (j : ℕ) (m : Option Leftover) → Beside x y → Own j
+  noted_beside : (x y : AllStreams) (j : ℕ) (m : Option Leftover) → Beside x y → Own j
       → Beside (with_stream x j (with_note m)) (with_stream y (on j) (with_note m))
   noted_beside x y j m b o =
       changed_beside x y b j o (with_note m) b.p (option_or b.n m)
@@ -303,7 +304,7 @@ module _ (front : State) (k : ℕ) (s0 : Stream) (here : slice_get front k ≡ S
       (λ s. refl)
 
   -- one more stream is made
-  made_beside : (x y : State) (t : Stream) → Beside x y → OwnKind t.kind
+  made_beside : (x y : AllStreams) (t : Stream) → Beside x y → OwnKind t.kind
       → Beside (x ++ t ∷ []) (y ++ shift_kind t ∷ [])
   made_beside x y t b h =
       let more = length-append x (t ∷ []) in
@@ -351,8 +352,8 @@ module _ (front : State) (k : ℕ) (s0 : Stream) (here : slice_get front k ≡ S
     answer : answer_on_fork r.answer ≡ q.answer
     after : Beside r.state q.state
 
-  module _ (x y : State) (b : Beside x y) where
-    same_stays : (a : Answer) → answer_on_fork a ≡ a → Same (stays x a) (stays y a)
+  module _ (x y : AllStreams) (b : Beside x y) where
+    same_stays : (a : Answer) → answer_on_fork a ≡ a → Same (unmoved x a) (unmoved y a)
     same_stays a e = record { answer = e; after = b }
 
     module _ (j : ℕ) (own : Own j) (is_own_j : is_own k (made) j ≡ true) where
@@ -384,7 +385,7 @@ module _ (front : State) (k : ℕ) (s0 : Stream) (here : slice_get front k ≡ S
         }
 
   -- closing
-  parents : (x y : State) (kind : StreamKind) (n : Option Leftover) → OwnKind kind → Beside x y
+  parents : (x y : AllStreams) (kind : StreamKind) (n : Option Leftover) → OwnKind kind → Beside x y
       → Beside (with_note_on_parent kind n x) (with_note_on_parent (kind_on kind) n y)
   parents x y outermost n h b = b
   parents x y (content_of p) n h b = noted_beside x y p n b (own_by_test p h)
@@ -417,7 +418,7 @@ module _ (front : State) (k : ℕ) (s0 : Stream) (here : slice_get front k ≡ S
   content_test j own a_fork h = refl
 
   -- what is left inside a stream that was made, and inside the stream
-  left_on : (xs : State) (j n : ℕ) → Own j → made ≤ n
+  left_on : (xs : AllStreams) (j n : ℕ) → Own j → made ≤ n
       → ((m : ℕ) (s : Stream) → slice_get xs m ≡ Some s → OwnKind s.kind)
       → left_from (on j) (n + 1) (map shift_kind xs) ≡ left_from j n xs
   left_on [] j n own le kinds = refl
@@ -438,14 +439,14 @@ module _ (front : State) (k : ℕ) (s0 : Stream) (here : slice_get front k ≡ S
       (option_or (option_or s.note (left_from n (n + 1) xs)) (leftover s.place)) None))
       (left_on xs j (n + 1) own next more)
 
-  get_drop : (xs : State) (n i : ℕ) → slice_get (drop n xs) i ≡ slice_get xs (n + i)
+  get_drop : (xs : AllStreams) (n i : ℕ) → slice_get (drop n xs) i ≡ slice_get xs (n + i)
   get_drop xs zero i = let same : i ≡ 0 + i = omega arith in ap (slice_get xs) same
   get_drop [] (suc n) i = sym (slice_get_past [] (suc n + i) (omega arith))
   get_drop (x ∷ xs) (suc n) i =
       let same : suc (n + i) ≡ suc n + i = omega arith in
       get_drop xs n i ∙ ap (slice_get (x ∷ xs)) same
 
-  same_gets : (xs ys : State) → ((i : ℕ) → slice_get xs i ≡ slice_get ys i) → xs ≡ ys
+  same_gets : (xs ys : AllStreams) → ((i : ℕ) → slice_get xs i ≡ slice_get ys i) → xs ≡ ys
   same_gets [] [] h = refl
   same_gets [] (y ∷ ys) h = let e = h 0 in cc
   same_gets (x ∷ xs) [] h = let e = h 0 in cc
@@ -477,7 +478,7 @@ module _ (front : State) (k : ℕ) (s0 : Stream) (here : slice_get front k ≡ S
   own_then false (Some t) s own le e =
       let same : t ≡ s = cc in subst (λ (z : Stream). OwnKind z.kind) same (own t le refl)
 
-  module _ (x y : State) (b : Beside x y) (x_sound : IsSound x) (y_sound : IsSound y) where
+  module _ (x y : AllStreams) (b : Beside x y) (x_sound : IsSound x) (y_sound : IsSound y) where
     later_on : drop (made + 1) y ≡ map shift_kind (drop made x)
     later_on = same_gets _ _ (λ i.
         let same : (made + 1) + i ≡ (made + i) + 1 = omega arith in
@@ -562,11 +563,11 @@ module _ (front : State) (k : ℕ) (s0 : Stream) (here : slice_get front k ≡ S
         ∙ ap (is_entered_from (is_or_inside x i)) (kind_seen x j))
 
     -- a stream that was made ends on both sides
-    ends_made : (i : ℕ) → made ≤ i → Beside (ended i x) (ended (i + 1) y)
+    ends_made : (i : ℕ) → made ≤ i → Beside (stream_ended i x) (stream_ended (i + 1) y)
     ends_made i le =
         let low = k_below in
-        let len = same_length (ended i x) x (kinds_from (λ n. n == i) 0 x) in
-        let other = same_length (ended (i + 1) y) y (kinds_from (λ n. n == i + 1) 0 y) in
+        let len = same_length (stream_ended i x) x (kinds_from (λ n. n == i) 0 x) in
+        let other = same_length (stream_ended (i + 1) y) y (kinds_from (λ n. n == i + 1) 0 y) in
         let longer = b.longer in
         let room = b.room in
         record {
@@ -601,18 +602,18 @@ module _ (front : State) (k : ℕ) (s0 : Stream) (here : slice_get front k ≡ S
         }
 
   -- a content that was made is closed
-  abbrev closed_with : (st : State) (i : ℕ) → Option Stream → State
+  abbrev closed_with : (st : AllStreams) (i : ℕ) → Option Stream → AllStreams
   closed_with st i o =
       elim o [
         | None ↦ st
-        | Some s ↦ ended i (with_note_on_parent s.kind (handed_note st i s) st)
+        | Some s ↦ stream_ended i (with_note_on_parent s.kind (handed_note st i s) st)
       ]
 
-  closes_made : (i : ℕ) (x y : State) → made ≤ i → IsSound x → IsSound y → Beside x y
-      → Beside (closed i x) (closed (on i) y)
+  closes_made : (i : ℕ) (x y : AllStreams) → made ≤ i → IsSound x → IsSound y → Beside x y
+      → Beside (content_closed i x) (content_closed (on i) y)
   closes_made i x y le sx sy b =
       beside_eq _ _ _ _ refl
-      (ap (λ z. closed z y) (on_later i le)
+      (ap (λ z. content_closed z y) (on_later i le)
       ∙ ap (closed_with y (i + 1)) (b.later i le))
       (go (slice_get x i) refl)
     where
@@ -624,7 +625,7 @@ module _ (front : State) (k : ℕ) (s0 : Stream) (here : slice_get front k ≡ S
           let u = with_note_on_parent s.kind given x in
           let v = with_note_on_parent (kind_on s.kind) given y in
           beside_eq _ _ _ _ refl
-          (ap (λ z. ended (i + 1) (with_note_on_parent (kind_on s.kind) z y))
+          (ap (λ z. stream_ended (i + 1) (with_note_on_parent (kind_on s.kind) z y))
           (handed_made x y b sx sy i le s))
           (ends_made u v (parents x y s.kind given (b.own i s le e) b)
           (sound_like x u sx (noted_kinds s.kind given x) (noted_open s.kind given x))
@@ -644,28 +645,29 @@ module _ (front : State) (k : ℕ) (s0 : Stream) (here : slice_get front k ≡ S
   spent_alike a b (both s kind left e f) = cc
 
   abbrev place_in : Option Stream → Position
-  place_in o = elim o [ None ↦ missing | Some s ↦ position_of s.place ]
+  place_in o = elim o [ None ↦ missing | Some s ↦ printed_position s.place ]
 
   places_alike : (a b : Option Stream) → Pair a b → place_in a ≡ place_in b
   places_alike a b (none e f) = cc
   places_alike a b (both s kind left e f) = cc
 
-  record Follows (c d : Command) (x y : State) : Type 0 where
+  record Follows (c d : Command) (x y : AllStreams) : Type 0 where
     same_line : line_on_fork (line c x) ≡ line d y
     after : Beside (step c x).state (step d y).state
 
-  same_chosen : (x y : State) → Beside x y → (v : Option Misuse) (r q : Stepped) → Same r q
+  same_chosen : (x y : AllStreams) → Beside x y → (v : Option Misuse) (r q : Stepped) → Same r q
       → Same (misused_or x v r) (misused_or y v q)
   same_chosen x y b None r q h = h
   same_chosen x y b (Some n) r q h = record { answer = refl; after = b }
 
   -- the same is done on a stream, whatever its kind and note
-  abbrev DoesSame : Action → (x y : State) → ℕ → Type 0
+  abbrev DoesSame : Action → (x y : AllStreams) → ℕ → Type 0
   DoesSame a x y j =
       (s : Stream) (kind : StreamKind) (note : Option Leftover)
       → Same (on_stream a x j s) (on_stream a y (on j) (record s { kind = kind; note = note }))
 
-  same_step_on : (a : Action) (x y : State) (j : ℕ) → Beside x y → (l r : Option Stream) → Pair l r
+  same_step_on : (a : Action) (x y : AllStreams) (j : ℕ) → Beside x y → (l r : Option Stream)
+      → Pair l r
       → DoesSame a x y j → Same (step_on a x j l) (step_on a y (on j) r)
   same_step_on a x y j b l r (none g h) same =
       let one : Same (step_on a x j None) (step_on a y (on j) None) =
@@ -677,18 +679,18 @@ module _ (front : State) (k : ℕ) (s0 : Stream) (here : slice_get front k ≡ S
       (subst (λ z. Same (step_on a x j (Some s)) (step_on a y (on j) z)) (sym h) (same s kind note))
 
   -- an action that names no other stream, from what it asks of the stream's kind
-  follow : (x y : State) → Beside x y → (j : ℕ) → Own j → (a : Action) → other_named a ≡ None
+  follow : (x y : AllStreams) → Beside x y → (j : ℕ) → Own j → (a : Action) → other_named a ≡ None
       → kind_misuse a x j ≡ kind_misuse a y (on j) → DoesSame a x y j
       → Follows (commands.on j a) (commands.on (on j) a) x y
   follow x y b j own a alone kinds same =
       let c = commands.on j a in
       let d = commands.on (on j) a in
       let pair = streams_pair x y j b own in
-      let names_c : named c ≡ j ∷ [] = ap (with_other j) alone in
-      let names_d : named d ≡ on j ∷ [] = ap (with_other (on j)) alone in
+      let names_c : named_by c ≡ j ∷ [] = ap (with_other j) alone in
+      let names_d : named_by d ≡ on j ∷ [] = ap (with_other (on j)) alone in
       let same_missing = missing_alike _ _ pair in
       let same_spent = spent_alike _ _ pair in
-      let absent : any_of (is_missing x) (named c) ≡ any_of (is_missing y) (named d) = cc in
+      let absent : any_of (is_unknown x) (named_by c) ≡ any_of (is_unknown y) (named_by d) = cc in
       let misused : misuse c x ≡ misuse d y = cc in
       let is_d : step d y ≡ misused_or y (misuse c x) (step_on a y (on j) (slice_get y (on j))) =
       ap (λ z. misused_or y z (step_on a y (on j) (slice_get y (on j)))) (sym misused) in
@@ -719,7 +721,7 @@ module _ (front : State) (k : ℕ) (s0 : Stream) (here : slice_get front k ≡ S
   kinds_on None = refl
   kinds_on (Some s) = content_on s.kind
 
-  follow_close : (x y : State) (b : Beside x y) → IsSound x → IsSound y → (n : ℕ)
+  follow_close : (x y : AllStreams) (b : Beside x y) → IsSound x → IsSound y → (n : ℕ)
       → (n == k) ≡ false → Own n
       → Follows (commands.on n commands.close) (commands.on (on n) commands.close) x y
   follow_close x y b sx sy n ne (stream e) = absurd (let q : (n == k) ≡ true = eq-eqb n k e in cc)
@@ -731,7 +733,7 @@ module _ (front : State) (k : ℕ) (s0 : Stream) (here : slice_get front k ≡ S
       ∙ sym (ap (λ z. of_content (slice_get y z)) (on_later n le) ∙ ap of_content (b.later n le))))
       (λ s kind note. record { answer = refl; after = closes_made n x y le sx sy b })
 
-  follows_action : (a : Action) (n : ℕ) (x y : State) → Beside x y → IsSound x → IsSound y
+  follows_action : (a : Action) (n : ℕ) (x y : AllStreams) → Beside x y → IsSound x → IsSound y
       → is_own_action k (made) n a ≡ true → is_own k (made) n ≡ true
       → Follows (commands.on n a) (command_on_fork k (made) (commands.on n a)) x y
   follows_action (commands.read r) n x y b sx sy h own =
@@ -752,7 +754,7 @@ module _ (front : State) (k : ℕ) (s0 : Stream) (here : slice_get front k ≡ S
   follows_action commands.close n x y b sx sy h own =
       follow_close x y b sx sy n (not-true (n == k) h) (own_by_test n own)
 
-  follows_each : (c : Command) (x y : State) → Beside x y → IsSound x → IsSound y
+  follows_each : (c : Command) (x y : AllStreams) → Beside x y → IsSound x → IsSound y
       → is_own_command k (made) c ≡ true
       → Follows c (command_on_fork k (made) c) x y
   follows_each c x y b sx sy h =
@@ -761,12 +763,12 @@ module _ (front : State) (k : ℕ) (s0 : Stream) (here : slice_get front k ≡ S
       (is_own k (made) c.stream) h in
       follows_action c.action c.stream x y b sx sy a o
 
-  record Runs (cs : List Command) (x y : State) : Type 0 where
+  record Runs (cs : List Command) (x y : AllStreams) : Type 0 where
     same_lines : lines_from y (map (command_on_fork k (made)) cs)
         ≡ map line_on_fork (lines_from x cs)
     after : Beside (last_state x cs) (last_state y (map (command_on_fork k (made)) cs))
 
-  runs : (cs : List Command) (x y : State) → Beside x y → IsSound x → IsSound y
+  runs : (cs : List Command) (x y : AllStreams) → Beside x y → IsSound x → IsSound y
       → is_self_contained k (made) cs ≡ true
       → Runs cs x y
   runs [] x y b sx sy h = record { same_lines = refl; after = b }
@@ -823,34 +825,37 @@ module _ (front : State) (k : ℕ) (s0 : Stream) (here : slice_get front k ≡ S
     not_it : k ≢ made
     not_it e = let h = k_below in absurd (omega arith)
 
-    module _ (x y : State) (b : Beside x y) (x_sound : IsSound x) (y_sound : IsSound y) where
+    module _ (x y : AllStreams) (b : Beside x y) (x_sound : IsSound x) (y_sound : IsSound y) where
       abbrev may_advance : Bool
       may_advance =
-          same_scope s0.place (place_of (slice_get y made)) && not (is_or_inside y made k)
+          same_scope s0.place (stream_place (slice_get y made)) && not (is_or_inside y made k)
 
       advances : step (commands.on k to_fork) y
-          ≡ cond may_advance (record { answer = done; state = advanced k made y })
-          (stays y (misused OutOfScope))
+          ≡ cond may_advance (record { answer = done; state = moved_to_fork k made y })
+          (unmoved y (misused OutOfScope))
       advances = let p = b.kept in let q = b.forks in cc
 
-      may : same_scope (place_of (slice_get y k)) (place_of (slice_get y made)) ≡ true
+      may : same_scope (stream_place (slice_get y k)) (stream_place (slice_get y made)) ≡ true
           → may_advance ≡ true
       may h =
-          and_from (same_scope s0.place (place_of (slice_get y made))) (not (is_or_inside y made k))
-          (ap (λ o. same_scope (place_of o) (place_of (slice_get y made))) (sym b.kept) ∙ h)
+          and_from (same_scope s0.place (stream_place (slice_get y made))) (not
+          (is_or_inside y made k))
+          (ap (λ o. same_scope (stream_place o) (stream_place (slice_get y made))) (sym b.kept) ∙ h)
           (ap not (not_inside y y_sound.nested made k k_below))
 
-      ends : same_scope (place_of (slice_get y k)) (place_of (slice_get y made)) ≡ true
-          → step (commands.on k to_fork) y ≡ record { answer = done; state = advanced k made y }
+      ends : same_scope (stream_place (slice_get y k)) (stream_place (slice_get y made)) ≡ true
+          → step (commands.on k to_fork) y
+          ≡ record { answer = done; state = moved_to_fork k made y }
       ends h =
           advances
-          ∙ ap (λ c. cond c (record { answer = done; state = advanced k made y })
-          (stays y (misused OutOfScope))) (may h)
+          ∙ ap (λ c. cond c (record { answer = done; state = moved_to_fork k made y })
+          (unmoved y (misused OutOfScope))) (may h)
 
       abbrev left : Option Leftover
       left = left_from k made (drop made x)
 
-      stream_then : slice_get (advanced k made y) k ≡ option_map (with_note left) (slice_get x k)
+      stream_then : slice_get (moved_to_fork k made y) k
+          ≡ option_map (with_note left) (slice_get x k)
       stream_then =
           let fork = gathered y made (fork_at b.p b.n) in
           let goes = λ (s : Stream). put (parse.advanced (at_rest fork) (at_rest s)) s in
@@ -861,7 +866,7 @@ module _ (front : State) (k : ℕ) (s0 : Stream) (here : slice_get front k ≡ S
           ap (λ o. slice_get (elim o [
             | None ↦ y
             | Some f ↦
-                ended made (with_stream y k
+                stream_ended made (with_stream y k
                 (λ s. put (parse.advanced (at_rest (gathered y made f)) (at_rest s)) s))
           ]) k) b.forks
           ∙ all_ended mid mid_sound made k

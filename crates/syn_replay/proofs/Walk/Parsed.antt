@@ -9,7 +9,7 @@ use Rattle.syn_parse.specs.State as parse
 use Rattle.syn_parse.specs.State.{fresh, moved}
 use Rattle.syn_parse.specs.declared.fault.Fault.{Fault}
 use Rattle.syn_parse.specs.declared.fault.Fault.TheVariants.{Refused, Memory}
-use Rattle.syn_replay.specs.Commands.{taken}
+use Rattle.syn_replay.specs.Commands.{answered_by}
 use Rattle.syn_replay.specs.Reports as reports
 use Rattle.syn_replay.specs.Kinds.{Kind, read, kind_message}
 use Rattle.tok_buffer.specs.Messages.{first_message}
@@ -24,7 +24,8 @@ use Rattle.syn_replay.proofs.Messages.{first_message-one, message_there}
 module _ (kind : Kind) (s : parse.State) where
   abbrev pub parsed_by : Option (List Tree × Place) → reports.Answer × Place
   parsed_by x =
-      taken (λ ts. reports.pieces (pieces_of ts)) (kind_message kind (fresh s.place s.scope_span))
+      answered_by (λ ts. reports.pieces (pieces_of ts)) (kind_message kind
+      (fresh s.place s.scope_span))
       s.place x
 
   pub error_parsed : (t : parse.State) (f : Fault)

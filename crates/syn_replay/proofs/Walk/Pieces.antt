@@ -14,7 +14,7 @@ use Rattle.tok_leaves.specs.Leaves.{ident, punct, literal, apostrophe}
 use Rattle.tok_core.specs.Forest.{Tree, leaf, group, tree_span}
 use Rattle.tok_buffer.specs.Descent.{descend}
 use Rattle.tok_buffer.specs.Place.{Place, front, pass}
-use Rattle.tok_buffer.specs.Reads.{and_then, is_joint_of, is_punct_of, read_punctuation, sized}
+use Rattle.tok_buffer.specs.Reads.{read_then, is_joint_of, is_punct_of, read_punctuation, sized}
 use Rattle.tok_buffer.specs.Reads as reads
 use Rattle.tok_buffer.specs.declared.error.Message.{Message}
 use Rattle.syn_parse.specs.Parses.{AreSpans, PunctuationParses, ascii_chars}
@@ -140,7 +140,7 @@ record IsBoth (x : Option (List Tree × Place)) (g : Place
   whole : ts ≡ first.0 ++ second.0
 
 both_read : (x : Option (List Tree × Place)) (g : Place
-    → Option (List Tree × Place)) (r : List Tree × Place) → and_then x g ≡ Some r → IsBoth x g r.0
+    → Option (List Tree × Place)) (r : List Tree × Place) → read_then x g ≡ Some r → IsBoth x g r.0
 both_read None g r e = cc
 both_read (Some a) g r e = go (g a.1) refl e where
   go : (y : Option (List Tree × Place)) → g a.1 ≡ y

@@ -5,7 +5,7 @@ use Rattle.std.proofs.Math.Seq.{drop-cons}
 use Rattle.std.proofs.lemmas.List.{map-append}
 use Rattle.std.proofs.lemmas.List.Elements.{All-append}
 use Rattle.syn_replay.specs.Session.Step.{line}
-use Rattle.syn_replay.specs.Session.State.{State}
+use Rattle.syn_replay.specs.Session.State.{AllStreams}
 use Rattle.syn_replay.specs.Session.Walk.{lines_from, last_state}
 use Rattle.syn_replay.specs.Commands.{command_of}
 use Rattle.syn_replay.specs.Meanings.{line_of, IsPlain}
@@ -13,7 +13,7 @@ use Rattle.syn_replay.specs.Session.Stepping.{ArePlain, IsLine}
 use Rattle.syn_replay.specs.declared.report.Line.{Line}
 use Rattle.syn_replay.specs.declared.command.Command.{Command}
 
-abbrev pub RunsOn : List Line → State → List Command → State → List Command → Type 0
+abbrev pub RunsOn : List Line → AllStreams → List Command → AllStreams → List Command → Type 0
 RunsOn ls st rest first all =
     (map line_of ls ++ lines_from st (map command_of rest) ≡ lines_from first (map command_of all))
     × (last_state st (map command_of rest) ≡ last_state first (map command_of all))
@@ -24,7 +24,7 @@ one_plain l p zero d h = p
 one_plain l p (suc k) d h = absurd (omega arith)
 
 -- one line more
-pub runs_on : (ls more : List Line) (st new first : State) (all : List Command) (i : ℕ)
+pub runs_on : (ls more : List Line) (st new first : AllStreams) (all : List Command) (i : ℕ)
     (c d : Command) (l : Line) → RunsOn ls st (drop i all) first all → i < length all
     → c ≡ get_or all i d → IsLine l new st c → more ≡ ls ++ l ∷ []
     → RunsOn more new (drop (i + 1) all) first all

@@ -24,14 +24,14 @@ use Rattle.syn_replay.specs.declared.report.Misuse.{Misuse}
 use Rattle.syn_replay.specs.declared.report.Misuse.TheVariants.{NoFork, NoContent}
 use Rattle.syn_replay.specs.declared.report.Misuse.TheVariants.{OutOfScope}
 use Rattle.syn_replay.specs.Session.Acceptance.{is_discard}
-use Rattle.syn_replay.specs.Session.State.{Stream, State, StreamKind, outermost, content_of, a_fork}
+use Rattle.syn_replay.specs.Session.State.{Stream, AllStreams, StreamKind, outermost, content_of, a_fork}
 use Rattle.syn_replay.specs.Session.State.{first_state, with_stream, moved_to, put, at_rest, kinds}
 use Rattle.syn_replay.specs.Session.State.{spent, spent_if, is_entered_from, with_note, gathered}
-use Rattle.syn_replay.specs.Session.State.{handed_note, left_inside, with_note_on_parent, ended}
-use Rattle.syn_replay.specs.Session.State.{closed, advanced, is_inside, is_or_inside}
-use Rattle.syn_replay.specs.Session.Step.{Stepped, any_of, is_content, is_fork, is_missing}
-use Rattle.syn_replay.specs.Session.Step.{is_spent, kind_misuse, misuse, named, new_stream}
-use Rattle.syn_replay.specs.Session.Step.{into_group, on_stream, other_named, place_of, stays, step}
+use Rattle.syn_replay.specs.Session.State.{handed_note, left_inside, with_note_on_parent, stream_ended}
+use Rattle.syn_replay.specs.Session.State.{content_closed, moved_to_fork, is_inside, is_or_inside}
+use Rattle.syn_replay.specs.Session.Step.{Stepped, any_of, is_content, is_fork, is_unknown}
+use Rattle.syn_replay.specs.Session.Step.{has_ended, kind_misuse, misuse, named_by, new_stream}
+use Rattle.syn_replay.specs.Session.Step.{into_group, on_stream, other_named, stream_place, unmoved, step}
 use Rattle.syn_replay.specs.Session.Step.{step_on, tested, with_other}
 use Rattle.syn_replay.specs.Session.Entering.{entered_by, entering_words}
 use Rattle.syn_replay.specs.Session.Walk.{last_state}
@@ -52,32 +52,32 @@ pub record Ages (s t : Stream) : Type 0 where
   pub whole : s.is_open ≡ false → t ≡ s
 
 -- the parent of a content is open, and has a lower number
-record IsIn (st : State) (k p : ℕ) : Type 0 where
+record IsIn (st : AllStreams) (k p : ℕ) : Type 0 where
   below : p < k
   parent : (look st p).is_open ≡ true
 
-abbrev pub IsClean : State → ℕ → Type 0
+abbrev pub IsClean : AllStreams → ℕ → Type 0
 IsClean st k = (look st k).note ≡ None
 
 -- a content of this parent was open, and is spent afterwards
-pub record Shut (st after : State) (k p : ℕ) : Type 0 where
+pub record Shut (st after : AllStreams) (k p : ℕ) : Type 0 where
   pub was_open : (look st k).is_open ≡ true
   pub inside : (look st k).kind ≡ content_of p
   pub is_shut : (look after k).is_open ≡ false
 
 -- a stream hands up nothing, or has nothing left but at its place
-abbrev pub IsEmptied : State → ℕ → Type 0
+abbrev pub IsEmptied : AllStreams → ℕ → Type 0
 IsEmptied st k = handed_note st k (look st k) ≡ None
 
-abbrev pub IsGathered : State → ℕ → Type 0
+abbrev pub IsGathered : AllStreams → ℕ → Type 0
 IsGathered st k = (gathered st k (look st k)).note ≡ None
 
 -- Streams that stay clean: those of a set that holds each content that is closed into one of the
 -- set, and in which nothing is left.
-abbrev pub AllClean : (ℕ → Type 0) → State → Type 0
+abbrev pub AllClean : (ℕ → Type 0) → AllStreams → Type 0
 AllClean X st = (k : ℕ) → X k → IsClean st k
 
-abbrev pub IsFed : (ℕ → Type 0) → State → State → Type 0
+abbrev pub IsFed : (ℕ → Type 0) → AllStreams → AllStreams → Type 0
 IsFed X st after =
     (k p : ℕ) → Shut st after k p → X p → X k × (leftover (look st k).place ≡ None)
 
@@ -93,11 +93,11 @@ ages_on s t u a b = record {
 }
 
 -- the streams that there were have aged
-pub record Older (st after : State) : Type 0 where
+pub record Older (st after : AllStreams) : Type 0 where
   pub longer : length st ≤ length after
   pub ages : (k : ℕ) → k < length st → Ages (look st k) (look after k)
 
-pub older_on : (st mid after : State) → Older st mid → Older mid after → Older st after
+pub older_on : (st mid after : AllStreams) → Older st mid → Older mid after → Older st after
 older_on st mid after a b =
     let longer = a.longer in
     let on = b.longer in
@@ -107,11 +107,11 @@ older_on st mid after a b =
           (b.ages k (omega (arith, longer)));
     }
 
-pub open_before : (st after : State) (k : ℕ) → Older st after → k < length st
+pub open_before : (st after : AllStreams) (k : ℕ) → Older st after → k < length st
     → (look after k).is_open ≡ true → (look st k).is_open ≡ true
 open_before st after k older l o = (older.ages k l).open_before o
 
-pub clean_before : (st after : State) (k : ℕ) → Older st after → IsClean after k → IsClean st k
+pub clean_before : (st after : AllStreams) (k : ℕ) → Older st after → IsClean after k → IsClean st k
 clean_before st after k older h =
     elim (cases_lt k (length st)) [
       | inl l ↦ (older.ages k l).note_before h
@@ -119,7 +119,7 @@ clean_before st after k older h =
     ]
 
 -- a fork, to which a stream has advanced
-pub record Taken (st after : State) (s f : ℕ) : Type 0 where
+pub record Taken (st after : AllStreams) (s f : ℕ) : Type 0 where
   pub stream_was : (look st s).is_open ≡ true
   pub stream_is : (look after s).is_open ≡ true
   pub was_open : (look st f).is_open ≡ true
@@ -127,7 +127,7 @@ pub record Taken (st after : State) (s f : ℕ) : Type 0 where
   pub is_gathered : IsClean after s → IsGathered st f
 
 -- what a command does to streams that are sound
-pub record StepsTo (X : ℕ → Type 0) (c : Command) (st : State) (r : Stepped) : Type 0 where
+pub record StepsTo (X : ℕ → Type 0) (c : Command) (st : AllStreams) (r : Stepped) : Type 0 where
   pub older : Older st r.state
   pub sound : IsSound r.state
   pub whole : (look st 0).kind ≡ outermost → (look st 0).is_open ≡ true
@@ -151,7 +151,7 @@ no_advance c s f h e =
     absurd (both_ways (is_advance c.action) h (ap (λ z. is_advance z.action) e))
 
 -- a command that notes nothing and spends nothing
-record Quiet (st after : State) : Type 0 where
+record Quiet (st after : AllStreams) : Type 0 where
   longer : length st ≤ length after
   kinds : (k : ℕ) → k < length st → (look after k).kind ≡ (look st k).kind
   opens : (k : ℕ) → k < length st → (look after k).is_open ≡ (look st k).is_open
@@ -160,7 +160,7 @@ record Quiet (st after : State) : Type 0 where
   -- a new content has an open parent
   newer : (k p : ℕ) → length st ≤ k → (look after k).kind ≡ content_of p → IsIn after k p
 
-quiet_self : (st : State) → Quiet st st
+quiet_self : (st : AllStreams) → Quiet st st
 quiet_self st = record {
   longer = omega arith;
   kinds = λ k _. refl;
@@ -170,13 +170,13 @@ quiet_self st = record {
   newer = λ k p l f. absurd (none_past st k p l f);
 }
 
-in_after : (st after : State) (k p : ℕ)
+in_after : (st after : AllStreams) (k p : ℕ)
     → ((j : ℕ) → j < length st → (look after j).is_open ≡ (look st j).is_open) → IsIn st k p
     → IsIn after k p
 in_after st after k p opens i =
     record { below = i.below; parent = opens p (open_within st p i.parent) ∙ i.parent }
 
-quiet_on : (st mid after : State) → Quiet st mid → Quiet mid after → Quiet st after
+quiet_on : (st mid after : AllStreams) → Quiet st mid → Quiet mid after → Quiet st after
 quiet_on st mid after a b =
     let longer = a.longer in
     let on = b.longer in
@@ -196,7 +196,7 @@ quiet_on st mid after a b =
     }
 
 -- a command that spends nothing and notes nothing
-calm : (X : ℕ → Type 0) (c : Command) (st : State) (r : Stepped) → IsSound st
+calm : (X : ℕ → Type 0) (c : Command) (st : AllStreams) (r : Stepped) → IsSound st
     → ((s f : ℕ) → c ≡ commands.on s (commands.advance f) → r.answer ≡ done → ⊥) → Quiet st r.state
     → StepsTo X c st r
 calm X c st r sound other quiet = record {
@@ -233,7 +233,7 @@ calm X c st r sound other quiet = record {
 }
 
 -- an open stream goes elsewhere
-quiet_moved : (st : State) (k : ℕ) (p : Place) → (look st k).is_open ≡ true
+quiet_moved : (st : AllStreams) (k : ℕ) (p : Place) → (look st k).is_open ≡ true
     → Quiet st (with_stream st k (moved_to p))
 quiet_moved st k p o = record {
   longer = omega (arith, length_changed st k (moved_to p));
@@ -256,7 +256,7 @@ last_kind : (x : Stream) (i p : ℕ) → (or_nobody (slice_get (x ∷ []) i)).ki
 last_kind x zero p h = (refl, h)
 last_kind x (suc i) p h = cc
 
-quiet_more : (st : State) (x : Stream) → x.note ≡ None
+quiet_more : (st : AllStreams) (x : Stream) → x.note ≡ None
     → ((p : ℕ) → x.kind ≡ content_of p → IsIn st (length st) p) → Quiet st (st ++ x ∷ [])
 quiet_more st x none inside =
     let after = st ++ x ∷ [] in
@@ -286,7 +286,7 @@ quiet_more st x none inside =
           };
     }
 
-quiet_entered : (o : Option Entered) (st : State) (k : ℕ) (s : Stream) (words : List ℕ)
+quiet_entered : (o : Option Entered) (st : AllStreams) (k : ℕ) (s : Stream) (words : List ℕ)
     → (look st k).is_open ≡ true → Quiet st (into_group st k s words o).state
 quiet_entered None st k s words h = quiet_self st
 quiet_entered (Some e) st k s words h =
@@ -303,13 +303,13 @@ quiet_entered (Some e) st k s words h =
       parent = ap (λ z. (look mid z).is_open) (sym q) ∙ parent;
     }))
 
-quiet_forked : (st : State) (p : Place) (scope : Span)
+quiet_forked : (st : AllStreams) (p : Place) (scope : Span)
     → Quiet st (st ++ new_stream p scope a_fork ∷ [])
 quiet_forked st p scope =
     quiet_more st (new_stream p scope a_fork) refl (λ q f. absurd (cc))
 
 -- a stream is given something to note
-record Gives (st mid : State) (t : ℕ) (given : Option Leftover) : Type 0 where
+record Gives (st mid : AllStreams) (t : ℕ) (given : Option Leftover) : Type 0 where
   same : kinds mid ≡ kinds st
   opens : (j : ℕ) → (look mid j).is_open ≡ (look st j).is_open
   notes : (j : ℕ) → j ≢ t → (look mid j).note ≡ (look st j).note
@@ -320,7 +320,7 @@ none_more : (a : Option Leftover) → a ≡ option_or a None
 none_more None = refl
 none_more (Some l) = refl
 
-gives_none : (st : State) (t : ℕ) → Gives st st t None
+gives_none : (st : AllStreams) (t : ℕ) → Gives st st t None
 gives_none st t = record {
   same = refl;
   opens = λ j. refl;
@@ -329,7 +329,7 @@ gives_none st t = record {
   whole = λ j h. refl;
 }
 
-gives_to : (st : State) (t : ℕ) (f : Stream → Stream) (given : Option Leftover)
+gives_to : (st : AllStreams) (t : ℕ) (f : Stream → Stream) (given : Option Leftover)
     → (look st t).is_open ≡ true → ((s : Stream) → (f s).kind ≡ s.kind)
     → ((s : Stream) → (f s).is_open ≡ s.is_open)
     → (f (look st t)).note ≡ option_or (look st t).note given
@@ -352,11 +352,12 @@ stays_spent true s h = same_stream (spent s) s refl (sym h)
 stays_spent false s h = refl
 
 -- a stream ends, with those inside it, and another is given something to note
-module _ (st : State) (sound : IsSound st) (mid : State) (k t : ℕ) (given : Option Leftover)
+module _ (st : AllStreams) (sound : IsSound st) (mid : AllStreams) (k t : ℕ)
+    (given : Option Leftover)
     (g : Gives st mid t given) (is_open : (look st k).is_open ≡ true)
     (inner : (look st k).kind ≢ outermost) where
-  abbrev after : State
-  after = ended k mid
+  abbrev after : AllStreams
+  after = stream_ended k mid
 
   mid_kind : (j : ℕ) → (look mid j).kind ≡ (look st j).kind
   mid_kind j = same_kind mid st g.same j
@@ -480,9 +481,13 @@ module _ (st : State) (sound : IsSound st) (mid : State) (k t : ℕ) (given : Op
       ]
 
 -- a content is closed
-close_steps : (X : ℕ → Type 0) (n : ℕ) (st : State) (k p : ℕ) (a : Answer) → IsSound st
+close_steps : (X : ℕ → Type 0) (n : ℕ) (st : AllStreams) (k p : ℕ) (a : Answer) → IsSound st
     → (look st k).is_open ≡ true → (look st k).kind ≡ content_of p
-    → StepsTo X (commands.on n commands.close) st (record { answer = a; state = closed k st })
+    → StepsTo X (commands.on n commands.close) st (record {
+      answer = a;
+      state =
+          content_closed k st;
+    })
 close_steps X n st k p a sound o f =
     subst (λ z. StepsTo X (commands.on n commands.close) st (record { answer = a; state = z }))
     (sym is) steps
@@ -490,16 +495,16 @@ close_steps X n st k p a sound o f =
     given : Option Leftover
     given = handed_note st k (look st k)
 
-    mid : State
+    mid : AllStreams
     mid = with_stream st p (with_note given)
 
-    is : closed k st ≡ ended k mid
+    is : content_closed k st ≡ stream_ended k mid
     is =
         ap (λ o. elim o [
           | None ↦ st
-          | Some s ↦ ended k (with_note_on_parent s.kind (handed_note st k s) st)
+          | Some s ↦ stream_ended k (with_note_on_parent s.kind (handed_note st k s) st)
         ]) (there st k o)
-        ∙ ap (λ kind. ended k (with_note_on_parent kind given st)) f
+        ∙ ap (λ kind. stream_ended k (with_note_on_parent kind given st)) f
 
     g : Gives st mid p given
     g = gives_to st p (with_note given) given (sound.parent k p o f) (λ s. refl) (λ s. refl) refl
@@ -508,26 +513,26 @@ close_steps X n st k p a sound o f =
     inner e = cc
 
     steps : StepsTo X (commands.on n commands.close) st
-        (record { answer = a; state = ended k mid })
+        (record { answer = a; state = stream_ended k mid })
     steps = record {
       older = older_so st sound mid k p given g o inner;
       sound = sound_so st sound mid k p given g o inner;
       whole = whole_so st sound mid k p given g o inner;
-      emptied = λ d j q h stays clean.
-          let own = only_own st sound mid k p given g o inner j q h stays in
+      emptied = λ d j q h unmoved clean.
+          let own = only_own st sound mid k p given g o inner j q h unmoved in
           let parent : content_of q ≡ content_of p =
           sym h.inside ∙ ap (λ z. (look st z).kind) own ∙ f in
           let is : q ≡ p = cc in
           let noted =
           sym (note_so st sound mid k p given g o inner p)
-          ∙ ap (λ z. (look (ended k mid) z).note) (sym is) ∙ clean in
+          ∙ ap (λ z. (look (stream_ended k mid) z).note) (sym is) ∙ clean in
           ap (λ z. handed_note st z (look st z)) own
           ∙ (none_of (look st p).note given (sym g.noted ∙ noted)).1;
       taken = λ s j e b. no_advance (commands.on n commands.close) s j refl e;
       cleans = λ fed follows clean.
           clean_so st sound mid k p given g o inner X
           (λ x.
-          let shut : Shut st (ended k mid) k p =
+          let shut : Shut st (stream_ended k mid) k p =
           record {
             was_open = o;
             inside = f;
@@ -540,9 +545,13 @@ close_steps X n st k p a sound o f =
     }
 
 -- a fork is discarded
-discard_steps : (X : ℕ → Type 0) (n : ℕ) (st : State) (k : ℕ) (a : Answer) → IsSound st
+discard_steps : (X : ℕ → Type 0) (n : ℕ) (st : AllStreams) (k : ℕ) (a : Answer) → IsSound st
     → (look st k).is_open ≡ true → (look st k).kind ≢ outermost
-    → StepsTo X (commands.on n commands.discard) st (record { answer = a; state = ended k st })
+    → StepsTo X (commands.on n commands.discard) st (record {
+      answer = a;
+      state =
+          stream_ended k st;
+    })
 discard_steps X n st k a sound o inner =
     let g = gives_none st k in
     record {
@@ -556,12 +565,13 @@ discard_steps X n st k a sound o inner =
     }
 
 -- a stream advances to a fork
-advance_steps : (X : ℕ → Type 0) (st : State) (k f : ℕ) → IsSound st → (look st k).is_open ≡ true
+advance_steps : (X : ℕ → Type 0) (st : AllStreams) (k f : ℕ) → IsSound st → (look st k).is_open
+    ≡ true
     → (look st f).is_open ≡ true → (look st f).kind ≡ a_fork → is_or_inside st f k ≡ false
     → StepsTo X (commands.on k (commands.advance f)) st (record {
       answer =
           done;
-      state = advanced k f st;
+      state = moved_to_fork k f st;
     })
 advance_steps X st k f sound h o kind outside =
     subst
@@ -574,15 +584,15 @@ advance_steps X st k f sound h o kind outside =
     moves_on : Stream → Stream
     moves_on s = put (parse.advanced (at_rest fork) (at_rest s)) s
 
-    mid : State
+    mid : AllStreams
     mid = with_stream st k moves_on
 
-    is : advanced k f st ≡ ended f mid
+    is : moved_to_fork k f st ≡ stream_ended f mid
     is =
         ap (λ o. elim o [
           | None ↦ st
           | Some x ↦
-              ended f (with_stream st k
+              stream_ended f (with_stream st k
               (λ s. put (parse.advanced (at_rest (gathered st f x)) (at_rest s)) s))
         ]) (there st f o)
 
@@ -593,13 +603,13 @@ advance_steps X st k f sound h o kind outside =
     inner e = cc
 
     steps : StepsTo X (commands.on k (commands.advance f)) st
-        (record { answer = done; state = ended f mid })
+        (record { answer = done; state = stream_ended f mid })
     steps = record {
       older = older_so st sound mid f k fork.note g o inner;
       sound = sound_so st sound mid f k fork.note g o inner;
       whole = whole_so st sound mid f k fork.note g o inner;
-      emptied = λ d j p w stays clean.
-          let own = only_own st sound mid f k fork.note g o inner j p w stays in
+      emptied = λ d j p w unmoved clean.
+          let own = only_own st sound mid f k fork.note g o inner j p w unmoved in
           let inside : (look st f).kind ≡ content_of p =
           ap (λ z. (look st z).kind) (sym own) ∙ w.inside in
           absurd (cc);
@@ -607,7 +617,8 @@ advance_steps X st k f sound h o kind outside =
           let a : k ≡ t = ap (λ z. z.stream) w in
           let same : commands.advance f ≡ commands.advance v = ap (λ z. z.action) w in
           let e : f ≡ v = cc in
-          subst (λ z. Taken st (ended f mid) z v) a (subst (Taken st (ended f mid) k) e
+          subst (λ z. Taken st (stream_ended f mid) z v) a (subst (Taken st
+          (stream_ended f mid) k) e
           (record {
             stream_was = h;
             stream_is =
@@ -630,23 +641,24 @@ advance_steps X st k f sound h o kind outside =
     }
 
 -- a command that is refused
-refused_steps : (X : ℕ → Type 0) (c : Command) (st : State) (n : Misuse) → IsSound st
-    → StepsTo X c st (stays st (misused n))
+refused_steps : (X : ℕ → Type 0) (c : Command) (st : AllStreams) (n : Misuse) → IsSound st
+    → StepsTo X c st (unmoved st (misused n))
 refused_steps X c st n sound =
-    calm X c st (stays st (misused n)) sound (λ s f e a. absurd (cc)) (quiet_self st)
+    calm X c st (unmoved st (misused n)) sound (λ s f e a. absurd (cc)) (quiet_self st)
 
 -- a command that is no advance, discard or close
-calmly : (X : ℕ → Type 0) (c : Command) (st : State) (r : Stepped) → IsSound st
+calmly : (X : ℕ → Type 0) (c : Command) (st : AllStreams) (r : Stepped) → IsSound st
     → is_advance c.action ≡ false → Quiet st r.state → StepsTo X c st r
 calmly X c st r sound other quiet =
     calm X c st r sound (λ s f e a. no_advance c s f other e) quiet
 
 -- the test of an advance, where it is done and where it is rejected
-advance_or_not : (X : ℕ → Type 0) (st : State) (k f : ℕ) (b : Bool) → IsSound st
+advance_or_not : (X : ℕ → Type 0) (st : AllStreams) (k f : ℕ) (b : Bool) → IsSound st
     → (look st k).is_open ≡ true → (look st f).is_open ≡ true → (look st f).kind ≡ a_fork
     → (scope : Bool) → (scope && not (is_or_inside st f k)) ≡ b
     → StepsTo X (commands.on k (commands.advance f)) st
-    (cond b (record { answer = done; state = advanced k f st }) (stays st (misused OutOfScope)))
+    (cond b (record { answer = done; state = moved_to_fork k f st }) (unmoved st
+    (misused OutOfScope)))
 advance_or_not X st k f false sound h o g scope q =
     refused_steps X (commands.on k (commands.advance f)) st OutOfScope sound
 advance_or_not X st k f true sound h o g scope q =
@@ -672,7 +684,7 @@ content_is outermost h = cc
 content_is (content_of p) h = (p, refl)
 content_is a_fork h = cc
 
-on_steps : (X : ℕ → Type 0) (a : Action) (st : State) (k : ℕ) → (look st k).is_open ≡ true
+on_steps : (X : ℕ → Type 0) (a : Action) (st : AllStreams) (k : ℕ) → (look st k).is_open ≡ true
     → is_advance a ≡ false → kind_misuse a st k ≡ None → IsSound st
     → StepsTo X (commands.on k a) st (on_stream a st k (look st k))
 on_steps X (commands.read r) st k h e q sound =
@@ -693,42 +705,43 @@ on_steps X commands.close st k h e q sound =
     close_steps X k st k p done sound h kind
 
 -- a command that fits its streams and names one
-one_named : (X : ℕ → Type 0) (a : Action) (st : State) (n : ℕ) → IsSound st
+one_named : (X : ℕ → Type 0) (a : Action) (st : AllStreams) (n : ℕ) → IsSound st
     → Fits (commands.on n a) st → other_named a ≡ None → is_advance a ≡ false
     → StepsTo X (commands.on n a) st (step_on a st n (slice_get st n))
 one_named X a st n sound h e other =
-    let named_is : with_other n None ≡ named (commands.on n a) = ap (with_other n) (sym e) in
-    let x = one_open st n (ap (any_of (is_missing st)) named_is ∙ h.there)
-    (ap (any_of (is_spent st)) named_is ∙ h.is_open) in
+    let named_is : with_other n None ≡ named_by (commands.on n a) = ap (with_other n) (sym e) in
+    let x = one_open st n (ap (any_of (is_unknown st)) named_is ∙ h.there)
+    (ap (any_of (has_ended st)) named_is ∙ h.is_open) in
     subst (λ o. StepsTo X (commands.on n a) st (step_on a st n o)) (sym (there st n x))
     (on_steps X a st n x other h.kind sound)
 
-two_named : (X : ℕ → Type 0) (st : State) (n f : ℕ) → IsSound st
+two_named : (X : ℕ → Type 0) (st : AllStreams) (n f : ℕ) → IsSound st
     → Fits (commands.on n (commands.advance f)) st
     → StepsTo X (commands.on n (commands.advance f)) st
     (step_on (commands.advance f) st n (slice_get st n))
 two_named X st n f sound h =
-    let at = or_parts (is_missing st n) (is_missing st f || false) h.there in
-    let is_open = or_parts (is_spent st n) (is_spent st f || false) h.is_open in
+    let at = or_parts (is_unknown st n) (is_unknown st f || false) h.there in
+    let is_open = or_parts (has_ended st n) (has_ended st f || false) h.is_open in
     let x = stream_is_open (slice_get st n) at.0 is_open.0 in
     let y = one_open st f at.1 is_open.1 in
     let kind = fork_is (look st f).kind (kind_there (slice_get st f) is_fork NoFork h.kind) in
-    let scope = same_scope (look st n).place (place_of (slice_get st f)) in
+    let scope = same_scope (look st n).place (stream_place (slice_get st f)) in
     subst
     (λ o. StepsTo X (commands.on n (commands.advance f)) st
     (step_on (commands.advance f) st n o)) (sym (there st n x))
     (advance_or_not X st n f (scope && not (n == f || is_inside st f n)) sound x y kind scope refl)
 
-fitting_steps : (X : ℕ → Type 0) (a : Action) (st : State) (n : ℕ) → IsSound st
+fitting_steps : (X : ℕ → Type 0) (a : Action) (st : AllStreams) (n : ℕ) → IsSound st
     → Fits (commands.on n a) st → StepsTo X (commands.on n a) st (step_on a st n (slice_get st n))
 fitting_steps X (commands.advance f) st n sound h = two_named X st n f sound h
 fitting_steps X a st n sound h = one_named X a st n sound h refl refl
 
-pub steps : (X : ℕ → Type 0) (c : Command) (st : State) → IsSound st → StepsTo X c st (step c st)
+pub steps : (X : ℕ → Type 0) (c : Command) (st : AllStreams) → IsSound st
+    → StepsTo X c st (step c st)
 steps X c st sound = go (misuse c st) refl where
   go : (o : Option Misuse) → misuse c st ≡ o
       → StepsTo X c st (elim o [
-        | Some n ↦ stays st (misused n)
+        | Some n ↦ unmoved st (misused n)
         | None ↦ step_on c.action st c.stream (slice_get st c.stream)
       ])
   go (Some n) e = refused_steps X c st n sound
@@ -751,11 +764,11 @@ pub first_clean : (X : ℕ → Type 0) (f : Forest) → AllClean X (first_state 
 first_clean X f zero x = refl
 first_clean X f (suc k) x = refl
 
-pub run_sound : (st : State) (cs : List Command) → IsSound st → IsSound (last_state st cs)
+pub run_sound : (st : AllStreams) (cs : List Command) → IsSound st → IsSound (last_state st cs)
 run_sound st [] sound = sound
 run_sound st (c ∷ cs) sound = run_sound (step c st).state cs (steps nothing c st sound).sound
 
-pub run_older : (st : State) (cs : List Command) → IsSound st → Older st (last_state st cs)
+pub run_older : (st : AllStreams) (cs : List Command) → IsSound st → Older st (last_state st cs)
 run_older st [] sound = record { longer = omega arith; ages = λ k _. ages_self (look st k) }
 run_older st (c ∷ cs) sound =
     let s = steps nothing c st sound in

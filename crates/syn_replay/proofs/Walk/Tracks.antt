@@ -6,10 +6,10 @@ use Rattle.std.proofs.lemmas.List.{length-map}
 use Rattle.std.proofs.lemmas.Option.{slice_get-map, slice_get_past, slice_get_read}
 use Rattle.std.specs.List.{slice_get}
 use Rattle.std.specs.Option.{option_map}
-use Rattle.syn_replay.specs.Session.State.{State, is_open_at, with_stream, with_note_on_parent}
+use Rattle.syn_replay.specs.Session.State.{AllStreams, is_open_at, with_stream, with_note_on_parent}
 use Rattle.syn_replay.specs.Session.State as states
 use Rattle.tok_buffer.specs.Ahead.{Leftover}
-use Rattle.syn_replay.specs.Session.Stream.{kind_of, stream_of, state_of_list}
+use Rattle.syn_replay.specs.Session.Stream.{stream_kind, stream_of, state_of_list}
 use Rattle.syn_replay.specs.declared.session.stream.Stream.{Stream}
 
 pub stream_there : (xs : List Stream) (n : ℕ) (x : Stream) → x ≡ get_or xs n x → n < length xs
@@ -38,8 +38,8 @@ pub length-along : (xs ys : List Stream) → state_of_list xs ≡ state_of_list 
 length-along xs ys e = sym (length-state xs) ∙ ap length e ∙ length-state ys
 
 -- one that is no content notes on none
-pub noted_apart : (is_fork : Bool) (o : Option ℕ) (n : Option Leftover) (st : State) → o ≡ None
-    → st ≡ with_note_on_parent (kind_of is_fork o) n st
+pub noted_apart : (is_fork : Bool) (o : Option ℕ) (n : Option Leftover) (st : AllStreams) → o ≡ None
+    → st ≡ with_note_on_parent (stream_kind is_fork o) n st
 noted_apart true None n st e = refl
 noted_apart false None n st e = refl
 noted_apart f (Some p) n st e = cc

@@ -2,7 +2,7 @@
 use Rattle.std.proofs.Common.{◌≡◌, ◌∙◌, sym, ap, subst, Ok, Err, Result}
 use Rattle.std.specs.Prelude.{Option, Some, None, MatchOption}
 use Rattle.tok_buffer.specs.Messages as messages
-use Rattle.syn_parse.specs.Faults.{IsRefused}
+use Rattle.syn_parse.specs.Faults.{FailsWith}
 use Rattle.tok_buffer.specs.Ahead.{Leftover}
 use Rattle.syn_parse.specs.ErrorWords.{leftover_message}
 use Rattle.syn_parse.specs.declared.fault.Fault.{Fault}
@@ -14,13 +14,13 @@ use Rattle.syn_replay.specs.Meanings.{IsOneMessage}
 use Rattle.syn_replay.proofs.Messages.{first_message-one}
 
 pub verdict_refused : {T : Type 0} (left : Option Leftover) (r : Result T Fault) (v : T) (e : Error)
-    → MatchOption left (r ≡ Ok v) (λ l. IsRefused (leftover_message l) r) → r ≡ Err (Refused e)
+    → MatchOption left (r ≡ Ok v) (λ l. FailsWith (leftover_message l) r) → r ≡ Err (Refused e)
     → (left_over (first_message e)
     ≡ elim left [ None ↦ accepted | Some l ↦ left_over (leftover_message l) ]) × IsOneMessage e
 verdict_refused None r v e h is = absurd (cc)
 verdict_refused (Some l) r v e h is =
     let one : e ≡ messages.one_message (leftover_message l) =
-    subst (IsRefused (leftover_message l)) is h in
+    subst (FailsWith (leftover_message l)) is h in
     let same : first_message e ≡ leftover_message l =
     ap first_message one ∙ first_message-one (leftover_message l) in
     (ap left_over same, one ∙ ap messages.one_message (sym same))

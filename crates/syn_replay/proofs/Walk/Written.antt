@@ -12,9 +12,9 @@ use Rattle.std.specs.declared.fmt.Formatter.{Formatter}
 use Rattle.syn_replay.specs.Agree.{AnswersAgree, LinesAgree}
 use Rattle.syn_replay.specs.Commands.{command_of}
 use Rattle.syn_replay.specs.Meanings.{line_of, verdict_of}
-use Rattle.syn_replay.specs.ReportText.{ended, line_text, lines_text, report_text}
+use Rattle.syn_replay.specs.ReportText.{as_line, line_text, lines_text, report_text}
 use Rattle.syn_replay.specs.ReportText.{verdict_text}
-use Rattle.syn_replay.specs.Session.State.{State, first_state}
+use Rattle.syn_replay.specs.Session.State.{AllStreams, first_state}
 use Rattle.syn_replay.specs.Session.Step.{line, step}
 use Rattle.syn_replay.specs.Session.Stepping.{IsLine}
 use Rattle.syn_replay.specs.Session.Walk.{last_state, lines_from, verdict, walk}
@@ -32,7 +32,7 @@ next_one all i c d h item =
     same = omega arith
 
 -- the last state is still that of the whole
-pub last_more : (st new first : State) (all : List Command) (i : ℕ) (c d : Command) (l : Line)
+pub last_more : (st new first : AllStreams) (all : List Command) (i : ℕ) (c d : Command) (l : Line)
     → last_state st (map command_of (drop i all)) ≡ last_state first (map command_of all)
     → i < length all → c ≡ get_or all i d → IsLine l new st c
     → last_state new (map command_of (drop (i + 1) all)) ≡ last_state first (map command_of all)
@@ -40,7 +40,7 @@ last_more st new first all i c d l last h item (is, one, after) =
     ap (λ w. last_state w (map command_of (drop (i + 1) all))) after
     ∙ ap (λ w. last_state st (map command_of w)) (sym (next_one all i c d h item)) ∙ last
 
-pub last_all : (st first : State) (all : List Command) (i : ℕ) → length all ≤ i
+pub last_all : (st first : AllStreams) (all : List Command) (i : ℕ) → length all ≤ i
     → last_state st (map command_of (drop i all)) ≡ last_state first (map command_of all)
     → st ≡ last_state first (map command_of all)
 last_all st first all i h last =
@@ -48,13 +48,13 @@ last_all st first all i h last =
 
 module _ {W : Type 0} (took : W → List ℕ → W → Type 0) where
   -- g is f after a front of the whole text, and the lines that are left make up the rest
-  pub record Writes (f : Formatter W) (whole : List ℕ) (st : State) (rest : List Command)
+  pub record Writes (f : Formatter W) (whole : List ℕ) (st : AllStreams) (rest : List Command)
       (g : Formatter W) : Type 0 where
     pub front : List ℕ
     pub wrote : HasWritten took f front g
     pub left : front ++ lines_text (lines_from st (map command_of rest)) ≡ whole
 
-  pub writes_first : (f : Formatter W) (st : State) (all : List Command) → IsPlainFormatter f
+  pub writes_first : (f : Formatter W) (st : AllStreams) (all : List Command) → IsPlainFormatter f
       → Writes f (lines_text (lines_from st (map command_of all))) st all f
   writes_first f st all plain = record {
     front = [];
@@ -62,26 +62,28 @@ module _ {W : Type 0} (took : W → List ℕ → W → Type 0) where
     left = refl;
   }
 
-  pub writes_more : (f g h : Formatter W) (whole : List ℕ) (st new : State) (all : List Command)
+  pub writes_more : (f g h : Formatter W) (whole : List ℕ) (st new : AllStreams)
+      (all : List Command)
       (i : ℕ) (c d : Command) (l : Line) → Writes f whole st (drop i all) g → i < length all
       → c ≡ get_or all i d → IsLine l new st c
-      → (IsPlainFormatter g → HasWritten took g (ended (line_text (line_of l))) h)
+      → (IsPlainFormatter g → HasWritten took g (as_line (line_text (line_of l))) h)
       → Writes f whole new (drop (i + 1) all) h
   writes_more f g h whole st new all i c d l w inside item (is, one, after) wrote =
-      let more = ended (line_text (line_of l)) in
+      let more = as_line (line_text (line_of l)) in
       let rest = map command_of (drop (i + 1) all) in record {
         front = w.front ++ more;
         wrote = has_written_append took f w.front g more h w.wrote (wrote w.wrote.plain);
         left = append_assoc w.front more (lines_text (lines_from new rest))
-            ∙ ap (λ x. w.front ++ (ended (line_text x) ++ lines_text (lines_from new rest))) is
-            ∙ ap (λ x. w.front ++ (ended (line_text (line (command_of c) st))
+            ∙ ap (λ x. w.front ++ (as_line (line_text x) ++ lines_text (lines_from new rest))) is
+            ∙ ap (λ x. w.front ++ (as_line (line_text (line (command_of c) st))
             ++ lines_text (lines_from x rest))) after
             ∙ ap (λ x. w.front ++ lines_text (lines_from st (map command_of x)))
             (sym (next_one all i c d inside item))
             ∙ w.left;
       }
 
-  pub writes_all : (f g : Formatter W) (whole : List ℕ) (st : State) (all : List Command) (i : ℕ)
+  pub writes_all : (f g : Formatter W) (whole : List ℕ) (st : AllStreams) (all : List Command)
+      (i : ℕ)
       → length all ≤ i → Writes f whole st (drop i all) g → HasWritten took f whole g
   writes_all f g whole st all i h w =
       has_written_of_eq took f w.front whole g
@@ -102,22 +104,24 @@ module _ {W : Type 0} (took : W → List ℕ → W → Type 0) where
       (has_written_append took f lines g last h w (q w.plain)).wrote
 
 -- the lines of a walk and its verdict are its report
-pub report_written : (forest : Forest) (cs : List commands.Command) (st end : State) (v : Verdict)
+pub report_written : (forest : Forest) (cs : List commands.Command) (st end : AllStreams)
+    (v : Verdict)
     → st ≡ first_state forest → end ≡ last_state st cs → verdict_of v ≡ verdict end
-    → lines_text (lines_from st cs) ++ ended (verdict_text (verdict_of v))
+    → lines_text (lines_from st cs) ++ as_line (verdict_text (verdict_of v))
     ≡ report_text (walk forest cs)
 report_written forest cs st end v first last is =
-    ap (λ s. lines_text (lines_from s cs) ++ ended (verdict_text (verdict_of v))) first
-    ∙ ap (λ x. lines_text (lines_from (first_state forest) cs) ++ ended (verdict_text x))
+    ap (λ s. lines_text (lines_from s cs) ++ as_line (verdict_text (verdict_of v))) first
+    ∙ ap (λ x. lines_text (lines_from (first_state forest) cs) ++ as_line (verdict_text x))
     (is ∙ ap verdict (last ∙ ap (λ s. last_state s cs) first))
 
 -- two walks agree so far, and in the lines that are left: so they agree in all
-abbrev pub AgreeOn : Bool → State → State → List Command → Type 0 → Type 0
+abbrev pub AgreeOn : Bool → AllStreams → AllStreams → List Command → Type 0 → Type 0
 AgreeOn agree st tu rest whole =
     let cs = map command_of rest in
     ((agree ≡ true) × LinesAgree (lines_from st cs) (lines_from tu cs)) ↔ whole
 
-pub agree_more : (was agree : Bool) (whole : Type 0) (st new tu next : State) (all : List Command)
+pub agree_more : (was agree : Bool) (whole : Type 0) (st new tu next : AllStreams)
+    (all : List Command)
     (i : ℕ) (c d : Command) (l k : Line) → AgreeOn was st tu (drop i all) whole → i < length all
     → c ≡ get_or all i d → IsLine l new st c → IsLine k next tu c
     → ((agree ≡ true) ↔ ((was ≡ true) × AnswersAgree (line_of l).answer (line_of k).answer))
@@ -151,7 +155,7 @@ agree_more was agree whole st new tu next all i c d l k w inside item (is, one, 
           (tells.1 (before, first), others),
     )
 
-pub agree_all : (agree : Bool) (whole : Type 0) (st tu : State) (all : List Command) (i : ℕ)
+pub agree_all : (agree : Bool) (whole : Type 0) (st tu : AllStreams) (all : List Command) (i : ℕ)
     → length all ≤ i → AgreeOn agree st tu (drop i all) whole → (agree ≡ true) ↔ whole
 agree_all agree whole st tu all i h w =
     let none = subst (λ z. AgreeOn agree st tu z whole) (drop_all i all h) w in (

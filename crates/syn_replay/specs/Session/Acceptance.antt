@@ -5,20 +5,20 @@ use Rattle.tok_buffer.specs.Ahead.{leftover}
 use Rattle.tok_buffer.specs.Place.{Place}
 use Rattle.syn_replay.specs.Commands.{Action, Command, on, advance, discard}
 use Rattle.syn_replay.specs.Reports.{done, Verdict, accepted}
-use Rattle.syn_replay.specs.Session.State.{Stream, content_of, State, first_state}
+use Rattle.syn_replay.specs.Session.State.{Stream, content_of, AllStreams, first_state}
 use Rattle.std.specs.List.{slice_get}
 use Rattle.syn_replay.specs.Session.State.{closed_inside}
-use Rattle.syn_replay.specs.Session.Step.{is_spent, step}
+use Rattle.syn_replay.specs.Session.Step.{has_ended, step}
 use Rattle.syn_replay.specs.Session.Walk.{last_state}
 
 -- a stream of this parent's contents was open, at this place, and has ended afterwards
-pub record IsShut (before after : State) (content parent : ℕ) (p : Place) : Type 0 where
+pub record IsShut (before after : AllStreams) (content parent : ℕ) (p : Place) : Type 0 where
   pub stream : Stream
   pub here : slice_get before content ≡ Some stream
   pub was_open : stream.is_open ≡ true
   pub inside : stream.kind ≡ content_of parent
   pub at_place : stream.place ≡ p
-  pub is_shut : is_spent after content ≡ true
+  pub is_shut : has_ended after content ≡ true
 
 -- the action discards its stream
 abbrev pub is_discard : Action → Bool
@@ -28,26 +28,26 @@ is_discard a = false
 -- of the walk over this forest by these commands
 module _ (f : Forest) (cs : List Command) where
   -- it comes to these streams, with these commands still to run
-  pub data Comes : State → List Command → Type 0 where
+  pub data Comes : AllStreams → List Command → Type 0 where
     begins : Comes (first_state f) cs
-    goes_on : (st : State) (c : Command) (rest : List Command) →
+    goes_on : (st : AllStreams) (c : Command) (rest : List Command) →
         Comes st (c ∷ rest) → Comes (step c st).state rest
 
   -- the streams after all commands
-  abbrev pub all_run : State
+  abbrev pub all_run : AllStreams
   all_run = last_state (first_state f) cs
 
   -- a group's stream is closed into its parent, at this place: by a command other than a discard,
   -- or at the end
   pub data Closes (content parent : ℕ) (p : Place) : Type 0 where
-    by_command : (st : State) (c : Command) (rest : List Command) →
+    by_command : (st : AllStreams) (c : Command) (rest : List Command) →
         Comes st (c ∷ rest) → is_discard c.action ≡ false →
         IsShut st (step c st).state content parent p → Closes content parent p
     at_end : IsShut all_run (closed_inside 0 all_run) content parent p → Closes content parent p
 
   -- a stream advances to a fork
   pub record Advances (stream fork : ℕ) : Type 0 where
-    pub before : State
+    pub before : AllStreams
     pub rest : List Command
     pub comes : Comes before (on stream (advance fork) ∷ rest)
     pub advances : (step (on stream (advance fork)) before).answer ≡ done

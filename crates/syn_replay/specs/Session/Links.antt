@@ -1,7 +1,7 @@
 -- How the program finds the contents of a stream.
 use Rattle.std.specs.Prelude.{◌≡◌, ℕ, ◌+◌, ◌<◌, cond, List, [], ◌∷◌, drop, Some}
 use Rattle.std.specs.List.{slice_get}
-use Rattle.syn_replay.specs.Session.State.{State, StreamKind, is_content_of, kinds}
+use Rattle.syn_replay.specs.Session.State.{AllStreams, StreamKind, is_content_of, kinds}
 use Rattle.syn_replay.specs.Session.Stream.{state_of_list}
 use Rattle.syn_replay.specs.declared.session.stream.Stream.{Stream}
 
@@ -13,7 +13,7 @@ contents_by_kind stream next (kind ∷ kinds) =
     (contents_by_kind stream (next + 1) kinds)
 
 -- the contents of a stream from this number on, by number
-abbrev pub contents : (stream from : ℕ) → State → List ℕ
+abbrev pub contents : (stream from : ℕ) → AllStreams → List ℕ
 contents stream from st = contents_by_kind stream from (drop from (kinds st))
 
 -- a stream has a higher number than its parent, and lists its contents

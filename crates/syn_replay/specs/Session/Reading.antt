@@ -14,9 +14,9 @@ use Rattle.syn_parse.specs.declared.fault.Fault.TheVariants.{Refused, Memory}
 use Rattle.syn_punctuated.specs.declared.pair.Pair.{Pair}
 use Rattle.syn_punctuated.specs.declared.pair.Pair.TheVariants.{Punctuated, End}
 use Rattle.tok_types.specs.declared.punctuation.Punctuation.{Punctuation}
-use Rattle.syn_replay.specs.Commands.{Action, Read, read, read_answer}
+use Rattle.syn_replay.specs.Commands.{Action, StreamRead, read, read_answer}
 use Rattle.syn_replay.specs.Reports as reports
-use Rattle.syn_replay.specs.Turns.{Rule, pieces_of, terminated, separated}
+use Rattle.syn_replay.specs.Turns.{ListRule, pieces_of, terminated, separated}
 use Rattle.tok_buffer.specs.Messages.{first_message}
 use Rattle.syn_replay.specs.Meanings.{IsAnswer, IsOneMessage, piece_of, pieces_in}
 use Rattle.syn_replay.specs.declared.report.Answer.{Answer}
@@ -73,7 +73,7 @@ LeavesAt (Err (Refused e)) t wanted = t ≡ wanted
 LeavesAt (Err (Memory e)) t wanted = Unit {0}
 
 -- the answer of a read, and the stream after it
-abbrev pub IsRead : Read → parse.State → Result Answer Fault → parse.State → Type 0
+abbrev pub IsRead : StreamRead → parse.State → Result Answer Fault → parse.State → Type 0
 IsRead r s result t =
     GivesAnswer (read_answer r s.place s.scope_span).0 result
     × LeavesAt result t (moved (read_answer r s.place s.scope_span).1 s)
@@ -89,6 +89,6 @@ IsDone (read r) s result t = IsRead r s result t
 IsDone a s result t = Unit {0}
 
 -- the rule of a list of this form
-abbrev pub rule_of : Form → Rule
+abbrev pub rule_of : Form → ListRule
 rule_of Terminated = terminated
 rule_of Separated = separated

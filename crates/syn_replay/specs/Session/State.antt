@@ -46,11 +46,11 @@ abbrev pub at_rest : Stream → parse.State
 at_rest s = record { place = s.place; scope_span = s.scope_span; noted = s.note }
 
 -- the streams by their numbers, from 0
-abbrev pub State : Type 0
-State = List Stream
+abbrev pub AllStreams : Type 0
+AllStreams = List Stream
 
 -- the state before the first command: stream 0 at the start of the forest
-abbrev pub first_state : Forest → State
+abbrev pub first_state : Forest → AllStreams
 first_state f =
     record {
       place = start 0 f;
@@ -61,15 +61,15 @@ first_state f =
     } ∷ []
 
 -- whether a stream is there and open
-abbrev pub is_open_at : State → ℕ → Bool
+abbrev pub is_open_at : AllStreams → ℕ → Bool
 is_open_at st k = elim (slice_get st k) [ None ↦ false | Some s ↦ s.is_open ]
 
 -- the kinds of the streams
-abbrev pub kinds : State → List StreamKind
+abbrev pub kinds : AllStreams → List StreamKind
 kinds st = map (λ s. s.kind) st
 
 -- one stream changed
-abbrev pub with_stream : State → ℕ → (Stream → Stream) → State
+abbrev pub with_stream : AllStreams → ℕ → (Stream → Stream) → AllStreams
 with_stream [] k f = []
 with_stream (s ∷ st) zero f = f s ∷ st
 with_stream (s ∷ st) (suc k) f = s ∷ with_stream st k f
@@ -93,7 +93,7 @@ is_content_of parent (content_of p) = p == parent
 is_content_of parent a_fork = false
 
 -- the kind of stream k; a stream that does not exist counts as outermost
-abbrev pub kind_at : State → ℕ → StreamKind
+abbrev pub kind_at : AllStreams → ℕ → StreamKind
 kind_at st k = elim (slice_get st k) [ None ↦ outermost | Some s ↦ s.kind ]
 
 -- whether a stream was entered from one whose number passes the test
@@ -107,24 +107,24 @@ spent_if b s = cond b (spent s) s
 
 -- The streams from this number on, of which some end: those that are open and that pass the test,
 -- or were entered from one that ends.
-abbrev pub ended_from : (ends : ℕ → Bool) → (next : ℕ) → State → State
+abbrev pub ended_from : (ends : ℕ → Bool) → (next : ℕ) → AllStreams → AllStreams
 ended_from ends next [] = []
 ended_from ends next (s ∷ later) =
     let e = s.is_open && (ends next || is_entered_from ends s.kind) in
     spent_if e s ∷ ended_from (λ n. cond (n == next) e (ends n)) (next + 1) later
 
 -- a stream ends, and with it the open streams inside
-abbrev pub ended : ℕ → State → State
-ended k st = ended_from (λ n. n == k) 0 st
+abbrev pub stream_ended : ℕ → AllStreams → AllStreams
+stream_ended k st = ended_from (λ n. n == k) 0 st
 
 -- the open streams inside a stream end
-abbrev pub closed_inside : ℕ → State → State
+abbrev pub closed_inside : ℕ → AllStreams → AllStreams
 closed_inside k st = ended_from (λ n. is_content_of k (kind_at st n)) 0 st
 
 -- What is left in the open contents of a stream, among the streams from this number on: the first,
 -- by number, that one of them reports. A stream reports its recorded leftover, or what is left
 -- inside it, or the leftover at its place.
-abbrev pub left_from : (stream next : ℕ) → State → Option Leftover
+abbrev pub left_from : (stream next : ℕ) → AllStreams → Option Leftover
 left_from stream next [] = None
 left_from stream next (s ∷ later) =
     option_or
@@ -133,57 +133,57 @@ left_from stream next (s ∷ later) =
     (left_from stream (next + 1) later)
 
 -- what is left inside a stream
-abbrev pub left_inside : State → ℕ → Option Leftover
+abbrev pub left_inside : AllStreams → ℕ → Option Leftover
 left_inside st k = left_from k 0 st
 
 -- a stream that records what is left inside it
-abbrev pub gathered : State → ℕ → Stream → Stream
+abbrev pub gathered : AllStreams → ℕ → Stream → Stream
 gathered st k s = with_note (left_inside st k) s
 
 -- the leftover that a stream reports when it ends
-abbrev pub handed_note : State → ℕ → Stream → Option Leftover
+abbrev pub handed_note : AllStreams → ℕ → Stream → Option Leftover
 handed_note st k s = option_or (gathered st k s).note (leftover s.place)
 
 -- a leftover is recorded on the parent of a group's stream
-abbrev pub with_note_on_parent : StreamKind → Option Leftover → State → State
+abbrev pub with_note_on_parent : StreamKind → Option Leftover → AllStreams → AllStreams
 with_note_on_parent outermost n st = st
 with_note_on_parent (content_of p) n st = with_stream st p (with_note n)
 with_note_on_parent a_fork n st = st
 
 -- a group's stream records on its parent the leftover that it reports, and ends
-abbrev pub closed : ℕ → State → State
-closed k st =
+abbrev pub content_closed : ℕ → AllStreams → AllStreams
+content_closed k st =
     elim (slice_get st k) [
       | None ↦ st
-      | Some s ↦ ended k (with_note_on_parent s.kind (handed_note st k s) st)
+      | Some s ↦ stream_ended k (with_note_on_parent s.kind (handed_note st k s) st)
     ]
 
 -- a stream goes to the place of a fork, and notes what is left of it and inside it; the fork ends
-abbrev pub advanced : (stream fork : ℕ) → State → State
-advanced stream fork st =
+abbrev pub moved_to_fork : (stream fork : ℕ) → AllStreams → AllStreams
+moved_to_fork stream fork st =
     elim (slice_get st fork) [
       | None ↦ st
       | Some f ↦
-          ended fork
+          stream_ended fork
           (with_stream st stream
           (λ s. put (parse.advanced (at_rest (gathered st fork f)) (at_rest s)) s))
     ]
 
 -- a stream of this kind was entered inside another, at most at this depth
-abbrev pub is_within : (depth : ℕ) → State → (outer : ℕ) → StreamKind → Bool
-is_within (suc depth) st outer (content_of p) =
-    p == outer || is_within depth st outer (kind_at st p)
-is_within depth st outer kind = false
+abbrev pub is_entered_within : (depth : ℕ) → AllStreams → (outer : ℕ) → StreamKind → Bool
+is_entered_within (suc depth) st outer (content_of p) =
+    p == outer || is_entered_within depth st outer (kind_at st p)
+is_entered_within depth st outer kind = false
 
 -- a stream was entered inside another, at any depth
-abbrev pub is_inside : State → (outer inner : ℕ) → Bool
-is_inside st outer inner = is_within (length st) st outer (kind_at st inner)
+abbrev pub is_inside : AllStreams → (outer inner : ℕ) → Bool
+is_inside st outer inner = is_entered_within (length st) st outer (kind_at st inner)
 
 -- stream n is the outer one, or inside it
-abbrev pub is_or_inside : State → (outer n : ℕ) → Bool
+abbrev pub is_or_inside : AllStreams → (outer n : ℕ) → Bool
 is_or_inside st outer n = n == outer || is_inside st outer n
 
 -- the position that a place is printed as
-abbrev pub position_of : Place → Position
-position_of empty_place = at_empty
-position_of (at n s c l ls) = stands_at c
+abbrev pub printed_position : Place → Position
+printed_position empty_place = at_empty
+printed_position (at n s c l ls) = stands_at c

@@ -1,8 +1,8 @@
 -- What the streams of the program stand for.
-use Rattle.syn_replay.specs.Session.State.{State}
+use Rattle.syn_replay.specs.Session.State.{AllStreams}
 use Rattle.syn_replay.specs.Session.Stream.{state_of_list}
 use Rattle.syn_replay.specs.declared.session.streams.Streams.{Streams}
 
 -- the state that the streams of a replay are
-abbrev pub state_of : Streams → State
+abbrev pub state_of : Streams → AllStreams
 state_of s = state_of_list s.list.items

@@ -5,18 +5,18 @@ use Rattle.tok_buffer.specs.Ahead.{Leftover}
 use Rattle.syn_parse.specs.ErrorWords.{leftover_message}
 use Rattle.syn_replay.specs.Commands.{Command}
 use Rattle.syn_replay.specs.Reports.{Line, Verdict, accepted, left_over, Report}
-use Rattle.syn_replay.specs.Session.State.{State, first_state}
+use Rattle.syn_replay.specs.Session.State.{AllStreams, first_state}
 use Rattle.std.specs.List.{slice_get}
 use Rattle.syn_replay.specs.Session.State.{handed_note}
 use Rattle.syn_replay.specs.Session.Step.{step, line}
 
 -- the lines of commands in order, from this state
-abbrev pub lines_from : State → List Command → List Line
+abbrev pub lines_from : AllStreams → List Command → List Line
 lines_from st [] = []
 lines_from st (c ∷ cs) = line c st ∷ lines_from (step c st).state cs
 
 -- the state after commands in order
-abbrev pub last_state : State → List Command → State
+abbrev pub last_state : AllStreams → List Command → AllStreams
 last_state st [] = st
 last_state st (c ∷ cs) = last_state (step c st).state cs
 
@@ -25,7 +25,7 @@ abbrev pub verdict_on : Option Leftover → Verdict
 verdict_on left = elim left [ None ↦ accepted | Some l ↦ left_over (leftover_message l) ]
 
 -- the verdict in this state: by the leftover that stream 0 reports
-abbrev pub verdict : State → Verdict
+abbrev pub verdict : AllStreams → Verdict
 verdict st =
     elim (slice_get st 0) [ None ↦ accepted | Some s ↦ verdict_on (handed_note st 0 s) ]
 

@@ -4,7 +4,7 @@ ghost use Rattle.std.specs.Prelude.{◌≡◌, ◌+◌, ◌≤◌, ◌<◌, ◌�
 ghost use Rattle.std.specs.Fmt.{WritesOnOk, decimal};
 ghost use Rattle.std.specs.Str.{IsAscii};
 ghost use Rattle.syn_replay.specs.ReportText as spec;
-ghost use Rattle.syn_replay.specs.ReportText.{ended};
+ghost use Rattle.syn_replay.specs.ReportText.{as_line};
 ghost use Rattle.syn_replay.specs.Meanings.{position_of};
 
 use crate::report::Position;
@@ -77,7 +77,7 @@ fn push<W: Write>(f: &mut Formatter<W>, bytes: &[u8; 72], start: usize) -> fmt::
 /// Writes a space, a position and a line feed.
 pub fn write_end<W: Write>(f: &mut Formatter<W>, position: Position) -> fmt::Result
     ensures { WritesOnOk W.write_str_gives f.old result
-        (ended (codes " " ++ spec.position_text (position_of position))) f.new }
+        (as_line (codes " " ++ spec.position_text (position_of position))) f.new }
 {
     if let Position::At(place) = position {
         let mut bytes = [0u8; 72];
@@ -96,7 +96,7 @@ pub fn write_spanned_end<W: Write>(
     position: Position,
 ) -> fmt::Result
     ensures { WritesOnOk W.write_str_gives f.old result
-        (ended (codes " "
+        (as_line (codes " "
         ++ (spec.span_text span ++ (codes " " ++ spec.position_text (position_of position)))))
         f.new }
 {

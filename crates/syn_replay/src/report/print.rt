@@ -29,7 +29,7 @@ impl fmt::Display for Report {
 /// Writes a verdict and its line feed.
 pub fn write_last<W: Write>(f: &mut Formatter<W>, verdict: &Verdict) -> fmt::Result
     ensures { WritesOnOk W.write_str_gives f.old result
-        (spec.ended (spec.verdict_text (verdict_of verdict.now))) f.new }
+        (spec.as_line (spec.verdict_text (verdict_of verdict.now))) f.new }
 {
     write_verdict(f, verdict)?;
     f.write_char('\n')
@@ -57,7 +57,7 @@ fn write_line<W: Write>(f: &mut Formatter<W>, line: &Line) -> fmt::Result
 /// span or a position.
 pub fn write_ended<W: Write>(f: &mut Formatter<W>, line: &Line) -> fmt::Result
     ensures { WritesOnOk W.write_str_gives f.old result
-        (spec.ended (spec.line_text (line_of line.now))) f.new }
+        (spec.as_line (spec.line_text (line_of line.now))) f.new }
 {
     match &line.answer {
         Answer::Read(pieces) if pieces.len() == 1 => write_read(f, &pieces[0], line.position),
@@ -71,7 +71,7 @@ pub fn write_ended<W: Write>(f: &mut Formatter<W>, line: &Line) -> fmt::Result
 // Writes the line of one piece.
 fn write_read<W: Write>(f: &mut Formatter<W>, piece: &Piece, position: Position) -> fmt::Result
     ensures { WritesOnOk W.write_str_gives f.old result
-        (spec.ended (codes "read"
+        (spec.as_line (codes "read"
         ++ (spec.piece_text (piece_of piece.now)
         ++ (codes " " ++ spec.position_text (position_of position))))) f.new }
 {

@@ -3,7 +3,7 @@ ghost use Rattle.std.specs.Prelude.{◌≡◌, [], None, true, false};
 ghost use Rattle.syn_parse.specs.Pauses.{paused_state};
 ghost use Rattle.syn_replay.specs.Session.State.{a_fork, standing};
 ghost use Rattle.syn_replay.specs.Session.Step.{is_content, is_fork};
-ghost use Rattle.syn_replay.specs.Session.Stream.{kind_of, stream_of};
+ghost use Rattle.syn_replay.specs.Session.Stream.{stream_kind, stream_of};
 
 use std::alloc::Global;
 use syn_parse::Paused;
@@ -24,7 +24,7 @@ impl<'a> Stream<'a> {
     /// Returns the whole stream, or the stream of a group that was entered from `parent`.
     pub fn new(alloc: Global, paused: Paused<'a>, parent: Option<usize>) -> Stream<'a>
         ensures stream { stream_of result
-            ≡ standing (paused_state paused.entry) (kind_of false parent) true }
+            ≡ standing (paused_state paused.entry) (stream_kind false parent) true }
         ensures parent { result.parent ≡ parent }
         ensures contents { result.contents.items ≡ [] }
     {

@@ -37,7 +37,7 @@ impl<'a> Streams<'a> {
     ghost use Rattle.std.specs.List.{slice_get};
     ghost use Rattle.syn_parse.specs.Pauses.{paused_state};
     ghost use Rattle.syn_replay.specs.Commands as commands;
-    ghost use Rattle.syn_replay.specs.Session.State.{outermost, content_of, a_fork, with_stream, standing, put, closed, ended, is_inside, is_open_at, is_or_inside};
+    ghost use Rattle.syn_replay.specs.Session.State.{outermost, content_of, a_fork, with_stream, standing, put, content_closed, stream_ended, is_inside, is_open_at, is_or_inside};
     ghost use Rattle.syn_replay.specs.Session.Step.{step_on};
     ghost use Rattle.syn_replay.specs.Session.Stepping.{IsStepped, gathered_at};
     ghost use Rattle.syn_replay.specs.Session.Stream.{stream_of};
@@ -182,7 +182,7 @@ impl<'a> Streams<'a> {
     /// list is walked twice, since a stream ends once.
     pub fn end(&mut self, k: usize)
         requires { is_open_at (state_of self.old) k ≡ true }
-        ensures { state_of self.new ≡ ended k (state_of self.old) }
+        ensures { state_of self.new ≡ stream_ended k (state_of self.old) }
     {
         self.list[k].is_open = false;
         for index in 0..self.list[k].contents.len() {
@@ -196,7 +196,7 @@ impl<'a> Streams<'a> {
     /// Closes a group's stream, and all that are open inside it, into its parent.
     pub fn close(&mut self, k: usize)
         requires { is_open_at (state_of self.old) k ≡ true }
-        ensures { state_of self.new ≡ closed k (state_of self.old) }
+        ensures { state_of self.new ≡ content_closed k (state_of self.old) }
     {
         if let Some(parent) = self.list[k].parent {
             let content = self.gathered(k);

@@ -3,7 +3,7 @@ ghost use Rattle.std.specs.Prelude.{◌≡◌, ◌*◌, [], ◌++◌, IfOk, OnEr
 ghost use Rattle.std.specs.Fmt.{HasWritten, IsPlainFormatter};
 ghost use Rattle.syn_replay.specs.Commands.{command_of};
 ghost use Rattle.syn_replay.specs.Meanings.{line_of, verdict_of};
-ghost use Rattle.syn_replay.specs.ReportText.{ended, line_text, lines_text, report_text, verdict_text};
+ghost use Rattle.syn_replay.specs.ReportText.{as_line, line_text, lines_text, report_text, verdict_text};
 ghost use Rattle.syn_replay.specs.Session.Acceptance.{IsExact};
 ghost use Rattle.syn_replay.specs.Session.Stepping.{IsPlainVerdict};
 ghost use Rattle.syn_replay.specs.Session.Tracks.{state_of};
@@ -24,7 +24,7 @@ use tok_core::Span;
 /// where a value is formatted.
 pub fn push_line<W: Write>(f: &mut Formatter<W>, line: &Line) -> Result<(), AllocError>
     ensures { OnOk result (IsPlainFormatter f.old → HasWritten W.write_str_gives f.old
-        (ended (line_text (line_of line.now))) f.new) }
+        (as_line (line_text (line_of line.now))) f.new) }
 {
     match write_ended(f, line) {
         Ok(()) => Ok(()),
@@ -35,7 +35,7 @@ pub fn push_line<W: Write>(f: &mut Formatter<W>, line: &Line) -> Result<(), Allo
 /// Writes a verdict and its line feed.
 pub fn push_verdict<W: Write>(f: &mut Formatter<W>, verdict: &Verdict) -> Result<(), AllocError>
     ensures { OnOk result (IsPlainFormatter f.old → HasWritten W.write_str_gives f.old
-        (ended (verdict_text (verdict_of verdict.now))) f.new) }
+        (as_line (verdict_text (verdict_of verdict.now))) f.new) }
 {
     match write_last(f, verdict) {
         Ok(()) => Ok(()),

@@ -28,7 +28,7 @@ returns-in-Ok c =
     line_made n st s c.at.ensures c.requires (commands.parse k) (answer.Read ps)
     c.position_at-position.result t (state_of c.put.new.self) said.0 said.1
     (c.put.ensures ∙ ap (λ z. with_stream st n (put z)) c.pause.ensures)
-    (c.position_at-position.ensures ∙ ap states.position_of c.cursor.ensures)
+    (c.position_at-position.ensures ∙ ap states.printed_position c.cursor.ensures)
 
 pub returns-in-Err-Refused : goal.returns-in-Err-Refused
 returns-in-Err-Refused c =
@@ -48,4 +48,4 @@ returns-in-Err-Refused c =
     line_made n st s c.at.ensures c.requires (commands.parse k)
     (answer.Refused m) c.position_at-position.result t (state_of c.put.new.self) said.0 said.1
     (c.put.ensures ∙ ap (λ z. with_stream st n (put z)) c.pause.ensures)
-    (c.position_at-position.ensures ∙ ap states.position_of c.cursor.ensures)
+    (c.position_at-position.ensures ∙ ap states.printed_position c.cursor.ensures)

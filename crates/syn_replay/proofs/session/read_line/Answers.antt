@@ -25,7 +25,7 @@ returns-in-Ok c =
     c.position_at-position.result t (state_of c.put.new.self) read
     (c.put.ensures ∙ ap (λ z. with_stream st c.stream_number-n.result (put z)) c.pause.ensures
     ∙ ap (λ k. with_stream st k (put t)) e)
-    (c.position_at-position.ensures ∙ ap states.position_of c.cursor.ensures)
+    (c.position_at-position.ensures ∙ ap states.printed_position c.cursor.ensures)
 
 pub returns-in-Err-Refused : goal.returns-in-Err-Refused
 returns-in-Err-Refused c =
@@ -44,4 +44,4 @@ returns-in-Err-Refused c =
     c.position_at-position.result t (state_of c.put.new.self) read
     (c.put.ensures ∙ ap (λ z. with_stream st c.stream_number-n.result (put z)) c.pause.ensures
     ∙ ap (λ k. with_stream st k (put t)) e)
-    (c.position_at-position.ensures ∙ ap states.position_of c.cursor.ensures)
+    (c.position_at-position.ensures ∙ ap states.printed_position c.cursor.ensures)

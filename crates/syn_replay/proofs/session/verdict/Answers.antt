@@ -1,6 +1,6 @@
 use Rattle.std.proofs.Common.{◌≡◌, ◌∙◌, ◌<◌, sym, ap, subst, length, Some, None, Ok, Err, arith}
 use Rattle.std.specs.Prelude.{MatchOption}
-use Rattle.syn_parse.specs.Faults.{IsRefused}
+use Rattle.syn_parse.specs.Faults.{FailsWith}
 use Rattle.syn_parse.specs.State.{handed}
 use Rattle.syn_parse.specs.ErrorWords.{leftover_message}
 use Rattle.syn_replay.specs.Reports.{accepted}
@@ -22,7 +22,7 @@ returns-in-Err-Refused c =
     let is = gathered_is st 0 (look st 0) c.gathered.result here c.gathered.ensures in
     let left =
     subst (λ t. MatchOption (handed t) (c.finish.result ≡ Ok tt)
-    (λ l. IsRefused (leftover_message l) c.finish.result)) is c.finish.ensures in
+    (λ l. FailsWith (leftover_message l) c.finish.result)) is c.finish.ensures in
     let said =
     verdict_refused _ c.finish.result tt c.in-Err-Refused.error left (c.in-Err-Refused.is
     ∙ ap Err c.in-Err-Refused.field-0-is) in (

@@ -2,7 +2,7 @@ use Rattle.std.proofs.Common.{◌≡◌, ◌∙◌, ◌++◌, ap, map, rules}
 use Rattle.std.specs.Prelude.{string_bytes}
 use Rattle.syn_replay.specs.Commands.{command_of}
 use Rattle.syn_replay.specs.Meanings.{verdict_of}
-use Rattle.syn_replay.specs.ReportText.{ended, lines_text, verdict_text}
+use Rattle.syn_replay.specs.ReportText.{as_line, lines_text, verdict_text}
 use Rattle.syn_replay.specs.Session.State.{first_state}
 use Rattle.syn_replay.specs.Session.Tracks.{state_of}
 use Rattle.syn_replay.specs.Session.Walk.{lines_from}
@@ -16,7 +16,7 @@ returns-clause-text c =
     let st = state_of c.in_ok-streams.streams in
     let first : st ≡ first_state forest = search rules in
     let text =
-    lines_text (lines_from st cs) ++ ended (verdict_text (verdict_of c.in_ok-verdict.verdict)) in
+    lines_text (lines_from st cs) ++ as_line (verdict_text (verdict_of c.in_ok-verdict.verdict)) in
     ap string_bytes c.into_inner.ensures
     ∙ text_told _ string_bytes (λ _ _ _ t. t) c.new-f.result c.run.new.f c.push_verdict.new.f _ _
     c.new-f.ensures.plain c.in_ok-run.ensures.text c.in_ok-push_verdict.ensures

@@ -3,7 +3,7 @@ use Rattle.std.proofs.Common.{get_or, length, length-set, set, arith}
 use Rattle.std.proofs.lemmas.Bool.{cond-true, cond-false}
 use Rattle.std.specs.Prelude.{cond}
 use Rattle.syn_replay.specs.Session.Links.{AreListed}
-use Rattle.syn_replay.specs.Session.State.{ended, is_open_at, spent}
+use Rattle.syn_replay.specs.Session.State.{stream_ended, is_open_at, spent}
 use Rattle.syn_replay.specs.Session.Stream.{state_of_list}
 use Rattle.syn_replay.specs.Session.Tracks.{state_of}
 use Rattle.syn_replay.specs.declared.session.stream.Stream.{Stream}
@@ -179,7 +179,7 @@ loop-index-preserved t c =
     number_within xs c.args.k c.requires s.listed now.list.items c.loop-index.index z now.listed
     c.loop-index.invariant c.index-in-loop-index.ensures i h c.index-i.ensures in
     let is_open = open_there now.list.items i u c.index-in-loop-index-2.ensures within.1 in
-    let then : state_of c.if-index.self ≡ cond (is_open_at st i) (ended i st) st =
+    let then : state_of c.if-index.self ≡ cond (is_open_at st i) (stream_ended i st) st =
     elim c.if-index.branch [
       | then-index w ↦ ap state_of w.self-is ∙ w.end.ensures
           ∙ sym (cond-true _ _ _ (is_open ∙ w.if-index.true))

@@ -3,7 +3,7 @@ use Rattle.std.proofs.lemmas.Bool.{and_from, and_right}
 use Rattle.std.specs.Prelude.{◌&&◌, not}
 use Rattle.syn_parse.specs.Pauses.{paused_state}
 use Rattle.syn_parse.specs.State as parse
-use Rattle.syn_replay.specs.Session.State.{ended, is_open_at, is_or_inside}
+use Rattle.syn_replay.specs.Session.State.{stream_ended, is_open_at, is_or_inside}
 use Rattle.syn_replay.specs.Session.Stream.{stream_of}
 use Rattle.syn_replay.specs.Session.Tracks.{state_of}
 use Rattle.syn_replay.proofs.Walk.Changes.{look, within_there}
@@ -40,7 +40,7 @@ returns-then-not-is_or_inside c =
     advance_taken st n f (stream_of x) here (state_of c.end.new.self)
     (and_from _ _ (scope ∙ sym c.same_scope.ensures ∙ c.if-same_scope.true)
     (ap not (sym inside ∙ out)))
-    (c.end.ensures ∙ ap (ended f) c.put.ensures
+    (c.end.ensures ∙ ap (stream_ended f) c.put.ensures
     ∙ advances_to st f (look st f) there n (stream_of x) other (paused_state c.pause.result) here is
     (c.pause.ensures ∙ c.advance_to.ensures.moves
     ∙ ap (parse.advanced other) c.resume-input.ensures))

@@ -1,8 +1,8 @@
 use Rattle.std.proofs.Common.{◌∙◌, ◌<◌, ap, length, arith}
 use Rattle.syn_parse.specs.Pauses.{paused_state}
 use Rattle.syn_parse.specs.State as parse
-use Rattle.syn_replay.specs.Session.State.{ended, handed_note, is_open_at}
-use Rattle.syn_replay.specs.Session.Stream.{kind_of, stream_of}
+use Rattle.syn_replay.specs.Session.State.{stream_ended, handed_note, is_open_at}
+use Rattle.syn_replay.specs.Session.Stream.{stream_kind, stream_of}
 use Rattle.syn_replay.specs.Session.Tracks.{state_of}
 use Rattle.syn_replay.proofs.Walk.Closing.{closes_alone, closes_into, gathered_is, open_length}
 use Rattle.syn_replay.proofs.Walk.Closing.{open_put}
@@ -40,15 +40,15 @@ returns c =
           let content = w.gathered-content.result in
           let below = parent_below xs k p x s.listed c.index.ensures within w.in-Some.is in
           let there : p < length xs = omega (arith, below, within) in
-          ap (λ z. ended k (state_of z)) w.self-is ∙ ap (ended k) w.put.ensures
+          ap (λ z. stream_ended k (state_of z)) w.self-is ∙ ap (stream_ended k) w.put.ensures
           ∙ closes_into st k (stream_of x) here p (stream_of y) content
-          (paused_state w.pause.result) (ap (kind_of x.is_fork) w.in-Some.is)
+          (paused_state w.pause.result) (ap (stream_kind x.is_fork) w.in-Some.is)
           (stream_there xs p y w.index-in-Some.ensures there)
           (gathered_is st k (stream_of x) content here w.gathered-content.ensures)
           (w.pause.ensures ∙ w.close.ensures.closes
           ∙ ap (parse.closed content) w.resume-input.ensures)
       | in_default w ↦
-          ap (λ z. ended k (state_of z)) w.self-is
+          ap (λ z. stream_ended k (state_of z)) w.self-is
           ∙ closes_alone st k (stream_of x) here
           (noted_apart x.is_fork x.parent (handed_note st k (stream_of x)) st w.in_default.is)
     ]
