@@ -1,11 +1,14 @@
 pub use Rattle.tok_lexical.specs.Delimiters as DelimiterTexts
 pub use Rattle.tok_lexical.specs.Editions
 pub use Rattle.tok_lexical.specs.Errors as LexErrors
+pub use Rattle.tok_lexical.specs.RawQuotes
 pub use Rattle.tok_lexical.specs.Rules
 pub use Rattle.tok_lexical.specs.Words
+pub use Rattle.tok_leaves.specs.IdentFaults
 pub use Rattle.tok_leaves.specs.Laws as LeafLaws
 pub use Rattle.tok_leaves.specs.Leaves
 pub use Rattle.tok_leaves.specs.Lifetimes
+pub use Rattle.tok_leaves.specs.Literals
 pub use Rattle.tok_leaves.specs.Quoting
 pub use Rattle.tok_leaves.specs.Spans as Spans
 pub use Rattle.tok_values.specs.Escapes
@@ -13,7 +16,9 @@ pub use Rattle.tok_values.specs.Floats as FloatValues
 pub use Rattle.tok_values.specs.Integers
 pub use Rattle.tok_values.specs.Laws as ValueLaws
 pub use Rattle.tok_values.specs.Numbers as NumberValues
+pub use Rattle.tok_values.specs.RawStrings
 pub use Rattle.tok_values.specs.Strings as StringValues
+pub use Rattle.tok_values.specs.Suffixes
 pub use Rattle.tok_values.specs.Values
 pub use Rattle.tok_core.specs.Clear
 pub use Rattle.tok_core.specs.Erase
@@ -68,6 +73,7 @@ pub use Rattle.syn_parse.specs.Inside
 pub use Rattle.syn_parse.specs.Laws as StreamLaws
 pub use Rattle.syn_parse.specs.Lighter
 pub use Rattle.syn_parse.specs.Lookahead
+pub use Rattle.syn_parse.specs.Loops
 pub use Rattle.syn_parse.specs.Many
 pub use Rattle.syn_parse.specs.Nested
 pub use Rattle.syn_parse.specs.Optional

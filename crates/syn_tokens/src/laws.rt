@@ -1,7 +1,7 @@
 //! Laws. Each is the contract of a function that does nothing, or nearly nothing: a proof that calls
-//! it may use the law. The last ones call what this crate passes on, by its name, so that no two
-//! names can change places.
-ghost use Rattle.std.specs.Prelude.{◌≡◌, IfOk, map};
+//! it may use the law. The last ones use what this crate passes on, by its name, so that names of the
+//! same form cannot change places.
+ghost use Rattle.std.specs.Prelude.{◌≡◌, ℕ, List, IfOk, codes, map};
 ghost use Rattle.std.specs.Str.{chars};
 ghost use Rattle.tok_lexical.specs.declared.delimiter.Delimiter.TheVariants.{Brace, Bracket, Parenthesis};
 ghost use Rattle.tok_lexical.specs.declared.rule.Mode.TheVariants.{Marked, Plain};
@@ -12,18 +12,29 @@ ghost use Rattle.tok_core.specs.Lexical.Outcome.{FollowsGrammar};
 ghost use Rattle.tok_pruned.specs.Pruned.{pruned};
 ghost use Rattle.syn_parse.specs.Parsers.{ParsesWhole, whole_stream};
 ghost use Rattle.syn_parse.specs.Takes.{EntersAhead};
+ghost use Rattle.syn_parse.specs.Skips.{second_sees};
+ghost use Rattle.syn_choices.specs.Peeks.{both_see, either_sees, not_sees};
 ghost use Rattle.syn_replay.specs.Commands.{command_of};
 ghost use Rattle.syn_replay.specs.Meanings.{report_of};
 ghost use Rattle.syn_replay.specs.Session.Walk.{walk};
 
+use crate::LitBool;
+use crate::LitFloat;
+use crate::LitInt;
+use crate::LitStr;
+use crate::parse::NotNext;
+use crate::parse::OneOf;
+use crate::parse::Then;
 use std::alloc::AllocError;
 use std::alloc::Global;
+pub use syn_literals::laws::clones_keep_booleans;
 use syn_parse::Parse;
 use syn_parse::ParseBuffer;
 use syn_parse::ParseStream;
 use syn_parse::Result;
 pub use syn_parse::laws::clones_keep_own_keywords;
 pub use syn_parse::laws::clones_keep_streams;
+pub use syn_parse::laws::errors_have_one_span;
 pub use syn_parse::laws::forks_follow;
 pub use syn_parse::laws::nothings_are_equal;
 pub use syn_parse::laws::own_keywords_are_equal;
@@ -66,6 +77,8 @@ pub use tok_buffer::laws::lifetimes_by_name;
 pub use tok_buffer::laws::lifetimes_in_order;
 pub use tok_buffer::laws::marked_as_stream;
 pub use tok_buffer::laws::moves_stay;
+pub use tok_buffer::laws::passed_trees_join;
+pub use tok_buffer::laws::reads_follow;
 pub use tok_buffer::laws::reads_go_later;
 pub use tok_buffer::laws::reads_go_on;
 pub use tok_buffer::laws::reads_keep_scope;
@@ -89,6 +102,7 @@ pub use tok_core::laws::clones_keep_trees;
 pub use tok_core::laws::editions_by_year;
 pub use tok_core::laws::errors_are_compared_whole;
 pub use tok_core::laws::forest_once;
+pub use tok_core::laws::ident_faults_tell;
 pub use tok_core::laws::idents_by_text;
 pub use tok_core::laws::kinds_are_compared_whole;
 pub use tok_core::laws::never_both;
@@ -98,7 +112,9 @@ pub use tok_core::laws::spans_are_compared_whole;
 pub use tok_core::laws::streams_without_spans;
 pub use tok_core::laws::trees_without_spans;
 pub use tok_core::laws::writes_follow_writes;
+pub use tok_entries::laws::clones_keep_entries;
 pub use tok_entries::laws::denoted_once;
+pub use tok_entries::laws::entries_are_compared_whole;
 pub use tok_pruned::laws::filled_forests_stay;
 pub use tok_pruned::laws::pruning_again_changes_nothing;
 pub use tok_pruned::laws::pruning_fills;
@@ -119,12 +135,14 @@ pub use tok_types::laws::punctuations_have_their_texts;
 pub use tok_types::laws::tokens_ignore_invisible;
 pub use tok_types::laws::underscores_are_equal;
 use tok_types::token;
+use tok_types::token::Token;
 pub use tok_values::laws::byte_strings_are_read;
 pub use tok_values::laws::characters_are_read;
 pub use tok_values::laws::clones_keep_integers;
 pub use tok_values::laws::integer_faults_are_compared_whole;
 pub use tok_values::laws::strings_are_read;
 pub use tok_values::laws::strings_keep_text;
+pub use tok_values::laws::suffixes_follow_the_grammar;
 pub use tok_values::laws::values_are_functions;
 pub use visible_replay::laws::visible_tokens_decide;
 
@@ -290,3 +308,23 @@ pub fn bracketed_enters_brackets<'a>(
     let token = crate::bracketed!(content in input);
     Ok((token, content))
 }
+
+/// `LitStr`, `LitInt`, `LitFloat` and `LitBool` are literals of these kinds, by their names in
+/// errors.
+pub fn literals_have_their_kinds()
+    ensures strings { (name : List ℕ) → ⟦<LitStr as Token>⟧.shown name
+        → name ≡ codes "string literal" }
+    ensures integers { (name : List ℕ) → ⟦<LitInt as Token>⟧.shown name
+        → name ≡ codes "integer literal" }
+    ensures floats { (name : List ℕ) → ⟦<LitFloat as Token>⟧.shown name
+        → name ≡ codes "floating point literal" }
+    ensures booleans { (name : List ℕ) → ⟦<LitBool as Token>⟧.shown name
+        → name ≡ codes "boolean literal" }
+{}
+
+/// `Then` looks for two tokens in turn, `OneOf` for one of the two, and `NotNext` for another one.
+pub fn peeks_have_their_meanings<A: Token, B: Token>()
+    ensures in_turn { ⟦<Then<A, B> as Token>⟧.sees ≡ both_see A.sees (second_sees B.sees) }
+    ensures either { ⟦<OneOf<A, B> as Token>⟧.sees ≡ either_sees A.sees B.sees }
+    ensures another { ⟦<NotNext<A> as Token>⟧.sees ≡ not_sees A.sees }
+{}

@@ -17,9 +17,9 @@ pub use syn_replay::{
 };
 pub use tok_buffer::{Error, Lifetime, LifetimeFault, error};
 pub use tok_core::{
-    DelimSpan, Delimiter, Edition, Group, Ident, LexError, LexFault, Literal, MakeFault, Punct,
-    Spacing, Span, Text, ToTokens, TokenStream, TokenStreamHelper, TokenTree, TokenTreeHelper,
-    is_clear, is_filled, lex, lex_marked, lex_source, same_visible,
+    DelimSpan, Delimiter, Edition, Group, Ident, IdentFault, LexError, LexFault, Literal,
+    LiteralFault, MakeFault, Punct, Spacing, Span, Text, ToTokens, TokenStream, TokenStreamHelper,
+    TokenTree, TokenTreeHelper, is_clear, is_filled, lex, lex_marked, lex_source, same_visible,
 };
 pub use tok_pruned::prune;
 pub use tok_types::{accept_as_ident, token};
