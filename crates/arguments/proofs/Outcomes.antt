@@ -1,7 +1,7 @@
 -- What the reader returns is what the grammar says.
 use Rattle.std.specs.Prelude.{None}
 use Rattle.std.proofs.Common.{◌≡◌, ◌∙◌, sym, ap, subst, refl, true, List, Ok, Err, inl, inr}
-use Rattle.std.specs.Prelude.{Result}
+use Rattle.std.specs.Prelude.{IfOk, Result}
 use Rattle.tok_leaves.specs.Spans.{call_site}
 use Rattle.tok_core.specs.Erase.{erase}
 use Rattle.tok_core.specs.Filled.{filled}
@@ -10,7 +10,7 @@ use Rattle.tok_buffer.specs.Messages.{first_text}
 use Rattle.tok_buffer.specs.declared.error.Message.{Message}
 use Rattle.syn_parse.proofs.Shapes.{found_first}
 use Rattle.syn_parse.specs.Positions.{Missing}
-use Rattle.syn_parse.specs.Takes.{Outcome, SaysAll, TakesAll, found, missing}
+use Rattle.syn_parse.specs.Takes.{IsAll, Outcome, SaysAll, TakesAll, found, missing}
 use Rattle.syn_parse.specs.TreesAhead.{all_taken, whole}
 use Rattle.syn_parse.specs.declared.fault.Fault.{Fault}
 use Rattle.syn_parse.specs.declared.fault.Fault.TheVariants.{Memory, Refused}
@@ -31,6 +31,20 @@ parses f (Ok arguments) h = (sound (erase f) (list_form arguments) all_taken h).
 parses f (Err (Refused e)) h = inr
     (λ arguments l. h.0.0 (list_form arguments) (arguments_taken (erase f) (list_form arguments) l))
 parses f (Err (Memory e)) h = inl tt
+
+-- what is returned, of any forest
+abbrev pub IsTaken : Forest → Arguments → Type 0
+IsTaken f arguments = IsAll take_arguments f (list_form arguments)
+
+pub value_is : (f : Forest) (r : Result Arguments Fault) → IfOk r (IsTaken f)
+    → IfOk r (AreArguments (erase f))
+value_is f (Ok arguments) h = (sound (erase f) (list_form arguments) all_taken h).1
+value_is f (Err e) h = tt
+
+pub kept_is : (f : Forest) (r : Result Arguments (List Message)) → IfOk (with_fault r) (IsTaken f)
+    → IfOk r (AreArguments (erase f))
+kept_is f (Ok arguments) h = (sound (erase f) (list_form arguments) all_taken h).1
+kept_is f (Err e) h = tt
 
 pub says : (f : Forest) (r : Result Arguments Fault) → filled f ≡ true → Taken f r → SaysWhy f r
 says f (Ok arguments) i h = tt

@@ -19,6 +19,7 @@ mutual
     assigned : Ident → Equals → Literal → Form
     with_list : Ident → Span → Forms → List Comma → Form
 
+  -- no argument, or a first one and the others
   pub data Forms : Type 0 where
     none : Forms
     one_more : Form → Forms → Forms
@@ -39,6 +40,7 @@ value_level (Value-F.Literal equals text) name = assigned name equals text
 value_level (Value-F.List paren list) name =
     listed name (whole_span paren.span) (values_of list, separators_of list)
 
+-- an argument, with the form of its value in its place
 abbrev pub argument_level : Argument-F (Ident → Form) Form → Form
 argument_level argument = argument.value argument.name
 

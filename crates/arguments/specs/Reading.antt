@@ -1,11 +1,12 @@
 -- How arguments are read.
-use Rattle.std.specs.Prelude.{◌≡◌}
+use Rattle.std.specs.Prelude.{◌≡◌, IfOk, Ok}
 use Rattle.tok_lexical.specs.declared.delimiter.Delimiter.TheVariants.{Parenthesis}
 use Rattle.tok_leaves.specs.declared.ident.Ident.{Ident}
 use Rattle.tok_core.specs.Forest.{Forest}
 use Rattle.syn_parse.specs.Nested.{Descends, lightens_nested, nested_again, take_nested}
 use Rattle.syn_parse.specs.Positions.{Missing}
-use Rattle.syn_parse.specs.Takes.{Taking, ◌>>=◌, gives, missing, take_group, where_ahead}
+use Rattle.syn_parse.specs.Reads.{Call}
+use Rattle.syn_parse.specs.Takes.{Taking, TakesAs, ◌>>=◌, gives, missing, take_group, where_ahead}
 use Rattle.syn_parse.specs.Takings.{Takings, lighter, taken_filled, told_filled}
 use Rattle.syn_parse.specs.TokenNames.{sees_eq, take_comma, take_eq}
 use Rattle.syn_parse.specs.Tokens.{sees_group, take_ident, take_literal}
@@ -63,6 +64,10 @@ argument =
 -- what is stated of arguments up to the end
 abbrev pub arguments : Takings Arguments
 arguments = taken_filled list_form take_arguments
+
+-- a call that returns a value has taken it, seen in a form; nothing is said of an error
+abbrev pub TakesIfOk : {T A : Type 0} → (T → A) → Taking A → Call T
+TakesIfOk form take s r t = IfOk r (λ v. TakesAs form take s (Ok v) t)
 
 -- reading these trees finds this missing
 abbrev pub FindsMissing : Forest → Missing → Type 0

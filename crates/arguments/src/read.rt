@@ -1,17 +1,24 @@
 //! The parser of arguments.
 ghost use Rattle.std.specs.Prelude.{◌≡◌, true, IfOk};
+ghost use Rattle.tok_buffer.specs.Place.{is_at_end};
+ghost use Rattle.tok_buffer.specs.View.{erased_ahead};
 ghost use Rattle.tok_core.specs.Erase.{erase};
 ghost use Rattle.tok_core.specs.Filled.{filled};
+ghost use Rattle.tok_core.specs.Forest.{no_trees};
 ghost use Rattle.tok_leaves.specs.Spans.{call_site};
 ghost use Rattle.tok_leaves.specs.declared.ident.Ident.{Ident};
+ghost use Rattle.syn_parse.specs.Takes.{IsAll};
 ghost use Rattle.syn_parse.specs.Takings.{Keeps, KeepsWhole};
-ghost use Rattle.arguments.specs.Reading.{argument, arguments, value_after};
+ghost use Rattle.arguments.specs.Forms.{argument_form, list_form, value_form};
+ghost use Rattle.arguments.specs.Grammar.{AreArguments};
+ghost use Rattle.arguments.specs.Reading.{TakesIfOk, argument, arguments, value_after};
+ghost use Rattle.arguments.specs.Reading.{take_argument, take_arguments, take_value};
 ghost use Rattle.arguments.specs.Results.{Agree, Parses, ParsesTo, SaysWhy, with_fault};
 
 use crate::argument::{Argument, Arguments, Value};
 use std::alloc::{AllocError, Global};
 use syn_parse::laws::parses_go_on;
-use syn_parse::{Fault, Parens, ParseStream, Parser, Result, parse_parens};
+use syn_parse::{Fault, Parens, ParseBuffer, ParseStream, Parser, Result, parse_parens};
 use syn_punctuated::Punctuated;
 use tok_buffer::Error;
 use tok_core::TokenStream;
@@ -19,6 +26,9 @@ use tok_types::token;
 
 /// Parses all of these tokens as arguments. If they are none, returns the error of the first parser
 /// that fails.
+///
+/// An empty invisible group at the end of a list is an error. `visible_arguments` leaves such groups
+/// out first.
 ///
 /// # Examples
 ///
@@ -28,6 +38,7 @@ use tok_types::token;
 /// assert_eq!(rt; list.len(), 3);
 /// ```
 pub fn parse_arguments(alloc: Global, tokens: TokenStream) -> Result<Arguments>
+    ensures value { IfOk result (λ list. AreArguments (erase tokens) list) }
     ensures parses { filled tokens ≡ true → Parses (erase tokens) result }
     ensures says { filled tokens ≡ true → SaysWhy tokens result }
 {
@@ -36,7 +47,8 @@ pub fn parse_arguments(alloc: Global, tokens: TokenStream) -> Result<Arguments>
 
 /// Parses the arguments up to the end of a stream.
 pub fn parse_to_end(input: ParseStream<'_, '_>) -> Result<Arguments>
-    ensures { Keeps arguments input.old result input.new }
+    ensures value { TakesIfOk list_form take_arguments input.old result input.new }
+    ensures keeps { Keeps arguments input.old result input.new }
 {
     read_arguments(input)
 }
@@ -56,6 +68,10 @@ pub fn arguments_both(
     ),
     AllocError,
 >
+    ensures left_value { IfOk result
+        (λ both. IfOk both.0 (λ list. AreArguments (erase left) list)) }
+    ensures right_value { IfOk result
+        (λ both. IfOk both.1 (λ list. AreArguments (erase right) list)) }
     ensures left { IfOk result (λ both. filled left ≡ true → ParsesTo left both.0) }
     ensures right { IfOk result (λ both. filled right ≡ true → ParsesTo right both.1) }
     ensures agree { IfOk result
@@ -82,7 +98,8 @@ fn without_memory(
 
 // Parses all of these tokens as what the reader takes.
 fn parse_whole(alloc: Global, tokens: TokenStream) -> Result<Arguments>
-    ensures { KeepsWhole arguments tokens call_site result }
+    ensures value { IfOk result (λ list. IsAll take_arguments tokens (list_form list)) }
+    ensures keeps { KeepsWhole arguments tokens call_site result }
 {
     read_arguments.parse2(alloc, tokens)
 }
@@ -90,17 +107,28 @@ fn parse_whole(alloc: Global, tokens: TokenStream) -> Result<Arguments>
 // Parses the arguments up to the end.
 #[cycle(reading)]
 fn read_arguments(input: ParseStream<'_, '_>) -> Result<Arguments>
-    ensures { Keeps arguments input.old result input.new }
+    ensures value { TakesIfOk list_form take_arguments input.old result input.new }
+    ensures keeps { Keeps arguments input.old result input.new }
 {
     parses_go_on();
-    Punctuated::parse_terminated_with(input, read_argument)
+    let list = Punctuated::parse_terminated_with(input, read_argument);
+    ends_tell(input);
+    list
+}
+
+// Nothing visible is ahead at the end of a stream, whatever invisible groups there are.
+pub(crate) fn ends_tell(input: &ParseBuffer<'_>)
+    ensures { is_at_end input.now.place ≡ true → erased_ahead input.now.place ≡ no_trees }
+{
+    let _ = input.cursor();
 }
 
 // Parses the next argument.
 #[cycle(reading)]
 #[tactic(auto, using(crate::proofs::Formed::all))]
 fn read_argument(input: ParseStream<'_, '_>) -> Result<Argument>
-    ensures { Keeps argument input.old result input.new }
+    ensures value { TakesIfOk argument_form take_argument input.old result input.new }
+    ensures keeps { Keeps argument input.old result input.new }
 {
     let name = input.parse()?;
     let value = read_value(input)?;
@@ -111,7 +139,9 @@ fn read_argument(input: ParseStream<'_, '_>) -> Result<Argument>
 #[cycle(reading)]
 #[tactic(auto, using(crate::proofs::Formed::all), unfolding(syn_parse::specs::Takes::take_group))]
 fn read_value(input: ParseStream<'_, '_>) -> Result<Value>
-    ensures { (name : Ident) → Keeps (value_after name) input.old result input.new }
+    ensures value { (name : Ident) → TakesIfOk (λ value. value_form value name)
+        (take_value take_arguments name) input.old result input.new }
+    ensures keeps { (name : Ident) → Keeps (value_after name) input.old result input.new }
 {
     if input.peek::<token::Eq>() {
         let equals = input.parse()?;
