@@ -44,6 +44,7 @@ given_text status bytes =
 abbrev pub bare : {A : Type 0} → ℕ → Given A
 bare status = given_text status []
 
+-- the number of each reason to reject an entry, from 1 to 3
 abbrev pub refusal_number : Refusal → ℕ
 refusal_number Shape = 1
 refusal_number Text = 2

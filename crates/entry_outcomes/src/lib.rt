@@ -10,6 +10,7 @@
 
 mod answer;
 mod intake;
+pub mod laws;
 mod outcome;
 mod parse;
 

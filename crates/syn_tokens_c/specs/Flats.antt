@@ -29,6 +29,7 @@ abbrev mutual
   flat (with_list name span inner commas) =
       flat_as 2 name.span span (length (flats inner)) ∷ flats inner
 
+  -- the arguments of a list in order, each before those inside it
   pub flats : Forms → List FlatArgument
   flats none = []
   flats (one_more f fs) = flat f ++ flats fs

@@ -10,10 +10,11 @@ use Rattle.std_alloc.specs.Box.Ownership.{box_owns}
 use Rattle.syn_tokens_c.specs.declared.kept.Kept.{Kept}
 use Rattle.syn_tokens_c.specs.contracts.kept.Kept.{the_row}
 
--- the global allocator, and the right to give a block back to it
+-- the global allocator
 abbrev pub heap : Global
 heap = record { memory = record { seal = tt } }
 
+-- the right to give the block at a pointer back to the allocator
 abbrev pub may_free : Ty → Ptr → Fml
 may_free = ghosts.dealloc_token heap
 

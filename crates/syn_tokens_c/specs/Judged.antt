@@ -42,7 +42,7 @@ IsJudged es bs o old new before after from to =
     × Returns (given_of result) o old new before after from to)
     ⊎ Returns (bare 3) o old new before after from to
 
--- the same of an answer that is not yet written
+-- an answer to the entries, before it is written
 abbrev pub AnswersArguments : List Entry → List ℕ → Result (Answer FlatArgument) AllocError
     → Type 0
 AnswersArguments es bs (Ok a) =

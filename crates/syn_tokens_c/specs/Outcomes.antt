@@ -105,7 +105,7 @@ edition_of year =
     cond (year == 2015) (Some Edition2015) (cond (year == 2018) (Some Edition2018)
     (cond (year == 2021) (Some Edition2021) (cond (year == 2024) (Some Edition2024) None)))
 
--- the same of a source of the edition of this year, if there is one
+-- a source that is UTF-8 follows the grammar of the edition of this year, if there is one
 abbrev pub LexesSource : ℕ → List ℕ → Reading → (old new : List Entry) →
     (before after : List ℕ) → Type 0
 LexesSource year text r old new before after =

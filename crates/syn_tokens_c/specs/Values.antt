@@ -27,10 +27,11 @@ pub record HasNone (text : List ℕ) : Type 0 where
   pub integer : HasNoSmall text
   pub float : float_value text ≡ None
 
--- a value of bytes alone, or of a number alone
+-- a value of bytes alone
 abbrev pub HasBytesAlone : Found → Type 0
 HasBytesAlone v = (v.number ≡ 0) × (v.suffix ≡ 0)
 
+-- a value of a number alone
 abbrev pub HasNumberAlone : Found → Type 0
 HasNumberAlone v = (v.suffix ≡ 0) × (v.bytes.items ≡ [])
 

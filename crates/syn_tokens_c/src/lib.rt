@@ -22,6 +22,7 @@ mod flat;
 mod handle;
 mod judge;
 mod kept;
+pub mod laws;
 mod lines;
 mod loose;
 mod open;
