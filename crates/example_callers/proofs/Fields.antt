@@ -10,7 +10,7 @@ use Rattle.tok_buffer.specs.Descent.{descend}
 use Rattle.tok_buffer.specs.Order.{same_scope}
 use Rattle.tok_buffer.specs.Place.{Place}
 use Rattle.tok_buffer.specs.Progress.{ReadsKeepScope}
-use Rattle.tok_buffer.specs.Reads.{and_then, is_punct_of}
+use Rattle.tok_buffer.specs.Reads.{read_then, is_punct_of}
 use Rattle.tok_buffer.specs.declared.error.Message.{Message}
 use Rattle.tok_types.specs.declared.punctuation.Punctuation.{Punctuation}
 use Rattle.tok_types.specs.Texts.{accept_as_ident}
@@ -19,7 +19,7 @@ use Rattle.syn_parse.specs.declared.fault.Fault.TheVariants.{Refused}
 use Rattle.syn_parse.specs.Faults.{IsMemory, Refuses}
 use Rattle.syn_parse.specs.Parses.{AreSpans, IdentParses, IsIdent}
 use Rattle.syn_parse.specs.Progress.{PunctuationTypeParses}
-use Rattle.syn_parse.specs.Reads.{Read}
+use Rattle.syn_parse.specs.Reads.{TreesRead}
 use Rattle.syn_parse.specs.State.{State, moved}
 use Rattle.syn_parse.specs.ErrorWords.{punctuation_message}
 use Rattle.syn_parse.proofs.Reading.{reads-value, reads-refused, reads-memory}
@@ -34,8 +34,8 @@ abbrev AreSpansOf : (k : ℕ) → Punctuation k 1 → List Tree → Type 0
 AreSpansOf k p = AreSpans p.spans
 
 -- the name and the colon of a field
-abbrev read_start : Place → Read
-read_start p = and_then (read_name p) read_colon
+abbrev read_start : Place → TreesRead
+read_start p = read_then (read_name p) read_colon
 
 -- where a field leads, from where its name and its colon do
 field_leads :
@@ -58,14 +58,14 @@ field_keeps_scope on =
 
 module _ (s : State) where
   -- the error of a field, by what is read of its name, and then of its colon
-  abbrev colon_message : State → Read → Message
+  abbrev colon_message : State → TreesRead → Message
   colon_message t x =
       elim x [
         | None ↦ punctuation_message (codes ":") t
         | Some colon ↦ name_message (moved colon.1 s)
       ]
 
-  abbrev message_by : Read → Message
+  abbrev message_by : TreesRead → Message
   message_by x =
       elim x [
         | None ↦ name_message s
@@ -89,7 +89,7 @@ module _ (s : State) where
         | inl m ↦ is_memory f t m
         | inr r ↦
             is_refused (name_message s) f t
-            (ap (λ x. and_then (and_then x read_colon) read_name) r.0) (ap message_by r.0) r.1
+            (ap (λ x. read_then (read_then x read_colon) read_name) r.0) (ap message_by r.0) r.1
       ]
 
   pub without_colon :
@@ -102,7 +102,7 @@ module _ (s : State) where
       let gone : read_colon first.0.1 ≡ None =
       ap (λ z. read_colon z.place) (sym first.3) ∙ left.0 in
       is_refused words f u
-      (ap (λ x. and_then x read_name)
+      (ap (λ x. read_then x read_name)
       (then_none (read_name s.place) read_colon first.0 first.1 gone))
       (ap message_by first.1 ∙ ap (colon_message (moved first.0.1 s)) gone
       ∙ ap (punctuation_message (codes ":")) (sym first.3))
@@ -141,7 +141,7 @@ module _ (s : State) where
     stream : u ≡ moved second.0.1 s
     stream = second.3 ∙ ap (moved second.0.1) first.3
 
-    kind_read : (x : Read) → read_name u.place ≡ x → read_name start.1 ≡ x
+    kind_read : (x : TreesRead) → read_name u.place ≡ x → read_name start.1 ≡ x
     kind_read x e = ap (λ z. read_name z.place) (sym stream) ∙ e
 
     pub without_kind :

@@ -19,6 +19,7 @@ use Rattle.example_callers.specs.declared.constant.Head.{Head}
 abbrev pub HeadForm : Type 0
 HeadForm = Ident × Option (Punctuation 20 1 × Ident × Punctuation 17 1)
 
+-- a head as contracts see it
 abbrev pub head_form : Head → HeadForm
 head_form h = (h.name, option_map (λ g. (g.0, g.1, g.2)) h.generics)
 
@@ -34,6 +35,7 @@ take_head = do
 abbrev pub ConstantForm : Type 0
 ConstantForm = HeadForm × Either (Punctuation 13 1 × Literal) (Punctuation 6 1 × Ident)
 
+-- a constant as contracts see it
 abbrev pub constant_form : Constant → ConstantForm
 constant_form c =
     (head_form c.head, map_either (λ v. (v.0, v.1)) (λ k. (k.0, k.1)) c.body)

@@ -4,27 +4,28 @@ use Rattle.std.specs.Prelude.{Option, Some, None, Ok, Err}
 use Rattle.tok_core.specs.Forest.{Tree, leaf}
 use Rattle.tok_leaves.specs.Leaves.{ident_of}
 use Rattle.tok_buffer.specs.Place.{Place}
-use Rattle.tok_buffer.specs.Reads.{and_then, read_ident}
+use Rattle.tok_buffer.specs.Reads.{read_then, read_ident}
 use Rattle.tok_buffer.specs.Reads.{read_punctuation, read_word}
 use Rattle.tok_buffer.specs.declared.error.Message.{Message}
 use Rattle.tok_types.specs.Texts.{accept_as_ident}
 use Rattle.syn_parse.specs.Faults.{IsMemory}
-use Rattle.syn_parse.specs.Reads.{Call, Read, Reads}
+use Rattle.syn_parse.specs.Reads.{Call, TreesRead, Reads}
 use Rattle.syn_parse.specs.State.{State, moved}
 use Rattle.syn_parse.specs.ErrorWords.{ident_words}
 use Rattle.syn_parse.specs.ErrorWords.{punctuation_message, refused_at}
 use Rattle.example_callers.specs.declared.streams.Field.{Field}
 
 -- an identifier that is no reserved word
-abbrev pub read_name : Place → Read
+abbrev pub read_name : Place → TreesRead
 read_name = read_word accept_as_ident
 
-abbrev pub read_colon : Place → Read
+-- a `:`, alone or joint
+abbrev pub read_colon : Place → TreesRead
 read_colon = read_punctuation (codes ":")
 
 -- `name: Kind`
-abbrev pub read_field : Place → Read
-read_field p = and_then (and_then (read_name p) read_colon) read_name
+abbrev pub read_field : Place → TreesRead
+read_field p = read_then (read_then (read_name p) read_colon) read_name
 
 -- the name and the kind in the three trees of a field
 abbrev pub IsField : Field → List Tree → Type 0

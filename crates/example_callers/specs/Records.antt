@@ -31,9 +31,11 @@ lowers_member = search lowering depth 20
 abbrev pub FieldsForm : Type 0
 FieldsForm = List Member × List (Punctuation 7 1)
 
+-- fields as contracts see them
 abbrev pub fields_form : Fields → FieldsForm
 fields_form f = list_form (λ v. v) (λ p. p) f.list
 
+-- members with commas between them; there may be one after the last
 abbrev pub take_fields : Taking FieldsForm
 take_fields = take_terminated take_member take_comma
 
@@ -41,6 +43,7 @@ take_fields = take_terminated take_member take_comma
 abbrev pub record_form : Record → Ident × FieldsForm
 record_form r = (r.name, fields_form r.fields)
 
+-- `struct name { members }`
 abbrev pub take_record : Taking (Ident × FieldsForm)
 take_record = do
   _ ← take_struct
@@ -52,8 +55,10 @@ take_record = do
 abbrev pub PathForm : Type 0
 PathForm = List Ident × List (Punctuation 28 2)
 
+-- a path as contracts see it
 abbrev pub path_form : Path → PathForm
 path_form p = list_form (λ v. v) (λ p. p) p.names
 
+-- names with `::` between them, at least one
 abbrev pub take_path : Taking PathForm
 take_path = take_separated sees_path_sep take_ident take_path_sep

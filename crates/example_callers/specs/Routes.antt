@@ -17,16 +17,19 @@ use Rattle.example_callers.specs.declared.route.Target.{Target}
 abbrev pub NamesForm : Type 0
 NamesForm = List Ident × List (Punctuation 7 1)
 
+-- names as contracts see them
 abbrev pub names_form : Names → NamesForm
 names_form n = list_form (λ v. v) (λ p. p) n.list
 
+-- names with commas between them; there may be one after the last
 abbrev pub take_names : Taking NamesForm
 take_names = take_terminated take_ident take_comma
 
--- `path (names);`
+-- a target as contracts see it
 abbrev pub target_form : Target → PathForm × NamesForm
 target_form t = (path_form t.path, names_form t.arguments)
 
+-- `path (names);`
 unfoldable pub take_target : Taking (PathForm × NamesForm)
 take_target = do
   path ← take_path
@@ -34,10 +37,11 @@ take_target = do
   _ ← take_semi
   gives (path, names.1)
 
--- `method "pattern" -> target`
+-- a route as contracts see it
 abbrev pub route_form : Route → Ident × Literal × (PathForm × NamesForm)
 route_form r = (r.method, r.pattern, target_form r.target)
 
+-- `method "pattern" -> target`
 abbrev pub take_route : Taking (Ident × Literal × (PathForm × NamesForm))
 take_route = do
   method ← take_ident

@@ -29,6 +29,7 @@ take_assignment = do
   _ ← take_semi
   gives (record { name = name; value = value })
 
+-- less is ahead after an assignment
 pub lowers_assignment : Lowers take_assignment
 unfolding take_assignment
 lowers_assignment = search lowering depth 20
@@ -39,6 +40,7 @@ RuleForm =
     Ident × (List Literal × List (Punctuation 7 1)) × List Assignment × Lifetime × Ident × Ident
     × Option (Keyword 51 × Ident)
 
+-- a rule as contracts see it
 abbrev pub rule_form : Rule → RuleForm
 rule_form r = (
   r.name,

@@ -27,10 +27,12 @@ mutual
     text : Literal → Form
     list : Span → Forms → List (Punctuation 7 1) → Form
 
+  -- no value, or a first one and the others
   pub data Forms : Type 0 where
     none : Forms
     one_more : Form → Forms → Forms
 
+-- a list of forms as its own type
 abbrev pub forms : List Form → Forms
 forms [] = none
 forms (f ∷ fs) = one_more f (forms fs)
@@ -46,6 +48,7 @@ one_level (Value-F.Text literal) = text literal
 one_level (Value-F.List bracket values) =
     listed (whole_span bracket.span) (values_of values, separators_of values)
 
+-- a value as contracts see it
 abbrev pub value_form : Value → Form
 value_form = fold-Value Form one_level
 
@@ -60,9 +63,11 @@ value_step value =
           literal ← take_literal
           gives (text literal)))
 
+-- each level takes less than the one around it
 pub value_descends : Descends 0 value_step
 value_descends = search descending_lists depth 40
 
+-- takes a value, with values within it
 abbrev pub take_value : Taking Form
 take_value = take_nested value_step
 
@@ -74,6 +79,7 @@ value_again = nested_again value_step value_descends
 pub lightens_value : Lightens take_value
 lightens_value = lightens_nested value_step value_descends
 
+-- the parse of a value, if no invisible group is empty
 abbrev pub values : Takings Value
 values = told_filled value_form take_value (lighter lightens_value)
 

@@ -4,7 +4,7 @@ ghost use Rattle.tok_core.specs.Forest.{leaf};
 ghost use Rattle.tok_leaves.specs.Leaves.{ident_of};
 ghost use Rattle.tok_buffer.specs.Cursors.{place_of};
 ghost use Rattle.tok_buffer.specs.Place.{Place};
-ghost use Rattle.tok_buffer.specs.Reads.{and_then, any_text, read_ident, read_lifetime};
+ghost use Rattle.tok_buffer.specs.Reads.{read_then, any_text, read_ident, read_lifetime};
 ghost use Rattle.tok_core.specs.Seen.{lifetime_trees};
 
 use tok_buffer::Cursor;
@@ -13,8 +13,8 @@ use tok_core::{Ident, Span};
 /// Reads two identifiers in turn, across the edges of invisible groups.
 pub fn pair_of_idents<'a>(cursor: Cursor<'a>) -> Option<(&'a Ident, &'a Ident, Cursor<'a>)>
     ensures { MatchOption result
-        (and_then (read_ident (place_of cursor.entry)) read_ident ≡ None)
-        (λ r. and_then (read_ident (place_of cursor.entry)) read_ident
+        (read_then (read_ident (place_of cursor.entry)) read_ident ≡ None)
+        (λ r. read_then (read_ident (place_of cursor.entry)) read_ident
         ≡ Some (leaf (ident_of r.0.now) ∷ leaf (ident_of r.1.now) ∷ [], place_of r.2)) }
 {
     let (first, after) = cursor.ident()?;

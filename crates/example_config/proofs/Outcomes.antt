@@ -6,7 +6,7 @@ use Rattle.tok_leaves.specs.declared.span.Span.{Span}
 use Rattle.tok_core.specs.Erase.{erase}
 use Rattle.tok_core.specs.Filled.{filled}
 use Rattle.tok_core.specs.Forest.{Forest}
-use Rattle.tok_core.specs.Lexical.Reading.{Reads}
+use Rattle.tok_core.specs.Lexical.Reading.{ReadsForest}
 use Rattle.tok_core.proofs.Lexical.Visible.{all_visible}
 use Rattle.syn_parse.specs.Sources.{end_of_tokens}
 use Rattle.syn_parse.specs.Takings.{KeepsWhole}
@@ -32,7 +32,7 @@ parses f end (Err (Memory e)) h i = inl tt
 
 -- a text has no invisible groups, so its tokens are all that is read
 pub reads_text : (source : ℕ) (cs : List ℕ) (f : Forest)
-    (r : Result (Punctuated Setting Comma) Fault) → Reads Plain source cs f
+    (r : Result (Punctuated Setting Comma) Fault) → ReadsForest Plain source cs f
     → KeepsWhole settings f (end_of_tokens source f) r → ReadsText source cs r
 reads_text source cs f r h k =
     let s = all_visible 0 Plain source cs f refl h in

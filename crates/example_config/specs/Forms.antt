@@ -14,6 +14,7 @@ use Rattle.example_config.specs.declared.value.Value.TheOpen.{Setting-F, Value-F
 abbrev pub Colon : Type 0
 Colon = Punctuation 6 1
 
+-- the type of `,`
 abbrev pub Comma : Type 0
 Comma = Punctuation 7 1
 
@@ -26,10 +27,12 @@ mutual
     list : Span → Forms → List Comma → Form
     map : Span → SettingForms → List Comma → Form
 
+  -- no value, or a first one and the others
   pub data Forms : Type 0 where
     no_values : Forms
     one_value : Form → Forms → Forms
 
+  -- no setting, or a first one and the others
   pub data SettingForms : Type 0 where
     no_settings : SettingForms
     one_setting : Ident → Colon → Form → SettingForms → SettingForms
@@ -38,18 +41,21 @@ mutual
 abbrev pub SettingForm : Type 0
 SettingForm = Ident × Colon × Form
 
+-- a list of forms as its own type
 abbrev pub forms : List Form → Forms
 forms [] = no_values
 forms (f ∷ fs) = one_value f (forms fs)
 
+-- a list of settings as its own type
 abbrev pub setting_forms : List SettingForm → SettingForms
 setting_forms [] = no_settings
 setting_forms (s ∷ ss) = one_setting s.0 s.1 s.2 (setting_forms ss)
 
--- values in brackets of this span, and settings in braces
+-- values in brackets of this span
 abbrev pub listed : Span → List Form × List Comma → Form
 listed span values = list span (forms values.0) values.1
 
+-- settings in braces of this span
 abbrev pub mapped : Span → List SettingForm × List Comma → Form
 mapped span settings = map span (setting_forms settings.0) settings.1
 
@@ -63,11 +69,14 @@ value_level (Value-F.List bracket values) =
 value_level (Value-F.Map brace settings) =
     mapped (whole_span brace.span) (values_of settings, separators_of settings)
 
+-- a setting, with the form of its value in its place
 abbrev pub setting_level : Setting-F Form SettingForm → SettingForm
 setting_level s = (s.key, s.colon, s.value)
 
+-- a value as contracts see it
 abbrev pub value_form : Value → Form
 value_form = fold-Value Form SettingForm value_level setting_level
 
+-- a setting as contracts see it
 abbrev pub setting_form : Setting → SettingForm
 setting_form = fold-Setting Form SettingForm value_level setting_level

@@ -20,10 +20,11 @@ use Rattle.example_config.specs.Forms.{Comma, Form, SettingForm, forms, list, ma
 use Rattle.example_config.specs.Forms.{setting_form, text, truth}
 use Rattle.example_config.specs.declared.value.Setting.{Setting}
 
--- the punct of this character, joint or alone, and the token that it is
+-- the punct of this character, joint or alone
 abbrev pub sign : ℕ → Spacing → Span → Tree
 sign c spacing span = leaf (punct c spacing span)
 
+-- the token of one character, at this span
 abbrev pub sign_at : {k : ℕ} → Span → Punctuation k 1
 sign_at span = record { spans = span ∷ [] }
 
@@ -31,6 +32,7 @@ sign_at span = record { spans = span ∷ [] }
 abbrev pub colon : ℕ
 colon = 58
 
+-- the character `,`
 abbrev pub comma : ℕ
 comma = 44
 
@@ -38,10 +40,11 @@ comma = 44
 abbrev pub IsKey : Ident → Type 0
 IsKey key = (accept_as_ident key.text ≡ true) × (key.text ≡ codes "include" → ⊥)
 
--- a string, and an integer below 2^64, without a suffix
+-- a string literal without a suffix, and its value
 abbrev pub IsText : Literal → List ℕ → Type 0
 IsText literal t = string_value (chars literal.text) ≡ Some t
 
+-- an integer literal without a suffix, and its value, which is below 2^64
 abbrev pub IsNumber : Literal → ℕ → Type 0
 IsNumber literal n = (integer_value (chars literal.text) ≡ Some (n, [])) × (n < 2 ^ 64)
 

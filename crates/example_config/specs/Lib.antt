@@ -1,4 +1,5 @@
 pub mod Forms
 pub mod Grammar
 pub mod Nesting
+pub mod Printed
 pub mod Reading

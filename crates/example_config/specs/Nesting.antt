@@ -53,28 +53,33 @@ lightens_plain : Lightens take_plain
 unfolding take_plain
 lightens_plain = search plain depth 20
 
+-- within brackets less is ahead
 list_descends : Descends 0 take_list_value
 unfolding take_list_value
 list_descends = search descending_lists depth 20
 
+-- a key adds nothing to what is ahead
 lightens_key : Lightens take_key
 unfolding take_key
 lightens_key = search lightening depth 20
 
 ruleset keys_nesting = (descending_lists, lightens_key)
 
+-- after a key less is ahead
 setting_descends : Descends 0 setting_step
 unfolding setting_step
 setting_descends = search keys_nesting depth 20
 
 ruleset settings_nesting = (descending_lists, setting_descends)
 
+-- within braces less is ahead
 map_descends : Descends 0 take_map_value
 unfolding take_map_value
 map_descends = search settings_nesting depth 20
 
 ruleset nesting = (descending_lists, lightens_plain, list_descends, map_descends)
 
+-- each level of a value takes less than the one around it
 pub value_descends : Descends 0 value_step
 value_descends = search nesting depth 20
 
@@ -82,15 +87,18 @@ value_descends = search nesting depth 20
 pub value_again : (a : Ahead) → take_value a ≡ value_step take_value a
 value_again = nested_again value_step value_descends
 
+-- a value adds nothing to what is ahead
 pub lightens_value : Lightens take_value
 lightens_value = lightens_nested value_step value_descends
 
+-- a setting adds nothing to what is ahead
 pub lightens_setting : Lightens take_setting
 lightens_setting = setting_descends.light take_value lightens_value
 
--- what the parsers of a value and of a setting state
+-- the parse of a value, if no invisible group is empty
 abbrev pub value : Takings Value
 value = told_filled value_form take_value (lighter lightens_value)
 
+-- the parse of a setting, if no invisible group is empty
 abbrev pub setting : Takings Setting
 setting = told_filled setting_form take_setting (lighter lightens_setting)

@@ -11,7 +11,7 @@ use Rattle.tok_values.specs.Values.{integer_value, string_value}
 use Rattle.tok_core.specs.Forest.{Forest}
 use Rattle.tok_core.specs.Lexical.Reading as grammar
 use Rattle.tok_core.specs.declared.lexer.error.LexError.{LexError}
-use Rattle.syn_parse.specs.Faults.{IsRefused}
+use Rattle.syn_parse.specs.Faults.{FailsWith}
 use Rattle.syn_parse.specs.Nested.{take_nested}
 use Rattle.syn_parse.specs.Owned.{sees_own, take_own}
 use Rattle.syn_parse.specs.Parsers.{OnMemory, lex_message}
@@ -102,12 +102,13 @@ setting_step value =
       form ← value
       gives (key, colon, form))
 
--- values in brackets, and settings in braces
+-- values in brackets
 unfoldable pub take_list_value : Taking Form → Taking Form
 take_list_value value = do
   values ← take_group Bracket (take_terminated value take_comma)
   gives (listed values.0.join values.1)
 
+-- settings in braces
 unfoldable pub take_map_value : Taking Form → Taking Form
 take_map_value value = do
   settings ← take_group Brace (take_terminated (setting_step value) take_comma)
@@ -131,16 +132,19 @@ take_setting = setting_step take_value
 abbrev pub take_settings : Taking (List SettingForm × List Comma)
 take_settings = take_terminated take_setting take_comma
 
--- what the parsers state of a list, a map, values and settings
+-- the parse of a list, if no invisible group is empty
 abbrev pub list_value : Takings Value
 list_value = taken_filled value_form (take_list_value take_value)
 
+-- the parse of a map, if no invisible group is empty
 abbrev pub map_value : Takings Value
 map_value = taken_filled value_form (take_map_value take_value)
 
+-- the parse of values and their commas, if no invisible group is empty
 abbrev pub values : Takings (Punctuated Value Comma)
 values = taken_filled (list_form value_form (λ p. p)) (take_terminated take_value take_comma)
 
+-- the parse of settings and their commas, if no invisible group is empty
 abbrev pub settings : Takings (Punctuated Setting Comma)
 settings = taken_filled (list_form setting_form (λ p. p)) take_settings
 
@@ -148,8 +152,8 @@ settings = taken_filled (list_form setting_form (λ p. p)) take_settings
 -- the error says what is missing first, at its position. Or the grammar of tokens rejects it.
 abbrev pub ReadsText : (source : ℕ) → List ℕ → Result (Punctuated Setting Comma) Fault → Type 0
 ReadsText source cs r =
-    ((f : Forest) × grammar.Reads Plain source cs f
+    ((f : Forest) × grammar.ReadsForest Plain source cs f
     × TakesAll (list_form setting_form (λ p. p)) take_settings f (end_of_tokens source f) r
     × Parses f r)
-    ⊎ (((e : LexError) × grammar.IsRefused Plain source cs e × IsRefused (lex_message e) r)
+    ⊎ (((e : LexError) × grammar.IsRejected Plain source cs e × FailsWith (lex_message e) r)
     ⊎ OnMemory r)

@@ -23,6 +23,7 @@ use Rattle.syn_derive.specs.declared.derive.DeriveInput.{DeriveInput}
 use Rattle.example_fields.specs.Tables.{given_table, table}
 use Rattle.example_fields.specs.declared.table.Row.{Row}
 
+-- the parse of a derive input, if no invisible group is empty
 abbrev pub input : Takings DeriveInput
 input = taken_filled input_form take_input
 

@@ -21,6 +21,7 @@ input_number no_input = 0
 input_number (delimited d span inside) = 1
 input_number (assigned eq value) = 2
 
+-- the row of an attribute, with the ranges of its path and its input
 abbrev pub attribute_row : AttributeForm → Row
 attribute_row (pound, span, (path, input)) =
     record {
@@ -32,6 +33,7 @@ attribute_row (pound, span, (path, input)) =
       value = of_input input;
     }
 
+-- a row for each attribute
 abbrev pub attribute_rows : List AttributeForm → List Row
 attribute_rows attrs = map attribute_row attrs
 
@@ -48,10 +50,12 @@ field_rows (attrs, vis, name, colon, ty) =
     }
     ∷ attribute_rows attrs
 
+-- the rows of all fields, in order
 abbrev pub list_rows : List FieldForm → List Row
 list_rows [] = []
 list_rows (f ∷ fs) = field_rows f ++ list_rows fs
 
+-- the rows of a struct's or a variant's fields
 abbrev pub fields_rows : FieldsForm → List Row
 fields_rows (named fields) = list_rows fields.1.0
 fields_rows (unnamed fields) = list_rows fields.1.0
@@ -67,6 +71,7 @@ fields_number (named fields) = 2
 abbrev pub discriminant_form : Option (Punctuation 13 1 × Expr) → Option (Punctuation 13 1 × Forest)
 discriminant_form d = option_map (λ d. (d.0, erase d.1.tokens)) d
 
+-- the range of a discriminant's tokens; the empty range if there is none
 abbrev pub discriminant : Option (Punctuation 13 1 × Forest) → Range
 discriminant None = no_range
 discriminant (Some d) = of_tokens d.1
@@ -84,6 +89,7 @@ variant_rows (attrs, ident, fields, value) =
     }
     ∷ (attribute_rows attrs ++ fields_rows fields)
 
+-- the rows of all variants, in order
 abbrev pub variants_rows : List VariantForm → List Row
 variants_rows [] = []
 variants_rows (v ∷ vs) = variant_rows v ++ variants_rows vs
@@ -102,6 +108,7 @@ clause_rows (Some w) =
     }
     ∷ []
 
+-- the rows of the fields or the variants of an item
 abbrev pub data_rows : DataForm → List Row
 data_rows (of_struct word fields semi) = fields_rows fields
 data_rows (of_enum word span variants) = variants_rows variants.0
@@ -113,11 +120,13 @@ data_kind (of_struct word fields semi) = 0
 data_kind (of_enum word span variants) = 1
 data_kind (of_union word fields) = 2
 
+-- the number of the kind of a struct's fields; 0 for an enum, 2 for a union
 abbrev pub data_number : DataForm → ℕ
 data_number (of_struct word fields semi) = fields_number fields
 data_number (of_enum word span variants) = 0
 data_number (of_union word fields) = 2
 
+-- the row of an item, with the ranges of its name, its visibility and its parameters
 abbrev pub item_row : InputForm → Row
 item_row (attrs, vis, (ident, params, clause, body)) =
     record {

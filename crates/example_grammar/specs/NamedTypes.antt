@@ -20,9 +20,11 @@ use Rattle.example_grammar.specs.declared.named_type.NamedType.TheOpen.{NamedTyp
 abbrev pub Lt : Type 0
 Lt = Punctuation 20 1
 
+-- the type of `,`
 abbrev pub Comma : Type 0
 Comma = Punctuation 7 1
 
+-- the type of `>`
 abbrev pub Gt : Type 0
 Gt = Punctuation 17 1
 
@@ -32,10 +34,12 @@ mutual
     plain : Ident → Form
     generic : Ident → Lt → Forms → List Comma → Gt → Form
 
+  -- no type, or a first one and the others
   pub data Forms : Type 0 where
     none : Forms
     one_more : Form → Forms → Forms
 
+-- a list of forms as its own type
 abbrev pub forms : List Form → Forms
 forms [] = none
 forms (f ∷ fs) = one_more f (forms fs)
@@ -54,6 +58,7 @@ one_level (NamedType-F.Plain name) = plain name
 one_level (NamedType-F.Generic name left list right) =
     with_arguments name (left, (values_of list, separators_of list), right)
 
+-- a type as contracts see it
 abbrev pub type_form : NamedType → Form
 type_form = fold-NamedType Form one_level
 
@@ -73,10 +78,12 @@ type_step one = do
     list ← take_arguments one
     gives (with_arguments name list)) (gives (plain name))
 
+-- each level takes less than the one around it
 pub type_descends : Descends 0 type_step
 unfolding take_arguments
 type_descends = search descending_lists depth 40
 
+-- takes a type, with types within it
 abbrev pub take_type : Taking Form
 take_type = take_nested type_step
 
@@ -88,6 +95,7 @@ type_again = nested_again type_step type_descends
 pub lightens_type : Lightens take_type
 lightens_type = lightens_nested type_step type_descends
 
+-- the parse of a type
 abbrev pub types : Takings NamedType
 types = told type_form take_type (lighter lightens_type)
 

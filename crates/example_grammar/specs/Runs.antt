@@ -28,9 +28,11 @@ use Rattle.example_grammar.specs.declared.runs.UntilBraces.{UntilBraces}
 abbrev pub PointerForm : Type 0
 PointerForm = List (Punctuation 43 1) × Ident
 
+-- a pointer as contracts see it
 abbrev pub pointer_form : Pointer → PointerForm
 pointer_form p = (vec_form (λ v. v) p.stars, p.name)
 
+-- stars and a name
 abbrev pub take_pointer : Taking PointerForm
 take_pointer = do
   stars ← take_many sees_star take_star
@@ -41,17 +43,19 @@ take_pointer = do
 pub lowers_pointer : Lowers take_pointer
 lowers_pointer = search (weighing, lowers_then) depth 40
 
--- pointers up to the end
+-- pointers as contracts see them
 abbrev pub pointers_form : Pointers → List PointerForm
 pointers_form p = vec_form pointer_form p.list
 
+-- takes pointers up to the end
 abbrev pub take_pointers : Taking (List PointerForm)
 take_pointers = take_to_end take_pointer
 
--- all that is left
+-- a body as contracts see it
 abbrev pub body_form : Body → Forest
 body_form b = erase b.tokens
 
+-- takes all that is left
 abbrev pub take_body : Taking Forest
 take_body = take_rest
 
@@ -59,10 +63,11 @@ take_body = take_rest
 abbrev pub until_braces : UntilBraces → Forest → Option UntilBraces
 until_braces run f = if group_first Brace f then None else Some run
 
--- `if condition { body }`
+-- a branch as contracts see it
 abbrev pub branch_form : Branch → Forest × Forest
 branch_form b = (erase b.condition, body_form b.body)
 
+-- `if condition { body }`
 abbrev pub take_branch : Taking (Forest × Forest)
 take_branch = do
   _ ← take_if
@@ -70,10 +75,11 @@ take_branch = do
   body ← take_group Brace take_body
   gives (condition, body.1)
 
--- `name! tree`
+-- a macro call as contracts see it
 abbrev pub macro_form : MacroCall → Ident × Tree
 macro_form m = (m.name, erased_tree (tree_of m.arguments))
 
+-- `name! tree`
 abbrev pub take_macro : Taking (Ident × Tree)
 take_macro = do
   name ← take_ident

@@ -22,6 +22,7 @@ use Rattle.example_grammar.specs.declared.shape.UnnamedFields.{UnnamedFields}
 abbrev pub FieldForm : Type 0
 FieldForm = Option Ident × Form
 
+-- a field as contracts see it
 abbrev pub field_form : Field → FieldForm
 field_form f = (f.name, type_form f.kind)
 
@@ -39,15 +40,19 @@ take_unnamed = do
   kind ← take_type
   gives (None, kind)
 
+-- less is ahead after a field with a name
 pub lowers_named : Lowers take_named
 lowers_named = search (lowering, lightens_type) depth 20
 
+-- a field without a name adds nothing to what is ahead
 pub lightens_unnamed : Lightens take_unnamed
 lightens_unnamed = search (lowering, lightens_type) depth 20
 
+-- the parse of a field with a name
 abbrev pub named_field : Takings Field
 named_field = told field_form take_named (lower lowers_named)
 
+-- the parse of a field without a name
 abbrev pub unnamed_field : Takings Field
 unnamed_field = told field_form take_unnamed (lighter lightens_unnamed)
 
@@ -55,21 +60,25 @@ unnamed_field = told field_form take_unnamed (lighter lightens_unnamed)
 abbrev pub ListForm : Type 0
 ListForm = List FieldForm × List Comma
 
+-- the parse of a list of such fields, if no invisible group is empty
 abbrev pub fields_of : Taking FieldForm → Takings (Punctuated Field Comma)
 fields_of field = taken_filled (list_form field_form (λ p. p)) (take_terminated field take_comma)
 
--- the span of the delimiters, and the fields
+-- the span of the braces, and the fields
 abbrev pub named_form : NamedFields → Span × ListForm
 named_form f = (whole_span f.brace.span, list_form field_form (λ p. p) f.list)
 
+-- `{ name: type, .. }`
 abbrev pub take_named_fields : Taking (Span × ListForm)
 take_named_fields = do
   list ← take_group Brace (take_terminated take_named take_comma)
   gives (list.0.join, list.1)
 
+-- the span of the parentheses, and the fields
 abbrev pub unnamed_form : UnnamedFields → Span × ListForm
 unnamed_form f = (whole_span f.paren.span, list_form field_form (λ p. p) f.list)
 
+-- `(type, ..)`
 abbrev pub take_unnamed_fields : Taking (Span × ListForm)
 take_unnamed_fields = do
   list ← take_group Parenthesis (take_terminated take_unnamed take_comma)
@@ -81,11 +90,13 @@ pub data ShapeForm : Type 0 where
   unnamed : Span × ListForm → ShapeForm
   unit : ShapeForm
 
+-- a shape as contracts see it
 abbrev pub shape_form : Shape → ShapeForm
 shape_form (made.Named f) = named (named_form f)
 shape_form (made.Unnamed f) = unnamed (unnamed_form f)
 shape_form made.Unit = unit
 
+-- fields in braces or in parentheses, or none
 abbrev pub take_shape : Taking ShapeForm
 take_shape =
     where_ahead (sees_group Brace) (do

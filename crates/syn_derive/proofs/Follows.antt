@@ -10,7 +10,7 @@ use Rattle.tok_buffer.specs.Reads.{any_tree, is_ident_of, is_punct_of, place_aft
 use Rattle.tok_buffer.specs.Reads.{read_keyword, read_punctuation}
 use Rattle.tok_buffer.specs.declared.error.Message.{Message}
 use Rattle.syn_parse.specs.Parses.{PunctuationParses, WordParses}
-use Rattle.syn_parse.specs.Reads.{Read, ReadsAtOnce}
+use Rattle.syn_parse.specs.Reads.{TreesRead, ReadsAtOnce}
 use Rattle.syn_parse.specs.State.{State}
 use Rattle.syn_derive.specs.Runs.{IsAfterTree}
 
@@ -39,7 +39,7 @@ after_read wanted p r h = (p, passes (descend p) wanted (front (descend p)) r h)
 
 -- where a token is read at once, the stream is after it
 module _ {T : Type 0} (Means : T → List Tree → Type 0) (words : Message) (s t : State) (v : T) where
-  moved-on : (read : Read) → ReadsAtOnce Means read words s (Ok v) t
+  moved-on : (read : TreesRead) → ReadsAtOnce Means read words s (Ok v) t
       → (r : List Tree × Place) × (read ≡ Some r) × (r.1 ≡ t.place)
   moved-on (Some r) h = (r, refl, sym (ap (λ u. u.place) h.1))
   moved-on None h = absurd h

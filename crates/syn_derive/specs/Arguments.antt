@@ -8,7 +8,7 @@ use Rattle.tok_buffer.specs.Messages.{message, message_at}
 use Rattle.tok_buffer.specs.Spans.{spanned}
 use Rattle.tok_buffer.specs.declared.error.Message.{Message}
 use Rattle.tok_types.specs.declared.punctuation.Punctuation.{Punctuation}
-use Rattle.syn_parse.specs.Faults.{IsRefused, Refuses}
+use Rattle.syn_parse.specs.Faults.{FailsWith, Refuses}
 use Rattle.syn_parse.specs.declared.fault.Fault.{Fault}
 use Rattle.syn_parse.specs.Takings.{Takings, taken_filled}
 use Rattle.syn_parse.specs.TokenNames.{take_comma}
@@ -27,15 +27,17 @@ use Rattle.syn_derive.specs.declared.meta.MetaNameValue.{MetaNameValue}
 use Rattle.syn_derive.specs.declared.path.Path.{Path}
 use Rattle.syn_derive.specs.declared.path.PathSegment.{PathSegment}
 
+-- the span of a list's delimiters, of any kind
 abbrev pub delimiter_span : MacroDelimiter → DelimSpan
 delimiter_span (by.Paren t) = t.span
 delimiter_span (by.Brace t) = t.span
 delimiter_span (by.Bracket t) = t.span
 
--- where the tokens in a list's delimiters end, and where the delimiters begin
+-- the closing delimiter of a list, at which its tokens end
 abbrev pub end_of : MetaList → Span
 end_of l = closing_span (whole_span (delimiter_span l.delimiter))
 
+-- the opening delimiter of a list
 abbrev pub opening_of : MetaList → Span
 opening_of l = opening_span (whole_span (delimiter_span l.delimiter))
 
@@ -43,6 +45,7 @@ opening_of l = opening_span (whole_span (delimiter_span l.delimiter))
 unfoldable pub take_nested_list : Taking (List MetaForm × List (Punctuation 7 1))
 take_nested_list = take_terminated take_nested_meta take_comma
 
+-- the parse of metas and their commas, if no invisible group is empty
 abbrev pub nested_list : Takings (Punctuated Meta (Punctuation 7 1))
 nested_list = taken_filled (list_form meta_form (λ p. p)) take_nested_list
 
@@ -50,6 +53,7 @@ nested_list = taken_filled (list_form meta_form (λ p. p)) take_nested_list
 abbrev pub segment_text : Bool → PathSegment → List ℕ
 segment_text after s = (if after then codes "::" else []) ++ s.ident.text
 
+-- the text of segments in turn; `::` is before the first if it comes after one
 abbrev pub segments_text : Bool → List PathSegment → List ℕ
 segments_text after [] = []
 segments_text after (s ∷ ss) = segment_text after s ++ segments_text true ss
@@ -72,13 +76,14 @@ abbrev pub first_span : List Span → Span
 first_span [] = call_site
 first_span (s ∷ ss) = s
 
--- why what an attribute holds is no path alone, no list, and no expression after `=`
+-- the error if a meta isn't a path alone
 abbrev pub lacks_path : Meta → Option Message
 lacks_path (meta.Path p) = None
 lacks_path (meta.List l) = Some (message_at (opening_of l) (codes "unexpected token in attribute"))
 lacks_path (meta.NameValue v) =
     Some (message_at (first_span v.eq_token.spans) (codes "unexpected token in attribute"))
 
+-- the error if a meta isn't a list
 abbrev pub lacks_list : Meta → Option Message
 lacks_list (meta.Path p) =
     Some (names_path p (codes "expected attribute arguments in parentheses: `") (codes "(...)`"))
@@ -86,22 +91,25 @@ lacks_list (meta.List l) = None
 lacks_list (meta.NameValue v) =
     Some (message_at (first_span v.eq_token.spans) (codes "expected `(`"))
 
+-- the error if a meta has no value after `=`
 abbrev pub lacks_value : Meta → Option Message
 lacks_value (meta.Path p) =
     Some (names_path p (codes "expected a value for this attribute: `") (codes " = ...`"))
 lacks_value (meta.List l) = Some (message_at (opening_of l) (codes "expected `=`"))
 lacks_value (meta.NameValue v) = None
 
--- why an attribute has no arguments: nothing comes after its path, or an expression
+-- the error of an attribute that needs arguments and is a path alone
 abbrev pub only_path : Path → Message
 only_path p =
     names_path p (codes "expected attribute arguments in parentheses: #[") (codes "(...)]")
 
+-- the error of an attribute that needs arguments and has a value
 abbrev pub only_value : MetaNameValue → Message
 only_value v =
     message_at (first_span v.eq_token.spans)
     (codes "expected parentheses: #[" ++ (path_text v.path ++ codes "(...)]"))
 
+-- the error if an attribute has no arguments
 abbrev pub lacks_arguments : Meta → Option Message
 lacks_arguments (meta.Path p) = Some (only_path p)
 lacks_arguments (meta.List l) = None
@@ -121,5 +129,5 @@ HasArguments holds m = Unit {0}
 abbrev pub IsOf : {T : Type 0} → (MetaList → Result T Fault → Type 0) → Meta → Result T Fault
     → Type 0
 IsOf holds (meta.List l) result = holds l result
-IsOf holds (meta.Path p) result = IsRefused (only_path p) result
-IsOf holds (meta.NameValue v) result = IsRefused (only_value v) result
+IsOf holds (meta.Path p) result = FailsWith (only_path p) result
+IsOf holds (meta.NameValue v) result = FailsWith (only_value v) result

@@ -30,6 +30,7 @@ take_attribute = do
   meta ← take_group Bracket take_meta
   gives (pound, meta.0, meta.1)
 
+-- an attribute takes something
 pub lowers_attribute : Lowers take_attribute
 unfolding take_attribute
 lowers_attribute = search weighing depth 20
@@ -42,7 +43,7 @@ take_attributes = take_many sees_pound take_attribute
 abbrev pub attributes_form : Vec Attribute → List AttributeForm
 attributes_form attributes = vec_form attribute_form attributes
 
--- the trees that an attribute is written as, and attributes in turn
+-- the trees that an attribute is written as
 abbrev pub attribute_trees : Attribute → Forest
 attribute_trees a =
     followed_by (sign_trees a.pound_token)

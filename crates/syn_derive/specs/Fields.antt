@@ -32,6 +32,7 @@ abbrev pub FieldForm : Type 0
 FieldForm =
     List AttributeForm × VisibilityForm × Option Ident × Option (Punctuation 6 1) × Forest
 
+-- a field as contracts see it, its type without invisible groups
 abbrev pub field_form : Field → FieldForm
 field_form f =
     (attributes_form f.attrs, visibility_form f.vis, f.ident, f.colon_token, erase f.ty.tokens)
@@ -63,17 +64,21 @@ take_unnamed_field = do
 pub ruleset weighing_parts =
     (weighing_lists, lowers_attribute, lightens_visibility, lightens_type, lightens_expr)
 
+-- a field with a name adds nothing to what is ahead
 pub lightens_named_field : Lightens take_named_field
 unfolding take_named_field
 lightens_named_field = search weighing_parts depth 60
 
+-- a field without a name adds nothing to what is ahead
 pub lightens_unnamed_field : Lightens take_unnamed_field
 unfolding take_unnamed_field
 lightens_unnamed_field = search weighing_parts depth 60
 
+-- the parse of a field with a name, if no invisible group is empty
 abbrev pub named_field : Takings Field
 named_field = told_filled field_form take_named_field (lighter lightens_named_field)
 
+-- the parse of a field without a name, if no invisible group is empty
 abbrev pub unnamed_field : Takings Field
 unnamed_field = told_filled field_form take_unnamed_field (lighter lightens_unnamed_field)
 
@@ -81,62 +86,77 @@ unnamed_field = told_filled field_form take_unnamed_field (lighter lightens_unna
 abbrev pub FieldList : Type 0
 FieldList = List FieldForm × List (Punctuation 7 1)
 
+-- a list of fields as contracts see it
 abbrev pub list_of : Punctuated Field (Punctuation 7 1) → FieldList
 list_of fields = list_form field_form (λ p. p) fields
 
+-- fields with names, and the commas between them
 unfoldable pub take_named : Taking FieldList
 take_named = take_terminated take_named_field take_comma
 
+-- fields without names, and the commas between them
 unfoldable pub take_unnamed : Taking FieldList
 take_unnamed = take_terminated take_unnamed_field take_comma
 
+-- the parse of a list of fields with names, if no invisible group is empty
 abbrev pub named_list : Takings (Punctuated Field (Punctuation 7 1))
 named_list = taken_filled list_of take_named
 
+-- the parse of a list of fields without names, if no invisible group is empty
 abbrev pub unnamed_list : Takings (Punctuated Field (Punctuation 7 1))
 unnamed_list = taken_filled list_of take_unnamed
 
--- fields in braces, and in parentheses
+-- fields in braces as contracts see them
 abbrev pub named_fields_form : FieldsNamed → DelimSpan × FieldList
 named_fields_form f = (f.brace_token.span, list_of f.named)
 
+-- fields in parentheses as contracts see them
 abbrev pub unnamed_fields_form : FieldsUnnamed → DelimSpan × FieldList
 unnamed_fields_form f = (f.paren_token.span, list_of f.unnamed)
 
+-- takes fields in braces
 unfoldable pub take_named_fields : Taking (DelimSpan × FieldList)
 take_named_fields = do
   fields ← take_group Brace take_named
   gives (fields.0, fields.1)
 
+-- takes fields in parentheses
 unfoldable pub take_unnamed_fields : Taking (DelimSpan × FieldList)
 take_unnamed_fields = do
   fields ← take_group Parenthesis take_unnamed
   gives (fields.0, fields.1)
 
+-- fields in braces take something, even if there is no field
 pub lowers_named : Lowers take_named_fields
 unfolding take_named_fields
 lowers_named = search weighing_lists depth 40
 
+-- fields in parentheses take something, even if there is no field
 pub lowers_unnamed : Lowers take_unnamed_fields
 unfolding take_unnamed_fields
 lowers_unnamed = search weighing_lists depth 40
 
+-- fields in braces add nothing to what is ahead
 pub lightens_named : Lightens take_named_fields
 lightens_named = lightens_lower take_named_fields lowers_named
 
+-- fields in parentheses add nothing to what is ahead
 pub lightens_unnamed : Lightens take_unnamed_fields
 lightens_unnamed = lightens_lower take_unnamed_fields lowers_unnamed
 
+-- fields in braces, fields in parentheses, or none
 pub data FieldsForm : Type 0 where
   named : DelimSpan × FieldList → FieldsForm
   unnamed : DelimSpan × FieldList → FieldsForm
   unit : FieldsForm
 
+-- fields as contracts see them
 abbrev pub fields_form : Fields → FieldsForm
 fields_form (fields.Named f) = named (named_fields_form f)
 fields_form (fields.Unnamed f) = unnamed (unnamed_fields_form f)
 fields_form fields.Unit = unit
 
+-- takes fields in braces or in parentheses, or nothing
 unfoldable pub take_fields : Taking FieldsForm
 take_fields =
     where_ahead (sees_group Brace) (do
@@ -145,6 +165,7 @@ take_fields =
         f ← take_unnamed_fields
         gives (unnamed f)) (gives unit))
 
+-- fields add nothing to what is ahead
 pub lightens_fields : Lightens take_fields
 unfolding take_fields
 lightens_fields = search (weighing_lists, lightens_named, lightens_unnamed) depth 60
@@ -154,6 +175,7 @@ abbrev pub VariantForm : Type 0
 VariantForm =
     List AttributeForm × Ident × FieldsForm × Option (Punctuation 13 1 × Forest)
 
+-- a variant as contracts see it
 abbrev pub variant_form : Variant → VariantForm
 variant_form v = (
   attributes_form v.attrs,
@@ -162,6 +184,7 @@ variant_form v = (
   option_map (λ d. (d.0, erase d.1.tokens)) v.discriminant,
 )
 
+-- attributes, a visibility that is not kept, a name, fields, and an expression after `=`
 unfoldable pub take_variant : Taking VariantForm
 take_variant = do
   attrs ← take_attributes
@@ -171,6 +194,7 @@ take_variant = do
   discriminant ← take_after sees_eq take_eq take_expr
   gives (attrs, ident, fields, discriminant)
 
+-- a variant adds nothing to what is ahead
 pub lightens_variant : Lightens take_variant
 unfolding take_variant
 lightens_variant = search (weighing_parts, lightens_fields) depth 60

@@ -37,6 +37,7 @@ take_params =
       gt ← take_gt
       gives (Some lt, params, Some gt)) (gives (None, no_trees, None))
 
+-- parameters add nothing to what is ahead
 pub lightens_generics : Lightens take_params
 unfolding take_params
 lightens_generics = search (weighing, lightens_until) depth 40
@@ -56,6 +57,7 @@ take_where_clause = do
   predicates ← take_until Predicates
   gives (word, predicates)
 
+-- a `where` clause takes something
 pub lowers_where_clause : Lowers take_where_clause
 unfolding take_where_clause
 lowers_where_clause = search (weighing, lightens_until) depth 40

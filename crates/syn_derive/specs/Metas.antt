@@ -61,6 +61,7 @@ take_meta_path =
       ident ← take_any_ident
       gives (only_segment ident)) take_path
 
+-- the path of an attribute adds nothing to what is ahead
 pub lightens_meta_path : Lightens take_meta_path
 unfolding take_meta_path
 lightens_meta_path = search (weighing, lightens_path) depth 40
@@ -89,6 +90,7 @@ take_meta_after path = do
   input ← take_meta_input
   gives (path, input)
 
+-- the input after a path adds nothing to what is ahead
 pub lightens_meta_after : (path : PathForm) → Lightens (take_meta_after path)
 unfolding take_meta_after
 lightens_meta_after path = search (weighing, lightens_expr) depth 40
@@ -99,6 +101,7 @@ take_meta = do
   path ← take_meta_path
   take_meta_after path
 
+-- a meta adds nothing to what is ahead
 pub lightens_meta : Lightens take_meta
 unfolding take_meta
 lightens_meta = search (weighing, lightens_meta_path, lightens_meta_after) depth 40
@@ -109,6 +112,7 @@ take_nested_meta = do
   path ← take_nested_path
   take_meta_after path
 
+-- a meta in the arguments of an attribute adds nothing to what is ahead
 pub lightens_nested_meta : Lightens take_nested_meta
 unfolding take_nested_meta
 lightens_nested_meta = search (weighing, lightens_nested_path, lightens_meta_after) depth 40
@@ -117,7 +121,7 @@ lightens_nested_meta = search (weighing, lightens_nested_path, lightens_meta_aft
 abbrev pub nested_meta : Takings Meta
 nested_meta = told meta_form take_nested_meta (lighter lightens_nested_meta)
 
--- the trees that each is written as
+-- the trees that tokens in delimiters are written as
 abbrev pub delimited_trees : MacroDelimiter → Forest → Forest
 delimited_trees (by.Paren t) f = group_trees Parenthesis t.span f
 delimited_trees (by.Brace t) f = group_trees Brace t.span f

@@ -34,10 +34,12 @@ take_segment = do
   ident ← where_ahead sees_path_word take_any_ident take_ident
   gives (record { ident = ident })
 
+-- a segment takes something
 pub lowers_segment : Lowers take_segment
 unfolding take_segment
 lowers_segment = search weighing depth 20
 
+-- a segment adds nothing to what is ahead
 pub lightens_segment : Lightens take_segment
 lightens_segment = lightens_lower take_segment lowers_segment
 
@@ -56,6 +58,7 @@ take_path = do
   segments ← take_separated sees_path_sep take_segment take_path_sep
   gives (colon, segments)
 
+-- a path adds nothing to what is ahead
 pub lightens_path : Lightens take_path
 unfolding take_path
 lightens_path = search (weighing_lists, lightens_segment) depth 40
@@ -66,17 +69,21 @@ take_any_segment = do
   ident ← take_any_ident
   gives (record { ident = ident })
 
+-- a segment of any text takes something
 pub lowers_any_segment : Lowers take_any_segment
 unfolding take_any_segment
 lowers_any_segment = search weighing depth 20
 
+-- a segment of any text adds nothing to what is ahead
 pub lightens_any_segment : Lightens take_any_segment
 lightens_any_segment = lightens_lower take_any_segment lowers_any_segment
 
--- segments of any text with `::` between them; if there is none, an error says what is next
+-- segments of any text with `::` between them
 unfoldable pub take_any_segments : Taking (List PathSegment × List (Punctuation 28 2))
 take_any_segments = take_separated sees_path_sep take_any_segment take_path_sep
 
+-- the segments of a nested meta's path, of any text; the error tells the end, a literal and another
+-- token apart
 unfoldable pub take_nested_segments : Taking (List PathSegment × List (Punctuation 28 2))
 take_nested_segments =
     where_ahead sees_any_ident take_any_segments
@@ -92,14 +99,17 @@ take_nested_path = do
   segments ← take_nested_segments
   gives (colon, segments)
 
+-- segments of any text add nothing to what is ahead
 pub lightens_any_segments : Lightens take_any_segments
 unfolding take_any_segments
 lightens_any_segments = search (weighing_lists, lightens_any_segment) depth 40
 
+-- such segments add nothing, whatever the error
 pub lightens_nested_segments : Lightens take_nested_segments
 unfolding take_nested_segments
 lightens_nested_segments = search (weighing_lists, lightens_any_segments) depth 40
 
+-- a path of any words adds nothing to what is ahead
 pub lightens_nested_path : Lightens take_nested_path
 unfolding take_nested_path
 lightens_nested_path = search (weighing_lists, lightens_nested_segments) depth 40
@@ -117,7 +127,7 @@ only_ident p = None
 abbrev pub is_only : List ℕ → PathForm → Bool
 is_only text p = elim (only_ident p) [ Some i ↦ bytes_eq i.text text | None ↦ false ]
 
--- the trees that a segment, all segments, and a path are written as
+-- the tree that a segment is written as
 abbrev pub segment_trees : PathSegment → Forest
 segment_trees s = tree (leaf (ident_of s.ident)) no_trees
 

@@ -9,10 +9,11 @@ use Rattle.tok_types.specs.Texts.{keyword_text, punctuation_word}
 use Rattle.tok_types.specs.declared.keyword.Keyword.{Keyword}
 use Rattle.tok_types.specs.declared.punctuation.Punctuation.{Punctuation}
 
--- a keyword as a tree, and a punctuation as its puncts
+-- a keyword as a tree
 abbrev pub keyword_trees : {k : ℕ} → Keyword k → Forest
 keyword_trees {k} keyword = word (keyword_text k) keyword.span
 
+-- a punctuation as its puncts
 abbrev pub sign_trees : {k n : ℕ} → Punctuation k n → Forest
 sign_trees {k} {n} sign = puncts (punctuation_word k n) sign.spans
 

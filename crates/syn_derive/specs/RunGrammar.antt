@@ -53,16 +53,18 @@ AreTaken Are take =
     ((a b : Ahead) (f : Forest) → take a ≡ found f b → Are f b.trees × (a ≡ after_these f b))
     × ((b : Ahead) (f : Forest) → Are f b.trees → take (after_these f b) ≡ found f b)
 
--- a type, and an expression, has at least one token
+-- a type, which has at least one token
 abbrev pub IsType : (type rest : Forest) → Type 0
 IsType type rest = AreTokens 0 Ty Operator type rest × (has_trees type ≡ true)
 
+-- an expression, which has at least one token
 abbrev pub IsExpr : (expr rest : Forest) → Type 0
 IsExpr expr rest = AreTokens 0 Expr Operator expr rest × (has_trees expr ≡ true)
 
--- parameters, and predicates, may have none
+-- parameters, of which there may be none
 abbrev pub AreParams : (params rest : Forest) → Type 0
 AreParams params rest = AreTokens 0 Params Operator params rest
 
+-- predicates, of which there may be none
 abbrev pub ArePredicates : (predicates rest : Forest) → Type 0
 ArePredicates predicates rest = AreTokens 0 Predicates Operator predicates rest

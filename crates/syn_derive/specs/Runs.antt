@@ -25,6 +25,7 @@ use Rattle.syn_derive.specs.declared.run.Passed.{Passed}
 use Rattle.syn_derive.specs.declared.run.Until.{Until}
 use Rattle.syn_derive.specs.declared.run.Until.TheVariants.{Ty, Expr, Params, Predicates}
 
+-- the token before ends a value
 abbrev pub is_operand : Last → Bool
 is_operand Operand = true
 is_operand last = false
@@ -66,13 +67,15 @@ abbrev pub last_after : Forest → Last
 last_after f =
     if (punct_first f && not (question_first f)) || is_operator_word f then Operator else Operand
 
--- what is passed, in what the next token is: within `<..>`, parameters
+-- the state of a run before its first token
 abbrev pub start : Until → Passed
 start u = record { until = u; depth = 0; last = Operator }
 
+-- the kind of run at the next token: within `<..>`, one of parameters
 abbrev pub within : Passed → Until
 within p = if p.depth == 0 then p.until else Params
 
+-- the first character of a token of two was passed
 abbrev pub is_half : Last → Bool
 is_half Half = true
 is_half last = false
@@ -81,6 +84,7 @@ is_half last = false
 pub data Next : Type 0 where
   pair opening ending other : Next
 
+-- the first of these trees, by its part in a run of this kind
 abbrev pub next_of : Until → Last → Forest → Next
 next_of u last f =
     if starts_pair u last f then pair
@@ -88,10 +92,11 @@ next_of u last f =
     else if ends u last f then ending
     else other
 
--- another `<` is open; so many can be, as a `usize` counts
+-- as many `<` can be open as a `usize` counts
 abbrev pub most_open : ℕ
 most_open = 18446744073709551615
 
+-- another `<` is open; `None` if one more can't be counted
 abbrev pub opened : Passed → Option Passed
 opened p =
     if p.depth == most_open
@@ -105,25 +110,27 @@ closed p f =
     then Some (record p { depth = p.depth - 1; last = Operand })
     else None
 
+-- the state after the next token, by its part in the run; `None` if the run ends before it
 abbrev pub past : Passed → Forest → Next → Option Passed
 past p f pair = Some (record p { last = Half })
 past p f opening = opened p
 past p f ending = closed p f
 past p f other = Some (record p { last = last_after f })
 
--- what is passed after the first of these trees; nothing if a run ends before it
+-- the state after the first of these trees; `None` if the run ends before it
 abbrev pub goes_past : Passed → Forest → Option Passed
 goes_past p f =
     if is_half p.last
     then Some (record p { last = Operator })
     else past p f (next_of (within p) p.last f)
 
--- tokens up to where a run ends; each `<` is closed there
+-- the tokens of a run up to its end, at which each `<` is closed
 unfoldable pub take_until : Until → Taking Forest
 take_until u = do
   r ← take_run_with_state goes_past (start u)
   where_ahead (λ a. r.1.depth == 0) (gives r.0) (refuses (codes "expected `>`"))
 
+-- a run adds nothing to what is ahead
 pub lightens_until : (u : Until) → Lightens (take_until u)
 unfolding take_until
 lightens_until u = search (weighing, lightens_run_with_state) depth 40
@@ -157,20 +164,23 @@ EndsWithTokens tokens s (Err f) t = Unit {0}
 abbrev pub begins : Until → Forest → Bool
 begins u f = has_trees f && is_some (goes_past (start u) f)
 
--- tokens of a type, and of an expression
+-- the tokens of a type, at least one
 unfoldable pub take_type : Taking Forest
 take_type =
     where_ahead (λ a. begins Ty a.trees) (take_until Ty) (refuses (codes "expected type"))
 
+-- the tokens of an expression, at least one
 unfoldable pub take_expr : Taking Forest
 take_expr =
     where_ahead (λ a. begins Expr a.trees) (take_until Expr)
     (refuses (codes "expected an expression"))
 
+-- a type adds nothing to what is ahead
 pub lightens_type : Lightens take_type
 unfolding take_type
 lightens_type = search (weighing, lightens_until) depth 20
 
+-- an expression adds nothing to what is ahead
 pub lightens_expr : Lightens take_expr
 unfolding take_expr
 lightens_expr = search (weighing, lightens_until) depth 20

@@ -67,11 +67,12 @@ take_visibility =
         r ← take_group Parenthesis (take_both (take_optional sees_in take_in) take_path)
         gives (restricted (word, r.0, r.1.0, r.1.1))) (gives (public word))) (gives inherited)
 
+-- a visibility adds nothing to what is ahead
 pub lightens_visibility : Lightens take_visibility
 unfolding take_visibility
 lightens_visibility = search (weighing, lightens_path) depth 40
 
--- the trees that the parentheses, and a visibility, are written as
+-- the trees that the parentheses of a visibility are written as
 abbrev pub parens_trees : VisRestricted → Forest
 parens_trees v =
     group_trees Parenthesis v.paren_token.span

@@ -1,5 +1,5 @@
 use Rattle.tok_buffer.specs.Reads.{read_punctuation}
-use Rattle.tok_types.specs.Looks.{Finds}
+use Rattle.tok_types.specs.Looks.{PeeksFor}
 use Rattle.tok_types.specs.Texts.{punctuation_word}
 use Rattle.syn_punctuated.specs.Trees.{ident_sources, punctuation_sources}
 use Rattle.example_callers.proofs.ListTrees.{trees_if_ok, end_if_ok}
@@ -8,7 +8,7 @@ use Rattle.example_callers.proofs.lists.names.Goals as goal
 pub returns-clause-trees : goal.returns-clause-trees
 returns-clause-trees c =
     trees_if_ok ident_sources punctuation_sources _ _
-    (Finds (read_punctuation (punctuation_word 7 1)))
+    (PeeksFor (read_punctuation (punctuation_word 7 1)))
     (c.lists_have_their_trees.ensures ident_sources punctuation_sources)
     c.tokens_state_trees.ensures.idents c.tokens_state_trees.ensures.punctuations _ _ _
     c.parse_terminated.ensures.run
@@ -16,7 +16,7 @@ returns-clause-trees c =
 pub returns-clause-end : goal.returns-clause-end
 returns-clause-end c =
     end_if_ok ident_sources punctuation_sources _ _
-    (Finds (read_punctuation (punctuation_word 7 1)))
+    (PeeksFor (read_punctuation (punctuation_word 7 1)))
     (c.lists_have_their_trees.ensures ident_sources punctuation_sources)
     c.tokens_state_trees.ensures.idents c.tokens_state_trees.ensures.punctuations _ _ _
     c.parse_terminated.ensures.run
