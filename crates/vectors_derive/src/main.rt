@@ -6,6 +6,7 @@
 #![tactic(auto)]
 
 use anyhow::{Context, Result};
+use either::Either;
 use std::alloc::Global;
 use std::io;
 use syn_derive::{
@@ -51,6 +52,7 @@ fn parsed(alloc: Global, name: &str, tokens: TokenStream) -> Option<syn_parse::R
         "Argument" => argument.parse2(alloc, tokens),
         "Literals" => literals.parse2(alloc, tokens),
         "Nested" => nested.parse2(alloc, tokens),
+        "Items" => items.parse2(alloc, tokens),
         "Visibility" => visibility.parse2(alloc, tokens),
         "Type" => ty.parse2(alloc, tokens),
         "Expr" => expr.parse2(alloc, tokens),
@@ -155,6 +157,38 @@ fn nested(input: ParseStream<'_, '_>) -> syn_parse::Result<String> {
     for meta in metas.iter() {
         text.push_str(" ")?;
         text.push_str(written(alloc, meta_word(meta), meta)?.as_str())?;
+    }
+    Ok(text)
+}
+
+// Parses a literal, or a meta whose path may have any words.
+fn item(input: ParseStream<'_, '_>) -> syn_parse::Result<Either<Literal, Meta>> {
+    if input.peek::<Literal>() {
+        Ok(Either::Left(input.parse()?))
+    } else {
+        Ok(Either::Right(Meta::parse_nested(input)?))
+    }
+}
+
+fn all_items(
+    input: ParseStream<'_, '_>,
+) -> syn_parse::Result<Punctuated<Either<Literal, Meta>, token::Comma>> {
+    Punctuated::parse_terminated_with(input, item)
+}
+
+// Returns the literals and metas that are an attribute's arguments.
+fn items(input: ParseStream<'_, '_>) -> syn_parse::Result<String> {
+    let alloc = input.allocator();
+    let attribute: Attribute = input.parse()?;
+    let items = attribute.parse_args_with(alloc, all_items)?;
+    let mut text = format!(in alloc; "{} read", items.len())?;
+    for item in items.iter() {
+        text.push_str(" ")?;
+        let shown = match item {
+            Either::Left(literal) => written(alloc, "literal", literal)?,
+            Either::Right(meta) => written(alloc, meta_word(meta), meta)?,
+        };
+        text.push_str(shown.as_str())?;
     }
     Ok(text)
 }

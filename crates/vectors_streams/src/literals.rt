@@ -46,12 +46,12 @@ fn integer(input: ParseStream<'_, '_>) -> Result<String> {
     }
 }
 
-// The literal, and whether its value is one half.
+// The literal and its value.
 fn float(input: ParseStream<'_, '_>) -> Result<String> {
     let alloc = input.allocator();
     let literal: LitFloat = input.parse()?;
     Ok(match literal.value(alloc)? {
-        Some(value) => format!(in alloc; "{literal} is 0.5: {}", value == 0.5)?,
+        Some(value) => format!(in alloc; "{literal} is {value}")?,
         None => format!(in alloc; "{literal} has no value")?,
     })
 }
