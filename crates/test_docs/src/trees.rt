@@ -2,8 +2,9 @@
 use std::alloc::{AllocError, AllocGlobal, Global};
 use std::process::Abort;
 use tok_core::{
-    Edition, Ident, LexFault, Lifetime, LifetimeFault, Literal, MakeFault, Span, ToTokens,
-    TokenStream, TokenTree, is_filled, lex, lex_marked, lex_source, same_visible,
+    Edition, Ident, IdentFault, LexFault, Lifetime, LifetimeFault, Literal, LiteralFault,
+    MakeFault, Span, ToTokens, TokenStream, TokenTree, is_filled, lex, lex_marked, lex_source,
+    same_visible,
 };
 
 #[test]
@@ -23,6 +24,17 @@ fn ident(rt: &(impl Abort + AllocGlobal), alloc: Global) -> Result<(), MakeFault
     Ok(())
 }
 
+fn faults(rt: &impl Abort) {
+    assert_eq!(rt; IdentFault::of("size"), None);
+    assert_eq!(rt; IdentFault::of("8bit"), Some(IdentFault::Number));
+    let fault = IdentFault::Character {
+        at: 2,
+        character: '-',
+    };
+    assert_eq!(rt; IdentFault::of("to-do"), Some(fault));
+    assert_eq!(rt; IdentFault::of_raw("self"), Some(IdentFault::NoRaw));
+}
+
 fn lifetime(rt: &(impl Abort + AllocGlobal), alloc: Global) -> Result<(), LifetimeFault> {
     let lifetime = Lifetime::new(alloc, "'a", Span::call_site())?;
     assert_eq!(rt; lifetime.ident.as_str(), "a");
@@ -35,9 +47,19 @@ fn literal(rt: &(impl Abort + AllocGlobal), alloc: Global) -> Result<(), AllocEr
     Ok(())
 }
 
+fn number(rt: &(impl Abort + AllocGlobal), alloc: Global) -> Result<(), LiteralFault> {
+    let number = Literal::new(alloc, "5i32", Span::call_site())?;
+    assert_eq!(rt; number.as_str(), "5i32");
+    let fault = Literal::new(alloc, "-5", Span::call_site()).err();
+    assert_eq!(rt; fault, Some(LiteralFault::Sign));
+    Ok(())
+}
+
 #[test]
 fn leaves(rt: HostRuntime) {
     assert!(rt; ident(&rt, rt.alloc()).is_ok());
+    faults(&rt);
+    assert!(rt; number(&rt, rt.alloc()).is_ok());
     assert!(rt; lifetime(&rt, rt.alloc()).is_ok());
     assert!(rt; literal(&rt, rt.alloc()).is_ok());
 }
@@ -47,6 +69,14 @@ fn stream(rt: &(impl Abort + AllocGlobal), alloc: Global) -> Result<(), MakeFaul
     let name = Ident::new(alloc, "a", Span::call_site())?;
     stream.append(TokenTree::Ident(name))?;
     assert_eq!(rt; stream.trees().len(), 1);
+    Ok(())
+}
+
+fn of_trees(rt: &(impl Abort + AllocGlobal), alloc: Global) -> Result<(), MakeFault> {
+    let name = Ident::new(alloc, "a", Span::call_site())?;
+    let copy = name.clone()?;
+    let stream = TokenStream::from_trees(alloc, [name.into(), copy.into()])?;
+    assert_eq!(rt; stream.trees().len(), 2);
     Ok(())
 }
 
@@ -61,6 +91,7 @@ fn writes(rt: &(impl Abort + AllocGlobal), alloc: Global) -> Result<(), MakeFaul
 #[test]
 fn streams(rt: HostRuntime) {
     assert!(rt; stream(&rt, rt.alloc()).is_ok());
+    assert!(rt; of_trees(&rt, rt.alloc()).is_ok());
     assert!(rt; writes(&rt, rt.alloc()).is_ok());
 }
 

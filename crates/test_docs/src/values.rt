@@ -3,7 +3,7 @@ use std::alloc::{AllocError, AllocGlobal, Global};
 use std::process::Abort;
 use tok_buffer::Error;
 use tok_carets::{LineColumn, LineIndex, Source, line_column};
-use tok_core::{LexFault, Literal, Span, TokenTree, lex};
+use tok_core::{LexFault, Literal, LiteralFault, Span, TokenTree, lex};
 use tok_values::{IntegerFault, LiteralExt};
 
 fn port_of(literal: &Literal) -> Result<u64, IntegerFault> {
@@ -19,8 +19,18 @@ fn port(alloc: Global) -> Result<u64, LexFault> {
     }
 }
 
+fn suffix(rt: &(impl Abort + AllocGlobal), alloc: Global) -> Result<(), LiteralFault> {
+    let number = Literal::new(alloc, "1.5e3f32", Span::call_site())?;
+    assert_eq!(rt; number.suffix(), "f32");
+    let name = Literal::new(alloc, "\"a\"s", Span::call_site())?;
+    let plain = name.without_suffix(alloc)?;
+    assert_eq!(rt; plain.string_value(alloc)?.as_deref(), Some("a"));
+    Ok(())
+}
+
 #[test]
 fn values(rt: HostRuntime) {
+    assert!(rt; suffix(&rt, rt.alloc()).is_ok());
     assert_eq!(rt; port(rt.alloc()).ok(), Some(8080));
 }
 

@@ -13,6 +13,9 @@ pub fn calls(alloc: Global) -> Outcome {
         ended(Ident::new(alloc, NAME, Span::call_site())),
         idents(alloc),
         literals(alloc),
+        ended(Literal::new(alloc, "123456789_012i64", Span::call_site())),
+        trees(alloc),
+        extends(alloc),
         c_string(alloc),
         texts(alloc),
         appends(alloc),
@@ -116,6 +119,17 @@ fn appends(alloc: Global) -> Outcome {
 pub fn writes<T: ToTokens>(alloc: Global, value: &T) -> Outcome {
     let mut tokens = pluses(alloc)?;
     ended(value.to_tokens(&mut tokens))
+}
+
+fn trees(alloc: Global) -> Outcome {
+    ended(TokenStream::from_trees(alloc, [plus()?.into()]))
+}
+
+// Extends four pluses by four more, for which the stream grows.
+fn extends(alloc: Global) -> Outcome {
+    let mut stream = pluses(alloc)?;
+    let more = pluses(alloc)?;
+    ended(stream.extend(more))
 }
 
 fn streams(alloc: Global) -> Outcome {

@@ -11,6 +11,7 @@ pub fn calls(alloc: Global) -> Outcome {
     worst(&[
         values(alloc, "\"a long text\\n of two lines\""),
         values(alloc, "b\"a long text\\n of two lines\""),
+        values(alloc, "\"a long text\\n of two lines\"s"),
         ended(source().show(alloc, span(), "no")),
         shown_error(alloc),
         shown_lex(alloc),
@@ -32,6 +33,7 @@ fn of_literal(alloc: Global, literal: &Literal) -> Outcome {
     worst(&[
         ended(literal.string_value(alloc)),
         ended(literal.bytes_value(alloc)),
+        ended(literal.without_suffix(alloc)),
     ])
 }
 

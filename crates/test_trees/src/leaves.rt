@@ -2,7 +2,10 @@
 use std::alloc::{AllocGlobal, Global};
 use std::ffi::CStr;
 use std::process::Abort;
-use tok_core::{Edition, Ident, Literal, MakeFault, Punct, Spacing, Span, TokenTree, lex_source};
+use tok_core::{
+    Edition, Ident, IdentFault, Literal, LiteralFault, MakeFault, Punct, Spacing, Span, TokenTree,
+    lex_source,
+};
 
 // Returns `true` if `Ident::new` makes the wanted identifier of a text, or rejects the text if none
 // is wanted.
@@ -64,6 +67,143 @@ fn makes_raw_idents(rt: HostRuntime) {
             ("crate", None),
             ("r#a", None),
             ("", None),
+        ],
+    );
+}
+
+// Checks why each text is no identifier, and why it has no raw form.
+fn all_faults(rt: &impl Abort, rows: &[(&str, Option<IdentFault>, Option<IdentFault>)]) {
+    for (text, plain, raw) in rows {
+        assert_eq!(rt; IdentFault::of(text), *plain, "at {text}");
+        assert_eq!(rt; IdentFault::of_raw(text), *raw, "at {text}");
+    }
+}
+
+// Returns the fault of a character at this byte.
+fn other(at: usize, character: char) -> Option<IdentFault> {
+    Some(IdentFault::Character { at, character })
+}
+
+#[test]
+fn tells_why_no_identifier(rt: HostRuntime) {
+    let empty = Some(IdentFault::Empty);
+    let number = Some(IdentFault::Number);
+    let raw = Some(IdentFault::Raw);
+    all_faults(
+        &rt,
+        &[
+            ("a", None, None),
+            ("fn", None, None),
+            ("é1", None, None),
+            ("_a", None, None),
+            ("", empty, empty),
+            ("1a", number, number),
+            ("0", number, number),
+            ("r#a", raw, raw),
+            ("r#", raw, raw),
+            ("_", None, Some(IdentFault::NoRaw)),
+            ("self", None, Some(IdentFault::NoRaw)),
+            ("Self", None, Some(IdentFault::NoRaw)),
+            ("super", None, Some(IdentFault::NoRaw)),
+            ("crate", None, Some(IdentFault::NoRaw)),
+            ("to-do", other(2, '-'), other(2, '-')),
+            ("é ", other(2, ' '), other(2, ' ')),
+            ("éé\u{20ac}", other(4, '\u{20ac}'), other(4, '\u{20ac}')),
+            ("-a", other(0, '-'), other(0, '-')),
+            ("'a", other(0, '\''), other(0, '\'')),
+            ("\u{301}a", other(0, '\u{301}'), other(0, '\u{301}')),
+            ("\u{661}", other(0, '\u{661}'), other(0, '\u{661}')),
+        ],
+    );
+}
+
+fn are_words(alloc: Global, fault: IdentFault, wanted: &str) -> Option<bool> {
+    Some(fault.to_string(alloc).ok()?.as_str() == wanted)
+}
+
+#[test]
+fn writes_why_no_identifier(rt: HostRuntime) {
+    let fault = IdentFault::Character {
+        at: 1,
+        character: 'é',
+    };
+    let words = "unexpected character `é` in an identifier";
+    assert_eq!(rt; are_words(rt.alloc(), fault, words), Some(true));
+    let words = "empty text";
+    assert_eq!(rt; are_words(rt.alloc(), IdentFault::Empty, words), Some(true));
+    let words = "begins with a digit";
+    assert_eq!(rt;
+        are_words(rt.alloc(), IdentFault::Number, words),
+        Some(true)
+    );
+    let words = "begins with `r#`: pass the rest to `Ident::new_raw`";
+    assert_eq!(rt; are_words(rt.alloc(), IdentFault::Raw, words), Some(true));
+    let words = "has no raw form";
+    assert_eq!(rt; are_words(rt.alloc(), IdentFault::NoRaw, words), Some(true));
+}
+
+// Returns `true` if the literal of a text has this text, and the span that it was given.
+fn is_literal_of(alloc: Global, text: &str) -> Result<bool, LiteralFault> {
+    let span = Span::source(1, 2, 4);
+    let literal = Literal::new(alloc, text, span)?;
+    Ok(literal.as_str() == text && literal.span() == span)
+}
+
+fn all_literals_of(rt: &(impl Abort + AllocGlobal), rows: &[(&str, Result<bool, LiteralFault>)]) {
+    for (text, wanted) in rows {
+        assert_eq!(rt; is_literal_of(rt.alloc(), text), *wanted, "at {text}");
+    }
+}
+
+#[test]
+fn makes_literals_of_texts(rt: HostRuntime) {
+    let no = Err(LiteralFault::NotLiteral);
+    let sign = Err(LiteralFault::Sign);
+    all_literals_of(
+        &rt,
+        &[
+            ("0", Ok(true)),
+            ("5i32", Ok(true)),
+            ("0x_fFu8", Ok(true)),
+            ("1.", Ok(true)),
+            ("1.5e-3f64", Ok(true)),
+            ("9e99e99", Ok(true)),
+            ("\"a \\u{e9}\"", Ok(true)),
+            ("\"a\"s", Ok(true)),
+            ("r##\"a\"#b\"##", Ok(true)),
+            ("b'\\xFF'", Ok(true)),
+            ("b\"a\"", Ok(true)),
+            ("br\"a\"", Ok(true)),
+            ("c\"a\"", Ok(true)),
+            ("cr#\"a\"#", Ok(true)),
+            ("'\\''", Ok(true)),
+            ("'é'", Ok(true)),
+            (" 0", no),
+            ("0 ", no),
+            ("/* comment */0", no),
+            ("0/* comment */", no),
+            ("0 // comment", no),
+            ("1 2", no),
+            ("1.a", no),
+            ("1..", no),
+            ("-1", sign),
+            ("+1", sign),
+            ("- 1", sign),
+            ("", no),
+            ("a", no),
+            ("true", no),
+            ("'a", no),
+            ("'ab'", no),
+            ("0b2", no),
+            ("1e", no),
+            ("\"a", no),
+            ("\"\\q\"", no),
+            ("b\"é\"", no),
+            ("c\"\\0\"", no),
+            ("r\"a\rb\"", no),
+            ("(1)", no),
+            ("\u{feff}1", no),
+            ("#![a]1", no),
         ],
     );
 }

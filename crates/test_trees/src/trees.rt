@@ -364,6 +364,55 @@ fn writes_values_alone(rt: HostRuntime) {
     assert_eq!(rt; is_alone(alloc, group_alone(alloc), "{}"), Some(true));
 }
 
+// Makes `(a + b)` of trees, at the call site.
+fn made_of_trees(alloc: Global) -> Option<TokenStream> {
+    let left = Ident::new(alloc, "a", Span::call_site()).ok()?;
+    let plus = Punct::new('+', Spacing::Alone)?;
+    let right = Ident::new(alloc, "b", Span::call_site()).ok()?;
+    let trees = [left.into(), plus.into(), right.into()];
+    let inside = TokenStream::from_trees(alloc, trees).ok()?;
+    let group = Group::at_call_site(Delimiter::Parenthesis, inside);
+    TokenStream::from_trees(alloc, [group.into()]).ok()
+}
+
+// Appends the trees of a text to this stream.
+fn extended(alloc: Global, stream: Option<TokenStream>, text: &str) -> Option<TokenStream> {
+    let mut stream = stream?;
+    stream.extend(read(alloc, text)?).ok()?;
+    Some(stream)
+}
+
+fn none(alloc: Global) -> Option<TokenStream> {
+    TokenStream::from_trees(alloc, []).ok()
+}
+
+#[test]
+fn makes_streams_of_trees(rt: HostRuntime) {
+    let alloc = rt.alloc();
+    assert_eq!(rt; is_alone(alloc, none(alloc), ""), Some(true));
+    assert_eq!(rt;
+        is_alone(alloc, made_of_trees(alloc), "(a + b)"),
+        Some(true)
+    );
+    let more = extended(alloc, made_of_trees(alloc), "c «d» 1");
+    assert_eq!(rt; is_alone(alloc, more, "(a + b) c «d» 1"), Some(true));
+    let all = extended(alloc, none(alloc), "c");
+    assert_eq!(rt; is_alone(alloc, all, "c"), Some(true));
+    let same = extended(alloc, made_of_trees(alloc), "");
+    assert_eq!(rt; is_alone(alloc, same, "(a + b)"), Some(true));
+}
+
+fn span_of_made(alloc: Global) -> Option<Span> {
+    let stream = TokenStream::new(alloc);
+    Some(Group::at_call_site(Delimiter::Brace, stream).span())
+}
+
+#[test]
+fn makes_groups_at_the_call_site(rt: HostRuntime) {
+    let wanted = Some(Span::call_site());
+    assert_eq!(rt; span_of_made(rt.alloc()), wanted);
+}
+
 // Returns the last tree of a text, moved to this span.
 fn moved(alloc: Global, text: &str, span: Span) -> Option<TokenTree> {
     let mut trees = read(alloc, text)?.into_trees();

@@ -1,4 +1,4 @@
-//! The values of literals: escapes, lines that go on, bases, suffixes, and what has no value.
+//! The values of literals: escapes, lines that go on, bases, and what has no value.
 use std::alloc::{AllocGlobal, Global};
 use std::process::Abort;
 use tok_core::{Edition, Literal, TokenStream, TokenTree, lex_source};

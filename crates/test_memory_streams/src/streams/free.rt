@@ -1,5 +1,5 @@
-//! Calls that don't allocate. `tests/refuse_memory` counts the allocations: those that lay the
-//! tokens out, and no others.
+//! Calls that don't allocate. With them `tests/refuse_memory` counts as many allocations as without
+//! them: those that lay the tokens out.
 use super::laid;
 use std::alloc::Global;
 use syn_parse::{Nothing, Parens, ParseBuffer, ParseStream, parse_parens, tokens_to_parse_buffer};
