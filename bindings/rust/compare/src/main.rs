@@ -34,7 +34,6 @@ fn main() -> ExitCode {
         eprintln!("usage: compare [--seed N] [--turn-spacing] TEXTS RUNS");
         return ExitCode::from(2);
     }
-    // std::panic::set_hook(Box::new(|_| {}));
     let spans = Spans::new(4096);
     let mut random = Random::new(seed);
     let mut tally = Tally::default();
