@@ -9,7 +9,7 @@ use Rattle.std.specs.Str.{chars, IsUtf8, bytes_eq}
 use Rattle.std.specs.Borrow.{Bor}
 use Rattle.std.proofs.lemmas.List.{append-nil}
 use Rattle.std.proofs.lemmas.Bool.{false≢true, ne_eqb, ltb-true, false_from_ne_true, leb-false}
-use Rattle.std.proofs.Common.{rules, tests, ◌≤◌, get_or}
+use Rattle.std.proofs.Common.{rules, tests, ◌≤◌}
 use Rattle.std.proofs.lemmas.List.Folds.{list_all-append}
 use Rattle.tok_lexical.specs.Private.Fronts.{begins_beyond_ascii}
 use Rattle.unicode_ident.specs.Ident.{is_xid_continue}
@@ -17,10 +17,11 @@ use Rattle.unicode_ident.proofs.IdentLemmas.{is_xid_continue-ascii, is_xid_start
 use Rattle.tok_lexical.specs.Pieces.{IsLongestPrefix, HasPrefix, ReadsLongest, Skips, Stops}
 use Rattle.tok_lexical.specs.Following.{starts_name}
 use Rattle.tok_lexical.specs.Words.{is_identifier_start, IsIdentifier, IsRawIdentifier, IsName}
-use Rattle.tok_lexical.specs.Private.Fronts.{begins_continue, is_ascii_continue}
+use Rattle.tok_lexical.specs.Scans.{IsAsciiTest}
+use Rattle.tok_lexical.specs.Private.Fronts.{is_ascii_continue}
 use Rattle.tok_lexical.specs.Words.{has_no_raw, is_raw_prefix}
-use Rattle.tok_lexical.proofs.Texts.{begins_by}
 use Rattle.tok_lexical.proofs.Longest.{no_more}
+use Rattle.tok_lexical.proofs.Runs.{ascii_test}
 use Rattle.tok_lexical.proofs.Digits.{head_passes, tail_passes}
 use Rattle.std.proofs.lemmas.Str.{encodes-chars, encodes-IsAscii, chars-IsAscii, chars-nil}
 use Rattle.std.proofs.lemmas.Str.Ascii.{IsAscii-nil}
@@ -197,20 +198,10 @@ skips_more_continues text mid rest (front, s) (more, t) = (
   },
 )
 
--- a text whose first byte goes on, or doesn't
-pub begins_continue_by : (text : List ℕ) (x : ℕ) → IsUtf8 text → 0 < length text →
-    x ≡ get_or text 0 0 → is_ascii_continue x ≡ begins_continue (chars text)
-begins_continue_by =
-    begins_by is_ascii_continue ascii_continues_low begins_continue refl (λ c rest. refl)
-
+-- beyond ASCII none goes on
 pub no_continue_beyond : (x : ℕ) → (x < 128 → ⊥) → is_ascii_continue x ≡ false
 no_continue_beyond x beyond =
     false_from_ne_true (is_ascii_continue x) (λ h. beyond (ascii_continues_low x h))
 
-pub no_continue : (text : List ℕ) → begins_continue text ≡ false → (front : List ℕ)
-    × Skips is_ascii_continue text front text
-no_continue text none = ([], record { cut = refl; pass = refl; stops = stops text none })
-  where
-    stops : (cs : List ℕ) → begins_continue cs ≡ false → Stops is_ascii_continue cs
-    stops [] h = tt
-    stops (c ∷ cs) h = h
+pub continues_ascii_test : IsAsciiTest is_ascii_continue
+continues_ascii_test = ascii_test is_ascii_continue ascii_continues_low

@@ -1,3 +1,4 @@
+pub mod Appended
 pub mod BareReturns
 pub mod Codes
 pub mod Decimals
@@ -13,6 +14,7 @@ pub mod Identifiers
 pub mod Lanes
 pub mod Longest
 pub mod NestedComments
+pub mod QuotedFaults
 pub mod RawQuotes
 pub mod RawStrings
 pub mod Runs

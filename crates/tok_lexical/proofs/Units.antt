@@ -21,7 +21,7 @@ use Rattle.tok_lexical.proofs.EscapedChars.{heads, tails, free_string_escape}
 -- of strings of one kind
 module _ (kind : Contents) where
   -- no unit begins another
-  unit_same : {a b : List ℕ} → IsUnit kind a → IsUnit kind b → (x y : List ℕ) →
+  pub unit_same : {a b : List ℕ} → IsUnit kind a → IsUnit kind b → (x y : List ℕ) →
       a ++ x ≡ b ++ y → (a ≡ b) × (x ≡ y)
   unit_same (plain c p q) (plain d r s) x y e = (cc, cc)
   unit_same (plain c p q) (escape v) x y e = absurd (q (heads _ _ _ _ e))
@@ -29,7 +29,7 @@ module _ (kind : Contents) where
   unit_same (escape {text = a} v) (escape {text = b} w) x y e = let f : a ++ x ≡ b ++ y = cc in
       let s = free_string_escape kind a b v w x y f in (ap (λ u. 92 ∷ u) s.0, s.1)
 
-  no_quote : {a : List ℕ} → IsUnit kind a → (x y : List ℕ) → a ++ x ≡ 34 ∷ y → ⊥
+  pub no_quote : {a : List ℕ} → IsUnit kind a → (x y : List ℕ) → a ++ x ≡ 34 ∷ y → ⊥
   no_quote (plain c p q) x y e = p (heads _ _ _ _ e)
   no_quote (escape v) x y e = absurd (omega (arith, heads 92 34 _ _ e))
 

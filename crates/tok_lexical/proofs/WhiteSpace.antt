@@ -7,11 +7,16 @@ use Rattle.std.proofs.lemmas.List.Folds.{list_all-append}
 use Rattle.tok_lexical.specs.Private.Fronts.{begins_beyond_ascii, is_ascii_whitespace}
 use Rattle.tok_lexical.specs.Characters.{is_whitespace}
 use Rattle.tok_lexical.specs.Pieces.{Skips, Stops}
+use Rattle.tok_lexical.specs.Scans.{IsAsciiTest}
 use Rattle.tok_lexical.proofs.Digits.{head_passes, tail_passes}
+use Rattle.tok_lexical.proofs.Runs.{ascii_test}
 
 -- white space that is ASCII
-pub blanks_low : (x : ℕ) → is_ascii_whitespace x ≡ true → x < 128
+blanks_low : (x : ℕ) → is_ascii_whitespace x ≡ true → x < 128
 blanks_low x h = let l : x ≤ 32 = search (rules, tests) in omega arith
+
+pub blanks_ascii_test : IsAsciiTest is_ascii_whitespace
+blanks_ascii_test = ascii_test is_ascii_whitespace blanks_low
 
 blank_whitespace : (c : ℕ) → is_ascii_whitespace c ≡ true → is_whitespace c ≡ true
 blank_whitespace c h = search (rules, tests)

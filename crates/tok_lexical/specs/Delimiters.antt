@@ -4,14 +4,15 @@ use Rattle.tok_lexical.specs.declared.delimiter.Delimiter.{Delimiter}
 use Rattle.tok_lexical.specs.declared.delimiter.Delimiter.TheVariants.{Parenthesis, Brace, Bracket}
 use Rattle.tok_lexical.specs.declared.delimiter.Delimiter.TheVariants.{None}
 
--- the bytes printed before a group's contents: one of ( { [ «
+-- The bytes printed before a group's contents: one of ( { [ «. Written out in bytes: `opening_mark`
+-- has the code points, by which a text is read.
 abbrev pub opening : Delimiter → List ℕ
 opening Parenthesis = codes "("
 opening Brace = codes "{"
 opening Bracket = codes "["
 opening None = 0xc2 ∷ 0xab ∷ []
 
--- the bytes printed after a group's contents: one of ) } ] »
+-- the bytes printed after a group's contents: one of ) } ] », written out likewise
 abbrev pub closing : Delimiter → List ℕ
 closing Parenthesis = codes ")"
 closing Brace = codes "}"

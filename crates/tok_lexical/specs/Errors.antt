@@ -66,6 +66,19 @@ kind_words ReservedPrefix = codes "reserved prefix"
 kind_words BareReturn = codes "bare carriage return in a doc comment"
 kind_words ReservedGuard = codes "reserved guard"
 
+-- what is wrong, for a reader of the text: the error's message, or a sentence if that only names
+-- what was read
+abbrev pub kind_message : LexErrorKind → List ℕ
+kind_message DocComment = codes "a doc comment is not allowed here"
+kind_message PrefixedString = codes "a raw, byte or C string is not allowed here"
+kind_message FloatLiteral = codes "a float is not allowed here"
+kind_message MissingRawIdentifier = codes "this name cannot be a raw identifier"
+kind_message LoneApostrophe = codes "expected a lifetime, or one character and another `'`"
+kind_message DeepGroup = codes "more than 256 groups are nested here"
+kind_message ReservedPrefix = codes "a name directly before a quote or `#` is reserved"
+kind_message ReservedGuard = codes "`#` directly before a quote or `#` is reserved"
+kind_message kind = kind_words kind
+
 -- this kind of error if the condition holds, else no error
 abbrev refused_if : Bool → LexErrorKind → Option LexErrorKind
 refused_if b kind = if b then Some kind else None

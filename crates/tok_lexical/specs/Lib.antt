@@ -12,9 +12,11 @@ pub mod Following
 pub mod Laws
 pub mod Numbers
 pub mod Pieces
+pub mod QuotedFaults
 pub mod Raw
 pub mod RawQuotes
 pub mod Rules
+pub mod Scans
 pub mod Sources
 pub mod Starts
 pub mod Strings

@@ -100,6 +100,10 @@ is_byte c = is_char c && nat_lt c 128
 abbrev pub IsEscapedChar : List ℕ → Type 0
 IsEscapedChar = After backslash (IsEscape false false)
 
+-- the inside of a character literal: a character or an escape
+abbrev pub IsChar : List ℕ → Type 0
+IsChar inner = IsOne is_char inner ⊎ IsEscapedChar inner
+
 -- the inside of a byte literal: an ASCII character or an escape, `\x` up to FF and no `\u`
 abbrev pub IsByte : List ℕ → Type 0
 IsByte inner = IsOne is_byte inner ⊎ After backslash (IsEscape false true) inner

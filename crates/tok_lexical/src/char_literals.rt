@@ -1,4 +1,4 @@
-//! Characters and byte characters.
+//! Functions that skip character literals and byte literals.
 ghost use Rattle.std.specs.Prelude.{◌≡◌, IfSome};
 ghost use Rattle.std.specs.Str.{chars, IsUtf8};
 ghost use Rattle.tok_lexical.specs.Pieces.{IsOne, After, ReadsLongest};
@@ -22,7 +22,8 @@ fn is_byte(c: char) -> bool
     is_char(c) && c < '\u{80}'
 }
 
-/// Returns the text after the apostrophe that ends a character, and its suffix.
+/// Returns the rest of `text` after the closing apostrophe of a literal and the suffix of the
+/// literal.
 // Inlined: it is the end of each of the three rules, and mostly two tests.
 #[inline(always)]
 fn past_end(text: &str) -> Option<&str>
@@ -33,8 +34,11 @@ fn past_end(text: &str) -> Option<&str>
     Some(past_suffix(rest))
 }
 
-/// Returns the text after one character that may stand between apostrophes without an escape.
-fn past_plain(text: &str) -> Option<&str>
+/// Returns the rest of `text` after one character that a character literal may contain without an
+/// escape.
+///
+/// Returns `None` if `text` does not begin with such a character.
+pub(crate) fn past_plain(text: &str) -> Option<&str>
     ensures finds { ReadsPrefix (IsOne is_char) (chars text.now) result }
     ensures utf8 { IfSome result (λ rest. IsUtf8 rest.now) }
 {
@@ -42,8 +46,10 @@ fn past_plain(text: &str) -> Option<&str>
     if is_char(first) { Some(rest) } else { None }
 }
 
-/// Returns the text after an escape of a character.
-fn past_escaped(text: &str) -> Option<&str>
+/// Returns the rest of `text` after a leading escape that a character literal may contain.
+///
+/// Returns `None` if `text` does not begin with such an escape.
+pub(crate) fn past_escaped(text: &str) -> Option<&str>
     ensures finds { ReadsPrefix IsEscapedChar (chars text.now) result }
     ensures utf8 { IfSome result (λ rest. IsUtf8 rest.now) }
 {
@@ -51,8 +57,10 @@ fn past_escaped(text: &str) -> Option<&str>
     past_escape(rest, false, false)
 }
 
-/// Returns the text after a byte, or an escape of one.
-fn past_byte(text: &str) -> Option<&str>
+/// Returns the rest of `text` after one ASCII character or escape that a byte literal may contain.
+///
+/// Returns `None` if `text` begins with neither of them.
+pub(crate) fn past_byte(text: &str) -> Option<&str>
     ensures finds { ReadsPrefix IsByte (chars text.now) result }
     ensures utf8 { IfSome result (λ rest. IsUtf8 rest.now) }
 {
@@ -66,7 +74,9 @@ fn past_byte(text: &str) -> Option<&str>
     }
 }
 
-/// Skips a character literal without an escape, with its suffix, and returns the rest.
+/// Returns the rest of `text` after a leading character literal without an escape.
+///
+/// The literal includes its suffix. Returns `None` if `text` does not begin with such a literal.
 #[inline(always)]
 pub fn past_plain_char(text: &str) -> Option<&str>
     ensures tries { ReadsLongest (IsQuoted (IsOne is_char)) (chars text.now) result }
@@ -77,7 +87,9 @@ pub fn past_plain_char(text: &str) -> Option<&str>
     past_end(end)
 }
 
-/// Skips a character literal that contains an escape, with its suffix, and returns the rest.
+/// Returns the rest of `text` after a leading character literal that contains an escape.
+///
+/// The literal includes its suffix. Returns `None` if `text` does not begin with such a literal.
 #[inline(always)]
 pub fn past_escaped_char(text: &str) -> Option<&str>
     ensures tries { ReadsLongest (IsQuoted IsEscapedChar) (chars text.now) result }
@@ -88,7 +100,7 @@ pub fn past_escaped_char(text: &str) -> Option<&str>
     past_end(end)
 }
 
-/// Returns the text after a byte between apostrophes, and its suffix.
+/// Returns the rest of `text` after the part of a byte literal that begins at its apostrophe.
 fn past_quoted_byte(text: &str) -> Option<&str>
     ensures tries { ReadsLongest (IsQuoted IsByte) (chars text.now) result }
     ensures utf8 { IfSome result (λ rest. IsUtf8 rest.now) }
@@ -98,7 +110,9 @@ fn past_quoted_byte(text: &str) -> Option<&str>
     past_end(end)
 }
 
-/// Returns the text after a byte character and its suffix.
+/// Returns the rest of `text` after a leading byte literal, such as `b'a'`.
+///
+/// The literal includes its suffix. Returns `None` if `text` does not begin with such a literal.
 #[inline(always)]
 pub fn past_byte_char(text: &str) -> Option<&str>
     ensures tries { ReadsLongest (After 98 (IsQuoted IsByte)) (chars text.now) result }

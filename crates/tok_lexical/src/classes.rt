@@ -1,4 +1,4 @@
-//! White space, punctuation characters, and the marks of groups.
+//! White space, punctuation characters, and the characters that open and close groups.
 ghost use Rattle.std.specs.Prelude.{◌≡◌, ◌≤◌, ℕ, List, length};
 ghost use Rattle.std.specs.Str.{chars};
 ghost use Rattle.tok_lexical.specs.Private.Fronts.{is_ascii_whitespace, begins_visibly};
@@ -7,16 +7,16 @@ ghost use Rattle.tok_lexical.specs.Delimiters.{is_invisible};
 ghost use Rattle.tok_lexical.specs.Pieces.{Skips};
 
 use crate::delimiter::Delimiter;
-use crate::scan::Blanks;
+use crate::scan::{Blanks, ByteTest};
 use crate::text::{begins_beyond_ascii, next_char, past_char, past_run};
 
-/// Returns `true` for white space.
+/// Returns `true` if `c` has the Unicode property Pattern_White_Space.
 pub fn is_whitespace(c: char) -> bool
     ensures { result ≡ is_whitespace c }
 {
     // Nearly all characters that this is asked of are ASCII.
     if c < '\u{80}' {
-        matches!(c, ' ' | '\u{9}'..='\u{D}')
+        Blanks.holds(c as u8)
     } else {
         matches!(
             c,
@@ -25,7 +25,7 @@ pub fn is_whitespace(c: char) -> bool
     }
 }
 
-/// Returns `true` if the text begins with a visible ASCII character.
+/// Returns `true` if `text` begins with a visible ASCII character.
 #[inline]
 fn begins_visibly(text: &str) -> bool
     ensures { result ≡ begins_visibly (chars text.now) }
@@ -36,7 +36,7 @@ fn begins_visibly(text: &str) -> bool
     }
 }
 
-/// Returns the text after the white space at the front.
+/// Returns `text` without its leading white space.
 #[inline]
 pub fn past_whitespace(text: &str) -> &str
     ensures skips { (front : List ℕ)
@@ -52,7 +52,7 @@ pub fn past_whitespace(text: &str) -> &str
     }
 }
 
-/// Returns the text after the ASCII white space at the front.
+/// Returns `text` without its leading ASCII white space.
 #[inline(always)]
 fn past_ascii_whitespace(text: &str) -> &str
     ensures skips { (front : List ℕ)
@@ -66,7 +66,7 @@ fn past_ascii_whitespace(text: &str) -> &str
     }
 }
 
-/// Returns the text after the white space at the front, of any kind and length.
+/// Returns `text` without its leading white space, of any kind and length.
 #[inline(always)]
 fn past_any_whitespace(text: &str) -> &str
     ensures skips { (front : List ℕ)
@@ -81,7 +81,9 @@ fn past_any_whitespace(text: &str) -> &str
     }
 }
 
-/// Returns the text after the white space at the front, if that begins beyond ASCII.
+/// Returns `text` without its leading white space.
+///
+/// The caller has checked that `text` begins with a character beyond ASCII.
 // Kept out of line, so that what comes before it is inlined. Most characters beyond ASCII are no
 // white space: they are told here, without the loop.
 #[inline(never)]
@@ -96,7 +98,7 @@ fn past_beyond_ascii(text: &str) -> &str
     }
 }
 
-/// Returns the text after the white space at the front, by each character that isn't ASCII.
+/// Returns `text` without its leading white space, and reads characters beyond ASCII one at a time.
 // Kept out of line: little white space is beyond ASCII.
 #[inline(never)]
 fn past_other_whitespace(text: &str) -> &str
@@ -114,21 +116,23 @@ fn past_other_whitespace(text: &str) -> &str
     rest
 }
 
-/// Returns `true` for a punctuation character, which the apostrophe is not.
+/// Returns `true` if `c` is a punctuation character other than the apostrophe.
 pub fn is_punct(c: char) -> bool
     ensures { result ≡ is_punct c }
 {
     matches!(c, '!' | '#'..='&' | '*'..='/' | ':'..='@' | '^' | '|' | '~')
 }
 
-/// Returns `true` if a punct may have this character.
+/// Returns `true` if `c` is a punctuation character or an apostrophe.
 pub fn is_punct_or_apostrophe(c: char) -> bool
     ensures { result ≡ is_punct_or_apostrophe c }
 {
     is_punct(c) || c == '\''
 }
 
-/// Returns the character that opens a group: `«` for an invisible one.
+/// Returns the character that opens a group with the delimiter `delimiter`.
+///
+/// For `Delimiter::None`, the character is `«`.
 pub fn opening_mark(delimiter: Delimiter) -> char
     ensures { result ≡ opening_mark delimiter }
 {
@@ -140,7 +144,9 @@ pub fn opening_mark(delimiter: Delimiter) -> char
     }
 }
 
-/// Returns the character that closes a group: `»` for an invisible one.
+/// Returns the character that closes a group with the delimiter `delimiter`.
+///
+/// For `Delimiter::None`, the character is `»`.
 pub fn closing_mark(delimiter: Delimiter) -> char
     ensures { result ≡ closing_mark delimiter }
 {
@@ -152,7 +158,7 @@ pub fn closing_mark(delimiter: Delimiter) -> char
     }
 }
 
-/// Returns `true` for the delimiter of an invisible group.
+/// Returns `true` if `delimiter` is `Delimiter::None`.
 pub fn is_invisible(delimiter: Delimiter) -> bool
     ensures { result ≡ is_invisible delimiter }
 {

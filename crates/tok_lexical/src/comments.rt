@@ -1,4 +1,4 @@
-//! Comments.
+//! Functions that skip comments and recognize doc comments.
 ghost use Rattle.std.specs.Prelude.{◌≡◌, ℕ, ◌∷◌, ◌++◌, [], List, IfSome, true};
 ghost use Rattle.std.specs.Str.{chars, IsUtf8};
 ghost use Rattle.tok_lexical.specs.Pieces.{ReadsLongest, Skips};
@@ -10,14 +10,18 @@ use crate::text::{
     begins_with, front_of, next_char, past_char, past_first, past_others, past_pair, up_to,
 };
 
-/// Returns the text from the line feed on, or the end of the text.
+/// Returns the part of `text` that begins at the first line feed.
+///
+/// Returns an empty text if `text` contains no line feed.
 pub fn past_line(text: &str) -> &str
     ensures { (front : List ℕ) × Skips is_not_line_feed (chars text.now) front (chars result.now) }
 {
     past_others(text, b'\n', b'\n')
 }
 
-/// Returns the text after a `//` comment.
+/// Returns the rest of `text` after a leading `//` comment.
+///
+/// Returns `None` if `text` does not begin with `//`.
 #[inline(always)]
 pub fn past_line_comment(text: &str) -> Option<&str>
     ensures tries { ReadsLongest IsLineComment (chars text.now) result }
@@ -26,7 +30,10 @@ pub fn past_line_comment(text: &str) -> Option<&str>
     Some(past_line(past_pair(text, '/', '/')?))
 }
 
-/// Returns the text after a `/*` comment, with those inside it.
+/// Returns the rest of `text` after a leading `/* .. */` comment, which may contain nested
+/// comments.
+///
+/// Returns `None` if `text` does not begin with `/*`, or if the comment is not closed.
 #[inline(always)]
 pub fn past_block_comment(text: &str) -> Option<&str>
     ensures tries { ReadsLongest IsBlockComment (chars text.now) result }
@@ -35,7 +42,10 @@ pub fn past_block_comment(text: &str) -> Option<&str>
     past_block(past_pair(text, '/', '*')?)
 }
 
-/// Returns the text after a comment whose `/*` is before `text`.
+/// Returns the rest of `text` after the end of a block comment. `text` begins after the `/*` of the
+/// comment.
+///
+/// Returns `None` if the comment is not closed.
 #[inline(always)]
 pub fn past_block(text: &str) -> Option<&str>
     ensures tries { ReadsLongest (Closes 1) (chars text.now) result }
@@ -65,7 +75,7 @@ pub fn past_block(text: &str) -> Option<&str>
     Some(rest)
 }
 
-/// Returns `true` if the text after a `//` makes it a doc comment.
+/// Returns `true` if a line comment is a doc comment. `body` is the text of the comment after `//`.
 #[inline]
 pub fn opens_line_doc(body: &str) -> bool
     ensures { result ≡ opens_line_doc (chars body.now) }
@@ -76,7 +86,8 @@ pub fn opens_line_doc(body: &str) -> bool
     }
 }
 
-/// Returns `true` if the text after a `/*` makes it a doc comment.
+/// Returns `true` if a block comment is a doc comment. `body` is the text after the `/*` of the
+/// comment.
 #[inline]
 pub fn opens_block_doc(body: &str) -> bool
     ensures { result ≡ opens_block_doc (chars body.now) }
@@ -87,29 +98,31 @@ pub fn opens_block_doc(body: &str) -> bool
     }
 }
 
-/// Returns `true` if a `//` comment is a doc comment.
+/// Returns `true` if the line comment `piece` is a doc comment, such as `/// A point.`.
 pub fn is_line_doc(piece: &str) -> bool
     ensures { result ≡ is_line_doc (chars piece.now) }
 {
     opens_line_doc(past_first(past_first(piece)))
 }
 
-/// Returns `true` if a `/*` comment is a doc comment.
+/// Returns `true` if the block comment `piece` is a doc comment, such as `/** A point. */`.
 pub fn is_block_doc(piece: &str) -> bool
     ensures { result ≡ is_block_doc (chars piece.now) }
 {
     opens_block_doc(past_first(past_first(piece)))
 }
 
-/// Returns `true` if a doc comment is about the item it is in: `!` is its third character.
+/// Returns `true` if the doc comment `piece` begins with `//!` or `/*!`.
 pub fn is_inner_doc(piece: &str) -> bool
     ensures { result ≡ is_inner_doc (chars piece.now) }
 {
     begins_with(past_first(past_first(piece)), '!')
 }
 
-/// Returns the contents of a `///` or `//!` comment. A U+000D at its end belongs to the end of the
-/// line.
+/// Returns the text of the doc comment `piece` after its `///` or `//!`.
+///
+/// A carriage return at the end of `piece` belongs to the line ending. It is not part of the
+/// result.
 pub fn line_doc_text(piece: &str) -> &str
     ensures { chars result.now ≡ line_doc_text (chars piece.now) }
 {
@@ -117,10 +130,10 @@ pub fn line_doc_text(piece: &str) -> &str
     up_to(text, b'\r')
 }
 
-/// Returns the contents of a `///` or `//!` comment, as `line_doc_text` does.
+/// Returns the text of the doc comment `piece` after its `///` or `//!`, like `line_doc_text`.
 ///
-/// `returns` is `true` if the piece has a U+000D, and may be if it has none. If it isn't, none is
-/// searched for.
+/// If `returns` is `false`, the call assumes that `piece` contains no carriage return, and does not
+/// search for one.
 #[inline(always)]
 pub fn line_doc_contents(piece: &str, returns: bool) -> &str
     ensures { (has_return (chars piece.now) ≡ true → returns ≡ true)
@@ -133,10 +146,11 @@ pub fn line_doc_contents(piece: &str, returns: bool) -> &str
     }
 }
 
-/// Returns `true` if a line comment has a U+000D that isn't part of its line's end.
+/// Returns `true` if the line comment `piece` contains a carriage return that is not part of its
+/// line ending.
 ///
-/// `returns` is `true` if the piece has a U+000D, and may be if it has none. If it isn't, none is
-/// searched for.
+/// `after` is the text directly after the comment. If `returns` is `false`, the call assumes that
+/// `piece` contains no carriage return, and does not search for one.
 #[inline(always)]
 pub(crate) fn has_broken_line(piece: &str, after: &str, returns: bool) -> bool
     ensures { (has_return (chars piece.now) ≡ true → returns ≡ true)
@@ -145,7 +159,10 @@ pub(crate) fn has_broken_line(piece: &str, after: &str, returns: bool) -> bool
     returns && breaks_line(piece, after)
 }
 
-/// Returns `true` if a line comment has a U+000D that isn't part of its line's end.
+/// Returns `true` if the line comment `piece` contains a carriage return that is not part of its
+/// line ending.
+///
+/// `after` is the text directly after the comment.
 #[inline(never)]
 pub fn breaks_line(piece: &str, after: &str) -> bool
     ensures { result ≡ breaks_line (chars piece.now) (chars after.now) }
@@ -159,11 +176,11 @@ pub fn breaks_line(piece: &str, after: &str) -> bool
     }
 }
 
-/// Returns the contents of a `/**` or `/*!` comment.
+/// Returns the text of the doc comment `piece` between its `/**` or `/*!` and its `*/`.
 ///
 /// # Requires
 ///
-/// The text must be a whole block doc comment.
+/// `piece` must be a whole block doc comment.
 pub fn block_doc_text(piece: &str) -> &str
     requires { (c : ℕ) × (front : List ℕ)
         × (chars piece.now ≡ 47 ∷ 42 ∷ c ∷ (front ++ 42 ∷ 47 ∷ [])) }

@@ -1,11 +1,11 @@
-//! The contents of quoted literals.
+//! Tests for characters and escapes that quoted literals must not contain.
 ghost use Rattle.std.specs.Prelude.{◌≡◌, false, true};
 ghost use Rattle.std.specs.Str.{chars};
 ghost use Rattle.tok_lexical.specs.Contents.{is_misfit, has_quote, has_misfit, has_bare_return, has_return, is_unfit, only_zeros, names_zero, has_zero, is_wrong};
 
 use crate::text::{begins_with, next_char, past_char, past_first, past_others};
 
-/// The contents of a string literal: characters, bytes, or the bytes of a C string.
+/// The kind of a string literal: a string, a byte string or a C string.
 #[derive(Clone, Copy, Debug)]
 pub enum Contents {
     Text,
@@ -39,7 +39,7 @@ fn has_quote(text: &str) -> bool
     false
 }
 
-/// Returns `true` if a character that the literal may not contain is before its last quote.
+/// Returns `true` if a character that the literal must not contain is before its last quote.
 // Kept out of line: byte strings and C strings are rare.
 #[inline(never)]
 fn has_misfit(contents: Contents, piece: &str) -> bool
@@ -55,7 +55,7 @@ fn has_misfit(contents: Contents, piece: &str) -> bool
     false
 }
 
-/// Returns `true` if the text has a U+000D.
+/// Returns `true` if `text` contains a carriage return (U+000D).
 // Without an exit from the loop, so that it is compiled to vector instructions.
 #[inline(never)]
 pub fn has_return(text: &str) -> bool
@@ -68,10 +68,10 @@ pub fn has_return(text: &str) -> bool
     found
 }
 
-/// Returns `true` if the text has a U+000D that no line feed follows.
+/// Returns `true` if `text` contains a carriage return that is not directly before a line feed.
 ///
-/// `returns` is `true` if the text has a U+000D at all, and may be if it has none. If it isn't,
-/// nothing is searched.
+/// If `returns` is `false`, the call assumes that `text` contains no carriage return, and does not
+/// search for one.
 #[inline(always)]
 pub fn has_bare_return(text: &str, returns: bool) -> bool
     ensures { (has_return (chars text.now) ≡ true → returns ≡ true)
@@ -94,9 +94,14 @@ fn finds_bare_return(text: &str) -> bool
     false
 }
 
-/// Returns `true` if a string literal contains what one of this kind may not.
+/// Returns `true` if the string literal `piece` contains a character that no literal of the kind
+/// `contents` may contain.
 ///
-/// `returns` is `true` if the piece has a U+000D, and may be if it has none.
+/// A carriage return must be directly before a line feed. Apart from its suffix, a byte string must
+/// consist of ASCII characters, and a C string must not contain U+0000.
+///
+/// If `returns` is `false`, the call assumes that `piece` contains no carriage return, and does not
+/// search for one.
 // Inlined, but for the searches: each string of a source asks this, and its kind is known.
 #[inline(always)]
 pub fn is_unfit(contents: Contents, piece: &str, returns: bool) -> bool
@@ -109,7 +114,7 @@ pub fn is_unfit(contents: Contents, piece: &str, returns: bool) -> bool
     }
 }
 
-/// Returns `true` if the digits of a code, up to its brace, are zeros.
+/// Returns `true` if `text` contains only zeros and underscores before its first closing brace.
 fn only_zeros(text: &str) -> bool
     ensures { result ≡ only_zeros (chars text.now) }
 {
@@ -126,7 +131,7 @@ fn only_zeros(text: &str) -> bool
     false
 }
 
-/// Returns `true` if the escape that continues with this text names U+0000.
+/// Returns `true` if an escape stands for U+0000. `text` begins after the backslash of the escape.
 fn names_zero(text: &str) -> bool
     ensures { result ≡ names_zero (chars text.now) }
 {
@@ -141,7 +146,7 @@ fn names_zero(text: &str) -> bool
     }
 }
 
-/// Returns `true` if an escape names U+0000.
+/// Returns `true` if `piece` contains an escape that stands for U+0000.
 // Kept out of line: C strings are rare.
 #[inline(never)]
 fn has_zero(piece: &str) -> bool
@@ -159,9 +164,14 @@ fn has_zero(piece: &str) -> bool
     false
 }
 
-/// Returns `true` if a string that isn't raw contains what one of this kind may not.
+/// Returns `true` if `piece` contains a character or an escape that no literal of the kind
+/// `contents` may contain.
 ///
-/// `returns` is `true` if the piece has a U+000D, and may be if it has none.
+/// `piece` is a string literal that is not raw. The call rejects the same characters as `is_unfit`.
+/// In a C string, it also rejects an escape that stands for U+0000.
+///
+/// If `returns` is `false`, the call assumes that `piece` contains no carriage return, and does not
+/// search for one.
 // Inlined for the same reason.
 #[inline(always)]
 pub fn is_wrong(contents: Contents, piece: &str, returns: bool) -> bool

@@ -1,19 +1,20 @@
-//! Delimiters of groups.
+//! The delimiters of groups.
 ghost use Rattle.std.specs.Prelude.{◌≡◌};
 ghost use Rattle.tok_lexical.specs.Delimiters.{opening, closing};
 
-/// The delimiter of a group: `( .. )`, `{ .. }`, `[ .. ]`, or none that shows.
+/// Describes how a group is delimited: with `( .. )`, `{ .. }` or `[ .. ]`, or invisibly.
 #[derive(Clone, Copy, PartialEq, Eq, Debug)]
 pub enum Delimiter {
     Parenthesis,
     Brace,
     Bracket,
-    /// No delimiter: an invisible group, as macros leave around what they insert.
+    /// An invisible delimiter, which may, for example, enclose the tokens of a macro variable such
+    /// as `$e:expr`.
     None,
 }
 
 impl Delimiter {
-    /// Returns the text at the start of such a group: `«` for an invisible one.
+    /// Returns the opening delimiter as text, such as `(`. For `Delimiter::None`, the text is `«`.
     pub fn opening(self) -> &'static str
         ensures { result.now ≡ opening self }
     {
@@ -25,7 +26,7 @@ impl Delimiter {
         }
     }
 
-    /// Returns the text at the end of such a group: `»` for an invisible one.
+    /// Returns the closing delimiter as text, such as `)`. For `Delimiter::None`, the text is `»`.
     pub fn closing(self) -> &'static str
         ensures { result.now ≡ closing self }
     {

@@ -2,7 +2,7 @@
 ghost use Rattle.std.specs.Prelude.{◌≡◌};
 ghost use Rattle.tok_lexical.specs.Editions.{reserves_prefixes, reserves_guards};
 
-/// An edition of Rust. Sources of 2015 and of 2018 have the same tokens.
+/// An edition of Rust. The lexer reads the same tokens in the editions 2015 and 2018.
 #[derive(Clone, Copy, PartialEq, Eq, PartialOrd, Ord, Hash, Debug, Default)]
 pub enum Edition {
     Edition2015,
@@ -13,7 +13,8 @@ pub enum Edition {
 }
 
 impl Edition {
-    /// Returns `true` if prefixes are reserved, and C strings and raw lifetimes exist.
+    /// Returns `true` for the editions since 2021, which have reserved prefixes, C strings and raw
+    /// lifetimes.
     pub fn reserves_prefixes(self) -> bool
         ensures { result ≡ reserves_prefixes self }
     {
@@ -23,7 +24,8 @@ impl Edition {
         }
     }
 
-    /// Returns `true` if a number sign before a quote or another one is reserved.
+    /// Returns `true` for the edition 2024, which reserves a `#` directly before a quote or another
+    /// `#`.
     pub fn reserves_guards(self) -> bool
         ensures { result ≡ reserves_guards self }
     {

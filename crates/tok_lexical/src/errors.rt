@@ -1,4 +1,4 @@
-//! Which pieces are rejected.
+//! Decides which parts of a text the grammar rejects, and why.
 ghost use Rattle.std.specs.Prelude.{◌≡◌, if◌then◌else◌, Some, None, true};
 ghost use Rattle.std.specs.Str.{chars};
 ghost use Rattle.tok_lexical.specs.Contents.{has_return};
@@ -19,7 +19,7 @@ fn refused_if(is_refused: bool, kind: LexErrorKind) -> Option<LexErrorKind>
     if is_refused { Some(kind) } else { None }
 }
 
-/// Returns `true` if what follows an identifier makes it a reserved prefix.
+/// Returns `true` if the text `after` makes the identifier `name` a reserved prefix.
 // Inlined: each identifier of a source asks this, and a call would take more than the answer.
 #[inline(always)]
 fn is_reserved(edition: Edition, name: &str, after: &str) -> bool
@@ -32,7 +32,7 @@ fn is_reserved(edition: Edition, name: &str, after: &str) -> bool
     }
 }
 
-/// Returns `true` if what follows a punct makes it a reserved guard.
+/// Returns `true` if the text `after` makes the punct `piece` a reserved guard.
 // Inlined: each punct of a source asks this.
 #[inline(always)]
 fn is_guard(edition: Edition, piece: &str, after: &str) -> bool
@@ -43,8 +43,11 @@ fn is_guard(edition: Edition, piece: &str, after: &str) -> bool
         && (begins_with(after, '"') || begins_with(after, '#'))
 }
 
-/// Returns the kind of error if a lifetime is rejected: there is no such name, or in a source a
-/// quote or a number sign follows.
+/// Returns the kind of the error if the grammar rejects a lifetime, and `None` otherwise.
+///
+/// The grammar rejects a raw name that does not exist. In a source, it also rejects a lifetime
+/// directly before an apostrophe. From the 2021 edition, a lifetime that is not raw must not be
+/// directly before a `#`.
 // Inlined: each lifetime of a source asks this.
 #[inline(always)]
 fn lifetime_error(mode: Mode, name: &str, after: &str) -> Option<LexErrorKind>
@@ -63,10 +66,14 @@ fn lifetime_error(mode: Mode, name: &str, after: &str) -> Option<LexErrorKind>
     }
 }
 
-/// Returns the kind of error if the piece that a rule took at this byte is rejected.
+/// Returns the kind of the error if the grammar rejects `piece`, and `None` otherwise.
 ///
-/// `returns` is `true` if the piece has a U+000D, and may be if it has none. If it isn't, none is
-/// searched for.
+/// `piece` is the part of a text that `rule` recognized, such as a token or a comment. `at` is the
+/// byte at which `piece` begins, and `after` is the text directly after `piece`. `mode` selects the
+/// grammar.
+///
+/// If `returns` is `false`, the call assumes that `piece` contains no carriage return, and does not
+/// search for one.
 // Inlined: the loop over pieces exists twice, for trees and for entries, and a call in each would
 // cost every piece.
 #[inline(always)]

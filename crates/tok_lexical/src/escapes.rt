@@ -1,4 +1,4 @@
-//! Escapes.
+//! Functions that skip escapes.
 ghost use Rattle.std.specs.Prelude.{◌≡◌, ◌≤◌, IfSome, length, ◌<◌, false, if◌then◌else◌, MatchBool};
 ghost use Rattle.std.specs.Str.{chars, IsUtf8};
 ghost use Rattle.tok_lexical.specs.Private.Finds.{ReadsPrefix};
@@ -13,7 +13,7 @@ fn is_simple_escape(c: char) -> bool
     matches!(c, 'n' | 'r' | 't' | '\\' | '0' | '\'' | '"')
 }
 
-/// Returns the text after two hexadecimal digits, the first of them below `top`.
+/// Returns the rest of `text` after two hexadecimal digits, of which the first is below `top`.
 fn past_hex(text: &str, top: u32) -> Option<&str>
     requires low { 2 ≤ top }
     requires high { top ≤ 16 }
@@ -29,7 +29,8 @@ fn past_hex(text: &str, top: u32) -> Option<&str>
     if low.is_digit(16) { Some(rest) } else { None }
 }
 
-/// Returns `true` if at most six digits, underscores aside, name a character.
+/// Returns `true` if `digits` has at most six hexadecimal digits, and these digits name a
+/// character.
 fn names_char(digits: &str) -> bool
     ensures { MatchBool result (NamesChar (chars digits.now)) (NamesChar (chars digits.now) → ⊥) }
 {
@@ -52,7 +53,7 @@ fn names_char(digits: &str) -> bool
     char::from_u32(value).is_some()
 }
 
-/// Returns the text after a code. `text` begins after its `\u`.
+/// Returns the rest of `text` after the braces of a `\u{..}` escape. `text` begins after the `\u`.
 fn past_code(text: &str) -> Option<&str>
     ensures finds { ReadsPrefix IsCode (chars text.now) result }
     ensures utf8 { IfSome result (λ rest. IsUtf8 rest.now) }
@@ -72,7 +73,7 @@ fn past_code(text: &str) -> Option<&str>
     }
 }
 
-/// Returns the text after a line end.
+/// Returns the rest of `text` after a leading line ending, which is LF or CRLF.
 fn past_line_end(text: &str) -> Option<&str>
     ensures finds { ReadsPrefix IsLineEnd (chars text.now) result }
     ensures utf8 { IfSome result (λ rest. IsUtf8 rest.now) }
@@ -84,7 +85,7 @@ fn past_line_end(text: &str) -> Option<&str>
     }
 }
 
-/// Returns the number that the first digit of a hexadecimal escape is below.
+/// Returns the number that the first digit of an `\x` escape must be less than.
 fn top_digit(wide: bool) -> u32
     ensures value { result ≡ (if wide then 16 else 8) }
     ensures low { 2 ≤ result }
@@ -93,7 +94,11 @@ fn top_digit(wide: bool) -> u32
     if wide { 16 } else { 8 }
 }
 
-/// Returns the text after an escape. `text` begins after its backslash.
+/// Returns the rest of `text` after an escape. `text` begins after the backslash of the escape.
+///
+/// If `line_ends` is `true`, a backslash before a line ending is also an escape. If `wide` is
+/// `true`, the digits after `\x` may exceed 7F, and `\u` is not an escape. Returns `None` if the
+/// escape is invalid.
 pub fn past_escape(text: &str, line_ends: bool, wide: bool) -> Option<&str>
     ensures finds { ReadsPrefix (IsEscape line_ends wide) (chars text.now) result }
     ensures utf8 { IfSome result (λ rest. IsUtf8 rest.now) }
@@ -113,7 +118,10 @@ pub fn past_escape(text: &str, line_ends: bool, wide: bool) -> Option<&str>
     }
 }
 
-/// Returns the text after an escape in a C string. `text` begins after its backslash.
+/// Returns the rest of `text` after an escape of a C string. `text` begins after the backslash of
+/// the escape.
+///
+/// Returns `None` if the escape is invalid.
 pub fn past_c_escape(text: &str) -> Option<&str>
     ensures finds { ReadsPrefix IsCEscape (chars text.now) result }
     ensures utf8 { IfSome result (λ rest. IsUtf8 rest.now) }

@@ -1,4 +1,4 @@
-//! Floats, and decimal integers with a dot after them.
+//! Functions that skip floats, and decimal integers with a dot directly after them.
 ghost use Rattle.std.specs.Prelude.{IfSome};
 ghost use Rattle.std.specs.Str.{chars, IsUtf8};
 ghost use Rattle.tok_lexical.specs.Pieces.{ReadsLongest};
@@ -8,7 +8,7 @@ use crate::numbers::{is_exponent, past_decimal, past_digits, starts_digit};
 use crate::text::{past_char, past_first};
 use crate::words::past_suffix;
 
-/// Returns the text after the digits of an exponent and a suffix.
+/// Returns the rest of `text` after the leading digits of an exponent and a suffix.
 fn past_exponent_digits(text: &str) -> Option<&str>
     ensures tries { ReadsLongest IsExponentDigits (chars text.now) result }
     ensures utf8 { IfSome result (λ rest. IsUtf8 rest.now) }
@@ -17,7 +17,7 @@ fn past_exponent_digits(text: &str) -> Option<&str>
     if found { Some(past_suffix(rest)) } else { None }
 }
 
-/// Returns the text after a sign, if there is one, and the digits of an exponent and a suffix.
+/// Returns the rest of `text` after an optional sign, the digits of an exponent and a suffix.
 fn past_signed(text: &str) -> Option<&str>
     ensures tries { ReadsLongest IsSigned (chars text.now) result }
     ensures utf8 { IfSome result (λ rest. IsUtf8 rest.now) }
@@ -31,7 +31,9 @@ fn past_signed(text: &str) -> Option<&str>
     past_exponent_digits(text)
 }
 
-/// Returns the text after an exponent and a suffix.
+/// Returns the rest of `text` after a leading exponent, such as `e10`, and its suffix.
+///
+/// Returns `None` if `text` does not begin with an exponent.
 pub fn past_exponent(text: &str) -> Option<&str>
     ensures tries { ReadsLongest IsExponent (chars text.now) result }
     ensures utf8 { IfSome result (λ rest. IsUtf8 rest.now) }
@@ -43,7 +45,7 @@ pub fn past_exponent(text: &str) -> Option<&str>
     }
 }
 
-/// Returns the text after digits and an exponent.
+/// Returns the rest of `text` after leading decimal digits and an exponent.
 fn past_scaled(text: &str) -> Option<&str>
     ensures tries { ReadsLongest IsScaled (chars text.now) result }
     ensures utf8 { IfSome result (λ rest. IsUtf8 rest.now) }
@@ -55,8 +57,11 @@ fn past_scaled(text: &str) -> Option<&str>
     past_exponent(rest)
 }
 
-/// Returns the text after a float, or `None` unless a digit is next. `text` begins after the
-/// float's dot.
+/// Skips the part of a float after its dot, and returns the rest of `text`. `text` begins directly
+/// after the dot.
+///
+/// The skipped part consists of digits, an optional exponent and an optional suffix. Returns `None`
+/// if `text` does not begin with a digit.
 #[inline(never)]
 pub fn past_fraction(text: &str) -> Option<&str>
     ensures tries { ReadsLongest IsFraction (chars text.now) result }
@@ -68,7 +73,7 @@ pub fn past_fraction(text: &str) -> Option<&str>
     }
 }
 
-/// Returns the text after a float. `text` begins after its digits.
+/// Skips the part of a float after its first digits, and returns the rest of `text`.
 fn past_float_tail(text: &str) -> Option<&str>
     ensures tries { ReadsLongest IsFloatTail (chars text.now) result }
     ensures utf8 { IfSome result (λ rest. IsUtf8 rest.now) }
@@ -79,7 +84,9 @@ fn past_float_tail(text: &str) -> Option<&str>
     }
 }
 
-/// Returns the text after a float.
+/// Returns the rest of `text` after a leading float, such as `1.5` or `2e3f32`.
+///
+/// Returns `None` if `text` does not begin with a float.
 #[inline(never)]
 pub fn past_float(text: &str) -> Option<&str>
     ensures tries { ReadsLongest IsFloat (chars text.now) result }
@@ -92,7 +99,9 @@ pub fn past_float(text: &str) -> Option<&str>
     past_float_tail(rest)
 }
 
-/// Returns the text after a decimal integer and a dot directly after it.
+/// Returns the rest of `text` after leading decimal digits and a dot, such as `1.`.
+///
+/// Returns `None` if `text` does not begin with decimal digits and a dot.
 #[inline(never)]
 pub fn past_pointed(text: &str) -> Option<&str>
     ensures tries { ReadsLongest IsPointed (chars text.now) result }

@@ -1,4 +1,5 @@
-//! Whether a punctuation character is joint to the next.
+//! Decides whether a punctuation character is joint to the next one, and whether a dot belongs to a
+//! float.
 ghost use Rattle.std.specs.Prelude.{◌≡◌};
 ghost use Rattle.std.specs.Str.{chars};
 ghost use Rattle.tok_lexical.specs.Following.{starts_punct, begins_comment, makes_joint, makes_joint_apostrophe, past_marks, takes_point};
@@ -7,7 +8,7 @@ use crate::classes::is_punct_or_apostrophe;
 use crate::text::{begins_with, next_char, past_char};
 use crate::words::{is_identifier_start, starts_name};
 
-/// Returns `true` if a punctuation character or an apostrophe follows.
+/// Returns `true` if `rest` begins with a punctuation character or an apostrophe.
 fn starts_punct(rest: &str) -> bool
     ensures { result ≡ starts_punct (chars rest.now) }
 {
@@ -17,7 +18,7 @@ fn starts_punct(rest: &str) -> bool
     }
 }
 
-/// Returns `true` if a comment follows.
+/// Returns `true` if `rest` begins with `//` or `/*`.
 pub fn begins_comment(rest: &str) -> bool
     ensures { result ≡ begins_comment (chars rest.now) }
 {
@@ -27,7 +28,10 @@ pub fn begins_comment(rest: &str) -> bool
     }
 }
 
-/// Returns `true` if a punctuation character or an apostrophe follows that doesn't begin a comment.
+/// Returns `true` if a punctuation character directly before `rest` is joint.
+///
+/// The character is joint if `rest` begins with a punctuation character or an apostrophe, but not
+/// with a comment.
 // Inlined: the loop over pieces asks this after each punct.
 #[inline(always)]
 pub fn makes_joint(rest: &str) -> bool
@@ -36,8 +40,10 @@ pub fn makes_joint(rest: &str) -> bool
     starts_punct(rest) && !begins_comment(rest)
 }
 
-/// Returns `true` if an identifier, a punctuation character or an apostrophe follows, through
-/// marks.
+/// Returns `true` if, in a text for `lex_marked`, an apostrophe directly before `after` is joint.
+///
+/// The call ignores `«` and `»` at the start of `after`. The apostrophe is joint if the rest of
+/// `after` begins with an identifier, a punctuation character or another apostrophe.
 pub fn makes_joint_apostrophe(after: &str) -> bool
     ensures { result ≡ makes_joint_apostrophe (chars after.now) }
 {
@@ -45,7 +51,7 @@ pub fn makes_joint_apostrophe(after: &str) -> bool
     starts_name(next) || starts_punct(next)
 }
 
-/// Returns the text after the marks of invisible groups at the front.
+/// Returns `text` without its leading `«` and `»`, which are the delimiters of invisible groups.
 pub fn past_marks(text: &str) -> &str
     ensures { chars result.now ≡ past_marks (chars text.now) }
 {
@@ -59,8 +65,9 @@ pub fn past_marks(text: &str) -> &str
     rest
 }
 
-/// Returns `true` if a dot directly before `after`, and directly after digits, belongs to a float:
-/// no other dot and no identifier follows.
+/// Returns `true` if a dot between decimal digits and the text `after` belongs to a float.
+///
+/// The dot belongs to a float unless `after` begins with another dot or an identifier.
 pub fn takes_point(after: &str) -> bool
     ensures { result ≡ takes_point (chars after.now) }
 {

@@ -1,8 +1,11 @@
-//! Why a text is rejected.
+//! The kinds of lexer errors.
 ghost use Rattle.std.specs.Prelude.{◌≡◌};
-ghost use Rattle.tok_lexical.specs.Errors.{kind_number, kind_words};
+ghost use Rattle.tok_lexical.specs.Errors.{kind_message, kind_number, kind_words};
 
-/// The kind of an error: why the grammar rejects a text. In the order of the rules' numbers.
+/// The kind of a lexer error.
+///
+/// Each variant stands for one of the rules L1 to L15 that reject a text. The variants are in the
+/// order of these rules.
 #[derive(Clone, Copy, PartialEq, Eq, Debug)]
 pub enum LexErrorKind {
     UnknownCharacter,
@@ -23,7 +26,7 @@ pub enum LexErrorKind {
 }
 
 impl LexErrorKind {
-    /// Returns the number of the rule: 1 for L1, up to 15 for L15.
+    /// Returns the number of the rule that rejects the text, from 1 for L1 to 15 for L15.
     pub fn number(self) -> u8
         ensures { result ≡ kind_number self }
     {
@@ -46,7 +49,7 @@ impl LexErrorKind {
         }
     }
 
-    /// Returns the text of the error.
+    /// Returns a short description of the rejected text, such as `unclosed comment`.
     pub fn words(self) -> &'static str
         ensures { result.now ≡ kind_words self }
     {
@@ -66,6 +69,23 @@ impl LexErrorKind {
             LexErrorKind::ReservedPrefix => "reserved prefix",
             LexErrorKind::BareReturn => "bare carriage return in a doc comment",
             LexErrorKind::ReservedGuard => "reserved guard",
+        }
+    }
+
+    /// Returns a message that explains the error to the author of the text.
+    pub fn message(self) -> &'static str
+        ensures { result.now ≡ kind_message self }
+    {
+        match self {
+            LexErrorKind::DocComment => "a doc comment is not allowed here",
+            LexErrorKind::PrefixedString => "a raw, byte or C string is not allowed here",
+            LexErrorKind::FloatLiteral => "a float is not allowed here",
+            LexErrorKind::MissingRawIdentifier => "this name cannot be a raw identifier",
+            LexErrorKind::LoneApostrophe => "expected a lifetime, or one character and another `'`",
+            LexErrorKind::DeepGroup => "more than 256 groups are nested here",
+            LexErrorKind::ReservedPrefix => "a name directly before a quote or `#` is reserved",
+            LexErrorKind::ReservedGuard => "`#` directly before a quote or `#` is reserved",
+            _ => self.words(),
         }
     }
 }

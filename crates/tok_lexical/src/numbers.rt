@@ -1,4 +1,4 @@
-//! Integers.
+//! Functions that skip integers.
 ghost use Rattle.std.specs.Prelude.{◌≡◌, ℕ, ◌≤◌, List, IfSome, length};
 ghost use Rattle.std.specs.Str.{chars, IsUtf8};
 ghost use Rattle.tok_lexical.specs.Pieces.{IsLongestPrefix, ReadsLongest, Skips};
@@ -7,7 +7,7 @@ ghost use Rattle.tok_lexical.specs.Numbers.{base_mark, radix, is_digit_or_unders
 use crate::text::{next_char, past_pair};
 use crate::words::{is_identifier_start, past_identifier, starts_name};
 
-/// The bases that a number names.
+/// The base of an integer literal that begins with `0x`, `0o` or `0b`.
 #[derive(Clone, Copy, Debug)]
 pub enum Base {
     Hexadecimal,
@@ -16,7 +16,7 @@ pub enum Base {
 }
 
 impl Base {
-    /// Returns the letter that names the base, after a zero.
+    /// Returns the letter of the base's prefix: `x`, `o` or `b`.
     pub fn mark(self) -> char
         ensures { result ≡ base_mark self }
     {
@@ -48,8 +48,14 @@ fn is_digit_or_underscore(c: char, radix: u32) -> bool
     c.is_digit(radix) || c == '_'
 }
 
-/// Returns whether there is a digit at the front, and the text after the digits and underscores
-/// there.
+/// Skips the leading digits and underscores of `text`, where the digits are in base `radix`.
+///
+/// Returns a pair: whether at least one of the skipped characters is a digit, and the rest of
+/// `text`.
+///
+/// # Requires
+///
+/// `radix` must be at least 2 and at most 16.
 pub fn past_digits(text: &str, radix: u32) -> (bool, &str)
     requires low { 2 ≤ radix }
     requires high { radix ≤ 16 }
@@ -79,7 +85,13 @@ fn starts_number_suffix(c: char, radix: u32) -> bool
     !(is_digit_or_underscore(c, radix) || c == 'e' || c == 'E')
 }
 
-/// Returns the text after a number's suffix, if one follows directly.
+/// Returns the rest of `text` after the leading suffix of a number in base `radix`.
+///
+/// Returns all of `text` if there is no suffix.
+///
+/// # Requires
+///
+/// `radix` must be at least 2 and at most 16.
 pub fn past_number_suffix(text: &str, radix: u32) -> &str
     requires low { 2 ≤ radix }
     requires high { radix ≤ 16 }
@@ -99,7 +111,7 @@ pub fn past_number_suffix(text: &str, radix: u32) -> &str
     past_identifier(text).unwrap_or(text)
 }
 
-/// Returns the text after digits of a base and a suffix.
+/// Returns the rest of `text` after the leading digits of a number in base `radix`, and its suffix.
 fn past_in_base(text: &str, radix: u32) -> Option<&str>
     requires low { 2 ≤ radix }
     requires high { radix ≤ 16 }
@@ -114,7 +126,9 @@ fn past_in_base(text: &str, radix: u32) -> Option<&str>
     }
 }
 
-/// Returns the text after an integer that names its base.
+/// Returns the rest of `text` after a leading integer with the prefix of `base`, such as `0xff`.
+///
+/// Returns `None` if `text` does not begin with such an integer.
 pub fn past_based(text: &str, base: Base) -> Option<&str>
     ensures tries { ReadsLongest (IsBased base) (chars text.now) result }
     ensures utf8 { IfSome result (λ rest. IsUtf8 rest.now) }
@@ -123,7 +137,7 @@ pub fn past_based(text: &str, base: Base) -> Option<&str>
     past_in_base(digits, base.radix())
 }
 
-/// Returns `true` if the text begins with a decimal digit.
+/// Returns `true` if `text` begins with a decimal digit.
 #[inline(always)]
 pub fn starts_digit(text: &str) -> bool
     ensures { result ≡ starts_digit (chars text.now) }
@@ -134,7 +148,9 @@ pub fn starts_digit(text: &str) -> bool
     }
 }
 
-/// Returns the text after a decimal integer.
+/// Returns the rest of `text` after a leading decimal integer and its suffix.
+///
+/// Returns `None` if `text` does not begin with a decimal digit.
 #[inline(always)]
 pub fn past_decimal(text: &str) -> Option<&str>
     ensures tries { ReadsLongest IsDecimal (chars text.now) result }
@@ -147,7 +163,7 @@ pub fn past_decimal(text: &str) -> Option<&str>
     Some(past_number_suffix(rest, 10))
 }
 
-/// Returns `true` if the text begins with `e` or `E`.
+/// Returns `true` if `text` begins with `e` or `E`.
 #[inline(always)]
 pub fn is_exponent(text: &str) -> bool
     ensures { result ≡ is_exponent (chars text.now) }
@@ -158,7 +174,8 @@ pub fn is_exponent(text: &str) -> bool
     }
 }
 
-/// Returns `true` if a dot follows, and after it neither a dot nor an identifier.
+/// Returns `true` if `text` begins with a dot, and neither another dot nor an identifier is
+/// directly after this dot.
 fn is_fraction(text: &str) -> bool
     ensures { result ≡ is_fraction (chars text.now) }
 {
@@ -171,7 +188,7 @@ fn is_fraction(text: &str) -> bool
     }
 }
 
-/// Returns `true` if the text is digits alone.
+/// Returns `true` if `text` consists only of digits and underscores.
 fn is_bare(text: &str, radix: u32) -> bool
     requires low { 2 ≤ radix }
     requires high { radix ≤ 16 }
@@ -184,7 +201,10 @@ fn is_bare(text: &str, radix: u32) -> bool
     }
 }
 
-/// Returns `true` if a number with this text after it would go on.
+/// Returns `true` if the integer `piece` is malformed because of the text `after` it.
+///
+/// The integer is malformed if it has no suffix, and `after` begins with a decimal digit, `e`, `E`
+/// or the dot of a fraction.
 // Inlined: each number with a base asks this, and mostly the first character after it tells.
 #[inline(always)]
 pub fn is_malformed(base: Base, piece: &str, after: &str) -> bool
@@ -200,7 +220,11 @@ pub fn is_malformed(base: Base, piece: &str, after: &str) -> bool
         && is_bare(digits, base.radix())
 }
 
-/// Returns `true` if decimal digits with this text after them are those of a float.
+/// Returns `true` if the text `after` the decimal integer `piece` makes `piece` the first part of a
+/// float.
+///
+/// This is the case if `piece` has no suffix, and `after` begins with `e`, `E` or the dot of a
+/// fraction.
 pub fn is_float(piece: &str, after: &str) -> bool
     ensures { result ≡ is_float (chars piece.now) (chars after.now) }
 {

@@ -1,6 +1,7 @@
-//! The starts of raw, byte and C strings.
+//! Functions that skip the prefixes of raw strings, byte strings and C strings.
 ghost use Rattle.std.specs.Prelude.{◌==◌, ◌<◌, ℕ, List, IfSome};
 ghost use Rattle.std.specs.Str.{chars, IsUtf8};
+ghost use Rattle.tok_lexical.specs.Ascii.{number_sign};
 ghost use Rattle.tok_lexical.specs.Pieces.{After, ReadsLongest, Skips};
 ghost use Rattle.tok_lexical.specs.Private.Finds.{ReadsPrefix};
 ghost use Rattle.tok_lexical.specs.Strings.{IsHashes, IsPrefixed, IsPrefixOf, IsStringPrefix};
@@ -8,9 +9,10 @@ ghost use Rattle.tok_lexical.specs.Strings.{IsHashes, IsPrefixed, IsPrefixOf, Is
 use crate::contents::Contents;
 use crate::text::{next_char, past_char};
 
-/// Returns the text after the `#` at the front.
+/// Returns `text` without its leading `#` characters.
 pub fn past_number_signs(text: &str) -> &str
-    ensures { (front : List ℕ) × Skips (λ c. c == 35) (chars text.now) front (chars result.now) }
+    ensures { (front : List ℕ)
+        × Skips (λ c. c == number_sign) (chars text.now) front (chars result.now) }
 {
     let mut rest = text;
     while let Some(after) = past_char(rest, '#') {
@@ -19,7 +21,7 @@ pub fn past_number_signs(text: &str) -> &str
     rest
 }
 
-/// Returns the text after any number of `#` and a quote.
+/// Returns the rest of `text` after any number of leading `#` characters and a quote.
 fn past_hashes(text: &str) -> Option<&str>
     ensures finds { ReadsPrefix IsHashes (chars text.now) result }
     ensures utf8 { IfSome result (λ rest. IsUtf8 rest.now) }
@@ -27,7 +29,7 @@ fn past_hashes(text: &str) -> Option<&str>
     past_char(past_number_signs(text), '"')
 }
 
-/// Returns the text after `r`, any number of `#` and a quote.
+/// Returns the rest of `text` after a leading `r`, any number of `#` characters and a quote.
 fn past_raw(text: &str) -> Option<&str>
     ensures finds { ReadsPrefix (After 114 IsHashes) (chars text.now) result }
     ensures utf8 { IfSome result (λ rest. IsUtf8 rest.now) }
@@ -36,7 +38,8 @@ fn past_raw(text: &str) -> Option<&str>
     past_hashes(rest)
 }
 
-/// Returns the text after a quote, with or without `r` and any number of `#` before it.
+/// Returns the rest of `text` after a leading quote, or after the prefix and the quote of a raw
+/// string.
 fn past_prefixed(text: &str) -> Option<&str>
     ensures finds { ReadsPrefix IsPrefixed (chars text.now) result }
     ensures utf8 { IfSome result (λ rest. IsUtf8 rest.now) }
@@ -47,7 +50,7 @@ fn past_prefixed(text: &str) -> Option<&str>
     }
 }
 
-/// Returns the text after `b` or `c`, and after what may begin a string there.
+/// Returns the rest of `text` after `letter` and the opening quote of a string, which may be raw.
 fn past_prefixed_by(text: &str, letter: char) -> Option<&str>
     requires ascii { letter < 128 }
     ensures finds { ReadsPrefix (After letter IsPrefixed) (chars text.now) result }
@@ -57,7 +60,10 @@ fn past_prefixed_by(text: &str, letter: char) -> Option<&str>
     past_prefixed(rest)
 }
 
-/// Returns the text after the start of a raw string, or of a byte or C string.
+/// Returns the rest of `text` after the prefix and the opening quote of a string literal.
+///
+/// `contents` is the kind of the literal. A literal of the kind `Contents::Text` has a prefix only
+/// if it is raw. Returns `None` if `text` does not begin with such a prefix and a quote.
 #[inline(never)]
 pub fn past_prefix_of(text: &str, contents: Contents) -> Option<&str>
     ensures tries { ReadsLongest (IsPrefixOf contents) (chars text.now) result }
@@ -70,7 +76,10 @@ pub fn past_prefix_of(text: &str, contents: Contents) -> Option<&str>
     }
 }
 
-/// Returns the text after the start of a raw, byte or C string.
+/// Returns the rest of `text` after the prefix and the opening quote of a raw string, a byte string
+/// or a C string.
+///
+/// Returns `None` if `text` does not begin with such a prefix and a quote.
 #[inline(always)]
 pub fn past_string_prefix(text: &str) -> Option<&str>
     ensures tries { ReadsLongest IsStringPrefix (chars text.now) result }

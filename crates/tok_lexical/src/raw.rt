@@ -1,4 +1,4 @@
-//! Raw strings.
+//! Functions that skip raw strings.
 ghost use Rattle.std.specs.Prelude.{◌≡◌, ℕ, ◌∷◌, ◌++◌, List, MatchOption, IfSome};
 ghost use Rattle.std.specs.Str.{chars, IsUtf8};
 ghost use Rattle.tok_lexical.specs.Pieces.{After, ReadsLongest};
@@ -10,7 +10,8 @@ use crate::prefixes::past_number_signs;
 use crate::text::{front_of, next_char, past_char, past_others};
 use crate::words::past_suffix;
 
-/// Returns the text after this front, or `None` unless it begins with it.
+/// Returns `text` without the leading text `front`, or `None` if `text` does not begin with
+/// `front`.
 fn past_same<'a>(text: &'a str, front: &str) -> Option<&'a str>
     ensures chars { MatchOption result
         ((more : List ℕ) → chars text.now ≡ chars front.now ++ more → ⊥)
@@ -32,7 +33,11 @@ fn past_same<'a>(text: &'a str, front: &str) -> Option<&'a str>
     Some(rest)
 }
 
-/// Returns the text after the first quote that these `#` follow, and after them.
+/// Returns the rest of `text` after the contents, the closing quote and the `#` characters of a raw
+/// string.
+///
+/// `text` begins after the opening quote. The closing quote is the first quote directly before
+/// `hashes`. Returns `None` if there is no such quote.
 pub(crate) fn past_raw_body<'a>(text: &'a str, hashes: &str) -> Option<&'a str>
     ensures finds { ReadsPrefix (EndsAt (34 ∷ chars hashes.now)) (chars text.now) result }
     ensures utf8 { IfSome result (λ rest. IsUtf8 rest.now) }
@@ -47,7 +52,8 @@ pub(crate) fn past_raw_body<'a>(text: &'a str, hashes: &str) -> Option<&'a str>
     None
 }
 
-/// Returns the text after a raw string and its suffix. `text` begins after its prefix.
+/// Returns the rest of `text` after a raw string and its suffix. `text` begins after the letters of
+/// the raw string's prefix.
 fn past_raw_rest(text: &str) -> Option<&str>
     ensures tries { ReadsLongest IsRaw (chars text.now) result }
     ensures utf8 { IfSome result (λ rest. IsUtf8 rest.now) }
@@ -62,7 +68,7 @@ fn past_raw_rest(text: &str) -> Option<&str>
     Some(past_suffix(end))
 }
 
-/// Returns the text after `r` and a raw string.
+/// Returns the rest of `text` after a leading `r`, the rest of a raw string and its suffix.
 fn past_raw_text(text: &str) -> Option<&str>
     ensures tries { ReadsLongest (After 114 IsRaw) (chars text.now) result }
     ensures utf8 { IfSome result (λ rest. IsUtf8 rest.now) }
@@ -71,7 +77,7 @@ fn past_raw_text(text: &str) -> Option<&str>
     past_raw_rest(rest)
 }
 
-/// Returns the text after `br` and a raw string.
+/// Returns the rest of `text` after a leading `br`, the rest of a raw string and its suffix.
 fn past_raw_bytes(text: &str) -> Option<&str>
     ensures tries { ReadsLongest (After 98 (After 114 IsRaw)) (chars text.now) result }
     ensures utf8 { IfSome result (λ rest. IsUtf8 rest.now) }
@@ -80,7 +86,7 @@ fn past_raw_bytes(text: &str) -> Option<&str>
     past_raw_text(rest)
 }
 
-/// Returns the text after `cr` and a raw string.
+/// Returns the rest of `text` after a leading `cr`, the rest of a raw string and its suffix.
 fn past_raw_c(text: &str) -> Option<&str>
     ensures tries { ReadsLongest (After 99 (After 114 IsRaw)) (chars text.now) result }
     ensures utf8 { IfSome result (λ rest. IsUtf8 rest.now) }
@@ -89,7 +95,9 @@ fn past_raw_c(text: &str) -> Option<&str>
     past_raw_text(rest)
 }
 
-/// Returns the text after a raw string of this kind and its suffix.
+/// Returns the rest of `text` after a leading raw string of the kind `contents` and its suffix.
+///
+/// Returns `None` if `text` does not begin with such a string.
 #[inline(never)]
 pub fn past_raw_string(text: &str, contents: Contents) -> Option<&str>
     ensures tries { ReadsLongest (IsRawString contents) (chars text.now) result }

@@ -1,4 +1,4 @@
-//! What is between the quotes of a raw string.
+//! Finds the text between the quotes of a raw string.
 ghost use Rattle.std.specs.Prelude.{ℕ, List, IfSome, MatchOption};
 ghost use Rattle.std.specs.Str.{chars, IsUtf8};
 ghost use Rattle.tok_lexical.specs.RawQuotes.{InRawQuotes};
@@ -7,8 +7,10 @@ use crate::prefixes::past_number_signs;
 use crate::raw::past_raw_body;
 use crate::text::{front_of, past_char};
 
-/// Returns what is between the quotes of a raw string without a suffix, or `None` unless all of the
-/// text is one. `text` begins after the prefix.
+/// Returns the text between the quotes of a raw string.
+///
+/// `text` is the raw string without the letters of its prefix, such as `#"a"#`. Returns `None` if
+/// `text` has any other form, for example if the string has a suffix.
 pub fn in_raw_quotes(text: &str) -> Option<&str>
     ensures reads { MatchOption result
         ((contents : List ℕ) → InRawQuotes (chars text.now) contents → ⊥)

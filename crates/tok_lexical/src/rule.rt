@@ -1,4 +1,4 @@
-//! The rules of the grammar in their order, and what each takes.
+//! The rules of the lexical grammar, and the order in which the lexer tries them.
 ghost use Rattle.std.specs.Prelude.{◌≡◌, ◌++◌, ◌∷◌, [], ℕ, List, true, false, IfSome, MatchOption};
 ghost use Rattle.std.specs.Str.{chars, IsUtf8};
 ghost use Rattle.tok_lexical.specs.Fits.{IsFirstFit, ReadsByRules};
@@ -31,8 +31,11 @@ use crate::words::{
     past_continues, past_identifier, past_lifetime, past_plain_lifetime, past_raw_identifier,
 };
 
-/// A rule of the grammar: a spelling. Some rules stand for an error: they take what begins a piece
-/// that a rule before them would have taken.
+/// A rule of the lexical grammar, which recognizes a token, a comment or white space at the start
+/// of a text.
+///
+/// The lexer tries the rules in order. Some rules recognize text that the lexer then rejects, such
+/// as a comment that is not closed.
 #[derive(Clone, Copy, Debug)]
 pub enum Rule {
     ByteOrderMark,
@@ -66,10 +69,11 @@ pub enum Rule {
     Other,
 }
 
-/// How a text is read: as a text of tokens, without or with marks of invisible groups, or as a
-/// whole source of an edition.
+/// Selects the grammar that the lexer applies to a text.
 ///
-/// The mode says which rules there are, what a piece means, and why one is rejected.
+/// `Plain` is the grammar of `lex`, `Marked` is the grammar of `lex_marked`, and `Source` is the
+/// grammar of `lex_source` for an edition. The mode decides which rules apply, which token trees
+/// the lexer creates, and why it rejects a text.
 #[derive(Clone, Copy, Debug)]
 pub enum Mode {
     Plain,
@@ -194,7 +198,8 @@ impl Mode {
         }
     }
 
-    /// Returns the rule that takes the decimal at the front, and the text after its piece.
+    /// Finds the first rule for the decimal number at the start of `text`, and returns the rule and
+    /// the rest of `text`.
     fn decimal(self, text: &str) -> (Rule, &str)
         requires { starts_digit (chars text.now) ≡ true }
         ensures fits { (piece : List ℕ)
@@ -211,7 +216,8 @@ impl Mode {
 }
 
 impl Rule {
-    /// Returns the text after the piece that this rule takes from the front.
+    /// Returns the rest of `text` after the part that this rule recognizes, or `None` if the rule
+    /// does not fit.
     #[inline(always)]
     fn past(self, text: &str) -> Option<&str>
         ensures tries { ReadsLongest (Spells self) (chars text.now) result }
@@ -264,7 +270,9 @@ impl Rule {
         }
     }
 
-    /// Returns how many bytes the piece takes, not counting marks.
+    /// Returns the length of `piece` in bytes.
+    ///
+    /// Returns 0 if the rule is for `«` or `»`, which are the delimiters of invisible groups.
     pub fn width(self, piece: &str) -> usize
         ensures { result ≡ width self (chars piece.now) }
     {
@@ -272,7 +280,10 @@ impl Rule {
     }
 }
 
-/// Returns the rule that takes the decimal at the front of a source, and the text after its piece.
+/// Finds the first rule for the decimal number at the start of a source.
+///
+/// `rest` is the part of `text` after the leading digits. Returns the rule, and the rest of `text`
+/// after the number.
 #[inline(never)]
 fn source_decimal<'a>(text: &str, rest: &'a str) -> (Rule, &'a str)
     requires starts { starts_digit (chars text.now) ≡ true }
@@ -295,7 +306,7 @@ fn source_decimal<'a>(text: &str, rest: &'a str) -> (Rule, &'a str)
     }
 }
 
-/// Returns `true` if a zero before this text names a base.
+/// Returns `true` if a zero directly before `rest` begins the prefix of a base, such as `0x`.
 fn names_base(rest: &str) -> bool
     ensures { result ≡ names_base (chars rest.now) }
 {
@@ -308,7 +319,8 @@ fn opens_string(rest: &str) -> bool
     begins_with(rest, '"') || begins_with(rest, '#')
 }
 
-/// Returns `true` if `b`, `c` or `r` before this text may be more than an identifier.
+/// Returns `true` if `b`, `c` or `r` directly before `rest` may begin a literal or a raw
+/// identifier.
 fn opens_literal(rest: &str) -> bool
     ensures { result ≡ opens_literal (chars rest.now) }
 {
@@ -317,7 +329,10 @@ fn opens_literal(rest: &str) -> bool
         || begins_with(rest, 'r') && opens_string(past_first(rest))
 }
 
-/// Returns the first rule that fits, and the text after its piece. `rest` begins after an apostrophe.
+/// Finds the first rule that fits a text with a leading apostrophe. `rest` is the text after the
+/// apostrophe.
+///
+/// Returns the rule, and the rest of `text` after the part that the rule recognizes.
 // Kept out of line: few pieces begin so. Nothing is read twice, not even a long escape without an
 // end.
 #[inline(never)]
@@ -349,8 +364,11 @@ fn past_apostrophe<'a>(mode: Mode, text: &'a str, rest: &'a str) -> (Rule, &'a s
     }
 }
 
-/// Returns the first rule that fits and the text after its piece, if a digit begins the text or if
-/// the second character shows that a letter begins no literal, as in a raw identifier.
+/// Finds the first rule that fits, if the class `start` of the first character and the next
+/// character determine it.
+///
+/// For example, a digit begins a number, and a letter before `#` may begin a raw identifier.
+/// Returns `None` if the two characters do not determine the rule.
 // Inlined: most numbers, and most words that begin so, are told here.
 #[inline(always)]
 fn second_told<'a>(
@@ -377,8 +395,11 @@ fn second_told<'a>(
     }
 }
 
-/// Returns the text after an identifier, if its first character is ASCII and shows that no other
-/// rule takes it.
+/// Returns the rest of `text` after a leading identifier, if the first character can only begin an
+/// identifier.
+///
+/// Such a character is `_`, or an ASCII letter other than `b`, `c` and `r`, which can also begin
+/// literals. Returns `None` if `text` does not begin with such a character.
 #[inline(always)]
 pub fn past_told_identifier(text: &str) -> Option<&str>
     ensures told { MatchOption result (begins_letter (chars text.now) ≡ false)
@@ -393,7 +414,10 @@ pub fn past_told_identifier(text: &str) -> Option<&str>
     Some(past_continues(rest))
 }
 
-/// Returns the text after a punct, if its character shows that no other rule takes it.
+/// Returns `text` without its first character, if this character is always a punct.
+///
+/// Such a character is any punctuation character except an apostrophe and `/`. A `/` can also begin
+/// a comment. Returns `None` if `text` does not begin with such a character.
 #[inline(always)]
 pub fn past_told_punct(text: &str) -> Option<&str>
     ensures told { MatchOption result (begins_punct (chars text.now) ≡ false)
@@ -408,8 +432,9 @@ pub fn past_told_punct(text: &str) -> Option<&str>
     Some(rest)
 }
 
-/// Returns the first rule that fits at the front of the text, and the text after its piece, or
-/// `None` if no rule fits.
+/// Finds the first rule that fits the start of `text`, and returns the rule and the rest of `text`.
+///
+/// `mode` selects the rules. Returns `None` if no rule fits.
 #[inline(always)]
 pub fn first_rule(mode: Mode, text: &str) -> Option<(Rule, &str)>
     ensures tries { ReadsByRules (rules_of mode) (chars text.now) result }

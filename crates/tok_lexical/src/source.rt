@@ -1,4 +1,4 @@
-//! Where a whole source begins.
+//! Finds the place at which the tokens of a whole source begin.
 ghost use Rattle.std.specs.Prelude.{◌≡◌, ℕ, ◌++◌, List, MatchBool, true};
 ghost use Rattle.std.specs.Str.{chars};
 ghost use Rattle.tok_lexical.specs.Sources.{is_blank_piece, Blanks, OpensAttribute, past_mark, Begins, BeginsAt};
@@ -24,7 +24,7 @@ fn is_blank_piece(rule: Rule, piece: &str) -> bool
     }
 }
 
-/// Returns the text after the white space and the comments at the front. A doc comment stays.
+/// Returns `text` without its leading white space and comments. Doc comments are not removed.
 #[inline(never)]
 fn past_blank_pieces(text: &str) -> &str
     ensures blanks { Blanks (chars text.now) (chars result.now) }
@@ -42,7 +42,7 @@ fn past_blank_pieces(text: &str) -> &str
     rest
 }
 
-/// Returns `true` if what follows `#!` makes it an attribute.
+/// Returns `true` if `text`, which begins after `#!`, continues an attribute.
 fn opens_attribute(text: &str) -> bool
     ensures { MatchBool result (OpensAttribute (chars text.now))
         (OpensAttribute (chars text.now) → ⊥) }
@@ -50,7 +50,7 @@ fn opens_attribute(text: &str) -> bool
     begins_with(past_blank_pieces(text), '[')
 }
 
-/// Returns the text after a byte order mark.
+/// Returns `text` without its byte order mark, if it has one.
 fn past_mark(text: &str) -> &str
     ensures { chars result.now ≡ past_mark (chars text.now) }
 {
@@ -60,7 +60,7 @@ fn past_mark(text: &str) -> &str
     }
 }
 
-/// Returns the text after a shebang line.
+/// Returns `text` without its shebang line, if it has one.
 fn past_shebang(text: &str) -> &str
     ensures { Begins (chars text.now) (chars result.now) }
 {
@@ -74,7 +74,7 @@ fn past_shebang(text: &str) -> &str
     }
 }
 
-/// Returns the text where the pieces of a source begin: after a byte order mark and a shebang line.
+/// Returns `text` without its byte order mark and its shebang line, if it has either.
 pub fn past_start(text: &str) -> &str
     ensures begins { BeginsAt (chars text.now) (chars result.now) }
     ensures cut { (front : List ℕ) × (chars text.now ≡ front ++ chars result.now) }

@@ -1,4 +1,4 @@
-//! What the first character of a text decides.
+//! Classes of characters, by which the lexer selects the rules that may fit.
 ghost use Rattle.std.specs.Prelude.{◌≡◌, ◌≤◌};
 ghost use Rattle.std.specs.Str.{chars};
 ghost use Rattle.tok_lexical.specs.Private.Starts.{start_of, is_mark};
@@ -8,13 +8,15 @@ use crate::classes::is_whitespace;
 use crate::delimiter::Delimiter;
 use crate::words::is_identifier_start;
 
-/// What the first character of a text says of the rules that may take its front.
+/// A class of characters that can begin a text.
+///
+/// The class of the first character determines which rules of the grammar may fit the text.
 #[derive(Clone, Copy, Debug)]
 pub enum Start {
     Whitespace,
     Zero,
     Digit,
-    /// `b`, `c` or `r`, which begin literals and raw identifiers too.
+    /// The letters `b`, `c` and `r`, which can begin an identifier, a raw identifier or a literal.
     Prefix,
     Letter,
     Slash,
@@ -33,8 +35,7 @@ static ASCII: [u8; 128] = *b"\
     +aaaaaaaaaaaaaaaaaaaaaaaaaa[?]+a\
     ?abbaaaaaaaaaaaaaabaaaaaaaa{+}+?";
 
-/// Returns `true` if the text begins with an ASCII character that begins an identifier and nothing
-/// else.
+/// Returns `true` if `text` begins with an ASCII character that can only begin an identifier.
 #[inline(always)]
 pub fn begins_letter(text: &str) -> bool
     ensures { result ≡ begins_letter (chars text.now) }
@@ -45,7 +46,7 @@ pub fn begins_letter(text: &str) -> bool
     }
 }
 
-/// Returns `true` if the text begins with a character that is a punct whatever follows.
+/// Returns `true` if `text` begins with a punctuation character other than an apostrophe or `/`.
 #[inline(always)]
 pub fn begins_punct(text: &str) -> bool
     ensures { result ≡ begins_punct (chars text.now) }
@@ -63,7 +64,7 @@ fn is_mark(c: char) -> bool
 }
 
 impl Start {
-    /// Returns the start of a text that begins with this character.
+    /// Returns the class of `c`, which is the first character of a text.
     #[inline(always)]
     pub fn of(c: char) -> Start
         ensures { result ≡ start_of c }

@@ -1,4 +1,4 @@
-//! Strings.
+//! Functions that skip strings.
 ghost use Rattle.std.specs.Prelude.{IfSome, length, ◌<◌};
 ghost use Rattle.std.specs.Str.{chars, IsUtf8};
 ghost use Rattle.tok_lexical.specs.Pieces.{After, ReadsLongest};
@@ -11,7 +11,8 @@ use crate::escapes::{past_c_escape, past_escape};
 use crate::text::{next_char, past_char, past_others};
 use crate::words::past_suffix;
 
-/// Returns the text after an escape in a string of this kind. `text` begins after its backslash.
+/// Returns the rest of `text` after an escape in a string of the kind `contents`. `text` begins
+/// after the backslash.
 #[inline(always)]
 fn past_escape_of(text: &str, contents: Contents) -> Option<&str>
     ensures finds { ReadsPrefix (EscapeOf contents) (chars text.now) result }
@@ -25,9 +26,12 @@ fn past_escape_of(text: &str, contents: Contents) -> Option<&str>
     }
 }
 
-/// Returns the text after one escape, or after the characters up to the next escape or quote.
+/// Skips one escape, or all characters up to the next escape or quote, and returns the rest of
+/// `text`.
+///
+/// Returns `None` if `text` is empty, or begins with a quote or an invalid escape.
 #[inline(always)]
-fn past_units(text: &str, contents: Contents) -> Option<&str>
+pub(crate) fn past_units(text: &str, contents: Contents) -> Option<&str>
     ensures finds { FindsUnits contents (chars text.now) result }
     ensures utf8 { IfSome result (λ rest. IsUtf8 rest.now) }
     ensures shorter { IfSome result (λ rest. length rest.now < length text.now) }
@@ -43,7 +47,8 @@ fn past_units(text: &str, contents: Contents) -> Option<&str>
     }
 }
 
-/// Returns the text after a string of this kind and its suffix. `text` begins after its prefix.
+/// Returns the rest of `text` after a string of the kind `contents` and its suffix. `text` begins
+/// at the opening quote.
 // Inlined, so that each kind has a loop of its own.
 #[inline(always)]
 fn past_string_of(text: &str, contents: Contents) -> Option<&str>
@@ -59,7 +64,9 @@ fn past_string_of(text: &str, contents: Contents) -> Option<&str>
     Some(past_suffix(end))
 }
 
-/// Returns the text after a string and its suffix.
+/// Returns the rest of `text` after a leading string literal and its suffix.
+///
+/// Returns `None` if `text` does not begin with a string literal.
 #[inline(always)]
 pub fn past_string(text: &str) -> Option<&str>
     ensures tries { ReadsLongest (IsString Text) (chars text.now) result }
@@ -68,7 +75,9 @@ pub fn past_string(text: &str) -> Option<&str>
     past_string_of(text, Contents::Text)
 }
 
-/// Returns the text after a byte string and its suffix.
+/// Returns the rest of `text` after a leading byte string literal and its suffix.
+///
+/// Returns `None` if `text` does not begin with a byte string literal.
 #[inline(never)]
 pub fn past_byte_string(text: &str) -> Option<&str>
     ensures tries { ReadsLongest (After 98 (IsString Bytes)) (chars text.now) result }
@@ -78,7 +87,9 @@ pub fn past_byte_string(text: &str) -> Option<&str>
     past_string_of(rest, Contents::Bytes)
 }
 
-/// Returns the text after a C string and its suffix.
+/// Returns the rest of `text` after a leading C string literal and its suffix.
+///
+/// Returns `None` if `text` does not begin with a C string literal.
 #[inline(never)]
 pub fn past_c_string(text: &str) -> Option<&str>
     ensures tries { ReadsLongest (After 99 (IsString C)) (chars text.now) result }

@@ -1,12 +1,13 @@
-//! Texts, read from their front.
-ghost use Rattle.std.specs.Prelude.{◌≡◌, ℕ, ◌<◌, ◌≤◌, ◌+◌, ◌++◌, ◌∷◌, [], length, List, MatchOption, IfSome, encode_utf8, encode_utf8_all, true};
+//! Functions that read a text from its start.
+ghost use Rattle.std.specs.Prelude.{◌≡◌, ℕ, ◌<◌, ◌≤◌, ◌+◌, ◌++◌, ◌∷◌, [], length, List, MatchOption, IfSome, encode_utf8, encode_utf8_all};
 ghost use Rattle.std.specs.Str.{chars, IsUtf8};
-ghost use Rattle.tok_lexical.specs.Private.Fronts.{begins_beyond_ascii};
+ghost use Rattle.tok_lexical.specs.Private.Fronts.{begins_beyond_ascii, begins_passing};
+ghost use Rattle.tok_lexical.specs.Scans.{IsAsciiTest};
 ghost use Rattle.tok_lexical.specs.Pieces.{after_first, Skips, begins_with, is_neither, up_to};
 
-use crate::scan::{ByteTest, Others, front_run};
+use crate::scan::{ByteTest, Others, front_run, run_from};
 
-/// Returns the first character and the text after it, or `None` if the text is empty.
+/// Returns the first character of `text` and the rest of `text`, or `None` if `text` is empty.
 pub fn next_char(text: &str) -> Option<(char, &str)>
     ensures chars { MatchOption result (chars text.now ≡ [])
         (λ r. chars text.now ≡ r.0 ∷ chars r.1.now) }
@@ -19,7 +20,9 @@ pub fn next_char(text: &str) -> Option<(char, &str)>
     Some((first, rest.as_str()))
 }
 
-/// Returns the text after these two characters, or `None` unless it begins with them.
+/// Returns `text` without the leading characters `first` and `second`.
+///
+/// Returns `None` if `text` does not begin with these two characters.
 pub fn past_pair(text: &str, first: char, second: char) -> Option<&str>
     ensures chars { MatchOption result
         ((more : List ℕ) → chars text.now ≡ first ∷ second ∷ more → ⊥)
@@ -36,11 +39,11 @@ pub fn past_pair(text: &str, first: char, second: char) -> Option<&str>
     }
 }
 
-/// Returns the text after this character, or `None` unless it begins with it.
+/// Returns `text` without the leading character `ch`, or `None` if `text` does not begin with `ch`.
 ///
 /// # Requires
 ///
-/// The character must be ASCII.
+/// `ch` must be ASCII.
 #[inline]
 pub fn past_char(text: &str, ch: char) -> Option<&str>
     requires ascii { ch < 128 }
@@ -58,11 +61,11 @@ pub fn past_char(text: &str, ch: char) -> Option<&str>
     }
 }
 
-/// Returns `true` if the text begins with this character.
+/// Returns `true` if `text` begins with the character `ch`.
 ///
 /// # Requires
 ///
-/// The character must be ASCII.
+/// `ch` must be ASCII.
 #[inline]
 pub fn begins_with(text: &str, ch: char) -> bool
     requires ascii { ch < 128 }
@@ -89,11 +92,11 @@ pub fn front_of<'a>(text: &'a str, rest: &str) -> &'a str
     front
 }
 
-/// Returns the first character.
+/// Returns the first character of `text`.
 ///
 /// # Requires
 ///
-/// The text must not be empty.
+/// `text` must not be empty.
 pub fn first_of(text: &str) -> char
     requires { (c : ℕ) × (more : List ℕ) × (chars text.now ≡ c ∷ more) }
     ensures { (c : ℕ) → (more : List ℕ) → chars text.now ≡ c ∷ more → result ≡ c }
@@ -104,7 +107,7 @@ pub fn first_of(text: &str) -> char
     }
 }
 
-/// Returns the text after the first character.
+/// Returns `text` without its first character, or an empty text if `text` is empty.
 pub fn past_first(text: &str) -> &str
     ensures { chars result.now ≡ after_first (chars text.now) }
 {
@@ -114,7 +117,7 @@ pub fn past_first(text: &str) -> &str
     }
 }
 
-/// Returns `true` if the text begins with a character beyond ASCII.
+/// Returns `true` if `text` begins with a character that is not ASCII.
 #[inline(always)]
 pub(crate) fn begins_beyond_ascii(text: &str) -> bool
     ensures { result ≡ begins_beyond_ascii (chars text.now) }
@@ -125,14 +128,55 @@ pub(crate) fn begins_beyond_ascii(text: &str) -> bool
     }
 }
 
-/// Returns the text after the characters at the front whose bytes pass the test.
+/// Returns `true` if the first byte of `text` passes the test.
 ///
 /// # Requires
 ///
-/// Only ASCII characters may pass.
+/// Either all bytes that are not ASCII must pass the test, or none of them.
+#[inline(always)]
+pub(crate) fn begins_run<S: ByteTest>(text: &str, test: &S) -> bool
+    requires ascii { IsAsciiTest (S.passes test.now) }
+    ensures { result ≡ begins_passing (S.passes test.now) (chars text.now) }
+{
+    match text.as_bytes().first() {
+        Some(byte) => test.holds(*byte),
+        None => false,
+    }
+}
+
+/// Splits `text` after its longest prefix in which each byte passes the test.
+///
+/// Returns the prefix and the rest of `text`.
+///
+/// # Requires
+///
+/// Either all bytes that are not ASCII must pass the test, or none of them.
+// Wholly inlined, for texts of a few bytes: a call takes as long as five of them. In the lexer it
+// would grow `first_rule` so that the compiler inlines that no more. Many runs are empty, and no
+// bytes are loaded for those.
+#[inline(always)]
+pub fn split_run<'a, S: ByteTest>(text: &'a str, test: &S) -> (&'a str, &'a str)
+    requires ascii { IsAsciiTest (S.passes test.now) }
+    ensures skips { Skips (S.passes test.now) (chars text.now) (chars result.0.now)
+        (chars result.1.now) }
+    ensures bytes { text.now ≡ result.0.now ++ result.1.now }
+    ensures utf8 { IsUtf8 result.0.now × IsUtf8 result.1.now }
+{
+    if !begins_run(text, test) {
+        return ("", text);
+    }
+    text.split_at(run_from(test, text.as_bytes(), 0))
+}
+
+/// Returns the rest of `text` after its longest prefix in which each byte passes the test.
+///
+/// # Requires
+///
+/// Either all bytes that are not ASCII must pass the test, or none of them.
+// Inlined up to the first load, for the lexer.
 #[inline(always)]
 pub(crate) fn past_run<'a, S: ByteTest>(text: &'a str, test: &S) -> &'a str
-    requires ascii { (x : ℕ) → S.passes test.now x ≡ true → x < 128 }
+    requires ascii { IsAsciiTest (S.passes test.now) }
     ensures skips { (front : List ℕ)
         × Skips (S.passes test.now) (chars text.now) front (chars result.now) }
     ensures shorter { length result.now ≤ length text.now }
@@ -141,11 +185,13 @@ pub(crate) fn past_run<'a, S: ByteTest>(text: &'a str, test: &S) -> &'a str
     rest
 }
 
-/// Returns the text after the characters at the front that are neither of these.
+/// Returns the part of `text` that begins at the first `one` or `other`.
+///
+/// Returns an empty text if `text` contains neither of them.
 ///
 /// # Requires
 ///
-/// Both characters must be ASCII.
+/// `one` and `other` must be ASCII.
 #[inline(always)]
 pub fn past_others(text: &str, one: u8, other: u8) -> &str
     requires one { one < 128 }
@@ -154,17 +200,15 @@ pub fn past_others(text: &str, one: u8, other: u8) -> &str
         × Skips (is_neither one other) (chars text.now) front (chars result.now) }
     ensures shorter { length result.now ≤ length text.now }
 {
-    let others = Others { one, other };
-    let end = front_run(&others, text.as_bytes());
-    let (_, rest) = text.split_at(end);
-    rest
+    past_run(text, &Others { one, other })
 }
 
-/// Returns the front of the text before the first of these characters.
+/// Returns the part of `text` before the first `stop`, or all of `text` if it does not contain
+/// `stop`.
 ///
 /// # Requires
 ///
-/// The character must be ASCII.
+/// `stop` must be ASCII.
 pub fn up_to(text: &str, stop: u8) -> &str
     requires ascii { stop < 128 }
     ensures { chars result.now ≡ up_to stop (chars text.now) }

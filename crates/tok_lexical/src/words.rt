@@ -1,17 +1,17 @@
-//! Identifiers.
+//! Functions that recognize and skip identifiers.
 ghost use Rattle.std.specs.Prelude.{◌≡◌, ℕ, List, IfSome, MatchBool};
 ghost use Rattle.std.specs.Str.{chars, IsUtf8};
 ghost use Rattle.unicode_ident.specs.Ident.{is_xid_continue};
 ghost use Rattle.tok_lexical.specs.Following.{starts_name};
 ghost use Rattle.tok_lexical.specs.Pieces.{After, IsLongestPrefix, ReadsLongest, Skips};
 ghost use Rattle.tok_lexical.specs.Words.{IsIdentifier, IsRawIdentifier, IsName, IsSuffix, is_identifier_start, has_no_raw, is_missing_raw, is_plain, is_raw_prefix};
-ghost use Rattle.tok_lexical.specs.Private.Fronts.{begins_continue, is_ascii_continue};
+ghost use Rattle.tok_lexical.specs.Private.Fronts.{is_ascii_continue};
 
-use crate::scan::Continues;
-use crate::text::{begins_beyond_ascii, next_char, past_char, past_pair, past_run};
+use crate::scan::{ByteTest, Continues};
+use crate::text::{begins_beyond_ascii, begins_run, next_char, past_char, past_pair, past_run};
 use unicode_ident::{is_xid_continue, is_xid_start};
 
-/// Returns `true` if an identifier may begin with this character.
+/// Returns `true` if `c` may begin an identifier.
 // Inlined, and most are ASCII: each literal asks this of the character after it.
 #[inline(always)]
 pub fn is_identifier_start(c: char) -> bool
@@ -24,7 +24,7 @@ pub fn is_identifier_start(c: char) -> bool
     }
 }
 
-/// Returns `true` if an identifier follows.
+/// Returns `true` if `text` begins with a character that may begin an identifier.
 #[inline(always)]
 pub fn starts_name(text: &str) -> bool
     ensures { result ≡ starts_name (chars text.now) }
@@ -35,20 +35,12 @@ pub fn starts_name(text: &str) -> bool
     }
 }
 
-// Each ASCII character that may go on in an identifier is at its own index, and a dash at every
-// other.
-static CONTINUES: [u8; 128] = *b"\
-    --------------------------------\
-    ----------------0123456789------\
-    -ABCDEFGHIJKLMNOPQRSTUVWXYZ----_\
-    -abcdefghijklmnopqrstuvwxyz-----";
-
 // Returns `true` if a character may go on in an identifier.
 fn goes_on(c: char) -> bool
     ensures { result ≡ is_xid_continue c }
 {
     if c < '\u{80}' {
-        CONTINUES[c as usize] != b'-'
+        Continues.holds(c as u8)
     } else {
         is_xid_continue(c)
     }
@@ -71,31 +63,20 @@ fn past_any_continues(text: &str) -> &str
     rest
 }
 
-// Returns `true` if the text begins with an ASCII character that may go on in an identifier.
-#[inline(always)]
-fn begins_continue(text: &str) -> bool
-    ensures { result ≡ begins_continue (chars text.now) }
-{
-    match text.as_bytes().first() {
-        Some(byte) => *byte < 0x80 && CONTINUES[*byte as usize] != b'-',
-        None => false,
-    }
-}
-
 // Returns the text after the ASCII characters at the front that may go on in an identifier.
 // Many names are one letter, and no run is looked for after those.
 #[inline(always)]
 fn past_ascii_continues(text: &str) -> &str
     ensures { (front : List ℕ) × Skips is_ascii_continue (chars text.now) front (chars result.now) }
 {
-    if begins_continue(text) {
+    if begins_run(text, &Continues) {
         past_run(text, &Continues)
     } else {
         text
     }
 }
 
-/// Returns the text after the characters at the front that may go on in an identifier.
+/// Returns `text` without its leading characters that may continue an identifier.
 #[inline(always)]
 pub fn past_continues(text: &str) -> &str
     ensures { (front : List ℕ) × Skips is_xid_continue (chars text.now) front (chars result.now) }
@@ -108,7 +89,9 @@ pub fn past_continues(text: &str) -> &str
     }
 }
 
-/// Returns the text after a plain identifier.
+/// Returns the rest of `text` after a leading identifier that is not raw.
+///
+/// Returns `None` if `text` does not begin with such an identifier.
 pub fn past_identifier(text: &str) -> Option<&str>
     ensures tries { ReadsLongest IsIdentifier (chars text.now) result }
     ensures utf8 { IfSome result (λ rest. IsUtf8 rest.now) }
@@ -121,7 +104,7 @@ pub fn past_identifier(text: &str) -> Option<&str>
     }
 }
 
-/// Returns the text after a suffix, if one follows directly.
+/// Returns the rest of `text` after a leading suffix, or all of `text` if there is no suffix.
 // Inlined, without what comes after the test: most literals have no suffix.
 #[inline(always)]
 pub fn past_suffix(text: &str) -> &str
@@ -135,7 +118,9 @@ pub fn past_suffix(text: &str) -> &str
     }
 }
 
-/// Returns the text after a raw identifier.
+/// Returns the rest of `text` after a leading raw identifier.
+///
+/// Returns `None` if `text` does not begin with a raw identifier.
 #[inline(always)]
 pub fn past_raw_identifier(text: &str) -> Option<&str>
     ensures tries { ReadsLongest IsRawIdentifier (chars text.now) result }
@@ -145,7 +130,9 @@ pub fn past_raw_identifier(text: &str) -> Option<&str>
     past_identifier(name)
 }
 
-/// Returns the text after an identifier, plain or raw.
+/// Returns the rest of `text` after a leading identifier, which may be raw.
+///
+/// Returns `None` if `text` does not begin with an identifier.
 pub fn past_name(text: &str) -> Option<&str>
     ensures tries { ReadsLongest IsName (chars text.now) result }
     ensures utf8 { IfSome result (λ rest. IsUtf8 rest.now) }
@@ -156,7 +143,9 @@ pub fn past_name(text: &str) -> Option<&str>
     }
 }
 
-/// Returns the text after a lifetime.
+/// Returns the rest of `text` after a leading lifetime, which may be raw.
+///
+/// Returns `None` if `text` does not begin with a lifetime.
 #[inline(always)]
 pub fn past_lifetime(text: &str) -> Option<&str>
     ensures tries { ReadsLongest (After 39 IsName) (chars text.now) result }
@@ -166,7 +155,9 @@ pub fn past_lifetime(text: &str) -> Option<&str>
     past_name(name)
 }
 
-/// Returns the text after a lifetime whose name isn't raw.
+/// Returns the rest of `text` after a leading lifetime that is not raw.
+///
+/// Returns `None` if `text` does not begin with such a lifetime.
 #[inline(always)]
 pub fn past_plain_lifetime(text: &str) -> Option<&str>
     ensures tries { ReadsLongest (After 39 IsIdentifier) (chars text.now) result }
@@ -183,14 +174,14 @@ fn is_never_raw(word: &str) -> bool
     matches!(word, "_" | "self" | "Self" | "super" | "crate")
 }
 
-/// Returns `true` if a word has no raw identifier.
+/// Returns `true` if `word` is `_`, `self`, `Self`, `super` or `crate`, which have no raw form.
 pub fn has_no_raw(word: &str) -> bool
     ensures { result ≡ has_no_raw (chars word.now) }
 {
     is_never_raw(word)
 }
 
-/// Returns `true` if this is a raw identifier that does not exist.
+/// Returns `true` if `name` consists of `r#` and a word that has no raw form, as in `r#self`.
 pub fn is_missing(name: &str) -> bool
     ensures { result ≡ is_missing_raw (chars name.now) }
 {
@@ -207,21 +198,21 @@ fn is_raw_word(word: &str) -> bool
     matches!(word, "r" | "br")
 }
 
-/// Returns `true` if a word begins raw strings.
+/// Returns `true` if `word` is `r` or `br`, which are prefixes of raw strings.
 pub fn is_raw_prefix(word: &str) -> bool
     ensures { result ≡ is_raw_prefix (chars word.now) }
 {
     is_raw_word(word)
 }
 
-/// Returns `true` if an identifier isn't raw.
+/// Returns `true` if the identifier `name` is not raw.
 pub fn is_plain(name: &str) -> bool
     ensures { result ≡ is_plain (chars name.now) }
 {
     past_pair(name, 'r', '#').is_none()
 }
 
-/// Returns `true` if the whole text is a plain identifier.
+/// Returns `true` if `text` is an identifier that is not raw.
 pub fn is_identifier(text: &str) -> bool
     ensures { MatchBool result (IsIdentifier (chars text.now)) (IsIdentifier (chars text.now) → ⊥) }
 {

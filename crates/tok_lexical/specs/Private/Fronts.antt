@@ -21,7 +21,7 @@ begins_visibly (c ∷ text) = is_ascii_graphic c
 abbrev pub is_ascii_continue : ℕ → Bool
 is_ascii_continue c = is_ascii_alphanumeric c || (c == underscore)
 
--- the text begins with an ASCII character that may go on in an identifier
-abbrev pub begins_continue : List ℕ → Bool
-begins_continue [] = false
-begins_continue (c ∷ text) = is_ascii_continue c
+-- the text begins with a character that passes
+abbrev pub begins_passing : (passes : ℕ → Bool) → List ℕ → Bool
+begins_passing passes [] = false
+begins_passing passes (c ∷ text) = passes c

@@ -1,7 +1,6 @@
 -- How many bytes pass a test.
-use Rattle.std.specs.Prelude.{◌≡◌, ℕ, ◌+◌, ◌<◌, ◌≤◌, ◌==◌, if◌then◌else◌, List, Bool, true, false}
+use Rattle.std.specs.Prelude.{◌≡◌, ℕ, ◌+◌, ◌<◌, ◌≤◌, List, Bool, true, false}
 use Rattle.std.specs.Prelude.{get_or}
-use Rattle.std.specs.Int.{trailing_zeros, w64}
 
 -- the bytes from one place up to another pass
 abbrev pub AllPass : (ℕ → Bool) → List ℕ → ℕ → ℕ → Type 0
@@ -12,7 +11,3 @@ pub record IsRun (passes : ℕ → Bool) (bytes : List ℕ) (at count run : ℕ)
   pub few : run ≤ count
   pub pass : AllPass passes bytes at (at + run)
   pub stops : run < count → passes (get_or bytes (at + run) 0) ≡ false
-
--- the place of the lowest bit that is set in a mask of 16 lanes, or 16
-abbrev pub first_set : ℕ → ℕ
-first_set mask = if mask == 0 then 16 else trailing_zeros w64 mask

@@ -1,11 +1,9 @@
 -- What the first two characters of a text say of the rules that may take its front.
 use Rattle.std.specs.Prelude.{◌==◌, ◌||◌, ◌&&◌, ◌++◌, if◌then◌else◌, Bool, true, false, ℕ, List, [], ◌∷◌}
 use Rattle.std.specs.Char.{is_digit}
-use Rattle.tok_lexical.specs.Ascii.{apostrophe, byte_order_mark, close_brace, close_bracket}
-use Rattle.tok_lexical.specs.Ascii.{close_mark, close_parenthesis, digit_zero, lower_b}
-use Rattle.tok_lexical.specs.Ascii.{lower_o, lower_r, lower_x, number_sign, open_brace}
-use Rattle.tok_lexical.specs.Ascii.{open_bracket, open_mark, open_parenthesis, quote, slash}
-use Rattle.tok_lexical.specs.Characters.{is_whitespace, is_punct}
+use Rattle.tok_lexical.specs.Ascii.{apostrophe, byte_order_mark, digit_zero, lower_b}
+use Rattle.tok_lexical.specs.Ascii.{lower_o, lower_r, lower_x, number_sign, quote, slash}
+use Rattle.tok_lexical.specs.Characters.{closing_mark, is_punct, is_whitespace, opening_mark}
 use Rattle.tok_lexical.specs.Pieces.{after_first, begins_with}
 use Rattle.tok_lexical.specs.Rules.{apostrophe_rules, based_rules, decimal_rules, last_rules}
 use Rattle.tok_lexical.specs.Rules.{literal_rules}
@@ -24,7 +22,7 @@ use Rattle.tok_lexical.specs.declared.start.Start.TheVariants as start
 
 -- the byte order mark, « and »
 abbrev pub is_mark : ℕ → Bool
-is_mark c = (c == byte_order_mark) || ((c == open_mark) || (c == close_mark))
+is_mark c = (c == byte_order_mark) || ((c == opening_mark None) || (c == closing_mark None))
 
 -- what a text that begins with this character may begin with
 abbrev pub start_of : ℕ → Start
@@ -37,12 +35,12 @@ start_of c =
     else if c == slash then start.Slash
     else if c == quote then start.Quote
     else if c == apostrophe then start.Apostrophe
-    else if c == open_parenthesis then start.Opening Parenthesis
-    else if c == close_parenthesis then start.Closing Parenthesis
-    else if c == open_bracket then start.Opening Bracket
-    else if c == close_bracket then start.Closing Bracket
-    else if c == open_brace then start.Opening Brace
-    else if c == close_brace then start.Closing Brace
+    else if c == opening_mark Parenthesis then start.Opening Parenthesis
+    else if c == closing_mark Parenthesis then start.Closing Parenthesis
+    else if c == opening_mark Bracket then start.Opening Bracket
+    else if c == closing_mark Bracket then start.Closing Bracket
+    else if c == opening_mark Brace then start.Opening Brace
+    else if c == closing_mark Brace then start.Closing Brace
     else if is_identifier_start c then start.Letter
     else if is_punct c then start.Punct
     else start.Rest

@@ -1,11 +1,11 @@
 use Rattle.std.proofs.Common.{◌∙◌, sym, arith}
 use Rattle.tok_lexical.specs.Characters.{is_whitespace}
 use Rattle.tok_lexical.proofs.Longest.{skips_more}
-use Rattle.tok_lexical.proofs.WhiteSpace.{blanks_low, skips_blanks}
+use Rattle.tok_lexical.proofs.WhiteSpace.{blanks_ascii_test, skips_blanks}
 use Rattle.tok_lexical.proofs.classes.past_other_whitespace.Goals as goal
 
 pub past_run-rest-requires : goal.past_run-rest-requires
-past_run-rest-requires c = record { ascii = blanks_low }
+past_run-rest-requires c = record { ascii = blanks_ascii_test }
 
 pub loop-c-preserved : goal.loop-c-preserved
 loop-c-preserved c =

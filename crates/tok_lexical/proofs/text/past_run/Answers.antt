@@ -13,8 +13,10 @@ split_at-requires g c =
 pub returns-clause-skips : goal.returns-clause-skips
 returns-clause-skips g c =
     let passes = g.S.ByteTest.passes c.args.test.now in
-    let parts = c.split_at.ensures in
-    skips_run passes c.requires.ascii _ _ _ _ c.utf8.text parts.front parts.back parts.front_len
-    parts.back_len
-    (subst (λ w. IsRun passes w 0 (length w) c.front_run.result) c.as_bytes.ensures.value
-    c.front_run.ensures)
+    let parts = c.split_at.ensures in (
+      _,
+      skips_run passes c.requires.ascii _ _ _ _ c.utf8.text parts.front parts.back parts.front_len
+          parts.back_len
+          (subst (λ w. IsRun passes w 0 (length w) c.front_run.result) c.as_bytes.ensures.value
+          c.front_run.ensures),
+    )

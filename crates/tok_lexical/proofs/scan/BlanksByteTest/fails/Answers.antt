@@ -1,0 +1,13 @@
+use Rattle.std.proofs.Common.{refl, leb, cond}
+use Rattle.tok_lexical.specs.Private.Fronts.{is_ascii_whitespace}
+use Rattle.tok_lexical.proofs.Lanes.{bits_by_table, lanewise, splat, with_splat}
+use Rattle.tok_lexical.proofs.scan.BlanksByteTest.fails.Goals as goal
+
+pub returns : goal.returns
+returns c =
+    let load = c.args.bytes in
+    let long = c.fits-bytes.0 in
+    bits_by_table is_ascii_whitespace load _ _ long c.fits-bytes.1
+    (lanewise _ _ _ load
+    (lanewise (λ a b. cond (leb a b) 255 0) _ _ load (splat load 16 5 long)
+    (with_splat _ load 16 9 long)) (with_splat _ load 16 32 long)) refl
