@@ -1,7 +1,6 @@
 pub mod ByText
 pub mod IdentFaults
 pub mod Kept
-pub mod Lanes
 pub mod Literals
 pub mod Names
 pub mod Plain

@@ -1,5 +1,6 @@
 -- Leaves, as contracts see them, and their parts.
-use Rattle.std.specs.Prelude.{ℕ, ◌==◌, ◌&&◌, cond, List, ◌∷◌, codes, encode_utf8}
+use Rattle.std.specs.Prelude.{ℕ, ◌==◌, ◌&&◌, if◌then◌else◌, List, ◌∷◌, codes, encode_utf8}
+use Rattle.tok_lexical.specs.Ascii.{lower_r, number_sign}
 use Rattle.tok_leaves.specs.declared.span.Span.{Span}
 use Rattle.tok_leaves.specs.declared.ident.Ident.{Ident}
 use Rattle.tok_leaves.specs.declared.ident.MakeFault.{MakeFault}
@@ -51,7 +52,7 @@ leaf_spacing l = Alone
 
 -- an identifier's text without a leading `r#`
 abbrev pub unraw : List ℕ → List ℕ
-unraw (c ∷ (d ∷ word)) = cond (c == 114 && d == 35) word (c ∷ (d ∷ word))
+unraw (c ∷ (d ∷ word)) = if c == lower_r && d == number_sign then word else c ∷ (d ∷ word)
 unraw text = text
 
 -- why no identifier was made, in words

@@ -1,4 +1,5 @@
 pub mod IdentFaults
+pub mod IntegerTypes
 pub mod Laws
 pub mod Leaves
 pub mod Lifetimes

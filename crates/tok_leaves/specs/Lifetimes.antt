@@ -1,8 +1,9 @@
 -- Lifetimes, and which texts make one.
-use Rattle.std.specs.Prelude.{ℕ, ◌==◌, ◌&&◌, Bool, false, cond, List, [], ◌∷◌, Option, Some, None}
-use Rattle.std.specs.Prelude.{codes}
+use Rattle.std.specs.Prelude.{ℕ, ◌==◌, ◌&&◌, Bool, false, if◌then◌else◌, List, [], ◌∷◌, codes}
+use Rattle.std.specs.Prelude.{Option, Some, None}
 use Rattle.std.specs.List.{list_all}
 use Rattle.unicode_ident.specs.Ident.{is_xid_continue}
+use Rattle.tok_lexical.specs.Ascii.{lower_r, number_sign}
 use Rattle.tok_lexical.specs.Words.{is_identifier_start, has_no_raw}
 use Rattle.tok_leaves.specs.Leaves.{apostrophe, ident_of, leaf_text}
 use Rattle.tok_leaves.specs.declared.ident.MakeFault.{MakeFault}
@@ -29,17 +30,17 @@ is_identifier (c ∷ cs) = is_identifier_start c && list_all is_xid_continue cs
 
 -- what follows `r#`
 abbrev pub raw_word : List ℕ → Option (List ℕ)
-raw_word (c ∷ (d ∷ word)) = cond (c == 114 && d == 35) (Some word) None
+raw_word (c ∷ (d ∷ word)) = if c == lower_r && d == number_sign then Some word else None
 raw_word cs = None
 
 -- why these characters are no plain identifier; `None` if they are one
 abbrev pub plain_error : List ℕ → Option LifetimeFault
 plain_error [] = Some Empty
-plain_error (c ∷ cs) = cond (is_identifier (c ∷ cs)) None (Some NotIdentifier)
+plain_error (c ∷ cs) = if is_identifier (c ∷ cs) then None else Some NotIdentifier
 
 -- why the characters after `r#` are no name; `None` if they are one
 abbrev pub raw_error : List ℕ → Option LifetimeFault
-raw_error word = cond (has_no_raw word) (Some NoRaw) (plain_error word)
+raw_error word = if has_no_raw word then Some NoRaw else plain_error word
 
 -- why the characters after an apostrophe are no name, plain or raw; `None` if they are one
 abbrev pub name_error : List ℕ → Option LifetimeFault
@@ -48,7 +49,7 @@ name_error cs = elim (raw_word cs) [ Some word ↦ raw_error word | None ↦ pla
 -- why these characters make no lifetime; `None` if they do
 abbrev pub lifetime_fault : List ℕ → Option LifetimeFault
 lifetime_fault [] = Some NoApostrophe
-lifetime_fault (c ∷ cs) = cond (c == apostrophe) (name_error cs) (Some NoApostrophe)
+lifetime_fault (c ∷ cs) = if c == apostrophe then name_error cs else Some NoApostrophe
 
 -- an allocation failure says nothing of the text
 abbrev pub error_in : LifetimeFault → Option LifetimeFault

@@ -36,10 +36,13 @@ IsOneLiteral text =
     × IsFirstFit text (rules_of (Source Edition2024)) rule text []
     × (error_kind rule (Source Edition2024) 0 text [] ≡ None)
 
+-- the text begins with `-` or `+`
+abbrev pub begins_with_sign : List ℕ → Bool
+begins_with_sign text = begins_with minus text || begins_with plus text
+
 -- why a text is not one literal: it begins with a sign, or it has any other form
 abbrev pub literal_fault : List ℕ → LiteralFault
-literal_fault text =
-    if begins_with minus text || begins_with plus text then Sign else NotLiteral
+literal_fault text = if begins_with_sign text then Sign else NotLiteral
 
 -- the words of each reason
 abbrev pub literal_fault_words : LiteralFault → List ℕ

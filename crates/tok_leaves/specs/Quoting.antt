@@ -3,15 +3,16 @@ use Rattle.std.specs.Prelude.{ℕ, List, Bool, ◌++◌, ◌==◌, ◌||◌, ◌
 use Rattle.std.specs.Prelude.{encode_utf8_all, if◌then◌else◌}
 use Rattle.std.specs.Char.Escape.{escape_ascii, escape_unicode}
 use Rattle.std.specs.List.{flat_map}
+use Rattle.tok_lexical.specs.Ascii.{apostrophe, backslash, carriage_return, line_feed, quote, tab}
 
 -- a character, or the escape that stands for it
 abbrev pub escaped : ℕ → List ℕ
 escaped c =
-    if c == 34 then codes "\\\"" else
-    if c == 92 then codes "\\\\" else
-    if c == 10 then codes "\\n" else
-    if c == 13 then codes "\\r" else
-    if c == 9 then codes "\\t" else
+    if c == quote then codes "\\\"" else
+    if c == backslash then codes "\\\\" else
+    if c == line_feed then codes "\\n" else
+    if c == carriage_return then codes "\\r" else
+    if c == tab then codes "\\t" else
     if c == 0 then codes "\\0" else encode_utf8 c
 
 -- a quote, the characters with their escapes, a quote
@@ -48,8 +49,8 @@ shown_in_quotes text = codes "\"" ++ (flat_map shown text ++ codes "\"")
 -- a character between apostrophes: the quote needs no escape, and the apostrophe does
 abbrev pub in_apostrophes : ℕ → List ℕ
 in_apostrophes c =
-    if c == 39 then codes "'\\''" else
-    if c == 34 then codes "'\"'" else codes "'" ++ (escaped c ++ codes "'")
+    if c == apostrophe then codes "'\\''" else
+    if c == quote then codes "'\"'" else codes "'" ++ (escaped c ++ codes "'")
 
 -- a byte, or the escape that stands for it
 abbrev pub escaped_byte : ℕ → List ℕ

@@ -1,5 +1,5 @@
 -- Spans, and the spans of a group's two delimiters.
-use Rattle.std.specs.Prelude.{ℕ, ◌+◌, ◌-◌, min, max, nat_lt, ◌==◌, cond}
+use Rattle.std.specs.Prelude.{ℕ, ◌+◌, ◌-◌, min, max, nat_lt, ◌==◌, if◌then◌else◌}
 use Rattle.std.specs.Prelude.{Option, Some, None, unwrap_or}
 use Rattle.tok_leaves.specs.declared.span.Origin.{Origin}
 use Rattle.tok_leaves.specs.declared.span.Origin.TheVariants.{CallSite, Source}
@@ -32,7 +32,7 @@ abbrev pub opening_span : Span → Span
 opening_span span =
     elim span.origin [
       | CallSite ↦ span
-      | Source n a b ↦ cond (nat_lt a b) (source n a (a + 1)) span
+      | Source n a b ↦ if nat_lt a b then source n a (a + 1) else span
     ]
 
 -- the last byte of a span; an empty range and the call site are themselves
@@ -40,13 +40,13 @@ abbrev pub closing_span : Span → Span
 closing_span span =
     elim span.origin [
       | CallSite ↦ span
-      | Source n a b ↦ cond (nat_lt a b) (source n (b - 1) b) span
+      | Source n a b ↦ if nat_lt a b then source n (b - 1) b else span
     ]
 
 -- one span that covers both, in one source
 abbrev joined_origins : Origin → Origin → Option Span
 joined_origins (Source n a b) (Source m c d) =
-    cond (n == m) (Some (source n (min a c) (max b d))) None
+    if n == m then Some (source n (min a c) (max b d)) else None
 joined_origins p q = None
 
 -- the span that covers both; `None` for two sources, and for the call site

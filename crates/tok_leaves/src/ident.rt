@@ -12,7 +12,7 @@ use tok_lexical::words::{has_no_raw, is_identifier};
 
 /// An identifier or a keyword. The text of a raw identifier begins with `r#`.
 ///
-/// Identifiers are compared, ordered and hashed by text alone; spans do not count.
+/// The operations `==`, `cmp` and `hash` use only the text of an identifier, and ignore its span.
 ///
 /// # Examples
 ///
@@ -30,10 +30,11 @@ pub struct Ident {
     span: Span,
 }
 
-/// Why no identifier was made.
+/// An error that `Ident::new` and `Ident::new_raw` can return.
 #[derive(Clone, Copy, PartialEq, Eq, Debug)]
 pub enum MakeFault {
-    /// The text is no identifier, or has no raw form.
+    /// The text is not an identifier. For `Ident::new_raw`, the text may also be a word without a
+    /// raw form, such as `self`.
     Refused,
     /// An allocation failed.
     Memory,
@@ -78,10 +79,11 @@ fn without_raw(text: &str) -> &str
 }
 
 impl Ident {
-    /// Creates an identifier or a keyword.
+    /// Creates an identifier or a keyword from its text.
     ///
-    /// Returns `Refused` unless `text` is an XID_Start character or `_`, followed by XID_Continue
-    /// characters; `IdentFault::of` says why. Returns `Memory` if the allocation fails.
+    /// The first character of `text` must be `_` or an XID_Start character, and the other
+    /// characters must be XID_Continue characters. Returns `Refused` for any other text. To find
+    /// the reason, call `IdentFault::of`. Returns `Memory` if the allocation fails.
     pub fn new(alloc: Global, text: &str, span: Span) -> Result<Ident, MakeFault>
         ensures made { IfOk result (λ i. ident_of i ≡ ident text.now span) }
         ensures takes { IsIdentifier (chars text.now)
@@ -95,11 +97,11 @@ impl Ident {
         Ok(Ident::unchecked(text, span))
     }
 
-    /// Creates a raw identifier: its text is `r#` followed by `text`.
+    /// Creates a raw identifier, whose text consists of `r#` and `text`.
     ///
-    /// Returns `Refused` unless `text` is an identifier, and for `_`, `self`, `Self`, `super` and
-    /// `crate`, which have no raw form; `IdentFault::of_raw` says why. Returns `Memory` if an
-    /// allocation fails.
+    /// Returns `Refused` if `text` is not an identifier, or is one of `_`, `self`, `Self`, `super`
+    /// and `crate`, which have no raw form. To find the reason, call `IdentFault::of_raw`. Returns
+    /// `Memory` if an allocation fails.
     pub fn new_raw(alloc: Global, text: &str, span: Span) -> Result<Ident, MakeFault>
         ensures made { IfOk result (λ i. ident_of i ≡ ident (codes "r#" ++ text.now) span) }
         ensures takes { HasRaw (chars text.now) → IfErr result (λ fault. fault ≡ MakeFault.Memory) }
@@ -121,14 +123,14 @@ impl Ident {
         Ident { text, span }
     }
 
-    /// Returns the text, which begins with `r#` if the identifier is raw.
+    /// Returns the text of the identifier, which begins with `r#` if the identifier is raw.
     pub fn as_str(&self) -> &str
         ensures { result.now ≡ leaf_text (ident_of self.now) }
     {
         self.text.as_str()
     }
 
-    /// Copies the text, which begins with `r#` if the identifier is raw.
+    /// Returns a copy of the identifier's text, which begins with `r#` if the identifier is raw.
     ///
     /// Returns an error if an allocation fails.
     pub fn to_text(&self) -> Result<Text, AllocError>
@@ -137,8 +139,9 @@ impl Ident {
         self.text.clone()
     }
 
-    /// Copies the identifier if its text has at most 14 bytes, which takes no memory. Returns `None`
-    /// for a longer one.
+    /// Returns a copy of the identifier if its text has at most 14 bytes.
+    ///
+    /// Returns `None` if the text is longer. The call does not allocate.
     #[inline(always)]
     pub fn copied_if_short(&self) -> Option<Ident>
         ensures { SomeIff result (length (leaf_text (ident_of self.now)) ≤ 14) self.now }
@@ -148,21 +151,21 @@ impl Ident {
         Some(Ident { text, span })
     }
 
-    /// Returns the span.
+    /// Returns the span of the identifier.
     pub fn span(&self) -> Span
         ensures { result ≡ leaf_span (ident_of self.now) }
     {
         self.span
     }
 
-    /// Replaces the span.
+    /// Sets the span of the identifier.
     pub fn set_span(&mut self, span: Span)
         ensures { ident_of self.new ≡ ident (leaf_text (ident_of self.old)) span }
     {
         self.span = span;
     }
 
-    /// Copies the identifier without a leading `r#`. The span stays the same.
+    /// Returns a copy of the identifier without a leading `r#`. The copy has the same span.
     ///
     /// Returns an error if the allocation fails.
     pub fn unraw(&self, alloc: Global) -> Result<Ident, AllocError>
@@ -174,7 +177,7 @@ impl Ident {
     }
 }
 
-/// Copies the identifier, with its span.
+/// Copies the identifier and its span.
 impl Clone for Ident {
     ghost is_clone = { λ i j. j ≡ i };
 
@@ -187,7 +190,7 @@ impl Clone for Ident {
     }
 }
 
-/// Writes the text.
+/// Writes the text of the identifier.
 impl Display for Ident {
     ghost output = { λ i. Some (leaf_text (ident_of i)) };
 

@@ -1,4 +1,4 @@
-//! Why a text is no identifier.
+//! The reasons why a text is not an identifier.
 ghost use Rattle.std.specs.Prelude.{◌≡◌, ◌++◌, ℕ, List, Some, encode_utf8_all, length};
 ghost use Rattle.std.specs.Str.{chars};
 ghost use Rattle.tok_leaves.specs.IdentFaults.{ident_fault, ident_fault_words, raw_ident_fault};
@@ -8,7 +8,7 @@ use std::fmt::{self, Display, Formatter, Write};
 use tok_lexical::text::{front_of, next_char};
 use tok_lexical::words::{has_no_raw, is_identifier_start, is_plain, past_continues};
 
-/// Why a text is no identifier, or has no raw form.
+/// The reason why a text is not an identifier or has no raw form.
 ///
 /// # Examples
 ///
@@ -25,16 +25,19 @@ pub enum IdentFault {
     Empty,
     /// The text begins with an ASCII digit.
     Number,
-    /// The text begins with `r#`. `Ident::new_raw` takes the rest, if that has a raw form.
+    /// The text begins with `r#`. To create a raw identifier, call `Ident::new_raw` with the text
+    /// after `r#`.
     Raw,
-    /// The text is `_`, `self`, `Self`, `super` or `crate`. They have no raw form.
+    /// The text is `_`, `self`, `Self`, `super` or `crate`, which have no raw form.
     NoRaw,
-    /// The character at this byte of the text is the first that no identifier has there.
+    /// The character at byte `at` is the first one that an identifier must not contain at that
+    /// position.
     Character { at: usize, character: char },
 }
 
 impl IdentFault {
-    /// Returns why `Ident::new` does not take a text, or `None` if it does.
+    /// Returns the reason why `Ident::new` rejects `text`, or `None` if `Ident::new` accepts
+    /// `text`.
     pub fn of(text: &str) -> Option<IdentFault>
         ensures { result ≡ ident_fault (chars text.now) }
     {
@@ -53,7 +56,8 @@ impl IdentFault {
         }
     }
 
-    /// Returns why `Ident::new_raw` does not take a text, or `None` if it does.
+    /// Returns the reason why `Ident::new_raw` rejects `text`, or `None` if `Ident::new_raw`
+    /// accepts `text`.
     pub fn of_raw(text: &str) -> Option<IdentFault>
         ensures { result ≡ raw_ident_fault (chars text.now) }
     {
@@ -65,7 +69,7 @@ impl IdentFault {
     }
 }
 
-/// Writes the reason in words, with the character that no identifier has there.
+/// Writes a description of the reason. For `Character`, the description contains the character.
 impl Display for IdentFault {
     ghost output = { λ fault. Some (ident_fault_words fault) };
 

@@ -1,5 +1,5 @@
-//! Laws of comparing, ordering and hashing. Each is the contract of a function that does nothing,
-//! or only compares.
+//! Laws about comparing, ordering, hashing and cloning. Each law is the contract of a function that
+//! does nothing, or only compares.
 ghost use Rattle.std.specs.Prelude.{◌≡◌, ◌↔◌, ℕ, List, true, bytes_eq};
 ghost use Rattle.std.specs.Ordering.{nat_cmp};
 ghost use Rattle.std.specs.Cmp.Lexicographic.{slice_cmp};
@@ -11,6 +11,7 @@ ghost use Rattle.tok_leaves.specs.Lifetimes.{name_of};
 
 use crate::ident::{Ident, MakeFault};
 use crate::ident_fault::IdentFault;
+use crate::integer_type::IntegerType;
 use crate::lifetime::{Lifetime, LifetimeFault};
 use crate::literal::Literal;
 use crate::literal_fault::LiteralFault;
@@ -20,14 +21,20 @@ use crate::text::Text;
 use std::cmp::Ordering;
 use std::hash::Hash;
 
-/// Identifiers are compared, ordered and hashed by their texts, and their order agrees with
-/// equality.
+/// For two identifiers `a` and `b`, `a == b` if and only if their texts are equal, and `a.cmp(&b)`
+/// compares their texts.
+///
+/// `a.cmp(&b)` is `Equal` if and only if `a == b`, and `a.partial_cmp(&b)` is `Some(a.cmp(&b))`.
+/// The hash of an identifier depends only on its text.
 pub fn idents_by_text()
     ensures { IsByText text_of ⟦<Ident as PartialEq>⟧.eq ⟦<Ident as Ord>⟧.cmp
         ⟦<Ident as PartialOrd>⟧.partial_cmp ⟦<Ident as Hash>⟧.hash_input }
 {}
 
-/// Lifetimes are compared by name alone, and are equal if and only if their order is `Equal`.
+/// Returns `left == right` and `left.cmp(right)`, which depend only on the names of the two
+/// lifetimes.
+///
+/// `left == right` if and only if `left.cmp(right)` is `Equal`.
 pub fn lifetimes_in_order(left: &Lifetime, right: &Lifetime) -> (bool, Ordering)
     ensures names { (x : List ℕ) → (y : List ℕ)
         → (bytes_eq x y ≡ true) ↔ (slice_cmp nat_cmp x y ≡ Equal) }
@@ -37,21 +44,32 @@ pub fn lifetimes_in_order(left: &Lifetime, right: &Lifetime) -> (bool, Ordering)
     (left == right, left.cmp(right))
 }
 
-/// Lifetimes are compared, ordered and hashed by their names, and their order agrees with equality.
+/// For two lifetimes `a` and `b`, `a == b` if and only if their names are equal, and `a.cmp(&b)`
+/// compares their names.
+///
+/// `a.cmp(&b)` is `Equal` if and only if `a == b`, and `a.partial_cmp(&b)` is `Some(a.cmp(&b))`.
+/// The hash of a lifetime depends only on its name.
 pub fn lifetimes_by_name()
     ensures { IsByText name_of ⟦<Lifetime as PartialEq>⟧.eq ⟦<Lifetime as Ord>⟧.cmp
         ⟦<Lifetime as PartialOrd>⟧.partial_cmp ⟦<Lifetime as Hash>⟧.hash_input }
 {}
 
-/// `IdentFault::of` is `None` if and only if a text is an identifier, and `IdentFault::of_raw` if and
-/// only if it has a raw form. A character that is named is the first that no identifier has there.
+/// `IdentFault::of(text)` returns `None` if and only if `text` is an identifier.
+/// `IdentFault::of_raw(text)` returns `None` if and only if `text` is an identifier with a raw
+/// form.
+///
+/// If one of these calls returns `IdentFault::Character`, the fault contains the first character of
+/// `text` that cannot stand at its position.
 pub fn ident_faults_tell()
     ensures identifiers { FaultsTellIdentifiers }
     ensures raw_forms { FaultsTellRawForms }
     ensures characters { FaultsTellCharacters }
 {}
 
-/// Spans, spacings and faults are equal if and only if they are the same.
+/// Two values `a` and `b` of type `Span`, `DelimSpan`, `Spacing`, `IntegerType` or a fault type are
+/// the same value if and only if `a == b`.
+///
+/// The fault types are `MakeFault`, `LifetimeFault`, `IdentFault` and `LiteralFault`.
 pub fn spans_are_compared_whole()
     ensures spans { EqualAsValues ⟦<Span as PartialEq>⟧.eq }
     ensures group_spans { EqualAsValues ⟦<DelimSpan as PartialEq>⟧.eq }
@@ -59,10 +77,12 @@ pub fn spans_are_compared_whole()
     ensures faults { EqualAsValues ⟦<MakeFault as PartialEq>⟧.eq }
     ensures lifetime_faults { EqualAsValues ⟦<LifetimeFault as PartialEq>⟧.eq }
     ensures ident_faults { EqualAsValues ⟦<IdentFault as PartialEq>⟧.eq }
+    ensures integer_types { EqualAsValues ⟦<IntegerType as PartialEq>⟧.eq }
     ensures literal_faults { EqualAsValues ⟦<LiteralFault as PartialEq>⟧.eq }
 {}
 
-/// A clone of a leaf, a lifetime, a text, a span or a fault equals the original, spans included.
+/// A clone of an identifier, a punct, a literal, a lifetime, a text, a span, an integer type or a
+/// fault equals the original, including its spans.
 pub fn clones_keep_all()
     ensures idents { ClonesKeep ⟦<Ident as Clone>⟧.is_clone }
     ensures puncts { ClonesKeep ⟦<Punct as Clone>⟧.is_clone }
@@ -76,5 +96,6 @@ pub fn clones_keep_all()
     ensures faults { ClonesKeep ⟦<MakeFault as Clone>⟧.is_clone }
     ensures lifetime_faults { ClonesKeep ⟦<LifetimeFault as Clone>⟧.is_clone }
     ensures ident_faults { ClonesKeep ⟦<IdentFault as Clone>⟧.is_clone }
+    ensures integer_types { ClonesKeep ⟦<IntegerType as Clone>⟧.is_clone }
     ensures literal_faults { ClonesKeep ⟦<LiteralFault as Clone>⟧.is_clone }
 {}

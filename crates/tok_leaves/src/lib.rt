@@ -1,11 +1,12 @@
 //! Identifiers, puncts, literals and lifetimes, with their texts and spans.
 //!
-//! The first three are the leaves of token trees; a lifetime is a punct and an identifier.
-//! Contracts see a leaf as a `Leaf` (`specs/Leaves.antt`).
+//! Identifiers, puncts and literals are the leaves of token trees. A lifetime consists of an
+//! apostrophe and an identifier. Contracts describe a leaf as a `Leaf` (`specs/Leaves.antt`).
 #![tactic(auto)]
 
 mod ident;
 mod ident_fault;
+mod integer_type;
 pub mod known;
 pub mod laws;
 mod lifetime;
@@ -18,9 +19,10 @@ mod text;
 
 pub use ident::{Ident, MakeFault};
 pub use ident_fault::IdentFault;
+pub use integer_type::IntegerType;
 pub use lifetime::{Lifetime, LifetimeFault};
 pub use literal::Literal;
-pub use literal_fault::LiteralFault;
+pub use literal_fault::{LiteralFault, is_literal};
 pub use punct::{Punct, Spacing};
 pub use span::{Bounds, DelimSpan, Span};
 pub use text::Text;

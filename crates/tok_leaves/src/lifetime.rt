@@ -14,9 +14,11 @@ use std::fmt::{Display, Formatter, Write};
 use tok_lexical::text::next_char;
 use tok_lexical::words::has_no_raw;
 
-/// A lifetime: an apostrophe and an identifier, which may be a keyword or raw.
+/// A lifetime, such as `'a`.
 ///
-/// Lifetimes are compared, ordered and hashed by identifier alone; spans do not count.
+/// A lifetime consists of an apostrophe and an identifier, which may be a keyword or a raw
+/// identifier. The operations `==`, `cmp` and `hash` use only the identifier of a lifetime, and
+/// ignore its spans.
 ///
 /// # Examples
 ///
@@ -32,16 +34,19 @@ pub struct Lifetime {
     pub ident: Ident,
 }
 
-/// Why no lifetime was made.
+/// An error that `Lifetime::new` can return.
+///
+/// Each variant except `Memory` stands for one of the rules N1 to N4 that reject a text.
 #[derive(Clone, Copy, PartialEq, Eq, Debug)]
 pub enum LifetimeFault {
-    /// N1: the text doesn't begin with an apostrophe.
+    /// The text does not begin with an apostrophe (rule N1).
     NoApostrophe,
-    /// N2: no name follows `'` or `'r#`.
+    /// The text ends directly after `'` or `'r#`, without a name (rule N2).
     Empty,
-    /// N3: the name is no identifier.
+    /// The name is not an identifier (rule N3).
     NotIdentifier,
-    /// N4: `_`, `self`, `Self`, `super` or `crate` follows `'r#`. They have no raw form.
+    /// The name after `'r#` is `_`, `self`, `Self`, `super` or `crate`, which have no raw form
+    /// (rule N4).
     NoRaw,
     /// An allocation failed.
     Memory,
@@ -72,9 +77,10 @@ impl Display for LifetimeFault {
 impl std::error::Error for LifetimeFault {}
 
 impl Lifetime {
-    /// Creates a lifetime from a text such as `'a` or `'r#a`. Both parts get `span`.
+    /// Creates a lifetime from its text, such as `'a` or `'r#a`.
     ///
-    /// Returns the first error that applies, in the order of `LifetimeFault`, or `Memory` if the
+    /// The apostrophe and the identifier both have the span `span`. If `symbol` is not a lifetime,
+    /// the call returns the first variant of `LifetimeFault` that applies. Returns `Memory` if an
     /// allocation fails.
     pub fn new(alloc: Global, symbol: &str, span: Span) -> Result<Lifetime, LifetimeFault>
         ensures made { IfOk result (λ l. lifetime_fault (chars symbol.now) ≡ None) }
@@ -93,8 +99,9 @@ impl Lifetime {
         })
     }
 
-    /// Returns the span from the apostrophe to the identifier, or the apostrophe's span unless both
-    /// are in one source.
+    /// Returns the span that covers the apostrophe and the identifier.
+    ///
+    /// If their spans are not in the same source, the call returns the span of the apostrophe.
     pub fn span(&self) -> Span
         ensures { result ≡ covering self.now.apostrophe (leaf_span (ident_of self.now.ident)) }
     {
@@ -103,7 +110,7 @@ impl Lifetime {
             .unwrap_or(self.apostrophe)
     }
 
-    /// Replaces the spans of both parts.
+    /// Sets the span of the apostrophe and of the identifier.
     pub fn set_span(&mut self, span: Span)
         ensures apostrophe { self.new.apostrophe ≡ span }
         ensures ident { ident_of self.new.ident ≡ ident (leaf_text (ident_of self.old.ident)) span }
@@ -113,7 +120,7 @@ impl Lifetime {
     }
 }
 
-/// Copies the lifetime, with its spans.
+/// Copies the lifetime and its spans.
 impl Clone for Lifetime {
     ghost is_clone = { λ l m. m ≡ l };
 
@@ -125,7 +132,7 @@ impl Clone for Lifetime {
     }
 }
 
-/// Writes the apostrophe and the identifier's text.
+/// Writes the apostrophe and the text of the identifier.
 impl Display for Lifetime {
     ghost use Rattle.std.specs.Prelude.{Some};
     ghost use Rattle.tok_leaves.specs.Lifetimes.{lifetime_text};

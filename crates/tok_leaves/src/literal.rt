@@ -1,15 +1,17 @@
 //! Literals.
-ghost use Rattle.std.specs.Prelude.{◌≡◌, ◌<◌, ◌≤◌, ◌+◌, ◌^◌, ℕ, List, ◌++◌, [], ◌∷◌, length, map, take, count_by, slice_index, true, false, codes, string_bytes, IfOk, IfErr, SomeIff, OnOk, Some, Err};
+ghost use Rattle.std.specs.Prelude.{◌≡◌, ◌<◌, ◌≤◌, ◌^◌, ℕ, List, ◌++◌, [], ◌∷◌, length, codes, encode_utf8_all, string_bytes, IfOk, IfErr, SomeIff, OnOk, None, Ok, Some, Err, MatchOption};
 ghost use Rattle.std.specs.Str.{chars, IsUtf8};
 ghost use Rattle.std.specs.CStr.{c_str_bytes};
+ghost use Rattle.std.specs.Fmt.{decimal};
+ghost use Rattle.tok_leaves.specs.IntegerTypes.{integer_type_max, integer_type_name};
 ghost use Rattle.tok_leaves.specs.Leaves.{literal, literal_of, leaf_span, leaf_text};
 ghost use Rattle.tok_leaves.specs.Literals.{IsOneLiteral, literal_fault};
 ghost use Rattle.tok_leaves.specs.Quoting.{escaped, in_quotes, in_apostrophes, is_unseen, shown, shown_in_quotes, escaped_byte, bytes_between};
-ghost use Rattle.tok_leaves.specs.Private.Plain.{has_escape, is_loose, is_plain};
+ghost use Rattle.tok_leaves.specs.Private.Plain.{is_plain, is_unescaped};
 ghost use Rattle.tok_leaves.specs.Spans.{call_site};
 ghost use Rattle.tok_lexical.specs.Pieces.{Skips};
-ghost use lib.Lanes.{chunk, mask_l};
 
+use crate::integer_type::IntegerType;
 use crate::literal_fault::{LiteralFault, is_literal, literal_fault};
 use crate::span::Span;
 use crate::text::Text;
@@ -17,9 +19,10 @@ use std::alloc::{AllocError, Global};
 use std::ffi::CStr;
 use std::fmt::{self, Display, Formatter, Write};
 use std::simd::prelude::*;
-use tok_lexical::text::next_char;
+use tok_lexical::scan::{ByteTest, count_failing};
+use tok_lexical::text::{next_char, split_run};
 
-/// A literal: its text, with quotes, prefix and suffix, and its span.
+/// A literal with its text and its span. The text includes the literal's quotes, prefix and suffix.
 ///
 /// # Examples
 ///
@@ -33,48 +36,28 @@ pub struct Literal {
     span: Span,
 }
 
-const LANES: usize = 16;
+// The bytes that a literal holds as they are, or with a code.
+#[derive(Drop)]
+struct Unescaped;
 
-fn has_escape(byte: u8) -> bool
-    ensures { result ≡ has_escape byte }
-{
-    matches!(byte, b'"' | b'\\' | b'\n' | b'\r' | b'\t' | 0)
-}
+impl ByteTest for Unescaped {
+    ghost passes = { λ _. is_unescaped };
 
-// Returns how many of the 16 bytes from `at` on have an escape.
-#[inline(always)]
-fn escapes_in(text: &[u8], at: usize) -> usize
-    requires { at + 16 ≤ length text.now }
-    ensures { count_by has_escape (take at text.now) + result
-        ≡ count_by has_escape (take (at + 16) text.now) }
-{
-    let bytes = u8x16::from_slice(&text[at..]);
-    let escaped = bytes.simd_eq(u8x16::splat(b'"'))
-        | bytes.simd_eq(u8x16::splat(b'\\'))
-        | bytes.simd_eq(u8x16::splat(b'\n'))
-        | bytes.simd_eq(u8x16::splat(b'\r'))
-        | bytes.simd_eq(u8x16::splat(b'\t'))
-        | bytes.simd_eq(u8x16::splat(0));
-    escaped.to_bitmask().count_ones() as usize
-}
-
-// Returns how many of the bytes have an escape.
-fn escapes(text: &[u8]) -> usize
-    ensures { result ≡ count_by has_escape text.now }
-{
-    let mut count = 0;
-    let mut at = 0;
-    while LANES <= text.len() - at {
-        count += escapes_in(text, at);
-        at += LANES;
+    #[inline(always)]
+    fn holds(&self, byte: u8) -> bool {
+        !matches!(byte, b'"' | b'\\' | b'\n' | b'\r' | b'\t' | 0)
     }
-    while at < text.len() {
-        if has_escape(text[at]) {
-            count += 1;
-        }
-        at += 1;
+
+    #[inline(always)]
+    fn fails(&self, bytes: u8x16) -> u64 {
+        let escaped = bytes.simd_eq(u8x16::splat(b'"'))
+            | bytes.simd_eq(u8x16::splat(b'\\'))
+            | bytes.simd_eq(u8x16::splat(b'\n'))
+            | bytes.simd_eq(u8x16::splat(b'\r'))
+            | bytes.simd_eq(u8x16::splat(b'\t'))
+            | bytes.simd_eq(u8x16::splat(0));
+        escaped.to_bitmask()
     }
-    count
 }
 
 // Returns the length of the text in quotes, if it is less than 2^64.
@@ -84,68 +67,47 @@ fn quoted_len(text: &str) -> usize
 {
     // An escape takes one byte more than what it stands for.
     text.len()
-        .saturating_add(escapes(text.as_bytes()))
+        .saturating_add(count_failing(&Unescaped, text.as_bytes()))
         .saturating_add(2)
 }
 
-fn is_loose(byte: u8) -> bool
-    ensures { result ≡ is_loose byte }
-{
-    byte < b' ' || byte > b'~' || byte == b'"' || byte == b'\\'
+// The bytes of the characters that show and are no quote or backslash.
+#[derive(Drop)]
+struct Plain;
+
+impl ByteTest for Plain {
+    ghost passes = { λ _. is_plain };
+
+    #[inline(always)]
+    fn holds(&self, byte: u8) -> bool {
+        !(byte < b' ' || byte > b'~' || byte == b'"' || byte == b'\\')
+    }
+
+    #[inline(always)]
+    fn fails(&self, bytes: u8x16) -> u64 {
+        let loose = bytes.simd_lt(u8x16::splat(b' '))
+            | bytes.simd_gt(u8x16::splat(b'~'))
+            | bytes.simd_eq(u8x16::splat(b'"'))
+            | bytes.simd_eq(u8x16::splat(b'\\'));
+        loose.to_bitmask()
+    }
 }
 
-// Returns a bit for each of 16 bytes from `at` on, the lowest for the first: 1 if it is loose.
-#[inline(always)]
-fn loose_bits(text: &[u8], at: usize) -> u64
-    requires { at + LANES ≤ length text.now }
-    ensures { result ≡ mask_l (map is_loose (chunk at LANES text.now)) }
-{
-    let bytes = u8x16::from_slice(&text[at..]);
-    let loose = bytes.simd_lt(u8x16::splat(b' '))
-        | bytes.simd_gt(u8x16::splat(b'~'))
-        | bytes.simd_eq(u8x16::splat(b'"'))
-        | bytes.simd_eq(u8x16::splat(b'\\'));
-    loose.to_bitmask()
-}
-
-// Counts the bytes at the front of a text before the first loose one.
-fn plain_len(text: &[u8]) -> usize
-    ensures bound { result ≤ length text.now }
-    ensures plain { (k : ℕ) → k < result → is_loose (slice_index text.now k) ≡ false }
-    ensures stops { result < length text.now → is_loose (slice_index text.now result) ≡ true }
-{
-    // In a text that isn't ASCII, most runs are empty.
-    if text.is_empty() || is_loose(text[0]) {
-        return 0;
-    }
-    let mut at = 0;
-    while text.len() - at >= LANES {
-        let loose = loose_bits(text, at);
-        if loose != 0 {
-            return at + loose.trailing_zeros() as usize;
-        }
-        at += LANES;
-    }
-    while at < text.len() && !is_loose(text[at]) {
-        at += 1;
-    }
-    at
-}
-
-// Appends the bytes of a text before the first loose one, and returns what is left.
+// Appends the characters of a text before the first that isn't plain, and returns what is left.
 // Inlined: a text that isn't ASCII calls it for each character, and a call returns through memory.
 #[inline(always)]
 fn push_plain<'a>(to: &mut String, text: &'a str) -> Result<&'a str, AllocError>
-    ensures value { IfOk result (λ rest. (front : List ℕ) × Skips is_plain text.now front rest.now
-        × (string_bytes to.new ≡ string_bytes to.old ++ front)) }
+    ensures value { IfOk result (λ rest. (front : List ℕ)
+        × Skips is_plain (chars text.now) front (chars rest.now)
+        × (string_bytes to.new ≡ string_bytes to.old ++ encode_utf8_all front)) }
     ensures utf8 { IfOk result (λ rest. IsUtf8 rest.now) }
     ensures shorter { IfOk result (λ rest. length rest.now ≤ length text.now) }
 {
-    let end = plain_len(text.as_bytes());
-    if end == 0 {
-        return Ok(text);
+    // In a text that isn't ASCII, most runs are empty.
+    let (front, rest) = split_run(text, &Plain);
+    if front.is_empty() {
+        return Ok(rest);
     }
-    let (front, rest) = text.split_at(end);
     to.push_str(front)?;
     Ok(rest)
 }
@@ -243,9 +205,9 @@ fn bytes_between(
 impl Literal {
     /// Creates a literal from its text.
     ///
-    /// `text` must be exactly one literal, by the rules of a source of the latest edition. Returns
-    /// `Sign` if it begins with `-` or `+`, and `NotLiteral` for any other text that is none, or has
-    /// a blank, a comment or another token around it. Returns `Memory` if the allocation fails.
+    /// `text` must be exactly one literal of the latest edition, without white space or comments
+    /// around it. Returns `Sign` if `text` begins with `-` or `+`, and `NotLiteral` for any other
+    /// invalid text. Returns `Memory` if the allocation fails.
     ///
     /// # Examples
     ///
@@ -257,6 +219,7 @@ impl Literal {
     /// ```
     pub fn new(alloc: Global, text: &str, span: Span) -> Result<Literal, LiteralFault>
         ensures made { IfOk result (λ l. literal_of l ≡ literal text.now span) }
+        ensures one { IfOk result (λ _. IsOneLiteral (chars text.now)) }
         ensures takes { IsOneLiteral (chars text.now)
             → IfErr result (λ fault. fault ≡ LiteralFault.Memory) }
         ensures refuses { (IsOneLiteral (chars text.now) → ⊥)
@@ -269,11 +232,54 @@ impl Literal {
         Ok(Literal::unchecked(text, span))
     }
 
-    /// Creates a string literal of `text`, at the call site. Every text has one.
+    /// Creates an unsuffixed decimal integer literal, with the call site as its span.
     ///
-    /// It is in double quotes. The characters `"`, `\`, line feed, carriage return, tab and U+0000
-    /// are written as `\"`, `\\`, `\n`, `\r`, `\t` and `\0`. Returns an error if an allocation
-    /// fails.
+    /// Returns an error if an allocation fails.
+    pub fn integer_unsuffixed(alloc: Global, number: u128) -> Result<Literal, AllocError>
+        ensures { IfOk result (λ l. literal_of l ≡ literal (decimal number) call_site) }
+    {
+        let digits = number.to_string(alloc)?;
+        let text = Text::from_string(alloc, digits)?;
+        Ok(Literal::unchecked(text, Span::call_site()))
+    }
+
+    /// Creates a decimal integer literal with the suffix `suffix`, and with the call site as its
+    /// span.
+    ///
+    /// Returns `None` if `number` is larger than the maximum of the type, and an error if an
+    /// allocation fails. A literal has no sign. To create the literal `128i8` of the expression
+    /// `-128i8`, use [`Literal::new`].
+    ///
+    /// # Examples
+    ///
+    /// ```rust
+    /// let five = Literal::integer_suffixed(alloc, 5, IntegerType::I32)?;
+    /// assert_eq!(rt; five.as_ref().map(Literal::as_str), Some("5i32"));
+    /// ```
+    pub fn integer_suffixed(
+        alloc: Global,
+        number: u128,
+        suffix: IntegerType,
+    ) -> Result<Option<Literal>, AllocError>
+        ensures made { IfOk result (λ made. MatchOption made (integer_type_max suffix < number)
+            (λ l. (number ≤ integer_type_max suffix) × (literal_of l
+            ≡ literal (decimal number ++ integer_type_name suffix) call_site))) }
+        ensures refuses { integer_type_max suffix < number → result ≡ Ok None }
+    {
+        if number > suffix.max() {
+            return Ok(None);
+        }
+        let mut digits = number.to_string(alloc)?;
+        digits.push_str(suffix.name())?;
+        let text = Text::from_string(alloc, digits)?;
+        Ok(Some(Literal::unchecked(text, Span::call_site())))
+    }
+
+    /// Creates a string literal for `text`, with the call site as its span.
+    ///
+    /// The literal contains `text` in double quotes. The call writes the characters `"`, `\`, line
+    /// feed, carriage return, tab and U+0000 as `\"`, `\\`, `\n`, `\r`, `\t` and `\0`. Returns an
+    /// error if an allocation fails.
     pub fn string(alloc: Global, text: &str) -> Result<Literal, AllocError>
         ensures { IfOk result (λ l. literal_of l ≡ literal (in_quotes (chars text.now)) call_site) }
     {
@@ -289,11 +295,16 @@ impl Literal {
         Ok(Literal::unchecked(text, Span::call_site()))
     }
 
-    /// Creates the string literal of a doc comment's text, at the call site.
+    /// Creates a string literal for the text of a doc comment, with the call site as its span.
     ///
-    /// It is written as by [`Literal::string`], but a character that shows nothing by itself is
-    /// written as `\u{..}`: controls, spaces but U+0020, separators, formats that are ignored where
-    /// they are not supported, marks that combine with letters of any script, and private use.
+    /// The call escapes characters according to the rules of [`Literal::string`]. It also escapes
+    /// characters that are not visible by themselves as `\u{..}`:
+    ///
+    /// - control characters, and spaces other than U+0020
+    /// - separators, and format characters that are ignored if they are not supported
+    /// - marks that combine with letters of any script
+    /// - private use characters
+    ///
     /// Returns an error if an allocation fails.
     pub fn doc_comment(alloc: Global, text: &str) -> Result<Literal, AllocError>
         ensures { IfOk result (λ l. literal_of l
@@ -311,10 +322,11 @@ impl Literal {
         Ok(Literal::unchecked(text, Span::call_site()))
     }
 
-    /// Creates a character literal at the call site.
+    /// Creates a character literal for `c`, with the call site as its span.
     ///
-    /// It is in apostrophes. The characters `'`, `\`, line feed, carriage return, tab and U+0000 are
-    /// written as `\'`, `\\`, `\n`, `\r`, `\t` and `\0`. Returns an error if an allocation fails.
+    /// The literal contains `c` in apostrophes. The call writes the characters `'`, `\`, line feed,
+    /// carriage return, tab and U+0000 as `\'`, `\\`, `\n`, `\r`, `\t` and `\0`. Returns an error
+    /// if an allocation fails.
     pub fn character(alloc: Global, c: char) -> Result<Literal, AllocError>
         ensures { IfOk result (λ l. literal_of l ≡ literal (in_apostrophes c) call_site) }
     {
@@ -330,10 +342,10 @@ impl Literal {
         Ok(Literal::unchecked(text, Span::call_site()))
     }
 
-    /// Creates a byte literal at the call site.
+    /// Creates a byte literal for `byte`, with the call site as its span.
     ///
-    /// Between `b'` and `'` stands the byte, as `u8::escape_ascii` writes it. Returns an error if an
-    /// allocation fails.
+    /// The literal contains `byte` between `b'` and `'`, escaped according to the rules of
+    /// `u8::escape_ascii`. Returns an error if an allocation fails.
     pub fn byte_character(alloc: Global, byte: u8) -> Result<Literal, AllocError>
         ensures { IfOk result (λ l. literal_of l
             ≡ literal (bytes_between (codes "b'") (byte ∷ []) (codes "'")) call_site) }
@@ -341,10 +353,10 @@ impl Literal {
         bytes_between(alloc, "b'", &[byte], "'")
     }
 
-    /// Creates a byte string literal at the call site.
+    /// Creates a byte string literal for `bytes`, with the call site as its span.
     ///
-    /// Between `b"` and `"` stand the bytes, as `u8::escape_ascii` writes each. Returns an error if
-    /// an allocation fails.
+    /// The literal contains the bytes between `b"` and `"`, escaped according to the rules of
+    /// `u8::escape_ascii`. Returns an error if an allocation fails.
     pub fn byte_string(alloc: Global, bytes: &[u8]) -> Result<Literal, AllocError>
         ensures { IfOk result (λ l. literal_of l
             ≡ literal (bytes_between (codes "b\"") bytes.now (codes "\"")) call_site) }
@@ -352,10 +364,11 @@ impl Literal {
         bytes_between(alloc, "b\"", bytes, "\"")
     }
 
-    /// Creates a C string literal at the call site.
+    /// Creates a C string literal for `text`, with the call site as its span.
     ///
-    /// Between `c"` and `"` stand the bytes without the last, which is zero, as `u8::escape_ascii`
-    /// writes each. Returns an error if an allocation fails.
+    /// The literal contains the bytes of `text` between `c"` and `"`, escaped according to the
+    /// rules of `u8::escape_ascii`. It does not contain the zero byte at the end of `text`. Returns
+    /// an error if an allocation fails.
     pub fn c_string(alloc: Global, text: CStr<'_>) -> Result<Literal, AllocError>
         ensures { IfOk result (λ l. literal_of l ≡ literal
             (bytes_between (codes "c\"") (c_str_bytes text.entry) (codes "\"")) call_site) }
@@ -370,14 +383,14 @@ impl Literal {
         Literal { text, span }
     }
 
-    /// Returns the text, with quotes, prefix and suffix.
+    /// Returns the text of the literal, including its quotes, prefix and suffix.
     pub fn as_str(&self) -> &str
         ensures { result.now ≡ leaf_text (literal_of self.now) }
     {
         self.text.as_str()
     }
 
-    /// Copies the text, with quotes, prefix and suffix.
+    /// Returns a copy of the literal's text, including its quotes, prefix and suffix.
     ///
     /// Returns an error if an allocation fails.
     pub fn to_text(&self) -> Result<Text, AllocError>
@@ -386,8 +399,9 @@ impl Literal {
         self.text.clone()
     }
 
-    /// Copies the literal if its text has at most 14 bytes, which takes no memory. Returns `None` for a
-    /// longer one.
+    /// Returns a copy of the literal if its text has at most 14 bytes.
+    ///
+    /// Returns `None` if the text is longer. The call does not allocate.
     #[inline(always)]
     pub fn copied_if_short(&self) -> Option<Literal>
         ensures { SomeIff result (length (leaf_text (literal_of self.now)) ≤ 14) self.now }
@@ -397,14 +411,14 @@ impl Literal {
         Some(Literal { text, span })
     }
 
-    /// Returns the span.
+    /// Returns the span of the literal.
     pub fn span(&self) -> Span
         ensures { result ≡ leaf_span (literal_of self.now) }
     {
         self.span
     }
 
-    /// Replaces the span.
+    /// Sets the span of the literal.
     pub fn set_span(&mut self, span: Span)
         ensures { literal_of self.new ≡ literal (leaf_text (literal_of self.old)) span }
     {
@@ -412,7 +426,7 @@ impl Literal {
     }
 }
 
-/// Copies the literal, with its span.
+/// Copies the literal and its span.
 impl Clone for Literal {
     ghost is_clone = { λ l m. m ≡ l };
 
@@ -425,7 +439,7 @@ impl Clone for Literal {
     }
 }
 
-/// Writes the text.
+/// Writes the text of the literal.
 impl Display for Literal {
     ghost output = { λ l. Some (leaf_text (literal_of l)) };
 

@@ -1,4 +1,4 @@
-//! Which texts are one literal, and why a text is none.
+//! Decides whether a text is exactly one literal, and finds the reason if it is not.
 ghost use Rattle.std.specs.Prelude.{◌≡◌, [], MatchBool, None, Some};
 ghost use Rattle.std.specs.Str.{chars};
 ghost use Rattle.tok_lexical.specs.Errors as errors;
@@ -11,12 +11,12 @@ use std::fmt::{self, Display, Formatter, Write};
 use tok_lexical::text::begins_with;
 use tok_lexical::{Edition, Mode, Rule, error_kind, first_rule};
 
-/// Why no literal was made of a text.
+/// An error that `Literal::new` can return.
 #[derive(Clone, Copy, PartialEq, Eq, Debug)]
 pub enum LiteralFault {
-    /// The text begins with `-` or `+`. A sign is a punct of its own.
+    /// The text begins with `-` or `+`. A sign is a separate punct.
     Sign,
-    /// The text is no literal, or there is something before or after it.
+    /// The text is not a literal, or contains other text before or after a literal.
     NotLiteral,
     /// An allocation failed.
     Memory,
@@ -57,7 +57,10 @@ impl std::error::Error for LiteralFault {}
 // How literals are read: as those of a source of the latest edition.
 const SOURCE: Mode = Mode::Source(Edition::Edition2024);
 
-// Returns `true` if the rules of a source read all of this text as one literal.
+/// Returns `true` if `text` is exactly one literal of the latest edition, without white space or
+/// comments around it.
+///
+/// The call does not allocate.
 pub fn is_literal(text: &str) -> bool
     ensures { MatchBool result (IsOneLiteral (chars text.now)) (IsOneLiteral (chars text.now) → ⊥) }
 {

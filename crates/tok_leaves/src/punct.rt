@@ -1,4 +1,4 @@
-//! Puncts.
+//! Puncts, which are single punctuation characters.
 ghost use Rattle.std.specs.Prelude.{◌≡◌, MatchOption, true, false, Some};
 ghost use Rattle.tok_leaves.specs.Leaves.{leaf_char, leaf_spacing, leaf_text, punct, punct_of, leaf_span};
 ghost use Rattle.tok_lexical.specs.Characters.{is_punct_or_apostrophe};
@@ -8,14 +8,16 @@ use crate::span::Span;
 use std::fmt::{self, Display, Formatter, Write};
 use tok_lexical::classes::is_punct_or_apostrophe;
 
-/// Whether a punct is directly followed by another: `+` is joint in `+=`, and alone in `+ =`.
+/// Describes whether another punctuation character is directly after a punct.
+///
+/// For example, the `+` in `+=` is `Joint`, and the `+` in `+ =` is `Alone`.
 #[derive(Clone, Copy, PartialEq, Eq, Debug)]
 pub enum Spacing {
     Alone,
     Joint,
 }
 
-/// One punctuation character, its spacing and its span.
+/// A punctuation character with its spacing and its span.
 #[derive(Clone, Copy, Debug)]
 pub struct Punct {
     ch: char,
@@ -24,8 +26,9 @@ pub struct Punct {
 }
 
 impl Punct {
-    /// Creates a punct at the call site, or returns `None` unless `ch` is one of
-    /// `!#$%&*+,-./:;<=>?@^|~` or the apostrophe.
+    /// Creates a punct with the call site as its span.
+    ///
+    /// Returns `None` if `ch` is neither an apostrophe nor one of `!#$%&*+,-./:;<=>?@^|~`.
     pub fn new(ch: char, spacing: Spacing) -> Option<Punct>
         ensures { MatchOption result (is_punct_or_apostrophe ch ≡ false)
             (λ p. (is_punct_or_apostrophe ch ≡ true) × (punct_of p ≡ punct ch spacing call_site)) }
@@ -33,7 +36,9 @@ impl Punct {
         Punct::new_spanned(ch, spacing, Span::call_site())
     }
 
-    /// Creates a punct at `span`, or returns `None` for the same characters as `new`.
+    /// Creates a punct with the span `span`.
+    ///
+    /// Returns `None` if `ch` is neither an apostrophe nor one of `!#$%&*+,-./:;<=>?@^|~`.
     pub fn new_spanned(ch: char, spacing: Spacing, span: Span) -> Option<Punct>
         ensures { MatchOption result (is_punct_or_apostrophe ch ≡ false)
             (λ p. (is_punct_or_apostrophe ch ≡ true) × (punct_of p ≡ punct ch spacing span)) }
@@ -52,28 +57,31 @@ impl Punct {
         Punct { ch, spacing, span }
     }
 
-    /// Returns the character.
+    /// Returns the character of the punct.
     pub fn as_char(&self) -> char
         ensures { result ≡ leaf_char (punct_of self.now) }
     {
         self.ch
     }
 
-    /// Returns `Joint` if another punctuation character follows directly, and `Alone` if not.
+    /// Returns the spacing of the punct.
+    ///
+    /// The spacing is `Joint` if another punctuation character is directly after the punct, and
+    /// `Alone` otherwise.
     pub fn spacing(&self) -> Spacing
         ensures { result ≡ leaf_spacing (punct_of self.now) }
     {
         self.spacing
     }
 
-    /// Returns the span.
+    /// Returns the span of the punct.
     pub fn span(&self) -> Span
         ensures { result ≡ leaf_span (punct_of self.now) }
     {
         self.span
     }
 
-    /// Replaces the span.
+    /// Sets the span of the punct.
     pub fn set_span(&mut self, span: Span)
         ensures { punct_of self.new
             ≡ punct (leaf_char (punct_of self.old)) (leaf_spacing (punct_of self.old)) span }
@@ -82,7 +90,7 @@ impl Punct {
     }
 }
 
-/// Writes the character.
+/// Writes the character of the punct.
 impl Display for Punct {
     ghost output = { λ p. Some (leaf_text (punct_of p)) };
 

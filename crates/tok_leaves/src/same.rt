@@ -1,6 +1,7 @@
-//! Comparisons of leaves, spans included.
+//! Compares identifiers, puncts and literals, including their spans.
 //!
-//! They are inlined: a comparison of two streams calls one of them for each leaf.
+//! The functions of this module are inlined, because comparing two streams calls one of them for
+//! each leaf.
 ghost use Rattle.std.specs.Prelude.{◌≡◌, ◌↔◌, true};
 ghost use Rattle.tok_leaves.specs.Leaves.{ident_of, literal_of, punct_of};
 

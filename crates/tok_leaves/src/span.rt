@@ -1,4 +1,4 @@
-//! Spans: where tokens are.
+//! The locations of tokens in sources.
 ghost use Rattle.std.specs.Prelude.{◌≡◌, ◌≤◌};
 ghost use Rattle.tok_leaves.specs.Spans as spec;
 
@@ -11,9 +11,9 @@ enum Origin {
     Source(u32, usize, usize),
 }
 
-/// The place of a token: a range of bytes in a numbered source, or the call site.
+/// The location of a token: a range of bytes in a numbered source, or the call site.
 ///
-/// A token made by hand, with no source, is at the call site.
+/// If a token was not read from a source, its span is the call site.
 ///
 /// # Examples
 ///
@@ -29,21 +29,26 @@ pub struct Span {
     origin: Origin,
 }
 
-/// A group's delimiter and span, in 24 bytes: no more than a span alone takes.
+/// The delimiter and the span of a group, packed into one value.
+///
+/// A `Bounds` has 24 bytes, like a `Span` alone.
 #[derive(Clone, Copy)]
 pub enum Bounds {
     CallSite(Delimiter),
     Source(Delimiter, u32, usize, usize),
 }
 
-/// The span of a group, from which the spans of its two delimiters are read.
+/// The span of a group.
+///
+/// The methods `open` and `close` compute the spans of the two delimiters from the span of the
+/// whole group.
 #[derive(Clone, Copy, PartialEq, Eq, Debug)]
 pub struct DelimSpan {
     join: Span,
 }
 
 impl Span {
-    /// Returns the call site.
+    /// Returns the call site, which is the span of tokens that were not read from a source.
     pub fn call_site() -> Span
         ensures { result ≡ spec.call_site }
     {
@@ -52,7 +57,7 @@ impl Span {
         }
     }
 
-    /// Creates the span of the bytes `start..end` of source `number`.
+    /// Creates a span that consists of the bytes `start..end` of source `number`.
     ///
     /// # Requires
     ///
@@ -66,7 +71,9 @@ impl Span {
         }
     }
 
-    /// Returns the number of the source, the start and the end, or `None` for the call site.
+    /// Returns the number of the source, and the start and the end of the byte range.
+    ///
+    /// Returns `None` for the call site.
     pub fn as_range(&self) -> Option<(u32, usize, usize)>
         ensures { result ≡ spec.range self.now }
     {
@@ -76,7 +83,9 @@ impl Span {
         }
     }
 
-    /// Returns the smallest span that covers both, or `None` unless both are in one source.
+    /// Returns the smallest span that covers `self` and `other`.
+    ///
+    /// Returns `None` if `self` and `other` are not in the same source.
     pub fn join(self, other: Span) -> Option<Span>
         ensures { result ≡ spec.join self other }
     {
@@ -96,7 +105,7 @@ impl Span {
 }
 
 impl Bounds {
-    /// Packs a delimiter and a span.
+    /// Packs a delimiter and a span into one value.
     pub fn new(delimiter: Delimiter, span: Span) -> Bounds
         ensures delimiter { spec.bounds_delimiter result ≡ delimiter }
         ensures span { spec.bounds_span result ≡ span }
@@ -107,7 +116,7 @@ impl Bounds {
         }
     }
 
-    /// Returns the delimiter.
+    /// Returns the delimiter of the group.
     pub fn delimiter(self) -> Delimiter
         ensures { result ≡ spec.bounds_delimiter self }
     {
@@ -117,7 +126,7 @@ impl Bounds {
         }
     }
 
-    /// Returns the span.
+    /// Returns the span of the group.
     pub fn span(self) -> Span
         ensures { result ≡ spec.bounds_span self }
     {
@@ -130,22 +139,24 @@ impl Bounds {
 }
 
 impl DelimSpan {
-    /// Creates the span of a group from its first byte to its last.
+    /// Creates a `DelimSpan` for a group. `span` is the span of the whole group, including its
+    /// delimiters.
     pub fn new(span: Span) -> DelimSpan
         ensures { spec.whole_span result ≡ span }
     {
         DelimSpan { join: span }
     }
 
-    /// Returns the span of the whole group, delimiters included.
+    /// Returns the span of the whole group, including its delimiters.
     pub fn join(self) -> Span
         ensures { result ≡ spec.whole_span self }
     {
         self.join
     }
 
-    /// Returns the span of the opening delimiter: the first byte. An empty range and the call site
-    /// are returned unchanged.
+    /// Returns the span of the opening delimiter, which is the first byte of the group.
+    ///
+    /// Returns the span of the whole group if that span is an empty range or the call site.
     pub fn open(self) -> Span
         ensures { result ≡ spec.opening_span (spec.whole_span self) }
     {
@@ -157,8 +168,9 @@ impl DelimSpan {
         }
     }
 
-    /// Returns the span of the closing delimiter: the last byte. An empty range and the call site
-    /// are returned unchanged.
+    /// Returns the span of the closing delimiter, which is the last byte of the group.
+    ///
+    /// Returns the span of the whole group if that span is an empty range or the call site.
     pub fn close(self) -> Span
         ensures { result ≡ spec.closing_span (spec.whole_span self) }
     {

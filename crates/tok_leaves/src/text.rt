@@ -1,4 +1,5 @@
-//! Texts that contracts see as their bytes, so that a copy equals its source.
+//! Immutable strings. Contracts describe a string as its bytes, and a clone therefore equals the
+//! original.
 ghost use Rattle.std.specs.Fmt.{debug_str};
 ghost use Rattle.std.specs.Prelude.{◌≡◌, ◌<◌, ◌≤◌, ◌++◌, ℕ, List, length, nat_eq, take, string_bytes, IfOk, SomeIff, Some};
 ghost use Rattle.std.specs.Str.{chars};
@@ -32,7 +33,10 @@ enum Node {
     Long(Arc<String>),
 }
 
-/// A text in 16 bytes. It allocates only if it is longer than 14 bytes; its clones then share it.
+/// An immutable string. The struct itself has 16 bytes.
+///
+/// A string of at most 14 bytes is stored in the struct. A longer string is stored in an
+/// allocation, which its clones share.
 pub struct Text {
     node: Node,
     alloc: Global,
@@ -59,7 +63,7 @@ impl Model for Text {
 }
 
 impl Text {
-    /// Copies `text`.
+    /// Creates a text that is a copy of `text`.
     ///
     /// Returns an error if the allocation fails.
     pub fn from_str(alloc: Global, text: &str) -> Result<Text, AllocError>
@@ -74,7 +78,7 @@ impl Text {
         Text::long(alloc, String::from_str(alloc, text)?)
     }
 
-    /// Copies `piece`, which is at the front of `text`.
+    /// Creates a text that is a copy of `piece`, which is the beginning of `text`.
     ///
     /// Returns an error if the allocation fails.
     ///
@@ -108,9 +112,10 @@ impl Text {
         }
     }
 
-    /// Turns a string into a text. A string longer than 47 bytes is moved, not copied.
+    /// Converts a string into a text.
     ///
-    /// Returns an error if the allocation fails; the string is then dropped.
+    /// The call moves a string of more than 47 bytes, and copies a shorter one. If the allocation
+    /// fails, the call returns an error and drops the string.
     pub fn from_string(alloc: Global, text: String) -> Result<Text, AllocError>
         ensures { IfOk result (λ t. t ≡ string_bytes text) }
     {
@@ -182,7 +187,7 @@ impl Text {
         }
     }
 
-    /// Returns the text.
+    /// Returns the text as a string slice.
     pub fn as_str(&self) -> &str
         ensures { result.now ≡ self.now }
     {
@@ -203,8 +208,10 @@ impl Text {
     }
 }
 
-/// Copies the text. A text of up to 14 bytes takes no memory, and a longer one is shared, unless its
-/// string has much unused room.
+/// Copies the text.
+///
+/// A copy of at most 14 bytes does not allocate. The copies of a longer text share one allocation,
+/// unless the string inside has much unused capacity.
 impl Clone for Text {
     ghost is_clone = { λ t u. u ≡ t };
 
@@ -232,7 +239,7 @@ impl Clone for Text {
     }
 }
 
-/// Writes the text.
+/// Writes the text without quotes.
 impl Display for Text {
     ghost output = { λ t. Some t };
 
