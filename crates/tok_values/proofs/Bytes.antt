@@ -32,16 +32,17 @@ use Rattle.tok_values.specs.Laws.{AreBytes, IsOnePiece}
 use Rattle.tok_values.specs.Strings.{IsBytesValue, Means, more, nothing, unit}
 use Rattle.tok_values.proofs.Quoted.{scalars-append, two}
 use Rattle.tok_values.proofs.Chars.{one_byte}
-use Rattle.tok_values.proofs.Read.{other, whole}
+use Rattle.tok_values.proofs.Read.{other}
+use Rattle.tok_values.proofs.Written.{whole}
 
 -- what holds of each byte holds of this one, by computing
-each : {X : Type 0} (f g : ℕ → X) (d : X) (b : ℕ) →
+pub each : {X : Type 0} (f g : ℕ → X) (d : X) (b : ℕ) →
     map f (range_with_len 0 256) ≡ map g (range_with_len 0 256) → b < 256 → f b ≡ g b
 each f g d b same h =
     sym (get_or-map-range_with_len f 0 256 b b d h (omega arith)) ∙ ap (λ w. get_or w b d) same
     ∙ get_or-map-range_with_len g 0 256 b b d h (omega arith)
 
-each_true : (f : ℕ → Bool) (b : ℕ) →
+pub each_true : (f : ℕ → Bool) (b : ℕ) →
     map f (range_with_len 0 256) ≡ map (λ _. true) (range_with_len 0 256) → b < 256 → f b ≡ true
 each_true f b same h = each f (λ _. true) false b same h
 
@@ -52,7 +53,7 @@ byte_value b rest h =
     each (λ c. unit true (escape_ascii c ++ rest)) (λ c. Some (c ∷ [], rest)) None b refl h
 
 -- it is a unit
-abbrev is_unit : List ℕ → Bool
+abbrev pub is_unit : List ℕ → Bool
 is_unit [] = false
 is_unit (c ∷ []) = not (c == 34) && not (c == 92)
 is_unit (a ∷ c ∷ []) = (a == 92) && is_simple_escape c
@@ -83,11 +84,11 @@ unit_from (a ∷ x ∷ h ∷ l ∷ []) e =
     (escape (hex (h, l, refl, digits.0, digits.1))))
 unit_from (a ∷ x ∷ h ∷ l ∷ m ∷ rest) e = absurd (false≢true e)
 
-byte_unit : (b : ℕ) → b < 256 → IsUnit Bytes (escape_ascii b)
+pub byte_unit : (b : ℕ) → b < 256 → IsUnit Bytes (escape_ascii b)
 byte_unit b h = unit_from (escape_ascii b) (each_true (λ c. is_unit (escape_ascii c)) b refl h)
 
 -- none of its characters is a U+000D or beyond ASCII
-abbrev is_odd : ℕ → Bool
+abbrev pub is_odd : ℕ → Bool
 is_odd c = (c == 13) || nat_le 128 c
 
 byte_even : (b : ℕ) → b < 256 → list_any is_odd (escape_ascii b) ≡ false
@@ -110,11 +111,12 @@ all_means (b ∷ bytes) h =
     (ap (unit true) (append_assoc (escape_ascii b) (flat_map escape_ascii bytes) (34 ∷ []))
     ∙ byte_value b rest h.0) (all_means bytes h.1)
 
-both_even : (xs ys : List ℕ) → list_any is_odd xs ≡ false → list_any is_odd ys ≡ false →
+pub both_even : (xs ys : List ℕ) → list_any is_odd xs ≡ false → list_any is_odd ys ≡ false →
     list_any is_odd (xs ++ ys) ≡ false
 both_even xs ys h k = list_any-append is_odd xs ys ∙ ap (λ b. b || list_any is_odd ys) h ∙ k
 
-all_even : (bytes : List ℕ) → AreBytes bytes → list_any is_odd (flat_map escape_ascii bytes) ≡ false
+pub all_even : (bytes : List ℕ) → AreBytes bytes →
+    list_any is_odd (flat_map escape_ascii bytes) ≡ false
 all_even [] h = refl
 all_even (b ∷ bytes) h =
     both_even (escape_ascii b) (flat_map escape_ascii bytes) (byte_even b h.0) (all_even bytes h.1)
@@ -132,25 +134,27 @@ all_encoded (b ∷ bytes) =
     encodes-append (escape_ascii b) (flat_map escape_ascii bytes)
     ∙ ap (λ w. escaped_byte b ++ w) (all_encoded bytes)
 
--- the characters of the literal
-made : (bytes : List ℕ) → AreBytes bytes → chars (bytes_between (codes "b\"") bytes (codes "\""))
-    ≡ 98 ∷ 34 ∷ (flat_map escape_ascii bytes ++ 34 ∷ [])
-made bytes h =
-    let inner = flat_map escape_ascii bytes ++ 34 ∷ [] in
-    let encoded : encode_utf8_all ((98 ∷ 34 ∷ []) ++ inner)
-    ≡ bytes_between (codes "b\"") bytes (codes "\"") =
-    encodes-append (98 ∷ 34 ∷ []) inner
-    ∙ ap (λ w. w ++ encode_utf8_all inner) (two 98 34 (omega arith) (omega arith))
-    ∙ ap (λ w. codes "b\"" ++ w) (encodes-append (flat_map escape_ascii bytes) (34 ∷ [])
-    ∙ ap (λ w. w ++ encode_utf8_all (34 ∷ [])) (all_encoded bytes)
-    ∙ ap (λ w. flat_map escaped_byte bytes ++ w) (one_byte 34 (omega arith))) in
+-- the characters of the literal, between a prefix with a mark and the mark
+pub made : (prefix mark : ℕ) (bytes : List ℕ) → prefix < 128 → mark < 128 →
+    scalars (prefix ∷ mark ∷ []) ≡ true → scalars (mark ∷ []) ≡ true → AreBytes bytes →
+    chars (bytes_between (prefix ∷ mark ∷ []) bytes (mark ∷ []))
+    ≡ prefix ∷ mark ∷ (flat_map escape_ascii bytes ++ mark ∷ [])
+made prefix mark bytes p q both last h =
+    let inner = flat_map escape_ascii bytes ++ mark ∷ [] in
+    let opening : List ℕ = prefix ∷ mark ∷ [] in
+    let encoded : encode_utf8_all (opening ++ inner) ≡ bytes_between opening bytes (mark ∷ []) =
+    encodes-append opening inner
+    ∙ ap (λ w. w ++ encode_utf8_all inner) (two prefix mark p q)
+    ∙ ap (λ w. opening ++ w) (encodes-append (flat_map escape_ascii bytes) (mark ∷ [])
+    ∙ ap (λ w. w ++ encode_utf8_all (mark ∷ [])) (all_encoded bytes)
+    ∙ ap (λ w. flat_map escaped_byte bytes ++ w) (one_byte mark q)) in
     ap chars (sym encoded)
-    ∙ chars-encodes (98 ∷ 34 ∷ inner)
-    (scalars-append (98 ∷ 34 ∷ []) inner refl
-    (scalars-append (flat_map escape_ascii bytes) (34 ∷ []) (all_scalars bytes h) refl))
+    ∙ chars-encodes (prefix ∷ mark ∷ inner)
+    (scalars-append opening inner both
+    (scalars-append (flat_map escape_ascii bytes) (mark ∷ []) (all_scalars bytes h) last))
 
 -- what no odd character is in
-no_return : (text : List ℕ) → list_any is_odd text ≡ false → has_return text ≡ false
+pub no_return : (text : List ℕ) → list_any is_odd text ≡ false → has_return text ≡ false
 no_return [] h = refl
 no_return (c ∷ text) h = go (c == 13) (nat_le 128 c) (no_return text) h
   where
@@ -193,18 +197,19 @@ pub byte_strings_are_read : (edition : Edition) (bytes : List ℕ) → AreBytes 
     let text = chars (bytes_between (codes "b\"") bytes (codes "\"")) in
     IsOnePiece (Source edition) (QuotedString Bytes) text × IsBytesValue text bytes
 byte_strings_are_read edition bytes h = (
-  subst (IsOnePiece (Source edition) (QuotedString Bytes)) (sym (made bytes h)) (
-    decides_begun (Source edition) 98 (34 ∷ inner) start.Prefix refl refl
-        (later (no_byte inner) (later (no_start inner)
-        (here (whole (Spells (QuotedString Bytes)) (98 ∷ 34 ∷ inner) (
-          34 ∷ inner,
-          refl,
-          (flat_map escape_ascii bytes, [], refl, all_units bytes h, inl refl),
-        ))))),
-    λ at. unrejected,
-  ),
-  subst (λ w. IsBytesValue w bytes) (sym (made bytes h))
-      (34 ∷ inner, refl, (inner, refl, all_means bytes h)),
+  subst (IsOnePiece (Source edition) (QuotedString Bytes))
+      (sym (made 98 34 bytes (omega arith) (omega arith) refl refl h)) (
+        decides_begun (Source edition) 98 (34 ∷ inner) start.Prefix refl refl
+            (later (no_byte inner) (later (no_start inner)
+            (here (whole (Spells (QuotedString Bytes)) (98 ∷ 34 ∷ inner) (
+              34 ∷ inner,
+              refl,
+              (flat_map escape_ascii bytes, [], refl, all_units bytes h, inl refl),
+            ))))),
+        λ at. unrejected,
+      ),
+  subst (λ w. IsBytesValue w bytes) (sym (made 98 34 bytes (omega arith) (omega arith) refl refl h))
+      (34 ∷ inner, refl, (inner, refl, (34 ∷ [], all_means bytes h, ([], refl, refl)))),
 )
   where
     inner : List ℕ

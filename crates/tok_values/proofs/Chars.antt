@@ -21,7 +21,8 @@ use Rattle.tok_values.specs.Laws.{IsOneChar}
 use Rattle.tok_values.specs.Strings.{IsCharValue, one_char}
 use Rattle.tok_values.proofs.Quoted.{encodes_escape, one_scalars, pick_scalars, scalars-append, two}
 use Rattle.tok_values.proofs.Quoted.{written}
-use Rattle.tok_values.proofs.Read.{other, pick, whole}
+use Rattle.tok_values.proofs.Read.{other, pick}
+use Rattle.tok_values.proofs.Written.{whole}
 
 -- what is between the apostrophes
 abbrev between : ℕ → List ℕ
@@ -142,5 +143,6 @@ pub characters_are_read : (mode : Mode) (c : ℕ) → IsScalar c →
 characters_are_read mode c h =
     let text = sym (chars_between c h) in (
       subst (IsOneChar mode) text (one_piece mode c),
-      subst (λ w. IsCharValue w c) text (between c ++ 39 ∷ [], refl, value c),
+      subst (λ w. IsCharValue w c) text
+          (between c ++ 39 ∷ [], refl, (39 ∷ [], value c, ([], refl, refl))),
     )

@@ -106,13 +106,13 @@ neither true b h = absurd (false≢true h)
 neither false true h = absurd (false≢true h)
 neither false false h = refl
 
-no_dot : (c : ℕ) (b : Bool) → (c == 46) ≡ b → is_identifier_start c ≡ true → b ≡ false
+pub no_dot : (c : ℕ) (b : Bool) → (c == 46) ≡ b → is_identifier_start c ≡ true → b ≡ false
 no_dot c false e h = refl
 no_dot c true e h =
     absurd (false≢true (letter_start 46 (omega arith) (is_ascii_alphabetic 46) refl
     ∙ ap is_identifier_start (sym (eqb-true c 46 e)) ∙ h))
 
-suffix_stays : (suffix : List ℕ) → IsNumberSuffix 10 suffix →
+pub suffix_stays : (suffix : List ℕ) → IsNumberSuffix 10 suffix →
     after_exponent (after_fraction suffix) ≡ suffix
 suffix_stays [] h = refl
 suffix_stays (c ∷ rest) h =

@@ -1,5 +1,6 @@
 -- The suffixes of floats.
-use Rattle.std.proofs.Common.{◌≡◌, ◌∙◌, ◌||◌, ◌&&◌, ◌++◌, ◌∷◌, [], ap, Bool, eqb-true, false, inl, inr}
+use Rattle.std.proofs.Common.{◌≡◌, ◌∙◌, ◌||◌, ◌&&◌, ◌++◌, ◌∷◌, [], ap, arith, Bool, eqb-true, false}
+use Rattle.std.proofs.Common.{inl, inr}
 use Rattle.std.proofs.Common.{List, refl, subst, sym, true, ℕ}
 use Rattle.std.specs.List.{list_all}
 use Rattle.std.specs.Prelude.{◌==◌, cond, not}
@@ -7,7 +8,8 @@ use Rattle.std.proofs.lemmas.Bool.{cond-false, cond-true, false≢true}
 use Rattle.tok_lexical.specs.Ascii.{minus}
 use Rattle.tok_lexical.specs.Floats.{IsExponent, IsExponentDigits, IsExponentSuffix, IsFloatTail}
 use Rattle.tok_lexical.specs.Floats.{IsFraction, IsSigned}
-use Rattle.tok_lexical.specs.Numbers.{IsNumberSuffix, has_digit, is_digit_or_underscore, starts_digit}
+use Rattle.tok_lexical.specs.Numbers.{IsDecimal, IsNumberSuffix, has_digit}
+use Rattle.tok_lexical.specs.Numbers.{is_digit_or_underscore, starts_digit}
 use Rattle.tok_lexical.specs.Pieces.{Stops}
 use Rattle.tok_lexical.proofs.Digits.{head_passes, tail_passes}
 use Rattle.tok_values.specs.Integers.{base_of}
@@ -16,6 +18,7 @@ use Rattle.tok_values.specs.Suffixes.{after_exponent, after_fraction, after_sign
 use Rattle.tok_values.specs.Suffixes.{fraction_suffix, literal_suffix, number_suffix}
 use Rattle.tok_values.specs.Suffixes.{signed_suffix, tail_suffix}
 use Rattle.tok_values.proofs.Endings.{digits_pass, minus_literal, neither, number_literal}
+use Rattle.tok_values.proofs.Endings.{suffix_stays}
 
 -- a character that passes is none that does not
 other_than : (p : ℕ → Bool) (x c : ℕ) (b : Bool) → (c == x) ≡ b → p x ≡ false → p c ≡ true →
@@ -84,7 +87,7 @@ exponent_no_fraction (c ∷ more) (letter, signed) =
     cond-false (c == 46) _ _ (letter_cases (λ d. (d == 46) ≡ false) c letter refl refl)
 
 -- a decimal's suffix begins with neither a digit nor an exponent
-neither_first : (a b : Bool) → not (a || b) ≡ true → a ≡ false
+pub neither_first : (a b : Bool) → not (a || b) ≡ true → a ≡ false
 neither_first true b h = absurd (false≢true h)
 neither_first false b h = refl
 
@@ -162,7 +165,7 @@ decimal_base (c ∷ d ∷ digits) tail all starts begins =
     no_base c d (digits ++ tail)
     (ap (λ b. b || ((d == 46) || ((d == 101) || (d == 69)))) pass)
 
-starts_on : (digits tail : List ℕ) → starts_digit digits ≡ true →
+pub starts_on : (digits tail : List ℕ) → starts_digit digits ≡ true →
     starts_digit (digits ++ tail) ≡ true
 starts_on [] tail starts = absurd (false≢true starts)
 starts_on (c ∷ digits) tail starts = starts
@@ -196,3 +199,36 @@ pointed_have_no_suffix text (digits, tail, cut, all, starts, dot) =
     ∙ after_all digits tail all starts (subst Begins (sym dot) refl)
     (subst (Stops (is_digit_or_underscore 10)) (sym dot) refl)
     ∙ ap (λ w. after_exponent (after_fraction w)) dot)
+
+-- a text that names no base is read whole
+base_whole : (text : List ℕ) → (base_of text).0 ≡ 10 → base_of text ≡ (10, text)
+base_whole [] ten = refl
+base_whole (c ∷ []) ten = refl
+base_whole (c ∷ d ∷ rest) ten =
+    at ((c == 48) && (d == 120)) ((c == 48) && (d == 111)) ((c == 48) && (d == 98)) ten
+  where
+    pair : ℕ → List ℕ → ℕ × List ℕ
+    pair n w = (n, w)
+
+    base : (x o b : Bool) → ℕ × List ℕ
+    base x o b =
+        cond x (pair 16 rest) (cond o (pair 8 rest) (cond b (pair 2 rest) (pair 10 (c ∷ d ∷ rest))))
+
+    at : (x o b : Bool) → (base x o b).0 ≡ 10 → base x o b ≡ (10, c ∷ d ∷ rest)
+    at true o b e = absurd (omega (arith, e))
+    at false true b e = absurd (omega (arith, e))
+    at false false true e = absurd (omega (arith, e))
+    at false false false e = refl
+
+-- decimal digits that name no base have the suffix after them
+pub decimals_have_their_suffix : (text : List ℕ) (decimal : IsDecimal text) →
+    (base_of text).0 ≡ 10 → literal_suffix text ≡ decimal.1
+decimals_have_their_suffix text (digits, tail, cut, all, starts, rest) ten =
+    number_literal text (ap starts_digit cut ∙ starts_on digits tail starts)
+    ∙ ap (λ (p : ℕ × List ℕ). cond (p.0 == 10)
+    (after_exponent (after_fraction (after_digits p.0 p.1))) (after_digits p.0 p.1))
+    (base_whole text ten)
+    ∙ ap (λ w. after_exponent (after_fraction (after_digits 10 w))) cut
+    ∙ ap (λ w. after_exponent (after_fraction w))
+    (digits_pass 10 digits tail all (decimal_ends tail rest))
+    ∙ suffix_stays tail rest

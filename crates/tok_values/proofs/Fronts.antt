@@ -10,21 +10,21 @@ use Rattle.tok_values.specs.Suffixes.{after_sign, is_mark, literal_suffix, numbe
 use Rattle.tok_values.specs.Suffixes.{without_minus}
 
 -- the text ends with this rest
-abbrev EndsWith : (rest text : List ℕ) → Type 0
+abbrev pub EndsWith : (rest text : List ℕ) → Type 0
 EndsWith rest text = (front : List ℕ) × (text ≡ front ++ rest)
 
-either : (A : Type 0) (P : A → Type 0) (b : Bool) (x y : A) → P x → P y → P (cond b x y)
+pub either : (A : Type 0) (P : A → Type 0) (b : Bool) (x y : A) → P x → P y → P (cond b x y)
 either A P true x y p q = p
 either A P false x y p q = q
 
-whole : (text : List ℕ) → EndsWith text text
+pub whole : (text : List ℕ) → EndsWith text text
 whole text = ([], refl)
 
-through : (text rest end : List ℕ) → EndsWith rest text → EndsWith end rest → EndsWith end text
+pub through : (text rest end : List ℕ) → EndsWith rest text → EndsWith end rest → EndsWith end text
 through text rest end (front, p) (more, q) =
     (front ++ more, p ∙ ap (λ w. front ++ w) q ∙ sym (append_assoc front more end))
 
-past : (c : ℕ) (rest text : List ℕ) → EndsWith rest text → EndsWith rest (c ∷ text)
+pub past : (c : ℕ) (rest text : List ℕ) → EndsWith rest text → EndsWith rest (c ∷ text)
 past c rest text (front, p) = (c ∷ front, ap (λ w. c ∷ w) p)
 
 digits_end : (radix : ℕ) (text : List ℕ) → EndsWith (after_digits radix text) text
@@ -33,7 +33,7 @@ digits_end radix (c ∷ text) =
     either (List ℕ) (λ w. EndsWith w (c ∷ text)) (is_digit_or_underscore radix c) _ _
     (past c (after_digits radix text) text (digits_end radix text)) (whole (c ∷ text))
 
-first_ends : (text : List ℕ) → EndsWith (after_first text) text
+pub first_ends : (text : List ℕ) → EndsWith (after_first text) text
 first_ends [] = whole []
 first_ends (c ∷ text) = (c ∷ [], refl)
 

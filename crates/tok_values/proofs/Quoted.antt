@@ -1,16 +1,14 @@
--- What the text of a made string literal means.
+-- How a string literal writes a character, and what that means.
 use Rattle.std.proofs.Common.{◌≡◌, ◌∙◌, ◌<◌, ℕ, zero, suc, List, [], ◌∷◌, ◌++◌, Option, Some, None}
-use Rattle.std.proofs.Common.{Bool, true, false, refl, sym, ap, append_assoc, eqb-true, arith}
-use Rattle.std.specs.Prelude.{◌==◌, if◌then◌else◌, codes, encode_utf8, encode_utf8_all}
-use Rattle.std.specs.List.{flat_map}
-use Rattle.std.specs.Str.{IsAscii, IsUtf8, chars}
+use Rattle.std.proofs.Common.{Bool, true, false, refl, sym, ap, eqb-true, arith}
+use Rattle.std.specs.Prelude.{◌==◌, if◌then◌else◌, encode_utf8, encode_utf8_all}
+use Rattle.std.specs.Str.{IsAscii}
 use lib.Utf8.{scalars}
 use Rattle.std.proofs.lemmas.List.{append-nil}
-use Rattle.std.proofs.lemmas.Str.{chars-encodes, encodes-IsAscii, encodes-append, encodes-chars}
-use Rattle.std.proofs.lemmas.Str.{scalars-chars}
+use Rattle.std.proofs.lemmas.Str.{encodes-IsAscii}
 use Rattle.std.proofs.lemmas.Bool.{and_parts, and_from}
-use Rattle.tok_leaves.specs.Quoting.{escaped, in_quotes}
-use Rattle.tok_values.specs.Strings.{IsStringValue, Means, line_feed, more, nothing, unit}
+use Rattle.tok_leaves.specs.Quoting.{escaped}
+use Rattle.tok_values.specs.Strings.{after_return, unit}
 use Rattle.tok_values.specs.Strings as strings
 
 -- a character, or the escape that stands for it
@@ -45,13 +43,6 @@ encodes_escape c =
     (pick (c == 9) _ _ _ _ (two 92 116 (omega arith) (omega arith))
     (pick (c == 0) _ _ _ _ (two 92 48 (omega arith) (omega arith)) (append-nil (encode_utf8 c)))))))
 
-all_encoded : (cs : List ℕ) → encode_utf8_all (flat_map written cs) ≡ flat_map escaped cs
-all_encoded [] = refl
-all_encoded (c ∷ cs) =
-    encodes-append (written c) (flat_map written cs)
-    ∙ ap (λ w. w ++ encode_utf8_all (flat_map written cs)) (encodes_escape c)
-    ∙ ap (λ w. escaped c ++ w) (all_encoded cs)
-
 pub pick_scalars : (b : Bool) (x y : List ℕ) → scalars x ≡ true → scalars y ≡ true
     → scalars (if b then x else y) ≡ true
 pick_scalars true x y e f = e
@@ -72,13 +63,6 @@ scalars-append (x ∷ xs) ys h k =
     let w = and_parts _ (scalars xs) h in
     and_from _ (scalars (xs ++ ys)) w.0 (scalars-append xs ys w.1 k)
 
-all_scalars : (cs : List ℕ) → scalars cs ≡ true → scalars (flat_map written cs) ≡ true
-all_scalars [] h = refl
-all_scalars (c ∷ cs) h =
-    let w = and_parts _ (scalars cs) h in
-    scalars-append (written c) (flat_map written cs) (one_scalars c (and_from _ true w.0 refl))
-    (all_scalars cs w.1)
-
 choose : (b : Bool) (x y rest : List ℕ) (c : ℕ)
     → (b ≡ true → unit false (x ++ rest) ≡ Some (c ∷ [], rest))
     → (b ≡ false → unit false (y ++ rest) ≡ Some (c ∷ [], rest))
@@ -91,9 +75,9 @@ plain : (c : ℕ) (rest : List ℕ) → (c == 34) ≡ false → (c == 92) ≡ fa
 plain c rest quote slash return =
     ap (λ b. if b then strings.past_escape false rest else
     if c == 34 then None else
-    if c == 13 then line_feed rest else Some (c ∷ [], rest)) slash
-    ∙ ap (λ b. if b then None else if c == 13 then line_feed rest else Some (c ∷ [], rest)) quote
-    ∙ ap (λ b. if b then line_feed rest else Some (c ∷ [], rest)) return
+    if c == 13 then after_return rest else Some (c ∷ [], rest)) slash
+    ∙ ap (λ b. if b then None else if c == 13 then after_return rest else Some (c ∷ [], rest)) quote
+    ∙ ap (λ b. if b then after_return rest else Some (c ∷ [], rest)) return
 
 abbrev one : ℕ → List ℕ → Option (List ℕ × List ℕ)
 one n rest = Some (n ∷ [], rest)
@@ -101,7 +85,7 @@ one n rest = Some (n ∷ [], rest)
 same_one : (c n : ℕ) (rest : List ℕ) → (c == n) ≡ true → one n rest ≡ one c rest
 same_one c n rest e = ap (λ x. one x rest) (sym (eqb-true c n e))
 
-unit_is : (c : ℕ) (rest : List ℕ) → unit false (written c ++ rest) ≡ Some (c ∷ [], rest)
+pub unit_is : (c : ℕ) (rest : List ℕ) → unit false (written c ++ rest) ≡ Some (c ∷ [], rest)
 unit_is c rest =
     choose (c == 34) _ _ rest c (same_one c 34 rest)
     (λ quote. choose (c == 92) _ _ rest c (same_one c 92 rest)
@@ -110,45 +94,3 @@ unit_is c rest =
     (λ return. choose (c == 9) _ _ rest c (same_one c 9 rest)
     (λ tab. choose (c == 0) _ _ rest c (same_one c 0 rest)
     (λ nul. plain c rest quote slash return))))))
-
-units : (cs : List ℕ) → Means false (flat_map written cs ++ 34 ∷ []) (34 ∷ []) cs
-units [] = nothing (34 ∷ [])
-units (c ∷ cs) =
-    more ((written c ++ flat_map written cs) ++ 34 ∷ []) (flat_map written cs ++ 34 ∷ []) (34 ∷ [])
-    (c ∷ []) cs
-    (ap (unit false) (append_assoc (written c) (flat_map written cs) (34 ∷ []))
-    ∙ unit_is c (flat_map written cs ++ 34 ∷ []))
-    (units cs)
-
-quote_bytes : encode_utf8_all (34 ∷ []) ≡ codes "\""
-quote_bytes = encodes-IsAscii (34 ∷ []) ascii
-  where
-    ascii : IsAscii (34 ∷ [])
-    ascii zero = omega arith
-    ascii (suc i) = omega arith
-
-pub chars_in_quotes : (cs : List ℕ) → scalars cs ≡ true
-    → chars (in_quotes cs) ≡ 34 ∷ (flat_map written cs ++ 34 ∷ [])
-chars_in_quotes cs h =
-    let inner = flat_map written cs ++ 34 ∷ [] in
-    let bytes : encode_utf8_all ((34 ∷ []) ++ inner) ≡ in_quotes cs =
-    encodes-append (34 ∷ []) inner ∙ ap (λ w. w ++ encode_utf8_all inner) quote_bytes
-    ∙ ap (λ w. codes "\"" ++ w) (encodes-append (flat_map written cs) (34 ∷ [])
-    ∙ ap (λ w. w ++ encode_utf8_all (34 ∷ [])) (all_encoded cs)
-    ∙ ap (λ w. flat_map escaped cs ++ w) quote_bytes) in
-    ap chars (sym bytes)
-    ∙ chars-encodes (34 ∷ inner)
-    (scalars-append (34 ∷ []) inner refl
-    (scalars-append (flat_map written cs) (34 ∷ []) (all_scalars cs h) refl))
-
-pub strings_keep_text : (text : List ℕ) → IsUtf8 text
-    → IsStringValue (chars (in_quotes (chars text))) text
-strings_keep_text text u = (
-  chars text,
-  (
-    flat_map written (chars text) ++ 34 ∷ [],
-    chars_in_quotes (chars text) (scalars-chars text u),
-    units (chars text),
-  ),
-  sym (encodes-chars text u),
-)

@@ -1,46 +1,26 @@
 -- Characters that mean themselves.
-use Rattle.std.proofs.Common.{◌≡◌, ◌∙◌, ℕ, ◌+◌, ◌<◌, List, [], ◌∷◌, ◌++◌, length, Option, Some, None}
-use Rattle.std.proofs.Common.{Bool, true, false, refl, sym, ap, subst, arith, take, drop}
+use Rattle.std.proofs.Common.{◌≡◌, ◌∙◌, ℕ, ◌<◌, List, [], ◌∷◌, ◌++◌, Option, Some, None}
+use Rattle.std.proofs.Common.{Bool, true, false, refl, sym, ap, subst, arith}
 use Rattle.std.specs.Prelude.{◌==◌, ◌||◌, ◌&&◌, not, nat_le, if◌then◌else◌, encode_utf8_all}
 use Rattle.std.specs.List.{list_all}
-use Rattle.std.specs.Str.{chars, IsUtf8, IsAscii, IsCharBoundary}
+use Rattle.std.specs.Str.{IsAscii}
 use Rattle.std.proofs.lemmas.Bool.{and_parts, false≢true}
 use Rattle.std.proofs.lemmas.Bool.Decides.{nat_tests}
-use Rattle.std.proofs.lemmas.List.{append-nil}
 use Rattle.std.proofs.lemmas.Str.{chars-IsAscii, encodes-append, encodes-chars, IsUtf8-from_ascii}
 use Rattle.std.proofs.lemmas.Str.Ascii.{IsAscii-nil, IsAscii-cons}
 use Rattle.std.proofs.Common.{append_assoc}
 use Rattle.tok_lexical.specs.Pieces.{Skips}
-use Rattle.tok_lexical.specs.Private.Scans.{IsRun}
-use Rattle.tok_lexical.proofs.Runs.{run_boundary, skips_run}
-use Rattle.tok_lexical.proofs.Scans.{run_ends, skips_to}
+use Rattle.tok_lexical.specs.Scans.{IsAsciiTest}
 use Rattle.tok_values.specs.Private.Plain.{is_plain}
 use Rattle.tok_values.specs.Strings.{Means, nothing, more, unit}
 
--- in a text the bytes that stop are ASCII
-abbrev stop : ℕ → Bool
-stop c = (c == 92) || ((c == 34) || ((c == 13) || (false && nat_le 128 c)))
+-- beyond ASCII all of a text passes, and nothing of bytes
+pub plain_ascii_test : (wide : Bool) → IsAsciiTest (is_plain wide)
+plain_ascii_test true x high = grind (arith, nat_tests)
+plain_ascii_test false x high = grind (arith, nat_tests)
 
-stop_low : (c : ℕ) → stop c ≡ true → c < 128
-stop_low c p = grind (arith, nat_tests)
-
--- in bytes those that pass are
 plain_low : (c : ℕ) → is_plain true c ≡ true → c < 128
 plain_low c p = grind (arith, nat_tests)
-
-pub plain_boundary : (wide : Bool) (text : List ℕ) (n : ℕ) → IsUtf8 text →
-    IsRun (is_plain wide) text 0 (length text) n → IsCharBoundary text n
-plain_boundary true text n u run = run_boundary (is_plain true) plain_low text n u run
-plain_boundary false text n u run = run_ends stop stop_low text n u run
-
-pub plain_skips : (wide : Bool) (text front rest : List ℕ) (n : ℕ) → IsUtf8 text →
-    front ≡ take n text → rest ≡ drop n text → length front ≡ n →
-    length rest + n ≡ length text → IsRun (is_plain wide) text 0 (length text) n →
-    (skipped : List ℕ) × Skips (is_plain wide) (chars text) skipped (chars rest)
-plain_skips true text front rest n u f r l m run =
-    skips_run (is_plain true) plain_low text front rest n u f r l m run
-plain_skips false text front rest n u f r l m run =
-    skips_to stop stop_low text front rest n u f r l m run
 
 abbrev Unit1 : Type 0
 Unit1 = Option (List ℕ × List ℕ)
@@ -114,8 +94,3 @@ run_bytes front p =
     let a = all_ascii front p in
     ap encode_utf8_all (sym (chars-IsAscii front a))
     ∙ encodes-chars front (IsUtf8-from_ascii front a)
-
--- nothing is left out where the front is empty
-pub empty_front : (old taken front : List ℕ) → taken ≡ front → length taken ≡ 0 → old ≡ old ++ front
-empty_front old [] front e z = sym (append-nil old) ∙ ap (λ w. old ++ w) e
-empty_front old (x ∷ taken) front e z = absurd (omega arith)

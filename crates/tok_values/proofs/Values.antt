@@ -14,8 +14,8 @@ use Rattle.tok_lexical.specs.Pieces.{Skips, after_first, begins_with, from_first
 use Rattle.tok_values.specs.Escapes.{and_rest, code, escape, hex, named_char, simple}
 use Rattle.tok_values.specs.Integers.{IsDigits, IsInteger, ReadsInteger, base_of}
 use Rattle.tok_values.specs.Numbers.{number}
-use Rattle.tok_values.specs.Strings.{InQuotes, IsStringValue, Means, alone, ends_line, past_escape}
-use Rattle.tok_values.specs.Strings.{is_blank, line_feed, more, nothing, unit, without_blanks}
+use Rattle.tok_values.specs.Strings.{InQuotes, IsNothing, IsStringValue, Means, alone, ends_line, past_escape}
+use Rattle.tok_values.specs.Strings.{is_blank, after_return, more, nothing, unit, without_blanks}
 use Rattle.tok_values.specs.Values.{HasValue, IntegersHaveOneValue, StringsHaveOneValue}
 use Rattle.tok_values.specs.Values.{and_rest_of, characters_in_quotes, digits_value, integer_value}
 use Rattle.tok_values.specs.Values.{is_number_suffix}
@@ -100,7 +100,7 @@ escaped_leaves wide text =
     either (length text) (ends_line text) _ _ (one_found (length text) _ _ (blanks text))
     (alone_leaves (length text) _ (escape_leaves wide text))
 
-feed_leaves : (text : List ℕ) → Leaves (length text) (line_feed text)
+feed_leaves : (text : List ℕ) → Leaves (length text) (after_return text)
 feed_leaves text =
     either (length text) (begins_with 10 text) _ _ (one_found (length text) _ _ (first text))
     (nothing_found (length text))
@@ -178,20 +178,25 @@ finds_within : (n : ℕ) → Found n
 finds_within zero text characters e = absurd (cc)
 finds_within (suc n) text characters e = found_more n (finds_within n) text characters e
 
-finds_in_quotes : (text characters : List ℕ) → InQuotes false text characters
+abbrev Quoted : (text characters : List ℕ) → Type 0
+Quoted = InQuotes IsNothing (unit false)
+
+finds_in_quotes : (text characters : List ℕ) → Quoted text characters
     → characters_in_quotes text ≡ Some characters
-finds_in_quotes text characters (inner, e, m) =
-    ap characters_in_quotes e ∙ finds (length inner) inner (34 ∷ []) characters m refl (omega arith)
+finds_in_quotes text characters (inner, e, (rest, m, (left, f, none))) =
+    ap characters_in_quotes e
+    ∙ finds (length inner) inner rest characters m (f ∙ ap (λ w. 34 ∷ w) none) (omega arith)
 
 stands_in_quotes : (text characters : List ℕ) → characters_in_quotes text ≡ Some characters
-    → InQuotes false text characters
+    → Quoted text characters
 stands_in_quotes [] characters e = absurd (cc)
 stands_in_quotes (c ∷ inner) characters e = at (c == 34) refl e where
   at : (b : Bool) → (c == 34) ≡ b
       → (if b then up_to_quote (length inner) inner else None) ≡ Some characters
-      → InQuotes false (c ∷ inner) characters
+      → Quoted (c ∷ inner) characters
   at true q e =
-      (inner, ap (λ x. x ∷ inner) (eqb-true c 34 q), finds_within (length inner) inner characters e)
+      let m = finds_within (length inner) inner characters e in
+      (inner, ap (λ x. x ∷ inner) (eqb-true c 34 q), (34 ∷ [], m, ([], refl, refl)))
   at false q e = absurd (cc)
 
 pub strings_have_one_value : StringsHaveOneValue

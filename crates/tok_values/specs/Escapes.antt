@@ -5,17 +5,20 @@ use Rattle.std.specs.Borrow.{Bor}
 use Rattle.std.specs.Str.{chars}
 use Rattle.std.specs.Char.{is_digit, digit_value}
 use lib.Utf8.{scalar}
+use Rattle.tok_lexical.specs.Ascii.{apostrophe, backslash, carriage_return, close_brace, digit_zero}
+use Rattle.tok_lexical.specs.Ascii.{line_feed, lower_n, lower_r, lower_t, lower_u, lower_x}
+use Rattle.tok_lexical.specs.Ascii.{open_brace, quote, tab}
 use Rattle.tok_lexical.specs.Pieces.{after_first, begins_with, from_first, up_to}
 use Rattle.tok_values.specs.Numbers.{is_digits, number}
 
 -- the character that `\n`, `\r`, `\t`, `\0`, `\\`, `\'` or `\"` names, by what is after the `\`
 abbrev pub simple : ℕ → Option ℕ
 simple c =
-    if c == 110 then Some 10 else
-    if c == 114 then Some 13 else
-    if c == 116 then Some 9 else
-    if c == 48 then Some 0 else
-    if (c == 92) || ((c == 39) || (c == 34)) then Some c else None
+    if c == lower_n then Some line_feed else
+    if c == lower_r then Some carriage_return else
+    if c == lower_t then Some tab else
+    if c == digit_zero then Some 0 else
+    if (c == backslash) || ((c == apostrophe) || (c == quote)) then Some c else None
 
 -- after `\x`: the number that two hexadecimal digits write, the first of them below a bound, and
 -- the text after them
@@ -44,9 +47,9 @@ and_rest (Some c) rest = Some (c, rest)
 abbrev pub code : List ℕ → Option (ℕ × List ℕ)
 code [] = None
 code (c ∷ text) =
-    let closed = from_first 125 text in
-    if (c == 123) && begins_with 125 closed
-    then and_rest (named_char (up_to 125 text)) (after_first closed)
+    let closed = from_first close_brace text in
+    if (c == open_brace) && begins_with close_brace closed
+    then and_rest (named_char (up_to close_brace text)) (after_first closed)
     else None
 
 -- After a `\`: the character that the escape names, and the text after it. In bytes `\x` goes up to
@@ -54,8 +57,8 @@ code (c ∷ text) =
 abbrev pub escape : (wide : Bool) → List ℕ → Option (ℕ × List ℕ)
 escape wide [] = None
 escape wide (c ∷ rest) =
-    if c == 120 then hex (if wide then 16 else 8) rest else
-    if c == 117 then (if wide then None else code rest) else
+    if c == lower_x then hex (if wide then 16 else 8) rest else
+    if c == lower_u then (if wide then None else code rest) else
     and_rest (simple c) rest
 
 -- what a function that looks for a character returns

@@ -1,9 +1,13 @@
 -- What integer literals mean (Rust Reference: Tokens, Integer literals).
-use Rattle.std.specs.Prelude.{◌≡◌, ◌≤◌, ◌^◌, ℕ, ◌==◌, ◌&&◌, List, [], ◌∷◌, true, if◌then◌else◌}
+use Rattle.std.specs.Prelude.{◌≡◌, ◌≤◌, ◌^◌, ◌⊎◌, ℕ, ◌==◌, ◌&&◌, List, [], ◌∷◌, true}
+use Rattle.std.specs.Prelude.{if◌then◌else◌}
 use Rattle.std.specs.Prelude.{Result, Ok, Err, codes}
 use Rattle.std.specs.Str.{chars}
+use Rattle.tok_lexical.specs.Ascii.{digit_zero, lower_b, lower_o, lower_x}
 use Rattle.tok_lexical.specs.Numbers.{IsNumberSuffix, has_digit, is_digit_or_underscore, starts_digit}
 use Rattle.tok_lexical.specs.Pieces.{Skips}
+use Rattle.tok_leaves.specs.IntegerTypes.{integer_type_name}
+use Rattle.tok_leaves.specs.declared.integer_type.IntegerType.{IntegerType}
 use Rattle.tok_values.specs.Numbers.{number}
 use Rattle.tok_values.specs.declared.integers.Integer.{Integer}
 use Rattle.tok_values.specs.declared.integers.IntegerFault.{IntegerFault}
@@ -14,9 +18,9 @@ abbrev pub base_of : List ℕ → ℕ × List ℕ
 base_of [] = (10, [])
 base_of (c ∷ []) = (10, c ∷ [])
 base_of (c ∷ (d ∷ rest)) =
-    if (c == 48) && (d == 120) then (16, rest) else
-    if (c == 48) && (d == 111) then (8, rest) else
-    if (c == 48) && (d == 98) then (2, rest) else (10, c ∷ (d ∷ rest))
+    if (c == digit_zero) && (d == lower_x) then (16, rest) else
+    if (c == digit_zero) && (d == lower_o) then (8, rest) else
+    if (c == digit_zero) && (d == lower_b) then (2, rest) else (10, c ∷ (d ∷ rest))
 
 -- digits of a base with their number, perhaps with underscores, and a suffix
 pub record IsDigits (radix : ℕ) (text suffix : List ℕ) (value : ℕ) : Type 0 where
@@ -30,6 +34,10 @@ pub record IsDigits (radix : ℕ) (text suffix : List ℕ) (value : ℕ) : Type 
 abbrev pub IsInteger : (text : List ℕ) → (value : ℕ) → (suffix : List ℕ) → Type 0
 IsInteger text value suffix =
     (starts_digit text ≡ true) × IsDigits (base_of text).0 (base_of text).1 suffix value
+
+-- no suffix, or the name of a type of integers
+abbrev pub IsIntegerSuffix : List ℕ → Type 0
+IsIntegerSuffix suffix = (suffix ≡ []) ⊎ ((type : IntegerType) × (suffix ≡ integer_type_name type))
 
 -- an integer is read; or the text is none, or one of a value that no `u64` has
 abbrev pub ReadsInteger : List ℕ → Result Integer IntegerFault → Type 0

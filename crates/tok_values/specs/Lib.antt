@@ -1,3 +1,4 @@
+pub mod CStrings
 pub mod Escapes
 pub mod Floats
 pub mod Integers
@@ -6,7 +7,9 @@ pub mod Numbers
 pub mod Private
 pub mod RawStrings
 pub mod Strings
+pub mod Suffixed
 pub mod Suffixes
+pub mod TypedNumbers
 pub mod Values
 pub use Rattle.tok_leaves.specs.Leaves
 pub use Rattle.tok_leaves.specs.Quoting

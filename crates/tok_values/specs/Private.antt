@@ -1,2 +1,3 @@
 -- Definitions that only contracts of private items cite.
 pub mod Plain
+pub mod Tails

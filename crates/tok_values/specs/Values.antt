@@ -6,6 +6,7 @@ use Rattle.std.specs.Prelude.{if◌then◌else◌}
 use Rattle.std.specs.List.{list_all}
 use Rattle.std.specs.Str.{chars}
 use Rattle.unicode_ident.specs.Ident.{is_xid_continue}
+use Rattle.tok_lexical.specs.Ascii.{quote}
 use Rattle.tok_lexical.specs.Numbers.{has_digit, is_digit_or_underscore, starts_digit}
 use Rattle.tok_lexical.specs.Numbers.{starts_number_suffix}
 use Rattle.tok_lexical.specs.Words.{is_identifier_start}
@@ -19,7 +20,7 @@ use Rattle.tok_values.specs.declared.integers.IntegerFault.TheVariants.{NotInteg
 -- a quote and nothing after it
 abbrev pub is_quote : List ℕ → Bool
 is_quote [] = false
-is_quote (c ∷ []) = c == 34
+is_quote (c ∷ []) = c == quote
 is_quote (c ∷ d ∷ rest) = false
 
 -- what a unit means, and after it what the rest of the text does
@@ -36,7 +37,8 @@ up_to_quote (suc most) text =
 -- the characters of a string literal without a suffix
 abbrev pub characters_in_quotes : List ℕ → Option (List ℕ)
 characters_in_quotes [] = None
-characters_in_quotes (c ∷ inner) = if c == 34 then up_to_quote (length inner) inner else None
+characters_in_quotes (c ∷ inner) =
+    if c == quote then up_to_quote (length inner) inner else None
 
 -- the value of a string literal without a suffix, in UTF-8
 unfoldable pub string_value : List ℕ → Option (List ℕ)
@@ -80,6 +82,10 @@ HasValue wanted (Err TooLarge) = MatchOption wanted ⊥ (λ i. 2 ^ 64 ≤ i.0)
 abbrev pub StringsHaveOneValue : Type 0
 StringsHaveOneValue =
     (text value : List ℕ) → IsStringValue text value ↔ (string_value text ≡ Some value)
+
+-- a text has at most one value
+abbrev pub HasOneValue : {A : Type 0} → (IsValue : List ℕ → A → Type 0) → Type 0
+HasOneValue {A} IsValue = (text : List ℕ) (a b : A) → IsValue text a → IsValue text b → a ≡ b
 
 -- the values and suffixes of integer literals
 abbrev pub IntegersHaveOneValue : Type 0

@@ -1,4 +1,4 @@
-//! What escapes name.
+//! Finds the characters that escapes stand for.
 ghost use Rattle.std.specs.Prelude.{◌≡◌, ◌<◌, ◌≤◌, IfSome, length, true};
 ghost use Rattle.std.specs.Str.{chars, IsUtf8};
 ghost use Rattle.tok_values.specs.Escapes.{FindsCharacter, char_of, code, escape, hex, named_char, simple};
@@ -71,8 +71,10 @@ fn code(text: &str) -> Option<(char, &str)>
     Some((named_char(digits)?, rest))
 }
 
-/// Returns the character that an escape names, and the text after it. `text` begins after its
-/// backslash. The escapes of bytes are `wide`.
+/// Returns the character that an escape stands for, and the rest of `text` after the escape.
+///
+/// `text` begins after the backslash. If `wide` is `true`, the digits after `\x` may exceed 7F, and
+/// `\u` is not an escape. Returns `None` if the escape is invalid.
 pub fn escape(text: &str, wide: bool) -> Option<(char, &str)>
     ensures finds { FindsCharacter (escape wide (chars text.now)) result }
     ensures utf8 { IfSome result (λ r. IsUtf8 r.1.now) }

@@ -1,5 +1,5 @@
-//! The values of floats.
-ghost use Rattle.std.specs.Prelude.{◌≡◌, IfOk};
+//! Finds the values of floats.
+ghost use Rattle.std.specs.Prelude.{◌≡◌, IfOk, None, Ok, false};
 ghost use Rattle.tok_values.specs.Floats.{begins_decimal, float_value, without_type};
 
 use std::alloc::{AllocError, Global};
@@ -25,9 +25,13 @@ fn without_type(bytes: &[u8]) -> &[u8]
     }
 }
 
-/// Returns the value of a float or a decimal integer, or `None` if the text is neither.
+/// Returns the `f64` nearest to the value of a float or a decimal integer, or `None` for any other
+/// text.
+///
+/// Returns an error if an allocation fails.
 pub fn float_value(alloc: Global, text: &str) -> Result<Option<f64>, AllocError>
-    ensures { IfOk result (λ value. value ≡ float_value text.now) }
+    ensures value { IfOk result (λ value. value ≡ float_value text.now) }
+    ensures others { begins_decimal text.now ≡ false → result ≡ Ok None }
 {
     let bytes = text.as_bytes();
     if !begins_decimal(bytes) {

@@ -1,4 +1,4 @@
-//! The values of integers.
+//! Finds the values of integers.
 ghost use Rattle.std.specs.Prelude.{◌≡◌, ◌<◌, ◌≤◌, ◌+◌, ◌*◌, ◌^◌, Some, SomeIff, ℕ, List, MatchBool, MatchOption, length};
 ghost use Rattle.std.specs.Str.{chars};
 ghost use Rattle.tok_lexical.specs.Numbers.{IsNumberSuffix, has_digit, is_digit_or_underscore, starts_digit};
@@ -12,23 +12,23 @@ use std::fmt::{Display, Formatter, Write};
 use tok_lexical::text::{begins_with, front_of, next_char, past_pair};
 use tok_lexical::words::is_identifier;
 
-/// The value of an integer literal, and its suffix, which is empty if there is none.
+/// The value and the suffix of an integer literal. If the literal has no suffix, `suffix` is empty.
 #[derive(Clone, Copy, Debug)]
 pub struct Integer<'a> {
     pub value: u64,
     pub suffix: &'a str,
 }
 
-/// Why a literal has no integer value.
+/// The reason why a literal has no integer value.
 #[derive(Clone, Copy, PartialEq, Eq, Debug)]
 pub enum IntegerFault {
-    /// It is no integer.
+    /// The literal is not an integer.
     NotInteger,
     /// The value is above `u64::MAX`.
     TooLarge,
 }
 
-/// Writes the reason in words.
+/// Writes a description of the reason.
 impl Display for IntegerFault {
     ghost output = { λ fault. Some (integer_fault_words fault) };
 
@@ -51,8 +51,14 @@ fn appended(value: u64, radix: u32, digit: u32) -> Option<u64>
         .checked_add(u64::from(digit))
 }
 
-/// Returns the number that the digits write, or `None` past `u64::MAX`. Other characters do not
-/// count.
+/// Returns the number that `digits` represents in base `radix`, or `None` if the number is above
+/// `u64::MAX`.
+///
+/// The call ignores characters that are not digits in this base.
+///
+/// # Requires
+///
+/// `radix` must be at least 2 and at most 16.
 pub fn number(digits: &str, radix: u32) -> Option<u64>
     requires low { 2 ≤ radix }
     requires high { radix ≤ 16 }
@@ -117,7 +123,12 @@ fn has_digit(text: &str, radix: u32) -> bool
     false
 }
 
-/// Returns `true` if the text is digits and underscores, and a digit is among them.
+/// Returns `true` if `text` consists of underscores and digits in base `radix`, with at least one
+/// digit.
+///
+/// # Requires
+///
+/// `radix` must be at least 2 and at most 16.
 pub fn is_digits(text: &str, radix: u32) -> bool
     requires low { 2 ≤ radix }
     requires high { radix ≤ 16 }
@@ -181,6 +192,9 @@ pub(crate) fn starts_digit(text: &str) -> bool
 }
 
 /// Returns the value and the suffix of an integer literal.
+///
+/// Returns `NotInteger` if `text` is not an integer literal, and `TooLarge` if the value is above
+/// `u64::MAX`.
 pub fn read_integer(text: &str) -> Result<Integer<'_>, IntegerFault>
     ensures { ReadsInteger (chars text.now) result }
 {

@@ -1,15 +1,16 @@
-//! The values of strings and characters.
-ghost use Rattle.std.specs.Prelude.{◌≡◌, ◌<◌, ◌≤◌, ◌+◌, ◌*◌, ◌++◌, ℕ, List, None, IfOk, IfSome, MatchBool, [], ◌∷◌, length, true, false, encode_utf8_all, string_bytes};
+//! Finds the values of strings and characters.
+ghost use Rattle.std.specs.Prelude.{◌≡◌, ◌<◌, ◌≤◌, ◌+◌, ◌*◌, ◌++◌, ℕ, List, None, Some, IfOk, IfSome, MatchOption, OnOk, [], length, true, false, encode_utf8_all, string_bytes};
 ghost use Rattle.std.specs.Str.{chars, IsUtf8};
 ghost use Rattle.tok_lexical.specs.Pieces.{Skips};
 ghost use Rattle.tok_values.specs.Private.Plain.{is_plain};
-ghost use Rattle.tok_values.specs.Strings.{Means, one_char, unit, without_blanks, is_blank, ends_line, past_escape, FindsUnit};
+ghost use Rattle.tok_values.specs.CStrings.{bytes_of, c_unit, names_byte};
+ghost use Rattle.tok_values.specs.Strings.{Means, MeansBy, characters_of, one_char, unit, without_blanks, is_blank, ends_line, past_escape, FindsUnit};
 ghost use Rattle.tok_values.specs.Escapes.{FindsCharacter};
 
 use crate::escapes::escape;
-use crate::plain::past_plain;
+use crate::plain::Plain;
 use std::alloc::AllocError;
-use tok_lexical::text::{begins_with, front_of, next_char, past_char, past_first};
+use tok_lexical::text::{begins_with, next_char, past_char, past_first, split_run};
 
 fn is_blank(c: char) -> bool
     ensures { result ≡ is_blank c }
@@ -73,24 +74,6 @@ fn unit(text: &str, wide: bool) -> Option<(Option<char>, &str)>
     }
 }
 
-/// Returns `true` if the text is this character alone.
-///
-/// # Requires
-///
-/// The character must be ASCII.
-pub fn is_only(text: &str, ch: char) -> bool
-    requires ascii { ch < 128 }
-    ensures { MatchBool result (chars text.now ≡ ch ∷ []) (chars text.now ≡ ch ∷ [] → ⊥) }
-{
-    let Some(rest) = past_char(text, ch) else {
-        return false;
-    };
-    match next_char(rest) {
-        Some(_) => false,
-        None => true,
-    }
-}
-
 // Returns how many bytes to reserve before `added` are appended and `left` more of the literal
 // follow: up to a power of two, but no more than the value may take. `reserve` may then ask for
 // more, since it at least doubles the room that it has.
@@ -117,8 +100,7 @@ fn push_plain<'a>(to: &mut String, text: &'a str) -> Result<&'a str, AllocError>
     ensures utf8 { IfOk result (λ rest. IsUtf8 rest.now) }
     ensures shorter { IfOk result (λ rest. length rest.now ≤ length text.now) }
 {
-    let rest = past_plain(text, false);
-    let front = front_of(text, rest);
+    let (front, rest) = split_run(text, &Plain { wide: false });
     if front.is_empty() {
         return Ok(rest);
     }
@@ -136,8 +118,7 @@ fn push_plain_bytes<'a>(to: &mut Vec<u8>, text: &'a str) -> Result<&'a str, Allo
     ensures utf8 { IfOk result (λ rest. IsUtf8 rest.now) }
     ensures shorter { IfOk result (λ rest. length rest.now ≤ length text.now) }
 {
-    let rest = past_plain(text, true);
-    let front = front_of(text, rest);
+    let (front, rest) = split_run(text, &Plain { wide: true });
     if front.is_empty() {
         return Ok(rest);
     }
@@ -146,9 +127,10 @@ fn push_plain_bytes<'a>(to: &mut Vec<u8>, text: &'a str) -> Result<&'a str, Allo
     Ok(rest)
 }
 
-/// Appends the characters of the leading units of `text`, and returns the rest.
+/// Appends the text that the leading characters and escapes of a string's contents stand for.
 ///
-/// A run of characters that mean themselves is appended whole: most texts are one.
+/// Returns the rest of `text`, which is empty or begins with a quote or an invalid part. Returns an
+/// error if an allocation fails.
 pub fn push_text<'a>(to: &mut String, text: &'a str) -> Result<&'a str, AllocError>
     ensures { IfOk result (λ rest. (characters : List ℕ)
         × Means false (chars text.now) (chars rest.now) characters
@@ -165,7 +147,10 @@ pub fn push_text<'a>(to: &mut String, text: &'a str) -> Result<&'a str, AllocErr
     Ok(rest)
 }
 
-/// Appends the bytes of the leading units of `text`, and returns the rest.
+/// Appends the bytes that the leading characters and escapes of a byte string's contents stand for.
+///
+/// Returns the rest of `text`, which is empty or begins with a quote or an invalid part. Returns an
+/// error if an allocation fails.
 pub fn push_bytes<'a>(to: &mut Vec<u8>, text: &'a str) -> Result<&'a str, AllocError>
     ensures { IfOk result (λ rest. (bytes : List ℕ)
         × Means true (chars text.now) (chars rest.now) bytes
@@ -182,7 +167,70 @@ pub fn push_bytes<'a>(to: &mut Vec<u8>, text: &'a str) -> Result<&'a str, AllocE
     Ok(rest)
 }
 
-/// Returns one character or one escape, and the text after it.
+// Returns `true` for an escape by which a C string names a byte.
+fn names_byte(text: &str) -> bool
+    ensures { result ≡ names_byte (chars text.now) }
+{
+    begins_with(text, '\\') && begins_with(past_first(text), 'x')
+}
+
+// Appends the byte that an escape names, or a character in UTF-8.
+fn push_meaning(to: &mut Vec<u8>, c: Option<char>, is_byte: bool) -> Result<(), AllocError>
+    requires narrow { is_byte ≡ true → IfSome c (λ c. c < 256) }
+    ensures { OnOk result
+        (to.new.items ≡ to.old.items ++ bytes_of is_byte (characters_of c)) }
+{
+    let Some(c) = c else {
+        return Ok(());
+    };
+    if is_byte {
+        to.extend_from_slice(&[c as u32 as u8])
+    } else {
+        to.extend_from_slice(c.encode_utf8(&mut [0; 4]).as_bytes())
+    }
+}
+
+// Appends the bytes that the front of a C string means, and returns the text after it. Appends
+// nothing if the front is no unit.
+fn push_c_unit<'a>(to: &mut Vec<u8>, text: &'a str) -> Result<Option<&'a str>, AllocError>
+    ensures value { IfOk result (λ found. MatchOption found
+        ((c_unit (chars text.now) ≡ None) × (to.new.items ≡ to.old.items))
+        (λ rest. (bytes : List ℕ) × (c_unit (chars text.now) ≡ Some (bytes, chars rest.now))
+        × (to.new.items ≡ to.old.items ++ bytes))) }
+    ensures utf8 { IfOk result (λ found. IfSome found (λ rest. IsUtf8 rest.now)) }
+    ensures shorter { IfOk result (λ found. IfSome found
+        (λ rest. length rest.now < length text.now)) }
+{
+    let is_byte = names_byte(text);
+    let Some((c, rest)) = unit(text, is_byte) else {
+        return Ok(None);
+    };
+    push_meaning(to, c, is_byte)?;
+    Ok(Some(rest))
+}
+
+/// Appends the bytes that the leading characters and escapes of a C string's contents stand for.
+///
+/// Returns the rest of `text`, which is empty or begins with a quote or an invalid part. Returns an
+/// error if an allocation fails.
+pub fn push_c_bytes<'a>(to: &mut Vec<u8>, text: &'a str) -> Result<&'a str, AllocError>
+    ensures { IfOk result (λ rest. (bytes : List ℕ)
+        × MeansBy c_unit (chars text.now) (chars rest.now) bytes
+        × (to.new.items ≡ to.old.items ++ bytes)
+        × (c_unit (chars rest.now) ≡ None)) }
+{
+    let mut rest = text;
+    while let Some(after) = push_c_unit(to, rest)? {
+        rest = after;
+    }
+    Ok(rest)
+}
+
+/// Returns the character that the first character or escape of `text` stands for, and the rest of
+/// `text`.
+///
+/// If `wide` is `true`, the rules of byte literals apply. Returns `None` if `text` begins with
+/// neither a valid character nor an escape.
 pub fn one_char(text: &str, wide: bool) -> Option<(char, &str)>
     ensures finds { FindsCharacter (one_char wide (chars text.now)) result }
     ensures utf8 { IfSome result (λ r. IsUtf8 r.1.now) }

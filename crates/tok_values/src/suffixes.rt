@@ -1,10 +1,12 @@
-//! The suffixes of literals.
-ghost use Rattle.std.specs.Prelude.{◌≡◌, ◌≤◌, ◌++◌, []};
+//! Finds the suffixes of literals.
+ghost use Rattle.std.specs.Prelude.{◌≡◌, ◌≤◌, ◌++◌, [], MatchBool};
 ghost use Rattle.std.specs.Str.{chars};
+ghost use Rattle.tok_lexical.specs.Words.{IsSuffix};
 ghost use Rattle.tok_values.specs.Suffixes.{after_digits, after_exponent, after_fraction, after_marks, after_sign, is_mark, literal_suffix, number_suffix, without_minus};
 
 use crate::integers::{base_of, past_digits, starts_digit};
 use tok_lexical::text::{begins_with, front_of, next_char, past_first};
+use tok_lexical::words::is_identifier;
 
 // Returns `true` for what a string or a character may end with.
 fn is_mark(c: char) -> bool
@@ -91,7 +93,7 @@ fn without_minus(text: &str) -> &str
     }
 }
 
-/// Returns the suffix of a literal with this text.
+/// Returns the suffix of the literal `text`, or an empty text if the literal has no suffix.
 pub fn literal_suffix(text: &str) -> &str
     ensures { chars result.now ≡ literal_suffix (chars text.now) }
 {
@@ -103,9 +105,16 @@ pub fn literal_suffix(text: &str) -> &str
     }
 }
 
-/// Returns the text of a literal without its suffix.
+/// Returns the literal `text` without its suffix.
 pub fn before_suffix(text: &str) -> &str
     ensures { chars result.now ++ literal_suffix (chars text.now) ≡ chars text.now }
 {
     front_of(text, literal_suffix(text))
+}
+
+/// Returns `true` if `text` is empty or an identifier, as a suffix must be.
+pub fn is_suffix(text: &str) -> bool
+    ensures { MatchBool result (IsSuffix (chars text.now)) (IsSuffix (chars text.now) → ⊥) }
+{
+    text.is_empty() || is_identifier(text)
 }

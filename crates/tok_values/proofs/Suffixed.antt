@@ -1,0 +1,132 @@
+-- Quotes and apostrophes with a suffix after them, and the units of C strings.
+use Rattle.std.proofs.Common.{◌≡◌, ◌∙◌, ◌∷◌, [], ap, Bool, false, List, None, Option, Some, subst}
+use Rattle.std.proofs.Common.{inl, inr, refl, sym, true, ℕ}
+use Rattle.std.specs.Ffi.{HasNoNul}
+use Rattle.std.specs.Prelude.{◌==◌, ◌⊎◌, Err, IfOk, length, MatchBool, MatchOption, Ok, option_map}
+use Rattle.std.specs.Prelude.{Result}
+use Rattle.std.specs.Str.{chars, IsUtf8}
+use Rattle.std.proofs.lemmas.Bool.{false≢true}
+use Rattle.std.proofs.lemmas.Str.{chars-nil}
+use Rattle.tok_lexical.specs.Pieces.{After, begins_with}
+use Rattle.tok_lexical.specs.Words.{IsIdentifier, IsSuffix}
+use Rattle.tok_lexical.proofs.EscapedChars.{tails}
+use Rattle.tok_leaves.proofs.Names.{no_text, some_chars}
+use Rattle.tok_values.specs.CStrings.{bytes_of, c_unit, names_byte}
+use Rattle.tok_values.specs.Strings.{InQuotes, MeansBy, unit}
+use Rattle.tok_values.specs.Suffixed.{IsCStrValue, IsStringBy}
+use Rattle.tok_values.proofs.RawStrings.{no_raw, raw_once}
+use Rattle.tok_values.proofs.Units.{read_once}
+
+pub no_suffix : (text : List ℕ) (b : Bool) → b ≡ (length text == 0) → b ≡ true →
+    MatchBool b (IsSuffix (chars text)) (IsSuffix (chars text) → ⊥)
+no_suffix text true e h = inl (ap chars (no_text text (sym e)) ∙ chars-nil)
+no_suffix text false e h = absurd (false≢true h)
+
+pub no_rest : (text : List ℕ) (b : Bool) → IsUtf8 text → b ≡ (length text == 0) →
+    MatchBool b (chars text ≡ []) (chars text ≡ [] → ⊥)
+no_rest text true u e = ap chars (no_text text (sym e)) ∙ chars-nil
+no_rest text false u e = some_chars text u (sym e)
+
+pub some_suffix : (text : List ℕ) (b : Bool) → IsUtf8 text → (length text == 0) ≡ false →
+    MatchBool b (IsIdentifier (chars text)) (IsIdentifier (chars text) → ⊥) →
+    MatchBool b (IsSuffix (chars text)) (IsSuffix (chars text) → ⊥)
+some_suffix text true u some h = inr h
+some_suffix text false u some h =
+    λ s. elim s [ inl e ↦ some_chars text u some e | inr i ↦ h i ]
+
+-- quotes are read, or no others are there
+module _ (Tail : List ℕ → Type 0) (unit_of : List ℕ → Option (List ℕ × List ℕ))
+    (stops : (rest : List ℕ) → unit_of (34 ∷ rest) ≡ None) (text inner rest meaning : List ℕ)
+    (cut : text ≡ 34 ∷ inner) (reads : MeansBy unit_of inner rest meaning) where
+  pub quoted : After 34 Tail rest → InQuotes Tail unit_of text meaning
+  quoted h = (inner, cut, (rest, reads, h))
+
+  pub not_quoted : unit_of rest ≡ None → (After 34 Tail rest → ⊥) → (other : List ℕ) →
+      InQuotes Tail unit_of text other → ⊥
+  not_quoted ends never other (inside, e, (left, read, (suffix, f, s))) =
+      let same = tails 34 34 inside inner (sym e ∙ cut) in
+      let one = read_once unit_of inner left rest other meaning
+      (subst (λ x. MeansBy unit_of x left other) same read) reads
+      (ap unit_of f ∙ stops suffix) ends in
+      never (suffix, sym one.0 ∙ f, s)
+
+pub quote_stops : (wide : Bool) (rest : List ℕ) → unit wide (34 ∷ rest) ≡ None
+quote_stops wide rest = refl
+
+pub c_quote_stops : (rest : List ℕ) → c_unit (34 ∷ rest) ≡ None
+c_quote_stops rest = refl
+
+-- the front of a C string is no unit, or it is one
+pub c_none : (text : List ℕ) (is_byte : Bool) → is_byte ≡ names_byte text → unit is_byte text ≡ None
+    → c_unit text ≡ None
+c_none text is_byte e h =
+    ap (λ b. option_map (λ p. (bytes_of b p.0, p.1)) (unit b text)) (sym e)
+    ∙ ap (option_map (λ p. (bytes_of is_byte p.0, p.1))) h
+
+pub c_some : (text characters rest : List ℕ) (is_byte : Bool) → is_byte ≡ names_byte text →
+    unit is_byte text ≡ Some (characters, rest) →
+    c_unit text ≡ Some (bytes_of is_byte characters, rest)
+c_some text characters rest is_byte e h =
+    ap (λ b. option_map (λ p. (bytes_of b p.0, p.1)) (unit b text)) (sym e)
+    ∙ ap (option_map (λ p. (bytes_of is_byte p.0, p.1))) h
+
+-- a string has one value
+module _ (unit_of : List ℕ → Option (List ℕ × List ℕ))
+    (stops : (rest : List ℕ) → unit_of (34 ∷ rest) ≡ None) where
+  pub quotes_once : (text a b : List ℕ) → InQuotes IsSuffix unit_of text a →
+      InQuotes IsSuffix unit_of text b → a ≡ b
+  quotes_once text a b (inner, cut, (rest, read, (suffix, e, s)))
+      (inside, f, (left, other, (end, g, t))) =
+      let same = tails 34 34 inside inner (sym f ∙ cut) in
+      (read_once unit_of inner rest left a b read (subst (λ x. MeansBy unit_of x left b) same other)
+      (ap unit_of e ∙ stops suffix) (ap unit_of g ∙ stops end)).1
+
+  pub string_once : (text a b : List ℕ) → IsStringBy unit_of text a → IsStringBy unit_of text b →
+      a ≡ b
+  string_once text a b (inl p) (inl q) = quotes_once text a b p q
+  string_once text a b (inl p) (inr q) = absurd (no_raw text (ap (begins_with 114) p.1) b q)
+  string_once text a b (inr p) (inl q) = absurd (no_raw text (ap (begins_with 114) q.1) a p)
+  string_once text a b (inr p) (inr q) = raw_once text a b p q
+
+-- what the functions of the crate return
+module _ {S E : Type 0} (bytes : S → List ℕ) where
+  -- of texts that are no raw string
+  pub or_raw : (P Q : List ℕ → Type 0) (r : Result (Option S) E) →
+      IfOk r (λ o. MatchOption o ((v : List ℕ) → P v → ⊥) (λ s. P (bytes s))) →
+      ((v : List ℕ) → Q v → ⊥) →
+      IfOk r (λ o. MatchOption o ((v : List ℕ) → (P v ⊎ Q v) → ⊥) (λ s. P (bytes s) ⊎ Q (bytes s)))
+  or_raw P Q (Ok (Some s)) h none = inl h
+  or_raw P Q (Ok None) h none = λ v w. elim w [ inl p ↦ h v p | inr q ↦ none v q ]
+  or_raw P Q (Err e) h none = tt
+
+  -- after a letter
+  pub after_letter : (P : List ℕ → List ℕ → Type 0) (letter : ℕ) (text string : List ℕ) →
+      text ≡ letter ∷ string → (r : Result (Option S) E) →
+      IfOk r (λ o. MatchOption o ((v : List ℕ) → P string v → ⊥) (λ s. P string (bytes s))) →
+      IfOk r (λ o. MatchOption o ((v : List ℕ) → After letter (λ w. P w v) text → ⊥)
+      (λ s. After letter (λ w. P w (bytes s)) text))
+  after_letter P letter text string e (Ok (Some s)) h = (string, e, h)
+  after_letter P letter text string e (Ok None) h =
+      λ v (w, f, p). h v (subst (λ x. P x v) (tails letter letter w string (sym f ∙ e)) p)
+  after_letter P letter text string e (Err x) h = tt
+
+  -- with a zero after the bytes
+  pub c_ended : (text string read : List ℕ) → text ≡ 99 ∷ string → IsStringBy c_unit string read →
+      (r : Result (Option S) E) →
+      IfOk r (λ o. MatchOption o (HasNoNul read → ⊥) (λ s. (bytes s ≡ read) × HasNoNul read)) →
+      IfOk r (λ o. MatchOption o ((v : List ℕ) → IsCStrValue text v → ⊥)
+      (λ s. IsCStrValue text (bytes s)))
+  c_ended text string read e is (Ok (Some s)) h = (
+    (string, e, subst (IsStringBy c_unit string) (sym h.0) is),
+    subst HasNoNul (sym h.0) h.1,
+  )
+  c_ended text string read e is (Ok None) h =
+      λ v ((w, f, p), some).
+      let one = subst (λ x. IsStringBy c_unit x v) (tails 99 99 w string (sym f ∙ e)) p in
+      h (subst HasNoNul (string_once c_unit c_quote_stops string v read one is) some)
+  c_ended text string read e is (Err x) h = tt
+
+pub c_other : (text string : List ℕ) → text ≡ 99 ∷ string →
+    ((v : List ℕ) → IsStringBy c_unit string v → ⊥) → (v : List ℕ) → IsCStrValue text v → ⊥
+c_other text string e none v ((w, f, p), some) =
+    none v (subst (λ x. IsStringBy c_unit x v) (tails 99 99 w string (sym f ∙ e)) p)
