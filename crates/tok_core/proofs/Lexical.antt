@@ -9,3 +9,4 @@ pub mod Runs
 pub mod Only
 pub mod Laws
 pub mod Visible
+pub mod Explained

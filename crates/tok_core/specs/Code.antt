@@ -27,69 +27,82 @@ LeafCode = (List ℕ × SpanCode) ⊎ ((ℕ × (Bool × SpanCode)) ⊎ (List ℕ
 abbrev pub ItemCode : Type 0
 ItemCode = Unit {0} ⊎ (LeafCode ⊎ (ℕ × SpanCode))
 
--- the code of each part of a tree, the part that a code stands for, and the proof that the
--- second of these undoes the first
+-- the code of an origin: `None` for the call site
 abbrev pub origin_code : Origin → SpanCode
 origin_code CallSite = None
 origin_code (Source n a b) = Some (n, (a, b))
 
+-- the origin that a code stands for
 abbrev pub place_of : SpanCode → Origin
 place_of None = CallSite
 place_of (Some c) = Source c.0 c.1.0 c.1.1
 
+-- decoding an origin undoes its encoding
 pub origin_back : (p : Origin) → place_of (origin_code p) ≡ p
 origin_back CallSite = refl
 origin_back (Source n a b) = refl
 
+-- the code of a span
 abbrev pub span_code : Span → SpanCode
 span_code s = origin_code s.origin
 
+-- the span that a code stands for
 abbrev pub span_of : SpanCode → Span
 span_of c = record { origin = place_of c }
 
+-- decoding a span undoes its encoding
 pub span_back : (s : Span) → span_of (span_code s) ≡ s
 span_back s = ap (λ p. record { origin = p }) (origin_back s.origin)
 
+-- the code of a spacing
 abbrev pub spacing_code : Spacing → Bool
 spacing_code Alone = false
 spacing_code Joint = true
 
+-- the spacing that a code stands for
 abbrev pub spacing_of : Bool → Spacing
 spacing_of false = Alone
 spacing_of true = Joint
 
+-- decoding a spacing undoes its encoding
 pub spacing_back : (s : Spacing) → spacing_of (spacing_code s) ≡ s
 spacing_back Alone = refl
 spacing_back Joint = refl
 
+-- the code of a delimiter
 abbrev pub delimiter_code : Delimiter → ℕ
 delimiter_code delimiter.Parenthesis = 0
 delimiter_code delimiter.Brace = 1
 delimiter_code delimiter.Bracket = 2
 delimiter_code delimiter.None = 3
 
+-- the delimiter that a code stands for
 abbrev pub delimiter_of : ℕ → Delimiter
 delimiter_of zero = delimiter.Parenthesis
 delimiter_of (suc zero) = delimiter.Brace
 delimiter_of (suc (suc zero)) = delimiter.Bracket
 delimiter_of (suc (suc (suc n))) = delimiter.None
 
+-- decoding a delimiter undoes its encoding
 pub delimiter_back : (d : Delimiter) → delimiter_of (delimiter_code d) ≡ d
 delimiter_back delimiter.Parenthesis = refl
 delimiter_back delimiter.Brace = refl
 delimiter_back delimiter.Bracket = refl
 delimiter_back delimiter.None = refl
 
+-- the code of a leaf
 abbrev pub leaf_code : Leaf → LeafCode
 leaf_code (ident text span) = inl (text, span_code span)
 leaf_code (punct c spacing span) = inr (inl (c, (spacing_code spacing, span_code span)))
 leaf_code (literal text span) = inr (inr (text, span_code span))
 
+-- the leaf that a code stands for
 abbrev pub leaf_of : LeafCode → Leaf
 leaf_of (inl c) = ident c.0 (span_of c.1)
 leaf_of (inr (inl c)) = punct c.0 (spacing_of c.1.0) (span_of c.1.1)
 leaf_of (inr (inr c)) = literal c.0 (span_of c.1)
 
+-- decoding a leaf undoes its encoding
 pub leaf_back : (l : Leaf) → leaf_of (leaf_code l) ≡ l
 leaf_back (ident text span) = ap (ident text) (span_back span)
 leaf_back (punct c spacing span) =

@@ -7,6 +7,7 @@ use Rattle.tok_leaves.specs.Leaves.{Leaf, ident, punct, literal, leaf_span}
 
 -- a forest is a list of trees
 mutual
+  -- a leaf, or a group: its delimiter, what is inside, and its span
   pub data Tree : Type 0 where
     leaf : Leaf → Tree
     group : Delimiter → Forest → Span → Tree

@@ -1,5 +1,5 @@
 -- The printed text of a forest.
-use Rattle.std.specs.Prelude.{Bool, true, false, cond, ℕ, List, [], ◌++◌, codes}
+use Rattle.std.specs.Prelude.{Bool, true, false, if◌then◌else◌, ℕ, List, [], ◌++◌, codes}
 use Rattle.tok_lexical.specs.Delimiters.{opening, closing}
 use Rattle.tok_leaves.specs.declared.punct.Spacing.TheVariants.{Joint}
 use Rattle.tok_leaves.specs.Leaves.{punct, leaf_text}
@@ -12,7 +12,7 @@ is_joint_tree t = false
 
 -- the space before a tree: none if no tree comes before, or if a joint punct does
 abbrev pub space : Bool → List ℕ
-space glued = cond glued [] (codes " ")
+space glued = if glued then [] else codes " "
 
 abbrev mutual
   -- the text of a leaf, or of a group with its delimiters

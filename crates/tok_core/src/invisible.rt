@@ -1,4 +1,4 @@
-//! Streams and their invisible groups.
+//! Tests and comparisons of streams that contain invisible groups.
 ghost use Rattle.std.specs.Prelude.{◌≡◌, ◌≤◌, ◌+◌, ◌↔◌, false, IfOk, IfSome, MatchOption, true};
 ghost use Rattle.tok_core.specs.Clear.{clear, tree_clear, ends_joint, is_joint_apostrophe, is_invisible_group};
 ghost use Rattle.tok_core.specs.Erase.{erase};
@@ -15,7 +15,9 @@ use std::alloc::{AllocError, Global};
 use tok_leaves::same::{same_ident, same_literal, same_punct};
 use tok_leaves::{Delimiter, Spacing};
 
-/// Returns `true` if each invisible group, at any depth, contains a visible tree.
+/// Returns `true` if every invisible group in `stream`, at any depth, contains a visible tree.
+///
+/// A visible tree is any token tree except an invisible group.
 #[cycle(filled)]
 pub fn is_filled(stream: &TokenStream) -> bool
     ensures { result ≡ filled stream.now }
@@ -42,8 +44,10 @@ fn is_tree_filled(next: &TokenTree) -> bool
     }
 }
 
-/// Returns `true` if no joint apostrophe, at any depth, is directly before an invisible group or
-/// last in one.
+/// Returns `true` unless a joint apostrophe is directly before an invisible group, or is the last
+/// tree of an invisible group.
+///
+/// The call examines the stream and the contents of all its groups.
 #[cycle(clear)]
 pub fn is_clear(stream: &TokenStream) -> bool
     ensures { result ≡ clear stream.now }
@@ -108,10 +112,12 @@ fn is_invisible_group(next: &TokenTree) -> bool
     }
 }
 
-/// Returns `true` if two streams are equal, spans included, once their invisible groups are erased.
+/// Returns `true` if `left` and `right` are equal, including their spans, apart from invisible
+/// groups.
 ///
-/// It compares the visible trees in turn, and rebuilds neither stream. Memory: one list entry for
-/// each invisible group around the current trees. Returns an error if an allocation fails.
+/// The call compares the streams as if the contents of each invisible group replaced the group. It
+/// creates no new stream, and allocates one list entry for each invisible group around the trees
+/// that it is comparing. Returns an error if an allocation fails.
 #[cycle(same)]
 pub fn same_visible(
     alloc: Global,

@@ -1,4 +1,4 @@
-//! The lexer: from a text to trees, or to what a builder makes of them.
+//! The lexer, which reads a text into token trees, or into any other value that a builder creates.
 ghost use Rattle.std.specs.Prelude.{◌≡◌, [], true, IfOk, IfErr, ◌+◌, ◌<◌, ◌^◌, length};
 ghost use Rattle.std.specs.Str.{chars};
 ghost use Rattle.tok_lexical.specs.Contents.{has_return};
@@ -37,15 +37,16 @@ fn may_have_return(mode: Mode, text: &str) -> bool
     }
 }
 
-/// Reads a text in `mode` into `builder`. Callers that want trees call `lex`.
+/// Lexes a text, and passes its tokens to a builder. To lex a text into token trees, call `lex`.
 ///
-/// The text begins at byte `start` of source `source`. Returns `Refused` if the grammar rejects the
-/// text, and `Memory` if an allocation fails; the builder is then dropped.
+/// `text` begins at byte `start` of source number `source`, and `mode` selects its grammar. Returns
+/// `Refused` if the grammar rejects `text`, and `Memory` if an allocation fails. If there is an
+/// error, the call drops `builder`.
 ///
 /// # Requires
 ///
-/// - The text must end before byte 2^64.
-/// - The builder must be empty.
+/// - `start + text.len()` must be less than 2^64.
+/// - `builder` must be empty.
 //
 // The time is linear in the text: pieces are taken off its front in turn, and each is looked at a
 // fixed number of times. A rule that looks far and then doesn't fit leads to an error, as for an
@@ -117,10 +118,17 @@ fn read_trees(
     }
 }
 
-/// Lexes `text`, a text of tokens. Spans in the result refer to source number `source`.
+/// Lexes `text` into a token stream.
 ///
-/// Doc comments are rejected; `lex_source` reads them. Returns `Refused` with a rule's number and a
-/// byte if the text is not in the grammar, and `Memory` if an allocation fails.
+/// `text` must not contain doc comments. To lex a text with doc comments, call `lex_source`. The
+/// spans of the result refer to source number `source`.
+///
+/// A string in `text` may contain a carriage return that is not directly before a line feed. The
+/// method `string_value` returns the value of such a string only if a `\` before a line ending
+/// skips the carriage return.
+///
+/// Returns `Refused` with a rule number and a byte position if the grammar rejects `text`. Returns
+/// `Memory` if an allocation fails.
 ///
 /// # Examples
 ///
@@ -134,11 +142,12 @@ pub fn lex(alloc: Global, source: u32, text: &str) -> Result<TokenStream, LexFau
     read_trees(alloc, source, Mode::Plain, 0, text)
 }
 
-/// Lexes `text`, in which the marks `«` and `»` open and close invisible groups, as macros leave
-/// them.
+/// Lexes a text in which `«` and `»` are the delimiters of invisible groups.
 ///
-/// Spans count bytes as if the marks were absent. Returns `Refused` with a rule's number and a byte
-/// if the text is not in the grammar of marked texts, and `Memory` if an allocation fails.
+/// The spans of the result do not count the bytes of `«` and `»`. A string may contain a carriage
+/// return that is not directly before a line feed, as for `lex`. Returns `Refused` with a rule
+/// number and a byte position if the grammar rejects `text`. Returns `Memory` if an allocation
+/// fails.
 ///
 /// # Examples
 ///
@@ -154,11 +163,11 @@ pub fn lex_marked(alloc: Global, source: u32, text: &str) -> Result<TokenStream,
     read_trees(alloc, source, Mode::Marked, 0, text)
 }
 
-/// Lexes a whole Rust source of an edition.
+/// Lexes a whole Rust source of the edition `edition`.
 ///
-/// A doc comment becomes an attribute. A byte order mark and a shebang line at the start are
-/// skipped, and spans count their bytes. Returns `Refused` with a rule's number and a byte if the
-/// text is not in the grammar of that edition, and `Memory` if an allocation fails.
+/// Each doc comment becomes an attribute. The call skips a byte order mark and a shebang line at
+/// the start, but spans count their bytes. Returns `Refused` with a rule number and a byte position
+/// if the grammar of the edition rejects `text`. Returns `Memory` if an allocation fails.
 ///
 /// # Examples
 ///

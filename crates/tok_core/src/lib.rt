@@ -1,7 +1,8 @@
-//! Token trees: identifiers, puncts, literals and groups in streams, each with a span; and the
-//! lexer, which reads a text into them.
+//! Token trees, and a lexer that reads a text into token trees.
 //!
-//! Contracts see a stream as a forest (`specs/Forest.antt`). The leaves are those of `tok_leaves`.
+//! A token tree is an identifier, a punct, a literal or a group, and has a span. Contracts describe
+//! a token stream as a forest (`specs/Forest.antt`). The crate `tok_leaves` defines identifiers,
+//! puncts and literals.
 #![tactic(auto)]
 
 mod group;
@@ -19,13 +20,13 @@ pub use lexer::{Build, LexError, LexFault, lex, lex_marked, lex_source, read};
 pub use stream::{TokenStream, TokenTree};
 pub use to_tokens::ToTokens;
 pub use tok_leaves::{
-    DelimSpan, Delimiter, Ident, IdentFault, Lifetime, LifetimeFault, Literal, LiteralFault,
-    MakeFault, Punct, Spacing, Span, Text, same,
+    DelimSpan, Delimiter, Ident, IdentFault, IntegerType, Lifetime, LifetimeFault, Literal,
+    LiteralFault, MakeFault, Punct, Spacing, Span, Text, same,
 };
 pub use tok_lexical::Edition;
 pub use tt::{TokenStreamHelper, TokenTreeHelper};
 
-/// Leaves of texts that the caller has proved to be right.
+/// Creates identifiers and puncts from texts that the caller has proved to be valid.
 pub mod known {
     pub use tok_leaves::known::{identifier, punct};
 }

@@ -1,4 +1,4 @@
-//! The text of a stream.
+//! Writes token streams as text.
 ghost use Rattle.std.specs.Prelude.{◌≡◌, ◌++◌, codes, encode_utf8, Some};
 ghost use Rattle.std.specs.Fmt.{WritesOnOk};
 ghost use Rattle.tok_core.specs.Seen.{group_of, tree_of};
@@ -36,7 +36,7 @@ impl fmt::Display for Group {
     }
 }
 
-/// Writes the text, as `TokenStream(a b)`.
+/// Writes the text of the stream in parentheses, as in `TokenStream(a b)`.
 impl Debug for TokenStream {
     ghost debug_output = { λ s. Some (codes "TokenStream(" ++ spec.text s ++ codes ")") };
 
@@ -45,7 +45,7 @@ impl Debug for TokenStream {
     }
 }
 
-/// Writes the text and the span, as `Group((a b), Span { .. })`.
+/// Writes the text and the span of the group, as in `Group((a b), Span { .. })`.
 impl Debug for Group {
     fn fmt<W: Write>(&self, f: &mut Formatter<W>) -> fmt::Result {
         write!(f, "Group({self}, {:?})", self.span())

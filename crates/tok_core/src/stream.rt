@@ -1,4 +1,4 @@
-//! Streams of trees.
+//! Token streams and token trees.
 ghost use Rattle.std.specs.Prelude.{◌≡◌, ◌+◌, not, min, IfOk, IsOk, OnOk, OnErr};
 ghost use Rattle.std.specs.Slice.Iter.{iter_rest};
 ghost use Rattle.std.specs.Vec.Iter.{into_iter_items};
@@ -16,7 +16,7 @@ use std::marker::Model;
 use std::{slice, vec};
 use tok_leaves::{Ident, Literal, Punct, Span};
 
-/// A list of trees. Contracts see it as a forest.
+/// A sequence of token trees. Contracts describe a stream as a `Forest`, which is a list of trees.
 ///
 /// # Examples
 ///
@@ -33,7 +33,7 @@ pub struct TokenStream {
     alloc: Global,
 }
 
-/// A leaf or a group.
+/// A single token, or a group of token trees between delimiters.
 #[cycle(trees)]
 #[derive(Drop, Debug)]
 pub enum TokenTree {
@@ -65,7 +65,9 @@ impl Model for TokenStream {
 }
 
 impl TokenStream {
-    /// Creates an empty stream. It allocates only when a tree is appended.
+    /// Creates an empty stream.
+    ///
+    /// The stream does not allocate until a tree is appended.
     pub fn new(alloc: Global) -> TokenStream
         ensures { result ≡ no_trees }
     {
@@ -75,9 +77,9 @@ impl TokenStream {
         }
     }
 
-    /// Creates an empty stream with room for so many trees.
+    /// Creates an empty stream with room for at least `capacity` trees.
     ///
-    /// Returns an error if the allocation fails. Room for no tree takes no memory.
+    /// Returns an error if the allocation fails. If `capacity` is 0, the call does not allocate.
     pub fn with_capacity(alloc: Global, capacity: usize) -> Result<TokenStream, AllocError>
         ensures empty { IfOk result (λ s. s ≡ no_trees) }
         ensures succeeds { capacity ≡ 0 → IsOk result }
@@ -86,9 +88,9 @@ impl TokenStream {
         Ok(TokenStream { trees, alloc })
     }
 
-    /// Creates a stream of these trees, in order.
+    /// Creates a stream that contains `trees`, in order.
     ///
-    /// Returns an error if the allocation fails. The trees are then dropped.
+    /// If the allocation fails, the call returns an error and drops the trees.
     ///
     /// # Examples
     ///
@@ -108,14 +110,19 @@ impl TokenStream {
         Ok(TokenStream::of_trees(alloc, trees))
     }
 
-    /// Returns the allocator of the trees. A program has one `Global`, so all streams share it.
+    /// Returns the allocator of the stream.
+    ///
+    /// All streams have the same allocator, because a program has only one `Global`.
     pub fn allocator(&self) -> Global
         ensures { IsTheOnly result }
     {
         self.alloc
     }
 
-    /// Appends a tree. If the allocation fails, the stream is unchanged and the tree is dropped.
+    /// Appends a tree to the stream.
+    ///
+    /// If the allocation fails, the call returns an error, leaves the stream unchanged, and drops
+    /// the tree.
     #[inline(always)]
     pub fn append(&mut self, next: TokenTree) -> Result<(), AllocError>
         ensures ok { OnOk result (self.new ≡ concat self.old (tree (tree_of next) no_trees)) }
@@ -125,9 +132,10 @@ impl TokenStream {
         Ok(())
     }
 
-    /// Appends the trees of another stream, in order.
+    /// Appends the trees of `other` to the stream, in order.
     ///
-    /// If the allocation fails, the stream is unchanged and the trees are dropped.
+    /// If the allocation fails, the call returns an error, leaves the stream unchanged, and drops
+    /// `other`.
     pub fn extend(&mut self, other: TokenStream) -> Result<(), AllocError>
         ensures ok { OnOk result (self.new ≡ concat self.old other) }
         ensures err { OnErr result (self.new ≡ self.old) }
@@ -144,29 +152,34 @@ impl TokenStream {
         TokenStream { trees, alloc }
     }
 
-    /// Returns the trees in order.
+    /// Returns the trees of the stream as a slice, in order.
     pub fn trees(&self) -> &[TokenTree]
         ensures { trees_of result.now ≡ self.now }
     {
         self.trees.as_slice()
     }
 
-    /// Takes the trees out of the stream, in order.
+    /// Converts the stream into a vector of its trees, in order.
     pub fn into_trees(self) -> Vec<TokenTree>
         ensures { trees_of result.items ≡ self }
     {
         self.trees
     }
 
-    /// Returns `true` if there is no tree. A stream of one empty invisible group has a tree.
+    /// Returns `true` if the stream contains no trees.
+    ///
+    /// A stream that contains only an empty invisible group is not empty.
     pub fn is_empty(&self) -> bool
         ensures { has_trees self.now ≡ not result }
     {
         self.trees.is_empty()
     }
 
-    /// Counts the leaves, and each group's opening and closing. Returns `usize::MAX` if there are
-    /// more.
+    /// Returns the number of identifiers, puncts and literals in the stream, plus two for each
+    /// group.
+    ///
+    /// The call counts trees at every depth. If the number exceeds `usize::MAX`, the call returns
+    /// `usize::MAX`.
     #[tactic(auto, using(crate::proofs::Weights::weight_counted))]
     pub fn weight(&self) -> usize
         ensures { result ≡ min (weight self.now) usize.MAX }
@@ -190,7 +203,7 @@ impl TokenStream {
     }
 }
 
-/// Copies the stream, spans included.
+/// Copies the stream and all spans in it.
 impl Clone for TokenStream {
     ghost is_clone = { λ s t. t ≡ s };
 
@@ -223,7 +236,7 @@ impl Clone for TokenStream {
 }
 
 impl TokenTree {
-    /// Returns the span of a leaf or of a whole group.
+    /// Returns the span of the token or of the whole group.
     pub fn span(&self) -> Span
         ensures { result ≡ tree_span (tree_of self.now) }
     {
@@ -235,7 +248,9 @@ impl TokenTree {
         }
     }
 
-    /// Replaces the span of a leaf, or a group's own span.
+    /// Sets the span of the token or of the whole group.
+    ///
+    /// The spans of the trees inside a group do not change.
     pub fn set_span(&mut self, span: Span)
         ensures { tree_of self.new ≡ with_span span (tree_of self.old) }
     {
@@ -248,7 +263,7 @@ impl TokenTree {
     }
 }
 
-/// Copies the tree, spans included.
+/// Copies the tree and all spans in it.
 impl Clone for TokenTree {
     ghost is_clone = { λ t u. u ≡ t };
 

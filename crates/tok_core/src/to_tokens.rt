@@ -1,4 +1,4 @@
-//! Values that are written as tokens.
+//! Conversion of values into tokens.
 ghost use Rattle.std.specs.Prelude.{◌≡◌, IfOk, OnOk, OnErr};
 ghost use Rattle.tok_core.specs.Forest.{AppendsFront, Forest, concat, leaf, no_trees, tree};
 ghost use Rattle.tok_core.specs.Laws.{optional_trees};
@@ -11,7 +11,7 @@ use std::alloc::{AllocError, Global};
 use tok_leaves::known::punct;
 use tok_leaves::{Ident, Lifetime, Literal, Punct, Spacing};
 
-/// A value that can be written as tokens.
+/// A type whose values can be converted into tokens.
 ///
 /// # Examples
 ///
@@ -25,15 +25,16 @@ pub trait ToTokens {
     // The trees that the value is written as.
     ghost printed: { Self → Forest };
 
-    /// Appends the tokens of this value.
+    /// Appends the tokens of this value to `tokens`.
     ///
-    /// If an allocation fails, the tokens appended before it stay, and at least one is missing. A
-    /// leaf or a group then appends nothing.
+    /// If an allocation fails, the call returns an error. Tokens that it has already appended
+    /// remain in `tokens`, but at least one token is missing. A single token or a group appends
+    /// nothing in this case.
     fn to_tokens(&self, tokens: &mut TokenStream) -> Result<(), AllocError>
         ensures ok { OnOk result (tokens.new ≡ concat tokens.old (printed self.now)) }
         ensures err { OnErr result (AppendsFront tokens.old (printed self.now) tokens.new) };
 
-    /// Writes the tokens of this value into a new stream.
+    /// Returns a new stream that contains the tokens of this value.
     ///
     /// Returns an error if an allocation fails.
     fn to_token_stream(&self, alloc: Global) -> Result<TokenStream, AllocError>
@@ -44,10 +45,10 @@ pub trait ToTokens {
         Ok(tokens)
     }
 
-    /// Writes the tokens of this value into a new stream. It may move the value's tokens instead of
-    /// copying them.
+    /// Converts this value into a new stream that contains its tokens.
     ///
-    /// Returns an error if an allocation fails.
+    /// The call may move the tokens instead of copying them. Returns an error if an allocation
+    /// fails.
     fn into_token_stream(self, alloc: Global) -> Result<TokenStream, AllocError>
     where
         Self: Sized + Drop,
@@ -66,7 +67,7 @@ fn alone(alloc: Global, only: TokenTree) -> Result<TokenStream, AllocError>
     Ok(tokens)
 }
 
-/// Writes what the value behind the reference writes.
+/// Writes the tokens of the value behind the reference.
 impl<T: ToTokens> ToTokens for &T {
     ghost printed = { λ value. T.printed value.now };
 
@@ -75,7 +76,7 @@ impl<T: ToTokens> ToTokens for &T {
     }
 }
 
-/// Writes what the value writes, or nothing if there is none.
+/// Writes the tokens of the value in `Some`, and no tokens for `None`.
 impl<T: ToTokens> ToTokens for Option<T> {
     ghost printed = { optional_trees T.printed };
 
@@ -119,7 +120,7 @@ impl ToTokens for Literal {
     }
 }
 
-/// Writes a joint apostrophe and the identifier.
+/// Writes a joint apostrophe and the identifier of the lifetime.
 impl ToTokens for Lifetime {
     ghost printed = { lifetime_forest };
 

@@ -1,4 +1,4 @@
-//! Trees and streams compared and hashed without their spans.
+//! Wrappers around token trees and streams, for comparing and hashing without spans.
 ghost use Rattle.std.specs.Prelude.{◌≡◌, ◌↔◌, fold, true};
 ghost use Rattle.std.specs.Cmp.{partial_equiv_from_equiv, on_equiv};
 ghost use Rattle.tok_core.specs.Code.{delimiter_code};
@@ -10,11 +10,13 @@ use crate::stream::{TokenStream, TokenTree};
 use std::hash::{Hash, Hasher};
 use tok_leaves::{Delimiter, Spacing};
 
-/// A tree that is compared and hashed without spans.
+/// A wrapper around a token tree. The operations `==` and `hash` on this wrapper ignore all spans
+/// of the tree.
 #[derive(Clone, Copy, Debug)]
 pub struct TokenTreeHelper<'a>(pub &'a TokenTree);
 
-/// A stream that is compared and hashed without spans.
+/// A wrapper around a token stream. The operations `==` and `hash` on this wrapper ignore all spans
+/// of the stream.
 #[derive(Clone, Copy, Debug)]
 pub struct TokenStreamHelper<'a>(pub &'a TokenStream);
 

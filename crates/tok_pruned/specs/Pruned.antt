@@ -1,5 +1,5 @@
 -- A forest without the invisible groups that hold nothing visible.
-use Rattle.std.specs.Prelude.{Bool, true, cond}
+use Rattle.std.specs.Prelude.{Bool, true, if◌then◌else◌}
 use Rattle.tok_lexical.specs.declared.delimiter.Delimiter.{Delimiter}
 use Rattle.tok_lexical.specs.declared.delimiter.Delimiter.TheVariants.{None}
 use Rattle.tok_core.specs.Erase.{erase}
@@ -11,7 +11,8 @@ abbrev pub pruned : Forest → Forest
 pruned no_trees = no_trees
 pruned (tree (leaf l) f) = tree (leaf l) (pruned f)
 pruned (tree (group None inside span) f) =
-    cond (has_trees (erase inside)) (tree (group None (pruned inside) span) (pruned f)) (pruned f)
+    if has_trees (erase inside) then tree (group None (pruned inside) span) (pruned f)
+    else pruned f
 pruned (tree (group delimiter inside span) f) =
     tree (group delimiter (pruned inside) span) (pruned f)
 

@@ -1,4 +1,4 @@
-//! Removes the invisible groups that contain nothing visible.
+//! Removes the invisible groups that contain no visible tree.
 ghost use Rattle.std.specs.Prelude.{◌≡◌, IfOk, IsOk, OnOk, true};
 ghost use Rattle.tok_core.specs.Filled.{filled};
 ghost use Rattle.tok_core.specs.Forest.{concat, no_trees, tree};
@@ -10,10 +10,13 @@ use tok_core::{Delimiter, Group, TokenStream, TokenTree, is_filled};
 
 /// Removes the invisible groups that contain no visible tree, at every depth.
 ///
-/// The visible trees stay, spans included, and no group of the result is empty and invisible: the
-/// law `pruning_fills`. A stream without such groups is returned as it is, without an allocation.
-/// Another stream is moved into new streams, each of one allocation. Returns an error if an
-/// allocation fails; the stream is dropped then.
+/// A visible tree is any token tree except an invisible group. The result contains the same visible
+/// trees as `stream`, with the same spans. Each invisible group of the result contains a visible
+/// tree (the law `pruning_fills`).
+///
+/// If there is no group to remove, the call returns the stream unchanged, and does not allocate.
+/// Otherwise, the call moves the trees to new streams, and makes one allocation for each new
+/// stream. If an allocation fails, the call returns an error and drops the stream.
 ///
 /// # Examples
 ///

@@ -1,26 +1,28 @@
-//! Laws of pruned forests. Each is the contract of a function that does nothing.
+//! Laws about `prune`. Each law is the contract of a function that does nothing.
 ghost use Rattle.std.specs.Prelude.{◌≡◌, true};
 ghost use Rattle.tok_core.specs.Erase.{erase};
 ghost use Rattle.tok_core.specs.Filled.{filled};
 ghost use Rattle.tok_core.specs.Forest.{Forest, concat};
 ghost use Rattle.tok_pruned.specs.Pruned.{pruned};
 
-/// Pruning keeps all that is visible, and leaves no invisible group without a visible tree.
+/// Pruning a stream keeps all its visible trees, which are the token trees other than invisible
+/// groups. Each invisible group of the pruned stream contains a visible tree.
 pub fn pruning_fills()
     ensures { (f : Forest) → (erase (pruned f) ≡ erase f) × (filled (pruned f) ≡ true) }
 {}
 
-/// Pruning changes nothing if each invisible group contains a visible tree.
+/// Pruning does not change a stream in which each invisible group contains a visible tree.
 pub fn filled_forests_stay()
     ensures { (f : Forest) → filled f ≡ true → pruned f ≡ f }
 {}
 
-/// Pruning a second time changes nothing.
+/// Pruning does not change a stream that has already been pruned.
 pub fn pruning_again_changes_nothing()
     ensures { (f : Forest) → pruned (pruned f) ≡ pruned f }
 {}
 
-/// Two forests can be pruned before or after they are joined.
+/// Concatenating two pruned streams gives the same stream as pruning the concatenation of the two
+/// streams.
 pub fn pruning_goes_by_parts()
     ensures { (f g : Forest) → pruned (concat f g) ≡ concat (pruned f) (pruned g) }
 {}

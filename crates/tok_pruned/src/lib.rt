@@ -1,5 +1,6 @@
-//! Streams without the invisible groups that contain nothing visible, such as a compiler makes of
-//! an empty `$v:vis`.
+//! Removes the invisible groups that contain no visible tree.
+//!
+//! For example, a compiler creates such a group for an empty `$v:vis`.
 #![tactic(auto)]
 
 mod empty;

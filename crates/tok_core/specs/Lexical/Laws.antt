@@ -1,11 +1,14 @@
 -- The laws of reading: in any mode a text reads in one way at most, or is rejected in one way at
--- most, and never both; a source begins at one place; and only marks make groups invisible.
+-- most, and never both; an error is explained in one way; a source begins at one place; and only
+-- marks make groups invisible.
 use Rattle.std.specs.Prelude.{◌≡◌, ℕ, List, true, false}
 use Rattle.tok_core.specs.Erase.{erase}
 use Rattle.tok_core.specs.Filled.{filled}
 use Rattle.tok_core.specs.Forest.{Forest}
+use Rattle.tok_core.specs.Lexical.Errors.{Explains}
 use Rattle.tok_core.specs.Lexical.Reading.{ReadsForest, ReadsFrom, IsRejected}
 use Rattle.tok_core.specs.declared.lexer.error.LexError.{LexError}
+use Rattle.tok_leaves.specs.declared.span.Span.{Span}
 use Rattle.tok_lexical.specs.Rules.{is_marked}
 use Rattle.tok_lexical.specs.Sources.{BeginsAt}
 use Rattle.tok_lexical.specs.declared.rule.Mode.{Mode}
@@ -27,6 +30,12 @@ abbrev pub IsNeverBoth : Type 0
 IsNeverBoth =
     (mode : Mode) → (number : ℕ) → (text : List ℕ) → (f : Forest) → (error : LexError) →
     ReadsForest mode number text f → IsRejected mode number text error → ⊥
+
+-- an error is explained to readers of a text in one way at most
+abbrev pub IsExplainedOnce : Type 0
+IsExplainedOnce =
+    (text : List ℕ) → (error : LexError) → (one other : Span × List ℕ) →
+    Explains text error one → Explains text error other → one ≡ other
 
 -- the pieces of a source begin at one place
 abbrev pub IsBegunOnce : Type 0

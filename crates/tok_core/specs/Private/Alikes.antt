@@ -23,7 +23,7 @@ both : (a b : Bool) → (a && b) ≡ true → (a ≡ true) × (b ≡ true)
 both true b e = (refl, e)
 both false b e = (e, cc)
 
--- the tests of delimiters, spacings and numbers: each is true exactly of equal ones
+-- the test of delimiters is true of equal ones alone
 same_delimiter_is : (d e : Delimiter) → same_delimiter d e ≡ true → d ≡ e
 same_delimiter_is Parenthesis Parenthesis e = refl
 same_delimiter_is Brace Brace e = refl
@@ -42,25 +42,30 @@ same_delimiter_is None Parenthesis e = cc
 same_delimiter_is None Brace e = cc
 same_delimiter_is None Bracket e = cc
 
+-- the test of delimiters is true of each and itself
 same_delimiter_refl : (d : Delimiter) → same_delimiter d d ≡ true
 same_delimiter_refl Parenthesis = refl
 same_delimiter_refl Brace = refl
 same_delimiter_refl Bracket = refl
 same_delimiter_refl None = refl
 
+-- the test of spacings is true of equal ones alone
 same_spacing_is : (j k : Spacing) → same_spacing j k ≡ true → j ≡ k
 same_spacing_is Alone Alone e = refl
 same_spacing_is Joint Joint e = refl
 same_spacing_is Alone Joint e = cc
 same_spacing_is Joint Alone e = cc
 
+-- the test of spacings is true of each and itself
 same_spacing_refl : (j : Spacing) → same_spacing j j ≡ true
 same_spacing_refl Alone = refl
 same_spacing_refl Joint = refl
 
+-- the test of numbers is true of equal ones alone
 same_number : (c d : ℕ) → (c == d) ≡ true → c ≡ d
 same_number c d e = grind arith
 
+-- the test of numbers is true of each and itself
 number_refl : (c : ℕ) → (c == c) ≡ true
 number_refl c = grind arith
 
@@ -188,6 +193,7 @@ tree_alike_equivalence = by_image tree_alike tree_spanless tree_alike_decides
 
 -- what is fed to a hasher has no spans
 mutual
+  -- a forest feeds a hasher no span
   pub forest_input_spanless : (f : Forest) → forest_input f ≡ forest_input (spanless f)
   forest_input_spanless no_trees = refl
   forest_input_spanless (tree t f) = λ i. tree_input_spanless t i ++ forest_input_spanless f i

@@ -1,4 +1,4 @@
-//! The attribute that a doc comment becomes.
+//! Converts doc comments into attributes.
 ghost use Rattle.std.specs.Prelude.{◌≡◌, OnOk};
 ghost use Rattle.std.specs.Str.{chars};
 ghost use Rattle.tok_core.specs.Building.{add_forest};
@@ -10,7 +10,7 @@ use std::alloc::{AllocError, Global};
 use tok_leaves::{Literal, Spacing, Span, Text, known};
 use tok_lexical::Delimiter;
 
-/// Appends `[doc = ".."]`, with `span` for each part.
+/// Appends the group `[doc = ".."]`, whose trees all have the span `span`.
 fn append_group<B: Build>(
     built: &mut B,
     alloc: Global,
@@ -31,7 +31,7 @@ fn append_group<B: Build>(
     built.close(Delimiter::Bracket, span)
 }
 
-/// Appends the `!` of an inner attribute.
+/// Appends the `!` of an inner attribute, if `is_inner` is `true`.
 fn append_bang<B: Build>(built: &mut B, span: Span, is_inner: bool) -> Result<(), AllocError>
     ensures { OnOk result
         (B.levels built.new ≡ add_forest (bang span is_inner) (B.levels built.old)) }
@@ -42,7 +42,10 @@ fn append_bang<B: Build>(built: &mut B, span: Span, is_inner: bool) -> Result<()
     Ok(())
 }
 
-/// Appends the attribute to the innermost level.
+/// Converts a doc comment into an attribute, and appends the attribute to a builder.
+///
+/// `text` is the text inside the comment. If `is_inner` is `true`, the attribute has a `!`. Returns
+/// an error if an allocation fails.
 pub fn append_doc<B: Build>(
     built: &mut B,
     alloc: Global,

@@ -1,4 +1,4 @@
-//! White space and comments between pieces.
+//! Skips the white space and the comments between tokens.
 ghost use Rattle.std.specs.Prelude.{◌<◌, ◌≤◌, ◌-◌, length, IfSome};
 ghost use Rattle.std.specs.Str.{chars, IsUtf8};
 ghost use Rattle.tok_core.specs.Private.Built.{IsBlank};
@@ -7,8 +7,9 @@ use tok_lexical::classes::past_whitespace;
 use tok_lexical::comments::{opens_block_doc, opens_line_doc, past_block, past_line};
 use tok_lexical::text::past_char;
 
-/// Removes the white space and the comments at the front. A doc comment stays, and so does a
-/// comment that is not closed.
+/// Returns `text` without its leading white space and comments.
+///
+/// The call does not remove doc comments, or comments that are not closed.
 // Inlined: the loop over pieces exists twice, for trees and for entries, and a call in each would
 // cost every piece.
 #[inline(always)]
@@ -24,7 +25,8 @@ pub fn past_blanks(text: &str) -> &str
     }
 }
 
-/// Removes the comments at the front, with the white space after each.
+/// Returns `text` without its leading comments, and without the white space after each of these
+/// comments.
 #[inline(never)]
 fn past_comments(text: &str) -> &str
     ensures blank { IsBlank (chars text.now) (chars result.now)
@@ -38,7 +40,8 @@ fn past_comments(text: &str) -> &str
     rest
 }
 
-/// Removes a comment at the front, if it is closed and no doc comment.
+/// Returns `text` without a leading comment. Returns `None` if the comment is a doc comment, or is
+/// not closed.
 fn past_comment(text: &str) -> Option<&str>
     ensures blank { IfSome result
         (λ rest. IsBlank (chars text.now) (chars rest.now) (length text.now - length rest.now)) }

@@ -1,5 +1,4 @@
-//! What the lexer builds: trees, or anything else that takes leaves, openings and closings in
-//! order.
+//! Builders, which create token trees or other values from the tokens of a text.
 ghost use Rattle.std.specs.Prelude.{◌≡◌, [], OnOk, OnErr, IfOk, ◌<◌, ◌≤◌, ◌*◌, ◌^◌, length, take, drop};
 ghost use Rattle.std.specs.Vec.{vec_len, vec_capacity};
 ghost use Rattle.tok_core.specs.Building.{Levels, add_leaf, nothing, opened, Closes};
@@ -12,53 +11,60 @@ use std::marker::Model;
 use tok_leaves::{Ident, Literal, Punct, Span};
 use tok_lexical::Delimiter;
 
-/// A builder of what the lexer reads.
+/// A builder, which creates a value from the tokens that the lexer reads.
 ///
-/// The lexer calls it for each leaf, each opening and each closing, in order. It also keeps the
-/// delimiters and the positions of the open groups, so a builder keeps the trees alone.
+/// The lexer calls a method for each identifier, punct and literal, and for each delimiter of a
+/// group, in order. The lexer stores the delimiters and the positions of open groups, and the
+/// builder stores the trees. Contracts describe a builder as its `Levels`. Each level contains the
+/// trees of one open group, or the trees outside all groups.
 ///
-/// If a call returns an error, the levels are unchanged and a leaf is dropped.
+/// If a method returns an error, it leaves the levels unchanged, and drops the token that it
+/// received.
 pub trait Build {
     // The trees so far: those before each open group, and those of the innermost level.
     ghost levels: { Self → Levels };
 
-    /// Appends an identifier to the innermost level.
+    /// Appends an identifier to the innermost open group, or to the top level if no group is open.
     fn ident(&mut self, ident: Ident) -> Result<(), AllocError>
         ensures ok { OnOk result (levels self.new ≡ add_leaf (ident_of ident) (levels self.old)) }
         ensures err { OnErr result (levels self.new ≡ levels self.old) };
 
-    /// Appends a punct to the innermost level.
+    /// Appends a punct to the innermost open group, or to the top level if no group is open.
     fn punct(&mut self, punct: Punct) -> Result<(), AllocError>
         ensures ok { OnOk result (levels self.new ≡ add_leaf (punct_of punct) (levels self.old)) }
         ensures err { OnErr result (levels self.new ≡ levels self.old) };
 
-    /// Appends a literal to the innermost level.
+    /// Appends a literal to the innermost open group, or to the top level if no group is open.
     fn literal(&mut self, literal: Literal) -> Result<(), AllocError>
         ensures ok { OnOk result
             (levels self.new ≡ add_leaf (literal_of literal) (levels self.old)) }
         ensures err { OnErr result (levels self.new ≡ levels self.old) };
 
-    /// Opens a level inside the innermost one.
+    /// Opens an empty group, which becomes the innermost open group.
     fn open(&mut self) -> Result<(), AllocError>
         ensures ok { OnOk result (levels self.new ≡ opened (levels self.old)) }
         ensures err { OnErr result (levels self.new ≡ levels self.old) };
 
-    /// Closes the innermost level, which becomes a group at the end of the level around it.
+    /// Closes the innermost open group, and appends this group to the group around it, or to the
+    /// top level.
     ///
     /// # Requires
     ///
-    /// A level must be open.
+    /// A group must be open.
     fn close(&mut self, delimiter: Delimiter, span: Span) -> Result<(), AllocError>
         requires { 0 < length (levels self.old).outer }
         ensures ok { OnOk result (Closes delimiter span (levels self.old) (levels self.new)) }
         ensures err { OnErr result (levels self.new ≡ levels self.old) };
 }
 
-/// A builder of streams. Contracts see it as the forests of the levels.
+/// A builder of token streams.
 ///
-/// The trees of all levels lie in one vector, the outermost level first, and the positions where
-/// the inner ones begin in another. When a group closes, its trees move to a vector of their exact
-/// number: so only the outermost level ever grows a vector that lasts.
+/// One vector contains the trees outside all groups, and then the trees of each open group, from
+/// the outermost group to the innermost. A second vector contains the positions at which the trees
+/// of the open groups begin. Contracts describe a builder as its `Levels`.
+///
+/// When a group closes, its trees move to a new vector with exactly enough room. No group therefore
+/// keeps a vector that has grown.
 #[derive(Drop)]
 pub struct TreeBuilder {
     alloc: Global,
@@ -118,10 +124,10 @@ fn first_room(bytes: usize) -> usize
 }
 
 impl TreeBuilder {
-    /// Creates an empty builder, with room for the trees that most texts of so many bytes hold in
-    /// open groups at once.
+    /// Creates an empty builder for a text of `bytes` bytes.
     ///
-    /// Returns an error if the allocation fails.
+    /// The builder has enough room for most texts of this length. Returns an error if the
+    /// allocation fails.
     pub fn with_room(alloc: Global, bytes: usize) -> Result<TreeBuilder, AllocError>
         ensures { IfOk result (λ b. b ≡ nothing) }
     {
@@ -132,13 +138,13 @@ impl TreeBuilder {
         })
     }
 
-    /// Returns the trees of the outermost level.
+    /// Converts the builder into a stream of its trees.
     ///
     /// Returns an error if the allocation fails.
     ///
     /// # Requires
     ///
-    /// No level may be open.
+    /// All groups must be closed.
     //
     // The inner levels may have taken far more room than the outermost one needs.
     pub fn into_stream(self) -> Result<TokenStream, AllocError>

@@ -1,4 +1,4 @@
-//! A builder and the groups that are open in it.
+//! A builder, together with the groups that are open.
 ghost use Rattle.std.specs.Prelude.{◌≡◌, ℕ, ◌+◌, ◌++◌, ◌<◌, ◌≤◌, ◌^◌, ◌∷◌, [], List, length, IfOk, IfErr, OnOk, None, if◌then◌else◌, true};
 ghost use Rattle.std.specs.Str.{chars, IsUtf8};
 ghost use Rattle.tok_core.specs.Private.Built.{state, Grows, Reached, IsPaired, Halts, IsTooDeep, IsUnfit};
@@ -27,7 +27,9 @@ use tok_lexical::{
     past_told_punct,
 };
 
-/// A builder and its open groups, the outermost first: the delimiter of each, and where it begins.
+/// A builder, together with the delimiters and the positions of its open groups.
+///
+/// `open` contains the groups from the outermost to the innermost.
 #[derive(Drop)]
 pub struct Nest<B> {
     pub alloc: Global,
@@ -46,7 +48,9 @@ fn spacing(is_joint: bool) -> Spacing
     }
 }
 
-/// Returns `true` if a punct before this text is joint. In marked text, marks are looked through.
+/// Returns `true` if a punct directly before `after` is joint.
+///
+/// In `Mode::Marked`, the call ignores `«` and `»` at the start of `after`.
 #[inline(always)]
 fn is_joint(mode: Mode, after: &str) -> bool
     ensures { result ≡ is_joint mode (chars after.now) }
@@ -58,7 +62,7 @@ fn is_joint(mode: Mode, after: &str) -> bool
 }
 
 impl<B: Build + Drop> Nest<B> {
-    /// Creates a nest with no open group.
+    /// Creates a `Nest` without open groups.
     pub fn new(alloc: Global, source: u32, built: B) -> Nest<B>
         ensures source { result.source ≡ source }
         ensures open { result.«open».items ≡ [] }
@@ -124,7 +128,7 @@ impl<B: Build + Drop> Nest<B> {
         Ok(())
     }
 
-    /// Appends the two trees of a lifetime.
+    /// Appends the apostrophe and the identifier of a lifetime.
     // Kept out of line: lifetimes are rare, and inlining them takes registers from the loop over
     // pieces.
     #[inline(never)]
@@ -141,8 +145,9 @@ impl<B: Build + Drop> Nest<B> {
         Ok(())
     }
 
-    /// Appends digits and the dot after them: a float, or an integer and a punct. The piece and the
-    /// text after it are `whole`.
+    /// Appends decimal digits and a dot, either as a float or as an integer and a punct.
+    ///
+    /// `whole` consists of `piece`, which contains the digits and the dot, and of `after`.
     #[inline(never)]
     fn pointed(
         &mut self,
@@ -171,7 +176,9 @@ impl<B: Build + Drop> Nest<B> {
         Ok(())
     }
 
-    /// Appends the attribute of a doc comment. Its group is one level deeper, at most the 256th.
+    /// Appends the attribute of a doc comment.
+    ///
+    /// Returns an error if 256 groups are already open, because the attribute contains a group.
     #[inline(never)]
     fn doc(&mut self, at: usize, end: usize, is_inner: bool, text: &str) -> Result<(), Halt>
         requires order { at ≤ end }
@@ -190,7 +197,7 @@ impl<B: Build + Drop> Nest<B> {
         Ok(())
     }
 
-    /// Opens a level, at most the 256th.
+    /// Opens a group. Returns an error if 256 groups are already open.
     fn open(&mut self, delimiter: Delimiter, at: usize) -> Result<(), Halt>
         ensures ok { OnOk result
             (Grows at (state B.levels self.old) (state B.levels self.new)
@@ -208,7 +215,8 @@ impl<B: Build + Drop> Nest<B> {
         }
     }
 
-    /// Closes the innermost group, if the delimiter matches.
+    /// Closes the innermost group. Returns an error if the group does not have the delimiter
+    /// `delimiter`, or if no group is open.
     // Inlined: every group is closed, and a call would save and restore registers for each.
     #[inline(always)]
     fn close(&mut self, delimiter: Delimiter, at: usize, end: usize) -> Result<(), Halt>
@@ -232,13 +240,15 @@ impl<B: Build + Drop> Nest<B> {
         Ok(())
     }
 
-    /// Appends the piece at the front of `text`, which begins at `at`. Returns where it ends, and the
-    /// text after it.
+    /// Appends the first token of `text` to the builder, or skips leading white space or a comment.
+    ///
+    /// `text` begins at byte `at`. Returns the byte at which the rest of `text` begins, and the
+    /// rest of `text`.
     ///
     /// # Requires
     ///
-    /// - The text must not be empty.
-    /// - If the text has a U+000D, `returns` must be `true`.
+    /// - `text` must not be empty.
+    /// - If `text` contains a carriage return, `returns` must be `true`.
     // Most pieces are told by their first character. Where their rule stands in the code, no table
     // of rules is asked for it, three times a piece.
     #[inline(always)]
@@ -276,13 +286,15 @@ impl<B: Build + Drop> Nest<B> {
         Ok((end, after))
     }
 
-    /// Appends the piece that `rule` found at the front of `text`, before the text `after`. Returns
-    /// where it ends.
+    /// Appends the part of `text` that `rule` recognizes, and returns the byte at which this part
+    /// ends.
+    ///
+    /// `after` is the text after the part.
     ///
     /// # Requires
     ///
-    /// - The rule must be the first that fits.
-    /// - If the text has a U+000D, `returns` must be `true`.
+    /// - `rule` must be the first rule that fits.
+    /// - If `text` contains a carriage return, `returns` must be `true`.
     #[inline(always)]
     fn take(
         &mut self,
@@ -313,12 +325,13 @@ impl<B: Build + Drop> Nest<B> {
         }
     }
 
-    /// Appends the piece that `rule` found from `at` to `end`, before the text `after`. The piece and
-    /// this text are `whole`.
+    /// Appends `piece`, which `rule` recognizes from byte `at` to byte `end`.
+    ///
+    /// `after` is the text after `piece`, and `whole` consists of `piece` and `after`.
     ///
     /// # Requires
     ///
-    /// If the piece has a U+000D, `returns` must be `true`.
+    /// If `piece` contains a carriage return, `returns` must be `true`.
     // Inlined, so that nothing is left of it where the rule is known but what the rule asks for.
     #[inline(always)]
     fn take_in(
