@@ -1,3 +1,5 @@
+pub mod Blamed
+pub mod BlamedOnce
 pub mod Closings
 pub mod Fillings
 pub mod Fronts

@@ -16,10 +16,10 @@ use Rattle.tok_pruned.proofs.Streams.{pruned_parts}
 use Rattle.tok_entries.specs.declared.entry.Entry.{Entry}
 use Rattle.tok_entries.specs.Denotes.{DenotesFrom}
 use Rattle.tok_entries.specs.Entries.{entries, texts, tree_entries, tree_texts, leaf_entry}
-use Rattle.tok_entries.specs.Private.Parts.{DenotesNoneFrom, HasNoLeaf, TakesTree}
-use Rattle.tok_entries.specs.Private.Steps.{GoesOn, LeadsTo}
+use Rattle.tok_entries.specs.Blames.{TakesTree}
+use Rattle.tok_entries.specs.Private.Steps.{GoesOn}
 use Rattle.tok_entries.specs.Texts.{IsForestIn, IsLeafIn, IsTreeIn}
-use Rattle.tok_entries.proofs.Once.{head, tree_once, punct_is_small}
+use Rattle.tok_entries.proofs.Once.{tree_once, punct_is_small}
 
 pub texts_on : (f : Forest) (t : Tree)
     → texts (concat f (tree t no_trees)) ≡ texts f ++ tree_texts t
@@ -48,7 +48,8 @@ in_on : (f : Forest) (t : Tree) → IsForestIn f → IsTreeIn t
 in_on no_trees t h k = (k, tt)
 in_on (tree u f) t (a, b) k = (a, in_on f t b k)
 
-first_depth : (t : Tree) (f : Forest) (n : ℕ) → depth (tree t f) ≤ n → depth (tree t no_trees) ≤ n
+pub first_depth : (t : Tree) (f : Forest) (n : ℕ) → depth (tree t f) ≤ n
+    → depth (tree t no_trees) ≤ n
 first_depth (leaf l) f n h = omega arith
 first_depth (group d i s) f n h =
     max-le (omega (arith, h, le-max_left (suc (depth i)) (depth f))) (omega arith)
@@ -93,7 +94,7 @@ goes_on at levels begin es ls ks bs rs qs old mid new t (f, he, hb, hf, hd, hl) 
           ∙ ap (λ x. concat old.inner x) (sym (pruned_parts f (tree t no_trees)))),
     )
 
-starts : (at : ℕ) (t : Tree) (ks : List Entry) → tree_entries at t ++ ks ≡ [] → ⊥
+pub starts : (at : ℕ) (t : Tree) (ks : List Entry) → tree_entries at t ++ ks ≡ [] → ⊥
 starts at (leaf l) ks e =
     let k : length (tree_entries at (leaf l) ++ ks) ≡ 0 = ap length e in
     absurd (omega (arith, k))
@@ -102,7 +103,7 @@ starts at (group d f s) ks e =
     absurd (omega (arith, k, length-append (tree_entries at (group d f s)) ks))
 
 -- what is behind the tree is what is left of the forest
-behind_tree : (begin levels : ℕ) (ls ks : List Entry) (rs qs : List ℕ) (t : Tree) (g : Forest)
+pub behind_tree : (begin levels : ℕ) (ls ks : List Entry) (rs qs : List ℕ) (t : Tree) (g : Forest)
     → TakesTree begin levels ls rs t ks qs → DenotesFrom begin levels ls rs g
     → (h : Forest) × DenotesFrom (begin + length (tree_texts t)) levels ks qs h
 behind_tree begin levels ls ks rs qs t no_trees (ke, kb, kt, kd) (ge, gb, gi, gd) =
@@ -122,27 +123,6 @@ behind_tree begin levels ls ks rs qs t (tree u h) (ke, kb, kt, kd) (ge, gb, (gi,
       ),
     )
 
-pub leads_on : (at levels begin : ℕ) (es ls ks : List Entry) (bs rs qs : List ℕ)
-    (old mid : Levels) (t : Tree) → GoesOn at levels es bs ls rs old mid
-    → LeadsTo at levels es bs ls rs → begin ≡ at + (length bs - length rs)
-    → TakesTree begin levels ls rs t ks qs → LeadsTo at levels es bs ks qs
-leads_on at levels begin es ls ks bs rs qs old mid t (f, he, hb, hf, hd, hl) leads hn
-    (ke, kb, kt, kd) = λ h d.
-    let (g, dg) = leads h d in
-    let dg' : DenotesFrom begin levels ls rs g =
-    subst (λ m. DenotesFrom m levels ls rs g) (sym hn) dg in
-    let (k, dk) = behind_tree begin levels ls ks rs qs t g (ke, kb, kt, kd) dg' in
-    let e : begin + length (tree_texts t) ≡ at + (length bs - length qs) =
-    omega (
-      arith,
-      hn,
-      ap length hb,
-      length-append (texts f) rs,
-      ap length kb,
-      length-append (tree_texts t) qs,
-    ) in
-    (k, subst (λ m. DenotesFrom m levels ks qs k) e dk)
-
 -- a leaf is a tree
 pub leaf_taken : (begin levels : ℕ) (first : Entry) (after : List Entry) (rs qs : List ℕ) (l : Leaf)
     → IsLeafIn l → first ≡ leaf_entry begin l → rs ≡ leaf_text l ++ qs
@@ -154,7 +134,7 @@ utf8_punct : (c : ℕ) → c < 128 → IsUtf8 (c ∷ [])
 utf8_punct c h = IsUtf8-from_ascii (c ∷ []) (λ i. grind (arith, h))
 
 mutual
-  utf8_tree : (t : Tree) → IsTreeIn t → IsUtf8 (tree_texts t)
+  pub utf8_tree : (t : Tree) → IsTreeIn t → IsUtf8 (tree_texts t)
   utf8_tree (leaf (ident t s)) ((u, w), i) = u
   utf8_tree (leaf (literal t s)) ((u, w), i) = u
   utf8_tree (leaf (punct c p s)) (h, i) =
@@ -167,28 +147,6 @@ mutual
   utf8_texts (tree t f) (h, k) =
       IsUtf8-append (tree_texts t) (texts f) (utf8_tree t h) (utf8_texts f k)
 
--- an entry that is refused and opens no group begins no forest
-pub no_first_leaf : (begin levels : ℕ) (first : Entry) (after : List Entry) (rs : List ℕ)
-    → (first.kind ≡ 3 → ⊥) → HasNoLeaf begin first rs
-    → DenotesNoneFrom begin levels (first ∷ after) rs
-no_first_leaf begin levels first after rs visible never no_trees (he, hb, hi, hd) =
-    none-empty (ap length he)
-  where
-    none-empty : length (first ∷ after) ≡ 0 → ⊥
-    none-empty k = absurd (omega (arith, k))
-no_first_leaf begin levels first after rs visible never (tree (leaf l) f) (he, hb, (hl, hf), hd) =
-    never l (texts f) hl (utf8_texts f hf) (head _ _ _ _ he) hb
-no_first_leaf begin levels first after rs visible never (tree (group d i s) f) (he, hb, hi, hd) =
-    visible (ap (λ x. x.kind) (head _ _ _ _ he))
-
--- where what is left denotes nothing, all denotes nothing
-pub none_leads : (at levels begin : ℕ) (es ls : List Entry) (bs rs : List ℕ)
-    → LeadsTo at levels es bs ls rs → begin ≡ at + (length bs - length rs)
-    → DenotesNoneFrom begin levels ls rs → DenotesNoneFrom at levels es bs
-none_leads at levels begin es ls bs rs leads hn never f d =
-    let (g, dg) = leads f d in
-    never g (subst (λ m. DenotesFrom m levels ls rs g) (sym hn) dg)
-
 -- at the start nothing is taken
 pub goes_first : (at levels : ℕ) (es : List Entry) (bs : List ℕ) (old : Levels)
     → GoesOn at levels es bs es bs old old
@@ -200,8 +158,3 @@ goes_first at levels es bs old = (
   omega arith,
   ap (λ x. record { outer = old.outer; inner = x }) (sym (concat-none old.inner)),
 )
-
-pub leads_first : (at levels : ℕ) (es : List Entry) (bs : List ℕ) → LeadsTo at levels es bs es bs
-leads_first at levels es bs f d =
-    let e : at ≡ at + (length bs - length bs) = omega arith in
-    (f, subst (λ m. DenotesFrom m levels es bs f) e d)

@@ -1,5 +1,5 @@
 -- What a cursor finds among the entries that are left of its scope, whatever they are.
-use Rattle.std.specs.Prelude.{ℕ, ◌+◌, ◌-◌, ◌<◌, ◌≤◌, ◌==◌, ◌&&◌, ◌||◌, nat_lt, not, Bool, cond}
+use Rattle.std.specs.Prelude.{ℕ, ◌+◌, ◌-◌, ◌<◌, ◌≤◌, ◌==◌, ◌&&◌, ◌||◌, nat_lt, not, Bool, if◌then◌else◌}
 use Rattle.std.specs.Prelude.{List, drop, get_or, length, Option, Some, None, option_map}
 use Rattle.std.specs.List.{prefix_len, slice_get}
 use Rattle.tok_lexical.specs.declared.delimiter.Delimiter.{Delimiter}
@@ -45,7 +45,7 @@ front es = prefix_len is_invisible_edge es
 abbrev pub read_leaf : (Entry → Bool) → List Entry → Option Step
 read_leaf wanted es =
     elim (slice_get es (front es)) [
-      | Some e ↦ cond (wanted e) (Some (step_over es (front es) (front es))) None
+      | Some e ↦ if wanted e then Some (step_over es (front es) (front es)) else None
       | None ↦ None
     ]
 
@@ -57,11 +57,11 @@ read_ident es = read_leaf (λ e. e.kind == 0) es
 abbrev pub read_literal : List Entry → Option Step
 read_literal es = read_leaf (λ e. e.kind == 2) es
 
--- a punct other than an apostrophe
+-- the front entry, if it is a punct other than an apostrophe
 abbrev pub read_punct : List ℕ → List Entry → Option Step
 read_punct bs es = read_leaf (λ e. e.kind == 1 && not (has_apostrophe bs e)) es
 
--- a step over the entries after the first so many
+-- a step that was found after the first so many entries, with its start at this entry
 abbrev pub after : ℕ → ℕ → Step → Step
 after at count s = record { at = at; last = count + s.last; next = count + s.next }
 
@@ -76,15 +76,16 @@ read_lifetime bs es =
 -- the group of an opening at this distance from its closing, if both are among the entries
 abbrev pub whole : List Entry → (at distance : ℕ) → Option Step
 whole es at distance =
-    cond (nat_lt 0 distance && nat_lt distance (length es - at))
-    (Some (step_over es at (at + distance))) None
+    if nat_lt 0 distance && nat_lt distance (length es - at)
+    then Some (step_over es at (at + distance)) else None
 
 -- the group that opens at this entry, if it has this delimiter
 abbrev pub read_group_at : Delimiter → List Entry → ℕ → Option Step
 read_group_at d es at =
     elim (slice_get es at) [
       | Some e ↦
-          cond (e.kind == 3 && e.delimiter == delimiter_number d) (whole es at e.distance) None
+          if e.kind == 3 && e.delimiter == delimiter_number d then whole es at e.distance
+          else None
       | None ↦ None
     ]
 
@@ -98,11 +99,12 @@ abbrev pub read_tree : List Entry → Option Step
 read_tree es =
     elim (slice_get es (front es)) [
       | Some e ↦
-          cond (nat_lt e.kind 3) (Some (step_over es (front es) (front es)))
-          (cond (e.kind == 3) (whole es (front es) e.distance) None)
+          if nat_lt e.kind 3 then Some (step_over es (front es) (front es))
+          else if e.kind == 3 then whole es (front es) e.distance
+          else None
       | None ↦ None
     ]
 
--- a lifetime, or else the front tree
+-- the step over a lifetime, or else over the front tree
 abbrev pub skip : List ℕ → List Entry → Option Step
 skip bs es = elim (read_lifetime bs es) [ Some s ↦ Some s | None ↦ read_tree es ]

@@ -1,3 +1,4 @@
+pub mod Blames
 pub mod Cursor
 pub mod Denotes
 pub mod Entries

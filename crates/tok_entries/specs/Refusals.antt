@@ -18,12 +18,17 @@ entry_fault_words (Refused refusal number) =
     codes "entry " ++ (decimal number ++ (codes ": " ++ refusal_words refusal))
 entry_fault_words Memory = codes "out of memory"
 
--- this, unless an allocation failed
+-- this holds, unless an allocation failed
 abbrev pub OnDenied : EntryFault → Type 0 → Type 0
 OnDenied (Refused why number) P = P
 OnDenied Memory P = Unit {0}
 
--- the number of one of so many entries from this one on, or of the one after them
+-- this holds of the reason and of the entry's number, unless an allocation failed
+abbrev pub OnRejected : EntryFault → (Refusal → ℕ → Type 0) → Type 0
+OnRejected (Refused why number) P = P why number
+OnRejected Memory P = Unit {0}
+
+-- the error names one of so many entries from this one on, or the one after them
 abbrev pub IsAmong : ℕ → ℕ → EntryFault → Type 0
 IsAmong first count (Refused refusal number) = (first ≤ number) × (number ≤ first + count)
 IsAmong first count Memory = Unit {0}

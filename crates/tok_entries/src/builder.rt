@@ -1,4 +1,4 @@
-//! The builder of entries from a text.
+//! A builder that lexes a text directly into entries.
 ghost use Rattle.std.specs.Prelude.{◌≡◌, ◌+◌, ◌≤◌, ◌*◌, ◌^◌, ◌∷◌, ◌++◌, [], length, true, IfOk, OnErr, OnOk, string_bytes};
 ghost use Rattle.tok_core.specs.Building.{nothing};
 ghost use Rattle.tok_entries.specs.Entries as spec;
@@ -9,12 +9,16 @@ use std::alloc::{AllocError, Global};
 use std::marker::Model;
 use tok_core::{Build, DelimSpan, Delimiter, Ident, Literal, Punct, Span};
 
-/// Of an opening whose group is not yet closed: its closing replaces the entry.
+/// The kind of the entry for an opening delimiter whose group is not yet closed.
+///
+/// When the group closes, the builder replaces this entry.
 const UNCLOSED: u32 = 5;
 
-/// The entries and texts so far. Contracts see them as the forests of the levels.
+/// A builder that collects the entries of a text, and the texts of its identifiers, puncts and
+/// literals.
 ///
-/// The places of the open groups are kept, the outermost first.
+/// Contracts describe a builder as its `Levels`. The builder also stores the positions of the open
+/// groups, from the outermost group to the innermost.
 //
 // An entry has no number of a source, and a punct is one byte. What has no entry is refused as if
 // there were no memory. The lexer makes nothing of that kind of source 0.
@@ -106,9 +110,10 @@ fn push_leaf(
 }
 
 impl EntryWriter {
-    /// Creates an empty builder, with room for the entries that most texts of so many bytes have.
+    /// Creates an empty builder for a text of `bytes` bytes.
     ///
-    /// Returns an error if an allocation fails.
+    /// The builder has enough room for most texts of this length. Returns an error if an allocation
+    /// fails.
     //
     // A vector that grows from nothing copies its entries about once more.
     pub fn with_room(alloc: Global, bytes: usize) -> Result<EntryWriter, AllocError>
@@ -121,11 +126,11 @@ impl EntryWriter {
         })
     }
 
-    /// Returns the entries, and the texts of the leaves.
+    /// Returns the entries, and the texts of the identifiers, puncts and literals.
     ///
     /// # Requires
     ///
-    /// No level may be open.
+    /// All groups must be closed.
     pub fn into_parts(self) -> (Vec<Entry>, String)
         requires { self.outer ≡ [] }
         ensures entries { result.0.items ≡ spec.entries 0 self.inner }

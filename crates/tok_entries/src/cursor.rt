@@ -1,8 +1,8 @@
-//! The next token of the entries that are left, as a cursor finds it.
+//! Finds the next token in a slice of entries.
 //!
-//! A cursor is the slice of the entries that are left in its scope: those of a text, of the contents
-//! of a group, or what is left of these after a token. Each call looks through the edges of
-//! invisible groups, unless it says otherwise. None of them trusts an entry.
+//! The slice contains the remaining entries of a text, or of the contents of a group. Each function
+//! ignores the delimiters of invisible groups, unless its description says otherwise. No function
+//! assumes that the entries are valid.
 ghost use Rattle.std.specs.Prelude.{◌≡◌, ◌<◌, ◌≤◌, ◌==◌, length, IfSome};
 ghost use Rattle.std.specs.List.{prefix_len};
 ghost use Rattle.tok_entries.specs.Cursor as spec;
@@ -10,21 +10,29 @@ ghost use Rattle.tok_entries.specs.Cursor as spec;
 use crate::entry::{CLOSING, Entry, IDENT, LITERAL, OPENING, PUNCT, delimiter_number};
 use tok_core::Delimiter;
 
-/// Where a token is among the entries that are left, and where to go on.
+/// The location of a token in a slice of entries, and the entry at which to continue.
 #[repr(C)]
 #[derive(Clone, Copy, PartialEq, Eq, Debug)]
 pub struct Step {
-    /// The number of the token's first entry: a leaf, the apostrophe of a lifetime, an opening.
+    /// The index of the token's first entry.
+    ///
+    /// The first entry of a lifetime is its apostrophe, and the first entry of a group is its
+    /// opening delimiter.
     pub at: usize,
-    /// The number of the token's last entry: the leaf, the name of a lifetime, the closing. The
-    /// contents of a group are between both.
+    /// The index of the token's last entry.
+    ///
+    /// The last entry of a lifetime is its name, and the last entry of a group is its closing
+    /// delimiter. The contents of a group are between the entries `at` and `last`.
     pub last: usize,
-    /// The number of the entry to go on with, past the token and the invisible groups that end
-    /// there.
+    /// The index of the entry at which to continue.
+    ///
+    /// This entry is after the token, and after the closing delimiters of all invisible groups that
+    /// end directly after the token.
     pub next: usize,
 }
 
-/// Returns the next token, if it is an identifier, keywords and `_` included.
+/// Returns the location of the next token if the token is an identifier, a keyword or `_`, and
+/// `None` otherwise.
 pub fn ident(entries: &[Entry]) -> Option<Step>
     ensures token { result ≡ spec.read_ident entries.now }
     ensures within { IfSome result (λ s. spec.IsWithin s (length entries.now)) }
@@ -32,7 +40,7 @@ pub fn ident(entries: &[Entry]) -> Option<Step>
     leaf(entries, IDENT)
 }
 
-/// Returns the next token, if it is a literal.
+/// Returns the location of the next token if the token is a literal, and `None` otherwise.
 pub fn literal(entries: &[Entry]) -> Option<Step>
     ensures token { result ≡ spec.read_literal entries.now }
     ensures within { IfSome result (λ s. spec.IsWithin s (length entries.now)) }
@@ -40,9 +48,10 @@ pub fn literal(entries: &[Entry]) -> Option<Step>
     leaf(entries, LITERAL)
 }
 
-/// Returns the next token, if it is a punct other than an apostrophe.
+/// Returns the location of the next token if the token is a punct other than an apostrophe, and
+/// `None` otherwise.
 ///
-/// `texts` are the texts of all entries.
+/// `texts` contains the texts of all entries.
 pub fn punct(entries: &[Entry], texts: &[u8]) -> Option<Step>
     ensures token { result ≡ spec.read_punct texts.now entries.now }
     ensures within { IfSome result (λ s. spec.IsWithin s (length entries.now)) }
@@ -56,10 +65,11 @@ pub fn punct(entries: &[Entry], texts: &[u8]) -> Option<Step>
     }
 }
 
-/// Returns the next lifetime, of any name: a joint apostrophe and whatever `ident` then finds, even
-/// across the edges of invisible groups.
+/// Returns the location of the next token if the token is a lifetime, and `None` otherwise.
 ///
-/// `texts` are the texts of all entries.
+/// A lifetime consists of a joint apostrophe and any identifier. The call ignores delimiters of
+/// invisible groups between the apostrophe and the identifier. `texts` contains the texts of all
+/// entries.
 pub fn lifetime(entries: &[Entry], texts: &[u8]) -> Option<Step>
     ensures token { result ≡ spec.read_lifetime texts.now entries.now }
     ensures within { IfSome result (λ s. spec.IsWithin s (length entries.now)) }
@@ -78,10 +88,11 @@ pub fn lifetime(entries: &[Entry], texts: &[u8]) -> Option<Step>
     })
 }
 
-/// Returns the next group, if it has this delimiter.
+/// Returns the location of the next token if the token is a group with the delimiter `delimiter`,
+/// and `None` otherwise.
 ///
-/// An invisible group is found only if it is the next entry. A visible delimiter is found through
-/// invisible groups.
+/// To find a visible group, the call ignores the delimiters of invisible groups before the group.
+/// The call finds an invisible group only if the first entry is the opening delimiter of the group.
 pub fn group(entries: &[Entry], delimiter: Delimiter) -> Option<Step>
     ensures token { result ≡ spec.read_group delimiter entries.now }
     ensures within { IfSome result (λ s. spec.IsWithin s (length entries.now)) }
@@ -93,11 +104,11 @@ pub fn group(entries: &[Entry], delimiter: Delimiter) -> Option<Step>
     }
 }
 
-/// Returns the next token: a lifetime, or else a leaf or a group with a visible delimiter.
+/// Returns the location of the next token, which is a lifetime, another single token or a visible
+/// group.
 ///
-/// Returns `None` if no such token is left, and before the closing of a visible group.
-///
-/// `texts` are the texts of all entries.
+/// Returns `None` if no such token is left, or if the closing delimiter of a visible group comes
+/// first. `texts` contains the texts of all entries.
 pub fn skip(entries: &[Entry], texts: &[u8]) -> Option<Step>
     ensures token { result ≡ spec.skip texts.now entries.now }
     ensures within { IfSome result (λ s. spec.IsWithin s (length entries.now)) }

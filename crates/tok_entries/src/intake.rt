@@ -1,13 +1,13 @@
-//! Entries read into a builder.
+//! Reads arrays of entries into a builder.
 ghost use Rattle.std.specs.Prelude.{◌≡◌, ◌+◌, ◌<◌, ◌^◌, ◌∷◌, length, true, false, IfOk, IfErr, OnOk};
 ghost use Rattle.std.specs.Str.{IsUtf8};
 ghost use Rattle.tok_core.specs.Building.{Levels, add_forest, nothing, opened};
 ghost use Rattle.tok_core.specs.Filled.{has_trees};
 ghost use Rattle.tok_core.specs.Forest.{Forest, Tree, group, no_trees, tree};
 ghost use Rattle.tok_pruned.specs.Pruned.{pruned};
+ghost use Rattle.tok_entries.specs.Blames.{Blames, BlamesFrom, TakesTree};
 ghost use Rattle.tok_entries.specs.Denotes.{Denotes, DenotesFrom, DenotesNone};
-ghost use Rattle.tok_entries.specs.Private.Parts.{DenotesNoneFrom, TakesTree};
-ghost use Rattle.tok_entries.specs.Refusals.{IsAmong, OnDenied};
+ghost use Rattle.tok_entries.specs.Refusals.{IsAmong, OnDenied, OnRejected};
 
 mod fault;
 mod group;
@@ -21,15 +21,16 @@ use leaf::read_leaf;
 use std::alloc::{AllocError, Global};
 use tok_core::{Build, Delimiter, Span};
 
-/// A builder that can take back the opening of a group.
+/// A builder that can remove its innermost open group if the group is empty.
 pub trait TakeBack: Build {
-    /// Takes back the opening of the innermost level, if the level holds no tree.
+    /// Removes the innermost open group if the group contains no trees.
     ///
-    /// Returns `true` if it did, and else changes nothing.
+    /// Returns `true` if the call removed the group. Otherwise, the call returns `false` and
+    /// changes nothing.
     ///
     /// # Requires
     ///
-    /// A level must be open.
+    /// A group must be open.
     fn take_back(&mut self) -> bool
         requires { 0 < length (Self.levels self.old).outer }
         ensures taken { result ≡ true → Self.levels self.old ≡ opened (Self.levels self.new) }
@@ -40,15 +41,21 @@ pub trait TakeBack: Build {
 // How many groups may be nested.
 const MOST_LEVELS: usize = 256;
 
-/// Reads entries into `builder`, without the invisible groups that hold nothing visible.
+/// Reads an array of entries into a builder, without the invisible groups that contain no visible
+/// tree.
 ///
-/// Accepts the entries that denote a forest, and those alone. Each span is of source 0. Returns
-/// `Refused` with why and the number of an entry, or the number of entries if texts are left over,
-/// and `Memory` if an allocation fails; the builder is then dropped.
+/// The call accepts `entries` and `texts` if and only if they represent a token stream. All spans
+/// of this stream are in source 0.
+///
+/// Returns `Refused` with a reason and the index of the rejected entry. If bytes of `texts` inside
+/// a group belong to no entry, the rejected entry is the closing delimiter of the group. If bytes
+/// at the end belong to no entry, the index is the number of entries.
+///
+/// Returns `Memory` if an allocation fails. If there is an error, the call drops `builder`.
 ///
 /// # Requires
 ///
-/// The builder must be empty.
+/// `builder` must be empty.
 pub fn read_entries<B: TakeBack + Drop>(
     mut builder: B,
     alloc: Global,
@@ -60,6 +67,8 @@ pub fn read_entries<B: TakeBack + Drop>(
         × (B.levels built ≡ add_forest (pruned f) nothing)) }
     ensures refuses { IfErr result
         (λ fault. OnDenied fault (DenotesNone entries.now texts.now)) }
+    ensures blames { IfErr result
+        (λ fault. OnRejected fault (Blames entries.now texts.now)) }
     ensures names { IfErr result (λ fault. IsAmong 0 (length entries.now) fault) }
 {
     read_level(&mut builder, alloc, MOST_LEVELS, 0, 0, entries, texts)?;
@@ -83,8 +92,8 @@ fn read_level<B: TakeBack>(
     ensures reads { OnOk result
         ((f : Forest) × DenotesFrom at levels entries.now texts.now f
         × (B.levels builder.new ≡ add_forest (pruned f) (B.levels builder.old))) }
-    ensures refuses { IfErr result (λ fault. OnDenied fault
-        (DenotesNoneFrom at levels entries.now texts.now)) }
+    ensures blames { IfErr result (λ fault. OnRejected fault
+        (BlamesFrom number at levels entries.now texts.now)) }
     ensures names { IfErr result (λ fault. IsAmong number (length entries.now) fault) }
 {
     let mut left = entries;
@@ -130,8 +139,8 @@ fn read_group<'a, 'b, B: TakeBack>(
         × TakesTree begin levels (opening.now ∷ after.now) rest.now t r.0.now r.1.now
         × (B.levels builder.new ≡ add_forest (pruned (tree t no_trees)) (B.levels builder.old))) }
     ensures utf8 { IfOk result (λ r. IsUtf8 r.1.now) }
-    ensures refuses { IfErr result (λ fault. OnDenied fault
-        (DenotesNoneFrom begin levels (opening.now ∷ after.now) rest.now)) }
+    ensures blames { IfErr result (λ fault. OnRejected fault
+        (BlamesFrom here begin levels (opening.now ∷ after.now) rest.now)) }
     ensures names { IfErr result (λ fault. IsAmong here (1 + length after.now) fault) }
 {
     let Some(parts) = group_parts(begin, opening, after, rest) else {

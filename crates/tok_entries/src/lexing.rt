@@ -1,4 +1,4 @@
-//! Texts read straight into entries.
+//! Lexes texts directly into arrays of entries.
 ghost use Rattle.std.specs.Prelude.{◌+◌, ◌<◌, ◌^◌, length, IfErr, IfOk};
 ghost use Rattle.std.specs.Str.{chars};
 ghost use Rattle.tok_core.specs.Forest.{Forest};
@@ -15,8 +15,11 @@ use tok_core::{Edition, LexFault, read};
 use tok_lexical::Mode;
 use tok_lexical::source::past_start;
 
-/// The entries of a text, and the texts of its leaves: what `write_entries` appends for the text's
-/// stream.
+/// A text in the form of an array of entries, and the texts of its identifiers, puncts and
+/// literals.
+///
+/// If you lex a text into a stream first, `write_entries` appends the same entries and texts for
+/// the stream.
 ///
 /// # Examples
 ///
@@ -54,30 +57,30 @@ fn lex_entries(
 }
 
 impl LexedEntries {
-    /// Lexes `text` straight into entries. They are those that `write_entries` makes of the stream
-    /// that `lex` returns.
+    /// Lexes `text` directly into an array of entries, according to the rules of `lex`.
     ///
-    /// Spans are of source 0. Returns the errors of `lex`.
+    /// `write_entries` appends the same entries for the stream that `lex` returns. All spans are in
+    /// source 0. Returns the same errors as `lex`.
     pub fn from_text(alloc: Global, text: &str) -> Result<LexedEntries, LexFault>
         ensures { Writes (FollowsGrammar Plain 0 (chars text.now)) result }
     {
         lex_entries(alloc, Mode::Plain, 0, text)
     }
 
-    /// Lexes a text with the marks `«` and `»` straight into entries, by the rules of
-    /// `lex_marked`.
+    /// Lexes a text directly into an array of entries, according to the rules of `lex_marked`.
     ///
-    /// Spans are of source 0. Returns the errors of `lex_marked`.
+    /// In the text, `«` and `»` are the delimiters of invisible groups. All spans are in source 0.
+    /// Returns the same errors as `lex_marked`.
     pub fn from_marked(alloc: Global, text: &str) -> Result<LexedEntries, LexFault>
         ensures { Writes (FollowsGrammar Marked 0 (chars text.now)) result }
     {
         lex_entries(alloc, Mode::Marked, 0, text)
     }
 
-    /// Lexes a whole Rust source of an edition straight into entries, by the rules of
-    /// `lex_source`.
+    /// Lexes a whole Rust source of the edition `edition` directly into an array of entries,
+    /// according to the rules of `lex_source`.
     ///
-    /// Spans are of source 0. Returns the errors of `lex_source`.
+    /// All spans are in source 0. Returns the same errors as `lex_source`.
     pub fn from_source(
         alloc: Global,
         edition: Edition,

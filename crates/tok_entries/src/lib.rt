@@ -1,5 +1,7 @@
-//! Token streams as flat arrays of plain structs, as C and a compiler's macros see them: out by
-//! `write_entries`, or from a text by `LexedEntries`, and back in by `read_entries`.
+//! Token streams as flat arrays of plain structs, for C and for the macros of a compiler.
+//!
+//! The function `write_entries` converts a stream to an array. `LexedEntries` lexes a text into an
+//! array, and `read_entries` reads an array.
 #![tactic(auto)]
 
 mod builder;

@@ -1,4 +1,4 @@
-//! Which texts a leaf may have.
+//! Decides whether a text is valid for an identifier or a literal.
 ghost use Rattle.std.specs.Prelude.{◌≡◌, [], MatchBool, MatchOption, None};
 ghost use Rattle.std.specs.Str.{chars};
 ghost use Rattle.tok_lexical.specs.Errors as errors;

@@ -1,4 +1,4 @@
-//! A stream as entries.
+//! Converts token streams into arrays of entries.
 ghost use Rattle.std.specs.Prelude.{◌≡◌, ◌++◌, length, OnErr, OnOk, string_bytes};
 ghost use Rattle.tok_core.specs.Seen.{tree_of};
 ghost use Rattle.tok_entries.specs.Entries as spec;
@@ -8,11 +8,14 @@ use crate::entry::{CLOSING, Entry, IDENT, LITERAL, OPENING, PUNCT, edge, leaf, s
 use std::alloc::AllocError;
 use tok_core::{TokenStream, TokenTree};
 
-/// Appends the entries of a stream, and the texts of its leaves.
+/// Appends the entries of `stream` to the array `entries`, and the texts of its tokens to `texts`.
 ///
-/// The texts are counted from the front of `texts`, and each distance between two edges in entries.
-/// Returns an error if an allocation fails. The entries and texts that were there before are still
-/// at the front, and what follows them is unspecified.
+/// Each identifier, punct, literal and delimiter becomes an entry. The text of each entry is a
+/// range of bytes of `texts`. The distance between an opening and its closing delimiter counts
+/// entries.
+///
+/// If an allocation fails, the call returns an error. `entries` and `texts` still begin with their
+/// previous contents, but may contain additional, unspecified elements.
 ///
 /// # Examples
 ///

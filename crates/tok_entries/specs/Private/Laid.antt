@@ -1,5 +1,5 @@
 -- How levels that are open are laid out as entries and texts, and which levels are there.
-use Rattle.std.specs.Prelude.{◌≡◌, ℕ, ◌+◌, ◌-◌, ◌==◌, ◌&&◌, Bool, true, false, cond, nat_lt}
+use Rattle.std.specs.Prelude.{◌≡◌, ℕ, ◌+◌, ◌-◌, ◌==◌, ◌&&◌, Bool, true, false, if◌then◌else◌, nat_lt}
 use Rattle.std.specs.Prelude.{List, [], ◌∷◌, ◌++◌, length, map, take, drop, slice_index}
 use Rattle.tok_leaves.specs.declared.punct.Spacing.{Spacing}
 use Rattle.tok_leaves.specs.declared.punct.Spacing.TheVariants.{Alone, Joint}
@@ -39,7 +39,7 @@ abbrev pub laid_texts : List Forest → List ℕ
 laid_texts [] = []
 laid_texts (f ∷ s) = texts f ++ laid_texts s
 
--- where these openings are to come, if the first level begins at this place
+-- the places of the openings that are to come, if the first level begins at this place
 abbrev pub places : ℕ → List Forest → List ℕ
 places n [] = []
 places n (f ∷ s) = (n + weight f) ∷ places (n + weight f + 1) s
@@ -48,7 +48,7 @@ places n (f ∷ s) = (n + weight f) ∷ places (n + weight f + 1) s
 abbrev pub is_in_source : Span → Bool
 is_in_source span = elim span.origin [ CallSite ↦ false | Source number from to ↦ number == 0 ]
 
--- a punct is one byte
+-- a leaf that is a punct has a character of one byte
 abbrev pub is_small : Leaf → Bool
 is_small (ident text span) = true
 is_small (punct c spacing span) = nat_lt c 128
@@ -80,7 +80,7 @@ text_of bs e = take (e.text_end - e.text_start) (drop e.text_start bs)
 
 -- the spacing of a number in an entry; any but 0 is `Joint`
 abbrev pub spacing_of : ℕ → Spacing
-spacing_of n = cond (n == 0) Alone Joint
+spacing_of n = if n == 0 then Alone else Joint
 
 -- the range of an entry, in source 0
 abbrev pub span_of : Entry → Span
@@ -89,10 +89,10 @@ span_of e = source 0 e.start e.end
 -- the leaf of an entry
 abbrev pub leaf_of : List ℕ → Entry → Leaf
 leaf_of bs e =
-    cond (e.kind == 0) (ident (text_of bs e) (span_of e))
-    (cond (e.kind == 1)
-    (punct (slice_index (text_of bs e) 0) (spacing_of e.spacing) (span_of e))
-    (literal (text_of bs e) (span_of e)))
+    if e.kind == 0 then ident (text_of bs e) (span_of e)
+    else if e.kind == 1
+    then punct (slice_index (text_of bs e) 0) (spacing_of e.spacing) (span_of e)
+    else literal (text_of bs e) (span_of e)
 
 -- a level that is read from the back: its trees so far, and the byte at which its group ends
 abbrev Level : Type 0
@@ -109,12 +109,13 @@ stack_group e [] = []
 stack_group e (f ∷ s) =
     stack_tree (group (delimiter_of e.delimiter) f.0 (source 0 e.start f.1)) s
 
--- the levels ahead, read from the back
+-- the levels ahead with this entry before them; entries are read from the back
 abbrev pub stack_entry : List ℕ → Entry → List Level → List Level
 stack_entry bs e s =
-    cond (e.kind == 5) ((no_trees, 0) ∷ s)
-    (cond (e.kind == 4) ((no_trees, e.end) ∷ s)
-    (cond (e.kind == 3) (stack_group e s) (stack_tree (leaf (leaf_of bs e)) s)))
+    if e.kind == 5 then (no_trees, 0) ∷ s
+    else if e.kind == 4 then (no_trees, e.end) ∷ s
+    else if e.kind == 3 then stack_group e s
+    else stack_tree (leaf (leaf_of bs e)) s
 
 -- the levels ahead after all entries, read from the last to the first
 abbrev pub stack_entries : List ℕ → List Entry → List Level → List Level

@@ -1,11 +1,10 @@
 -- What a loop that takes trees off the front of entries and texts keeps.
-use Rattle.std.specs.Prelude.{◌≡◌, ◌≤◌, ◌+◌, ◌-◌, ℕ, List, ◌++◌, length}
+use Rattle.std.specs.Prelude.{◌≡◌, ◌≤◌, ℕ, List, ◌++◌}
 use Rattle.tok_core.specs.Building.{Levels, add_forest}
 use Rattle.tok_core.specs.Forest.{Forest}
 use Rattle.tok_core.specs.Lexical.Items.{depth}
 use Rattle.tok_pruned.specs.Pruned.{pruned}
 use Rattle.tok_entries.specs.declared.entry.Entry.{Entry}
-use Rattle.tok_entries.specs.Denotes.{DenotesFrom}
 use Rattle.tok_entries.specs.Entries.{entries, texts}
 use Rattle.tok_entries.specs.Texts.{IsForestIn}
 
@@ -14,9 +13,3 @@ abbrev pub GoesOn : ℕ → ℕ → List Entry → List ℕ → List Entry → L
 GoesOn at levels es bs left rest old new =
     (f : Forest) × (es ≡ entries at f ++ left) × (bs ≡ texts f ++ rest) × IsForestIn f
     × (depth f ≤ levels) × (new ≡ add_forest (pruned f) old)
-
--- if all denotes a forest, so does what is left
-abbrev pub LeadsTo : ℕ → ℕ → List Entry → List ℕ → List Entry → List ℕ → Type 0
-LeadsTo at levels es bs left rest =
-    (f : Forest) → DenotesFrom at levels es bs f
-    → (g : Forest) × DenotesFrom (at + (length bs - length rest)) levels left rest g

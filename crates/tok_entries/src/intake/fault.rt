@@ -1,4 +1,4 @@
-//! Why entries are rejected.
+//! The reasons why `read_entries` rejects entries.
 ghost use Rattle.std.specs.Prelude.{◌≡◌, Some};
 ghost use Rattle.tok_entries.specs.Refusals.{entry_fault_words, refusal_words};
 
@@ -6,22 +6,24 @@ use std::alloc::AllocError;
 use std::fmt;
 use std::fmt::{Formatter, Write};
 
-/// Why entries denote no stream.
+/// The reason why an array of entries does not represent a token stream.
 #[derive(Clone, Copy, PartialEq, Eq, Debug)]
 pub enum Refusal {
-    /// A field does not fit: a number that names nothing, a text that does not follow the one
-    /// before, a span that ends before it begins, a group without its other edge.
+    /// A field of an entry is invalid.
+    ///
+    /// For example, the kind of the entry is above 4, its text does not begin where the previous
+    /// text ends, or a group lacks its opening or closing delimiter.
     Shape,
-    /// The text is none of this kind.
+    /// The text of an identifier, a punct or a literal is not valid for this kind of token.
     Text,
     /// More than 256 groups are nested.
     Depth,
 }
 
-/// Why entries are not read.
+/// An error that `read_entries` can return.
 #[derive(Clone, Copy, PartialEq, Eq, Debug)]
 pub enum EntryFault {
-    /// The entry with this number is rejected.
+    /// `read_entries` rejected an entry. The fields are the reason and the index of the entry.
     Refused(Refusal, usize),
     /// An allocation failed.
     Memory,
@@ -49,7 +51,7 @@ impl fmt::Display for Refusal {
     }
 }
 
-/// Writes the number of the entry, and why it is rejected.
+/// Writes the index of the entry, and the reason why the entry is rejected.
 impl fmt::Display for EntryFault {
     ghost output = { λ fault. Some (entry_fault_words fault) };
 

@@ -1,7 +1,8 @@
-//! Edges of groups.
+//! Reads the entries of opening and closing delimiters.
 ghost use Rattle.std.specs.Prelude.{◌+◌, ◌<◌, ◌^◌, ◌∷◌, length, IfSome, MatchBool, MatchOption};
 ghost use Rattle.std.specs.Str.{IsUtf8};
-ghost use Rattle.tok_entries.specs.Private.Parts.{AreEdges, AreGroupParts, HasNoGroup};
+ghost use Rattle.tok_entries.specs.Blames.{OpensGroup};
+ghost use Rattle.tok_entries.specs.Private.Parts.{AreEdges, AreGroupParts};
 
 use crate::entry::{CLOSING, Entry, OPENING, edge};
 use crate::intake::parts::{cut, delimiter_of, source_span, text_up_to};
@@ -27,7 +28,7 @@ pub fn group_parts<'a, 'b>(
 ) -> Option<GroupParts<'a, 'b>>
     requires { begin + length rest.now < 2 ^ 64 }
     ensures parts { MatchOption result
-        (HasNoGroup begin (opening.now ∷ after.now) rest.now)
+        (OpensGroup begin (opening.now ∷ after.now) rest.now → ⊥)
         (λ p. AreGroupParts begin opening.now after.now rest.now p) }
     ensures utf8 { IfSome result (λ p. IsUtf8 p.words.now × IsUtf8 p.behind.now) }
 {

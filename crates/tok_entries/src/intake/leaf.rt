@@ -1,4 +1,4 @@
-//! Entries of leaves.
+//! Reads the entries of identifiers, puncts and literals.
 ghost use Rattle.std.specs.Prelude.{◌≡◌, ◌+◌, ◌<◌, ◌^◌, ◌++◌, length, true, IfOk, IfErr, IfSome, MatchBool, MatchOption};
 ghost use Rattle.std.specs.Str.{IsUtf8};
 ghost use Rattle.tok_leaves.specs.Leaves.{Leaf, ident, leaf_text, literal, punct, punct_of};
@@ -6,8 +6,9 @@ ghost use Rattle.tok_core.specs.Building.{add_leaf};
 ghost use Rattle.tok_lexical.specs.Characters.{is_punct_or_apostrophe};
 ghost use Rattle.std.specs.Prelude.{ℕ, List, encode_utf8};
 ghost use Rattle.tok_entries.specs.Entries as spec;
-ghost use Rattle.tok_entries.specs.Refusals.{IsAmong, OnDenied};
-ghost use Rattle.tok_entries.specs.Private.Parts.{AreLeafParts, HasNoLeaf};
+ghost use Rattle.tok_entries.specs.Blames.{FitsLeaf};
+ghost use Rattle.tok_entries.specs.Refusals.{IsAmong, OnRejected};
+ghost use Rattle.tok_entries.specs.Private.Parts.{AreLeafParts, RejectsLeaf};
 ghost use Rattle.tok_entries.specs.Texts.{IsLeafIn, IsLiteralText, IsWord};
 
 use crate::entry::{Entry, IDENT, LITERAL, PUNCT, leaf, spacing_number};
@@ -33,8 +34,8 @@ pub fn read_leaf<'b, B: Build>(
         × (entry.now ≡ spec.leaf_entry begin l) × (rest.now ≡ leaf_text l ++ behind.now)
         × (B.levels builder.new ≡ add_leaf l (B.levels builder.old))) }
     ensures utf8 { IfOk result (λ behind. IsUtf8 behind.now) }
-    ensures refuses { IfErr result
-        (λ fault. OnDenied fault (HasNoLeaf begin entry.now rest.now)) }
+    ensures blames { IfErr result (λ fault. OnRejected fault
+        (λ why named. (named ≡ here) × RejectsLeaf begin entry.now rest.now why)) }
     ensures names { IfErr result (λ fault. IsAmong here 0 fault) }
 {
     let shape = EntryFault::Refused(Refusal::Shape, here);
@@ -62,7 +63,7 @@ fn leaf_parts<'b>(
     rest: &'b str,
 ) -> Option<(Spacing, Span, &'b str, &'b str)>
     requires { begin + length rest.now < 2 ^ 64 }
-    ensures parts { MatchOption result (HasNoLeaf begin entry.now rest.now)
+    ensures parts { MatchOption result (FitsLeaf begin entry.now rest.now → ⊥)
         (λ p. AreLeafParts begin entry.now rest.now p.0 p.1 p.2.now p.3.now) }
     ensures utf8 { IfSome result (λ p. IsUtf8 p.2.now × IsUtf8 p.3.now) }
 {

@@ -1,4 +1,4 @@
-//! Fields of entries.
+//! Reads the fields of entries.
 ghost use Rattle.std.specs.Prelude.{◌≡◌, ◌≤◌, ◌+◌, ◌<◌, ◌^◌, ◌∷◌, ◌++◌, List, ℕ, length, IfSome, MatchOption};
 ghost use Rattle.std.specs.Str.{IsUtf8};
 ghost use Rattle.tok_leaves.specs.Spans.{source};
@@ -13,7 +13,7 @@ use tok_core::{Delimiter, Span};
 pub fn text_up_to(begin: usize, end: usize, rest: &str) -> Option<(&str, &str)>
     requires { begin + length rest.now < 2 ^ 64 }
     ensures parts { MatchOption result
-        ((text behind : List ℕ) → IsUtf8 behind → rest.now ≡ text ++ behind
+        ((text behind : List ℕ) → IsUtf8 text → rest.now ≡ text ++ behind
         → end ≡ begin + length text → ⊥)
         (λ p. (rest.now ≡ p.0.now ++ p.1.now) × (end ≡ begin + length p.0.now)) }
     ensures utf8 { IfSome result (λ p. IsUtf8 p.0.now × IsUtf8 p.1.now) }

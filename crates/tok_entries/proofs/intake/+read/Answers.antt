@@ -1,24 +1,53 @@
 use Rattle.std.proofs.Common.{rules, ◌≡◌, ◌+◌, ◌-◌, ◌∷◌, ℕ, length, refl, subst, sym}
 use Rattle.tok_core.specs.Forest.{group, leaf}
-use Rattle.tok_entries.specs.Private.Parts.{DenotesNoneFrom, HasNoLeaf, TakesTree}
-use Rattle.tok_entries.proofs.Groups.{no_group, no_inside, group_taken}
-use Rattle.tok_entries.proofs.Steps.{goes_on, leads_on, leaf_taken, no_first_leaf, none_leads, goes_first, leads_first}
+use Rattle.tok_entries.specs.Blames.{BlamesFrom, TakesTree, first_entry}
+use Rattle.tok_entries.specs.Private.Parts.{RejectsLeaf}
+use Rattle.tok_entries.specs.Refusals.{OnRejected}
+use Rattle.tok_entries.specs.declared.intake.fault.EntryFault.{EntryFault}
+use Rattle.tok_entries.specs.declared.intake.fault.Refusal.TheVariants.{Shape, Depth}
+use Rattle.tok_entries.proofs.Blamed.{blamed_end, blamed_inside, blamed_leaf, blamed_on, not_opened}
+use Rattle.tok_entries.proofs.Groups.{group_taken, no_leaf_opens, parts_open}
+use Rattle.tok_entries.proofs.Steps.{goes_on, leaf_taken, goes_first}
 use Rattle.tok_entries.proofs.intake.+read.Goals as goal
 
-pub read_group-returns-in_default-clause-refuses : goal.read_group-returns-in_default-clause-refuses
-read_group-returns-in_default-clause-refuses g t c =
-    no_group c.args.begin c.args.levels c.args.opening.now c.args.after.now c.args.rest.now
-    (search rules) (search rules)
-
-pub read_group-returns-in_err-read_level-clause-refuses :
-    goal.read_group-returns-in_err-read_level-clause-refuses
-read_group-returns-in_err-read_level-clause-refuses g t c =
-    search (
-      rules,
-      no_inside c.args.begin c.args.levels c.args.opening.now c.args.after.now
-          c.args.rest.now (search rules) c.in-Some-checked_sub.inner c.in-Some.parts (search rules)
-          (search rules),
+pub read_group-returns-in_default-clause-blames : goal.read_group-returns-in_default-clause-blames
+read_group-returns-in_default-clause-blames g t c =
+    first_entry c.args.here c.args.begin c.args.levels (c.args.opening.now ∷ c.args.after.now)
+    c.args.rest.now Shape (
+      no_leaf_opens c.args.begin c.args.opening.now c.args.rest.now (search rules),
+      c.in_default.ensures.parts,
     )
+
+pub read_group-returns-in_default-checked_sub-clause-blames :
+    goal.read_group-returns-in_default-checked_sub-clause-blames
+read_group-returns-in_default-checked_sub-clause-blames g t c =
+    let p = c.in-Some.parts in
+    first_entry c.args.here c.args.begin c.args.levels (c.args.opening.now ∷ c.args.after.now)
+    c.args.rest.now Depth (
+      (
+        p.inside.now,
+        p.words.now,
+        parts_open c.args.begin c.args.opening.now c.args.after.now c.args.rest.now p
+            c.in-Some.ensures.parts c.in-Some.ensures.utf8.0,
+      ),
+      search rules,
+    )
+
+pub read_group-returns-in_err-read_level-clause-blames :
+    goal.read_group-returns-in_err-read_level-clause-blames
+read_group-returns-in_err-read_level-clause-blames g t c =
+    let p = c.in-Some.parts in
+    let inner = c.in-Some-checked_sub.inner in
+    let es = c.args.opening.now ∷ c.args.after.now in
+    let lifted : (fault : EntryFault)
+    → OnRejected fault (BlamesFrom (c.args.here + 1) c.args.begin inner p.inside.now p.words.now)
+    → OnRejected fault (BlamesFrom c.args.here c.args.begin c.args.levels es c.args.rest.now) =
+    λ fault.
+    blamed_inside fault c.args.here (c.args.here + 1) c.args.begin c.args.levels inner es
+    c.args.rest.now p.inside.now p.words.now (search rules) refl
+    (parts_open c.args.begin c.args.opening.now c.args.after.now c.args.rest.now p
+    c.in-Some.ensures.parts c.in-Some.ensures.utf8.0) in
+    search (rules, lifted)
 
 pub read_group-returns-clause-reads : goal.read_group-returns-clause-reads
 read_group-returns-clause-reads g t c =
@@ -34,13 +63,12 @@ read_level-loop-first-init g t c = (
   search rules,
   goes_first c.args.at c.args.levels c.args.entries.now c.args.texts.now
       (g.B.Build.levels c.args.builder.now),
-  leads_first c.args.at c.args.levels c.args.entries.now c.args.texts.now,
 )
 
 pub read_level-loop-first-preserved-then-first-eq-OPENING :
     goal.read_level-loop-first-preserved-then-first-eq-OPENING
 read_level-loop-first-preserved-then-first-eq-OPENING g t c =
-    let (u, goes, leads) = c.loop-first.invariant in
+    let (u, goes) = c.loop-first.invariant in
     let begin : ℕ = c.args.at + (length c.args.texts.now - length c.loop-first.rest.now) in
     let old = g.B.Build.levels c.args.builder.now in
     let mid = g.B.Build.levels c.loop-first.builder in
@@ -56,32 +84,69 @@ read_level-loop-first-preserved-then-first-eq-OPENING g t c =
       goes_on c.args.at c.args.levels begin c.args.entries.now left c.in_ok-later.later.now
           c.args.texts.now c.loop-first.rest.now c.in_ok-later.behind.now old mid new tree goes refl
           taken adds,
-      leads_on c.args.at c.args.levels begin c.args.entries.now left c.in_ok-later.later.now
-          c.args.texts.now c.loop-first.rest.now c.in_ok-later.behind.now old mid tree goes leads
-          refl taken,
     )
 
-pub read_level-returns-in_err-behind-clause-refuses :
-    goal.read_level-returns-in_err-behind-clause-refuses
-read_level-returns-in_err-behind-clause-refuses g t c =
-    let (u, goes, leads) = c.loop-first.invariant in
+pub read_level-returns-in_err-later-clause-blames :
+    goal.read_level-returns-in_err-later-clause-blames
+read_level-returns-in_err-later-clause-blames g t c =
+    let (u, goes) = c.loop-first.invariant in
+    let here : ℕ = c.args.number + (length c.args.entries.now - length c.loop-first.left.now) in
     let begin : ℕ = c.args.at + (length c.args.texts.now - length c.loop-first.rest.now) in
     let left = c.loop-first.left.now in
-    let front : left ≡ c.in-Some.first.now ∷ c.in-Some.after.now = search rules in
-    let visible : c.in-Some.first.now.kind ≡ 3 → ⊥ = search rules in
-    let never : HasNoLeaf begin c.in-Some.first.now c.loop-first.rest.now
-    → DenotesNoneFrom c.args.at c.args.levels c.args.entries.now c.args.texts.now =
-    λ h.
-    none_leads c.args.at c.args.levels begin c.args.entries.now left c.args.texts.now
-    c.loop-first.rest.now leads refl
-    (subst (λ es. DenotesNoneFrom begin c.args.levels es c.loop-first.rest.now) (sym front)
-    (no_first_leaf begin c.args.levels c.in-Some.first.now c.in-Some.after.now
-    c.loop-first.rest.now visible h)) in
-    search (rules, never)
+    let rest = c.loop-first.rest.now in
+    let first = c.in-Some.first.now in
+    let after = c.in-Some.after.now in
+    let front : left ≡ first ∷ after = search rules in
+    let lifted : (fault : EntryFault)
+    → OnRejected fault (BlamesFrom here begin c.args.levels (first ∷ after) rest)
+    → OnRejected fault (BlamesFrom c.args.number c.args.at c.args.levels c.args.entries.now
+    c.args.texts.now) =
+    λ fault blamed.
+    blamed_on fault c.args.number c.args.at c.args.levels here begin c.args.entries.now left
+    c.args.texts.now rest (g.B.Build.levels c.args.builder.now)
+    (g.B.Build.levels c.loop-first.builder) goes refl refl
+    (subst (λ es. OnRejected fault (BlamesFrom here begin c.args.levels es rest)) (sym front)
+    blamed) in
+    search (rules, lifted)
+
+pub read_level-returns-in_err-behind-clause-blames :
+    goal.read_level-returns-in_err-behind-clause-blames
+read_level-returns-in_err-behind-clause-blames g t c =
+    let (u, goes) = c.loop-first.invariant in
+    let here : ℕ = c.args.number + (length c.args.entries.now - length c.loop-first.left.now) in
+    let begin : ℕ = c.args.at + (length c.args.texts.now - length c.loop-first.rest.now) in
+    let left = c.loop-first.left.now in
+    let rest = c.loop-first.rest.now in
+    let first = c.in-Some.first.now in
+    let after = c.in-Some.after.now in
+    let front : left ≡ first ∷ after = search rules in
+    let other : first.kind ≡ 3 → ⊥ = search rules in
+    let lifted : (fault : EntryFault)
+    → OnRejected fault (λ why named. (named ≡ here) × RejectsLeaf begin first rest why)
+    → OnRejected fault (BlamesFrom c.args.number c.args.at c.args.levels c.args.entries.now
+    c.args.texts.now) =
+    λ fault blamed.
+    blamed_on fault c.args.number c.args.at c.args.levels here begin c.args.entries.now left
+    c.args.texts.now rest (g.B.Build.levels c.args.builder.now)
+    (g.B.Build.levels c.loop-first.builder) goes refl refl
+    (subst (λ es. OnRejected fault (BlamesFrom here begin c.args.levels es rest)) (sym front)
+    (blamed_leaf fault here begin c.args.levels first after rest
+    (not_opened begin first after rest other) blamed)) in
+    search (rules, lifted)
+
+pub read_level-returns-else-is_empty-clause-blames :
+    goal.read_level-returns-else-is_empty-clause-blames
+read_level-returns-else-is_empty-clause-blames g t c =
+    let (u, goes) = c.loop-first.invariant in
+    blamed_end c.args.number c.args.at c.args.levels
+    (c.args.at + (length c.args.texts.now - length c.loop-first.rest.now)) c.args.entries.now
+    c.loop-first.left.now c.args.texts.now c.loop-first.rest.now
+    (g.B.Build.levels c.args.builder.now) (g.B.Build.levels c.loop-first.builder) goes refl
+    (search rules) (search rules)
 
 pub read_level-loop-first-preserved : goal.read_level-loop-first-preserved
 read_level-loop-first-preserved g t c =
-    let (u, goes, leads) = c.loop-first.invariant in
+    let (u, goes) = c.loop-first.invariant in
     let begin : ℕ = c.args.at + (length c.args.texts.now - length c.loop-first.rest.now) in
     let old = g.B.Build.levels c.args.builder.now in
     let mid = g.B.Build.levels c.loop-first.builder in
@@ -99,7 +164,4 @@ read_level-loop-first-preserved g t c =
       goes_on c.args.at c.args.levels begin c.args.entries.now left c.in-Some.after.now
           c.args.texts.now c.loop-first.rest.now c.in_ok-behind.behind.now old mid new (leaf l) goes
           refl taken adds,
-      leads_on c.args.at c.args.levels begin c.args.entries.now left c.in-Some.after.now
-          c.args.texts.now c.loop-first.rest.now c.in_ok-behind.behind.now old mid (leaf l) goes
-          leads refl taken,
     )

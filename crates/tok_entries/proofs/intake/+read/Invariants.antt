@@ -1,7 +1,7 @@
 use Rattle.std.proofs.Common.{◌+◌, ◌*◌, length}
 use denote.Text.{Utf8}
 use denote.Shadow.{shadow}
-use Rattle.tok_entries.specs.Private.Steps.{GoesOn, LeadsTo}
+use Rattle.tok_entries.specs.Private.Steps.{GoesOn}
 use Rattle.tok_entries.proofs.intake.+read.Given as goal
 
 abbrev pub decreases-read_group : goal.decreases-read_group
@@ -15,7 +15,6 @@ invariant-read_level-loop-first g l =
     shadow (Utf8 l.rest)
     × GoesOn l.at l.levels l.entries l.texts l.left l.rest (g.B.Build.levels l.initial.builder)
     (g.B.Build.levels l.builder)
-    × LeadsTo l.at l.levels l.entries l.texts l.left l.rest
 
 abbrev pub decreases-read_level-loop-first : goal.decreases-read_level-loop-first
 decreases-read_level-loop-first g l = length l.left

@@ -7,5 +7,5 @@ returns-in-None-clause-parts c = λ text behind u e h.
     search (
       rules,
       is_cut c.args.rest.now text behind c.args.begin c.args.end c.in-Some.size
-          (search rules) u e h,
+          c.utf8.rest (search rules) u e h,
     )
