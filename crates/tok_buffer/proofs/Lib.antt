@@ -25,4 +25,5 @@ pub mod Scans
 pub mod ScopeEnds
 pub mod Spanned
 pub mod Stacks
+pub mod Steps
 pub mod View

@@ -1,5 +1,5 @@
 -- The visible trees from a place to its scope's end, and the leftover.
-use Rattle.std.specs.Prelude.{Bool, true, false, cond, List, [], ◌∷◌, ◌++◌, Option, Some, None}
+use Rattle.std.specs.Prelude.{Bool, true, false, if◌then◌else◌, List, [], ◌∷◌, ◌++◌, Option, Some, None}
 use Rattle.tok_lexical.specs.declared.delimiter.Delimiter.{Delimiter}
 use Rattle.tok_lexical.specs.declared.delimiter.Delimiter.TheVariants as delimiter
 use Rattle.tok_leaves.specs.declared.span.Span.{Span}
@@ -14,7 +14,7 @@ visible mark (tree (leaf l) f) = (mark, leaf l) ∷ visible mark f
 visible mark (tree (group delimiter.None inside span) f) = visible true inside ++ visible mark f
 visible mark (tree (group d inside span) f) = (mark, group d inside span) ∷ visible mark f
 
--- frame by frame, from the innermost out
+-- the visible trees ahead in each frame, from the innermost out
 abbrev pub ahead_in : List Frame → List (Bool × Tree)
 ahead_in [] = []
 ahead_in (frame o p a ∷ ls) = visible false a ++ ahead_in ls
@@ -33,18 +33,18 @@ pub record Leftover : Type 0 where
 abbrev pub first_left : Delimiter → List (Bool × Tree) → Option Leftover
 first_left scope [] = None
 first_left scope (t ∷ ts) =
-    Some (record { span = tree_span t.1; delimiter = cond t.0 delimiter.None scope })
+    Some (record { span = tree_span t.1; delimiter = if t.0 then delimiter.None else scope })
 
 -- the first visible tree that is left in the scope; `None` at its end
 abbrev pub leftover : Place → Option Leftover
 leftover p = first_left (scope_delimiter p) (marked_ahead p)
 
--- the first of them: its mark and its span
+-- the mark and the span of the first of these trees, if there is one
 abbrev pub first_of : List (Bool × Tree) → Option (Bool × Span)
 first_of [] = None
 first_of (t ∷ ts) = Some (t.0, tree_span t.1)
 
--- a leftover, from a pair
+-- the leftover of a span and a delimiter
 abbrev pub left_of : Option (Span × Delimiter) → Option Leftover
 left_of None = None
 left_of (Some l) = Some (record { span = l.0; delimiter = l.1 })

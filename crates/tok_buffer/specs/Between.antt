@@ -11,9 +11,9 @@ use Rattle.tok_buffer.specs.Rest.{rest}
 use Rattle.tok_buffer.specs.Trees.{PassesTrees}
 use Rattle.tok_buffer.specs.View.{erased_ahead}
 
--- The trees that end with the first so many openings, leaves and closings of a forest; of a group
--- that ends later, those of its contents that do.
 abbrev mutual
+  -- The trees that end with the first so many openings, leaves and closings of a forest; of a group
+  -- that ends later, those of its contents that do.
   pub first_trees : ℕ → Forest → Forest
   first_trees n no_trees = no_trees
   first_trees n (tree t f) =
@@ -25,7 +25,7 @@ abbrev mutual
   first_inside n (leaf l) = no_trees
   first_inside n (group d inside span) = first_trees (n - 1) inside
 
--- trees of frames, from the innermost out; the end of each counts as one
+-- the first trees ahead in frames, from the innermost out; the end of each frame counts as one
 abbrev pub first_in : ℕ → List Frame → Forest
 first_in n [] = no_trees
 first_in n (frame o p a ∷ ls) = concat (first_trees n a) (first_in (n - (weight a + 1)) ls)
@@ -41,7 +41,7 @@ between p empty_place = no_trees
 between p (at n s c l ls) =
     if same_scope p (at n s c l ls) then trees_to c p else no_trees
 
--- where a place leads by descents and by passing trees
+-- the places to which a place leads by descents and by passing trees
 pub data Follows (p : Place) : Place → Type 0 where
   from_here : Follows p p
   after_descent : (q : Place) → Follows p q → Follows p (descend q)
@@ -55,7 +55,7 @@ LosesNoTree p q f = Follows p q → concat (erase f) (erased_ahead q) ≡ erased
 abbrev pub PassedJoin : Type 0
 PassedJoin = (p q : Place) → PassesTrees p q → concat (between p q) (rest q) ≡ rest p
 
--- each call leads there, and so do several in turn
+-- each call leads to a place that follows, and so do several in turn
 pub record ReadsFollow : Type 0 where
   pub calls : CallsLead Follows
   pub along : (p q r : Place) → Follows p q → Follows q r → Follows p r

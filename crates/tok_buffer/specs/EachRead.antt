@@ -1,5 +1,5 @@
 -- The reads of leaves, and what each takes of the visible trees ahead.
-use Rattle.std.specs.Prelude.{ℕ, Bool, cond, List, [], ◌∷◌, ◌++◌, Option, Some, None, bytes_eq}
+use Rattle.std.specs.Prelude.{ℕ, Bool, if◌then◌else◌, List, [], ◌∷◌, ◌++◌, Option, Some, None, bytes_eq}
 use Rattle.tok_core.specs.Clear.{is_joint_apostrophe}
 use Rattle.tok_core.specs.Forest.{Tree, Forest, no_trees, tree}
 use Rattle.tok_buffer.specs.Place.{Place}
@@ -18,9 +18,9 @@ First = Forest → Option (List Tree × Forest)
 -- the first tree, if it is wanted, and the trees after it
 abbrev pub first_if : (Tree → Bool) → First
 first_if wanted no_trees = None
-first_if wanted (tree t f) = cond (wanted t) (Some (t ∷ [], f)) None
+first_if wanted (tree t f) = if wanted t then Some (t ∷ [], f) else None
 
--- one read, and then another
+-- the trees of one read and of another after it; `None` if either finds nothing
 abbrev pub and_first : Option (List Tree × Forest) → First → Option (List Tree × Forest)
 and_first None g = None
 and_first (Some r) g = elim (g r.1) [ Some q ↦ Some (r.0 ++ q.0, q.1) | None ↦ None ]

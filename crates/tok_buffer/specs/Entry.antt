@@ -1,5 +1,5 @@
 -- Entering a group: the place of its content, and the place after it.
-use Rattle.std.specs.Prelude.{◌+◌, cond, [], Option, Some, None}
+use Rattle.std.specs.Prelude.{◌+◌, if◌then◌else◌, [], Option, Some, None}
 use Rattle.tok_lexical.specs.declared.delimiter.Delimiter.{Delimiter}
 use Rattle.tok_lexical.specs.declared.delimiter.Delimiter.TheVariants as delimiter
 use Rattle.tok_leaves.specs.declared.span.Span.{Span}
@@ -16,11 +16,11 @@ pub record EnteredWith (A : Type 0) : Type 0 where
   pub content : A
   pub after : A
 
--- with the places of both
+-- a group that is entered, with the place of its content and the place after it
 abbrev pub Entered : Type 0
 Entered = EnteredWith Place
 
--- with what is known of both places
+-- a group that is entered, with what is known of these two places
 abbrev pub entered_with : {A : Type 0} → (Place → A) → Entered → EnteredWith A
 entered_with known e =
     record {
@@ -46,7 +46,7 @@ enter_any p = None
 -- the group that is entered, if it has this delimiter
 abbrev pub entered_of : Delimiter → Option Entered → Option Entered
 entered_of d None = None
-entered_of d (Some e) = cond (same_delimiter d e.delimiter) (Some e) None
+entered_of d (Some e) = if same_delimiter d e.delimiter then Some e else None
 
 -- a visible group is found through invisible groups, an invisible one is not
 abbrev pub enter : Delimiter → Place → Option Entered

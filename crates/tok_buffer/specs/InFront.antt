@@ -1,5 +1,5 @@
 -- What single calls return at a place, by the visible trees ahead of it.
-use Rattle.std.specs.Prelude.{◌≡◌, ℕ, true, cond, not, List}
+use Rattle.std.specs.Prelude.{◌≡◌, ℕ, true, if◌then◌else◌, not, List}
 use Rattle.std.specs.Prelude.{Option, Some, None, option_map}
 use Rattle.tok_lexical.specs.declared.delimiter.Delimiter.{Delimiter}
 use Rattle.tok_leaves.specs.declared.span.Span.{Span}
@@ -27,8 +27,8 @@ abbrev pub first_group : Delimiter → Forest → Option (EnteredWith Forest)
 first_group d no_trees = None
 first_group d (tree (leaf l) f) = None
 first_group d (tree (group e inside span) f) =
-    cond (same_delimiter d e)
-    (Some (record { delimiter = e; span = span; content = inside; after = f })) None
+    if same_delimiter d e
+    then Some (record { delimiter = e; span = span; content = inside; after = f }) else None
 
 -- the span of the first tree, if there is one
 abbrev pub first_tree_span : Forest → Option Span

@@ -1,5 +1,5 @@
 -- An error as the list of its messages.
-use Rattle.std.specs.Prelude.{◌≡◌, ℕ, List, [], ◌∷◌, ◌++◌, map, Option, MatchOption, Result, cond, codes}
+use Rattle.std.specs.Prelude.{◌≡◌, ℕ, List, [], ◌∷◌, ◌++◌, map, Option, MatchOption, Result, if◌then◌else◌, codes}
 use Rattle.std.specs.Prelude.{IfOk, IfSome, MatchResult, Some}
 use Rattle.std.specs.Iterator.{Drains, YieldsThen}
 use Rattle.std.specs.declared.alloc.AllocError.{AllocError}
@@ -36,13 +36,13 @@ one_message m = m ∷ []
 
 -- the span of a stream: its scope's at the end, else that of the next token or of its opening
 abbrev pub stream_span : Place → Span → Span
-stream_span p scope = cond (is_at_end p) scope (start_span p)
+stream_span p scope = if is_at_end p then scope else start_span p
 
 -- the message at a stream: at the end its text gets a front that says so
 abbrev pub at_stream : Place → Span → List ℕ → Message
 at_stream p scope words =
     message_at (stream_span p scope)
-    (cond (is_at_end p) (codes "unexpected end of input, " ++ words) words)
+    (if is_at_end p then codes "unexpected end of input, " ++ words else words)
 
 -- the message at a stream with this text alone
 abbrev pub plain : Place → Span → List ℕ → Message

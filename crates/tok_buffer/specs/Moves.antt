@@ -1,5 +1,5 @@
 -- The place at a count, move by move in reading order.
-use Rattle.std.specs.Prelude.{ℕ, zero, suc, ◌+◌, ◌==◌, ◌||◌, cond, List, [], ◌∷◌, Bool, true, false}
+use Rattle.std.specs.Prelude.{ℕ, zero, suc, ◌+◌, ◌==◌, ◌||◌, if◌then◌else◌, List, [], ◌∷◌, Bool, true, false}
 use Rattle.tok_lexical.specs.declared.delimiter.Delimiter.TheVariants as delimiter
 use Rattle.tok_core.specs.Forest.{leaf, group, Forest, no_trees, tree}
 use Rattle.tok_core.specs.Weight.{weight}
@@ -35,8 +35,8 @@ frames_at g (suc n) = move (frames_at g n).0 (frames_at g n).1
 -- the outer frames up to the one that ends at count s, if the innermost ends at count e
 abbrev pub frames_in_scope : ℕ → ℕ → List Frame → List Frame
 frames_in_scope e s [] = []
-frames_in_scope e s (u ∷ us) = cond (e == s) []
-    (u ∷ frames_in_scope (e + 1 + weight (frame_ahead u)) s us)
+frames_in_scope e s (u ∷ us) =
+    if e == s then [] else u ∷ frames_in_scope (e + 1 + weight (frame_ahead u)) s us
 
 -- one of the frames ends at count s
 abbrev pub is_scope_end : ℕ → ℕ → List Frame → Bool

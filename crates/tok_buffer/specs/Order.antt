@@ -1,5 +1,5 @@
 -- Equality and order of places, and which of them share a scope or a buffer.
-use Rattle.std.specs.Prelude.{◌==◌, ◌&&◌, Bool, true, false, cond, Option, Some, None}
+use Rattle.std.specs.Prelude.{◌==◌, ◌&&◌, Bool, true, false, if◌then◌else◌, Option, Some, None}
 use Rattle.std.specs.declared.cmp.Ordering.{Ordering}
 use Rattle.std.specs.declared.cmp.Ordering.TheVariants.{Equal}
 use Rattle.std.specs.Ordering.{nat_cmp}
@@ -14,7 +14,7 @@ equal p q = false
 -- by count within one buffer; the empty place is unordered against others
 abbrev pub order : Place → Place → Option Ordering
 order empty_place empty_place = Some Equal
-order (at n s c l ls) (at m t d k ks) = cond (n == m) (Some (nat_cmp c d)) None
+order (at n s c l ls) (at m t d k ks) = if n == m then Some (nat_cmp c d) else None
 order p q = None
 
 -- one buffer number; the empty place is in one buffer with itself alone

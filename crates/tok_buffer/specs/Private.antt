@@ -2,3 +2,4 @@
 pub mod Counts
 pub mod Layout
 pub mod OrderLaws
+pub mod Steps

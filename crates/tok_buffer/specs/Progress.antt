@@ -18,7 +18,7 @@ abbrev pub StaysIn : (from to : Place) → Type 0
 StaysIn from to =
     ((same_scope from to ≡ true) × (partial_le order from to ≡ true)) ⊎ (to ≡ empty_place)
 
--- the end of each invisible group that has been entered, and what is ahead around it
+-- what is left around the innermost frame: of each frame its end and what is ahead in it
 abbrev pub remaining_around : List Frame → ℕ
 remaining_around [] = 0
 remaining_around (frame o p f ∷ ls) = 1 + weight f + remaining_around ls
@@ -35,7 +35,7 @@ ReachesScope empty_place = ⊤
 ReachesScope (at number scope count l ls) =
     count + remaining (at number scope count l ls) ≡ scope + 1
 
--- wherever it reads, it stays in the scope and takes something away from what remains
+-- a read stays in the scope and lowers `remaining`
 pub record ReadsOn (read : Read) : Type 0 where
   pub stays : (p : Place) (ts : List Tree) (q : Place) → read p ≡ Some (ts, q) → StaysIn p q
   pub lowers : (p : Place) (ts : List Tree) (q : Place) → read p ≡ Some (ts, q) →

@@ -1,5 +1,5 @@
 -- What is read at a place, and the place after it.
-use Rattle.std.specs.Prelude.{ℕ, ◌==◌, ◌&&◌, not, Bool, true, false, cond, List, [], ◌∷◌, ◌++◌}
+use Rattle.std.specs.Prelude.{ℕ, ◌==◌, ◌&&◌, not, Bool, true, false, if◌then◌else◌, List, [], ◌∷◌, ◌++◌}
 use Rattle.std.specs.Prelude.{length, map, Option, Some, None, option_map, bytes_eq}
 use Rattle.tok_leaves.specs.declared.punct.Spacing.TheVariants.{Joint}
 use Rattle.tok_core.specs.Clear.{is_joint_apostrophe}
@@ -13,11 +13,11 @@ use Rattle.tok_buffer.specs.Place.{Place, front, pass}
 abbrev pub read_if : (Tree → Bool) → Place → Option (List Tree × Place)
 read_if wanted p =
     elim (front p) [
-      | Some t ↦ cond (wanted t) (Some (t ∷ [], pass p)) None
+      | Some t ↦ if wanted t then Some (t ∷ [], pass p) else None
       | None ↦ None
     ]
 
--- one read, and then another
+-- the trees of one read and of another after it; `None` if either reads nothing
 abbrev pub read_then : Option (List Tree × Place) → (Place → Option (List Tree × Place)) →
     Option (List Tree × Place)
 read_then None g = None
@@ -74,7 +74,7 @@ read_literal p = read_if is_literal (descend p)
 abbrev pub read_punct : Place → Option (List Tree × Place)
 read_punct p = read_if is_punct (descend p)
 
--- an identifier of which a test of its text is true
+-- the next visible tree if it is an identifier whose text passes the test
 abbrev pub read_word : (List ℕ → Bool) → Place → Option (List Tree × Place)
 read_word wanted p = read_if (is_ident_of wanted) (descend p)
 
@@ -105,13 +105,13 @@ read_punctuation (c ∷ (d ∷ cs)) p =
 
 -- these characters if there are so many of them, else none
 abbrev pub sized : ℕ → List ℕ → List ℕ
-sized n cs = cond (length cs == n) cs []
+sized n cs = if length cs == n then cs else []
 
 -- the spans of what is read, and the place after it
 abbrev pub read_spans : Option (List Tree × Place) → Option (List Span × Place)
 read_spans = option_map (λ r. (map tree_span r.0, r.1))
 
--- without a descent
+-- the front tree, visible or not, and the place after it; none at an end
 abbrev pub read_tree : Place → Option (List Tree × Place)
 read_tree = read_if any_tree
 

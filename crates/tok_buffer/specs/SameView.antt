@@ -25,7 +25,7 @@ pub record SameView (b c : Laid) (p q : Place) : Type 0 where
   pub right : Reached c q
   pub same : view b.forest p ≡ view c.forest q
 
--- a read, a skip and an entry return the same at two places, and the places after have equal views
+-- a read returns the same trees at two places, and the places after them have equal views
 abbrev pub ReadsAgree : Forest → Forest → Read → Place → Place → Type 0
 ReadsAgree f g read p q = with_view f (read p) ≡ with_view g (read q)
 

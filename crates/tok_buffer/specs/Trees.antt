@@ -16,17 +16,17 @@ abbrev pub erased_tree : Tree → Tree
 erased_tree (leaf l) = leaf l
 erased_tree (group d inside span) = group d (erase inside) span
 
--- a read, without invisible groups
+-- the trees of a read and the trees ahead after it, without invisible groups
 abbrev pub erased_read : Option (List Tree × Place) → Option (List Tree × Forest)
 erased_read r = option_map (λ q. (map erased_tree q.0, erased_ahead q.1)) r
 
--- from a place to one after so many trees
+-- reads of whole trees lead from one place to another
 pub data PassesTrees (p : Place) : Place → Type 0 where
   here : PassesTrees p p
   further : (q r : Place) (ts : List Tree) → PassesTrees p q → read_tree q ≡ Some (ts, r)
       → PassesTrees p r
 
--- after all trees of the scope: no visible one is ahead
+-- all trees of the scope have been read, and no visible one is ahead
 pub record EndsScope (p q : Place) : Type 0 where
   pub passes : PassesTrees p q
   pub at_end : is_at_end q ≡ true

@@ -17,7 +17,7 @@ visible_marks (tree (group delimiter.None inside span) f) =
     0 ∷ (visible_marks inside ++ (0 ∷ visible_marks f))
 visible_marks (tree (group d inside span) f) = 1 ∷ (visible_marks inside ++ (1 ∷ visible_marks f))
 
--- how many visible ones come after the first so many
+-- how many visible openings, leaves and closings come after the first so many of all
 abbrev pub visible_after : Forest → ℕ → ℕ
 visible_after f k = sum (drop k (visible_marks f))
 

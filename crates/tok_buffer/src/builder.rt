@@ -1,4 +1,4 @@
-//! The builder of a buffer's entries from a text, or from a caller's entries.
+//! The builder that collects the entries of a buffer from a text, or from a caller's entries.
 ghost use Rattle.std.specs.Prelude.{◌≡◌, ◌++◌, ◌∷◌, [], IfOk, ◌≤◌, ◌*◌, ◌^◌};
 ghost use Rattle.tok_core.specs.Building.{nothing};
 ghost use Rattle.tok_buffer.specs.Private.Layout.{layout, laid};
@@ -10,10 +10,14 @@ use std::marker::Model;
 use tok_core::{Build, Delimiter, Ident, Literal, Punct, Span};
 use tok_entries::TakeBack;
 
-/// The entries so far. Contracts see it as the forests of the levels.
+/// A builder that collects the entries of a buffer in order.
 ///
-/// An open group has an end in place of its opening, which its closing replaces. The positions of
-/// the open groups are kept, the outermost first.
+/// When a group opens, the builder stores a temporary `End` entry in place of the group's opening.
+/// When the group closes, the builder replaces this entry with the opening. The builder also keeps
+/// the positions of the open groups, from the outermost group to the innermost.
+///
+/// Contracts describe the builder as several lists of token trees: one list for each open group,
+/// and one for the outermost level.
 #[derive(Drop)]
 pub struct EntryBuilder {
     entries: Vec<Entry>,
@@ -57,9 +61,10 @@ fn first_room(bytes: usize) -> usize
 }
 
 impl EntryBuilder {
-    /// Creates an empty builder, with room for as many entries as most texts of so many bytes have.
+    /// Creates an empty builder, with a capacity that is estimated for a text of `bytes` bytes.
     ///
-    /// Returns an error if the allocation fails.
+    /// If the text has fewer than 256 bytes, the capacity is 0. Returns an error if the allocation
+    /// fails.
     //
     // A vector that grows from nothing copies its entries about once more.
     pub fn with_room(alloc: Global, bytes: usize) -> Result<EntryBuilder, AllocError>
@@ -71,7 +76,7 @@ impl EntryBuilder {
         })
     }
 
-    /// Creates an empty builder, with room for so many entries.
+    /// Creates an empty builder with room for at least `capacity` entries.
     ///
     /// Returns an error if the allocation fails.
     pub fn with_capacity(alloc: Global, capacity: usize) -> Result<EntryBuilder, AllocError>
@@ -83,10 +88,11 @@ impl EntryBuilder {
         })
     }
 
-    /// Returns the entries, and the end of the buffer after them.
+    /// Returns the collected entries, with an entry for the end of the buffer after them.
     ///
-    /// If they fill less than half of a room for 64 or more, they move to a vector of their exact
-    /// number. Returns an error if an allocation fails.
+    /// If the vector has room for 64 or more entries, and less than half of the room is used, the
+    /// entries move to a smaller vector. This vector has exactly enough room. Returns an error if
+    /// an allocation fails.
     pub fn into_entries(self) -> Result<Vec<Entry>, AllocError>
         ensures { IfOk result
             (λ v. v.items ≡ (laid self.outer ++ layout self.inner) ++ End 0 ∷ []) }

@@ -1,4 +1,4 @@
-//! Cursors, and the lifetimes they read.
+//! Cursors, which are positions in a token buffer, and references to the lifetimes in a buffer.
 mod reads;
 mod rest;
 mod spans;
@@ -7,13 +7,16 @@ use crate::buffer::TokenBuffer;
 use crate::spot::Spot;
 use tok_core::{Ident, Span};
 
-/// A place in a buffer, and its scope: the whole buffer or a group's contents.
+/// A position in a token buffer, together with a scope: the whole buffer or the contents of a
+/// group.
 ///
-/// A cursor is cheap to copy. A call that reads returns the cursor after what it read.
+/// A cursor is cheap to copy. A method that reads a token returns the cursor after the token.
 ///
-/// Macros leave invisible groups around the tokens they insert. The calls `ident`, `punct`,
-/// `literal`, `lifetime`, `group` with a visible delimiter, `skip` and the peeks first enter every
-/// invisible group that is next; the others don't. A cursor leaves such a group at its end.
+/// Macros insert invisible groups, whose delimiter is `Delimiter::None`, around tokens. The methods
+/// that read or skip a visible token or tree, and the peeks, first enter every invisible group that
+/// is next. The method `group` does the same if its delimiter is visible. The methods `eof`,
+/// `any_group` and `token_tree` treat an invisible group as a tree. A cursor leaves an invisible
+/// group at the end of the group.
 ///
 /// # Examples
 ///
@@ -30,7 +33,7 @@ pub struct Cursor<'a> {
     spot: Option<Spot<'a>>,
 }
 
-/// A lifetime in a buffer: the span of its apostrophe, and its identifier.
+/// A lifetime in a buffer: the span of the apostrophe, and a reference to the identifier.
 #[derive(Clone, Copy, Debug)]
 pub struct LifetimeRef<'a> {
     pub apostrophe: Span,
@@ -42,7 +45,8 @@ impl TokenBuffer {
     ghost use Rattle.tok_buffer.specs.Cursors.{place_of};
     ghost use Rattle.tok_buffer.specs.Place.{start};
 
-    /// Returns the cursor at the first tree. Its scope is the whole buffer.
+    /// Returns a cursor at the first tree of the buffer. The scope of the cursor is the whole
+    /// buffer.
     pub fn begin<'a>(&'a self) -> Cursor<'a>
         ensures { place_of result ≡ start self.now.number self.now.forest }
     {
@@ -66,15 +70,17 @@ impl<'a> Cursor<'a> {
         Cursor { spot: Some(spot) }
     }
 
-    /// Returns a cursor of no buffer, which is at its end.
+    /// Returns the empty cursor, which belongs to no buffer and is at the end of its scope.
     pub fn empty() -> Cursor<'a>
         ensures { place_of result ≡ empty_place }
     {
         Cursor { spot: None }
     }
 
-    /// Returns `true` at the end of the scope. An invisible group that is next counts as a token,
-    /// even if it is empty.
+    /// Returns `true` if the cursor is at the end of its scope.
+    ///
+    /// If the next tree is an invisible group, the cursor is not at the end, even if the group is
+    /// empty.
     pub fn eof(self) -> bool
         ensures { result ≡ is_at_end (place_of self.entry) }
     {

@@ -1,4 +1,4 @@
-//! The entries of a buffer: leaves, openings of groups and their ends.
+//! The entries that a buffer stores: leaf tokens, and the openings and ends of groups.
 ghost use Rattle.std.specs.Prelude.{◌≡◌, IfOk, OnErr, OnOk};
 ghost use Rattle.tok_core.specs.Forest.{concat, leaf, no_trees, tree};
 ghost use Rattle.tok_core.specs.Seen.{tree_of};
@@ -10,28 +10,32 @@ ghost use Rattle.tok_buffer.specs.Spans.{closing_of};
 use std::alloc::AllocError;
 use tok_core::{DelimSpan, Delimiter, Ident, Literal, Punct, Span, TokenStream, TokenTree};
 
-/// The delimiter of a group and its whole span.
+/// The opening of a group, with the delimiter and the span of the whole group.
 #[derive(Clone, Copy)]
 pub struct Opening {
     pub delimiter: Delimiter,
     pub span: Span,
 }
 
-/// An entry, in 48 bytes: a tag, and a leaf or the two fields of a group.
+/// An entry of a buffer: a leaf token, the opening of a group or the end of a group.
 ///
-/// The variants that may own memory come first: one comparison finds them when a buffer is dropped.
+/// An entry takes 48 bytes. The variants that may own memory come first. When a buffer is dropped,
+/// one comparison therefore finds them.
 #[derive(Drop)]
 pub enum Entry {
     Ident(Ident),
     Literal(Literal),
     Punct(Punct),
-    /// The opening of a group, and how many entries later its end is.
+    /// The opening of a group, and the number of entries from the opening to the end of the group.
     Group(Opening, usize),
-    /// The end of a group, and how many entries earlier its opening is; 0 for the buffer's end.
+    /// The end of a group, and the number of entries from the end back to the opening of the group.
+    ///
+    /// For the end of the buffer, the number is 0.
     End(usize),
 }
 
-/// The leaf of an entry, in the order of the variants of `Entry`.
+/// A reference to the leaf token that an entry stores. The variants are in the same order as in
+/// `Entry`.
 #[derive(Clone, Copy)]
 pub enum Leaf<'a> {
     Ident(&'a Ident),
@@ -39,7 +43,7 @@ pub enum Leaf<'a> {
     Punct(&'a Punct),
 }
 
-/// The contents of an entry, with one variant for all leaves.
+/// A reference to the contents of an entry. All kinds of leaf tokens share one variant.
 #[derive(Clone, Copy)]
 pub enum Held<'a> {
     Leaf(Leaf<'a>),
@@ -48,7 +52,7 @@ pub enum Held<'a> {
 }
 
 impl<'a> Leaf<'a> {
-    /// Returns the span.
+    /// Returns the span of the leaf token.
     pub fn span(self) -> Span
         ensures { result ≡ leaf_span (leaf_in self.entry) }
     {
@@ -59,7 +63,7 @@ impl<'a> Leaf<'a> {
         }
     }
 
-    /// Copies the leaf into a tree.
+    /// Copies the leaf token into a token tree.
     ///
     /// Returns an error if the allocation fails.
     pub fn copied(self) -> Result<TokenTree, AllocError>
@@ -72,7 +76,7 @@ impl<'a> Leaf<'a> {
         }
     }
 
-    /// Appends a copy of the leaf to a stream.
+    /// Appends a copy of the leaf token to `stream`.
     ///
     /// Returns an error if an allocation fails. The stream is then unchanged.
     //
@@ -99,7 +103,7 @@ impl<'a> Leaf<'a> {
 }
 
 impl Entry {
-    /// Returns the contents of the entry.
+    /// Returns a reference to the contents of the entry.
     pub fn held(&self) -> Held<'_>
         ensures { self.now ≡ entry_of result }
     {
@@ -112,7 +116,10 @@ impl Entry {
         }
     }
 
-    /// Returns the delimiter and the closing span of the group that opens here.
+    /// Returns the delimiter of the group that opens at this entry, and the span of its closing
+    /// delimiter.
+    ///
+    /// If the entry does not open a group, returns `Delimiter::None` and the call site.
     pub fn closing(&self) -> (Delimiter, Span)
         ensures { result ≡ closing_of (entry_enclosing self.now) }
     {
@@ -123,7 +130,8 @@ impl Entry {
     }
 }
 
-/// Returns `true` if the delimiters are equal, which contracts see as `≡`.
+/// Returns `true` if `left` and `right` are the same delimiter, as the definition `same_delimiter`
+/// states.
 pub fn same(left: Delimiter, right: Delimiter) -> bool
     ensures { result ≡ same_delimiter left right }
 {

@@ -1,4 +1,4 @@
-//! Errors: lists of messages.
+//! The type `Error`, which holds a list of messages about rejected input.
 mod compile_error;
 mod iter;
 
@@ -37,8 +37,10 @@ struct Message {
     text: Words,
 }
 
-/// One or more messages that say why input is rejected, each with the spans of the first and the
-/// last token it is about. Contracts see it as the list of its messages.
+/// An error that consists of one or more messages about rejected input.
+///
+/// Each message has the spans of the first and the last token that it is about. Contracts describe
+/// an error as the list of its messages.
 ///
 /// # Examples
 ///
@@ -138,10 +140,11 @@ impl Error {
     ghost use Rattle.tok_buffer.specs.Spans.{current_span, range_end};
     ghost use Rattle.tok_buffer.specs.Messages.{stream_span, at_stream};
 
-    /// Creates an error of one message at `span`, whose text is what `message` displays.
+    /// Creates an error with one message at `span`.
     ///
-    /// The text is allocated in `alloc`. `message` is a `&str` or any other value that implements
-    /// `Display`. `format_args!` makes one of a text with values in it, and allocates nothing.
+    /// The text of the message is the text that `message` displays. The call allocates the text in
+    /// `alloc`. `message` can be a `&str` or any other value that implements `Display`. To insert
+    /// values into the text, pass the result of `format_args!`, which does not allocate.
     ///
     /// Returns an `AllocError` if an allocation fails.
     ///
@@ -189,7 +192,7 @@ impl Error {
         })
     }
 
-    /// Creates an error of one message at `span`. The text is moved, not copied.
+    /// Creates an error with one message at `span`, without copying `text`.
     ///
     /// Returns an `AllocError` if an allocation fails.
     pub fn from_string(alloc: Global, span: Span, text: String) -> Result<Error, AllocError>
@@ -198,10 +201,11 @@ impl Error {
         Error::of_string(alloc, span, span, text)
     }
 
-    /// Creates an error of one message, from the first of the tokens to the last. With no tokens,
-    /// it is at the call site.
+    /// Creates an error with one message about the tokens that `tokens` writes, from the first
+    /// token to the last.
     ///
-    /// Returns an `AllocError` if an allocation fails.
+    /// If there are no tokens, the message is at the call site. Returns an `AllocError` if an
+    /// allocation fails.
     pub fn new_spanned<S: ToTokens + Drop, T: Display + Drop>(
         alloc: Global,
         tokens: S,
@@ -214,14 +218,15 @@ impl Error {
         Error::new2(alloc, start, end, message)
     }
 
-    /// Creates an error of one message, from `start` up to what is directly before `end`. If the
-    /// cursors are equal, it is at the next token.
+    /// Creates an error with one message about the tokens between two cursors.
     ///
-    /// Returns an `AllocError` if an allocation fails.
+    /// The message spans the token at `start`, the token directly before `end`, and all tokens in
+    /// between. If the cursors are equal, the message is at the next token. Returns an `AllocError`
+    /// if an allocation fails.
     ///
     /// # Requires
     ///
-    /// Both cursors must be in the same buffer, and `start <= end`.
+    /// Both cursors must be in the same buffer, and `start` must not be later than `end`.
     pub fn new_range<T: Display + Drop>(
         alloc: Global,
         start: Cursor<'_>,
@@ -241,10 +246,10 @@ impl Error {
         Error::new2(alloc, start.span(), last, message)
     }
 
-    /// Creates an error of one message at a cursor.
+    /// Creates an error with one message at the next token of `cursor`.
     ///
-    /// At the end of the cursor's scope, the text begins with "unexpected end of input, " and the
-    /// span is `scope`. Returns an `AllocError` if an allocation fails.
+    /// If the cursor is at the end of its scope, the text begins with "unexpected end of input, ",
+    /// and the span is `scope`. Returns an `AllocError` if an allocation fails.
     pub fn new_at<T: Display + Drop>(
         alloc: Global,
         scope: Span,
@@ -269,7 +274,7 @@ impl Error {
         }
     }
 
-    /// Creates an error from one of the lexer, with its span and text.
+    /// Converts an error of the lexer into an `Error` with the same span and text.
     ///
     /// Returns an `AllocError` if an allocation fails.
     pub fn from_lex(alloc: Global, error: LexError) -> Result<Error, AllocError>
@@ -279,8 +284,9 @@ impl Error {
         Error::new(alloc, error.span(), error)
     }
 
-    /// Returns the span that covers the first message's two spans, or the first of them unless both
-    /// are in one source.
+    /// Returns the span of the first message, from its first token to its last token.
+    ///
+    /// If these two tokens are not in the same source, returns the span of the first token.
     pub fn span(&self) -> Span
         ensures { result ≡ first_message_span self.now }
     {
@@ -288,16 +294,17 @@ impl Error {
         start.join(self.first.end).unwrap_or(start)
     }
 
-    /// Returns the text of the first message.
+    /// Returns the text of the error's first message.
     pub fn as_str(&self) -> &str
         ensures { result.now ≡ first_text self.now }
     {
         self.first.text.as_str()
     }
 
-    /// Appends the messages of another error.
+    /// Appends the messages of `another` to this error.
     ///
-    /// If an allocation fails, the messages are unchanged and the other error is dropped.
+    /// Returns an error if an allocation fails. The messages are then unchanged, and `another` is
+    /// dropped.
     pub fn combine(&mut self, another: Error) -> Result<(), AllocError>
         ensures ok { OnOk result (self.new ≡ self.old ++ another) }
         ensures err { OnErr result (self.new ≡ self.old) }
@@ -311,14 +318,14 @@ impl Error {
         }
     }
 
-    /// Appends the messages of each of these errors, in order.
+    /// Appends the messages of several errors to this error, in order.
     ///
-    /// If an allocation fails, the messages of some first errors were appended, and at least one
-    /// error is missing.
+    /// If an allocation fails, the call returns an error. In this case, only the messages of some
+    /// leading errors were appended, and the messages of at least one error are missing.
     ///
     /// # Requires
     ///
-    /// The iterator must be finite.
+    /// `errors` must yield a finite number of errors.
     pub fn extend<I: IntoIterator<Item = Error>>(&mut self, errors: I) -> Result<(), AllocError>
         requires { IsFiniteIterable I.into_iter_gives I.IntoIter.can_next
             I.IntoIter.remaining errors }
@@ -332,7 +339,7 @@ impl Error {
     }
 }
 
-/// Copies the error, messages and spans.
+/// Copies the error, with its messages and spans.
 impl Clone for Error {
     ghost is_clone = { λ e f. f ≡ e };
 

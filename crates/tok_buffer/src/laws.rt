@@ -1,4 +1,5 @@
-//! Laws of buffers and cursors. Each is the contract of a small function; most of these do nothing.
+//! Laws about buffers and cursors, for proofs about parsers. Each law is the contract of a
+//! function. Most of these functions do nothing.
 ghost use Rattle.std.specs.Prelude.{◌≡◌, ◌↔◌, true, Some, IfOk};
 ghost use Rattle.std.specs.Str.{chars};
 ghost use Rattle.tok_lexical.specs.declared.rule.Mode.TheVariants.{Plain, Marked};
@@ -38,8 +39,10 @@ fn laid_out(
     Ok(buffer)
 }
 
-/// A text read straight into a buffer gives the buffer of the stream that `lex` returns, or the
-/// same error.
+/// Lexes `text` with `TokenBuffer::from_text` and with `lex`, and returns both results as buffers.
+///
+/// The contract states that the two buffers are equal, or that both results are the same error of
+/// the lexer. It makes no statement if an allocation fails.
 pub fn text_as_stream(
     alloc: Global,
     number: u64,
@@ -56,8 +59,11 @@ pub fn text_as_stream(
     (read, laid)
 }
 
-/// A marked text read straight into a buffer gives the buffer of the stream that `lex_marked`
-/// returns, or the same error.
+/// Lexes `text` with `TokenBuffer::from_marked` and with `lex_marked`, and returns both results as
+/// buffers.
+///
+/// The contract states that the two buffers are equal, or that both results are the same error of
+/// the lexer. It makes no statement if an allocation fails.
 pub fn marked_as_stream(
     alloc: Global,
     number: u64,
@@ -74,8 +80,11 @@ pub fn marked_as_stream(
     (read, laid)
 }
 
-/// A whole source read straight into a buffer gives the buffer of the stream that `lex_source`
-/// returns, or the same error.
+/// Lexes `text` with `TokenBuffer::from_source` and with `lex_source`, and returns both results as
+/// buffers.
+///
+/// The contract states that the two buffers are equal, or that both results are the same error of
+/// the lexer. It makes no statement if an allocation fails.
 pub fn source_as_stream(
     alloc: Global,
     number: u64,
@@ -93,7 +102,10 @@ pub fn source_as_stream(
     (read, laid)
 }
 
-/// A buffer gives back the stream it was made of, spans and invisible groups included.
+/// Creates a buffer from `stream`, and returns a copy of the buffer's trees.
+///
+/// The contract states that the copy equals `stream`, including all spans and invisible groups.
+/// Returns an error if an allocation fails.
 pub fn same_stream(
     alloc: Global,
     number: u64,
@@ -107,7 +119,9 @@ pub fn same_stream(
     Ok(copy)
 }
 
-/// Cursors are equal if and only if their order is `Equal`.
+/// Returns the results of `left == right` and `left.partial_cmp(&right)`.
+///
+/// The contract states that `left == right` if and only if `partial_cmp` returns `Some(Equal)`.
 pub fn equal_in_order(left: Cursor<'_>, right: Cursor<'_>) -> (bool, Option<Ordering>)
     ensures places { (p : Place) → (q : Place) → (equal p q ≡ true) ↔ (order p q ≡ Some Equal) }
     ensures equal { result.0 ≡ equal (place_of left.entry) (place_of right.entry) }
@@ -116,82 +130,120 @@ pub fn equal_in_order(left: Cursor<'_>, right: Cursor<'_>) -> (bool, Option<Orde
     (left == right, left.partial_cmp(&right))
 }
 
-/// Each read stays in the buffer and the scope of its cursor and lowers `remaining`, so a loop of
-/// reads ends.
+/// If a read moves a cursor from `a` to `b`, then `b` stays in the scope of `a`, and
+/// `b.remaining() < a.remaining()`.
+///
+/// A loop of reads therefore ends.
 pub fn reads_go_on()
     ensures { ReadsGoOn }
 {}
 
-/// Each skip stays in the scope and lowers `remaining`, as reads do.
+/// If a skip moves a cursor from `a` to `b`, then `b` stays in the scope of `a`, and
+/// `b.remaining() < a.remaining()`.
 pub fn skips_go_on()
     ensures { SkipsGoOn }
 {}
 
-/// The place after a group that is entered, visible or not, stays and lowers what remains, as reads
-/// do; and less remains in the group's contents than before it.
+/// If a cursor `a` enters a group, and `b` is the cursor after the group, then `b` stays in the
+/// scope of `a`, and `b.remaining() < a.remaining()`.
+///
+/// The cursor `c` at the start of the group's contents also has `c.remaining() < a.remaining()`.
+/// The law applies to visible and invisible groups.
 pub fn entries_go_on()
     ensures { EntriesGoOn }
 {}
 
-/// The place after a read, a skip or a group that is entered is later.
+/// If a call reads a token, skips a token or enters a group, and moves a cursor from `a` to `b`,
+/// then `a < b`.
+///
+/// If the call enters a group, `b` is the cursor after the group.
 pub fn reads_go_later()
     ensures { ReadsGoLater }
 {}
 
-/// The place after a read, a skip or a group that is entered is in the same scope, and so is the
-/// place after several of these in turn. So a stream may always advance to a fork that has read.
+/// If a call reads a token, skips a token or enters a group, and moves a cursor from `a` to `b`,
+/// then `a` and `b` are in the same scope.
+///
+/// If the call enters a group, `b` is the cursor after the group. Several of these calls in turn
+/// also keep the scope. A stream may therefore always advance to a fork that has read tokens.
 pub fn reads_keep_scope()
     ensures { ReadsKeepScope }
 {}
 
-/// The place after a read, a skip or a group that is entered follows the place before it, and so
-/// does the place after several of these in turn. So `tokens_up_to` leaves out no visible tree.
+/// A call that reads a token, skips a token or enters a group moves its cursor only by entering
+/// invisible groups and by passing whole trees.
+///
+/// If the call enters a group, the moved cursor is the one after the group. The law also applies to
+/// several of these calls in turn. The method `tokens_up_to` therefore omits no visible tree.
 pub fn reads_follow()
     ensures { ReadsFollow }
 {}
 
-/// The trees between two cursors, if they were passed whole, and then the rest of the second are the
-/// rest of the first. So `tokens_up_to` copies exactly what was passed.
+/// If a cursor moves from `a` to `b` and passes only whole trees, then the trees after `a` are the
+/// passed trees and the trees after `b`, in this order.
+///
+/// The method `tokens_up_to` therefore copies exactly the trees that were passed.
 pub fn passed_trees_join()
     ensures { PassedJoin }
 {}
 
-/// A descent and a pass stay in the scope, and add nothing to what remains.
+/// A cursor that enters invisible groups or passes a tree stays in its scope, and `remaining` does
+/// not become greater.
 pub fn moves_stay()
     ensures { MovesStay }
 {}
 
-/// Staying in the scope is reflexive and transitive, so a run of reads stays in it.
+/// The relation `StaysIn` between cursors is reflexive and transitive. A sequence of reads
+/// therefore stays in the scope.
+///
+/// A cursor `b` stays in the scope of a cursor `a` if `b` is the empty cursor, or if both cursors
+/// have the same scope and `b` is not earlier than `a`.
 pub fn stays_along()
     ensures { StaysAlong }
 {}
 
-/// If one cursor stays in the scope of another, no more remains at it, and less at another place.
-/// So a loop that moves its cursor ends, whatever parser moves it.
+/// If a cursor `b` stays in the scope of a cursor `a`, as `StaysIn` defines, then
+/// `b.remaining() <= a.remaining()`.
+///
+/// If also `a != b`, and `b` is not the empty cursor, then `b.remaining() < a.remaining()`. A loop
+/// that moves its cursor therefore ends, regardless of the parser that moves the cursor.
 pub fn staying_adds_nothing()
     ensures { CursorsLoseNone }
 {}
 
-/// The position of a cursor and what remains there add up to the position of its scope's end. So two
-/// cursors in one scope are as far apart as what remains at them differs.
+/// For every cursor in a buffer, `position` plus `remaining` is the position of the end of the
+/// cursor's scope.
+///
+/// If two cursors have the same scope, the distance between them is therefore the difference
+/// between their values of `remaining`.
 pub fn remaining_reaches_scope()
     ensures { CursorsReachScope }
 {}
 
-/// A descent leaves no invisible group next, and amounts to entering the next one, again and again.
+/// A cursor that looks for a visible tree enters invisible groups until the next tree is not an
+/// invisible group.
 pub fn descents_enter()
     ensures { DescentsEnter }
 {}
 
-/// At places of filled forests with equal views, each call but a read of whole trees has the same
-/// result.
+/// If two cursors have equal views, every call except a read of whole trees has the same result for
+/// both cursors.
 ///
-/// A view is how much is visible after the scope, the scope's delimiter, and the visible trees ahead.
-/// So at places of two filled forests with equal views, each read of a leaf, lifetime, keyword or
-/// punctuation is the same, and so is each skip, end, entry of a visible group and leftover's span.
-/// The places after them have equal views again. Reads of whole trees are no part of this.
-/// Views also decide whether two places are in one scope, and the scope's delimiter. The starts of
-/// two forests that differ only in invisible groups have equal views.
+/// The view of a cursor consists of the visible trees that remain, the delimiter of the scope, and
+/// the number of visible tokens and delimiters after the scope. The law requires that every
+/// invisible group in the two buffers contains a visible tree.
+///
+/// The following calls have equal results, and the cursors after these calls have equal views
+/// again:
+///
+/// - calls that read a leaf token, a lifetime, a keyword or a punctuation token
+/// - calls that skip a token, or test for the end of the scope
+/// - calls that enter a visible group
+/// - the call that returns the span of a leftover
+///
+/// Equal views also determine the delimiter of the scope, and whether two cursors are in the same
+/// scope. If two buffers differ only in invisible groups, the cursors at their starts have equal
+/// views.
 pub fn views_decide()
     ensures calls { ViewsDecide }
     ensures scopes { ViewsTellScopes }
@@ -199,19 +251,26 @@ pub fn views_decide()
     ensures starts { StartsAgree }
 {}
 
-/// The place after a read, a skip or the entry of a visible group has a view, and so have the
-/// group's contents.
+/// If a cursor has a view, and a call reads a token, skips a token or enters a visible group, then
+/// the cursor after the call also has a view.
+///
+/// The view of a cursor is the part of its position that does not depend on invisible groups. The
+/// cursor at the start of an entered group's contents also has a view. The law `views_decide`
+/// therefore applies after any number of these calls.
 pub fn calls_lead_on()
     ensures { CallsLeadOn }
 {}
 
-/// At every place, a read of a leaf, lifetime, keyword or punctuation, the entry of a visible group
-/// and the leftover's span depend only on the visible trees ahead. They take the first of these,
-/// and the others are ahead of the place after it. Skips and reads of trees are no part
-/// of this.
+/// The result of a read depends only on the visible trees that remain after the cursor.
 ///
-/// At the start the whole forest is ahead. In a filled forest, a place is at an end if and only if
-/// no visible tree is ahead.
+/// The law applies to calls that read a leaf token, a lifetime, a keyword or a punctuation token,
+/// or enter a visible group, and to the span of a leftover. These calls take the first of the
+/// remaining trees, and the other trees remain after them. The law does not apply to calls that
+/// skip a token or read whole trees.
+///
+/// At the start of a buffer, all of its trees remain. Suppose that every invisible group in a
+/// buffer contains a visible tree. Then a cursor is at the end of its scope if and only if no
+/// visible tree remains.
 pub fn ahead_tells()
     ensures calls { AheadTellsAll }
     ensures ends { AheadTellsEnds }

@@ -1,9 +1,10 @@
 //! Token buffers, cursors and errors.
 //!
-//! A buffer stores a forest of trees flat, so that a cursor in it is a position. Contracts see a
-//! cursor as a place in the forest (`specs/Place.antt`).
+//! A buffer stores token trees in flat form, and a cursor is a position in a buffer. Contracts
+//! describe a cursor as a place in the sequence of token trees (`specs/Place.antt`).
 #![tactic(auto)]
 
+mod ahead;
 mod buffer;
 mod builder;
 mod cursor;

@@ -1,4 +1,4 @@
-//! A position in a buffer, and the end of its scope.
+//! The type `Spot`, which is a position in a buffer together with the end of its scope.
 ghost use Rattle.std.specs.Prelude.{◌≡◌, ◌≤◌, true};
 ghost use Rattle.tok_core.specs.Weight.{weight};
 ghost use Rattle.tok_buffer.specs.Moves.{in_scope, settled_at};
@@ -7,7 +7,9 @@ use crate::buffer::TokenBuffer;
 use crate::entry::{Entry, same};
 use tok_core::Delimiter;
 
-/// A cursor's place. No group ends at the position, unless it is the scope.
+/// A position in a buffer, together with the position of the end of its scope.
+///
+/// If a group ends at the position, then it is the group whose contents are the scope.
 #[derive(Clone, Copy)]
 pub struct Spot<'a> {
     pub buffer: &'a TokenBuffer,
@@ -26,7 +28,9 @@ impl<'a> Spot<'a> {
     ghost use Rattle.tok_buffer.specs.Moves.{place_at, advance, invisible_front, frames_at, frame_ahead};
     ghost use Rattle.tok_buffer.specs.Place.{is_at_end, settled};
 
-    /// Returns the spot `length + 1` entries after a position, past the ends of groups there.
+    /// Returns the spot that is `length + 1` entries after `position`.
+    ///
+    /// If groups inside the scope end there, returns the spot after the ends of these groups.
     pub fn past(buffer: &'a TokenBuffer, position: usize, length: usize, scope: usize) -> Spot<'a>
         requires in_buffer { scope ≤ weight buffer.now.forest }
         requires in_front { position + length + 1 ≤ scope }
@@ -45,7 +49,9 @@ impl<'a> Spot<'a> {
         }
     }
 
-    /// Returns the start of the contents of the group that opens at a position.
+    /// Returns the spot at the start of the contents of the group that opens at `position`.
+    ///
+    /// `offset` is the number of entries from the opening of the group to its end.
     pub fn inside(buffer: &'a TokenBuffer, position: usize, offset: usize, scope: usize) -> Spot<'a>
         requires in_buffer { scope ≤ weight buffer.now.forest }
         requires in_front { position + offset + 1 ≤ scope }
@@ -61,7 +67,7 @@ impl<'a> Spot<'a> {
         }
     }
 
-    /// Returns the entry at the position.
+    /// Returns the buffer entry at this spot.
     pub fn entry(self) -> &'a Entry
         ensures { result.now
             ≡ entry_here (frames_at self.entry.buffer.now.forest self.entry.position).0 }
@@ -69,7 +75,14 @@ impl<'a> Spot<'a> {
         self.buffer.entry(self.position)
     }
 
-    /// Moves one entry on, into a group if one opens here.
+    /// Returns the spot after the entry at this spot.
+    ///
+    /// If a non-empty group opens at this spot, the returned spot is at the start of the group's
+    /// contents.
+    ///
+    /// # Requires
+    ///
+    /// The spot must not be at the end of its scope.
     pub fn bump(self) -> Spot<'a>
         requires { is_at_end (spot_place self) ≡ false }
         ensures { spot_place result ≡ settled (advance (spot_place self.entry)) }
@@ -89,7 +102,7 @@ impl<'a> Spot<'a> {
         }
     }
 
-    /// Moves past the openings of invisible groups.
+    /// Enters invisible groups as long as an invisible group is next, and returns the reached spot.
     pub fn ignore_none(self) -> Spot<'a>
         ensures { spot_place result ≡ descend (spot_place self.entry) }
     {

@@ -1,5 +1,5 @@
 -- How a forest is laid out in a buffer, and which forest is there.
-use Rattle.std.specs.Prelude.{◌≡◌, ℕ, ◌+◌, List, [], ◌∷◌, ◌++◌}
+use Rattle.std.specs.Prelude.{ℕ, ◌+◌, List, [], ◌∷◌, ◌++◌}
 use Rattle.tok_lexical.specs.declared.delimiter.Delimiter.{Delimiter}
 use Rattle.tok_leaves.specs.declared.span.Span.{Span}
 use Rattle.tok_core.specs.Building.{Levels, levels_of}
@@ -11,7 +11,6 @@ use Rattle.tok_buffer.specs.Place.{Enclosing, whole, in_group, Frame, frame}
 use Rattle.tok_buffer.specs.declared.entry.Entry.{Entry}
 use Rattle.tok_buffer.specs.declared.entry.Entry.TheVariants.{Ident, Punct, Literal, Group, End}
 use Rattle.tok_buffer.specs.declared.entry.Held.{Held}
-use Rattle.tok_buffer.specs.declared.entry.Opening.{Opening}
 use Rattle.tok_buffer.specs.declared.entry.Held.TheVariants as held
 use Rattle.tok_buffer.specs.declared.entry.Leaf.{Leaf as Lent}
 use Rattle.tok_buffer.specs.declared.entry.Leaf.TheVariants as lent
@@ -28,7 +27,7 @@ leaf_in (lent.Ident i) = ident_of i.now
 leaf_in (lent.Punct p) = punct_of p.now
 leaf_in (lent.Literal l) = literal_of l.now
 
--- the entry that holds this
+-- the entry that has these contents
 abbrev pub entry_of : Held → Entry
 entry_of (held.Leaf l) = leaf_entry (leaf_in l)
 entry_of (held.Group g k) = Group g.now k
@@ -48,7 +47,7 @@ layout (tree (group d c s) f) = group_entry d s c ∷ (layout c ++ End (weight c
 abbrev pub entries_of : Forest → List Entry
 entries_of f = layout f ++ End 0 ∷ []
 
--- a tree before the innermost level
+-- a tree put before those of the innermost level
 abbrev pub stack_tree : Tree → List Forest → List Forest
 stack_tree t [] = []
 stack_tree t (f ∷ s) = tree t f ∷ s
@@ -82,10 +81,6 @@ entry_here (frame o p no_trees) = End (back (frame o p no_trees))
 entry_here (frame o p (tree (leaf l) f)) = leaf_entry l
 entry_here (frame o p (tree (group d c s) f)) = group_entry d s c
 
--- a group opens here
-abbrev pub OpensGroup : Frame → Type 0
-OpensGroup l = (g : Opening) × (k : ℕ) × (entry_here l ≡ Group g k)
-
 -- the enclosure of a frame whose end reaches back to this entry
 abbrev pub entry_enclosing : Entry → Enclosing
 entry_enclosing (Group g k) = in_group g.delimiter g.span
@@ -97,7 +92,7 @@ abbrev pub laid : List Forest → List Entry
 laid [] = []
 laid (f ∷ s) = layout f ++ End 0 ∷ laid s
 
--- where these groups are to come, if the first level begins at this place
+-- the places of the groups that are to come, if the first level begins at this place
 abbrev pub places : ℕ → List Forest → List ℕ
 places n [] = []
 places n (f ∷ s) = (n + weight f) ∷ places (n + weight f + 1) s

@@ -1,6 +1,6 @@
 -- Equality of places is an equivalence, and their order a partial order that is `Equal` if
 -- they are equal.
-use Rattle.std.specs.Prelude.{◌≡◌, Bool, true, false, cond, ◌==◌, ◌&&◌, Option, Some, None, refl}
+use Rattle.std.specs.Prelude.{◌≡◌, Bool, true, false, if◌then◌else◌, ◌==◌, ◌&&◌, Option, Some, None, refl}
 use Rattle.std.specs.Prelude.{unwrap_or, is_some}
 use Rattle.std.proofs.Common.{ap, sym, ◌∙◌, eqb-true}
 use Rattle.std.proofs.lemmas.Bool.{false≢true}
@@ -25,7 +25,7 @@ parts false b h = absurd (false≢true h)
 
 -- an order that is asked for within one buffer only
 abbrev within : Bool → Ordering → Option Ordering
-within b r = cond b (Some r) None
+within b r = if b then Some r else None
 
 -- two orders are equal if they are equal under `Some`
 inside : (r s : Ordering) → Some r ≡ Some s → r ≡ s

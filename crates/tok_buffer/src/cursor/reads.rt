@@ -1,4 +1,4 @@
-//! Reading leaves and punctuations, and entering groups.
+//! Methods of `Cursor` that read a token, skip a token or enter a group.
 ghost use Rattle.std.specs.Prelude.{◌≡◌, ◌∷◌, [], length, MatchOption, Some, None, is_some};
 ghost use Rattle.std.specs.Str.{chars};
 ghost use Rattle.tok_leaves.specs.Leaves.{punct_of, apostrophe, punct, ident_of, literal_of};
@@ -23,8 +23,10 @@ use tok_core::{DelimSpan, Delimiter, Ident, Literal, Punct, Spacing, Span};
 use tok_lexical::text::next_char;
 
 impl<'a> Cursor<'a> {
-    /// Returns the next token and the cursor after it, if it is an identifier, keywords and `_`
-    /// included.
+    /// Reads an identifier, which may be a keyword or `_`.
+    ///
+    /// Returns the identifier and the cursor after it, or `None` if the next token is not an
+    /// identifier.
     pub fn ident(self) -> Option<(&'a Ident, Cursor<'a>)>
         ensures { Gives result (read_ident (place_of self.entry))
             (λ r. (leaf (ident_of r.0.now) ∷ [], place_of r.1)) }
@@ -36,7 +38,9 @@ impl<'a> Cursor<'a> {
         }
     }
 
-    /// Returns the next token and the cursor after it, if it is a punct other than an apostrophe.
+    /// Reads a punct other than an apostrophe.
+    ///
+    /// Returns the punct and the cursor after it, or `None` if the next token is not such a punct.
     pub fn punct(self) -> Option<(Punct, Cursor<'a>)>
         ensures { Gives result (read_punct (place_of self.entry))
             (λ r. (leaf (punct_of r.0) ∷ [], place_of r.1)) }
@@ -54,7 +58,9 @@ impl<'a> Cursor<'a> {
         }
     }
 
-    /// Returns the next token and the cursor after it, if it is a literal.
+    /// Reads a literal.
+    ///
+    /// Returns the literal and the cursor after it, or `None` if the next token is not a literal.
     pub fn literal(self) -> Option<(&'a Literal, Cursor<'a>)>
         ensures { Gives result (read_literal (place_of self.entry))
             (λ r. (leaf (literal_of r.0.now) ∷ [], place_of r.1)) }
@@ -66,10 +72,12 @@ impl<'a> Cursor<'a> {
         }
     }
 
-    /// Returns the next lifetime, of any name, and the cursor after it.
+    /// Reads a lifetime, which consists of a joint apostrophe and an identifier.
     ///
-    /// A lifetime is a joint apostrophe and whatever `ident` then finds, even across the edges of
-    /// invisible groups.
+    /// The identifier may be a keyword. The call ignores the delimiters of invisible groups between
+    /// the apostrophe and the identifier.
+    ///
+    /// Returns the lifetime and the cursor after it, or `None` if the next token is not a lifetime.
     pub fn lifetime(self) -> Option<(LifetimeRef<'a>, Cursor<'a>)>
         ensures { Gives result (read_lifetime any_text (place_of self.entry))
             (λ r. (lifetime_trees r.0.apostrophe (ident_of r.0.ident.now), place_of r.1)) }
@@ -106,8 +114,10 @@ impl<'a> Cursor<'a> {
         }
     }
 
-    /// Returns the cursor after the next token: after the lifetime that `lifetime` reads, or else
-    /// after the next tree. Returns `None` if no visible tree is left.
+    /// Skips the next token, and returns the cursor after that token.
+    ///
+    /// A lifetime counts as one token, and so does a visible group with all of its contents.
+    /// Returns `None` if no visible tree is left in the scope.
     pub fn skip(self) -> Option<Cursor<'a>>
         ensures { Gives result (skip (place_of self.entry)) place_of }
     {
@@ -118,10 +128,10 @@ impl<'a> Cursor<'a> {
         }
     }
 
-    /// Returns the cursor after the next visible tree, as `visible_tree` does, and copies nothing.
-    /// Returns `None` if no visible tree is left.
+    /// Skips the next visible tree, and returns the cursor after that tree.
     ///
-    /// A lifetime is two trees.
+    /// The skipped tree is the one that `visible_tree` copies. A lifetime consists of two trees:
+    /// the apostrophe and the identifier. Returns `None` if no visible tree is left in the scope.
     pub fn skip_tree(self) -> Option<Cursor<'a>>
         ensures { Gives result (place_after (read_visible (place_of self.entry))) place_of }
     {
@@ -144,7 +154,7 @@ impl<'a> Cursor<'a> {
         }
     }
 
-    /// Returns the cursor at the end of the scope.
+    /// Returns a cursor at the end of this cursor's scope.
     pub fn scope_end(self) -> Cursor<'a>
         ensures { EndsScope (place_of self.entry) (place_of result) }
     {
@@ -155,8 +165,9 @@ impl<'a> Cursor<'a> {
         rest
     }
 
-    /// Returns `true` if the next token is an identifier with this text. The empty text is never
-    /// found.
+    /// Returns `true` if the next token is an identifier whose text is `text`.
+    ///
+    /// Returns `false` if `text` is empty.
     // Inlined: callers mostly know the text, so a comparison with it is a few instructions.
     #[inline(always)]
     pub fn peek_keyword(self, text: &str) -> bool
@@ -168,9 +179,10 @@ impl<'a> Cursor<'a> {
         }
     }
 
-    /// Enters the next tree if it is a group, visible or not.
+    /// Enters the next tree if it is a visible or invisible group.
     ///
-    /// Returns the cursor of its contents, its delimiter, its span, and the cursor after it.
+    /// Returns the cursor at the start of the contents, the delimiter and the span of the group,
+    /// and the cursor after the group. Returns `None` if the next tree is not a group.
     pub fn any_group(self) -> Option<(Cursor<'a>, Delimiter, DelimSpan, Cursor<'a>)>
         ensures { Gives result (enter_any (place_of self.entry))
             (λ r. record {
@@ -196,10 +208,12 @@ impl<'a> Cursor<'a> {
         }
     }
 
-    /// Enters the next group if it has this delimiter.
+    /// Enters the next group if its delimiter is `delimiter`.
     ///
-    /// Returns the cursor of its contents, its span, and the cursor after it. A visible delimiter
-    /// is found through invisible groups.
+    /// Returns the cursor at the start of the contents, the span of the group, and the cursor after
+    /// the group. Returns `None` if no group with this delimiter is next.
+    ///
+    /// If `delimiter` is visible, the call first enters every invisible group that is next.
     pub fn group(self, delimiter: Delimiter) -> Option<(Cursor<'a>, DelimSpan, Cursor<'a>)>
         ensures { Gives result (enter delimiter (place_of self.entry))
             (λ r. record {
@@ -234,9 +248,10 @@ impl<'a> Cursor<'a> {
         }
     }
 
-    /// Returns `true` if the next puncts are the characters of `text`, each but the last joint.
+    /// Returns `true` if the next puncts are the characters of `text`.
     ///
-    /// The empty text is never found, nor is one with an apostrophe.
+    /// Each punct except the last must be joint. Returns `false` if `text` is empty or contains an
+    /// apostrophe.
     // Inlined, as `puncts` is: nothing is left of the decoding and of the loop.
     #[inline(always)]
     pub fn peek_punct(self, text: &str) -> bool
@@ -261,11 +276,13 @@ impl<'a> Cursor<'a> {
         spot.peek_char(wanted)
     }
 
-    /// Reads the puncts that are the characters of `text`, each but the last joint. Writes the span
-    /// of each to `spans`, and returns the cursor after them.
+    /// Reads the puncts that are the characters of `text`, and returns the cursor after them.
     ///
-    /// A text is never found if it is empty or has another number of characters than `spans` has
-    /// elements. Nothing is allocated. After `None`, the elements of `spans` are unspecified.
+    /// Each punct except the last must be joint. The call writes the span of each punct to `spans`,
+    /// and does not allocate.
+    ///
+    /// Returns `None` if these puncts are not next, if `text` is empty, or if the length of `spans`
+    /// is not the number of characters. The elements of `spans` are then unspecified.
     // Inlined, with what it calls: parsers know the text and the number of spans, so nothing is left
     // of the decoding and of the loop.
     #[inline(always)]

@@ -1,4 +1,4 @@
-//! Copying and printing the trees ahead of a cursor.
+//! Methods of `Cursor` that copy or print the trees that remain in the scope.
 ghost use Rattle.std.specs.Prelude.{◌≡◌, ◌≤◌, ◌++◌, ◌∷◌, [], IfOk, true};
 ghost use Rattle.std.specs.Fmt.{WritesOnOk};
 ghost use Rattle.tok_lexical.specs.Delimiters as delimiters;
@@ -9,15 +9,17 @@ ghost use Rattle.tok_core.specs.Text as spec;
 ghost use Rattle.tok_core.specs.Text.{text};
 ghost use Rattle.tok_core.specs.Weight.{weight};
 ghost use Rattle.tok_buffer.specs.Private.Counts.{tree_count};
-ghost use Rattle.tok_buffer.specs.Private.Layout.{OpensGroup, leaf_in};
+ghost use Rattle.tok_buffer.specs.Private.Layout.{leaf_in};
+ghost use Rattle.tok_buffer.specs.Private.Steps.{OpensGroup};
 ghost use Rattle.tok_buffer.specs.Between.{LosesNoTree, between, trees_to};
 ghost use Rattle.tok_buffer.specs.Cursors.{place_of, spot_place};
 ghost use Rattle.tok_buffer.specs.Gives.{Gives};
-ghost use Rattle.tok_buffer.specs.Moves.{frames_at, in_scope, place_at};
+ghost use Rattle.tok_buffer.specs.Moves.{in_scope, place_at};
 ghost use Rattle.tok_buffer.specs.Reads.{is_group, read_if, read_tree};
 ghost use Rattle.tok_buffer.specs.Rest.{rest};
 ghost use Rattle.tok_buffer.specs.Trees.{read_visible};
 
+use crate::ahead::{Ahead, Next};
 use crate::buffer::TokenBuffer;
 use crate::cursor::Cursor;
 use crate::entry::{Held, Leaf};
@@ -28,9 +30,9 @@ use std::fmt::{Debug, Formatter, Write};
 use tok_core::{Delimiter, Group, Spacing, TokenStream, TokenTree};
 
 impl<'a> Cursor<'a> {
-    /// Copies the next tree if it is a group, visible or not, and returns it with the cursor after
-    /// it.
+    /// Copies the next tree if it is a visible or invisible group.
     ///
+    /// Returns the copy and the cursor after the tree, or `None` if the next tree is not a group.
     /// Returns an error if an allocation fails.
     pub fn any_group_token(self, alloc: Global) -> Result<Option<(Group, Cursor<'a>)>, AllocError>
         ensures { IfOk result (λ found. Gives found (read_if is_group (place_of self.entry))
@@ -45,10 +47,10 @@ impl<'a> Cursor<'a> {
         }
     }
 
-    /// Copies the next tree, which may be an invisible group, and returns it with the cursor after
-    /// it.
+    /// Copies the next tree, which may be an invisible group.
     ///
-    /// Returns an error if an allocation fails.
+    /// Returns the copy and the cursor after the tree, or `None` at the end of the scope. Returns
+    /// an error if an allocation fails.
     pub fn token_tree(self, alloc: Global) -> Result<Option<(TokenTree, Cursor<'a>)>, AllocError>
         ensures { IfOk result (λ found. Gives found (read_tree (place_of self.entry))
             (λ r. (tree_of r.0 ∷ [], place_of r.1))) }
@@ -65,10 +67,13 @@ impl<'a> Cursor<'a> {
         }
     }
 
-    /// Copies the next visible tree and returns it with the cursor after it. First enters the
-    /// invisible groups that are next, as `ident` does. Invisible groups in the tree are copied.
+    /// Copies the next visible tree.
     ///
-    /// Returns an error if an allocation fails.
+    /// The call first enters every invisible group that is next. It also copies the invisible
+    /// groups inside the tree.
+    ///
+    /// Returns the copy and the cursor after the tree, or `None` if no visible tree is left in the
+    /// scope. Returns an error if an allocation fails.
     pub fn visible_tree(self, alloc: Global) -> Result<Option<(TokenTree, Cursor<'a>)>, AllocError>
         ensures { IfOk result (λ found. Gives found (read_visible (place_of self.entry))
             (λ r. (tree_of r.0 ∷ [], place_of r.1))) }
@@ -79,10 +84,11 @@ impl<'a> Cursor<'a> {
         }
     }
 
-    /// Copies the trees that are left in the scope: first those of the innermost invisible group
-    /// that has been entered, then those after it, and so on outwards.
+    /// Copies the trees from the cursor to the end of its scope.
     ///
-    /// Returns an error if an allocation fails.
+    /// If the cursor has entered invisible groups, the trees that remain in the innermost of these
+    /// groups come first. The trees after that group come next, and so on outwards. Returns an
+    /// error if an allocation fails.
     pub fn token_stream(self, alloc: Global) -> Result<TokenStream, AllocError>
         ensures { IfOk result (λ s. s ≡ rest (place_of self.entry)) }
     {
@@ -92,11 +98,11 @@ impl<'a> Cursor<'a> {
         Ok(TokenStream::new(alloc))
     }
 
-    /// Copies the trees from here up to `end`, a later cursor of the same scope.
+    /// Copies the trees from this cursor up to `end`, which is a later cursor of the same scope.
     ///
-    /// An invisible group is copied if it lies wholly between the two cursors. Of one that only
-    /// begins or ends there, the trees between are copied alone. If `end` is earlier, or in another
-    /// scope or buffer, the stream is empty.
+    /// The call copies an invisible group if the whole group is between the two cursors. If only a
+    /// part of the group is between them, the call copies only the trees of that part. If `end` is
+    /// earlier, or in another scope or buffer, the stream is empty.
     ///
     /// Returns an error if an allocation fails.
     ///
@@ -122,8 +128,10 @@ impl<'a> Cursor<'a> {
         Ok(TokenStream::new(alloc))
     }
 
-    /// Writes the trees that are left in the scope, as the stream that `token_stream` returns is
-    /// printed. Nothing is allocated.
+    /// Writes the trees from the cursor to the end of its scope as text.
+    ///
+    /// The text is the one that `Display` writes for the stream that `token_stream` returns. The
+    /// call does not allocate.
     pub fn write_ahead<W: Write>(self, f: &mut Formatter<W>) -> fmt::Result
         ensures { WritesOnOk W.write_str_gives f.old result
             (text (rest (place_of self.entry))) f.new }
@@ -135,7 +143,7 @@ impl<'a> Cursor<'a> {
     }
 }
 
-/// Writes the text that is ahead, as `Cursor(a b)`.
+/// Writes the remaining trees of the scope, as in `Cursor(a b)`.
 impl<'a> Debug for Cursor<'a> {
     fn fmt<W: Write>(&self, f: &mut Formatter<W>) -> fmt::Result {
         f.write_str("Cursor(")?;
@@ -144,7 +152,7 @@ impl<'a> Debug for Cursor<'a> {
     }
 }
 
-/// Writes the text, as `TokenBuffer(a b)`.
+/// Writes the text of the buffer, as in `TokenBuffer(a b)`.
 impl Debug for TokenBuffer {
     fn fmt<W: Write>(&self, f: &mut Formatter<W>) -> fmt::Result {
         f.write_str("TokenBuffer(")?;
@@ -160,19 +168,19 @@ fn count_ahead(buffer: &TokenBuffer, from: usize, scope: usize) -> usize
     ensures { result
         ≡ tree_count (rest (place_at buffer.now.number buffer.now.forest from scope)) }
 {
-    let mut position = from;
+    let mut ahead = Ahead::new(buffer, from, scope);
     let mut count = 0;
-    while position != scope {
-        match buffer.entry(position).held() {
-            Held::Leaf(_) => {
+    while ahead.position != ahead.scope {
+        match ahead.next() {
+            Next::Leaf(_, after) => {
                 count += 1;
-                position += 1;
+                ahead = after;
             }
-            Held::Group(_, offset) => {
+            Next::Group(group) => {
                 count += 1;
-                position = position + offset + 1;
+                ahead = group.after;
             }
-            Held::End(_) => position += 1,
+            Next::End(after) => ahead = after,
         }
     }
     count
@@ -209,23 +217,24 @@ fn copy_leaves(
     ensures within { IfOk result (λ n. in_scope buffer.now.forest n scope ≡ true) }
     ensures later { IfOk result (λ n. from ≤ n) }
     ensures stops { IfOk result
-        (λ n. (n ≡ scope → ⊥) → OpensGroup (frames_at buffer.now.forest n).0) }
+        (λ n. (n ≡ scope → ⊥)
+        → OpensGroup (place_at buffer.now.number buffer.now.forest n scope)) }
     ensures copied { IfOk result (λ n. concat stream.new
         (rest (place_at buffer.now.number buffer.now.forest n scope))
         ≡ concat stream.old (rest (place_at buffer.now.number buffer.now.forest from scope))) }
 {
-    let mut position = from;
-    while position != scope {
-        match buffer.entry(position).held() {
-            Held::Leaf(leaf) => {
+    let mut ahead = Ahead::new(buffer, from, scope);
+    while ahead.position != ahead.scope {
+        match ahead.next() {
+            Next::Leaf(leaf, after) => {
                 leaf.append_to(stream)?;
-                position += 1;
+                ahead = after;
             }
-            Held::Group(_, _) => return Ok(position),
-            Held::End(_) => position += 1,
+            Next::Group(_) => return Ok(ahead.position),
+            Next::End(after) => ahead = after,
         }
     }
-    Ok(position)
+    Ok(ahead.position)
 }
 
 // Copies the trees from a position to the scope's end, into a stream of their number.
@@ -243,13 +252,14 @@ fn copy_ahead(
     let mut stream = room_ahead(alloc, buffer, from, scope)?;
     let mut position = copy_leaves(&mut stream, buffer, from, scope)?;
     while position != scope {
-        let Held::Group(group, offset) = buffer.entry(position).held() else {
+        let Next::Group(group) = Ahead::new(buffer, position, scope).next() else {
             unreachable!();
         };
-        let content = copy_ahead(alloc, buffer, position + 1, position + offset)?;
-        let copy = Group::new(group.delimiter, content, group.span);
+        let inside = group.inside;
+        let content = copy_ahead(alloc, inside.buffer, inside.position, inside.scope)?;
+        let copy = Group::new(group.opening.delimiter, content, group.opening.span);
         stream.append(TokenTree::Group(copy))?;
-        position = copy_leaves(&mut stream, buffer, position + offset + 1, scope)?;
+        position = copy_leaves(&mut stream, buffer, group.after.position, scope)?;
     }
     Ok(stream)
 }
@@ -259,24 +269,23 @@ fn count_up_to(spot: Spot<'_>, end: usize) -> usize
     requires { end ≤ spot.scope }
     ensures { result ≡ tree_count (trees_to end (spot_place spot.entry)) }
 {
-    let buffer = spot.buffer;
-    let mut position = spot.position;
+    let mut ahead = Ahead::new(spot.buffer, spot.position, spot.scope);
     let mut trees = 0;
-    while position < end {
-        match buffer.entry(position).held() {
-            Held::Leaf(_) => {
+    while ahead.position < end {
+        match ahead.next() {
+            Next::Leaf(_, after) => {
                 trees += 1;
-                position += 1;
+                ahead = after;
             }
-            Held::Group(_, offset) => {
-                if offset < end - position {
+            Next::Group(group) => {
+                if group.after.position <= end {
                     trees += 1;
-                    position = position + offset + 1;
+                    ahead = group.after;
                 } else {
-                    position += 1;
+                    ahead = group.entered;
                 }
             }
-            Held::End(_) => position += 1,
+            Next::End(after) => ahead = after,
         }
     }
     trees
@@ -288,26 +297,26 @@ fn copy_up_to(alloc: Global, spot: Spot<'_>, end: usize) -> Result<TokenStream, 
     requires { end ≤ spot.scope }
     ensures { IfOk result (λ s. s ≡ trees_to end (spot_place spot.entry)) }
 {
-    let buffer = spot.buffer;
     let mut stream = TokenStream::with_capacity(alloc, count_up_to(spot, end))?;
-    let mut position = spot.position;
-    while position < end {
-        match buffer.entry(position).held() {
-            Held::Leaf(leaf) => {
+    let mut ahead = Ahead::new(spot.buffer, spot.position, spot.scope);
+    while ahead.position < end {
+        match ahead.next() {
+            Next::Leaf(leaf, after) => {
                 leaf.append_to(&mut stream)?;
-                position += 1;
+                ahead = after;
             }
-            Held::Group(group, offset) => {
-                if offset < end - position {
-                    let content = copy_ahead(alloc, buffer, position + 1, position + offset)?;
-                    let group = Group::new(group.delimiter, content, group.span);
-                    stream.append(TokenTree::Group(group))?;
-                    position = position + offset + 1;
+            Next::Group(group) => {
+                if group.after.position <= end {
+                    let inside = group.inside;
+                    let content = copy_ahead(alloc, inside.buffer, inside.position, inside.scope)?;
+                    let copied = Group::new(group.opening.delimiter, content, group.opening.span);
+                    stream.append(TokenTree::Group(copied))?;
+                    ahead = group.after;
                 } else {
-                    position += 1;
+                    ahead = group.entered;
                 }
             }
-            Held::End(_) => position += 1,
+            Next::End(after) => ahead = after,
         }
     }
     Ok(stream)
@@ -325,23 +334,24 @@ fn write_from<W: Write>(
     ensures { WritesOnOk W.write_str_gives f.old result
         (text (rest (place_at buffer.now.number buffer.now.forest from scope))) f.new }
 {
-    let mut position = from;
+    let mut ahead = Ahead::new(buffer, from, scope);
     let mut is_glued = true;
-    while position != scope {
-        match buffer.entry(position).held() {
-            Held::Leaf(leaf) => {
+    while ahead.position != ahead.scope {
+        match ahead.next() {
+            Next::Leaf(leaf, after) => {
                 write_leaf(f, is_glued, leaf)?;
                 is_glued = leaf.is_joint();
-                position += 1;
+                ahead = after;
             }
-            Held::Group(group, offset) => {
-                write_opening(f, is_glued, group.delimiter)?;
-                write_from(f, buffer, position + 1, position + offset)?;
-                f.write_str(group.delimiter.closing())?;
+            Next::Group(group) => {
+                let inside = group.inside;
+                write_opening(f, is_glued, group.opening.delimiter)?;
+                write_from(f, inside.buffer, inside.position, inside.scope)?;
+                f.write_str(group.opening.delimiter.closing())?;
                 is_glued = false;
-                position = position + offset + 1;
+                ahead = group.after;
             }
-            Held::End(_) => position += 1,
+            Next::End(after) => ahead = after,
         }
     }
     Ok(())

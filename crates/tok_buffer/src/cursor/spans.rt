@@ -1,4 +1,4 @@
-//! The position and the spans of a cursor, and cursors compared.
+//! Methods that return the position and the spans of a cursor, and comparisons of cursors.
 ghost use Rattle.std.specs.Prelude.{◌≡◌, ◌≤◌, ◌-◌, Some, true};
 ghost use Rattle.std.specs.Cmp.{on_per, partial_equiv_from_equiv, on_equiv, on_po};
 ghost use Rattle.std.specs.Ordering.{on};
@@ -15,6 +15,7 @@ ghost use Rattle.tok_buffer.specs.Rest.{scope_delimiter};
 ghost use Rattle.tok_buffer.specs.Spans.{closing_of, frame_span, current_span, start_span, previous_span};
 ghost use Rattle.tok_buffer.specs.View.{erased_ahead};
 
+use crate::ahead::{Ahead, Next};
 use crate::buffer::TokenBuffer;
 use crate::cursor::Cursor;
 use crate::entry::{Entry, Held, same};
@@ -22,16 +23,22 @@ use std::cmp::Ordering;
 use tok_core::{DelimSpan, Delimiter, Span};
 
 impl<'a> Cursor<'a> {
-    /// Counts the leaves and the openings and closings of groups before the cursor in its buffer,
-    /// or returns `None` for the empty cursor.
+    /// Returns the position of the cursor in its buffer, or `None` for the empty cursor.
+    ///
+    /// The position is the number of leaf tokens, opening delimiters and closing delimiters before
+    /// the cursor. Leaf tokens are identifiers, puncts and literals. The delimiters of invisible
+    /// groups are also counted.
     pub fn position(self) -> Option<usize>
         ensures { result ≡ count_before (place_of self.entry) }
     {
         Some(self.spot?.position)
     }
 
-    /// Counts the leaves and the openings and closings of groups that are left in the scope. The
-    /// empty cursor has none.
+    /// Returns the number of leaf tokens and delimiters between the cursor and the end of its
+    /// scope.
+    ///
+    /// Leaf tokens are identifiers, puncts and literals. Each group, visible or invisible, has an
+    /// opening and a closing delimiter. Returns 0 for the empty cursor.
     pub fn remaining(self) -> usize
         ensures counts { result ≡ remaining (place_of self.entry) - 1 }
         ensures visible { weight (erased_ahead (place_of self.entry)) ≤ result }
@@ -42,10 +49,10 @@ impl<'a> Cursor<'a> {
         }
     }
 
-    /// Returns the span of the next tree, a group's whole span.
+    /// Returns the span of the next tree. If the tree is a group, the span covers the whole group.
     ///
-    /// At the end of a group's contents it is the group's closing span. At the buffer's end and for
-    /// the empty cursor it is the call site.
+    /// At the end of a group's contents, returns the span of the group's closing delimiter. At the
+    /// end of the buffer, and for the empty cursor, returns `Span::call_site()`.
     pub fn span(self) -> Span
         ensures { result ≡ current_span (place_of self.entry) }
     {
@@ -55,7 +62,9 @@ impl<'a> Cursor<'a> {
         }
     }
 
-    /// Returns the opening span of the next tree if it is a group, visible or not, and else `span`.
+    /// Returns the span of the opening delimiter if the next tree is a visible or invisible group.
+    ///
+    /// Otherwise, returns the same span as `span`.
     pub fn start_span(self) -> Span
         ensures { result ≡ start_span (place_of self.entry) }
     {
@@ -68,11 +77,10 @@ impl<'a> Cursor<'a> {
         }
     }
 
-    /// Returns the span of what is directly before the cursor: a leaf, or the closing delimiter of
-    /// a group.
+    /// Returns the span of the leaf token or closing delimiter that is directly before the cursor.
     ///
-    /// At the start of a group's contents it is the whole group's span. At the buffer's start and
-    /// for the empty cursor it is `span`.
+    /// At the start of a group's contents, returns the span of the whole group. At the start of the
+    /// buffer, and for the empty cursor, returns the same span as `span`.
     pub fn prev_span(self) -> Span
         ensures { result ≡ previous_span (place_of self.entry) }
     {
@@ -88,11 +96,12 @@ impl<'a> Cursor<'a> {
         }
     }
 
-    /// Returns the span of the first visible tree that is left, a group's whole span, and the
-    /// delimiter that was expected instead of it.
+    /// Returns the span of the first visible tree that remains in the scope, and the delimiter that
+    /// a parser expected instead of this tree.
     ///
-    /// That is the scope's delimiter, or `Delimiter::None` if the tree is in an invisible group
-    /// that has not been entered. Returns `None` if no visible tree is left.
+    /// If the tree is a group, the span covers the whole group. The expected delimiter is the
+    /// delimiter of the scope, or `Delimiter::None` if the tree is in an invisible group that the
+    /// cursor has not entered. Returns `None` if no visible tree remains.
     pub fn leftover(self) -> Option<(Span, Delimiter)>
         ensures { left_of result ≡ leftover (place_of self.entry) }
     {
@@ -105,8 +114,9 @@ impl<'a> Cursor<'a> {
         }
     }
 
-    /// Returns the delimiter of the group whose contents are the scope, or `Delimiter::None` for
-    /// the whole buffer and the empty cursor.
+    /// Returns the delimiter of the group whose contents are the cursor's scope.
+    ///
+    /// Returns `Delimiter::None` if the scope is the whole buffer, and for the empty cursor.
     pub fn scope_delimiter(self) -> Delimiter
         ensures { result ≡ scope_delimiter (place_of self.entry) }
     {
@@ -116,8 +126,10 @@ impl<'a> Cursor<'a> {
         }
     }
 
-    /// Returns `true` if the buffers of both cursors have the same number. The empty cursor is only
-    /// in the same buffer as another empty cursor.
+    /// Returns `true` if the buffers of both cursors have the same number.
+    ///
+    /// If one of the cursors is the empty cursor, returns `true` only if the other cursor is also
+    /// empty.
     pub fn same_buffer(self, other: Cursor<'_>) -> bool
         ensures { result ≡ same_buffer (place_of self.entry) (place_of other.entry) }
     {
@@ -128,8 +140,10 @@ impl<'a> Cursor<'a> {
         }
     }
 
-    /// Returns `true` if both cursors have the same scope, in buffers with the same number. The
-    /// empty cursor is only in the same scope as another empty cursor.
+    /// Returns `true` if both cursors have the same scope, in buffers with the same number.
+    ///
+    /// If one of the cursors is the empty cursor, returns `true` only if the other cursor is also
+    /// empty.
     pub fn same_scope(self, other: Cursor<'_>) -> bool
         ensures { result ≡ same_scope (place_of self.entry) (place_of other.entry) }
     {
@@ -141,8 +155,10 @@ impl<'a> Cursor<'a> {
     }
 }
 
-/// Compares the numbers of the buffers and the positions, whatever the scopes. The empty cursor
-/// equals only itself.
+/// Compares two cursors by the numbers of their buffers and by their positions, but not by their
+/// scopes.
+///
+/// The empty cursor is equal only to an empty cursor.
 impl<'a> PartialEq for Cursor<'a> {
     ghost eq = { on place_of equal };
 
@@ -162,8 +178,10 @@ impl<'a> Eq for Cursor<'a> {
     ghost laws = { on_equiv place_of equal_equiv };
 }
 
-/// Orders cursors by position if their buffers have the same number. The empty cursor is ordered
-/// only against itself.
+/// Orders two cursors by position if their buffers have the same number.
+///
+/// If the buffers have different numbers, or if exactly one of the cursors is empty, `partial_cmp`
+/// returns `None`.
 impl<'a> PartialOrd for Cursor<'a> {
     ghost partial_cmp = { on place_of order };
 
@@ -215,20 +233,23 @@ fn scan(buffer: &TokenBuffer, from: usize, scope: usize) -> Option<(bool, Span)>
     ensures { result
         ≡ first_of (marked_ahead (place_at buffer.now.number buffer.now.forest from scope)) }
 {
+    let mut ahead = Ahead::new(buffer, from, scope);
     let mut depth: usize = 0;
-    let mut position = from;
-    while position != scope {
-        match buffer.entry(position).held() {
-            Held::Leaf(leaf) => return Some((depth > 0, leaf.span())),
-            Held::Group(group, _) => {
-                if !same(group.delimiter, Delimiter::None) {
-                    return Some((depth > 0, group.span));
+    while ahead.position != ahead.scope {
+        match ahead.next() {
+            Next::Leaf(leaf, _) => return Some((depth > 0, leaf.span())),
+            Next::Group(group) => {
+                if !same(group.opening.delimiter, Delimiter::None) {
+                    return Some((depth > 0, group.opening.span));
                 }
                 depth += 1;
+                ahead = group.entered;
             }
-            Held::End(_) => depth = depth.saturating_sub(1),
+            Next::End(after) => {
+                depth = depth.saturating_sub(1);
+                ahead = after;
+            }
         }
-        position += 1;
     }
     None
 }

@@ -1,4 +1,4 @@
-//! Errors as tokens for the compiler.
+//! Methods that convert an error into tokens for the compiler.
 ghost use Rattle.std.specs.Prelude.{◌≡◌, IfOk, OnOk};
 ghost use Rattle.std.specs.Str.{chars};
 ghost use Rattle.tok_lexical.specs.Words.{IsIdentifier};
@@ -12,11 +12,11 @@ use tok_core::known::{identifier, punct};
 use tok_core::{Delimiter, Group, Literal, Spacing, Span, TokenStream, TokenTree};
 
 impl Error {
-    /// Returns tokens at which the compiler reports the messages: `::core::compile_error!{"text"}`
-    /// for each.
+    /// Returns tokens that make the compiler report the messages of the error.
     ///
-    /// The path and the `!` get the message's first span, the braces and the text its last. Returns
-    /// an error if an allocation fails.
+    /// The tokens of each message are `::core::compile_error!{"text"}`. The path and the `!` have
+    /// the first span of the message, and the braces and the text have its last span. Returns an
+    /// error if an allocation fails.
     pub fn to_compile_error(&self, alloc: Global) -> Result<TokenStream, AllocError>
         ensures { IfOk result (λ s. s ≡ compile_errors self.now) }
     {
@@ -28,7 +28,9 @@ impl Error {
         Ok(tokens)
     }
 
-    /// Returns the tokens of `to_compile_error`, and drops the error.
+    /// Returns the same tokens as `to_compile_error`, and drops the error.
+    ///
+    /// Returns an error if an allocation fails.
     pub fn into_compile_error(self, alloc: Global) -> Result<TokenStream, AllocError>
         ensures { IfOk result (λ s. s ≡ compile_errors self) }
     {

@@ -1,4 +1,4 @@
-//! The iterators over the messages of an error, each as an error of its own.
+//! Iterators over the messages of an error. Each item is an error with one message.
 ghost use Rattle.std.specs.Prelude.{◌≡◌, length};
 ghost use Rattle.std.specs.Iterator.{at_most};
 ghost use Rattle.std.specs.Map.Iter.{TakesFirst};
@@ -8,8 +8,9 @@ use std::alloc::{AllocError, Global};
 use std::marker::Model;
 use std::{slice, vec};
 
-/// An iterator that moves the messages out of an error, each as an error of one message. It doesn't
-/// allocate.
+/// An iterator that moves the messages out of an error.
+///
+/// Each item is an error with one message. The iterator does not allocate.
 #[derive(Drop)]
 pub struct IntoIter {
     first: Option<Box<Message>>,
@@ -17,9 +18,9 @@ pub struct IntoIter {
     alloc: Global,
 }
 
-/// An iterator over copies of an error's messages, each as an error of one message.
+/// An iterator over copies of the messages of an error.
 ///
-/// An item is an error if its allocation fails.
+/// Each item is an error with one message, or an `AllocError` if its allocation fails.
 #[derive(Drop)]
 pub struct Iter<'a> {
     first: Option<&'a Message>,
