@@ -1,5 +1,6 @@
-mod Begins
 mod Feeds
 mod Lanes
 mod Lines
+mod Ranks
+mod Shows
 mod Stretches

@@ -1,15 +1,14 @@
 -- Lines, one character further, and their ends.
 use Rattle.std.proofs.Common.{◌≡◌, ◌∙◌, ℕ, ◌-◌, ◌<◌, List, [], ◌∷◌, ◌++◌, length, refl, take}
-use Rattle.std.proofs.Common.{sym, ap, append_assoc, arith, eqb-true, get_or, length-append, subst}
-use Rattle.std.proofs.Common.{true, false, Bool}
-use Rattle.std.specs.Prelude.{◌==◌, ◌||◌, not, if◌then◌else◌, encode_utf8, encode_utf8_all}
+use Rattle.std.proofs.Common.{sym, ap, append_assoc, arith, eqb-true, get_or, subst}
+use Rattle.std.proofs.Common.{true, false, ⊎_elim}
+use Rattle.std.specs.Prelude.{◌==◌, encode_utf8, encode_utf8_all}
 use Rattle.std.specs.Char.{len_utf8}
 use Rattle.std.specs.List.{flat_map, list_all}
 use Rattle.std.specs.Str.{chars, IsUtf8}
-use Rattle.std.proofs.Math.Seq.{take-append_seam}
-use Rattle.std.proofs.lemmas.Bool.{false_from_ne_true, and_parts, false≢true}
+use Rattle.std.proofs.lemmas.Bool.{and_parts, ne_eqb, not-false, not-true, or_cases, or_parts}
 use Rattle.std.proofs.lemmas.Grind.{flat_map-append}
-use Rattle.std.proofs.lemmas.List.{append-nil, get_or-append_right}
+use Rattle.std.proofs.lemmas.List.{append-nil, get_or_push, length_push, take_at}
 use Rattle.std.proofs.lemmas.Str.{chars-append, encodes-chars}
 use Rattle.std.proofs.lemmas.Str.{IsCharBoundary-before_ascii, IsUtf8-take}
 use Rattle.tok_lexical.specs.Pieces.{Skips, Stops, is_neither}
@@ -22,15 +21,9 @@ pub within_more : (text rest after front whole : List ℕ) (left less c : ℕ) �
     → whole ≡ front ++ within left rest → rest ≡ c ∷ after → (left ≡ 0 → ⊥)
     → less ≡ left - len_utf8 c
     → Longer text after whole (within less after)
-within_more text rest after front whole left less c e w h some l = (
-  front ++ c ∷ [],
-  e ∙ ap (λ x. front ++ x) h ∙ sym (append_assoc front (c ∷ []) after),
-  w ∙ ap (λ x. front ++ within left x) h
-      ∙ ap (λ b. front ++ (if b then [] else c ∷ within (left - len_utf8 c) after))
-      (false_from_ne_true (left == 0) (λ z. some (eqb-true left 0 z)))
-      ∙ ap (λ n. front ++ c ∷ within n after) (sym l)
-      ∙ sym (append_assoc front (c ∷ []) (within less after)),
-)
+within_more text rest after front whole left less c e w h some l =
+    let begun : within left rest ≡ c ∷ within less after = rw (h, ne_eqb left 0 some, l) refl in
+    (front ++ c ∷ [], rw append_assoc (cc), rw append_assoc (cc))
 
 -- the carriage return at the end of a line is left out
 return_dropped : (line : List ℕ) → without_return (line ++ 13 ∷ []) ≡ line
@@ -42,12 +35,10 @@ return_dropped (c ∷ (d ∷ line)) = ap (λ x. c ∷ x) (return_dropped (d ∷ 
 others_kept : (line : List ℕ) → ((front : List ℕ) → line ≡ front ++ 13 ∷ [] → ⊥)
     → without_return line ≡ line
 others_kept [] other = refl
-others_kept (c ∷ []) other =
-    ap (λ b. if b then [] else c ∷ [])
-    (false_from_ne_true (c == 13) (λ e. other [] (ap (λ x. x ∷ []) (eqb-true c 13 e))))
+others_kept (c ∷ []) other = rw (ne_eqb c 13 (λ e. other [] (cc))) refl
 others_kept (c ∷ (d ∷ line)) other =
-    ap (λ x. c ∷ x)
-    (others_kept (d ∷ line) (λ front e. other (c ∷ front) (ap (λ x. c ∷ x) e)))
+    let rest = others_kept (d ∷ line) (λ front e. other (c ∷ front) (cc)) in
+    cc
 
 -- the same of bytes
 pub stripped : (line front : List ℕ) → IsUtf8 line → line ≡ front ++ 13 ∷ []
@@ -55,16 +46,11 @@ pub stripped : (line front : List ℕ) → IsUtf8 line → line ≡ front ++ 13 
 unfolding chars
 stripped line front u e =
     let at = length front in
-    let high : at < length line =
-    omega (arith, ap length e, length-append front (13 ∷ [])) in
-    let none : at - at ≡ 0 = omega arith in
-    let here : get_or line at 0 ≡ 13 =
-    ap (λ x. get_or x at 0) e ∙ get_or-append_right front (13 ∷ []) at at 0 refl (omega arith)
-    ∙ ap (λ k. get_or (13 ∷ []) k 0) none in
-    let cut : take at line ≡ front = ap (take at) e ∙ take-append_seam front (13 ∷ []) in
-    let v : IsUtf8 front =
-    subst IsUtf8 cut
-    (IsUtf8-take line at u (IsCharBoundary-before_ascii line at high (omega (arith, here)))) in
+    let here : get_or line at 0 ≡ 13 = ap (λ x. get_or x at 0) e ∙ get_or_push front 13 0 at refl in
+    let high : at < length line = omega (arith, ap length e, length_push front 13) in
+    let cut : take at line ≡ front = ap (take at) e ∙ take_at front (13 ∷ []) at refl in
+    let seam = IsCharBoundary-before_ascii line at high (omega arith) in
+    let v : IsUtf8 front = subst IsUtf8 cut (IsUtf8-take line at u seam) in
     sym
     (ap without_return (ap chars e ∙ chars-append front (13 ∷ []) v)
     ∙ return_dropped (chars front))
@@ -86,13 +72,9 @@ as_it_is : (front : List ℕ) → list_all (is_neither 9 9) front ≡ true
 as_it_is [] h = refl
 as_it_is (c ∷ front) h =
     let p = and_parts (is_neither 9 9 c) (list_all (is_neither 9 9) front) h in
-    head (c == 9) p.0 (as_it_is front p.1)
-  where
-    head : (b : Bool) → not (b || b) ≡ true → flat_map shown_character front ≡ encode_utf8_all front
-        → (if b then 32 ∷ 32 ∷ 32 ∷ 32 ∷ [] else encode_utf8 c) ++ flat_map shown_character front
-        ≡ encode_utf8 c ++ encode_utf8_all front
-    head true pass more = absurd (false≢true pass)
-    head false pass more = ap (λ x. encode_utf8 c ++ x) more
+    let more = as_it_is front p.1 in
+    let other : (c == 9) ≡ false = (or_parts (c == 9) (c == 9) (not-true _ p.0)).0 in
+    rw other (ap (λ x. encode_utf8 c ++ x) more)
 
 pub run_shown : (text front after : List ℕ) → Skips (is_neither 9 9) text front after
     → flat_map shown_character text ≡ encode_utf8_all front ++ flat_map shown_character after
@@ -105,8 +87,30 @@ run_shown text front after skips =
 pub ends_there : (after : List ℕ) → Stops (is_neither 9 9) after
     → ((more : List ℕ) → after ≡ 9 ∷ more → ⊥) → after ≡ []
 ends_there [] stops other = refl
-ends_there (c ∷ more) stops other = head (c == 9) refl stops
-  where
-    head : (b : Bool) → (c == 9) ≡ b → not (b || b) ≡ false → c ∷ more ≡ []
-    head true e p = absurd (other more (ap (λ x. x ∷ more) (eqb-true c 9 e)))
-    head false e p = absurd (false≢true (sym p))
+ends_there (c ∷ more) stops other =
+    let either = or_cases (c == 9) (c == 9) (not-false _ stops) in
+    let tab : c ≡ 9 = eqb-true c 9 (⊎_elim (λ t. t) (λ t. t) either) in
+    absurd (other more (cc))
+
+-- the characters up to the next tab are pushed as they are
+module _ (rest front tab to piece pushed : List ℕ) (skips : Skips (is_neither 9 9) rest front tab)
+    (p : piece ≡ encode_utf8_all front) (q : pushed ≡ to ++ piece) where
+  -- and that is all if there is none
+  pub all_pushed : ((more : List ℕ) → tab ≡ 9 ∷ more → ⊥)
+      → pushed ≡ to ++ flat_map shown_character rest
+  all_pushed none =
+      let shown = run_shown rest front tab skips in
+      let nothing = ap (flat_map shown_character) (ends_there tab skips.stops none) in
+      let whole = append-nil (encode_utf8_all front) in
+      cc
+
+  -- and then four spaces for it
+  pub tab_pushed : (spaced after : List ℕ) → spaced ≡ pushed ++ 32 ∷ 32 ∷ 32 ∷ 32 ∷ []
+      → tab ≡ 9 ∷ after
+      → spaced ++ flat_map shown_character after ≡ to ++ flat_map shown_character rest
+  tab_pushed spaced after s t =
+      let shown = run_shown rest front tab skips in
+      let spaces = ap (flat_map shown_character) t in
+      let one = append_assoc to piece (flat_map shown_character tab) in
+      let two = append_assoc pushed (32 ∷ 32 ∷ 32 ∷ 32 ∷ []) (flat_map shown_character after) in
+      cc

@@ -1,88 +1,67 @@
 -- The place after more text of the same line.
-use Rattle.std.proofs.Common.{◌≡◌, ◌∙◌, ℕ, ◌+◌, ◌<◌, ◌≤◌, ◌⊎◌, get_or, set, inl, inr, List, [], ◌∷◌, ◌++◌, length, drop, take}
-use Rattle.std.proofs.Common.{Bool, true, false, append_assoc, length-append, refl, sym, ap, ap₂, arith, subst}
-use Rattle.std.specs.Prelude.{◌==◌, ◌&&◌, not, if◌then◌else◌, encode_utf8, encode_utf8_all}
+use Rattle.std.proofs.Common.{◌≡◌, ◌∙◌, ℕ, ◌+◌, ◌<◌, ◌≤◌, get_or, set, inl, inr, List, [], ◌∷◌, ◌++◌, length, drop, take}
+use Rattle.std.proofs.Common.{true, append_assoc, length-append, refl, sym, ap, arith}
+use Rattle.std.specs.Prelude.{not}
 use Rattle.std.specs.List.{list_all}
 use Rattle.std.specs.Str.{chars, IsUtf8}
-use Rattle.std.proofs.lemmas.Bool.{and_parts}
-use Rattle.std.proofs.Math.Nat.{eq-or-lt_of_le}
-use Rattle.std.proofs.lemmas.List.{append-nil, drop-drop, drop-set-lt, get_or-set_other}
+use Rattle.std.proofs.lemmas.Bool.{and_from, not-true, or_parts}
+use borrow.Author.Count.{below_more}
+use Rattle.std.proofs.lemmas.Grind.{drop_more_same}
+use Rattle.std.proofs.lemmas.List.{append-nil, drop-set-lt, get_or-set_other, nil_from_length}
 use Rattle.std.proofs.lemmas.List.{get_or-set_same, length-take, take-append-drop, take-take}
-use Rattle.std.proofs.lemmas.Str.{chars-append, chars-nil, encodes-chars, len_utf8_bounds, length-encode}
+use Rattle.std.proofs.lemmas.List.Folds.{list_all-append}
+use Rattle.std.proofs.lemmas.List.Sums.{AllPass-from_list_all, list_all-from_AllPass, sum_by-append}
+use Rattle.std.proofs.lemmas.Str.{chars-append, chars-nil, encodes-chars, length-le-encodes}
+use Rattle.memchr.specs.Find.{is_byte}
 use Rattle.tok_lexical.specs.Comments.{is_not_line_feed}
-use Rattle.tok_lexical.specs.Pieces.{is_neither}
+use Rattle.tok_lexical.specs.Pieces.{Skips, is_neither}
 use Rattle.tok_carets.specs.Lines.{IsLastLine, IsLineColumn, IsPlaceAt, IsStretch, line_feeds, nowhere}
 use Rattle.tok_carets.specs.declared.line.LineColumn.{LineColumn}
-use Rattle.tok_carets.proofs.Begins.{feeds_before, no-feeds}
-
-clear_of : (cs : List ℕ) → line_feeds cs ≡ 0 → list_all is_not_line_feed cs ≡ true
-clear_of [] h = refl
-clear_of (c ∷ cs) h = go (c == 10) h (clear_of cs) where
-  go : (b : Bool) → (if b then 1 + line_feeds cs else line_feeds cs) ≡ 0
-      → (line_feeds cs ≡ 0 → list_all is_not_line_feed cs ≡ true)
-      → (not b && list_all is_not_line_feed cs) ≡ true
-  go true h more = absurd (omega (arith, h))
-  go false h more = more h
+use Rattle.tok_carets.proofs.Feeds.{none_fed, one}
 
 both_clear : (xs ys : List ℕ) → list_all is_not_line_feed xs ≡ true
     → list_all is_not_line_feed ys ≡ true → list_all is_not_line_feed (xs ++ ys) ≡ true
-both_clear [] ys h k = k
-both_clear (x ∷ xs) ys h k =
-    let p = and_parts (is_not_line_feed x) (list_all is_not_line_feed xs) h in
-    go (is_not_line_feed x) p.0 (both_clear xs ys p.1 k) where
-      go : (b : Bool) → b ≡ true → list_all is_not_line_feed (xs ++ ys) ≡ true
-          → (b && list_all is_not_line_feed (xs ++ ys)) ≡ true
-      go true e more = more
-      go false e more = e
+both_clear xs ys h k = list_all-append is_not_line_feed xs ys ∙ and_from _ _ h k
 
-more_of_line : (text more line : List ℕ) → IsLastLine text line → line_feeds more ≡ 0
-    → IsLastLine (text ++ more) (line ++ more)
+-- a line goes on with characters without a line feed
+more_of_line : (text more line : List ℕ) → IsLastLine text line
+    → list_all is_not_line_feed more ≡ true → IsLastLine (text ++ more) (line ++ more)
 more_of_line text more line (clear, inl whole) none =
-    (both_clear line more clear (clear_of more none), inl (ap (λ x. x ++ more) whole))
+    (both_clear line more clear none, inl (ap (λ x. x ++ more) whole))
 more_of_line text more line (clear, inr (front, whole)) none = (
-  both_clear line more clear (clear_of more none),
+  both_clear line more clear none,
   inr (front, ap (λ x. x ++ more) whole ∙ append_assoc front (10 ∷ line) more),
 )
 
-few : (cs : List ℕ) → length cs ≤ length (encode_utf8_all cs)
-few [] = omega arith
-few (c ∷ cs) =
-    omega (
-      arith,
-      few cs,
-      length-append (encode_utf8 c) (encode_utf8_all cs),
-      length-encode c,
-      (len_utf8_bounds c).0,
-    )
-
 -- a text has no more characters than bytes
 few_chars : (text : List ℕ) → IsUtf8 text → length (chars text) ≤ length text
-few_chars text u = omega (arith, few (chars text), ap (λ x. length x) (encodes-chars text u))
+few_chars text u =
+    omega (arith, length-le-encodes (chars text), ap (λ x. length x) (encodes-chars text u))
 
 short_line : (text line : List ℕ) → IsLastLine text line → length line ≤ length text
 short_line text line (clear, inl whole) = omega (arith, ap (λ x. length x) whole)
 short_line text line (clear, inr (front, whole)) =
     omega (arith, ap (λ x. length x) whole, length-append front (10 ∷ line))
 
-none_left : (xs : List ℕ) → length xs ≡ 0 → xs ≡ []
-none_left [] h = refl
-none_left (x ∷ xs) h = absurd (omega (arith, h))
-
 -- a text between two bytes, of which all is skipped
 pub stretch_of : (text before between over rest : List ℕ) (from at : ℕ) → before ≡ take at text
-    → between ≡ drop from before → from ≤ length before → chars between ≡ over ++ chars rest
-    → list_all (is_neither 10 10) over ≡ true → length rest ≡ 0 → IsStretch text from at between
-stretch_of text before between over rest from at front back low cut pass none = (
-  sym front ∙ sym (take-append-drop from before)
-      ∙ ap₂ (λ x y. x ++ y)
-      (ap (take from) front
-      ∙ take-take from at text (omega (arith, low, ap (λ x. length x) front, length-take at text)))
-      (sym back),
-  ap line_feeds
-      (cut ∙ ap (λ x. over ++ chars x) (none_left rest none)
-      ∙ ap (λ x. over ++ x) chars-nil ∙ append-nil over)
-      ∙ no-feeds over pass,
-)
+    → between ≡ drop from before → from ≤ length before
+    → Skips (is_neither 10 10) (chars between) over (chars rest) → length rest ≡ 0
+    → IsStretch text from at between
+stretch_of text before between over rest from at front back low skips none =
+    let short : from ≤ at = omega (arith, low, ap (λ x. length x) front, length-take at text) in
+    let cut = take-append-drop from before in
+    let inside = take-take from at text short in
+    let empty = chars-nil in
+    let left = nil_from_length rest none in
+    let whole = append-nil over in
+    let all : chars between ≡ over = cc skips.cut in (
+      cc,
+      rw all (list_all-from_AllPass is_not_line_feed over
+          (λ k d high.
+          let pass = AllPass-from_list_all (is_neither 10 10) over skips.pass k d high in
+          ap not (or_parts _ _ (not-true _ pass)).0)),
+    )
 
 module _ (text between : List ℕ) (from at : ℕ) (known : LineColumn) (u : IsUtf8 (take from text))
     (stretch : IsStretch text from at between) (is : IsLineColumn (take from text) known) where
@@ -110,13 +89,12 @@ module _ (text between : List ℕ) (from at : ℕ) (known : LineColumn) (u : IsU
           arith,
           line,
           is.0,
-          feeds_before (take at text) front between u cut,
-          stretch.1,
+          ap line_feeds parts ∙ sum_by-append (one (is_byte 10)) (chars front) (chars between),
+          none_fed (chars between) stretch.1,
         ),
         (
           is.1.0 ++ chars between,
-          subst (λ x. IsLastLine x (is.1.0 ++ chars between)) (sym parts)
-              (more_of_line (chars front) (chars between) is.1.0 is.1.1 stretch.1),
+          rw parts (more_of_line (chars front) (chars between) is.1.0 is.1.1 stretch.1),
           omega (arith, column, is.1.2, length-append is.1.0 (chars between)),
         ),
       )
@@ -135,20 +113,13 @@ module _ (text bytes : List ℕ) (mid : List LineColumn) (n : ℕ) (place : Line
   pub one_more : ((k : ℕ) → k < n → IsPlaceAt text (get_or bytes k 0) (get_or mid k nowhere))
       → IsPlaceAt text (get_or bytes n 0) place → (k : ℕ) → k < n + 1
       → IsPlaceAt text (get_or bytes k 0) (get_or (set mid n place) k nowhere)
-  one_more before here k less = go (eq-or-lt_of_le (omega (arith, less))) where
-    go : (k ≡ n) ⊎ (k < n)
-        → IsPlaceAt text (get_or bytes k 0) (get_or (set mid n place) k nowhere)
-    go (inl same) =
-        subst (λ j. IsPlaceAt text (get_or bytes j 0) (get_or (set mid n place) j nowhere))
-        (sym same)
-        (subst (IsPlaceAt text (get_or bytes n 0))
-        (sym (get_or-set_same mid n place nowhere low)) here)
-    go (inr under) =
-        subst (IsPlaceAt text (get_or bytes k 0))
-        (sym (get_or-set_other mid n k place nowhere (omega (arith, under)))) (before k under)
+  one_more before here =
+      below_more (λ k. IsPlaceAt text (get_or bytes k 0) (get_or (set mid n place) k nowhere)) n
+      (λ k under.
+      rw (get_or-set_other mid n k place nowhere (omega (arith, under))) (before k under))
+      (rw (get_or-set_same mid n place nowhere low) here)
 
   pub rest_stays : (old : List LineColumn) → drop n mid ≡ drop n old
       → drop (n + 1) (set mid n place) ≡ drop (n + 1) old
   rest_stays old same =
-      drop-set-lt (n + 1) mid n place (omega arith) ∙ sym (drop-drop 1 n mid)
-      ∙ ap (λ l. drop 1 l) same ∙ drop-drop 1 n old
+      drop-set-lt (n + 1) mid n place (omega arith) ∙ drop_more_same mid old n same

@@ -1,12 +1,14 @@
--- Lines of a text, and how many columns a character takes. Texts are lists of characters.
+-- Lines of a text, and how many columns a character takes. Texts are lists of characters, unless a
+-- definition says bytes.
 use Rattle.std.specs.Prelude.{◌≡◌, ℕ, ◌+◌, ◌-◌, ◌==◌, ◌⊎◌, List, [], ◌∷◌, ◌++◌, true, false}
-use Rattle.std.specs.Prelude.{◌<◌, if◌then◌else◌, unwrap_or, drop, encode_utf8, get_or, length}
-use Rattle.std.specs.Prelude.{take}
+use Rattle.std.specs.Prelude.{◌<◌, ◌≤◌, if◌then◌else◌, unwrap_or, count_by, drop, encode_utf8}
+use Rattle.std.specs.Prelude.{get_or, length, take}
 use Rattle.std.specs.List.{flat_map, list_all, repeat}
 use Rattle.std.specs.Char.{len_utf8}
 use Rattle.std.specs.Str.{chars, IsCharBoundary}
 use Rattle.tok_lexical.specs.Comments.{is_not_line_feed}
 use Rattle.tok_carets.specs.declared.line.LineColumn.{LineColumn}
+use Rattle.memchr.specs.Find.{Nowhere, Passes, is_byte}
 use Rattle.unicode_width.specs.Width.{char_width}
 
 -- the last line of a text: no line feed is in it, and one is before it, or nothing
@@ -21,10 +23,9 @@ IsFirstLine text line =
     (list_all is_not_line_feed line ≡ true)
     × ((text ≡ line) ⊎ ((rest : List ℕ) × (text ≡ line ++ 10 ∷ rest)))
 
--- how many line feeds a text has
+-- how many line feeds a text has: a list of characters, or of bytes
 abbrev pub line_feeds : List ℕ → ℕ
-line_feeds [] = 0
-line_feeds (c ∷ text) = if c == 10 then 1 + line_feeds text else line_feeds text
+line_feeds text = count_by (is_byte 10) text
 
 -- the number of the line in which a text ends, from 1
 abbrev pub line_number : List ℕ → ℕ
@@ -59,20 +60,16 @@ IsLineColumn before place =
     (place.line ≡ line_number (chars before))
     × ((line : List ℕ) × IsLastLine (chars before) line × (place.column ≡ 1 + length line))
 
--- at this byte of a text, right after a line feed, begins a line that comes after so many
-abbrev pub BeginsLine : (text : List ℕ) → (lines at : ℕ) → Type 0
-BeginsLine text lines at =
-    let before = chars (take at text) in
-    (line_feeds before ≡ lines) × (get_or before (length before - 1) 0 ≡ 10)
+-- a line begins at this byte: it is the first byte, or the one after a line feed
+abbrev pub BeginsLine : (text : List ℕ) → (at : ℕ) → Type 0
+BeginsLine text at = (at ≡ 0) ⊎ ((feed : ℕ) × (at ≡ feed + 1) × Passes (is_byte 10) text feed)
 
--- a line begins at each of these bytes, in order
-abbrev pub BeginLines : (text starts : List ℕ) → Type 0
-BeginLines text starts =
-    (k : ℕ) → k < length starts → BeginsLine text (k + 1) (get_or starts k 0)
-
--- a line begins at this byte, or it is the first byte and no line is before it
-abbrev pub BeginsAt : (text : List ℕ) → (lines at : ℕ) → Type 0
-BeginsAt text lines at = BeginsLine text lines at ⊎ ((lines ≡ 0) × (at ≡ 0))
+-- the line of the byte `at` begins at `start`: a line begins there, and no line feed is between
+-- the two
+pub record IsLineStart (text : List ℕ) (at start : ℕ) : Type 0 where
+  pub low : start ≤ at
+  pub begins : BeginsLine text start
+  pub unbroken : Nowhere (Passes (is_byte 10) text) start at
 
 -- the place before a byte of a text, at which a character begins or the text ends
 abbrev pub IsKnown : (text : List ℕ) → (at : ℕ) → LineColumn → Type 0
@@ -97,4 +94,4 @@ pub record ArePlaces (text bytes : List ℕ) (old new : List LineColumn) : Type 
 -- the text between two bytes, without a line feed
 abbrev pub IsStretch : (text : List ℕ) → (from at : ℕ) → List ℕ → Type 0
 IsStretch text from at between =
-    (take at text ≡ take from text ++ between) × (line_feeds (chars between) ≡ 0)
+    (take at text ≡ take from text ++ between) × (list_all is_not_line_feed (chars between) ≡ true)

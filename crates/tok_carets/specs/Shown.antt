@@ -5,6 +5,9 @@ use Rattle.std.specs.Fmt.{decimal}
 use Rattle.std.specs.List.{flat_map, repeat}
 use Rattle.std.specs.Str.{chars, IsCharBoundary}
 use Rattle.tok_leaves.specs.Spans.{range}
+use Rattle.tok_leaves.specs.declared.span.Span.{Span}
+use Rattle.tok_core.specs.Lexical.Errors.{Explains, error_span, error_words}
+use Rattle.tok_core.specs.declared.lexer.error.LexError.{LexError}
 use Rattle.tok_buffer.specs.Messages.{first_message_span, first_text}
 use Rattle.tok_buffer.specs.declared.error.Message.{Message}
 use Rattle.tok_carets.specs.Lines.{IsFirstLine, IsLastLine, line_number, marks, shown_character, within}
@@ -68,6 +71,21 @@ Shows source level words (Some (number, start, end)) out =
     (IsIn source (Some (number, start, end)) → IsPlaced level words source.name.now
     (take start source.text.now) (drop start source.text.now) (end - start) out)
     × ((IsIn source (Some (number, start, end)) → ⊥) → out ≡ words_alone level words)
+
+-- a span of the source of this number
+abbrev pub IsOf : (number : ℕ) → Option (ℕ × ℕ × ℕ) → Type 0
+IsOf number None = ⊥
+IsOf number (Some (other, start, end)) = other ≡ number
+
+-- an error of the lexer: explained to readers of this text if its span is of this source, and else
+-- its message alone
+abbrev pub ShowsLex : Source → LexError → List ℕ → Type 0
+ShowsLex source error out =
+    (IsOf source.number (range (error_span error)) → (span : Span) × (words : List ℕ)
+    × Explains (chars source.text.now) error (span, words)
+    × Shows source (codes "error") words (range span) out)
+    × ((IsOf source.number (range (error_span error)) → ⊥)
+    → out ≡ words_alone (codes "error") (error_words error))
 
 -- each of these messages is shown, in turn: the first at this level, and the others as notes
 pub data ShowsEach (source : Source) : (level : List ℕ) → List (List Message) → List ℕ → Type 0

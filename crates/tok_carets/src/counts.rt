@@ -1,4 +1,4 @@
-//! How many line feeds are in bytes, counted many bytes at a time.
+//! A function that counts the line feeds in a byte slice, many bytes at a time.
 ghost use Rattle.std.specs.Prelude.{◌≡◌, ◌+◌, ◌*◌, ◌≤◌, count_by, length, take};
 ghost use Rattle.memchr.specs.Find.{is_byte};
 
@@ -13,7 +13,7 @@ const MOST: usize = 255;
 // How many bytes are compared at a time in what is left.
 const FEW: usize = 16;
 
-/// Returns how many bytes are line feeds.
+/// Returns the number of line feeds in `bytes`.
 pub fn line_feeds(bytes: &[u8]) -> usize
     ensures { result ≡ count_by (is_byte 10) bytes.now }
 {

@@ -1,16 +1,18 @@
-//! Where the lines of a text begin.
+//! An index of the positions at which the lines of a text begin.
 ghost use Rattle.std.specs.Prelude.{◌≡◌, ◌≤◌, ◌+◌, IfOk, IfSome, MatchOption, length, take};
-ghost use Rattle.std.specs.Str.{IsCharBoundary, IsUtf8};
-ghost use Rattle.tok_carets.specs.Lines.{ArePlaces, BeginLines, BeginsAt, IsKnown, IsLineColumn, IsPlaceAt, IsStretch};
+ghost use Rattle.std.specs.Str.{IsCharBoundary, IsUtf8, chars};
+ghost use Rattle.memchr.specs.Find.{is_byte, places};
+ghost use Rattle.tok_carets.specs.Lines.{ArePlaces, IsKnown, IsLastLine, IsLineColumn, IsLineStart, IsPlaceAt, IsStretch, line_feeds, line_number};
 
-use crate::line::{LineColumn, chars_in, line_column};
+use crate::line::{LineColumn, chars_in};
+use memchr::memchr_iter;
 use std::alloc::{AllocError, Global};
-use tok_lexical::text::{front_of, past_char, past_others};
+use tok_lexical::text::past_others;
 
-/// A text and the starts of its lines, for finding many places in it.
+/// A text with an index of its lines, for finding the lines and columns of many byte offsets.
 ///
-/// Its `line_column` searches the lines in halves, and reads one line. The function `line_column`
-/// reads all text before the place.
+/// The method `line_column` performs a binary search over the lines, and then reads one line. In
+/// contrast, the function `line_column` reads the whole text before the offset.
 ///
 /// # Examples
 ///
@@ -21,57 +23,57 @@ use tok_lexical::text::{front_of, past_char, past_others};
 #[derive(Drop, Debug)]
 pub struct LineIndex<'a> {
     text: &'a str,
-    // The byte after each line feed, in order.
-    starts: Vec<usize>,
-    ghost is: { BeginLines text.now starts.items },
+    // The byte of each line feed, in order.
+    feeds: Vec<usize>,
+    ghost are: { feeds.items ≡ places (is_byte 10) text.now },
 }
 
 impl<'a> LineIndex<'a> {
-    /// Reads a text once, and keeps where its lines begin.
+    /// Creates an index of the lines of `text`.
     ///
-    /// Returns an error if an allocation fails.
+    /// The call reads `text` once. Returns an error if an allocation fails.
     pub fn new(alloc: Global, text: &'a str) -> Result<LineIndex<'a>, AllocError>
         ensures { IfOk result (λ index. index.text.now ≡ text.now) }
     {
-        let mut starts = Vec::new(alloc);
-        let mut rest = text;
-        while let Some(line) = past_char(past_others(rest, b'\n', b'\n'), '\n') {
-            starts.push(front_of(text, line).len())?;
-            rest = line;
+        let mut feeds = Vec::new(alloc);
+        for at in memchr_iter(b'\n', text.as_bytes()) {
+            feeds.push(at)?;
         }
-        Ok(LineIndex { text, starts })
+        Ok(LineIndex { text, feeds })
     }
 
-    /// Returns the text.
+    /// Returns the indexed text.
     pub fn text(&self) -> &'a str
         ensures { result.now ≡ self.now.text.now }
     {
         self.text
     }
 
-    /// Returns the line and the column of the place before this byte, or `None` if it is within a
-    /// character or after the end of the text.
+    /// Returns the line and the column of the byte offset `at`.
+    ///
+    /// Returns `None` if `at` is within a character or after the end of the text.
     pub fn line_column(&self, at: usize) -> Option<LineColumn>
         ensures { MatchOption result (IsCharBoundary self.now.text.now at → ⊥)
             (λ place. IsCharBoundary self.now.text.now at
             × IsLineColumn (take at self.now.text.now) place) }
     {
         let (before, _) = self.text.split_at_checked(at)?;
-        let (lines, start) = self.last_start(at);
-        match before.split_at_checked(start) {
-            Some((_, head)) => Some(after_lines(lines, line_column(head))),
-            None => Some(line_column(before)),
-        }
+        let (line, head) = self.last_line(before);
+        Some(LineColumn {
+            line,
+            column: chars_in(head) + 1,
+        })
     }
 
-    /// Writes the line and the column of the place before each of these bytes over the front of
-    /// `places`: those of `line_column`, or line 0 and column 0 if it returns `None`.
+    /// Writes the line and the column of each byte offset in `bytes` to the element of `places`
+    /// with the same index.
     ///
-    /// Bytes in ascending order are found soonest: no part of a line is then read twice.
+    /// If an offset is within a character or after the end of the text, the call writes line 0 and
+    /// column 0. The call is fastest if the offsets are in ascending order.
     ///
     /// # Requires
     ///
-    /// There must be as many places as bytes, or more.
+    /// `places` must have at least as many elements as `bytes`.
     pub fn line_columns(&self, bytes: &[usize], places: &mut [LineColumn])
         requires room { length bytes.now ≤ length places.old }
         ensures { ArePlaces self.now.text.now bytes.now places.old places.new }
@@ -125,30 +127,37 @@ impl<'a> LineIndex<'a> {
         }
     }
 
-    // Returns the last byte up to this one at which a line begins, and how many lines are before it.
-    fn last_start(&self, at: usize) -> (usize, usize)
-        ensures { BeginsAt self.now.text.now result.0 result.1 }
+    // Returns the number of the last line of a front of the text, and this line, as the function
+    // `last_line` does, but doesn't read the front.
+    pub(crate) fn last_line<'t>(&self, before: &'t str) -> (usize, &'t str)
+        requires front { before.now ≡ take (length before.now) self.now.text.now }
+        ensures number { result.0 ≡ line_number (chars before.now) }
+        ensures line { IsLastLine (chars before.now) (chars result.1.now) }
     {
-        let found = self.starts.partition_point(|start| *start <= at);
-        match found.checked_sub(1) {
-            Some(last) => match self.starts.get(last) {
-                Some(start) => (found, *start),
-                None => (0, 0),
-            },
-            None => (0, 0),
+        let (lines, start) = self.last_start(before.len());
+        let (_, line) = before.split_at(start);
+        (lines + 1, line)
+    }
+
+    // Returns how many lines are before the line of this byte, and where this line begins.
+    pub(crate) fn last_start(&self, at: usize) -> (usize, usize)
+        ensures lines { result.0 ≡ line_feeds (take at self.now.text.now) }
+        ensures start { IsLineStart self.now.text.now at result.1 }
+    {
+        let lines = self.feeds_before(at);
+        if lines == 0 {
+            (0, 0)
+        } else {
+            (lines, self.feeds[lines - 1] + 1)
         }
     }
-}
 
-// Returns the place that is so many lines further.
-fn after_lines(lines: usize, place: LineColumn) -> LineColumn
-    requires { lines + place.line ≤ 18446744073709551615 }
-    ensures line { result.line ≡ lines + place.line }
-    ensures column { result.column ≡ place.column }
-{
-    LineColumn {
-        line: lines + place.line,
-        column: place.column,
+    // Returns how many line feeds are before this byte.
+    fn feeds_before(&self, at: usize) -> usize
+        ensures count { result ≡ line_feeds (take at self.now.text.now) }
+        ensures few { result ≤ length self.now.feeds.items }
+    {
+        self.feeds.partition_point(|feed| *feed < at)
     }
 }
 

@@ -1,4 +1,4 @@
-//! Lines of a text, and what is shown of one.
+//! Lines and columns of a text, and functions that format one line.
 ghost use Rattle.std.specs.Prelude.{◌≡◌, ◌<◌, ◌≤◌, ◌+◌, ◌++◌, ◌∷◌, [], ℕ, List, OnOk, length, string_bytes};
 ghost use Rattle.std.specs.List.{flat_map, repeat};
 ghost use Rattle.std.specs.Str.{chars};
@@ -7,10 +7,11 @@ ghost use Rattle.tok_carets.specs.Lines.{IsFirstLine, IsLastLine, columns, line_
 use crate::counts::line_feeds;
 use memchr::memrchr;
 use std::alloc::AllocError;
-use tok_lexical::text::{front_of, next_char, past_char, past_first, past_others};
+use tok_lexical::text::{front_of, next_char, past_char, past_others};
 use unicode_width::UnicodeWidthChar;
 
-/// A place in a text: its line, and its column in characters. Both count from 1.
+/// A position in a text: the line, and the column in characters. Lines and columns are numbered
+/// from 1.
 // Laid out as C has it, so that a caller in C is lent places as they are.
 #[repr(C)]
 #[derive(Clone, Copy, PartialEq, Eq, Debug)]
@@ -19,7 +20,7 @@ pub struct LineColumn {
     pub column: usize,
 }
 
-/// Returns the line and the column of the place after a text.
+/// Returns the line and the column of the position at the end of the text `before`.
 ///
 /// # Examples
 ///
@@ -38,7 +39,7 @@ pub fn line_column(before: &str) -> LineColumn
     }
 }
 
-/// Returns the number of a text's last line, and this line.
+/// Returns the number of the last line of `text`, and this line.
 pub fn last_line(text: &str) -> (usize, &str)
     ensures number { result.0 ≡ line_number (chars text.now) }
     ensures line { IsLastLine (chars text.now) (chars result.1.now) }
@@ -48,18 +49,18 @@ pub fn last_line(text: &str) -> (usize, &str)
     let Some(at) = memrchr(b'\n', bytes) else {
         return (number, text);
     };
-    let (_, end) = text.split_at(at);
-    (number, past_first(end))
+    let (_, line) = text.split_at(at + 1);
+    (number, line)
 }
 
-/// Returns a text's first line.
+/// Returns the first line of `text`, without the line feed.
 pub fn first_line(text: &str) -> &str
     ensures { IsFirstLine (chars text.now) (chars result.now) }
 {
     front_of(text, past_others(text, b'\n', b'\n'))
 }
 
-/// Returns how many characters a text has.
+/// Returns the number of characters in `text`.
 pub fn chars_in(text: &str) -> usize
     ensures value { result ≡ length (chars text.now) }
     ensures small { result ≤ length text.now }
@@ -73,7 +74,7 @@ pub fn chars_in(text: &str) -> usize
     count
 }
 
-/// Returns the line without the carriage return of its end.
+/// Returns `line` without the carriage return at its end, if there is one.
 pub fn without_return(line: &str) -> &str
     ensures { chars result.now ≡ without_return (chars line.now) }
 {
@@ -83,7 +84,7 @@ pub fn without_return(line: &str) -> &str
     }
 }
 
-/// Returns the characters that begin in the first bytes of a text.
+/// Returns the characters that begin in the first `bytes` bytes of `text`.
 pub fn within(text: &str, bytes: usize) -> &str
     ensures { chars result.now ≡ within bytes (chars text.now) }
 {
@@ -106,7 +107,9 @@ fn columns(c: char) -> usize
     if c == '\t' { 4 } else { c.width().unwrap_or(0) }
 }
 
-/// Appends a line as it is shown: with four spaces for a tab.
+/// Appends `line` to `to`, with four spaces in place of each tab.
+///
+/// Returns an error if an allocation fails.
 pub fn push_shown(to: &mut String, line: &str) -> Result<(), AllocError>
     ensures { OnOk result
         (string_bytes to.new ≡ string_bytes to.old ++ flat_map shown_character (chars line.now)) }
@@ -123,11 +126,13 @@ pub fn push_shown(to: &mut String, line: &str) -> Result<(), AllocError>
     }
 }
 
-/// Appends a mark, so many times.
+/// Appends the character `mark` to `to`, repeated `times` times.
+///
+/// Returns an error if an allocation fails.
 ///
 /// # Requires
 ///
-/// The mark must be ASCII.
+/// `mark` must be an ASCII character.
 pub fn push_times(to: &mut String, mark: char, times: usize) -> Result<(), AllocError>
     requires ascii { mark < 128 }
     ensures { OnOk result
@@ -141,11 +146,13 @@ pub fn push_times(to: &mut String, mark: char, times: usize) -> Result<(), Alloc
     Ok(())
 }
 
-/// Appends a mark for each column that a text takes.
+/// Appends the character `mark` to `to` once for each column that `text` occupies.
+///
+/// Returns an error if an allocation fails.
 ///
 /// # Requires
 ///
-/// The mark must be ASCII.
+/// `mark` must be an ASCII character.
 pub fn push_marks(to: &mut String, text: &str, mark: char) -> Result<(), AllocError>
     requires ascii { mark < 128 }
     ensures { OnOk result

@@ -1,4 +1,4 @@
-use Rattle.std.proofs.Common.{◌∙◌, ◌+◌, ap, arith, count_by, eqb, sym, take, w8}
+use Rattle.std.proofs.Common.{◌∙◌, ap, arith, eqb, w8}
 use Rattle.std.specs.Prelude.{count_ones}
 use Rattle.memchr.specs.Find.{is_byte}
 use Rattle.std.specs.Simd.Lanes.{chunk}
@@ -14,4 +14,4 @@ returns c =
     let mask = bitmask_splat w8 eqb lanes 16 10 long (omega arith) in
     let ones = ap count_ones mask ∙ ones-mask_l (is_byte 10) lanes in
     let more = count_more (is_byte 10) bytes c.args.at 16 in
-    ap (λ n. count_by (is_byte 10) (take c.args.at bytes) + n) ones ∙ sym more
+    omega arith

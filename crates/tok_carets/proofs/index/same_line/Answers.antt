@@ -8,5 +8,5 @@ returns-then-is_empty-clause-stretch c =
       search rules,
       stretch_of c.args.text.now c.in_ok-before.before.now c.in_ok-between.between.now
           over.0 c.past_others.result.now c.args.from c.args.at (search rules) (search rules)
-          (search rules) over.1.cut over.1.pass (search rules),
+          (search rules) over.1 (search rules),
     )
