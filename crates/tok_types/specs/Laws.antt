@@ -19,7 +19,7 @@ IsNeverFound peeks = (place : Place) (found : Bool) → peeks place found → fo
 abbrev pub HasText : List ℕ → (List ℕ → Type 0) → Type 0
 HasText text shown = (name : List ℕ) → shown name → name ≡ in_backquotes text
 
--- a peek is true exactly where this is read
+-- a peek is true if and only if this is read at its place
 abbrev pub IsFound : {A : Type 0} → (Place → Option A) → (Place → Bool → Type 0) → Type 0
 IsFound read peeks =
     (place : Place) (found : Bool) → peeks place found → found ≡ is_some (read place)

@@ -6,6 +6,6 @@ use Rattle.tok_buffer.specs.Place.{Place}
 abbrev pub PeeksFor : {A : Type 0} → (Place → Option A) → Place → Bool → Type 0
 PeeksFor read p found = found ≡ is_some (read p)
 
--- this is the text
+-- the text is the wanted one
 abbrev pub IsText : List ℕ → List ℕ → Type 0
 IsText wanted text = text ≡ wanted

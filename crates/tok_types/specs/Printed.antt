@@ -1,5 +1,5 @@
 -- The trees that a token is written as.
-use Rattle.std.specs.Prelude.{◌≡◌, ℕ, Bool, true, false, ◌==◌, ◌&&◌, cond, List, [], ◌∷◌, length}
+use Rattle.std.specs.Prelude.{◌≡◌, ℕ, Bool, true, false, ◌==◌, ◌&&◌, if◌then◌else◌, List, [], ◌∷◌, length}
 use Rattle.std.specs.List.{list_all}
 use Rattle.tok_lexical.specs.declared.delimiter.Delimiter.{Delimiter}
 use Rattle.tok_leaves.specs.declared.punct.Spacing.{Spacing}
@@ -22,7 +22,7 @@ first_span (s ∷ ss) = s
 
 -- of several puncts the last is alone and the others are joint
 abbrev pub spacing : (is_last : Bool) → Spacing
-spacing is_last = cond is_last Alone Joint
+spacing is_last = if is_last then Alone else Joint
 
 -- a punct for each character, at the span of its own, each but the last joint
 abbrev pub joint_puncts : List ℕ → List Span → List Tree
@@ -34,10 +34,10 @@ joint_puncts cs ss = []
 -- punct's
 abbrev pub puncts : List ℕ → List Span → Forest
 puncts text spans =
-    cond (length text == length spans && list_all is_punct_or_apostrophe text)
-    (forest (joint_puncts text spans)) no_trees
+    if length text == length spans && list_all is_punct_or_apostrophe text
+    then forest (joint_puncts text spans) else no_trees
 
--- a group of what was written inside comes after the others
+-- new is old and then a group, whose contents are what was written inside
 abbrev pub Surrounds : (IsWritten : Forest → Type 0) → Delimiter → Span → (old new : Forest) →
     Type 0
 Surrounds IsWritten delimiter span old new =

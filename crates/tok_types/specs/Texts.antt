@@ -1,5 +1,5 @@
 -- The texts of tokens.
-use Rattle.std.specs.Prelude.{ℕ, Bool, false, ◌+◌, ◌||◌, ◌==◌, not, cond, List, [], ◌∷◌}
+use Rattle.std.specs.Prelude.{ℕ, Bool, false, ◌+◌, ◌||◌, ◌==◌, not, if◌then◌else◌, List, [], ◌∷◌}
 use Rattle.std.specs.Prelude.{◌++◌, length, map, get_or, bytes_eq, codes, Option}
 use Rattle.std.specs.Borrow.{Bor}
 use Rattle.std.specs.List.{filter, position}
@@ -61,7 +61,7 @@ punctuation_text k = get_or punctuations k []
 
 -- the text of a punctuation of n characters, or the empty text if its own has another length
 abbrev pub punctuation_word : (k n : ℕ) → List ℕ
-punctuation_word k n = cond (length (punctuation_text k) == n) (punctuation_text k) []
+punctuation_word k n = if length (punctuation_text k) == n then punctuation_text k else []
 
 -- one of the texts is this one
 abbrev pub is_among : List (List ℕ) → List ℕ → Bool
@@ -93,8 +93,8 @@ beginning b = filter (begins_with b)
 abbrev pub numbers_beginning : (b k : ℕ) → List (List ℕ) → List ℕ
 numbers_beginning b k [] = []
 numbers_beginning b k (text ∷ texts) =
-    cond (begins_with b text) (k ∷ numbers_beginning b (k + 1) texts)
-    (numbers_beginning b (k + 1) texts)
+    if begins_with b text then k ∷ numbers_beginning b (k + 1) texts
+    else numbers_beginning b (k + 1) texts
 
 -- the number of a text in a table: that of the first row with it
 abbrev pub number_in : List (List ℕ) → List ℕ → Option ℕ

@@ -1,4 +1,4 @@
-//! Delimiters as tokens.
+//! Token types for parentheses, braces, brackets and invisible groups.
 ghost use Rattle.std.specs.Prelude.{◌≡◌, Ok, OnOk, OnErr, Some};
 ghost use Rattle.std.specs.Fn.{FnOnceReturnsAtMut, FnOnceTakesAtMut};
 ghost use Rattle.tok_buffer.specs.Entry.{enter};
@@ -60,10 +60,12 @@ where
     tokens.append(TokenTree::Group(tok_core::Group::new(delimiter, inside, span)))
 }
 
-/// The visible delimiters with the number `D`: `token::Paren` is `Visible<0>`, `token::Brace` is
-/// `Visible<1>`, and `token::Bracket` is `Visible<2>`, as is each number past it.
+/// The token type of the visible delimiters with the number `D`.
 ///
-/// A peek finds them through invisible groups. All values of a type are equal.
+/// `token::Paren` is `Visible<0>`, `token::Brace` is `Visible<1>`, and `token::Bracket` is
+/// `Visible<2>`. Any larger number also stands for brackets.
+///
+/// A peek first enters every invisible group that is next. All values of `Visible<D>` are equal.
 #[derive(Clone, Copy)]
 #[derive_where(PartialEq, Eq, Hash)]
 pub struct Visible<const D: usize> {
@@ -72,7 +74,7 @@ pub struct Visible<const D: usize> {
 }
 
 impl<const D: usize> Visible<D> {
-    /// Returns the delimiter.
+    /// Returns the `Delimiter` that this type stands for.
     pub fn delimiter() -> Delimiter
         ensures { result ≡ delimiter_at D }
     {
@@ -83,23 +85,25 @@ impl<const D: usize> Visible<D> {
         }
     }
 
-    /// Creates the delimiters of a group with this span.
+    /// Creates the delimiters of a group with the span `span`.
     pub fn new(span: DelimSpan) -> Self
         ensures { result.span ≡ span }
     {
         Visible { span }
     }
 
-    /// Creates the delimiters of a group at `span`.
+    /// Creates the delimiters of a group with the span `span`, which covers the whole group.
     pub fn from_span(span: Span) -> Self
         ensures { whole_span result.span ≡ span }
     {
         Visible::new(DelimSpan::new(span))
     }
 
-    /// Writes a group with these delimiters around what `f` writes.
+    /// Appends a group with these delimiters to `tokens`. The group contains the tokens that `f`
+    /// writes.
     ///
-    /// If an allocation fails or `f` returns an error, nothing is written.
+    /// Returns an error if an allocation fails, or if `f` returns an error. `tokens` is then
+    /// unchanged.
     ///
     /// # Requires
     ///
@@ -143,7 +147,7 @@ impl<const D: usize> Token for Visible<D> {
     }
 }
 
-/// Creates the delimiters of a group at the call site.
+/// Creates the delimiters of a group. The span of the group is the call site.
 impl<const D: usize> Default for Visible<D> {
     ghost is_default = { λ t. whole_span t.span ≡ call_site };
 
@@ -152,7 +156,7 @@ impl<const D: usize> Default for Visible<D> {
     }
 }
 
-/// Writes the name, as `Paren`.
+/// Writes the name of the delimiters, such as `Paren`.
 impl<const D: usize> Debug for Visible<D> {
     ghost debug_output = { λ _. Some (delimiter_name (delimiter_at D)) };
 
@@ -161,9 +165,10 @@ impl<const D: usize> Debug for Visible<D> {
     }
 }
 
-/// The delimiters of an invisible group, as macros leave around what they insert.
+/// The token type of an invisible group. Macros insert such groups around tokens.
 ///
-/// A peek finds it only as the very next tree. All values are equal.
+/// A peek finds an invisible group only if the group is the next tree. All values of `Group` are
+/// equal.
 #[derive(Clone, Copy)]
 #[derive_where(PartialEq, Eq, Hash)]
 pub struct Group {
@@ -172,23 +177,25 @@ pub struct Group {
 }
 
 impl Group {
-    /// Creates the delimiters of an invisible group at `span`.
+    /// Creates the delimiters of an invisible group with the span `span`.
     pub fn new(span: Span) -> Self
         ensures { result.span ≡ span }
     {
         Group { span }
     }
 
-    /// Creates the delimiters of an invisible group at `span`, as `new` does.
+    /// Creates the delimiters of an invisible group with the span `span`. This function is the same
+    /// as `new`.
     pub fn from_span(span: Span) -> Self
         ensures { result.span ≡ span }
     {
         Group::new(span)
     }
 
-    /// Writes an invisible group around what `f` writes.
+    /// Appends an invisible group to `tokens`. The group contains the tokens that `f` writes.
     ///
-    /// If an allocation fails or `f` returns an error, nothing is written.
+    /// Returns an error if an allocation fails, or if `f` returns an error. `tokens` is then
+    /// unchanged.
     ///
     /// # Requires
     ///
@@ -220,7 +227,7 @@ impl Token for Group {
     }
 }
 
-/// Creates the delimiters of an invisible group at the call site.
+/// Creates the delimiters of an invisible group. The span of the group is the call site.
 impl Default for Group {
     ghost is_default = { λ t. t.span ≡ call_site };
 

@@ -1,4 +1,4 @@
-//! Conversions of tokens to identifiers.
+//! Methods that convert a token into an identifier.
 ghost use Rattle.std.specs.Prelude.{◌≡◌, ◌<◌, codes, length, IfOk};
 ghost use Rattle.tok_leaves.specs.Leaves.{ident, ident_of};
 ghost use Rattle.tok_types.specs.Printed.{first_span};
@@ -23,7 +23,7 @@ impl<const K: usize> Keyword<K> {
 }
 
 impl token::SelfValue {
-    /// Creates the identifier `self`, at the token's span.
+    /// Creates the identifier `self` with the span of this token.
     ///
     /// Returns an error if the allocation fails.
     pub fn into_ident(self, alloc: Global) -> Result<Ident, AllocError>
@@ -34,7 +34,7 @@ impl token::SelfValue {
 }
 
 impl token::SelfType {
-    /// Creates the identifier `Self`, at the token's span.
+    /// Creates the identifier `Self` with the span of this token.
     ///
     /// Returns an error if the allocation fails.
     pub fn into_ident(self, alloc: Global) -> Result<Ident, AllocError>
@@ -45,7 +45,7 @@ impl token::SelfType {
 }
 
 impl token::Super {
-    /// Creates the identifier `super`, at the token's span.
+    /// Creates the identifier `super` with the span of this token.
     ///
     /// Returns an error if the allocation fails.
     pub fn into_ident(self, alloc: Global) -> Result<Ident, AllocError>
@@ -56,7 +56,7 @@ impl token::Super {
 }
 
 impl token::Crate {
-    /// Creates the identifier `crate`, at the token's span.
+    /// Creates the identifier `crate` with the span of this token.
     ///
     /// Returns an error if the allocation fails.
     pub fn into_ident(self, alloc: Global) -> Result<Ident, AllocError>
@@ -67,7 +67,7 @@ impl token::Crate {
 }
 
 impl token::Extern {
-    /// Creates the identifier `extern`, at the token's span.
+    /// Creates the identifier `extern` with the span of this token.
     ///
     /// Returns an error if the allocation fails.
     pub fn into_ident(self, alloc: Global) -> Result<Ident, AllocError>
@@ -78,7 +78,7 @@ impl token::Extern {
 }
 
 impl Underscore {
-    /// Creates the identifier `_`, at the token's span.
+    /// Creates the identifier `_` with the span of this token.
     ///
     /// Returns an error if the allocation fails.
     pub fn into_ident(self, alloc: Global) -> Result<Ident, AllocError>

@@ -1,4 +1,4 @@
-//! Keywords.
+//! Token types for keywords.
 ghost use Rattle.std.specs.Prelude.{◌≡◌, Some};
 ghost use Rattle.tok_leaves.specs.Spans.{call_site};
 ghost use Rattle.tok_buffer.specs.Reads.{read_keyword};
@@ -14,10 +14,12 @@ use std::fmt::{self, Debug, Formatter, Write};
 use tok_buffer::Cursor;
 use tok_core::{Span, ToTokens, TokenStream};
 
-/// The keyword with the number `K` in the table of keywords: `token::Fn` is `Keyword<18>`.
+/// The token type of the keyword with the number `K` in the table of keywords.
 ///
-/// All values of a type are equal. A number past the table has no text, is never found, and is
-/// written as nothing.
+/// For example, `token::Fn` is `Keyword<18>`. All values of `Keyword<K>` are equal.
+///
+/// If `K` is past the end of the table, the keyword has no text, a peek never finds it, and it is
+/// written as no tokens.
 #[derive(Clone, Copy)]
 #[derive_where(PartialEq, Eq, Hash)]
 pub struct Keyword<const K: usize> {
@@ -26,14 +28,16 @@ pub struct Keyword<const K: usize> {
 }
 
 impl<const K: usize> Keyword<K> {
-    /// Creates the keyword at `span`.
+    /// Creates the keyword with the span `span`.
     pub fn new(span: Span) -> Self
         ensures { result.span ≡ span }
     {
         Keyword { span }
     }
 
-    /// Creates the keyword at `span`, as `new` does. Every token type has `from_span`.
+    /// Creates the keyword with the span `span`. This function is the same as `new`.
+    ///
+    /// Every token type has a function `from_span`.
     pub fn from_span(span: Span) -> Self
         ensures { result.span ≡ span }
     {
@@ -57,7 +61,7 @@ impl<const K: usize> Token for Keyword<K> {
     }
 }
 
-/// Writes an identifier with the keyword's text.
+/// Writes an identifier with the text of the keyword.
 impl<const K: usize> ToTokens for Keyword<K> {
     ghost printed = { λ k. word (keyword_text K) k.span };
 
@@ -66,7 +70,7 @@ impl<const K: usize> ToTokens for Keyword<K> {
     }
 }
 
-/// Creates the keyword at the call site.
+/// Creates the keyword with the call site as its span.
 impl<const K: usize> Default for Keyword<K> {
     ghost is_default = { λ k. k.span ≡ call_site };
 
@@ -75,7 +79,7 @@ impl<const K: usize> Default for Keyword<K> {
     }
 }
 
-/// Writes `Token![fn]` for the keyword `fn`.
+/// Writes `Token![..]` with the text of the keyword, such as `Token![fn]`.
 impl<const K: usize> Debug for Keyword<K> {
     ghost debug_output = { λ _. Some (in_token (keyword_text K)) };
 

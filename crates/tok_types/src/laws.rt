@@ -1,4 +1,4 @@
-//! Laws of token types. Each is the contract of a function that does nothing.
+//! Laws about token types. Each law is the contract of a function that does nothing.
 ghost use Rattle.std.specs.Prelude.{◌≡◌, ◌≤◌, codes, length};
 ghost use Rattle.tok_buffer.specs.Entry.{enter};
 ghost use Rattle.tok_lexical.specs.declared.delimiter.Delimiter.TheVariants.{Brace, Bracket, Parenthesis};
@@ -19,56 +19,60 @@ use std::hash::Hash;
 use tok_buffer::Lifetime;
 use tok_core::{Ident, Literal, Punct};
 
-/// A keyword past the table is never found.
+/// A peek never finds a keyword whose number is past the end of the table of keywords.
 pub fn keyword_past_the_table<const K: usize>()
     ensures { length keywords ≤ K → IsNeverFound ⟦<Keyword<K> as Token>⟧.peeks }
 {}
 
-/// A punctuation past the table, or whose text is not of as many characters as its type says, is
-/// never found.
+/// A peek never finds a `Punctuation<K, N>` if the text with the number `K` does not have `N`
+/// characters, or if there is no such text.
 pub fn punctuation_past_the_table<const K: usize, const N: usize>()
     ensures { (length (punctuation_text K) ≡ N → N ≡ 0)
         → IsNeverFound ⟦<Punctuation<K, N> as Token>⟧.peeks }
 {}
 
-/// All keywords of one number are equal, and write nothing to a hasher.
+/// All keywords with the same number are equal, and hashing such a keyword writes nothing to the
+/// hasher.
 pub fn keywords_are_equal<const K: usize>()
     ensures equal { AreEqual ⟦<Keyword<K> as PartialEq>⟧.eq }
     ensures hash { WriteNothing ⟦<Keyword<K> as Hash>⟧.hash_input }
 {}
 
-/// All punctuations of one number and length are equal, and write nothing to a hasher.
+/// All punctuation tokens with the same number and length are equal, and hashing such a token
+/// writes nothing to the hasher.
 pub fn punctuations_are_equal<const K: usize, const N: usize>()
     ensures equal { AreEqual ⟦<Punctuation<K, N> as PartialEq>⟧.eq }
     ensures hash { WriteNothing ⟦<Punctuation<K, N> as Hash>⟧.hash_input }
 {}
 
-/// All underscores are equal, and write nothing to a hasher.
+/// All values of `Underscore` are equal, and hashing such a value writes nothing to the hasher.
 pub fn underscores_are_equal()
     ensures equal { AreEqual ⟦<Underscore as PartialEq>⟧.eq }
     ensures hash { WriteNothing ⟦<Underscore as Hash>⟧.hash_input }
 {}
 
-/// All delimiters of one number are equal, and write nothing to a hasher.
+/// All values of `Visible<D>` are equal, and hashing such a value writes nothing to the hasher.
 pub fn delimiters_are_equal<const D: usize>()
     ensures equal { AreEqual ⟦<Visible<D> as PartialEq>⟧.eq }
     ensures hash { WriteNothing ⟦<Visible<D> as Hash>⟧.hash_input }
 {}
 
-/// All invisible delimiters are equal, and write nothing to a hasher.
+/// All values of `Group` are equal, and hashing such a value writes nothing to the hasher.
 pub fn groups_are_equal()
     ensures equal { AreEqual ⟦<Group as PartialEq>⟧.eq }
     ensures hash { WriteNothing ⟦<Group as Hash>⟧.hash_input }
 {}
 
-/// All values of `End` are equal, that of `End::default` too, and write nothing to a hasher.
+/// All values of `End`, including `End::default()`, are equal, and hashing such a value writes
+/// nothing to the hasher.
 pub fn ends_are_equal()
     ensures equal { AreEqual ⟦<End as PartialEq>⟧.eq }
     ensures default { (end other : End) → ⟦<End as Default>⟧.is_default end → end ≡ other }
     ensures hash { WriteNothing ⟦<End as Hash>⟧.hash_input }
 {}
 
-/// A clone of a token has its spans.
+/// A clone of a keyword, a punctuation token, an underscore or a delimiter has the same spans as
+/// the original.
 pub fn clones_keep_tokens<const K: usize, const N: usize, const D: usize>()
     ensures keywords { ClonesKeep ⟦<Keyword<K> as Clone>⟧.is_clone }
     ensures punctuations { ClonesKeep ⟦<Punctuation<K, N> as Clone>⟧.is_clone }
@@ -78,8 +82,11 @@ pub fn clones_keep_tokens<const K: usize, const N: usize, const D: usize>()
     ensures ends { ClonesKeep ⟦<End as Clone>⟧.is_clone }
 {}
 
-/// Invisible groups do not matter to a peek of a leaf, a lifetime or the end: it is the same at
-/// places of filled forests with equal views.
+/// The result of a peek of an identifier, a literal, a punct, a lifetime, `_` or the end does not
+/// depend on invisible groups.
+///
+/// The law applies to two cursors that differ only in invisible groups, and thus have equal views.
+/// It requires that every invisible group in their buffers contains a visible tree.
 pub fn peeks_ignore_invisible()
     ensures idents { IgnoresInvisible ⟦<Ident as Token>⟧.peeks }
     ensures any_idents { IgnoresInvisible ⟦<IdentAny as Token>⟧.peeks }
@@ -90,18 +97,26 @@ pub fn peeks_ignore_invisible()
     ensures ends { IgnoresInvisible ⟦<End as Token>⟧.peeks }
 {}
 
-/// Invisible groups do not matter to a peek of a keyword or a punctuation.
+/// The result of a peek of a keyword or a punctuation token does not depend on invisible groups.
+///
+/// The law applies to two cursors that differ only in invisible groups, and thus have equal views.
+/// It requires that every invisible group in their buffers contains a visible tree.
 pub fn tokens_ignore_invisible<const K: usize, const N: usize>()
     ensures keywords { IgnoresInvisible ⟦<Keyword<K> as Token>⟧.peeks }
     ensures punctuations { IgnoresInvisible ⟦<Punctuation<K, N> as Token>⟧.peeks }
 {}
 
-/// Invisible groups do not matter to a peek of visible delimiters.
+/// The result of a peek of parentheses, braces or brackets does not depend on invisible groups.
+///
+/// The law applies to two cursors that differ only in invisible groups, and thus have equal views.
+/// It requires that every invisible group in their buffers contains a visible tree.
 pub fn delimiters_ignore_invisible<const D: usize>()
     ensures { IgnoresInvisible ⟦<Visible<D> as Token>⟧.peeks }
 {}
 
-/// Each keyword's name is that of its text: `token::Fn` is `fn`, and `token::For` is `for`.
+/// Errors name each keyword in `token` with the text that the name of its type stands for.
+///
+/// For example, errors name `token::Fn` with the text `fn`, and `token::For` with the text `for`.
 pub fn keywords_have_their_texts()
     ensures abstract_text { HasText (codes "abstract") ⟦<token::Abstract as Token>⟧.shown }
     ensures as_text { HasText (codes "as") ⟦<token::As as Token>⟧.shown }
@@ -159,7 +174,10 @@ pub fn keywords_have_their_texts()
     ensures yield_text { HasText (codes "yield") ⟦<token::Yield as Token>⟧.shown }
 {}
 
-/// Each punctuation's name is that of its text: `token::Plus` is `+`, and `token::Minus` is `-`.
+/// Errors name each punctuation token in `token` with the text that the name of its type stands
+/// for.
+///
+/// For example, errors name `token::Plus` with the text `+`, and `token::Minus` with the text `-`.
 pub fn punctuations_have_their_texts()
     ensures and_text { HasText (codes "&") ⟦<token::And as Token>⟧.shown }
     ensures and_and_text { HasText (codes "&&") ⟦<token::AndAnd as Token>⟧.shown }
@@ -209,7 +227,8 @@ pub fn punctuations_have_their_texts()
     ensures tilde_text { HasText (codes "~") ⟦<token::Tilde as Token>⟧.shown }
 {}
 
-/// `token::Paren` are parentheses, `token::Brace` are braces, and `token::Bracket` are brackets.
+/// A peek of `token::Paren` finds parentheses, a peek of `token::Brace` finds braces, and a peek of
+/// `token::Bracket` finds brackets.
 pub fn delimiters_have_their_names()
     ensures paren { IsFound (enter Parenthesis) ⟦<token::Paren as Token>⟧.peeks }
     ensures brace { IsFound (enter Brace) ⟦<token::Brace as Token>⟧.peeks }

@@ -1,5 +1,4 @@
-//! What token types share: the trait of everything that a peek can look for, and how a word is
-//! written.
+//! The trait of the types that a peek can find, and a function that writes an identifier.
 ghost use Rattle.std.specs.Prelude.{◌≡◌, ℕ, Bool, List, None, Option, OnOk, OnErr};
 ghost use Rattle.std.specs.Str.{chars};
 ghost use Rattle.tok_buffer.specs.Cursors.{place_of};
@@ -15,9 +14,10 @@ use tok_buffer::Cursor;
 use tok_core::known::identifier;
 use tok_core::{Ident, Span, TokenStream, TokenTree};
 
-/// A type that a peek can look for, and its name in errors.
+/// A type of token that a peek can find and an error can name.
 ///
-/// All token types implement it. A type of your own has two functions, and may state what they do.
+/// All token types implement this trait. To define a token type of your own, implement both
+/// functions. You may also add contracts that state what the functions do.
 pub trait Token {
     // When a peek at a place is true. Of a type that states nothing, nothing is known.
     ghost peeks: { Place → Bool → Type 0 } = { λ _ _. Unit {0} };
@@ -27,17 +27,25 @@ pub trait Token {
     // When a peek is true, as a function of the visible trees ahead.
     ghost sees: { Option (Forest → Bool) } = { None };
 
-    /// Returns `true` if the cursor is at this token.
+    /// Returns `true` if the token at `cursor` is of this type.
     fn peek(cursor: Cursor<'_>) -> bool
         ensures peeks { peeks (place_of cursor.entry) result }
         ensures sees { Sees sees (place_of cursor.entry) result };
 
-    /// Returns the token's name in errors: its text in backquotes, or words.
+    /// Returns the name that error messages use for this type of token.
+    ///
+    /// The name is the text of the token in backquotes, or a description such as `identifier`.
     fn display() -> &'static str
         ensures { shown result.now };
 }
 
-/// Appends an identifier with this text, or nothing if the text is empty.
+/// Appends an identifier with the text `text` to `tokens`, or nothing if `text` is empty.
+///
+/// Returns an error if an allocation fails. `tokens` is then unchanged.
+///
+/// # Requires
+///
+/// `text` must be empty or a valid identifier that is not raw.
 pub fn append_word(text: &str, span: Span, tokens: &mut TokenStream) -> Result<(), AllocError>
     requires { IsSuffix (chars text.now) }
     ensures ok { OnOk result (tokens.new ≡ concat tokens.old (word text.now span)) }

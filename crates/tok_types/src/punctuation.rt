@@ -1,4 +1,4 @@
-//! Punctuations.
+//! Token types for punctuation.
 ghost use Rattle.std.specs.Prelude.{◌≡◌, [], ◌∷◌, replicate, Some};
 ghost use Rattle.tok_leaves.specs.Spans.{call_site};
 ghost use Rattle.tok_buffer.specs.Reads.{read_punctuation};
@@ -15,28 +15,31 @@ use std::fmt::{self, Debug, Formatter, Write};
 use tok_buffer::Cursor;
 use tok_core::{Span, ToTokens, TokenStream};
 
-/// The punctuation with the number `K` in the table of punctuations, of `N` characters:
-/// `token::PathSep` is `Punctuation<28, 2>`.
+/// The token type of the punctuation with the number `K`, which has `N` characters.
 ///
-/// All values of a type are equal. A number past the table, or with a text of another length, has
-/// no text, is never found, and is written as nothing.
+/// For example, `token::PathSep` is `Punctuation<28, 2>`. All values of `Punctuation<K, N>` are
+/// equal.
+///
+/// If `K` is past the end of the table of punctuation tokens, the token has no text, a peek never
+/// finds it, and it is written as no tokens. The same applies if the text in the table does not
+/// have `N` characters.
 #[derive(Clone, Copy)]
 #[derive_where(PartialEq, Eq, Hash)]
 pub struct Punctuation<const K: usize, const N: usize> {
-    /// A span for each character.
+    /// The spans of the characters, in order.
     #[derive_where(skip(EqHashOrd))]
     pub spans: [Span; N],
 }
 
 impl<const K: usize, const N: usize> Punctuation<K, N> {
-    /// Creates the punctuation with a span for each character.
+    /// Creates the token with the spans `spans`, one for each character.
     pub fn new(spans: [Span; N]) -> Self
         ensures { result.spans ≡ spans.entry }
     {
         Punctuation { spans }
     }
 
-    /// Creates the punctuation with one span for all characters.
+    /// Creates the token with `span` as the span of every character.
     pub fn from_span(span: Span) -> Self
         ensures { result.spans ≡ replicate N span }
     {
@@ -53,14 +56,14 @@ impl<const K: usize, const N: usize> Punctuation<K, N> {
 }
 
 impl<const K: usize> Punctuation<K, 1> {
-    /// Returns the span of the one character.
+    /// Returns the span of this token, which has only one character.
     pub fn span(&self) -> Span
         ensures { self.now.spans ≡ result ∷ [] }
     {
         self.spans[0]
     }
 
-    /// Replaces the span of the one character.
+    /// Sets the span of this token, which has only one character.
     pub fn set_span(&mut self, span: Span)
         ensures { self.new.spans ≡ span ∷ [] }
     {
@@ -88,7 +91,7 @@ impl<const K: usize, const N: usize> Token for Punctuation<K, N> {
     }
 }
 
-/// Writes a punct for each character, each but the last joint.
+/// Writes a punct for each character. Each punct except the last is joint.
 impl<const K: usize, const N: usize> ToTokens for Punctuation<K, N> {
     ghost printed = { λ p. puncts (punctuation_word K N) p.spans };
 
@@ -97,7 +100,7 @@ impl<const K: usize, const N: usize> ToTokens for Punctuation<K, N> {
     }
 }
 
-/// Creates the punctuation at the call site.
+/// Creates the punctuation token. The span of every character is the call site.
 impl<const K: usize, const N: usize> Default for Punctuation<K, N> {
     ghost is_default = { λ p. p.spans ≡ replicate N call_site };
 
@@ -106,7 +109,7 @@ impl<const K: usize, const N: usize> Default for Punctuation<K, N> {
     }
 }
 
-/// Writes `Token![::]` for the punctuation `::`.
+/// Writes `Token![..]` with the text of the token, such as `Token![::]`.
 impl<const K: usize, const N: usize> Debug for Punctuation<K, N> {
     ghost debug_output = { λ _. Some (in_token (punctuation_word K N)) };
 

@@ -1,4 +1,5 @@
-//! What to look for beside tokens by name: leaves, groups, trees, lifetimes and the end.
+//! Implementations of `Token` for identifiers, literals, puncts, lifetimes, groups and trees, and
+//! types for the end of a scope and for any identifier.
 ghost use Rattle.std.specs.Prelude.{◌≡◌, codes, Some};
 ghost use Rattle.tok_buffer.specs.Place.{is_at_end};
 ghost use Rattle.tok_buffer.specs.Reads.{any_text, is_group, read_ident, read_lifetime, read_literal, read_punct, read_tree, read_word, read_if};
@@ -11,14 +12,16 @@ use crate::texts::accept_as_ident;
 use tok_buffer::{Cursor, Lifetime};
 use tok_core::{Group, Ident, Literal, Punct, TokenTree};
 
-/// The end of a stream's scope: of the whole text, or of a group's contents.
+/// A pseudo-token for peeking at the end of a parse stream.
+///
+/// The stream is over a whole text, or over the contents of a group.
 #[derive(Clone, Copy, PartialEq, Eq, Hash, Debug, Default)]
 pub struct End;
 
-/// An identifier of any text, reserved words included.
+/// An identifier with any text, including reserved words.
 pub struct IdentAny;
 
-/// Finds an identifier that is no reserved word.
+/// A peek finds an identifier that is not a reserved word.
 impl Token for Ident {
     ghost peeks = { PeeksFor (read_word accept_as_ident) };
 
@@ -54,7 +57,7 @@ impl Token for IdentAny {
     }
 }
 
-/// Finds a lifetime of any name.
+/// A peek finds a lifetime, whose name may be a reserved word.
 impl Token for Lifetime {
     ghost peeks = { PeeksFor (read_lifetime any_text) };
 
@@ -87,7 +90,7 @@ impl Token for Literal {
     }
 }
 
-/// Finds a punct other than an apostrophe.
+/// A peek finds a punct other than an apostrophe.
 impl Token for Punct {
     ghost peeks = { PeeksFor read_punct };
 
@@ -104,7 +107,9 @@ impl Token for Punct {
     }
 }
 
-/// Finds a group, visible or not, if it is the very next tree. No invisible group is entered.
+/// A peek finds a visible or invisible group if the group is the next tree.
+///
+/// The peek does not enter invisible groups.
 impl Token for Group {
     ghost peeks = { PeeksFor (read_if is_group) };
 
@@ -119,7 +124,7 @@ impl Token for Group {
     }
 }
 
-/// Finds any tree, an invisible group included.
+/// A peek finds any tree, including an invisible group.
 impl Token for TokenTree {
     ghost peeks = { PeeksFor read_tree };
 
@@ -134,9 +139,11 @@ impl Token for TokenTree {
     }
 }
 
-/// Finds the end. An empty invisible group is not the end.
+/// A peek finds the end of the stream. If an empty invisible group is next, the stream is not at
+/// its end.
 ///
-/// A lookahead's error names the scope's closing delimiter instead of this display.
+/// In place of the name that `display` returns, the error of a `Lookahead1` shows the closing
+/// delimiter of the group.
 impl Token for End {
     ghost peeks = { λ p found. found ≡ is_at_end p };
 

@@ -1,4 +1,4 @@
-//! The underscore.
+//! The token type of the underscore.
 ghost use Rattle.std.specs.Prelude.{◌≡◌, [], ◌∷◌, codes, Some};
 ghost use Rattle.tok_leaves.specs.Spans.{call_site};
 ghost use Rattle.tok_buffer.specs.Reads.{read_keyword};
@@ -13,9 +13,9 @@ use std::fmt::{self, Debug, Formatter, Write};
 use tok_buffer::Cursor;
 use tok_core::{Span, ToTokens, TokenStream};
 
-/// The token `_`. Among trees it is an identifier; here it has its own type.
+/// The token `_`. All values of this type are equal.
 ///
-/// All values are equal.
+/// In a token stream, `_` is an identifier.
 #[derive(Clone, Copy)]
 #[derive_where(PartialEq, Eq, Hash)]
 pub struct Underscore {
@@ -24,28 +24,28 @@ pub struct Underscore {
 }
 
 impl Underscore {
-    /// Creates an underscore. `spans` has the span of its one character.
+    /// Creates the token `_`. The only element of `spans` is the span of the token.
     pub fn new(spans: [Span; 1]) -> Self
         ensures { result.spans ≡ spans }
     {
         Underscore { spans }
     }
 
-    /// Creates an underscore at `span`.
+    /// Creates the token `_` with the span `span`.
     pub fn from_span(span: Span) -> Self
         ensures { result.spans ≡ span ∷ [] }
     {
         Underscore { spans: [span] }
     }
 
-    /// Returns the span.
+    /// Returns the span of the token `_`.
     pub fn span(&self) -> Span
         ensures { self.now.spans ≡ result ∷ [] }
     {
         self.spans[0]
     }
 
-    /// Replaces the span.
+    /// Sets the span of the token `_`.
     pub fn set_span(&mut self, span: Span)
         ensures { self.new.spans ≡ span ∷ [] }
     {
@@ -78,7 +78,7 @@ impl ToTokens for Underscore {
     }
 }
 
-/// Creates an underscore at the call site.
+/// Creates the token `_`. Its span is the call site.
 impl Default for Underscore {
     ghost is_default = { λ u. u.spans ≡ call_site ∷ [] };
 

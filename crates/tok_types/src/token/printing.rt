@@ -1,4 +1,4 @@
-//! How punctuations are written.
+//! A function that writes the puncts of a punctuation token.
 ghost use Rattle.std.specs.Prelude.{◌≡◌, true, OnOk, OnErr};
 ghost use Rattle.std.specs.List.{list_all};
 ghost use Rattle.tok_core.specs.Forest.{AppendsFront, concat};
@@ -9,11 +9,14 @@ ghost use Rattle.tok_types.specs.Printed.{puncts, spacing};
 use std::alloc::AllocError;
 use tok_core::{Punct, Spacing, Span, TokenStream, TokenTree, known};
 
-/// Appends a punct for each character of `text`, each but the last joint, at the span with the same
-/// index.
+/// Appends a punct for each character of `text` to `tokens`.
 ///
-/// Appends nothing unless there are as many spans as bytes and every character can be a punct. If
-/// an allocation fails, the puncts before it stay.
+/// The span of each punct is the element of `spans` with the same index. Each punct except the last
+/// is joint.
+///
+/// If `spans` does not have as many elements as `text` has bytes, or if a character cannot be a
+/// punct, the call appends nothing. Returns an error if an allocation fails. The puncts that were
+/// already appended then remain in `tokens`.
 pub fn punct(text: &str, spans: &[Span], tokens: &mut TokenStream) -> Result<(), AllocError>
     ensures ok { OnOk result (tokens.new ≡ concat tokens.old (puncts text.now spans.now)) }
     ensures err { OnErr result (AppendsFront tokens.old (puncts text.now spans.now) tokens.new) }
